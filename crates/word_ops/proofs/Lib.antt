@@ -1,0 +1,4 @@
+pub mod Bounds
+pub mod Memories
+pub mod Spans
+pub mod RegisterWords

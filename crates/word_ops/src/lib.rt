@@ -1,0 +1,90 @@
+//! Arithmetic and comparisons of 64-bit words.
+//!
+//! What every layer above shares stands in this crate's definitions: the operators and relations
+//! (`specs/Words`), memories (`specs/Memory`), rights to load and store (`specs/Rights`) and the
+//! registers' words (`specs/Registers`). The layers use that `apply` and `holds` are the
+//! definitions' `word_of` and `test_of`. Source: Alpha Architecture Handbook.
+#![tactic(auto)]
+
+mod known;
+#[cfg(test)]
+mod tests;
+
+ghost use Rattle.std.specs.Prelude.{◌≡◌};
+ghost use Rattle.word_ops.specs.Words.{word_of, test_of};
+
+pub use known::laws;
+
+/// An operator of two words.
+#[derive(Clone, Copy, Debug, PartialEq, Eq)]
+pub enum Op {
+    /// The sum, modulo 2^64.
+    Add,
+    /// The difference, modulo 2^64.
+    Sub,
+    /// Bitwise and.
+    Band,
+    /// Bitwise or.
+    Bis,
+    /// Shift to the left, zeros in.
+    Sll,
+    /// Shift to the right, zeros in.
+    Srl,
+    /// 1 where the words are equal, else 0.
+    Cmpeq,
+    /// 1 where the first is less, both read in two's complement, else 0.
+    Cmplt,
+    /// 1 where the first is less or equal, both read in two's complement, else 0.
+    Cmple,
+    /// 1 where the first is less, else 0.
+    Cmpult,
+    /// 1 where the first is less or equal, else 0.
+    Cmpule,
+}
+
+/// A relation of two words. The signed ones read two's complement.
+#[derive(Clone, Copy, Debug, PartialEq, Eq)]
+pub enum Rel {
+    /// Equal.
+    Eq,
+    /// Unsigned less.
+    Ult,
+    /// Unsigned less or equal.
+    Ule,
+    /// Signed less.
+    Slt,
+    /// Signed less or equal.
+    Sle,
+}
+
+/// Whether the relation holds of the two words.
+pub fn holds(rel: Rel, a: u64, b: u64) -> bool
+    ensures { result ≡ test_of rel a b }
+{
+    match rel {
+        Rel::Eq => a == b,
+        Rel::Ult => a < b,
+        Rel::Ule => a <= b,
+        Rel::Slt => a.cast_signed() < b.cast_signed(),
+        Rel::Sle => a.cast_signed() <= b.cast_signed(),
+    }
+}
+
+/// What the operator gives; sums and differences wrap, and a shift takes its count modulo 64.
+pub fn apply(op: Op, a: u64, b: u64) -> u64
+    ensures { result ≡ word_of op a b }
+{
+    match op {
+        Op::Add => a.wrapping_add(b),
+        Op::Sub => a.wrapping_sub(b),
+        Op::Band => a & b,
+        Op::Bis => a | b,
+        Op::Sll => a << (b % 64),
+        Op::Srl => a >> (b % 64),
+        Op::Cmpeq => u64::from(holds(Rel::Eq, a, b)),
+        Op::Cmplt => u64::from(holds(Rel::Slt, a, b)),
+        Op::Cmple => u64::from(holds(Rel::Sle, a, b)),
+        Op::Cmpult => u64::from(holds(Rel::Ult, a, b)),
+        Op::Cmpule => u64::from(holds(Rel::Ule, a, b)),
+    }
+}
