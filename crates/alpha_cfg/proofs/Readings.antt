@@ -1,0 +1,181 @@
+-- The answer to bytes of code is what they read as.
+use Rattle.std.proofs.Common.{◌≡◌, ℕ, zero, suc, ◌+◌, ◌-◌, ◌*◌, ◌/◌, ◌%◌, ◌<◌, ◌≤◌, Bool, true, false, cond, is_some, ltb, List, [], ◌∷◌, length, slice_get, Option, Some, None, Result, Ok, Err, refl, sym, ◌∙◌, ap, subst, arith, ℤ, pos, negsuc}
+use Rattle.std.proofs.lemmas.Bool.{ltb-true, lt-ltb}
+use Rattle.alpha_words.specs.declared.insn.Insn.{Insn}
+use Rattle.alpha_words.specs.declared.fault.BadWord.{BadWord}
+use Rattle.alpha_words.specs.Spelling.{Spells}
+use Rattle.alpha_words.specs.Reading.{reading}
+use Rattle.alpha_words.specs.Lawful.{target_of}
+use Rattle.alpha_words.proofs.Laws.{reading-Spells}
+use Rattle.alpha_cfg.specs.declared.fault.CodeFault.{CodeFault}
+use Rattle.alpha_cfg.specs.declared.fault.CodeFault.TheVariants as fault
+use Rattle.alpha_cfg.specs.Flow.{InsideOf, Ends, IsInside, EndsAt, IsCode, AreInsns, next_of}
+use Rattle.alpha_cfg.specs.CodeBytes.{word_at, SpellsFirst, SpellsCode, IsShapeFault, Answers}
+use Rattle.alpha_cfg.specs.CodeReading.{words_read, is_inside, first_outside, runs_off, shaped, shape_read, code_read, IsRead}
+
+-- the instructions are spelled by the words from index i on
+abbrev AreSpelled : List ℕ → ℕ → List Insn → Type 0
+AreSpelled bytes i code = (k : ℕ) (insn : Insn) → slice_get code k ≡ Some insn → Spells (word_at bytes (i + k)) insn
+
+first_spelled : (bytes : List ℕ) (i : ℕ) (insn : Insn) (rest : List Insn) → AreSpelled bytes i (insn ∷ rest) → reading (word_at bytes i) ≡ Ok insn
+first_spelled bytes i insn rest each =
+    let e : i + 0 ≡ i = omega arith in
+    (reading-Spells (word_at bytes i) insn).1 (subst (λ j. Spells (word_at bytes j) insn) e (each 0 insn refl))
+
+rest_spelled : (bytes : List ℕ) (i : ℕ) (insn : Insn) (rest : List Insn) → AreSpelled bytes i (insn ∷ rest) → AreSpelled bytes (suc i) rest
+rest_spelled bytes i insn rest each k x at =
+    let e : i + suc k ≡ suc i + k = omega arith in
+    subst (λ j. Spells (word_at bytes j) x) e (each (suc k) x at)
+
+words_read-spelled : (bytes : List ℕ) (i : ℕ) (code : List Insn) → AreSpelled bytes i code → words_read bytes i (length code) ≡ Ok code
+words_read-spelled bytes i [] each = refl
+words_read-spelled bytes i (insn ∷ rest) each =
+    rw (first_spelled bytes i insn rest each, words_read-spelled bytes (suc i) rest (rest_spelled bytes i insn rest each)) refl
+
+words_read-bad : (bytes : List ℕ) (i m : ℕ) (bad : BadWord) (code : List Insn) → AreSpelled bytes i code → reading (word_at bytes (i + length code)) ≡ Err bad → words_read bytes i (length code + suc m) ≡ Err (fault.BadWord (i + length code) (word_at bytes (i + length code)) bad)
+words_read-bad bytes i m bad [] each e =
+    let here : i + 0 ≡ i = omega arith in
+    let count : 0 + suc m ≡ suc m = omega arith in
+    let read : reading (word_at bytes i) ≡ Err bad = subst (λ j. reading (word_at bytes j) ≡ Err bad) here e in
+    rw (count, here, read) refl
+words_read-bad bytes i m bad (insn ∷ rest) each e =
+    let on : suc i + length rest ≡ i + suc (length rest) = omega arith in
+    let count : suc (length rest) + suc m ≡ suc (length rest + suc m) = omega arith in
+    let later : reading (word_at bytes (suc i + length rest)) ≡ Err bad = subst (λ j. reading (word_at bytes j) ≡ Err bad) (sym on) e in
+    let ih = words_read-bad bytes (suc i) m bad rest (rest_spelled bytes i insn rest each) later in
+    rw (count, first_spelled bytes i insn rest each, ih, on) refl
+
+-- ---- branches inside
+
+is_inside-true : (n : ℕ) (to : Option ℤ) → InsideOf n to → is_inside n to ≡ true
+is_inside-true n None h = refl
+is_inside-true n (Some (pos k)) h = lt-ltb k n h
+is_inside-true n (Some (negsuc k)) h = absurd h
+
+InsideOf-is_inside : (n : ℕ) (to : Option ℤ) → is_inside n to ≡ true → InsideOf n to
+InsideOf-is_inside n None h = tt
+InsideOf-is_inside n (Some (pos k)) h = ltb-true k n h
+InsideOf-is_inside n (Some (negsuc k)) h = cc
+
+abbrev AreInside : ℕ → ℕ → List Insn → Type 0
+AreInside n i code = (k : ℕ) (insn : Insn) → slice_get code k ≡ Some insn → InsideOf n (target_of (i + k) insn)
+
+first_inside : (n i : ℕ) (insn : Insn) (rest : List Insn) → AreInside n i (insn ∷ rest) → is_inside n (target_of i insn) ≡ true
+first_inside n i insn rest each =
+    let e : i + 0 ≡ i = omega arith in
+    is_inside-true n (target_of i insn) (subst (λ j. InsideOf n (target_of j insn)) e (each 0 insn refl))
+
+first_outside-none : (n i : ℕ) (code : List Insn) → AreInside n i code → first_outside n i code ≡ None
+first_outside-none n i [] each = refl
+first_outside-none n i (insn ∷ rest) each =
+    rw (first_inside n i insn rest each) (first_outside-none n (suc i) rest (λ k x at. let e : i + suc k ≡ suc i + k = omega arith in subst (λ j. InsideOf n (target_of j x)) e (each (suc k) x at)))
+
+abbrev IsInsideAt : ℕ → ℕ → List Insn → ℕ → Type 0
+IsInsideAt n i code k = (insn : Insn) → slice_get code k ≡ Some insn → InsideOf n (target_of (i + k) insn)
+
+the_same : (a b : Insn) → Some a ≡ Some b → a ≡ b
+the_same a b e = cc
+
+first_outside-some : (n i k : ℕ) (code : List Insn) → k < length code → ((j : ℕ) → j < k → IsInsideAt n i code j) → (IsInsideAt n i code k → ⊥) → first_outside n i code ≡ Some (i + k)
+first_outside-some n i k [] lt each out = absurd (omega arith)
+first_outside-some n i zero (insn ∷ rest) lt each out = go (is_inside n (target_of i insn)) refl where
+  zero_more : i + 0 ≡ i
+  zero_more = omega arith
+
+  go : (b : Bool) → is_inside n (target_of i insn) ≡ b → first_outside n i (insn ∷ rest) ≡ Some (i + 0)
+  go true e = absurd (out (λ x at. subst (λ z. InsideOf n (target_of (i + 0) z)) (the_same insn x at) (subst (λ j. InsideOf n (target_of j insn)) (sym zero_more) (InsideOf-is_inside n (target_of i insn) e))))
+  go false e = rw (e, zero_more) refl
+first_outside-some n i (suc k) (insn ∷ rest) lt each out =
+    let here : is_inside n (target_of i insn) ≡ true =
+    let e : i + 0 ≡ i = omega arith in
+    is_inside-true n (target_of i insn) (subst (λ j. InsideOf n (target_of j insn)) e (each 0 (omega arith) insn refl)) in
+    let on : suc i + k ≡ i + suc k = omega arith in
+    let ih = first_outside-some n (suc i) k rest (omega arith)
+    (λ j below x at. let e : i + suc j ≡ suc i + j = omega arith in subst (λ z. InsideOf n (target_of z x)) e (each (suc j) (omega arith) x at))
+    (λ inside. out (λ x at. subst (λ z. InsideOf n (target_of z x)) on (inside x at))) in
+    rw (here, ih, on) refl
+
+-- ---- the end
+
+is_some-none : {A : Type 0} (o : Option A) → o ≡ None → is_some o ≡ false
+is_some-none o e = rw e refl
+
+none-is_some : {A : Type 0} (o : Option A) → is_some o ≡ false → o ≡ None
+none-is_some None e = refl
+none-is_some (Some x) e = cc
+
+runs_off-false : (i : ℕ) (code : List Insn) → i + 1 ≡ length code → EndsAt code i → runs_off code ≡ false
+runs_off-false i [] e ends = absurd (omega arith)
+runs_off-false zero (insn ∷ []) e ends = is_some-none (next_of 0 insn) (ends insn refl)
+runs_off-false (suc i) (insn ∷ []) e ends = absurd (omega arith)
+runs_off-false zero (insn ∷ other ∷ rest) e ends = absurd (omega arith)
+runs_off-false (suc i) (insn ∷ other ∷ rest) e ends = runs_off-false i (other ∷ rest) (omega arith) ends
+
+runs_off-true : (i : ℕ) (code : List Insn) → i + 1 ≡ length code → (EndsAt code i → ⊥) → runs_off code ≡ true
+runs_off-true i [] e ends = absurd (omega arith)
+runs_off-true zero (insn ∷ []) e ends = go (is_some (next_of 0 insn)) refl where
+  go : (b : Bool) → is_some (next_of 0 insn) ≡ b → is_some (next_of 0 insn) ≡ true
+  go true same = same
+  go false same = absurd (ends (λ x at. subst (λ z. next_of 0 z ≡ None) (the_same insn x at) (none-is_some (next_of 0 insn) same)))
+runs_off-true (suc i) (insn ∷ []) e ends = absurd (omega arith)
+runs_off-true zero (insn ∷ other ∷ rest) e ends = absurd (omega arith)
+runs_off-true (suc i) (insn ∷ other ∷ rest) e ends = runs_off-true i (other ∷ rest) (omega arith) ends
+
+-- ---- whole code
+
+from_zero : (code : List Insn) → ((i : ℕ) → IsInside code i) → AreInside (length code) 0 code
+from_zero code inside k insn at =
+    let e : k ≡ 0 + k = omega arith in
+    subst (λ j. InsideOf (length code) (target_of j insn)) e (inside k insn at)
+
+all_inside : (code : List Insn) → ((i : ℕ) → IsInside code i) → first_outside (length code) 0 code ≡ None
+all_inside code inside = first_outside-none (length code) 0 code (from_zero code inside)
+
+all_read : (bytes : List ℕ) (code : List Insn) → SpellsCode bytes code → words_read bytes 0 (length bytes / 4) ≡ Ok code
+all_read bytes code s =
+    let count : length bytes / 4 ≡ length code = omega (arith, s.whole) in
+    rw count (words_read-spelled bytes 0 code (λ k insn at. let e : k ≡ 0 + k = omega arith in subst (λ j. Spells (word_at bytes j) insn) e (s.first.each k insn at)))
+
+pub code_read-ok : (bytes : List ℕ) (code : List Insn) → SpellsCode bytes code → IsCode code → Ok code ≡ code_read bytes
+unfolding code_read
+code_read-ok bytes code s is =
+    let last : length code - 1 + 1 ≡ length code = omega (arith, is.nonempty) in
+    rw (all_read bytes code s, all_inside code is.inside, runs_off-false (length code - 1) code last is.ends) refl
+
+code_read-target : (bytes : List ℕ) (code : List Insn) (i : ℕ) → SpellsCode bytes code → IsShapeFault code (fault.Target i) → Err (fault.Target i) ≡ code_read bytes
+unfolding code_read
+code_read-target bytes code i s f =
+    let zero_plus : (k : ℕ) → 0 + k ≡ k = λ k. omega arith in
+    let found : first_outside (length code) 0 code ≡ Some (0 + i) = first_outside-some (length code) 0 i code f.0
+    (λ j below x at. subst (λ z. InsideOf (length code) (target_of z x)) (sym (zero_plus j)) (f.2 j below x at))
+    (λ inside. f.1 (λ x at. subst (λ z. InsideOf (length code) (target_of z x)) (zero_plus i) (inside x at))) in
+    rw (all_read bytes code s, found, zero_plus i) refl
+
+code_read-falls_off : (bytes : List ℕ) (code : List Insn) (i : ℕ) → SpellsCode bytes code → IsShapeFault code (fault.FallsOff i) → Err (fault.FallsOff i) ≡ code_read bytes
+unfolding code_read
+code_read-falls_off bytes code i s f =
+    let last : length code - 1 ≡ i = omega (arith, f.0) in
+    rw (all_read bytes code s, all_inside code f.2, runs_off-true i code f.0 f.1, last) refl
+
+code_read-bad : (bytes : List ℕ) (code : List Insn) (i word : ℕ) (bad : BadWord) → word ≡ word_at bytes i → reading word ≡ Err bad → 4 * i + 4 ≤ length bytes → SpellsFirst bytes i code → Err (fault.BadWord i word bad) ≡ code_read bytes
+unfolding code_read
+code_read-bad bytes code i word bad is e within s =
+    let m = length bytes / 4 - suc i in
+    let count : length bytes / 4 ≡ length code + suc m = omega (arith, s.count) in
+    let at : 0 + length code ≡ i = omega (arith, s.count) in
+    let read : reading (word_at bytes (0 + length code)) ≡ Err bad = rw (at, ← is) e in
+    let found = words_read-bad bytes 0 m bad code (λ k insn has. let z : k ≡ 0 + k = omega arith in subst (λ j. Spells (word_at bytes j) insn) z (s.each k insn has)) read in
+    rw (count, found, at, ← is) refl
+
+pub IsRead-Answers : (bytes : List ℕ) (r : Result (List Insn) CodeFault) → Answers bytes r → IsRead bytes r
+IsRead-Answers bytes (Ok code) h = code_read-ok bytes code h.0 h.1
+IsRead-Answers bytes (Err (fault.BadWord i word bad)) h = code_read-bad bytes h.3.0 i word bad h.0 h.1 h.2 h.3.1
+IsRead-Answers bytes (Err (fault.Target i)) h = code_read-target bytes h.0 i h.1 h.2
+IsRead-Answers bytes (Err (fault.FallsOff i)) h = code_read-falls_off bytes h.0 i h.1 h.2
+IsRead-Answers bytes (Err fault.Memory) h = tt
+
+-- ---- spelled code
+
+-- each instruction is spelled by its word
+pub AreInsns-SpellsCode : (bytes : List ℕ) (code : List Insn) → SpellsCode bytes code → AreInsns code
+AreInsns-SpellsCode bytes code s i insn at = (word_at bytes i, s.first.each i insn at)

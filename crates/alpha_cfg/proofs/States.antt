@@ -1,0 +1,173 @@
+-- A step keeps a state one, and its index inside the code.
+use Rattle.std.proofs.Common.{◌≡◌, ℕ, zero, suc, ◌+◌, ◌-◌, ◌^◌, ◌<◌, Bool, true, false, List, length, slice_get, Option, Some, None, IsSome, refl, ◌∙◌, arith, inl, inr, ℤ, pos, negsuc, if◌then◌else◌}
+use Rattle.std.proofs.lemmas.Bool.{cases_lt}
+use Rattle.std.proofs.lemmas.Option.{slice_get_within}
+use Rattle.std.proofs.lemmas.Nat.{mod_below}
+use Rattle.std.specs.Int.{cast_unsigned, w64}
+use Rattle.word_ops.proofs.Bounds.{word_of-below}
+use Rattle.word_ops.proofs.Memories.{IsMemory-write, read-below}
+use Rattle.word_ops.proofs.RegisterWords.{read_reg-below, AreRegs-write_reg}
+use Rattle.word_ops.specs.Words.{word_of}
+use Rattle.word_ops.specs.Memory.{read, write}
+use Rattle.word_ops.specs.Rights.{allowed}
+use Rattle.word_ops.specs.Registers.{read_reg, write_reg, AreRegs}
+use Rattle.alpha_words.specs.declared.insn.Rhs.{Rhs}
+use Rattle.alpha_words.specs.declared.insn.Rhs.TheVariants.{Reg, Lit}
+use Rattle.alpha_words.specs.declared.insn.Insn.{Insn}
+use Rattle.alpha_words.specs.declared.insn.Insn.TheVariants.{Lda, Ldq, Stq, Oper, Branch, Br, Ret}
+use Rattle.alpha_words.specs.Spelling.{IsRhs, Spells}
+use Rattle.alpha_words.specs.Lawful.{target_of}
+use Rattle.alpha_cfg.specs.Flow.{IsCode, IsInsn, InsideOf, Ends, jump_of, next_of, landing}
+use Rattle.alpha_cfg.specs.declared.outcome.Kind.{Kind}
+use Rattle.alpha_cfg.specs.declared.outcome.Kind.TheVariants.{Load, Store}
+use Rattle.alpha_cfg.specs.declared.outcome.Step.{Step}
+use Rattle.alpha_cfg.specs.declared.outcome.Step.TheVariants as steps
+use Rattle.alpha_cfg.specs.declared.outcome.Outcome.{Outcome}
+use Rattle.alpha_cfg.specs.Machine.{State, IsState, rhs_word, address_of, accessed, moved_to, done, takes, step_at, step_of, ends_with, run_of}
+
+-- a state whose index is below n
+pub record IsAt (n : ℕ) (s : State) : Type 0 where
+  pub index : s.index < n
+  pub state : IsState s
+
+rhs_word-below : (regs : List ℕ) (rhs : Rhs) → AreRegs regs → IsRhs rhs → rhs_word regs rhs < 2 ^ 64
+rhs_word-below regs (Reg rb) h is = read_reg-below regs rb h
+rhs_word-below regs (Lit n) h is = omega arith
+
+address_of-below : (regs : List ℕ) (rb : ℕ) (disp : ℤ) → address_of regs rb disp < 2 ^ 64
+address_of-below regs rb disp = mod_below (read_reg regs rb + cast_unsigned w64 disp) (2 ^ 64) (omega arith)
+
+-- ---- where it goes on
+
+goes_on : (i : ℕ) (insn : Insn) → next_of i insn ≡ Some (i + 1) → Ends insn → ⊥
+goes_on i (Lda ra rb disp) on end = cc
+goes_on i (Ldq ra rb disp) on end = cc
+goes_on i (Stq ra rb disp) on end = cc
+goes_on i (Oper op ra rhs rc) on end = cc
+goes_on i (Branch cond ra disp) on end = cc
+goes_on i (Br disp) on end = cc
+goes_on i Ret on end = cc
+
+next-below : (code : List Insn) (i : ℕ) (insn : Insn) → IsCode code → slice_get code i ≡ Some insn → next_of i insn ≡ Some (i + 1) → i + 1 < length code
+next-below code i insn is at on =
+    let within : i < length code = slice_get_within code i insn at in
+    elim (cases_lt (i + 1) (length code)) [
+      | inl below ↦ below
+      | inr last ↦
+          let e : i ≡ length code - 1 = omega arith in
+          absurd (goes_on i insn on (is.ends insn (rw (← e) at)))
+    ]
+
+-- the same where it goes on at all
+pub next-below_some : (code : List Insn) (i : ℕ) (insn : Insn) → IsCode code → slice_get code i ≡ Some insn → IsSome (next_of i insn) → i + 1 < length code
+next-below_some code i (Lda ra rb disp) is at on = next-below code i (Lda ra rb disp) is at refl
+next-below_some code i (Ldq ra rb disp) is at on = next-below code i (Ldq ra rb disp) is at refl
+next-below_some code i (Stq ra rb disp) is at on = next-below code i (Stq ra rb disp) is at refl
+next-below_some code i (Oper op ra rhs rc) is at on = next-below code i (Oper op ra rhs rc) is at refl
+next-below_some code i (Branch cond ra disp) is at on = next-below code i (Branch cond ra disp) is at refl
+next-below_some code i (Br disp) is at on = cc
+next-below_some code i Ret is at on = cc
+
+landing-below : (n : ℕ) (to : Option ℤ) → InsideOf n to → (j : ℕ) → landing to ≡ Some j → j < n
+landing-below n None is j e = cc
+landing-below n (Some (pos k)) is j e = let same : k ≡ j = cc in omega arith
+landing-below n (Some (negsuc k)) is j e = absurd is
+
+-- ---- a state with other parts
+
+moved : (n : ℕ) (s : State) (j : ℕ) → IsAt n s → j < n → IsAt n (record s { index = j })
+moved n s j is lt = record { index = lt; state = record { regs = is.state.regs; memory = is.state.memory; rights = is.state.rights } }
+
+moved_to-keeps : (n : ℕ) (s : State) (to : Option ℕ) → IsAt n s → ((j : ℕ) → to ≡ Some j → j < n) → IsAt n (moved_to s to)
+moved_to-keeps n s None is below = is
+moved_to-keeps n s (Some j) is below = moved n s j is (below j refl)
+
+set_reg-keeps : (n : ℕ) (s : State) (r word : ℕ) → IsAt n s → s.index + 1 < n → word < 2 ^ 64 → IsAt n (record s { index = s.index + 1; regs = write_reg s.regs r word })
+set_reg-keeps n s r word is lt w = record { index = lt; state = record { regs = AreRegs-write_reg s.regs r word is.state.regs w; memory = is.state.memory; rights = is.state.rights } }
+
+store-keeps : (n : ℕ) (s : State) (a word : ℕ) → IsAt n s → s.index + 1 < n → a < 2 ^ 64 → word < 2 ^ 64 → IsAt n (record s { index = s.index + 1; memory = write s.memory a word })
+store-keeps n s a word is lt p w = record { index = lt; state = record { regs = is.state.regs; memory = IsMemory-write s.memory a word is.state.memory p w; rights = is.state.rights } }
+
+accessed-keeps : (n : ℕ) (kind : Kind) (may : Bool) (a : ℕ) (s u : State) → IsAt n s → IsAt n u → IsAt n (accessed kind may a s u).1
+accessed-keeps n kind true a s u is after = after
+accessed-keeps n kind false a s u is after = is
+
+-- ---- steps and runs
+
+done-keeps : (code : List Insn) (insn : Insn) (s : State) → IsCode code → slice_get code s.index ≡ Some insn → IsInsn insn → IsAt (length code) s → IsAt (length code) (done insn s).1
+done-keeps code (Lda ra rb disp) s ok at byte is = set_reg-keeps (length code) s ra (address_of s.regs rb disp) is (next-below code s.index (Lda ra rb disp) ok at refl) (address_of-below s.regs rb disp)
+done-keeps code (Ldq ra rb disp) s ok at byte is =
+    let a = address_of s.regs rb disp in
+    accessed-keeps (length code) Load (allowed s.rights.reads a) a s (record s { index = s.index + 1; regs = write_reg s.regs ra (read s.memory a) }) is (set_reg-keeps (length code) s ra (read s.memory a) is (next-below code s.index (Ldq ra rb disp) ok at refl) (read-below s.memory a is.state.memory))
+done-keeps code (Stq ra rb disp) s ok at byte is =
+    let a = address_of s.regs rb disp in
+    accessed-keeps (length code) Store (allowed s.rights.writes a) a s (record s { index = s.index + 1; memory = write s.memory a (read_reg s.regs ra) }) is (store-keeps (length code) s a (read_reg s.regs ra) is (next-below code s.index (Stq ra rb disp) ok at refl) (address_of-below s.regs rb disp) (read_reg-below s.regs ra is.state.regs))
+done-keeps code (Oper op ra rhs rc) s ok at byte is =
+    let regs : AreRegs s.regs = is.state.regs in
+    set_reg-keeps (length code) s rc (word_of op (read_reg s.regs ra) (rhs_word s.regs rhs)) is (next-below code s.index (Oper op ra rhs rc) ok at refl) (word_of-below op (read_reg s.regs ra) (rhs_word s.regs rhs) (read_reg-below s.regs ra regs) (rhs_word-below s.regs rhs regs byte.1.1))
+done-keeps code (Branch cond ra disp) s ok at byte is =
+    let jump = jump_of s.index (Branch cond ra disp) in
+    let on : s.index + 1 < length code = next-below code s.index (Branch cond ra disp) ok at refl in
+    elim (takes cond (read_reg s.regs ra)) as (λ b. IsAt (length code) (moved_to s (if b then jump else Some (s.index + 1)))) [
+      | true ↦ moved_to-keeps (length code) s jump is (landing-below (length code) (target_of s.index (Branch cond ra disp)) (ok.inside s.index (Branch cond ra disp) at))
+      | false ↦ moved (length code) s (s.index + 1) is on
+    ]
+done-keeps code (Br disp) s ok at byte is = moved_to-keeps (length code) s (jump_of s.index (Br disp)) is (landing-below (length code) (target_of s.index (Br disp)) (ok.inside s.index (Br disp) at))
+done-keeps code Ret s ok at byte is = is
+
+step_at-keeps : (code : List Insn) (insn : Option Insn) (s : State) → IsCode code → slice_get code s.index ≡ insn → IsAt (length code) s → IsAt (length code) (step_at insn s).1
+step_at-keeps code None s ok at is = is
+step_at-keeps code (Some insn) s ok at is = done-keeps code insn s ok at (ok.spelled s.index insn at) is
+
+pub step_of-keeps : (code : List Insn) (s : State) → IsCode code → IsAt (length code) s → IsAt (length code) (step_of code s).1
+step_of-keeps code s ok is = step_at-keeps code (slice_get code s.index) s ok refl is
+
+ends_with-keeps : (n : ℕ) (step : Step) (u : State) (on : Outcome × State) → IsAt n u → IsAt n on.1 → IsAt n (ends_with step u on).1
+ends_with-keeps n steps.Moved u on is after = after
+ends_with-keeps n steps.Returned u on is after = is
+ends_with-keeps n (steps.Blocked index kind addr) u on is after = is
+
+pub run_of-keeps : (code : List Insn) (n : ℕ) (s : State) → IsCode code → IsAt (length code) s → IsAt (length code) (run_of code n s).1
+run_of-keeps code zero s ok is = is
+run_of-keeps code (suc n) s ok is =
+    let u : State = (step_of code s).1 in
+    let keeps : IsAt (length code) u = step_of-keeps code s ok is in
+    ends_with-keeps (length code) (step_of code s).0 u (run_of code n u) keeps (run_of-keeps code n u ok keeps)
+
+-- ---- rights
+
+accessed-rights : (kind : Kind) (may : Bool) (a : ℕ) (s u : State) → u.rights ≡ s.rights → (accessed kind may a s u).1.rights ≡ s.rights
+accessed-rights kind true a s u same = same
+accessed-rights kind false a s u same = refl
+
+moved_to-rights : (s : State) (to : Option ℕ) → (moved_to s to).rights ≡ s.rights
+moved_to-rights s None = refl
+moved_to-rights s (Some j) = refl
+
+done-rights : (insn : Insn) (s : State) → (done insn s).1.rights ≡ s.rights
+done-rights (Lda ra rb disp) s = refl
+done-rights (Ldq ra rb disp) s =
+    let a = address_of s.regs rb disp in
+    accessed-rights Load (allowed s.rights.reads a) a s (record s { index = s.index + 1; regs = write_reg s.regs ra (read s.memory a) }) refl
+done-rights (Stq ra rb disp) s =
+    let a = address_of s.regs rb disp in
+    accessed-rights Store (allowed s.rights.writes a) a s (record s { index = s.index + 1; memory = write s.memory a (read_reg s.regs ra) }) refl
+done-rights (Oper op ra rhs rc) s = refl
+done-rights (Branch cond ra disp) s = moved_to-rights s (if takes cond (read_reg s.regs ra) then jump_of s.index (Branch cond ra disp) else Some (s.index + 1))
+done-rights (Br disp) s = moved_to-rights s (jump_of s.index (Br disp))
+done-rights Ret s = refl
+
+step_at-rights : (insn : Option Insn) (s : State) → (step_at insn s).1.rights ≡ s.rights
+step_at-rights None s = refl
+step_at-rights (Some insn) s = done-rights insn s
+
+ends_with-rights : (step : Step) (u : State) (on : Outcome × State) → on.1.rights ≡ u.rights → (ends_with step u on).1.rights ≡ u.rights
+ends_with-rights steps.Moved u on same = same
+ends_with-rights steps.Returned u on same = refl
+ends_with-rights (steps.Blocked index kind addr) u on same = refl
+
+pub run_of-rights : (code : List Insn) (n : ℕ) (s : State) → (run_of code n s).1.rights ≡ s.rights
+run_of-rights code zero s = refl
+run_of-rights code (suc n) s =
+    let u : State = (step_of code s).1 in
+    ends_with-rights (step_of code s).0 u (run_of code n u) (run_of-rights code n u) ∙ step_at-rights (slice_get code s.index) s

@@ -1,0 +1,60 @@
+-- Where an instruction leads, and what code is. Alpha Architecture Handbook, "Control Instructions".
+use Rattle.std.specs.Prelude.{◌≡◌, ℕ, ◌+◌, ◌-◌, ◌<◌, ◌≤◌, List, length, slice_get, Option, Some, None, ℤ, pos, negsuc}
+use Rattle.alpha_words.specs.declared.insn.Insn.{Insn}
+use Rattle.alpha_words.specs.declared.insn.Insn.TheVariants.{Lda, Ldq, Stq, Oper, Branch, Br, Ret}
+use Rattle.alpha_words.specs.Spelling.{Spells}
+use Rattle.alpha_words.specs.Lawful.{target_of}
+
+-- a number that is an index
+abbrev pub index_of : ℤ → Option ℕ
+index_of (pos n) = Some n
+index_of (negsuc n) = None
+
+abbrev pub landing : Option ℤ → Option ℕ
+landing None = None
+landing (Some z) = index_of z
+
+-- the index after the instruction, where it may go on there
+abbrev pub next_of : ℕ → Insn → Option ℕ
+next_of i (Lda ra rb disp) = Some (i + 1)
+next_of i (Ldq ra rb disp) = Some (i + 1)
+next_of i (Stq ra rb disp) = Some (i + 1)
+next_of i (Oper op ra rhs rc) = Some (i + 1)
+next_of i (Branch cond ra disp) = Some (i + 1)
+next_of i (Br disp) = None
+next_of i Ret = None
+
+-- the index that the instruction branches to
+abbrev pub jump_of : ℕ → Insn → Option ℕ
+jump_of i insn = landing (target_of i insn)
+
+-- a branch leads to an index below n
+abbrev pub InsideOf : ℕ → Option ℤ → Type 0
+InsideOf n None = Unit {0}
+InsideOf n (Some (pos k)) = k < n
+InsideOf n (Some (negsuc k)) = ⊥
+
+-- code may not go on after the instruction
+abbrev pub Ends : Insn → Type 0
+Ends insn = next_of 0 insn ≡ None
+
+abbrev pub IsInside : List Insn → ℕ → Type 0
+IsInside code i = (insn : Insn) → slice_get code i ≡ Some insn → InsideOf (length code) (target_of i insn)
+
+abbrev pub EndsAt : List Insn → ℕ → Type 0
+EndsAt code i = (insn : Insn) → slice_get code i ≡ Some insn → Ends insn
+
+-- an instruction that some word spells
+abbrev pub IsInsn : Insn → Type 0
+IsInsn insn = (word : ℕ) × Spells word insn
+
+abbrev pub AreInsns : List Insn → Type 0
+AreInsns code = (i : ℕ) (insn : Insn) → slice_get code i ≡ Some insn → IsInsn insn
+
+-- Code: 1 to 1,024 instructions, each of which some word spells. Its branches stay inside, and it can't run off its end.
+pub record IsCode (code : List Insn) : Type 0 where
+  pub nonempty : 0 < length code
+  pub short : length code ≤ 1024
+  pub spelled : AreInsns code
+  pub inside : (i : ℕ) → IsInside code i
+  pub ends : EndsAt code (length code - 1)

@@ -1,0 +1,98 @@
+-- States of the machine, its steps and its runs, with a test at each access.
+-- Alpha Architecture Handbook, the instruction descriptions.
+use Rattle.std.specs.Prelude.{◌≡◌, ℕ, zero, suc, ◌+◌, ◌%◌, ◌^◌, Bool, not, ◌==◌, if◌then◌else◌, List, slice_get, slice_index, Option, Some, None, bit_and, ℤ}
+use Rattle.std.specs.Int.{cast_unsigned, w64}
+use Rattle.word_ops.specs.declared.Rel.TheVariants.{Slt, Sle}
+use Rattle.word_ops.specs.Words.{word_of, test_of}
+use Rattle.word_ops.specs.Memory.{Memory, read, write, IsMemory}
+use Rattle.word_ops.specs.Rights.{Rights, IsRights, allowed}
+use Rattle.word_ops.specs.Registers.{read_reg, write_reg, AreRegs}
+use Rattle.alpha_words.specs.declared.insn.Rhs.{Rhs}
+use Rattle.alpha_words.specs.declared.insn.Rhs.TheVariants.{Reg, Lit}
+use Rattle.alpha_words.specs.declared.insn.Cond.{Cond}
+use Rattle.alpha_words.specs.declared.insn.Cond.TheVariants.{LowClear, Zero, Negative, NotPositive, LowSet, NotZero, NotNegative, Positive}
+use Rattle.alpha_words.specs.declared.insn.Insn.{Insn}
+use Rattle.alpha_words.specs.declared.insn.Insn.TheVariants.{Lda, Ldq, Stq, Oper, Branch, Br, Ret}
+use Rattle.alpha_cfg.specs.Flow.{jump_of}
+use Rattle.alpha_cfg.specs.declared.outcome.Kind.{Kind}
+use Rattle.alpha_cfg.specs.declared.outcome.Kind.TheVariants.{Load, Store}
+use Rattle.alpha_cfg.specs.declared.outcome.Step.{Step}
+use Rattle.alpha_cfg.specs.declared.outcome.Step.TheVariants as steps
+use Rattle.alpha_cfg.specs.declared.outcome.Outcome.{Outcome}
+use Rattle.alpha_cfg.specs.declared.outcome.Outcome.TheVariants as outcomes
+
+-- an index, the words of registers 0 to 30, a memory, and what may be loaded and stored
+pub record State : Type 0 where
+  pub index : ℕ
+  pub regs : List ℕ
+  pub memory : Memory
+  pub rights : Rights
+
+-- The parts of a state are words, and its spans are aligned. Its index is said apart.
+pub record IsState (s : State) : Type 0 where
+  pub regs : AreRegs s.regs
+  pub memory : IsMemory s.memory
+  pub rights : IsRights s.rights
+
+-- the second operand
+abbrev pub rhs_word : List ℕ → Rhs → ℕ
+rhs_word regs (Reg rb) = read_reg regs rb
+rhs_word regs (Lit n) = n
+
+-- the sum of a register and a sign-extended displacement
+abbrev pub address_of : List ℕ → ℕ → ℤ → ℕ
+address_of regs rb disp = (read_reg regs rb + cast_unsigned w64 disp) % 2 ^ 64
+
+-- whether a conditional branch is taken
+abbrev pub takes : Cond → ℕ → Bool
+takes LowClear x = bit_and x 1 == 0
+takes Zero x = x == 0
+takes Negative x = test_of Slt x 0
+takes NotPositive x = test_of Sle x 0
+takes LowSet x = not (bit_and x 1 == 0)
+takes NotZero x = not (x == 0)
+takes NotNegative x = not (test_of Slt x 0)
+takes Positive x = not (test_of Sle x 0)
+
+-- an access goes on to u where it may, and else is blocked and changes nothing
+abbrev pub accessed : Kind → Bool → ℕ → State → State → Step × State
+accessed kind may a s u = if may then (steps.Moved, u) else (steps.Blocked s.index kind a, s)
+
+-- the state at an index
+abbrev pub moved_to : State → Option ℕ → State
+moved_to s None = s
+moved_to s (Some j) = record s { index = j }
+
+-- what the instruction answers, and what it makes of s
+abbrev pub done : Insn → State → Step × State
+done (Lda ra rb disp) s = (steps.Moved, record s { index = s.index + 1; regs = write_reg s.regs ra (address_of s.regs rb disp) })
+done (Ldq ra rb disp) s =
+    let a = address_of s.regs rb disp in
+    accessed Load (allowed s.rights.reads a) a s (record s { index = s.index + 1; regs = write_reg s.regs ra (read s.memory a) })
+done (Stq ra rb disp) s =
+    let a = address_of s.regs rb disp in
+    accessed Store (allowed s.rights.writes a) a s (record s { index = s.index + 1; memory = write s.memory a (read_reg s.regs ra) })
+done (Oper op ra rhs rc) s = (steps.Moved, record s { index = s.index + 1; regs = write_reg s.regs rc (word_of op (read_reg s.regs ra) (rhs_word s.regs rhs)) })
+done (Branch cond ra disp) s = (steps.Moved, moved_to s (if takes cond (read_reg s.regs ra) then jump_of s.index (Branch cond ra disp) else Some (s.index + 1)))
+done (Br disp) s = (steps.Moved, moved_to s (jump_of s.index (Br disp)))
+done Ret s = (steps.Returned, s)
+
+-- outside the code nothing is done
+abbrev pub step_at : Option Insn → State → Step × State
+step_at None s = (steps.Returned, s)
+step_at (Some insn) s = done insn s
+
+-- one step of the code
+abbrev pub step_of : List Insn → State → Step × State
+step_of code s = step_at (slice_get code s.index) s
+
+-- the run that begins with a step, and goes on where it moved; the word of a return is that of register 0
+abbrev pub ends_with : Step → State → Outcome × State → Outcome × State
+ends_with steps.Moved u on = on
+ends_with steps.Returned u on = (outcomes.Returned (slice_index u.regs 0), u)
+ends_with (steps.Blocked index kind addr) u on = (outcomes.Blocked index kind addr, u)
+
+-- a run of at most so many steps, a return among them
+abbrev pub run_of : List Insn → ℕ → State → Outcome × State
+run_of code zero s = (outcomes.OutOfSteps, s)
+run_of code (suc n) s = let step = step_of code s in ends_with step.0 step.1 (run_of code n step.1)

@@ -1,0 +1,209 @@
+//! Code: the instructions that bytes spell, whose branches stay inside it.
+
+ghost use Rattle.std.specs.Prelude.{◌≡◌, ℕ, ◌+◌, ◌*◌, ◌%◌, ◌<◌, ◌≤◌, ◌↔◌, length, slice_get, Some, IsTrue, IsSome, IfSome, IfNone, IfOk, IfErr, MatchResult, Err};
+ghost use Rattle.alpha_cfg.specs.CodeBytes.{word_at, SpellsCode, IsWordFault, IsShapeFault, Answers};
+ghost use Rattle.alpha_cfg.specs.CodeReading.{IsRead};
+ghost use Rattle.alpha_cfg.specs.Flow.{IsCode, AreInsns, IsInside, Ends, jump_of, next_of};
+ghost use Rattle.alpha_words.specs.Lawful.{target_of};
+ghost use Rattle.alpha_words.specs.Spelling.{Spells};
+ghost use Rattle.alpha_words.specs.Reading.{reading};
+ghost use Rattle.alpha_words.specs.declared.fault.BadWord.{BadWord};
+
+use crate::fault::CodeFault;
+use alpha_words::{Insn, Rhs, decode, target};
+use std::alloc::Global;
+use std::marker::Model;
+
+/// Code: 1 to 1,024 instructions of profile 1 whose branches stay inside it and which can't run
+/// off its end. Contracts see the list of its instructions.
+#[derive(Debug, Drop)]
+pub struct Code {
+    insns: Vec<Insn>,
+}
+
+impl Model for Code {
+    ghost use Rattle.std.specs.Prelude.{List};
+    ghost use Rattle.alpha_words.specs.declared.insn.Insn.{Insn};
+    ghost use Rattle.alpha_cfg.specs.Flow.{IsCode};
+
+    ghost Value = { List Insn };
+
+    ghost view = { λ c. c.insns.items };
+
+    ghost invariant = { λ c. IsCode c.insns.items };
+}
+
+impl Code {
+    /// How many instructions there are.
+    pub fn count(&self) -> u32
+        ensures value { result ≡ length self.now }
+        ensures code { IsCode self.now }
+    {
+        self.insns.len() as u32
+    }
+
+    /// The instructions in order.
+    pub fn insns(&self) -> &[Insn]
+        ensures value { result.now ≡ self.now }
+        ensures code { IsCode result.now }
+    {
+        &self.insns
+    }
+
+    /// The instruction at an index.
+    pub fn insn(&self, i: u32) -> Insn
+        requires { i < length self.now }
+        ensures at { slice_get self.now i ≡ Some result }
+        ensures short { i < 1024 }
+        ensures next { IfSome (next_of i result) (λ j. j < length self.now) }
+    {
+        self.insns[i as usize]
+    }
+}
+
+impl Code {
+    /// The index that the branch at an index leads to; it lies inside the code.
+    pub fn jump(&self, i: u32, insn: &Insn) -> u32
+        requires at { slice_get self.now i ≡ Some insn.now }
+        requires branch { IsSome (target_of i insn.now) }
+        ensures value { jump_of i insn.now ≡ Some result }
+        ensures within { result < length self.now }
+    {
+        let _ = &self.insns;
+        match target(i, *insn) {
+            Some(at) => at as u32,
+            None => unreachable!(),
+        }
+    }
+
+    /// The index after an instruction that goes on there; it lies inside the code.
+    pub fn next(&self, i: u32, insn: &Insn) -> u32
+        requires at { slice_get self.now i ≡ Some insn.now }
+        requires on { IsSome (next_of i insn.now) }
+        ensures value { next_of i insn.now ≡ Some result }
+        ensures within { result < length self.now }
+    {
+        let _ = &self.insns;
+        i + 1
+    }
+}
+
+fn word_of(code: &[u8], i: usize) -> u32
+    requires { 4 * i + 4 ≤ length code.now }
+    ensures { result ≡ word_at code.now i }
+{
+    let at = 4 * i;
+    u32::from_le_bytes([code[at], code[at + 1], code[at + 2], code[at + 3]])
+}
+
+/// The instruction that a word spells.
+fn decode_at(code: &[u8], i: usize) -> Result<Insn, CodeFault>
+    requires within { 4 * i + 4 ≤ length code.now }
+    requires short { i < 1024 }
+    ensures spelled { IfOk result (λ insn. Spells (word_at code.now i) insn) }
+    ensures fault { IfErr result (λ e. (bad : BadWord) × (e ≡ CodeFault.BadWord i (word_at code.now i) bad) × (reading (word_at code.now i) ≡ Err bad)) }
+{
+    let word = word_of(code, i);
+    match decode(word) {
+        Ok(insn) => Ok(insn),
+        Err(bad) => Err(CodeFault::BadWord(i as u32, word, bad)),
+    }
+}
+
+/// The instructions that the words spell, or the first word that spells none.
+fn decode_all(alloc: Global, code: &[u8]) -> Result<Vec<Insn>, CodeFault>
+    requires whole { length code.now % 4 ≡ 0 }
+    requires short { length code.now ≤ 4096 }
+    ensures spelled { IfOk result (λ v. SpellsCode code.now v.items) }
+    ensures fault { IfErr result (λ e. IsWordFault code.now e) }
+{
+    let _no_operand: Option<Rhs> = None;
+    let mut insns = Vec::new(alloc);
+    for i in 0..code.len() / 4 {
+        insns.push(decode_at(code, i)?)?;
+    }
+    Ok(insns)
+}
+
+/// Whether a branch at the index stays inside the code.
+fn stays_inside(insns: &[Insn], i: usize) -> bool
+    requires within { i < length insns.now }
+    requires short { length insns.now ≤ 1024 }
+    ensures { IsTrue result ↔ IsInside insns.now i }
+{
+    match target(i as u32, insns[i]) {
+        Some(at) => 0 <= at && at < insns.len() as i64,
+        None => true,
+    }
+}
+
+/// The least index whose branch leads outside.
+fn first_outside(insns: &[Insn]) -> Option<usize>
+    requires { length insns.now ≤ 1024 }
+    ensures found { IfSome result (λ i. (i < length insns.now) × (IsInside insns.now i → ⊥) × ((k : ℕ) → k < i → IsInside insns.now k)) }
+    ensures none { IfNone result ((i : ℕ) → IsInside insns.now i) }
+{
+    for i in 0..insns.len() {
+        if !stays_inside(insns, i) {
+            return Some(i);
+        }
+    }
+    None
+}
+
+/// Whether code may not go on after the instruction.
+fn ends(insn: Insn) -> bool
+    ensures { IsTrue result ↔ Ends insn }
+{
+    matches!(insn, Insn::Br { .. } | Insn::Ret)
+}
+
+/// What is wrong with the instructions, if they are no code.
+fn shape_fault(insns: &[Insn]) -> Option<CodeFault>
+    requires some { 0 < length insns.now }
+    requires short { length insns.now ≤ 1024 }
+    requires spelled { AreInsns insns.now }
+    ensures found { IfSome result (λ e. IsShapeFault insns.now e) }
+    ensures none { IfNone result (IsCode insns.now) }
+{
+    if let Some(i) = first_outside(insns) {
+        return Some(CodeFault::Target(i as u32));
+    }
+    let last = insns.len() - 1;
+    if ends(insns[last]) {
+        None
+    } else {
+        Some(CodeFault::FallsOff(last as u32))
+    }
+}
+
+/// The code that the bytes spell, or the first fault.
+fn make(alloc: Global, code: &[u8]) -> Result<Code, CodeFault>
+    requires whole { length code.now % 4 ≡ 0 }
+    requires some { 0 < length code.now }
+    requires short { length code.now ≤ 4096 }
+    ensures { Answers code.now result }
+{
+    let insns = decode_all(alloc, code)?;
+    match shape_fault(&insns) {
+        Some(fault) => Err(fault),
+        None => Ok(Code { insns }),
+    }
+}
+
+impl Code {
+    /// The code that the bytes, 1 to 1,024 words of four bytes, spell.
+    ///
+    /// Else the least index whose word is no instruction; else the least index that branches
+    /// outside; else the last index, where it isn't a return or a branch that is always taken.
+    /// Words that no walk reaches count as others do.
+    pub fn of(alloc: Global, code: &[u8]) -> Result<Code, CodeFault>
+        requires whole { length code.now % 4 ≡ 0 }
+        requires some { 0 < length code.now }
+        requires short { length code.now ≤ 4096 }
+        ensures spelled { Answers code.now result }
+        ensures tested { IsRead code.now result }
+    {
+        make(alloc, code)
+    }
+}

@@ -1,0 +1,95 @@
+-- The tests that a word meets, in their order, and the fields that are read.
+use Rattle.std.specs.Prelude.{ℕ, ◌+◌, ◌-◌, ◌/◌, ◌%◌, ◌^◌, Bool, ◌&&◌, not, ◌==◌, nat_le, nat_lt, if◌then◌else◌, ℤ, pos, negsuc, suc, Option, Some, None, Result, Ok, Err}
+use Rattle.word_ops.specs.declared.Op.{Op}
+use Rattle.word_ops.specs.declared.Op.TheVariants.{Add, Sub, Band, Bis, Sll, Srl, Cmpeq, Cmplt, Cmple, Cmpult, Cmpule}
+use Rattle.alpha_words.specs.declared.insn.Rhs.{Rhs}
+use Rattle.alpha_words.specs.declared.insn.Rhs.TheVariants.{Reg, Lit}
+use Rattle.alpha_words.specs.declared.insn.Cond.{Cond}
+use Rattle.alpha_words.specs.declared.insn.Cond.TheVariants.{LowClear, Zero, Negative, NotPositive, LowSet, NotZero, NotNegative, Positive}
+use Rattle.alpha_words.specs.declared.insn.Insn.{Insn}
+use Rattle.alpha_words.specs.declared.insn.Insn.TheVariants.{Lda, Ldq, Stq, Oper, Branch, Br, Ret}
+use Rattle.alpha_words.specs.declared.fault.BadWord.{BadWord}
+use Rattle.alpha_words.specs.declared.fault.BadWord.TheVariants.{Opcode, Function, Reserved, KeptRegister, LoadToZero, BadReturn, BadLink}
+use Rattle.alpha_words.specs.Spelling.{is_kept}
+
+-- the number whose k + 1 bits of two's complement are n
+abbrev pub number_of : ℕ → ℕ → ℤ
+number_of k n = if nat_lt n (2 ^ k) then pos n else negsuc (2 ^ k + 2 ^ k - suc n)
+
+-- the five bits from low on
+abbrev pub reg_at : ℕ → ℕ → ℕ
+reg_at w low = w / 2 ^ low % 32
+
+-- the operator of an opcode and a function
+abbrev pub operator_at : ℕ → ℕ → Option Op
+operator_at opcode function =
+    if opcode == 0x10 then
+    if function == 0x20 then Some Add else
+    if function == 0x29 then Some Sub else
+    if function == 0x2D then Some Cmpeq else
+    if function == 0x4D then Some Cmplt else
+    if function == 0x6D then Some Cmple else
+    if function == 0x1D then Some Cmpult else
+    if function == 0x3D then Some Cmpule else
+    None
+    else if opcode == 0x11 then
+    if function == 0x00 then Some Band else
+    if function == 0x20 then Some Bis else
+    None
+    else if opcode == 0x12 then
+    if function == 0x39 then Some Sll else
+    if function == 0x34 then Some Srl else
+    None
+    else None
+
+-- the condition of a branch's opcode
+abbrev pub cond_at : ℕ → Option Cond
+cond_at opcode =
+    if opcode == 0x38 then Some LowClear else
+    if opcode == 0x39 then Some Zero else
+    if opcode == 0x3A then Some Negative else
+    if opcode == 0x3B then Some NotPositive else
+    if opcode == 0x3C then Some LowSet else
+    if opcode == 0x3D then Some NotZero else
+    if opcode == 0x3E then Some NotNegative else
+    if opcode == 0x3F then Some Positive else
+    None
+
+-- An instruction that writes a register is refused where that register is kept.
+abbrev pub writing : ℕ → Insn → Result Insn BadWord
+writing r i = if is_kept r then Err KeptRegister else Ok i
+
+-- the second operand: bit 12 tells a literal from a register
+abbrev pub rhs_at : ℕ → Rhs
+rhs_at w = if w / 2 ^ 12 % 2 == 1 then Lit (w / 2 ^ 13 % 256) else Reg (reg_at w 16)
+
+-- with a register, bits 15:13 are zero
+abbrev pub has_reserved : ℕ → Bool
+has_reserved w = (w / 2 ^ 12 % 2 == 0) && not (w / 2 ^ 13 % 8 == 0)
+
+abbrev pub operating : ℕ → Option Op → Result Insn BadWord
+operating w None = Err Function
+operating w (Some op) = if has_reserved w then Err Reserved else writing (reg_at w 0) (Oper op (reg_at w 21) (rhs_at w) (reg_at w 0))
+
+abbrev pub branching : ℕ → Option Cond → Result Insn BadWord
+branching w None = Err Opcode
+branching w (Some cond) = Ok (Branch cond (reg_at w 21) (number_of 20 (w % 2 ^ 21)))
+
+-- a return: registers 31 and 26, and 2 in the two bits above the hint
+abbrev pub is_return : ℕ → Bool
+is_return w = (reg_at w 21 == 31) && (reg_at w 16 == 26) && (w / 2 ^ 14 % 4 == 2)
+
+-- What the word reads as, or the first test that it fails.
+abbrev pub reading : ℕ → Result Insn BadWord
+reading w =
+    let opcode = w / 2 ^ 26 in
+    let ra = reg_at w 21 in
+    let rb = reg_at w 16 in
+    let disp = number_of 15 (w % 2 ^ 16) in
+    if opcode == 0x08 then writing ra (Lda ra rb disp) else
+    if opcode == 0x29 then (if ra == 31 then Err LoadToZero else writing ra (Ldq ra rb disp)) else
+    if opcode == 0x2D then Ok (Stq ra rb disp) else
+    if nat_le 0x10 opcode && nat_le opcode 0x12 then operating w (operator_at opcode (w / 2 ^ 5 % 128)) else
+    if opcode == 0x1A then (if is_return w then Ok Ret else Err BadReturn) else
+    if opcode == 0x30 then (if ra == 31 then Ok (Br (number_of 20 (w % 2 ^ 21))) else Err BadLink) else
+    branching w (cond_at opcode)

@@ -1,0 +1,201 @@
+//! Words of 32 bits read as instructions.
+
+ghost use Rattle.std.specs.Prelude.{◌≡◌, ◌+◌, ◌/◌, ◌%◌, ◌^◌, ◌≤◌, ◌<◌, ◌↔◌, IfOk, None};
+ghost use Rattle.alpha_words.specs.Lawful.{fault_of, Reaches};
+ghost use Rattle.alpha_words.specs.declared.insn.Insn.{Insn};
+ghost use Rattle.alpha_words.specs.Reading as reading;
+ghost use Rattle.alpha_words.specs.Spelling as spelling;
+
+use crate::fault::BadWord;
+use crate::insn::{Cond, Insn, Rhs};
+use crate::reg::Reg;
+use word_ops::Op;
+
+/// The register whose number stands in the five bits from `low` on.
+fn reg_at(word: u32, low: u32) -> Reg
+    requires { low ≤ 27 }
+    ensures { result ≡ reading.reg_at word low }
+{
+    Reg::new((word >> low) & 0x1f)
+}
+
+/// The displacement of the memory format.
+fn short_displacement(word: u32) -> i16
+    ensures { result ≡ reading.number_of 15 (word % 2 ^ 16) }
+{
+    ((word & 0xffff) as u16).cast_signed()
+}
+
+/// The displacement of the branch format.
+fn long_displacement(word: u32) -> i32
+    ensures { result ≡ reading.number_of 20 (word % 2 ^ 21) }
+{
+    let field = word & 0x1f_ffff;
+    if field < 0x10_0000 {
+        field as i32
+    } else {
+        field as i32 - 0x20_0000
+    }
+}
+
+/// The operator of an opcode and a function.
+fn operator_at(opcode: u32, function: u32) -> Option<Op>
+    ensures { result ≡ reading.operator_at opcode function }
+{
+    match opcode {
+        0x10 => match function {
+            0x20 => Some(Op::Add),
+            0x29 => Some(Op::Sub),
+            0x2d => Some(Op::Cmpeq),
+            0x4d => Some(Op::Cmplt),
+            0x6d => Some(Op::Cmple),
+            0x1d => Some(Op::Cmpult),
+            0x3d => Some(Op::Cmpule),
+            _ => None,
+        },
+        0x11 => match function {
+            0x00 => Some(Op::Band),
+            0x20 => Some(Op::Bis),
+            _ => None,
+        },
+        0x12 => match function {
+            0x39 => Some(Op::Sll),
+            0x34 => Some(Op::Srl),
+            _ => None,
+        },
+        _ => None,
+    }
+}
+
+/// The condition of a branch's opcode.
+fn cond_at(opcode: u32) -> Option<Cond>
+    ensures { result ≡ reading.cond_at opcode }
+{
+    match opcode {
+        0x38 => Some(Cond::LowClear),
+        0x39 => Some(Cond::Zero),
+        0x3a => Some(Cond::Negative),
+        0x3b => Some(Cond::NotPositive),
+        0x3c => Some(Cond::LowSet),
+        0x3d => Some(Cond::NotZero),
+        0x3e => Some(Cond::NotNegative),
+        0x3f => Some(Cond::Positive),
+        _ => None,
+    }
+}
+
+/// The instruction, unless the register that it writes is kept.
+fn writing(written: Reg, insn: Insn) -> Result<Insn, BadWord>
+    ensures { result ≡ reading.writing written insn }
+{
+    if written.is_kept() {
+        Err(BadWord::KeptRegister)
+    } else {
+        Ok(insn)
+    }
+}
+
+/// The second operand of the operate format.
+fn rhs_at(word: u32) -> Rhs
+    ensures { result ≡ reading.rhs_at word }
+{
+    if (word >> 12) & 1 == 1 {
+        Rhs::Lit(((word >> 13) & 0xff) as u8)
+    } else {
+        Rhs::Reg(reg_at(word, 16))
+    }
+}
+
+/// Whether a bit is set that has to be zero beside a register.
+fn has_reserved(word: u32) -> bool
+    ensures { result ≡ reading.has_reserved word }
+{
+    (word >> 12) & 1 == 0 && (word >> 13) & 7 != 0
+}
+
+/// A word of the operate format.
+fn operate(word: u32) -> Result<Insn, BadWord>
+    ensures { result ≡ reading.operating word (reading.operator_at (word / 2 ^ 26) (word / 2 ^ 5 % 128)) }
+{
+    let Some(op) = operator_at(word >> 26, (word >> 5) & 0x7f) else {
+        return Err(BadWord::Function);
+    };
+    if has_reserved(word) {
+        return Err(BadWord::Reserved);
+    }
+    let rc = reg_at(word, 0);
+    writing(
+        rc,
+        Insn::Oper {
+            op,
+            ra: reg_at(word, 21),
+            rhs: rhs_at(word),
+            rc,
+        },
+    )
+}
+
+/// Whether the registers and the kind of jump are those of a return.
+fn is_return(word: u32) -> bool
+    ensures { result ≡ reading.is_return word }
+{
+    reg_at(word, 21).number() == 31 && reg_at(word, 16).number() == 26 && (word >> 14) & 3 == 2
+}
+
+/// What the word reads as, or the first test that it fails.
+fn read(word: u32) -> Result<Insn, BadWord>
+    ensures { result ≡ reading.reading word }
+{
+    let ra = reg_at(word, 21);
+    let rb = reg_at(word, 16);
+    let disp = short_displacement(word);
+    match word >> 26 {
+        0x08 => writing(ra, Insn::Lda { ra, rb, disp }),
+        0x29 => {
+            if ra.number() == 31 {
+                Err(BadWord::LoadToZero)
+            } else {
+                writing(ra, Insn::Ldq { ra, rb, disp })
+            }
+        }
+        0x2d => Ok(Insn::Stq { ra, rb, disp }),
+        0x10..=0x12 => operate(word),
+        0x1a => {
+            if is_return(word) {
+                Ok(Insn::Ret)
+            } else {
+                Err(BadWord::BadReturn)
+            }
+        }
+        0x30 => {
+            if ra.number() == 31 {
+                Ok(Insn::Br {
+                    disp: long_displacement(word),
+                })
+            } else {
+                Err(BadWord::BadLink)
+            }
+        }
+        opcode => match cond_at(opcode) {
+            Some(cond) => Ok(Insn::Branch {
+                cond,
+                ra,
+                disp: long_displacement(word),
+            }),
+            None => Err(BadWord::Opcode),
+        },
+    }
+}
+
+/// The instruction that a word spells, or the first test that the word fails.
+///
+/// The tests come in this order: an opcode that isn't listed; for operate words the function, the
+/// reserved bits, a kept register; for `lda` a kept register; for `ldq` a load into register 31,
+/// then a kept register; for the jump opcode a form other than the return's; for `br` a register.
+pub fn decode(word: u32) -> Result<Insn, BadWord>
+    ensures spelled { (i : Insn) → (result ≡ Ok i) ↔ spelling.Spells word i }
+    ensures tested { result ≡ reading.reading word }
+    ensures lawful { IfOk result (λ i. (fault_of i ≡ None) × Reaches i) }
+{
+    read(word)
+}

@@ -1,0 +1,165 @@
+//! Instructions put into words.
+
+ghost use Rattle.std.specs.Prelude.{◌≡◌, ◌+◌, ◌*◌, ◌^◌, ◌≤◌, ◌<◌, MatchResult, Some, None, Ok};
+ghost use Rattle.alpha_words.specs.Spelling as spelling;
+ghost use Rattle.alpha_words.specs.Reading.{reading};
+ghost use Rattle.alpha_words.specs.Lawful.{fault_of, kept_fault, Reaches, target_of};
+
+use crate::fault::BadWord;
+use crate::insn::{Cond, Insn, Rhs};
+use crate::reg::Reg;
+use word_ops::Op;
+
+/// Whether the profile has the instruction: KeptRegister where it would write a kept register,
+/// LoadToZero where it would load into register 31.
+pub fn lawful(insn: Insn) -> Result<(), BadWord>
+    ensures { MatchResult result (λ _. fault_of insn ≡ None) (λ e. fault_of insn ≡ Some e) }
+{
+    match insn {
+        Insn::Lda { ra, .. } => unkept(ra),
+        Insn::Ldq { ra, .. } => {
+            if ra.number() == 31 {
+                Err(BadWord::LoadToZero)
+            } else {
+                unkept(ra)
+            }
+        }
+        Insn::Oper { rc, .. } => unkept(rc),
+        Insn::Stq { .. } | Insn::Branch { .. } | Insn::Br { .. } | Insn::Ret => Ok(()),
+    }
+}
+
+fn unkept(reg: Reg) -> Result<(), BadWord>
+    ensures { MatchResult result (λ _. kept_fault reg ≡ None) (λ e. kept_fault reg ≡ Some e) }
+{
+    if reg.is_kept() {
+        Err(BadWord::KeptRegister)
+    } else {
+        Ok(())
+    }
+}
+
+/// The index that a branch at `index` leads to, `index + 1 + disp`; None where the instruction is
+/// no branch.
+pub fn target(index: u32, insn: Insn) -> Option<i64>
+    ensures { result ≡ target_of index insn }
+{
+    match insn {
+        Insn::Branch { disp, .. } => Some(i64::from(index) + 1 + i64::from(disp)),
+        Insn::Br { disp } => Some(i64::from(index) + 1 + i64::from(disp)),
+        _ => None,
+    }
+}
+
+fn opcode_of(op: Op) -> u32
+    ensures value { result ≡ spelling.opcode_of op }
+    ensures below { result < 64 }
+{
+    match op {
+        Op::Add | Op::Sub | Op::Cmpeq | Op::Cmplt | Op::Cmple | Op::Cmpult | Op::Cmpule => 0x10,
+        Op::Band | Op::Bis => 0x11,
+        Op::Sll | Op::Srl => 0x12,
+    }
+}
+
+fn function_of(op: Op) -> u32
+    ensures value { result ≡ spelling.function_of op }
+    ensures below { result < 128 }
+{
+    match op {
+        Op::Add => 0x20,
+        Op::Sub => 0x29,
+        Op::Cmpeq => 0x2d,
+        Op::Cmplt => 0x4d,
+        Op::Cmple => 0x6d,
+        Op::Cmpult => 0x1d,
+        Op::Cmpule => 0x3d,
+        Op::Band => 0x00,
+        Op::Bis => 0x20,
+        Op::Sll => 0x39,
+        Op::Srl => 0x34,
+    }
+}
+
+fn cond_opcode_of(cond: Cond) -> u32
+    ensures value { result ≡ spelling.cond_opcode_of cond }
+    ensures below { result < 64 }
+{
+    match cond {
+        Cond::LowClear => 0x38,
+        Cond::Zero => 0x39,
+        Cond::Negative => 0x3a,
+        Cond::NotPositive => 0x3b,
+        Cond::LowSet => 0x3c,
+        Cond::NotZero => 0x3d,
+        Cond::NotNegative => 0x3e,
+        Cond::Positive => 0x3f,
+    }
+}
+
+fn memory(opcode: u32, ra: Reg, rb: Reg, disp: i16) -> u32
+    requires { opcode < 64 }
+    ensures { result ≡ spelling.memory opcode ra rb disp }
+{
+    (opcode << 26) + (ra.number() << 21) + (rb.number() << 16) + u32::from(disp.cast_unsigned())
+}
+
+fn branch(opcode: u32, ra: u32, disp: i32) -> u32
+    requires opcode { opcode < 64 }
+    requires ra { ra < 32 }
+    requires disp { spelling.HasBits 20 disp }
+    ensures { result ≡ spelling.branch opcode ra disp }
+{
+    (opcode << 26) + (ra << 21) + (disp.cast_unsigned() & 0x1f_ffff)
+}
+
+fn rhs_bits(rhs: Rhs) -> u32
+    ensures value { result ≡ spelling.rhs_bits rhs }
+    ensures fits { spelling.IsRhs rhs }
+    ensures below { result < 2 ^ 21 }
+{
+    match rhs {
+        Rhs::Reg(rb) => rb.number() << 16,
+        Rhs::Lit(literal) => (u32::from(literal) << 13) | 0x1000,
+    }
+}
+
+fn operate(op: Op, ra: Reg, rhs: Rhs, rc: Reg) -> u32
+    ensures { result ≡ spelling.operate op ra rhs rc }
+{
+    (opcode_of(op) << 26)
+        + (ra.number() << 21)
+        + rhs_bits(rhs)
+        + (function_of(op) << 5)
+        + rc.number()
+}
+
+/// The word of a lawful instruction.
+fn write(insn: Insn) -> u32
+    requires lawful { fault_of insn ≡ None }
+    requires reaches { Reaches insn }
+    ensures spelled { spelling.Spells result insn }
+    ensures hint { insn ≡ Insn.Ret → result ≡ 0x6BFA8001 }
+{
+    match insn {
+        Insn::Lda { ra, rb, disp } => memory(0x08, ra, rb, disp),
+        Insn::Ldq { ra, rb, disp } => memory(0x29, ra, rb, disp),
+        Insn::Stq { ra, rb, disp } => memory(0x2d, ra, rb, disp),
+        Insn::Oper { op, ra, rhs, rc } => operate(op, ra, rhs, rc),
+        Insn::Branch { cond, ra, disp } => branch(cond_opcode_of(cond), ra.number(), disp),
+        Insn::Br { disp } => branch(0x30, 31, disp),
+        Insn::Ret => 0x6bfa_8001,
+    }
+}
+
+/// The word of an instruction that the profile has, whose displacement has 21 bits where it
+/// branches. A return is written with hint 1.
+pub fn encode(insn: Insn) -> u32
+    requires lawful { fault_of insn ≡ None }
+    requires reaches { Reaches insn }
+    ensures spelled { spelling.Spells result insn }
+    ensures read_back { reading result ≡ Ok insn }
+    ensures hint { insn ≡ Insn.Ret → result ≡ 0x6BFA8001 }
+{
+    write(insn)
+}

@@ -1,0 +1,5 @@
+pub mod Packets
+pub mod PacketReading
+pub mod Yields
+pub mod PolicyStarts
+pub mod Lines

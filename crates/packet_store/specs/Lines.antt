@@ -1,0 +1,58 @@
+-- Result lines: what is printed of the run of code on a packet.
+use Rattle.std.specs.Prelude.{ℕ, zero, suc, ◌+◌, ◌/◌, ◌%◌, ◌^◌, nat_lt, if◌then◌else◌, List, [], ◌∷◌, ◌++◌, Option, Some, None, codes, decimal}
+use Rattle.alpha_words.specs.declared.insn.Insn.{Insn}
+use Rattle.alpha_cfg.specs.Machine.{State, run_of}
+use Rattle.alpha_cfg.specs.declared.outcome.Kind.{Kind}
+use Rattle.alpha_cfg.specs.declared.outcome.Kind.TheVariants.{Load, Store}
+use Rattle.alpha_cfg.specs.declared.outcome.Outcome.{Outcome}
+use Rattle.alpha_cfg.specs.declared.outcome.Outcome.TheVariants.{Returned, OutOfSteps, Blocked}
+use Rattle.policy_set.specs.declared.Policy.{Policy}
+use Rattle.policy_set.specs.declared.Policy.TheVariants.{Filter, Tag, Table}
+use Rattle.reference_machine.specs.Arena.{sum_of}
+use Rattle.reference_machine.specs.Starts.{Setup, start_state}
+use Rattle.packet_store.specs.PolicyStarts.{start_of}
+
+-- a lower-case hexadecimal digit
+abbrev pub hex_digit : ℕ → ℕ
+hex_digit d = if nat_lt d 10 then 48 + d else 87 + d
+
+-- the n last hexadecimal digits of a number
+unfoldable pub hex_digits : ℕ → ℕ → List ℕ
+hex_digits zero a = []
+hex_digits (suc n) a = hex_digits n (a / 16) ++ hex_digit (a % 16) ∷ []
+
+abbrev pub kind_text : Kind → List ℕ
+kind_text Load = codes " load "
+kind_text Store = codes " store "
+
+-- the sum of the region's quadwords
+abbrev pub sum_text : Setup → State → List ℕ
+sum_text setup t = decimal (sum_of t.memory setup.at setup.region % 2 ^ 64)
+
+-- the number of a return; behind it the sum of the region, where the policy has one
+abbrev pub returned_text : Policy → Setup → ℕ → State → List ℕ
+returned_text Filter setup word t = decimal word
+returned_text Tag setup word t = decimal word ++ codes " " ++ sum_text setup t
+returned_text Table setup word t = decimal word ++ codes " " ++ sum_text setup t
+
+-- how a run ended, in the state t
+abbrev pub outcome_text : Policy → Setup → Outcome → State → List ℕ
+outcome_text policy setup (Returned word) t = returned_text policy setup word t
+outcome_text policy setup OutOfSteps t = codes "out of steps"
+outcome_text policy setup (Blocked index kind addr) t = codes "blocked " ++ decimal index ++ kind_text kind ++ hex_digits 16 addr
+
+-- the run of the code with a budget of steps, from a start or from a short packet
+unfoldable pub run_text : Policy → List Insn → ℕ → Option Setup → List ℕ
+run_text policy code budget None = codes "short"
+run_text policy code budget (Some setup) =
+    let end = run_of code budget (start_state 65536 setup) in
+    outcome_text policy setup end.0 end.1
+
+-- the result line of packet number k
+unfoldable pub line_of : Policy → List Insn → ℕ → ℕ → List ℕ → List ℕ
+line_of policy code budget k packet = decimal k ++ codes ": " ++ run_text policy code budget (start_of policy packet) ++ codes "\n"
+
+-- the result lines of packets, the first of which is number k
+abbrev pub lines_from : Policy → List Insn → ℕ → ℕ → List (List ℕ) → List ℕ
+lines_from policy code budget k [] = []
+lines_from policy code budget k (packet ∷ packets) = line_of policy code budget k packet ++ lines_from policy code budget (k + 1) packets

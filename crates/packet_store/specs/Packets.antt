@@ -1,0 +1,46 @@
+-- A packet file: any number of packets, each behind its length.
+use Rattle.std.specs.Prelude.{◌≡◌, ℕ, ◌+◌, ◌<◌, ◌≤◌, ◌⊎◌, List, [], ◌∷◌, ◌++◌, length, take}
+use Rattle.std.specs.Int.{to_le_bytes, from_le_bytes, w32}
+use Rattle.packet_store.specs.declared.fault.PacketFault.{PacketFault}
+use Rattle.packet_store.specs.declared.fault.PacketFault.TheVariants.{Cut, TooLong}
+
+-- four bytes of length, and the packet
+abbrev pub framed : List ℕ → List ℕ
+framed packet = to_le_bytes w32 (length packet) ++ packet
+
+-- packets, each behind its length
+abbrev pub spelling : List (List ℕ) → List ℕ
+spelling [] = []
+spelling (packet ∷ packets) = framed packet ++ spelling packets
+
+-- packets of at most 65,535 bytes
+abbrev pub AreShort : List (List ℕ) → Type 0
+AreShort [] = Unit {0}
+AreShort (packet ∷ packets) = (length packet ≤ 65535) × AreShort packets
+
+-- whole packets, and nothing behind them
+abbrev pub IsWhole : List ℕ → Type 0
+IsWhole bytes = (packets : List (List ℕ)) × AreShort packets × (bytes ≡ spelling packets)
+
+-- the length that the next packet claims
+abbrev pub claimed : List ℕ → ℕ
+claimed bytes = from_le_bytes w32 (take 4 bytes)
+
+-- no packet stands at the front of these bytes, which aren't empty
+abbrev pub IsBadFront : List ℕ → PacketFault → Type 0
+IsBadFront bytes (Cut offset) = (0 < length bytes) × ((length bytes < 4) ⊎ ((claimed bytes ≤ 65535) × (length bytes < 4 + claimed bytes)))
+IsBadFront bytes (TooLong offset) = (4 ≤ length bytes) × (65535 < claimed bytes)
+
+-- the offset of a fault
+abbrev pub offset_of : PacketFault → ℕ
+offset_of (Cut offset) = offset
+offset_of (TooLong offset) = offset
+
+-- the first fault of the file, behind whole packets
+pub record IsFirstFault (bytes : List ℕ) (fault : PacketFault) : Type 0 where
+  pub packets : List (List ℕ)
+  pub short : AreShort packets
+  pub rest : List ℕ
+  pub split : bytes ≡ spelling packets ++ rest
+  pub offset : offset_of fault ≡ length (spelling packets)
+  pub bad : IsBadFront rest fault

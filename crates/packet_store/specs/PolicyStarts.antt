@@ -1,0 +1,58 @@
+-- The start of each policy on a packet, in the arena of 8,194 quadwords from address 65,536 on. A span that isn't used is (65,536, 0).
+use Rattle.std.specs.Prelude.{ℕ, ◌+◌, ◌/◌, ◌==◌, nat_lt, if◌then◌else◌, List, [], ◌∷◌, length, take, Option, Some, None}
+use Rattle.policy_set.specs.declared.Policy.{Policy}
+use Rattle.policy_set.specs.declared.Policy.TheVariants.{Filter, Tag, Table}
+use Rattle.reference_machine.specs.Arena.{quadword}
+use Rattle.reference_machine.specs.Starts.{Setup}
+
+-- how many quadwords the bytes fill, the last padded with zeros
+abbrev pub quadwords_of : List ℕ → ℕ
+quadwords_of bytes = (length bytes + 7) / 8
+
+abbrev pub unused : ℕ × ℕ
+unused = (65536, 0)
+
+-- two quadwords of scratch, and the packet behind them; both may be loaded, and scratch stored
+abbrev pub filter_setup : List ℕ → Setup
+filter_setup packet = record {
+  r16 = 65552;
+  r17 = length packet;
+  r18 = 65536;
+  bytes = packet;
+  at = 65552;
+  region = 0;
+  reads = (65536, 2) ∷ (65552, quadwords_of packet) ∷ [];
+  writes = (65536, 2) ∷ unused ∷ [];
+}
+
+-- the first 16 bytes; both quadwords may be loaded, and the second stored where the first isn't 0
+abbrev pub tag_setup : List ℕ → Setup
+tag_setup packet = record {
+  r16 = 65536;
+  r17 = 0;
+  r18 = 0;
+  bytes = take 16 packet;
+  at = 65536;
+  region = 2;
+  reads = (65536, 2) ∷ unused ∷ [];
+  writes = (if quadword packet 0 == 0 then unused else (65544, 1)) ∷ unused ∷ [];
+}
+
+-- the packet's quadwords, all of which may be loaded and stored
+abbrev pub table_setup : List ℕ → Setup
+table_setup packet = record {
+  r16 = 65536;
+  r17 = quadwords_of packet;
+  r18 = 0;
+  bytes = packet;
+  at = 65536;
+  region = quadwords_of packet;
+  reads = (65536, quadwords_of packet) ∷ unused ∷ [];
+  writes = (65536, quadwords_of packet) ∷ unused ∷ [];
+}
+
+-- a filter's packet is short below 64 bytes, a tag's below 16, and a table's never
+unfoldable pub start_of : Policy → List ℕ → Option Setup
+start_of Filter packet = if nat_lt (length packet) 64 then None else Some (filter_setup packet)
+start_of Tag packet = if nat_lt (length packet) 16 then None else Some (tag_setup packet)
+start_of Table packet = Some (table_setup packet)

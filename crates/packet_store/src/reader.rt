@@ -1,0 +1,108 @@
+//! The packets of a file.
+
+ghost use Rattle.std.specs.Prelude.{◌≡◌, ◌++◌, ◌+◌, ◌<◌, ◌≤◌, MatchResult, IfOk, IfErr, length, ◌^◌};
+ghost use Rattle.packet_store.specs.Packets as file;
+ghost use Rattle.packet_store.specs.PacketReading.{packets_read};
+
+use crate::fault::PacketFault;
+use std::marker::Model;
+
+/// The length that the next packet claims.
+fn claimed(bytes: &[u8]) -> u32
+    requires { 4 ≤ length bytes.now }
+    ensures { result ≡ file.claimed bytes.now }
+{
+    u32::from_le_bytes([bytes[0], bytes[1], bytes[2], bytes[3]])
+}
+
+/// The first packet and the bytes after it; the fault has the offset that is given.
+fn first(bytes: &[u8], offset: u64) -> Result<(&[u8], &[u8]), PacketFault>
+    requires { 0 < length bytes.now }
+    ensures { MatchResult result (λ r. (bytes.now ≡ file.framed r.0.now ++ r.1.now) × (length r.0.now ≤ 65535)) (λ e. file.IsBadFront bytes.now e × (file.offset_of e ≡ offset)) }
+{
+    if bytes.len() < 4 {
+        return Err(PacketFault::Cut(offset));
+    }
+    let count = claimed(bytes);
+    if count > 65_535 {
+        return Err(PacketFault::TooLong(offset));
+    }
+    let (_, body) = bytes.split_at(4);
+    if body.len() < count as usize {
+        return Err(PacketFault::Cut(offset));
+    }
+    Ok(body.split_at(count as usize))
+}
+
+/// The packets of a file that has no fault, as slices of its bytes. Contracts see the list of the
+/// packets that are left.
+#[derive(Drop)]
+pub struct PacketIter<'b> {
+    rest: &'b [u8],
+}
+
+impl<'b> Model for PacketIter<'b> {
+    ghost use Rattle.std.specs.Prelude.{ℕ, List};
+    ghost use Rattle.packet_store.specs.PacketReading.{packets_in};
+    ghost use Rattle.packet_store.specs.Packets.{IsWhole};
+
+    ghost Value = { List (List ℕ) };
+
+    ghost view = { λ it. packets_in it.rest.now };
+
+    ghost invariant = { λ it. IsWhole it.rest.now };
+}
+
+/// The first fault of the file, if it has one.
+fn find_fault(bytes: &[u8]) -> Result<(), PacketFault>
+    requires { length bytes.now < 2 ^ 63 }
+    ensures whole { IfOk result (λ _. file.IsWhole bytes.now) }
+    ensures fault { IfErr result (λ e. file.IsFirstFault bytes.now e) }
+{
+    let mut rest = bytes;
+    let mut offset: u64 = 0;
+    while !rest.is_empty() {
+        let (packet, after) = first(rest, offset)?;
+        offset += 4 + packet.len() as u64;
+        rest = after;
+    }
+    Ok(())
+}
+
+/// The packets of the file in order, or its first fault. The whole file is looked through first.
+pub fn packets(bytes: &[u8]) -> Result<PacketIter<'_>, PacketFault>
+    requires { length bytes.now < 2 ^ 63 }
+    ensures spelled { IfOk result (λ ps. file.AreShort ps × (bytes.now ≡ file.spelling ps)) }
+    ensures fault { IfErr result (λ e. file.IsFirstFault bytes.now e) }
+    ensures tested { result ≡ packets_read bytes.now }
+{
+    match find_fault(bytes) {
+        Ok(()) => Ok(PacketIter { rest: bytes }),
+        Err(fault) => Err(fault),
+    }
+}
+
+impl<'b> Iterator for PacketIter<'b> {
+    type Item = &'b [u8];
+
+    ghost use Rattle.std.specs.Prelude.{length};
+    ghost use Rattle.std.specs.Iterator.{at_most};
+    ghost use Rattle.packet_store.specs.Yields.{YieldsPacket};
+
+    ghost next_gives = { YieldsPacket };
+
+    ghost remaining = { λ packets. at_most (length packets) };
+
+    fn next(&mut self) -> Option<&'b [u8]> {
+        if self.rest.is_empty() {
+            return None;
+        }
+        match first(self.rest, 0) {
+            Ok((packet, after)) => {
+                self.rest = after;
+                Some(packet)
+            }
+            Err(_) => None,
+        }
+    }
+}

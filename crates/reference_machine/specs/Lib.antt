@@ -1,0 +1,5 @@
+pub mod Arena
+pub mod Agents
+pub mod Insides
+pub mod Starts
+pub mod Setups

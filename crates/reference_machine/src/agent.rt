@@ -1,0 +1,263 @@
+//! An agent: a state in an arena.
+
+ghost use Rattle.std.specs.Prelude.{◌≡◌, ◌+◌, ◌<◌, length, IfOk, true, if◌then◌else◌, Some, None, slice_index, ◌%◌, ◌^◌};
+ghost use Rattle.word_ops.specs.Memory as memory;
+ghost use Rattle.word_ops.specs.Rights.{allowed};
+ghost use Rattle.word_ops.specs.Registers.{read_reg, write_reg};
+ghost use Rattle.alpha_cfg.specs.Machine as machine;
+ghost use Rattle.reference_machine.specs.Arena.{sum_of};
+ghost use Rattle.reference_machine.specs.Agents as agents;
+ghost use Rattle.reference_machine.specs.Setups.{setup_of};
+ghost use Rattle.reference_machine.specs.Starts as starts;
+
+use crate::loading::fill;
+use crate::parts::{address_of, is_allowed, read_reg, rhs_word, takes, write_reg};
+use crate::start::Start;
+use alpha_cfg::{Code, Kind, Outcome, Step};
+use alpha_words::{Insn, Reg, Rhs};
+use std::alloc::{AllocError, Global};
+use std::marker::Model;
+use word_ops::apply;
+
+/// The first address of the arena.
+pub const ARENA: u64 = 65_536;
+
+/// A state of the machine in an arena of 8,194 quadwords from address 65,536 on, with the place
+/// of its region.
+#[derive(Drop)]
+pub struct Agent {
+    index: u32,
+    regs: [u64; 31],
+    words: Vec<u64>,
+    reads: [(u64, u64); 2],
+    writes: [(u64, u64); 2],
+    region_at: u64,
+    region: u64,
+}
+
+impl Model for Agent {
+    ghost use Rattle.reference_machine.specs.Agents.{Held, held_code};
+
+    ghost Value = { Held };
+
+    ghost coded = { held_code };
+
+    ghost use Rattle.reference_machine.specs.Insides.{held_of, IsSound};
+
+    ghost view = { held_of };
+
+    ghost invariant = { IsSound };
+}
+
+impl Agent {
+    /// Reserves the arena. All is 0, the region is empty, and no address is allowed.
+    pub fn new(alloc: Global) -> Result<Agent, AllocError>
+        ensures { IfOk result agents.IsFresh }
+    {
+        let words = vec![in alloc; 0; 8194]?;
+        Ok(Agent {
+            index: 0,
+            regs: [0; 31],
+            words,
+            reads: [(ARENA, 0); 2],
+            writes: [(ARENA, 0); 2],
+            region_at: ARENA,
+            region: 0,
+        })
+    }
+
+    /// Begins anew at the start. The bytes stand little-endian in the quadwords from the address
+    /// on; every other quadword and register is 0, and so is the index.
+    pub fn load(&mut self, start: Start)
+        requires { starts.Fits ARENA (setup_of start) }
+        ensures { self.new ≡ starts.loaded ARENA (setup_of start.entry) }
+    {
+        let place = ((start.at - ARENA) / 8) as usize;
+        self.index = 0;
+        self.regs = [0; 31];
+        self.regs[16] = start.r16;
+        self.regs[17] = start.r17;
+        self.regs[18] = start.r18;
+        fill(&mut self.words, place, start.bytes);
+        self.reads = start.reads;
+        self.writes = start.writes;
+        self.region_at = start.at;
+        self.region = start.region;
+    }
+
+    /// A register's word.
+    fn reg(&self, reg: Reg) -> u64
+        ensures { result ≡ read_reg self.now.state.regs reg }
+    {
+        read_reg(&self.regs, reg)
+    }
+
+    /// The second operand's word.
+    fn rhs(&self, rhs: &Rhs) -> u64
+        ensures { result ≡ machine.rhs_word self.now.state.regs rhs.now }
+    {
+        rhs_word(&self.regs, rhs)
+    }
+
+    /// The sum of a register and a displacement.
+    fn address(&self, rb: Reg, disp: i16) -> u64
+        ensures { result ≡ machine.address_of self.now.state.regs rb disp }
+    {
+        address_of(&self.regs, rb, disp)
+    }
+
+    /// The word at an address, where it may be loaded.
+    fn word_at(&self, addr: u64) -> Option<u64>
+        ensures { result ≡ (if allowed self.now.state.rights.reads addr then Some (memory.read self.now.state.memory addr) else None) }
+    {
+        let place = place_of(&self.reads, addr)?;
+        Some(self.words[place])
+    }
+
+    /// Whether a word may be stored at an address.
+    fn may_store(&self, addr: u64) -> bool
+        ensures { result ≡ allowed self.now.state.rights.writes addr }
+    {
+        is_allowed(&self.writes, addr)
+    }
+
+    /// Writes a register and goes on to the next instruction.
+    fn set_reg(&mut self, reg: Reg, word: u64) -> Step
+        requires { self.old.state.index < 1024 }
+        ensures result { result ≡ Step.Moved }
+        ensures value { self.new ≡ record self.old { state = record self.old.state { index = self.old.state.index + 1; regs = write_reg self.old.state.regs reg word } } }
+    {
+        write_reg(&mut self.regs, reg, word);
+        self.index += 1;
+        Step::Moved
+    }
+
+    /// Stores a word and goes on to the next instruction.
+    fn store(&mut self, addr: u64, word: u64) -> Step
+        requires index { self.old.state.index < 1024 }
+        requires allowed { allowed self.old.state.rights.writes addr ≡ true }
+        ensures result { result ≡ Step.Moved }
+        ensures value { self.new ≡ record self.old { state = record self.old.state { index = self.old.state.index + 1; memory = memory.write self.old.state.memory addr word } } }
+    {
+        let _ = &self.words;
+        let place = ((addr - ARENA) / 8) as usize;
+        self.words[place] = word;
+        self.index += 1;
+        Step::Moved
+    }
+
+    /// Goes on to the instruction at the index.
+    fn go_to(&mut self, index: u32) -> Step
+        ensures result { result ≡ Step.Moved }
+        ensures value { self.new ≡ record self.old { state = record self.old.state { index = index } } }
+    {
+        self.index = index;
+        Step::Moved
+    }
+
+    /// The index of the instruction that comes next.
+    pub fn index(&self) -> u32
+        ensures { result ≡ self.now.state.index }
+    {
+        self.index
+    }
+
+    /// One step. A blocked step changes nothing, and a return neither.
+    pub fn step(&mut self, code: &Code) -> Step
+        requires { self.old.state.index < length code.now }
+        ensures step { (result, self.new.state) ≡ machine.step_of code.now self.old.state }
+        ensures region { (self.new.region_at ≡ self.old.region_at) × (self.new.region ≡ self.old.region) }
+        ensures within { result ≡ Step.Moved → self.new.state.index < length code.now }
+    {
+        let index = self.index();
+        let insn = code.insn(index);
+        match insn {
+            Insn::Lda { ra, rb, disp } => {
+                let addr = self.address(rb, disp);
+                self.set_reg(ra, addr)
+            }
+            Insn::Ldq { ra, rb, disp } => {
+                let kind = Kind::Load;
+                let addr = self.address(rb, disp);
+                match self.word_at(addr) {
+                    Some(word) => self.set_reg(ra, word),
+                    None => Step::Blocked { index, kind, addr },
+                }
+            }
+            Insn::Stq { ra, rb, disp } => {
+                let kind = Kind::Store;
+                let addr = self.address(rb, disp);
+                let word = self.reg(ra);
+                if self.may_store(addr) {
+                    self.store(addr, word)
+                } else {
+                    Step::Blocked { index, kind, addr }
+                }
+            }
+            Insn::Oper { op, ra, rhs, rc } => {
+                let word = apply(op, self.reg(ra), self.rhs(&rhs));
+                self.set_reg(rc, word)
+            }
+            Insn::Branch { cond, ra, .. } => {
+                if takes(cond, self.reg(ra)) {
+                    self.go_to(code.jump(index, &insn))
+                } else {
+                    self.go_to(code.next(index, &insn))
+                }
+            }
+            Insn::Br { .. } => self.go_to(code.jump(index, &insn)),
+            Insn::Ret => Step::Returned,
+        }
+    }
+
+    /// A run of at most `budget` steps, a return among them. OutOfSteps where the whole budget was
+    /// made and none returned or was blocked.
+    pub fn run(&mut self, code: &Code, budget: u64) -> Outcome
+        requires { self.old.state.index < length code.now }
+        ensures run { (result, self.new.state) ≡ machine.run_of code.now budget self.old.state }
+        ensures region { (self.new.region_at ≡ self.old.region_at) × (self.new.region ≡ self.old.region) }
+        ensures within { result ≡ Outcome.OutOfSteps → self.new.state.index < length code.now }
+    {
+        for _ in 0..budget {
+            match self.step(code) {
+                Step::Moved => {}
+                Step::Returned => return Outcome::Returned(self.result()),
+                Step::Blocked { index, kind, addr } => {
+                    return Outcome::Blocked { index, kind, addr };
+                }
+            }
+        }
+        Outcome::OutOfSteps
+    }
+
+    /// The word of register 0.
+    pub fn result(&self) -> u64
+        ensures { result ≡ slice_index self.now.state.regs 0 }
+    {
+        self.regs[0]
+    }
+
+    /// The sum of the region's quadwords, modulo 2^64.
+    pub fn sum(&self) -> u64
+        ensures { result ≡ sum_of self.now.state.memory self.now.region_at self.now.region % 2 ^ 64 }
+    {
+        let mut total: u64 = 0;
+        let first = ((self.region_at - ARENA) / 8) as usize;
+        for i in 0..self.region as usize {
+            total = total.wrapping_add(self.words[first + i]);
+        }
+        total
+    }
+}
+
+/// The place of an address among the arena's words, where the spans allow it.
+fn place_of(spans: &[(u64, u64)], addr: u64) -> Option<usize>
+    requires { agents.AreInArena ARENA spans.now }
+    ensures { agents.PlaceIs ARENA spans.now addr result }
+{
+    if is_allowed(spans, addr) {
+        Some(((addr - ARENA) / 8) as usize)
+    } else {
+        None
+    }
+}

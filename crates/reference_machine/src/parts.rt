@@ -1,0 +1,79 @@
+//! Registers, operands and spans.
+
+ghost use Rattle.std.specs.Prelude.{◌≡◌, ◌↔◌, IsTrue, length};
+ghost use Rattle.alpha_cfg.specs.Machine as machine;
+ghost use Rattle.word_ops.specs.Registers as registers;
+ghost use Rattle.word_ops.specs.Rights as rights;
+
+use alpha_words::{Cond, Reg, Rhs};
+use word_ops::{Rel, holds};
+
+/// A register's word.
+pub fn read_reg(regs: &[u64; 31], reg: Reg) -> u64
+    ensures { result ≡ registers.read_reg regs.now reg }
+{
+    let r = reg.number();
+    if r == 31 { 0 } else { regs[r as usize] }
+}
+
+/// Writes a register.
+pub fn write_reg(regs: &mut [u64; 31], reg: Reg, word: u64)
+    ensures { regs.new ≡ registers.write_reg regs.old reg word }
+{
+    let r = reg.number();
+    if r != 31 {
+        regs[r as usize] = word;
+    }
+}
+
+/// The second operand's word.
+pub fn rhs_word(regs: &[u64; 31], rhs: &Rhs) -> u64
+    ensures { result ≡ machine.rhs_word regs.now rhs.now }
+{
+    match *rhs {
+        Rhs::Reg(rb) => read_reg(regs, rb),
+        Rhs::Lit(literal) => u64::from(literal),
+    }
+}
+
+/// The sum of a register and a sign-extended displacement, modulo 2^64.
+pub fn address_of(regs: &[u64; 31], rb: Reg, disp: i16) -> u64
+    ensures { result ≡ machine.address_of regs.now rb disp }
+{
+    read_reg(regs, rb).wrapping_add(i64::from(disp).cast_unsigned())
+}
+
+/// Whether a conditional branch is taken.
+pub fn takes(cond: Cond, word: u64) -> bool
+    ensures { result ≡ machine.takes cond word }
+{
+    match cond {
+        Cond::LowClear => word & 1 == 0,
+        Cond::Zero => word == 0,
+        Cond::Negative => holds(Rel::Slt, word, 0),
+        Cond::NotPositive => holds(Rel::Sle, word, 0),
+        Cond::LowSet => word & 1 != 0,
+        Cond::NotZero => word != 0,
+        Cond::NotNegative => !holds(Rel::Slt, word, 0),
+        Cond::Positive => !holds(Rel::Sle, word, 0),
+    }
+}
+
+/// Whether the address is that of a quadword of the span.
+fn is_in_span(span: (u64, u64), addr: u64) -> bool
+    ensures { result ≡ rights.in_span span addr }
+{
+    let (base, count) = span;
+    if addr < base {
+        return false;
+    }
+    let offset = addr - base;
+    offset % 8 == 0 && offset / 8 < count
+}
+
+/// Whether the address is that of a quadword of one of the spans.
+pub fn is_allowed(spans: &[(u64, u64)], addr: u64) -> bool
+    ensures { result ≡ rights.allowed spans.now addr }
+{
+    spans.iter().any(|span| is_in_span(*span, addr))
+}
