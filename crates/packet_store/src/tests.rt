@@ -1,2 +1,164 @@
+//! Packet files, start states, and runs from them, on worked bytes.
+
+use crate::{PacketFault, packets, start};
+use alpha_cfg::{Code, CodeFault, Kind, Outcome};
+use policy_set::Policy;
+use reference_machine::Agent;
+use std::alloc::{AllocError, Global};
+use std::process::Abort;
+use std::test::Fail;
+
+const RETURN: u32 = 0x6bfa_8001;
+
+fn counted(bytes: &[u8]) -> Result<u32, PacketFault> {
+    let mut count = 0u32;
+    for _packet in packets(bytes)? {
+        count = count.saturating_add(1);
+    }
+    Ok(count)
+}
+
 #[test]
-fn nothing() {}
+fn files_have_packets_or_a_fault(rt: HostRuntime) {
+    let none: [u8; 0] = [];
+    let rows = [
+        (none.as_slice(), Ok(0)),
+        ([0, 0, 0, 0, 1, 0, 0, 0, 9].as_slice(), Ok(2)),
+        ([0, 0, 1, 0].as_slice(), Err(PacketFault::TooLong(0))),
+        ([1, 0, 0].as_slice(), Err(PacketFault::Cut(0))),
+        ([1, 0, 0, 0].as_slice(), Err(PacketFault::Cut(0))),
+        (
+            [0, 0, 0, 0, 255, 255, 0, 0, 1].as_slice(),
+            Err(PacketFault::Cut(4)),
+        ),
+        (
+            [1, 0, 0, 0, 7, 0, 0, 1, 0].as_slice(),
+            Err(PacketFault::TooLong(5)),
+        ),
+    ];
+    for (bytes, want) in rows {
+        assert_eq!(rt; counted(bytes), want);
+    }
+}
+
+#[test]
+fn packets_come_in_order(rt: HostRuntime) -> Result<(), Fail> {
+    let bytes = [2, 0, 0, 0, 5, 6, 0, 0, 0, 0, 1, 0, 0, 0, 7];
+    let mut found = packets(&bytes).ok().ok_or("a fault")?;
+    assert!(rt; found.next() == Some([5, 6].as_slice()));
+    assert!(rt; found.next() == Some([].as_slice()));
+    assert!(rt; found.next() == Some([7].as_slice()));
+    assert!(rt; found.next().is_none());
+    Ok(())
+}
+
+#[test]
+fn short_packets_have_no_start(rt: HostRuntime) {
+    let bytes = [0; 65];
+    let rows = [
+        (Policy::Filter, 63, false),
+        (Policy::Filter, 64, true),
+        (Policy::Tag, 15, false),
+        (Policy::Tag, 16, true),
+        (Policy::Table, 0, true),
+    ];
+    for (policy, count, starts) in rows {
+        if let Some(packet) = bytes.get(..count) {
+            assert_eq!(rt; packet.len(), count);
+            assert_eq!(rt;
+                start(&policy, packet).is_some(),
+                starts,
+                "{policy:?} on {count}"
+            );
+        }
+    }
+}
+
+fn code_of(rt: &impl Abort, alloc: Global, words: &[u32]) -> Result<Code, CodeFault> {
+    let mut bytes = Vec::new(alloc);
+    for word in words {
+        bytes.extend_from_slice(&word.to_le_bytes())?;
+    }
+    assert!(rt; bytes.len() % 4 == 0);
+    assert!(rt; bytes.len() > 0);
+    assert!(rt; bytes.len() <= 4096);
+    Code::of(alloc, &bytes)
+}
+
+/// The outcome, and the sum of the region, of a run of 1,000 steps.
+fn ran(
+    rt: &impl Abort,
+    alloc: Global,
+    policy: Policy,
+    words: &[u32],
+    packet: &[u8],
+) -> Result<Option<(Outcome, u64)>, CodeFault> {
+    let code = code_of(rt, alloc, words)?;
+    let mut agent = Agent::new(alloc)?;
+    assert!(rt; packet.len() <= 65_535);
+    let Some(begin) = start(&policy, packet) else {
+        return Ok(None);
+    };
+    agent.load(begin);
+    assert!(rt; agent.index() < code.count());
+    let outcome = agent.run(&code, 1000);
+    Ok(Some((outcome, agent.sum())))
+}
+
+#[test]
+fn filters_run(rt: HostRuntime) -> Result<(), Fail> {
+    let a = rt.alloc();
+    let zeros = [0; 64];
+    let odd = [0; 65];
+    let load = [0xa430_0040, 0x201f_0001, RETURN];
+    let kind = Kind::Load;
+    let blocked = |addr| Some((
+        Outcome::Blocked {
+            index: 0,
+            kind,
+            addr,
+        },
+        0,
+    ));
+    let one = Some((Outcome::Returned(1), 0));
+    assert_eq!(rt;
+        ran(&rt, a, Policy::Filter, &load, &zeros)?,
+        blocked(0x1_0050)
+    );
+    assert_eq!(rt; ran(&rt, a, Policy::Filter, &load, &odd)?, one);
+    let unaligned = [0xa430_0004, 0x201f_0001, RETURN];
+    assert_eq!(rt;
+        ran(&rt, a, Policy::Filter, &unaligned, &zeros)?,
+        blocked(0x1_0014)
+    );
+    let old_address = [0x2030_0000, 0xa421_0000, 0x201f_0001, RETURN];
+    assert_eq!(rt; ran(&rt, a, Policy::Filter, &old_address, &zeros)?, one);
+    Ok(())
+}
+
+#[test]
+fn tags_and_tables_run(rt: HostRuntime) -> Result<(), Fail> {
+    let a = rt.alloc();
+    let tag = [0xa430_0000, 0xe420_0001, 0xb430_0008, RETURN];
+    let five_seven = [5, 0, 0, 0, 0, 0, 0, 0, 7, 0, 0, 0, 0, 0, 0, 0];
+    let zero_seven = [0, 0, 0, 0, 0, 0, 0, 0, 7, 0, 0, 0, 0, 0, 0, 0];
+    let end = |sum| Some((Outcome::Returned(0), sum));
+    assert_eq!(rt; ran(&rt, a, Policy::Tag, &tag, &five_seven)?, end(10));
+    assert_eq!(rt; ran(&rt, a, Policy::Tag, &tag, &zero_seven)?, end(7));
+    let unasked = [0xa430_0000, 0xb430_0008, RETURN];
+    let outcome = Outcome::Blocked {
+        index: 1,
+        kind: Kind::Store,
+        addr: 0x1_0008,
+    };
+    assert_eq!(rt;
+        ran(&rt, a, Policy::Tag, &unasked, &zero_seven)?,
+        Some((outcome, 7))
+    );
+    assert_eq!(rt; ran(&rt, a, Policy::Table, &[RETURN], &[])?, end(0));
+    assert_eq!(rt;
+        ran(&rt, a, Policy::Table, &[RETURN], &five_seven)?,
+        end(12)
+    );
+    Ok(())
+}
