@@ -142,3 +142,18 @@ packets_in-nil bytes e = packets_in-whole bytes [] tt e
 pub empty_list : (bytes : List ℕ) → (length bytes == 0) ≡ true → bytes ≡ []
 empty_list [] e = refl
 empty_list (b ∷ bytes) e = let none : length (b ∷ bytes) ≡ 0 = eqb-true (length (b ∷ bytes)) 0 e in absurd (omega arith)
+
+-- a packet takes four bytes or more
+length-spelling : (ps : List (List ℕ)) → length ps ≤ length (spelling ps)
+length-spelling [] = omega arith
+length-spelling (p ∷ ps) =
+    let l : length (framed p ++ spelling ps) ≡ length (framed p) + length (spelling ps) = length-append (framed p) (spelling ps) in
+    let ih : length ps ≤ length (spelling ps) = length-spelling ps in
+    omega (arith, l, ih)
+
+pub length-packets_in : (bytes : List ℕ) → IsWhole bytes → length (packets_in bytes) ≤ length bytes
+length-packets_in bytes whole =
+    let h = HasPackets-whole bytes whole in
+    let l : length (packets_in bytes) ≤ length (spelling (packets_in bytes)) = length-spelling (packets_in bytes) in
+    let e : length bytes ≡ length (spelling (packets_in bytes)) = ap length h.spelled in
+    omega (arith, l, e)

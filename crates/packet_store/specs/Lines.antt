@@ -1,7 +1,7 @@
 -- Result lines: what is printed of the run of code on a packet.
 use Rattle.std.specs.Prelude.{ℕ, zero, suc, ◌+◌, ◌/◌, ◌%◌, ◌^◌, nat_lt, if◌then◌else◌, List, [], ◌∷◌, ◌++◌, Option, Some, None, codes, decimal}
 use Rattle.alpha_words.specs.declared.insn.Insn.{Insn}
-use Rattle.alpha_cfg.specs.Machine.{State, run_of}
+use Rattle.alpha_cfg.specs.Machine.{run_of}
 use Rattle.alpha_cfg.specs.declared.outcome.Kind.{Kind}
 use Rattle.alpha_cfg.specs.declared.outcome.Kind.TheVariants.{Load, Store}
 use Rattle.alpha_cfg.specs.declared.outcome.Outcome.{Outcome}
@@ -25,28 +25,24 @@ abbrev pub kind_text : Kind → List ℕ
 kind_text Load = codes " load "
 kind_text Store = codes " store "
 
--- the sum of the region's quadwords
-abbrev pub sum_text : Setup → State → List ℕ
-sum_text setup t = decimal (sum_of t.memory setup.at setup.region % 2 ^ 64)
-
 -- the number of a return; behind it the sum of the region, where the policy has one
-abbrev pub returned_text : Policy → Setup → ℕ → State → List ℕ
-returned_text Filter setup word t = decimal word
-returned_text Tag setup word t = decimal word ++ codes " " ++ sum_text setup t
-returned_text Table setup word t = decimal word ++ codes " " ++ sum_text setup t
+abbrev pub returned_text : Policy → ℕ → ℕ → List ℕ
+returned_text Filter word sum = decimal word
+returned_text Tag word sum = decimal word ++ codes " " ++ decimal sum
+returned_text Table word sum = decimal word ++ codes " " ++ decimal sum
 
--- how a run ended, in the state t
-abbrev pub outcome_text : Policy → Setup → Outcome → State → List ℕ
-outcome_text policy setup (Returned word) t = returned_text policy setup word t
-outcome_text policy setup OutOfSteps t = codes "out of steps"
-outcome_text policy setup (Blocked index kind addr) t = codes "blocked " ++ decimal index ++ kind_text kind ++ hex_digits 16 addr
+-- how a run ended, and the sum of the region at its end
+unfoldable pub outcome_text : Policy → Outcome → ℕ → List ℕ
+outcome_text policy (Returned word) sum = returned_text policy word sum
+outcome_text policy OutOfSteps sum = codes "out of steps"
+outcome_text policy (Blocked index kind addr) sum = codes "blocked " ++ decimal index ++ kind_text kind ++ hex_digits 16 addr
 
 -- the run of the code with a budget of steps, from a start or from a short packet
 unfoldable pub run_text : Policy → List Insn → ℕ → Option Setup → List ℕ
 run_text policy code budget None = codes "short"
 run_text policy code budget (Some setup) =
     let end = run_of code budget (start_state 65536 setup) in
-    outcome_text policy setup end.0 end.1
+    outcome_text policy end.0 (sum_of end.1.memory setup.at setup.region % 2 ^ 64)
 
 -- the result line of packet number k
 unfoldable pub line_of : Policy → List Insn → ℕ → ℕ → List ℕ → List ℕ

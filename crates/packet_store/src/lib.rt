@@ -16,5 +16,5 @@ mod tests;
 
 pub use fault::PacketFault;
 pub use known::laws;
-pub use reader::{PacketIter, packets};
+pub use reader::{PacketFile, PacketIter, packets};
 pub use starting::start;

@@ -82,6 +82,47 @@ pub fn packets(bytes: &[u8]) -> Result<PacketIter<'_>, PacketFault>
     }
 }
 
+/// The bytes of a packet file that has no fault. Contracts see the list of its packets.
+#[derive(Drop)]
+pub struct PacketFile {
+    bytes: Vec<u8>,
+}
+
+impl Model for PacketFile {
+    ghost use Rattle.std.specs.Prelude.{ℕ, List};
+    ghost use Rattle.packet_store.specs.PacketReading.{packets_in};
+    ghost use Rattle.packet_store.specs.Packets.{IsWhole};
+
+    ghost Value = { List (List ℕ) };
+
+    ghost view = { λ f. packets_in f.bytes.items };
+
+    ghost invariant = { λ f. IsWhole f.bytes.items };
+}
+
+impl PacketFile {
+    /// The packet file of these bytes, or its first fault.
+    pub fn new(bytes: Vec<u8>) -> Result<PacketFile, PacketFault>
+        ensures { result ≡ packets_read bytes.items }
+    {
+        match find_fault(&bytes) {
+            Ok(()) => Ok(PacketFile { bytes }),
+            Err(fault) => Err(fault),
+        }
+    }
+
+    /// The packets in order.
+    pub fn packets(&self) -> PacketIter<'_>
+        ensures value { result ≡ self.now }
+        ensures short { file.AreShort result }
+        ensures few { length result < 2 ^ 63 }
+    {
+        PacketIter {
+            rest: self.bytes.as_slice(),
+        }
+    }
+}
+
 impl<'b> Iterator for PacketIter<'b> {
     type Item = &'b [u8];
 

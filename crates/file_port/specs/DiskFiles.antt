@@ -1,0 +1,8 @@
+-- What is told of the files of a system.
+use Rattle.std.specs.Prelude.{None}
+use Rattle.file_port.specs.Files.{FilesState}
+use Rattle.file_port.specs.declared.disk_files.DiskFiles.{DiskFiles}
+
+-- nothing is told of their content
+abbrev pub state_of_disk_files : {R : Type 0} → DiskFiles R → FilesState
+state_of_disk_files files = record { told = None; read_faults = files.read_faults; write_faults = files.write_faults }

@@ -1,0 +1,9 @@
+pub mod Counts
+pub mod Files
+pub mod Sink
+pub mod Calls
+pub mod MemFiles
+pub mod MemSink
+pub mod Streams
+pub mod DiskFiles
+pub mod StdSink

@@ -1,0 +1,55 @@
+-- Output in memory: what its contracts see, and what a put makes of it.
+use Rattle.std.specs.Prelude.{ℕ, ◌+◌, Bool, ◌==◌, nat_le, if◌then◌else◌, List, ◌++◌, length, Some, refl}
+use Rattle.std.specs.Coded.{Coded, code_by, coded×, coded_ℕ, coded_list}
+use Rattle.file_port.specs.Counts.{counted}
+use Rattle.file_port.specs.Calls.{is_listed, first_half}
+use Rattle.file_port.specs.Sink.{SinkState}
+use Rattle.file_port.specs.declared.port.Put.{Put}
+use Rattle.file_port.specs.declared.port.Put.TheVariants as put
+
+pub record MemSinkView : Type 0 where
+  pub bytes : List ℕ
+  pub faults : ℕ
+  -- how many bytes there is room for in all
+  pub room : ℕ
+  -- how many puts were called, and the numbers of those that fail
+  pub calls : ℕ
+  pub failing : List ℕ
+
+abbrev pub mem_sink_code : Coded MemSinkView
+mem_sink_code =
+    code_by (List ℕ × (ℕ × (ℕ × (ℕ × List ℕ))))
+    (coded× (coded_list coded_ℕ) (coded× coded_ℕ (coded× coded_ℕ (coded× coded_ℕ (coded_list coded_ℕ)))))
+    (λ v. (v.bytes, (v.faults, (v.room, (v.calls, v.failing)))))
+    (λ p. record { bytes = p.0; faults = p.1.0; room = p.1.1.0; calls = p.1.1.1.0; failing = p.1.1.1.1 }) (λ _. refl)
+
+-- what is told of output in memory
+abbrev pub state_of_mem_sink : MemSinkView → SinkState
+state_of_mem_sink v = record { told = Some v.bytes; faults = v.faults }
+
+-- whether the next put is one that is to fail
+abbrev pub fails_next : MemSinkView → Bool
+fails_next v = is_listed v.failing v.calls
+
+-- after one more call
+abbrev pub called : MemSinkView → MemSinkView
+called v = record v { calls = counted v.calls }
+
+-- with a piece at the end
+abbrev pub extended : List ℕ → MemSinkView → MemSinkView
+extended piece v = record v { bytes = v.bytes ++ piece }
+
+-- with one more failed put
+abbrev pub put_failed : MemSinkView → MemSinkView
+put_failed v = record v { faults = counted v.faults }
+
+-- What a put leaves, and what it answers. One past the room leaves the bytes, one that is to fail adds the first half, and
+-- an empty piece is always taken.
+abbrev pub after_put : MemSinkView → List ℕ → MemSinkView × Put
+after_put v piece =
+    if length piece == 0 then (called v, put.Done)
+    else (if nat_le (length v.bytes + length piece) v.room
+    then (if fails_next v
+    then (put_failed (extended (first_half piece) (called v)), put.Failed)
+    else (extended piece (called v), put.Done))
+    else (put_failed (called v), put.Failed))

@@ -1,0 +1,30 @@
+-- What a caller may know of output, and what a put does.
+use Rattle.std.specs.Prelude.{◌≡◌, ℕ, ◌<◌, List, ◌++◌, length, take, Option, option_map}
+use Rattle.file_port.specs.Counts.{Rose}
+use Rattle.file_port.specs.declared.port.Put.{Put}
+use Rattle.file_port.specs.declared.port.Put.TheVariants as put
+
+pub record SinkState : Type 0 where
+  -- the bytes so far, where they are known
+  pub told : Option (List ℕ)
+  pub faults : ℕ
+
+-- the known bytes, and then a piece
+abbrev pub grown : List ℕ → Option (List ℕ) → Option (List ℕ)
+grown piece told = option_map (λ bytes. bytes ++ piece) told
+
+-- the state with the whole piece added
+abbrev pub with_piece : List ℕ → SinkState → SinkState
+with_piece piece state = record state { told = grown piece state.told }
+
+-- A failed put adds a prefix of a piece that is not empty.
+pub record PutFails (piece : List ℕ) (old new : SinkState) : Type 0 where
+  pub kept : ℕ
+  pub told : new.told ≡ grown (take kept piece) old.told
+  pub rose : Rose old.faults new.faults
+  pub some : 0 < length piece
+
+-- what a put of a piece does
+abbrev pub Puts : List ℕ → SinkState → SinkState → Put → Type 0
+Puts piece old new put.Done = new ≡ with_piece piece old
+Puts piece old new put.Failed = PutFails piece old new

@@ -1,0 +1,87 @@
+//! The files of the system, of whose content nothing is told.
+ghost use Rattle.std.specs.Prelude.{◌≡◌, None};
+ghost use Rattle.file_port.specs.Files.{IsWithin};
+ghost use Rattle.file_port.specs.DiskFiles.{state_of_disk_files};
+
+use crate::port::{Files, Got, Put};
+use crate::streams::{read_to_end, write_whole};
+use std::alloc::Global;
+use std::fs::File;
+use std::io::ErrorKind;
+use std::rt;
+
+/// The files of a runtime. Nothing is told of what they hold.
+///
+/// A file that does not exist is missing. Any other fault of the system, in opening or reading, is a
+/// failed read, and one in creating or writing a failed write. A device that takes nothing of what
+/// is left is at fault.
+#[derive(Drop)]
+pub struct DiskFiles<R> {
+    rt: R,
+    read_faults: u64,
+    write_faults: u64,
+}
+
+impl<R: rt::Files> DiskFiles<R> {
+    /// The files of this runtime, and no fault so far.
+    pub fn new(rt: R) -> DiskFiles<R>
+        ensures { state_of_disk_files result ≡ record {
+          told = None;
+          read_faults = 0;
+          write_faults = 0;
+        } }
+    {
+        DiskFiles {
+            rt,
+            read_faults: 0,
+            write_faults: 0,
+        }
+    }
+}
+
+fn read_file<R: rt::Files>(rt: &R, alloc: Global, name: &str, max: u32) -> Got
+    ensures { IsWithin max result }
+{
+    match File::open(rt, name) {
+        Ok(mut file) => read_to_end(&mut file, alloc, max),
+        Err(error) => match error.kind() {
+            ErrorKind::NotFound => Got::Missing,
+            _ => Got::Failed,
+        },
+    }
+}
+
+fn write_file<R: rt::Files>(rt: &R, name: &str, bytes: &[u8]) -> Put {
+    match File::create(rt, name) {
+        Ok(mut file) => write_whole(&mut file, bytes),
+        Err(_) => Put::Failed,
+    }
+}
+
+impl<R: rt::Files> Files for DiskFiles<R> {
+    ghost state = { state_of_disk_files };
+
+    fn read(&mut self, alloc: Global, name: &str, max: u32) -> Got {
+        let answer = read_file(&self.rt, alloc, name, max);
+        if let Got::Failed = answer {
+            self.read_faults = self.read_faults.saturating_add(1);
+        }
+        answer
+    }
+
+    fn write(&mut self, name: &str, bytes: &[u8]) -> Put {
+        let answer = write_file(&self.rt, name, bytes);
+        if let Put::Failed = answer {
+            self.write_faults = self.write_faults.saturating_add(1);
+        }
+        answer
+    }
+
+    fn read_faults(&self) -> u64 {
+        self.read_faults
+    }
+
+    fn write_faults(&self) -> u64 {
+        self.write_faults
+    }
+}

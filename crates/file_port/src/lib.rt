@@ -1,0 +1,28 @@
+//! Files and output as the program meets them: two traits that count their faults.
+//!
+//! `Files` reads and writes whole files by name, `Sink` takes output piece by piece. The layer
+//! above is generic over both. It uses one clause a method, by cases on the answer: `Reads` and
+//! `Writes` of `specs/Files`, `Puts` of `specs/Sink`. The counts, `Rose` and `IsQuiet` stand in
+//! `specs/Counts`. `MemFiles` and `MemSink` tell what they hold and have exact contracts
+//! (`specs/MemFiles`, `specs/MemSink`). `DiskFiles` and `StdSink` are the real ones, of whose
+//! content the traits tell nothing.
+#![tactic(auto)]
+
+mod calls;
+mod disk_files;
+mod known;
+mod mem_files;
+mod mem_sink;
+mod port;
+mod spare;
+mod std_sink;
+mod streams;
+#[cfg(test)]
+mod tests;
+
+pub use disk_files::DiskFiles;
+pub use known::laws;
+pub use mem_files::MemFiles;
+pub use mem_sink::MemSink;
+pub use port::{Files, Got, Put, Sink};
+pub use std_sink::StdSink;

@@ -1,0 +1,186 @@
+//! Files in memory, with a list of the calls that are to fail.
+ghost use Rattle.std.specs.Prelude.{◌≡◌, ◌↔◌, ◌≤◌, ◌<◌, ◌+◌, IfOk, true, false, option_map, string_bytes, length, find, reverse};
+ghost use Rattle.std.specs.Str.{bytes_eq};
+ghost use Rattle.std.specs.FinMap as finmap;
+ghost use Rattle.file_port.specs.Files.{Reads, Writes};
+ghost use Rattle.file_port.specs.MemFiles.{state_of_mem_files, log_map, fails_next, next_reading, reading_of, Answers, after_read, after_write};
+
+use crate::calls::is_failing;
+use crate::port::{Files, Got, Put};
+use crate::spare::{MAX_BYTES, MAX_NAME, Spare};
+use std::alloc::{AllocError, Global};
+use std::marker::Model;
+
+/// Files in memory, which tell what they hold.
+///
+/// There is room for so many writes, each with a name of at most 255 bytes and with at most
+/// 4,194,304 bytes. Each write within the room takes up one of these, a failing one too. The calls
+/// of `read` and `write` together are numbered from 0, and those in the list `failing` fail. A
+/// write that is listed leaves the first half of its bytes, rounded down, as the file. One past
+/// the room fails and leaves all files.
+#[derive(Drop)]
+pub struct MemFiles {
+    // a log of writes: the last of a name counts
+    files: Vec<(String, Vec<u8>)>,
+    spares: Vec<Spare>,
+    read_faults: u64,
+    write_faults: u64,
+    calls: u64,
+    failing: Vec<u32>,
+}
+
+impl Model for MemFiles {
+    ghost use Rattle.std.specs.Prelude.{◌+◌, ◌≤◌, length, vec_capacity};
+    ghost use Rattle.file_port.specs.MemFiles.{MemFilesView, mem_files_code, log_map};
+
+    ghost Value = { MemFilesView };
+
+    ghost coded = { mem_files_code };
+
+    ghost view = { λ a. record {
+      files = log_map a.files.items;
+      read_faults = a.read_faults;
+      write_faults = a.write_faults;
+      room = length a.spares.items;
+      calls = a.calls;
+      failing = a.failing.items;
+    } };
+
+    ghost invariant = { λ a. length a.files.items + length a.spares.items ≤ vec_capacity a.files };
+}
+
+// The bytes of the last file of this name.
+fn search_files<'a>(files: &'a [(String, Vec<u8>)], name: &str) -> Option<&'a [u8]>
+    ensures { option_map (λ b. b.now) result ≡ option_map (λ e. e.1.items) (find (λ e. bytes_eq name.now (string_bytes e.0)) (reverse files.now)) }
+{
+    files
+        .iter()
+        .rev()
+        .find(|e| name == e.0.as_str())
+        .map(|e| e.1.as_slice())
+}
+
+// What the map of the files has of this name.
+fn find_file<'a>(files: &'a [(String, Vec<u8>)], name: &str) -> Option<&'a [u8]>
+    ensures { option_map (λ b. b.now) result ≡ finmap.get (log_map files.now) name.now }
+{
+    search_files(files, name)
+}
+
+// What a read answers that does not fail.
+fn copy_file(alloc: Global, file: Option<&[u8]>, max: u32) -> Got
+    ensures { Answers (reading_of max (option_map (λ b. b.now) file.entry)) result }
+{
+    let Some(bytes) = file else {
+        return Got::Missing;
+    };
+    if bytes.len() > max as usize {
+        return Got::TooLong;
+    }
+    match Vec::from_slice(alloc, bytes) {
+        Ok(copy) => Got::Bytes(copy),
+        Err(_) => Got::Memory,
+    }
+}
+
+fn make_spares(alloc: Global, room: u32) -> Result<Vec<Spare>, AllocError>
+    ensures { IfOk result (λ v. length v.items ≡ room) }
+{
+    let mut spares = Vec::new(alloc);
+    for _ in 0..room {
+        spares.push(Spare::new(alloc)?)?;
+    }
+    Ok(spares)
+}
+
+impl MemFiles {
+    /// The files given, with room for so many writes, of which none was made yet. Where a name
+    /// stands twice the last counts.
+    pub fn new(
+        alloc: Global,
+        mut files: Vec<(String, Vec<u8>)>,
+        room: u32,
+        failing: Vec<u32>,
+    ) -> Result<MemFiles, AllocError>
+        ensures { IfOk result (λ m. m ≡ record {
+          files = log_map files.items;
+          read_faults = 0;
+          write_faults = 0;
+          room = room;
+          calls = 0;
+          failing = failing.items;
+        }) }
+    {
+        let spares = make_spares(alloc, room)?;
+        files.reserve(room as usize)?;
+        Ok(MemFiles {
+            files,
+            spares,
+            read_faults: 0,
+            write_faults: 0,
+            calls: 0,
+            failing,
+        })
+    }
+
+    /// The bytes of the file of this name, if there is one.
+    pub fn get(&self, name: &str) -> Option<&[u8]>
+        ensures { option_map (λ b. b.now) result ≡ finmap.get self.now.files name.now }
+    {
+        find_file(self.files.as_slice(), name)
+    }
+}
+
+impl Files for MemFiles {
+    ghost state = { state_of_mem_files };
+
+    fn read(&mut self, alloc: Global, name: &str, max: u32) -> Got
+        ensures meaning { Reads name.now max (state_of_mem_files self.old) (state_of_mem_files self.new) result }
+        ensures listed { (result ≡ Got.Failed) ↔ (fails_next self.old ≡ true) }
+        ensures answer { Answers (next_reading self.old name.now max) result }
+        ensures after { self.new ≡ after_read self.old }
+    {
+        let fails = is_failing(self.failing.as_slice(), self.calls);
+        self.calls = self.calls.saturating_add(1);
+        if fails {
+            self.read_faults = self.read_faults.saturating_add(1);
+            return Got::Failed;
+        }
+        copy_file(alloc, find_file(self.files.as_slice(), name), max)
+    }
+
+    fn write(&mut self, name: &str, bytes: &[u8]) -> Put
+        ensures meaning { Writes name.now bytes.now (state_of_mem_files self.old) (state_of_mem_files self.new) result }
+        ensures exact { (self.new, result) ≡ after_write self.old name.now bytes.now }
+
+        // Only a listed write fails, and one past the room.
+        ensures sure { fails_next self.old ≡ false → 0 < self.old.room → length name.now ≤ 255 → length bytes.now ≤ 4194304 → result ≡ Put.Done }
+    {
+        let fails = is_failing(self.failing.as_slice(), self.calls);
+        self.calls = self.calls.saturating_add(1);
+        if name.len() > MAX_NAME || bytes.len() > MAX_BYTES {
+            self.write_faults = self.write_faults.saturating_add(1);
+            return Put::Failed;
+        }
+        let Some(spare) = self.spares.pop() else {
+            self.write_faults = self.write_faults.saturating_add(1);
+            return Put::Failed;
+        };
+        let kept = if fails { bytes.len() / 2 } else { bytes.len() };
+        let file = spare.filled(name, &bytes[..kept]);
+        self.files.push(file).unwrap();
+        if fails {
+            self.write_faults = self.write_faults.saturating_add(1);
+            return Put::Failed;
+        }
+        Put::Done
+    }
+
+    fn read_faults(&self) -> u64 {
+        self.read_faults
+    }
+
+    fn write_faults(&self) -> u64 {
+        self.write_faults
+    }
+}

@@ -1,0 +1,104 @@
+//! Output in memory, with a list of the calls that are to fail.
+ghost use Rattle.std.specs.Prelude.{◌≡◌, ◌≤◌, ◌+◌, IfOk, false, length, []};
+ghost use Rattle.file_port.specs.Sink.{Puts};
+ghost use Rattle.file_port.specs.MemSink.{state_of_mem_sink, fails_next, after_put};
+
+use crate::calls::is_failing;
+use crate::port::{Put, Sink};
+use std::alloc::{AllocError, Global};
+use std::marker::Model;
+
+/// Output in memory, which tells its bytes.
+///
+/// There is room for so many bytes in all. The calls of `put` are numbered from 0, and those in
+/// the list `failing` fail, but for those of an empty piece. A put that is listed adds the first
+/// half of its bytes, rounded down. One past the room fails and adds nothing.
+#[derive(Drop)]
+pub struct MemSink {
+    bytes: Vec<u8>,
+    room: u32,
+    faults: u64,
+    calls: u64,
+    failing: Vec<u32>,
+}
+
+impl Model for MemSink {
+    ghost use Rattle.std.specs.Prelude.{◌≤◌, vec_capacity};
+    ghost use Rattle.file_port.specs.MemSink.{MemSinkView, mem_sink_code};
+
+    ghost Value = { MemSinkView };
+
+    ghost coded = { mem_sink_code };
+
+    ghost view = { λ a. record {
+      bytes = a.bytes.items;
+      faults = a.faults;
+      room = a.room;
+      calls = a.calls;
+      failing = a.failing.items;
+    } };
+
+    ghost invariant = { λ a. a.room ≤ vec_capacity a.bytes };
+}
+
+impl MemSink {
+    /// No output yet, with room for so many bytes.
+    pub fn new(alloc: Global, room: u32, failing: Vec<u32>) -> Result<MemSink, AllocError>
+        ensures { IfOk result (λ sink. sink ≡ record {
+          bytes = [];
+          faults = 0;
+          room = room;
+          calls = 0;
+          failing = failing.items;
+        }) }
+    {
+        Ok(MemSink {
+            bytes: Vec::with_capacity(alloc, room as usize)?,
+            room,
+            faults: 0,
+            calls: 0,
+            failing,
+        })
+    }
+
+    /// The bytes so far.
+    pub fn bytes(&self) -> &[u8]
+        ensures { result.now ≡ self.now.bytes }
+    {
+        self.bytes.as_slice()
+    }
+}
+
+impl Sink for MemSink {
+    ghost state = { state_of_mem_sink };
+
+    fn put(&mut self, bytes: &[u8]) -> Put
+        ensures meaning { Puts bytes.now (state_of_mem_sink self.old) (state_of_mem_sink self.new) result }
+        ensures exact { (self.new, result) ≡ after_put self.old bytes.now }
+
+        // Only a listed put fails, and one past the room.
+        ensures sure { fails_next self.old ≡ false → length self.old.bytes + length bytes.now ≤ self.old.room → result ≡ Put.Done }
+    {
+        let fails = is_failing(self.failing.as_slice(), self.calls);
+        self.calls = self.calls.saturating_add(1);
+        if bytes.is_empty() {
+            return Put::Done;
+        }
+        let room = (self.room as usize).saturating_sub(self.bytes.len());
+        if bytes.len() > room {
+            self.faults = self.faults.saturating_add(1);
+            return Put::Failed;
+        }
+        let kept = if fails { bytes.len() / 2 } else { bytes.len() };
+        self.bytes.extend_from_slice(&bytes[..kept]).unwrap();
+        if fails {
+            self.faults = self.faults.saturating_add(1);
+            return Put::Failed;
+        }
+        Put::Done
+    }
+
+    fn faults(&self) -> u64 {
+        self.faults
+    }
+}

@@ -1,0 +1,48 @@
+//! Room that is set aside for one write.
+ghost use Rattle.std.specs.Prelude.{◌≡◌, ◌≤◌, [], length, string_bytes, vec_capacity};
+ghost use Rattle.std.specs.String.{string_capacity};
+
+use std::alloc::{AllocError, Global};
+
+/// The longest name of a file that is written, in bytes.
+pub const MAX_NAME: usize = 255;
+
+/// The most bytes that one write may have.
+pub const MAX_BYTES: usize = 4_194_304;
+
+/// A name and bytes that are empty, with room for those of one write.
+#[derive(Drop)]
+pub struct Spare {
+    name: String,
+    bytes: Vec<u8>,
+    ghost no_name: { string_bytes name ≡ [] },
+    ghost name_room: { 255 ≤ string_capacity name },
+    ghost no_bytes: { bytes.items ≡ [] },
+    ghost bytes_room: { 4194304 ≤ vec_capacity bytes },
+}
+
+impl Spare {
+    /// The room for one write.
+    pub fn new(alloc: Global) -> Result<Spare, AllocError> {
+        Ok(Spare {
+            name: String::with_capacity(alloc, MAX_NAME)?,
+            bytes: Vec::with_capacity(alloc, MAX_BYTES)?,
+        })
+    }
+
+    /// The name and the bytes, which take no more memory.
+    pub fn filled(self, name: &str, bytes: &[u8]) -> (String, Vec<u8>)
+        requires name { length name.now ≤ 255 }
+        requires bytes { length bytes.now ≤ 4194304 }
+        ensures name { string_bytes result.0 ≡ name.now }
+        ensures bytes { result.1.items ≡ bytes.now }
+    {
+        let Spare {
+            name: mut own_name,
+            bytes: mut own_bytes,
+        } = self;
+        own_name.push_str(name).unwrap();
+        own_bytes.extend_from_slice(bytes).unwrap();
+        (own_name, own_bytes)
+    }
+}

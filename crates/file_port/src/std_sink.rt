@@ -1,0 +1,49 @@
+//! A writer as a sink.
+ghost use Rattle.std.specs.Prelude.{◌≡◌, None};
+ghost use Rattle.file_port.specs.Sink.{Puts};
+ghost use Rattle.file_port.specs.Streams.{TakesUp};
+ghost use Rattle.file_port.specs.StdSink.{state_of_std_sink, writer_of};
+
+use crate::port::{Put, Sink};
+use crate::streams::write_through;
+use std::io::Write;
+
+/// A writer, such as standard output. As a sink it tells nothing of its bytes.
+///
+/// A piece is written and flushed. A device that takes nothing of what is left of it is at fault.
+#[derive(Drop)]
+pub struct StdSink<W> {
+    out: W,
+    faults: u64,
+}
+
+impl<W: Write> StdSink<W> {
+    /// The writer, and no fault so far.
+    pub fn new(out: W) -> StdSink<W>
+        ensures writer { writer_of result ≡ out }
+        ensures state { state_of_std_sink result ≡ record { told = None; faults = 0 } }
+    {
+        StdSink { out, faults: 0 }
+    }
+}
+
+impl<W: Write> Sink for StdSink<W> {
+    ghost state = { state_of_std_sink };
+
+    fn put(&mut self, bytes: &[u8]) -> Put
+        ensures meaning { Puts bytes.now (state_of_std_sink self.old) (state_of_std_sink self.new) result }
+
+        // Where the writer's bytes are known, it was given the piece, or after a fault a prefix of it.
+        ensures taken { TakesUp (W.contents (writer_of self.old)) (W.contents (writer_of self.new)) bytes.now result }
+    {
+        let answer = write_through(&mut self.out, bytes);
+        if let Put::Failed = answer {
+            self.faults = self.faults.saturating_add(1);
+        }
+        answer
+    }
+
+    fn faults(&self) -> u64 {
+        self.faults
+    }
+}

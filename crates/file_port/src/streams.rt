@@ -1,0 +1,64 @@
+//! Reads to the end and whole writes, over any reader and writer.
+ghost use Rattle.std.specs.Prelude.{◌≡◌, [], IfSome};
+ghost use Rattle.file_port.specs.declared.port.Put.{Put};
+ghost use Rattle.file_port.specs.Files.{IsWithin};
+ghost use Rattle.file_port.specs.Streams.{MayGive, TakesUp};
+
+use crate::port::{Got, Put};
+use std::alloc::Global;
+use std::io::{Read, Write};
+
+// The most bytes that one call of the system reads.
+const PIECE: usize = 4096;
+
+// Reads to the end, to the first fault or to one byte more than `max`.
+pub fn read_to_end<S: Read>(source: &mut S, alloc: Global, max: u32) -> Got
+    ensures within { IsWithin max result }
+    ensures right { IfSome (S.remaining source.old) (λ bytes. MayGive max bytes result) }
+{
+    let mut bytes = Vec::new(alloc);
+    let mut piece = [0u8; PIECE];
+    while bytes.len() <= max as usize {
+        let wanted = (max as usize + 1 - bytes.len()).min(PIECE);
+        let count = match source.read(&mut piece[..wanted]) {
+            Ok(count) => count,
+            Err(_) => return Got::Failed,
+        };
+        if count == 0 {
+            return Got::Bytes(bytes);
+        }
+        if bytes.extend_from_slice(&piece[..count]).is_err() {
+            return Got::Memory;
+        }
+    }
+    Got::TooLong
+}
+
+// Writes all of the bytes, or stops at the first fault. A writer that takes none of them is at fault.
+pub fn write_whole<W: Write>(out: &mut W, bytes: &[u8]) -> Put
+    ensures empty { bytes.now ≡ [] → result ≡ Put.Done }
+    ensures taken { TakesUp (W.contents out.old) (W.contents out.new) bytes.now result }
+{
+    let mut at = 0;
+    while at < bytes.len() {
+        match out.write(&bytes[at..]) {
+            Ok(count) if count > 0 => at += count,
+            _ => return Put::Failed,
+        }
+    }
+    Put::Done
+}
+
+// Writes all of the bytes and flushes them, or stops at the first fault.
+pub fn write_through<W: Write>(out: &mut W, bytes: &[u8]) -> Put
+    ensures empty { bytes.now ≡ [] → result ≡ Put.Done }
+    ensures taken { TakesUp (W.contents out.old) (W.contents out.new) bytes.now result }
+{
+    if bytes.is_empty() {
+        return Put::Done;
+    }
+    match write_whole(out, bytes) {
+        Put::Done if out.flush().is_ok() => Put::Done,
+        _ => Put::Failed,
+    }
+}

@@ -1,0 +1,21 @@
+use Rattle.std.proofs.Common.{List, ℕ, ◌++◌, ap, sym, ◌∙◌, append_assoc, decimal, codes}
+use Rattle.pcc_cli.specs.declared.refusal.Refusal.{Refusal}
+use Rattle.pcc_cli.specs.Lines.{refusal_text, code_text}
+use Rattle.pcc_cli.proofs.print.push_refusal.Goals as goal
+
+pub returns-in-OtherPolicy-clause-items : goal.returns-in-OtherPolicy-clause-items
+returns-in-OtherPolicy-clause-items c =
+    let old = c.args.line.now.items in
+    c.push_decimal.ensures.items
+    ∙ ap (λ n. c.push_text-in-OtherPolicy.new.line.items ++ decimal n) c.from.ensures
+    ∙ ap (λ x. x ++ decimal c.in-OtherPolicy.number) c.push_text-in-OtherPolicy.ensures.items
+    ∙ append_assoc old (codes "refused 3 OtherPolicy ") (decimal c.in-OtherPolicy.number)
+    ∙ ap (λ (r : Refusal). old ++ refusal_text r) (sym c.in-OtherPolicy.is)
+
+pub returns-in-BadCode-clause-items : goal.returns-in-BadCode-clause-items
+returns-in-BadCode-clause-items c =
+    let old = c.args.line.now.items in
+    c.push_code_fault.ensures.items
+    ∙ ap (λ x. x ++ code_text c.in-BadCode.fault) c.push_text-in-BadCode.ensures.items
+    ∙ append_assoc old (codes "refused 4 BadCode ") (code_text c.in-BadCode.fault)
+    ∙ ap (λ (r : Refusal). old ++ refusal_text r) (sym c.in-BadCode.is)

@@ -1,0 +1,7 @@
+pub mod Container
+pub mod Views
+pub mod Lines
+pub mod Answer
+pub mod Due
+pub mod Ends
+pub mod Accounts

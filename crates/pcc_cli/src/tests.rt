@@ -1,0 +1,348 @@
+//! Rows of words, files and failing calls, over files and output in memory.
+
+use crate::pcc::pcc;
+use file_port::{MemFiles, MemSink};
+use std::alloc::{AllocError, Global};
+use std::test::Fail;
+
+const LDA: u32 = 0x201f_0001;
+
+const RETURN: u32 = 0x6bfa_8001;
+
+/// What a row expects. The code is a filter's unless another policy is named.
+#[derive(Clone, Copy)]
+struct Row<'a> {
+    words: &'a str,
+    policy: u32,
+    code: &'a [u32],
+    packets: &'a [u8],
+    status: u8,
+    output: &'a str,
+}
+
+fn container(alloc: Global, policy: u32, code: &[u32]) -> Result<Vec<u8>, AllocError> {
+    let mut bytes = Vec::from_slice(alloc, b"PCCA\x01\x00\x00\x00")?;
+    bytes.extend_from_slice(&policy.to_le_bytes())?;
+    let mut count = 0u32;
+    for _ in code {
+        count = count.saturating_add(1);
+    }
+    bytes.extend_from_slice(&count.to_le_bytes())?;
+    for word in code {
+        bytes.extend_from_slice(&word.to_le_bytes())?;
+    }
+    bytes.extend_from_slice(&[0; 12])?;
+    Ok(bytes)
+}
+
+fn words_of(alloc: Global, text: &str) -> Result<Vec<String>, AllocError> {
+    let mut words = Vec::new(alloc);
+    for word in text.split(' ') {
+        words.push(String::from_str(alloc, word)?)?;
+    }
+    Ok(words)
+}
+
+fn file(alloc: Global, name: &str, bytes: Vec<u8>) -> Result<(String, Vec<u8>), AllocError> {
+    Ok((String::from_str(alloc, name)?, bytes))
+}
+
+fn listed(alloc: Global, call: Option<u32>) -> Result<Vec<u32>, AllocError> {
+    let mut calls = Vec::new(alloc);
+    if let Some(call) = call {
+        calls.push(call)?;
+    }
+    Ok(calls)
+}
+
+/// The files `C`, the container, and `P`, the packets.
+fn files_of(alloc: Global, row: &Row<'_>, failing: Option<u32>) -> Result<MemFiles, AllocError> {
+    let mut files = Vec::new(alloc);
+    files.push(file(alloc, "C", container(alloc, row.policy, row.code)?)?)?;
+    files.push(file(alloc, "P", Vec::from_slice(alloc, row.packets)?)?)?;
+    MemFiles::new(alloc, files, 0, listed(alloc, failing)?)
+}
+
+/// Whether the status and the output are the row's, where these calls fail.
+fn passes(
+    alloc: Global,
+    row: &Row<'_>,
+    read: Option<u32>,
+    put: Option<u32>,
+) -> Result<bool, AllocError> {
+    let mut files = files_of(alloc, row, read)?;
+    let mut out = MemSink::new(alloc, 200, listed(alloc, put)?)?;
+    let words = words_of(alloc, row.words)?;
+    let status = pcc(alloc, words, &mut files, &mut out);
+    Ok(status == row.status && out.bytes() == row.output.as_bytes())
+}
+
+/// A packet file of one packet of zeros.
+fn zeros(alloc: Global, count: u32) -> Result<Vec<u8>, AllocError> {
+    let mut bytes = Vec::from_slice(alloc, &count.to_le_bytes())?;
+    for _ in 0..count {
+        bytes.push(0)?;
+    }
+    Ok(bytes)
+}
+
+/// `ref` of a filter.
+fn filter_row<'a>(code: &'a [u32], packets: &'a [u8], output: &'a str) -> Row<'a> {
+    Row {
+        words: "ref filter C P",
+        policy: 1,
+        code,
+        packets,
+        status: 0,
+        output,
+    }
+}
+
+/// `ref` of a filter that is refused.
+fn refused_row<'a>(code: &'a [u32], output: &'a str) -> Row<'a> {
+    Row {
+        status: 1,
+        ..filter_row(code, &[], output)
+    }
+}
+
+/// `ref` of a tag.
+fn tag_row<'a>(code: &'a [u32], packets: &'a [u8], output: &'a str) -> Row<'a> {
+    Row {
+        words: "ref tag C P",
+        policy: 2,
+        ..filter_row(code, packets, output)
+    }
+}
+
+/// A run of the code that returns 1.
+fn words_row<'a>(words: &'a str, packets: &'a [u8], status: u8, output: &'a str) -> Row<'a> {
+    Row {
+        words,
+        status,
+        ..filter_row(&[LDA, RETURN], packets, output)
+    }
+}
+
+#[test]
+fn filters_on_one_packet(rt: HostRuntime) -> Result<(), Fail> {
+    let a = rt.alloc();
+    let packet = zeros(a, 64)?;
+    let z64 = packet.as_slice();
+    let rows = [
+        filter_row(&[0xa430_0008, LDA, RETURN], z64, "0: 1\n"),
+        filter_row(
+            &[0xa430_0040, LDA, RETURN],
+            z64,
+            "0: blocked 0 load 0000000000010050\n",
+        ),
+        filter_row(
+            &[0xa430_0004, LDA, RETURN],
+            z64,
+            "0: blocked 0 load 0000000000010014\n",
+        ),
+        filter_row(&[LDA, RETURN], z64, "0: 1\n"),
+        filter_row(&[LDA, 0x6bfa_8000], z64, "0: 1\n"),
+        filter_row(&[0xa430_0000, 0x4020_3400, RETURN], z64, "0: 1\n"),
+        filter_row(&[0x203f_ffff, 0x4020_19a0, RETURN], z64, "0: 1\n"),
+        filter_row(&[0x203f_ffff, 0x4020_13a0, RETURN], z64, "0: 0\n"),
+        filter_row(&[0xc3ff_ffff], z64, "0: out of steps\n"),
+        filter_row(&[LDA, RETURN], &[], ""),
+    ];
+    for row in rows {
+        assert!(rt; passes(a, &row, None, None)?, "{}", row.output);
+    }
+    Ok(())
+}
+
+#[test]
+fn packets_of_other_lengths(rt: HostRuntime) -> Result<(), Fail> {
+    let a = rt.alloc();
+    let short = zeros(a, 63)?;
+    let odd = zeros(a, 65)?;
+    let mut cut = zeros(a, 64)?;
+    cut.extend_from_slice(&[0x40, 0, 0, 0, 1, 2, 3, 4, 5, 6, 7, 8, 9, 10])?;
+    let mut ones = Vec::from_slice(a, &[64, 0, 0, 0])?;
+    ones.extend_from_slice(&[0xff; 64])?;
+    let load = [0xa430_0040, LDA, RETURN];
+    let add = [0xa430_0000, 0x4020_3400, RETURN];
+    let fault = |packets, output| Row {
+        status: 1,
+        ..filter_row(&[LDA, RETURN], packets, output)
+    };
+    let rows = [
+        filter_row(&load, odd.as_slice(), "0: 1\n"),
+        filter_row(&load, short.as_slice(), "0: short\n"),
+        filter_row(&add, ones.as_slice(), "0: 0\n"),
+        fault(cut.as_slice(), "packets CutPacket 68\n"),
+        fault(&[0, 0, 1, 0], "packets PacketTooLong 0\n"),
+    ];
+    for row in rows {
+        assert!(rt; passes(a, &row, None, None)?, "{}", row.output);
+    }
+    Ok(())
+}
+
+#[test]
+fn containers_are_refused(rt: HostRuntime) -> Result<(), Fail> {
+    let a = rt.alloc();
+    let rows = [
+        refused_row(&[0, RETURN], "refused 4 BadCode 0 Opcode 00000000\n"),
+        refused_row(
+            &[0x4022_041a, RETURN],
+            "refused 4 BadCode 0 KeptRegister 4022041a\n",
+        ),
+        refused_row(
+            &[0x4022_2403, RETURN],
+            "refused 4 BadCode 0 Reserved 40222403\n",
+        ),
+        refused_row(
+            &[0xa7f0_0000, RETURN],
+            "refused 4 BadCode 0 LoadToZero a7f00000\n",
+        ),
+        refused_row(&[0xe420_0001, RETURN], "refused 4 BadCode 0 Target\n"),
+        refused_row(&[0x4021_0401], "refused 4 BadCode 0 FallsOff\n"),
+        refused_row(&[LDA], "refused 4 BadCode 0 FallsOff\n"),
+        refused_row(&[], "not built\n"),
+        Row {
+            words: "ref tag C P",
+            ..refused_row(&[LDA, RETURN], "refused 3 OtherPolicy 1\n")
+        },
+        Row {
+            words: "ref nosuch C P",
+            ..refused_row(&[], "unknown policy\n")
+        },
+        Row {
+            policy: 4_294_967_295,
+            ..refused_row(&[LDA, RETURN], "refused 3 OtherPolicy 4294967295\n")
+        },
+    ];
+    for row in rows {
+        assert!(rt; passes(a, &row, None, None)?, "{}", row.output);
+    }
+    Ok(())
+}
+
+#[test]
+fn tags_and_tables(rt: HostRuntime) -> Result<(), Fail> {
+    let a = rt.alloc();
+    let five = [16, 0, 0, 0, 5, 0, 0, 0, 0, 0, 0, 0, 7, 0, 0, 0, 0, 0, 0, 0];
+    let zero = [16, 0, 0, 0, 0, 0, 0, 0, 0, 0, 0, 0, 7, 0, 0, 0, 0, 0, 0, 0];
+    let fifteen = [15, 0, 0, 0, 0, 0, 0, 0, 0, 0, 0, 0, 7, 0, 0, 0, 0, 0, 0];
+    let asks = [0xa430_0000, 0xe420_0001, 0xb430_0008, RETURN];
+    let stores = [0xa430_0000, 0xb430_0008, RETURN];
+    let rows = [
+        tag_row(&asks, &five, "0: 0 10\n"),
+        tag_row(&asks, &zero, "0: 0 7\n"),
+        tag_row(&stores, &zero, "0: blocked 1 store 0000000000010008\n"),
+        tag_row(&stores, &fifteen, "0: short\n"),
+        Row {
+            words: "ref table C P",
+            policy: 3,
+            ..filter_row(&[RETURN], &[0, 0, 0, 0], "0: 0 0\n")
+        },
+    ];
+    for row in rows {
+        assert!(rt; passes(a, &row, None, None)?, "{}", row.output);
+    }
+    Ok(())
+}
+
+const USAGE: &str = "usage: pcc asm|prove|check|run|ref|demo\n";
+
+#[test]
+fn words_are_read_by_clap(rt: HostRuntime) -> Result<(), Fail> {
+    let a = rt.alloc();
+    let packet = zeros(a, 64)?;
+    let z64 = packet.as_slice();
+    let rows = [
+        words_row("ref filter C P --steps 1", z64, 0, "0: out of steps\n"),
+        words_row("ref filter C P --steps 2", z64, 0, "0: 1\n"),
+        words_row("ref filter C P --steps 0", z64, 2, USAGE),
+        words_row("ref filter C P --steps 1000000001", z64, 2, USAGE),
+        words_row("ref filter C P --steps -1", z64, 2, USAGE),
+        words_row("ref filter C P --steps x", z64, 2, USAGE),
+        words_row("ref filter C P --steps", z64, 2, USAGE),
+        words_row("--help", z64, 2, USAGE),
+        words_row("ref --help", z64, 2, USAGE),
+        words_row("ref filter C P more", z64, 2, USAGE),
+        words_row("ref filter", z64, 2, USAGE),
+        words_row("check filter C", z64, 2, USAGE),
+        words_row("ref filter none P", z64, 3, "missing none\n"),
+        words_row("ref filter C none", z64, 3, "missing none\n"),
+        words_row("ref nosuch none P", z64, 1, "unknown policy\n"),
+    ];
+    for row in rows {
+        assert!(rt; passes(a, &row, None, None)?, "{}", row.words);
+    }
+    Ok(())
+}
+
+/// What is printed before a failing put stays, and the first half of that put.
+#[test]
+fn calls_fail(rt: HostRuntime) -> Result<(), Fail> {
+    let a = rt.alloc();
+    let mut two = zeros(a, 64)?;
+    two.extend_from_slice(zeros(a, 64)?.as_slice())?;
+    let z64 = two.as_slice();
+    let run = "ref filter C P";
+    let rows = [
+        (Some(0), None, words_row(run, z64, 3, "read fault C\n")),
+        (Some(1), None, words_row(run, z64, 3, "read fault P\n")),
+        (None, Some(0), words_row(run, z64, 4, "0:")),
+        (None, Some(1), words_row(run, z64, 4, "0: 1\n1:")),
+        (Some(0), Some(0), words_row(run, z64, 4, "read ")),
+        (
+            None,
+            Some(1),
+            words_row("ref filter C none", z64, 4, "missing no"),
+        ),
+        (
+            None,
+            Some(0),
+            words_row("ref", z64, 4, "usage: pcc asm|prove"),
+        ),
+    ];
+    for (read, put, row) in rows {
+        assert!(rt; passes(a, &row, read, put)?, "{}", row.output);
+    }
+    Ok(())
+}
+
+/// A container and a packet file at their longest, and a byte more.
+#[test]
+fn files_at_their_limit(rt: HostRuntime) -> Result<(), Fail> {
+    let a = rt.alloc();
+    let rows = [
+        ("C", 4_194_305, 1, "refused 1 TooLong\n"),
+        ("C", 4_194_304, 1, "not built\n"),
+        ("P", 4_194_305, 1, "packets TooLong\n"),
+    ];
+    for (name, count, status, output) in rows {
+        let mut files = Vec::new(a);
+        files.push(file(a, "C", container(a, 1, &[LDA, RETURN])?)?)?;
+        files.push(file(a, name, vec![in a; 0; count]?)?)?;
+        let mut files = MemFiles::new(a, files, 0, Vec::new(a))?;
+        let mut out = MemSink::new(a, 200, Vec::new(a))?;
+        let words = words_of(a, "ref filter C P")?;
+        assert_eq!(rt; pcc(a, words, &mut files, &mut out), status, "{output}");
+        assert!(rt; out.bytes() == output.as_bytes(), "{output}");
+    }
+    Ok(())
+}
+
+/// As many packets as a file may hold, all of them empty.
+#[test]
+fn the_most_packets(rt: HostRuntime) -> Result<(), Fail> {
+    let a = rt.alloc();
+    let mut files = Vec::new(a);
+    files.push(file(a, "C", container(a, 1, &[LDA, RETURN])?)?)?;
+    files.push(file(a, "P", vec![in a; 0; 4_194_304]?)?)?;
+    let mut files = MemFiles::new(a, files, 0, Vec::new(a))?;
+    let mut out = MemSink::new(a, 20_000_000, Vec::new(a))?;
+    let words = words_of(a, "ref filter C P")?;
+    assert_eq!(rt; pcc(a, words, &mut files, &mut out), 0);
+    assert!(rt; out.bytes().starts_with(b"0: short\n1: short\n"));
+    assert!(rt; out.bytes().ends_with(b"\n1048575: short\n"));
+    Ok(())
+}

@@ -1,0 +1,77 @@
+-- What words are a command, by the definitions of `clap` for simple commands.
+use Rattle.std.specs.Prelude.{ℕ, ◌^◌, ◌&&◌, Bool, true, List, [], ◌∷◌, length, nat_le, nat_lt, Option, Some, None, codes, unwrap_or, option_and_then, if◌then◌else◌}
+use Rattle.std.specs.Char.{digit_value}
+use Rattle.std.specs.List.{list_all}
+use Rattle.std.specs.Str.{bytes_eq}
+use Rattle.std.specs.Str.Parse.{digits_value, without_leading_plus}
+use Rattle.clap.specs.Words.{App, Kinds, Row, Rule, Text, fault_of, first_of, new_app, new_rule, one_of, subcommand_of, with_rule, with_subcommand}
+use Rattle.clap.specs.Simple.{on_top}
+use Rattle.clap.specs.declared.builder.value_parser.ValueParser.TheVariants as parser
+
+-- a positional that has to be there
+abbrev pub positional : Text → Rule
+positional id = record (new_rule id) { required = true }
+
+-- `--steps N`, from 1 to 1,000,000,000, and 1,000,000 where it is not given
+abbrev pub steps_rule : Rule
+steps_rule = record (new_rule (codes "steps")) {
+  long = Some (codes "steps");
+  parser = Some (parser.Unsigned 1 1000000000);
+  defaults = codes "1000000" ∷ [];
+}
+
+-- `NAME POLICY FILE`
+abbrev pub file_app : Text → App
+file_app name = with_rule (with_rule (new_app name) (positional (codes "POLICY"))) (positional (codes "FILE"))
+
+-- `NAME POLICY FILE PACKETS [--steps N]`
+abbrev pub packets_app : Text → App
+packets_app name = with_rule (with_rule (file_app name) (positional (codes "PACKETS"))) steps_rule
+
+-- the program's name is not among the words
+abbrev pub bare_app : App
+bare_app = on_top (λ s. record s { no_binary_name = true }) (new_app (codes "pcc"))
+
+-- the program
+abbrev pub pcc_app : App
+pcc_app = with_subcommand bare_app (packets_app (codes "ref")).top
+
+-- a command with its values
+pub data Words : Type 0 where
+  ref : Text → Text → Text → ℕ → Words
+
+-- the value of a required argument
+abbrev pub value_of : Text → List Row → Text
+value_of id rows = unwrap_or (first_of id rows) []
+
+-- the text says a u64 in digits, which a plus may precede
+abbrev pub is_number : Text → Bool
+is_number text =
+    let ds = without_leading_plus text in
+    nat_lt 0 (length ds) && list_all (λ d. nat_lt (digit_value d) 10) ds && nat_lt (digits_value 10 ds) (2 ^ 64)
+
+-- the number, or 0 where the text says none
+abbrev pub number_of : Text → ℕ
+number_of text = if is_number text then digits_value 10 (without_leading_plus text) else 0
+
+abbrev pub number_at : Text → List Row → ℕ
+number_at id rows = number_of (unwrap_or (one_of id rows) [])
+
+abbrev pub packets_words : (Text → Text → Text → ℕ → Words) → List Row → Words
+packets_words f rows = f (value_of (codes "POLICY") rows) (value_of (codes "FILE") rows) (value_of (codes "PACKETS") rows) (number_at (codes "steps") rows)
+
+-- what was found for the subcommand of this name
+abbrev pub words_at : Text → List Row → Option Words
+words_at name rows = if bytes_eq name (codes "ref") then Some (packets_words ref rows) else None
+
+abbrev pub words_of_subcommand : Text × List Row → Option Words
+words_of_subcommand found = words_at found.0 found.1
+
+-- where there is no fault, the subcommand that was met, with its values
+abbrev pub command_at : Kinds → Option (Text × List Row) → Option Words
+command_at [] found = option_and_then words_of_subcommand found
+command_at (kind ∷ kinds) found = None
+
+-- The command that the words are, by `clap`: they are one exactly where its parse has no fault.
+unfoldable pub command_of : List Text → Option Words
+command_of words = command_at (fault_of pcc_app words) (subcommand_of pcc_app words)
