@@ -1,5 +1,5 @@
 -- The answer to bytes of code is what they read as.
-use Rattle.std.proofs.Common.{◌≡◌, ℕ, zero, suc, ◌+◌, ◌-◌, ◌*◌, ◌/◌, ◌%◌, ◌<◌, ◌≤◌, Bool, true, false, cond, is_some, ltb, List, [], ◌∷◌, length, slice_get, Option, Some, None, Result, Ok, Err, refl, sym, ◌∙◌, ap, subst, arith, ℤ, pos, negsuc}
+use Rattle.std.proofs.Common.{◌≡◌, ℕ, zero, suc, ◌+◌, ◌-◌, ◌*◌, ◌/◌, ◌<◌, ◌≤◌, Bool, true, false, is_some, List, [], ◌∷◌, length, slice_get, Option, Some, None, Result, Ok, Err, refl, sym, subst, arith, ℤ, pos, negsuc}
 use Rattle.std.proofs.lemmas.Bool.{ltb-true, lt-ltb}
 use Rattle.alpha_words.specs.declared.insn.Insn.{Insn}
 use Rattle.alpha_words.specs.declared.fault.BadWord.{BadWord}
@@ -9,9 +9,9 @@ use Rattle.alpha_words.specs.Lawful.{target_of}
 use Rattle.alpha_words.proofs.Laws.{reading-Spells}
 use Rattle.alpha_cfg.specs.declared.fault.CodeFault.{CodeFault}
 use Rattle.alpha_cfg.specs.declared.fault.CodeFault.TheVariants as fault
-use Rattle.alpha_cfg.specs.Flow.{InsideOf, Ends, IsInside, EndsAt, IsCode, AreInsns, next_of}
+use Rattle.alpha_cfg.specs.Flow.{InsideOf, IsInside, EndsAt, IsCode, AreInsns, next_of}
 use Rattle.alpha_cfg.specs.CodeBytes.{word_at, SpellsFirst, SpellsCode, IsShapeFault, Answers}
-use Rattle.alpha_cfg.specs.CodeReading.{words_read, is_inside, first_outside, runs_off, shaped, shape_read, code_read, IsRead}
+use Rattle.alpha_cfg.specs.CodeReading.{words_read, is_inside, first_outside, runs_off, code_read, IsRead}
 
 -- the instructions are spelled by the words from index i on
 abbrev AreSpelled : List ℕ → ℕ → List Insn → Type 0

@@ -15,7 +15,7 @@ use Rattle.alpha_words.specs.declared.insn.Rhs.{Rhs}
 use Rattle.alpha_words.specs.declared.insn.Rhs.TheVariants.{Reg, Lit}
 use Rattle.alpha_words.specs.declared.insn.Insn.{Insn}
 use Rattle.alpha_words.specs.declared.insn.Insn.TheVariants.{Lda, Ldq, Stq, Oper, Branch, Br, Ret}
-use Rattle.alpha_words.specs.Spelling.{IsRhs, Spells}
+use Rattle.alpha_words.specs.Spelling.{IsRhs}
 use Rattle.alpha_words.specs.Lawful.{target_of}
 use Rattle.alpha_cfg.specs.Flow.{IsCode, IsInsn, InsideOf, Ends, jump_of, next_of, landing}
 use Rattle.alpha_cfg.specs.declared.outcome.Kind.{Kind}

@@ -1,6 +1,6 @@
 -- States of the machine, its steps and its runs, with a test at each access.
 -- Alpha Architecture Handbook, the instruction descriptions.
-use Rattle.std.specs.Prelude.{◌≡◌, ℕ, zero, suc, ◌+◌, ◌%◌, ◌^◌, Bool, not, ◌==◌, if◌then◌else◌, List, slice_get, slice_index, Option, Some, None, bit_and, ℤ}
+use Rattle.std.specs.Prelude.{ℕ, zero, suc, ◌+◌, ◌%◌, ◌^◌, Bool, not, ◌==◌, if◌then◌else◌, List, slice_get, slice_index, Option, Some, None, bit_and, ℤ}
 use Rattle.std.specs.Int.{cast_unsigned, w64}
 use Rattle.word_ops.specs.declared.Rel.TheVariants.{Slt, Sle}
 use Rattle.word_ops.specs.Words.{word_of, test_of}

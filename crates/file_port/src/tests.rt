@@ -1,28 +1,32 @@
 //! What reads, writes and puts answer and leave, in memory and at the system.
 
-
-use crate::{DiskFiles, Files, Got, MemFiles, MemSink, Put, Sink, StdSink};
+use crate::{DiskFiles, Files, MemFiles, MemSink, Put, Sink, StdSink};
 use std::alloc::{AllocError, Global};
 use std::io::{ErrorKind, Write};
 use std::test::Fail;
 use std::{fs, io};
 
+// The answer of a read, as it is printed, and the count of faults after it.
 fn read_text<F: Files>(
     alloc: Global,
     files: &mut F,
     name: &str,
     max: u32,
-) -> Result<String, AllocError> {
+) -> Result<(String, u64), AllocError> {
     let got = files.read(alloc, name, max);
-    format!(in alloc; "{got:?}")
+    Ok((format!(in alloc; "{got:?}")?, files.read_faults()))
 }
 
-fn write_text<F: Files>(files: &mut F, name: &str, text: &str) -> Put {
-    files.write(name, text.as_bytes())
+// The answer of a write, and the count of faults after it.
+fn write_text<F: Files>(files: &mut F, name: &str, text: &str) -> (Put, u64) {
+    let put = files.write(name, text.as_bytes());
+    (put, files.write_faults())
 }
 
-fn put_text<S: Sink>(sink: &mut S, text: &str) -> Put {
-    sink.put(text.as_bytes())
+// The answer of a put, and the count of faults after it.
+fn put_text<S: Sink>(sink: &mut S, text: &str) -> (Put, u64) {
+    let put = sink.put(text.as_bytes());
+    (put, sink.faults())
 }
 
 fn file(alloc: Global, name: &str, text: &str) -> Result<(String, Vec<u8>), AllocError> {
@@ -40,96 +44,68 @@ fn two_texts(alloc: Global, room: u32, failing: &[u32]) -> Result<MemFiles, Allo
     MemFiles::new(alloc, files, room, Vec::from_slice(alloc, failing)?)
 }
 
+fn is_file(files: &MemFiles, name: &str, text: &str) -> bool {
+    files.get(name) == Some(text.as_bytes())
+}
+
+// The second call fails.
 #[test]
 fn reads_in_memory(rt: HostRuntime) -> Result<(), Fail> {
-    let rows: [(&[u32], &str, u32, &str, u64); 6] = [
-        (&[], "a", 3, "Bytes([111, 108, 100])", 0),
-        (&[], "a", 2, "TooLong", 0),
-        (&[], "b", 3, "Missing", 0),
-        (&[0], "a", 3, "Failed", 1),
-        (&[0], "b", 3, "Failed", 1),
-        (&[2], "b", 3, "Missing", 0),
+    let mut files = two_texts(rt.alloc(), 0, &[1])?;
+    let rows = [
+        ("a", 3, "Bytes([111, 108, 100])", 0),
+        ("a", 3, "Failed", 1),
+        ("a", 2, "TooLong", 1),
+        ("b", 3, "Missing", 1),
     ];
-    for (failing, name, max, want, faults) in rows {
-        let mut files = two_texts(rt.alloc(), 0, failing)?;
-        let got = read_text(rt.alloc(), &mut files, name, max)?;
-        assert_eq!(rt; got.as_str(), want, "of {name}, {max}");
-        assert_eq!(rt; files.read_faults(), faults, "of {name}, {max}");
-        assert_eq!(rt; files.write_faults(), 0, "of {name}, {max}");
+    for (name, max, want, faults) in rows {
+        let (got, count) = read_text(rt.alloc(), &mut files, name, max)?;
+        assert_eq!(rt; (got.as_str(), count), (want, faults));
     }
     Ok(())
 }
 
+// The second call fails, and there is room for two writes.
 #[test]
 fn writes_in_memory(rt: HostRuntime) -> Result<(), Fail> {
-    let rows: [(&[u32], u32, &str, Put, &[u8], u64); 7] = [
-        (&[], 1, "abcde", Put::Done, b"abcde", 0),
-        (&[], 1, "", Put::Done, b"", 0),
-        (&[1], 1, "abcde", Put::Done, b"abcde", 0),
-        (&[0], 1, "abcde", Put::Failed, b"ab", 1),
-        (&[0], 1, "abcdef", Put::Failed, b"abc", 1),
-        (&[], 0, "abcde", Put::Failed, b"old", 1),
-        (&[0], 0, "abcde", Put::Failed, b"old", 1),
-    ];
-    for (failing, room, text, want, left, faults) in rows {
-        let mut files = two_texts(rt.alloc(), room, failing)?;
-        assert_eq!(rt; write_text(&mut files, "a", text), want, "{text} in {room}");
-        assert_eq!(rt; files.get("a"), Some(left), "{text} in {room}");
-        assert_eq!(rt; files.get("b"), None, "{text} in {room}");
-        assert_eq!(rt; files.write_faults(), faults, "{text} in {room}");
-        assert_eq!(rt; files.read_faults(), 0, "{text} in {room}");
-    }
-    Ok(())
-}
-
-// The room is for two writes, and the name is too long for one.
-#[test]
-fn room_in_memory(rt: HostRuntime) -> Result<(), Fail> {
     let mut files = two_texts(rt.alloc(), 2, &[1])?;
-    let mut name = String::new(rt.alloc());
-    for _ in 0..256 {
-        name.push_str("n")?;
+    let rows = [
+        ("abcd", Put::Done, 0, "abcd"),
+        ("efghi", Put::Failed, 1, "ef"),
+        ("past", Put::Failed, 2, "ef"),
+    ];
+    for (text, put, faults, left) in rows {
+        assert_eq!(rt; write_text(&mut files, "a", text), (put, faults));
+        assert!(rt; is_file(&files, "a", left));
     }
-    assert_eq!(rt; write_text(&mut files, name.as_str(), "x"), Put::Failed);
-    assert_eq!(rt; files.get(name.as_str()), None);
-    assert_eq!(rt; write_text(&mut files, "b", "half"), Put::Failed);
-    assert_eq!(rt; write_text(&mut files, "c", "last"), Put::Done);
-    assert_eq!(rt; write_text(&mut files, "d", "past"), Put::Failed);
-    assert_eq!(rt; files.get("b"), Some(b"ha".as_slice()));
-    assert_eq!(rt; files.get("c"), Some(b"last".as_slice()));
-    assert_eq!(rt; files.get("d"), None);
-    assert_eq!(rt; files.write_faults(), 3);
+    assert_eq!(rt; files.get("b"), None);
     Ok(())
 }
 
+// The third and the fourth call fail, and there is room for seven bytes.
 #[test]
 fn puts_in_memory(rt: HostRuntime) -> Result<(), Fail> {
-    let rows: [(&[u32], u32, &str, Put, &[u8], u64); 7] = [
-        (&[], 5, "cde", Put::Done, b"abcde", 0),
-        (&[0], 5, "cde", Put::Done, b"acde", 1),
-        (&[1], 5, "cde", Put::Failed, b"abc", 1),
-        (&[1], 5, "cd", Put::Failed, b"abc", 1),
-        (&[], 4, "cde", Put::Failed, b"ab", 1),
-        (&[1], 4, "cde", Put::Failed, b"ab", 1),
-        (&[1], 2, "", Put::Done, b"ab", 0),
+    let mut sink = MemSink::new(rt.alloc(), 7, Vec::from_slice(rt.alloc(), &[2, 3])?)?;
+    let rows = [
+        ("abcd", Put::Done, 0, "abcd"),
+        ("past", Put::Failed, 1, "abcd"),
+        ("", Put::Done, 1, "abcd"),
+        ("efg", Put::Failed, 2, "abcde"),
+        ("fg", Put::Done, 2, "abcdefg"),
     ];
-    for (failing, room, text, want, left, faults) in rows {
-        let failing = Vec::from_slice(rt.alloc(), failing)?;
-        let mut sink = MemSink::new(rt.alloc(), room, failing)?;
-        let _ = put_text(&mut sink, "ab");
-        assert_eq!(rt; put_text(&mut sink, text), want, "{text} in {room}");
-        assert_eq!(rt; sink.bytes(), left, "{text} in {room}");
-        assert_eq!(rt; sink.faults(), faults, "{text} in {room}");
+    for (text, put, faults, left) in rows {
+        assert_eq!(rt; put_text(&mut sink, text), (put, faults));
+        assert_eq!(rt; sink.bytes(), left.as_bytes());
     }
     Ok(())
 }
 
 #[test]
 fn files_of_the_system(rt: HostRuntime) -> Result<(), Fail> {
-    let alloc = rt.alloc();
     let mut files = DiskFiles::new(&rt);
-    assert_eq!(rt; write_text(&mut files, "a", "first and long"), Put::Done);
-    assert_eq!(rt; write_text(&mut files, "a", "old"), Put::Done);
+    assert_eq!(rt; write_text(&mut files, "a", "long"), (Put::Done, 0));
+    assert_eq!(rt; write_text(&mut files, "a", "old"), (Put::Done, 0));
+    assert_eq!(rt; write_text(&mut files, "none/a", "x"), (Put::Failed, 1));
     assert_eq!(rt; fs::read(&rt, "a")?.as_slice(), b"old".as_slice());
     let rows = [
         ("a", 3, "Bytes([111, 108, 100])", 0),
@@ -139,13 +115,10 @@ fn files_of_the_system(rt: HostRuntime) -> Result<(), Fail> {
         (".", 3, "Failed", 1),
     ];
     for (name, max, want, faults) in rows {
-        let got = read_text(alloc, &mut files, name, max)?;
-        assert_eq!(rt; got.as_str(), want, "of {name}, {max}");
-        assert_eq!(rt; files.read_faults(), faults, "of {name}, {max}");
+        let (got, count) = read_text(rt.alloc(), &mut files, name, max)?;
+        assert_eq!(rt; (got.as_str(), count), (want, faults));
     }
-    assert_eq!(rt; files.write_faults(), 0);
-    assert_eq!(rt; write_text(&mut files, "none/a", "x"), Put::Failed);
-    assert_eq!(rt; files.write_faults(), 1);
+    fs::remove_file(&rt, "a")?;
     Ok(())
 }
 
@@ -174,25 +147,21 @@ impl Write for Device {
     }
 }
 
+// A full device takes nothing, or says so.
 #[test]
 fn puts_at_a_writer(rt: HostRuntime) -> Result<(), Fail> {
     let rows = [
-        (8, None, Put::Done, "abcdefgh", 0),
-        (7, None, Put::Failed, "abcdefg", 1),
-        (7, Some(ErrorKind::StorageFull), Put::Failed, "abcdefg", 1),
-        (0, None, Put::Failed, "", 1),
+        (8, None, (Put::Done, 0), "abcdefgh"),
+        (7, None, (Put::Failed, 1), "abcdefg"),
+        (7, Some(ErrorKind::StorageFull), (Put::Failed, 1), "abcdefg"),
     ];
-    for (room, full, want, left, faults) in rows {
-        let mut device = Device {
-            taken: Vec::new(rt.alloc()),
-            room,
-            full,
-        };
+    for (room, full, want, left) in rows {
+        let taken = Vec::new(rt.alloc());
+        let mut device = Device { taken, room, full };
         let mut sink = StdSink::new(&mut device);
-        assert_eq!(rt; put_text(&mut sink, "abcdefgh"), want, "in {room}");
-        assert_eq!(rt; put_text(&mut sink, ""), Put::Done, "in {room}");
-        assert_eq!(rt; sink.faults(), faults, "in {room}");
-        assert_eq!(rt; device.taken.as_slice(), left.as_bytes(), "in {room}");
+        assert_eq!(rt; put_text(&mut sink, "abcdefgh"), want);
+        assert_eq!(rt; put_text(&mut sink, "").0, Put::Done);
+        assert_eq!(rt; device.taken.as_slice(), left.as_bytes());
     }
     Ok(())
 }

@@ -1,5 +1,5 @@
 -- How a run ends, from what was decided and what was printed.
-use Rattle.std.proofs.Common.{◌≡◌, ℕ, ◌≤◌, ◌⊎◌, inl, inr, List, [], None, Some, refl, ◌∙◌, arith}
+use Rattle.std.proofs.Common.{◌≡◌, ℕ, ◌≤◌, ◌⊎◌, inl, inr, List, [], None, refl, ◌∙◌, arith}
 use Rattle.file_port.specs.Files.{FilesState}
 use Rattle.file_port.specs.Sink.{SinkState, Puts}
 use Rattle.file_port.specs.declared.Put.{Put}

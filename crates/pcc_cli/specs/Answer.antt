@@ -13,7 +13,6 @@ use Rattle.packet_store.specs.Lines.{lines_from}
 use Rattle.pcc_words.specs.Words.{Words, ref, command_of}
 use Rattle.pcc_cli.specs.Container.{Plain, plain_of}
 use Rattle.pcc_cli.specs.Lines.{named_line, refusal_line, packets_line}
-use Rattle.pcc_cli.specs.declared.refusal.Refusal.{Refusal}
 use Rattle.pcc_cli.specs.declared.refusal.Refusal.TheVariants as refusal
 
 -- how a run ends: its status, and the text that it prints

@@ -1,5 +1,5 @@
 -- What is due to be printed once the files were read and written.
-use Rattle.std.specs.Prelude.{◌≡◌, ℕ, List, [], Some, IfSome, Contains}
+use Rattle.std.specs.Prelude.{◌≡◌, ℕ, List, [], IfSome, Contains}
 use Rattle.file_port.specs.Files.{FileMap, FilesState, ReadFails}
 use Rattle.file_port.specs.Sink.{SinkState, Puts}
 use Rattle.file_port.specs.declared.Put.{Put}

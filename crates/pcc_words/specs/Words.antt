@@ -1,4 +1,4 @@
--- What words are a command, by the definitions of `clap` for simple commands.
+-- What words are a command of pcc, and with which values, by the definitions of `clap` for simple commands.
 use Rattle.std.specs.Prelude.{ℕ, ◌^◌, ◌&&◌, Bool, true, List, [], ◌∷◌, length, nat_le, nat_lt, Option, Some, None, codes, unwrap_or, option_and_then, if◌then◌else◌}
 use Rattle.std.specs.Char.{digit_value}
 use Rattle.std.specs.List.{list_all}
@@ -7,6 +7,8 @@ use Rattle.std.specs.Str.Parse.{digits_value, without_leading_plus}
 use Rattle.clap.specs.Words.{App, Kinds, Row, Rule, Text, fault_of, first_of, new_app, new_rule, one_of, subcommand_of, with_rule, with_subcommand}
 use Rattle.clap.specs.Simple.{on_top}
 use Rattle.clap.specs.declared.builder.value_parser.ValueParser.TheVariants as parser
+
+-- ---- the command line
 
 -- a positional that has to be there
 abbrev pub positional : Text → Rule
@@ -28,16 +30,19 @@ file_app name = with_rule (with_rule (new_app name) (positional (codes "POLICY")
 abbrev pub packets_app : Text → App
 packets_app name = with_rule (with_rule (file_app name) (positional (codes "PACKETS"))) steps_rule
 
--- the program's name is not among the words
+-- the program with no command yet, whose own name is not among the words
 abbrev pub bare_app : App
-bare_app = on_top (λ s. record s { no_binary_name = true }) (new_app (codes "pcc"))
+bare_app = on_top (λ top. record top { no_binary_name = true }) (new_app (codes "pcc"))
 
 -- the program
 abbrev pub pcc_app : App
 pcc_app = with_subcommand bare_app (packets_app (codes "ref")).top
 
+-- ---- the values
+
 -- a command with its values
 pub data Words : Type 0 where
+  -- `ref POLICY FILE PACKETS`, and the steps for a packet
   ref : Text → Text → Text → ℕ → Words
 
 -- the value of a required argument
@@ -57,12 +62,21 @@ number_of text = if is_number text then digits_value 10 (without_leading_plus te
 abbrev pub number_at : Text → List Row → ℕ
 number_at id rows = number_of (unwrap_or (one_of id rows) [])
 
-abbrev pub packets_words : (Text → Text → Text → ℕ → Words) → List Row → Words
-packets_words f rows = f (value_of (codes "POLICY") rows) (value_of (codes "FILE") rows) (value_of (codes "PACKETS") rows) (number_at (codes "steps") rows)
+-- from 1 to 1,000,000,000
+abbrev pub is_step_count : ℕ → Bool
+is_step_count steps = nat_le 1 steps && nat_le steps 1000000000
+
+-- a command on packets, of these rows. The parse takes no other numbers of steps, so the test refuses none of them.
+abbrev pub packets_words : (Text → Text → Text → ℕ → Words) → List Row → Option Words
+packets_words command rows =
+    let steps = number_at (codes "steps") rows in
+    if is_step_count steps
+    then Some (command (value_of (codes "POLICY") rows) (value_of (codes "FILE") rows) (value_of (codes "PACKETS") rows) steps)
+    else None
 
 -- what was found for the subcommand of this name
 abbrev pub words_at : Text → List Row → Option Words
-words_at name rows = if bytes_eq name (codes "ref") then Some (packets_words ref rows) else None
+words_at name rows = if bytes_eq name (codes "ref") then packets_words ref rows else None
 
 abbrev pub words_of_subcommand : Text × List Row → Option Words
 words_of_subcommand found = words_at found.0 found.1
@@ -72,6 +86,6 @@ abbrev pub command_at : Kinds → Option (Text × List Row) → Option Words
 command_at [] found = option_and_then words_of_subcommand found
 command_at (kind ∷ kinds) found = None
 
--- The command that the words are, by `clap`: they are one exactly where its parse has no fault.
+-- The command that the words are, by `clap`: they are one where its parse has no fault and meets a subcommand.
 unfoldable pub command_of : List Text → Option Words
 command_of words = command_at (fault_of pcc_app words) (subcommand_of pcc_app words)

@@ -1,5 +1,5 @@
 -- An arena of 8,194 quadwords as a memory.
-use Rattle.std.specs.Prelude.{ℕ, zero, suc, ◌+◌, ◌-◌, ◌*◌, ◌/◌, List, [], ◌∷◌, slice_index, map, if◌then◌else◌, nat_lt}
+use Rattle.std.specs.Prelude.{ℕ, zero, suc, ◌+◌, ◌-◌, ◌*◌, List, [], ◌∷◌, slice_index, map, if◌then◌else◌, nat_lt}
 use Rattle.std.specs.List.{range_with_len}
 use Rattle.std.specs.FinMap.{from_entries}
 use Rattle.std.specs.Int.{from_le_bytes, w64}

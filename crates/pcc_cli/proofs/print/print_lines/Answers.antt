@@ -1,4 +1,4 @@
-use Rattle.pcc_cli.proofs.PrintLemmas.{printed_more, printed_fails, printed_all, first_short}
+use Rattle.pcc_cli.proofs.PrintLemmas.{printed_more, printed_fails}
 use Rattle.pcc_cli.proofs.print.print_lines.Goals as goal
 
 pub returns-in-Failed : goal.returns-in-Failed

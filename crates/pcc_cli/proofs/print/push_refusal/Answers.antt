@@ -1,4 +1,4 @@
-use Rattle.std.proofs.Common.{List, ℕ, ◌++◌, ap, sym, ◌∙◌, append_assoc, decimal, codes}
+use Rattle.std.proofs.Common.{◌++◌, ap, sym, ◌∙◌, append_assoc, decimal, codes}
 use Rattle.pcc_cli.specs.declared.refusal.Refusal.{Refusal}
 use Rattle.pcc_cli.specs.Lines.{refusal_text, code_text}
 use Rattle.pcc_cli.proofs.print.push_refusal.Goals as goal

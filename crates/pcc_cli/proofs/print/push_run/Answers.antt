@@ -1,10 +1,9 @@
-use Rattle.std.proofs.Common.{◌≡◌, ℕ, ◌++◌, ◌%◌, ◌^◌, List, Option, Some, ap, sym, subst, ◌∙◌}
-use Rattle.alpha_cfg.specs.Machine.{State, run_of}
-use Rattle.alpha_cfg.specs.declared.outcome.Outcome.{Outcome}
+use Rattle.std.proofs.Common.{◌≡◌, ◌++◌, ◌%◌, ◌^◌, ap, ◌∙◌}
+use Rattle.alpha_cfg.specs.Machine.{run_of}
 use Rattle.reference_machine.specs.Agents.{Held}
 use Rattle.reference_machine.specs.Arena.{sum_of}
 use Rattle.reference_machine.specs.Setups.{setup_of}
-use Rattle.reference_machine.specs.Starts.{Setup, start_state, loaded}
+use Rattle.reference_machine.specs.Starts.{start_state, loaded}
 use Rattle.packet_store.specs.Lines.{outcome_text, run_text}
 use Rattle.packet_store.specs.PolicyStarts.{start_of}
 use Rattle.pcc_cli.proofs.PrintLemmas.{run_text-some}

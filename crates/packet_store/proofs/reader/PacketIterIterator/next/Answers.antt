@@ -1,6 +1,6 @@
-use Rattle.std.proofs.Common.{◌≡◌, List, ℕ, [], sym, ◌∙◌, rules}
+use Rattle.std.proofs.Common.{◌≡◌, [], sym, ◌∙◌, rules}
 use Rattle.packet_store.proofs.Frames.{whole_or_empty}
-use Rattle.packet_store.proofs.Readings.{GoesOn, goes_on, packets_in-nil, empty_list}
+use Rattle.packet_store.proofs.Readings.{goes_on, packets_in-nil, empty_list}
 use Rattle.packet_store.proofs.reader.PacketIterIterator.next.Goals as goal
 
 pub returns-then-is_empty-clause-steps : goal.returns-then-is_empty-clause-steps

@@ -1,7 +1,7 @@
 use Rattle.std.proofs.Common.{◌∙◌, ap, unwrap_or, []}
 use Rattle.clap.specs.Words.{found_of}
 use Rattle.clap.proofs.WalkLemmas.{first_value-rows}
-use Rattle.pcc_words.proofs.text_given.Goals as goal
+use Rattle.pcc_words.proofs.values.text_given.Goals as goal
 
 pub returns-in-Some : goal.returns-in-Some
 returns-in-Some c = ap (λ o. unwrap_or o []) (c.in-Some.ensures ∙ first_value-rows (found_of c.args.matches.now) c.args.id.now)

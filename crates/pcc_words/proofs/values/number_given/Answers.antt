@@ -1,5 +1,5 @@
 use Rattle.pcc_words.proofs.Reading.{some_number, no_number}
-use Rattle.pcc_words.proofs.number_given.Goals as goal
+use Rattle.pcc_words.proofs.values.number_given.Goals as goal
 
 pub returns-in-Some : goal.returns-in-Some
 returns-in-Some c = some_number c.args.matches.now c.args.id.now c.in-Some.number c.in-Some.ensures.none (λ t e. (c.in-Some.ensures.value t e).0)

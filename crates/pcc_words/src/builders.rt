@@ -1,0 +1,53 @@
+//! The command line as clap's builders make it, a function for each shape.
+ghost use Rattle.std.specs.Prelude.{◌≡◌, IfOk, false};
+ghost use Rattle.clap.specs.Words.{app_of, rule_of};
+ghost use Rattle.clap.specs.declared.Command.TheViews.{out-Command as fields_of};
+ghost use Rattle.pcc_words.specs.Words.{file_app, packets_app, pcc_app, steps_rule};
+ghost use Rattle.pcc_words.specs.Words.{positional as positional_rule};
+
+use clap::{Arg, Command, value_parser};
+use std::alloc::{AllocError, Global};
+
+fn positional<'a>(alloc: Global, id: &'a str) -> Arg<'a>
+    ensures rule { rule_of result ≡ positional_rule id.entry.now }
+    ensures local { result.global ≡ false }
+{
+    Arg::new(alloc, id).required(true)
+}
+
+fn steps<'a>(alloc: Global) -> Arg<'a>
+    ensures rule { rule_of result ≡ steps_rule }
+    ensures local { result.global ≡ false }
+{
+    Arg::new(alloc, "steps")
+        .long("steps")
+        .value_parser(value_parser!(u64).range(1..=1_000_000_000))
+        .default_value("1000000")
+}
+
+fn file_command<'a>(alloc: Global, name: &'a str) -> Result<Command<'a>, AllocError>
+    ensures app { IfOk result (λ c. app_of c ≡ file_app name.entry.now) }
+    ensures local { IfOk result (λ c. (fields_of c).has_globals ≡ false) }
+{
+    Command::new(alloc, name)
+        .arg(positional(alloc, "POLICY"))?
+        .arg(positional(alloc, "FILE"))
+}
+
+fn packets_command<'a>(alloc: Global, name: &'a str) -> Result<Command<'a>, AllocError>
+    ensures app { IfOk result (λ c. app_of c ≡ packets_app name.entry.now) }
+    ensures local { IfOk result (λ c. (fields_of c).has_globals ≡ false) }
+{
+    file_command(alloc, name)?
+        .arg(positional(alloc, "PACKETS"))?
+        .arg(steps(alloc))
+}
+
+/// The whole command line.
+pub fn pcc_command<'a>(alloc: Global) -> Result<Command<'a>, AllocError>
+    ensures app { IfOk result (λ c. app_of c ≡ pcc_app) }
+{
+    Command::new(alloc, "pcc")
+        .no_binary_name(true)
+        .subcommand(packets_command(alloc, "ref")?)
+}
