@@ -95,7 +95,7 @@ fn make_spares(alloc: Global, room: u32) -> Result<Vec<Spare>, AllocError>
 
 impl MemFiles {
     /// The files given, with room for so many writes, of which none was made yet. Where a name
-    /// stands twice the last counts.
+    /// stands twice the last counts. It is an error where there is no memory for the room.
     pub fn new(
         alloc: Global,
         mut files: Vec<(String, Vec<u8>)>,

@@ -42,7 +42,7 @@ impl Model for MemSink {
 }
 
 impl MemSink {
-    /// No output yet, with room for so many bytes.
+    /// No output yet, with room for so many bytes. It is an error where there is no memory for them.
     pub fn new(alloc: Global, room: u32, failing: Vec<u32>) -> Result<MemSink, AllocError>
         ensures { IfOk result (λ sink. sink ≡ record {
           bytes = [];

@@ -26,7 +26,7 @@ use std::alloc::{AllocError, Global};
 use values::command_found;
 
 /// The command that the words are, if they are one. The program's name is not among the words.
-/// A call for help is no command.
+/// A call for help is no command. It is an error where the parse finds no memory.
 pub fn read_words<'a>(alloc: Global, words: &'a [String]) -> Result<Option<Command<'a>>, AllocError>
     ensures words { IfOk result (λ found. option_map words_of found ≡ command_of (map string_bytes words.entry.now)) }
     ensures range { IfOk result (λ found. IfSome found IsInRange) }

@@ -1,0 +1,106 @@
+//! Shifts, hereditary substitution and erasure on the terms and types of a table.
+//!
+//! The layer above uses that `subst_type` answers the result of hereditary substitution, and None
+//! exactly where there is none; nothing is asked of types. The relation, and the function on trees
+//! that it equals, stand in `term_table` (`specs/Subst`); `specs/Simples` leads from `Simple` and from
+//! an answer to them, and `specs/Heads` has words of the private functions. Each old id keeps its
+//! tree, also where memory fails. Source: Harper and Licata, Mechanizing Metatheory in a Logical
+//! Framework, JFP 2007, section 2.
+#![tactic(auto)]
+
+mod shifts;
+mod substitute;
+#[cfg(test)]
+mod tests;
+
+ghost use Rattle.std.specs.Prelude.{◌≡◌, ◌<◌, ◌≤◌, ◌+◌, ◌^◌, IfOk};
+ghost use Rattle.term_table.specs.Tree.{shifted};
+ghost use Rattle.term_table.specs.Subst.{HSub, HSubType, hsub, hsub_type, erase};
+ghost use Rattle.term_table.specs.Table.{IsKnown, tree_at, Extends, Stands};
+ghost use Rattle.hereditary_subst.specs.Simples.{simple_of, IsResult};
+
+use shifts::shift_at;
+use std::alloc::{AllocError, Global};
+use substitute::{subst_at, subst_type_at};
+use term_table::{Id, Node, Table, substitution_laws};
+
+/// The simple type of a type: its families and arrows, without the terms that it speaks of.
+#[derive(PartialEq, Eq, Debug, Drop)]
+pub enum Simple {
+    /// A family.
+    Base(u32),
+    /// Functions.
+    Arrow(Box<Simple>, Box<Simple>),
+}
+
+/// The tree where `by` more binders stand outside the `from` nearest: each variable from `from` on
+/// is raised by `by`. None exactly where a variable would reach 2^32. Fails only for want of memory.
+pub fn shift(table: &mut Table, id: Id, by: u32, from: u32) -> Result<Option<Id>, AllocError>
+    requires { IsKnown table.old id }
+    ensures tree { IfOk result (Stands table.new (shifted by from (tree_at table.old id))) }
+    ensures grows { Extends table.old table.new }
+{
+    table.laws();
+    shift_at(table, id, u64::from(by), u64::from(from))
+}
+
+/// `shift` from the nearest binder on, by up to 2^32.
+pub fn weaken(table: &mut Table, id: Id, by: u64) -> Result<Option<Id>, AllocError>
+    requires small { by ≤ 2 ^ 32 }
+    requires known { IsKnown table.old id }
+    ensures tree { IfOk result (Stands table.new (shifted by 0 (tree_at table.old id))) }
+    ensures grows { Extends table.old table.new }
+{
+    table.laws();
+    shift_at(table, id, by, 0)
+}
+
+/// The term `body` with the term `arg` for variable 0, at the simple type of that variable; other
+/// variables are lowered by one. Some exactly where hereditary substitution has a result, and then
+/// that. Fails only for want of memory.
+pub fn subst(table: &mut Table, body: Id, arg: Id, s: &Simple) -> Result<Option<Id>, AllocError>
+    requires body { IsKnown table.old body }
+    requires arg { IsKnown table.old arg }
+    ensures related { IfOk result (IsResult table.new (HSub (simple_of s.now) (tree_at table.old arg) 0 (tree_at table.old body))) }
+    ensures computed { IfOk result (Stands table.new (hsub (simple_of s.now) (tree_at table.old arg) 0 (tree_at table.old body))) }
+    ensures grows { Extends table.old table.new }
+{
+    substitution_laws();
+    table.laws();
+    subst_at(table, body, arg, 0, s)
+}
+
+/// The same in a type.
+pub fn subst_type(
+    table: &mut Table,
+    body: Id,
+    arg: Id,
+    s: &Simple,
+) -> Result<Option<Id>, AllocError>
+    requires body { IsKnown table.old body }
+    requires arg { IsKnown table.old arg }
+    ensures related { IfOk result (IsResult table.new (HSubType (simple_of s.now) (tree_at table.old arg) 0 (tree_at table.old body))) }
+    ensures computed { IfOk result (Stands table.new (hsub_type (simple_of s.now) (tree_at table.old arg) 0 (tree_at table.old body))) }
+    ensures grows { Extends table.old table.new }
+{
+    substitution_laws();
+    table.laws();
+    subst_type_at(table, body, arg, 0, s)
+}
+
+/// The simple type of a type. Fails only for want of memory.
+pub fn erase(alloc: Global, table: &Table, id: Id) -> Result<Simple, AllocError>
+    requires { IsKnown table.now id }
+    ensures { IfOk result (λ s. simple_of s ≡ erase (tree_at table.now id)) }
+{
+    match table.node(id) {
+        Node::Fam(a) => Ok(Simple::Base(a)),
+        Node::TApp(p, _) => erase(alloc, table, p),
+        Node::Pi(a, b) => {
+            let from = Box::new(alloc, erase(alloc, table, a)?)?;
+            let to = Box::new(alloc, erase(alloc, table, b)?)?;
+            Ok(Simple::Arrow(from, to))
+        }
+        _ => Ok(Simple::Base(0)),
+    }
+}

@@ -1,0 +1,11 @@
+pub mod Numbers
+pub mod Typing
+pub mod Simply
+pub mod Decide
+pub mod Terms
+pub mod Rules
+pub mod Sigma1
+pub mod Order
+pub mod Nodes
+pub mod Schemas
+pub mod Laws

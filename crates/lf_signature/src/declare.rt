@@ -1,0 +1,105 @@
+//! The declared types of the signature of word arithmetic.
+
+ghost use Rattle.std.specs.Prelude.{◌≡◌, IfOk};
+ghost use Rattle.term_table.specs.Table.{Extends, Stands};
+ghost use Rattle.term_table.specs.Tree.{Num, Lit, Calc, Fact, Deny};
+ghost use Rattle.lf_signature.specs.Terms.{lit, rel_term, form};
+ghost use Rattle.lf_signature.specs.Nodes.{Gives, type_at};
+ghost use Rattle.lf_signature.specs.Sigma1.{declared};
+
+use crate::build::{at_two, constant_id, pf_id, rule_id};
+use crate::numbers::{EXP, FF, IMP, op_number, op_of, rel_number, rel_of};
+use crate::tables::{constant_at, rule_at};
+use std::alloc::AllocError;
+use term_table::{Id, Node, Table};
+use word_ops::{Rel, apply, holds};
+
+// The type of a numbered constant.
+fn numbered(table: &mut Table, number: u32) -> Result<Option<Id>, AllocError>
+    ensures tree { IfOk result (Stands table.new (declared (Num number))) }
+    ensures grows { Extends table.old table.new }
+{
+    if let Some(constant) = constant_at(number) {
+        return Ok(Some(constant_id(table, constant)?));
+    }
+    match rule_at(number) {
+        Some(rule) => Ok(Some(rule_id(table, rule)?)),
+        None => Ok(None),
+    }
+}
+
+// A relation of two words.
+fn relation(table: &mut Table, rel: Rel, a: u64, b: u64) -> Result<Id, AllocError>
+    ensures id { IfOk result (Gives table.new (rel_term rel (lit a) (lit b))) }
+    ensures grows { Extends table.old table.new }
+{
+    let left = table.intern(Node::Lit(a))?;
+    let right = table.intern(Node::Lit(b))?;
+    at_two(table, rel_number(rel), left, right)
+}
+
+// That an operator of two words gives what it gives.
+fn evaluation(table: &mut Table, op: u32, a: u64, b: u64) -> Result<Option<Id>, AllocError>
+    ensures tree { IfOk result (Stands table.new (declared (Calc op a b))) }
+    ensures grows { Extends table.old table.new }
+{
+    let Some(op) = op_of(op) else {
+        return Ok(None);
+    };
+    let left = table.intern(Node::Lit(a))?;
+    let right = table.intern(Node::Lit(b))?;
+    let applied = at_two(table, op_number(op), left, right)?;
+    let value = table.intern(Node::Lit(apply(op, a, b)))?;
+    let equation = at_two(table, rel_number(Rel::Eq), applied, value)?;
+    Ok(Some(pf_id(table, equation)?))
+}
+
+// That a relation of two words holds.
+fn fact(table: &mut Table, rel: u32, a: u64, b: u64) -> Result<Option<Id>, AllocError>
+    ensures tree { IfOk result (Stands table.new (declared (Fact rel a b))) }
+    ensures grows { Extends table.old table.new }
+{
+    let Some(rel) = rel_of(rel) else {
+        return Ok(None);
+    };
+    if !holds(rel, a, b) {
+        return Ok(None);
+    }
+    let formula = relation(table, rel, a, b)?;
+    Ok(Some(pf_id(table, formula)?))
+}
+
+// That a relation of two words doesn't hold.
+fn denial(table: &mut Table, rel: u32, a: u64, b: u64) -> Result<Option<Id>, AllocError>
+    ensures tree { IfOk result (Stands table.new (declared (Deny rel a b))) }
+    ensures grows { Extends table.old table.new }
+{
+    let Some(rel) = rel_of(rel) else {
+        return Ok(None);
+    };
+    if holds(rel, a, b) {
+        return Ok(None);
+    }
+    let formula = relation(table, rel, a, b)?;
+    let falsity = table.intern(Node::Const(FF))?;
+    let denied = at_two(table, IMP, formula, falsity)?;
+    Ok(Some(pf_id(table, denied)?))
+}
+
+/// The type of a constant in the signature of word arithmetic, and None exactly where it has none
+/// or the node is no constant.
+///
+/// Fails only where memory does.
+pub fn declared(table: &mut Table, constant: Node) -> Result<Option<Id>, AllocError>
+    ensures tree { IfOk result (Stands table.new (type_at declared constant)) }
+    ensures grows { Extends table.old table.new }
+{
+    match constant {
+        Node::Const(number) => numbered(table, number),
+        Node::Lit(_) => Ok(Some(table.intern(Node::Fam(EXP))?)),
+        Node::Calc(op, a, b) => evaluation(table, op, a, b),
+        Node::Fact(rel, a, b) => fact(table, rel, a, b),
+        Node::Deny(rel, a, b) => denial(table, rel, a, b),
+        _ => Ok(None),
+    }
+}

@@ -1,0 +1,53 @@
+//! What holds of the definitions, with nothing to run.
+
+ghost use Rattle.std.specs.Prelude.{◌≡◌, ◌<◌, ◌+◌, ◌↔◌, ℕ, true, Option, Some, List, [], length, get_or};
+ghost use Rattle.word_ops.specs.declared.Op.{Op};
+ghost use Rattle.word_ops.specs.declared.Rel.{Rel};
+ghost use Rattle.term_table.specs.Tree.{Tree, Const, Num, at};
+ghost use Rattle.term_table.specs.Subst.{erase};
+ghost use Rattle.term_table.specs.Measures.{sigma1_places};
+ghost use Rattle.lf_signature.specs.Numbers.{op_of, rel_of, op_number, rel_number};
+ghost use Rattle.lf_signature.specs.Typing.{Checks, Synth, Kind, HasKind, IsType};
+ghost use Rattle.lf_signature.specs.Simply.{simply, erased, SChecks, SSynth, SType};
+ghost use Rattle.lf_signature.specs.Decide.{checks_of, synth_of, kind_of, is_type_of};
+ghost use Rattle.lf_signature.specs.Rules.{Rule, rule_type};
+ghost use Rattle.lf_signature.specs.Sigma1.{constant_types, rule_at, parameters_of, declared};
+ghost use Rattle.lf_signature.specs.Order.{is_over, IsSignature};
+
+/// The functions of typing decide its derivations, over any signature; a term synthesises at most
+/// one type.
+pub fn typing_laws()
+    ensures checks { (sig : Const → Option Tree) (ctx : List Tree) (m a : Tree) → Checks sig ctx m a ↔ (checks_of sig m ctx a ≡ true) }
+    ensures synth { (sig : Const → Option Tree) (ctx : List Tree) (r a : Tree) → Synth sig ctx r a ↔ (synth_of sig r ctx ≡ Some a) }
+    ensures unique { (sig : Const → Option Tree) (ctx : List Tree) (r a b : Tree) → Synth sig ctx r a → Synth sig ctx r b → a ≡ b }
+    ensures kinds { (sig : Const → Option Tree) (ctx : List Tree) (p : Tree) (k : Kind) → HasKind sig ctx p k ↔ (kind_of sig p ctx ≡ Some k) }
+    ensures types { (sig : Const → Option Tree) (ctx : List Tree) (a : Tree) → IsType sig ctx a ↔ (is_type_of sig a ctx ≡ true) }
+{}
+
+/// What is derived is derived by the simple rules at the erased types, and has no variables but
+/// those of its context.
+pub fn simple_laws()
+    ensures checks { (sig : Const → Option Tree) (ctx : List Tree) (m a : Tree) → Checks sig ctx m a → SChecks (simply sig) (erased ctx) m (erase a) }
+    ensures synth { (sig : Const → Option Tree) (ctx : List Tree) (r a : Tree) → Synth sig ctx r a → SSynth (simply sig) (erased ctx) r (erase a) }
+    ensures types { (sig : Const → Option Tree) (ctx : List Tree) (a : Tree) → IsType sig ctx a → SType (simply sig) (erased ctx) a }
+    ensures terms_over { (sig : Const → Option Tree) (ctx : List Tree) (m a : Tree) → Checks sig ctx m a → is_over (length ctx) m ≡ true }
+    ensures types_over { (sig : Const → Option Tree) (ctx : List Tree) (a : Tree) → IsType sig ctx a → is_over (length ctx) a ≡ true }
+{}
+
+/// Each type that the signature of word arithmetic declares is closed and well formed over the
+/// constants before it, and simply well formed; a rule's constant has the rule's type; operators
+/// and relations have the numbers that name them.
+pub fn signature_laws()
+    ensures formed { IsSignature declared }
+    ensures simply { (c : Const) (a : Tree) → declared c ≡ Some a → SType (simply declared) [] a }
+    ensures constants { (n : ℕ) → n < 27 → declared (Num n) ≡ at constant_types n }
+    ensures rules { (n : ℕ) (r : Rule) → rule_at n ≡ Some r → declared (Num n) ≡ Some (rule_type r) }
+    ensures operators { (n : ℕ) (o : Op) → (op_of n ≡ Some o) ↔ (op_number o ≡ n) }
+    ensures relations { (n : ℕ) (r : Rel) → (rel_of n ≡ Some r) ↔ (rel_number r ≡ 15 + n) }
+{}
+
+/// The counts of `Places::sigma1` are the signature's: how many parameters each numbered constant
+/// has.
+pub fn places_laws()
+    ensures { (n : ℕ) → get_or sigma1_places n 0 ≡ parameters_of n }
+{}

@@ -1,0 +1,5 @@
+pub mod Options
+pub mod Agree
+pub mod Trees
+pub mod Measured
+mod Rows

@@ -1,0 +1,6 @@
+pub mod Tree
+pub mod Subst
+pub mod Measures
+pub mod Code
+pub mod Table
+pub mod Entries

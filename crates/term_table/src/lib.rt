@@ -1,0 +1,328 @@
+//! LF's terms and types, each kept once in a table of shared nodes, with its height and weight.
+//!
+//! Contracts see a table as a list of finite trees, an id being a place in it (`specs/Table`): the
+//! layers above use that `intern` gives the id of the node's tree, and that every id keeps its tree
+//! through each later call, also one that finds no memory. The definitions of LF that all layers
+//! above share stand here: trees and shifts (`specs/Tree`), simple types and hereditary substitution
+//! (`specs/Subst`), and measures (`specs/Measures`). Source: Harper, Honsell and Plotkin, A Framework
+//! for Defining Logics, JACM 1993, in its canonical presentation.
+#![tactic(auto)]
+
+mod known;
+#[cfg(test)]
+mod tests;
+
+ghost use Rattle.std.specs.Prelude.{◌≡◌, ℕ, List, Option, ◌<◌, ◌≤◌, ◌+◌, ◌^◌, ◌↔◌, length, [], get_or, max, ◌-◌, if◌then◌else◌, nat_lt, IfOk, OnErr, IsTrue};
+ghost use Rattle.term_table.specs.Measures.{sigma1_places, height_of, weight_of, capped};
+ghost use Rattle.term_table.specs.Table.{counts_of, IsKnown, tree_at, node_tree, node_tree_in, PartsBelow, PartsKnown, AreDifferent, AreSmall, Adds, Extends};
+ghost use Rattle.term_table.specs.Entries.{trees, IsSmallNode, IsMeasured, AreMeasured};
+
+pub use known::substitution_laws;
+use std::alloc::{AllocError, Global};
+use std::collections::HashMap;
+use std::marker::Model;
+
+/// The place of a tree in its table. Contracts see it as a number.
+#[derive(Clone, Copy, PartialEq, Eq, Hash, Debug)]
+pub struct Id(u64);
+
+impl Model for Id {
+    ghost use Rattle.std.specs.Prelude.{ℕ};
+
+    ghost Value = { ℕ };
+
+    ghost view = { λ i. i.0 };
+
+    ghost inverse = { λ n. record { 0 = n } };
+}
+
+impl Id {
+    /// How many trees the table had before this one.
+    pub fn index(self) -> usize
+        ensures { result ≡ self }
+    {
+        self.0 as usize
+    }
+}
+
+/// A tree whose parts are ids of the table.
+#[derive(Clone, Copy, PartialEq, Eq, Hash, Debug)]
+pub enum Node {
+    /// A variable; 0 is the nearest binder.
+    Var(u32),
+    /// A constant of the signature.
+    Const(u32),
+    /// A 64-bit word.
+    Lit(u64),
+    /// An operator at two words: that it gives what it gives.
+    Calc(u32, u64, u64),
+    /// A relation at two words: that it holds.
+    Fact(u32, u64, u64),
+    /// A relation at two words: that it doesn't hold.
+    Deny(u32, u64, u64),
+    /// A term applied to a term.
+    App(Id, Id),
+    /// A term under a binder.
+    Lam(Id),
+    /// A family of types.
+    Fam(u32),
+    /// A type applied to a term.
+    TApp(Id, Id),
+    /// The type of functions from a type to a type under a binder.
+    Pi(Id, Id),
+}
+
+/// For each numbered constant, how many of its first arguments are parameters; 0 past the end. An
+/// argument in such a place counts 1 in a weight, whatever it is.
+#[derive(Clone, Copy)]
+pub struct Places {
+    counts: &'static [u8],
+}
+
+// Constants 0 to 26 build formulas and have no parameters; 27 to 87 are the rules.
+static SIGMA1: [u8; 88] = [
+    0, 0, 0, 0, 0, 0, 0, 0, 0, 0, 0, 0, 0, 0, 0, 0, 0, 0, 0, 0, 0, 0, 0, 0, 0, 0, 0, 0, 1, 2, 2, 2,
+    2, 2, 3, 2, 2, 1, 1, 2, 1, 2, 1, 3, 3, 4, 2, 3, 1, 2, 2, 2, 3, 1, 2, 1, 1, 2, 1, 3, 3, 1, 1, 1,
+    3, 2, 3, 3, 2, 2, 2, 1, 4, 2, 2, 2, 2, 2, 2, 2, 2, 2, 2, 2, 2, 2, 2, 2,
+];
+
+impl Places {
+    /// The constants' counts, by number.
+    pub fn of(counts: &'static [u8]) -> Places
+        ensures { counts_of result ≡ counts.now }
+    {
+        Places { counts }
+    }
+
+    /// The counts of the signature of word arithmetic, Sigma1: constants 0 to 87.
+    pub fn sigma1() -> Places
+        ensures { counts_of result ≡ sigma1_places }
+    {
+        Places { counts: &SIGMA1 }
+    }
+
+    // How many parameters the constant has.
+    fn count(self, constant: u32) -> u32
+        ensures { result ≡ get_or (counts_of self) constant 0 }
+    {
+        match self.counts.get(constant as usize) {
+            None => 0,
+            Some(count) => u32::from(*count),
+        }
+    }
+}
+
+// A node with its measures, and how many of its head's parameter places no argument fills yet.
+#[derive(Clone, Copy)]
+struct Entry {
+    node: Node,
+    height: u32,
+    weight: u32,
+    left: u32,
+}
+
+// A tree without parts.
+fn leaf(node: Node, left: u32) -> Entry
+    ensures { result ≡ record { node = node; height = 1; weight = 1; left = left } }
+{
+    Entry {
+        node,
+        height: 1,
+        weight: 1,
+        left,
+    }
+}
+
+// A tree of two parts that weighs them and 1 more.
+fn pair(node: Node, a: Entry, b: Entry) -> Entry
+    ensures node { result.node ≡ node }
+    ensures height { result.height ≡ capped (1 + max a.height b.height) }
+    ensures weight { result.weight ≡ capped (1 + (a.weight + b.weight)) }
+    ensures left { result.left ≡ 0 }
+{
+    Entry {
+        node,
+        height: a.height.max(b.height).saturating_add(1),
+        weight: a.weight.saturating_add(b.weight).saturating_add(1),
+        left: 0,
+    }
+}
+
+// A term with one argument more.
+fn applied(node: Node, f: Entry, a: Entry) -> Entry
+    ensures node { result.node ≡ node }
+    ensures height { result.height ≡ capped (1 + max f.height a.height) }
+    ensures weight { result.weight ≡ capped (f.weight + (if nat_lt 0 f.left then 1 else a.weight)) }
+    ensures left { result.left ≡ f.left - 1 }
+{
+    let counted = if f.left > 0 { 1 } else { a.weight };
+    Entry {
+        node,
+        height: f.height.max(a.height).saturating_add(1),
+        weight: f.weight.saturating_add(counted),
+        left: f.left.saturating_sub(1),
+    }
+}
+
+// The node with its measures, by the entries of its parts.
+fn entry_of(entries: &[Entry], places: Places, node: Node) -> Entry
+    requires parts { PartsBelow (length entries.now) node }
+    requires measured { AreMeasured (counts_of places) entries.now }
+    ensures node { result.node ≡ node }
+    ensures measured { IsMeasured (counts_of places) (node_tree_in (trees entries.now) node) result }
+{
+    match node {
+        Node::Const(n) => leaf(node, places.count(n)),
+        Node::App(f, a) => applied(node, entries[f.0 as usize], entries[a.0 as usize]),
+        Node::Lam(b) => {
+            let body = entries[b.0 as usize];
+            Entry {
+                node,
+                height: body.height.saturating_add(1),
+                weight: body.weight.saturating_add(1),
+                left: 0,
+            }
+        }
+        Node::TApp(a, b) | Node::Pi(a, b) => {
+            pair(node, entries[a.0 as usize], entries[b.0 as usize])
+        }
+        _ => leaf(node, 0),
+    }
+}
+
+// What the fields' types say of a node's numbers.
+fn numbers(node: Node)
+    ensures { IsSmallNode node }
+{
+    match node {
+        Node::Var(_) | Node::Const(_) | Node::Fam(_) | Node::Lit(_) => {}
+        Node::Calc(_, _, _) | Node::Fact(_, _, _) | Node::Deny(_, _, _) => {}
+        Node::App(_, _) | Node::Lam(_) | Node::TApp(_, _) | Node::Pi(_, _) => {}
+    }
+}
+
+/// Trees without repeats: two ids are equal exactly where their trees are.
+#[derive(Drop)]
+pub struct Table {
+    places: Places,
+    entries: Vec<Entry>,
+    // each node's id
+    index: HashMap<Node, Id>,
+}
+
+impl Model for Table {
+    ghost use Rattle.std.specs.HashMap.{get};
+    ghost use Rattle.term_table.specs.Table.{Terms, terms_code, counts_of};
+
+    ghost Value = { Terms };
+
+    ghost coded = { terms_code };
+
+    ghost use Rattle.term_table.specs.contracts.NodePartialEq.TheImpl as node_block;
+    ghost use Rattle.term_table.specs.Entries.{trees, AreEntries};
+
+    ghost view = { λ t. record { trees = trees t.entries.items; places = counts_of t.places } };
+
+    ghost invariant = { λ t. AreEntries (counts_of t.places) t.entries.items (λ n. get node_block.ghosts.eq t.index n) };
+}
+
+impl Table {
+    /// A table without trees, which takes no memory yet. Weights will go by `places`.
+    pub fn new(alloc: Global, places: Places) -> Table
+        ensures { result ≡ record { trees = []; places = counts_of places } }
+    {
+        Table {
+            places,
+            entries: Vec::new(alloc),
+            index: HashMap::new(alloc),
+        }
+    }
+
+    // The entry of an id.
+    fn entry(&self, id: Id) -> Entry
+        requires { IsKnown self.now id }
+        ensures tree { node_tree self.now result.node ≡ tree_at self.now id }
+        ensures parts { PartsBelow id result.node }
+        ensures measured { IsMeasured self.now.places (tree_at self.now id) result }
+    {
+        self.entries[id.0 as usize]
+    }
+
+    /// The node of an id. Its parts have lower ids.
+    pub fn node(&self, id: Id) -> Node
+        requires { IsKnown self.now id }
+        ensures tree { node_tree self.now result ≡ tree_at self.now id }
+        ensures parts { PartsBelow id result }
+    {
+        self.entry(id).node
+    }
+
+    /// The height of a tree: 1 without parts, else one more than its highest part. Past
+    /// 4,294,967,295 it answers that.
+    pub fn height(&self, id: Id) -> u32
+        requires { IsKnown self.now id }
+        ensures { result ≡ capped (height_of (tree_at self.now id)) }
+    {
+        self.entry(id).height
+    }
+
+    /// The weight of a tree: a head weighs 1 and what its arguments count, which is 1 in a
+    /// parameter place of a numbered constant and else their weight; anything else weighs 1 and
+    /// its parts. Past 4,294,967,295 it answers that.
+    pub fn weight(&self, id: Id) -> u32
+        requires { IsKnown self.now id }
+        ensures { result ≡ capped (weight_of self.now.places (tree_at self.now id)) }
+    {
+        self.entry(id).weight
+    }
+
+    /// How many trees the table has.
+    pub fn count(&self) -> u64
+        ensures { result ≡ length self.now.trees }
+    {
+        self.entries.len() as u64
+    }
+
+    /// What holds of every table, with nothing to run: different ids have different trees, each
+    /// tree's numbers fit their fields, and the trees are fewer than 2^63.
+    pub fn laws(&self)
+        ensures different { AreDifferent self.now.trees }
+        ensures small { AreSmall self.now.trees }
+        ensures few { length self.now.trees < 2 ^ 63 }
+    {
+        let _ = &self.entries;
+    }
+
+    /// Whether two ids stand for one tree.
+    pub fn same(&self, a: Id, b: Id) -> bool
+        requires a { IsKnown self.now a }
+        requires b { IsKnown self.now b }
+        ensures { IsTrue result ↔ (tree_at self.now a ≡ tree_at self.now b) }
+    {
+        self.laws();
+        a == b
+    }
+
+    /// The id of a node's tree, which is added where the table lacks it. The parts may be any ids of
+    /// the table, also where the node is then no term or type of LF.
+    ///
+    /// Fails only where memory does; the table then has the trees that it had.
+    pub fn intern(&mut self, node: Node) -> Result<Id, AllocError>
+        requires { PartsKnown self.old node }
+        ensures id { IfOk result (λ id. IsKnown self.new id × (tree_at self.new id ≡ node_tree self.old node)) }
+        ensures adds { IfOk result (Adds self.old self.new (node_tree self.old node)) }
+        ensures err { OnErr result (self.new ≡ self.old) }
+        ensures grows { Extends self.old self.new }
+    {
+        if let Some(id) = self.index.get(&node).copied() {
+            return Ok(id);
+        }
+        numbers(node);
+        let entry = entry_of(self.entries.as_slice(), self.places, node);
+        let id = Id(self.entries.len() as u64);
+        self.index.reserve(1)?;
+        self.entries.push(entry)?;
+        self.index.insert(node, id)?;
+        Ok(id)
+    }
+}
