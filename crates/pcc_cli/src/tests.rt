@@ -331,6 +331,22 @@ fn files_at_their_limit(rt: HostRuntime) -> Result<(), Fail> {
     Ok(())
 }
 
+/// A container without its last byte is none.
+#[test]
+fn a_cut_container(rt: HostRuntime) -> Result<(), Fail> {
+    let a = rt.alloc();
+    let mut bytes = container(a, 1, &[LDA, RETURN])?;
+    bytes.pop();
+    let mut files = Vec::new(a);
+    files.push(file(a, "C", bytes)?)?;
+    let mut files = MemFiles::new(a, files, 0, Vec::new(a))?;
+    let mut out = MemSink::new(a, 200, Vec::new(a))?;
+    let words = words_of(a, "ref filter C P")?;
+    assert_eq!(rt; pcc(a, words, &mut files, &mut out), 1);
+    assert!(rt; out.bytes() == "not built\n".as_bytes());
+    Ok(())
+}
+
 /// As many packets as a file may hold, all of them empty.
 #[test]
 fn the_most_packets(rt: HostRuntime) -> Result<(), Fail> {
