@@ -1,2 +1,0 @@
-pub use Rattle.lf_signature.specs.Typing
-pub mod Families
