@@ -1,7 +1,7 @@
 -- What the head of an atomic term becomes when a term is put for a variable: words of the private functions.
 use Rattle.std.specs.Prelude.{◌≡◌, ℕ, ◌+◌, ◌≤◌, List, [], ◌∷◌, Option, Some, None}
 use denote.Bor.{Bor}
-use Rattle.term_table.specs.Tree.{Tree, apps, Var, Con, App, Lam, Fam, TApp, Pi}
+use Rattle.term_table.specs.Tree.{Tree, apps, IsAtomic}
 use Rattle.term_table.specs.Subst.{Simple, Base, Arrow, walk, reduce}
 use Rattle.term_table.specs.Table.{Terms, IsKnown, tree_at}
 use Rattle.hereditary_subst.specs.declared.Simple as R
@@ -20,15 +20,6 @@ Keeps s m x t r = (acc : List Tree) → walk (reduce s) m x t acc ≡ Some (apps
 -- the head is the variable, and the term becomes r at the simple type u
 abbrev pub Meets : Simple → Tree → ℕ → Tree → Tree → Simple → Type 0
 Meets s m x t r u = (acc : List Tree) → walk (reduce s) m x t acc ≡ reduce u r acc
-
-abbrev pub IsAtomic : Tree → Type 0
-IsAtomic (Var n) = Unit {0}
-IsAtomic (Con c) = Unit {0}
-IsAtomic (App f a) = Unit {0}
-IsAtomic (Lam b) = ⊥
-IsAtomic (Fam a) = ⊥
-IsAtomic (TApp p a) = ⊥
-IsAtomic (Pi a b) = ⊥
 
 -- the term has no result
 abbrev pub Fails : Simple → Tree → ℕ → Tree → Type 0

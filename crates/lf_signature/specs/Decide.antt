@@ -1,27 +1,10 @@
 -- Typing as functions on terms and types. `typing_laws` says that they decide the derivations.
-use Rattle.std.specs.Prelude.{ℕ, suc, Bool, true, false, ◌&&◌, ◌==◌, if◌then◌else◌, Option, Some, None, List, ◌∷◌}
+use Rattle.std.specs.Prelude.{ℕ, suc, Bool, true, false, ◌&&◌, if◌then◌else◌, Option, Some, None, List, ◌∷◌}
 use Rattle.std.specs.Option.{option_map}
-use Rattle.term_table.specs.Tree.{Tree, Var, Con, App, Lam, Fam, TApp, Pi, shifted, Const, Num, Lit, Calc, Fact, Deny, at}
+use Rattle.term_table.specs.Tree.{Tree, Var, Con, App, Lam, Fam, TApp, Pi, shifted, Const, at}
+use Rattle.term_table.specs.Equality.{tree_eq}
 use Rattle.term_table.specs.Subst.{Simple, erase, bind, raised, hsub_type}
 use Rattle.lf_signature.specs.Typing.{Kind, Star, KPi, family_kind}
-
-abbrev pub const_eq : Const → Const → Bool
-const_eq (Num a) (Num b) = a == b
-const_eq (Lit a) (Lit b) = a == b
-const_eq (Calc o a b) (Calc p c d) = o == p && (a == c && b == d)
-const_eq (Fact o a b) (Fact p c d) = o == p && (a == c && b == d)
-const_eq (Deny o a b) (Deny p c d) = o == p && (a == c && b == d)
-const_eq _ _ = false
-
-abbrev pub tree_eq : Tree → Tree → Bool
-tree_eq (Var a) (Var b) = a == b
-tree_eq (Con c) (Con d) = const_eq c d
-tree_eq (App f a) (App g b) = tree_eq f g && tree_eq a b
-tree_eq (Lam a) (Lam b) = tree_eq a b
-tree_eq (Fam a) (Fam b) = a == b
-tree_eq (TApp f a) (TApp g b) = tree_eq f g && tree_eq a b
-tree_eq (Pi f a) (Pi g b) = tree_eq f g && tree_eq a b
-tree_eq _ _ = false
 
 abbrev pub is_atomic : Tree → Bool
 is_atomic (Fam a) = true

@@ -1,4 +1,5 @@
 pub mod Options
+pub mod Equality
 pub mod Agree
 pub mod Trees
 pub mod Measured

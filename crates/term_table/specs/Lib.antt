@@ -1,4 +1,5 @@
 pub mod Tree
+pub mod Equality
 pub mod Subst
 pub mod Measures
 pub mod Code

@@ -283,6 +283,15 @@ impl Table {
         self.entries.len() as u64
     }
 
+    /// The id whose index this is: that of the tree that came in after so many others.
+    pub fn id(&self, index: u64) -> Id
+        requires { IsKnown self.now index }
+        ensures { result ≡ index }
+    {
+        let _ = &self.entries;
+        Id(index)
+    }
+
     /// What holds of every table, with nothing to run: different ids have different trees, each
     /// tree's numbers fit their fields, and the trees are fewer than 2^63.
     pub fn laws(&self)

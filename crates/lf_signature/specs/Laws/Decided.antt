@@ -1,46 +1,13 @@
 -- The functions of typing decide its derivations.
-use Rattle.std.proofs.Common.{◌≡◌, ℕ, suc, true, cond, Option, Some, None, List, ◌∷◌, refl, sym, ◌∙◌, ap, subst, eqb-true, eq-eqb, option_map}
-use Rattle.term_table.specs.Tree.{Tree, Var, Con, App, Lam, Fam, TApp, Pi, shift, fits, Const, Num, Lit, Calc, Fact, Deny, at}
+use Rattle.std.proofs.Common.{◌≡◌, ℕ, suc, true, cond, Option, Some, None, List, ◌∷◌, refl, sym, ◌∙◌, ap, subst, option_map}
+use Rattle.term_table.specs.Tree.{Tree, Var, Con, App, Lam, Fam, TApp, Pi, shift, fits, Const, at}
 use Rattle.term_table.specs.Subst.{Simple, erase, bind, raised, hsub_type}
 use Rattle.term_table.proofs.Options.{bind_some, map_some, some_injective, raised_some}
+use Rattle.term_table.proofs.Equality.{tree_eq_refl, tree_eq-true}
 use Rattle.term_table.proofs.Agree.{hsub_type_is, hsub_type_follows}
 use Rattle.lf_signature.specs.Typing.{IsAtomicType, Checks, lam_checks, atom_checks, Synth, var_synth, con_synth, app_synth, Kind, Star, KPi, family_kind, HSubKind, in_star, in_kpi, HasKind, fam_kind, tapp_kind, IsType, atomic_type, pi_type}
-use Rattle.lf_signature.specs.Decide.{const_eq, tree_eq, is_atomic, atom_rule, app_rule, var_rule, synth_of, checks_of, hsub_kind, kind_rule, kind_of, is_star, is_type_of}
+use Rattle.lf_signature.specs.Decide.{is_atomic, atom_rule, app_rule, var_rule, synth_of, checks_of, hsub_kind, kind_rule, kind_of, is_star, is_type_of}
 use Rattle.lf_signature.specs.Laws.Booleans.{both, and_of, cond_is}
-
-const_eq-true : (c d : Const) → const_eq c d ≡ true → c ≡ d
-const_eq-true (Num a) (Num b) q = ap Num (eqb-true a b q)
-const_eq-true (Lit a) (Lit b) q = ap Lit (eqb-true a b q)
-const_eq-true (Calc o a b) (Calc p c d) q = let h = both _ _ q in let k = both _ _ h.1 in λ i. Calc (eqb-true o p h.0 i) (eqb-true a c k.0 i) (eqb-true b d k.1 i)
-const_eq-true (Fact o a b) (Fact p c d) q = let h = both _ _ q in let k = both _ _ h.1 in λ i. Fact (eqb-true o p h.0 i) (eqb-true a c k.0 i) (eqb-true b d k.1 i)
-const_eq-true (Deny o a b) (Deny p c d) q = let h = both _ _ q in let k = both _ _ h.1 in λ i. Deny (eqb-true o p h.0 i) (eqb-true a c k.0 i) (eqb-true b d k.1 i)
-const_eq-true _ _ q = cc
-
-const_eq_refl : (c : Const) → const_eq c c ≡ true
-const_eq_refl (Num a) = eq-eqb a a refl
-const_eq_refl (Lit a) = eq-eqb a a refl
-const_eq_refl (Calc o a b) = and_of _ _ (eq-eqb o o refl) (and_of _ _ (eq-eqb a a refl) (eq-eqb b b refl))
-const_eq_refl (Fact o a b) = and_of _ _ (eq-eqb o o refl) (and_of _ _ (eq-eqb a a refl) (eq-eqb b b refl))
-const_eq_refl (Deny o a b) = and_of _ _ (eq-eqb o o refl) (and_of _ _ (eq-eqb a a refl) (eq-eqb b b refl))
-
-pub tree_eq_refl : (t : Tree) → tree_eq t t ≡ true
-tree_eq_refl (Var a) = eq-eqb a a refl
-tree_eq_refl (Con c) = const_eq_refl c
-tree_eq_refl (App f a) = and_of _ _ (tree_eq_refl f) (tree_eq_refl a)
-tree_eq_refl (Lam a) = tree_eq_refl a
-tree_eq_refl (Fam a) = eq-eqb a a refl
-tree_eq_refl (TApp f a) = and_of _ _ (tree_eq_refl f) (tree_eq_refl a)
-tree_eq_refl (Pi f a) = and_of _ _ (tree_eq_refl f) (tree_eq_refl a)
-
-pub tree_eq-true : (t u : Tree) → tree_eq t u ≡ true → t ≡ u
-tree_eq-true (Var a) (Var b) q = ap Var (eqb-true a b q)
-tree_eq-true (Con c) (Con d) q = ap Con (const_eq-true c d q)
-tree_eq-true (App f a) (App g b) q = let h = both _ _ q in λ i. App (tree_eq-true f g h.0 i) (tree_eq-true a b h.1 i)
-tree_eq-true (Lam a) (Lam b) q = ap Lam (tree_eq-true a b q)
-tree_eq-true (Fam a) (Fam b) q = ap Fam (eqb-true a b q)
-tree_eq-true (TApp f a) (TApp g b) q = let h = both _ _ q in λ i. TApp (tree_eq-true f g h.0 i) (tree_eq-true a b h.1 i)
-tree_eq-true (Pi f a) (Pi g b) q = let h = both _ _ q in λ i. Pi (tree_eq-true f g h.0 i) (tree_eq-true a b h.1 i)
-tree_eq-true _ _ q = cc
 
 atomic_true : (a : Tree) → is_atomic a ≡ true → IsAtomicType a
 atomic_true (Fam a) q = tt

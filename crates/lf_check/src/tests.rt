@@ -1,0 +1,307 @@
+//! Worked derivations, terms that have none, every declared type, and terms of the greatest height.
+//!
+//! Each helper tests at run time that the ids which it is given are the table's, so that the tests
+//! carry no facts.
+
+ghost use Rattle.std.specs.Prelude.{OnOk};
+ghost use Rattle.term_table.specs.Table.{IsKnown};
+
+use crate::{check_term, check_type, synth};
+use lf_signature::{Sigma1, Signature};
+use std::alloc::{AllocError, Global};
+use std::test::Fail;
+use term_table::{Id, Node, Places, Table};
+
+type Made<T> = Result<T, &'static str>;
+
+const ADD: u32 = 0;
+
+const TRUE: u32 = 13;
+
+const FALSE: u32 = 14;
+
+const EQ: u32 = 15;
+
+const ULT: u32 = 16;
+
+const ULE: u32 = 17;
+
+const AND: u32 = 22;
+
+const IMP: u32 = 24;
+
+const AND_I: u32 = 29;
+
+const IMP_I: u32 = 35;
+
+const ZERO_LE: u32 = 61;
+
+const ULE_REFL: u32 = 63;
+
+const ADD_LE: u32 = 72;
+
+const EXP: u32 = 0;
+
+const FORM: u32 = 2;
+
+const PF: u32 = 3;
+
+const HIGHEST: u32 = 4_096;
+
+fn made<T: Drop>(answer: Result<T, AllocError>) -> Made<T> {
+    match answer {
+        Ok(it) => Ok(it),
+        Err(_) => Err("no memory"),
+    }
+}
+
+fn known(table: &Table, id: Id) -> Made<()>
+    ensures { OnOk result (IsKnown table.now id) }
+{
+    if (id.index() as u64) < table.count() {
+        Ok(())
+    } else {
+        Err("no id of the table")
+    }
+}
+
+fn leaf(table: &mut Table, node: Node) -> Made<Id> {
+    match node {
+        Node::App(_, _) | Node::Lam(_) | Node::TApp(_, _) | Node::Pi(_, _) => Err("it has parts"),
+        _ => made(table.intern(node)),
+    }
+}
+
+fn lam(table: &mut Table, body: Id) -> Made<Id> {
+    known(table, body)?;
+    made(table.intern(Node::Lam(body)))
+}
+
+fn pi(table: &mut Table, from: Id, to: Id) -> Made<Id> {
+    known(table, from)?;
+    known(table, to)?;
+    made(table.intern(Node::Pi(from, to)))
+}
+
+// A family at a term.
+fn at(table: &mut Table, family: Id, m: Id) -> Made<Id> {
+    known(table, family)?;
+    known(table, m)?;
+    made(table.intern(Node::TApp(family, m)))
+}
+
+// The type of the proofs of a formula.
+fn pf(table: &mut Table, formula: Id) -> Made<Id> {
+    let proofs = leaf(table, Node::Fam(PF))?;
+    at(table, proofs, formula)
+}
+
+// A constant at terms.
+fn con(table: &mut Table, constant: u32, terms: &[Id]) -> Made<Id> {
+    let mut applied = leaf(table, Node::Const(constant))?;
+    for term in terms {
+        known(table, applied)?;
+        known(table, *term)?;
+        applied = made(table.intern(Node::App(applied, *term)))?;
+    }
+    Ok(applied)
+}
+
+fn checks(alloc: Global, table: &mut Table, m: Id, a: Id) -> Made<bool> {
+    known(table, m)?;
+    known(table, a)?;
+    made(check_term(alloc, table, &Sigma1, &[], m, a))
+}
+
+// The same in a context of two types, the nearest last.
+fn checks_under(alloc: Global, table: &mut Table, ctx: (Id, Id), m: Id, a: Id) -> Made<bool> {
+    let (far, near) = ctx;
+    known(table, far)?;
+    known(table, near)?;
+    known(table, m)?;
+    known(table, a)?;
+    made(check_term(alloc, table, &Sigma1, &[far, near], m, a))
+}
+
+fn is_type(alloc: Global, table: &mut Table, a: Id) -> Made<bool> {
+    known(table, a)?;
+    made(check_type(alloc, table, &Sigma1, &[], a))
+}
+
+/// The sum of a premise for each summand, and of one that the sum doesn't wrap: the last premise's
+/// own formula is asked for.
+#[test]
+fn a_premise_of_another_formula(rt: HostRuntime) -> Result<(), Fail> {
+    let mut table = Table::new(rt.alloc(), Places::sigma1());
+    let table = &mut table;
+    let exp = leaf(table, Node::Fam(EXP))?;
+    let nearest = leaf(table, Node::Var(0))?;
+    let x = leaf(table, Node::Var(1))?;
+    let zero = leaf(table, Node::Lit(0))?;
+    let eight = leaf(table, Node::Lit(8))?;
+
+    // in x : exp, p : pf (ule x (add x 8))
+    let later = con(table, ADD, &[nearest, eight])?;
+    let no_wrap = con(table, ULE, &[nearest, later])?;
+    let p = pf(table, no_wrap)?;
+    let refl = con(table, ULE_REFL, &[x])?;
+    let zero_le = con(table, ZERO_LE, &[eight])?;
+    let less = con(table, ADD, &[x, zero])?;
+    let more = con(table, ADD, &[x, eight])?;
+    let at_most = con(table, ULE, &[less, more])?;
+    let goal = pf(table, at_most)?;
+    let wrong = con(table, ADD_LE, &[x, zero, x, eight, refl, zero_le, zero_le])?;
+    assert!(rt; !checks_under(rt.alloc(), table, (exp, p), wrong, goal)?);
+    let right = con(table, ADD_LE, &[x, zero, x, eight, refl, zero_le, nearest])?;
+    assert!(rt; checks_under(rt.alloc(), table, (exp, p), right, goal)?);
+    Ok(())
+}
+
+#[test]
+fn facts_and_types(rt: HostRuntime) -> Result<(), Fail> {
+    let mut table = Table::new(rt.alloc(), Places::sigma1());
+    let table = &mut table;
+    let four = leaf(table, Node::Lit(4))?;
+    let five = leaf(table, Node::Lit(5))?;
+    let same = con(table, ULT, &[five, five])?;
+    let below = con(table, ULT, &[four, five])?;
+    let proofs_of_same = pf(table, same)?;
+    let proofs_of_below = pf(table, below)?;
+    let no_fact = leaf(table, Node::Fact(1, 5, 5))?;
+    let fact = leaf(table, Node::Fact(1, 4, 5))?;
+    assert!(rt; !checks(rt.alloc(), table, no_fact, proofs_of_same)?);
+    assert!(rt; checks(rt.alloc(), table, fact, proofs_of_below)?);
+    known(table, no_fact)?;
+    assert_eq!(rt;
+        made(synth(rt.alloc(), table, &Sigma1, &[], no_fact))?,
+        None
+    );
+    known(table, fact)?;
+    assert_eq!(rt;
+        made(synth(rt.alloc(), table, &Sigma1, &[], fact))?,
+        Some(proofs_of_below)
+    );
+
+    let truth = con(table, TRUE, &[])?;
+    let proofs_of_truth = pf(table, truth)?;
+    let twice = at(table, proofs_of_truth, truth)?;
+    let of_a_word = pf(table, five)?;
+    let exp = leaf(table, Node::Fam(EXP))?;
+    let x = leaf(table, Node::Var(0))?;
+    let equal = con(table, EQ, &[x, x])?;
+    let proofs_of_equal = pf(table, equal)?;
+    let for_all = pi(table, exp, proofs_of_equal)?;
+    assert!(rt; is_type(rt.alloc(), table, proofs_of_truth)?);
+    assert!(rt; !is_type(rt.alloc(), table, of_a_word)?);
+    assert!(rt; !is_type(rt.alloc(), table, twice)?);
+    assert!(rt; !is_type(rt.alloc(), table, proofs_of_equal)?);
+    assert!(rt; is_type(rt.alloc(), table, for_all)?);
+    Ok(())
+}
+
+/// One shared abstraction checks at one type and not at another.
+#[test]
+fn a_shared_abstraction(rt: HostRuntime) -> Result<(), Fail> {
+    let mut table = Table::new(rt.alloc(), Places::sigma1());
+    let table = &mut table;
+    let truth = con(table, TRUE, &[])?;
+    let falsity = con(table, FALSE, &[])?;
+    let x = leaf(table, Node::Var(0))?;
+    let same = lam(table, x)?;
+    let left = con(table, IMP, &[truth, truth])?;
+    let of_left = con(table, IMP_I, &[truth, truth, same])?;
+    for (from, expected) in [(falsity, false), (truth, true)] {
+        let right = con(table, IMP, &[from, truth])?;
+        let of_right = con(table, IMP_I, &[from, truth, same])?;
+        let proof = con(table, AND_I, &[left, right, of_left, of_right])?;
+        let both = con(table, AND, &[left, right])?;
+        let goal = pf(table, both)?;
+        assert_eq!(rt; checks(rt.alloc(), table, proof, goal)?, expected);
+    }
+    Ok(())
+}
+
+#[test]
+fn each_declared_type_is_well_formed(rt: HostRuntime) -> Result<(), Fail> {
+    let mut table = Table::new(rt.alloc(), Places::sigma1());
+    for number in 0..88 {
+        let found = Sigma1.type_of(&mut table, Node::Const(number))?;
+        let declared = found.ok_or("no type")?;
+        assert!(rt;
+            is_type(rt.alloc(), &mut table, declared)?,
+            "type of {number}"
+        );
+    }
+    Ok(())
+}
+
+/// A chain of implications, and a chain of abstractions at its type.
+#[test]
+fn the_highest_terms(rt: HostRuntime) -> Result<(), Fail> {
+    let mut table = Table::new(rt.alloc(), Places::sigma1());
+    let table = &mut table;
+    let form = leaf(table, Node::Fam(FORM))?;
+    let falsity = con(table, FALSE, &[])?;
+    let mut formula = falsity;
+    for _ in 2..HIGHEST {
+        formula = con(table, IMP, &[falsity, formula])?;
+    }
+    known(table, formula)?;
+    assert_eq!(rt; table.height(formula), HIGHEST);
+    assert!(rt; checks(rt.alloc(), table, formula, form)?);
+
+    let mut function = leaf(table, Node::Var(0))?;
+    let mut product = form;
+    for _ in 1..HIGHEST {
+        function = lam(table, function)?;
+        product = pi(table, form, product)?;
+    }
+    known(table, function)?;
+    assert_eq!(rt; table.height(function), HIGHEST);
+    assert!(rt; checks(rt.alloc(), table, function, product)?);
+    Ok(())
+}
+
+/// A proof of nested introductions of implications, each two levels high.
+#[test]
+fn the_highest_proof(rt: HostRuntime) -> Result<(), Fail> {
+    let mut table = Table::new(rt.alloc(), Places::sigma1());
+    let table = &mut table;
+    let falsity = con(table, FALSE, &[])?;
+    let mut formula = falsity;
+    let mut proof = leaf(table, Node::Var(0))?;
+    for _ in 0..HIGHEST / 2 - 1 {
+        let body = lam(table, proof)?;
+        proof = con(table, IMP_I, &[falsity, formula, body])?;
+        formula = con(table, IMP, &[falsity, formula])?;
+    }
+    known(table, proof)?;
+    assert_eq!(rt; table.height(proof), HIGHEST);
+    let goal = pf(table, formula)?;
+    assert!(rt; checks(rt.alloc(), table, proof, goal)?);
+    let wrong = pf(table, falsity)?;
+    assert!(rt; !checks(rt.alloc(), table, proof, wrong)?);
+    Ok(())
+}
+
+/// A variable of a function type applied to as many terms as fit.
+#[test]
+fn the_longest_application(rt: HostRuntime) -> Result<(), Fail> {
+    let mut table = Table::new(rt.alloc(), Places::sigma1());
+    let table = &mut table;
+    let form = leaf(table, Node::Fam(FORM))?;
+    let falsity = con(table, FALSE, &[])?;
+    let mut product = form;
+    let mut applied = leaf(table, Node::Var(0))?;
+    for _ in 1..HIGHEST {
+        product = pi(table, form, product)?;
+        known(table, applied)?;
+        known(table, falsity)?;
+        applied = made(table.intern(Node::App(applied, falsity)))?;
+    }
+    known(table, applied)?;
+    assert_eq!(rt; table.height(applied), HIGHEST);
+    assert!(rt; checks_under(rt.alloc(), table, (form, product), applied, form)?);
+    assert!(rt; !checks_under(rt.alloc(), table, (form, form), applied, form)?);
+    Ok(())
+}
