@@ -1,0 +1,15 @@
+use Rattle.std.proofs.Common.{◌≡◌, [], ◌+◌, ◌*◌, ◌-◌, ◌≤◌, length}
+use Rattle.std.specs.List.{AllByRecursion}
+use Rattle.term_table.specs.Table.{IsKnown}
+use Rattle.proof_container.specs.Reading.{invs_at}
+use Rattle.proof_container.specs.Views.{inv_trees}
+use Rattle.proof_container.proofs.reading.invs_from.Given as goal
+
+abbrev pub invariant-loop : goal.invariant-loop
+invariant-loop l = record {
+  read : invs_at (l.count - l.counter) l.bytes l.at l.table.trees l.words l.low (inv_trees l.table l.invs.items) ≡ invs_at l.count l.bytes l.start l.table.trees l.words 0 [];
+  known : AllByRecursion (λ inv. IsKnown l.table inv.1) l.invs.items;
+  few : length l.invs.items ≤ l.counter;
+  near : l.at ≤ l.start + 2 * l.counter;
+  low : l.low ≤ 1024;
+}

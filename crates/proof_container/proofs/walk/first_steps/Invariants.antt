@@ -1,0 +1,7 @@
+use Rattle.std.proofs.Common.{◌≡◌, ◌++◌, map}
+use Rattle.proof_container.specs.Walked.{proof_steps}
+use Rattle.proof_container.proofs.Walking.{enter_inv}
+use Rattle.proof_container.proofs.walk.first_steps.Given as goal
+
+abbrev pub invariant-loop-inv : goal.invariant-loop-inv
+invariant-loop-inv l = l.steps.items ≡ proof_steps l.fn.proof ++ map enter_inv (map (λ inv. inv.now) l.yielded)

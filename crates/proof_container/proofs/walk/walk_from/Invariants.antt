@@ -1,0 +1,9 @@
+use Rattle.proof_container.specs.Walks.{entries}
+use Rattle.proof_container.specs.Walked.{IsUnderWay, root_trees, steps_cost}
+use Rattle.proof_container.proofs.walk.walk_from.Given as goal
+
+abbrev pub invariant-loop-step : goal.invariant-loop-step
+invariant-loop-step l = IsUnderWay l.table (entries (root_trees l.table l.invs l.fn.proof)) l.walk l.steps.items
+
+abbrev pub decreases-loop-step : goal.decreases-loop-step
+decreases-loop-step l = steps_cost l.table l.steps.items

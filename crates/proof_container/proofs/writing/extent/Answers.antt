@@ -1,0 +1,27 @@
+use Rattle.std.proofs.Common.{◌≡◌, ℕ, ◌+◌, ◌*◌, ◌-◌, ◌^◌, min, List, length, ◌∙◌, ap, arith}
+use Rattle.std.specs.Prelude.{sum_by}
+use Rattle.std.proofs.lemmas.List.{length-map}
+use Rattle.term_table.specs.Tree.{Tree}
+use Rattle.term_table.specs.Table.{tree_at}
+use Rattle.proof_container.specs.Contents.{Contents, roots}
+use Rattle.proof_container.specs.Walks.{entries}
+use Rattle.proof_container.specs.Spelling.{spelling}
+use Rattle.proof_container.specs.Reading.{entry_size}
+use Rattle.proof_container.specs.Views.{view_contents}
+use Rattle.proof_container.proofs.Written.{length-spelling}
+use Rattle.proof_container.proofs.writing.extent.Goals as goal
+
+-- sums and a product that stop at the top
+capped : (sizes invs code f1 f2 f3 f4 bytes total : ℕ) → f1 ≡ min sizes (2 ^ 64 - 1) → f2 ≡ min (f1 + 7) (2 ^ 64 - 1) → f3 ≡ min (f2 + 2 * invs) (2 ^ 64 - 1) → f4 ≡ min (f3 * 4) (2 ^ 64 - 1) →
+    bytes ≡ min (f4 + code) (2 ^ 64 - 1) → total ≡ 4 * (7 + sizes + 2 * invs) + code → bytes ≡ min total (2 ^ 64 - 1)
+capped sizes invs code f1 f2 f3 f4 bytes total a b c d e f = omega arith
+
+pub returns-clause-bytes : goal.returns-clause-bytes
+returns-clause-bytes c =
+    let v = c.args.view.now in
+    let held : Contents = view_contents v in
+    let len : c.entries_len.result ≡ min (sum_by entry_size (entries (roots held))) (2 ^ 64 - 1) = c.entries_len.ensures ∙ ap (λ (z : List Tree). min (sum_by entry_size z) (2 ^ 64 - 1)) c.in_ok-walk.ensures.left in
+    let invs : length held.invs ≡ length v.invs.now = length-map {B = ℕ × Tree} v.invs.now (λ inv. (inv.0, tree_at v.table.now inv.1)) in
+    let total : length (spelling held) ≡ 4 * (7 + sum_by entry_size (entries (roots held)) + 2 * length v.invs.now) + length v.code.now = length-spelling held ∙ ap (λ n. 4 * (7 + sum_by entry_size (entries (roots held)) + 2 * n) + length v.code.now) invs in
+    capped (sum_by entry_size (entries (roots held))) (length v.invs.now) (length v.code.now) c.entries_len.result c.saturating_add.result c.saturating_add-fields.result c.saturating_mul.result c.saturating_add-bytes.result (length (spelling held))
+    len c.saturating_add.ensures c.saturating_add-fields.ensures c.saturating_mul.ensures c.saturating_add-bytes.ensures total

@@ -1,0 +1,32 @@
+use Rattle.std.proofs.Common.{◌≡◌, ◌++◌, [], List, ℕ, ◌∙◌, ap}
+use Rattle.proof_container.specs.Contents.{Contents}
+use Rattle.proof_container.specs.Spelling.{field_bytes, head_fields, tail_fields, Spells}
+use Rattle.proof_container.specs.Views.{view_contents}
+use Rattle.proof_container.specs.Walked.{left_trees}
+use Rattle.proof_container.proofs.Ready.{ready, view_holds, is_spelling}
+use Rattle.proof_container.proofs.Whole.{container_again}
+use Rattle.proof_container.proofs.writing.write.Goals as goal
+
+pub put_tail-requires : goal.put_tail-requires
+put_tail-requires c = ready c.args.view.now c.in_ok-walk.walk c.requires c.in_ok-walk.ensures
+
+spelled : (c : goal.After-drop-walk-3) → Spells c.put_tail.new.out.items (view_contents c.args.view.now)
+spelled c =
+    let v = c.args.view.now in
+    let held : Contents = view_contents v in
+    let es = left_trees v.table.now c.in_ok-walk.walk in
+    let none : c.new-out.result.items ≡ [] = c.new-out.ensures.items in
+    let head : c.put.new.out.items ≡ field_bytes (head_fields held) = c.in_ok-put.ensures ∙ ap (λ (z : List ℕ). z ++ field_bytes (head_fields held)) none in
+    let code : c.extend_from_slice.new.self.items ≡ field_bytes (head_fields held) ++ held.code = c.in_ok-extend_from_slice.ensures.items ∙ ap (λ (z : List ℕ). z ++ held.code) head in
+    let out : c.put_tail.new.out.items ≡ (field_bytes (head_fields held) ++ held.code) ++ field_bytes (tail_fields es held) =
+    c.in_ok-put_tail.ensures ∙ ap (λ (z : List ℕ). z ++ field_bytes (tail_fields es held)) code in
+    record {
+      contents = view_holds v c.requires c.limits.ensures.policy c.limits.ensures.code c.laws.ensures.small;
+      spelled = is_spelling held es c.put_tail.new.out.items c.in_ok-walk.ensures.left out;
+    }
+
+pub returns-clause-spelled : goal.returns-clause-spelled
+returns-clause-spelled c = spelled c
+
+pub returns-clause-read_back : goal.returns-clause-read_back
+returns-clause-read_back c = container_again c.put_tail.new.out.items (view_contents c.args.view.now) (spelled c)

@@ -1,0 +1,9 @@
+pub use Rattle.term_table.specs.Tree
+pub use Rattle.term_table.specs.Equality
+pub use Rattle.term_table.specs.Table
+pub mod Contents
+pub mod Walks
+pub mod Spelling
+pub mod Reading
+pub mod Views
+pub mod Walked

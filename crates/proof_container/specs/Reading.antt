@@ -1,0 +1,185 @@
+-- Reading bytes as a container, front to back. Each field is tested as soon as it is read, and the first fault is the answer.
+use Rattle.std.specs.Prelude.{ℕ, zero, suc, ◌+◌, ◌*◌, ◌/◌, ◌-◌, Bool, true, false, ◌||◌, ◌==◌, nat_lt, if◌then◌else◌, List, [], ◌∷◌, ◌++◌, length, take, drop, slice_range, sum_by, Option, Some, None, Result, Ok, Err}
+use Rattle.std.specs.Option.{option_map}
+use Rattle.std.specs.Int.{w32, from_le_bytes}
+use Rattle.term_table.specs.Tree.{Tree, Var, Con, App, Lam, Fam, TApp, Pi, Num, Lit, Calc, Fact, Deny}
+use Rattle.term_table.specs.Equality.{tree_eq}
+use Rattle.term_table.specs.Table.{tree_in}
+use Rattle.proof_container.specs.declared.fault.Flaw.{Flaw}
+use Rattle.proof_container.specs.declared.fault.Flaw.TheVariants.{Cut, Magic, Version, Count, EntryKind, ForwardRef, DoubleEntry, Order, LambdaHead, InvOrder, Trailing}
+use Rattle.proof_container.specs.Contents.{Contents, roots}
+use Rattle.proof_container.specs.Walks.{is_listed, entries}
+use Rattle.proof_container.specs.Spelling.{magic}
+
+-- an offset, and what is wrong there
+abbrev pub Fault : Type 0
+Fault = ℕ × Flaw
+
+infixl 10 ◌>>=◌
+abbrev pub ◌>>=◌ : {A B : Type 0} → Result A Fault → (A → Result B Fault) → Result B Fault
+(Ok x) >>= f = f x
+(Err e) >>= f = Err e
+
+-- ---- fields, by their number from the front
+
+abbrev pub field_at : List ℕ → ℕ → Result ℕ Fault
+field_at bytes i = if nat_lt (length bytes) (4 * i + 4) then Err (4 * i, Cut) else Ok (from_le_bytes w32 (drop (4 * i) bytes))
+
+-- a field that has to be this number
+abbrev pub exact_at : List ℕ → ℕ → ℕ → Flaw → Result ℕ Fault
+exact_at bytes i n flaw = field_at bytes i >>= λ m. if m == n then Ok m else Err (4 * i, flaw)
+
+-- a field that has to lie between these numbers
+abbrev pub count_at : List ℕ → ℕ → ℕ → ℕ → Result ℕ Fault
+count_at bytes i low high = field_at bytes i >>= λ n. if nat_lt n low || nat_lt high n then Err (4 * i, Count) else Ok n
+
+abbrev pub word_at : List ℕ → ℕ → Result ℕ Fault
+word_at bytes i = do
+  low ← field_at bytes i
+  high ← field_at bytes (i + 1)
+  Ok (low + 4294967296 * high)
+
+-- ---- the magic, the version, the policy and the code
+
+-- the policy, and how many words of code there are
+unfoldable pub head_read : List ℕ → Result (ℕ × ℕ) Fault
+head_read bytes = do
+  first ← exact_at bytes 0 magic Magic
+  version ← exact_at bytes 1 1 Version
+  policy ← field_at bytes 2
+  words ← count_at bytes 3 1 1024
+  if nat_lt (length bytes) (16 + 4 * words) then Err (4 * (length bytes / 4), Cut) else Ok (policy, words)
+
+-- ---- entries, the trees of the earlier ones being ts
+
+abbrev pub is_lam : Tree → Bool
+is_lam (Lam b) = true
+is_lam (Var n) = false
+is_lam (Con c) = false
+is_lam (App f a) = false
+is_lam (Fam a) = false
+is_lam (TApp p a) = false
+is_lam (Pi a b) = false
+
+-- the tree of an earlier entry
+abbrev pub part_at : List ℕ → ℕ → List Tree → Result Tree Fault
+part_at bytes i ts = field_at bytes i >>= λ e. if nat_lt e (length ts) then Ok (tree_in ts e) else Err (4 * i, ForwardRef)
+
+-- the same of what is applied
+abbrev pub head_at : List ℕ → ℕ → List Tree → Result Tree Fault
+head_at bytes i ts = part_at bytes i ts >>= λ f. if is_lam f then Err (4 * i, LambdaHead) else Ok f
+
+abbrev pub application_at : List ℕ → ℕ → List Tree → Result Tree Fault
+application_at bytes i ts = do
+  f ← head_at bytes i ts
+  a ← part_at bytes (i + 1) ts
+  Ok (App f a)
+
+-- an operator or relation, and two words
+abbrev pub triple_at : List ℕ → ℕ → Result (ℕ × ℕ × ℕ) Fault
+triple_at bytes i = do
+  n ← field_at bytes i
+  a ← word_at bytes (i + 1)
+  b ← word_at bytes (i + 3)
+  Ok (n, a, b)
+
+-- the entry of this kind whose kind is field i
+unfoldable pub kind_at : List ℕ → ℕ → List Tree → ℕ → Result Tree Fault
+kind_at bytes i ts kind =
+    if kind == 0 then field_at bytes (i + 1) >>= (λ n. Ok (Var n)) else
+    if kind == 1 then field_at bytes (i + 1) >>= (λ n. Ok (Con (Num n))) else
+    if kind == 2 then word_at bytes (i + 1) >>= (λ w. Ok (Con (Lit w))) else
+    if kind == 3 then triple_at bytes (i + 1) >>= (λ t. Ok (Con (Calc t.0 t.1 t.2))) else
+    if kind == 4 then triple_at bytes (i + 1) >>= (λ t. Ok (Con (Fact t.0 t.1 t.2))) else
+    if kind == 5 then triple_at bytes (i + 1) >>= (λ t. Ok (Con (Deny t.0 t.1 t.2))) else
+    if kind == 6 then application_at bytes (i + 1) ts else
+    if kind == 7 then part_at bytes (i + 1) ts >>= (λ b. Ok (Lam b)) else
+    Err (4 * i, EntryKind)
+
+abbrev pub entry_at : List ℕ → ℕ → List Tree → Result Tree Fault
+entry_at bytes i ts = field_at bytes i >>= λ kind. kind_at bytes i ts kind
+
+-- how many fields an entry has
+abbrev pub entry_size : Tree → ℕ
+entry_size (Var n) = 2
+entry_size (Con (Num n)) = 2
+entry_size (Con (Lit w)) = 3
+entry_size (Con (Calc o a b)) = 6
+entry_size (Con (Fact p a b)) = 6
+entry_size (Con (Deny p a b)) = 6
+entry_size (App f a) = 3
+entry_size (Lam b) = 2
+entry_size (Fam a) = 0
+entry_size (TApp p a) = 0
+entry_size (Pi a b) = 0
+
+-- n more entries from field i on: all trees, and the next field
+unfoldable pub entries_at : ℕ → List ℕ → ℕ → List Tree → Result (List Tree × ℕ) Fault
+entries_at zero bytes i ts = Ok (ts, i)
+entries_at (suc n) bytes i ts = do
+  t ← entry_at bytes i ts
+  if is_listed t ts then Err (4 * i, DoubleEntry) else entries_at n bytes (i + entry_size t) (ts ++ t ∷ [])
+
+-- the entries behind so many words of code
+unfoldable pub entries_read : List ℕ → ℕ → Result (List Tree × ℕ) Fault
+entries_read bytes words = do
+  count ← count_at bytes (4 + words) 0 262144
+  entries_at count bytes (5 + words) []
+
+-- ---- invariants and proof, the entries' trees being es
+
+-- an invariant, whose index is at least low
+abbrev pub inv_at : List ℕ → ℕ → List Tree → ℕ → ℕ → Result (ℕ × Tree) Fault
+inv_at bytes i es words low = do
+  k ← field_at bytes i
+  j ← if nat_lt k low || nat_lt words (k + 1) then Err (4 * i, InvOrder) else Ok k
+  t ← part_at bytes (i + 1) es
+  Ok (j, t)
+
+-- n more invariants from field i on, behind these
+unfoldable pub invs_at : ℕ → List ℕ → ℕ → List Tree → ℕ → ℕ → List (ℕ × Tree) → Result (List (ℕ × Tree)) Fault
+invs_at zero bytes i es words low invs = Ok invs
+invs_at (suc n) bytes i es words low invs = do
+  inv ← inv_at bytes i es words low
+  invs_at n bytes (i + 2) es words (inv.0 + 1) (invs ++ inv ∷ [])
+
+unfoldable pub invs_read : List ℕ → ℕ → List Tree → ℕ → Result (List (ℕ × Tree)) Fault
+invs_read bytes i es words = do
+  count ← count_at bytes i 0 256
+  invs_at count bytes (i + 1) es words 0 []
+
+-- field i: 0 for none, or 1 and the number of an entry
+unfoldable pub proof_read : List ℕ → ℕ → List Tree → Result (Option Tree) Fault
+proof_read bytes i es = do
+  p ← field_at bytes i
+  if p == 0 then Ok None else if nat_lt (length es) p then Err (4 * i, ForwardRef) else Ok (Some (tree_in es (p - 1)))
+
+-- ---- the whole
+
+-- the place of the first tree of es that isn't the one at the same place of the walk
+abbrev pub first_misplaced : List Tree → List Tree → Option ℕ
+first_misplaced [] walked = None
+first_misplaced (e ∷ es) [] = Some 0
+first_misplaced (e ∷ es) (w ∷ ws) = if tree_eq e w then option_map suc (first_misplaced es ws) else Some 0
+
+-- the offset of an entry
+abbrev pub entry_offset : ℕ → List Tree → ℕ → ℕ
+entry_offset words es e = 4 * (5 + words + sum_by entry_size (take e es))
+
+abbrev pub ordered : ℕ → List Tree → Contents → Option ℕ → Result Contents Fault
+ordered words es c None = Ok c
+ordered words es c (Some e) = Err (entry_offset words es e, Order)
+
+-- the contents, where no byte is left from field i on and the entries stand in the order of the walk
+unfoldable pub end_read : List ℕ → ℕ → ℕ → List Tree → Contents → Result Contents Fault
+end_read bytes i words es c =
+    if nat_lt (4 * i) (length bytes) then Err (4 * i, Trailing) else ordered words es c (first_misplaced es (entries (roots c)))
+
+-- the contents of the container that the bytes are, or the first fault
+unfoldable pub container_read : List ℕ → Result Contents Fault
+container_read bytes = do
+  head ← head_read bytes
+  es ← entries_read bytes head.1
+  invs ← invs_read bytes es.1 es.0 head.1
+  proof ← proof_read bytes (es.1 + 1 + 2 * length invs) es.0
+  end_read bytes (es.1 + 2 + 2 * length invs) head.1 es.0 (record { policy = head.0; code = slice_range bytes 16 (16 + 4 * head.1); invs = invs; proof = proof })

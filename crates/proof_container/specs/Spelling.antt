@@ -1,0 +1,97 @@
+-- The grammar of containers, version 1. All fields are little-endian numbers of four bytes.
+-- The format is this project's own.
+use Rattle.std.specs.Prelude.{◌≡◌, ℕ, suc, ◌+◌, ◌*◌, ◌/◌, ◌%◌, ◌^◌, ◌<◌, ◌≤◌, if◌then◌else◌, List, [], ◌∷◌, ◌++◌, length, slice_index, Option, Some, None}
+use Rattle.std.specs.List.{flat_map}
+use Rattle.std.specs.Int.{w32, to_le_bytes}
+use Rattle.term_table.specs.Tree.{Tree, Var, Con, App, Lam, Fam, TApp, Pi, Const, Num, Lit, Calc, Fact, Deny, IsTerm}
+use Rattle.term_table.specs.Equality.{tree_eq}
+use Rattle.term_table.specs.Table.{IsSmall}
+use Rattle.proof_container.specs.Contents.{Contents, roots}
+use Rattle.proof_container.specs.Walks.{entries}
+
+-- fields as bytes
+abbrev pub field_bytes : List ℕ → List ℕ
+field_bytes fs = flat_map (to_le_bytes w32) fs
+
+-- a 64-bit word is two fields, the low half first
+abbrev pub word_fields : ℕ → List ℕ
+word_fields w = w % 2 ^ 32 ∷ w / 2 ^ 32 ∷ []
+
+-- the number of the first entry that has the tree
+abbrev pub entry_number : List Tree → Tree → ℕ
+entry_number [] t = 0
+entry_number (u ∷ us) t = if tree_eq t u then 0 else suc (entry_number us t)
+
+-- an entry is its kind and what follows it
+abbrev pub const_fields : Const → List ℕ
+const_fields (Num n) = 1 ∷ n ∷ []
+const_fields (Lit w) = 2 ∷ word_fields w
+const_fields (Calc o a b) = 3 ∷ o ∷ word_fields a ++ word_fields b
+const_fields (Fact p a b) = 4 ∷ p ∷ word_fields a ++ word_fields b
+const_fields (Deny p a b) = 5 ∷ p ∷ word_fields a ++ word_fields b
+
+-- a part is the number of its entry
+abbrev pub entry_fields : List Tree → Tree → List ℕ
+entry_fields es (Var n) = 0 ∷ n ∷ []
+entry_fields es (Con c) = const_fields c
+entry_fields es (App f a) = 6 ∷ entry_number es f ∷ entry_number es a ∷ []
+entry_fields es (Lam b) = 7 ∷ entry_number es b ∷ []
+entry_fields es (Fam a) = []
+entry_fields es (TApp p a) = []
+entry_fields es (Pi a b) = []
+
+-- an invariant is its index and the number of its entry
+abbrev pub inv_fields : List Tree → ℕ × Tree → List ℕ
+inv_fields es inv = inv.0 ∷ entry_number es inv.1 ∷ []
+
+-- 0 for no proof, or 1 and the number of its entry
+abbrev pub proof_field : List Tree → Option Tree → ℕ
+proof_field es None = 0
+proof_field es (Some t) = 1 + entry_number es t
+
+-- the bytes `PCCA`
+abbrev pub magic : ℕ
+magic = 0x41434350
+
+-- the magic, the version, the policy, and how many words of code follow
+abbrev pub head_fields : Contents → List ℕ
+head_fields c = magic ∷ 1 ∷ c.policy ∷ length c.code / 4 ∷ []
+
+-- what stands behind the code, these being the entries
+abbrev pub tail_fields : List Tree → Contents → List ℕ
+tail_fields es c = (length es ∷ flat_map (entry_fields es) es) ++ ((length c.invs ∷ flat_map (inv_fields es) c.invs) ++ (proof_field es c.proof ∷ []))
+
+-- the one spelling of the contents
+unfoldable pub spelling : Contents → List ℕ
+spelling c = field_bytes (head_fields c) ++ (c.code ++ field_bytes (tail_fields (entries (roots c)) c))
+
+-- the invariants' indices rise from this one on, and lie below the count of words
+abbrev pub AreRising : ℕ → ℕ → List (ℕ × Tree) → Type 0
+AreRising low words [] = Unit {0}
+AreRising low words (inv ∷ invs) = (low ≤ inv.0) × (inv.0 < words) × AreRising (suc inv.0) words invs
+
+-- terms whose numbers fit their fields
+abbrev pub AreTerms : List Tree → Type 0
+AreTerms [] = Unit {0}
+AreTerms (t ∷ ts) = IsTerm t × IsSmall t × AreTerms ts
+
+-- numbers below 256
+abbrev pub IsBytes : List ℕ → Type 0
+IsBytes bytes = (i : ℕ) → slice_index bytes i < 256
+
+-- what a container may hold
+pub record IsContents (c : Contents) : Type 0 where
+  pub policy : c.policy < 2 ^ 32
+  pub bytes : IsBytes c.code
+  pub whole : 4 * (length c.code / 4) ≡ length c.code
+  pub some : 0 < length c.code
+  pub short : length c.code ≤ 4096
+  pub terms : AreTerms (roots c)
+  pub entries : length (entries (roots c)) ≤ 262144
+  pub invs : length c.invs ≤ 256
+  pub rising : AreRising 0 (length c.code / 4) c.invs
+
+-- the bytes are a container with these contents
+pub record Spells (bytes : List ℕ) (c : Contents) : Type 0 where
+  pub contents : IsContents c
+  pub spelled : bytes ≡ spelling c

@@ -1,0 +1,83 @@
+-- The contents of a container as it stands in memory, and what answers of calls say.
+use Rattle.std.specs.Prelude.{◌≡◌, ℕ, ◌*◌, ◌/◌, ◌<◌, ◌≤◌, List, [], ◌∷◌, length, map, Option, Result, Ok, Err, IfSome}
+use Rattle.std.specs.List.{AllByRecursion}
+use Rattle.std.specs.Option.{option_map}
+use Rattle.term_table.specs.Tree.{Tree, IsTerm}
+use Rattle.term_table.specs.Table.{Terms, IsKnown, tree_at}
+use Rattle.term_table.specs.Measures.{sigma1_places}
+use Rattle.proof_container.specs.declared.container.Container.{Container}
+use Rattle.proof_container.specs.declared.container.View.{View}
+use Rattle.proof_container.specs.declared.fault.Malformed.{Malformed}
+use Rattle.proof_container.specs.declared.fault.Malformed.TheVariants as malformed
+use Rattle.proof_container.specs.Contents.{Contents, roots}
+use Rattle.proof_container.specs.Walks.{entries}
+use Rattle.proof_container.specs.Spelling.{AreRising, Spells}
+use Rattle.proof_container.specs.Reading.{Fault}
+
+-- invariants with their trees in place of their ids
+abbrev pub inv_trees : Terms → List (ℕ × ℕ) → List (ℕ × Tree)
+inv_trees t invs = map (λ inv. (inv.0, tree_at t inv.1)) invs
+
+-- what a container holds
+abbrev pub contents_of : Container → Contents
+contents_of c = record { policy = c.policy; code = c.code.now; invs = inv_trees c.table c.invs.items; proof = option_map (tree_at c.table) c.proof }
+
+abbrev pub view_contents : View → Contents
+view_contents v = record { policy = v.policy; code = v.code.now; invs = inv_trees v.table.now v.invs.now; proof = option_map (tree_at v.table.now) v.proof }
+
+-- the roots are ids of the table
+abbrev pub AreKnown : Terms → List (ℕ × ℕ) → Option ℕ → Type 0
+AreKnown t invs proof = AllByRecursion (λ inv. IsKnown t inv.1) invs × IfSome proof (IsKnown t)
+
+-- the view shows the container's fields
+pub record Shows (c : Container) (v : View) : Type 0 where
+  pub policy : v.policy ≡ c.policy
+  pub code : v.code.now ≡ c.code.now
+  pub table : v.table.now ≡ c.table
+  pub invs : v.invs.now ≡ c.invs.items
+  pub proof : v.proof ≡ c.proof
+
+-- no contents have these bytes as their spelling
+abbrev pub IsNone : List ℕ → Malformed → Type 0
+IsNone bytes (malformed.At offset flaw) = (c : Contents) → Spells bytes c → ⊥
+IsNone bytes malformed.Memory = Unit {0}
+
+-- the fault that reading gives, or want of memory
+abbrev pub IsFault : {Y : Type 0} → Result Y Fault → Malformed → Type 0
+IsFault read (malformed.At offset flaw) = read ≡ Err (offset, flaw)
+IsFault read malformed.Memory = Unit {0}
+
+-- an answer, seen by view, is what reading gives, unless memory ran out
+abbrev pub Gives : {X Y : Type 0} → (X → Y) → Result Y Fault → Result X Malformed → Type 0
+Gives view read (Ok x) = read ≡ Ok (view x)
+Gives view read (Err e) = IsFault read e
+
+-- the container's table has the entries, in the order of the walk, and no other trees; weights go by the signature's parameters
+pub record IsCanonical (c : Container) : Type 0 where
+  pub known : AreKnown c.table c.invs.items c.proof
+  pub trees : c.table.trees ≡ entries (roots (contents_of c))
+  pub places : c.table.places ≡ sigma1_places
+
+-- each of these trees is a term
+abbrev pub AllTerms : List Tree → Type 0
+AllTerms [] = Unit {0}
+AllTerms (t ∷ ts) = IsTerm t × AllTerms ts
+
+-- a view that can be written: its roots are terms of its table, its code is whole words, its counts are within the limits, and its indices rise below the count of words
+pub record IsWritable (v : View) : Type 0 where
+  pub known : AreKnown v.table.now v.invs.now v.proof
+  pub terms : AllTerms (roots (view_contents v))
+  pub whole : 4 * (length v.code.now / 4) ≡ length v.code.now
+  pub some : 0 < length v.code.now
+  pub short : length v.code.now ≤ 4096
+  pub entries : length (entries (roots (view_contents v))) ≤ 262144
+  pub invs : length v.invs.now ≤ 256
+  pub rising : AreRising 0 (length v.code.now / 4) (view_contents v).invs
+
+-- the containers are the same, wherever their code lies
+pub record AreSame (c d : Container) : Type 0 where
+  pub policy : c.policy ≡ d.policy
+  pub code : c.code.now ≡ d.code.now
+  pub table : c.table ≡ d.table
+  pub invs : c.invs.items ≡ d.invs.items
+  pub proof : c.proof ≡ d.proof

@@ -1,0 +1,124 @@
+-- What a walk over a table's ids keeps: words of the private functions.
+use Rattle.std.specs.Prelude.{◌≡◌, ℕ, ◌+◌, ◌*◌, ◌<◌, ◌≤◌, true, IfSome, if◌then◌else◌, List, [], ◌∷◌, ◌++◌, map, reverse, length, get_or, Option, Some, None}
+use Rattle.std.specs.Option.{option_map}
+use Rattle.term_table.specs.Tree.{Tree, Var, Con, App, Lam, Fam, TApp, Pi}
+use Rattle.term_table.specs.Table.{Terms, AllKnown, IsKnown, tree_at}
+use Rattle.term_table.specs.declared.Node.{Node}
+use Rattle.term_table.specs.declared.Node.TheVariants as N
+use Rattle.proof_container.specs.declared.container.View.{View}
+use Rattle.proof_container.specs.declared.walk.Walk.{Walk}
+use Rattle.proof_container.specs.declared.walk.Step.{Step}
+use Rattle.proof_container.specs.declared.walk.Step.TheVariants.{Enter, Leave}
+use Rattle.proof_container.specs.Contents.{one_or_none}
+use Rattle.proof_container.specs.Walks.{is_listed, once, visit, HasParts, AreListed}
+use Rattle.proof_container.specs.Spelling.{entry_number}
+use Rattle.proof_container.specs.Views.{AreKnown, inv_trees}
+
+-- the trees of the roots: the invariants in order, then the proof
+abbrev pub root_trees : Terms → List (ℕ × ℕ) → Option ℕ → List Tree
+root_trees t invs proof = map (λ p. p.1) (inv_trees t invs) ++ one_or_none (option_map (tree_at t) proof)
+
+-- the number of a tree among those that were left, if it was left
+abbrev pub mark : List Tree → Tree → Option ℕ
+mark ts t = if is_listed t ts then Some (entry_number ts t) else None
+
+-- each id of the table has its tree's mark
+pub record AreMarks (t : Terms) (ts : List Tree) (marks : List (Option ℕ)) : Type 0 where
+  pub count : length marks ≡ length t.trees
+  pub at : (id : ℕ) → id < length t.trees → get_or marks id None ≡ mark ts (tree_at t id)
+
+-- the ids were left, whose trees these are
+pub record IsLeft (t : Terms) (ts : List Tree) (w : Walk) : Type 0 where
+  pub known : AllKnown t w.left.items
+  pub left : map (tree_at t) w.left.items ≡ ts
+  pub marks : AreMarks t ts w.numbers.items
+
+-- the walk left the id e as the e-th
+abbrev pub IsPlaced : List ℕ → ℕ → Type 0
+IsPlaced left e = (e < length left) × (get_or left e 0 ≡ e)
+
+-- each of the trees has its parts among ts
+abbrev pub HaveParts : List Tree → List Tree → Type 0
+HaveParts ts [] = Unit {0}
+HaveParts ts (u ∷ us) = HasParts ts u × HaveParts ts us
+
+abbrev pub left_trees : Terms → Walk → List Tree
+left_trees t w = map (tree_at t) w.left.items
+
+-- the walk has left what the view names, so that its entries can be written
+pub record IsReady (v : View) (w : Walk) : Type 0 where
+  pub left : IsLeft v.table.now (left_trees v.table.now w) w
+  pub parts : HaveParts (left_trees v.table.now w) (left_trees v.table.now w)
+  pub known : AreKnown v.table.now v.invs.now v.proof
+  pub invs : AreListed (left_trees v.table.now w) (map (λ inv. tree_at v.table.now inv.1) v.invs.now)
+  pub proof : IfSome v.proof (λ id. is_listed (tree_at v.table.now id) (left_trees v.table.now w) ≡ true)
+  pub few : length w.left.items ≤ 262144
+  pub few_invs : length v.invs.now ≤ 256
+
+-- ---- the steps that a walk has yet to take, the last of the list first
+
+-- the steps of a node's parts
+abbrev pub part_steps : Node → List Step
+part_steps (N.Var n) = []
+part_steps (N.Const n) = []
+part_steps (N.Lit w) = []
+part_steps (N.Calc o a b) = []
+part_steps (N.Fact p a b) = []
+part_steps (N.Deny p a b) = []
+part_steps (N.App f a) = Enter a ∷ Enter f ∷ []
+part_steps (N.Lam b) = Enter b ∷ []
+part_steps (N.Fam a) = []
+part_steps (N.TApp p a) = Enter a ∷ Enter p ∷ []
+part_steps (N.Pi a b) = Enter b ∷ Enter a ∷ []
+
+abbrev pub proof_steps : Option ℕ → List Step
+proof_steps None = []
+proof_steps (Some id) = Enter id ∷ []
+
+-- the steps of the roots
+abbrev pub first_steps : List (ℕ × ℕ) → Option ℕ → List Step
+first_steps invs proof = proof_steps proof ++ map (λ inv. Enter inv.1) (reverse invs)
+
+-- the trees that are left once the step is taken, where those of ts were left before
+abbrev pub taken : Terms → Step → List Tree → List Tree
+taken t (Enter id) ts = visit (tree_at t id) ts
+taken t (Leave id) ts = once (tree_at t id) ts ts
+
+-- the same of all of these steps
+abbrev pub all_taken : Terms → List Step → List Tree → List Tree
+all_taken t [] ts = ts
+all_taken t (s ∷ steps) ts = taken t s (all_taken t steps ts)
+
+-- the step is about a tree of the table
+abbrev pub IsStep : Terms → Step → Type 0
+IsStep t (Enter id) = IsKnown t id
+IsStep t (Leave id) = IsKnown t id
+
+abbrev pub AreSteps : Terms → List Step → Type 0
+AreSteps t [] = Unit {0}
+AreSteps t (s ∷ steps) = IsStep t s × AreSteps t steps
+
+-- the walk has yet to take these steps, and will have left the trees of goal then
+pub record IsUnderWay (t : Terms) (goal : List Tree) (w : Walk) (steps : List Step) : Type 0 where
+  pub left : IsLeft t (left_trees t w) w
+  pub known : AreSteps t steps
+  pub leads : all_taken t steps (left_trees t w) ≡ goal
+
+-- how many trees a tree is made of, itself among them
+abbrev pub nodes : Tree → ℕ
+nodes (Var n) = 1
+nodes (Con c) = 1
+nodes (App f a) = 1 + (nodes f + nodes a)
+nodes (Lam b) = 1 + nodes b
+nodes (Fam a) = 1
+nodes (TApp p a) = 1 + (nodes p + nodes a)
+nodes (Pi a b) = 1 + (nodes a + nodes b)
+
+-- at most so many steps are taken from here on
+abbrev pub step_cost : Terms → Step → ℕ
+step_cost t (Enter id) = 2 * nodes (tree_at t id)
+step_cost t (Leave id) = 1
+
+abbrev pub steps_cost : Terms → List Step → ℕ
+steps_cost t [] = 0
+steps_cost t (s ∷ steps) = step_cost t s + steps_cost t steps

@@ -1,0 +1,75 @@
+//! What is wrong with bytes that are no container.
+
+ghost use Rattle.std.specs.Prelude.{◌≡◌};
+
+use std::alloc::{AllocError, AllocFailed};
+use thiserror::Error;
+
+/// What is wrong with the bytes at an offset.
+#[derive(Clone, Copy, Debug, PartialEq, Eq, Error)]
+pub enum Flaw {
+    /// The field doesn't wholly stand in the bytes.
+    #[error("a field is cut short")]
+    Cut,
+    /// The first four bytes aren't `PCCA`.
+    #[error("the magic is wrong")]
+    Magic,
+    /// The version isn't 1.
+    #[error("the version is unknown")]
+    Version,
+    /// A count is past its limit, or there is no code.
+    #[error("a count is past its limits")]
+    Count,
+    /// The kind of the entry is above 7.
+    #[error("the entry is of no kind")]
+    EntryKind,
+    /// The entry that is named doesn't come before the one that names it, or isn't there.
+    #[error("the entry that is named doesn't stand before")]
+    ForwardRef,
+    /// An earlier entry is the same.
+    #[error("the entry comes twice")]
+    DoubleEntry,
+    /// The entry isn't the one that the walk leaves at its place.
+    #[error("the entry stands at another place than in the walk")]
+    Order,
+    /// What is applied is an abstraction.
+    #[error("an abstraction is applied")]
+    LambdaHead,
+    /// An invariant's index doesn't rise, or lies past the code.
+    #[error("the invariant's index doesn't rise or lies past the code")]
+    InvOrder,
+    /// Bytes are left behind the container.
+    #[error("bytes are left")]
+    Trailing,
+}
+
+/// Why bytes are no container.
+#[derive(Clone, Copy, Debug, PartialEq, Eq, Error)]
+pub enum Malformed {
+    /// The offset of the first fault, and what is wrong there.
+    #[error("at offset {0}, {1}")]
+    At(u64, Flaw),
+    /// There was no memory for the container.
+    #[error("out of memory")]
+    Memory,
+}
+
+impl From<AllocError> for Malformed {
+    ghost use Rattle.proof_container.specs.declared.fault.Malformed.TheVariants.{Memory};
+
+    ghost from_gives = { λ _ e. e ≡ Memory };
+
+    fn from(_fault: AllocError) -> Malformed {
+        Malformed::Memory
+    }
+}
+
+impl<T: Drop> From<AllocFailed<T>> for Malformed {
+    ghost use Rattle.proof_container.specs.declared.fault.Malformed.TheVariants.{Memory};
+
+    ghost from_gives = { λ _ e. e ≡ Memory };
+
+    fn from(_fault: AllocFailed<T>) -> Malformed {
+        Malformed::Memory
+    }
+}

@@ -1,0 +1,142 @@
+//! The walk that orders a container's entries.
+
+ghost use Rattle.std.specs.Prelude.{◌≡◌, ◌<◌, ◌++◌, ◌∷◌, [], List, length, get_or, IfOk, OnOk};
+ghost use Rattle.term_table.specs.Tree.{Tree};
+ghost use Rattle.term_table.specs.Table.{IsKnown};
+ghost use Rattle.proof_container.specs.Walks.{entries};
+ghost use Rattle.proof_container.specs.Views.{AreKnown};
+ghost use Rattle.proof_container.specs.Walked.{IsLeft, IsUnderWay, IsStep, first_steps, part_steps, root_trees, steps_cost};
+
+use std::alloc::{AllocError, Global};
+use term_table::{Id, Node, Table};
+
+/// The ids that a walk has left, in order, and for each id of the table its place there.
+#[derive(Drop)]
+pub struct Walk {
+    pub left: Vec<Id>,
+    pub numbers: Vec<Option<u64>>,
+}
+
+impl Walk {
+    /// The place of an id among those that were left, if it was left.
+    pub fn number(&self, id: Id) -> Option<u64>
+        requires { id < length self.now.numbers.items }
+        ensures { result ≡ get_or self.now.numbers.items id None }
+    {
+        self.numbers[id.index()]
+    }
+}
+
+/// What a walk has yet to do.
+#[derive(Clone, Copy)]
+enum Step {
+    /// To leave what the tree is made of, and it, unless it has been left.
+    Enter(Id),
+    /// To leave the tree, whose parts have been left, unless it has been left.
+    Leave(Id),
+}
+
+/// The steps that enter the roots, the first root's on top.
+fn first_steps(
+    alloc: Global,
+    invs: &[(u32, Id)],
+    proof: Option<Id>,
+) -> Result<Vec<Step>, AllocError>
+    ensures { IfOk result (λ steps. steps.items ≡ first_steps invs.now proof) }
+{
+    let mut steps = Vec::new(alloc);
+    if let Some(id) = proof {
+        steps.push(Step::Enter(id))?;
+    }
+    for inv in invs.iter().rev() {
+        steps.push(Step::Enter(inv.1))?;
+    }
+    Ok(steps)
+}
+
+/// Puts the steps that enter a node's parts on top, the first part's topmost.
+fn enter_parts(steps: &mut Vec<Step>, node: Node) -> Result<(), AllocError>
+    ensures { OnOk result (steps.new.items ≡ steps.old.items ++ part_steps node) }
+{
+    match node {
+        Node::App(a, b) | Node::TApp(a, b) | Node::Pi(a, b) => {
+            steps.push(Step::Enter(b))?;
+            steps.push(Step::Enter(a))?;
+            Ok(())
+        }
+        Node::Lam(b) => {
+            steps.push(Step::Enter(b))?;
+            Ok(())
+        }
+        _ => Ok(()),
+    }
+}
+
+/// Enters a tree: its parts are to be entered before it is left, unless it has been left.
+fn enter(table: &Table, walk: &Walk, steps: &mut Vec<Step>, id: Id) -> Result<(), AllocError>
+    requires known { IsKnown table.now id }
+    requires numbers { length walk.now.numbers.items ≡ length table.now.trees }
+    ensures goes { OnOk result ((goal : List Tree) → IsUnderWay table.now goal walk.now (steps.old.items ++ Step.Enter id ∷ []) → IsUnderWay table.now goal walk.now steps.new.items) }
+    ensures falls { OnOk result (steps_cost table.now steps.new.items < steps_cost table.now (steps.old.items ++ Step.Enter id ∷ [])) }
+{
+    if walk.number(id).is_some() {
+        return Ok(());
+    }
+    steps.push(Step::Leave(id))?;
+    enter_parts(steps, table.node(id))
+}
+
+/// Leaves a tree, unless it has been left.
+fn leave(table: &Table, walk: &mut Walk, id: Id) -> Result<(), AllocError>
+    requires known { IsKnown table.now id }
+    requires numbers { length walk.old.numbers.items ≡ length table.now.trees }
+    ensures { OnOk result ((goal : List Tree) (steps : List Step) → IsUnderWay table.now goal walk.old (steps ++ Step.Leave id ∷ []) → IsUnderWay table.now goal walk.new steps) }
+{
+    table.laws();
+    if walk.number(id).is_some() {
+        return Ok(());
+    }
+    let place = walk.left.len() as u64;
+    walk.left.push(id)?;
+    walk.numbers[id.index()] = Some(place);
+    Ok(())
+}
+
+/// Takes a step, which no longer stands among the others.
+fn take_step(
+    table: &Table,
+    walk: &mut Walk,
+    steps: &mut Vec<Step>,
+    step: Step,
+) -> Result<(), AllocError>
+    requires known { IsStep table.now step }
+    requires numbers { length walk.old.numbers.items ≡ length table.now.trees }
+    ensures goes { OnOk result ((goal : List Tree) → IsUnderWay table.now goal walk.old (steps.old.items ++ step ∷ []) → IsUnderWay table.now goal walk.new steps.new.items) }
+    ensures falls { OnOk result (steps_cost table.now steps.new.items < steps_cost table.now (steps.old.items ++ step ∷ [])) }
+{
+    match step {
+        Step::Enter(id) => enter(table, walk, steps, id),
+        Step::Leave(id) => leave(table, walk, id),
+    }
+}
+
+/// The walk from the invariants in order and then the proof.
+pub fn walk_from(
+    alloc: Global,
+    table: &Table,
+    invs: &[(u32, Id)],
+    proof: Option<Id>,
+) -> Result<Walk, AllocError>
+    requires { AreKnown table.now invs.now proof }
+    ensures { IfOk result (λ w. IsLeft table.now (entries (root_trees table.now invs.now proof)) w) }
+{
+    let mut walk = Walk {
+        left: Vec::new(alloc),
+        numbers: vec![in alloc; None; table.count() as usize]?,
+    };
+    let mut steps = first_steps(alloc, invs, proof)?;
+    while let Some(step) = steps.pop() {
+        take_step(table, &mut walk, &mut steps, step)?;
+    }
+    Ok(walk)
+}

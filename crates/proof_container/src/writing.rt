@@ -1,0 +1,204 @@
+//! Writing a container, and how long it will be.
+
+ghost use Rattle.std.specs.Prelude.{◌≡◌, ℕ, ◌-◌, sum_by, slice_index, ◌+◌, ◌*◌, ◌<◌, ◌≤◌, ◌^◌, ◌++◌, ◌∷◌, [], ◌%◌, ◌/◌, min, length, map, take, true, None, Ok, IfOk, IfSome, OnOk};
+ghost use Rattle.std.specs.List.{flat_map};
+ghost use Rattle.std.specs.Option.{option_map};
+ghost use Rattle.term_table.specs.Table.{IsKnown, AllKnown, tree_at};
+ghost use Rattle.proof_container.specs.Contents.{roots};
+ghost use Rattle.proof_container.specs.Walks.{entries, is_listed, HasParts, AreListed};
+ghost use Rattle.proof_container.specs.Spelling.{field_bytes, word_fields, entry_number, entry_fields, inv_fields, proof_field, tail_fields, spelling, Spells};
+ghost use Rattle.proof_container.specs.Reading.{entry_size, container_read};
+ghost use Rattle.proof_container.specs.Walked.{IsLeft, IsReady, HaveParts, left_trees};
+ghost use Rattle.proof_container.specs.Views.{AreKnown, IsWritable, inv_trees, view_contents};
+
+use crate::container::View;
+use crate::entry::size;
+use crate::fields::{MAGIC, VERSION};
+use crate::walk::{Walk, walk_from};
+use byteorder::{ByteOrder, LittleEndian};
+use std::alloc::{AllocError, Global};
+use term_table::{Id, Node, Table};
+
+/// Adds fields at the end.
+fn put(out: &mut Vec<u8>, fields: &[u32]) -> Result<(), AllocError>
+    ensures { OnOk result (out.new.items ≡ out.old.items ++ field_bytes fields.now) }
+{
+    let mut bytes = [0; 4];
+    for field in fields {
+        LittleEndian::write_u32(&mut bytes, *field);
+        out.extend_from_slice(&bytes)?;
+    }
+    Ok(())
+}
+
+/// The low half of a word.
+fn low(word: u64) -> u32
+    ensures { result ≡ word % 2 ^ 32 }
+{
+    (word % 4_294_967_296) as u32
+}
+
+/// The high half of a word.
+fn high(word: u64) -> u32
+    ensures { result ≡ word / 2 ^ 32 }
+{
+    (word / 4_294_967_296) as u32
+}
+
+/// The number of the entry that the walk left for this id.
+fn number(table: &Table, walk: &Walk, id: Id) -> u32
+    requires left { IsLeft table.now (left_trees table.now walk.now) walk.now }
+    requires known { IsKnown table.now id }
+    requires listed { is_listed (tree_at table.now id) (left_trees table.now walk.now) ≡ true }
+    requires few { length walk.now.left.items ≤ 262144 }
+    ensures value { result ≡ entry_number (left_trees table.now walk.now) (tree_at table.now id) }
+    ensures small { result < 262144 }
+{
+    let _ = table;
+    match walk.number(id) {
+        Some(number) => number as u32,
+        None => unreachable!(),
+    }
+}
+
+/// Adds the entry of an id.
+fn put_entry(out: &mut Vec<u8>, table: &Table, walk: &Walk, id: Id) -> Result<(), AllocError>
+    requires left { IsLeft table.now (left_trees table.now walk.now) walk.now }
+    requires known { IsKnown table.now id }
+    requires parts { HasParts (left_trees table.now walk.now) (tree_at table.now id) }
+    requires few { length walk.now.left.items ≤ 262144 }
+    ensures { OnOk result (out.new.items ≡ out.old.items ++ field_bytes (entry_fields (left_trees table.now walk.now) (tree_at table.now id))) }
+{
+    match table.node(id) {
+        Node::Var(n) => put(out, &[0, n]),
+        Node::Const(n) => put(out, &[1, n]),
+        Node::Lit(word) => put(out, &[2, low(word), high(word)]),
+        Node::Calc(n, a, b) => put(out, &[3, n, low(a), high(a), low(b), high(b)]),
+        Node::Fact(n, a, b) => put(out, &[4, n, low(a), high(a), low(b), high(b)]),
+        Node::Deny(n, a, b) => put(out, &[5, n, low(a), high(a), low(b), high(b)]),
+        Node::App(f, a) => {
+            let f = number(table, walk, f);
+            let a = number(table, walk, a);
+            put(out, &[6, f, a])
+        }
+        Node::Lam(b) => put(out, &[7, number(table, walk, b)]),
+        Node::Fam(_) | Node::TApp(_, _) | Node::Pi(_, _) => Ok(()),
+    }
+}
+
+/// Adds the entries, in the order of the walk.
+fn put_entries(out: &mut Vec<u8>, table: &Table, walk: &Walk) -> Result<(), AllocError>
+    requires left { IsLeft table.now (left_trees table.now walk.now) walk.now }
+    requires parts { HaveParts (left_trees table.now walk.now) (left_trees table.now walk.now) }
+    requires few { length walk.now.left.items ≤ 262144 }
+    ensures { OnOk result (out.new.items ≡ out.old.items ++ field_bytes (flat_map (entry_fields (left_trees table.now walk.now)) (left_trees table.now walk.now))) }
+{
+    for id in &walk.left {
+        put_entry(out, table, walk, *id)?;
+    }
+    Ok(())
+}
+
+/// Adds the invariants.
+fn put_invs(
+    out: &mut Vec<u8>,
+    table: &Table,
+    walk: &Walk,
+    invs: &[(u32, Id)],
+) -> Result<(), AllocError>
+    requires left { IsLeft table.now (left_trees table.now walk.now) walk.now }
+    requires known { AreKnown table.now invs.now None }
+    requires listed { AreListed (left_trees table.now walk.now) (map (λ inv. tree_at table.now inv.1) invs.now) }
+    requires few { length walk.now.left.items ≤ 262144 }
+    ensures { OnOk result (out.new.items ≡ out.old.items ++ field_bytes (flat_map (inv_fields (left_trees table.now walk.now)) (inv_trees table.now invs.now))) }
+{
+    for inv in invs {
+        let (index, id) = *inv;
+        put(out, &[index, number(table, walk, id)])?;
+    }
+    Ok(())
+}
+
+/// The field that names the proof.
+fn proof_number(table: &Table, walk: &Walk, proof: Option<Id>) -> u32
+    requires left { IsLeft table.now (left_trees table.now walk.now) walk.now }
+    requires known { IfSome proof (λ id. IsKnown table.now id) }
+    requires listed { IfSome proof (λ id. is_listed (tree_at table.now id) (left_trees table.now walk.now) ≡ true) }
+    requires few { length walk.now.left.items ≤ 262144 }
+    ensures { result ≡ proof_field (left_trees table.now walk.now) (option_map (λ id. tree_at table.now id) proof) }
+{
+    match proof {
+        None => 0,
+        Some(id) => 1 + number(table, walk, id),
+    }
+}
+
+/// Adds what stands behind the code.
+fn put_tail(out: &mut Vec<u8>, view: &View<'_>, walk: &Walk) -> Result<(), AllocError>
+    requires { IsReady view.now walk.now }
+    ensures { OnOk result (out.new.items ≡ out.old.items ++ field_bytes (tail_fields (left_trees view.now.table.now walk.now) (view_contents view.now))) }
+{
+    put(out, &[walk.left.len() as u32])?;
+    put_entries(out, view.table, walk)?;
+    put(out, &[view.invs.len() as u32])?;
+    put_invs(out, view.table, walk, view.invs)?;
+    put(out, &[proof_number(view.table, walk, view.proof)])
+}
+
+/// What their types say of a policy's number and of code.
+fn limits(policy: u32, code: &[u8])
+    ensures policy { policy < 2 ^ 32 }
+    ensures code { (i : ℕ) → slice_index code.now i < 256 }
+{
+    let _ = policy;
+    let _ = code;
+}
+
+/// The one spelling of the view's contents: the entries stand in the order of the walk from the
+/// invariants and then the proof, whatever other terms the table has. Fails only for want of memory.
+pub fn write(alloc: Global, view: &View<'_>) -> Result<Vec<u8>, AllocError>
+    requires { IsWritable view.now }
+    ensures spelled { IfOk result (λ v. Spells v.items (view_contents view.now)) }
+    ensures read_back { IfOk result (λ v. container_read v.items ≡ Ok (view_contents view.now)) }
+{
+    view.table.laws();
+    let policy = view.policy;
+    let code = view.code;
+    limits(policy, code);
+    let walk = walk_from(alloc, view.table, view.invs, view.proof)?;
+    let mut out = Vec::new(alloc);
+    put(&mut out, &[MAGIC, VERSION, policy, (code.len() / 4) as u32])?;
+    out.extend_from_slice(code)?;
+    put_tail(&mut out, view, &walk)?;
+    Ok(out)
+}
+
+/// How many fields the entries have that the walk left.
+fn entries_len(table: &Table, walk: &Walk) -> u64
+    requires { AllKnown table.now walk.now.left.items }
+    ensures { result ≡ min (sum_by entry_size (left_trees table.now walk.now)) (2 ^ 64 - 1) }
+{
+    let mut fields: u64 = 0;
+    for id in &walk.left {
+        fields = fields.saturating_add(size(table, &table.node(*id)) as u64);
+    }
+    fields
+}
+
+/// How many entries the view's container has, and how many bytes; past 18,446,744,073,709,551,615
+/// bytes it answers that. Fails only for want of memory.
+pub fn extent(alloc: Global, view: &View<'_>) -> Result<(u64, u64), AllocError>
+    requires { AreKnown view.now.table.now view.now.invs.now view.now.proof }
+    ensures entries { IfOk result (λ e. e.0 ≡ length (entries (roots (view_contents view.now)))) }
+    ensures bytes { IfOk result (λ e. e.1 ≡ min (length (spelling (view_contents view.now))) (2 ^ 64 - 1)) }
+{
+    let walk = walk_from(alloc, view.table, view.invs, view.proof)?;
+    let count = view.invs.len() as u64;
+    let fields = entries_len(view.table, &walk)
+        .saturating_add(7)
+        .saturating_add(2 * count);
+    let bytes = fields
+        .saturating_mul(4)
+        .saturating_add(view.code.len() as u64);
+    Ok((walk.left.len() as u64, bytes))
+}
