@@ -31,7 +31,6 @@ module _ (words : List (List ℕ)) (f g : FilesState) (s t : SinkState) (status 
   ends_from_parts due.Memory d u n p = nothing_printed d p.put p.puts p.after
   ends_from_parts due.Usage d u n p = decided_due _ (omega arith) d u n p
   ends_from_parts due.UnknownPolicy d u n p = decided_due _ (omega arith) d u n p
-  ends_from_parts due.NotBuilt d u n p = decided_due _ (omega arith) d u n p
   ends_from_parts (due.Refused refusal) d u n p = decided_due _ (omega arith) d u n p
   ends_from_parts due.PacketsTooLong d u n p = decided_due _ (omega arith) d u n p
   ends_from_parts (due.BadPackets fault) d u n p = decided_due _ (omega arith) d u n p

@@ -11,7 +11,8 @@ use Rattle.packet_store.specs.declared.fault.PacketFault.{PacketFault}
 use Rattle.packet_store.specs.PacketReading.{packets_read}
 use Rattle.packet_store.specs.Lines.{lines_from}
 use Rattle.pcc_words.specs.Words.{Words, ref, command_of}
-use Rattle.pcc_cli.specs.Container.{Plain, plain_of}
+use Rattle.proof_container.specs.Contents.{Contents}
+use Rattle.proof_container.specs.Reading.{Fault, container_read}
 use Rattle.pcc_cli.specs.Lines.{named_line, refusal_line, packets_line}
 use Rattle.pcc_cli.specs.declared.refusal.Refusal.TheVariants as refusal
 
@@ -43,9 +44,6 @@ refused text = record { status = 1; text = text }
 
 abbrev pub unknown_policy : Outcome
 unknown_policy = refused (codes "unknown policy\n")
-
-abbrev pub not_built : Outcome
-not_built = refused (codes "not built\n")
 
 abbrev pub packets_too_long : Outcome
 packets_too_long = refused (codes "packets TooLong\n")
@@ -87,17 +85,17 @@ unfoldable pub code_answer : Policy → List ℕ → ℕ → FileMap → Result 
 code_answer policy packets steps files (Ok code) = packets_answer policy code packets steps (map.get files packets)
 code_answer policy packets steps files (Err fault) = still (refused (refusal_line (refusal.BadCode fault)))
 
-unfoldable pub container_answer : Policy → List ℕ → ℕ → FileMap → Option Plain → Answer
-container_answer policy packets steps files None = still not_built
-container_answer policy packets steps files (Some plain) =
-    if plain.policy == number_of policy then code_answer policy packets steps files (code_read plain.code)
-    else still (refused (refusal_line (refusal.OtherPolicy plain.policy)))
+unfoldable pub container_answer : Policy → List ℕ → ℕ → FileMap → Result Contents Fault → Answer
+container_answer policy packets steps files (Ok c) =
+    if c.policy == number_of policy then code_answer policy packets steps files (code_read c.code)
+    else still (refused (refusal_line (refusal.OtherPolicy c.policy)))
+container_answer policy packets steps files (Err (offset, flaw)) = still (refused (refusal_line (refusal.Malformed offset flaw)))
 
 unfoldable pub file_answer : Policy → List ℕ → List ℕ → ℕ → FileMap → Option (List ℕ) → Answer
 file_answer policy file packets steps files None = still (missing file)
 file_answer policy file packets steps files (Some bytes) =
     if nat_lt max_file (length bytes) then still (refused (refusal_line refusal.TooLong))
-    else container_answer policy packets steps files (plain_of bytes)
+    else container_answer policy packets steps files (container_read bytes)
 
 unfoldable pub ref_answer : Option Policy → List ℕ → List ℕ → ℕ → FileMap → Answer
 ref_answer None file packets steps files = still unknown_policy

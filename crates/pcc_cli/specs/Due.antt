@@ -5,7 +5,7 @@ use Rattle.file_port.specs.Sink.{SinkState, Puts}
 use Rattle.file_port.specs.declared.Put.{Put}
 use Rattle.file_port.specs.declared.Put.TheVariants as put
 use Rattle.packet_store.specs.Lines.{lines_from}
-use Rattle.pcc_cli.specs.Answer.{Answer, Outcome, still, usage, refused, unknown_policy, not_built, packets_too_long, missing, read_fault, printed}
+use Rattle.pcc_cli.specs.Answer.{Answer, Outcome, still, usage, refused, unknown_policy, packets_too_long, missing, read_fault, printed}
 use Rattle.pcc_cli.specs.Lines.{refusal_line, packets_line}
 use Rattle.pcc_cli.specs.declared.due.Due.{Due}
 use Rattle.pcc_cli.specs.declared.due.Due.TheVariants as due
@@ -17,7 +17,6 @@ out_of_memory = record { status = 5; text = [] }
 abbrev pub outcome_of : Due → Outcome
 outcome_of due.Usage = usage
 outcome_of due.UnknownPolicy = unknown_policy
-outcome_of due.NotBuilt = not_built
 outcome_of (due.Refused refusal) = refused (refusal_line refusal)
 outcome_of due.PacketsTooLong = packets_too_long
 outcome_of (due.BadPackets fault) = refused (packets_line fault)

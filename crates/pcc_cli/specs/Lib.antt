@@ -1,5 +1,3 @@
-pub mod Container
-pub mod Views
 pub mod Lines
 pub mod Answer
 pub mod Due

@@ -7,6 +7,8 @@ use Rattle.alpha_cfg.specs.declared.fault.CodeFault.TheVariants as code
 use Rattle.packet_store.specs.declared.fault.PacketFault.{PacketFault}
 use Rattle.packet_store.specs.declared.fault.PacketFault.TheVariants as packet
 use Rattle.packet_store.specs.Lines.{hex_digits}
+use Rattle.proof_container.specs.declared.fault.Flaw.{Flaw}
+use Rattle.proof_container.specs.declared.fault.Flaw.TheVariants.{Cut, Magic, Version, Count, EntryKind, ForwardRef, DoubleEntry, Order, LambdaHead, InvOrder, Trailing}
 use Rattle.pcc_cli.specs.declared.refusal.Refusal.{Refusal}
 use Rattle.pcc_cli.specs.declared.refusal.Refusal.TheVariants as refusal
 
@@ -30,9 +32,27 @@ code_text (code.Target i) = decimal i ++ codes " Target"
 code_text (code.FallsOff i) = decimal i ++ codes " FallsOff"
 code_text code.Memory = codes ""
 
+abbrev pub flaw_name : Flaw → List ℕ
+flaw_name Cut = codes "Cut"
+flaw_name Magic = codes "Magic"
+flaw_name Version = codes "Version"
+flaw_name Count = codes "Count"
+flaw_name EntryKind = codes "EntryKind"
+flaw_name ForwardRef = codes "ForwardRef"
+flaw_name DoubleEntry = codes "DoubleEntry"
+flaw_name Order = codes "Order"
+flaw_name LambdaHead = codes "LambdaHead"
+flaw_name InvOrder = codes "InvOrder"
+flaw_name Trailing = codes "Trailing"
+
+-- where bytes are no container, and what is wrong there
+abbrev pub malformed_text : ℕ → Flaw → List ℕ
+malformed_text offset flaw = decimal offset ++ codes " " ++ flaw_name flaw
+
 -- why a container is refused
 abbrev pub refusal_text : Refusal → List ℕ
 refusal_text refusal.TooLong = codes "refused 1 TooLong"
+refusal_text (refusal.Malformed offset flaw) = codes "refused 2 Malformed " ++ malformed_text offset flaw
 refusal_text (refusal.OtherPolicy number) = codes "refused 3 OtherPolicy " ++ decimal number
 refusal_text (refusal.BadCode fault) = codes "refused 4 BadCode " ++ code_text fault
 

@@ -1,17 +1,15 @@
 //! Reads and refuses: what is due, by the words and the files.
 
-ghost use Rattle.std.specs.Prelude.{◌≡◌, ◌≢◌, ◌+◌, ◌%◌, ◌<◌, ◌≤◌, ◌∷◌, ◌⊎◌, [], None, Some, length, map, string_bytes};
+ghost use Rattle.std.specs.Prelude.{◌≡◌, ◌≢◌, ◌+◌, ◌*◌, ◌/◌, ◌<◌, ◌≤◌, ◌∷◌, ◌⊎◌, [], None, Ok, length, map, string_bytes};
 ghost use Rattle.std.specs.FinMap as finmap;
 ghost use Rattle.alpha_cfg.specs.CodeReading.{code_read};
 ghost use Rattle.policy_set.specs.Names.{named, number_of};
 ghost use Rattle.pcc_words.specs.Command.{words_of};
 ghost use Rattle.pcc_words.specs.Words.{command_of};
-ghost use Rattle.pcc_cli.specs.Container.{plain_of};
-ghost use Rattle.pcc_cli.specs.Views.{plain_view};
+ghost use Rattle.proof_container.specs.Views.{contents_of};
 ghost use Rattle.pcc_cli.specs.Answer.{answer, names_in, names_read, packets_answer, code_answer, container_answer, file_answer, ref_answer, words_answer};
 ghost use Rattle.pcc_cli.specs.Due.{Decides, outcome_of};
 
-use crate::container::{Plain, read_plain};
 use crate::due::{Due, Job};
 use crate::refusal::Refusal;
 use alpha_cfg::{Code, CodeFault};
@@ -19,6 +17,7 @@ use file_port::{Files, Got};
 use packet_store::PacketFile;
 use pcc_words::{Command, Packets, read_words};
 use policy_set::{Policy, by_name};
+use proof_container::{Container, Malformed, read};
 use reference_machine::Agent;
 use std::alloc::Global;
 
@@ -65,20 +64,20 @@ fn decide_packets<'a, F: Files>(
 fn decide_container<'a, F: Files>(
     alloc: Global,
     policy: Policy,
-    plain: Plain<'_>,
+    container: &Container<'_>,
     words: Packets<'a>,
     files: &mut F,
 ) -> Due<'a>
-    requires whole { length plain.code.now % 4 ≡ 0 }
-    requires some { 0 < length plain.code.now }
-    requires short { length plain.code.now ≤ 4096 }
-    ensures decides { Decides (words.entry.file.now ∷ words.entry.packets.now ∷ []) (λ m. container_answer policy words.entry.packets.now words.entry.steps m (Some (plain_view plain.entry))) (F.state files.old) (F.state files.new) result }
+    requires whole { 4 * (length container.now.code.now / 4) ≡ length container.now.code.now }
+    requires some { 0 < length container.now.code.now }
+    requires short { length container.now.code.now ≤ 4096 }
+    ensures decides { Decides (words.entry.file.now ∷ words.entry.packets.now ∷ []) (λ m. container_answer policy words.entry.packets.now words.entry.steps m (Ok (contents_of container.now))) (F.state files.old) (F.state files.new) result }
     ensures known { (outcome_of result).status ≢ 2 }
 {
-    if plain.policy != policy.number() {
-        return Due::Refused(Refusal::OtherPolicy(plain.policy));
+    if container.policy != policy.number() {
+        return Due::Refused(Refusal::OtherPolicy(container.policy));
     }
-    match Code::of(alloc, plain.code) {
+    match Code::of(alloc, container.code) {
         Ok(code) => decide_packets(alloc, policy, code, words, files),
         Err(CodeFault::Memory) => Due::Memory,
         Err(fault) => Due::Refused(Refusal::BadCode(fault)),
@@ -103,9 +102,10 @@ fn decide_file<'a, F: Files>(
         Got::Failed => return Due::ReadFault(words.file),
         Got::Memory => return Due::Memory,
     };
-    match read_plain(bytes.as_slice()) {
-        Some(plain) => decide_container(alloc, policy, plain, words, files),
-        None => Due::NotBuilt,
+    match read(alloc, bytes.as_slice()) {
+        Ok(container) => decide_container(alloc, policy, &container, words, files),
+        Err(Malformed::At(offset, flaw)) => Due::Refused(Refusal::Malformed(offset, flaw)),
+        Err(Malformed::Memory) => Due::Memory,
     }
 }
 

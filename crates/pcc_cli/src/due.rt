@@ -22,7 +22,6 @@ pub struct Job {
 pub enum Due<'a> {
     Usage,
     UnknownPolicy,
-    NotBuilt,
     Refused(Refusal),
     PacketsTooLong,
     BadPackets(PacketFault),

@@ -5,7 +5,6 @@
 //! of status and counts, sentence by sentence, in `specs/Accounts`.
 #![tactic(auto)]
 
-mod container;
 mod decide;
 mod due;
 mod line;

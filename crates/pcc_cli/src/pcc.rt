@@ -18,11 +18,7 @@ fn status_of(due: &Due<'_>) -> u8
 {
     match due {
         Due::Lines(_) => 0,
-        Due::UnknownPolicy
-        | Due::NotBuilt
-        | Due::Refused(_)
-        | Due::PacketsTooLong
-        | Due::BadPackets(_) => 1,
+        Due::UnknownPolicy | Due::Refused(_) | Due::PacketsTooLong | Due::BadPackets(_) => 1,
         Due::Usage => 2,
         Due::Missing(_) | Due::ReadFault(_) => 3,
         Due::Memory => 5,
@@ -35,7 +31,6 @@ fn print_due<S: Sink>(due: Due<'_>, out: &mut S) -> Put
     match due {
         Due::Usage => print_text("usage: pcc asm|prove|check|run|ref|demo\n", out),
         Due::UnknownPolicy => print_text("unknown policy\n", out),
-        Due::NotBuilt => print_text("not built\n", out),
         Due::Refused(refusal) => print_refusal(refusal, out),
         Due::PacketsTooLong => print_text("packets TooLong\n", out),
         Due::BadPackets(fault) => print_bad_packets(fault, out),

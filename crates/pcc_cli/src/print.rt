@@ -7,7 +7,7 @@ ghost use Rattle.file_port.specs.Sink.{Puts};
 ghost use Rattle.packet_store.specs.Lines.{line_of, lines_from, outcome_text, returned_text, kind_text, run_text, hex_digits};
 ghost use Rattle.packet_store.specs.Packets.{AreShort};
 ghost use Rattle.packet_store.specs.PolicyStarts.{start_of};
-ghost use Rattle.pcc_cli.specs.Lines.{named_line, refusal_line, refusal_text, packets_line, packets_text, bad_name, code_text};
+ghost use Rattle.pcc_cli.specs.Lines.{named_line, refusal_line, refusal_text, packets_line, packets_text, bad_name, code_text, flaw_name, malformed_text};
 
 use crate::due::Job;
 use crate::line::{Line, push_decimal, push_hex, push_text};
@@ -18,6 +18,7 @@ use arrayvec::ArrayVec;
 use file_port::{Put, Sink};
 use packet_store::{PacketFault, PacketIter, start};
 use policy_set::Policy;
+use proof_container::Flaw;
 use reference_machine::{Agent, Kind, Outcome};
 
 /// Code that is run under a policy with a budget of steps.
@@ -227,6 +228,38 @@ fn push_code_fault(line: &mut Line, fault: CodeFault)
     }
 }
 
+/// Adds what is wrong with bytes that are no container.
+fn push_flaw(line: &mut Line, flaw: Flaw)
+    requires { array_vec_len line.old + 11 ≤ 128 }
+    ensures items { line.new.items ≡ line.old.items ++ flaw_name flaw }
+    ensures len { array_vec_len line.new ≤ array_vec_len line.old + 11 }
+{
+    match flaw {
+        Flaw::Cut => push_text(line, "Cut"),
+        Flaw::Magic => push_text(line, "Magic"),
+        Flaw::Version => push_text(line, "Version"),
+        Flaw::Count => push_text(line, "Count"),
+        Flaw::EntryKind => push_text(line, "EntryKind"),
+        Flaw::ForwardRef => push_text(line, "ForwardRef"),
+        Flaw::DoubleEntry => push_text(line, "DoubleEntry"),
+        Flaw::Order => push_text(line, "Order"),
+        Flaw::LambdaHead => push_text(line, "LambdaHead"),
+        Flaw::InvOrder => push_text(line, "InvOrder"),
+        Flaw::Trailing => push_text(line, "Trailing"),
+    }
+}
+
+/// Adds where bytes are no container, and what is wrong there.
+fn push_malformed(line: &mut Line, offset: u64, flaw: Flaw)
+    requires { array_vec_len line.old + 32 ≤ 128 }
+    ensures items { line.new.items ≡ line.old.items ++ malformed_text offset flaw }
+    ensures len { array_vec_len line.new ≤ array_vec_len line.old + 32 }
+{
+    push_decimal(line, offset);
+    push_text(line, " ");
+    push_flaw(line, flaw);
+}
+
 /// Adds why a container is refused.
 fn push_refusal(line: &mut Line, refusal: Refusal)
     requires { array_vec_len line.old + 62 ≤ 128 }
@@ -235,6 +268,10 @@ fn push_refusal(line: &mut Line, refusal: Refusal)
 {
     match refusal {
         Refusal::TooLong => push_text(line, "refused 1 TooLong"),
+        Refusal::Malformed(offset, flaw) => {
+            push_text(line, "refused 2 Malformed ");
+            push_malformed(line, offset, flaw);
+        }
         Refusal::OtherPolicy(number) => {
             push_text(line, "refused 3 OtherPolicy ");
             push_decimal(line, u64::from(number));

@@ -9,6 +9,12 @@ const LDA: u32 = 0x201f_0001;
 
 const RETURN: u32 = 0x6bfa_8001;
 
+/// A container without terms, by its fields. Its filter returns 1.
+const ONE: [u32; 9] = [0x4143_4350, 1, 1, 2, LDA, RETURN, 0, 0, 0];
+
+/// A container of a loop, by its fields: the entry Const 13, and the invariant 13 at index 0.
+const LOOP: [u32; 12] = [0x4143_4350, 1, 1, 1, 0xc3ff_ffff, 1, 1, 13, 1, 0, 0, 0];
+
 /// What a row expects. The code is a filter's unless another policy is named.
 #[derive(Clone, Copy)]
 struct Row<'a> {
@@ -84,6 +90,42 @@ fn zeros(alloc: Global, count: u32) -> Result<Vec<u8>, AllocError> {
         bytes.push(0)?;
     }
     Ok(bytes)
+}
+
+/// The fields with another one at this offset, as bytes.
+fn with_field(
+    alloc: Global,
+    fields: &[u32],
+    offset: usize,
+    value: u32,
+) -> Result<Vec<u8>, AllocError> {
+    let mut bytes = Vec::new(alloc);
+    for (i, field) in fields.iter().enumerate() {
+        let there = if i == offset / 4 { value } else { *field };
+        bytes.extend_from_slice(&there.to_le_bytes())?;
+    }
+    Ok(bytes)
+}
+
+/// The first five fields of the loop, and other ones behind them, as bytes.
+fn with_tail(alloc: Global, tail: &[u32]) -> Result<Vec<u8>, AllocError> {
+    let mut bytes = Vec::new(alloc);
+    for field in LOOP.iter().take(5).chain(tail) {
+        bytes.extend_from_slice(&field.to_le_bytes())?;
+    }
+    Ok(bytes)
+}
+
+/// Whether `ref` of a filter on one packet of zeros ends so, where these are the container's bytes.
+fn ends_so(alloc: Global, bytes: Vec<u8>, status: u8, output: &str) -> Result<bool, AllocError> {
+    let mut files = Vec::new(alloc);
+    files.push(file(alloc, "C", bytes)?)?;
+    files.push(file(alloc, "P", zeros(alloc, 64)?)?)?;
+    let mut files = MemFiles::new(alloc, files, 0, Vec::new(alloc))?;
+    let mut out = MemSink::new(alloc, 200, Vec::new(alloc))?;
+    let words = words_of(alloc, "ref filter C P --steps 1000")?;
+    let ended = pcc(alloc, words, &mut files, &mut out);
+    Ok(ended == status && out.bytes() == output.as_bytes())
 }
 
 /// `ref` of a filter.
@@ -203,7 +245,7 @@ fn containers_are_refused(rt: HostRuntime) -> Result<(), Fail> {
         refused_row(&[0xe420_0001, RETURN], "refused 4 BadCode 0 Target\n"),
         refused_row(&[0x4021_0401], "refused 4 BadCode 0 FallsOff\n"),
         refused_row(&[LDA], "refused 4 BadCode 0 FallsOff\n"),
-        refused_row(&[], "not built\n"),
+        refused_row(&[], "refused 2 Malformed 12 Count\n"),
         Row {
             words: "ref tag C P",
             ..refused_row(&[LDA, RETURN], "refused 3 OtherPolicy 1\n")
@@ -315,7 +357,7 @@ fn files_at_their_limit(rt: HostRuntime) -> Result<(), Fail> {
     let a = rt.alloc();
     let rows = [
         ("C", 4_194_305, 1, "refused 1 TooLong\n"),
-        ("C", 4_194_304, 1, "not built\n"),
+        ("C", 4_194_304, 1, "refused 2 Malformed 0 Magic\n"),
         ("P", 4_194_305, 1, "packets TooLong\n"),
     ];
     for (name, count, status, output) in rows {
@@ -331,19 +373,95 @@ fn files_at_their_limit(rt: HostRuntime) -> Result<(), Fail> {
     Ok(())
 }
 
-/// A container without its last byte is none.
+/// The first bytes of a container are none, and the first field that isn't whole is named.
 #[test]
-fn a_cut_container(rt: HostRuntime) -> Result<(), Fail> {
+fn containers_cut_short(rt: HostRuntime) -> Result<(), Fail> {
     let a = rt.alloc();
-    let mut bytes = container(a, 1, &[LDA, RETURN])?;
-    bytes.pop();
-    let mut files = Vec::new(a);
-    files.push(file(a, "C", bytes)?)?;
-    let mut files = MemFiles::new(a, files, 0, Vec::new(a))?;
-    let mut out = MemSink::new(a, 200, Vec::new(a))?;
-    let words = words_of(a, "ref filter C P")?;
-    assert_eq!(rt; pcc(a, words, &mut files, &mut out), 1);
-    assert!(rt; out.bytes() == "not built\n".as_bytes());
+    let mut less = Vec::new(a);
+    for byte in with_field(a, &LOOP, 0, LOOP[0])? {
+        let offset = less.len() / 4 * 4;
+        let output = format!(in a; "refused 2 Malformed {offset} Cut\n")?;
+        assert!(rt; ends_so(a, less.clone()?, 1, output.as_str())?, "{offset}");
+        less.push(byte)?;
+    }
+    assert!(rt; ends_so(a, less, 0, "0: out of steps\n")?);
+    Ok(())
+}
+
+/// A container with a byte less and a byte more.
+#[test]
+fn a_byte_off(rt: HostRuntime) -> Result<(), Fail> {
+    let a = rt.alloc();
+    let mut less = container(a, 1, &[LDA, RETURN])?;
+    less.pop();
+    assert!(rt; ends_so(a, less, 1, "refused 2 Malformed 32 Cut\n")?);
+    let mut more = container(a, 1, &[LDA, RETURN])?;
+    more.push(0)?;
+    assert!(rt; ends_so(a, more, 1, "refused 2 Malformed 36 Trailing\n")?);
+    Ok(())
+}
+
+#[test]
+fn one_field_changed(rt: HostRuntime) -> Result<(), Fail> {
+    let a = rt.alloc();
+    let of_one = [
+        (4, 9, "refused 2 Malformed 4 Version\n"),
+        (12, 0, "refused 2 Malformed 12 Count\n"),
+    ];
+    for (offset, value, output) in of_one {
+        let bytes = with_field(a, &ONE, offset, value)?;
+        assert!(rt; ends_so(a, bytes, 1, output)?, "{output}");
+    }
+    let of_loop = [
+        (0, 0, "refused 2 Malformed 0 Magic\n"),
+        (8, 2, "refused 3 OtherPolicy 2\n"),
+        (12, 1025, "refused 2 Malformed 12 Count\n"),
+        (16, 0, "refused 4 BadCode 0 Opcode 00000000\n"),
+        (20, 262_145, "refused 2 Malformed 20 Count\n"),
+        (24, 8, "refused 2 Malformed 24 EntryKind\n"),
+        (24, 7, "refused 2 Malformed 28 ForwardRef\n"),
+        (32, 257, "refused 2 Malformed 32 Count\n"),
+        (36, 1, "refused 2 Malformed 36 InvOrder\n"),
+        (40, 1, "refused 2 Malformed 40 ForwardRef\n"),
+        (44, 2, "refused 2 Malformed 44 ForwardRef\n"),
+    ];
+    for (offset, value, output) in of_loop {
+        let bytes = with_field(a, &LOOP, offset, value)?;
+        assert!(rt; ends_so(a, bytes, 1, output)?, "{output}");
+    }
+    Ok(())
+}
+
+/// Containers of the loop that have other entries, invariants and proofs.
+#[test]
+fn other_terms(rt: HostRuntime) -> Result<(), Fail> {
+    let a = rt.alloc();
+    let loops: [&[u32]; 3] = [&[0, 0, 0], &[1, 1, 13, 1, 0, 0, 0], &[1, 1, 88, 1, 0, 0, 1]];
+    for tail in loops {
+        assert!(rt; ends_so(a, with_tail(a, tail)?, 0, "0: out of steps\n")?);
+    }
+    let rows: [(&[u32], &str); 5] = [
+        (&[1, 1, 13, 0, 0], "refused 2 Malformed 24 Order\n"),
+        (
+            &[2, 1, 13, 1, 14, 1, 0, 1, 0],
+            "refused 2 Malformed 24 Order\n",
+        ),
+        (
+            &[2, 1, 13, 1, 13, 1, 0, 0, 0],
+            "refused 2 Malformed 32 DoubleEntry\n",
+        ),
+        (
+            &[3, 1, 13, 7, 0, 6, 1, 0, 1, 0, 2, 0],
+            "refused 2 Malformed 44 LambdaHead\n",
+        ),
+        (
+            &[1, 1, 13, 1, 0, 0, 0, 0],
+            "refused 2 Malformed 48 Trailing\n",
+        ),
+    ];
+    for (tail, output) in rows {
+        assert!(rt; ends_so(a, with_tail(a, tail)?, 1, output)?, "{output}");
+    }
     Ok(())
 }
 

@@ -1,7 +1,15 @@
 use Rattle.std.proofs.Common.{◌++◌, ap, sym, ◌∙◌, append_assoc, decimal, codes}
 use Rattle.pcc_cli.specs.declared.refusal.Refusal.{Refusal}
-use Rattle.pcc_cli.specs.Lines.{refusal_text, code_text}
+use Rattle.pcc_cli.specs.Lines.{refusal_text, malformed_text, code_text}
 use Rattle.pcc_cli.proofs.print.push_refusal.Goals as goal
+
+pub returns-in-Malformed-clause-items : goal.returns-in-Malformed-clause-items
+returns-in-Malformed-clause-items c =
+    let old = c.args.line.now.items in
+    c.push_malformed.ensures.items
+    ∙ ap (λ x. x ++ malformed_text c.in-Malformed.offset c.in-Malformed.flaw) c.push_text-in-Malformed.ensures.items
+    ∙ append_assoc old (codes "refused 2 Malformed ") (malformed_text c.in-Malformed.offset c.in-Malformed.flaw)
+    ∙ ap (λ (r : Refusal). old ++ refusal_text r) (sym c.in-Malformed.is)
 
 pub returns-in-OtherPolicy-clause-items : goal.returns-in-OtherPolicy-clause-items
 returns-in-OtherPolicy-clause-items c =
