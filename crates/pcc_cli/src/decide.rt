@@ -1,9 +1,8 @@
 //! Reads and refuses: what is due, by the words and the files.
 
-ghost use Rattle.std.specs.Prelude.{◌≡◌, ◌≢◌, ◌+◌, ◌*◌, ◌/◌, ◌<◌, ◌≤◌, ◌∷◌, ◌⊎◌, [], None, Ok, length, map, string_bytes};
+ghost use Rattle.std.specs.Prelude.{◌≡◌, ◌≢◌, ◌*◌, ◌/◌, ◌<◌, ◌≤◌, ◌∷◌, ◌⊎◌, [], None, Ok, length, map, string_bytes};
 ghost use Rattle.std.specs.FinMap as finmap;
-ghost use Rattle.alpha_cfg.specs.CodeReading.{code_read};
-ghost use Rattle.policy_set.specs.Names.{named, number_of};
+ghost use Rattle.policy_set.specs.Names.{named};
 ghost use Rattle.pcc_words.specs.Command.{words_of};
 ghost use Rattle.pcc_words.specs.Words.{command_of};
 ghost use Rattle.proof_container.specs.Views.{contents_of};

@@ -1,7 +1,6 @@
 //! Containers, and views of them.
 
-ghost use Rattle.std.specs.Prelude.{◌≡◌};
-ghost use Rattle.proof_container.specs.Views.{contents_of, view_contents, AreKnown, Shows};
+ghost use Rattle.proof_container.specs.Views.{Shows};
 
 use term_table::{Id, Table};
 

@@ -4,7 +4,6 @@ ghost use Rattle.std.specs.Prelude.{◌≡◌, [], ◌+◌, ◌*◌, ◌<◌, �
 ghost use Rattle.std.specs.List.{AllByRecursion};
 ghost use Rattle.std.specs.Option.{option_map};
 ghost use Rattle.term_table.specs.Table.{IsKnown, AllKnown, tree_at};
-ghost use Rattle.proof_container.specs.Contents.{roots};
 ghost use Rattle.proof_container.specs.Spelling.{Spells};
 ghost use Rattle.proof_container.specs.Reading.{head_read, inv_at, invs_at, invs_read, proof_read, first_misplaced, entry_offset, end_read, container_read};
 ghost use Rattle.proof_container.specs.Walked.{IsPlaced};

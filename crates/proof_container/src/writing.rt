@@ -1,12 +1,12 @@
 //! Writing a container, and how long it will be.
 
-ghost use Rattle.std.specs.Prelude.{◌≡◌, ℕ, ◌-◌, sum_by, slice_index, ◌+◌, ◌*◌, ◌<◌, ◌≤◌, ◌^◌, ◌++◌, ◌∷◌, [], ◌%◌, ◌/◌, min, length, map, take, true, None, Ok, IfOk, IfSome, OnOk};
+ghost use Rattle.std.specs.Prelude.{◌≡◌, ℕ, ◌-◌, sum_by, slice_index, ◌+◌, ◌*◌, ◌<◌, ◌≤◌, ◌^◌, ◌++◌, ◌%◌, ◌/◌, min, length, map, true, None, Ok, IfOk, IfSome, OnOk};
 ghost use Rattle.std.specs.List.{flat_map};
 ghost use Rattle.std.specs.Option.{option_map};
 ghost use Rattle.term_table.specs.Table.{IsKnown, AllKnown, tree_at};
 ghost use Rattle.proof_container.specs.Contents.{roots};
 ghost use Rattle.proof_container.specs.Walks.{entries, is_listed, HasParts, AreListed};
-ghost use Rattle.proof_container.specs.Spelling.{field_bytes, word_fields, entry_number, entry_fields, inv_fields, proof_field, tail_fields, spelling, Spells};
+ghost use Rattle.proof_container.specs.Spelling.{field_bytes, entry_number, entry_fields, inv_fields, proof_field, tail_fields, spelling, Spells};
 ghost use Rattle.proof_container.specs.Reading.{entry_size, container_read};
 ghost use Rattle.proof_container.specs.Walked.{IsLeft, IsReady, HaveParts, left_trees};
 ghost use Rattle.proof_container.specs.Views.{AreKnown, IsWritable, inv_trees, view_contents};
