@@ -1,6 +1,7 @@
 -- In which order a signature declares its constants, and what each declared type has to be.
-use Rattle.std.specs.Prelude.{◌≡◌, ℕ, suc, Bool, true, ◌&&◌, ◌||◌, ◌==◌, nat_lt, if◌then◌else◌, Option, Some, None, []}
-use Rattle.term_table.specs.Tree.{Tree, Var, Con, App, Lam, Fam, TApp, Pi, Const, Num, Lit, Calc, Fact, Deny}
+use Rattle.std.specs.Prelude.{◌≡◌, ℕ, Bool, true, ◌&&◌, ◌||◌, ◌==◌, nat_lt, if◌then◌else◌, Option, Some, None, []}
+use Rattle.term_table.specs.Tree.{Tree, Const, Num, Lit, Calc, Fact, Deny}
+pub use Rattle.term_table.specs.Scope.{is_over}
 use Rattle.lf_signature.specs.Typing.{IsType}
 
 -- literals come first, then the numbered constants, then evaluations, truths and falsities
@@ -26,16 +27,6 @@ is_before c d = nat_lt (stage c) (stage d) || (stage c == stage d && nat_lt (pla
 -- the signature's part before c
 abbrev pub before : Const → (Const → Option Tree) → Const → Option Tree
 before c sig d = if is_before d c then sig d else None
-
--- whether each variable is bound, or among the n next outside
-abbrev pub is_over : ℕ → Tree → Bool
-is_over n (Var k) = nat_lt k n
-is_over n (Con c) = true
-is_over n (App f a) = is_over n f && is_over n a
-is_over n (Lam b) = is_over (suc n) b
-is_over n (Fam a) = true
-is_over n (TApp p a) = is_over n p && is_over n a
-is_over n (Pi a b) = is_over n a && is_over (suc n) b
 
 -- a type that a signature may declare for c: closed, and well formed over the constants before c
 pub record IsDeclarable (sig : Const → Option Tree) (c : Const) (a : Tree) : Type 0 where

@@ -8,7 +8,7 @@ use Rattle.term_table.specs.declared.Node.{Node}
 use Rattle.term_table.specs.declared.Node.TheVariants as N
 use Rattle.term_table.specs.declared.Entry.{Entry}
 use Rattle.term_table.specs.Table.{Terms, IsKnown, tree_in, tree_at, node_tree_in, node_tree, PartsBelow, AreDifferent, IsSmall, AreSmall, with_tree, Adds, Extends}
-use Rattle.term_table.specs.Entries.{IsSmallNode, grow, trees, IsMeasured, AreEntries}
+use Rattle.term_table.specs.Inside.Entries.{IsSmallNode, grow, trees, IsMeasured, AreEntries}
 
 -- the tree of a node hangs on the trees of its parts alone
 pub node_tree-same : (n : Node) (k : ℕ) (a b : List Tree) → PartsBelow k n → ((i : ℕ) → i < k → tree_in a i ≡ tree_in b i) → node_tree_in a n ≡ node_tree_in b n
@@ -161,7 +161,7 @@ small_below es d law (suc k) h i g = go (last_or i k (suc k) (omega arith) g) (s
         rw (tree_is es d i law l) (small_node (get_or es i d).node i (trees es) (law.small i d l) (law.parts i d l) (λ j r. lower j (omega arith)))
 
 pub small_trees : {places : List ℕ} {index : Node → Option ℕ} (es : List Entry) → AreEntries places es index → AreSmall (trees es)
-small_trees es law i h = small_below es (record { node = N.Var 0; height = 0; weight = 0; left = 0 }) law (length es) (omega arith) i (omega (arith, length-trees es))
+small_trees es law i h = small_below es (record { node = N.Var 0; height = 0; weight = 0; left = 0; reach = 0 }) law (length es) (omega arith) i (omega (arith, length-trees es))
 
 -- what holds of each element and its place, with one element more
 each-push : {A : Type 0} (P : ℕ → A → Type 0) (xs : List A) (x d : A) → ((i : ℕ) → i < length xs → P i (get_or xs i d)) → P (length xs) x → (i : ℕ) → i < length (xs ++ x ∷ []) → P i (get_or (xs ++ x ∷ []) i d)

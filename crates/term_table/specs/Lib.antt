@@ -2,6 +2,6 @@ pub mod Tree
 pub mod Equality
 pub mod Subst
 pub mod Measures
-pub mod Code
+pub mod Scope
+pub mod Inside
 pub mod Table
-pub mod Entries

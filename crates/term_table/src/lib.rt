@@ -8,22 +8,24 @@
 //! for Defining Logics, JACM 1993, in its canonical presentation.
 #![tactic(auto)]
 
-mod known;
 #[cfg(test)]
 mod tests;
+mod theorems;
 
-ghost use Rattle.std.specs.Prelude.{◌≡◌, ℕ, List, Option, ◌<◌, ◌≤◌, ◌+◌, ◌^◌, ◌↔◌, length, [], get_or, max, ◌-◌, if◌then◌else◌, nat_lt, IfOk, OnErr, IsTrue};
+ghost use Rattle.std.specs.Prelude.{◌≡◌, ℕ, List, Option, ◌<◌, ◌≤◌, ◌+◌, ◌^◌, ◌↔◌, length, [], get_or, max, ◌-◌, if◌then◌else◌, nat_lt, ◌&&◌, not, IfOk, OnErr, IsTrue};
 ghost use Rattle.term_table.specs.Measures.{sigma1_places, height_of, weight_of, capped};
 ghost use Rattle.term_table.specs.Table.{counts_of, IsKnown, tree_at, node_tree, node_tree_in, PartsBelow, PartsKnown, AreDifferent, AreSmall, Adds, Extends};
-ghost use Rattle.term_table.specs.Entries.{trees, IsSmallNode, IsMeasured, AreMeasured};
+ghost use Rattle.term_table.specs.Inside.Entries.{trees, IsSmallNode, IsMeasured, AreMeasured};
+ghost use Rattle.term_table.specs.Scope.{HasReach};
+ghost use Rattle.term_table.specs.Inside.Reach.{is_atomic_node, is_term_node, reach_outside};
 
-pub use known::substitution_laws;
 use std::alloc::{AllocError, Global};
-use std::collections::HashMap;
+use std::collections::BTreeMap;
 use std::marker::Model;
+pub use theorems::{shift_laws, substitution_laws};
 
 /// The place of a tree in its table. Contracts see it as a number.
-#[derive(Clone, Copy, PartialEq, Eq, Hash, Debug)]
+#[derive(Clone, Copy, PartialEq, Eq, PartialOrd, Ord, Hash, Debug)]
 pub struct Id(u64);
 
 impl Model for Id {
@@ -46,7 +48,7 @@ impl Id {
 }
 
 /// A tree whose parts are ids of the table.
-#[derive(Clone, Copy, PartialEq, Eq, Hash, Debug)]
+#[derive(Clone, Copy, PartialEq, Eq, PartialOrd, Ord, Hash, Debug)]
 pub enum Node {
     /// A variable; 0 is the nearest binder.
     Var(u32),
@@ -119,22 +121,71 @@ struct Entry {
     height: u32,
     weight: u32,
     left: u32,
+    // the variables are bound, or among so many next outside; u32::MAX says nothing
+    reach: u32,
 }
 
 // A tree without parts.
-fn leaf(node: Node, left: u32) -> Entry
-    ensures { result ≡ record { node = node; height = 1; weight = 1; left = left } }
+fn leaf(node: Node, left: u32, reach: u32) -> Entry
+    ensures { result ≡ record { node = node; height = 1; weight = 1; left = left; reach = reach } }
 {
     Entry {
         node,
         height: 1,
         weight: 1,
         left,
+        reach,
     }
 }
 
+// Whether the node is a variable, a constant or an application.
+fn is_atomic(node: Node) -> bool
+    ensures { result ≡ is_atomic_node node }
+{
+    match node {
+        Node::Lam(_) | Node::Fam(_) | Node::TApp(_, _) | Node::Pi(_, _) => false,
+        _ => true,
+    }
+}
+
+// Whether the node is a term's.
+fn is_term(node: Node) -> bool
+    ensures { result ≡ is_term_node node }
+{
+    match node {
+        Node::Fam(_) | Node::TApp(_, _) | Node::Pi(_, _) => false,
+        _ => true,
+    }
+}
+
+// The reach of a body, one binder further out.
+fn outside(reach: u32) -> u32
+    ensures { result ≡ reach_outside reach }
+{
+    if reach == u32::MAX {
+        u32::MAX
+    } else {
+        reach.saturating_sub(1)
+    }
+}
+
+// The reach of two parts, where they may stand together.
+fn joined(first: bool, second: bool, a: u32, b: u32) -> u32
+    ensures { result ≡ (if first && second then max a b else 4294967295) }
+{
+    if first && second { a.max(b) } else { u32::MAX }
+}
+
+// The reach of a term under a binder.
+fn under(term: bool, reach: u32) -> u32
+    ensures { result ≡ (if term then reach_outside reach else 4294967295) }
+{
+    if term { outside(reach) } else { u32::MAX }
+}
+
 // A tree of two parts that weighs them and 1 more.
-fn pair(node: Node, a: Entry, b: Entry) -> Entry
+fn pair(node: Node, a: Entry, b: Entry, reach: u32) -> Entry
+    ensures reach { result.reach ≡ reach }
     ensures node { result.node ≡ node }
     ensures height { result.height ≡ capped (1 + max a.height b.height) }
     ensures weight { result.weight ≡ capped (1 + (a.weight + b.weight)) }
@@ -145,6 +196,7 @@ fn pair(node: Node, a: Entry, b: Entry) -> Entry
         height: a.height.max(b.height).saturating_add(1),
         weight: a.weight.saturating_add(b.weight).saturating_add(1),
         left: 0,
+        reach,
     }
 }
 
@@ -154,6 +206,7 @@ fn applied(node: Node, f: Entry, a: Entry) -> Entry
     ensures height { result.height ≡ capped (1 + max f.height a.height) }
     ensures weight { result.weight ≡ capped (f.weight + (if nat_lt 0 f.left then 1 else a.weight)) }
     ensures left { result.left ≡ f.left - 1 }
+    ensures reach { result.reach ≡ (if is_atomic_node f.node && is_term_node a.node then max f.reach a.reach else 4294967295) }
 {
     let counted = if f.left > 0 { 1 } else { a.weight };
     Entry {
@@ -161,6 +214,24 @@ fn applied(node: Node, f: Entry, a: Entry) -> Entry
         height: f.height.max(a.height).saturating_add(1),
         weight: f.weight.saturating_add(counted),
         left: f.left.saturating_sub(1),
+        reach: joined(is_atomic(f.node), is_term(a.node), f.reach, a.reach),
+    }
+}
+
+// A term under a binder.
+fn abstracted(node: Node, b: Entry) -> Entry
+    ensures node { result.node ≡ node }
+    ensures height { result.height ≡ capped (1 + b.height) }
+    ensures weight { result.weight ≡ capped (1 + b.weight) }
+    ensures left { result.left ≡ 0 }
+    ensures reach { result.reach ≡ (if is_term_node b.node then reach_outside b.reach else 4294967295) }
+{
+    Entry {
+        node,
+        height: b.height.saturating_add(1),
+        weight: b.weight.saturating_add(1),
+        left: 0,
+        reach: under(is_term(b.node), b.reach),
     }
 }
 
@@ -172,21 +243,36 @@ fn entry_of(entries: &[Entry], places: Places, node: Node) -> Entry
     ensures measured { IsMeasured (counts_of places) (node_tree_in (trees entries.now) node) result }
 {
     match node {
-        Node::Const(n) => leaf(node, places.count(n)),
+        Node::Var(n) => leaf(node, 0, n.saturating_add(1)),
+        Node::Const(n) => leaf(node, places.count(n), 0),
         Node::App(f, a) => applied(node, entries[f.0 as usize], entries[a.0 as usize]),
         Node::Lam(b) => {
             let body = entries[b.0 as usize];
-            Entry {
-                node,
-                height: body.height.saturating_add(1),
-                weight: body.weight.saturating_add(1),
-                left: 0,
-            }
+            abstracted(node, body)
         }
-        Node::TApp(a, b) | Node::Pi(a, b) => {
-            pair(node, entries[a.0 as usize], entries[b.0 as usize])
+        Node::TApp(p, a) => {
+            let family = entries[p.0 as usize];
+            let argument = entries[a.0 as usize];
+            let reach = joined(
+                !is_term(family.node),
+                is_term(argument.node),
+                family.reach,
+                argument.reach,
+            );
+            pair(node, family, argument, reach)
         }
-        _ => leaf(node, 0),
+        Node::Pi(a, b) => {
+            let from = entries[a.0 as usize];
+            let to = entries[b.0 as usize];
+            let reach = joined(
+                !is_term(from.node),
+                !is_term(to.node),
+                from.reach,
+                outside(to.reach),
+            );
+            pair(node, from, to, reach)
+        }
+        _ => leaf(node, 0, 0),
     }
 }
 
@@ -207,23 +293,23 @@ pub struct Table {
     places: Places,
     entries: Vec<Entry>,
     // each node's id
-    index: HashMap<Node, Id>,
+    index: BTreeMap<Node, Id>,
 }
 
 impl Model for Table {
-    ghost use Rattle.std.specs.HashMap.{get};
+    ghost use Rattle.std.specs.BTreeMap.{get};
     ghost use Rattle.term_table.specs.Table.{Terms, terms_code, counts_of};
 
     ghost Value = { Terms };
 
     ghost coded = { terms_code };
 
-    ghost use Rattle.term_table.specs.contracts.NodePartialEq.TheImpl as node_block;
-    ghost use Rattle.term_table.specs.Entries.{trees, AreEntries};
+    ghost use Rattle.term_table.specs.contracts.NodeOrd.TheImpl as node_block;
+    ghost use Rattle.term_table.specs.Inside.Entries.{trees, AreEntries};
 
     ghost view = { λ t. record { trees = trees t.entries.items; places = counts_of t.places } };
 
-    ghost invariant = { λ t. AreEntries (counts_of t.places) t.entries.items (λ n. get node_block.ghosts.eq t.index n) };
+    ghost invariant = { λ t. AreEntries (counts_of t.places) t.entries.items (λ n. get node_block.ghosts.cmp t.index n) };
 }
 
 impl Table {
@@ -234,7 +320,7 @@ impl Table {
         Table {
             places,
             entries: Vec::new(alloc),
-            index: HashMap::new(alloc),
+            index: BTreeMap::new(alloc),
         }
     }
 
@@ -274,6 +360,15 @@ impl Table {
         ensures { result ≡ capped (weight_of self.now.places (tree_at self.now id)) }
     {
         self.entry(id).weight
+    }
+
+    /// How far a tree's variables reach: below 4,294,967,295 the tree is a canonical term or a type,
+    /// and each of its variables is bound, or among so many next outside.
+    pub fn reach(&self, id: Id) -> u32
+        requires { IsKnown self.now id }
+        ensures { HasReach result (tree_at self.now id) }
+    {
+        self.entry(id).reach
     }
 
     /// How many trees the table has.
@@ -329,9 +424,9 @@ impl Table {
         numbers(node);
         let entry = entry_of(self.entries.as_slice(), self.places, node);
         let id = Id(self.entries.len() as u64);
-        self.index.reserve(1)?;
-        self.entries.push(entry)?;
+        self.entries.reserve(1)?;
         self.index.insert(node, id)?;
+        self.entries.push(entry)?;
         Ok(id)
     }
 }

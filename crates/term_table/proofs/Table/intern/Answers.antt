@@ -1,17 +1,27 @@
 use Rattle.std.proofs.Common.{rules, ◌≡◌, ℕ, ◌++◌, ◌∷◌, [], length, refl, sym, ◌∙◌, ap, subst, arith, Some, None, cond}
 use Rattle.std.specs.Bool.{Decides}
-use Rattle.std.specs.HashMap.{get}
+use Rattle.std.specs.BTreeMap.{get, is_at}
+use Rattle.std.specs.Map.{lookup}
+use Rattle.std.specs.Ordering.{eq_by_cmp}
 use Rattle.term_table.specs.Tree.{Tree}
 use Rattle.term_table.specs.declared.Node.{Node}
 use Rattle.term_table.specs.declared.Entry.{Entry}
-use Rattle.term_table.specs.contracts.NodePartialEq.TheImpl as block
+use Rattle.term_table.specs.contracts.NodeOrd.TheImpl as block
+use Rattle.term_table.specs.contracts.NodePartialEq.TheImpl as equality
 use Rattle.term_table.specs.Table.{Terms, counts_of, IsKnown, tree_at, tree_in, node_tree_in, node_tree, PartsBelow, Adds}
-use Rattle.term_table.specs.Entries.{trees, IsMeasured}
+use Rattle.term_table.specs.Inside.Entries.{trees, IsMeasured}
 use Rattle.term_table.proofs.Trees.{tree_is, length-trees, entries-push, entries-same, with_entry, is_new, IsNew}
 use Rattle.term_table.proofs.Table.intern.Goals as goal
 
-decides : (a b : Node) → Decides (block.ghosts.eq a b) (a ≡ b)
-decides a b = search rules
+decides_eq : (a b : Node) → Decides (equality.ghosts.eq a b) (a ≡ b)
+decides_eq a b = search rules
+
+agrees : (a b : Node) → equality.ghosts.eq a b ≡ eq_by_cmp block.ghosts.cmp a b
+agrees a b = search rules
+
+-- the order tells nodes apart
+decides : (a b : Node) → Decides (eq_by_cmp block.ghosts.cmp a b) (a ≡ b)
+decides a b = subst (λ z. Decides z (a ≡ b)) (agrees a b) (decides_eq a b)
 
 is_old : (t : Terms) (tree : Tree) (id : ℕ) → IsKnown t id → Adds t t tree id
 is_old t tree id h = record { old = λ k. refl; fresh = λ k. absurd (k h) }
@@ -22,8 +32,8 @@ count_is t u e = ap (λ (z : Terms). length z.trees) e
 known : (c : goal.In-Some) → IsKnown c.args.self.now c.in-Some.id × (tree_at c.args.self.now c.in-Some.id ≡ node_tree c.args.self.now c.args.node)
 known c =
     let items = c.self.inside.entries.items in
-    let d : Entry = record { node = c.args.node; height = 0; weight = 0; left = 0 } in
-    let is : get block.ghosts.eq c.self.inside.index c.args.node ≡ Some c.in-Some.id = sym c.get.ensures.value ∙ sym c.copied.ensures ∙ c.in-Some.is in
+    let d : Entry = record { node = c.args.node; height = 0; weight = 0; left = 0; reach = 0 } in
+    let is : get block.ghosts.cmp c.self.inside.index c.args.node ≡ Some c.in-Some.id = sym c.get.ensures.value ∙ sym c.copied.ensures ∙ c.in-Some.is in
     let found = c.self.invariant.found c.args.node c.in-Some.id d is in
     let tree : tree_in (trees items) c.in-Some.id ≡ node_tree_in (trees items) c.args.node =
     tree_is items d c.in-Some.id c.self.invariant found.0 ∙ ap (node_tree_in (trees items)) found.1
@@ -40,34 +50,33 @@ entry_of-entry-requires-clause-parts c =
     subst (λ k. PartsBelow k c.args.node) (ap (λ (t : Terms). length t.trees) (sym c.self.view_is) ∙ length-trees c.self.inside.entries.items ∙ ap length (sym c.as_slice.ensures.value)) c.requires
 
 pub invariant_of-self : goal.invariant_of-self
-invariant_of-self c =
-    entries-same (counts_of c.self.inside.places) c.self.inside.entries.items (get block.ghosts.eq c.self.inside.index) _ c.self.invariant c.reserve.ensures.entries.2
+invariant_of-self c = rw c.reserve.ensures.items c.self.invariant
 
-pub invariant_of-self-in_err-push : goal.invariant_of-self-in_err-push
-invariant_of-self-in_err-push c =
-    let items : c.push.new.self.items ≡ c.self.inside.entries.items = search rules in
-    rw items (entries-same (counts_of c.self.inside.places) c.self.inside.entries.items (get block.ghosts.eq c.self.inside.index) _ c.self.invariant c.reserve.ensures.entries.2)
+pub invariant_of-self-in_err-insert : goal.invariant_of-self-in_err-insert
+invariant_of-self-in_err-insert c =
+    rw c.reserve.ensures.items
+    (entries-same (counts_of c.self.inside.places) c.self.inside.entries.items (get block.ghosts.cmp c.self.inside.index) _ c.self.invariant
+    (λ q. ap (lookup (is_at (block.ghosts.cmp q))) c.in_err-insert.ensures.err))
 
 pub invariant_of-self-2 : goal.invariant_of-self-2
 invariant_of-self-2 c =
     let items = c.self.inside.entries.items in
     let e = c.entry_of-entry.result in
-    let eq = block.ghosts.eq in
+    let cmp = block.ghosts.cmp in
     let more : c.push.new.self.items ≡ items ++ e ∷ [] = search rules in
     let n : c.len.result ≡ length items = search rules in
     let node : e.node ≡ c.args.node = c.entry_of-entry.ensures.node in
-    let none : get eq c.self.inside.index c.args.node ≡ None = sym c.get.ensures.value ∙ sym c.copied.ensures ∙ c.in_default.is in
+    let none : get cmp c.self.inside.index c.args.node ≡ None = sym c.get.ensures.value ∙ sym c.copied.ensures ∙ c.in_default.is in
     let parts : PartsBelow (length items) c.args.node =
     subst (λ k. PartsBelow k c.args.node) (ap (λ (t : Terms). length t.trees) (sym c.self.view_is) ∙ length-trees items) c.requires
     in
     let measured : IsMeasured (counts_of c.self.inside.places) (node_tree_in (trees items) c.args.node) e = rw c.as_slice.ensures.value at c.entry_of-entry.ensures.measured in
-    let put : (q : Node) → get eq c.insert.new.self q ≡ cond (eq c.args.node q) (Some c.len.result) (get eq c.reserve.new.self q) = c.in_ok-insert.ensures.updates.0 in
-    let kept : (q : Node) → get eq c.reserve.new.self q ≡ get eq c.self.inside.index q = c.reserve.ensures.entries.2 in
-    rw more (entries-push (counts_of c.self.inside.places) items e eq (get eq c.self.inside.index) _ decides c.self.invariant (rw node parts) (rw node c.numbers.ensures) (rw node none)
+    let put : (q : Node) → get cmp c.insert.new.self q ≡ cond (eq_by_cmp cmp c.args.node q) (Some c.len.result) (get cmp c.self.inside.index q) = c.in_ok-insert.ensures.updates.0 in
+    rw more (entries-push (counts_of c.self.inside.places) items e (eq_by_cmp cmp) (get cmp c.self.inside.index) _ decides c.self.invariant (rw node parts) (rw node c.numbers.ensures) (rw node none)
     (subst (λ z. IsMeasured (counts_of c.self.inside.places) (node_tree_in (trees items) z) e) (sym node) measured)
-    (λ q. put q ∙ cc (kept q, n, node)))
+    (λ q. put q ∙ cc (n, node)))
 
-fresh : (c : goal.In_ok-insert) → IsNew c.args.self.now (record { trees = trees c.push.new.self.items; places = counts_of c.self.inside.places }) (node_tree c.args.self.now c.args.node) c.len.result
+fresh : (c : goal.In_ok-push) → IsNew c.args.self.now (record { trees = trees c.push.new.self.items; places = counts_of c.self.inside.places }) (node_tree c.args.self.now c.args.node) c.len.result
 fresh c =
     let items = c.self.inside.entries.items in
     let e = c.entry_of-entry.result in

@@ -3,6 +3,8 @@ use Rattle.std.specs.Prelude.{◌≡◌, ℕ, ◌-◌, ◌^◌, ◌<◌, List, [
 use Rattle.term_table.specs.Tree.{Tree}
 use Rattle.term_table.specs.Measures.{height_of, weight_of, arguments, head_parameters, capped}
 use Rattle.term_table.specs.Table.{tree_in, node_tree_in, PartsBelow, AreDifferent}
+use Rattle.term_table.specs.Scope.{HasReach, is_atomic_shape, is_term_shape}
+use Rattle.term_table.specs.Inside.Reach.{is_atomic_node, is_term_node}
 use Rattle.term_table.specs.declared.Node.{Node}
 use Rattle.term_table.specs.declared.Node.TheVariants as N
 use Rattle.term_table.specs.declared.Entry.{Entry}
@@ -20,6 +22,9 @@ pub record IsMeasured (places : List ℕ) (t : Tree) (e : Entry) : Type 0 where
   pub height : e.height ≡ capped (height_of t)
   pub weight : e.weight ≡ capped (weight_of places t)
   pub left : e.left ≡ head_parameters places t - arguments t
+  pub atom : is_atomic_node e.node ≡ is_atomic_shape t
+  pub term : is_term_node e.node ≡ is_term_shape t
+  pub reach : HasReach e.reach t
 
 -- the numbers of a node's own
 abbrev pub IsSmallNode : Node → Type 0

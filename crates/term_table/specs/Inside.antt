@@ -1,0 +1,4 @@
+-- Words of the private functions and of the invariant of a table.
+pub mod Code
+pub mod Reach
+pub mod Entries
