@@ -3,11 +3,8 @@ use Rattle.std.proofs.Common.{◌≡◌, ℕ, zero, suc, ◌+◌, ◌-◌, ◌<�
 use Rattle.term_table.specs.Tree.{Tree, Var, App, Lam, Here, Other, spot, later, apps, Pi, shifted}
 use Rattle.term_table.specs.Subst as L
 use Rattle.term_table.specs.Table.{Terms, IsKnown, tree_at}
-use denote.Bor.{Bor}
-use Rattle.hereditary_subst.specs.declared.Simple as R
-use Rattle.hereditary_subst.specs.declared.substitute.Atom.{Atom}
-use Rattle.hereditary_subst.specs.Simples.{simple_of}
-use Rattle.hereditary_subst.specs.Heads.{MetIs, HeadIs}
+use Rattle.hereditary_subst.specs.declared.kept.Atom.{Atom}
+use Rattle.hereditary_subst.specs.Inside.Heads.{MetIs, HeadIs}
 
 pub spot_here : (x : ℕ) → spot x x ≡ Here
 spot_here zero = refl
@@ -46,12 +43,12 @@ reduce_none (L.Base b) m = refl
 reduce_none (L.Arrow s t) m = refl
 
 -- what the answer on an atomic term says of its substitution
-pub head_result : (s : L.Simple) (m : Tree) (x : ℕ) (t : Tree) (ts : Terms) (a : Atom) → HeadIs s m x t ts (Some a) → IsKnown ts a.term × (L.hsub s m x t ≡ Some (tree_at ts a.term))
-head_result s m x t ts a h = (h.0, go a.met h.1)
+pub head_result : (ty : ℕ) (s : L.Simple) (m : Tree) (x : ℕ) (t : Tree) (ts : Terms) (a : Atom) → HeadIs ty s m x t ts (Some a) → IsKnown ts a.term × (L.hsub s m x t ≡ Some (tree_at ts a.term))
+head_result ty s m x t ts a h = (h.0, go a.met h.1)
   where
-    go : (u : Option (Bor R.Simple)) → MetIs s m x t (tree_at ts a.term) u → L.hsub s m x t ≡ Some (tree_at ts a.term)
+    go : (u : Option ℕ) → MetIs ts ty s m x t (tree_at ts a.term) u → L.hsub s m x t ≡ Some (tree_at ts a.term)
     go None k = k []
-    go (Some u) k = k.1 [] ∙ reduce_none (simple_of u.now) (tree_at ts a.term)
+    go (Some u) k = k.2 [] ∙ reduce_none (L.erase (tree_at ts u)) (tree_at ts a.term)
 
 -- one step of reduction
 pub goes_to : (from to : L.Simple) (g b body r : Tree) → Lam body ≡ g → L.hsub from b 0 body ≡ Some r → (acc : List Tree) → L.reduce (L.Arrow from to) g (b ∷ acc) ≡ L.reduce to r acc

@@ -2,4 +2,4 @@ pub use Rattle.term_table.specs.Tree
 pub use Rattle.term_table.specs.Subst
 pub use Rattle.term_table.specs.Table
 pub mod Simples
-pub mod Heads
+pub mod Inside

@@ -1,28 +1,36 @@
 //! Shifts, hereditary substitution and erasure on the terms and types of a table.
 //!
-//! The layer above uses that `subst_type` answers the result of hereditary substitution, and None
+//! The layer above uses that `subst_type_with` answers the result of hereditary substitution, and None
 //! exactly where there is none; nothing is asked of types. The relation, and the function on trees
 //! that it equals, stand in `term_table` (`specs/Subst`); `specs/Simples` leads from `Simple` and from
-//! an answer to them, and `specs/Heads` has words of the private functions. Each old id keeps its
-//! tree, also where memory fails. Source: Harper and Licata, Mechanizing Metatheory in a Logical
-//! Framework, JFP 2007, section 2.
+//! an answer to them. Each old id keeps its tree, also where memory fails.
+//!
+//! No part of a tree is gone through twice: a `Memo` keeps results by entry, depth, argument and type,
+//! and can be handed from call to call on one table. Source: Harper and Licata, Mechanizing Metatheory
+//! in a Logical Framework, JFP 2007, section 2.
 #![tactic(auto)]
 
+mod kept;
 mod shifts;
 mod substitute;
 #[cfg(test)]
 mod tests;
 
 ghost use Rattle.std.specs.Prelude.{◌≡◌, ◌<◌, ◌≤◌, ◌+◌, ◌^◌, IfOk};
+ghost use Rattle.hereditary_subst.specs.Inside.Kept.{IsMemo};
 ghost use Rattle.term_table.specs.Tree.{shifted};
 ghost use Rattle.term_table.specs.Subst.{HSub, HSubType, hsub, hsub_type, erase};
 ghost use Rattle.term_table.specs.Table.{IsKnown, tree_at, Extends, Stands};
 ghost use Rattle.hereditary_subst.specs.Simples.{simple_of, IsResult};
 
+pub use kept::Memo;
 use shifts::shift_at;
 use std::alloc::{AllocError, Global};
 use substitute::{subst_at, subst_type_at};
 use term_table::{Id, Node, Table, substitution_laws};
+
+/// How many results a call keeps that is handed no memo.
+pub const MOST_RESULTS: usize = 4_000_000;
 
 /// The simple type of a type: its families and arrows, without the terms that it speaks of.
 #[derive(PartialEq, Eq, Debug, Drop)]
@@ -34,14 +42,16 @@ pub enum Simple {
 }
 
 /// The tree where `by` more binders stand outside the `from` nearest: each variable from `from` on
-/// is raised by `by`. None exactly where a variable would reach 2^32. Fails only for want of memory.
+/// is raised by `by`. None exactly where a variable would reach 2^32. Fails only for want of memory,
+/// which more than `MOST_RESULTS` results are too.
 pub fn shift(table: &mut Table, id: Id, by: u32, from: u32) -> Result<Option<Id>, AllocError>
     requires { IsKnown table.old id }
     ensures tree { IfOk result (Stands table.new (shifted by from (tree_at table.old id))) }
     ensures grows { Extends table.old table.new }
 {
     table.laws();
-    shift_at(table, id, u64::from(by), u64::from(from))
+    let mut memo = Memo::new(table.allocator(), MOST_RESULTS);
+    shift_at(table, &mut memo, id, u64::from(by), u64::from(from))
 }
 
 /// `shift` from the nearest binder on, by up to 2^32.
@@ -51,23 +61,66 @@ pub fn weaken(table: &mut Table, id: Id, by: u64) -> Result<Option<Id>, AllocErr
     ensures tree { IfOk result (Stands table.new (shifted by 0 (tree_at table.old id))) }
     ensures grows { Extends table.old table.new }
 {
-    table.laws();
-    shift_at(table, id, by, 0)
+    let mut memo = Memo::new(table.allocator(), MOST_RESULTS);
+    weaken_with(table, &mut memo, id, by)
 }
 
-/// The term `body` with the term `arg` for variable 0, at the simple type of that variable; other
+/// `weaken`, with the results that `memo` keeps of earlier calls on the table. The same clauses.
+pub fn weaken_with(
+    table: &mut Table,
+    memo: &mut Memo,
+    id: Id,
+    by: u64,
+) -> Result<Option<Id>, AllocError>
+    requires small { by ≤ 2 ^ 32 }
+    requires known { IsKnown table.old id }
+    requires memo { IsMemo table.old memo.old }
+    ensures tree { IfOk result (Stands table.new (shifted by 0 (tree_at table.old id))) }
+    ensures grows { Extends table.old table.new }
+    ensures memo { IsMemo table.new memo.new }
+{
+    table.laws();
+    shift_at(table, memo, id, by, 0)
+}
+
+/// A type with this simple type.
+fn type_of_simple(table: &mut Table, s: &Simple) -> Result<Id, AllocError>
+    ensures erased {
+        IfOk result (λ id. IsKnown table.new id × (erase (tree_at table.new id) ≡ simple_of s.now))
+    }
+    ensures grows { Extends table.old table.new }
+{
+    match s {
+        Simple::Base(a) => table.intern(Node::Fam(*a)),
+        Simple::Arrow(from, to) => {
+            let a = type_of_simple(table, from)?;
+            let b = type_of_simple(table, to)?;
+            table.intern(Node::Pi(a, b))
+        }
+    }
+}
+
+/// The term `body` with the term `arg` for variable 0, at the simple type `s` of that variable; other
 /// variables are lowered by one. Some exactly where hereditary substitution has a result, and then
-/// that. Fails only for want of memory.
+/// that. Fails only for want of memory, which more than `MOST_RESULTS` results are too.
 pub fn subst(table: &mut Table, body: Id, arg: Id, s: &Simple) -> Result<Option<Id>, AllocError>
     requires body { IsKnown table.old body }
     requires arg { IsKnown table.old arg }
-    ensures related { IfOk result (IsResult table.new (HSub (simple_of s.now) (tree_at table.old arg) 0 (tree_at table.old body))) }
-    ensures computed { IfOk result (Stands table.new (hsub (simple_of s.now) (tree_at table.old arg) 0 (tree_at table.old body))) }
+    ensures related {
+        let arg_tree = tree_at table.old arg in
+        IfOk result (IsResult table.new (HSub (simple_of s.now) arg_tree 0 (tree_at table.old body)))
+    }
+    ensures computed {
+        let arg_tree = tree_at table.old arg in
+        IfOk result (Stands table.new (hsub (simple_of s.now) arg_tree 0 (tree_at table.old body)))
+    }
     ensures grows { Extends table.old table.new }
 {
     substitution_laws();
+    let ty = type_of_simple(table, s)?;
+    let mut memo = Memo::new(table.allocator(), MOST_RESULTS);
     table.laws();
-    subst_at(table, body, arg, 0, s)
+    subst_at(table, &mut memo, body, arg, 0, ty)
 }
 
 /// The same in a type.
@@ -79,16 +132,53 @@ pub fn subst_type(
 ) -> Result<Option<Id>, AllocError>
     requires body { IsKnown table.old body }
     requires arg { IsKnown table.old arg }
-    ensures related { IfOk result (IsResult table.new (HSubType (simple_of s.now) (tree_at table.old arg) 0 (tree_at table.old body))) }
-    ensures computed { IfOk result (Stands table.new (hsub_type (simple_of s.now) (tree_at table.old arg) 0 (tree_at table.old body))) }
+    ensures related {
+        let arg_tree = tree_at table.old arg in
+        IfOk result (IsResult table.new (HSubType (simple_of s.now) arg_tree 0 (tree_at table.old body)))
+    }
+    ensures computed {
+        let arg_tree = tree_at table.old arg in
+        IfOk result (Stands table.new (hsub_type (simple_of s.now) arg_tree 0 (tree_at table.old body)))
+    }
     ensures grows { Extends table.old table.new }
 {
     substitution_laws();
+    let ty = type_of_simple(table, s)?;
+    let mut memo = Memo::new(table.allocator(), MOST_RESULTS);
     table.laws();
-    subst_type_at(table, body, arg, 0, s)
+    subst_type_at(table, &mut memo, body, arg, 0, ty)
 }
 
-/// The simple type of a type. Fails only for want of memory.
+/// `subst_type` at the simple type of the type `ty`, with the results that `memo` keeps of earlier
+/// calls on the table.
+pub fn subst_type_with(
+    table: &mut Table,
+    memo: &mut Memo,
+    body: Id,
+    arg: Id,
+    ty: Id,
+) -> Result<Option<Id>, AllocError>
+    requires body { IsKnown table.old body }
+    requires arg { IsKnown table.old arg }
+    requires ty { IsKnown table.old ty }
+    requires memo { IsMemo table.old memo.old }
+    ensures related {
+        let s = erase (tree_at table.old ty) in
+        IfOk result (IsResult table.new (HSubType s (tree_at table.old arg) 0 (tree_at table.old body)))
+    }
+    ensures computed {
+        let s = erase (tree_at table.old ty) in
+        IfOk result (Stands table.new (hsub_type s (tree_at table.old arg) 0 (tree_at table.old body)))
+    }
+    ensures grows { Extends table.old table.new }
+    ensures memo { IsMemo table.new memo.new }
+{
+    substitution_laws();
+    table.laws();
+    subst_type_at(table, memo, body, arg, 0, ty)
+}
+
+/// The simple type of the type `id`; of what is no type, `Base(0)`. Fails only for want of memory.
 pub fn erase(alloc: Global, table: &Table, id: Id) -> Result<Simple, AllocError>
     requires { IsKnown table.now id }
     ensures { IfOk result (λ s. simple_of s ≡ erase (tree_at table.now id)) }

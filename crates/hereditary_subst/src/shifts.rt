@@ -1,16 +1,41 @@
-//! Shifting a tree of a table.
+//! Shifting a tree of a table, and lowering what was shifted.
 
-ghost use Rattle.std.specs.Prelude.{◌<◌, ◌≤◌, ◌+◌, ◌^◌, IfOk};
-ghost use Rattle.term_table.specs.Tree.{shifted};
+ghost use Rattle.std.specs.Prelude.{◌≡◌, true, false, ◌<◌, ◌≤◌, ◌+◌, ◌^◌, IfOk, IsTrue};
+ghost use Rattle.term_table.specs.Tree.{shifted, Var};
+ghost use Rattle.term_table.specs.Scope.{is_scoped, is_term_shape};
 ghost use Rattle.term_table.specs.Table.{IsKnown, tree_at, Extends, Stands};
+ghost use Rattle.hereditary_subst.specs.Inside.Kept.{IsMemo, Lowers};
 
+use crate::kept::{Memo, Question, number};
 use std::alloc::AllocError;
 use term_table::{Id, Node, Table};
 
-// The tree with each variable from `from` on raised by `by`. Parts have lower ids, so `from` has
-// room to rise by one at each binder.
+/// Whether each of the tree's variables is bound, or among the n next outside: where the table knows.
+pub(crate) fn is_within(table: &Table, id: Id, n: u64) -> bool
+    requires { IsKnown table.now id }
+    ensures { IsTrue result → is_scoped n (tree_at table.now id) ≡ true }
+{
+    let reach = table.reach(id);
+    reach < u32::MAX && u64::from(reach) <= n
+}
+
+/// Whether it is a variable.
+fn is_variable(table: &Table, id: Id) -> bool
+    requires { IsKnown table.now id }
+{
+    match table.node(id) {
+        Node::Var(_) => true,
+        _ => false,
+    }
+}
+
+/// The tree with each variable from `from` on raised by `by`. Parts have lower ids, so `from` has
+/// room to rise by one at each binder.
+#[cycle(shifting)]
+#[tactic(auto, using(crate::proofs::Rows::rows))]
 pub(crate) fn shift_at(
     table: &mut Table,
+    memo: &mut Memo,
     id: Id,
     by: u64,
     from: u64,
@@ -18,52 +43,256 @@ pub(crate) fn shift_at(
     requires small { by ≤ 2 ^ 32 }
     requires known { IsKnown table.old id }
     requires room { from + id < 2 ^ 64 }
+    requires memo { IsMemo table.old memo.old }
     ensures tree { IfOk result (Stands table.new (shifted by from (tree_at table.old id))) }
     ensures grows { Extends table.old table.new }
+    ensures memo { IsMemo table.new memo.new }
+{
+    table.laws();
+    if is_within(table, id, from) {
+        return Ok(Some(id));
+    }
+    if is_variable(table, id) {
+        return shift_parts(table, memo, id, by, from);
+    }
+    let question = Question::Shift(number(id), by, from);
+    if let Some(atom) = memo.find(table, &question) {
+        return Ok(Some(atom.term));
+    }
+    let Some(term) = shift_parts(table, memo, id, by, from)? else {
+        return Ok(None);
+    };
+    memo.keep(table, question, term, None)?;
+    Ok(Some(term))
+}
+
+/// The same, by the shifts of its parts.
+#[cycle(shifting)]
+#[tactic(auto, using(crate::proofs::Rows::rows))]
+fn shift_parts(
+    table: &mut Table,
+    memo: &mut Memo,
+    id: Id,
+    by: u64,
+    from: u64,
+) -> Result<Option<Id>, AllocError>
+    requires small { by ≤ 2 ^ 32 }
+    requires known { IsKnown table.old id }
+    requires room { from + id < 2 ^ 64 }
+    requires memo { IsMemo table.old memo.old }
+    ensures tree { IfOk result (Stands table.new (shifted by from (tree_at table.old id))) }
+    ensures grows { Extends table.old table.new }
+    ensures memo { IsMemo table.new memo.new }
 {
     match table.node(id) {
-        Node::Var(n) => {
-            if u64::from(n) < from {
-                return Ok(Some(id));
-            }
-            match u32::try_from(u64::from(n) + by) {
-                Err(_) => Ok(None),
-                Ok(m) => Ok(Some(table.intern(Node::Var(m))?)),
-            }
-        }
+        Node::Var(n) => shift_variable(table, id, n, by, from),
         Node::App(f, a) => {
-            let Some(g) = shift_at(table, f, by, from)? else {
+            let Some(g) = shift_at(table, memo, f, by, from)? else {
                 return Ok(None);
             };
-            let Some(b) = shift_at(table, a, by, from)? else {
+            let Some(b) = shift_at(table, memo, a, by, from)? else {
                 return Ok(None);
             };
             Ok(Some(table.intern(Node::App(g, b))?))
         }
         Node::Lam(b) => {
-            let Some(c) = shift_at(table, b, by, from + 1)? else {
+            let Some(c) = shift_at(table, memo, b, by, from + 1)? else {
                 return Ok(None);
             };
             Ok(Some(table.intern(Node::Lam(c))?))
         }
+        Node::TApp(_, _) | Node::Pi(_, _) => shift_type_parts(table, memo, id, by, from),
+        _ => Ok(Some(id)),
+    }
+}
+
+/// The same for the variable n.
+fn shift_variable(
+    table: &mut Table,
+    id: Id,
+    n: u32,
+    by: u64,
+    from: u64,
+) -> Result<Option<Id>, AllocError>
+    requires small { by ≤ 2 ^ 32 }
+    requires known { IsKnown table.old id }
+    requires is { Var n ≡ tree_at table.old id }
+    ensures tree { IfOk result (Stands table.new (shifted by from (tree_at table.old id))) }
+    ensures grows { Extends table.old table.new }
+{
+    if u64::from(n) < from {
+        return Ok(Some(id));
+    }
+    match u32::try_from(u64::from(n) + by) {
+        Err(_) => Ok(None),
+        Ok(m) => Ok(Some(table.intern(Node::Var(m))?)),
+    }
+}
+
+/// The same for a type.
+#[cycle(shifting)]
+#[tactic(auto, using(crate::proofs::Rows::rows))]
+fn shift_type_parts(
+    table: &mut Table,
+    memo: &mut Memo,
+    id: Id,
+    by: u64,
+    from: u64,
+) -> Result<Option<Id>, AllocError>
+    requires small { by ≤ 2 ^ 32 }
+    requires known { IsKnown table.old id }
+    requires shape { is_term_shape (tree_at table.old id) ≡ false }
+    requires room { from + id < 2 ^ 64 }
+    requires memo { IsMemo table.old memo.old }
+    ensures tree { IfOk result (Stands table.new (shifted by from (tree_at table.old id))) }
+    ensures grows { Extends table.old table.new }
+    ensures memo { IsMemo table.new memo.new }
+{
+    match table.node(id) {
         Node::TApp(p, a) => {
-            let Some(q) = shift_at(table, p, by, from)? else {
+            let Some(q) = shift_at(table, memo, p, by, from)? else {
                 return Ok(None);
             };
-            let Some(b) = shift_at(table, a, by, from)? else {
+            let Some(b) = shift_at(table, memo, a, by, from)? else {
                 return Ok(None);
             };
             Ok(Some(table.intern(Node::TApp(q, b))?))
         }
         Node::Pi(a, b) => {
-            let Some(c) = shift_at(table, a, by, from)? else {
+            let Some(c) = shift_at(table, memo, a, by, from)? else {
                 return Ok(None);
             };
-            let Some(d) = shift_at(table, b, by, from + 1)? else {
+            let Some(d) = shift_at(table, memo, b, by, from + 1)? else {
                 return Ok(None);
             };
             Ok(Some(table.intern(Node::Pi(c, d))?))
         }
         _ => Ok(Some(id)),
+    }
+}
+
+/// The tree that becomes this one where one more binder stands outside the x nearest; None says
+/// nothing. It is found where the variable x doesn't occur.
+#[cycle(lowering)]
+#[tactic(auto, using(crate::proofs::Rows::rows))]
+pub(crate) fn lower_at(
+    table: &mut Table,
+    memo: &mut Memo,
+    id: Id,
+    x: u64,
+) -> Result<Option<Id>, AllocError>
+    requires known { IsKnown table.old id }
+    requires room { x + id < 2 ^ 64 }
+    requires memo { IsMemo table.old memo.old }
+    ensures tree { IfOk result (Lowers table.new x (tree_at table.old id)) }
+    ensures grows { Extends table.old table.new }
+    ensures memo { IsMemo table.new memo.new }
+{
+    if is_within(table, id, x) {
+        return Ok(Some(id));
+    }
+    if is_variable(table, id) {
+        return lower_parts(table, memo, id, x);
+    }
+    let question = Question::Lower(number(id), x);
+    if let Some(atom) = memo.find(table, &question) {
+        return match atom.met {
+            None => Ok(Some(atom.term)),
+            Some(_) => Ok(None),
+        };
+    }
+    let Some(term) = lower_parts(table, memo, id, x)? else {
+        memo.keep(table, question, id, Some(id))?;
+        return Ok(None);
+    };
+    memo.keep(table, question, term, None)?;
+    Ok(Some(term))
+}
+
+/// The same, by its parts.
+#[cycle(lowering)]
+#[tactic(auto, using(crate::proofs::Rows::rows))]
+fn lower_parts(table: &mut Table, memo: &mut Memo, id: Id, x: u64) -> Result<Option<Id>, AllocError>
+    requires known { IsKnown table.old id }
+    requires room { x + id < 2 ^ 64 }
+    requires memo { IsMemo table.old memo.old }
+    ensures tree { IfOk result (Lowers table.new x (tree_at table.old id)) }
+    ensures grows { Extends table.old table.new }
+    ensures memo { IsMemo table.new memo.new }
+{
+    match table.node(id) {
+        Node::Var(n) => lower_variable(table, id, n, x),
+        Node::App(f, a) => {
+            let Some(g) = lower_at(table, memo, f, x)? else {
+                return Ok(None);
+            };
+            let Some(b) = lower_at(table, memo, a, x)? else {
+                return Ok(None);
+            };
+            Ok(Some(table.intern(Node::App(g, b))?))
+        }
+        Node::Lam(b) => {
+            let Some(c) = lower_at(table, memo, b, x + 1)? else {
+                return Ok(None);
+            };
+            Ok(Some(table.intern(Node::Lam(c))?))
+        }
+        Node::TApp(_, _) | Node::Pi(_, _) => lower_type_parts(table, memo, id, x),
+        _ => Ok(Some(id)),
+    }
+}
+
+/// The same for the variable n.
+fn lower_variable(table: &mut Table, id: Id, n: u32, x: u64) -> Result<Option<Id>, AllocError>
+    requires known { IsKnown table.old id }
+    requires is { Var n ≡ tree_at table.old id }
+    ensures tree { IfOk result (Lowers table.new x (tree_at table.old id)) }
+    ensures grows { Extends table.old table.new }
+{
+    if u64::from(n) == x {
+        return Ok(None);
+    }
+    if u64::from(n) < x {
+        return Ok(Some(id));
+    }
+    Ok(Some(table.intern(Node::Var(n - 1))?))
+}
+
+/// The same for a type.
+#[cycle(lowering)]
+#[tactic(auto, using(crate::proofs::Rows::rows))]
+fn lower_type_parts(
+    table: &mut Table,
+    memo: &mut Memo,
+    id: Id,
+    x: u64,
+) -> Result<Option<Id>, AllocError>
+    requires known { IsKnown table.old id }
+    requires room { x + id < 2 ^ 64 }
+    requires memo { IsMemo table.old memo.old }
+    ensures tree { IfOk result (Lowers table.new x (tree_at table.old id)) }
+    ensures grows { Extends table.old table.new }
+    ensures memo { IsMemo table.new memo.new }
+{
+    match table.node(id) {
+        Node::TApp(p, a) => {
+            let Some(q) = lower_at(table, memo, p, x)? else {
+                return Ok(None);
+            };
+            let Some(b) = lower_at(table, memo, a, x)? else {
+                return Ok(None);
+            };
+            Ok(Some(table.intern(Node::TApp(q, b))?))
+        }
+        Node::Pi(a, b) => {
+            let Some(c) = lower_at(table, memo, a, x)? else {
+                return Ok(None);
+            };
+            let Some(d) = lower_at(table, memo, b, x + 1)? else {
+                return Ok(None);
+            };
+            Ok(Some(table.intern(Node::Pi(c, d))?))
+        }
+        _ => Ok(None),
     }
 }

@@ -324,6 +324,11 @@ impl Table {
         }
     }
 
+    /// The allocator that the table's memory comes from.
+    pub fn allocator(&self) -> Global {
+        *self.entries.allocator()
+    }
+
     // The entry of an id.
     fn entry(&self, id: Id) -> Entry
         requires { IsKnown self.now id }

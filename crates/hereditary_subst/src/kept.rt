@@ -1,0 +1,148 @@
+//! Results that are kept, so that a part that stands in many places is gone through once.
+//!
+//! Only results are kept, and that a tree isn't known to be lowered; a missing result ends the call
+//! that asked for it. Rows are found by an ordered map of numbers, so that no choice of ids makes them
+//! slow to find. They are asked for and kept beside the table whose ids they speak of.
+
+ghost use Rattle.std.specs.Prelude.{◌≡◌, IfSome};
+ghost use Rattle.term_table.specs.Table.{Terms, IsKnown};
+ghost use Rattle.hereditary_subst.specs.Inside.Kept.{IsMemo, Says, AreKnown};
+
+use std::alloc::{AllocError, Global};
+use std::collections::BTreeMap;
+use term_table::{Id, Table};
+
+/// What is asked of a tree, by ids and counts.
+#[derive(Clone, Copy, PartialEq, Eq, PartialOrd, Ord)]
+pub(crate) enum Question {
+    /// The tree with each variable from the third number on raised by the second.
+    Shift(u64, u64, u64),
+    /// The tree with the variables past the second number lowered by one, where that one doesn't occur.
+    Lower(u64, u64),
+    /// The atomic term with the second for the variable of the third number, at the type of the fourth.
+    Head(u64, u64, u64, u64),
+    /// The same for an abstraction.
+    Under(u64, u64, u64, u64),
+    /// The same for a type.
+    Type(u64, u64, u64, u64),
+}
+
+/// What a tree becomes, as it is kept.
+#[derive(Clone, Copy)]
+struct Row {
+    term: u64,
+    met: Option<u64>,
+}
+
+/// What a tree becomes. Of an atomic term whose head was the variable, also the type that remains; of
+/// a lowering, an id says that the variable may occur.
+#[derive(Clone, Copy)]
+pub(crate) struct Atom {
+    pub(crate) term: Id,
+    pub(crate) met: Option<Id>,
+}
+
+/// Results of shifts and substitutions on one table, up to a limit.
+#[derive(Drop)]
+pub struct Memo {
+    rows: BTreeMap<Question, Row>,
+    limit: usize,
+}
+
+/// The id as a number.
+pub(crate) fn number(id: Id) -> u64
+    ensures { result ≡ id }
+{
+    id.index() as u64
+}
+
+/// The row as ids of the table.
+fn atom_of(table: &Table, row: Row) -> Atom
+    requires { AreKnown table.now row.term row.met }
+    ensures term { result.term ≡ row.term }
+    ensures met { result.met ≡ row.met }
+{
+    let term = table.id(row.term);
+    match row.met {
+        None => Atom { term, met: None },
+        Some(met) => {
+            let ty = table.id(met);
+            Atom {
+                term,
+                met: Some(ty),
+            }
+        }
+    }
+}
+
+/// The row of an answer.
+fn row_of(term: Id, met: Option<Id>) -> Row
+    ensures term { result.term ≡ term }
+    ensures met { result.met ≡ met }
+{
+    let term = number(term);
+    match met {
+        None => Row { term, met: None },
+        Some(met) => {
+            let ty = number(met);
+            Row {
+                term,
+                met: Some(ty),
+            }
+        }
+    }
+}
+
+impl Memo {
+    /// A memo without results, which takes no memory yet. A call that would keep more than `limit`
+    /// results in it answers want of memory.
+    pub fn new(alloc: Global, limit: usize) -> Memo
+        ensures { (t : Terms) → IsMemo t result }
+    {
+        Memo {
+            rows: BTreeMap::new(alloc),
+            limit,
+        }
+    }
+
+    /// What is kept of the question, as numbers.
+    fn row(&self, table: &Table, question: &Question) -> Option<Row>
+        requires { IsMemo table.now self.now }
+        ensures { IfSome result (λ a. Says table.now question.now a.term a.met) }
+    {
+        let _ = table; // only the clauses speak of it
+        self.rows.get(question).copied()
+    }
+
+    /// What is kept of the question.
+    pub(crate) fn find(&self, table: &Table, question: &Question) -> Option<Atom>
+        requires { IsMemo table.now self.now }
+        ensures { IfSome result (λ a. Says table.now question.now a.term a.met) }
+    {
+        match self.row(table, question) {
+            None => None,
+            Some(row) => Some(atom_of(table, row)),
+        }
+    }
+
+    /// Keeps an answer to the question. Fails past the limit, and where memory does.
+    pub(crate) fn keep(
+        &mut self,
+        table: &Table,
+        question: Question,
+        term: Id,
+        met: Option<Id>,
+    ) -> Result<(), AllocError>
+        requires memo { IsMemo table.now self.old }
+        requires says { Says table.now question term met }
+        ensures { IsMemo table.now self.new }
+    {
+        let _ = table; // only the clauses speak of it
+        if self.rows.len() >= self.limit {
+            return Err(AllocError);
+        }
+        let row = row_of(term, met);
+        self.rows.insert(question, row)?;
+        Ok(())
+    }
+}
