@@ -1,2 +1,4 @@
 pub mod Lookup
+pub mod NearLaws
+pub mod OutsideRows
 mod Rows

@@ -3,40 +3,22 @@
 ghost use Rattle.std.specs.Prelude.{◌≡◌, ◌+◌, ◌^◌, ◌<◌, IfOk, map, length};
 ghost use Rattle.term_table.specs.Table.{IsKnown, tree_at, Extends};
 ghost use Rattle.term_table.specs.Tree.{Fam, App, Lam, Var};
-ghost use Rattle.lf_signature.specs.Terms.{app1, app2, app3, pf};
-ghost use Rattle.lf_signature.specs.Rules.{sort_type, over_sorts, par, exp_tree, mem_tree, form_tree, premise_tree, under_premises, rule_type};
-ghost use Rattle.lf_signature.specs.Schemas.{sort_of, exp_of, mem_of, form_of, premise_of, rule_of, constant_type, connective_number, IsShort};
+ghost use Rattle.lf_signature.specs.Terms.{app1, pf};
+ghost use Rattle.lf_signature.specs.Rules.{sort_type, over_sorts, par, exp_tree, mem_tree, form_tree};
+ghost use Rattle.lf_signature.specs.Rules.{premise_tree, under_premises, rule_type};
+ghost use Rattle.lf_signature.specs.Schemas.{sort_of, exp_of, mem_of, form_of, premise_of, rule_of};
+ghost use Rattle.lf_signature.specs.Schemas.{constant_type, connective_constant, IsShort};
 ghost use Rattle.lf_signature.specs.Nodes.{Gives};
 
 use crate::numbers::{
-    ALL, ALLM, AND, EXP, FF, FORM, IMP, MEM, OR, PF, SEL, TT, UPD, op_number, rel_number,
+    ALL, ALLM, AND, EXP, FF, FORM, IMP, MEM, OR, SEL, TT, UPD, op_constant, rel_constant,
 };
 use crate::schema::{Connective, Constant, Exp, Form, Mem, Premise, Rule, Sort};
+use crate::terms::{app1, app2, app3, pf};
 use std::alloc::AllocError;
 use term_table::{Id, Node, Table};
 
-// A constant at an argument.
-pub fn at_one(table: &mut Table, constant: u32, a: Id) -> Result<Id, AllocError>
-    requires { IsKnown table.old a }
-    ensures id { IfOk result (Gives table.new (app1 constant (tree_at table.old a))) }
-    ensures grows { Extends table.old table.new }
-{
-    let head = table.intern(Node::Const(constant))?;
-    table.intern(Node::App(head, a))
-}
-
-// A constant at two arguments.
-pub fn at_two(table: &mut Table, constant: u32, a: Id, b: Id) -> Result<Id, AllocError>
-    requires a { IsKnown table.old a }
-    requires b { IsKnown table.old b }
-    ensures id { IfOk result (Gives table.new (app2 constant (tree_at table.old a) (tree_at table.old b))) }
-    ensures grows { Extends table.old table.new }
-{
-    let applied = at_one(table, constant, a)?;
-    table.intern(Node::App(applied, b))
-}
-
-// The variable of a parameter where `depth` binders stand outside, the parameters' first.
+/// The variable of a parameter where `depth` binders stand outside, the parameters' first.
 fn parameter(table: &mut Table, number: u32, depth: u32) -> Result<Id, AllocError>
     ensures id { IfOk result (Gives table.new (par number depth)) }
     ensures grows { Extends table.old table.new }
@@ -44,7 +26,7 @@ fn parameter(table: &mut Table, number: u32, depth: u32) -> Result<Id, AllocErro
     table.intern(Node::Var(depth.saturating_sub(number).saturating_sub(1)))
 }
 
-// The tree of an expression where `depth` binders stand outside.
+/// The tree of an expression where `depth` binders stand outside.
 #[cycle(words)]
 fn exp_id(table: &mut Table, exp: &Exp, depth: u32) -> Result<Id, AllocError>
     ensures id { IfOk result (Gives table.new (exp_tree (exp_of exp.now) depth)) }
@@ -57,17 +39,17 @@ fn exp_id(table: &mut Table, exp: &Exp, depth: u32) -> Result<Id, AllocError>
         Exp::Apply(op, a, b) => {
             let left = exp_id(table, a, depth)?;
             let right = exp_id(table, b, depth)?;
-            at_two(table, op_number(*op), left, right)
+            app2(table, op_constant(*op), left, right)
         }
         Exp::Sel(memory, at) => {
             let memory = mem_id(table, memory, depth)?;
             let address = exp_id(table, at, depth)?;
-            at_two(table, SEL, memory, address)
+            app2(table, SEL, memory, address)
         }
     }
 }
 
-// The tree of a memory where `depth` binders stand outside.
+/// The tree of a memory where `depth` binders stand outside.
 #[cycle(words)]
 fn mem_id(table: &mut Table, memory: &Mem, depth: u32) -> Result<Id, AllocError>
     ensures id { IfOk result (Gives table.new (mem_tree (mem_of memory.now) depth)) }
@@ -80,14 +62,13 @@ fn mem_id(table: &mut Table, memory: &Mem, depth: u32) -> Result<Id, AllocError>
             let before = mem_id(table, before, depth)?;
             let address = exp_id(table, at, depth)?;
             let written = exp_id(table, word, depth)?;
-            let to = at_two(table, UPD, before, address)?;
-            table.intern(Node::App(to, written))
+            app3(table, UPD, before, address, written)
         }
     }
 }
 
-// A quantifier at the function that a parameter stands for, spelled out: the parameter at the
-// quantifier's own variable.
+/// A quantifier at the function that a parameter stands for, spelled out: the parameter at the
+/// quantifier's own variable.
 fn quantifier_id(
     table: &mut Table,
     constant: u32,
@@ -95,19 +76,22 @@ fn quantifier_id(
     depth: u32,
 ) -> Result<Id, AllocError>
     requires { depth + 1 < 2 ^ 32 }
-    ensures id { IfOk result (Gives table.new (app1 constant (Lam (App (par number (depth + 1)) (Var 0))))) }
+    ensures id {
+        let body = App (par number (depth + 1)) (Var 0) in
+        IfOk result (Gives table.new (app1 constant (Lam body)))
+    }
     ensures grows { Extends table.old table.new }
 {
     let function = parameter(table, number, depth + 1)?;
     let own = table.intern(Node::Var(0))?;
     let body = table.intern(Node::App(function, own))?;
     let spelled = table.intern(Node::Lam(body))?;
-    at_one(table, constant, spelled)
+    app1(table, constant, spelled)
 }
 
-// The constant of a connective.
-fn connective_number(connective: Connective) -> u32
-    ensures { result ≡ connective_number connective }
+/// The constant of a connective.
+fn connective_constant(connective: Connective) -> u32
+    ensures { result ≡ connective_constant connective }
 {
     match connective {
         Connective::And => AND,
@@ -116,7 +100,7 @@ fn connective_number(connective: Connective) -> u32
     }
 }
 
-// The tree of a formula where `depth` binders stand outside.
+/// The tree of a formula where `depth` binders stand outside.
 fn form_id(table: &mut Table, form: &Form, depth: u32) -> Result<Id, AllocError>
     requires { depth + 1 < 2 ^ 32 }
     ensures id { IfOk result (Gives table.new (form_tree (form_of form.now) depth)) }
@@ -139,39 +123,29 @@ fn form_id(table: &mut Table, form: &Form, depth: u32) -> Result<Id, AllocError>
         Form::Holds(rel, a, b) => {
             let left = exp_id(table, a, depth)?;
             let right = exp_id(table, b, depth)?;
-            at_two(table, rel_number(*rel), left, right)
+            app2(table, rel_constant(*rel), left, right)
         }
         Form::Join(connective, a, b) => {
             let left = form_id(table, a, depth)?;
             let right = form_id(table, b, depth)?;
-            at_two(table, connective_number(*connective), left, right)
+            app2(table, connective_constant(*connective), left, right)
         }
         Form::All(number) => quantifier_id(table, ALL, *number, depth),
         Form::Allm(number) => quantifier_id(table, ALLM, *number, depth),
     }
 }
 
-// The type of the proofs of a formula.
+/// The type of the proofs of a formula.
 fn proofs_id(table: &mut Table, form: &Form, depth: u32) -> Result<Id, AllocError>
     requires { depth + 1 < 2 ^ 32 }
     ensures id { IfOk result (Gives table.new (pf (form_tree (form_of form.now) depth))) }
     ensures grows { Extends table.old table.new }
 {
     let formula = form_id(table, form, depth)?;
-    pf_id(table, formula)
+    pf(table, formula)
 }
 
-// The type of the proofs of a formula of the table.
-pub fn pf_id(table: &mut Table, formula: Id) -> Result<Id, AllocError>
-    requires { IsKnown table.old formula }
-    ensures id { IfOk result (Gives table.new (pf (tree_at table.old formula))) }
-    ensures grows { Extends table.old table.new }
-{
-    let proofs = table.intern(Node::Fam(PF))?;
-    table.intern(Node::TApp(proofs, formula))
-}
-
-// The type of the proofs of a premise.
+/// The type of the proofs of a premise.
 fn premise_id(table: &mut Table, premise: &Premise, depth: u32) -> Result<Id, AllocError>
     requires { depth + 2 < 2 ^ 32 }
     ensures id { IfOk result (Gives table.new (premise_tree (premise_of premise.now) depth)) }
@@ -187,7 +161,7 @@ fn premise_id(table: &mut Table, premise: &Premise, depth: u32) -> Result<Id, Al
     table.intern(Node::Pi(domain, proofs))
 }
 
-// From proofs of the premises to proofs of the conclusion.
+/// From proofs of the premises to proofs of the conclusion.
 fn premises_id(
     table: &mut Table,
     premises: &[Premise],
@@ -195,7 +169,10 @@ fn premises_id(
     depth: u32,
 ) -> Result<Id, AllocError>
     requires { depth + length premises.now + 2 < 2 ^ 32 }
-    ensures id { IfOk result (Gives table.new (under_premises (map premise_of premises.now) (form_of conclusion.now) depth)) }
+    ensures id {
+        let wanted = map premise_of premises.now in
+        IfOk result (Gives table.new (under_premises wanted (form_of conclusion.now) depth))
+    }
     ensures grows { Extends table.old table.new }
 {
     match premises {
@@ -208,7 +185,7 @@ fn premises_id(
     }
 }
 
-// The type of what a parameter ranges over.
+/// The type of what a parameter ranges over.
 fn sort_id(table: &mut Table, sort: Sort) -> Result<Id, AllocError>
     ensures id { IfOk result (Gives table.new (sort_type (sort_of sort))) }
     ensures grows { Extends table.old table.new }
@@ -224,10 +201,12 @@ fn sort_id(table: &mut Table, sort: Sort) -> Result<Id, AllocError>
     table.intern(Node::Pi(argument, form))
 }
 
-// From what has these sorts to a type of the table.
+/// From what has these sorts to a type of the table.
 pub fn over_sorts_id(table: &mut Table, sorts: &[Sort], range: Id) -> Result<Id, AllocError>
     requires { IsKnown table.old range }
-    ensures id { IfOk result (Gives table.new (over_sorts (map sort_of sorts.now) (tree_at table.old range))) }
+    ensures id {
+        IfOk result (Gives table.new (over_sorts (map sort_of sorts.now) (tree_at table.old range)))
+    }
     ensures grows { Extends table.old table.new }
 {
     match sorts {
