@@ -1,7 +1,7 @@
 -- In which order a signature declares its constants, and what each declared type has to be.
 use Rattle.std.specs.Prelude.{◌≡◌, ℕ, Bool, true, ◌&&◌, ◌||◌, ◌==◌, nat_lt, if◌then◌else◌, Option, Some, None, []}
 use Rattle.term_table.specs.Tree.{Tree, Const, Num, Lit, Calc, Fact, Deny}
-pub use Rattle.term_table.specs.Scope.{is_over}
+use Rattle.term_table.specs.Scope.{is_over}
 use Rattle.lf_signature.specs.Typing.{IsType}
 
 -- literals come first, then the numbered constants, then evaluations, truths and falsities

@@ -4,8 +4,8 @@ ghost use Rattle.std.specs.Prelude.{◌≡◌, ◌+◌, ◌^◌, ◌<◌, IfOk, 
 ghost use Rattle.term_table.specs.Table.{IsKnown, tree_at, Extends};
 ghost use Rattle.term_table.specs.Tree.{Fam, App, Lam, Var};
 ghost use Rattle.lf_signature.specs.Terms.{app1, pf};
-ghost use Rattle.lf_signature.specs.Rules.{sort_type, over_sorts, par, exp_tree, mem_tree, form_tree};
-ghost use Rattle.lf_signature.specs.Rules.{premise_tree, under_premises, rule_type};
+ghost use Rattle.lf_signature.specs.Rules.{sort_type, over_sorts, par, exp_tree, mem_tree};
+ghost use Rattle.lf_signature.specs.Rules.{form_tree, premise_tree, under_premises, rule_type};
 ghost use Rattle.lf_signature.specs.Schemas.{sort_of, exp_of, mem_of, form_of, premise_of, rule_of};
 ghost use Rattle.lf_signature.specs.Schemas.{constant_type, connective_constant, IsShort};
 ghost use Rattle.lf_signature.specs.Nodes.{Gives};
@@ -76,10 +76,8 @@ fn quantifier_id(
     depth: u32,
 ) -> Result<Id, AllocError>
     requires { depth + 1 < 2 ^ 32 }
-    ensures id {
-        let body = App (par number (depth + 1)) (Var 0) in
-        IfOk result (Gives table.new (app1 constant (Lam body)))
-    }
+    ensures id { let body = App (par number (depth + 1)) (Var 0) in
+        IfOk result (Gives table.new (app1 constant (Lam body))) }
     ensures grows { Extends table.old table.new }
 {
     let function = parameter(table, number, depth + 1)?;
@@ -169,10 +167,8 @@ fn premises_id(
     depth: u32,
 ) -> Result<Id, AllocError>
     requires { depth + length premises.now + 2 < 2 ^ 32 }
-    ensures id {
-        let wanted = map premise_of premises.now in
-        IfOk result (Gives table.new (under_premises wanted (form_of conclusion.now) depth))
-    }
+    ensures id { let wanted = map premise_of premises.now in
+        IfOk result (Gives table.new (under_premises wanted (form_of conclusion.now) depth)) }
     ensures grows { Extends table.old table.new }
 {
     match premises {
@@ -204,9 +200,8 @@ fn sort_id(table: &mut Table, sort: Sort) -> Result<Id, AllocError>
 /// From what has these sorts to a type of the table.
 pub fn over_sorts_id(table: &mut Table, sorts: &[Sort], range: Id) -> Result<Id, AllocError>
     requires { IsKnown table.old range }
-    ensures id {
-        IfOk result (Gives table.new (over_sorts (map sort_of sorts.now) (tree_at table.old range)))
-    }
+    ensures id { IfOk result
+        (Gives table.new (over_sorts (map sort_of sorts.now) (tree_at table.old range))) }
     ensures grows { Extends table.old table.new }
 {
     match sorts {

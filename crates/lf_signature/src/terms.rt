@@ -27,9 +27,8 @@ pub fn app1(table: &mut Table, constant: u32, a: Id) -> Result<Id, AllocError>
 pub fn app2(table: &mut Table, constant: u32, a: Id, b: Id) -> Result<Id, AllocError>
     requires a { IsKnown table.old a }
     requires b { IsKnown table.old b }
-    ensures id {
-        IfOk result (Gives table.new (app2 constant (tree_at table.old a) (tree_at table.old b)))
-    }
+    ensures id { IfOk result
+        (Gives table.new (app2 constant (tree_at table.old a) (tree_at table.old b))) }
     ensures grows { Extends table.old table.new }
 {
     let applied = app1(table, constant, a)?;
@@ -43,10 +42,8 @@ pub fn app3(table: &mut Table, constant: u32, a: Id, b: Id, c: Id) -> Result<Id,
     requires a { IsKnown table.old a }
     requires b { IsKnown table.old b }
     requires c { IsKnown table.old c }
-    ensures id {
-        let t = table.old in
-        IfOk result (Gives table.new (app3 constant (tree_at t a) (tree_at t b) (tree_at t c)))
-    }
+    ensures id { let t = table.old in
+        IfOk result (Gives table.new (app3 constant (tree_at t a) (tree_at t b) (tree_at t c))) }
     ensures grows { Extends table.old table.new }
 {
     let applied = app2(table, constant, a, b)?;

@@ -7,19 +7,23 @@ use Rattle.lf_signature.specs.Laws.Booleans.{cond_is}
 
 module _ (part whole : Const → Option Tree) (kept : (c : Const) (a : Tree) → part c ≡ Some a → whole c ≡ Some a) where
   mutual
+    -- terms that check
     pub checks_more : {ctx : List Tree} {m a : Tree} → Checks part ctx m a → Checks whole ctx m a
     checks_more (lam_checks d) = lam_checks (checks_more d)
     checks_more (atom_checks d h) = atom_checks (synth_more d) h
 
+    -- terms that synthesise
     pub synth_more : {ctx : List Tree} {r a : Tree} → Synth part ctx r a → Synth whole ctx r a
     synth_more (var_synth e f) = var_synth e f
     synth_more (con_synth {c = c} {a = a} e) = con_synth (kept c a e)
     synth_more (app_synth d g h) = app_synth (synth_more d) (checks_more g) h
 
+  -- families applied
   pub kind_more : {ctx : List Tree} {p : Tree} {k : Kind} → HasKind part ctx p k → HasKind whole ctx p k
   kind_more (fam_kind e) = fam_kind e
   kind_more (tapp_kind d g h) = tapp_kind (kind_more d) (checks_more g) h
 
+  -- types
   pub type_more : {ctx : List Tree} {a : Tree} → IsType part ctx a → IsType whole ctx a
   type_more (atomic_type d) = atomic_type (kind_more d)
   type_more (pi_type d g) = pi_type (type_more d) (type_more g)
