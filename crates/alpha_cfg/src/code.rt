@@ -1,15 +1,13 @@
 //! Code: the instructions that bytes spell, whose branches stay inside it.
 
 ghost use Rattle.std.specs.Prelude.{◌≡◌, ℕ, ◌+◌, ◌*◌, ◌%◌, ◌<◌, ◌≤◌, ◌↔◌, length, slice_get, Some, IsTrue, IsSome, IfSome, IfNone, IfOk, IfErr, MatchResult, Err};
-ghost use Rattle.alpha_cfg.specs.CodeBytes.{word_at, SpellsCode, IsWordFault, IsShapeFault, Answers};
+ghost use Rattle.alpha_cfg.specs.CodeBytes.{word_at, SpellsCode, IsFlawAt, IsShapeFlaw, Answers};
 ghost use Rattle.alpha_cfg.specs.CodeReading.{IsRead};
 ghost use Rattle.alpha_cfg.specs.Flow.{IsCode, AreInsns, IsInside, Ends, jump_of, next_of};
 ghost use Rattle.alpha_words.specs.Lawful.{target_of};
 ghost use Rattle.alpha_words.specs.Spelling.{Spells};
-ghost use Rattle.alpha_words.specs.Reading.{reading};
-ghost use Rattle.alpha_words.specs.declared.fault.BadWord.{BadWord};
 
-use crate::fault::CodeFault;
+use crate::fault::{CodeFault, CodeFlaw};
 use alpha_words::{Insn, Rhs, decode, target};
 use std::alloc::Global;
 use std::marker::Model;
@@ -97,16 +95,16 @@ fn word_of(code: &[u8], i: usize) -> u32
 }
 
 /// The instruction that a word spells.
-fn decode_at(code: &[u8], i: usize) -> Result<Insn, CodeFault>
+fn decode_at(code: &[u8], i: usize) -> Result<Insn, CodeFlaw>
     requires within { 4 * i + 4 ≤ length code.now }
     requires short { i < 1024 }
     ensures spelled { IfOk result (λ insn. Spells (word_at code.now i) insn) }
-    ensures fault { IfErr result (λ e. (bad : BadWord) × (e ≡ CodeFault.BadWord i (word_at code.now i) bad) × (reading (word_at code.now i) ≡ Err bad)) }
+    ensures flaw { IfErr result (λ e. IsFlawAt code.now i e) }
 {
     let word = word_of(code, i);
     match decode(word) {
         Ok(insn) => Ok(insn),
-        Err(bad) => Err(CodeFault::BadWord(i as u32, word, bad)),
+        Err(bad) => Err(CodeFlaw::BadWord(i as u32, word, bad)),
     }
 }
 
@@ -115,7 +113,7 @@ fn decode_all(alloc: Global, code: &[u8]) -> Result<Vec<Insn>, CodeFault>
     requires whole { length code.now % 4 ≡ 0 }
     requires short { length code.now ≤ 4096 }
     ensures spelled { IfOk result (λ v. SpellsCode code.now v.items) }
-    ensures fault { IfErr result (λ e. IsWordFault code.now e) }
+    ensures fault { IfErr result (λ e. Answers code.now (Err e)) }
 {
     let _no_operand: Option<Rhs> = None;
     let mut insns = Vec::new(alloc);
@@ -159,21 +157,21 @@ fn ends(insn: Insn) -> bool
 }
 
 /// What is wrong with the instructions, if they are no code.
-fn shape_fault(insns: &[Insn]) -> Option<CodeFault>
+fn shape_flaw(insns: &[Insn]) -> Option<CodeFlaw>
     requires some { 0 < length insns.now }
     requires short { length insns.now ≤ 1024 }
     requires spelled { AreInsns insns.now }
-    ensures found { IfSome result (λ e. IsShapeFault insns.now e) }
+    ensures found { IfSome result (λ e. IsShapeFlaw insns.now e) }
     ensures none { IfNone result (IsCode insns.now) }
 {
     if let Some(i) = first_outside(insns) {
-        return Some(CodeFault::Target(i as u32));
+        return Some(CodeFlaw::Target(i as u32));
     }
     let last = insns.len() - 1;
     if ends(insns[last]) {
         None
     } else {
-        Some(CodeFault::FallsOff(last as u32))
+        Some(CodeFlaw::FallsOff(last as u32))
     }
 }
 
@@ -185,8 +183,8 @@ fn make(alloc: Global, code: &[u8]) -> Result<Code, CodeFault>
     ensures { Answers code.now result }
 {
     let insns = decode_all(alloc, code)?;
-    match shape_fault(&insns) {
-        Some(fault) => Err(fault),
+    match shape_flaw(&insns) {
+        Some(flaw) => Err(CodeFault::At(flaw)),
         None => Ok(Code { insns }),
     }
 }

@@ -21,6 +21,6 @@ mod tests;
 
 pub use code::Code;
 pub use cut::Cut;
-pub use fault::{CodeFault, CutFault};
+pub use fault::{CodeFault, CodeFlaw, CutFault};
 pub use known::laws;
 pub use outcome::{Kind, Outcome, Step};
