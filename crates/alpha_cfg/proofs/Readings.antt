@@ -54,7 +54,7 @@ is_inside-true n None h = refl
 is_inside-true n (Some (pos k)) h = lt-ltb k n h
 is_inside-true n (Some (negsuc k)) h = absurd h
 
-InsideOf-is_inside : (n : ℕ) (to : Option ℤ) → is_inside n to ≡ true → InsideOf n to
+pub InsideOf-is_inside : (n : ℕ) (to : Option ℤ) → is_inside n to ≡ true → InsideOf n to
 InsideOf-is_inside n None h = tt
 InsideOf-is_inside n (Some (pos k)) h = ltb-true k n h
 InsideOf-is_inside n (Some (negsuc k)) h = cc
@@ -102,7 +102,7 @@ first_outside-some n i (suc k) (insn ∷ rest) lt each out =
 is_some-none : {A : Type 0} (o : Option A) → o ≡ None → is_some o ≡ false
 is_some-none o e = rw e refl
 
-none-is_some : {A : Type 0} (o : Option A) → is_some o ≡ false → o ≡ None
+pub none-is_some : {A : Type 0} (o : Option A) → is_some o ≡ false → o ≡ None
 none-is_some None e = refl
 none-is_some (Some x) e = cc
 

@@ -24,12 +24,6 @@ pub record SpellsCode (bytes : List ℕ) (code : List Insn) : Type 0 where
   pub whole : 4 * length code ≡ length bytes
   pub first : SpellsFirst bytes (length code) code
 
--- the flaw is that the word at index i spells nothing
-abbrev pub IsFlawAt : List ℕ → ℕ → CodeFlaw → Type 0
-IsFlawAt bytes i (flaw.BadWord k word bad) = (k ≡ i) × (word ≡ word_at bytes i) × (reading word ≡ Err bad)
-IsFlawAt bytes i (flaw.Target k) = ⊥
-IsFlawAt bytes i (flaw.FallsOff k) = ⊥
-
 -- word i is the first that spells nothing
 abbrev pub IsFirstBad : List ℕ → ℕ → ℕ → BadWord → Type 0
 IsFirstBad bytes i word bad = (word ≡ word_at bytes i) × (reading word ≡ Err bad) × (4 * i + 4 ≤ length bytes) × ((code : List Insn) × SpellsFirst bytes i code)

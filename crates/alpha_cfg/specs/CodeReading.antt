@@ -8,7 +8,7 @@ use Rattle.alpha_cfg.specs.declared.fault.CodeFlaw.{CodeFlaw}
 use Rattle.alpha_cfg.specs.declared.fault.CodeFlaw.TheVariants as flaw
 use Rattle.alpha_cfg.specs.declared.fault.CodeFault.{CodeFault}
 use Rattle.alpha_cfg.specs.declared.fault.CodeFault.TheVariants as fault
-use Rattle.alpha_cfg.specs.Flow.{next_of}
+use Rattle.alpha_cfg.specs.Flow.{IsCode, next_of}
 use Rattle.alpha_cfg.specs.CodeBytes.{word_at}
 
 -- an instruction before the others, where all are read
@@ -16,6 +16,7 @@ abbrev pub before : Insn → Result (List Insn) CodeFlaw → Result (List Insn) 
 before insn (Ok rest) = Ok (insn ∷ rest)
 before insn (Err e) = Err e
 
+-- the word at index i before the others, or that it is none
 abbrev pub then_read : ℕ → ℕ → Result Insn BadWord → Result (List Insn) CodeFlaw → Result (List Insn) CodeFlaw
 then_read i word (Ok insn) rest = before insn rest
 then_read i word (Err bad) rest = Err (flaw.BadWord i word bad)
@@ -42,6 +43,7 @@ runs_off [] = false
 runs_off (insn ∷ []) = is_some (next_of 0 insn)
 runs_off (insn ∷ other ∷ rest) = runs_off (other ∷ rest)
 
+-- the answer to instructions, given the first that branches outside
 abbrev pub shaped : List Insn → Option ℕ → Result (List Insn) CodeFlaw
 shaped code (Some i) = Err (flaw.Target i)
 shaped code None = if runs_off code then Err (flaw.FallsOff (length code - 1)) else Ok code
@@ -60,3 +62,8 @@ abbrev pub IsRead : List ℕ → Result (List Insn) CodeFault → Type 0
 IsRead bytes (Ok code) = Ok code ≡ code_read bytes
 IsRead bytes (Err (fault.At f)) = Err f ≡ code_read bytes
 IsRead bytes (Err fault.Memory) = Unit {0}
+
+-- what bytes read as: an instruction for each word, and they are code
+pub record IsReadCode (bytes : List ℕ) (insns : List Insn) : Type 0 where
+  pub count : length insns ≡ length bytes / 4
+  pub code : IsCode insns
