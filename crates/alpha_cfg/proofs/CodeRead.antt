@@ -6,7 +6,7 @@ use Rattle.alpha_words.specs.declared.insn.Insn.{Insn}
 use Rattle.alpha_words.specs.declared.fault.BadWord.{BadWord}
 use Rattle.alpha_words.specs.Reading.{reading}
 use Rattle.alpha_words.specs.Lawful.{target_of}
-use Rattle.alpha_words.proofs.Laws.{reading-Spells}
+use Rattle.alpha_words.proofs.Words.{reading-Spells}
 use Rattle.alpha_cfg.specs.declared.fault.CodeFlaw.{CodeFlaw}
 use Rattle.alpha_cfg.specs.declared.fault.CodeFlaw.TheVariants as flaw
 use Rattle.alpha_cfg.specs.Flow.{InsideOf, EndsAt, IsInsn, AreInsns, next_of}

@@ -11,9 +11,9 @@ use Rattle.alpha_words.specs.declared.insn.Cond.TheVariants.{LowClear, Zero, Neg
 use Rattle.alpha_words.specs.declared.insn.Insn.{Insn}
 use Rattle.alpha_words.specs.declared.insn.Insn.TheVariants.{Lda, Ldq, Stq, Oper, Branch, Br, Ret}
 use Rattle.alpha_words.specs.declared.fault.BadWord.{BadWord}
-use Rattle.alpha_words.specs.declared.fault.BadWord.TheVariants.{KeptRegister}
+use Rattle.alpha_words.specs.declared.fault.BadWord.TheVariants.{KeptRegister, LoadToZero}
 use Rattle.alpha_words.specs.Lawful.{fault_of, kept_fault, Reaches}
-use Rattle.alpha_words.specs.Spelling.{is_kept, bits_of, HasBits, opcode_of, function_of, cond_opcode_of, rhs_bits, IsRhs, operate, Spells}
+use Rattle.alpha_words.specs.Spelling.{is_kept, bits_of, HasBits, opcode_of, function_of, cond_opcode_of, rhs_bits, IsRhs, operate, HasFields, Spells}
 use Rattle.alpha_words.specs.Reading.{number_of, reg_at, operator_at, cond_at, writing, rhs_at, has_reserved, operating, branching, is_return, reading}
 use Rattle.alpha_words.proofs.Fields.{HasBits-number_of, bits_of-number_of, number_of-bits_of, bits_of-below}
 
@@ -194,27 +194,36 @@ rhs_whole : (rhs : Rhs) → (m : ℕ) × (rhs_bits rhs ≡ m * 2 ^ 12)
 rhs_whole (Reg rb) = (rb * 16, omega arith)
 rhs_whole (Lit n) = (n * 2 + 1, omega arith)
 
-reading_complete : (w : ℕ) (i : Insn) → Spells w i → reading w ≡ Ok i
-reading_complete w (Lda ra rb disp) h =
+-- an instruction, or why the profile refuses it
+abbrev judged : Insn → Option BadWord → Result Insn BadWord
+judged i None = Ok i
+judged i (Some bad) = Err bad
+
+writing-judged : (r : ℕ) (i : Insn) → writing r i ≡ judged i (kept_fault r)
+writing-judged r i = elim (is_kept r) as (λ b. cond b (Err KeptRegister) (Ok i) ≡ judged i (cond b (Some KeptRegister) None)) [ true ↦ refl | false ↦ refl ]
+
+loading-judged : (r : ℕ) (i : Insn) → cond (eqb r 31) (Err LoadToZero) (writing r i) ≡ judged i (cond (eqb r 31) (Some LoadToZero) (kept_fault r))
+loading-judged r i = elim (eqb r 31) as (λ b. cond b (Err LoadToZero) (writing r i) ≡ judged i (cond b (Some LoadToZero) (kept_fault r))) [ true ↦ refl | false ↦ writing-judged r i ]
+
+-- a word with the fields of an instruction reads as it, or as why the profile refuses it
+reading_fields : (w : ℕ) (i : Insn) → HasFields w i → reading w ≡ judged i (fault_of i)
+reading_fields w (Lda ra rb disp) h =
     let below : bits_of 15 disp < 2 ^ 16 = bits_of-below 15 disp h.2 in
     let o : w / 2 ^ 26 ≡ 8 = omega (arith, h.3) in
     let a : w / 2 ^ 21 % 32 ≡ ra = omega (arith, h.3) in
     let b : w / 2 ^ 16 % 32 ≡ rb = omega (arith, h.3) in
     let d : w % 2 ^ 16 ≡ bits_of 15 disp = omega (arith, h.3) in
     let n : number_of 15 (bits_of 15 disp) ≡ disp = number_of-bits_of 15 disp h.2 in
-    let k : is_kept ra ≡ false = unkept ra h.0.1 in
-    rw (o, a, b, d, n, k) refl
-reading_complete w (Ldq ra rb disp) h =
-    let below : bits_of 15 disp < 2 ^ 16 = bits_of-below 15 disp h.3 in
-    let o : w / 2 ^ 26 ≡ 0x29 = omega (arith, h.4) in
-    let a : w / 2 ^ 21 % 32 ≡ ra = omega (arith, h.4) in
-    let b : w / 2 ^ 16 % 32 ≡ rb = omega (arith, h.4) in
-    let d : w % 2 ^ 16 ≡ bits_of 15 disp = omega (arith, h.4) in
-    let n : number_of 15 (bits_of 15 disp) ≡ disp = number_of-bits_of 15 disp h.3 in
-    let k : is_kept ra ≡ false = unkept ra h.0.1 in
-    let z : eqb ra 31 ≡ false = ne_eqb ra 31 (λ e. absurd (omega (arith, h.1))) in
-    rw (o, a, b, d, n, z, k) refl
-reading_complete w (Stq ra rb disp) h =
+    rw (o, a, b, d, n) (writing-judged ra (Lda ra rb disp))
+reading_fields w (Ldq ra rb disp) h =
+    let below : bits_of 15 disp < 2 ^ 16 = bits_of-below 15 disp h.2 in
+    let o : w / 2 ^ 26 ≡ 0x29 = omega (arith, h.3) in
+    let a : w / 2 ^ 21 % 32 ≡ ra = omega (arith, h.3) in
+    let b : w / 2 ^ 16 % 32 ≡ rb = omega (arith, h.3) in
+    let d : w % 2 ^ 16 ≡ bits_of 15 disp = omega (arith, h.3) in
+    let n : number_of 15 (bits_of 15 disp) ≡ disp = number_of-bits_of 15 disp h.2 in
+    rw (o, a, b, d, n) (loading-judged ra (Ldq ra rb disp))
+reading_fields w (Stq ra rb disp) h =
     let below : bits_of 15 disp < 2 ^ 16 = bits_of-below 15 disp h.2 in
     let o : w / 2 ^ 26 ≡ 0x2D = omega (arith, h.3) in
     let a : w / 2 ^ 21 % 32 ≡ ra = omega (arith, h.3) in
@@ -222,7 +231,7 @@ reading_complete w (Stq ra rb disp) h =
     let d : w % 2 ^ 16 ≡ bits_of 15 disp = omega (arith, h.3) in
     let n : number_of 15 (bits_of 15 disp) ≡ disp = number_of-bits_of 15 disp h.2 in
     rw (o, a, b, d, n) refl
-reading_complete w (Oper op ra rhs rc) h =
+reading_fields w (Oper op ra rhs rc) h =
     let fb = function_below op in
     let rb = rhs_below rhs h.1 in
     let m = rhs_whole rhs in
@@ -231,32 +240,28 @@ reading_complete w (Oper op ra rhs rc) h =
     let f : w / 2 ^ 5 % 128 ≡ function_of op = omega (arith, fb, rb, m.1) in
     let a : w / 2 ^ 21 % 32 ≡ ra = omega (arith, fb, rb) in
     let c : w / 2 ^ 0 % 32 ≡ rc = omega (arith, m.1) in
-    let k : is_kept rc ≡ false = unkept rc h.2.1 in
-    let r = rhs_complete w (opcode_of op) ra (function_of op) rc rhs e h.0 fb h.2.0 h.1 in
-    reading_oper w op o ∙ rw (f, operator_complete op, r.0, r.1, a, c, k) refl
-reading_complete w (Branch c ra disp) h =
+    let r = rhs_complete w (opcode_of op) ra (function_of op) rc rhs e h.0 fb h.2 h.1 in
+    reading_oper w op o ∙ rw (f, operator_complete op, r.0, r.1, a, c) (writing-judged rc (Oper op ra rhs rc))
+reading_fields w (Branch c ra disp) h =
     let below : bits_of 20 disp < 2 ^ 21 = bits_of-below 20 disp h.1 in
     let o : w / 2 ^ 26 ≡ cond_opcode_of c = omega (arith, h.2) in
     let a : w / 2 ^ 21 % 32 ≡ ra = omega (arith, h.2) in
     let d : w % 2 ^ 21 ≡ bits_of 20 disp = omega (arith, h.2) in
     let n : number_of 20 (bits_of 20 disp) ≡ disp = number_of-bits_of 20 disp h.1 in
     reading_branch w c o ∙ rw (a, d, n) refl
-reading_complete w (Br disp) h =
+reading_fields w (Br disp) h =
     let below : bits_of 20 disp < 2 ^ 21 = bits_of-below 20 disp h.0 in
     let o : w / 2 ^ 26 ≡ 0x30 = omega (arith, h.1) in
     let a : w / 2 ^ 21 % 32 ≡ 31 = omega (arith, h.1) in
     let d : w % 2 ^ 21 ≡ bits_of 20 disp = omega (arith, h.1) in
     let n : number_of 20 (bits_of 20 disp) ≡ disp = number_of-bits_of 20 disp h.0 in
     rw (o, a, d, n) refl
-reading_complete w Ret h =
+reading_fields w Ret h =
     let o : w / 2 ^ 26 ≡ 0x1A = omega (arith, h.2) in
     let a : w / 2 ^ 21 % 32 ≡ 31 = omega (arith, h.2) in
     let b : w / 2 ^ 16 % 32 ≡ 26 = omega (arith, h.2) in
     let j : w / 2 ^ 14 % 4 ≡ 2 = omega (arith, h.2) in
     rw (o, a, b, j) refl
-
-pub reading-Spells : (w : ℕ) (i : Insn) → (reading w ≡ Ok i) ↔ Spells w i
-reading-Spells w i = (λ e. let s = reading_sound w in rw e at s, reading_complete w i)
 
 kept_fault-none : (r : ℕ) → not (is_kept r) ≡ true → kept_fault r ≡ None
 kept_fault-none r h = rw (unkept r h) refl
@@ -271,6 +276,32 @@ Lawful-Spells w (Branch cond ra disp) h = (refl, h.1)
 Lawful-Spells w (Br disp) h = (refl, h.0)
 Lawful-Spells w Ret h = (refl, tt)
 
+-- what a word spells has its fields
+HasFields-Spells : (w : ℕ) (i : Insn) → Spells w i → HasFields w i
+HasFields-Spells w (Lda ra rb disp) h = (h.0.0, h.1, h.2, h.3)
+HasFields-Spells w (Ldq ra rb disp) h = (h.0.0, h.2, h.3, h.4)
+HasFields-Spells w (Stq ra rb disp) h = h
+HasFields-Spells w (Oper op ra rhs rc) h = (h.0, h.1, h.2.0, h.3)
+HasFields-Spells w (Branch cond ra disp) h = h
+HasFields-Spells w (Br disp) h = h
+HasFields-Spells w Ret h = h
+
+reading_complete : (w : ℕ) (i : Insn) → Spells w i → reading w ≡ Ok i
+reading_complete w i h = let lawful : fault_of i ≡ None = (Lawful-Spells w i h).0 in reading_fields w i (HasFields-Spells w i h) ∙ rw lawful refl
+
+pub reading-Spells : (w : ℕ) (i : Insn) → (reading w ≡ Ok i) ↔ Spells w i
+reading-Spells w i = (λ e. let s = reading_sound w in rw e at s, reading_complete w i)
+
 pub Lawful-reading : (w : ℕ) (r : Result Insn BadWord) → r ≡ reading w → IfOk r (λ i. (fault_of i ≡ None) × Reaches i)
 Lawful-reading w (Ok i) e = Lawful-Spells w i ((reading-Spells w i).0 (sym e))
 Lawful-reading w (Err bad) e = tt
+
+-- ---- the profile
+
+-- the fault of a word with the fields of a refused instruction is the instruction's
+pub reading-refused : (w : ℕ) (i : Insn) (bad : BadWord) → HasFields w i → fault_of i ≡ Some bad → reading w ≡ Err bad
+reading-refused w i bad h refused = reading_fields w i h ∙ rw refused refl
+
+-- a word spells the instruction whose fields it has, where the profile has that
+pub Spells-exactly : (w : ℕ) (i : Insn) → Spells w i ↔ (HasFields w i × (fault_of i ≡ None))
+Spells-exactly w i = (λ h. (HasFields-Spells w i h, (Lawful-Spells w i h).0), λ p. (reading-Spells w i).0 (reading_fields w i p.0 ∙ rw p.1 refl))
