@@ -161,7 +161,8 @@ impl Agent {
     /// Goes on to the instruction at the index.
     fn go_to(&mut self, index: u32) -> Step
         ensures result { result ≡ Step.Moved }
-        ensures value { self.new ≡ record self.old { state = record self.old.state { index = index } } }
+        ensures value { self.new
+            ≡ record self.old { state = record self.old.state { index = index } } }
     {
         self.index = index;
         Step::Moved
@@ -179,7 +180,8 @@ impl Agent {
     pub fn step(&mut self, code: &Code) -> Step
         requires { self.old.state.index < length code.now }
         ensures step { (result, self.new.state) ≡ machine.step_of code.now self.old.state }
-        ensures region { (self.new.region_at ≡ self.old.region_at) × (self.new.region ≡ self.old.region) }
+        ensures region { (self.new.region_at ≡ self.old.region_at)
+            × (self.new.region ≡ self.old.region) }
         ensures within { self.new.state.index < length code.now }
     {
         let index = self.index();
@@ -229,7 +231,8 @@ impl Agent {
     pub fn run(&mut self, code: &Code, budget: u64) -> Outcome
         requires { self.old.state.index < length code.now }
         ensures run { (result, self.new.state) ≡ machine.run_of code.now budget self.old.state }
-        ensures region { (self.new.region_at ≡ self.old.region_at) × (self.new.region ≡ self.old.region) }
+        ensures region { (self.new.region_at ≡ self.old.region_at)
+            × (self.new.region ≡ self.old.region) }
         ensures within { self.new.state.index < length code.now }
     {
         for _ in 0..budget {
@@ -253,7 +256,8 @@ impl Agent {
 
     /// The sum of the region's quadwords, modulo 2^64.
     pub fn sum(&self) -> u64
-        ensures { result ≡ sum_of self.now.state.memory self.now.region_at self.now.region % 2 ^ 64 }
+        ensures { result
+            ≡ sum_of self.now.state.memory self.now.region_at self.now.region % 2 ^ 64 }
     {
         let mut total: u64 = 0;
         let first = ((self.region_at - ARENA) / 8) as usize;

@@ -11,11 +11,13 @@ ghost use Rattle.reference_machine.specs.declared.layout.TheConstants.{QUADWORDS
 /// A start whose parts lie in the arena is a state, and its memory has the arena's quadwords and
 /// nothing else.
 pub fn laws()
-    ensures state { (base : ℕ) (s : Setup) → base % 8 ≡ 0 → base + 8 * QUADWORDS ≤ 2 ^ 64 → Fits base s
+    ensures state { (base : ℕ) (s : Setup) → base % 8 ≡ 0 → base + 8 * QUADWORDS ≤ 2 ^ 64
+        → Fits base s
         → HasWords s → IsState (start_state base s) }
     ensures words { (base : ℕ) (s : Setup) (p : ℕ) → p < QUADWORDS
         → read (start_state base s).memory (base + 8 * p)
         ≡ placed_word ((s.at - base) / 8) s.bytes p }
-    ensures nothing_else { (base : ℕ) (s : Setup) (a : ℕ) → ((p : ℕ) → p < QUADWORDS → a ≢ base + 8 * p)
+    ensures nothing_else { (base : ℕ) (s : Setup) (a : ℕ) → ((p : ℕ) → p < QUADWORDS
+        → a ≢ base + 8 * p)
         → get (start_state base s).memory a ≡ None }
 {}

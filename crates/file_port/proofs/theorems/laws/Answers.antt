@@ -1,7 +1,7 @@
 use Rattle.std.proofs.Common.{arith}
 use Rattle.file_port.proofs.FileMaps.{get-insert_same, get-insert_other}
 use Rattle.file_port.proofs.PutLemmas.{part_fails, puts_then}
-use Rattle.file_port.proofs.known.laws.Goals as goal
+use Rattle.file_port.proofs.theorems.laws.Goals as goal
 
 pub returns : goal.returns
 returns c = record {
