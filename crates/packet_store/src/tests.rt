@@ -10,17 +10,19 @@ use std::test::Fail;
 
 const RETURN: u32 = 0x6bfa_8001;
 
-/// What each policy begins with, seen through code: policy, the byte that fills the packet and
-/// how often, three words before a return, the answer in r0 or where an access is blocked, and
-/// the sum of the region. The packets are the shortest, an odd and the longest one.
-static STARTS: [(
+type StartRow = (
     Policy,
     u8,
     usize,
     [u32; 3],
     Result<u64, (u32, Kind, u64)>,
     u64,
-); 56] = [
+);
+
+/// What each policy begins with, seen through code: policy, the byte that fills the packet and
+/// how often, three words before a return, the answer in r0 or where an access is blocked, and
+/// the sum of the region. The packets are the shortest, an odd and the longest one.
+static STARTS: [StartRow; 56] = [
     (
         Policy::Filter,
         1,
@@ -566,24 +568,27 @@ fn ran(
     Ok(Some((outcome, agent.sum())))
 }
 
+/// Whether the run of the row's code ends as the row says; `ones` has a byte 1 for each of the row's.
+fn is_met(rt: &impl Abort, alloc: Global, row: &StartRow, ones: &[u8]) -> Result<bool, CodeFault> {
+    let (policy, byte, count, [first, second, third], answer, sum) = *row;
+    let zeros = [0u8; 16];
+    let bytes = if byte == 0 { zeros.as_slice() } else { ones };
+    let Some(packet) = bytes.get(..count) else {
+        return Ok(false);
+    };
+    let outcome = match answer {
+        Ok(word) => Outcome::Returned(word),
+        Err((index, kind, addr)) => Outcome::Blocked { index, kind, addr },
+    };
+    let found = ran(rt, alloc, policy, &[first, second, third, RETURN], packet)?;
+    Ok(found == Some((outcome, sum)))
+}
+
 #[test]
 fn starts_are_the_policies(rt: HostRuntime) -> Result<(), Fail> {
-    let a = rt.alloc();
-    let ones = vec![in a; 1u8; 65_535]?;
-    let zeros = [0u8; 16];
-    for (policy, byte, count, [first, second, third], answer, sum) in STARTS {
-        let bytes: &[u8] = if byte == 0 { &zeros } else { &ones };
-        let packet = bytes.get(..count).ok_or("no such packet")?;
-        let outcome = match answer {
-            Ok(word) => Outcome::Returned(word),
-            Err((index, kind, addr)) => Outcome::Blocked { index, kind, addr },
-        };
-        let found = ran(&rt, a, policy, &[first, second, third, RETURN], packet)?;
-        assert_eq!(rt;
-            found,
-            Some((outcome, sum)),
-            "{policy:?} on {count}: {first:x}"
-        );
+    let ones = vec![in rt.alloc(); 1u8; 65_535]?;
+    for row in &STARTS {
+        assert!(rt; is_met(&rt, rt.alloc(), row, &ones)?, "{row:?}");
     }
     Ok(())
 }
