@@ -6,11 +6,13 @@ use Rattle.alpha_words.specs.declared.fault.BadWord.{BadWord}
 use Rattle.alpha_words.specs.Spelling.{Spells}
 use Rattle.alpha_words.specs.Reading.{reading}
 use Rattle.alpha_words.specs.Lawful.{target_of}
-use Rattle.alpha_words.proofs.Laws.{reading-Spells}
+use Rattle.alpha_words.proofs.Words.{reading-Spells}
+use Rattle.alpha_cfg.specs.declared.fault.CodeFlaw.{CodeFlaw}
+use Rattle.alpha_cfg.specs.declared.fault.CodeFlaw.TheVariants as flaw
 use Rattle.alpha_cfg.specs.declared.fault.CodeFault.{CodeFault}
 use Rattle.alpha_cfg.specs.declared.fault.CodeFault.TheVariants as fault
 use Rattle.alpha_cfg.specs.Flow.{InsideOf, IsInside, EndsAt, IsCode, AreInsns, next_of}
-use Rattle.alpha_cfg.specs.CodeBytes.{word_at, SpellsFirst, SpellsCode, IsShapeFault, Answers}
+use Rattle.alpha_cfg.specs.CodeBytes.{word_at, SpellsFirst, SpellsCode, IsShapeFlaw, IsFlaw, Answers}
 use Rattle.alpha_cfg.specs.CodeReading.{words_read, is_inside, first_outside, runs_off, code_read, IsRead}
 
 -- the instructions are spelled by the words from index i on
@@ -32,7 +34,7 @@ words_read-spelled bytes i [] each = refl
 words_read-spelled bytes i (insn ∷ rest) each =
     rw (first_spelled bytes i insn rest each, words_read-spelled bytes (suc i) rest (rest_spelled bytes i insn rest each)) refl
 
-words_read-bad : (bytes : List ℕ) (i m : ℕ) (bad : BadWord) (code : List Insn) → AreSpelled bytes i code → reading (word_at bytes (i + length code)) ≡ Err bad → words_read bytes i (length code + suc m) ≡ Err (fault.BadWord (i + length code) (word_at bytes (i + length code)) bad)
+words_read-bad : (bytes : List ℕ) (i m : ℕ) (bad : BadWord) (code : List Insn) → AreSpelled bytes i code → reading (word_at bytes (i + length code)) ≡ Err bad → words_read bytes i (length code + suc m) ≡ Err (flaw.BadWord (i + length code) (word_at bytes (i + length code)) bad)
 words_read-bad bytes i m bad [] each e =
     let here : i + 0 ≡ i = omega arith in
     let count : 0 + suc m ≡ suc m = omega arith in
@@ -52,7 +54,7 @@ is_inside-true n None h = refl
 is_inside-true n (Some (pos k)) h = lt-ltb k n h
 is_inside-true n (Some (negsuc k)) h = absurd h
 
-InsideOf-is_inside : (n : ℕ) (to : Option ℤ) → is_inside n to ≡ true → InsideOf n to
+pub InsideOf-is_inside : (n : ℕ) (to : Option ℤ) → is_inside n to ≡ true → InsideOf n to
 InsideOf-is_inside n None h = tt
 InsideOf-is_inside n (Some (pos k)) h = ltb-true k n h
 InsideOf-is_inside n (Some (negsuc k)) h = cc
@@ -100,7 +102,7 @@ first_outside-some n i (suc k) (insn ∷ rest) lt each out =
 is_some-none : {A : Type 0} (o : Option A) → o ≡ None → is_some o ≡ false
 is_some-none o e = rw e refl
 
-none-is_some : {A : Type 0} (o : Option A) → is_some o ≡ false → o ≡ None
+pub none-is_some : {A : Type 0} (o : Option A) → is_some o ≡ false → o ≡ None
 none-is_some None e = refl
 none-is_some (Some x) e = cc
 
@@ -142,7 +144,7 @@ code_read-ok bytes code s is =
     let last : length code - 1 + 1 ≡ length code = omega (arith, is.nonempty) in
     rw (all_read bytes code s, all_inside code is.inside, runs_off-false (length code - 1) code last is.ends) refl
 
-code_read-target : (bytes : List ℕ) (code : List Insn) (i : ℕ) → SpellsCode bytes code → IsShapeFault code (fault.Target i) → Err (fault.Target i) ≡ code_read bytes
+code_read-target : (bytes : List ℕ) (code : List Insn) (i : ℕ) → SpellsCode bytes code → IsShapeFlaw code (flaw.Target i) → Err (flaw.Target i) ≡ code_read bytes
 unfolding code_read
 code_read-target bytes code i s f =
     let zero_plus : (k : ℕ) → 0 + k ≡ k = λ k. omega arith in
@@ -151,13 +153,13 @@ code_read-target bytes code i s f =
     (λ inside. f.1 (λ x at. subst (λ z. InsideOf (length code) (target_of z x)) (zero_plus i) (inside x at))) in
     rw (all_read bytes code s, found, zero_plus i) refl
 
-code_read-falls_off : (bytes : List ℕ) (code : List Insn) (i : ℕ) → SpellsCode bytes code → IsShapeFault code (fault.FallsOff i) → Err (fault.FallsOff i) ≡ code_read bytes
+code_read-falls_off : (bytes : List ℕ) (code : List Insn) (i : ℕ) → SpellsCode bytes code → IsShapeFlaw code (flaw.FallsOff i) → Err (flaw.FallsOff i) ≡ code_read bytes
 unfolding code_read
 code_read-falls_off bytes code i s f =
     let last : length code - 1 ≡ i = omega (arith, f.0) in
     rw (all_read bytes code s, all_inside code f.2, runs_off-true i code f.0 f.1, last) refl
 
-code_read-bad : (bytes : List ℕ) (code : List Insn) (i word : ℕ) (bad : BadWord) → word ≡ word_at bytes i → reading word ≡ Err bad → 4 * i + 4 ≤ length bytes → SpellsFirst bytes i code → Err (fault.BadWord i word bad) ≡ code_read bytes
+code_read-bad : (bytes : List ℕ) (code : List Insn) (i word : ℕ) (bad : BadWord) → word ≡ word_at bytes i → reading word ≡ Err bad → 4 * i + 4 ≤ length bytes → SpellsFirst bytes i code → Err (flaw.BadWord i word bad) ≡ code_read bytes
 unfolding code_read
 code_read-bad bytes code i word bad is e within s =
     let m = length bytes / 4 - suc i in
@@ -167,11 +169,14 @@ code_read-bad bytes code i word bad is e within s =
     let found = words_read-bad bytes 0 m bad code (λ k insn has. let z : k ≡ 0 + k = omega arith in subst (λ j. Spells (word_at bytes j) insn) z (s.each k insn has)) read in
     rw (count, found, at, ← is) refl
 
+code_read-flaw : (bytes : List ℕ) (f : CodeFlaw) → IsFlaw bytes f → Err f ≡ code_read bytes
+code_read-flaw bytes (flaw.BadWord i word bad) h = code_read-bad bytes h.3.0 i word bad h.0 h.1 h.2 h.3.1
+code_read-flaw bytes (flaw.Target i) h = code_read-target bytes h.0 i h.1 h.2
+code_read-flaw bytes (flaw.FallsOff i) h = code_read-falls_off bytes h.0 i h.1 h.2
+
 pub IsRead-Answers : (bytes : List ℕ) (r : Result (List Insn) CodeFault) → Answers bytes r → IsRead bytes r
 IsRead-Answers bytes (Ok code) h = code_read-ok bytes code h.0 h.1
-IsRead-Answers bytes (Err (fault.BadWord i word bad)) h = code_read-bad bytes h.3.0 i word bad h.0 h.1 h.2 h.3.1
-IsRead-Answers bytes (Err (fault.Target i)) h = code_read-target bytes h.0 i h.1 h.2
-IsRead-Answers bytes (Err (fault.FallsOff i)) h = code_read-falls_off bytes h.0 i h.1 h.2
+IsRead-Answers bytes (Err (fault.At f)) h = code_read-flaw bytes f h
 IsRead-Answers bytes (Err fault.Memory) h = tt
 
 -- ---- spelled code

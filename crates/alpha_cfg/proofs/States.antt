@@ -1,7 +1,5 @@
 -- A step keeps a state one, and its index inside the code.
-use Rattle.std.proofs.Common.{◌≡◌, ℕ, zero, suc, ◌+◌, ◌-◌, ◌^◌, ◌<◌, Bool, true, false, List, length, slice_get, Option, Some, None, IsSome, refl, ◌∙◌, arith, inl, inr, ℤ, pos, negsuc, if◌then◌else◌}
-use Rattle.std.proofs.lemmas.Bool.{cases_lt}
-use Rattle.std.proofs.lemmas.Option.{slice_get_within}
+use Rattle.std.proofs.Common.{◌≡◌, ℕ, zero, suc, ◌+◌, ◌^◌, ◌<◌, Bool, true, false, List, length, slice_get, Option, Some, None, IsSome, refl, ◌∙◌, arith, ℤ, if◌then◌else◌}
 use Rattle.std.proofs.lemmas.Nat.{mod_below}
 use Rattle.std.specs.Int.{cast_unsigned, w64}
 use Rattle.word_ops.proofs.Bounds.{word_of-below}
@@ -17,7 +15,8 @@ use Rattle.alpha_words.specs.declared.insn.Insn.{Insn}
 use Rattle.alpha_words.specs.declared.insn.Insn.TheVariants.{Lda, Ldq, Stq, Oper, Branch, Br, Ret}
 use Rattle.alpha_words.specs.Spelling.{IsRhs}
 use Rattle.alpha_words.specs.Lawful.{target_of}
-use Rattle.alpha_cfg.specs.Flow.{IsCode, IsInsn, InsideOf, Ends, jump_of, next_of, landing}
+use Rattle.alpha_cfg.specs.Flow.{IsCode, IsInsn, jump_of, next_of}
+use Rattle.alpha_cfg.proofs.FreeWalks.{landing_within, next_within}
 use Rattle.alpha_cfg.specs.declared.outcome.Kind.{Kind}
 use Rattle.alpha_cfg.specs.declared.outcome.Kind.TheVariants.{Load, Store}
 use Rattle.alpha_cfg.specs.declared.outcome.Step.{Step}
@@ -39,39 +38,15 @@ address_of-below regs rb disp = mod_below (read_reg regs rb + cast_unsigned w64 
 
 -- ---- where it goes on
 
-goes_on : (i : ℕ) (insn : Insn) → next_of i insn ≡ Some (i + 1) → Ends insn → ⊥
-goes_on i (Lda ra rb disp) on end = cc
-goes_on i (Ldq ra rb disp) on end = cc
-goes_on i (Stq ra rb disp) on end = cc
-goes_on i (Oper op ra rhs rc) on end = cc
-goes_on i (Branch cond ra disp) on end = cc
-goes_on i (Br disp) on end = cc
-goes_on i Ret on end = cc
-
-next-below : (code : List Insn) (i : ℕ) (insn : Insn) → IsCode code → slice_get code i ≡ Some insn → next_of i insn ≡ Some (i + 1) → i + 1 < length code
-next-below code i insn is at on =
-    let within : i < length code = slice_get_within code i insn at in
-    elim (cases_lt (i + 1) (length code)) [
-      | inl below ↦ below
-      | inr last ↦
-          let e : i ≡ length code - 1 = omega arith in
-          absurd (goes_on i insn on (is.ends insn (rw (← e) at)))
-    ]
-
--- the same where it goes on at all
-pub next-below_some : (code : List Insn) (i : ℕ) (insn : Insn) → IsCode code → slice_get code i ≡ Some insn → IsSome (next_of i insn) → i + 1 < length code
-next-below_some code i (Lda ra rb disp) is at on = next-below code i (Lda ra rb disp) is at refl
-next-below_some code i (Ldq ra rb disp) is at on = next-below code i (Ldq ra rb disp) is at refl
-next-below_some code i (Stq ra rb disp) is at on = next-below code i (Stq ra rb disp) is at refl
-next-below_some code i (Oper op ra rhs rc) is at on = next-below code i (Oper op ra rhs rc) is at refl
-next-below_some code i (Branch cond ra disp) is at on = next-below code i (Branch cond ra disp) is at refl
-next-below_some code i (Br disp) is at on = cc
-next-below_some code i Ret is at on = cc
-
-landing-below : (n : ℕ) (to : Option ℤ) → InsideOf n to → (j : ℕ) → landing to ≡ Some j → j < n
-landing-below n None is j e = cc
-landing-below n (Some (pos k)) is j e = let same : k ≡ j = cc in omega arith
-landing-below n (Some (negsuc k)) is j e = absurd is
+-- where an instruction goes on, code has one more
+pub next_within_some : (code : List Insn) (i : ℕ) (insn : Insn) → IsCode code → slice_get code i ≡ Some insn → IsSome (next_of i insn) → i + 1 < length code
+next_within_some code i (Lda ra rb disp) is at on = next_within code is i (Lda ra rb disp) at (i + 1) refl
+next_within_some code i (Ldq ra rb disp) is at on = next_within code is i (Ldq ra rb disp) at (i + 1) refl
+next_within_some code i (Stq ra rb disp) is at on = next_within code is i (Stq ra rb disp) at (i + 1) refl
+next_within_some code i (Oper op ra rhs rc) is at on = next_within code is i (Oper op ra rhs rc) at (i + 1) refl
+next_within_some code i (Branch cond ra disp) is at on = next_within code is i (Branch cond ra disp) at (i + 1) refl
+next_within_some code i (Br disp) is at on = cc
+next_within_some code i Ret is at on = cc
 
 -- ---- a state with other parts
 
@@ -94,25 +69,25 @@ accessed-keeps n kind false a s u is after = is
 
 -- ---- steps and runs
 
-done-keeps : (code : List Insn) (insn : Insn) (s : State) → IsCode code → slice_get code s.index ≡ Some insn → IsInsn insn → IsAt (length code) s → IsAt (length code) (done insn s).1
-done-keeps code (Lda ra rb disp) s ok at byte is = set_reg-keeps (length code) s ra (address_of s.regs rb disp) is (next-below code s.index (Lda ra rb disp) ok at refl) (address_of-below s.regs rb disp)
+pub done-keeps : (code : List Insn) (insn : Insn) (s : State) → IsCode code → slice_get code s.index ≡ Some insn → IsInsn insn → IsAt (length code) s → IsAt (length code) (done insn s).1
+done-keeps code (Lda ra rb disp) s ok at byte is = set_reg-keeps (length code) s ra (address_of s.regs rb disp) is (next_within code ok s.index (Lda ra rb disp) at (s.index + 1) refl) (address_of-below s.regs rb disp)
 done-keeps code (Ldq ra rb disp) s ok at byte is =
     let a = address_of s.regs rb disp in
-    accessed-keeps (length code) Load (allowed s.rights.reads a) a s (record s { index = s.index + 1; regs = write_reg s.regs ra (read s.memory a) }) is (set_reg-keeps (length code) s ra (read s.memory a) is (next-below code s.index (Ldq ra rb disp) ok at refl) (read-below s.memory a is.state.memory))
+    accessed-keeps (length code) Load (allowed s.rights.reads a) a s (record s { index = s.index + 1; regs = write_reg s.regs ra (read s.memory a) }) is (set_reg-keeps (length code) s ra (read s.memory a) is (next_within code ok s.index (Ldq ra rb disp) at (s.index + 1) refl) (read-below s.memory a is.state.memory))
 done-keeps code (Stq ra rb disp) s ok at byte is =
     let a = address_of s.regs rb disp in
-    accessed-keeps (length code) Store (allowed s.rights.writes a) a s (record s { index = s.index + 1; memory = write s.memory a (read_reg s.regs ra) }) is (store-keeps (length code) s a (read_reg s.regs ra) is (next-below code s.index (Stq ra rb disp) ok at refl) (address_of-below s.regs rb disp) (read_reg-below s.regs ra is.state.regs))
+    accessed-keeps (length code) Store (allowed s.rights.writes a) a s (record s { index = s.index + 1; memory = write s.memory a (read_reg s.regs ra) }) is (store-keeps (length code) s a (read_reg s.regs ra) is (next_within code ok s.index (Stq ra rb disp) at (s.index + 1) refl) (address_of-below s.regs rb disp) (read_reg-below s.regs ra is.state.regs))
 done-keeps code (Oper op ra rhs rc) s ok at byte is =
     let regs : AreRegs s.regs = is.state.regs in
-    set_reg-keeps (length code) s rc (word_of op (read_reg s.regs ra) (rhs_word s.regs rhs)) is (next-below code s.index (Oper op ra rhs rc) ok at refl) (word_of-below op (read_reg s.regs ra) (rhs_word s.regs rhs) (read_reg-below s.regs ra regs) (rhs_word-below s.regs rhs regs byte.1.1))
+    set_reg-keeps (length code) s rc (word_of op (read_reg s.regs ra) (rhs_word s.regs rhs)) is (next_within code ok s.index (Oper op ra rhs rc) at (s.index + 1) refl) (word_of-below op (read_reg s.regs ra) (rhs_word s.regs rhs) (read_reg-below s.regs ra regs) (rhs_word-below s.regs rhs regs byte.1.1))
 done-keeps code (Branch cond ra disp) s ok at byte is =
     let jump = jump_of s.index (Branch cond ra disp) in
-    let on : s.index + 1 < length code = next-below code s.index (Branch cond ra disp) ok at refl in
+    let on : s.index + 1 < length code = next_within code ok s.index (Branch cond ra disp) at (s.index + 1) refl in
     elim (takes cond (read_reg s.regs ra)) as (λ b. IsAt (length code) (moved_to s (if b then jump else Some (s.index + 1)))) [
-      | true ↦ moved_to-keeps (length code) s jump is (landing-below (length code) (target_of s.index (Branch cond ra disp)) (ok.inside s.index (Branch cond ra disp) at))
+      | true ↦ moved_to-keeps (length code) s jump is (landing_within (length code) (target_of s.index (Branch cond ra disp)) (ok.inside s.index (Branch cond ra disp) at))
       | false ↦ moved (length code) s (s.index + 1) is on
     ]
-done-keeps code (Br disp) s ok at byte is = moved_to-keeps (length code) s (jump_of s.index (Br disp)) is (landing-below (length code) (target_of s.index (Br disp)) (ok.inside s.index (Br disp) at))
+done-keeps code (Br disp) s ok at byte is = moved_to-keeps (length code) s (jump_of s.index (Br disp)) is (landing_within (length code) (target_of s.index (Br disp)) (ok.inside s.index (Br disp) at))
 done-keeps code Ret s ok at byte is = is
 
 step_at-keeps : (code : List Insn) (insn : Option Insn) (s : State) → IsCode code → slice_get code s.index ≡ insn → IsAt (length code) s → IsAt (length code) (step_at insn s).1
@@ -144,7 +119,7 @@ moved_to-rights : (s : State) (to : Option ℕ) → (moved_to s to).rights ≡ s
 moved_to-rights s None = refl
 moved_to-rights s (Some j) = refl
 
-done-rights : (insn : Insn) (s : State) → (done insn s).1.rights ≡ s.rights
+pub done-rights : (insn : Insn) (s : State) → (done insn s).1.rights ≡ s.rights
 done-rights (Lda ra rb disp) s = refl
 done-rights (Ldq ra rb disp) s =
     let a = address_of s.regs rb disp in

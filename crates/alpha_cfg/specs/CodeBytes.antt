@@ -3,8 +3,11 @@ use Rattle.std.specs.Prelude.{◌≡◌, ℕ, ◌+◌, ◌*◌, ◌<◌, ◌≤�
 use Rattle.alpha_words.specs.declared.insn.Insn.{Insn}
 use Rattle.alpha_words.specs.Spelling.{Spells}
 use Rattle.alpha_words.specs.Reading.{reading}
+use Rattle.alpha_words.specs.declared.fault.BadWord.{BadWord}
+use Rattle.alpha_cfg.specs.declared.fault.CodeFlaw.{CodeFlaw}
+use Rattle.alpha_cfg.specs.declared.fault.CodeFlaw.TheVariants as flaw
 use Rattle.alpha_cfg.specs.declared.fault.CodeFault.{CodeFault}
-use Rattle.alpha_cfg.specs.declared.fault.CodeFault.TheVariants.{BadWord, Target, FallsOff, Memory}
+use Rattle.alpha_cfg.specs.declared.fault.CodeFault.TheVariants as fault
 use Rattle.alpha_cfg.specs.Flow.{IsInside, EndsAt, IsCode}
 
 -- the i-th word, whose lowest byte is the first
@@ -21,24 +24,24 @@ pub record SpellsCode (bytes : List ℕ) (code : List Insn) : Type 0 where
   pub whole : 4 * length code ≡ length bytes
   pub first : SpellsFirst bytes (length code) code
 
--- The first word that spells nothing, or want of memory.
-abbrev pub IsWordFault : List ℕ → CodeFault → Type 0
-IsWordFault bytes (BadWord i word bad) = (word ≡ word_at bytes i) × (reading word ≡ Err bad) × (4 * i + 4 ≤ length bytes) × ((code : List Insn) × SpellsFirst bytes i code)
-IsWordFault bytes (Target i) = ⊥
-IsWordFault bytes (FallsOff i) = ⊥
-IsWordFault bytes Memory = Unit {0}
+-- word i is the first that spells nothing
+abbrev pub IsFirstBad : List ℕ → ℕ → ℕ → BadWord → Type 0
+IsFirstBad bytes i word bad = (word ≡ word_at bytes i) × (reading word ≡ Err bad) × (4 * i + 4 ≤ length bytes) × ((code : List Insn) × SpellsFirst bytes i code)
 
 -- What is wrong with instructions that are no code: the least branch that leads outside, else that the last one may go on.
-abbrev pub IsShapeFault : List Insn → CodeFault → Type 0
-IsShapeFault code (BadWord i word bad) = ⊥
-IsShapeFault code (Target i) = (i < length code) × (IsInside code i → ⊥) × ((k : ℕ) → k < i → IsInside code k)
-IsShapeFault code (FallsOff i) = (i + 1 ≡ length code) × (EndsAt code i → ⊥) × ((k : ℕ) → IsInside code k)
-IsShapeFault code Memory = ⊥
+abbrev pub IsShapeFlaw : List Insn → CodeFlaw → Type 0
+IsShapeFlaw code (flaw.BadWord i word bad) = ⊥
+IsShapeFlaw code (flaw.Target i) = (i < length code) × (IsInside code i → ⊥) × ((k : ℕ) → k < i → IsInside code k)
+IsShapeFlaw code (flaw.FallsOff i) = (i + 1 ≡ length code) × (EndsAt code i → ⊥) × ((k : ℕ) → IsInside code k)
 
--- The answer to bytes of code: the code, or the first fault; a word that spells nothing comes first.
+-- The first flaw of bytes of code; a word that spells nothing comes before what is wrong with the instructions.
+abbrev pub IsFlaw : List ℕ → CodeFlaw → Type 0
+IsFlaw bytes (flaw.BadWord i word bad) = IsFirstBad bytes i word bad
+IsFlaw bytes (flaw.Target i) = (code : List Insn) × SpellsCode bytes code × IsShapeFlaw code (flaw.Target i)
+IsFlaw bytes (flaw.FallsOff i) = (code : List Insn) × SpellsCode bytes code × IsShapeFlaw code (flaw.FallsOff i)
+
+-- The answer to bytes of code: the code, or the first flaw, or want of memory.
 abbrev pub Answers : List ℕ → Result (List Insn) CodeFault → Type 0
 Answers bytes (Ok code) = SpellsCode bytes code × IsCode code
-Answers bytes (Err (BadWord i word bad)) = IsWordFault bytes (BadWord i word bad)
-Answers bytes (Err (Target i)) = (code : List Insn) × SpellsCode bytes code × IsShapeFault code (Target i)
-Answers bytes (Err (FallsOff i)) = (code : List Insn) × SpellsCode bytes code × IsShapeFault code (FallsOff i)
-Answers bytes (Err Memory) = Unit {0}
+Answers bytes (Err (fault.At f)) = IsFlaw bytes f
+Answers bytes (Err fault.Memory) = Unit {0}

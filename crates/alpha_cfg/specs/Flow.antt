@@ -4,12 +4,14 @@ use Rattle.alpha_words.specs.declared.insn.Insn.{Insn}
 use Rattle.alpha_words.specs.declared.insn.Insn.TheVariants.{Lda, Ldq, Stq, Oper, Branch, Br, Ret}
 use Rattle.alpha_words.specs.Spelling.{Spells}
 use Rattle.alpha_words.specs.Lawful.{target_of}
+use Rattle.alpha_cfg.specs.declared.code.TheConstants.{MAX_WORDS}
 
 -- a number that is an index
 abbrev pub index_of : ℤ → Option ℕ
 index_of (pos n) = Some n
 index_of (negsuc n) = None
 
+-- the index that a target is
 abbrev pub landing : Option ℤ → Option ℕ
 landing None = None
 landing (Some z) = index_of z
@@ -38,9 +40,11 @@ InsideOf n (Some (negsuc k)) = ⊥
 abbrev pub Ends : Insn → Type 0
 Ends insn = next_of 0 insn ≡ None
 
+-- the instruction at i, if there is one, branches to an index of the code
 abbrev pub IsInside : List Insn → ℕ → Type 0
 IsInside code i = (insn : Insn) → slice_get code i ≡ Some insn → InsideOf (length code) (target_of i insn)
 
+-- code may not go on after the instruction at i
 abbrev pub EndsAt : List Insn → ℕ → Type 0
 EndsAt code i = (insn : Insn) → slice_get code i ≡ Some insn → Ends insn
 
@@ -48,13 +52,14 @@ EndsAt code i = (insn : Insn) → slice_get code i ≡ Some insn → Ends insn
 abbrev pub IsInsn : Insn → Type 0
 IsInsn insn = (word : ℕ) × Spells word insn
 
+-- each instruction is spelled by some word
 abbrev pub AreInsns : List Insn → Type 0
 AreInsns code = (i : ℕ) (insn : Insn) → slice_get code i ≡ Some insn → IsInsn insn
 
 -- Code: 1 to 1,024 instructions, each of which some word spells. Its branches stay inside, and it can't run off its end.
 pub record IsCode (code : List Insn) : Type 0 where
   pub nonempty : 0 < length code
-  pub short : length code ≤ 1024
+  pub short : length code ≤ MAX_WORDS
   pub spelled : AreInsns code
   pub inside : (i : ℕ) → IsInside code i
   pub ends : EndsAt code (length code - 1)

@@ -2,7 +2,7 @@ pub mod Flow
 pub mod CodeBytes
 pub mod CodeReading
 pub mod Graph
-pub mod Search
 pub mod Cuts
-pub mod Unfolded
+pub mod Deciding
 pub mod Machine
+pub mod Inside

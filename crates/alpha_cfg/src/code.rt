@@ -1,18 +1,21 @@
 //! Code: the instructions that bytes spell, whose branches stay inside it.
 
 ghost use Rattle.std.specs.Prelude.{◌≡◌, ℕ, ◌+◌, ◌*◌, ◌%◌, ◌<◌, ◌≤◌, ◌↔◌, length, slice_get, Some, IsTrue, IsSome, IfSome, IfNone, IfOk, IfErr, MatchResult, Err};
-ghost use Rattle.alpha_cfg.specs.CodeBytes.{word_at, SpellsCode, IsWordFault, IsShapeFault, Answers};
+ghost use Rattle.alpha_cfg.specs.CodeBytes.{word_at, SpellsCode, IsShapeFlaw, Answers};
 ghost use Rattle.alpha_cfg.specs.CodeReading.{IsRead};
+ghost use Rattle.alpha_cfg.specs.declared.code.TheConstants.{MAX_WORDS};
+ghost use Rattle.alpha_cfg.specs.Inside.Words.{IsFlawAt};
 ghost use Rattle.alpha_cfg.specs.Flow.{IsCode, AreInsns, IsInside, Ends, jump_of, next_of};
 ghost use Rattle.alpha_words.specs.Lawful.{target_of};
 ghost use Rattle.alpha_words.specs.Spelling.{Spells};
-ghost use Rattle.alpha_words.specs.Reading.{reading};
-ghost use Rattle.alpha_words.specs.declared.fault.BadWord.{BadWord};
 
-use crate::fault::CodeFault;
+use crate::fault::{CodeFault, CodeFlaw};
 use alpha_words::{Insn, Rhs, decode, target};
 use std::alloc::Global;
 use std::marker::Model;
+
+/// How many instructions code has at most.
+pub const MAX_WORDS: usize = 1024;
 
 /// Code: 1 to 1,024 instructions of profile 1 whose branches stay inside it and which can't run
 /// off its end. Contracts see the list of its instructions.
@@ -54,7 +57,7 @@ impl Code {
     pub fn insn(&self, i: u32) -> Insn
         requires { i < length self.now }
         ensures at { slice_get self.now i ≡ Some result }
-        ensures short { i < 1024 }
+        ensures short { i < MAX_WORDS }
         ensures next { IfSome (next_of i result) (λ j. j < length self.now) }
     {
         self.insns[i as usize]
@@ -69,7 +72,7 @@ impl Code {
         ensures value { jump_of i insn.now ≡ Some result }
         ensures within { result < length self.now }
     {
-        let _ = &self.insns;
+        let _ = &self.insns; // opens the invariant for the prover
         match target(i, *insn) {
             Some(at) => at as u32,
             None => unreachable!(),
@@ -83,11 +86,12 @@ impl Code {
         ensures value { next_of i insn.now ≡ Some result }
         ensures within { result < length self.now }
     {
-        let _ = &self.insns;
+        let _ = &self.insns; // opens the invariant for the prover
         i + 1
     }
 }
 
+/// The word at an index of the code's bytes.
 fn word_of(code: &[u8], i: usize) -> u32
     requires { 4 * i + 4 ≤ length code.now }
     ensures { result ≡ word_at code.now i }
@@ -97,25 +101,25 @@ fn word_of(code: &[u8], i: usize) -> u32
 }
 
 /// The instruction that a word spells.
-fn decode_at(code: &[u8], i: usize) -> Result<Insn, CodeFault>
+fn decode_at(code: &[u8], i: usize) -> Result<Insn, CodeFlaw>
     requires within { 4 * i + 4 ≤ length code.now }
-    requires short { i < 1024 }
+    requires short { i < MAX_WORDS }
     ensures spelled { IfOk result (λ insn. Spells (word_at code.now i) insn) }
-    ensures fault { IfErr result (λ e. (bad : BadWord) × (e ≡ CodeFault.BadWord i (word_at code.now i) bad) × (reading (word_at code.now i) ≡ Err bad)) }
+    ensures flaw { IfErr result (λ e. IsFlawAt code.now i e) }
 {
     let word = word_of(code, i);
     match decode(word) {
         Ok(insn) => Ok(insn),
-        Err(bad) => Err(CodeFault::BadWord(i as u32, word, bad)),
+        Err(bad) => Err(CodeFlaw::BadWord(i as u32, word, bad)),
     }
 }
 
 /// The instructions that the words spell, or the first word that spells none.
 fn decode_all(alloc: Global, code: &[u8]) -> Result<Vec<Insn>, CodeFault>
     requires whole { length code.now % 4 ≡ 0 }
-    requires short { length code.now ≤ 4096 }
+    requires short { length code.now ≤ 4 * MAX_WORDS }
     ensures spelled { IfOk result (λ v. SpellsCode code.now v.items) }
-    ensures fault { IfErr result (λ e. IsWordFault code.now e) }
+    ensures fault { IfErr result (λ e. Answers code.now (Err e)) }
 {
     let _no_operand: Option<Rhs> = None;
     let mut insns = Vec::new(alloc);
@@ -128,7 +132,7 @@ fn decode_all(alloc: Global, code: &[u8]) -> Result<Vec<Insn>, CodeFault>
 /// Whether a branch at the index stays inside the code.
 fn stays_inside(insns: &[Insn], i: usize) -> bool
     requires within { i < length insns.now }
-    requires short { length insns.now ≤ 1024 }
+    requires short { length insns.now ≤ MAX_WORDS }
     ensures { IsTrue result ↔ IsInside insns.now i }
 {
     match target(i as u32, insns[i]) {
@@ -139,8 +143,9 @@ fn stays_inside(insns: &[Insn], i: usize) -> bool
 
 /// The least index whose branch leads outside.
 fn first_outside(insns: &[Insn]) -> Option<usize>
-    requires { length insns.now ≤ 1024 }
-    ensures found { IfSome result (λ i. (i < length insns.now) × (IsInside insns.now i → ⊥) × ((k : ℕ) → k < i → IsInside insns.now k)) }
+    requires { length insns.now ≤ MAX_WORDS }
+    ensures found { IfSome result (λ i. (i < length insns.now) × (IsInside insns.now i → ⊥)
+        × ((k : ℕ) → k < i → IsInside insns.now k)) }
     ensures none { IfNone result ((i : ℕ) → IsInside insns.now i) }
 {
     for i in 0..insns.len() {
@@ -159,21 +164,21 @@ fn ends(insn: Insn) -> bool
 }
 
 /// What is wrong with the instructions, if they are no code.
-fn shape_fault(insns: &[Insn]) -> Option<CodeFault>
+fn shape_flaw(insns: &[Insn]) -> Option<CodeFlaw>
     requires some { 0 < length insns.now }
-    requires short { length insns.now ≤ 1024 }
+    requires short { length insns.now ≤ MAX_WORDS }
     requires spelled { AreInsns insns.now }
-    ensures found { IfSome result (λ e. IsShapeFault insns.now e) }
+    ensures found { IfSome result (λ e. IsShapeFlaw insns.now e) }
     ensures none { IfNone result (IsCode insns.now) }
 {
     if let Some(i) = first_outside(insns) {
-        return Some(CodeFault::Target(i as u32));
+        return Some(CodeFlaw::Target(i as u32));
     }
     let last = insns.len() - 1;
     if ends(insns[last]) {
         None
     } else {
-        Some(CodeFault::FallsOff(last as u32))
+        Some(CodeFlaw::FallsOff(last as u32))
     }
 }
 
@@ -181,12 +186,12 @@ fn shape_fault(insns: &[Insn]) -> Option<CodeFault>
 fn make(alloc: Global, code: &[u8]) -> Result<Code, CodeFault>
     requires whole { length code.now % 4 ≡ 0 }
     requires some { 0 < length code.now }
-    requires short { length code.now ≤ 4096 }
+    requires short { length code.now ≤ 4 * MAX_WORDS }
     ensures { Answers code.now result }
 {
     let insns = decode_all(alloc, code)?;
-    match shape_fault(&insns) {
-        Some(fault) => Err(fault),
+    match shape_flaw(&insns) {
+        Some(flaw) => Err(CodeFault::At(flaw)),
         None => Ok(Code { insns }),
     }
 }
@@ -200,7 +205,7 @@ impl Code {
     pub fn of(alloc: Global, code: &[u8]) -> Result<Code, CodeFault>
         requires whole { length code.now % 4 ≡ 0 }
         requires some { 0 < length code.now }
-        requires short { length code.now ≤ 4096 }
+        requires short { length code.now ≤ 4 * MAX_WORDS }
         ensures spelled { Answers code.now result }
         ensures tested { IsRead code.now result }
     {

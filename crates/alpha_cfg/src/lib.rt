@@ -13,14 +13,14 @@ mod cut;
 mod cycles;
 mod fault;
 mod graph;
-mod known;
 mod outcome;
 mod reach;
 #[cfg(test)]
 mod tests;
+mod theorems;
 
-pub use code::Code;
+pub use code::{Code, MAX_WORDS};
 pub use cut::Cut;
-pub use fault::{CodeFault, CutFault};
-pub use known::laws;
+pub use fault::{CodeFault, CodeFlaw, CutFault};
 pub use outcome::{Kind, Outcome, Step};
+pub use theorems::{decision_laws, laws};

@@ -3,7 +3,7 @@
 ghost use Rattle.std.specs.Prelude.{◌+◌, ◌<◌, length, IsTrue};
 ghost use Rattle.std.specs.List.Sorted.{IsStrictlyIncreasing};
 
-use crate::{Code, CodeFault, CutFault};
+use crate::{Code, CodeFault, CodeFlaw, CutFault};
 use alpha_words::{BadWord, Insn};
 use std::alloc::{AllocError, Global};
 use std::process::Abort;
@@ -54,19 +54,22 @@ fn unfolded(rt: &impl Abort, alloc: Global, words: &[u32], marks: &[u32]) -> Res
 #[test]
 fn the_first_fault_is_named(rt: HostRuntime) -> Result<(), Fail> {
     let a = rt.alloc();
-    let bad = |word, why| Err(CodeFault::BadWord(0, word, why));
+    let bad = |word, why| Err(CodeFault::At(CodeFlaw::BadWord(0, word, why)));
     let rows = [
         (
             [0x4022_041a, RETURN],
             bad(0x4022_041a, BadWord::KeptRegister),
         ),
         ([0x4022_2403, 0], bad(0x4022_2403, BadWord::Reserved)),
-        ([0xe420_0001, RETURN], Err(CodeFault::Target(0))),
-        ([NOP, NOP], Err(CodeFault::FallsOff(1))),
+        (
+            [0xe420_0001, RETURN],
+            Err(CodeFault::At(CodeFlaw::Target(0))),
+        ),
+        ([NOP, NOP], Err(CodeFault::At(CodeFlaw::FallsOff(1)))),
         ([NOP, RETURN], Ok(2)),
         (
             [0xe440_0001, 0],
-            Err(CodeFault::BadWord(1, 0, BadWord::Opcode)),
+            Err(CodeFault::At(CodeFlaw::BadWord(1, 0, BadWord::Opcode))),
         ),
     ];
     for (words, want) in rows {

@@ -6,6 +6,7 @@ use Rattle.alpha_words.specs.declared.fault.BadWord.{BadWord}
 use Rattle.alpha_words.specs.declared.fault.BadWord.TheVariants.{KeptRegister, LoadToZero}
 use Rattle.alpha_words.specs.Spelling.{is_kept, HasBits}
 
+-- why the profile refuses to write the register, if it does
 abbrev pub kept_fault : ℕ → Option BadWord
 kept_fault r = if is_kept r then Some KeptRegister else None
 

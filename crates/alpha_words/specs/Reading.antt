@@ -67,10 +67,12 @@ rhs_at w = if w / 2 ^ 12 % 2 == 1 then Lit (w / 2 ^ 13 % 256) else Reg (reg_at w
 abbrev pub has_reserved : ℕ → Bool
 has_reserved w = (w / 2 ^ 12 % 2 == 0) && not (w / 2 ^ 13 % 8 == 0)
 
+-- an operate word, given its operator: the reserved bits, then the register written
 abbrev pub operating : ℕ → Option Op → Result Insn BadWord
 operating w None = Err Function
 operating w (Some op) = if has_reserved w then Err Reserved else writing (reg_at w 0) (Oper op (reg_at w 21) (rhs_at w) (reg_at w 0))
 
+-- a word of the branch format, given its condition
 abbrev pub branching : ℕ → Option Cond → Result Insn BadWord
 branching w None = Err Opcode
 branching w (Some cond) = Ok (Branch cond (reg_at w 21) (number_of 20 (w % 2 ^ 21)))

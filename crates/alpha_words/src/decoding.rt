@@ -115,7 +115,8 @@ fn has_reserved(word: u32) -> bool
 
 /// A word of the operate format.
 fn operate(word: u32) -> Result<Insn, BadWord>
-    ensures { result ≡ reading.operating word (reading.operator_at (word / 2 ^ 26) (word / 2 ^ 5 % 128)) }
+    ensures { result ≡ reading.operating word
+        (reading.operator_at (word / 2 ^ 26) (word / 2 ^ 5 % 128)) }
 {
     let Some(op) = operator_at(word >> 26, (word >> 5) & 0x7f) else {
         return Err(BadWord::Function);

@@ -14,9 +14,11 @@ mod insn;
 mod reg;
 #[cfg(test)]
 mod tests;
+mod theorems;
 
 pub use decoding::decode;
 pub use encoding::{encode, lawful, target};
 pub use fault::BadWord;
 pub use insn::{Cond, Insn, Rhs};
 pub use reg::Reg;
+pub use theorems::laws;

@@ -13,6 +13,7 @@ use Rattle.file_port.specs.declared.port.Got.TheVariants as got
 abbrev pub FileMap : Type 0
 FileMap = map.FinMap (slice_cmp nat_cmp) (List ℕ)
 
+-- what a caller may know of files
 pub record FilesState : Type 0 where
   -- the files, where they are known
   pub told : Option FileMap

@@ -4,6 +4,6 @@ pub mod Sink
 pub mod Calls
 pub mod MemFiles
 pub mod MemSink
-pub mod Streams
 pub mod DiskFiles
 pub mod StdSink
+pub mod Inside

@@ -5,6 +5,7 @@ use Rattle.std.specs.declared.vec.Vec.{Vec}
 use Rattle.std.specs.declared.alloc.Global.{Global}
 use Rattle.std.specs.FinMap as finmap
 use Rattle.std.specs.Coded.{Coded, code_by, coded×, coded_ℕ, coded_list}
+use Rattle.file_port.specs.declared.spare.TheConstants.{MAX_NAME, MAX_BYTES}
 use Rattle.file_port.specs.Counts.{counted}
 use Rattle.file_port.specs.Calls.{is_listed, first_half}
 use Rattle.file_port.specs.Files.{FileMap, FilesState}
@@ -13,6 +14,7 @@ use Rattle.file_port.specs.declared.port.Put.TheVariants as put
 use Rattle.file_port.specs.declared.port.Got.{Got}
 use Rattle.file_port.specs.declared.port.Got.TheVariants as got
 
+-- what contracts see of files in memory
 pub record MemFilesView : Type 0 where
   pub files : FileMap
   pub read_faults : ℕ
@@ -23,6 +25,7 @@ pub record MemFilesView : Type 0 where
   pub calls : ℕ
   pub failing : List ℕ
 
+-- as nested pairs
 abbrev pub mem_files_code : Coded MemFilesView
 mem_files_code =
     code_by (FileMap × (ℕ × (ℕ × (ℕ × (ℕ × List ℕ)))))
@@ -84,7 +87,7 @@ after_read v = if fails_next v then record (called v) { read_faults = counted v.
 
 -- whether there is room for a write of these bytes to a name
 abbrev pub has_room : MemFilesView → List ℕ → List ℕ → Bool
-has_room v name bytes = nat_le (length name) 255 && nat_le (length bytes) 4194304 && nat_lt 0 v.room
+has_room v name bytes = nat_le (length name) MAX_NAME && nat_le (length bytes) MAX_BYTES && nat_lt 0 v.room
 
 -- with these bytes as the file, in room for one write
 abbrev pub stored : List ℕ → List ℕ → MemFilesView → MemFilesView

@@ -7,6 +7,7 @@ use Rattle.file_port.specs.Sink.{SinkState}
 use Rattle.file_port.specs.declared.port.Put.{Put}
 use Rattle.file_port.specs.declared.port.Put.TheVariants as put
 
+-- what contracts see of output in memory
 pub record MemSinkView : Type 0 where
   pub bytes : List ℕ
   pub faults : ℕ
@@ -16,6 +17,7 @@ pub record MemSinkView : Type 0 where
   pub calls : ℕ
   pub failing : List ℕ
 
+-- as nested pairs
 abbrev pub mem_sink_code : Coded MemSinkView
 mem_sink_code =
     code_by (List ℕ × (ℕ × (ℕ × (ℕ × List ℕ))))

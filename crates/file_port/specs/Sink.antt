@@ -4,6 +4,7 @@ use Rattle.file_port.specs.Counts.{Rose}
 use Rattle.file_port.specs.declared.port.Put.{Put}
 use Rattle.file_port.specs.declared.port.Put.TheVariants as put
 
+-- what a caller may know of output
 pub record SinkState : Type 0 where
   -- the bytes so far, where they are known
   pub told : Option (List ℕ)

@@ -1,10 +1,11 @@
 //! The files of the system, of whose content nothing is told.
+
 ghost use Rattle.std.specs.Prelude.{◌≡◌, None};
 ghost use Rattle.file_port.specs.Files.{IsWithin};
 ghost use Rattle.file_port.specs.DiskFiles.{state_of_disk_files};
 
 use crate::port::{Files, Got, Put};
-use crate::streams::{read_to_end, write_whole};
+use crate::streams::{answer_to, read_to_end, write_whole};
 use std::alloc::Global;
 use std::fs::File;
 use std::io::ErrorKind;
@@ -12,9 +13,10 @@ use std::rt;
 
 /// The files of a runtime. Nothing is told of what they hold.
 ///
-/// A file that does not exist is missing. Any other fault of the system, in opening or reading, is a
-/// failed read, and one in creating or writing a failed write. A device that takes nothing of what
-/// is left is at fault.
+/// Only a file that isn't found is missing. Want of memory in opening or reading is `Memory`, and
+/// counted nowhere. Any other fault of the system there, as a name that is too long, is a failed
+/// read, and one in creating or writing a failed write. A device that takes nothing of what is left
+/// is at fault.
 #[derive(Drop)]
 pub struct DiskFiles<R> {
     rt: R,
@@ -39,6 +41,7 @@ impl<R: rt::Files> DiskFiles<R> {
     }
 }
 
+/// Opens and reads a file.
 fn read_file<R: rt::Files>(rt: &R, alloc: Global, name: &str, max: u32) -> Got
     ensures { IsWithin max result }
 {
@@ -46,11 +49,12 @@ fn read_file<R: rt::Files>(rt: &R, alloc: Global, name: &str, max: u32) -> Got
         Ok(mut file) => read_to_end(&mut file, alloc, max),
         Err(error) => match error.kind() {
             ErrorKind::NotFound => Got::Missing,
-            _ => Got::Failed,
+            _ => answer_to(error),
         },
     }
 }
 
+/// Makes and writes a file.
 fn write_file<R: rt::Files>(rt: &R, name: &str, bytes: &[u8]) -> Put {
     match File::create(rt, name) {
         Ok(mut file) => write_whole(&mut file, bytes),

@@ -6,11 +6,11 @@
 //! `specs/Counts`. `MemFiles` and `MemSink` tell what they hold and have exact contracts
 //! (`specs/MemFiles`, `specs/MemSink`). `DiskFiles` and `StdSink` are the real ones, of whose
 //! content the traits tell nothing.
+
 #![tactic(auto)]
 
 mod calls;
 mod disk_files;
-mod known;
 mod mem_files;
 mod mem_sink;
 mod port;
@@ -19,10 +19,12 @@ mod std_sink;
 mod streams;
 #[cfg(test)]
 mod tests;
+mod theorems;
 
 pub use disk_files::DiskFiles;
-pub use known::laws;
 pub use mem_files::MemFiles;
 pub use mem_sink::MemSink;
 pub use port::{Files, Got, Put, Sink};
+pub use spare::{MAX_BYTES, MAX_NAME};
 pub use std_sink::StdSink;
+pub use theorems::laws;

@@ -1,8 +1,10 @@
 //! Files in memory, with a list of the calls that are to fail.
+
 ghost use Rattle.std.specs.Prelude.{◌≡◌, ◌↔◌, ◌≤◌, ◌<◌, ◌+◌, IfOk, true, false, option_map, string_bytes, length, find, reverse};
 ghost use Rattle.std.specs.Str.{bytes_eq};
 ghost use Rattle.std.specs.FinMap as finmap;
 ghost use Rattle.file_port.specs.Files.{Reads, Writes};
+ghost use Rattle.file_port.specs.declared.spare.TheConstants.{MAX_NAME, MAX_BYTES};
 ghost use Rattle.file_port.specs.MemFiles.{state_of_mem_files, log_map, fails_next, next_reading, reading_of, Answers, after_read, after_write};
 
 use crate::calls::is_failing;
@@ -49,9 +51,10 @@ impl Model for MemFiles {
     ghost invariant = { λ a. length a.files.items + length a.spares.items ≤ vec_capacity a.files };
 }
 
-// The bytes of the last file of this name.
+/// The bytes of the last file of this name.
 fn search_files<'a>(files: &'a [(String, Vec<u8>)], name: &str) -> Option<&'a [u8]>
-    ensures { option_map (λ b. b.now) result ≡ option_map (λ e. e.1.items) (find (λ e. bytes_eq name.now (string_bytes e.0)) (reverse files.now)) }
+    ensures { option_map (λ b. b.now) result ≡ option_map (λ e. e.1.items)
+        (find (λ e. bytes_eq name.now (string_bytes e.0)) (reverse files.now)) }
 {
     files
         .iter()
@@ -60,14 +63,14 @@ fn search_files<'a>(files: &'a [(String, Vec<u8>)], name: &str) -> Option<&'a [u
         .map(|e| e.1.as_slice())
 }
 
-// What the map of the files has of this name.
+/// What the map of the files has of this name.
 fn find_file<'a>(files: &'a [(String, Vec<u8>)], name: &str) -> Option<&'a [u8]>
     ensures { option_map (λ b. b.now) result ≡ finmap.get (log_map files.now) name.now }
 {
     search_files(files, name)
 }
 
-// What a read answers that does not fail.
+/// What a read answers that does not fail.
 fn copy_file(alloc: Global, file: Option<&[u8]>, max: u32) -> Got
     ensures { Answers (reading_of max (option_map (λ b. b.now) file.entry)) result }
 {
@@ -135,7 +138,8 @@ impl Files for MemFiles {
     ghost state = { state_of_mem_files };
 
     fn read(&mut self, alloc: Global, name: &str, max: u32) -> Got
-        ensures meaning { Reads name.now max (state_of_mem_files self.old) (state_of_mem_files self.new) result }
+        ensures meaning { Reads name.now max
+            (state_of_mem_files self.old) (state_of_mem_files self.new) result }
         ensures listed { (result ≡ Got.Failed) ↔ (fails_next self.old ≡ true) }
         ensures answer { Answers (next_reading self.old name.now max) result }
         ensures after { self.new ≡ after_read self.old }
@@ -150,11 +154,13 @@ impl Files for MemFiles {
     }
 
     fn write(&mut self, name: &str, bytes: &[u8]) -> Put
-        ensures meaning { Writes name.now bytes.now (state_of_mem_files self.old) (state_of_mem_files self.new) result }
+        ensures meaning { Writes name.now bytes.now
+            (state_of_mem_files self.old) (state_of_mem_files self.new) result }
         ensures exact { (self.new, result) ≡ after_write self.old name.now bytes.now }
 
         // Only a listed write fails, and one past the room.
-        ensures sure { fails_next self.old ≡ false → 0 < self.old.room → length name.now ≤ 255 → length bytes.now ≤ 4194304 → result ≡ Put.Done }
+        ensures sure { fails_next self.old ≡ false → 0 < self.old.room → length name.now ≤ MAX_NAME
+            → length bytes.now ≤ MAX_BYTES → result ≡ Put.Done }
     {
         let fails = is_failing(self.failing.as_slice(), self.calls);
         self.calls = self.calls.saturating_add(1);

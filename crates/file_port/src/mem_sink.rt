@@ -1,4 +1,5 @@
 //! Output in memory, with a list of the calls that are to fail.
+
 ghost use Rattle.std.specs.Prelude.{◌≡◌, ◌≤◌, ◌+◌, IfOk, false, length, []};
 ghost use Rattle.file_port.specs.Sink.{Puts};
 ghost use Rattle.file_port.specs.MemSink.{state_of_mem_sink, fails_next, after_put};
@@ -73,11 +74,13 @@ impl Sink for MemSink {
     ghost state = { state_of_mem_sink };
 
     fn put(&mut self, bytes: &[u8]) -> Put
-        ensures meaning { Puts bytes.now (state_of_mem_sink self.old) (state_of_mem_sink self.new) result }
+        ensures meaning { Puts bytes.now
+            (state_of_mem_sink self.old) (state_of_mem_sink self.new) result }
         ensures exact { (self.new, result) ≡ after_put self.old bytes.now }
 
         // Only a listed put fails, and one past the room.
-        ensures sure { fails_next self.old ≡ false → length self.old.bytes + length bytes.now ≤ self.old.room → result ≡ Put.Done }
+        ensures sure { fails_next self.old ≡ false
+            → length self.old.bytes + length bytes.now ≤ self.old.room → result ≡ Put.Done }
     {
         let fails = is_failing(self.failing.as_slice(), self.calls);
         self.calls = self.calls.saturating_add(1);

@@ -1,4 +1,5 @@
 //! The two traits of the outside, and what their calls answer.
+
 ghost use Rattle.std.specs.Prelude.{◌≡◌};
 ghost use Rattle.file_port.specs.Files.{FilesState, Reads, Writes};
 ghost use Rattle.file_port.specs.Sink.{SinkState, Puts};

@@ -1,6 +1,8 @@
 //! Room that is set aside for one write.
+
 ghost use Rattle.std.specs.Prelude.{◌≡◌, ◌≤◌, [], length, string_bytes, vec_capacity};
 ghost use Rattle.std.specs.String.{string_capacity};
+ghost use Rattle.file_port.specs.declared.spare.TheConstants.{MAX_NAME, MAX_BYTES};
 
 use std::alloc::{AllocError, Global};
 
@@ -16,9 +18,9 @@ pub struct Spare {
     name: String,
     bytes: Vec<u8>,
     ghost no_name: { string_bytes name ≡ [] },
-    ghost name_room: { 255 ≤ string_capacity name },
+    ghost name_room: { MAX_NAME ≤ string_capacity name },
     ghost no_bytes: { bytes.items ≡ [] },
-    ghost bytes_room: { 4194304 ≤ vec_capacity bytes },
+    ghost bytes_room: { MAX_BYTES ≤ vec_capacity bytes },
 }
 
 impl Spare {
@@ -32,8 +34,8 @@ impl Spare {
 
     /// The name and the bytes, which take no more memory.
     pub fn filled(self, name: &str, bytes: &[u8]) -> (String, Vec<u8>)
-        requires name { length name.now ≤ 255 }
-        requires bytes { length bytes.now ≤ 4194304 }
+        requires name { length name.now ≤ MAX_NAME }
+        requires bytes { length bytes.now ≤ MAX_BYTES }
         ensures name { string_bytes result.0 ≡ name.now }
         ensures bytes { result.1.items ≡ bytes.now }
     {

@@ -1,8 +1,8 @@
 //! A writer as a sink.
+
 ghost use Rattle.std.specs.Prelude.{◌≡◌, None};
 ghost use Rattle.file_port.specs.Sink.{Puts};
-ghost use Rattle.file_port.specs.Streams.{TakesUp};
-ghost use Rattle.file_port.specs.StdSink.{state_of_std_sink, writer_of};
+ghost use Rattle.file_port.specs.StdSink.{state_of_std_sink, writer_of, TakesUp};
 
 use crate::port::{Put, Sink};
 use crate::streams::write_through;
@@ -10,7 +10,8 @@ use std::io::Write;
 
 /// A writer, such as standard output. As a sink it tells nothing of its bytes.
 ///
-/// A piece is written and flushed. A device that takes nothing of what is left of it is at fault.
+/// A piece is written and flushed. A device that takes nothing of what is left of it is at fault,
+/// and so is one whose flush fails.
 #[derive(Drop)]
 pub struct StdSink<W> {
     out: W,
@@ -31,10 +32,12 @@ impl<W: Write> Sink for StdSink<W> {
     ghost state = { state_of_std_sink };
 
     fn put(&mut self, bytes: &[u8]) -> Put
-        ensures meaning { Puts bytes.now (state_of_std_sink self.old) (state_of_std_sink self.new) result }
+        ensures meaning { Puts bytes.now
+            (state_of_std_sink self.old) (state_of_std_sink self.new) result }
 
         // Where the writer's bytes are known, it was given the piece, or after a fault a prefix of it.
-        ensures taken { TakesUp (W.contents (writer_of self.old)) (W.contents (writer_of self.new)) bytes.now result }
+        ensures taken { TakesUp (W.contents (writer_of self.old))
+            (W.contents (writer_of self.new)) bytes.now result }
     {
         let answer = write_through(&mut self.out, bytes);
         if let Put::Failed = answer {

@@ -1,17 +1,33 @@
 //! Reads to the end and whole writes, over any reader and writer.
-ghost use Rattle.std.specs.Prelude.{◌≡◌, [], IfSome};
+
+ghost use Rattle.std.specs.Prelude.{◌≡◌, ◌≢◌, ℕ, List, [], IfSome};
+ghost use Rattle.std.specs.IoError.{error_kind};
 ghost use Rattle.file_port.specs.declared.port.Put.{Put};
 ghost use Rattle.file_port.specs.Files.{IsWithin};
-ghost use Rattle.file_port.specs.Streams.{MayGive, TakesUp};
+ghost use Rattle.file_port.specs.Inside.Streams.{MayGive};
+ghost use Rattle.file_port.specs.StdSink.{TakesUp};
 
 use crate::port::{Got, Put};
 use std::alloc::Global;
-use std::io::{Read, Write};
+use std::io::{Error, ErrorKind, Read, Write};
 
-// The most bytes that one call of the system reads.
+/// The most bytes that one call of the system reads.
 const PIECE: usize = 4096;
 
-// Reads to the end, to the first fault or to one byte more than `max`.
+/// What a read answers to a fault of the system: `Memory` to want of memory, else `Failed`.
+pub fn answer_to(error: Error) -> Got
+    ensures within { (max : ℕ) → IsWithin max result }
+    ensures right { (max : ℕ) (bytes : List ℕ) → MayGive max bytes result }
+    ensures memory { error_kind error ≡ ErrorKind.OutOfMemory → result ≡ Got.Memory }
+    ensures failed { error_kind error ≢ ErrorKind.OutOfMemory → result ≡ Got.Failed }
+{
+    match error.kind() {
+        ErrorKind::OutOfMemory => Got::Memory,
+        _ => Got::Failed,
+    }
+}
+
+/// Reads to the end, to the first fault or to one byte more than `max`.
 pub fn read_to_end<S: Read>(source: &mut S, alloc: Global, max: u32) -> Got
     ensures within { IsWithin max result }
     ensures right { IfSome (S.remaining source.old) (λ bytes. MayGive max bytes result) }
@@ -22,7 +38,7 @@ pub fn read_to_end<S: Read>(source: &mut S, alloc: Global, max: u32) -> Got
         let wanted = (max as usize + 1 - bytes.len()).min(PIECE);
         let count = match source.read(&mut piece[..wanted]) {
             Ok(count) => count,
-            Err(_) => return Got::Failed,
+            Err(error) => return answer_to(error),
         };
         if count == 0 {
             return Got::Bytes(bytes);
@@ -34,7 +50,7 @@ pub fn read_to_end<S: Read>(source: &mut S, alloc: Global, max: u32) -> Got
     Got::TooLong
 }
 
-// Writes all of the bytes, or stops at the first fault. A writer that takes none of them is at fault.
+/// Writes all of the bytes, or stops at the first fault. A writer that takes none of them is at fault.
 pub fn write_whole<W: Write>(out: &mut W, bytes: &[u8]) -> Put
     ensures empty { bytes.now ≡ [] → result ≡ Put.Done }
     ensures taken { TakesUp (W.contents out.old) (W.contents out.new) bytes.now result }
@@ -49,7 +65,7 @@ pub fn write_whole<W: Write>(out: &mut W, bytes: &[u8]) -> Put
     Put::Done
 }
 
-// Writes all of the bytes and flushes them, or stops at the first fault.
+/// Writes all of the bytes and flushes them, or stops at the first fault.
 pub fn write_through<W: Write>(out: &mut W, bytes: &[u8]) -> Put
     ensures empty { bytes.now ≡ [] → result ≡ Put.Done }
     ensures taken { TakesUp (W.contents out.old) (W.contents out.new) bytes.now result }

@@ -1,12 +1,13 @@
 //! What reads, writes and puts answer and leave, in memory and at the system.
 
+use crate::streams::read_to_end;
 use crate::{DiskFiles, Files, MemFiles, MemSink, Put, Sink, StdSink};
 use std::alloc::{AllocError, Global};
-use std::io::{ErrorKind, Write};
+use std::io::{ErrorKind, Read, Write};
 use std::test::Fail;
 use std::{fs, io};
 
-// The answer of a read, as it is printed, and the count of faults after it.
+/// The answer of a read, as it is printed, and the count of faults after it.
 fn read_text<F: Files>(
     alloc: Global,
     files: &mut F,
@@ -17,13 +18,13 @@ fn read_text<F: Files>(
     Ok((format!(in alloc; "{got:?}")?, files.read_faults()))
 }
 
-// The answer of a write, and the count of faults after it.
+/// The answer of a write, and the count of faults after it.
 fn write_text<F: Files>(files: &mut F, name: &str, text: &str) -> (Put, u64) {
     let put = files.write(name, text.as_bytes());
     (put, files.write_faults())
 }
 
-// The answer of a put, and the count of faults after it.
+/// The answer of a put, and the count of faults after it.
 fn put_text<S: Sink>(sink: &mut S, text: &str) -> (Put, u64) {
     let put = sink.put(text.as_bytes());
     (put, sink.faults())
@@ -36,7 +37,7 @@ fn file(alloc: Global, name: &str, text: &str) -> Result<(String, Vec<u8>), Allo
     ))
 }
 
-// The file `a`, of which the second text counts, with so much room.
+/// The file `a`, of which the second text counts, with so much room.
 fn two_texts(alloc: Global, room: u32, failing: &[u32]) -> Result<MemFiles, AllocError> {
     let mut files = Vec::new(alloc);
     files.push(file(alloc, "a", "older")?)?;
@@ -48,7 +49,7 @@ fn is_file(files: &MemFiles, name: &str, text: &str) -> bool {
     files.get(name) == Some(text.as_bytes())
 }
 
-// The second call fails.
+/// The second call fails.
 #[test]
 fn reads_in_memory(rt: HostRuntime) -> Result<(), Fail> {
     let mut files = two_texts(rt.alloc(), 0, &[1])?;
@@ -65,7 +66,7 @@ fn reads_in_memory(rt: HostRuntime) -> Result<(), Fail> {
     Ok(())
 }
 
-// The second call fails, and there is room for two writes.
+/// The second call fails, and there is room for two writes.
 #[test]
 fn writes_in_memory(rt: HostRuntime) -> Result<(), Fail> {
     let mut files = two_texts(rt.alloc(), 2, &[1])?;
@@ -82,7 +83,7 @@ fn writes_in_memory(rt: HostRuntime) -> Result<(), Fail> {
     Ok(())
 }
 
-// The third and the fourth call fail, and there is room for seven bytes.
+/// The third and the fourth call fail, and there is room for seven bytes.
 #[test]
 fn puts_in_memory(rt: HostRuntime) -> Result<(), Fail> {
     let mut sink = MemSink::new(rt.alloc(), 7, Vec::from_slice(rt.alloc(), &[2, 3])?)?;
@@ -107,12 +108,18 @@ fn files_of_the_system(rt: HostRuntime) -> Result<(), Fail> {
     assert_eq!(rt; write_text(&mut files, "a", "old"), (Put::Done, 0));
     assert_eq!(rt; write_text(&mut files, "none/a", "x"), (Put::Failed, 1));
     assert_eq!(rt; fs::read(&rt, "a")?.as_slice(), b"old".as_slice());
+    let mut long = String::new(rt.alloc());
+    for _ in 0..300 {
+        long.push('a')?;
+    }
     let rows = [
         ("a", 3, "Bytes([111, 108, 100])", 0),
         ("a", 2, "TooLong", 0),
         ("b", 3, "Missing", 0),
         ("", 3, "Missing", 0),
         (".", 3, "Failed", 1),
+        (long.as_str(), 3, "Failed", 2),
+        ("a/b", 3, "Failed", 3),
     ];
     for (name, max, want, faults) in rows {
         let (got, count) = read_text(rt.alloc(), &mut files, name, max)?;
@@ -122,12 +129,13 @@ fn files_of_the_system(rt: HostRuntime) -> Result<(), Fail> {
     Ok(())
 }
 
-// A device with so much room, which takes at most three bytes at a time.
+/// A device with so much room, which takes at most three bytes at a time.
 #[derive(Drop)]
 struct Device {
     taken: Vec<u8>,
     room: usize,
     full: Option<ErrorKind>,
+    flush: Option<ErrorKind>,
 }
 
 impl Write for Device {
@@ -143,25 +151,82 @@ impl Write for Device {
     }
 
     fn flush(&mut self) -> io::Result<()> {
-        Ok(())
+        match self.flush {
+            Some(kind) => Err(io::Error::from(kind)),
+            None => Ok(()),
+        }
     }
 }
 
-// A full device takes nothing, or says so.
+/// A full device takes nothing, or says so; one that can't flush has taken all.
 #[test]
 fn puts_at_a_writer(rt: HostRuntime) -> Result<(), Fail> {
     let rows = [
-        (8, None, (Put::Done, 0), "abcdefgh"),
-        (7, None, (Put::Failed, 1), "abcdefg"),
-        (7, Some(ErrorKind::StorageFull), (Put::Failed, 1), "abcdefg"),
+        (8, None, None, (Put::Done, 0), "abcdefgh"),
+        (7, None, None, (Put::Failed, 1), "abcdefg"),
+        (
+            7,
+            Some(ErrorKind::StorageFull),
+            None,
+            (Put::Failed, 1),
+            "abcdefg",
+        ),
+        (
+            8,
+            None,
+            Some(ErrorKind::BrokenPipe),
+            (Put::Failed, 1),
+            "abcdefgh",
+        ),
     ];
-    for (room, full, want, left) in rows {
+    for (room, full, flush, want, left) in rows {
         let taken = Vec::new(rt.alloc());
-        let mut device = Device { taken, room, full };
+        let mut device = Device {
+            taken,
+            room,
+            full,
+            flush,
+        };
         let mut sink = StdSink::new(&mut device);
         assert_eq!(rt; put_text(&mut sink, "abcdefgh"), want);
         assert_eq!(rt; put_text(&mut sink, "").0, Put::Done);
         assert_eq!(rt; device.taken.as_slice(), left.as_bytes());
+    }
+    Ok(())
+}
+
+/// A source that gives one byte, and then a fault.
+#[derive(Drop)]
+struct Source {
+    given: bool,
+    fault: ErrorKind,
+}
+
+impl Read for Source {
+    fn read(&mut self, piece: &mut [u8]) -> io::Result<usize> {
+        if self.given || piece.is_empty() {
+            return Err(io::Error::from(self.fault));
+        }
+        self.given = true;
+        piece[0] = 7;
+        Ok(1)
+    }
+}
+
+#[test]
+fn faults_inside_a_read(rt: HostRuntime) -> Result<(), Fail> {
+    let rows = [
+        (ErrorKind::OutOfMemory, "Memory"),
+        (ErrorKind::Interrupted, "Failed"),
+        (ErrorKind::NotFound, "Failed"),
+    ];
+    for (fault, want) in rows {
+        let mut source = Source {
+            given: false,
+            fault,
+        };
+        let got = read_to_end(&mut source, rt.alloc(), 3);
+        assert_eq!(rt; format!(in rt.alloc(); "{got:?}")?.as_str(), want);
     }
     Ok(())
 }

@@ -1,5 +1,5 @@
 -- Starts lie in the arena, and are states.
-use Rattle.std.proofs.Common.{◌≡◌, ℕ, ◌+◌, ◌-◌, ◌*◌, ◌/◌, ◌%◌, ◌<◌, ◌≤◌, ◌==◌, min, Bool, true, false, if◌then◌else◌, List, [], ◌∷◌, length, take, slice_index, Some, None, refl, subst, arith, inl, inr}
+use Rattle.std.proofs.Common.{◌≡◌, ℕ, ◌+◌, ◌-◌, ◌*◌, ◌/◌, ◌%◌, ◌≤◌, ◌==◌, min, Bool, true, false, if◌then◌else◌, List, [], ◌∷◌, length, take, slice_index, Some, None, refl, subst, arith, inl, inr}
 use Rattle.std.proofs.lemmas.Bool.{cases_lt, lt-ltb, le-ltb}
 use Rattle.std.proofs.lemmas.List.{get_or-take, get_or_past, length-take}
 use Rattle.policy_set.specs.declared.Policy.{Policy}
@@ -10,6 +10,7 @@ use Rattle.reference_machine.specs.Agents.{IsInArena, AreInArena}
 use Rattle.reference_machine.specs.Starts.{Setup, Fits, HasWords, start_state}
 use Rattle.reference_machine.proofs.Fresh.{both_in}
 use Rattle.reference_machine.proofs.Starting.{start_state-is}
+use Rattle.packet_store.specs.Packets.{IsBytes}
 use Rattle.packet_store.specs.PolicyStarts.{start_of, filter_setup, tag_setup, table_setup, quadwords_of, unused}
 
 unused_in : IsInArena 65536 unused
@@ -21,10 +22,6 @@ span_in base count from aligned to = record { from = from; aligned = aligned; to
 two_in : (s t : ℕ × ℕ) → IsInArena 65536 s → IsInArena 65536 t → AreInArena 65536 (s ∷ t ∷ [])
 two_in s t p q = both_in (IsInArena 65536) s t p q
 
--- bytes are bytes
-abbrev AreBytes : List ℕ → Type 0
-AreBytes packet = (i : ℕ) → slice_index packet i < 256
-
 filter_fits : (packet : List ℕ) → length packet ≤ 65535 → Fits 65536 (filter_setup packet)
 filter_fits packet short = record {
   bytes_in = span_in 65552 (quadwords_of packet) (omega arith) refl (omega arith);
@@ -33,7 +30,7 @@ filter_fits packet short = record {
   writes_in = two_in (65536, 2) unused (span_in 65536 2 (omega arith) refl (omega arith)) unused_in;
 }
 
-filter_words : (packet : List ℕ) → length packet ≤ 65535 → AreBytes packet → HasWords (filter_setup packet)
+filter_words : (packet : List ℕ) → length packet ≤ 65535 → IsBytes packet → HasWords (filter_setup packet)
 filter_words packet short bytes = record { r16 = omega arith; r17 = omega arith; r18 = omega arith; bytes = bytes }
 
 tag_span : (b : Bool) → IsInArena 65536 (if b then unused else (65544, 1))
@@ -51,7 +48,7 @@ tag_fits packet enough = record {
   writes_in = two_in (if quadword packet 0 == 0 then unused else (65544, 1)) unused (tag_span (quadword packet 0 == 0)) unused_in;
 }
 
-front_bytes : (n : ℕ) (packet : List ℕ) → AreBytes packet → AreBytes (take n packet)
+front_bytes : (n : ℕ) (packet : List ℕ) → IsBytes packet → IsBytes (take n packet)
 front_bytes n packet bytes i = elim (cases_lt i n) [
   | inl within ↦ rw (get_or-take n packet i 0 within) (bytes i)
   | inr past ↦
@@ -60,7 +57,7 @@ front_bytes n packet bytes i = elim (cases_lt i n) [
       omega (arith, e)
 ]
 
-pub tag_words : (packet : List ℕ) → AreBytes packet → HasWords (tag_setup packet)
+pub tag_words : (packet : List ℕ) → IsBytes packet → HasWords (tag_setup packet)
 tag_words packet bytes = record { r16 = omega arith; r17 = omega arith; r18 = omega arith; bytes = front_bytes 16 packet bytes }
 
 table_fits : (packet : List ℕ) → length packet ≤ 65535 → Fits 65536 (table_setup packet)
@@ -68,7 +65,7 @@ table_fits packet short =
     let all : IsInArena 65536 (65536, quadwords_of packet) = span_in 65536 (quadwords_of packet) (omega arith) refl (omega arith) in
     record { bytes_in = all; region_in = all; reads_in = two_in (65536, quadwords_of packet) unused all unused_in; writes_in = two_in (65536, quadwords_of packet) unused all unused_in }
 
-table_words : (packet : List ℕ) → length packet ≤ 65535 → AreBytes packet → HasWords (table_setup packet)
+table_words : (packet : List ℕ) → length packet ≤ 65535 → IsBytes packet → HasWords (table_setup packet)
 table_words packet short bytes = record { r16 = omega arith; r17 = omega arith; r18 = omega arith; bytes = bytes }
 
 -- what a policy's start is
@@ -79,7 +76,7 @@ pub record IsGood (setup : Setup) : Type 0 where
 the_same : {A : Type 0} (P : A → Type 0) (x y : A) → P x → Some x ≡ Some y → P y
 the_same P x y p e = let same : x ≡ y = cc in subst P same p
 
-pub start_of-good : (policy : Policy) (packet : List ℕ) (setup : Setup) → length packet ≤ 65535 → AreBytes packet → start_of policy packet ≡ Some setup → IsGood setup
+pub start_of-good : (policy : Policy) (packet : List ℕ) (setup : Setup) → length packet ≤ 65535 → IsBytes packet → start_of policy packet ≡ Some setup → IsGood setup
 unfolding start_of
 start_of-good Filter packet setup short bytes e = elim (cases_lt (length packet) 64) [
   | inl less ↦ let none : None ≡ Some setup = rw (lt-ltb (length packet) 64 less) at e in cc
@@ -91,7 +88,7 @@ start_of-good Tag packet setup short bytes e = elim (cases_lt (length packet) 16
 ]
 start_of-good Table packet setup short bytes e = the_same IsGood (table_setup packet) setup (record { fits = table_fits packet short; words = table_words packet short bytes }) e
 
-pub start_of-state : (policy : Policy) (packet : List ℕ) (setup : Setup) → length packet ≤ 65535 → AreBytes packet → start_of policy packet ≡ Some setup → IsState (start_state 65536 setup)
+pub start_of-state : (policy : Policy) (packet : List ℕ) (setup : Setup) → length packet ≤ 65535 → IsBytes packet → start_of policy packet ≡ Some setup → IsState (start_state 65536 setup)
 start_of-state policy packet setup short bytes e =
     let good : IsGood setup = start_of-good policy packet setup short bytes e in
     start_state-is 65536 setup refl (omega arith) good.fits good.words

@@ -2,6 +2,7 @@
 use Rattle.std.specs.Prelude.{ℕ, ◌+◌, ◌/◌, ◌==◌, nat_lt, if◌then◌else◌, List, [], ◌∷◌, length, take, Option, Some, None}
 use Rattle.policy_set.specs.declared.Policy.{Policy}
 use Rattle.policy_set.specs.declared.Policy.TheVariants.{Filter, Tag, Table}
+use Rattle.reference_machine.specs.declared.layout.TheConstants.{ARENA}
 use Rattle.reference_machine.specs.Arena.{quadword}
 use Rattle.reference_machine.specs.Starts.{Setup}
 
@@ -9,46 +10,47 @@ use Rattle.reference_machine.specs.Starts.{Setup}
 abbrev pub quadwords_of : List ℕ → ℕ
 quadwords_of bytes = (length bytes + 7) / 8
 
+-- a span of no quadwords
 abbrev pub unused : ℕ × ℕ
-unused = (65536, 0)
+unused = (ARENA, 0)
 
 -- two quadwords of scratch, and the packet behind them; both may be loaded, and scratch stored
 abbrev pub filter_setup : List ℕ → Setup
 filter_setup packet = record {
-  r16 = 65552;
+  r16 = ARENA + 16;
   r17 = length packet;
-  r18 = 65536;
+  r18 = ARENA;
   bytes = packet;
-  at = 65552;
+  at = ARENA + 16;
   region = 0;
-  reads = (65536, 2) ∷ (65552, quadwords_of packet) ∷ [];
-  writes = (65536, 2) ∷ unused ∷ [];
+  reads = (ARENA, 2) ∷ (ARENA + 16, quadwords_of packet) ∷ [];
+  writes = (ARENA, 2) ∷ unused ∷ [];
 }
 
 -- the first 16 bytes; both quadwords may be loaded, and the second stored where the first isn't 0
 abbrev pub tag_setup : List ℕ → Setup
 tag_setup packet = record {
-  r16 = 65536;
+  r16 = ARENA;
   r17 = 0;
   r18 = 0;
   bytes = take 16 packet;
-  at = 65536;
+  at = ARENA;
   region = 2;
-  reads = (65536, 2) ∷ unused ∷ [];
-  writes = (if quadword packet 0 == 0 then unused else (65544, 1)) ∷ unused ∷ [];
+  reads = (ARENA, 2) ∷ unused ∷ [];
+  writes = (if quadword packet 0 == 0 then unused else (ARENA + 8, 1)) ∷ unused ∷ [];
 }
 
 -- the packet's quadwords, all of which may be loaded and stored
 abbrev pub table_setup : List ℕ → Setup
 table_setup packet = record {
-  r16 = 65536;
+  r16 = ARENA;
   r17 = quadwords_of packet;
   r18 = 0;
   bytes = packet;
-  at = 65536;
+  at = ARENA;
   region = quadwords_of packet;
-  reads = (65536, quadwords_of packet) ∷ unused ∷ [];
-  writes = (65536, quadwords_of packet) ∷ unused ∷ [];
+  reads = (ARENA, quadwords_of packet) ∷ unused ∷ [];
+  writes = (ARENA, quadwords_of packet) ∷ unused ∷ [];
 }
 
 -- a filter's packet is short below 64 bytes, a tag's below 16, and a table's never

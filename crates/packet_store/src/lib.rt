@@ -8,13 +8,13 @@
 #![tactic(auto)]
 
 mod fault;
-mod known;
 mod reader;
 mod starting;
 #[cfg(test)]
 mod tests;
+mod theorems;
 
 pub use fault::PacketFault;
-pub use known::laws;
 pub use reader::{PacketFile, PacketIter, packets};
 pub use starting::start;
+pub use theorems::laws;

@@ -18,7 +18,9 @@ fn claimed(bytes: &[u8]) -> u32
 /// The first packet and the bytes after it; the fault has the offset that is given.
 fn first(bytes: &[u8], offset: u64) -> Result<(&[u8], &[u8]), PacketFault>
     requires { 0 < length bytes.now }
-    ensures { MatchResult result (λ r. (bytes.now ≡ file.framed r.0.now ++ r.1.now) × (length r.0.now ≤ 65535)) (λ e. file.IsBadFront bytes.now e × (file.offset_of e ≡ offset)) }
+    ensures { MatchResult result
+        (λ r. (bytes.now ≡ file.framed r.0.now ++ r.1.now) × (length r.0.now ≤ 65535))
+        (λ e. file.IsBadFront bytes.now e × (file.offset_of e ≡ offset)) }
 {
     if bytes.len() < 4 {
         return Err(PacketFault::Cut(offset));

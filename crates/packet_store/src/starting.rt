@@ -7,9 +7,7 @@ ghost use Rattle.reference_machine.specs.Setups.{setup_of};
 ghost use Rattle.reference_machine.specs.Starts.{Fits, HasWords};
 
 use policy_set::Policy;
-use reference_machine::Start;
-
-const ARENA: u64 = 65_536;
+use reference_machine::{ARENA, Start};
 
 /// A span of no quadwords.
 const UNUSED: (u64, u64) = (ARENA, 0);
@@ -88,7 +86,7 @@ fn table_start(packet: &[u8]) -> Start<'_>
 pub fn start<'b>(policy: &Policy, packet: &'b [u8]) -> Option<Start<'b>>
     requires { length packet.now ≤ 65535 }
     ensures exact { option_map setup_of result ≡ start_of policy.now packet.now }
-    ensures fits { IfSome result (λ s. Fits 65536 (setup_of s)) }
+    ensures fits { IfSome result (λ s. Fits ARENA (setup_of s)) }
     ensures words { IfSome result (λ s. HasWords (setup_of s)) }
 {
     match policy {

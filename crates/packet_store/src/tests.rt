@@ -10,6 +10,469 @@ use std::test::Fail;
 
 const RETURN: u32 = 0x6bfa_8001;
 
+type StartRow = (
+    Policy,
+    u8,
+    usize,
+    [u32; 3],
+    Result<u64, (u32, Kind, u64)>,
+    u64,
+);
+
+/// What each policy begins with, seen through code: policy, the byte that fills the packet and
+/// how often, three words before a return, the answer in r0 or where an access is blocked, and
+/// the sum of the region. The packets are the shortest, an odd and the longest one.
+static STARTS: [StartRow; 56] = [
+    (
+        Policy::Filter,
+        1,
+        64,
+        [0x47f0_0400, 0x47ff_041f, 0x47ff_041f],
+        Ok(65_552),
+        0,
+    ), // r16
+    (
+        Policy::Filter,
+        1,
+        64,
+        [0x47f1_0400, 0x47ff_041f, 0x47ff_041f],
+        Ok(64),
+        0,
+    ), // r17
+    (
+        Policy::Filter,
+        1,
+        64,
+        [0x47f2_0400, 0x47ff_041f, 0x47ff_041f],
+        Ok(65_536),
+        0,
+    ), // r18
+    (
+        Policy::Filter,
+        1,
+        65,
+        [0x47f0_0400, 0x47ff_041f, 0x47ff_041f],
+        Ok(65_552),
+        0,
+    ), // r16
+    (
+        Policy::Filter,
+        1,
+        65,
+        [0x47f1_0400, 0x47ff_041f, 0x47ff_041f],
+        Ok(65),
+        0,
+    ), // r17
+    (
+        Policy::Filter,
+        1,
+        65,
+        [0x47f2_0400, 0x47ff_041f, 0x47ff_041f],
+        Ok(65_536),
+        0,
+    ), // r18
+    (
+        Policy::Filter,
+        1,
+        65_535,
+        [0x47f0_0400, 0x47ff_041f, 0x47ff_041f],
+        Ok(65_552),
+        0,
+    ), // r16
+    (
+        Policy::Filter,
+        1,
+        65_535,
+        [0x47f1_0400, 0x47ff_041f, 0x47ff_041f],
+        Ok(65_535),
+        0,
+    ), // r17
+    (
+        Policy::Filter,
+        1,
+        65_535,
+        [0x47f2_0400, 0x47ff_041f, 0x47ff_041f],
+        Ok(65_536),
+        0,
+    ), // r18
+    (
+        Policy::Filter,
+        1,
+        64,
+        [0xa412_0000, 0x47ff_041f, 0x47ff_041f],
+        Ok(0),
+        0,
+    ), // scratch
+    (
+        Policy::Filter,
+        1,
+        64,
+        [0xa412_fff8, 0x47ff_041f, 0x47ff_041f],
+        Err((0, Kind::Load, 65_528)),
+        0,
+    ), // before scratch
+    (
+        Policy::Filter,
+        1,
+        64,
+        [0x4211_0401, 0xa401_fff8, 0x47ff_041f],
+        Ok(0x101_0101_0101_0101),
+        0,
+    ), // the last quadword
+    (
+        Policy::Filter,
+        1,
+        64,
+        [0x4211_0401, 0xa401_0000, 0x47ff_041f],
+        Err((1, Kind::Load, 65_616)),
+        0,
+    ), // behind it
+    (
+        Policy::Filter,
+        1,
+        65,
+        [0x4211_0401, 0xa401_ffff, 0x47ff_041f],
+        Ok(1),
+        0,
+    ), // one byte and zeros
+    (
+        Policy::Filter,
+        1,
+        65,
+        [0x4211_0401, 0xa401_0007, 0x47ff_041f],
+        Err((1, Kind::Load, 65_624)),
+        0,
+    ), // behind it
+    (
+        Policy::Filter,
+        1,
+        65_535,
+        [0x4211_0401, 0xa401_fff9, 0x47ff_041f],
+        Ok(0x1_0101_0101_0101),
+        0,
+    ), // seven bytes and a zero
+    (
+        Policy::Filter,
+        1,
+        65_535,
+        [0x4211_0401, 0xa401_0001, 0x47ff_041f],
+        Err((1, Kind::Load, 131_088)),
+        0,
+    ), // behind it
+    (
+        Policy::Filter,
+        1,
+        64,
+        [0xb632_0008, 0xa412_0008, 0x47ff_041f],
+        Ok(64),
+        0,
+    ), // scratch is stored
+    (
+        Policy::Filter,
+        1,
+        64,
+        [0xb632_fff8, 0x47ff_041f, 0x47ff_041f],
+        Err((0, Kind::Store, 65_528)),
+        0,
+    ), // before scratch
+    (
+        Policy::Filter,
+        1,
+        64,
+        [0xb630_0000, 0x47ff_041f, 0x47ff_041f],
+        Err((0, Kind::Store, 65_552)),
+        0,
+    ), // the packet
+    (
+        Policy::Tag,
+        1,
+        16,
+        [0x47f0_0400, 0x47ff_041f, 0x47ff_041f],
+        Ok(65_536),
+        0x202_0202_0202_0202,
+    ), // r16
+    (
+        Policy::Tag,
+        1,
+        16,
+        [0x47f1_0400, 0x47ff_041f, 0x47ff_041f],
+        Ok(0),
+        0x202_0202_0202_0202,
+    ), // r17
+    (
+        Policy::Tag,
+        1,
+        16,
+        [0x47f2_0400, 0x47ff_041f, 0x47ff_041f],
+        Ok(0),
+        0x202_0202_0202_0202,
+    ), // r18
+    (
+        Policy::Tag,
+        1,
+        17,
+        [0x47f0_0400, 0x47ff_041f, 0x47ff_041f],
+        Ok(65_536),
+        0x202_0202_0202_0202,
+    ), // r16
+    (
+        Policy::Tag,
+        1,
+        17,
+        [0x47f1_0400, 0x47ff_041f, 0x47ff_041f],
+        Ok(0),
+        0x202_0202_0202_0202,
+    ), // r17
+    (
+        Policy::Tag,
+        1,
+        17,
+        [0x47f2_0400, 0x47ff_041f, 0x47ff_041f],
+        Ok(0),
+        0x202_0202_0202_0202,
+    ), // r18
+    (
+        Policy::Tag,
+        1,
+        65_535,
+        [0x47f0_0400, 0x47ff_041f, 0x47ff_041f],
+        Ok(65_536),
+        0x202_0202_0202_0202,
+    ), // r16
+    (
+        Policy::Tag,
+        1,
+        65_535,
+        [0x47f1_0400, 0x47ff_041f, 0x47ff_041f],
+        Ok(0),
+        0x202_0202_0202_0202,
+    ), // r17
+    (
+        Policy::Tag,
+        1,
+        65_535,
+        [0x47f2_0400, 0x47ff_041f, 0x47ff_041f],
+        Ok(0),
+        0x202_0202_0202_0202,
+    ), // r18
+    (
+        Policy::Tag,
+        1,
+        17,
+        [0xa410_0000, 0x47ff_041f, 0x47ff_041f],
+        Ok(0x101_0101_0101_0101),
+        0x202_0202_0202_0202,
+    ), // the first quadword
+    (
+        Policy::Tag,
+        1,
+        17,
+        [0xa410_0008, 0x47ff_041f, 0x47ff_041f],
+        Ok(0x101_0101_0101_0101),
+        0x202_0202_0202_0202,
+    ), // the second
+    (
+        Policy::Tag,
+        1,
+        17,
+        [0xa410_fff8, 0x47ff_041f, 0x47ff_041f],
+        Err((0, Kind::Load, 65_528)),
+        0x202_0202_0202_0202,
+    ), // before them
+    (
+        Policy::Tag,
+        1,
+        17,
+        [0xa410_0010, 0x47ff_041f, 0x47ff_041f],
+        Err((0, Kind::Load, 65_552)),
+        0x202_0202_0202_0202,
+    ), // behind them
+    (
+        Policy::Tag,
+        1,
+        16,
+        [0xb610_0008, 0xa410_0008, 0x47ff_041f],
+        Ok(65_536),
+        0x101_0101_0102_0101,
+    ), // the second is stored
+    (
+        Policy::Tag,
+        0,
+        16,
+        [0xb610_0008, 0x47ff_041f, 0x47ff_041f],
+        Err((0, Kind::Store, 65_544)),
+        0,
+    ), // not behind a zero
+    (
+        Policy::Tag,
+        1,
+        16,
+        [0xb610_0000, 0x47ff_041f, 0x47ff_041f],
+        Err((0, Kind::Store, 65_536)),
+        0x202_0202_0202_0202,
+    ), // the first
+    (
+        Policy::Tag,
+        1,
+        17,
+        [0xb610_0010, 0x47ff_041f, 0x47ff_041f],
+        Err((0, Kind::Store, 65_552)),
+        0x202_0202_0202_0202,
+    ), // behind them
+    (
+        Policy::Table,
+        1,
+        0,
+        [0x47f0_0400, 0x47ff_041f, 0x47ff_041f],
+        Ok(65_536),
+        0,
+    ), // r16
+    (
+        Policy::Table,
+        1,
+        0,
+        [0x47f1_0400, 0x47ff_041f, 0x47ff_041f],
+        Ok(0),
+        0,
+    ), // r17
+    (
+        Policy::Table,
+        1,
+        0,
+        [0x47f2_0400, 0x47ff_041f, 0x47ff_041f],
+        Ok(0),
+        0,
+    ), // r18
+    (
+        Policy::Table,
+        1,
+        17,
+        [0x47f0_0400, 0x47ff_041f, 0x47ff_041f],
+        Ok(65_536),
+        0x202_0202_0202_0203,
+    ), // r16
+    (
+        Policy::Table,
+        1,
+        17,
+        [0x47f1_0400, 0x47ff_041f, 0x47ff_041f],
+        Ok(3),
+        0x202_0202_0202_0203,
+    ), // r17
+    (
+        Policy::Table,
+        1,
+        17,
+        [0x47f2_0400, 0x47ff_041f, 0x47ff_041f],
+        Ok(0),
+        0x202_0202_0202_0203,
+    ), // r18
+    (
+        Policy::Table,
+        1,
+        65_535,
+        [0x47f0_0400, 0x47ff_041f, 0x47ff_041f],
+        Ok(65_536),
+        0x1f20_2020_2020_2000,
+    ), // r16
+    (
+        Policy::Table,
+        1,
+        65_535,
+        [0x47f1_0400, 0x47ff_041f, 0x47ff_041f],
+        Ok(8192),
+        0x1f20_2020_2020_2000,
+    ), // r17
+    (
+        Policy::Table,
+        1,
+        65_535,
+        [0x47f2_0400, 0x47ff_041f, 0x47ff_041f],
+        Ok(0),
+        0x1f20_2020_2020_2000,
+    ), // r18
+    (
+        Policy::Table,
+        1,
+        0,
+        [0xa410_0000, 0x47ff_041f, 0x47ff_041f],
+        Err((0, Kind::Load, 65_536)),
+        0,
+    ), // no quadword
+    (
+        Policy::Table,
+        1,
+        0,
+        [0xb610_0000, 0x47ff_041f, 0x47ff_041f],
+        Err((0, Kind::Store, 65_536)),
+        0,
+    ), // no quadword
+    (
+        Policy::Table,
+        1,
+        17,
+        [0xa410_0010, 0x47ff_041f, 0x47ff_041f],
+        Ok(1),
+        0x202_0202_0202_0203,
+    ), // one byte and zeros
+    (
+        Policy::Table,
+        1,
+        17,
+        [0xa410_0018, 0x47ff_041f, 0x47ff_041f],
+        Err((0, Kind::Load, 65_560)),
+        0x202_0202_0202_0203,
+    ), // behind it
+    (
+        Policy::Table,
+        1,
+        17,
+        [0xa410_fff8, 0x47ff_041f, 0x47ff_041f],
+        Err((0, Kind::Load, 65_528)),
+        0x202_0202_0202_0203,
+    ), // before the first
+    (
+        Policy::Table,
+        1,
+        17,
+        [0xb7f0_0010, 0x47ff_041f, 0x47ff_041f],
+        Ok(0),
+        0x202_0202_0202_0202,
+    ), // the last is stored
+    (
+        Policy::Table,
+        1,
+        17,
+        [0xb7f0_0018, 0x47ff_041f, 0x47ff_041f],
+        Err((0, Kind::Store, 65_560)),
+        0x202_0202_0202_0203,
+    ), // behind it
+    (
+        Policy::Table,
+        1,
+        65_535,
+        [0x4a20_7721, 0x4201_0401, 0xa401_fff8],
+        Ok(0x1_0101_0101_0101),
+        0x1f20_2020_2020_2000,
+    ), // seven bytes and a zero
+    (
+        Policy::Table,
+        1,
+        65_535,
+        [0x4a20_7721, 0x4201_0401, 0xa401_0000],
+        Err((2, Kind::Load, 131_072)),
+        0x1f20_2020_2020_2000,
+    ), // behind it
+    (
+        Policy::Table,
+        1,
+        65_535,
+        [0x4a20_7721, 0x4201_0401, 0xb7e1_0000],
+        Err((2, Kind::Store, 131_072)),
+        0x1f20_2020_2020_2000,
+    ), // behind it
+];
+
 fn counted(bytes: &[u8]) -> Result<u32, PacketFault> {
     let mut count = 0u32;
     for _packet in packets(bytes)? {
@@ -105,60 +568,44 @@ fn ran(
     Ok(Some((outcome, agent.sum())))
 }
 
+/// Whether the run of the row's code ends as the row says; `ones` has a byte 1 for each of the row's.
+fn is_met(rt: &impl Abort, alloc: Global, row: &StartRow, ones: &[u8]) -> Result<bool, CodeFault> {
+    let (policy, byte, count, [first, second, third], answer, sum) = *row;
+    let zeros = [0u8; 16];
+    let bytes = if byte == 0 { zeros.as_slice() } else { ones };
+    let Some(packet) = bytes.get(..count) else {
+        return Ok(false);
+    };
+    let outcome = match answer {
+        Ok(word) => Outcome::Returned(word),
+        Err((index, kind, addr)) => Outcome::Blocked { index, kind, addr },
+    };
+    let found = ran(rt, alloc, policy, &[first, second, third, RETURN], packet)?;
+    Ok(found == Some((outcome, sum)))
+}
+
 #[test]
-fn filters_run(rt: HostRuntime) -> Result<(), Fail> {
-    let a = rt.alloc();
-    let zeros = [0; 64];
-    let odd = [0; 65];
-    let load = [0xa430_0040, 0x201f_0001, RETURN];
-    let kind = Kind::Load;
-    let blocked = |addr| Some((
-        Outcome::Blocked {
-            index: 0,
-            kind,
-            addr,
-        },
-        0,
-    ));
-    let one = Some((Outcome::Returned(1), 0));
-    assert_eq!(rt;
-        ran(&rt, a, Policy::Filter, &load, &zeros)?,
-        blocked(0x1_0050)
-    );
-    assert_eq!(rt; ran(&rt, a, Policy::Filter, &load, &odd)?, one);
-    let unaligned = [0xa430_0004, 0x201f_0001, RETURN];
-    assert_eq!(rt;
-        ran(&rt, a, Policy::Filter, &unaligned, &zeros)?,
-        blocked(0x1_0014)
-    );
-    let old_address = [0x2030_0000, 0xa421_0000, 0x201f_0001, RETURN];
-    assert_eq!(rt; ran(&rt, a, Policy::Filter, &old_address, &zeros)?, one);
+fn starts_are_the_policies(rt: HostRuntime) -> Result<(), Fail> {
+    let ones = vec![in rt.alloc(); 1u8; 65_535]?;
+    for row in &STARTS {
+        assert!(rt; is_met(&rt, rt.alloc(), row, &ones)?, "{row:?}");
+    }
     Ok(())
 }
 
 #[test]
-fn tags_and_tables_run(rt: HostRuntime) -> Result<(), Fail> {
+fn a_load_takes_the_old_address(rt: HostRuntime) -> Result<(), Fail> {
     let a = rt.alloc();
-    let tag = [0xa430_0000, 0xe420_0001, 0xb430_0008, RETURN];
-    let five_seven = [5, 0, 0, 0, 0, 0, 0, 0, 7, 0, 0, 0, 0, 0, 0, 0];
-    let zero_seven = [0, 0, 0, 0, 0, 0, 0, 0, 7, 0, 0, 0, 0, 0, 0, 0];
-    let end = |sum| Some((Outcome::Returned(0), sum));
-    assert_eq!(rt; ran(&rt, a, Policy::Tag, &tag, &five_seven)?, end(10));
-    assert_eq!(rt; ran(&rt, a, Policy::Tag, &tag, &zero_seven)?, end(7));
-    let unasked = [0xa430_0000, 0xb430_0008, RETURN];
-    let outcome = Outcome::Blocked {
-        index: 1,
-        kind: Kind::Store,
-        addr: 0x1_0008,
+    let old_address = [0x2030_0000, 0xa421_0000, 0x201f_0001, RETURN];
+    let found = ran(&rt, a, Policy::Filter, &old_address, &[0; 64])?;
+    assert_eq!(rt; found, Some((Outcome::Returned(1), 0)));
+    let unaligned = [0xa430_0004, RETURN];
+    let blocked = Outcome::Blocked {
+        index: 0,
+        kind: Kind::Load,
+        addr: 0x1_0014,
     };
-    assert_eq!(rt;
-        ran(&rt, a, Policy::Tag, &unasked, &zero_seven)?,
-        Some((outcome, 7))
-    );
-    assert_eq!(rt; ran(&rt, a, Policy::Table, &[RETURN], &[])?, end(0));
-    assert_eq!(rt;
-        ran(&rt, a, Policy::Table, &[RETURN], &five_seven)?,
-        end(12)
-    );
+    let found = ran(&rt, a, Policy::Filter, &unaligned, &[0; 64])?;
+    assert_eq!(rt; found, Some((blocked, 0)));
     Ok(())
 }

@@ -3,7 +3,7 @@ use Rattle.std.specs.Prelude.{ℕ, ◌==◌, List, [], ◌∷◌, length, Option
 use Rattle.std.specs.FinMap as map
 use Rattle.file_port.specs.Files.{FileMap, FilesState, with_file}
 use Rattle.alpha_words.specs.declared.insn.Insn.{Insn}
-use Rattle.alpha_cfg.specs.declared.fault.CodeFault.{CodeFault}
+use Rattle.alpha_cfg.specs.declared.fault.CodeFlaw.{CodeFlaw}
 use Rattle.alpha_cfg.specs.CodeReading.{code_read}
 use Rattle.policy_set.specs.declared.Policy.{Policy}
 use Rattle.policy_set.specs.Names.{named, number_of}
@@ -81,9 +81,9 @@ packets_answer policy code name steps (Some bytes) =
     if nat_lt max_file (length bytes) then still packets_too_long
     else still (lines_outcome policy code steps (packets_read bytes))
 
-unfoldable pub code_answer : Policy → List ℕ → ℕ → FileMap → Result (List Insn) CodeFault → Answer
+unfoldable pub code_answer : Policy → List ℕ → ℕ → FileMap → Result (List Insn) CodeFlaw → Answer
 code_answer policy packets steps files (Ok code) = packets_answer policy code packets steps (map.get files packets)
-code_answer policy packets steps files (Err fault) = still (refused (refusal_line (refusal.BadCode fault)))
+code_answer policy packets steps files (Err flaw) = still (refused (refusal_line (refusal.BadCode flaw)))
 
 unfoldable pub container_answer : Policy → List ℕ → ℕ → FileMap → Result Contents Fault → Answer
 container_answer policy packets steps files (Ok c) =

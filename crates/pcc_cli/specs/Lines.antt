@@ -2,8 +2,8 @@
 use Rattle.std.specs.Prelude.{ℕ, List, ◌++◌, codes, decimal}
 use Rattle.alpha_words.specs.declared.fault.BadWord.{BadWord}
 use Rattle.alpha_words.specs.declared.fault.BadWord.TheVariants.{Opcode, Function, Reserved, KeptRegister, LoadToZero, BadReturn, BadLink}
-use Rattle.alpha_cfg.specs.declared.fault.CodeFault.{CodeFault}
-use Rattle.alpha_cfg.specs.declared.fault.CodeFault.TheVariants as code
+use Rattle.alpha_cfg.specs.declared.fault.CodeFlaw.{CodeFlaw}
+use Rattle.alpha_cfg.specs.declared.fault.CodeFlaw.TheVariants as code
 use Rattle.packet_store.specs.declared.fault.PacketFault.{PacketFault}
 use Rattle.packet_store.specs.declared.fault.PacketFault.TheVariants as packet
 use Rattle.packet_store.specs.Lines.{hex_digits}
@@ -25,12 +25,11 @@ bad_name LoadToZero = codes "LoadToZero"
 bad_name BadReturn = codes "BadReturn"
 bad_name BadLink = codes "BadLink"
 
--- what is wrong with code; want of memory has no line
-abbrev pub code_text : CodeFault → List ℕ
+-- what is wrong with code
+abbrev pub code_text : CodeFlaw → List ℕ
 code_text (code.BadWord i word bad) = decimal i ++ codes " " ++ bad_name bad ++ codes " " ++ hex_digits 8 word
 code_text (code.Target i) = decimal i ++ codes " Target"
 code_text (code.FallsOff i) = decimal i ++ codes " FallsOff"
-code_text code.Memory = codes ""
 
 abbrev pub flaw_name : Flaw → List ℕ
 flaw_name Cut = codes "Cut"

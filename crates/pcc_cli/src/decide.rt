@@ -79,7 +79,7 @@ fn decide_container<'a, F: Files>(
     match Code::of(alloc, container.code) {
         Ok(code) => decide_packets(alloc, policy, code, words, files),
         Err(CodeFault::Memory) => Due::Memory,
-        Err(fault) => Due::Refused(Refusal::BadCode(fault)),
+        Err(CodeFault::At(flaw)) => Due::Refused(Refusal::BadCode(flaw)),
     }
 }
 

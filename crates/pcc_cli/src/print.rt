@@ -12,7 +12,7 @@ ghost use Rattle.pcc_cli.specs.Lines.{named_line, refusal_line, refusal_text, pa
 use crate::due::Job;
 use crate::line::{Line, push_decimal, push_hex, push_text};
 use crate::refusal::Refusal;
-use alpha_cfg::{Code, CodeFault};
+use alpha_cfg::{Code, CodeFlaw};
 use alpha_words::BadWord;
 use arrayvec::ArrayVec;
 use file_port::{Put, Sink};
@@ -209,22 +209,21 @@ fn push_word(line: &mut Line, index: u32, word: u32, bad: BadWord)
 }
 
 /// Adds what is wrong with code.
-fn push_code_fault(line: &mut Line, fault: CodeFault)
+fn push_code_flaw(line: &mut Line, flaw: CodeFlaw)
     requires { array_vec_len line.old + 42 ≤ 128 }
-    ensures items { line.new.items ≡ line.old.items ++ code_text fault }
+    ensures items { line.new.items ≡ line.old.items ++ code_text flaw }
     ensures len { array_vec_len line.new ≤ array_vec_len line.old + 42 }
 {
-    match fault {
-        CodeFault::BadWord(index, word, bad) => push_word(line, index, word, bad),
-        CodeFault::Target(index) => {
+    match flaw {
+        CodeFlaw::BadWord(index, word, bad) => push_word(line, index, word, bad),
+        CodeFlaw::Target(index) => {
             push_decimal(line, u64::from(index));
             push_text(line, " Target");
         }
-        CodeFault::FallsOff(index) => {
+        CodeFlaw::FallsOff(index) => {
             push_decimal(line, u64::from(index));
             push_text(line, " FallsOff");
         }
-        CodeFault::Memory => {}
     }
 }
 
@@ -278,7 +277,7 @@ fn push_refusal(line: &mut Line, refusal: Refusal)
         }
         Refusal::BadCode(fault) => {
             push_text(line, "refused 4 BadCode ");
-            push_code_fault(line, fault);
+            push_code_flaw(line, fault);
         }
     }
 }

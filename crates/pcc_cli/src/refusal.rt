@@ -1,6 +1,6 @@
 //! Why a container is refused.
 
-use alpha_cfg::CodeFault;
+use alpha_cfg::CodeFlaw;
 use proof_container::Flaw;
 use thiserror::Error;
 
@@ -18,5 +18,5 @@ pub enum Refusal {
     OtherPolicy(u32),
     /// The container's code is none.
     #[error("the container's code is bad: {0}")]
-    BadCode(CodeFault),
+    BadCode(CodeFlaw),
 }

@@ -5,6 +5,7 @@ use Rattle.std.specs.FinMap.{code}
 use Rattle.word_ops.specs.Memory.{Memory}
 use Rattle.word_ops.specs.Rights.{allowed}
 use Rattle.alpha_cfg.specs.Machine.{State}
+use Rattle.reference_machine.specs.declared.layout.TheConstants.{ARENA, QUADWORDS}
 use Rattle.reference_machine.specs.Arena.{map_of, arena_words}
 
 -- a state, and where the region is and how many quadwords it has
@@ -27,8 +28,9 @@ held_code =
 pub record IsInArena (base : ℕ) (span : ℕ × ℕ) : Type 0 where
   pub from : base ≤ span.0
   pub aligned : (span.0 - base) % 8 ≡ 0
-  pub to : span.0 + 8 * span.1 ≤ base + 8 * 8194
+  pub to : span.0 + 8 * span.1 ≤ base + 8 * QUADWORDS
 
+-- each span is of those quadwords
 abbrev pub AreInArena : ℕ → List (ℕ × ℕ) → Type 0
 AreInArena base spans = (span : ℕ × ℕ) → Contains spans span → IsInArena base span
 
@@ -36,7 +38,7 @@ AreInArena base spans = (span : ℕ × ℕ) → Contains spans span → IsInAren
 pub record IsPlace (base a : ℕ) : Type 0 where
   pub from : base ≤ a
   pub aligned : (a - base) % 8 ≡ 0
-  pub to : (a - base) / 8 < 8194
+  pub to : (a - base) / 8 < QUADWORDS
 
 -- An allowed address has a place among the words, and any other has none.
 abbrev pub PlaceIs : ℕ → List (ℕ × ℕ) → ℕ → Option ℕ → Type 0
@@ -47,7 +49,7 @@ PlaceIs base spans a (Some place) = (allowed spans a ≡ true) × IsPlace base a
 pub record IsFresh (h : Held) : Type 0 where
   pub index : h.state.index ≡ 0
   pub regs : h.state.regs ≡ replicate 31 0
-  pub memory : h.state.memory ≡ map_of 65536 (arena_words (λ _. 0))
+  pub memory : h.state.memory ≡ map_of ARENA (arena_words (λ _. 0))
   pub region : h.region ≡ 0
   pub reads : (a : ℕ) → allowed h.state.rights.reads a ≡ false
   pub writes : (a : ℕ) → allowed h.state.rights.writes a ≡ false

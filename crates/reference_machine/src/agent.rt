@@ -9,7 +9,10 @@ ghost use Rattle.reference_machine.specs.Arena.{sum_of};
 ghost use Rattle.reference_machine.specs.Agents as agents;
 ghost use Rattle.reference_machine.specs.Setups.{setup_of};
 ghost use Rattle.reference_machine.specs.Starts as starts;
+ghost use Rattle.reference_machine.specs.declared.layout.TheConstants.{ARENA};
+ghost use Rattle.alpha_cfg.specs.declared.code.TheConstants.{MAX_WORDS};
 
+use crate::layout::{ARENA, QUADWORDS};
 use crate::loading::fill;
 use crate::parts::{address_of, is_allowed, read_reg, rhs_word, takes, write_reg};
 use crate::start::Start;
@@ -18,9 +21,6 @@ use alpha_words::{Insn, Reg, Rhs};
 use std::alloc::{AllocError, Global};
 use std::marker::Model;
 use word_ops::apply;
-
-/// The first address of the arena.
-pub const ARENA: u64 = 65_536;
 
 /// A state of the machine in an arena of 8,194 quadwords from address 65,536 on, with the place
 /// of its region.
@@ -42,7 +42,7 @@ impl Model for Agent {
 
     ghost coded = { held_code };
 
-    ghost use Rattle.reference_machine.specs.Insides.{held_of, IsSound};
+    ghost use Rattle.reference_machine.specs.Inside.Fields.{held_of, IsSound};
 
     ghost view = { held_of };
 
@@ -54,7 +54,7 @@ impl Agent {
     pub fn new(alloc: Global) -> Result<Agent, AllocError>
         ensures { IfOk result agents.IsFresh }
     {
-        let words = vec![in alloc; 0; 8194]?;
+        let words = vec![in alloc; 0; QUADWORDS]?;
         Ok(Agent {
             index: 0,
             regs: [0; 31],
@@ -66,8 +66,9 @@ impl Agent {
         })
     }
 
-    /// Begins anew at the start. The bytes stand little-endian in the quadwords from the address
-    /// on; every other quadword and register is 0, and so is the index.
+    /// Begins anew at the start. Its bytes stand little-endian in the quadwords from its address
+    /// on; every other quadword and register is 0, and so is the index. Nothing of an earlier run
+    /// is left.
     pub fn load(&mut self, start: Start)
         requires { starts.Fits ARENA (setup_of start) }
         ensures { self.new ≡ starts.loaded ARENA (setup_of start.entry) }
@@ -108,7 +109,8 @@ impl Agent {
 
     /// The word at an address, where it may be loaded.
     fn word_at(&self, addr: u64) -> Option<u64>
-        ensures { result ≡ (if allowed self.now.state.rights.reads addr then Some (memory.read self.now.state.memory addr) else None) }
+        ensures { result ≡ (if allowed self.now.state.rights.reads addr
+            then Some (memory.read self.now.state.memory addr) else None) }
     {
         let place = place_of(&self.reads, addr)?;
         Some(self.words[place])
@@ -123,9 +125,14 @@ impl Agent {
 
     /// Writes a register and goes on to the next instruction.
     fn set_reg(&mut self, reg: Reg, word: u64) -> Step
-        requires { self.old.state.index < 1024 }
+        requires { self.old.state.index < MAX_WORDS }
         ensures result { result ≡ Step.Moved }
-        ensures value { self.new ≡ record self.old { state = record self.old.state { index = self.old.state.index + 1; regs = write_reg self.old.state.regs reg word } } }
+        ensures value { self.new ≡ record self.old {
+          state = record self.old.state {
+            index = self.old.state.index + 1;
+            regs = write_reg self.old.state.regs reg word;
+          };
+        } }
     {
         write_reg(&mut self.regs, reg, word);
         self.index += 1;
@@ -134,12 +141,17 @@ impl Agent {
 
     /// Stores a word and goes on to the next instruction.
     fn store(&mut self, addr: u64, word: u64) -> Step
-        requires index { self.old.state.index < 1024 }
+        requires index { self.old.state.index < MAX_WORDS }
         requires allowed { allowed self.old.state.rights.writes addr ≡ true }
         ensures result { result ≡ Step.Moved }
-        ensures value { self.new ≡ record self.old { state = record self.old.state { index = self.old.state.index + 1; memory = memory.write self.old.state.memory addr word } } }
+        ensures value { self.new ≡ record self.old {
+          state = record self.old.state {
+            index = self.old.state.index + 1;
+            memory = memory.write self.old.state.memory addr word;
+          };
+        } }
     {
-        let _ = &self.words;
+        let _ = &self.words; // opens the invariant for the prover
         let place = ((addr - ARENA) / 8) as usize;
         self.words[place] = word;
         self.index += 1;
@@ -149,7 +161,8 @@ impl Agent {
     /// Goes on to the instruction at the index.
     fn go_to(&mut self, index: u32) -> Step
         ensures result { result ≡ Step.Moved }
-        ensures value { self.new ≡ record self.old { state = record self.old.state { index = index } } }
+        ensures value { self.new
+            ≡ record self.old { state = record self.old.state { index = index } } }
     {
         self.index = index;
         Step::Moved
@@ -162,12 +175,14 @@ impl Agent {
         self.index
     }
 
-    /// One step. A blocked step changes nothing, and a return neither.
+    /// Makes one step, and answers how it ended. A blocked step changes nothing, and a return
+    /// neither; the index stays inside the code in any case.
     pub fn step(&mut self, code: &Code) -> Step
         requires { self.old.state.index < length code.now }
         ensures step { (result, self.new.state) ≡ machine.step_of code.now self.old.state }
-        ensures region { (self.new.region_at ≡ self.old.region_at) × (self.new.region ≡ self.old.region) }
-        ensures within { result ≡ Step.Moved → self.new.state.index < length code.now }
+        ensures region { (self.new.region_at ≡ self.old.region_at)
+            × (self.new.region ≡ self.old.region) }
+        ensures within { self.new.state.index < length code.now }
     {
         let index = self.index();
         let insn = code.insn(index);
@@ -210,13 +225,15 @@ impl Agent {
         }
     }
 
-    /// A run of at most `budget` steps, a return among them. OutOfSteps where the whole budget was
-    /// made and none returned or was blocked.
+    /// Makes at most `budget` steps, a return among them, and answers how the run ended: OutOfSteps
+    /// where the whole budget was made and none returned or was blocked. The index stays inside the
+    /// code in any case, so a run may go on.
     pub fn run(&mut self, code: &Code, budget: u64) -> Outcome
         requires { self.old.state.index < length code.now }
         ensures run { (result, self.new.state) ≡ machine.run_of code.now budget self.old.state }
-        ensures region { (self.new.region_at ≡ self.old.region_at) × (self.new.region ≡ self.old.region) }
-        ensures within { result ≡ Outcome.OutOfSteps → self.new.state.index < length code.now }
+        ensures region { (self.new.region_at ≡ self.old.region_at)
+            × (self.new.region ≡ self.old.region) }
+        ensures within { self.new.state.index < length code.now }
     {
         for _ in 0..budget {
             match self.step(code) {
@@ -239,7 +256,8 @@ impl Agent {
 
     /// The sum of the region's quadwords, modulo 2^64.
     pub fn sum(&self) -> u64
-        ensures { result ≡ sum_of self.now.state.memory self.now.region_at self.now.region % 2 ^ 64 }
+        ensures { result
+            ≡ sum_of self.now.state.memory self.now.region_at self.now.region % 2 ^ 64 }
     {
         let mut total: u64 = 0;
         let first = ((self.region_at - ARENA) / 8) as usize;

@@ -8,14 +8,18 @@
 #![tactic(auto)]
 
 mod agent;
-mod known;
+mod layout;
 mod loading;
 mod parts;
 mod start;
 #[cfg(test)]
 mod tests;
+mod theorems;
 
 pub use agent::Agent;
 pub use alpha_cfg::{Kind, Outcome, Step};
-pub use known::laws;
+pub use layout::{ARENA, QUADWORDS};
+pub use loading::fill;
+pub use parts::{address_of, is_allowed, read_reg, rhs_word, takes, write_reg};
 pub use start::Start;
+pub use theorems::laws;

@@ -8,7 +8,7 @@ ghost use Rattle.word_ops.specs.Rights as rights;
 use alpha_words::{Cond, Reg, Rhs};
 use word_ops::{Rel, holds};
 
-/// A register's word.
+/// A register's word: that of `regs`, or 0 for register 31.
 pub fn read_reg(regs: &[u64; 31], reg: Reg) -> u64
     ensures { result ≡ registers.read_reg regs.now reg }
 {
@@ -16,7 +16,7 @@ pub fn read_reg(regs: &[u64; 31], reg: Reg) -> u64
     if r == 31 { 0 } else { regs[r as usize] }
 }
 
-/// Writes a register.
+/// Writes a register's word; a write to register 31 is ignored.
 pub fn write_reg(regs: &mut [u64; 31], reg: Reg, word: u64)
     ensures { regs.new ≡ registers.write_reg regs.old reg word }
 {
@@ -26,7 +26,7 @@ pub fn write_reg(regs: &mut [u64; 31], reg: Reg, word: u64)
     }
 }
 
-/// The second operand's word.
+/// The second operand's word: a register's, or the literal.
 pub fn rhs_word(regs: &[u64; 31], rhs: &Rhs) -> u64
     ensures { result ≡ machine.rhs_word regs.now rhs.now }
 {
@@ -36,14 +36,14 @@ pub fn rhs_word(regs: &[u64; 31], rhs: &Rhs) -> u64
     }
 }
 
-/// The sum of a register and a sign-extended displacement, modulo 2^64.
+/// The sum of register `rb` and the sign-extended displacement in bytes, modulo 2^64.
 pub fn address_of(regs: &[u64; 31], rb: Reg, disp: i16) -> u64
     ensures { result ≡ machine.address_of regs.now rb disp }
 {
     read_reg(regs, rb).wrapping_add(i64::from(disp).cast_unsigned())
 }
 
-/// Whether a conditional branch is taken.
+/// Whether a conditional branch is taken, by the word of its register.
 pub fn takes(cond: Cond, word: u64) -> bool
     ensures { result ≡ machine.takes cond word }
 {
@@ -71,7 +71,8 @@ fn is_in_span(span: (u64, u64), addr: u64) -> bool
     offset % 8 == 0 && offset / 8 < count
 }
 
-/// Whether the address is that of a quadword of one of the spans.
+/// Whether `addr` is the address of a quadword of one of the `spans`, each a base address in bytes
+/// and a count of quadwords.
 pub fn is_allowed(spans: &[(u64, u64)], addr: u64) -> bool
     ensures { result ≡ rights.allowed spans.now addr }
 {

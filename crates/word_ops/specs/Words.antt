@@ -1,6 +1,6 @@
 -- Words are whole numbers below 2 ^ 64: what each operator gives, and when each relation holds.
 -- Alpha Architecture Handbook, "Integer Arithmetic Instructions" and "Logical and Shift Instructions".
-use Rattle.std.specs.Prelude.{ℕ, ◌+◌, ◌-◌, ◌*◌, ◌/◌, ◌%◌, ◌^◌, Bool, if◌then◌else◌, ◌==◌, nat_lt, nat_le, bit_and, bit_or, int_lt, int_le, ℤ}
+use Rattle.std.specs.Prelude.{◌≡◌, ◌↔◌, ℕ, ◌+◌, ◌-◌, ◌*◌, ◌/◌, ◌%◌, ◌^◌, Bool, if◌then◌else◌, ◌==◌, nat_lt, nat_le, bit_and, bit_or, int_lt, int_le, ℤ}
 use Rattle.std.specs.Int.{cast_signed, w64}
 use Rattle.word_ops.specs.declared.Op.{Op}
 use Rattle.word_ops.specs.declared.Op.TheVariants.{Add, Sub, Band, Bis, Sll, Srl, Cmpeq, Cmplt, Cmple, Cmpult, Cmpule}
@@ -18,6 +18,15 @@ test_of Ult a b = nat_lt a b
 test_of Ule a b = nat_le a b
 test_of Slt a b = int_lt (signed a) (signed b)
 test_of Sle a b = int_le (signed a) (signed b)
+
+-- The number that a word stands for in two's complement, plus 2 ^ 63: its order is the signed order.
+abbrev pub excess_of : ℕ → ℕ
+excess_of a = (a + 2 ^ 63) % 2 ^ 64
+
+-- a word that is 1 exactly where P holds, and 0 exactly where it doesn't
+pub record IsFlagOf (word : ℕ) (P : Type 0) : Type 0 where
+  pub set : (word ≡ 1) ↔ P
+  pub clear : (word ≡ 0) ↔ (P → ⊥)
 
 -- 1 where the test is true, else 0
 abbrev pub flag_of : Bool → ℕ

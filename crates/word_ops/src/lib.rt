@@ -3,17 +3,19 @@
 //! What every layer above shares stands in this crate's definitions: the operators and relations
 //! (`specs/Words`), memories (`specs/Memory`), rights to load and store (`specs/Rights`) and the
 //! registers' words (`specs/Registers`). The layers use that `apply` and `holds` are the
-//! definitions' `word_of` and `test_of`. Source: Alpha Architecture Handbook.
+//! definitions' `word_of` and `test_of`. Source: Alpha Architecture Handbook, "Integer Arithmetic
+//! Instructions" and "Logical and Shift Instructions".
+
 #![tactic(auto)]
 
-mod known;
 #[cfg(test)]
 mod tests;
+mod theorems;
 
 ghost use Rattle.std.specs.Prelude.{◌≡◌};
 ghost use Rattle.word_ops.specs.Words.{word_of, test_of};
 
-pub use known::laws;
+pub use theorems::{laws, order_laws};
 
 /// An operator of two words.
 #[derive(Clone, Copy, Debug, PartialEq, Eq)]

@@ -1,4 +1,4 @@
-use Rattle.alpha_words.proofs.Laws.{reading-Spells, Lawful-reading}
+use Rattle.alpha_words.proofs.Words.{reading-Spells, Lawful-reading}
 use Rattle.alpha_words.proofs.decoding.decode.Goals as goal
 
 pub returns-clause-spelled : goal.returns-clause-spelled

@@ -1,4 +1,4 @@
-use Rattle.alpha_words.proofs.Laws.{reading-Spells}
+use Rattle.alpha_words.proofs.Words.{reading-Spells}
 use Rattle.alpha_words.proofs.encoding.encode.Goals as goal
 
 pub returns-clause-read_back : goal.returns-clause-read_back

@@ -23,7 +23,7 @@ returns-in-OtherPolicy-clause-items c =
 pub returns-in-BadCode-clause-items : goal.returns-in-BadCode-clause-items
 returns-in-BadCode-clause-items c =
     let old = c.args.line.now.items in
-    c.push_code_fault.ensures.items
+    c.push_code_flaw.ensures.items
     ∙ ap (λ x. x ++ code_text c.in-BadCode.fault) c.push_text-in-BadCode.ensures.items
     ∙ append_assoc old (codes "refused 4 BadCode ") (code_text c.in-BadCode.fault)
     ∙ ap (λ (r : Refusal). old ++ refusal_text r) (sym c.in-BadCode.is)

@@ -1,7 +1,7 @@
 use Rattle.std.proofs.Common.{◌+◌, ap, arith}
 use Rattle.word_ops.specs.Memory.{Memory}
 use Rattle.reference_machine.specs.Agents.{Held, IsPlace}
-use Rattle.reference_machine.specs.Insides.{held_of}
+use Rattle.reference_machine.specs.Inside.Fields.{held_of}
 use Rattle.reference_machine.proofs.Places.{IsPlace-allowed}
 use Rattle.reference_machine.proofs.ArenaWords.{map_of-set_at}
 use Rattle.reference_machine.proofs.agent.Agent.store.Goals as goal

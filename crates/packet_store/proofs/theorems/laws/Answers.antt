@@ -1,0 +1,6 @@
+use Rattle.packet_store.proofs.StartLemmas.{start_of-state}
+use Rattle.packet_store.proofs.Grammar.{whole_exactly, fault_exactly}
+use Rattle.packet_store.proofs.theorems.laws.Goals as goal
+
+pub returns : goal.returns
+returns c = record { state = start_of-state; whole = whole_exactly; fault = fault_exactly }
