@@ -1,2 +1,2 @@
 pub use Rattle.lf_signature.specs.Typing
-pub mod Families
+pub mod Inside

@@ -1,22 +1,26 @@
 //! Types, of the four families that there are: 0 to 2 are types, and 3 is one at a formula.
 
-ghost use Rattle.std.specs.Prelude.{◌≡◌, IfOk};
-ghost use Rattle.term_table.specs.Table.{IsKnown, AllKnown, tree_at, ctx_of, Extends};
-ghost use Rattle.lf_signature.specs.Decide.{is_type_of};
-ghost use Rattle.lf_check.specs.Families.{is_proofs};
+ghost use Rattle.std.specs.Prelude.{◌≡◌, ◌<◌, IfOk};
+ghost use Rattle.term_table.specs.Tree.{Pi};
+ghost use Rattle.term_table.specs.Table.{IsKnown, tree_at, Extends};
+ghost use Rattle.lf_check.specs.Inside.Families.{is_proofs};
+ghost use Rattle.lf_check.specs.Inside.Kept.{AreKept, is_type_in};
 
+use crate::contexts::part_at;
+use crate::judgements::{Kept, Question, number};
+use crate::steps::intern_on;
 use crate::walk::check_at;
 use lf_signature::Signature;
-use std::alloc::{AllocError, Global};
+use std::alloc::AllocError;
 use term_table::{Id, Node, Table};
 
-// The family of formulas.
+/// The family of formulas.
 const FORM: u32 = 2;
 
-// The family of the proofs of a formula.
+/// The family of the proofs of a formula.
 const PF: u32 = 3;
 
-// Whether this is the family of proofs.
+/// Whether this is the family of proofs.
 fn is_proofs(table: &Table, p: Id) -> bool
     requires { IsKnown table.now p }
     ensures { result ≡ is_proofs (tree_at table.now p) }
@@ -27,21 +31,22 @@ fn is_proofs(table: &Table, p: Id) -> bool
     }
 }
 
-// Whether the type a is well formed.
-#[tactic(auto, using(crate::proofs::Contexts::contexts))]
+/// Whether the type a is well formed.
+#[cycle(formed)]
 pub(crate) fn is_type_at<S: Signature>(
-    alloc: Global,
     table: &mut Table,
+    kept: &mut Kept,
     sig: &S,
-    ctx: &mut Vec<Id>,
+    c: Id,
     a: Id,
 ) -> Result<bool, AllocError>
     requires holds { S.holds sig.now table.old }
-    requires ctx { AllKnown table.old ctx.old.items }
+    requires c { IsKnown table.old c }
     requires a { IsKnown table.old a }
-    ensures answer { IfOk result (λ b. b ≡ is_type_of (S.declares sig.now table.old) (tree_at table.old a) (ctx_of table.old ctx.old.items)) }
-    ensures ctx { IfOk result (λ _. ctx.new.items ≡ ctx.old.items) }
+    requires kept { AreKept (S.declares sig.now table.old) table.old kept.old }
+    ensures answer { IfOk result (λ b. b ≡ is_type_in (S.declares sig.now table.old) table.old c a) }
     ensures grows { Extends table.old table.new }
+    ensures kept { AreKept (S.declares sig.now table.new) table.new kept.new }
 {
     match table.node(a) {
         Node::Fam(family) => Ok(family < PF),
@@ -49,18 +54,47 @@ pub(crate) fn is_type_at<S: Signature>(
             if !is_proofs(table, p) {
                 return Ok(false);
             }
-            let form = table.intern(Node::Fam(FORM))?;
-            check_at(alloc, table, sig, ctx, m, form)
+            let form = intern_on(table, kept, sig, Node::Fam(FORM))?;
+            check_at(table, kept, sig, c, m, form)
         }
-        Node::Pi(from, to) => {
-            if !is_type_at(alloc, table, sig, ctx, from)? {
-                return Ok(false);
-            }
-            ctx.push(from)?;
-            let answer = is_type_at(alloc, table, sig, ctx, to)?;
-            ctx.pop();
-            Ok(answer)
-        }
+        Node::Pi(from, to) => product_at(table, kept, sig, c, a, from, to),
         _ => Ok(false),
     }
+}
+
+/// Whether the product a is well formed.
+#[cycle(formed)]
+fn product_at<S: Signature>(
+    table: &mut Table,
+    kept: &mut Kept,
+    sig: &S,
+    c: Id,
+    a: Id,
+    from: Id,
+    to: Id,
+) -> Result<bool, AllocError>
+    requires holds { S.holds sig.now table.old }
+    requires c { IsKnown table.old c }
+    requires a { IsKnown table.old a }
+    requires parts { (from < a) × (to < a) }
+    requires is { Pi (tree_at table.old from) (tree_at table.old to) ≡ tree_at table.old a }
+    requires kept { AreKept (S.declares sig.now table.old) table.old kept.old }
+    ensures answer { IfOk result (λ b. b ≡ is_type_in (S.declares sig.now table.old) table.old c a) }
+    ensures grows { Extends table.old table.new }
+    ensures kept { AreKept (S.declares sig.now table.new) table.new kept.new }
+{
+    let part = part_at(table, kept, sig, c, a)?;
+    let question = Question::Formed(number(a), number(part));
+    if let Some(_) = kept.find(table, sig, &question) {
+        return Ok(true);
+    }
+    if !is_type_at(table, kept, sig, part, from)? {
+        return Ok(false);
+    }
+    let inner = intern_on(table, kept, sig, Node::TApp(part, from))?;
+    let answer = is_type_at(table, kept, sig, inner, to)?;
+    if answer {
+        kept.keep(table, sig, question, a)?;
+    }
+    Ok(answer)
 }

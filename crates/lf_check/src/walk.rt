@@ -1,16 +1,21 @@
-//! Terms checked at types and types synthesised, in a context that grows and shrinks on the way.
+//! Terms checked at types and types synthesised. Each judgement is made in the part of the context
+//! that the term can speak of.
 
-ghost use Rattle.std.specs.Prelude.{◌≡◌, ◌<◌, ◌≤◌, ◌+◌, ◌^◌, IfOk};
-ghost use Rattle.term_table.specs.Tree.{at};
-ghost use Rattle.term_table.specs.Table.{IsKnown, AllKnown, tree_at, ctx_of, Extends, Stands};
-ghost use Rattle.lf_signature.specs.Decide.{is_atomic, var_rule, synth_of, checks_of};
+ghost use Rattle.std.specs.Prelude.{◌≡◌, true, false, ◌<◌, ◌≤◌, ◌+◌, ◌^◌, IfOk, IsTrue};
+ghost use Rattle.term_table.specs.Tree.{at, App, Lam, Pi};
+ghost use Rattle.term_table.specs.Table.{IsKnown, AllKnown, tree_at, Extends, Stands};
+ghost use Rattle.lf_signature.specs.Decide.{is_atomic, var_rule};
+ghost use Rattle.lf_check.specs.Inside.Lists.{types_of};
+ghost use Rattle.lf_check.specs.Inside.Kept.{AreKept, synth_in, checks_in};
 
-use hereditary_subst::{erase, subst_type, weaken};
+use crate::contexts::{part_at, type_at};
+use crate::judgements::{Kept, Question, number};
+use crate::steps::{declared_on, intern_on, subst_on, weaken_on};
 use lf_signature::Signature;
-use std::alloc::{AllocError, Global};
+use std::alloc::AllocError;
 use term_table::{Id, Node, Table};
 
-// Whether a type is a family with arguments.
+/// Whether a type is a family with arguments.
 fn is_atomic_type(table: &Table, a: Id) -> bool
     requires { IsKnown table.now a }
     ensures { result ≡ is_atomic (tree_at table.now a) }
@@ -22,86 +27,164 @@ fn is_atomic_type(table: &Table, a: Id) -> bool
     }
 }
 
-// A variable's type, shifted into the whole context.
-fn var_type(table: &mut Table, ctx: &[Id], n: u32) -> Result<Option<Id>, AllocError>
-    requires { AllKnown table.old ctx.now }
-    ensures tree { IfOk result (Stands table.new (var_rule n (at (ctx_of table.old ctx.now) n))) }
+/// A variable's type, shifted into the whole context.
+fn var_type<S: Signature>(
+    table: &mut Table,
+    kept: &mut Kept,
+    sig: &S,
+    c: Id,
+    n: u32,
+) -> Result<Option<Id>, AllocError>
+    requires holds { S.holds sig.now table.old }
+    requires known { IsKnown table.old c }
+    requires kept { AreKept (S.declares sig.now table.old) table.old kept.old }
+    ensures tree { IfOk result (Stands table.new (var_rule n (at (types_of (tree_at table.old c)) n))) }
     ensures grows { Extends table.old table.new }
+    ensures kept { AreKept (S.declares sig.now table.new) table.new kept.new }
 {
-    let place = n as usize;
-    if place >= ctx.len() {
-        return Ok(None);
+    kept.step(table, sig, u64::from(n))?;
+    match type_at(table, c, u64::from(n)) {
+        None => Ok(None),
+        Some(a) => weaken_on(table, kept, sig, a, u64::from(n) + 1),
     }
-    let id = ctx[ctx.len() - 1 - place];
-    weaken(table, id, u64::from(n) + 1)
 }
 
-// Whether the term m checks at the type a.
+/// Whether the term m checks at the type a.
 #[cycle(check)]
-#[tactic(auto, using(crate::proofs::Contexts::contexts))]
 pub(crate) fn check_at<S: Signature>(
-    alloc: Global,
     table: &mut Table,
+    kept: &mut Kept,
     sig: &S,
-    ctx: &mut Vec<Id>,
+    c: Id,
     m: Id,
     a: Id,
 ) -> Result<bool, AllocError>
     requires holds { S.holds sig.now table.old }
-    requires ctx { AllKnown table.old ctx.old.items }
+    requires c { IsKnown table.old c }
     requires m { IsKnown table.old m }
     requires a { IsKnown table.old a }
-    ensures answer { IfOk result (λ b. b ≡ checks_of (S.declares sig.now table.old) (tree_at table.old m) (ctx_of table.old ctx.old.items) (tree_at table.old a)) }
-    ensures ctx { IfOk result (λ _. ctx.new.items ≡ ctx.old.items) }
+    requires kept { AreKept (S.declares sig.now table.old) table.old kept.old }
+    ensures answer { IfOk result (λ b. b ≡ checks_in (S.declares sig.now table.old) table.old c m a) }
     ensures grows { Extends table.old table.new }
+    ensures kept { AreKept (S.declares sig.now table.new) table.new kept.new }
 {
     if let Node::Lam(body) = table.node(m) {
         let Node::Pi(from, to) = table.node(a) else {
             return Ok(false);
         };
-        ctx.push(from)?;
-        let answer = check_at(alloc, table, sig, ctx, body, to)?;
-        ctx.pop();
-        return Ok(answer);
+        return under_at(table, kept, sig, c, m, a, body, from, to);
     }
-    match synth_at(alloc, table, sig, ctx, m)? {
+    match synth_at(table, kept, sig, c, m)? {
         None => Ok(false),
         Some(p) => Ok(is_atomic_type(table, a) && table.same(p, a)),
     }
 }
 
-// The type that the atomic term r synthesises.
+/// Whether the abstraction m of the body checks at the product a.
 #[cycle(check)]
-#[tactic(auto, using(crate::proofs::Contexts::contexts))]
-pub(crate) fn synth_at<S: Signature>(
-    alloc: Global,
+fn under_at<S: Signature>(
     table: &mut Table,
+    kept: &mut Kept,
     sig: &S,
-    ctx: &mut Vec<Id>,
+    c: Id,
+    m: Id,
+    a: Id,
+    body: Id,
+    from: Id,
+    to: Id,
+) -> Result<bool, AllocError>
+    requires holds { S.holds sig.now table.old }
+    requires c { IsKnown table.old c }
+    requires m { IsKnown table.old m }
+    requires a { IsKnown table.old a }
+    requires parts { (body < m) × (from < a) × (to < a) }
+    requires lam { Lam (tree_at table.old body) ≡ tree_at table.old m }
+    requires pi { Pi (tree_at table.old from) (tree_at table.old to) ≡ tree_at table.old a }
+    requires kept { AreKept (S.declares sig.now table.old) table.old kept.old }
+    ensures answer { IfOk result (λ b. b ≡ checks_in (S.declares sig.now table.old) table.old c m a) }
+    ensures grows { Extends table.old table.new }
+    ensures kept { AreKept (S.declares sig.now table.new) table.new kept.new }
+{
+    let part = part_at(table, kept, sig, c, m)?;
+    let question = Question::Under(number(m), number(a), number(part));
+    if let Some(_) = kept.find(table, sig, &question) {
+        return Ok(true);
+    }
+    let inner = intern_on(table, kept, sig, Node::TApp(part, from))?;
+    let answer = check_at(table, kept, sig, inner, body, to)?;
+    if answer {
+        kept.keep(table, sig, question, m)?;
+    }
+    Ok(answer)
+}
+
+/// The type that the atomic term r synthesises.
+#[cycle(check)]
+pub(crate) fn synth_at<S: Signature>(
+    table: &mut Table,
+    kept: &mut Kept,
+    sig: &S,
+    c: Id,
     r: Id,
 ) -> Result<Option<Id>, AllocError>
     requires holds { S.holds sig.now table.old }
-    requires ctx { AllKnown table.old ctx.old.items }
+    requires c { IsKnown table.old c }
     requires r { IsKnown table.old r }
-    ensures tree { IfOk result (Stands table.new (synth_of (S.declares sig.now table.old) (tree_at table.old r) (ctx_of table.old ctx.old.items))) }
-    ensures ctx { IfOk result (λ _. ctx.new.items ≡ ctx.old.items) }
+    requires kept { AreKept (S.declares sig.now table.old) table.old kept.old }
+    ensures tree { IfOk result (Stands table.new (synth_in (S.declares sig.now table.old) table.old c r)) }
     ensures grows { Extends table.old table.new }
+    ensures kept { AreKept (S.declares sig.now table.new) table.new kept.new }
 {
     match table.node(r) {
-        Node::Var(n) => var_type(table, ctx.as_slice(), n),
+        Node::Var(n) => var_type(table, kept, sig, c, n),
         Node::App(f, m) => {
-            let Some(p) = synth_at(alloc, table, sig, ctx, f)? else {
-                return Ok(None);
-            };
-            let Node::Pi(from, to) = table.node(p) else {
-                return Ok(None);
-            };
-            if !check_at(alloc, table, sig, ctx, m, from)? {
-                return Ok(None);
+            let part = part_at(table, kept, sig, c, r)?;
+            let question = Question::Synth(number(r), number(part));
+            if let Some(p) = kept.find(table, sig, &question) {
+                return Ok(Some(p));
             }
-            let simple = erase(alloc, table, from)?;
-            subst_type(table, to, m, &simple)
+            let Some(p) = applied_at(table, kept, sig, part, r, f, m)? else {
+                return Ok(None);
+            };
+            kept.keep(table, sig, question, p)?;
+            Ok(Some(p))
         }
-        _ => sig.type_of(table, table.node(r)),
+        _ => {
+            let node = table.node(r);
+            declared_on(table, kept, sig, node)
+        }
     }
+}
+
+/// The type that the application r of f to m synthesises.
+#[cycle(check)]
+fn applied_at<S: Signature>(
+    table: &mut Table,
+    kept: &mut Kept,
+    sig: &S,
+    c: Id,
+    r: Id,
+    f: Id,
+    m: Id,
+) -> Result<Option<Id>, AllocError>
+    requires holds { S.holds sig.now table.old }
+    requires c { IsKnown table.old c }
+    requires r { IsKnown table.old r }
+    requires parts { (f < r) × (m < r) }
+    requires is { App (tree_at table.old f) (tree_at table.old m) ≡ tree_at table.old r }
+    requires kept { AreKept (S.declares sig.now table.old) table.old kept.old }
+    ensures tree { IfOk result (Stands table.new (synth_in (S.declares sig.now table.old) table.old c r)) }
+    ensures grows { Extends table.old table.new }
+    ensures kept { AreKept (S.declares sig.now table.new) table.new kept.new }
+{
+    let Some(p) = synth_at(table, kept, sig, c, f)? else {
+        return Ok(None);
+    };
+    let Node::Pi(from, to) = table.node(p) else {
+        return Ok(None);
+    };
+    if !check_at(table, kept, sig, c, m, from)? {
+        return Ok(None);
+    }
+    subst_on(table, kept, sig, to, m, from)
 }

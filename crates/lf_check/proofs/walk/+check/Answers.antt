@@ -1,6 +1,9 @@
 use Rattle.std.proofs.Common.{◌≡◌, ◌↔◌, IsTrue, true, Some, sym, ◌∙◌, ap}
-use Rattle.term_table.specs.Table.{tree_at, ctx_of, node_tree, Stands, Extends}
+use Rattle.term_table.specs.Table.{tree_at, node_tree, Stands, Extends}
+use Rattle.lf_check.specs.Inside.Lists.{types_of}
 use Rattle.lf_signature.specs.Decide.{checks_of, synth_of, atom_rule, is_atomic}
+use Rattle.lf_check.proofs.TypeLists.{grows_more}
+use Rattle.lf_check.proofs.Judging.{under_part, judges_under}
 use Rattle.lf_check.proofs.Atoms.{checks_atom, atom_is}
 use Rattle.lf_check.proofs.walk.+check.Goals as goal
 
@@ -10,7 +13,7 @@ check_at-returns-then-is_atomic_type g t c =
     let t₁ = c.synth_at.new.table in
     let m = tree_at t₀ c.args.m in
     let sig = g.S.Signature.declares c.args.sig.now t₀ in
-    let ctx = ctx_of t₀ c.args.ctx.now.items in
+    let ctx = types_of (tree_at t₀ c.args.c) in
     let e : node_tree t₀ c.node.result ≡ m = c.node.ensures.tree in
     let syn : Stands t₁ (synth_of sig m ctx) (Some c.in-Some.p) = rw c.in-Some.is at c.in_ok-synth_at.ensures.tree in
     let x : Extends t₀ t₁ = c.in_ok-synth_at.ensures.grows in
@@ -22,4 +25,52 @@ check_at-returns-then-is_atomic_type g t c =
     ∙ ap (λ z. atom_rule z (Some (tree_at t₁ c.in-Some.p))) ka
     ∙ ap (atom_rule (tree_at t₀ c.args.a)) (sym syn.1)
     ∙ sym (checks_atom sig t₀ ctx c.node.result m (tree_at t₀ c.args.a) e c.in_default.not-Lam) in
-    record { answer = answer; ctx = c.in_ok-synth_at.ensures.ctx; grows = x }
+    record { answer = answer; grows = x; kept = c.in_ok-synth_at.ensures.kept }
+
+pub under_at-keep-requires-clause-judges : goal.under_at-keep-requires-clause-judges
+under_at-keep-requires-clause-judges g k c =
+    let t = c.args.table.now in
+    let u = c.part_at.new.table in
+    let w = c.intern_on.new.table in
+    let s = g.S.Signature.declares c.args.sig.now in
+    let tu : Extends t u = c.in_ok-part.ensures.grows in
+    let uw : Extends u w = c.in_ok-inner.ensures.grows in
+    let same = g.met.S.Signature.same_types c.args.sig.now t in
+    let is : c.in_ok-answer.answer ≡ checks_of (s t) (tree_at t c.args.m) (types_of (tree_at u c.in_ok-part.part)) (tree_at t c.args.a) =
+    under_part (s t) (s w) t u w c.args.m c.args.a c.args.body c.args.from c.args.to c.in_ok-part.part c.in_ok-inner.inner c.in_ok-answer.answer tu uw (same w (grows_more t u w tu uw) c.requires.holds)
+    c.requires.m c.requires.a c.requires.parts c.in_ok-part.ensures.part.0 c.requires.lam c.requires.pi c.in_ok-inner.ensures.id.1 c.in_ok-answer.ensures.answer
+    in
+    let z = c.check_at.new.table in
+    let uz : Extends u z = grows_more u w z uw c.in_ok-answer.ensures.grows in
+    rw (c.number.ensures, c.number-2.ensures, c.number-3.ensures)
+    (judges_under (s t) (s z) t u z c.args.m c.args.a c.in_ok-part.part tu uz (same z (grows_more t u z tu uz) c.requires.holds) c.requires.m c.requires.a c.in_ok-part.ensures.part.0 (sym c.if-answer.true ∙ is))
+
+pub under_at-returns-in_ok-keep-clause-answer : goal.under_at-returns-in_ok-keep-clause-answer
+under_at-returns-in_ok-keep-clause-answer g k c =
+    let t = c.args.table.now in
+    let u = c.part_at.new.table in
+    let w = c.intern_on.new.table in
+    let s = g.S.Signature.declares c.args.sig.now in
+    let tu : Extends t u = c.in_ok-part.ensures.grows in
+    let uw : Extends u w = c.in_ok-inner.ensures.grows in
+    let same = g.met.S.Signature.same_types c.args.sig.now t in
+    let is : c.in_ok-answer.answer ≡ checks_of (s t) (tree_at t c.args.m) (types_of (tree_at u c.in_ok-part.part)) (tree_at t c.args.a) =
+    under_part (s t) (s w) t u w c.args.m c.args.a c.args.body c.args.from c.args.to c.in_ok-part.part c.in_ok-inner.inner c.in_ok-answer.answer tu uw (same w (grows_more t u w tu uw) c.requires.holds)
+    c.requires.m c.requires.a c.requires.parts c.in_ok-part.ensures.part.0 c.requires.lam c.requires.pi c.in_ok-inner.ensures.id.1 c.in_ok-answer.ensures.answer
+    in
+    is ∙ c.in_ok-part.ensures.part.1.checks (s t) (tree_at t c.args.a)
+
+pub under_at-returns-else-answer-clause-answer : goal.under_at-returns-else-answer-clause-answer
+under_at-returns-else-answer-clause-answer g k c =
+    let t = c.args.table.now in
+    let u = c.part_at.new.table in
+    let w = c.intern_on.new.table in
+    let s = g.S.Signature.declares c.args.sig.now in
+    let tu : Extends t u = c.in_ok-part.ensures.grows in
+    let uw : Extends u w = c.in_ok-inner.ensures.grows in
+    let same = g.met.S.Signature.same_types c.args.sig.now t in
+    let is : c.in_ok-answer.answer ≡ checks_of (s t) (tree_at t c.args.m) (types_of (tree_at u c.in_ok-part.part)) (tree_at t c.args.a) =
+    under_part (s t) (s w) t u w c.args.m c.args.a c.args.body c.args.from c.args.to c.in_ok-part.part c.in_ok-inner.inner c.in_ok-answer.answer tu uw (same w (grows_more t u w tu uw) c.requires.holds)
+    c.requires.m c.requires.a c.requires.parts c.in_ok-part.ensures.part.0 c.requires.lam c.requires.pi c.in_ok-inner.ensures.id.1 c.in_ok-answer.ensures.answer
+    in
+    is ∙ c.in_ok-part.ensures.part.1.checks (s t) (tree_at t c.args.a)

@@ -1,0 +1,4 @@
+-- Words of the private functions, and what kept judgements say.
+pub mod Families
+pub mod Lists
+pub mod Kept

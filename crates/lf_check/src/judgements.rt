@@ -1,0 +1,132 @@
+//! Judgements that are kept, so that a term that stands in many places is judged once in each part
+//! of a context that it can speak of.
+//!
+//! Only what holds is kept: what doesn't hold ends the call. A context is an id of the table too
+//! (`specs/Inside/Lists`), so equal parts of contexts are equal ids. Rows are found by an ordered map
+//! of numbers, so that no choice of ids makes them slow to find.
+
+ghost use Rattle.std.specs.Prelude.{◌≡◌, IfSome, Option};
+ghost use Rattle.term_table.specs.Tree.{Tree, Const};
+ghost use Rattle.term_table.specs.Table.{Terms};
+ghost use Rattle.lf_check.specs.Inside.Kept.{AreKept, IsJudgement};
+
+use hereditary_subst::Memo;
+use lf_signature::Signature;
+use std::alloc::{AllocError, Global};
+use std::collections::BTreeMap;
+use term_table::{Id, Table};
+
+/// So many steps along contexts, which keep nothing, count as one judgement.
+const STEPS_A_JUDGEMENT: u64 = 64;
+
+/// What is asked of a term, and in which context, by ids and counts.
+#[derive(Clone, Copy, PartialEq, Eq, PartialOrd, Ord)]
+pub(crate) enum Question {
+    /// The type that the term synthesises in the context.
+    Synth(u64, u64),
+    /// Whether the abstraction checks at the type in the context.
+    Under(u64, u64, u64),
+    /// Whether the product is a type in the context.
+    Formed(u64, u64),
+    /// The nearest so many types of the context.
+    Cut(u64, u64),
+}
+
+/// Results and judgements on one table and signature, up to a limit.
+#[derive(Drop)]
+pub struct Kept {
+    pub(crate) memo: Memo,
+    rows: BTreeMap<Question, u64>,
+    limit: usize,
+    // along contexts
+    steps: u64,
+}
+
+/// The id as a number.
+pub(crate) fn number(id: Id) -> u64
+    ensures { result ≡ id }
+{
+    id.index() as u64
+}
+
+impl Kept {
+    /// Nothing kept yet, which takes no memory. A call that would keep more than `limit` results of
+    /// shifts and substitutions, or more than `limit` judgements, answers want of memory.
+    pub fn new(alloc: Global, limit: usize) -> Kept
+        ensures { (sig : Const → Option Tree) (t : Terms) → AreKept sig t result }
+    {
+        Kept {
+            memo: Memo::new(alloc, limit),
+            rows: BTreeMap::new(alloc),
+            limit,
+            steps: 0,
+        }
+    }
+
+    /// Counts steps along a context, which keep nothing. Fails past the limit.
+    pub(crate) fn step<S: Signature>(
+        &mut self,
+        table: &Table,
+        sig: &S,
+        steps: u64,
+    ) -> Result<(), AllocError>
+        requires { AreKept (S.declares sig.now table.now) table.now self.old }
+        ensures { AreKept (S.declares sig.now table.now) table.now self.new }
+    {
+        let _ = table; // only the clauses speak of it
+        let _ = sig; // only the clauses speak of it
+        self.steps = self.steps.saturating_add(steps);
+        if self.steps / STEPS_A_JUDGEMENT > self.limit as u64 {
+            return Err(AllocError);
+        }
+        Ok(())
+    }
+
+    /// What is kept of the question, as a number.
+    fn row<S: Signature>(&self, table: &Table, sig: &S, question: &Question) -> Option<u64>
+        requires { AreKept (S.declares sig.now table.now) table.now self.now }
+        ensures { IfSome result (IsJudgement (S.declares sig.now table.now) table.now question.now) }
+    {
+        let _ = table; // only the clauses speak of it
+        let _ = sig; // only the clauses speak of it
+        self.rows.get(question).copied()
+    }
+
+    /// What is kept of the question.
+    pub(crate) fn find<S: Signature>(
+        &self,
+        table: &Table,
+        sig: &S,
+        question: &Question,
+    ) -> Option<Id>
+        requires { AreKept (S.declares sig.now table.now) table.now self.now }
+        ensures { IfSome result (IsJudgement (S.declares sig.now table.now) table.now question.now) }
+    {
+        match self.row(table, sig, question) {
+            None => None,
+            Some(n) => Some(table.id(n)),
+        }
+    }
+
+    /// Keeps an answer to the question. Fails past the limit, and where memory does.
+    pub(crate) fn keep<S: Signature>(
+        &mut self,
+        table: &Table,
+        sig: &S,
+        question: Question,
+        id: Id,
+    ) -> Result<(), AllocError>
+        requires kept { AreKept (S.declares sig.now table.now) table.now self.old }
+        requires judges { IsJudgement (S.declares sig.now table.now) table.now question id }
+        ensures { AreKept (S.declares sig.now table.now) table.now self.new }
+    {
+        let _ = table; // only the clauses speak of it
+        let _ = sig; // only the clauses speak of it
+        if self.rows.len() >= self.limit {
+            return Err(AllocError);
+        }
+        let n = number(id);
+        self.rows.insert(question, n)?;
+        Ok(())
+    }
+}
