@@ -2,3 +2,4 @@ pub mod Frames
 pub mod Readings
 pub mod StartLemmas
 pub mod Grammar
+pub mod ResultLemmas

@@ -1,9 +1,8 @@
 //! Packet files, start states, and runs from them, on worked bytes.
 
-use crate::{PacketFault, packets, start};
+use crate::{PacketFault, PacketResult, PacketRunner, TestingRunner, packets, start};
 use alpha_cfg::{Code, CodeFault, Kind, Outcome};
 use policy_set::Policy;
-use reference_machine::Agent;
 use std::alloc::{AllocError, Global};
 use std::process::Abort;
 use std::test::Fail;
@@ -502,6 +501,8 @@ fn files_have_packets_or_a_fault(rt: HostRuntime) {
     for (bytes, want) in rows {
         assert_eq!(rt; counted(bytes), want);
     }
+    assert_eq!(rt; PacketFault::Cut(4).name(), "CutPacket");
+    assert_eq!(rt; PacketFault::TooLong(5).offset(), 5);
 }
 
 #[test]
@@ -548,24 +549,18 @@ fn code_of(rt: &impl Abort, alloc: Global, words: &[u32]) -> Result<Code, CodeFa
     Code::of(alloc, &bytes)
 }
 
-/// The outcome, and the sum of the region, of a run of 1,000 steps.
+/// What a run of 1,000 steps comes to.
 fn ran(
     rt: &impl Abort,
     alloc: Global,
     policy: Policy,
     words: &[u32],
     packet: &[u8],
-) -> Result<Option<(Outcome, u64)>, CodeFault> {
+) -> Result<PacketResult, CodeFault> {
     let code = code_of(rt, alloc, words)?;
-    let mut agent = Agent::new(alloc)?;
+    let mut runner = TestingRunner::new(alloc, policy, code, 1000)?;
     assert!(rt; packet.len() <= 65_535);
-    let Some(begin) = start(&policy, packet) else {
-        return Ok(None);
-    };
-    agent.load(begin);
-    assert!(rt; agent.index() < code.count());
-    let outcome = agent.run(&code, 1000);
-    Ok(Some((outcome, agent.sum())))
+    Ok(runner.run_packet(packet))
 }
 
 /// Whether the run of the row's code ends as the row says; `ones` has a byte 1 for each of the row's.
@@ -581,7 +576,7 @@ fn is_met(rt: &impl Abort, alloc: Global, row: &StartRow, ones: &[u8]) -> Result
         Err((index, kind, addr)) => Outcome::Blocked { index, kind, addr },
     };
     let found = ran(rt, alloc, policy, &[first, second, third, RETURN], packet)?;
-    Ok(found == Some((outcome, sum)))
+    Ok(found == PacketResult::Ran(outcome, sum))
 }
 
 #[test]
@@ -598,7 +593,7 @@ fn a_load_takes_the_old_address(rt: HostRuntime) -> Result<(), Fail> {
     let a = rt.alloc();
     let old_address = [0x2030_0000, 0xa421_0000, 0x201f_0001, RETURN];
     let found = ran(&rt, a, Policy::Filter, &old_address, &[0; 64])?;
-    assert_eq!(rt; found, Some((Outcome::Returned(1), 0)));
+    assert_eq!(rt; found, PacketResult::Ran(Outcome::Returned(1), 0));
     let unaligned = [0xa430_0004, RETURN];
     let blocked = Outcome::Blocked {
         index: 0,
@@ -606,6 +601,6 @@ fn a_load_takes_the_old_address(rt: HostRuntime) -> Result<(), Fail> {
         addr: 0x1_0014,
     };
     let found = ran(&rt, a, Policy::Filter, &unaligned, &[0; 64])?;
-    assert_eq!(rt; found, Some((blocked, 0)));
+    assert_eq!(rt; found, PacketResult::Ran(blocked, 0));
     Ok(())
 }

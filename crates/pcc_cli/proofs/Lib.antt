@@ -1,3 +1,2 @@
 pub mod EndLemmas
 pub mod LawLemmas
-pub mod PrintLemmas

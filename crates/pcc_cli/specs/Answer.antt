@@ -1,5 +1,5 @@
 -- What the program answers to words, over files: the status, the text that is printed, and what is written.
-use Rattle.std.specs.Prelude.{ℕ, ◌==◌, List, [], ◌∷◌, length, Option, Some, None, nat_lt, codes, if◌then◌else◌, Result, Ok, Err}
+use Rattle.std.specs.Prelude.{ℕ, ◌==◌, List, [], ◌∷◌, length, Option, Some, None, nat_lt, if◌then◌else◌, Result, Ok, Err}
 use Rattle.std.specs.FinMap as map
 use Rattle.file_port.specs.Files.{FileMap, FilesState, with_file}
 use Rattle.alpha_words.specs.declared.insn.Insn.{Insn}
@@ -9,12 +9,16 @@ use Rattle.policy_set.specs.declared.Policy.{Policy}
 use Rattle.policy_set.specs.Names.{named, number_of}
 use Rattle.packet_store.specs.declared.fault.PacketFault.{PacketFault}
 use Rattle.packet_store.specs.PacketReading.{packets_read}
-use Rattle.packet_store.specs.Lines.{lines_from}
+use Rattle.packet_store.specs.Results.{packet_result}
 use Rattle.pcc_words.specs.Words.{Words, ref, command_of}
 use Rattle.proof_container.specs.Contents.{Contents}
 use Rattle.proof_container.specs.Reading.{Fault, container_read}
-use Rattle.pcc_cli.specs.Lines.{named_line, refusal_line, packets_line}
-use Rattle.pcc_cli.specs.declared.refusal.Refusal.TheVariants as refusal
+use Rattle.pcc_lines.specs.Fixed.{usage_line, unknown_policy_line, packets_too_long_line}
+use Rattle.pcc_lines.specs.Named.{missing_line, read_fault_line, write_fault_line}
+use Rattle.pcc_lines.specs.PacketFaults.{packet_fault_line}
+use Rattle.pcc_lines.specs.Refusals.{refusal_line}
+use Rattle.pcc_lines.specs.Results.{result_lines}
+use Rattle.pcc_lines.specs.declared.refusals.Refusal.TheVariants as refusal
 
 -- how a run ends: its status, and the text that it prints
 pub record Outcome : Type 0 where
@@ -36,26 +40,26 @@ changed None state = state
 changed (Some file) state = with_file file.0 file.1 state
 
 abbrev pub usage : Outcome
-usage = record { status = 2; text = codes "usage: pcc asm|prove|check|run|ref|demo\n" }
+usage = record { status = 2; text = usage_line }
 
 -- a line of status 1
 abbrev pub refused : List ℕ → Outcome
 refused text = record { status = 1; text = text }
 
 abbrev pub unknown_policy : Outcome
-unknown_policy = refused (codes "unknown policy\n")
+unknown_policy = refused unknown_policy_line
 
 abbrev pub packets_too_long : Outcome
-packets_too_long = refused (codes "packets TooLong\n")
+packets_too_long = refused packets_too_long_line
 
 abbrev pub missing : List ℕ → Outcome
-missing name = record { status = 3; text = named_line (codes "missing ") name }
+missing name = record { status = 3; text = missing_line name }
 
 abbrev pub read_fault : List ℕ → Outcome
-read_fault name = record { status = 3; text = named_line (codes "read fault ") name }
+read_fault name = record { status = 3; text = read_fault_line name }
 
 abbrev pub write_fault : List ℕ → Outcome
-write_fault name = record { status = 4; text = named_line (codes "write fault ") name }
+write_fault name = record { status = 4; text = write_fault_line name }
 
 abbrev pub printed : List ℕ → Outcome
 printed text = record { status = 0; text = text }
@@ -72,8 +76,8 @@ max_file = 4194304
 
 -- the result lines of the packets, or the first fault of their file
 unfoldable pub lines_outcome : Policy → List Insn → ℕ → Result (List (List ℕ)) PacketFault → Outcome
-lines_outcome policy code steps (Ok packets) = printed (lines_from policy code steps 0 packets)
-lines_outcome policy code steps (Err fault) = refused (packets_line fault)
+lines_outcome policy code steps (Ok packets) = printed (result_lines policy (packet_result policy code steps) 0 packets)
+lines_outcome policy code steps (Err fault) = refused (packet_fault_line fault)
 
 unfoldable pub packets_answer : Policy → List Insn → List ℕ → ℕ → Option (List ℕ) → Answer
 packets_answer policy code name steps None = still (missing name)

@@ -4,9 +4,11 @@ use Rattle.file_port.specs.Files.{FileMap, FilesState, ReadFails}
 use Rattle.file_port.specs.Sink.{SinkState, Puts}
 use Rattle.file_port.specs.declared.Put.{Put}
 use Rattle.file_port.specs.declared.Put.TheVariants as put
-use Rattle.packet_store.specs.Lines.{lines_from}
+use Rattle.packet_store.specs.Runners.{testing_results}
 use Rattle.pcc_cli.specs.Answer.{Answer, Outcome, still, usage, refused, unknown_policy, packets_too_long, missing, read_fault, printed}
-use Rattle.pcc_cli.specs.Lines.{refusal_line, packets_line}
+use Rattle.pcc_lines.specs.PacketFaults.{packet_fault_line}
+use Rattle.pcc_lines.specs.Refusals.{refusal_line}
+use Rattle.pcc_lines.specs.Results.{result_lines}
 use Rattle.pcc_cli.specs.declared.due.Due.{Due}
 use Rattle.pcc_cli.specs.declared.due.Due.TheVariants as due
 
@@ -19,10 +21,10 @@ outcome_of due.Usage = usage
 outcome_of due.UnknownPolicy = unknown_policy
 outcome_of (due.Refused refusal) = refused (refusal_line refusal)
 outcome_of due.PacketsTooLong = packets_too_long
-outcome_of (due.BadPackets fault) = refused (packets_line fault)
+outcome_of (due.BadPackets fault) = refused (packet_fault_line fault)
 outcome_of (due.Missing name) = missing name.now
 outcome_of (due.ReadFault name) = read_fault name.now
-outcome_of (due.Lines job) = printed (lines_from job.policy job.code job.steps 0 job.packets)
+outcome_of (due.Lines job) = printed (result_lines job.policy (testing_results job.runner) 0 job.packets)
 outcome_of due.Memory = out_of_memory
 
 -- The outcome is the one expected of the files, where they are known. All were read, and none is written.

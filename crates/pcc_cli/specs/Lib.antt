@@ -1,4 +1,3 @@
-pub mod Lines
 pub mod Answer
 pub mod Due
 pub mod Ends

@@ -10,14 +10,13 @@ ghost use Rattle.pcc_cli.specs.Answer.{answer, names_in, names_read, packets_ans
 ghost use Rattle.pcc_cli.specs.Due.{Decides, outcome_of};
 
 use crate::due::{Due, Job};
-use crate::refusal::Refusal;
 use alpha_cfg::{Code, CodeFault};
 use file_port::{Files, Got};
-use packet_store::PacketFile;
+use packet_store::{PacketFile, TestingRunner};
+use pcc_lines::Refusal;
 use pcc_words::{Command, Packets, read_words};
 use policy_set::{Policy, by_name};
 use proof_container::{Container, Malformed, read};
-use reference_machine::Agent;
 use std::alloc::Global;
 
 /// No file may have more bytes.
@@ -46,13 +45,11 @@ fn decide_packets<'a, F: Files>(
         Ok(packets) => packets,
         Err(fault) => return Due::BadPackets(fault),
     };
-    match Agent::new(alloc) {
-        Ok(agent) => Due::Lines(Job {
+    match TestingRunner::new(alloc, policy, code, words.steps) {
+        Ok(runner) => Due::Lines(Job {
             policy,
-            code,
+            runner,
             packets,
-            steps: words.steps,
-            agent,
         }),
         Err(_) => Due::Memory,
     }

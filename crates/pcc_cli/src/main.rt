@@ -7,10 +7,7 @@
 
 mod decide;
 mod due;
-mod line;
 mod pcc;
-mod print;
-mod refusal;
 #[cfg(test)]
 mod tests;
 

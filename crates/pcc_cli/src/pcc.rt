@@ -2,14 +2,17 @@
 
 ghost use Rattle.std.specs.Prelude.{◌≡◌, map, string_bytes};
 ghost use Rattle.file_port.specs.Sink.{Puts};
+ghost use Rattle.packet_store.specs.Runners.{testing_results};
+ghost use Rattle.pcc_lines.specs.Results.{result_lines};
 ghost use Rattle.pcc_cli.specs.Due.{Prints, outcome_of};
 ghost use Rattle.pcc_cli.specs.Ends.{Ends};
 ghost use Rattle.pcc_cli.specs.Accounts.{Accounts};
 
 use crate::decide::decide;
-use crate::due::Due;
-use crate::print::{print_bad_packets, print_job, print_named, print_refusal, print_text};
+use crate::due::{Due, Job};
 use file_port::{Files, Put, Sink};
+use pcc_lines::{print_missing, print_packet_fault, print_packets_too_long, print_read_fault};
+use pcc_lines::{print_refusal, print_results, print_unknown_policy, print_usage};
 use std::alloc::Global;
 
 /// The status after the puts, where all of them were done.
@@ -25,17 +28,25 @@ fn status_of(due: &Due<'_>) -> u8
     }
 }
 
+/// Runs the job and prints its result lines.
+fn print_job<S: Sink>(mut job: Job, out: &mut S) -> Put
+    ensures { Puts (result_lines job.policy (testing_results job.runner) 0 job.packets)
+      (S.state out.old) (S.state out.new) result }
+{
+    print_results(job.policy, &mut job.runner, job.packets.packets(), out)
+}
+
 fn print_due<S: Sink>(due: Due<'_>, out: &mut S) -> Put
     ensures { Puts (outcome_of due.entry).text (S.state out.old) (S.state out.new) result }
 {
     match due {
-        Due::Usage => print_text("usage: pcc asm|prove|check|run|ref|demo\n", out),
-        Due::UnknownPolicy => print_text("unknown policy\n", out),
+        Due::Usage => print_usage(out),
+        Due::UnknownPolicy => print_unknown_policy(out),
         Due::Refused(refusal) => print_refusal(refusal, out),
-        Due::PacketsTooLong => print_text("packets TooLong\n", out),
-        Due::BadPackets(fault) => print_bad_packets(fault, out),
-        Due::Missing(name) => print_named("missing ", name, out),
-        Due::ReadFault(name) => print_named("read fault ", name, out),
+        Due::PacketsTooLong => print_packets_too_long(out),
+        Due::BadPackets(fault) => print_packet_fault(fault, out),
+        Due::Missing(name) => print_missing(name, out),
+        Due::ReadFault(name) => print_read_fault(name, out),
         Due::Lines(job) => print_job(job, out),
         Due::Memory => Put::Done,
     }

@@ -20,7 +20,7 @@ mod walk;
 mod writing;
 
 pub use container::{Container, View};
-pub use fault::{Flaw, Malformed};
+pub use fault::{Flaw, MAX_KIND, Malformed};
 pub use limits::{MAX_BYTES, MAX_ENTRIES, MAX_INVS, MAX_WORDS};
 pub use reading::read;
 pub use theorems::laws;
