@@ -10,6 +10,6 @@ ghost use Rattle.packet_store.specs.declared.reader.TheConstants.{MAX_PACKET};
 /// The start of a policy on a packet of bytes is a state of the machine.
 pub fn laws()
     ensures { (policy : Policy) (packet : List ℕ) (setup : Setup) → length packet ≤ MAX_PACKET
-      → ((i : ℕ) → slice_index packet i < 256) → start_of policy packet ≡ Some setup
-      → IsState (start_state 65536 setup) }
+        → ((i : ℕ) → slice_index packet i < 256) → start_of policy packet ≡ Some setup
+        → IsState (start_state 65536 setup) }
 {}
