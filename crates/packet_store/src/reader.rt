@@ -22,8 +22,8 @@ fn claimed(bytes: &[u8]) -> u32
 fn first(bytes: &[u8], offset: u64) -> Result<(&[u8], &[u8]), PacketFault>
     requires { 0 < length bytes.now }
     ensures { MatchResult result
-      (λ r. (bytes.now ≡ file.framed r.0.now ++ r.1.now) × (length r.0.now ≤ MAX_PACKET))
-      (λ e. file.IsBadFront bytes.now e × (file.offset_of e ≡ offset)) }
+        (λ r. (bytes.now ≡ file.framed r.0.now ++ r.1.now) × (length r.0.now ≤ MAX_PACKET))
+        (λ e. file.IsBadFront bytes.now e × (file.offset_of e ≡ offset)) }
 {
     if bytes.len() < 4 {
         return Err(PacketFault::Cut(offset));

@@ -1,2 +1,4 @@
+pub mod StageLemmas
+pub mod DecisionLemmas
+pub mod RefLemmas
 pub mod EndLemmas
-pub mod LawLemmas

@@ -108,7 +108,7 @@ pub fn print_results<R: PacketRunner, S: Sink>(
     requires few { length packets < 2 ^ 63 }
     requires short { AreShort packets }
     ensures exact { Puts (result_lines policy (R.results runner.old) 0 packets.entry)
-      (S.state out.old) (S.state out.new) result }
+        (S.state out.old) (S.state out.new) result }
     ensures unchanged { R.results runner.new ≡ R.results runner.old }
 {
     let mut packets = packets;

@@ -1,7 +1,9 @@
 //! Lines over output in memory.
 
-use crate::{print_missing, print_packets_too_long, print_read_fault, print_unknown_policy};
-use crate::{print_usage, print_write_fault};
+use crate::{
+    print_missing, print_packets_too_long, print_read_fault, print_unknown_policy, print_usage,
+    print_write_fault,
+};
 use file_port::MemSink;
 use std::test::Fail;
 

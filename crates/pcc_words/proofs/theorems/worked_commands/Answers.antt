@@ -1,7 +1,7 @@
 use Rattle.std.proofs.Common.{refl}
 use Rattle.clap.proofs.OnLiterals.{clap_on_literals}
-use Rattle.pcc_words.specs.Words.{command_of}
-use Rattle.pcc_words.proofs.known.known_words.Goals as goal
+use Rattle.pcc_words.specs.Invocations.{command_of}
+use Rattle.pcc_words.proofs.theorems.worked_commands.Goals as goal
 
 pub returns : goal.returns
 unfolding clap_on_literals command_of

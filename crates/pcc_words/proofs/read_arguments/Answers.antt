@@ -1,15 +1,15 @@
 use Rattle.std.proofs.Common.{◌∙◌, ap, map, string_bytes, inl, inr}
 use Rattle.clap.specs.Words.{app_of, is_simple_and_free}
 use Rattle.pcc_words.proofs.Reading.{parsed_ok, parsed_err}
-use Rattle.pcc_words.proofs.read_words.Goals as goal
+use Rattle.pcc_words.proofs.read_arguments.Goals as goal
 
-pub returns-in-Ok-clause-words : goal.returns-in-Ok-clause-words
-returns-in-Ok-clause-words c =
+pub returns-in-Ok-clause-exact : goal.returns-in-Ok-clause-exact
+returns-in-Ok-clause-exact c =
     let is = c.in_ok-pcc_command.ensures.app in
-    c.command_found.ensures.words ∙ parsed_ok (app_of c.in_ok-pcc_command.field-0) (map string_bytes c.args.words.now) c.in-Ok.matches is (c.in-Ok.ensures.kinds (ap is_simple_and_free is)) c.in-Ok.ensures.matches
+    c.command_found.ensures.exact ∙ parsed_ok (app_of c.in_ok-pcc_command.field-0) (map string_bytes c.args.words.now) c.in-Ok.matches is (c.in-Ok.ensures.kinds (ap is_simple_and_free is)) c.in-Ok.ensures.matches
 
-pub returns-clause-words : goal.returns-clause-words
-returns-clause-words c =
+pub returns-clause-exact : goal.returns-clause-exact
+returns-clause-exact c =
     let is = c.in_ok-pcc_command.ensures.app in
     let h = c.in_default.not-OutOfMemory in
     let k = c.kind.ensures in
