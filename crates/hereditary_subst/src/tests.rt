@@ -6,7 +6,7 @@
 ghost use Rattle.std.specs.Prelude.{OnOk};
 ghost use Rattle.term_table.specs.Table.{IsKnown};
 
-use crate::{Simple, erase, shift, subst, subst_type, weaken};
+use crate::{Memo, Simple, erase, shift, subst, subst_type, subst_type_with, weaken, weaken_with};
 use std::alloc::{AllocError, Global};
 use std::test::Fail;
 use term_table::{Id, Node, Places, Table};
@@ -332,5 +332,67 @@ fn highest_types(rt: HostRuntime) -> Result<(), Fail> {
         None,
         "no function"
     );
+    Ok(())
+}
+
+// The sum of the term with itself, so many times over.
+fn doubled(table: &mut Table, first: Id, times: u32) -> Made<Id> {
+    let add = made(table.intern(Node::Const(0)))?;
+    let mut top = first;
+    for _ in 0..times {
+        let half = app(table, add, top)?;
+        top = app(table, half, top)?;
+    }
+    Ok(top)
+}
+
+/// Trees of 2^60 and 2^2000 leaves are gone through once an entry; the second is 4,001 high.
+#[test]
+fn shared_terms(rt: HostRuntime) -> Result<(), Fail> {
+    let mut table = Table::new(rt.alloc(), Places::sigma1());
+    let exp = Simple::Base(0);
+    let one = tree(rt.alloc(), &mut table, &[Lit(1)])?;
+    let x = tree(rt.alloc(), &mut table, &[Var(0)])?;
+    let y = tree(rt.alloc(), &mut table, &[Var(1)])?;
+    for times in [60, 2_000] {
+        let of_x = doubled(&mut table, x, times)?;
+        let of_y = doubled(&mut table, y, times)?;
+        let of_one = doubled(&mut table, one, times)?;
+        assert_eq!(rt; in_term(&mut table, of_x, one, &exp)?, Some(of_one), "{times}");
+        assert_eq!(rt; in_term(&mut table, of_y, one, &exp)?, Some(of_x), "lowered {times}");
+        assert_eq!(rt; shifted(&mut table, of_x, 1, 0)?, Some(of_y), "shifted {times}");
+    }
+    Ok(())
+}
+
+// The type with the term for the nearest word, and then shifted by one, keeping up to so many results.
+fn in_type_with(alloc: Global, table: &mut Table, body: Id, arg: Id, limit: usize) -> Made<Id> {
+    let exp = made(table.intern(Node::Fam(0)))?;
+    known(table, body)?;
+    known(table, arg)?;
+    let mut memo = Memo::new(alloc, limit);
+    let put = made(subst_type_with(table, &mut memo, body, arg, exp))?.ok_or("no result")?;
+    made(weaken_with(table, &mut memo, put, 1))?.ok_or("no result")
+}
+
+/// Past the limit of what is kept there is want of memory, and the table keeps what it had.
+#[test]
+fn a_limit(rt: HostRuntime) -> Result<(), Fail> {
+    let mut table = Table::new(rt.alloc(), Places::sigma1());
+    let x = tree(rt.alloc(), &mut table, &[Var(0)])?;
+    let y = tree(rt.alloc(), &mut table, &[Var(1)])?;
+    let sum = doubled(&mut table, x, 60)?;
+    let held = tree(rt.alloc(), &mut table, &[Proof])?;
+    let body = tapp(&mut table, held, sum)?;
+    let before = table.count();
+    assert_eq!(rt; in_type_with(rt.alloc(), &mut table, body, y, 20), Err("no memory"));
+    for (k, id) in [x, y, sum, held, body].iter().enumerate() {
+        assert!(rt; (id.index() as u64) < before, "{k}");
+    }
+    assert_eq!(rt; tapp(&mut table, held, sum)?, body, "the id that it had");
+    let want = doubled(&mut table, y, 60)?;
+    let twice = shifted(&mut table, want, 1, 0)?.ok_or("no result")?;
+    let want = tapp(&mut table, held, twice)?;
+    assert_eq!(rt; in_type_with(rt.alloc(), &mut table, body, y, 1_000)?, want);
     Ok(())
 }

@@ -6,7 +6,7 @@
 ghost use Rattle.std.specs.Prelude.{OnOk};
 ghost use Rattle.term_table.specs.Table.{IsKnown};
 
-use crate::{check_term, check_type, synth};
+use crate::{Kept, check_term, check_term_with, check_type, check_type_with, synth, synth_with};
 use lf_signature::{Sigma1, Signature};
 use std::alloc::{AllocError, Global};
 use std::test::Fail;
@@ -303,5 +303,49 @@ fn the_longest_application(rt: HostRuntime) -> Result<(), Fail> {
     assert_eq!(rt; table.height(applied), HIGHEST);
     assert!(rt; checks_under(rt.alloc(), table, (form, product), applied, form)?);
     assert!(rt; !checks_under(rt.alloc(), table, (form, form), applied, form)?);
+    Ok(())
+}
+
+const EQ_REFL: u32 = 42;
+
+// The sum of the nearest word with itself, so many times over.
+fn doubled(table: &mut Table, times: u32) -> Made<Id> {
+    let mut top = leaf(table, Node::Var(0))?;
+    for _ in 0..times {
+        top = con(table, ADD, &[top, top])?;
+    }
+    Ok(top)
+}
+
+// Whether a type is one, a term synthesises one, and the term checks at the type in the context of a
+// word, keeping up to so many results.
+fn judged(alloc: Global, table: &mut Table, m: Id, a: Id, limit: usize) -> Made<bool> {
+    let exp = leaf(table, Node::Fam(EXP))?;
+    known(table, exp)?;
+    known(table, m)?;
+    known(table, a)?;
+    let mut kept = Kept::new(alloc, limit);
+    let formed = made(check_type_with(table, &mut kept, &Sigma1, &[exp], a))?;
+    let given = made(synth_with(table, &mut kept, &Sigma1, &[exp], m))?;
+    let checked = made(check_term_with(table, &mut kept, &Sigma1, &[exp], m, a))?;
+    Ok(formed && given == Some(a) && checked)
+}
+
+/// That a term of 2^60 leaves, and one of 2^2000 that is 4,001 high, is itself: judged once an entry.
+/// Past the limit of what is kept there is want of memory, and the table keeps what it had.
+#[test]
+fn shared_terms(rt: HostRuntime) -> Result<(), Fail> {
+    let mut table = Table::new(rt.alloc(), Places::sigma1());
+    let table = &mut table;
+    for times in [60, 2_000] {
+        let sum = doubled(table, times)?;
+        let equal = con(table, EQ, &[sum, sum])?;
+        let proof = con(table, EQ_REFL, &[sum])?;
+        let ty = pf(table, equal)?;
+        assert_eq!(rt; judged(rt.alloc(), table, proof, ty, 50), Err("no memory"), "{times}");
+        assert_eq!(rt; con(table, EQ, &[sum, sum])?, equal, "the id that it had");
+        assert_eq!(rt; doubled(table, times)?, sum, "the id that it had");
+        assert!(rt; judged(rt.alloc(), table, proof, ty, 10_000)?, "{times}");
+    }
     Ok(())
 }

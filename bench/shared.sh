@@ -1,0 +1,41 @@
+#!/usr/bin/env bash
+# Times the checker on proofs that share: four families at some 32,000, 64,000, 128,000 and 256,000
+# entries (median of five; processor time and peak memory of making and checking, and of making
+# alone), and the worst files known, which end in want of memory (once each).
+set -eu
+top=$(cd "$(dirname "${BASH_SOURCE[0]}")/.." && pwd)
+binary=$top/crates/lf_bench/out/lf_bench
+[ -x "$binary" ] || (cd "$top/crates/lf_bench" && rt run) >&2
+python3 - "$binary" <<'PY'
+import os, statistics, subprocess, sys
+
+def once(words):
+    process = subprocess.Popen([sys.argv[1]] + [str(word) for word in words], stdout=subprocess.PIPE)
+    line = process.stdout.read().decode().strip()
+    _, status, used = os.wait4(process.pid, 0)
+    assert status == 0, line
+    return line, used.ru_utime + used.ru_stime, used.ru_maxrss / 1024
+
+def median(words, times=5):
+    runs = [once(words) for _ in range(times)]
+    return runs[0][0], statistics.median(r[1] for r in runs), statistics.median(r[2] for r in runs)
+
+families = {
+    "chains": (1450, [2, 4, 8, 16]),
+    "layers": (500, [9, 20, 41, 83]),
+    "contexts": (8, [2280, 4560, 9130, 18270]),
+    "instances": (20, [2450, 4900, 9800, 19600]),
+}
+for family, (shared, sizes) in families.items():
+    before = None
+    for uses in sizes:
+        line, seconds, megabytes = median([family, shared, uses])
+        _, made, _ = median([family, shared, uses, "build"])
+        ratio = "" if before is None else "  x %.2f" % ((seconds - made) / before)
+        before = seconds - made
+        print("%s %d %d: %s  %.2f s (making %.2f s)  %.0f MB%s"
+              % (family, shared, uses, line, seconds, made, megabytes, ratio))
+for words in [("contexts", 4000, 8000), ("instances", 4000, 8000)]:
+    line, seconds, megabytes = median(words, 1)
+    print("%s %d %d: %s  %.2f s  %.0f MB" % (*words, line, seconds, megabytes))
+PY

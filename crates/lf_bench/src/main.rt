@@ -1,0 +1,95 @@
+//! Checks proofs of many entries, to be timed: `lf_bench FAMILY SHARED USES [build]`.
+//!
+//! FAMILY is `chains` (of SHARED links, USES of them), `layers` (SHARED wide, USES of them), `contexts`
+//! (a proof of SHARED links under USES hypotheses) or `instances` (of a predicate of SHARED parts, USES of
+//! them). What is printed is how many entries the proof's table has, how many trees afterwards, and
+//! the verdict; with `build` the proof is made and not checked. Without words each family is checked
+//! at a small size.
+#![tactic(auto)]
+
+mod build;
+
+use build::{Made, Proved, all_equal, chains, contexts, exp, instances, known, layers, made, pf};
+use lf_check::check_term;
+use lf_signature::Sigma1;
+use std::alloc::Global;
+use std::env;
+use term_table::{Places, Table};
+
+/// What to check.
+#[derive(Clone, Copy)]
+struct Task {
+    shared: u64,
+    uses: u64,
+    checked: bool,
+}
+
+/// The proof of a family.
+fn proof(alloc: Global, table: &mut Table, family: &str, task: &Task) -> Made<Proved> {
+    match family {
+        "chains" => chains(table, task.shared, task.uses),
+        "layers" => layers(alloc, table, task.shared, task.uses),
+        "contexts" => contexts(table, task.shared, task.uses),
+        "instances" => instances(table, task.shared, task.uses),
+        _ => Err("no such family"),
+    }
+}
+
+/// Whether the proof checks, in the context of a word and the hypothesis that all words are equal.
+fn check(alloc: Global, table: &mut Table, proved: Proved) -> Made<bool> {
+    let exp = exp(table)?;
+    let equal = all_equal(table)?;
+    let held = pf(table, equal)?;
+    let ty = pf(table, proved.formula)?;
+    known(table, exp)?;
+    known(table, held)?;
+    known(table, proved.proof)?;
+    known(table, ty)?;
+    made(check_term(alloc, table, &Sigma1, &[exp, held], proved.proof, ty))
+}
+
+/// The entries of the family's proof, the trees afterwards, and the verdict.
+fn run(alloc: Global, family: &str, task: &Task) -> Made<(u64, u64, bool)> {
+    let mut table = Table::new(alloc, Places::sigma1());
+    let proved = proof(alloc, &mut table, family, task)?;
+    let entries = table.count();
+    let verdict = !task.checked || check(alloc, &mut table, proved)?;
+    Ok((entries, table.count(), verdict))
+}
+
+/// The number that a word spells; 0 where it spells none.
+fn number(words: &[String], place: usize) -> u64 {
+    match words.get(place) {
+        None => 0,
+        Some(word) => word.as_str().parse::<u64>().unwrap_or(0),
+    }
+}
+
+fn main(rt: HostRuntime) -> anyhow::Result<()> {
+    let words: Vec<String> = env::args(&rt)?.skip(1).collect(rt.alloc())?;
+    let words = words.as_slice();
+    let Some(family) = words.first() else {
+        let task = Task {
+            shared: 5,
+            uses: 3,
+            checked: true,
+        };
+        for family in ["chains", "layers", "contexts", "instances"] {
+            match run(rt.alloc(), family, &task) {
+                Err(why) => println!(rt; "{family} {why}")?,
+                Ok((_, _, verdict)) => println!(rt; "{family} {verdict}")?,
+            }
+        }
+        return Ok(());
+    };
+    let task = Task {
+        shared: number(words, 1),
+        uses: number(words, 2),
+        checked: words.len() < 4,
+    };
+    match run(rt.alloc(), family.as_str(), &task) {
+        Err(why) => println!(rt; "{why}")?,
+        Ok((entries, trees, verdict)) => println!(rt; "entries {entries} trees {trees} {verdict}")?,
+    }
+    Ok(())
+}
