@@ -1,474 +1,112 @@
 //! Packet files, start states, and runs from them, on worked bytes.
 
 use crate::{PacketFault, PacketResult, PacketRunner, TestingRunner, packets, start};
-use alpha_cfg::{Code, CodeFault, Kind, Outcome};
-use policy_set::Policy;
+use alpha_cfg::Kind::{self, Load, Store};
+use alpha_cfg::{Code, CodeFault, Outcome};
+use policy_set::Policy::{self, Filter, Table, Tag};
 use std::alloc::{AllocError, Global};
 use std::process::Abort;
 use std::test::Fail;
 
 const RETURN: u32 = 0x6bfa_8001;
 
-type StartRow = (
-    Policy,
-    u8,
-    usize,
-    [u32; 3],
-    Result<u64, (u32, Kind, u64)>,
-    u64,
-);
+const NOP: u32 = 0x47ff_041f;
 
-/// What each policy begins with, seen through code: policy, the byte that fills the packet and
-/// how often, three words before a return, the answer in r0 or where an access is blocked, and
-/// the sum of the region. The packets are the shortest, an odd and the longest one.
-static STARTS: [StartRow; 56] = [
+/// `addq r16,r17,r1`
+const END: u32 = 0x4211_0401;
+
+/// `sll r17,3,r1`
+const BYTES: u32 = 0x4a20_7721;
+
+/// `addq r16,r1,r1`
+const BEHIND: u32 = 0x4201_0401;
+
+/// Eight bytes 1.
+const ONES: u64 = 0x101_0101_0101_0101;
+
+/// Registers 16 to 18 and the sum of the region at the start of a policy, where the packet has so
+/// many bytes 1: the shortest, an odd and the longest packet.
+static REGISTERS: [(Policy, usize, [u64; 3], u64); 9] = [
+    (Filter, 64, [65_552, 64, 65_536], 0),
+    (Filter, 65, [65_552, 65, 65_536], 0),
+    (Filter, 65_535, [65_552, 65_535, 65_536], 0),
+    (Tag, 16, [65_536, 0, 0], 0x202_0202_0202_0202),
+    (Tag, 17, [65_536, 0, 0], 0x202_0202_0202_0202),
+    (Tag, 65_535, [65_536, 0, 0], 0x202_0202_0202_0202),
+    (Table, 0, [65_536, 0, 0], 0),
+    (Table, 17, [65_536, 3, 0], 0x202_0202_0202_0203),
+    (Table, 65_535, [65_536, 8192, 0], 0x1f20_2020_2020_2000),
+];
+
+/// The word in r0 and the sum of the region after code whose accesses are allowed, ends of spans
+/// among them, on a packet of so many bytes 1.
+static ALLOWED: [(Policy, usize, [u32; 3], u64, u64); 11] = [
+    (Filter, 64, [0xa412_0000, NOP, NOP], 0, 0), // scratch
+    (Filter, 64, [END, 0xa401_fff8, NOP], ONES, 0), // the last quadword
+    (Filter, 65, [END, 0xa401_ffff, NOP], 1, 0), // one byte and zeros
     (
-        Policy::Filter,
-        1,
-        64,
-        [0x47f0_0400, 0x47ff_041f, 0x47ff_041f],
-        Ok(65_552),
-        0,
-    ), // r16
-    (
-        Policy::Filter,
-        1,
-        64,
-        [0x47f1_0400, 0x47ff_041f, 0x47ff_041f],
-        Ok(64),
-        0,
-    ), // r17
-    (
-        Policy::Filter,
-        1,
-        64,
-        [0x47f2_0400, 0x47ff_041f, 0x47ff_041f],
-        Ok(65_536),
-        0,
-    ), // r18
-    (
-        Policy::Filter,
-        1,
-        65,
-        [0x47f0_0400, 0x47ff_041f, 0x47ff_041f],
-        Ok(65_552),
-        0,
-    ), // r16
-    (
-        Policy::Filter,
-        1,
-        65,
-        [0x47f1_0400, 0x47ff_041f, 0x47ff_041f],
-        Ok(65),
-        0,
-    ), // r17
-    (
-        Policy::Filter,
-        1,
-        65,
-        [0x47f2_0400, 0x47ff_041f, 0x47ff_041f],
-        Ok(65_536),
-        0,
-    ), // r18
-    (
-        Policy::Filter,
-        1,
+        Filter,
         65_535,
-        [0x47f0_0400, 0x47ff_041f, 0x47ff_041f],
-        Ok(65_552),
-        0,
-    ), // r16
-    (
-        Policy::Filter,
-        1,
-        65_535,
-        [0x47f1_0400, 0x47ff_041f, 0x47ff_041f],
-        Ok(65_535),
-        0,
-    ), // r17
-    (
-        Policy::Filter,
-        1,
-        65_535,
-        [0x47f2_0400, 0x47ff_041f, 0x47ff_041f],
-        Ok(65_536),
-        0,
-    ), // r18
-    (
-        Policy::Filter,
-        1,
-        64,
-        [0xa412_0000, 0x47ff_041f, 0x47ff_041f],
-        Ok(0),
-        0,
-    ), // scratch
-    (
-        Policy::Filter,
-        1,
-        64,
-        [0xa412_fff8, 0x47ff_041f, 0x47ff_041f],
-        Err((0, Kind::Load, 65_528)),
-        0,
-    ), // before scratch
-    (
-        Policy::Filter,
-        1,
-        64,
-        [0x4211_0401, 0xa401_fff8, 0x47ff_041f],
-        Ok(0x101_0101_0101_0101),
-        0,
-    ), // the last quadword
-    (
-        Policy::Filter,
-        1,
-        64,
-        [0x4211_0401, 0xa401_0000, 0x47ff_041f],
-        Err((1, Kind::Load, 65_616)),
-        0,
-    ), // behind it
-    (
-        Policy::Filter,
-        1,
-        65,
-        [0x4211_0401, 0xa401_ffff, 0x47ff_041f],
-        Ok(1),
-        0,
-    ), // one byte and zeros
-    (
-        Policy::Filter,
-        1,
-        65,
-        [0x4211_0401, 0xa401_0007, 0x47ff_041f],
-        Err((1, Kind::Load, 65_624)),
-        0,
-    ), // behind it
-    (
-        Policy::Filter,
-        1,
-        65_535,
-        [0x4211_0401, 0xa401_fff9, 0x47ff_041f],
-        Ok(0x1_0101_0101_0101),
+        [END, 0xa401_fff9, NOP],
+        0x1_0101_0101_0101,
         0,
     ), // seven bytes and a zero
+    (Filter, 64, [0xb632_0008, 0xa412_0008, NOP], 64, 0), // scratch is stored
+    (Tag, 17, [0xa410_0000, NOP, NOP], ONES, 0x202_0202_0202_0202), // the first quadword
+    (Tag, 17, [0xa410_0008, NOP, NOP], ONES, 0x202_0202_0202_0202), // the second
     (
-        Policy::Filter,
-        1,
-        65_535,
-        [0x4211_0401, 0xa401_0001, 0x47ff_041f],
-        Err((1, Kind::Load, 131_088)),
-        0,
-    ), // behind it
-    (
-        Policy::Filter,
-        1,
-        64,
-        [0xb632_0008, 0xa412_0008, 0x47ff_041f],
-        Ok(64),
-        0,
-    ), // scratch is stored
-    (
-        Policy::Filter,
-        1,
-        64,
-        [0xb632_fff8, 0x47ff_041f, 0x47ff_041f],
-        Err((0, Kind::Store, 65_528)),
-        0,
-    ), // before scratch
-    (
-        Policy::Filter,
-        1,
-        64,
-        [0xb630_0000, 0x47ff_041f, 0x47ff_041f],
-        Err((0, Kind::Store, 65_552)),
-        0,
-    ), // the packet
-    (
-        Policy::Tag,
-        1,
+        Tag,
         16,
-        [0x47f0_0400, 0x47ff_041f, 0x47ff_041f],
-        Ok(65_536),
-        0x202_0202_0202_0202,
-    ), // r16
-    (
-        Policy::Tag,
-        1,
-        16,
-        [0x47f1_0400, 0x47ff_041f, 0x47ff_041f],
-        Ok(0),
-        0x202_0202_0202_0202,
-    ), // r17
-    (
-        Policy::Tag,
-        1,
-        16,
-        [0x47f2_0400, 0x47ff_041f, 0x47ff_041f],
-        Ok(0),
-        0x202_0202_0202_0202,
-    ), // r18
-    (
-        Policy::Tag,
-        1,
-        17,
-        [0x47f0_0400, 0x47ff_041f, 0x47ff_041f],
-        Ok(65_536),
-        0x202_0202_0202_0202,
-    ), // r16
-    (
-        Policy::Tag,
-        1,
-        17,
-        [0x47f1_0400, 0x47ff_041f, 0x47ff_041f],
-        Ok(0),
-        0x202_0202_0202_0202,
-    ), // r17
-    (
-        Policy::Tag,
-        1,
-        17,
-        [0x47f2_0400, 0x47ff_041f, 0x47ff_041f],
-        Ok(0),
-        0x202_0202_0202_0202,
-    ), // r18
-    (
-        Policy::Tag,
-        1,
-        65_535,
-        [0x47f0_0400, 0x47ff_041f, 0x47ff_041f],
-        Ok(65_536),
-        0x202_0202_0202_0202,
-    ), // r16
-    (
-        Policy::Tag,
-        1,
-        65_535,
-        [0x47f1_0400, 0x47ff_041f, 0x47ff_041f],
-        Ok(0),
-        0x202_0202_0202_0202,
-    ), // r17
-    (
-        Policy::Tag,
-        1,
-        65_535,
-        [0x47f2_0400, 0x47ff_041f, 0x47ff_041f],
-        Ok(0),
-        0x202_0202_0202_0202,
-    ), // r18
-    (
-        Policy::Tag,
-        1,
-        17,
-        [0xa410_0000, 0x47ff_041f, 0x47ff_041f],
-        Ok(0x101_0101_0101_0101),
-        0x202_0202_0202_0202,
-    ), // the first quadword
-    (
-        Policy::Tag,
-        1,
-        17,
-        [0xa410_0008, 0x47ff_041f, 0x47ff_041f],
-        Ok(0x101_0101_0101_0101),
-        0x202_0202_0202_0202,
-    ), // the second
-    (
-        Policy::Tag,
-        1,
-        17,
-        [0xa410_fff8, 0x47ff_041f, 0x47ff_041f],
-        Err((0, Kind::Load, 65_528)),
-        0x202_0202_0202_0202,
-    ), // before them
-    (
-        Policy::Tag,
-        1,
-        17,
-        [0xa410_0010, 0x47ff_041f, 0x47ff_041f],
-        Err((0, Kind::Load, 65_552)),
-        0x202_0202_0202_0202,
-    ), // behind them
-    (
-        Policy::Tag,
-        1,
-        16,
-        [0xb610_0008, 0xa410_0008, 0x47ff_041f],
-        Ok(65_536),
+        [0xb610_0008, 0xa410_0008, NOP],
+        65_536,
         0x101_0101_0102_0101,
     ), // the second is stored
+    (Table, 17, [0xa410_0010, NOP, NOP], 1, 0x202_0202_0202_0203), // one byte and zeros
+    (Table, 17, [0xb7f0_0010, NOP, NOP], 0, 0x202_0202_0202_0202), // the last is stored
     (
-        Policy::Tag,
-        0,
-        16,
-        [0xb610_0008, 0x47ff_041f, 0x47ff_041f],
-        Err((0, Kind::Store, 65_544)),
-        0,
-    ), // not behind a zero
-    (
-        Policy::Tag,
-        1,
-        16,
-        [0xb610_0000, 0x47ff_041f, 0x47ff_041f],
-        Err((0, Kind::Store, 65_536)),
-        0x202_0202_0202_0202,
-    ), // the first
-    (
-        Policy::Tag,
-        1,
-        17,
-        [0xb610_0010, 0x47ff_041f, 0x47ff_041f],
-        Err((0, Kind::Store, 65_552)),
-        0x202_0202_0202_0202,
-    ), // behind them
-    (
-        Policy::Table,
-        1,
-        0,
-        [0x47f0_0400, 0x47ff_041f, 0x47ff_041f],
-        Ok(65_536),
-        0,
-    ), // r16
-    (
-        Policy::Table,
-        1,
-        0,
-        [0x47f1_0400, 0x47ff_041f, 0x47ff_041f],
-        Ok(0),
-        0,
-    ), // r17
-    (
-        Policy::Table,
-        1,
-        0,
-        [0x47f2_0400, 0x47ff_041f, 0x47ff_041f],
-        Ok(0),
-        0,
-    ), // r18
-    (
-        Policy::Table,
-        1,
-        17,
-        [0x47f0_0400, 0x47ff_041f, 0x47ff_041f],
-        Ok(65_536),
-        0x202_0202_0202_0203,
-    ), // r16
-    (
-        Policy::Table,
-        1,
-        17,
-        [0x47f1_0400, 0x47ff_041f, 0x47ff_041f],
-        Ok(3),
-        0x202_0202_0202_0203,
-    ), // r17
-    (
-        Policy::Table,
-        1,
-        17,
-        [0x47f2_0400, 0x47ff_041f, 0x47ff_041f],
-        Ok(0),
-        0x202_0202_0202_0203,
-    ), // r18
-    (
-        Policy::Table,
-        1,
+        Table,
         65_535,
-        [0x47f0_0400, 0x47ff_041f, 0x47ff_041f],
-        Ok(65_536),
-        0x1f20_2020_2020_2000,
-    ), // r16
-    (
-        Policy::Table,
-        1,
-        65_535,
-        [0x47f1_0400, 0x47ff_041f, 0x47ff_041f],
-        Ok(8192),
-        0x1f20_2020_2020_2000,
-    ), // r17
-    (
-        Policy::Table,
-        1,
-        65_535,
-        [0x47f2_0400, 0x47ff_041f, 0x47ff_041f],
-        Ok(0),
-        0x1f20_2020_2020_2000,
-    ), // r18
-    (
-        Policy::Table,
-        1,
-        0,
-        [0xa410_0000, 0x47ff_041f, 0x47ff_041f],
-        Err((0, Kind::Load, 65_536)),
-        0,
-    ), // no quadword
-    (
-        Policy::Table,
-        1,
-        0,
-        [0xb610_0000, 0x47ff_041f, 0x47ff_041f],
-        Err((0, Kind::Store, 65_536)),
-        0,
-    ), // no quadword
-    (
-        Policy::Table,
-        1,
-        17,
-        [0xa410_0010, 0x47ff_041f, 0x47ff_041f],
-        Ok(1),
-        0x202_0202_0202_0203,
-    ), // one byte and zeros
-    (
-        Policy::Table,
-        1,
-        17,
-        [0xa410_0018, 0x47ff_041f, 0x47ff_041f],
-        Err((0, Kind::Load, 65_560)),
-        0x202_0202_0202_0203,
-    ), // behind it
-    (
-        Policy::Table,
-        1,
-        17,
-        [0xa410_fff8, 0x47ff_041f, 0x47ff_041f],
-        Err((0, Kind::Load, 65_528)),
-        0x202_0202_0202_0203,
-    ), // before the first
-    (
-        Policy::Table,
-        1,
-        17,
-        [0xb7f0_0010, 0x47ff_041f, 0x47ff_041f],
-        Ok(0),
-        0x202_0202_0202_0202,
-    ), // the last is stored
-    (
-        Policy::Table,
-        1,
-        17,
-        [0xb7f0_0018, 0x47ff_041f, 0x47ff_041f],
-        Err((0, Kind::Store, 65_560)),
-        0x202_0202_0202_0203,
-    ), // behind it
-    (
-        Policy::Table,
-        1,
-        65_535,
-        [0x4a20_7721, 0x4201_0401, 0xa401_fff8],
-        Ok(0x1_0101_0101_0101),
+        [BYTES, BEHIND, 0xa401_fff8],
+        0x1_0101_0101_0101,
         0x1f20_2020_2020_2000,
     ), // seven bytes and a zero
+];
+
+/// Where code is blocked just past the ends of the spans, on a packet of so many times this byte.
+static BLOCKED: [(Policy, u8, usize, [u32; 3], u32, Kind, u64); 18] = [
+    (Filter, 1, 64, [0xa412_fff8, NOP, NOP], 0, Load, 65_528), // before scratch
+    (Filter, 1, 64, [END, 0xa401_0000, NOP], 1, Load, 65_616), // behind it
+    (Filter, 1, 65, [END, 0xa401_0007, NOP], 1, Load, 65_624), // behind it
+    (Filter, 1, 65_535, [END, 0xa401_0001, NOP], 1, Load, 131_088), // behind it
+    (Filter, 1, 64, [0xb632_fff8, NOP, NOP], 0, Store, 65_528), // before scratch
+    (Filter, 1, 64, [0xb630_0000, NOP, NOP], 0, Store, 65_552), // the packet
+    (Tag, 1, 17, [0xa410_fff8, NOP, NOP], 0, Load, 65_528), // before them
+    (Tag, 1, 17, [0xa410_0010, NOP, NOP], 0, Load, 65_552), // behind them
+    (Tag, 0, 16, [0xb610_0008, NOP, NOP], 0, Store, 65_544), // not behind a zero
+    (Tag, 1, 16, [0xb610_0000, NOP, NOP], 0, Store, 65_536), // the first
+    (Tag, 1, 17, [0xb610_0010, NOP, NOP], 0, Store, 65_552), // behind them
+    (Table, 1, 0, [0xa410_0000, NOP, NOP], 0, Load, 65_536), // no quadword
+    (Table, 1, 0, [0xb610_0000, NOP, NOP], 0, Store, 65_536), // no quadword
+    (Table, 1, 17, [0xa410_0018, NOP, NOP], 0, Load, 65_560), // behind it
+    (Table, 1, 17, [0xa410_fff8, NOP, NOP], 0, Load, 65_528), // before the first
+    (Table, 1, 17, [0xb7f0_0018, NOP, NOP], 0, Store, 65_560), // behind it
     (
-        Policy::Table,
+        Table,
         1,
         65_535,
-        [0x4a20_7721, 0x4201_0401, 0xa401_0000],
-        Err((2, Kind::Load, 131_072)),
-        0x1f20_2020_2020_2000,
+        [BYTES, BEHIND, 0xa401_0000],
+        2,
+        Load,
+        131_072,
     ), // behind it
     (
-        Policy::Table,
+        Table,
         1,
         65_535,
-        [0x4a20_7721, 0x4201_0401, 0xb7e1_0000],
-        Err((2, Kind::Store, 131_072)),
-        0x1f20_2020_2020_2000,
+        [BYTES, BEHIND, 0xb7e1_0000],
+        2,
+        Store,
+        131_072,
     ), // behind it
 ];
 
@@ -563,27 +201,65 @@ fn ran(
     Ok(runner.run_packet(packet))
 }
 
-/// Whether the run of the row's code ends as the row says; `ones` has a byte 1 for each of the row's.
-fn is_met(rt: &impl Abort, alloc: Global, row: &StartRow, ones: &[u8]) -> Result<bool, CodeFault> {
-    let (policy, byte, count, [first, second, third], answer, sum) = *row;
+/// How the three words and a return end on a packet of so many times this byte; `ones` has enough
+/// bytes 1.
+fn ended(
+    rt: &impl Abort,
+    alloc: Global,
+    ones: &[u8],
+    (policy, byte, count): (Policy, u8, usize),
+    [first, second, third]: [u32; 3],
+) -> Result<PacketResult, CodeFault> {
     let zeros = [0u8; 16];
     let bytes = if byte == 0 { zeros.as_slice() } else { ones };
-    let Some(packet) = bytes.get(..count) else {
-        return Ok(false);
-    };
-    let outcome = match answer {
-        Ok(word) => Outcome::Returned(word),
-        Err((index, kind, addr)) => Outcome::Blocked { index, kind, addr },
-    };
-    let found = ran(rt, alloc, policy, &[first, second, third, RETURN], packet)?;
-    Ok(found == PacketResult::Ran(outcome, sum))
+    match bytes.get(..count) {
+        Some(packet) => ran(rt, alloc, policy, &[first, second, third, RETURN], packet),
+        None => Ok(PacketResult::Short),
+    }
 }
 
 #[test]
-fn starts_are_the_policies(rt: HostRuntime) -> Result<(), Fail> {
+fn registers_are_the_policies(rt: HostRuntime) -> Result<(), Fail> {
     let ones = vec![in rt.alloc(); 1u8; 65_535]?;
-    for row in &STARTS {
-        assert!(rt; is_met(&rt, rt.alloc(), row, &ones)?, "{row:?}");
+    for (policy, count, [r16, r17, r18], sum) in REGISTERS {
+        let rows = [(0x47f0_0400, r16), (0x47f1_0400, r17), (0x47f2_0400, r18)];
+        for (word, want) in rows {
+            let found = ended(&rt, rt.alloc(), &ones, (policy, 1, count), [word, NOP, NOP])?;
+            assert_eq!(rt;
+                found,
+                PacketResult::Ran(Outcome::Returned(want), sum),
+                "{policy:?} {count}"
+            );
+        }
+    }
+    Ok(())
+}
+
+#[test]
+fn spans_are_the_policies(rt: HostRuntime) -> Result<(), Fail> {
+    let ones = vec![in rt.alloc(); 1u8; 65_535]?;
+    for (policy, count, words, want, sum) in ALLOWED {
+        let found = ended(&rt, rt.alloc(), &ones, (policy, 1, count), words)?;
+        assert_eq!(rt;
+            found,
+            PacketResult::Ran(Outcome::Returned(want), sum),
+            "{policy:?} on {count}: {words:?}"
+        );
+    }
+    Ok(())
+}
+
+#[test]
+fn accesses_outside_are_blocked(rt: HostRuntime) -> Result<(), Fail> {
+    let ones = vec![in rt.alloc(); 1u8; 65_535]?;
+    for (policy, byte, count, words, index, kind, addr) in BLOCKED {
+        let found = ended(&rt, rt.alloc(), &ones, (policy, byte, count), words)?;
+        let blocked = Outcome::Blocked { index, kind, addr };
+        let is_blocked = match found {
+            PacketResult::Ran(outcome, _) => outcome == blocked,
+            PacketResult::Short => false,
+        };
+        assert!(rt; is_blocked, "{policy:?} on {count}: {words:?}");
     }
     Ok(())
 }
