@@ -4,14 +4,14 @@ use Rattle.std.proofs.lemmas.Bool.{cases_Bool}
 use Rattle.std.proofs.lemmas.Option.{same_Some}
 use Rattle.alpha_words.specs.declared.insn.Insn.{Insn}
 use Rattle.alpha_words.specs.declared.fault.BadWord.{BadWord}
-use Rattle.alpha_words.specs.Reading.{reading}
+use Rattle.alpha_words.specs.Decoding.{decoded}
 use Rattle.alpha_words.specs.Lawful.{target_of}
-use Rattle.alpha_words.proofs.Words.{reading-Spells}
+use Rattle.alpha_words.proofs.Words.{decoded-Encodes}
 use Rattle.alpha_cfg.specs.declared.fault.CodeFlaw.{CodeFlaw}
 use Rattle.alpha_cfg.specs.declared.fault.CodeFlaw.TheVariants as flaw
-use Rattle.alpha_cfg.specs.Flow.{InsideOf, EndsAt, IsInsn, AreInsns, next_of}
-use Rattle.alpha_cfg.specs.CodeBytes.{word_at}
-use Rattle.alpha_cfg.specs.CodeReading.{then_read, words_read, is_inside, first_outside, runs_off, shaped, shape_read, code_read, IsReadCode}
+use Rattle.alpha_cfg.specs.Flow.{InsideOf, IsFinalAt, IsInsn, AreInsns, next_of}
+use Rattle.alpha_cfg.specs.CodeBytes.{code_word_at}
+use Rattle.alpha_cfg.specs.CodeDecoding.{then_decoded, decoded_words, is_inside, first_outside, runs_off, unless_outside, decoded_shape, decoded_code, IsReadCode}
 use Rattle.alpha_cfg.proofs.Readings.{InsideOf-is_inside, none-is_some}
 
 -- the words that are read
@@ -29,20 +29,20 @@ got code = Ok code
 ok_list : (a b : List Insn) → got a ≡ got b → a ≡ b
 ok_list a b e = cc
 
-then_are : (i word n : ℕ) (r : Result Insn BadWord) (t : Result (List Insn) CodeFlaw) (code : List Insn) → reading word ≡ r → ((rest : List Insn) → t ≡ Ok rest → AreRead n rest) → then_read i word r t ≡ Ok code → AreRead (suc n) code
+then_are : (i word n : ℕ) (r : Result Insn BadWord) (t : Result (List Insn) CodeFlaw) (code : List Insn) → decoded word ≡ r → ((rest : List Insn) → t ≡ Ok rest → AreRead n rest) → then_decoded i word r t ≡ Ok code → AreRead (suc n) code
 then_are i word n (Err bad) t code e ih w = absurd (cc)
 then_are i word n (Ok insn) (Err f) code e ih w = absurd (cc)
 then_are i word n (Ok insn) (Ok rest) code e ih w =
     let r : AreRead n rest = ih rest refl in
-    let whole : AreRead (suc n) (insn ∷ rest) = record { count = ap suc r.count; insns = first_known insn rest (word, (reading-Spells word insn).0 e) r.insns } in
+    let whole : AreRead (suc n) (insn ∷ rest) = record { count = ap suc r.count; insns = first_known insn rest (word, (decoded-Encodes word insn).0 e) r.insns } in
     subst (AreRead (suc n)) (ok_list (insn ∷ rest) code w) whole
 
 none_read : AreRead 0 []
 none_read = record { count = refl; insns = λ k x at. cc }
 
-words_are : (bytes : List ℕ) (i n : ℕ) (code : List Insn) → words_read bytes i n ≡ Ok code → AreRead n code
+words_are : (bytes : List ℕ) (i n : ℕ) (code : List Insn) → decoded_words bytes i n ≡ Ok code → AreRead n code
 words_are bytes i zero code q = subst (AreRead 0) (ok_list [] code q) none_read
-words_are bytes i (suc n) code q = then_are i (word_at bytes i) n (reading (word_at bytes i)) (words_read bytes (suc i) n) code refl (λ rest e. words_are bytes (suc i) n rest e) q
+words_are bytes i (suc n) code q = then_are i (code_word_at bytes i) n (decoded (code_word_at bytes i)) (decoded_words bytes (suc i) n) code refl (λ rest e. words_are bytes (suc i) n rest e) q
 
 outside_not : (b : Bool) (o : Option ℕ) (i : ℕ) → b ≡ false → cond b o (Some i) ≡ None → ⊥
 outside_not b o i e w = cc
@@ -62,7 +62,7 @@ outside_none n i (x ∷ rest) q (suc k) insn at =
       | inr e ↦ absurd (outside_not (is_inside n (target_of i x)) (first_outside n (suc i) rest) i e q)
     ]
 
-off_at : (code : List Insn) (i : ℕ) → i + 1 ≡ length code → runs_off code ≡ false → EndsAt code i
+off_at : (code : List Insn) (i : ℕ) → i + 1 ≡ length code → runs_off code ≡ false → IsFinalAt code i
 off_at [] i e q insn at = cc
 off_at (x ∷ []) zero e q insn at = subst (λ y. next_of 0 y ≡ None) (same_Some x insn at) (none-is_some (next_of 0 x) q)
 off_at (x ∷ []) (suc i) e q insn at = absurd (omega arith)
@@ -73,11 +73,11 @@ shaped_off : (code out : List Insn) (b : Bool) → cond b (Err (flaw.FallsOff (l
 shaped_off code out true q = absurd (cc)
 shaped_off code out false q = (refl, ok_list code out q)
 
-shaped_is : (code out : List Insn) (o : Option ℕ) → shaped code o ≡ Ok out → (o ≡ None) × (runs_off code ≡ false) × (code ≡ out)
+shaped_is : (code out : List Insn) (o : Option ℕ) → unless_outside code o ≡ Ok out → (o ≡ None) × (runs_off code ≡ false) × (code ≡ out)
 shaped_is code out (Some i) q = absurd (cc)
 shaped_is code out None q = let h = shaped_off code out (runs_off code) q in (refl, h.0, h.1)
 
-shape_is : (bytes : List ℕ) (code : List Insn) (r : Result (List Insn) CodeFlaw) → 4 ≤ length bytes → length bytes ≤ 4096 → ((out : List Insn) → r ≡ Ok out → AreRead (length bytes / 4) out) → shape_read r ≡ Ok code → IsReadCode bytes code
+shape_is : (bytes : List ℕ) (code : List Insn) (r : Result (List Insn) CodeFlaw) → 4 ≤ length bytes → length bytes ≤ 4096 → ((out : List Insn) → r ≡ Ok out → AreRead (length bytes / 4) out) → decoded_shape r ≡ Ok code → IsReadCode bytes code
 shape_is bytes code (Err f) some short are w = absurd (cc)
 shape_is bytes code (Ok out) some short are w =
     let read : AreRead (length bytes / 4) out = are out refl in
@@ -94,6 +94,6 @@ shape_is bytes code (Ok out) some short are w =
       };
     })
 
-pub code_read-code : (bytes : List ℕ) (code : List Insn) → 4 ≤ length bytes → length bytes ≤ 4096 → code_read bytes ≡ Ok code → IsReadCode bytes code
-unfolding code_read
-code_read-code bytes code some short q = shape_is bytes code (words_read bytes 0 (length bytes / 4)) some short (λ out e. words_are bytes 0 (length bytes / 4) out e) q
+pub decoded_code-code : (bytes : List ℕ) (code : List Insn) → 4 ≤ length bytes → length bytes ≤ 4096 → decoded_code bytes ≡ Ok code → IsReadCode bytes code
+unfolding decoded_code
+decoded_code-code bytes code some short q = shape_is bytes code (decoded_words bytes 0 (length bytes / 4)) some short (λ out e. words_are bytes 0 (length bytes / 4) out e) q

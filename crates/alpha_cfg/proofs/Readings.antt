@@ -3,48 +3,48 @@ use Rattle.std.proofs.Common.{◌≡◌, ℕ, zero, suc, ◌+◌, ◌-◌, ◌*�
 use Rattle.std.proofs.lemmas.Bool.{ltb-true, lt-ltb}
 use Rattle.alpha_words.specs.declared.insn.Insn.{Insn}
 use Rattle.alpha_words.specs.declared.fault.BadWord.{BadWord}
-use Rattle.alpha_words.specs.Spelling.{Spells}
-use Rattle.alpha_words.specs.Reading.{reading}
+use Rattle.alpha_words.specs.Encoding.{Encodes}
+use Rattle.alpha_words.specs.Decoding.{decoded}
 use Rattle.alpha_words.specs.Lawful.{target_of}
-use Rattle.alpha_words.proofs.Words.{reading-Spells}
+use Rattle.alpha_words.proofs.Words.{decoded-Encodes}
 use Rattle.alpha_cfg.specs.declared.fault.CodeFlaw.{CodeFlaw}
 use Rattle.alpha_cfg.specs.declared.fault.CodeFlaw.TheVariants as flaw
 use Rattle.alpha_cfg.specs.declared.fault.CodeFault.{CodeFault}
 use Rattle.alpha_cfg.specs.declared.fault.CodeFault.TheVariants as fault
-use Rattle.alpha_cfg.specs.Flow.{InsideOf, IsInside, EndsAt, IsCode, AreInsns, next_of}
-use Rattle.alpha_cfg.specs.CodeBytes.{word_at, SpellsFirst, SpellsCode, IsShapeFlaw, IsFlaw, Answers}
-use Rattle.alpha_cfg.specs.CodeReading.{words_read, is_inside, first_outside, runs_off, code_read, IsRead}
+use Rattle.alpha_cfg.specs.Flow.{InsideOf, IsInside, IsFinalAt, IsCode, AreInsns, next_of}
+use Rattle.alpha_cfg.specs.CodeBytes.{code_word_at, EncodesFirst, EncodesCode, IsShapeFlaw, IsFlaw, IsCodeAnswer}
+use Rattle.alpha_cfg.specs.CodeDecoding.{decoded_words, is_inside, first_outside, runs_off, decoded_code, IsDecoded}
 
 -- the instructions are spelled by the words from index i on
 abbrev AreSpelled : List ℕ → ℕ → List Insn → Type 0
-AreSpelled bytes i code = (k : ℕ) (insn : Insn) → slice_get code k ≡ Some insn → Spells (word_at bytes (i + k)) insn
+AreSpelled bytes i code = (k : ℕ) (insn : Insn) → slice_get code k ≡ Some insn → Encodes (code_word_at bytes (i + k)) insn
 
-first_spelled : (bytes : List ℕ) (i : ℕ) (insn : Insn) (rest : List Insn) → AreSpelled bytes i (insn ∷ rest) → reading (word_at bytes i) ≡ Ok insn
+first_spelled : (bytes : List ℕ) (i : ℕ) (insn : Insn) (rest : List Insn) → AreSpelled bytes i (insn ∷ rest) → decoded (code_word_at bytes i) ≡ Ok insn
 first_spelled bytes i insn rest each =
     let e : i + 0 ≡ i = omega arith in
-    (reading-Spells (word_at bytes i) insn).1 (subst (λ j. Spells (word_at bytes j) insn) e (each 0 insn refl))
+    (decoded-Encodes (code_word_at bytes i) insn).1 (subst (λ j. Encodes (code_word_at bytes j) insn) e (each 0 insn refl))
 
 rest_spelled : (bytes : List ℕ) (i : ℕ) (insn : Insn) (rest : List Insn) → AreSpelled bytes i (insn ∷ rest) → AreSpelled bytes (suc i) rest
 rest_spelled bytes i insn rest each k x at =
     let e : i + suc k ≡ suc i + k = omega arith in
-    subst (λ j. Spells (word_at bytes j) x) e (each (suc k) x at)
+    subst (λ j. Encodes (code_word_at bytes j) x) e (each (suc k) x at)
 
-words_read-spelled : (bytes : List ℕ) (i : ℕ) (code : List Insn) → AreSpelled bytes i code → words_read bytes i (length code) ≡ Ok code
-words_read-spelled bytes i [] each = refl
-words_read-spelled bytes i (insn ∷ rest) each =
-    rw (first_spelled bytes i insn rest each, words_read-spelled bytes (suc i) rest (rest_spelled bytes i insn rest each)) refl
+decoded_words-spelled : (bytes : List ℕ) (i : ℕ) (code : List Insn) → AreSpelled bytes i code → decoded_words bytes i (length code) ≡ Ok code
+decoded_words-spelled bytes i [] each = refl
+decoded_words-spelled bytes i (insn ∷ rest) each =
+    rw (first_spelled bytes i insn rest each, decoded_words-spelled bytes (suc i) rest (rest_spelled bytes i insn rest each)) refl
 
-words_read-bad : (bytes : List ℕ) (i m : ℕ) (bad : BadWord) (code : List Insn) → AreSpelled bytes i code → reading (word_at bytes (i + length code)) ≡ Err bad → words_read bytes i (length code + suc m) ≡ Err (flaw.BadWord (i + length code) (word_at bytes (i + length code)) bad)
-words_read-bad bytes i m bad [] each e =
+decoded_words-bad : (bytes : List ℕ) (i m : ℕ) (bad : BadWord) (code : List Insn) → AreSpelled bytes i code → decoded (code_word_at bytes (i + length code)) ≡ Err bad → decoded_words bytes i (length code + suc m) ≡ Err (flaw.BadWord (i + length code) (code_word_at bytes (i + length code)) bad)
+decoded_words-bad bytes i m bad [] each e =
     let here : i + 0 ≡ i = omega arith in
     let count : 0 + suc m ≡ suc m = omega arith in
-    let read : reading (word_at bytes i) ≡ Err bad = subst (λ j. reading (word_at bytes j) ≡ Err bad) here e in
+    let read : decoded (code_word_at bytes i) ≡ Err bad = subst (λ j. decoded (code_word_at bytes j) ≡ Err bad) here e in
     rw (count, here, read) refl
-words_read-bad bytes i m bad (insn ∷ rest) each e =
+decoded_words-bad bytes i m bad (insn ∷ rest) each e =
     let on : suc i + length rest ≡ i + suc (length rest) = omega arith in
     let count : suc (length rest) + suc m ≡ suc (length rest + suc m) = omega arith in
-    let later : reading (word_at bytes (suc i + length rest)) ≡ Err bad = subst (λ j. reading (word_at bytes j) ≡ Err bad) (sym on) e in
-    let ih = words_read-bad bytes (suc i) m bad rest (rest_spelled bytes i insn rest each) later in
+    let later : decoded (code_word_at bytes (suc i + length rest)) ≡ Err bad = subst (λ j. decoded (code_word_at bytes j) ≡ Err bad) (sym on) e in
+    let ih = decoded_words-bad bytes (suc i) m bad rest (rest_spelled bytes i insn rest each) later in
     rw (count, first_spelled bytes i insn rest each, ih, on) refl
 
 -- ---- branches inside
@@ -106,14 +106,14 @@ pub none-is_some : {A : Type 0} (o : Option A) → is_some o ≡ false → o ≡
 none-is_some None e = refl
 none-is_some (Some x) e = cc
 
-runs_off-false : (i : ℕ) (code : List Insn) → i + 1 ≡ length code → EndsAt code i → runs_off code ≡ false
+runs_off-false : (i : ℕ) (code : List Insn) → i + 1 ≡ length code → IsFinalAt code i → runs_off code ≡ false
 runs_off-false i [] e ends = absurd (omega arith)
 runs_off-false zero (insn ∷ []) e ends = is_some-none (next_of 0 insn) (ends insn refl)
 runs_off-false (suc i) (insn ∷ []) e ends = absurd (omega arith)
 runs_off-false zero (insn ∷ other ∷ rest) e ends = absurd (omega arith)
 runs_off-false (suc i) (insn ∷ other ∷ rest) e ends = runs_off-false i (other ∷ rest) (omega arith) ends
 
-runs_off-true : (i : ℕ) (code : List Insn) → i + 1 ≡ length code → (EndsAt code i → ⊥) → runs_off code ≡ true
+runs_off-true : (i : ℕ) (code : List Insn) → i + 1 ≡ length code → (IsFinalAt code i → ⊥) → runs_off code ≡ true
 runs_off-true i [] e ends = absurd (omega arith)
 runs_off-true zero (insn ∷ []) e ends = go (is_some (next_of 0 insn)) refl where
   go : (b : Bool) → is_some (next_of 0 insn) ≡ b → is_some (next_of 0 insn) ≡ true
@@ -133,54 +133,54 @@ from_zero code inside k insn at =
 all_inside : (code : List Insn) → ((i : ℕ) → IsInside code i) → first_outside (length code) 0 code ≡ None
 all_inside code inside = first_outside-none (length code) 0 code (from_zero code inside)
 
-all_read : (bytes : List ℕ) (code : List Insn) → SpellsCode bytes code → words_read bytes 0 (length bytes / 4) ≡ Ok code
+all_read : (bytes : List ℕ) (code : List Insn) → EncodesCode bytes code → decoded_words bytes 0 (length bytes / 4) ≡ Ok code
 all_read bytes code s =
     let count : length bytes / 4 ≡ length code = omega (arith, s.whole) in
-    rw count (words_read-spelled bytes 0 code (λ k insn at. let e : k ≡ 0 + k = omega arith in subst (λ j. Spells (word_at bytes j) insn) e (s.first.each k insn at)))
+    rw count (decoded_words-spelled bytes 0 code (λ k insn at. let e : k ≡ 0 + k = omega arith in subst (λ j. Encodes (code_word_at bytes j) insn) e (s.first.each k insn at)))
 
-pub code_read-ok : (bytes : List ℕ) (code : List Insn) → SpellsCode bytes code → IsCode code → Ok code ≡ code_read bytes
-unfolding code_read
-code_read-ok bytes code s is =
+pub decoded_code-ok : (bytes : List ℕ) (code : List Insn) → EncodesCode bytes code → IsCode code → Ok code ≡ decoded_code bytes
+unfolding decoded_code
+decoded_code-ok bytes code s is =
     let last : length code - 1 + 1 ≡ length code = omega (arith, is.nonempty) in
     rw (all_read bytes code s, all_inside code is.inside, runs_off-false (length code - 1) code last is.ends) refl
 
-code_read-target : (bytes : List ℕ) (code : List Insn) (i : ℕ) → SpellsCode bytes code → IsShapeFlaw code (flaw.Target i) → Err (flaw.Target i) ≡ code_read bytes
-unfolding code_read
-code_read-target bytes code i s f =
+decoded_code-target : (bytes : List ℕ) (code : List Insn) (i : ℕ) → EncodesCode bytes code → IsShapeFlaw code (flaw.Target i) → Err (flaw.Target i) ≡ decoded_code bytes
+unfolding decoded_code
+decoded_code-target bytes code i s f =
     let zero_plus : (k : ℕ) → 0 + k ≡ k = λ k. omega arith in
     let found : first_outside (length code) 0 code ≡ Some (0 + i) = first_outside-some (length code) 0 i code f.0
     (λ j below x at. subst (λ z. InsideOf (length code) (target_of z x)) (sym (zero_plus j)) (f.2 j below x at))
     (λ inside. f.1 (λ x at. subst (λ z. InsideOf (length code) (target_of z x)) (zero_plus i) (inside x at))) in
     rw (all_read bytes code s, found, zero_plus i) refl
 
-code_read-falls_off : (bytes : List ℕ) (code : List Insn) (i : ℕ) → SpellsCode bytes code → IsShapeFlaw code (flaw.FallsOff i) → Err (flaw.FallsOff i) ≡ code_read bytes
-unfolding code_read
-code_read-falls_off bytes code i s f =
+decoded_code-falls_off : (bytes : List ℕ) (code : List Insn) (i : ℕ) → EncodesCode bytes code → IsShapeFlaw code (flaw.FallsOff i) → Err (flaw.FallsOff i) ≡ decoded_code bytes
+unfolding decoded_code
+decoded_code-falls_off bytes code i s f =
     let last : length code - 1 ≡ i = omega (arith, f.0) in
     rw (all_read bytes code s, all_inside code f.2, runs_off-true i code f.0 f.1, last) refl
 
-code_read-bad : (bytes : List ℕ) (code : List Insn) (i word : ℕ) (bad : BadWord) → word ≡ word_at bytes i → reading word ≡ Err bad → 4 * i + 4 ≤ length bytes → SpellsFirst bytes i code → Err (flaw.BadWord i word bad) ≡ code_read bytes
-unfolding code_read
-code_read-bad bytes code i word bad is e within s =
+decoded_code-bad : (bytes : List ℕ) (code : List Insn) (i word : ℕ) (bad : BadWord) → word ≡ code_word_at bytes i → decoded word ≡ Err bad → 4 * i + 4 ≤ length bytes → EncodesFirst bytes i code → Err (flaw.BadWord i word bad) ≡ decoded_code bytes
+unfolding decoded_code
+decoded_code-bad bytes code i word bad is e within s =
     let m = length bytes / 4 - suc i in
     let count : length bytes / 4 ≡ length code + suc m = omega (arith, s.count) in
     let at : 0 + length code ≡ i = omega (arith, s.count) in
-    let read : reading (word_at bytes (0 + length code)) ≡ Err bad = rw (at, ← is) e in
-    let found = words_read-bad bytes 0 m bad code (λ k insn has. let z : k ≡ 0 + k = omega arith in subst (λ j. Spells (word_at bytes j) insn) z (s.each k insn has)) read in
+    let read : decoded (code_word_at bytes (0 + length code)) ≡ Err bad = rw (at, ← is) e in
+    let found = decoded_words-bad bytes 0 m bad code (λ k insn has. let z : k ≡ 0 + k = omega arith in subst (λ j. Encodes (code_word_at bytes j) insn) z (s.each k insn has)) read in
     rw (count, found, at, ← is) refl
 
-code_read-flaw : (bytes : List ℕ) (f : CodeFlaw) → IsFlaw bytes f → Err f ≡ code_read bytes
-code_read-flaw bytes (flaw.BadWord i word bad) h = code_read-bad bytes h.3.0 i word bad h.0 h.1 h.2 h.3.1
-code_read-flaw bytes (flaw.Target i) h = code_read-target bytes h.0 i h.1 h.2
-code_read-flaw bytes (flaw.FallsOff i) h = code_read-falls_off bytes h.0 i h.1 h.2
+decoded_code-flaw : (bytes : List ℕ) (f : CodeFlaw) → IsFlaw bytes f → Err f ≡ decoded_code bytes
+decoded_code-flaw bytes (flaw.BadWord i word bad) h = decoded_code-bad bytes h.3.0 i word bad h.0 h.1 h.2 h.3.1
+decoded_code-flaw bytes (flaw.Target i) h = decoded_code-target bytes h.0 i h.1 h.2
+decoded_code-flaw bytes (flaw.FallsOff i) h = decoded_code-falls_off bytes h.0 i h.1 h.2
 
-pub IsRead-Answers : (bytes : List ℕ) (r : Result (List Insn) CodeFault) → Answers bytes r → IsRead bytes r
-IsRead-Answers bytes (Ok code) h = code_read-ok bytes code h.0 h.1
-IsRead-Answers bytes (Err (fault.At f)) h = code_read-flaw bytes f h
-IsRead-Answers bytes (Err fault.Memory) h = tt
+pub IsDecoded-IsCodeAnswer : (bytes : List ℕ) (r : Result (List Insn) CodeFault) → IsCodeAnswer bytes r → IsDecoded bytes r
+IsDecoded-IsCodeAnswer bytes (Ok code) h = decoded_code-ok bytes code h.0 h.1
+IsDecoded-IsCodeAnswer bytes (Err (fault.At f)) h = decoded_code-flaw bytes f h
+IsDecoded-IsCodeAnswer bytes (Err fault.Memory) h = tt
 
 -- ---- spelled code
 
 -- each instruction is spelled by its word
-pub AreInsns-SpellsCode : (bytes : List ℕ) (code : List Insn) → SpellsCode bytes code → AreInsns code
-AreInsns-SpellsCode bytes code s i insn at = (word_at bytes i, s.first.each i insn at)
+pub AreInsns-EncodesCode : (bytes : List ℕ) (code : List Insn) → EncodesCode bytes code → AreInsns code
+AreInsns-EncodesCode bytes code s i insn at = (code_word_at bytes i, s.first.each i insn at)

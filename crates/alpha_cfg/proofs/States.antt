@@ -13,7 +13,7 @@ use Rattle.alpha_words.specs.declared.insn.Rhs.{Rhs}
 use Rattle.alpha_words.specs.declared.insn.Rhs.TheVariants.{Reg, Lit}
 use Rattle.alpha_words.specs.declared.insn.Insn.{Insn}
 use Rattle.alpha_words.specs.declared.insn.Insn.TheVariants.{Lda, Ldq, Stq, Oper, Branch, Br, Ret}
-use Rattle.alpha_words.specs.Spelling.{IsRhs}
+use Rattle.alpha_words.specs.Encoding.{IsRhs}
 use Rattle.alpha_words.specs.Lawful.{target_of}
 use Rattle.alpha_cfg.specs.Flow.{IsCode, IsInsn, jump_of, next_of}
 use Rattle.alpha_cfg.proofs.FreeWalks.{landing_within, next_within}
@@ -22,7 +22,7 @@ use Rattle.alpha_cfg.specs.declared.outcome.Kind.TheVariants.{Load, Store}
 use Rattle.alpha_cfg.specs.declared.outcome.Step.{Step}
 use Rattle.alpha_cfg.specs.declared.outcome.Step.TheVariants as steps
 use Rattle.alpha_cfg.specs.declared.outcome.Outcome.{Outcome}
-use Rattle.alpha_cfg.specs.Machine.{State, IsState, rhs_word, address_of, accessed, moved_to, done, takes, step_at, step_of, ends_with, run_of}
+use Rattle.alpha_cfg.specs.Machine.{State, IsState, rhs_word, address_of, access_outcome, state_at, insn_outcome, takes, step_at, step_of, ends_with, run_of}
 
 -- a state whose index is below n
 pub record IsAt (n : ℕ) (s : State) : Type 0 where
@@ -53,9 +53,9 @@ next_within_some code i Ret is at on = cc
 moved : (n : ℕ) (s : State) (j : ℕ) → IsAt n s → j < n → IsAt n (record s { index = j })
 moved n s j is lt = record { index = lt; state = record { regs = is.state.regs; memory = is.state.memory; rights = is.state.rights } }
 
-moved_to-keeps : (n : ℕ) (s : State) (to : Option ℕ) → IsAt n s → ((j : ℕ) → to ≡ Some j → j < n) → IsAt n (moved_to s to)
-moved_to-keeps n s None is below = is
-moved_to-keeps n s (Some j) is below = moved n s j is (below j refl)
+state_at-keeps : (n : ℕ) (s : State) (to : Option ℕ) → IsAt n s → ((j : ℕ) → to ≡ Some j → j < n) → IsAt n (state_at s to)
+state_at-keeps n s None is below = is
+state_at-keeps n s (Some j) is below = moved n s j is (below j refl)
 
 set_reg-keeps : (n : ℕ) (s : State) (r word : ℕ) → IsAt n s → s.index + 1 < n → word < 2 ^ 64 → IsAt n (record s { index = s.index + 1; regs = write_reg s.regs r word })
 set_reg-keeps n s r word is lt w = record { index = lt; state = record { regs = AreRegs-write_reg s.regs r word is.state.regs w; memory = is.state.memory; rights = is.state.rights } }
@@ -63,36 +63,36 @@ set_reg-keeps n s r word is lt w = record { index = lt; state = record { regs = 
 store-keeps : (n : ℕ) (s : State) (a word : ℕ) → IsAt n s → s.index + 1 < n → a < 2 ^ 64 → word < 2 ^ 64 → IsAt n (record s { index = s.index + 1; memory = write s.memory a word })
 store-keeps n s a word is lt p w = record { index = lt; state = record { regs = is.state.regs; memory = IsMemory-write s.memory a word is.state.memory p w; rights = is.state.rights } }
 
-accessed-keeps : (n : ℕ) (kind : Kind) (may : Bool) (a : ℕ) (s u : State) → IsAt n s → IsAt n u → IsAt n (accessed kind may a s u).1
-accessed-keeps n kind true a s u is after = after
-accessed-keeps n kind false a s u is after = is
+access_outcome-keeps : (n : ℕ) (kind : Kind) (may : Bool) (a : ℕ) (s u : State) → IsAt n s → IsAt n u → IsAt n (access_outcome kind may a s u).1
+access_outcome-keeps n kind true a s u is after = after
+access_outcome-keeps n kind false a s u is after = is
 
 -- ---- steps and runs
 
-pub done-keeps : (code : List Insn) (insn : Insn) (s : State) → IsCode code → slice_get code s.index ≡ Some insn → IsInsn insn → IsAt (length code) s → IsAt (length code) (done insn s).1
-done-keeps code (Lda ra rb disp) s ok at byte is = set_reg-keeps (length code) s ra (address_of s.regs rb disp) is (next_within code ok s.index (Lda ra rb disp) at (s.index + 1) refl) (address_of-below s.regs rb disp)
-done-keeps code (Ldq ra rb disp) s ok at byte is =
+pub insn_outcome-keeps : (code : List Insn) (insn : Insn) (s : State) → IsCode code → slice_get code s.index ≡ Some insn → IsInsn insn → IsAt (length code) s → IsAt (length code) (insn_outcome insn s).1
+insn_outcome-keeps code (Lda ra rb disp) s ok at byte is = set_reg-keeps (length code) s ra (address_of s.regs rb disp) is (next_within code ok s.index (Lda ra rb disp) at (s.index + 1) refl) (address_of-below s.regs rb disp)
+insn_outcome-keeps code (Ldq ra rb disp) s ok at byte is =
     let a = address_of s.regs rb disp in
-    accessed-keeps (length code) Load (allowed s.rights.reads a) a s (record s { index = s.index + 1; regs = write_reg s.regs ra (read s.memory a) }) is (set_reg-keeps (length code) s ra (read s.memory a) is (next_within code ok s.index (Ldq ra rb disp) at (s.index + 1) refl) (read-below s.memory a is.state.memory))
-done-keeps code (Stq ra rb disp) s ok at byte is =
+    access_outcome-keeps (length code) Load (allowed s.rights.reads a) a s (record s { index = s.index + 1; regs = write_reg s.regs ra (read s.memory a) }) is (set_reg-keeps (length code) s ra (read s.memory a) is (next_within code ok s.index (Ldq ra rb disp) at (s.index + 1) refl) (read-below s.memory a is.state.memory))
+insn_outcome-keeps code (Stq ra rb disp) s ok at byte is =
     let a = address_of s.regs rb disp in
-    accessed-keeps (length code) Store (allowed s.rights.writes a) a s (record s { index = s.index + 1; memory = write s.memory a (read_reg s.regs ra) }) is (store-keeps (length code) s a (read_reg s.regs ra) is (next_within code ok s.index (Stq ra rb disp) at (s.index + 1) refl) (address_of-below s.regs rb disp) (read_reg-below s.regs ra is.state.regs))
-done-keeps code (Oper op ra rhs rc) s ok at byte is =
+    access_outcome-keeps (length code) Store (allowed s.rights.writes a) a s (record s { index = s.index + 1; memory = write s.memory a (read_reg s.regs ra) }) is (store-keeps (length code) s a (read_reg s.regs ra) is (next_within code ok s.index (Stq ra rb disp) at (s.index + 1) refl) (address_of-below s.regs rb disp) (read_reg-below s.regs ra is.state.regs))
+insn_outcome-keeps code (Oper op ra rhs rc) s ok at byte is =
     let regs : AreRegs s.regs = is.state.regs in
     set_reg-keeps (length code) s rc (word_of op (read_reg s.regs ra) (rhs_word s.regs rhs)) is (next_within code ok s.index (Oper op ra rhs rc) at (s.index + 1) refl) (word_of-below op (read_reg s.regs ra) (rhs_word s.regs rhs) (read_reg-below s.regs ra regs) (rhs_word-below s.regs rhs regs byte.1.1))
-done-keeps code (Branch cond ra disp) s ok at byte is =
+insn_outcome-keeps code (Branch cond ra disp) s ok at byte is =
     let jump = jump_of s.index (Branch cond ra disp) in
     let on : s.index + 1 < length code = next_within code ok s.index (Branch cond ra disp) at (s.index + 1) refl in
-    elim (takes cond (read_reg s.regs ra)) as (λ b. IsAt (length code) (moved_to s (if b then jump else Some (s.index + 1)))) [
-      | true ↦ moved_to-keeps (length code) s jump is (landing_within (length code) (target_of s.index (Branch cond ra disp)) (ok.inside s.index (Branch cond ra disp) at))
+    elim (takes cond (read_reg s.regs ra)) as (λ b. IsAt (length code) (state_at s (if b then jump else Some (s.index + 1)))) [
+      | true ↦ state_at-keeps (length code) s jump is (landing_within (length code) (target_of s.index (Branch cond ra disp)) (ok.inside s.index (Branch cond ra disp) at))
       | false ↦ moved (length code) s (s.index + 1) is on
     ]
-done-keeps code (Br disp) s ok at byte is = moved_to-keeps (length code) s (jump_of s.index (Br disp)) is (landing_within (length code) (target_of s.index (Br disp)) (ok.inside s.index (Br disp) at))
-done-keeps code Ret s ok at byte is = is
+insn_outcome-keeps code (Br disp) s ok at byte is = state_at-keeps (length code) s (jump_of s.index (Br disp)) is (landing_within (length code) (target_of s.index (Br disp)) (ok.inside s.index (Br disp) at))
+insn_outcome-keeps code Ret s ok at byte is = is
 
 step_at-keeps : (code : List Insn) (insn : Option Insn) (s : State) → IsCode code → slice_get code s.index ≡ insn → IsAt (length code) s → IsAt (length code) (step_at insn s).1
 step_at-keeps code None s ok at is = is
-step_at-keeps code (Some insn) s ok at is = done-keeps code insn s ok at (ok.spelled s.index insn at) is
+step_at-keeps code (Some insn) s ok at is = insn_outcome-keeps code insn s ok at (ok.spelled s.index insn at) is
 
 pub step_of-keeps : (code : List Insn) (s : State) → IsCode code → IsAt (length code) s → IsAt (length code) (step_of code s).1
 step_of-keeps code s ok is = step_at-keeps code (slice_get code s.index) s ok refl is
@@ -111,30 +111,30 @@ run_of-keeps code (suc n) s ok is =
 
 -- ---- rights
 
-accessed-rights : (kind : Kind) (may : Bool) (a : ℕ) (s u : State) → u.rights ≡ s.rights → (accessed kind may a s u).1.rights ≡ s.rights
-accessed-rights kind true a s u same = same
-accessed-rights kind false a s u same = refl
+access_outcome-rights : (kind : Kind) (may : Bool) (a : ℕ) (s u : State) → u.rights ≡ s.rights → (access_outcome kind may a s u).1.rights ≡ s.rights
+access_outcome-rights kind true a s u same = same
+access_outcome-rights kind false a s u same = refl
 
-moved_to-rights : (s : State) (to : Option ℕ) → (moved_to s to).rights ≡ s.rights
-moved_to-rights s None = refl
-moved_to-rights s (Some j) = refl
+state_at-rights : (s : State) (to : Option ℕ) → (state_at s to).rights ≡ s.rights
+state_at-rights s None = refl
+state_at-rights s (Some j) = refl
 
-pub done-rights : (insn : Insn) (s : State) → (done insn s).1.rights ≡ s.rights
-done-rights (Lda ra rb disp) s = refl
-done-rights (Ldq ra rb disp) s =
+pub insn_outcome-rights : (insn : Insn) (s : State) → (insn_outcome insn s).1.rights ≡ s.rights
+insn_outcome-rights (Lda ra rb disp) s = refl
+insn_outcome-rights (Ldq ra rb disp) s =
     let a = address_of s.regs rb disp in
-    accessed-rights Load (allowed s.rights.reads a) a s (record s { index = s.index + 1; regs = write_reg s.regs ra (read s.memory a) }) refl
-done-rights (Stq ra rb disp) s =
+    access_outcome-rights Load (allowed s.rights.reads a) a s (record s { index = s.index + 1; regs = write_reg s.regs ra (read s.memory a) }) refl
+insn_outcome-rights (Stq ra rb disp) s =
     let a = address_of s.regs rb disp in
-    accessed-rights Store (allowed s.rights.writes a) a s (record s { index = s.index + 1; memory = write s.memory a (read_reg s.regs ra) }) refl
-done-rights (Oper op ra rhs rc) s = refl
-done-rights (Branch cond ra disp) s = moved_to-rights s (if takes cond (read_reg s.regs ra) then jump_of s.index (Branch cond ra disp) else Some (s.index + 1))
-done-rights (Br disp) s = moved_to-rights s (jump_of s.index (Br disp))
-done-rights Ret s = refl
+    access_outcome-rights Store (allowed s.rights.writes a) a s (record s { index = s.index + 1; memory = write s.memory a (read_reg s.regs ra) }) refl
+insn_outcome-rights (Oper op ra rhs rc) s = refl
+insn_outcome-rights (Branch cond ra disp) s = state_at-rights s (if takes cond (read_reg s.regs ra) then jump_of s.index (Branch cond ra disp) else Some (s.index + 1))
+insn_outcome-rights (Br disp) s = state_at-rights s (jump_of s.index (Br disp))
+insn_outcome-rights Ret s = refl
 
 step_at-rights : (insn : Option Insn) (s : State) → (step_at insn s).1.rights ≡ s.rights
 step_at-rights None s = refl
-step_at-rights (Some insn) s = done-rights insn s
+step_at-rights (Some insn) s = insn_outcome-rights insn s
 
 ends_with-rights : (step : Step) (u : State) (on : Outcome × State) → on.1.rights ≡ u.rights → (ends_with step u on).1.rights ≡ u.rights
 ends_with-rights steps.Moved u on same = same

@@ -2,7 +2,7 @@
 use Rattle.std.specs.Prelude.{◌≡◌, ℕ, ◌+◌, ◌-◌, ◌<◌, ◌≤◌, List, length, slice_get, Option, Some, None, ℤ, pos, negsuc}
 use Rattle.alpha_words.specs.declared.insn.Insn.{Insn}
 use Rattle.alpha_words.specs.declared.insn.Insn.TheVariants.{Lda, Ldq, Stq, Oper, Branch, Br, Ret}
-use Rattle.alpha_words.specs.Spelling.{Spells}
+use Rattle.alpha_words.specs.Encoding.{Encodes}
 use Rattle.alpha_words.specs.Lawful.{target_of}
 use Rattle.alpha_cfg.specs.declared.code.TheConstants.{MAX_WORDS}
 
@@ -37,20 +37,20 @@ InsideOf n (Some (pos k)) = k < n
 InsideOf n (Some (negsuc k)) = ⊥
 
 -- code may not go on after the instruction
-abbrev pub Ends : Insn → Type 0
-Ends insn = next_of 0 insn ≡ None
+abbrev pub IsFinal : Insn → Type 0
+IsFinal insn = next_of 0 insn ≡ None
 
 -- the instruction at i, if there is one, branches to an index of the code
 abbrev pub IsInside : List Insn → ℕ → Type 0
 IsInside code i = (insn : Insn) → slice_get code i ≡ Some insn → InsideOf (length code) (target_of i insn)
 
 -- code may not go on after the instruction at i
-abbrev pub EndsAt : List Insn → ℕ → Type 0
-EndsAt code i = (insn : Insn) → slice_get code i ≡ Some insn → Ends insn
+abbrev pub IsFinalAt : List Insn → ℕ → Type 0
+IsFinalAt code i = (insn : Insn) → slice_get code i ≡ Some insn → IsFinal insn
 
 -- an instruction that some word spells
 abbrev pub IsInsn : Insn → Type 0
-IsInsn insn = (word : ℕ) × Spells word insn
+IsInsn insn = (word : ℕ) × Encodes word insn
 
 -- each instruction is spelled by some word
 abbrev pub AreInsns : List Insn → Type 0
@@ -62,4 +62,4 @@ pub record IsCode (code : List Insn) : Type 0 where
   pub short : length code ≤ MAX_WORDS
   pub spelled : AreInsns code
   pub inside : (i : ℕ) → IsInside code i
-  pub ends : EndsAt code (length code - 1)
+  pub ends : IsFinalAt code (length code - 1)

@@ -55,32 +55,32 @@ takes NotNegative x = not (test_of Slt x 0)
 takes Positive x = not (test_of Sle x 0)
 
 -- an access goes on to u where it may, and else is blocked and changes nothing
-abbrev pub accessed : Kind → Bool → ℕ → State → State → Step × State
-accessed kind may a s u = if may then (steps.Moved, u) else (steps.Blocked s.index kind a, s)
+abbrev pub access_outcome : Kind → Bool → ℕ → State → State → Step × State
+access_outcome kind may a s u = if may then (steps.Moved, u) else (steps.Blocked s.index kind a, s)
 
 -- the state at an index
-abbrev pub moved_to : State → Option ℕ → State
-moved_to s None = s
-moved_to s (Some j) = record s { index = j }
+abbrev pub state_at : State → Option ℕ → State
+state_at s None = s
+state_at s (Some j) = record s { index = j }
 
 -- what the instruction answers, and what it makes of s
-abbrev pub done : Insn → State → Step × State
-done (Lda ra rb disp) s = (steps.Moved, record s { index = s.index + 1; regs = write_reg s.regs ra (address_of s.regs rb disp) })
-done (Ldq ra rb disp) s =
+abbrev pub insn_outcome : Insn → State → Step × State
+insn_outcome (Lda ra rb disp) s = (steps.Moved, record s { index = s.index + 1; regs = write_reg s.regs ra (address_of s.regs rb disp) })
+insn_outcome (Ldq ra rb disp) s =
     let a = address_of s.regs rb disp in
-    accessed Load (allowed s.rights.reads a) a s (record s { index = s.index + 1; regs = write_reg s.regs ra (read s.memory a) })
-done (Stq ra rb disp) s =
+    access_outcome Load (allowed s.rights.reads a) a s (record s { index = s.index + 1; regs = write_reg s.regs ra (read s.memory a) })
+insn_outcome (Stq ra rb disp) s =
     let a = address_of s.regs rb disp in
-    accessed Store (allowed s.rights.writes a) a s (record s { index = s.index + 1; memory = write s.memory a (read_reg s.regs ra) })
-done (Oper op ra rhs rc) s = (steps.Moved, record s { index = s.index + 1; regs = write_reg s.regs rc (word_of op (read_reg s.regs ra) (rhs_word s.regs rhs)) })
-done (Branch cond ra disp) s = (steps.Moved, moved_to s (if takes cond (read_reg s.regs ra) then jump_of s.index (Branch cond ra disp) else Some (s.index + 1)))
-done (Br disp) s = (steps.Moved, moved_to s (jump_of s.index (Br disp)))
-done Ret s = (steps.Returned, s)
+    access_outcome Store (allowed s.rights.writes a) a s (record s { index = s.index + 1; memory = write s.memory a (read_reg s.regs ra) })
+insn_outcome (Oper op ra rhs rc) s = (steps.Moved, record s { index = s.index + 1; regs = write_reg s.regs rc (word_of op (read_reg s.regs ra) (rhs_word s.regs rhs)) })
+insn_outcome (Branch cond ra disp) s = (steps.Moved, state_at s (if takes cond (read_reg s.regs ra) then jump_of s.index (Branch cond ra disp) else Some (s.index + 1)))
+insn_outcome (Br disp) s = (steps.Moved, state_at s (jump_of s.index (Br disp)))
+insn_outcome Ret s = (steps.Returned, s)
 
 -- outside the code nothing is done
 abbrev pub step_at : Option Insn → State → Step × State
 step_at None s = (steps.Returned, s)
-step_at (Some insn) s = done insn s
+step_at (Some insn) s = insn_outcome insn s
 
 -- one step of the code
 abbrev pub step_of : List Insn → State → Step × State

@@ -1,13 +1,13 @@
 //! Code: the instructions that bytes spell, whose branches stay inside it.
 
 ghost use Rattle.std.specs.Prelude.{◌≡◌, ℕ, ◌+◌, ◌*◌, ◌%◌, ◌<◌, ◌≤◌, ◌↔◌, length, slice_get, Some, IsTrue, IsSome, IfSome, IfNone, IfOk, IfErr, MatchResult, Err};
-ghost use Rattle.alpha_cfg.specs.CodeBytes.{word_at, SpellsCode, IsShapeFlaw, Answers};
-ghost use Rattle.alpha_cfg.specs.CodeReading.{IsRead};
+ghost use Rattle.alpha_cfg.specs.CodeBytes.{code_word_at, EncodesCode, IsShapeFlaw, IsCodeAnswer};
+ghost use Rattle.alpha_cfg.specs.CodeDecoding.{IsDecoded};
 ghost use Rattle.alpha_cfg.specs.declared.code.TheConstants.{MAX_WORDS};
 ghost use Rattle.alpha_cfg.specs.Inside.Words.{IsFlawAt};
-ghost use Rattle.alpha_cfg.specs.Flow.{IsCode, AreInsns, IsInside, Ends, jump_of, next_of};
+ghost use Rattle.alpha_cfg.specs.Flow.{IsCode, AreInsns, IsInside, IsFinal, jump_of, next_of};
 ghost use Rattle.alpha_words.specs.Lawful.{target_of};
-ghost use Rattle.alpha_words.specs.Spelling.{Spells};
+ghost use Rattle.alpha_words.specs.Encoding.{Encodes};
 
 use crate::fault::{CodeFault, CodeFlaw};
 use alpha_words::{Insn, Rhs, decode, target};
@@ -94,7 +94,7 @@ impl Code {
 /// The word at an index of the code's bytes.
 fn word_of(code: &[u8], i: usize) -> u32
     requires { 4 * i + 4 ≤ length code.now }
-    ensures { result ≡ word_at code.now i }
+    ensures { result ≡ code_word_at code.now i }
 {
     let at = 4 * i;
     u32::from_le_bytes([code[at], code[at + 1], code[at + 2], code[at + 3]])
@@ -104,7 +104,7 @@ fn word_of(code: &[u8], i: usize) -> u32
 fn decode_at(code: &[u8], i: usize) -> Result<Insn, CodeFlaw>
     requires within { 4 * i + 4 ≤ length code.now }
     requires short { i < MAX_WORDS }
-    ensures spelled { IfOk result (λ insn. Spells (word_at code.now i) insn) }
+    ensures spelled { IfOk result (λ insn. Encodes (code_word_at code.now i) insn) }
     ensures flaw { IfErr result (λ e. IsFlawAt code.now i e) }
 {
     let word = word_of(code, i);
@@ -118,8 +118,8 @@ fn decode_at(code: &[u8], i: usize) -> Result<Insn, CodeFlaw>
 fn decode_all(alloc: Global, code: &[u8]) -> Result<Vec<Insn>, CodeFault>
     requires whole { length code.now % 4 ≡ 0 }
     requires short { length code.now ≤ 4 * MAX_WORDS }
-    ensures spelled { IfOk result (λ v. SpellsCode code.now v.items) }
-    ensures fault { IfErr result (λ e. Answers code.now (Err e)) }
+    ensures spelled { IfOk result (λ v. EncodesCode code.now v.items) }
+    ensures fault { IfErr result (λ e. IsCodeAnswer code.now (Err e)) }
 {
     let _no_operand: Option<Rhs> = None;
     let mut insns = Vec::new(alloc);
@@ -158,7 +158,7 @@ fn first_outside(insns: &[Insn]) -> Option<usize>
 
 /// Whether code may not go on after the instruction.
 fn ends(insn: Insn) -> bool
-    ensures { IsTrue result ↔ Ends insn }
+    ensures { IsTrue result ↔ IsFinal insn }
 {
     matches!(insn, Insn::Br { .. } | Insn::Ret)
 }
@@ -187,7 +187,7 @@ fn make(alloc: Global, code: &[u8]) -> Result<Code, CodeFault>
     requires whole { length code.now % 4 ≡ 0 }
     requires some { 0 < length code.now }
     requires short { length code.now ≤ 4 * MAX_WORDS }
-    ensures { Answers code.now result }
+    ensures { IsCodeAnswer code.now result }
 {
     let insns = decode_all(alloc, code)?;
     match shape_flaw(&insns) {
@@ -206,8 +206,8 @@ impl Code {
         requires whole { length code.now % 4 ≡ 0 }
         requires some { 0 < length code.now }
         requires short { length code.now ≤ 4 * MAX_WORDS }
-        ensures spelled { Answers code.now result }
-        ensures tested { IsRead code.now result }
+        ensures spelled { IsCodeAnswer code.now result }
+        ensures tested { IsDecoded code.now result }
     {
         make(alloc, code)
     }

@@ -4,7 +4,7 @@ ghost use Rattle.std.specs.Prelude.{◌≡◌, ℕ, ◌<◌, ◌≤◌, ◌*◌,
 ghost use Rattle.alpha_words.specs.declared.insn.Insn.{Insn};
 ghost use Rattle.alpha_cfg.specs.declared.code.TheConstants.{MAX_WORDS};
 ghost use Rattle.alpha_cfg.specs.Flow.{IsCode};
-ghost use Rattle.alpha_cfg.specs.CodeReading.{code_read, IsReadCode};
+ghost use Rattle.alpha_cfg.specs.CodeDecoding.{decoded_code, IsReadCode};
 ghost use Rattle.alpha_cfg.specs.Cuts.{AreFlags, IsCut, IsUncut};
 ghost use Rattle.alpha_cfg.specs.Deciding.{flags_of, uncut_of};
 ghost use Rattle.alpha_cfg.specs.Machine.{State, IsState, step_of, run_of};
@@ -29,7 +29,7 @@ pub fn laws()
 /// exactly the least index on a cycle without one.
 pub fn decision_laws()
     ensures read { (bytes : List ℕ) (code : List Insn) → 4 ≤ length bytes
-        → length bytes ≤ 4 * MAX_WORDS → code_read bytes ≡ Ok code → IsReadCode bytes code }
+        → length bytes ≤ 4 * MAX_WORDS → decoded_code bytes ≡ Ok code → IsReadCode bytes code }
     ensures flags { (annotated : List ℕ) (count : ℕ) → All (λ i. i < count) annotated
         → AreFlags annotated count (flags_of annotated count) }
     ensures only_flags { (annotated : List ℕ) (count : ℕ) (marks : List Bool)

@@ -12,28 +12,28 @@ use Rattle.alpha_words.specs.declared.insn.Insn.{Insn}
 use Rattle.alpha_words.specs.declared.insn.Insn.TheVariants.{Lda, Ldq, Stq, Oper, Branch, Br, Ret}
 use Rattle.alpha_words.specs.declared.fault.BadWord.{BadWord}
 use Rattle.alpha_words.specs.declared.fault.BadWord.TheVariants.{KeptRegister, LoadToZero}
-use Rattle.alpha_words.specs.Lawful.{fault_of, kept_fault, Reaches}
-use Rattle.alpha_words.specs.Spelling.{is_kept, bits_of, HasBits, opcode_of, function_of, cond_opcode_of, rhs_bits, IsRhs, operate, HasFields, Spells}
-use Rattle.alpha_words.specs.Reading.{number_of, reg_at, operator_at, cond_at, writing, rhs_at, has_reserved, operating, branching, is_return, reading}
-use Rattle.alpha_words.proofs.Fields.{HasBits-number_of, bits_of-number_of, number_of-bits_of, bits_of-below}
+use Rattle.alpha_words.specs.Lawful.{fault_of, kept_fault, HasFormat}
+use Rattle.alpha_words.specs.Encoding.{is_kept, bits_of, HasBits, opcode_of, function_of, cond_opcode_of, rhs_bits, IsRhs, operate_word, HasFields, Encodes}
+use Rattle.alpha_words.specs.Decoding.{signed_of, reg_at, operator_at, cond_at, unless_kept, rhs_at, has_reserved, decoded_operate, decoded_branch, is_return, decoded}
+use Rattle.alpha_words.proofs.Fields.{HasBits-signed_of, bits_of-signed_of, signed_of-bits_of, bits_of-below}
 
 -- what reads, spells
 abbrev Sound : ℕ → Result Insn BadWord → Type 0
-Sound w r = IfOk r (Spells w)
+Sound w r = IfOk r (Encodes w)
 
-short_has : (w : ℕ) → HasBits 15 (number_of 15 (w % 2 ^ 16))
-short_has w = HasBits-number_of 15 (w % 2 ^ 16) (omega arith)
+short_has : (w : ℕ) → HasBits 15 (signed_of 15 (w % 2 ^ 16))
+short_has w = HasBits-signed_of 15 (w % 2 ^ 16) (omega arith)
 
-short_bits : (w : ℕ) → bits_of 15 (number_of 15 (w % 2 ^ 16)) ≡ w % 2 ^ 16
-short_bits w = bits_of-number_of 15 (w % 2 ^ 16) (omega arith)
+short_bits : (w : ℕ) → bits_of 15 (signed_of 15 (w % 2 ^ 16)) ≡ w % 2 ^ 16
+short_bits w = bits_of-signed_of 15 (w % 2 ^ 16) (omega arith)
 
-long_has : (w : ℕ) → HasBits 20 (number_of 20 (w % 2 ^ 21))
-long_has w = HasBits-number_of 20 (w % 2 ^ 21) (omega arith)
+long_has : (w : ℕ) → HasBits 20 (signed_of 20 (w % 2 ^ 21))
+long_has w = HasBits-signed_of 20 (w % 2 ^ 21) (omega arith)
 
-long_bits : (w : ℕ) → bits_of 20 (number_of 20 (w % 2 ^ 21)) ≡ w % 2 ^ 21
-long_bits w = bits_of-number_of 20 (w % 2 ^ 21) (omega arith)
+long_bits : (w : ℕ) → bits_of 20 (signed_of 20 (w % 2 ^ 21)) ≡ w % 2 ^ 21
+long_bits w = bits_of-signed_of 20 (w % 2 ^ 21) (omega arith)
 
-writing_sound : (w r : ℕ) (i : Insn) → (is_kept r ≡ false → Spells w i) → Sound w (writing r i)
+writing_sound : (w r : ℕ) (i : Insn) → (is_kept r ≡ false → Encodes w i) → Sound w (unless_kept r i)
 writing_sound w r i h = cond_both (is_kept r) (Err KeptRegister) (Ok i) (Sound w) (λ _. tt) h
 
 written : (r : ℕ) → is_kept r ≡ false → not (is_kept r) ≡ true
@@ -75,13 +75,13 @@ cond_sound o =
     let P : Option Cond → Type 0 = IsCond o in
     pick P o 56 _ _ sym (pick P o 57 _ _ sym (pick P o 58 _ _ sym (pick P o 59 _ _ sym (pick P o 60 _ _ sym (pick P o 61 _ _ sym (pick P o 62 _ _ sym (pick P o 63 _ _ sym tt)))))))
 
-lda_sound : (w : ℕ) → w / 2 ^ 26 ≡ 8 → Sound w (writing (reg_at w 21) (Lda (reg_at w 21) (reg_at w 16) (number_of 15 (w % 2 ^ 16))))
+lda_sound : (w : ℕ) → w / 2 ^ 26 ≡ 8 → Sound w (unless_kept (reg_at w 21) (Lda (reg_at w 21) (reg_at w 16) (signed_of 15 (w % 2 ^ 16))))
 lda_sound w o = writing_sound w (reg_at w 21) _ (λ k. ((omega arith, written (reg_at w 21) k), omega arith, short_has w, omega (arith, short_bits w)))
 
-ldq_sound : (w : ℕ) → w / 2 ^ 26 ≡ 0x29 → reg_at w 21 ≢ 31 → Sound w (writing (reg_at w 21) (Ldq (reg_at w 21) (reg_at w 16) (number_of 15 (w % 2 ^ 16))))
+ldq_sound : (w : ℕ) → w / 2 ^ 26 ≡ 0x29 → reg_at w 21 ≢ 31 → Sound w (unless_kept (reg_at w 21) (Ldq (reg_at w 21) (reg_at w 16) (signed_of 15 (w % 2 ^ 16))))
 ldq_sound w o n = writing_sound w (reg_at w 21) _ (λ k. ((omega arith, written (reg_at w 21) k), omega arith, omega arith, short_has w, omega (arith, short_bits w)))
 
-stq_sound : (w : ℕ) → w / 2 ^ 26 ≡ 0x2D → Spells w (Stq (reg_at w 21) (reg_at w 16) (number_of 15 (w % 2 ^ 16)))
+stq_sound : (w : ℕ) → w / 2 ^ 26 ≡ 0x2D → Encodes w (Stq (reg_at w 21) (reg_at w 16) (signed_of 15 (w % 2 ^ 16)))
 stq_sound w o = (omega arith, omega arith, short_has w, omega (arith, short_bits w))
 
 unreserved : (w : ℕ) → eqb (w / 2 ^ 12 % 2) 1 ≡ false → has_reserved w ≡ false → w / 2 ^ 13 % 8 ≡ 0
@@ -94,23 +94,23 @@ rhs_sound w h =
     (λ e. let one : w / 2 ^ 12 % 2 ≡ 1 = eqb-true (w / 2 ^ 12 % 2) 1 e in (omega arith, omega arith))
     (λ e. let zero : w / 2 ^ 13 % 8 ≡ 0 = unreserved w e h in let none : w / 2 ^ 12 % 2 ≢ 1 = eqb-false (w / 2 ^ 12 % 2) 1 e in (omega arith, omega arith))
 
-operating_sound : (w : ℕ) (o : Option Op) → IsOperator (w / 2 ^ 26) (w / 2 ^ 5 % 128) o → Sound w (operating w o)
+operating_sound : (w : ℕ) (o : Option Op) → IsOperator (w / 2 ^ 26) (w / 2 ^ 5 % 128) o → Sound w (decoded_operate w o)
 operating_sound w None h = tt
 operating_sound w (Some op) h =
     cond_both (has_reserved w) _ _ (Sound w) (λ _. tt)
     (λ z. let r = rhs_sound w z in writing_sound w (reg_at w 0) _ (λ k. (omega arith, r.0, (omega arith, written (reg_at w 0) k), omega (arith, r.1, h.0, h.1))))
 
-oper_sound : (w : ℕ) → Sound w (operating w (operator_at (w / 2 ^ 26) (w / 2 ^ 5 % 128)))
+oper_sound : (w : ℕ) → Sound w (decoded_operate w (operator_at (w / 2 ^ 26) (w / 2 ^ 5 % 128)))
 oper_sound w = operating_sound w _ (operator_sound (w / 2 ^ 26) (w / 2 ^ 5 % 128))
 
-branching_sound : (w : ℕ) (o : Option Cond) → IsCond (w / 2 ^ 26) o → Sound w (branching w o)
+branching_sound : (w : ℕ) (o : Option Cond) → IsCond (w / 2 ^ 26) o → Sound w (decoded_branch w o)
 branching_sound w None h = tt
 branching_sound w (Some c) h = (omega arith, long_has w, omega (arith, long_bits w, h))
 
-branch_sound : (w : ℕ) → Sound w (branching w (cond_at (w / 2 ^ 26)))
+branch_sound : (w : ℕ) → Sound w (decoded_branch w (cond_at (w / 2 ^ 26)))
 branch_sound w = branching_sound w _ (cond_sound (w / 2 ^ 26))
 
-ret_sound : (w : ℕ) → w / 2 ^ 26 ≡ 0x1A → is_return w ≡ true → Spells w Ret
+ret_sound : (w : ℕ) → w / 2 ^ 26 ≡ 0x1A → is_return w ≡ true → Encodes w Ret
 ret_sound w o r =
     let p = and_parts (eqb (reg_at w 21) 31 && eqb (reg_at w 16) 26) (eqb (w / 2 ^ 14 % 4) 2) r in
     let q = and_parts (eqb (reg_at w 21) 31) (eqb (reg_at w 16) 26) p.0 in
@@ -119,10 +119,10 @@ ret_sound w o r =
     let j : w / 2 ^ 14 % 4 ≡ 2 = eqb-true _ _ p.1 in
     (w % 2 ^ 14, omega arith, omega arith)
 
-br_sound : (w : ℕ) → w / 2 ^ 26 ≡ 0x30 → reg_at w 21 ≡ 31 → Spells w (Br (number_of 20 (w % 2 ^ 21)))
+br_sound : (w : ℕ) → w / 2 ^ 26 ≡ 0x30 → reg_at w 21 ≡ 31 → Encodes w (Br (signed_of 20 (w % 2 ^ 21)))
 br_sound w o r = (long_has w, omega (arith, long_bits w))
 
-reading_sound : (w : ℕ) → Sound w (reading w)
+reading_sound : (w : ℕ) → Sound w (decoded w)
 reading_sound w =
     let P : Result Insn BadWord → Type 0 = Sound w in
     let o : ℕ = w / 2 ^ 26 in
@@ -151,7 +151,7 @@ function_below Cmple = lit< tt
 function_below Cmpult = lit< tt
 function_below Cmpule = lit< tt
 
-reading_oper : (w : ℕ) (op : Op) → w / 2 ^ 26 ≡ opcode_of op → reading w ≡ operating w (operator_at (opcode_of op) (w / 2 ^ 5 % 128))
+reading_oper : (w : ℕ) (op : Op) → w / 2 ^ 26 ≡ opcode_of op → decoded w ≡ decoded_operate w (operator_at (opcode_of op) (w / 2 ^ 5 % 128))
 reading_oper w Add e = rw e refl
 reading_oper w Sub e = rw e refl
 reading_oper w Band e = rw e refl
@@ -164,7 +164,7 @@ reading_oper w Cmple e = rw e refl
 reading_oper w Cmpult e = rw e refl
 reading_oper w Cmpule e = rw e refl
 
-reading_branch : (w : ℕ) (c : Cond) → w / 2 ^ 26 ≡ cond_opcode_of c → reading w ≡ Ok (Branch c (reg_at w 21) (number_of 20 (w % 2 ^ 21)))
+reading_branch : (w : ℕ) (c : Cond) → w / 2 ^ 26 ≡ cond_opcode_of c → decoded w ≡ Ok (Branch c (reg_at w 21) (signed_of 20 (w % 2 ^ 21)))
 reading_branch w LowClear e = rw e refl
 reading_branch w Zero e = rw e refl
 reading_branch w Negative e = rw e refl
@@ -199,29 +199,29 @@ abbrev judged : Insn → Option BadWord → Result Insn BadWord
 judged i None = Ok i
 judged i (Some bad) = Err bad
 
-writing-judged : (r : ℕ) (i : Insn) → writing r i ≡ judged i (kept_fault r)
-writing-judged r i = elim (is_kept r) as (λ b. cond b (Err KeptRegister) (Ok i) ≡ judged i (cond b (Some KeptRegister) None)) [ true ↦ refl | false ↦ refl ]
+unless_kept-judged : (r : ℕ) (i : Insn) → unless_kept r i ≡ judged i (kept_fault r)
+unless_kept-judged r i = elim (is_kept r) as (λ b. cond b (Err KeptRegister) (Ok i) ≡ judged i (cond b (Some KeptRegister) None)) [ true ↦ refl | false ↦ refl ]
 
-loading-judged : (r : ℕ) (i : Insn) → cond (eqb r 31) (Err LoadToZero) (writing r i) ≡ judged i (cond (eqb r 31) (Some LoadToZero) (kept_fault r))
-loading-judged r i = elim (eqb r 31) as (λ b. cond b (Err LoadToZero) (writing r i) ≡ judged i (cond b (Some LoadToZero) (kept_fault r))) [ true ↦ refl | false ↦ writing-judged r i ]
+loading-judged : (r : ℕ) (i : Insn) → cond (eqb r 31) (Err LoadToZero) (unless_kept r i) ≡ judged i (cond (eqb r 31) (Some LoadToZero) (kept_fault r))
+loading-judged r i = elim (eqb r 31) as (λ b. cond b (Err LoadToZero) (unless_kept r i) ≡ judged i (cond b (Some LoadToZero) (kept_fault r))) [ true ↦ refl | false ↦ unless_kept-judged r i ]
 
 -- a word with the fields of an instruction reads as it, or as why the profile refuses it
-reading_fields : (w : ℕ) (i : Insn) → HasFields w i → reading w ≡ judged i (fault_of i)
+reading_fields : (w : ℕ) (i : Insn) → HasFields w i → decoded w ≡ judged i (fault_of i)
 reading_fields w (Lda ra rb disp) h =
     let below : bits_of 15 disp < 2 ^ 16 = bits_of-below 15 disp h.2 in
     let o : w / 2 ^ 26 ≡ 8 = omega (arith, h.3) in
     let a : w / 2 ^ 21 % 32 ≡ ra = omega (arith, h.3) in
     let b : w / 2 ^ 16 % 32 ≡ rb = omega (arith, h.3) in
     let d : w % 2 ^ 16 ≡ bits_of 15 disp = omega (arith, h.3) in
-    let n : number_of 15 (bits_of 15 disp) ≡ disp = number_of-bits_of 15 disp h.2 in
-    rw (o, a, b, d, n) (writing-judged ra (Lda ra rb disp))
+    let n : signed_of 15 (bits_of 15 disp) ≡ disp = signed_of-bits_of 15 disp h.2 in
+    rw (o, a, b, d, n) (unless_kept-judged ra (Lda ra rb disp))
 reading_fields w (Ldq ra rb disp) h =
     let below : bits_of 15 disp < 2 ^ 16 = bits_of-below 15 disp h.2 in
     let o : w / 2 ^ 26 ≡ 0x29 = omega (arith, h.3) in
     let a : w / 2 ^ 21 % 32 ≡ ra = omega (arith, h.3) in
     let b : w / 2 ^ 16 % 32 ≡ rb = omega (arith, h.3) in
     let d : w % 2 ^ 16 ≡ bits_of 15 disp = omega (arith, h.3) in
-    let n : number_of 15 (bits_of 15 disp) ≡ disp = number_of-bits_of 15 disp h.2 in
+    let n : signed_of 15 (bits_of 15 disp) ≡ disp = signed_of-bits_of 15 disp h.2 in
     rw (o, a, b, d, n) (loading-judged ra (Ldq ra rb disp))
 reading_fields w (Stq ra rb disp) h =
     let below : bits_of 15 disp < 2 ^ 16 = bits_of-below 15 disp h.2 in
@@ -229,32 +229,32 @@ reading_fields w (Stq ra rb disp) h =
     let a : w / 2 ^ 21 % 32 ≡ ra = omega (arith, h.3) in
     let b : w / 2 ^ 16 % 32 ≡ rb = omega (arith, h.3) in
     let d : w % 2 ^ 16 ≡ bits_of 15 disp = omega (arith, h.3) in
-    let n : number_of 15 (bits_of 15 disp) ≡ disp = number_of-bits_of 15 disp h.2 in
+    let n : signed_of 15 (bits_of 15 disp) ≡ disp = signed_of-bits_of 15 disp h.2 in
     rw (o, a, b, d, n) refl
 reading_fields w (Oper op ra rhs rc) h =
     let fb = function_below op in
     let rb = rhs_below rhs h.1 in
     let m = rhs_whole rhs in
-    let e : w ≡ operate op ra rhs rc = h.3 in
+    let e : w ≡ operate_word op ra rhs rc = h.3 in
     let o : w / 2 ^ 26 ≡ opcode_of op = omega (arith, fb, rb) in
     let f : w / 2 ^ 5 % 128 ≡ function_of op = omega (arith, fb, rb, m.1) in
     let a : w / 2 ^ 21 % 32 ≡ ra = omega (arith, fb, rb) in
     let c : w / 2 ^ 0 % 32 ≡ rc = omega (arith, m.1) in
     let r = rhs_complete w (opcode_of op) ra (function_of op) rc rhs e h.0 fb h.2 h.1 in
-    reading_oper w op o ∙ rw (f, operator_complete op, r.0, r.1, a, c) (writing-judged rc (Oper op ra rhs rc))
+    reading_oper w op o ∙ rw (f, operator_complete op, r.0, r.1, a, c) (unless_kept-judged rc (Oper op ra rhs rc))
 reading_fields w (Branch c ra disp) h =
     let below : bits_of 20 disp < 2 ^ 21 = bits_of-below 20 disp h.1 in
     let o : w / 2 ^ 26 ≡ cond_opcode_of c = omega (arith, h.2) in
     let a : w / 2 ^ 21 % 32 ≡ ra = omega (arith, h.2) in
     let d : w % 2 ^ 21 ≡ bits_of 20 disp = omega (arith, h.2) in
-    let n : number_of 20 (bits_of 20 disp) ≡ disp = number_of-bits_of 20 disp h.1 in
+    let n : signed_of 20 (bits_of 20 disp) ≡ disp = signed_of-bits_of 20 disp h.1 in
     reading_branch w c o ∙ rw (a, d, n) refl
 reading_fields w (Br disp) h =
     let below : bits_of 20 disp < 2 ^ 21 = bits_of-below 20 disp h.0 in
     let o : w / 2 ^ 26 ≡ 0x30 = omega (arith, h.1) in
     let a : w / 2 ^ 21 % 32 ≡ 31 = omega (arith, h.1) in
     let d : w % 2 ^ 21 ≡ bits_of 20 disp = omega (arith, h.1) in
-    let n : number_of 20 (bits_of 20 disp) ≡ disp = number_of-bits_of 20 disp h.0 in
+    let n : signed_of 20 (bits_of 20 disp) ≡ disp = signed_of-bits_of 20 disp h.0 in
     rw (o, a, d, n) refl
 reading_fields w Ret h =
     let o : w / 2 ^ 26 ≡ 0x1A = omega (arith, h.2) in
@@ -267,41 +267,41 @@ kept_fault-none : (r : ℕ) → not (is_kept r) ≡ true → kept_fault r ≡ No
 kept_fault-none r h = rw (unkept r h) refl
 
 -- what a word spells, the profile has
-pub Lawful-Spells : (w : ℕ) (i : Insn) → Spells w i → (fault_of i ≡ None) × Reaches i
-Lawful-Spells w (Lda ra rb disp) h = (kept_fault-none ra h.0.1, tt)
-Lawful-Spells w (Ldq ra rb disp) h = (rw (ne_eqb ra 31 (omega (arith, h.1))) (kept_fault-none ra h.0.1), tt)
-Lawful-Spells w (Stq ra rb disp) h = (refl, tt)
-Lawful-Spells w (Oper op ra rhs rc) h = (kept_fault-none rc h.2.1, tt)
-Lawful-Spells w (Branch cond ra disp) h = (refl, h.1)
-Lawful-Spells w (Br disp) h = (refl, h.0)
-Lawful-Spells w Ret h = (refl, tt)
+pub Lawful-Encodes : (w : ℕ) (i : Insn) → Encodes w i → (fault_of i ≡ None) × HasFormat i
+Lawful-Encodes w (Lda ra rb disp) h = (kept_fault-none ra h.0.1, tt)
+Lawful-Encodes w (Ldq ra rb disp) h = (rw (ne_eqb ra 31 (omega (arith, h.1))) (kept_fault-none ra h.0.1), tt)
+Lawful-Encodes w (Stq ra rb disp) h = (refl, tt)
+Lawful-Encodes w (Oper op ra rhs rc) h = (kept_fault-none rc h.2.1, tt)
+Lawful-Encodes w (Branch cond ra disp) h = (refl, h.1)
+Lawful-Encodes w (Br disp) h = (refl, h.0)
+Lawful-Encodes w Ret h = (refl, tt)
 
 -- what a word spells has its fields
-HasFields-Spells : (w : ℕ) (i : Insn) → Spells w i → HasFields w i
-HasFields-Spells w (Lda ra rb disp) h = (h.0.0, h.1, h.2, h.3)
-HasFields-Spells w (Ldq ra rb disp) h = (h.0.0, h.2, h.3, h.4)
-HasFields-Spells w (Stq ra rb disp) h = h
-HasFields-Spells w (Oper op ra rhs rc) h = (h.0, h.1, h.2.0, h.3)
-HasFields-Spells w (Branch cond ra disp) h = h
-HasFields-Spells w (Br disp) h = h
-HasFields-Spells w Ret h = h
+HasFields-Encodes : (w : ℕ) (i : Insn) → Encodes w i → HasFields w i
+HasFields-Encodes w (Lda ra rb disp) h = (h.0.0, h.1, h.2, h.3)
+HasFields-Encodes w (Ldq ra rb disp) h = (h.0.0, h.2, h.3, h.4)
+HasFields-Encodes w (Stq ra rb disp) h = h
+HasFields-Encodes w (Oper op ra rhs rc) h = (h.0, h.1, h.2.0, h.3)
+HasFields-Encodes w (Branch cond ra disp) h = h
+HasFields-Encodes w (Br disp) h = h
+HasFields-Encodes w Ret h = h
 
-reading_complete : (w : ℕ) (i : Insn) → Spells w i → reading w ≡ Ok i
-reading_complete w i h = let lawful : fault_of i ≡ None = (Lawful-Spells w i h).0 in reading_fields w i (HasFields-Spells w i h) ∙ rw lawful refl
+reading_complete : (w : ℕ) (i : Insn) → Encodes w i → decoded w ≡ Ok i
+reading_complete w i h = let lawful : fault_of i ≡ None = (Lawful-Encodes w i h).0 in reading_fields w i (HasFields-Encodes w i h) ∙ rw lawful refl
 
-pub reading-Spells : (w : ℕ) (i : Insn) → (reading w ≡ Ok i) ↔ Spells w i
-reading-Spells w i = (λ e. let s = reading_sound w in rw e at s, reading_complete w i)
+pub decoded-Encodes : (w : ℕ) (i : Insn) → (decoded w ≡ Ok i) ↔ Encodes w i
+decoded-Encodes w i = (λ e. let s = reading_sound w in rw e at s, reading_complete w i)
 
-pub Lawful-reading : (w : ℕ) (r : Result Insn BadWord) → r ≡ reading w → IfOk r (λ i. (fault_of i ≡ None) × Reaches i)
-Lawful-reading w (Ok i) e = Lawful-Spells w i ((reading-Spells w i).0 (sym e))
-Lawful-reading w (Err bad) e = tt
+pub Lawful-decoded : (w : ℕ) (r : Result Insn BadWord) → r ≡ decoded w → IfOk r (λ i. (fault_of i ≡ None) × HasFormat i)
+Lawful-decoded w (Ok i) e = Lawful-Encodes w i ((decoded-Encodes w i).0 (sym e))
+Lawful-decoded w (Err bad) e = tt
 
 -- ---- the profile
 
 -- the fault of a word with the fields of a refused instruction is the instruction's
-pub reading-refused : (w : ℕ) (i : Insn) (bad : BadWord) → HasFields w i → fault_of i ≡ Some bad → reading w ≡ Err bad
-reading-refused w i bad h refused = reading_fields w i h ∙ rw refused refl
+pub decoded-refused : (w : ℕ) (i : Insn) (bad : BadWord) → HasFields w i → fault_of i ≡ Some bad → decoded w ≡ Err bad
+decoded-refused w i bad h refused = reading_fields w i h ∙ rw refused refl
 
 -- a word spells the instruction whose fields it has, where the profile has that
-pub Spells-exactly : (w : ℕ) (i : Insn) → Spells w i ↔ (HasFields w i × (fault_of i ≡ None))
-Spells-exactly w i = (λ h. (HasFields-Spells w i h, (Lawful-Spells w i h).0), λ p. (reading-Spells w i).0 (reading_fields w i p.0 ∙ rw p.1 refl))
+pub Encodes-exactly : (w : ℕ) (i : Insn) → Encodes w i ↔ (HasFields w i × (fault_of i ≡ None))
+Encodes-exactly w i = (λ h. (HasFields-Encodes w i h, (Lawful-Encodes w i h).0), λ p. (decoded-Encodes w i).0 (reading_fields w i p.0 ∙ rw p.1 refl))

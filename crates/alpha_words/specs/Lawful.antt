@@ -4,7 +4,7 @@ use Rattle.alpha_words.specs.declared.insn.Insn.{Insn}
 use Rattle.alpha_words.specs.declared.insn.Insn.TheVariants.{Lda, Ldq, Stq, Oper, Branch, Br, Ret}
 use Rattle.alpha_words.specs.declared.fault.BadWord.{BadWord}
 use Rattle.alpha_words.specs.declared.fault.BadWord.TheVariants.{KeptRegister, LoadToZero}
-use Rattle.alpha_words.specs.Spelling.{is_kept, HasBits}
+use Rattle.alpha_words.specs.Encoding.{is_kept, HasBits}
 
 -- why the profile refuses to write the register, if it does
 abbrev pub kept_fault : ℕ → Option BadWord
@@ -21,14 +21,14 @@ fault_of (Br disp) = None
 fault_of Ret = None
 
 -- a branch's displacement has 21 bits
-abbrev pub Reaches : Insn → Type 0
-Reaches (Lda ra rb disp) = Unit {0}
-Reaches (Ldq ra rb disp) = Unit {0}
-Reaches (Stq ra rb disp) = Unit {0}
-Reaches (Oper op ra rhs rc) = Unit {0}
-Reaches (Branch cond ra disp) = HasBits 20 disp
-Reaches (Br disp) = HasBits 20 disp
-Reaches Ret = Unit {0}
+abbrev pub HasFormat : Insn → Type 0
+HasFormat (Lda ra rb disp) = Unit {0}
+HasFormat (Ldq ra rb disp) = Unit {0}
+HasFormat (Stq ra rb disp) = Unit {0}
+HasFormat (Oper op ra rhs rc) = Unit {0}
+HasFormat (Branch cond ra disp) = HasBits 20 disp
+HasFormat (Br disp) = HasBits 20 disp
+HasFormat Ret = Unit {0}
 
 -- where a branch at the index leads
 abbrev pub target_of : ℕ → Insn → Option ℤ

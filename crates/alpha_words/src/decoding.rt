@@ -1,10 +1,10 @@
 //! Words of 32 bits read as instructions.
 
 ghost use Rattle.std.specs.Prelude.{◌≡◌, ◌+◌, ◌/◌, ◌%◌, ◌^◌, ◌≤◌, ◌<◌, ◌↔◌, IfOk, None};
-ghost use Rattle.alpha_words.specs.Lawful.{fault_of, Reaches};
+ghost use Rattle.alpha_words.specs.Lawful.{fault_of, HasFormat};
 ghost use Rattle.alpha_words.specs.declared.insn.Insn.{Insn};
-ghost use Rattle.alpha_words.specs.Reading as reading;
-ghost use Rattle.alpha_words.specs.Spelling as spelling;
+ghost use Rattle.alpha_words.specs.Decoding as reading;
+ghost use Rattle.alpha_words.specs.Encoding as spelling;
 
 use crate::fault::BadWord;
 use crate::insn::{Cond, Insn, Rhs};
@@ -21,14 +21,14 @@ fn reg_at(word: u32, low: u32) -> Reg
 
 /// The displacement of the memory format.
 fn short_displacement(word: u32) -> i16
-    ensures { result ≡ reading.number_of 15 (word % 2 ^ 16) }
+    ensures { result ≡ reading.signed_of 15 (word % 2 ^ 16) }
 {
     ((word & 0xffff) as u16).cast_signed()
 }
 
 /// The displacement of the branch format.
 fn long_displacement(word: u32) -> i32
-    ensures { result ≡ reading.number_of 20 (word % 2 ^ 21) }
+    ensures { result ≡ reading.signed_of 20 (word % 2 ^ 21) }
 {
     let field = word & 0x1f_ffff;
     if field < 0x10_0000 {
@@ -86,7 +86,7 @@ fn cond_at(opcode: u32) -> Option<Cond>
 
 /// The instruction, unless the register that it writes is kept.
 fn writing(written: Reg, insn: Insn) -> Result<Insn, BadWord>
-    ensures { result ≡ reading.writing written insn }
+    ensures { result ≡ reading.unless_kept written insn }
 {
     if written.is_kept() {
         Err(BadWord::KeptRegister)
@@ -115,7 +115,7 @@ fn has_reserved(word: u32) -> bool
 
 /// A word of the operate format.
 fn operate(word: u32) -> Result<Insn, BadWord>
-    ensures { result ≡ reading.operating word
+    ensures { result ≡ reading.decoded_operate word
         (reading.operator_at (word / 2 ^ 26) (word / 2 ^ 5 % 128)) }
 {
     let Some(op) = operator_at(word >> 26, (word >> 5) & 0x7f) else {
@@ -145,7 +145,7 @@ fn is_return(word: u32) -> bool
 
 /// What the word reads as, or the first test that it fails.
 fn read(word: u32) -> Result<Insn, BadWord>
-    ensures { result ≡ reading.reading word }
+    ensures { result ≡ reading.decoded word }
 {
     let ra = reg_at(word, 21);
     let rb = reg_at(word, 16);
@@ -194,9 +194,9 @@ fn read(word: u32) -> Result<Insn, BadWord>
 /// reserved bits, a kept register; for `lda` a kept register; for `ldq` a load into register 31,
 /// then a kept register; for the jump opcode a form other than the return's; for `br` a register.
 pub fn decode(word: u32) -> Result<Insn, BadWord>
-    ensures spelled { (i : Insn) → (result ≡ Ok i) ↔ spelling.Spells word i }
-    ensures tested { result ≡ reading.reading word }
-    ensures lawful { IfOk result (λ i. (fault_of i ≡ None) × Reaches i) }
+    ensures spelled { (i : Insn) → (result ≡ Ok i) ↔ spelling.Encodes word i }
+    ensures tested { result ≡ reading.decoded word }
+    ensures lawful { IfOk result (λ i. (fault_of i ≡ None) × HasFormat i) }
 {
     read(word)
 }

@@ -1,9 +1,9 @@
 //! Instructions put into words.
 
 ghost use Rattle.std.specs.Prelude.{◌≡◌, ◌+◌, ◌*◌, ◌^◌, ◌≤◌, ◌<◌, MatchResult, Some, None, Ok};
-ghost use Rattle.alpha_words.specs.Spelling as spelling;
-ghost use Rattle.alpha_words.specs.Reading.{reading};
-ghost use Rattle.alpha_words.specs.Lawful.{fault_of, kept_fault, Reaches, target_of};
+ghost use Rattle.alpha_words.specs.Encoding as spelling;
+ghost use Rattle.alpha_words.specs.Decoding.{decoded};
+ghost use Rattle.alpha_words.specs.Lawful.{fault_of, kept_fault, HasFormat, target_of};
 
 use crate::fault::BadWord;
 use crate::insn::{Cond, Insn, Rhs};
@@ -99,7 +99,7 @@ fn cond_opcode_of(cond: Cond) -> u32
 
 fn memory(opcode: u32, ra: Reg, rb: Reg, disp: i16) -> u32
     requires { opcode < 64 }
-    ensures { result ≡ spelling.memory opcode ra rb disp }
+    ensures { result ≡ spelling.memory_word opcode ra rb disp }
 {
     (opcode << 26) + (ra.number() << 21) + (rb.number() << 16) + u32::from(disp.cast_unsigned())
 }
@@ -108,7 +108,7 @@ fn branch(opcode: u32, ra: u32, disp: i32) -> u32
     requires opcode { opcode < 64 }
     requires ra { ra < 32 }
     requires disp { spelling.HasBits 20 disp }
-    ensures { result ≡ spelling.branch opcode ra disp }
+    ensures { result ≡ spelling.branch_word opcode ra disp }
 {
     (opcode << 26) + (ra << 21) + (disp.cast_unsigned() & 0x1f_ffff)
 }
@@ -125,7 +125,7 @@ fn rhs_bits(rhs: Rhs) -> u32
 }
 
 fn operate(op: Op, ra: Reg, rhs: Rhs, rc: Reg) -> u32
-    ensures { result ≡ spelling.operate op ra rhs rc }
+    ensures { result ≡ spelling.operate_word op ra rhs rc }
 {
     (opcode_of(op) << 26)
         + (ra.number() << 21)
@@ -137,8 +137,8 @@ fn operate(op: Op, ra: Reg, rhs: Rhs, rc: Reg) -> u32
 /// The word of a lawful instruction.
 fn write(insn: Insn) -> u32
     requires lawful { fault_of insn ≡ None }
-    requires reaches { Reaches insn }
-    ensures spelled { spelling.Spells result insn }
+    requires reaches { HasFormat insn }
+    ensures spelled { spelling.Encodes result insn }
     ensures hint { insn ≡ Insn.Ret → result ≡ 0x6BFA8001 }
 {
     match insn {
@@ -156,9 +156,9 @@ fn write(insn: Insn) -> u32
 /// branches. A return is written with hint 1.
 pub fn encode(insn: Insn) -> u32
     requires lawful { fault_of insn ≡ None }
-    requires reaches { Reaches insn }
-    ensures spelled { spelling.Spells result insn }
-    ensures read_back { reading result ≡ Ok insn }
+    requires reaches { HasFormat insn }
+    ensures spelled { spelling.Encodes result insn }
+    ensures read_back { decoded result ≡ Ok insn }
     ensures hint { insn ≡ Insn.Ret → result ≡ 0x6BFA8001 }
 {
     write(insn)

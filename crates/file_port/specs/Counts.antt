@@ -2,13 +2,13 @@
 use Rattle.std.specs.Prelude.{◌≡◌, ℕ, ◌+◌, ◌-◌, ◌^◌, ◌<◌, ◌≤◌, min}
 
 -- the count after one more
-abbrev pub counted : ℕ → ℕ
-counted n = min (n + 1) (2 ^ 64 - 1)
+abbrev pub count_after : ℕ → ℕ
+count_after n = min (n + 1) (2 ^ 64 - 1)
 
 -- The count went up by one or more. At the greatest u64 it stays, and there this always holds.
 pub record Rose (before now : ℕ) : Type 0 where
   pub later : before ≤ now
-  pub more : counted before ≤ now
+  pub more : count_after before ≤ now
   pub fits : now < 2 ^ 64
 
 -- The count stands, and below its top: so nothing was counted.

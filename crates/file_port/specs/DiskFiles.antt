@@ -5,4 +5,4 @@ use Rattle.file_port.specs.declared.disk_files.DiskFiles.{DiskFiles}
 
 -- nothing is told of their content
 abbrev pub state_of_disk_files : {R : Type 0} → DiskFiles R → FilesState
-state_of_disk_files files = record { told = None; read_faults = files.read_faults; write_faults = files.write_faults }
+state_of_disk_files files = record { contents = None; read_faults = files.read_faults; write_faults = files.write_faults }

@@ -16,17 +16,17 @@ FileMap = map.FinMap (slice_cmp nat_cmp) (List ℕ)
 -- what a caller may know of files
 pub record FilesState : Type 0 where
   -- the files, where they are known
-  pub told : Option FileMap
+  pub contents : Option FileMap
   pub read_faults : ℕ
   pub write_faults : ℕ
 
 -- what is told of a file has P
 abbrev pub TellsOf : FilesState → List ℕ → (Option (List ℕ) → Type 0) → Type 0
-TellsOf state name P = IfSome state.told (λ files. P (map.get files name))
+TellsOf state name P = IfSome state.contents (λ files. P (map.get files name))
 
 -- A failed read leaves the files and the other count.
 pub record ReadFails (old new : FilesState) : Type 0 where
-  pub told : new.told ≡ old.told
+  pub contents : new.contents ≡ old.contents
   pub write_faults : new.write_faults ≡ old.write_faults
   pub rose : Rose old.read_faults new.read_faults
 
@@ -56,11 +56,11 @@ Reads name max old new answer = ReadAnswers name max old new answer
 
 -- the state with one file's bytes set
 abbrev pub with_file : List ℕ → List ℕ → FilesState → FilesState
-with_file name bytes state = record state { told = option_map (λ files. map.insert files name bytes) state.told }
+with_file name bytes state = record state { contents = option_map (λ files. map.insert files name bytes) state.contents }
 
 -- A failed write leaves the file, or sets it to a prefix of the bytes. Other files and the other count stay.
 pub record WriteFails (name bytes : List ℕ) (old new : FilesState) : Type 0 where
-  pub told : (new.told ≡ old.told) ⊎ ((kept : ℕ) × (new.told ≡ (with_file name (take kept bytes) old).told))
+  pub contents : (new.contents ≡ old.contents) ⊎ ((kept : ℕ) × (new.contents ≡ (with_file name (take kept bytes) old).contents))
   pub read_faults : new.read_faults ≡ old.read_faults
   pub rose : Rose old.write_faults new.write_faults
 

@@ -1,7 +1,6 @@
 pub mod Counts
 pub mod Files
 pub mod Sink
-pub mod Calls
 pub mod MemFiles
 pub mod MemSink
 pub mod DiskFiles

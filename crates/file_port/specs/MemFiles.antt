@@ -6,8 +6,8 @@ use Rattle.std.specs.declared.alloc.Global.{Global}
 use Rattle.std.specs.FinMap as finmap
 use Rattle.std.specs.Coded.{Coded, code_by, coded×, coded_ℕ, coded_list}
 use Rattle.file_port.specs.declared.spare.TheConstants.{MAX_NAME, MAX_BYTES}
-use Rattle.file_port.specs.Counts.{counted}
-use Rattle.file_port.specs.Calls.{is_listed, first_half}
+use Rattle.file_port.specs.Counts.{count_after}
+use Rattle.file_port.specs.Inside.Calls.{is_failing, first_half}
 use Rattle.file_port.specs.Files.{FileMap, FilesState}
 use Rattle.file_port.specs.declared.port.Put.{Put}
 use Rattle.file_port.specs.declared.port.Put.TheVariants as put
@@ -35,7 +35,7 @@ mem_files_code =
 
 -- what is told of files in memory
 abbrev pub state_of_mem_files : MemFilesView → FilesState
-state_of_mem_files v = record { told = Some v.files; read_faults = v.read_faults; write_faults = v.write_faults }
+state_of_mem_files v = record { contents = Some v.files; read_faults = v.read_faults; write_faults = v.write_faults }
 
 -- the map that a list of files makes, by the first of a name
 abbrev pub file_map : List (String Global × Vec ℕ Global) → FileMap
@@ -46,42 +46,42 @@ abbrev pub log_map : List (String Global × Vec ℕ Global) → FileMap
 log_map files = file_map (reverse files)
 
 -- whether the next call is one that is to fail
-abbrev pub fails_next : MemFilesView → Bool
-fails_next v = is_listed v.failing v.calls
+abbrev pub files_fail_next : MemFilesView → Bool
+files_fail_next v = is_failing v.failing v.calls
 
 -- after one more call
-abbrev pub called : MemFilesView → MemFilesView
-called v = record v { calls = counted v.calls }
+abbrev pub files_after_call : MemFilesView → MemFilesView
+files_after_call v = record v { calls = count_after v.calls }
 
 -- ---- a read
 
 -- what a read comes to
-pub data Reading : Type 0 where
-  failed : Reading
-  missing : Reading
-  too_long : Reading
-  found : List ℕ → Reading
+pub data ReadResult : Type 0 where
+  failed : ReadResult
+  missing : ReadResult
+  too_long : ReadResult
+  found : List ℕ → ReadResult
 
 -- what a read of at most max bytes comes to that does not fail, where this is what the file has
-abbrev pub reading_of : ℕ → Option (List ℕ) → Reading
-reading_of max None = missing
-reading_of max (Some bytes) = if nat_lt max (length bytes) then too_long else found bytes
+abbrev pub read_result : ℕ → Option (List ℕ) → ReadResult
+read_result max None = missing
+read_result max (Some bytes) = if nat_lt max (length bytes) then too_long else found bytes
 
 -- what the next call comes to, if it is a read of a name and of at most max bytes
-abbrev pub next_reading : MemFilesView → List ℕ → ℕ → Reading
-next_reading v name max = if fails_next v then failed else reading_of max (finmap.get v.files name)
+abbrev pub next_read_result : MemFilesView → List ℕ → ℕ → ReadResult
+next_read_result v name max = if files_fail_next v then failed else read_result max (finmap.get v.files name)
 
 -- The answer is what the read came to, or there was no memory for the bytes that were found.
-abbrev pub Answers : Reading → Got → Type 0
-Answers reading (got.Bytes bytes) = reading ≡ found bytes.items
-Answers reading got.Missing = reading ≡ missing
-Answers reading got.TooLong = reading ≡ too_long
-Answers reading got.Failed = reading ≡ failed
-Answers reading got.Memory = (bytes : List ℕ) × (reading ≡ found bytes)
+abbrev pub IsReadAnswer : ReadResult → Got → Type 0
+IsReadAnswer reading (got.Bytes bytes) = reading ≡ found bytes.items
+IsReadAnswer reading got.Missing = reading ≡ missing
+IsReadAnswer reading got.TooLong = reading ≡ too_long
+IsReadAnswer reading got.Failed = reading ≡ failed
+IsReadAnswer reading got.Memory = (bytes : List ℕ) × (reading ≡ found bytes)
 
 -- what a read leaves
 abbrev pub after_read : MemFilesView → MemFilesView
-after_read v = if fails_next v then record (called v) { read_faults = counted v.read_faults } else called v
+after_read v = if files_fail_next v then record (files_after_call v) { read_faults = count_after v.read_faults } else files_after_call v
 
 -- ---- a write
 
@@ -90,18 +90,18 @@ abbrev pub has_room : MemFilesView → List ℕ → List ℕ → Bool
 has_room v name bytes = nat_le (length name) MAX_NAME && nat_le (length bytes) MAX_BYTES && nat_lt 0 v.room
 
 -- with these bytes as the file, in room for one write
-abbrev pub stored : List ℕ → List ℕ → MemFilesView → MemFilesView
-stored name bytes v = record v { files = finmap.insert v.files name bytes; room = v.room - 1 }
+abbrev pub with_stored : List ℕ → List ℕ → MemFilesView → MemFilesView
+with_stored name bytes v = record v { files = finmap.insert v.files name bytes; room = v.room - 1 }
 
 -- with one more failed write
-abbrev pub write_failed : MemFilesView → MemFilesView
-write_failed v = record v { write_faults = counted v.write_faults }
+abbrev pub after_failed_write : MemFilesView → MemFilesView
+after_failed_write v = record v { write_faults = count_after v.write_faults }
 
 -- What a write leaves, and what it answers. One past the room leaves the files, and one that is to fail the first half.
 abbrev pub after_write : MemFilesView → List ℕ → List ℕ → MemFilesView × Put
 after_write v name bytes =
     if has_room v name bytes
-    then (if fails_next v
-    then (write_failed (stored name (first_half bytes) (called v)), put.Failed)
-    else (stored name bytes (called v), put.Done))
-    else (write_failed (called v), put.Failed)
+    then (if files_fail_next v
+    then (after_failed_write (with_stored name (first_half bytes) (files_after_call v)), put.Failed)
+    else (with_stored name bytes (files_after_call v), put.Done))
+    else (after_failed_write (files_after_call v), put.Failed)

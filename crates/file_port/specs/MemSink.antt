@@ -1,8 +1,8 @@
 -- Output in memory: what its contracts see, and what a put makes of it.
 use Rattle.std.specs.Prelude.{ℕ, ◌+◌, Bool, ◌==◌, nat_le, if◌then◌else◌, List, ◌++◌, length, Some, refl}
 use Rattle.std.specs.Coded.{Coded, code_by, coded×, coded_ℕ, coded_list}
-use Rattle.file_port.specs.Counts.{counted}
-use Rattle.file_port.specs.Calls.{is_listed, first_half}
+use Rattle.file_port.specs.Counts.{count_after}
+use Rattle.file_port.specs.Inside.Calls.{is_failing, first_half}
 use Rattle.file_port.specs.Sink.{SinkState}
 use Rattle.file_port.specs.declared.port.Put.{Put}
 use Rattle.file_port.specs.declared.port.Put.TheVariants as put
@@ -27,31 +27,31 @@ mem_sink_code =
 
 -- what is told of output in memory
 abbrev pub state_of_mem_sink : MemSinkView → SinkState
-state_of_mem_sink v = record { told = Some v.bytes; faults = v.faults }
+state_of_mem_sink v = record { contents = Some v.bytes; faults = v.faults }
 
 -- whether the next put is one that is to fail
-abbrev pub fails_next : MemSinkView → Bool
-fails_next v = is_listed v.failing v.calls
+abbrev pub sink_fails_next : MemSinkView → Bool
+sink_fails_next v = is_failing v.failing v.calls
 
 -- after one more call
-abbrev pub called : MemSinkView → MemSinkView
-called v = record v { calls = counted v.calls }
+abbrev pub sink_after_call : MemSinkView → MemSinkView
+sink_after_call v = record v { calls = count_after v.calls }
 
 -- with a piece at the end
-abbrev pub extended : List ℕ → MemSinkView → MemSinkView
-extended piece v = record v { bytes = v.bytes ++ piece }
+abbrev pub with_bytes : List ℕ → MemSinkView → MemSinkView
+with_bytes piece v = record v { bytes = v.bytes ++ piece }
 
 -- with one more failed put
-abbrev pub put_failed : MemSinkView → MemSinkView
-put_failed v = record v { faults = counted v.faults }
+abbrev pub after_failed_put : MemSinkView → MemSinkView
+after_failed_put v = record v { faults = count_after v.faults }
 
 -- What a put leaves, and what it answers. One past the room leaves the bytes, one that is to fail adds the first half, and
 -- an empty piece is always taken.
 abbrev pub after_put : MemSinkView → List ℕ → MemSinkView × Put
 after_put v piece =
-    if length piece == 0 then (called v, put.Done)
+    if length piece == 0 then (sink_after_call v, put.Done)
     else (if nat_le (length v.bytes + length piece) v.room
-    then (if fails_next v
-    then (put_failed (extended (first_half piece) (called v)), put.Failed)
-    else (extended piece (called v), put.Done))
-    else (put_failed (called v), put.Failed))
+    then (if sink_fails_next v
+    then (after_failed_put (with_bytes (first_half piece) (sink_after_call v)), put.Failed)
+    else (with_bytes piece (sink_after_call v), put.Done))
+    else (after_failed_put (sink_after_call v), put.Failed))

@@ -7,21 +7,21 @@ use Rattle.file_port.specs.declared.port.Put.TheVariants as put
 -- what a caller may know of output
 pub record SinkState : Type 0 where
   -- the bytes so far, where they are known
-  pub told : Option (List ℕ)
+  pub contents : Option (List ℕ)
   pub faults : ℕ
 
 -- the known bytes, and then a piece
-abbrev pub grown : List ℕ → Option (List ℕ) → Option (List ℕ)
-grown piece told = option_map (λ bytes. bytes ++ piece) told
+abbrev pub extended_contents : List ℕ → Option (List ℕ) → Option (List ℕ)
+extended_contents piece contents = option_map (λ bytes. bytes ++ piece) contents
 
 -- the state with the whole piece added
 abbrev pub with_piece : List ℕ → SinkState → SinkState
-with_piece piece state = record state { told = grown piece state.told }
+with_piece piece state = record state { contents = extended_contents piece state.contents }
 
 -- A failed put adds a prefix of a piece that is not empty.
 pub record PutFails (piece : List ℕ) (old new : SinkState) : Type 0 where
   pub kept : ℕ
-  pub told : new.told ≡ grown (take kept piece) old.told
+  pub contents : new.contents ≡ extended_contents (take kept piece) old.contents
   pub rose : Rose old.faults new.faults
   pub some : 0 < length piece
 

@@ -28,7 +28,7 @@ impl<R: rt::Files> DiskFiles<R> {
     /// The files of this runtime, and no fault so far.
     pub fn new(rt: R) -> DiskFiles<R>
         ensures { state_of_disk_files result ≡ record {
-          told = None;
+          contents = None;
           read_faults = 0;
           write_faults = 0;
         } }

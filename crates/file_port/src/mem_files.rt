@@ -5,7 +5,7 @@ ghost use Rattle.std.specs.Str.{bytes_eq};
 ghost use Rattle.std.specs.FinMap as finmap;
 ghost use Rattle.file_port.specs.Files.{Reads, Writes};
 ghost use Rattle.file_port.specs.declared.spare.TheConstants.{MAX_NAME, MAX_BYTES};
-ghost use Rattle.file_port.specs.MemFiles.{state_of_mem_files, log_map, fails_next, next_reading, reading_of, Answers, after_read, after_write};
+ghost use Rattle.file_port.specs.MemFiles.{state_of_mem_files, log_map, files_fail_next, next_read_result, read_result, IsReadAnswer, after_read, after_write};
 
 use crate::calls::is_failing;
 use crate::port::{Files, Got, Put};
@@ -72,7 +72,7 @@ fn find_file<'a>(files: &'a [(String, Vec<u8>)], name: &str) -> Option<&'a [u8]>
 
 /// What a read answers that does not fail.
 fn copy_file(alloc: Global, file: Option<&[u8]>, max: u32) -> Got
-    ensures { Answers (reading_of max (option_map (λ b. b.now) file.entry)) result }
+    ensures { IsReadAnswer (read_result max (option_map (λ b. b.now) file.entry)) result }
 {
     let Some(bytes) = file else {
         return Got::Missing;
@@ -140,8 +140,8 @@ impl Files for MemFiles {
     fn read(&mut self, alloc: Global, name: &str, max: u32) -> Got
         ensures meaning { Reads name.now max
             (state_of_mem_files self.old) (state_of_mem_files self.new) result }
-        ensures listed { (result ≡ Got.Failed) ↔ (fails_next self.old ≡ true) }
-        ensures answer { Answers (next_reading self.old name.now max) result }
+        ensures listed { (result ≡ Got.Failed) ↔ (files_fail_next self.old ≡ true) }
+        ensures answer { IsReadAnswer (next_read_result self.old name.now max) result }
         ensures after { self.new ≡ after_read self.old }
     {
         let fails = is_failing(self.failing.as_slice(), self.calls);
@@ -159,7 +159,7 @@ impl Files for MemFiles {
         ensures exact { (self.new, result) ≡ after_write self.old name.now bytes.now }
 
         // Only a listed write fails, and one past the room.
-        ensures sure { fails_next self.old ≡ false → 0 < self.old.room → length name.now ≤ MAX_NAME
+        ensures sure { files_fail_next self.old ≡ false → 0 < self.old.room → length name.now ≤ MAX_NAME
             → length bytes.now ≤ MAX_BYTES → result ≡ Put.Done }
     {
         let fails = is_failing(self.failing.as_slice(), self.calls);

@@ -2,7 +2,7 @@
 
 ghost use Rattle.std.specs.Prelude.{◌≡◌, ◌≤◌, ◌+◌, IfOk, false, length, []};
 ghost use Rattle.file_port.specs.Sink.{Puts};
-ghost use Rattle.file_port.specs.MemSink.{state_of_mem_sink, fails_next, after_put};
+ghost use Rattle.file_port.specs.MemSink.{state_of_mem_sink, sink_fails_next, after_put};
 
 use crate::calls::is_failing;
 use crate::port::{Put, Sink};
@@ -79,7 +79,7 @@ impl Sink for MemSink {
         ensures exact { (self.new, result) ≡ after_put self.old bytes.now }
 
         // Only a listed put fails, and one past the room.
-        ensures sure { fails_next self.old ≡ false
+        ensures sure { sink_fails_next self.old ≡ false
             → length self.old.bytes + length bytes.now ≤ self.old.room → result ≡ Put.Done }
     {
         let fails = is_failing(self.failing.as_slice(), self.calls);

@@ -22,7 +22,7 @@ impl<W: Write> StdSink<W> {
     /// The writer, and no fault so far.
     pub fn new(out: W) -> StdSink<W>
         ensures writer { writer_of result ≡ out }
-        ensures state { state_of_std_sink result ≡ record { told = None; faults = 0 } }
+        ensures state { state_of_std_sink result ≡ record { contents = None; faults = 0 } }
     {
         StdSink { out, faults: 0 }
     }

@@ -3,7 +3,7 @@ use Rattle.std.proofs.Common.{◌≡◌, ℕ, true, false, Option, Some, None, L
 use Rattle.term_table.specs.Tree.{Tree, Var, Con, App, Lam, Fam, TApp, Pi, shift, shifted}
 use Rattle.term_table.specs.Subst.{Simple, Base, Arrow, erase, reduce, walk, hsub, hsub_type, bind}
 use Rattle.term_table.specs.Scope.{is_atomic_shape, is_term_shape}
-use Rattle.term_table.specs.Table.{Terms, IsKnown, tree_at, node_tree, Extends, Stands}
+use Rattle.term_table.specs.Table.{TableView, IsKnown, tree_at, node_tree, Extends, Stands}
 use Rattle.term_table.specs.declared.Node.{Node}
 use Rattle.term_table.specs.declared.Node.TheVariants as N
 use Rattle.hereditary_subst.specs.Inside.Heads.{MetIs, HeadIs}
@@ -32,20 +32,20 @@ term_shift k c (TApp p a) = refl
 term_shift k c (Pi a b) = refl
 
 -- the variable doesn't occur
-pub spare_term : (s : Simple) (ts : Terms) (m : Tree) (x : ℕ) (t : Tree) (r : ℕ) → Spares ts m x t (Some r) → is_term_shape t ≡ true → Stands ts (hsub s m x t) (Some r)
+pub spare_term : (s : Simple) (ts : TableView) (m : Tree) (x : ℕ) (t : Tree) (r : ℕ) → Spares ts m x t (Some r) → is_term_shape t ≡ true → Stands ts (hsub s m x t) (Some r)
 spare_term s ts m x t r h q =
     (h.0, subst (λ z. hsub s m x z ≡ Some (tree_at ts r)) h.1 (cancel_term (reduce s) h.2.scope x (tree_at ts r) m (sym (term_shift 1 x (tree_at ts r)) ∙ ap is_term_shape h.1 ∙ q) h.2.within h.2.raises))
 
-pub spare_type : (s : Simple) (ts : Terms) (m : Tree) (x : ℕ) (t : Tree) (r : ℕ) → Spares ts m x t (Some r) → is_term_shape t ≡ false → Stands ts (hsub_type s m x t) (Some r)
+pub spare_type : (s : Simple) (ts : TableView) (m : Tree) (x : ℕ) (t : Tree) (r : ℕ) → Spares ts m x t (Some r) → is_term_shape t ≡ false → Stands ts (hsub_type s m x t) (Some r)
 spare_type s ts m x t r h q =
     (h.0, subst (λ z. hsub_type s m x z ≡ Some (tree_at ts r)) h.1 (cancel_type s h.2.scope x (tree_at ts r) m (sym (term_shift 1 x (tree_at ts r)) ∙ ap is_term_shape h.1 ∙ q) h.2.within h.2.raises))
 
-pub spare_head : (ty : ℕ) (s : Simple) (ts : Terms) (m : Tree) (x : ℕ) (t : Tree) (r : ℕ) → Spares ts m x t (Some r) → is_atomic_shape t ≡ true → HeadIs ty s m x t ts (Some (record { term = r; met = None }))
+pub spare_head : (ty : ℕ) (s : Simple) (ts : TableView) (m : Tree) (x : ℕ) (t : Tree) (r : ℕ) → Spares ts m x t (Some r) → is_atomic_shape t ≡ true → HeadIs ty s m x t ts (Some (record { term = r; met = None }))
 spare_head ty s ts m x t r h q =
     (h.0, λ acc. subst (λ z. walk (reduce s) m x z acc ≡ Some (Rattle.term_table.specs.Tree.apps (tree_at ts r) acc)) h.1 (cancel_atom (reduce s) h.2.scope x (tree_at ts r) m acc (sym (atom_shift 1 x (tree_at ts r)) ∙ ap is_atomic_shape h.1 ∙ q) h.2.within h.2.raises))
 
 -- what is kept
-pub says_head : (t u : Terms) (id m x ty r : ℕ) (met : Option ℕ) → Extends t u → IsKnown t id → IsKnown t m → IsKnown t ty →
+pub says_head : (t u : TableView) (id m x ty r : ℕ) (met : Option ℕ) → Extends t u → IsKnown t id → IsKnown t m → IsKnown t ty →
     HeadIs ty (erase (tree_at t ty)) (tree_at t m) x (tree_at t id) u (Some (record { term = r; met = met })) → Says u (Q.Head id m x ty) r met
 says_head t u id m x ty r met e i j k h = record {
   known = record { term = h.0; met = go met h.1 };
@@ -56,14 +56,14 @@ says_head t u id m x ty r met e i j k h = record {
     go None g = tt
     go (Some v) g = g.0
 
-pub says_under : (t u : Terms) (id m x ty r : ℕ) → Extends t u → IsKnown t id → IsKnown t m → IsKnown t ty → IsKnown u r →
+pub says_under : (t u : TableView) (id m x ty r : ℕ) → Extends t u → IsKnown t id → IsKnown t m → IsKnown t ty → IsKnown u r →
     hsub (erase (tree_at t ty)) (tree_at t m) x (tree_at t id) ≡ Some (tree_at u r) → Says u (Q.Under id m x ty) r None
 says_under t u id m x ty r e i j k n h = record {
   known = record { term = n; met = tt };
   tells = (known-more t u id i e, known-more t u m j e, known-more t u ty k e, rw (e.same id i, e.same m j, e.same ty k) h);
 }
 
-pub says_type : (t u : Terms) (id m x ty r : ℕ) → Extends t u → IsKnown t id → IsKnown t m → IsKnown t ty → IsKnown u r →
+pub says_type : (t u : TableView) (id m x ty r : ℕ) → Extends t u → IsKnown t id → IsKnown t m → IsKnown t ty → IsKnown u r →
     hsub_type (erase (tree_at t ty)) (tree_at t m) x (tree_at t id) ≡ Some (tree_at u r) → Says u (Q.Type id m x ty) r None
 says_type t u id m x ty r e i j k n h = record {
   known = record { term = n; met = tt };
@@ -82,7 +82,7 @@ reduce_other (Arrow s t) (TApp p a) b acc h = refl
 reduce_other (Arrow s t) (Pi a c) b acc h = refl
 
 -- a node that is no abstraction stands for no abstraction
-pub no_lam : (n : Node) (t : Terms) (g : Tree) → node_tree t n ≡ g → ((b : _) → n ≡ N.Lam b → ⊥) → (z : Tree) → g ≡ Lam z → ⊥
+pub no_lam : (n : Node) (t : TableView) (g : Tree) → node_tree t n ≡ g → ((b : _) → n ≡ N.Lam b → ⊥) → (z : Tree) → g ≡ Lam z → ⊥
 no_lam (N.Var v) t g e h z q = let k : Var v ≡ Lam z = e ∙ q in cc
 no_lam (N.Const v) t g e h z q = let k : node_tree t (N.Const v) ≡ Lam z = e ∙ q in cc
 no_lam (N.Lit v) t g e h z q = let k : node_tree t (N.Lit v) ≡ Lam z = e ∙ q in cc
@@ -103,7 +103,7 @@ lam_to s m m' x y b d t e r q w =
     ∙ ap (option_map Lam) w'
 
 -- under a binder
-pub put_under : (t u v w z : Terms) (id b m x y ty up d term : ℕ) → Extends t u → Extends u v → IsKnown t b → IsKnown t m → IsKnown t ty → Lam (tree_at t b) ≡ tree_at t id →
+pub put_under : (t u v w z : TableView) (id b m x y ty up d term : ℕ) → Extends t u → Extends u v → IsKnown t b → IsKnown t m → IsKnown t ty → Lam (tree_at t b) ≡ tree_at t id →
     Stands v (shifted 1 0 (tree_at u m)) (Some up) → y ≡ x + 1 → Stands w (hsub (erase (tree_at v ty)) (tree_at v up) y (tree_at v b)) (Some d) → tree_at z term ≡ Lam (tree_at w d) →
     hsub (erase (tree_at t ty)) (tree_at t m) x (tree_at t id) ≡ Some (tree_at z term)
 put_under t u v w z id b m x y ty up d term e f kb km kt l r q h n =

@@ -7,7 +7,7 @@ use Rattle.term_table.specs.Subst.{Simple, at_spot, bind, walk, reduce, hsub, hs
 use Rattle.term_table.specs.Measures.{height_of, capped}
 use Rattle.term_table.specs.Scope.{is_atomic_shape, is_term_shape, is_scoped, HasReach}
 use Rattle.term_table.specs.Table.{IsSmall}
-use Rattle.hereditary_subst.specs.Inside.Spare.{CanRaise, IsReady}
+use Rattle.hereditary_subst.specs.Inside.Spare.{CanRaise, IsLowerable}
 
 pub both : (a b : Bool) → (a && b) ≡ true → (a ≡ true) × (b ≡ true)
 both true b q = (refl, q)
@@ -117,7 +117,7 @@ height_some (TApp f a) = omega arith
 height_some (Pi a b) = omega arith
 
 -- what the table knows of m and r
-pub ready : (m r : Tree) (i j h k : ℕ) → HasReach i m → HasReach j r → h ≡ capped (height_of m) → k ≡ capped (height_of r) → j < 4294967295 → i + h + k < 4294967295 → IsReady m r
+pub ready : (m r : Tree) (i j h k : ℕ) → HasReach i m → HasReach j r → h ≡ capped (height_of m) → k ≡ capped (height_of r) → j < 4294967295 → i + h + k < 4294967295 → IsLowerable m r
 ready m r i j h k hm hr eh ek lj l = record {
   scope = j;
   within = hr lj j (omega arith);

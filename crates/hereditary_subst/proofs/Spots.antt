@@ -2,7 +2,7 @@
 use Rattle.std.proofs.Common.{◌≡◌, ℕ, zero, suc, ◌+◌, ◌-◌, ◌<◌, Some, Option, None, List, [], ◌∷◌, refl, sym, ◌∙◌, ap, subst, arith, option_map, add-one}
 use Rattle.term_table.specs.Tree.{Tree, Var, App, Lam, Here, Other, spot, later, apps, Pi, shifted}
 use Rattle.term_table.specs.Subst as L
-use Rattle.term_table.specs.Table.{Terms, IsKnown, tree_at}
+use Rattle.term_table.specs.Table.{TableView, IsKnown, tree_at}
 use Rattle.hereditary_subst.specs.declared.kept.Atom.{Atom}
 use Rattle.hereditary_subst.specs.Inside.Heads.{MetIs, HeadIs}
 
@@ -43,7 +43,7 @@ reduce_none (L.Base b) m = refl
 reduce_none (L.Arrow s t) m = refl
 
 -- what the answer on an atomic term says of its substitution
-pub head_result : (ty : ℕ) (s : L.Simple) (m : Tree) (x : ℕ) (t : Tree) (ts : Terms) (a : Atom) → HeadIs ty s m x t ts (Some a) → IsKnown ts a.term × (L.hsub s m x t ≡ Some (tree_at ts a.term))
+pub head_result : (ty : ℕ) (s : L.Simple) (m : Tree) (x : ℕ) (t : Tree) (ts : TableView) (a : Atom) → HeadIs ty s m x t ts (Some a) → IsKnown ts a.term × (L.hsub s m x t ≡ Some (tree_at ts a.term))
 head_result ty s m x t ts a h = (h.0, go a.met h.1)
   where
     go : (u : Option ℕ) → MetIs ts ty s m x t (tree_at ts a.term) u → L.hsub s m x t ≡ Some (tree_at ts a.term)

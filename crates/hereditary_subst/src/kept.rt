@@ -5,8 +5,8 @@
 //! slow to find. They are asked for and kept beside the table whose ids they speak of.
 
 ghost use Rattle.std.specs.Prelude.{◌≡◌, IfSome};
-ghost use Rattle.term_table.specs.Table.{Terms, IsKnown};
-ghost use Rattle.hereditary_subst.specs.Inside.Kept.{IsMemo, Says, AreKnown};
+ghost use Rattle.term_table.specs.Table.{TableView, IsKnown};
+ghost use Rattle.hereditary_subst.specs.Inside.Kept.{IsMemo, Says, AreKnownIds};
 
 use std::alloc::{AllocError, Global};
 use std::collections::BTreeMap;
@@ -58,7 +58,7 @@ pub(crate) fn number(id: Id) -> u64
 
 /// The row as ids of the table.
 fn atom_of(table: &Table, row: Row) -> Atom
-    requires { AreKnown table.now row.term row.met }
+    requires { AreKnownIds table.now row.term row.met }
     ensures term { result.term ≡ row.term }
     ensures met { result.met ≡ row.met }
 {
@@ -97,7 +97,7 @@ impl Memo {
     /// A memo without results, which takes no memory yet. A call that would keep more than `limit`
     /// results in it answers want of memory.
     pub fn new(alloc: Global, limit: usize) -> Memo
-        ensures { (t : Terms) → IsMemo t result }
+        ensures { (t : TableView) → IsMemo t result }
     {
         Memo {
             rows: BTreeMap::new(alloc),

@@ -47,7 +47,7 @@ pub enum Simple {
 pub fn shift(table: &mut Table, id: Id, by: u32, from: u32) -> Result<Option<Id>, AllocError>
     requires { IsKnown table.old id }
     ensures tree { IfOk result (Stands table.new (shifted by from (tree_at table.old id))) }
-    ensures grows { Extends table.old table.new }
+    ensures extends { Extends table.old table.new }
 {
     table.laws();
     let mut memo = Memo::new(table.allocator(), MOST_RESULTS);
@@ -59,7 +59,7 @@ pub fn weaken(table: &mut Table, id: Id, by: u64) -> Result<Option<Id>, AllocErr
     requires small { by ≤ 2 ^ 32 }
     requires known { IsKnown table.old id }
     ensures tree { IfOk result (Stands table.new (shifted by 0 (tree_at table.old id))) }
-    ensures grows { Extends table.old table.new }
+    ensures extends { Extends table.old table.new }
 {
     let mut memo = Memo::new(table.allocator(), MOST_RESULTS);
     weaken_with(table, &mut memo, id, by)
@@ -76,7 +76,7 @@ pub fn weaken_with(
     requires known { IsKnown table.old id }
     requires memo { IsMemo table.old memo.old }
     ensures tree { IfOk result (Stands table.new (shifted by 0 (tree_at table.old id))) }
-    ensures grows { Extends table.old table.new }
+    ensures extends { Extends table.old table.new }
     ensures memo { IsMemo table.new memo.new }
 {
     table.laws();
@@ -86,7 +86,7 @@ pub fn weaken_with(
 /// A type with this simple type.
 fn type_of_simple(table: &mut Table, s: &Simple) -> Result<Id, AllocError>
     ensures erased { IfOk result (λ id. IsKnown table.new id × (erase (tree_at table.new id) ≡ simple_of s.now)) }
-    ensures grows { Extends table.old table.new }
+    ensures extends { Extends table.old table.new }
 {
     match s {
         Simple::Base(a) => table.intern(Node::Fam(*a)),
@@ -108,7 +108,7 @@ pub fn subst(table: &mut Table, body: Id, arg: Id, s: &Simple) -> Result<Option<
         IfOk result (IsResult table.new (HSub (simple_of s.now) arg_tree 0 (tree_at table.old body))) }
     ensures computed { let arg_tree = tree_at table.old arg in
         IfOk result (Stands table.new (hsub (simple_of s.now) arg_tree 0 (tree_at table.old body))) }
-    ensures grows { Extends table.old table.new }
+    ensures extends { Extends table.old table.new }
 {
     substitution_laws();
     let ty = type_of_simple(table, s)?;
@@ -130,7 +130,7 @@ pub fn subst_type(
         IfOk result (IsResult table.new (HSubType (simple_of s.now) arg_tree 0 (tree_at table.old body))) }
     ensures computed { let arg_tree = tree_at table.old arg in
         IfOk result (Stands table.new (hsub_type (simple_of s.now) arg_tree 0 (tree_at table.old body))) }
-    ensures grows { Extends table.old table.new }
+    ensures extends { Extends table.old table.new }
 {
     substitution_laws();
     let ty = type_of_simple(table, s)?;
@@ -156,7 +156,7 @@ pub fn subst_type_with(
         IfOk result (IsResult table.new (HSubType s (tree_at table.old arg) 0 (tree_at table.old body))) }
     ensures computed { let s = erase (tree_at table.old ty) in
         IfOk result (Stands table.new (hsub_type s (tree_at table.old arg) 0 (tree_at table.old body))) }
-    ensures grows { Extends table.old table.new }
+    ensures extends { Extends table.old table.new }
     ensures memo { IsMemo table.new memo.new }
 {
     substitution_laws();

@@ -45,7 +45,7 @@ pub(crate) fn shift_at(
     requires room { from + id < 2 ^ 64 }
     requires memo { IsMemo table.old memo.old }
     ensures tree { IfOk result (Stands table.new (shifted by from (tree_at table.old id))) }
-    ensures grows { Extends table.old table.new }
+    ensures extends { Extends table.old table.new }
     ensures memo { IsMemo table.new memo.new }
 {
     table.laws();
@@ -81,7 +81,7 @@ fn shift_parts(
     requires room { from + id < 2 ^ 64 }
     requires memo { IsMemo table.old memo.old }
     ensures tree { IfOk result (Stands table.new (shifted by from (tree_at table.old id))) }
-    ensures grows { Extends table.old table.new }
+    ensures extends { Extends table.old table.new }
     ensures memo { IsMemo table.new memo.new }
 {
     match table.node(id) {
@@ -118,7 +118,7 @@ fn shift_variable(
     requires known { IsKnown table.old id }
     requires is { Var n ≡ tree_at table.old id }
     ensures tree { IfOk result (Stands table.new (shifted by from (tree_at table.old id))) }
-    ensures grows { Extends table.old table.new }
+    ensures extends { Extends table.old table.new }
 {
     if u64::from(n) < from {
         return Ok(Some(id));
@@ -145,7 +145,7 @@ fn shift_type_parts(
     requires room { from + id < 2 ^ 64 }
     requires memo { IsMemo table.old memo.old }
     ensures tree { IfOk result (Stands table.new (shifted by from (tree_at table.old id))) }
-    ensures grows { Extends table.old table.new }
+    ensures extends { Extends table.old table.new }
     ensures memo { IsMemo table.new memo.new }
 {
     match table.node(id) {
@@ -185,7 +185,7 @@ pub(crate) fn lower_at(
     requires room { x + id < 2 ^ 64 }
     requires memo { IsMemo table.old memo.old }
     ensures tree { IfOk result (Lowers table.new x (tree_at table.old id)) }
-    ensures grows { Extends table.old table.new }
+    ensures extends { Extends table.old table.new }
     ensures memo { IsMemo table.new memo.new }
 {
     if is_within(table, id, x) {
@@ -217,7 +217,7 @@ fn lower_parts(table: &mut Table, memo: &mut Memo, id: Id, x: u64) -> Result<Opt
     requires room { x + id < 2 ^ 64 }
     requires memo { IsMemo table.old memo.old }
     ensures tree { IfOk result (Lowers table.new x (tree_at table.old id)) }
-    ensures grows { Extends table.old table.new }
+    ensures extends { Extends table.old table.new }
     ensures memo { IsMemo table.new memo.new }
 {
     match table.node(id) {
@@ -247,7 +247,7 @@ fn lower_variable(table: &mut Table, id: Id, n: u32, x: u64) -> Result<Option<Id
     requires known { IsKnown table.old id }
     requires is { Var n ≡ tree_at table.old id }
     ensures tree { IfOk result (Lowers table.new x (tree_at table.old id)) }
-    ensures grows { Extends table.old table.new }
+    ensures extends { Extends table.old table.new }
 {
     if u64::from(n) == x {
         return Ok(None);
@@ -271,7 +271,7 @@ fn lower_type_parts(
     requires room { x + id < 2 ^ 64 }
     requires memo { IsMemo table.old memo.old }
     ensures tree { IfOk result (Lowers table.new x (tree_at table.old id)) }
-    ensures grows { Extends table.old table.new }
+    ensures extends { Extends table.old table.new }
     ensures memo { IsMemo table.new memo.new }
 {
     match table.node(id) {

@@ -8,7 +8,7 @@ ghost use Rattle.term_table.specs.Scope.{is_term_shape};
 ghost use Rattle.term_table.specs.Table.{IsKnown, tree_at, Extends, Stands};
 ghost use Rattle.hereditary_subst.specs.Inside.Heads.{put_of, put_type_of, HeadPut, HeadApplied};
 ghost use Rattle.hereditary_subst.specs.Inside.Kept.{IsMemo};
-ghost use Rattle.hereditary_subst.specs.Inside.Spare.{IsReady, Spares};
+ghost use Rattle.hereditary_subst.specs.Inside.Spare.{IsLowerable, Spares};
 
 use crate::kept::{Atom, Memo, Question, number};
 use crate::shifts::{lower_at, shift_at};
@@ -19,7 +19,7 @@ use term_table::{Id, Node, Table};
 fn is_ready(table: &Table, m: Id, r: Id) -> bool
     requires m { IsKnown table.now m }
     requires r { IsKnown table.now r }
-    ensures { IsTrue result → IsReady (tree_at table.now m) (tree_at table.now r) }
+    ensures { IsTrue result → IsLowerable (tree_at table.now m) (tree_at table.now r) }
 {
     let reach = table.reach(r);
     let outer = table.reach(m);
@@ -48,7 +48,7 @@ fn spare_at(
     requires known_m { IsKnown table.old m }
     requires memo { IsMemo table.old memo.old }
     ensures tree { IfOk result (Spares table.new (tree_at table.old m) x (tree_at table.old id)) }
-    ensures grows { Extends table.old table.new }
+    ensures extends { Extends table.old table.new }
     ensures memo { IsMemo table.new memo.new }
 {
     let Some(r) = lower_at(table, memo, id, x)? else {
@@ -77,7 +77,7 @@ pub(crate) fn subst_at(
     requires known_ty { IsKnown table.old ty }
     requires memo { IsMemo table.old memo.old }
     ensures tree { IfOk result (Stands table.new (put_of table.old ty m x id)) }
-    ensures grows { Extends table.old table.new }
+    ensures extends { Extends table.old table.new }
     ensures memo { IsMemo table.new memo.new }
 {
     if let Node::Lam(b) = table.node(id) {
@@ -110,7 +110,7 @@ fn subst_under(
     requires known_ty { IsKnown table.old ty }
     requires memo { IsMemo table.old memo.old }
     ensures tree { IfOk result (Stands table.new (put_of table.old ty m x id)) }
-    ensures grows { Extends table.old table.new }
+    ensures extends { Extends table.old table.new }
     ensures memo { IsMemo table.new memo.new }
 {
     if let Some(r) = spare_at(table, memo, id, m, x)? {
@@ -148,7 +148,7 @@ fn head_at(
     requires known_ty { IsKnown table.old ty }
     requires memo { IsMemo table.old memo.old }
     ensures tree { IfOk result (HeadPut table.old ty m x id table.new) }
-    ensures grows { Extends table.old table.new }
+    ensures extends { Extends table.old table.new }
     ensures memo { IsMemo table.new memo.new }
 {
     match table.node(id) {
@@ -176,7 +176,7 @@ fn head_variable(
     requires known_m { IsKnown table.old m }
     requires known_ty { IsKnown table.old ty }
     ensures tree { IfOk result (HeadPut table.old ty m x id table.new) }
-    ensures grows { Extends table.old table.new }
+    ensures extends { Extends table.old table.new }
 {
     if u64::from(n) == x {
         return Ok(Some(Atom {
@@ -215,7 +215,7 @@ fn head_kept(
     requires known_ty { IsKnown table.old ty }
     requires memo { IsMemo table.old memo.old }
     ensures tree { IfOk result (HeadPut table.old ty m x id table.new) }
-    ensures grows { Extends table.old table.new }
+    ensures extends { Extends table.old table.new }
     ensures memo { IsMemo table.new memo.new }
 {
     if let Some(term) = spare_at(table, memo, id, m, x)? {
@@ -256,7 +256,7 @@ fn head_parts(
     requires known_ty { IsKnown table.old ty }
     requires memo { IsMemo table.old memo.old }
     ensures tree { IfOk result (HeadPut table.old ty m x id table.new) }
-    ensures grows { Extends table.old table.new }
+    ensures extends { Extends table.old table.new }
     ensures memo { IsMemo table.new memo.new }
 {
     let Some(b) = subst_at(table, memo, a, m, x, ty)? else {
@@ -288,7 +288,7 @@ fn reduce_at(
     requires known_u { IsKnown table.old u }
     requires memo { IsMemo table.old memo.old }
     ensures tree { IfOk result (HeadApplied table.old u g b table.new) }
-    ensures grows { Extends table.old table.new }
+    ensures extends { Extends table.old table.new }
     ensures memo { IsMemo table.new memo.new }
 {
     table.laws();
@@ -336,7 +336,7 @@ pub(crate) fn subst_type_at(
     requires known_ty { IsKnown table.old ty }
     requires memo { IsMemo table.old memo.old }
     ensures tree { IfOk result (Stands table.new (put_type_of table.old ty m x id)) }
-    ensures grows { Extends table.old table.new }
+    ensures extends { Extends table.old table.new }
     ensures memo { IsMemo table.new memo.new }
 {
     if is_term(table, id) {
@@ -373,7 +373,7 @@ fn subst_type_parts(
     requires known_ty { IsKnown table.old ty }
     requires memo { IsMemo table.old memo.old }
     ensures tree { IfOk result (Stands table.new (put_type_of table.old ty m x id)) }
-    ensures grows { Extends table.old table.new }
+    ensures extends { Extends table.old table.new }
     ensures memo { IsMemo table.new memo.new }
 {
     match table.node(id) {
@@ -413,7 +413,7 @@ fn subst_product(
     requires known_ty { IsKnown table.old ty }
     requires memo { IsMemo table.old memo.old }
     ensures tree { IfOk result (Stands table.new (put_type_of table.old ty m x id)) }
-    ensures grows { Extends table.old table.new }
+    ensures extends { Extends table.old table.new }
     ensures memo { IsMemo table.new memo.new }
 {
     let Some(c) = subst_type_at(table, memo, a, m, x, ty)? else {

@@ -1,7 +1,7 @@
 -- What a judgement in a part of a context says of the whole, and what is kept of it.
 use Rattle.std.proofs.Common.{◌≡◌, ℕ, ◌<◌, Bool, true, ◌&&◌, Option, List, ◌∷◌, sym, ◌∙◌, ap, arith}
 use Rattle.term_table.specs.Tree.{Tree, Const, Lam, Pi, TApp}
-use Rattle.term_table.specs.Table.{Terms, IsKnown, tree_at, Extends}
+use Rattle.term_table.specs.Table.{TableView, IsKnown, tree_at, Extends}
 use Rattle.lf_signature.specs.Decide.{checks_of, is_type_of}
 use Rattle.lf_check.specs.Inside.Lists.{types_of}
 use Rattle.lf_check.specs.Inside.Kept.{IsJudgement}
@@ -10,14 +10,14 @@ use Rattle.lf_check.specs.declared.judgements.Question.TheVariants as Q
 abbrev Sig : Type 0
 Sig = Const → Option Tree
 
-known-more : (t u : Terms) (id : ℕ) → IsKnown t id → Extends t u → IsKnown u id
+known-more : (t u : TableView) (id : ℕ) → IsKnown t id → Extends t u → IsKnown u id
 known-more t u id h x = omega (arith, h, x.longer)
 
 product_is : (s : Sig) (x y a : Tree) (part : List Tree) (r : Bool) → Pi x y ≡ a → is_type_of s x part ≡ true → r ≡ is_type_of s y (x ∷ part) → r ≡ is_type_of s a part
 product_is s x y a part r p k h = h ∙ ap (λ z. z && is_type_of s y (x ∷ part)) (sym k) ∙ ap (λ z. is_type_of s z part) p
 
 -- A product: its domain was judged in u, v is after that, w has the inner context.
-pub product_part : (s s₁ s₂ : Sig) (t u v w : Terms) (a from to part inner : ℕ) (r : Bool) → Extends t u → Extends u v → Extends v w → s₁ ≡ s → s₂ ≡ s → IsKnown t a → from < a → to < a → IsKnown u part →
+pub product_part : (s s₁ s₂ : Sig) (t u v w : TableView) (a from to part inner : ℕ) (r : Bool) → Extends t u → Extends u v → Extends v w → s₁ ≡ s → s₂ ≡ s → IsKnown t a → from < a → to < a → IsKnown u part →
     Pi (tree_at t from) (tree_at t to) ≡ tree_at t a → true ≡ is_type_of s₁ (tree_at u from) (types_of (tree_at u part)) →
     tree_at w inner ≡ TApp (tree_at v part) (tree_at v from) → r ≡ is_type_of s₂ (tree_at w to) (types_of (tree_at w inner)) →
     r ≡ is_type_of s (tree_at t a) (types_of (tree_at u part))
@@ -43,7 +43,7 @@ product_part s s₁ s₂ t u v w a from to part inner r e f x g₁ g₂ ka lf lt
     product_is s (tree_at t from) (tree_at t to) (tree_at t a) (types_of (tree_at u part)) r p d' h'
 
 -- what is kept, in the table at the end
-pub judges_formed : (s s' : Sig) (t u z : Terms) (a part : ℕ) → Extends t u → Extends u z → s' ≡ s → IsKnown t a → IsKnown u part →
+pub judges_formed : (s s' : Sig) (t u z : TableView) (a part : ℕ) → Extends t u → Extends u z → s' ≡ s → IsKnown t a → IsKnown u part →
     true ≡ is_type_of s (tree_at t a) (types_of (tree_at u part)) → IsJudgement s' z (Q.Formed a part) a
 judges_formed s s' t u z a part e f g ka kp h = record {
   known = known-more u z a (known-more t u a ka e) f;
@@ -51,7 +51,7 @@ judges_formed s s' t u z a part e f g ka kp h = record {
 }
 
 -- An abstraction: u has the part of the context, w the inner context.
-pub under_part : (s s₂ : Sig) (t u w : Terms) (m a body from to part inner : ℕ) (r : Bool) → Extends t u → Extends u w → s₂ ≡ s → IsKnown t m → IsKnown t a →
+pub under_part : (s s₂ : Sig) (t u w : TableView) (m a body from to part inner : ℕ) (r : Bool) → Extends t u → Extends u w → s₂ ≡ s → IsKnown t m → IsKnown t a →
     (body < m) × (from < a) × (to < a) → IsKnown u part → Lam (tree_at t body) ≡ tree_at t m → Pi (tree_at t from) (tree_at t to) ≡ tree_at t a →
     tree_at w inner ≡ TApp (tree_at u part) (tree_at u from) → r ≡ checks_of s₂ (tree_at w body) (types_of (tree_at w inner)) (tree_at w to) →
     r ≡ checks_of s (tree_at t m) (types_of (tree_at u part)) (tree_at t a)
@@ -75,7 +75,7 @@ under_part s s₂ t u w m a body from to part inner r e f g km ka l kp lam pi n 
     in inside ∙ whole
 
 -- what is kept, in the table at the end
-pub judges_under : (s s' : Sig) (t u z : Terms) (m a part : ℕ) → Extends t u → Extends u z → s' ≡ s → IsKnown t m → IsKnown t a → IsKnown u part →
+pub judges_under : (s s' : Sig) (t u z : TableView) (m a part : ℕ) → Extends t u → Extends u z → s' ≡ s → IsKnown t m → IsKnown t a → IsKnown u part →
     true ≡ checks_of s (tree_at t m) (types_of (tree_at u part)) (tree_at t a) → IsJudgement s' z (Q.Under m a part) m
 judges_under s s' t u z m a part e f g km ka kp h =
     let kum : IsKnown u m = known-more t u m km e in

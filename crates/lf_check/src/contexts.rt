@@ -16,7 +16,7 @@ use term_table::{Id, Node, Table};
 fn context_at(table: &mut Table, ctx: &[Id]) -> Result<Id, AllocError>
     requires { AllKnown table.old ctx.now }
     ensures types { IfOk result (IsContextId table.new (ctx_of table.old ctx.now)) }
-    ensures grows { Extends table.old table.new }
+    ensures extends { Extends table.old table.new }
 {
     let mut c = table.intern(Node::Fam(0))?;
     for id in ctx {
@@ -36,7 +36,7 @@ pub(crate) fn context_on<S: Signature>(
     requires ctx { AllKnown table.old ctx.now }
     requires kept { AreKept (S.declares sig.now table.old) table.old kept.now }
     ensures types { IfOk result (IsContextId table.new (ctx_of table.old ctx.now)) }
-    ensures grows { Extends table.old table.new }
+    ensures extends { Extends table.old table.new }
     ensures kept { AreKept (S.declares sig.now table.new) table.new kept.now }
 {
     let _ = kept; // only the clauses speak of it
@@ -72,7 +72,7 @@ fn cut_at<S: Signature>(
     requires known { IsKnown table.old c }
     requires kept { AreKept (S.declares sig.now table.old) table.old kept.old }
     ensures types { IfOk result (IsContextId table.new (take n (types_of (tree_at table.old c)))) }
-    ensures grows { Extends table.old table.new }
+    ensures extends { Extends table.old table.new }
     ensures kept { AreKept (S.declares sig.now table.new) table.new kept.new }
 {
     match table.node(c) {
@@ -106,7 +106,7 @@ pub(crate) fn part_at<S: Signature>(
     requires m { IsKnown table.old m }
     requires kept { AreKept (S.declares sig.now table.old) table.old kept.old }
     ensures part { IfOk result (IsPartId table.new (tree_at table.old m) (types_of (tree_at table.old c))) }
-    ensures grows { Extends table.old table.new }
+    ensures extends { Extends table.old table.new }
     ensures kept { AreKept (S.declares sig.now table.new) table.new kept.new }
 {
     let reach = table.reach(m);

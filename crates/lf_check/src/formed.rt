@@ -45,7 +45,7 @@ pub(crate) fn is_type_at<S: Signature>(
     requires a { IsKnown table.old a }
     requires kept { AreKept (S.declares sig.now table.old) table.old kept.old }
     ensures answer { IfOk result (λ b. b ≡ is_type_in (S.declares sig.now table.old) table.old c a) }
-    ensures grows { Extends table.old table.new }
+    ensures extends { Extends table.old table.new }
     ensures kept { AreKept (S.declares sig.now table.new) table.new kept.new }
 {
     match table.node(a) {
@@ -80,7 +80,7 @@ fn product_at<S: Signature>(
     requires is { Pi (tree_at table.old from) (tree_at table.old to) ≡ tree_at table.old a }
     requires kept { AreKept (S.declares sig.now table.old) table.old kept.old }
     ensures answer { IfOk result (λ b. b ≡ is_type_in (S.declares sig.now table.old) table.old c a) }
-    ensures grows { Extends table.old table.new }
+    ensures extends { Extends table.old table.new }
     ensures kept { AreKept (S.declares sig.now table.new) table.new kept.new }
 {
     let part = part_at(table, kept, sig, c, a)?;

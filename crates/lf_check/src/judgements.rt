@@ -7,7 +7,7 @@
 
 ghost use Rattle.std.specs.Prelude.{◌≡◌, IfSome, Option};
 ghost use Rattle.term_table.specs.Tree.{Tree, Const};
-ghost use Rattle.term_table.specs.Table.{Terms};
+ghost use Rattle.term_table.specs.Table.{TableView};
 ghost use Rattle.lf_check.specs.Inside.Kept.{AreKept, IsJudgement};
 
 use hereditary_subst::Memo;
@@ -53,7 +53,7 @@ impl Kept {
     /// Nothing kept yet, which takes no memory. A call that would keep more than `limit` results of
     /// shifts and substitutions, or more than `limit` judgements, answers want of memory.
     pub fn new(alloc: Global, limit: usize) -> Kept
-        ensures { (sig : Const → Option Tree) (t : Terms) → AreKept sig t result }
+        ensures { (sig : Const → Option Tree) (t : TableView) → AreKept sig t result }
     {
         Kept {
             memo: Memo::new(alloc, limit),

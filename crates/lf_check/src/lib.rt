@@ -53,7 +53,7 @@ pub fn check_term<S: Signature>(
     ensures answer { let types = ctx_of table.old ctx.now in
         let holds = Checks (S.declares sig.now table.old) types (tree_at table.old m) (tree_at table.old a) in
         IfOk result (λ b. IsTrue b ↔ holds) }
-    ensures grows { Extends table.old table.new }
+    ensures extends { Extends table.old table.new }
 {
     let mut kept = Kept::new(alloc, MOST_RESULTS);
     check_term_with(table, &mut kept, sig, ctx, m, a)
@@ -76,7 +76,7 @@ pub fn check_term_with<S: Signature>(
     ensures answer { let types = ctx_of table.old ctx.now in
         let holds = Checks (S.declares sig.now table.old) types (tree_at table.old m) (tree_at table.old a) in
         IfOk result (λ b. IsTrue b ↔ holds) }
-    ensures grows { Extends table.old table.new }
+    ensures extends { Extends table.old table.new }
     ensures kept { AreKept (S.declares sig.now table.new) table.new kept.new }
 {
     typing_laws();
@@ -99,7 +99,7 @@ pub fn synth<S: Signature>(
     requires r { IsKnown table.old r }
     ensures derived { let types = ctx_of table.old ctx.now in
         IfOk result (IsResult table.new (Synth (S.declares sig.now table.old) types (tree_at table.old r))) }
-    ensures grows { Extends table.old table.new }
+    ensures extends { Extends table.old table.new }
 {
     let mut kept = Kept::new(alloc, MOST_RESULTS);
     synth_with(table, &mut kept, sig, ctx, r)
@@ -119,7 +119,7 @@ pub fn synth_with<S: Signature>(
     requires kept { AreKept (S.declares sig.now table.old) table.old kept.old }
     ensures derived { let types = ctx_of table.old ctx.now in
         IfOk result (IsResult table.new (Synth (S.declares sig.now table.old) types (tree_at table.old r))) }
-    ensures grows { Extends table.old table.new }
+    ensures extends { Extends table.old table.new }
     ensures kept { AreKept (S.declares sig.now table.new) table.new kept.new }
 {
     typing_laws();
@@ -142,7 +142,7 @@ pub fn check_type<S: Signature>(
     requires a { IsKnown table.old a }
     ensures answer { let types = ctx_of table.old ctx.now in
         IfOk result (λ b. IsTrue b ↔ IsType (S.declares sig.now table.old) types (tree_at table.old a)) }
-    ensures grows { Extends table.old table.new }
+    ensures extends { Extends table.old table.new }
 {
     let mut kept = Kept::new(alloc, MOST_RESULTS);
     check_type_with(table, &mut kept, sig, ctx, a)
@@ -162,7 +162,7 @@ pub fn check_type_with<S: Signature>(
     requires kept { AreKept (S.declares sig.now table.old) table.old kept.old }
     ensures answer { let types = ctx_of table.old ctx.now in
         IfOk result (λ b. IsTrue b ↔ IsType (S.declares sig.now table.old) types (tree_at table.old a)) }
-    ensures grows { Extends table.old table.new }
+    ensures extends { Extends table.old table.new }
     ensures kept { AreKept (S.declares sig.now table.new) table.new kept.new }
 {
     typing_laws();

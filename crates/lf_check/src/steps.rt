@@ -24,7 +24,7 @@ pub(crate) fn intern_on<S: Signature>(
     requires parts { PartsKnown table.old node }
     requires kept { AreKept (S.declares sig.now table.old) table.old kept.now }
     ensures id { IfOk result (λ id. IsKnown table.new id × (tree_at table.new id ≡ node_tree table.old node)) }
-    ensures grows { Extends table.old table.new }
+    ensures extends { Extends table.old table.new }
     ensures kept { AreKept (S.declares sig.now table.new) table.new kept.now }
 {
     let _ = kept; // only the clauses speak of it
@@ -45,7 +45,7 @@ pub(crate) fn weaken_on<S: Signature>(
     requires known { IsKnown table.old id }
     requires kept { AreKept (S.declares sig.now table.old) table.old kept.old }
     ensures tree { IfOk result (Stands table.new (shifted by 0 (tree_at table.old id))) }
-    ensures grows { Extends table.old table.new }
+    ensures extends { Extends table.old table.new }
     ensures kept { AreKept (S.declares sig.now table.new) table.new kept.new }
 {
     let _ = sig; // only the clauses speak of it
@@ -67,7 +67,7 @@ pub(crate) fn subst_on<S: Signature>(
     requires ty { IsKnown table.old ty }
     requires kept { AreKept (S.declares sig.now table.old) table.old kept.old }
     ensures tree { IfOk result (Stands table.new (put_type_of table.old ty arg 0 body)) }
-    ensures grows { Extends table.old table.new }
+    ensures extends { Extends table.old table.new }
     ensures kept { AreKept (S.declares sig.now table.new) table.new kept.new }
 {
     let _ = sig; // only the clauses speak of it
@@ -84,7 +84,7 @@ pub(crate) fn declared_on<S: Signature>(
     requires holds { S.holds sig.now table.old }
     requires kept { AreKept (S.declares sig.now table.old) table.old kept.now }
     ensures tree { IfOk result (Stands table.new (type_at (S.declares sig.now table.old) constant)) }
-    ensures grows { Extends table.old table.new }
+    ensures extends { Extends table.old table.new }
     ensures kept { AreKept (S.declares sig.now table.new) table.new kept.now }
 {
     let _ = kept; // only the clauses speak of it

@@ -39,7 +39,7 @@ fn var_type<S: Signature>(
     requires known { IsKnown table.old c }
     requires kept { AreKept (S.declares sig.now table.old) table.old kept.old }
     ensures tree { IfOk result (Stands table.new (var_rule n (at (types_of (tree_at table.old c)) n))) }
-    ensures grows { Extends table.old table.new }
+    ensures extends { Extends table.old table.new }
     ensures kept { AreKept (S.declares sig.now table.new) table.new kept.new }
 {
     kept.step(table, sig, u64::from(n))?;
@@ -65,7 +65,7 @@ pub(crate) fn check_at<S: Signature>(
     requires a { IsKnown table.old a }
     requires kept { AreKept (S.declares sig.now table.old) table.old kept.old }
     ensures answer { IfOk result (λ b. b ≡ checks_in (S.declares sig.now table.old) table.old c m a) }
-    ensures grows { Extends table.old table.new }
+    ensures extends { Extends table.old table.new }
     ensures kept { AreKept (S.declares sig.now table.new) table.new kept.new }
 {
     if let Node::Lam(body) = table.node(m) {
@@ -102,7 +102,7 @@ fn under_at<S: Signature>(
     requires pi { Pi (tree_at table.old from) (tree_at table.old to) ≡ tree_at table.old a }
     requires kept { AreKept (S.declares sig.now table.old) table.old kept.old }
     ensures answer { IfOk result (λ b. b ≡ checks_in (S.declares sig.now table.old) table.old c m a) }
-    ensures grows { Extends table.old table.new }
+    ensures extends { Extends table.old table.new }
     ensures kept { AreKept (S.declares sig.now table.new) table.new kept.new }
 {
     let part = part_at(table, kept, sig, c, m)?;
@@ -132,7 +132,7 @@ pub(crate) fn synth_at<S: Signature>(
     requires r { IsKnown table.old r }
     requires kept { AreKept (S.declares sig.now table.old) table.old kept.old }
     ensures tree { IfOk result (Stands table.new (synth_in (S.declares sig.now table.old) table.old c r)) }
-    ensures grows { Extends table.old table.new }
+    ensures extends { Extends table.old table.new }
     ensures kept { AreKept (S.declares sig.now table.new) table.new kept.new }
 {
     match table.node(r) {
@@ -174,7 +174,7 @@ fn applied_at<S: Signature>(
     requires is { App (tree_at table.old f) (tree_at table.old m) ≡ tree_at table.old r }
     requires kept { AreKept (S.declares sig.now table.old) table.old kept.old }
     ensures tree { IfOk result (Stands table.new (synth_in (S.declares sig.now table.old) table.old c r)) }
-    ensures grows { Extends table.old table.new }
+    ensures extends { Extends table.old table.new }
     ensures kept { AreKept (S.declares sig.now table.new) table.new kept.new }
 {
     let Some(p) = synth_at(table, kept, sig, c, f)? else {

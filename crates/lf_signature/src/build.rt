@@ -8,7 +8,7 @@ ghost use Rattle.lf_signature.specs.Rules.{sort_type, over_sorts, par, exp_tree,
 ghost use Rattle.lf_signature.specs.Rules.{form_tree, premise_tree, under_premises, rule_type};
 ghost use Rattle.lf_signature.specs.Schemas.{sort_of, exp_of, mem_of, form_of, premise_of, rule_of};
 ghost use Rattle.lf_signature.specs.Schemas.{constant_type, connective_constant, IsShort};
-ghost use Rattle.lf_signature.specs.Nodes.{Gives};
+ghost use Rattle.lf_signature.specs.Nodes.{IsIdOf};
 
 use crate::numbers::{
     ALL, ALLM, AND, EXP, FF, FORM, IMP, MEM, OR, SEL, TT, UPD, op_constant, rel_constant,
@@ -20,8 +20,8 @@ use term_table::{Id, Node, Table};
 
 /// The variable of a parameter where `depth` binders stand outside, the parameters' first.
 fn parameter(table: &mut Table, number: u32, depth: u32) -> Result<Id, AllocError>
-    ensures id { IfOk result (Gives table.new (par number depth)) }
-    ensures grows { Extends table.old table.new }
+    ensures id { IfOk result (IsIdOf table.new (par number depth)) }
+    ensures extends { Extends table.old table.new }
 {
     table.intern(Node::Var(depth.saturating_sub(number).saturating_sub(1)))
 }
@@ -29,8 +29,8 @@ fn parameter(table: &mut Table, number: u32, depth: u32) -> Result<Id, AllocErro
 /// The tree of an expression where `depth` binders stand outside.
 #[cycle(words)]
 fn exp_id(table: &mut Table, exp: &Exp, depth: u32) -> Result<Id, AllocError>
-    ensures id { IfOk result (Gives table.new (exp_tree (exp_of exp.now) depth)) }
-    ensures grows { Extends table.old table.new }
+    ensures id { IfOk result (IsIdOf table.new (exp_tree (exp_of exp.now) depth)) }
+    ensures extends { Extends table.old table.new }
 {
     match exp {
         Exp::Par(number) => parameter(table, *number, depth),
@@ -52,8 +52,8 @@ fn exp_id(table: &mut Table, exp: &Exp, depth: u32) -> Result<Id, AllocError>
 /// The tree of a memory where `depth` binders stand outside.
 #[cycle(words)]
 fn mem_id(table: &mut Table, memory: &Mem, depth: u32) -> Result<Id, AllocError>
-    ensures id { IfOk result (Gives table.new (mem_tree (mem_of memory.now) depth)) }
-    ensures grows { Extends table.old table.new }
+    ensures id { IfOk result (IsIdOf table.new (mem_tree (mem_of memory.now) depth)) }
+    ensures extends { Extends table.old table.new }
 {
     match memory {
         Mem::Par(number) => parameter(table, *number, depth),
@@ -77,8 +77,8 @@ fn quantifier_id(
 ) -> Result<Id, AllocError>
     requires { depth + 1 < 2 ^ 32 }
     ensures id { let body = App (par number (depth + 1)) (Var 0) in
-        IfOk result (Gives table.new (app1 constant (Lam body))) }
-    ensures grows { Extends table.old table.new }
+        IfOk result (IsIdOf table.new (app1 constant (Lam body))) }
+    ensures extends { Extends table.old table.new }
 {
     let function = parameter(table, number, depth + 1)?;
     let own = table.intern(Node::Var(0))?;
@@ -101,8 +101,8 @@ fn connective_constant(connective: Connective) -> u32
 /// The tree of a formula where `depth` binders stand outside.
 fn form_id(table: &mut Table, form: &Form, depth: u32) -> Result<Id, AllocError>
     requires { depth + 1 < 2 ^ 32 }
-    ensures id { IfOk result (Gives table.new (form_tree (form_of form.now) depth)) }
-    ensures grows { Extends table.old table.new }
+    ensures id { IfOk result (IsIdOf table.new (form_tree (form_of form.now) depth)) }
+    ensures extends { Extends table.old table.new }
 {
     match form {
         Form::True => table.intern(Node::Const(TT)),
@@ -136,8 +136,8 @@ fn form_id(table: &mut Table, form: &Form, depth: u32) -> Result<Id, AllocError>
 /// The type of the proofs of a formula.
 fn proofs_id(table: &mut Table, form: &Form, depth: u32) -> Result<Id, AllocError>
     requires { depth + 1 < 2 ^ 32 }
-    ensures id { IfOk result (Gives table.new (pf (form_tree (form_of form.now) depth))) }
-    ensures grows { Extends table.old table.new }
+    ensures id { IfOk result (IsIdOf table.new (pf (form_tree (form_of form.now) depth))) }
+    ensures extends { Extends table.old table.new }
 {
     let formula = form_id(table, form, depth)?;
     pf(table, formula)
@@ -146,8 +146,8 @@ fn proofs_id(table: &mut Table, form: &Form, depth: u32) -> Result<Id, AllocErro
 /// The type of the proofs of a premise.
 fn premise_id(table: &mut Table, premise: &Premise, depth: u32) -> Result<Id, AllocError>
     requires { depth + 2 < 2 ^ 32 }
-    ensures id { IfOk result (Gives table.new (premise_tree (premise_of premise.now) depth)) }
-    ensures grows { Extends table.old table.new }
+    ensures id { IfOk result (IsIdOf table.new (premise_tree (premise_of premise.now) depth)) }
+    ensures extends { Extends table.old table.new }
 {
     let (domain, form) = match premise {
         Premise::Plain(form) => return proofs_id(table, form, depth),
@@ -168,8 +168,8 @@ fn premises_id(
 ) -> Result<Id, AllocError>
     requires { depth + length premises.now + 2 < 2 ^ 32 }
     ensures id { let wanted = map premise_of premises.now in
-        IfOk result (Gives table.new (under_premises wanted (form_of conclusion.now) depth)) }
-    ensures grows { Extends table.old table.new }
+        IfOk result (IsIdOf table.new (under_premises wanted (form_of conclusion.now) depth)) }
+    ensures extends { Extends table.old table.new }
 {
     match premises {
         [] => proofs_id(table, conclusion, depth),
@@ -183,8 +183,8 @@ fn premises_id(
 
 /// The type of what a parameter ranges over.
 fn sort_id(table: &mut Table, sort: Sort) -> Result<Id, AllocError>
-    ensures id { IfOk result (Gives table.new (sort_type (sort_of sort))) }
-    ensures grows { Extends table.old table.new }
+    ensures id { IfOk result (IsIdOf table.new (sort_type (sort_of sort))) }
+    ensures extends { Extends table.old table.new }
 {
     let argument = match sort {
         Sort::Exp => return table.intern(Node::Fam(EXP)),
@@ -201,8 +201,8 @@ fn sort_id(table: &mut Table, sort: Sort) -> Result<Id, AllocError>
 pub fn over_sorts_id(table: &mut Table, sorts: &[Sort], range: Id) -> Result<Id, AllocError>
     requires { IsKnown table.old range }
     ensures id { IfOk result
-        (Gives table.new (over_sorts (map sort_of sorts.now) (tree_at table.old range))) }
-    ensures grows { Extends table.old table.new }
+        (IsIdOf table.new (over_sorts (map sort_of sorts.now) (tree_at table.old range))) }
+    ensures extends { Extends table.old table.new }
 {
     match sorts {
         [] => Ok(range),
@@ -217,8 +217,8 @@ pub fn over_sorts_id(table: &mut Table, sorts: &[Sort], range: Id) -> Result<Id,
 /// The type of a rule's constant.
 pub fn rule_id(table: &mut Table, rule: &Rule) -> Result<Id, AllocError>
     requires { IsShort rule.now }
-    ensures id { IfOk result (Gives table.new (rule_type (rule_of rule.now))) }
-    ensures grows { Extends table.old table.new }
+    ensures id { IfOk result (IsIdOf table.new (rule_type (rule_of rule.now))) }
+    ensures extends { Extends table.old table.new }
 {
     let depth = rule.parameters.len() as u32;
     let proofs = premises_id(table, rule.premises, &rule.conclusion, depth)?;
@@ -227,8 +227,8 @@ pub fn rule_id(table: &mut Table, rule: &Rule) -> Result<Id, AllocError>
 
 /// The type of a constant of which formulas are made.
 pub fn constant_id(table: &mut Table, constant: &Constant) -> Result<Id, AllocError>
-    ensures id { IfOk result (Gives table.new (constant_type constant.now)) }
-    ensures grows { Extends table.old table.new }
+    ensures id { IfOk result (IsIdOf table.new (constant_type constant.now)) }
+    ensures extends { Extends table.old table.new }
 {
     let family = table.intern(Node::Fam(constant.family))?;
     over_sorts_id(table, constant.arguments, family)

@@ -4,7 +4,7 @@ ghost use Rattle.std.specs.Prelude.{◌≡◌, IfOk};
 ghost use Rattle.term_table.specs.Table.{Extends, Stands};
 ghost use Rattle.term_table.specs.Tree.{Num, Lit, Calc, Fact, Deny};
 ghost use Rattle.lf_signature.specs.Terms.{lit, rel_term, form};
-ghost use Rattle.lf_signature.specs.Nodes.{Gives, type_at};
+ghost use Rattle.lf_signature.specs.Nodes.{IsIdOf, type_at};
 ghost use Rattle.lf_signature.specs.Sigma1.{declared};
 
 use crate::build::{constant_id, rule_id};
@@ -18,7 +18,7 @@ use word_ops::{Rel, apply, holds};
 /// The type of a numbered constant.
 fn numbered(table: &mut Table, number: u32) -> Result<Option<Id>, AllocError>
     ensures tree { IfOk result (Stands table.new (declared (Num number))) }
-    ensures grows { Extends table.old table.new }
+    ensures extends { Extends table.old table.new }
 {
     if let Some(constant) = constant_at(number) {
         return Ok(Some(constant_id(table, constant)?));
@@ -31,8 +31,8 @@ fn numbered(table: &mut Table, number: u32) -> Result<Option<Id>, AllocError>
 
 /// A relation of two words.
 fn relation(table: &mut Table, rel: Rel, a: u64, b: u64) -> Result<Id, AllocError>
-    ensures id { IfOk result (Gives table.new (rel_term rel (lit a) (lit b))) }
-    ensures grows { Extends table.old table.new }
+    ensures id { IfOk result (IsIdOf table.new (rel_term rel (lit a) (lit b))) }
+    ensures extends { Extends table.old table.new }
 {
     let left = table.intern(Node::Lit(a))?;
     let right = table.intern(Node::Lit(b))?;
@@ -42,7 +42,7 @@ fn relation(table: &mut Table, rel: Rel, a: u64, b: u64) -> Result<Id, AllocErro
 /// That an operator of two words gives what it gives.
 fn evaluation(table: &mut Table, op: u32, a: u64, b: u64) -> Result<Option<Id>, AllocError>
     ensures tree { IfOk result (Stands table.new (declared (Calc op a b))) }
-    ensures grows { Extends table.old table.new }
+    ensures extends { Extends table.old table.new }
 {
     let Some(op) = op_of(op) else {
         return Ok(None);
@@ -58,7 +58,7 @@ fn evaluation(table: &mut Table, op: u32, a: u64, b: u64) -> Result<Option<Id>, 
 /// That a relation of two words holds.
 fn fact(table: &mut Table, rel: u32, a: u64, b: u64) -> Result<Option<Id>, AllocError>
     ensures tree { IfOk result (Stands table.new (declared (Fact rel a b))) }
-    ensures grows { Extends table.old table.new }
+    ensures extends { Extends table.old table.new }
 {
     let Some(rel) = rel_of(rel) else {
         return Ok(None);
@@ -73,7 +73,7 @@ fn fact(table: &mut Table, rel: u32, a: u64, b: u64) -> Result<Option<Id>, Alloc
 /// That a relation of two words doesn't hold.
 fn denial(table: &mut Table, rel: u32, a: u64, b: u64) -> Result<Option<Id>, AllocError>
     ensures tree { IfOk result (Stands table.new (declared (Deny rel a b))) }
-    ensures grows { Extends table.old table.new }
+    ensures extends { Extends table.old table.new }
 {
     let Some(rel) = rel_of(rel) else {
         return Ok(None);
@@ -93,7 +93,7 @@ fn denial(table: &mut Table, rel: u32, a: u64, b: u64) -> Result<Option<Id>, All
 /// Errors: want of memory alone; each id keeps its tree.
 pub fn declared(table: &mut Table, constant: Node) -> Result<Option<Id>, AllocError>
     ensures tree { IfOk result (Stands table.new (type_at declared constant)) }
-    ensures grows { Extends table.old table.new }
+    ensures extends { Extends table.old table.new }
 {
     match constant {
         Node::Const(number) => numbered(table, number),

@@ -22,7 +22,7 @@ mod theorems;
 
 ghost use Rattle.std.specs.Prelude.{◌≡◌, Option, IfOk, refl};
 ghost use Rattle.term_table.specs.Tree.{Tree, Const};
-ghost use Rattle.term_table.specs.Table.{Terms, Extends, Stands};
+ghost use Rattle.term_table.specs.Table.{TableView, Extends, Stands};
 ghost use Rattle.lf_signature.specs.Nodes.{type_at};
 ghost use Rattle.lf_signature.specs.Order.{IsSignature};
 ghost use Rattle.lf_signature.specs.Sigma1.{declared};
@@ -44,10 +44,10 @@ pub use theorems::{
 /// their trees: so a call wants a table that holds what the signature keeps.
 pub trait Signature {
     // The table holds the ids that the signature keeps.
-    ghost holds: { Self → Terms → Type 0 };
+    ghost holds: { Self → TableView → Type 0 };
 
     // The declared types, over the table's trees.
-    ghost declares: { Self → Terms → Const → Option Tree };
+    ghost declares: { Self → TableView → Const → Option Tree };
 
     /// Answers the type of `constant`: None exactly where the signature gives it none, or the node
     /// is no constant.
@@ -57,17 +57,17 @@ pub trait Signature {
         requires { holds self.now table.old }
         ensures tree { IfOk result
             (Stands table.new (type_at (declares self.now table.old) constant)) }
-        ensures grows { Extends table.old table.new };
+        ensures extends { Extends table.old table.new };
 
     // What a table holds it holds as it grows.
-    ghost still_holds: { (s : Self) (t u : Terms) → Extends t u → holds s t → holds s u };
+    ghost still_holds: { (s : Self) (t u : TableView) → Extends t u → holds s t → holds s u };
 
     // The types stay the same trees as the table grows.
-    ghost same_types: { (s : Self) (t u : Terms) → Extends t u → holds s t →
+    ghost same_types: { (s : Self) (t u : TableView) → Extends t u → holds s t →
         declares s u ≡ declares s t };
 
     // Each type is closed and well formed over the constants before it.
-    ghost well_formed: { (s : Self) (t : Terms) → holds s t → IsSignature (declares s t) };
+    ghost well_formed: { (s : Self) (t : TableView) → holds s t → IsSignature (declares s t) };
 }
 
 /// The signature of word arithmetic: constants 0 to 87, the 64-bit words, and what is evaluated of

@@ -2,12 +2,12 @@
 use Rattle.std.proofs.Common.{◌↔◌, ◌≡◌, ℕ, zero, suc, ◌+◌, ◌-◌, ◌≤◌, ◌⊎◌, inl, inr, List, [], ◌∷◌, ◌++◌, length, take, drop, Result, Ok, Err, arith, refl, sym, ◌∙◌, ap, subst, append_assoc, length-append}
 use Rattle.std.proofs.lemmas.Bool.{cases_lt}
 use Rattle.std.proofs.lemmas.List.{get_or-drop, length-drop, length-take-le}
-use Rattle.packet_store.specs.Packets.{IsBytes, framed, claimed, spelling, AreShort, IsWhole, IsBadFront, IsFirstFault, offset_of}
-use Rattle.packet_store.specs.PacketReading.{packets_read}
+use Rattle.packet_store.specs.Packets.{IsBytes, packet_encoding, claimed_length, packets_encoding, AreShort, IsWhole, IsBadFront, IsFirstFault, offset_of}
+use Rattle.packet_store.specs.PacketDecoding.{decoded_packets}
 use Rattle.packet_store.specs.declared.fault.PacketFault.{PacketFault}
 use Rattle.packet_store.specs.declared.fault.PacketFault.TheVariants.{Cut, TooLong}
 use Rattle.packet_store.proofs.Frames.{framed_front}
-use Rattle.packet_store.proofs.Readings.{packets_read-whole, packets_read-fault}
+use Rattle.packet_store.proofs.Readings.{decoded_packets-whole, decoded_packets-fault}
 
 -- a file with a first fault
 record HasFault (bytes : List ℕ) : Type 0 where
@@ -36,12 +36,12 @@ IsBadFront-moved_by n bytes (Cut at) bad = bad
 IsBadFront-moved_by n bytes (TooLong at) bad = bad
 
 -- one packet more in front
-behind : (p rest bytes : List ℕ) → length p ≤ 65535 → bytes ≡ framed p ++ rest → IsWhole rest ⊎ HasFault rest → IsWhole bytes ⊎ HasFault bytes
-behind p rest bytes short e (inl whole) = inl (p ∷ whole.0, (short, whole.1), e ∙ ap (λ x. framed p ++ x) whole.2)
+behind : (p rest bytes : List ℕ) → length p ≤ 65535 → bytes ≡ packet_encoding p ++ rest → IsWhole rest ⊎ HasFault rest → IsWhole bytes ⊎ HasFault bytes
+behind p rest bytes short e (inl whole) = inl (p ∷ whole.0, (short, whole.1), e ∙ ap (λ x. packet_encoding p ++ x) whole.2)
 behind p rest bytes short e (inr has) =
     let f : IsFirstFault rest has.fault = has.first in
-    let n : ℕ = length (framed p) in
-    let l : length (framed p ++ spelling f.packets) ≡ n + length (spelling f.packets) = length-append (framed p) (spelling f.packets) in
+    let n : ℕ = length (packet_encoding p) in
+    let l : length (packet_encoding p ++ packets_encoding f.packets) ≡ n + length (packets_encoding f.packets) = length-append (packet_encoding p) (packets_encoding f.packets) in
     let at : offset_of (moved_by n has.fault) ≡ n + offset_of has.fault = offset_of-moved_by n has.fault in
     inr
     (record {
@@ -50,7 +50,7 @@ behind p rest bytes short e (inr has) =
         packets = p ∷ f.packets;
         short = (short, f.short);
         rest = f.rest;
-        split = e ∙ ap (λ x. framed p ++ x) f.split ∙ sym (append_assoc (framed p) (spelling f.packets) f.rest);
+        split = e ∙ ap (λ x. packet_encoding p ++ x) f.split ∙ sym (append_assoc (packet_encoding p) (packets_encoding f.packets) f.rest);
         offset = omega (arith, l, at, f.offset);
         bad = IsBadFront-moved_by n f.rest has.fault f.bad;
       };
@@ -61,7 +61,7 @@ either_within n [] few are = inl ([], tt, refl)
 either_within zero (b ∷ bytes) few are = absurd (omega arith)
 either_within (suc n) (b ∷ tail) few are =
     let bytes : List ℕ = b ∷ tail in
-    let c : ℕ = claimed bytes in
+    let c : ℕ = claimed_length bytes in
     elim (cases_lt (length bytes) 4) [
       | inl cut ↦ inr (at_front bytes (Cut 0) refl (omega arith, inl cut))
       | inr enough ↦ elim (cases_lt 65535 c) [
@@ -73,7 +73,7 @@ either_within (suc n) (b ∷ tail) few are =
               let rest : List ℕ = drop c (drop 4 bytes) in
               let left : length rest ≡ length (drop 4 bytes) - c = length-drop c (drop 4 bytes) in
               let len : length (take c (drop 4 bytes)) ≡ c = length-take-le c (drop 4 bytes) (omega (arith, body)) in
-              let e : bytes ≡ framed (take c (drop 4 bytes)) ++ rest = framed_front bytes (take c (drop 4 bytes)) rest c enough are refl refl refl len in
+              let e : bytes ≡ packet_encoding (take c (drop 4 bytes)) ++ rest = framed_front bytes (take c (drop 4 bytes)) rest c enough are refl refl refl len in
               behind (take c (drop 4 bytes)) rest bytes (omega (arith, len)) e (either_within n rest (omega (arith, left, body)) (IsBytes-drop c (drop 4 bytes) (IsBytes-drop 4 bytes are)))
         ]
       ]
@@ -94,18 +94,18 @@ failed f = Err f
 same_fault : (f g : PacketFault) → failed f ≡ failed g → f ≡ g
 same_fault f g e = cc
 
-pub whole_exactly : (bytes : List ℕ) (ps : List (List ℕ)) → IsBytes bytes → (packets_read bytes ≡ Ok ps) ↔ (AreShort ps × (bytes ≡ spelling ps))
-whole_exactly bytes ps are = (λ read. back read (either bytes are), λ h. packets_read-whole bytes ps h.0 h.1) where
-  back : packets_read bytes ≡ Ok ps → IsWhole bytes ⊎ HasFault bytes → AreShort ps × (bytes ≡ spelling ps)
+pub whole_exactly : (bytes : List ℕ) (ps : List (List ℕ)) → IsBytes bytes → (decoded_packets bytes ≡ Ok ps) ↔ (AreShort ps × (bytes ≡ packets_encoding ps))
+whole_exactly bytes ps are = (λ read. back read (either bytes are), λ h. decoded_packets-whole bytes ps h.0 h.1) where
+  back : decoded_packets bytes ≡ Ok ps → IsWhole bytes ⊎ HasFault bytes → AreShort ps × (bytes ≡ packets_encoding ps)
   back read (inl whole) =
-      let same : whole.0 ≡ ps = same_packets whole.0 ps (sym (packets_read-whole bytes whole.0 whole.1 whole.2) ∙ read) in
-      subst (λ qs. AreShort qs × (bytes ≡ spelling qs)) same (whole.1, whole.2)
-  back read (inr has) = let wrong : done ps ≡ failed has.fault = sym read ∙ packets_read-fault bytes has.fault has.first in absurd (cc)
+      let same : whole.0 ≡ ps = same_packets whole.0 ps (sym (decoded_packets-whole bytes whole.0 whole.1 whole.2) ∙ read) in
+      subst (λ qs. AreShort qs × (bytes ≡ packets_encoding qs)) same (whole.1, whole.2)
+  back read (inr has) = let wrong : done ps ≡ failed has.fault = sym read ∙ decoded_packets-fault bytes has.fault has.first in absurd (cc)
 
-pub fault_exactly : (bytes : List ℕ) (fault : PacketFault) → IsBytes bytes → (packets_read bytes ≡ Err fault) ↔ IsFirstFault bytes fault
-fault_exactly bytes fault are = (λ read. back read (either bytes are), packets_read-fault bytes fault) where
-  back : packets_read bytes ≡ Err fault → IsWhole bytes ⊎ HasFault bytes → IsFirstFault bytes fault
-  back read (inl whole) = let wrong : failed fault ≡ done whole.0 = sym read ∙ packets_read-whole bytes whole.0 whole.1 whole.2 in absurd (cc)
+pub fault_exactly : (bytes : List ℕ) (fault : PacketFault) → IsBytes bytes → (decoded_packets bytes ≡ Err fault) ↔ IsFirstFault bytes fault
+fault_exactly bytes fault are = (λ read. back read (either bytes are), decoded_packets-fault bytes fault) where
+  back : decoded_packets bytes ≡ Err fault → IsWhole bytes ⊎ HasFault bytes → IsFirstFault bytes fault
+  back read (inl whole) = let wrong : failed fault ≡ done whole.0 = sym read ∙ decoded_packets-whole bytes whole.0 whole.1 whole.2 in absurd (cc)
   back read (inr has) =
-      let same : has.fault ≡ fault = same_fault has.fault fault (sym (packets_read-fault bytes has.fault has.first) ∙ read) in
+      let same : has.fault ≡ fault = same_fault has.fault fault (sym (decoded_packets-fault bytes has.fault has.first) ∙ read) in
       subst (IsFirstFault bytes) same has.first

@@ -7,11 +7,11 @@ use Rattle.policy_set.specs.declared.Policy.TheVariants.{Filter, Tag, Table}
 use Rattle.alpha_cfg.specs.Machine.{IsState}
 use Rattle.reference_machine.specs.Arena.{quadword}
 use Rattle.reference_machine.specs.Agents.{IsInArena, AreInArena}
-use Rattle.reference_machine.specs.Starts.{Setup, Fits, HasWords, start_state}
+use Rattle.reference_machine.specs.Starts.{StartView, Fits, HasWords, start_state}
 use Rattle.reference_machine.proofs.Fresh.{both_in}
 use Rattle.reference_machine.proofs.Starting.{start_state-is}
 use Rattle.packet_store.specs.Packets.{IsBytes}
-use Rattle.packet_store.specs.PolicyStarts.{start_of, filter_setup, tag_setup, table_setup, quadwords_of, unused}
+use Rattle.packet_store.specs.PolicyStarts.{start_of, filter_start, tag_start, table_start, quadwords_of, unused}
 
 unused_in : IsInArena 65536 unused
 unused_in = record { from = omega arith; aligned = refl; to = omega arith }
@@ -22,7 +22,7 @@ span_in base count from aligned to = record { from = from; aligned = aligned; to
 two_in : (s t : ℕ × ℕ) → IsInArena 65536 s → IsInArena 65536 t → AreInArena 65536 (s ∷ t ∷ [])
 two_in s t p q = both_in (IsInArena 65536) s t p q
 
-filter_fits : (packet : List ℕ) → length packet ≤ 65535 → Fits 65536 (filter_setup packet)
+filter_fits : (packet : List ℕ) → length packet ≤ 65535 → Fits 65536 (filter_start packet)
 filter_fits packet short = record {
   bytes_in = span_in 65552 (quadwords_of packet) (omega arith) refl (omega arith);
   region_in = span_in 65552 0 (omega arith) refl (omega arith);
@@ -30,7 +30,7 @@ filter_fits packet short = record {
   writes_in = two_in (65536, 2) unused (span_in 65536 2 (omega arith) refl (omega arith)) unused_in;
 }
 
-filter_words : (packet : List ℕ) → length packet ≤ 65535 → IsBytes packet → HasWords (filter_setup packet)
+filter_words : (packet : List ℕ) → length packet ≤ 65535 → IsBytes packet → HasWords (filter_start packet)
 filter_words packet short bytes = record { r16 = omega arith; r17 = omega arith; r18 = omega arith; bytes = bytes }
 
 tag_span : (b : Bool) → IsInArena 65536 (if b then unused else (65544, 1))
@@ -40,7 +40,7 @@ tag_span false = span_in 65544 1 (omega arith) refl (omega arith)
 sixteen : (packet : List ℕ) → 16 ≤ length packet → length (take 16 packet) ≡ 16
 sixteen packet enough = let e : length (take 16 packet) ≡ min 16 (length packet) = length-take 16 packet in omega (arith, e)
 
-tag_fits : (packet : List ℕ) → 16 ≤ length packet → Fits 65536 (tag_setup packet)
+tag_fits : (packet : List ℕ) → 16 ≤ length packet → Fits 65536 (tag_start packet)
 tag_fits packet enough = record {
   bytes_in = let e : length (take 16 packet) ≡ 16 = sixteen packet enough in span_in 65536 ((length (take 16 packet) + 7) / 8) (omega arith) refl (omega (arith, e));
   region_in = span_in 65536 2 (omega arith) refl (omega arith);
@@ -57,38 +57,38 @@ front_bytes n packet bytes i = elim (cases_lt i n) [
       omega (arith, e)
 ]
 
-pub tag_words : (packet : List ℕ) → IsBytes packet → HasWords (tag_setup packet)
+pub tag_words : (packet : List ℕ) → IsBytes packet → HasWords (tag_start packet)
 tag_words packet bytes = record { r16 = omega arith; r17 = omega arith; r18 = omega arith; bytes = front_bytes 16 packet bytes }
 
-table_fits : (packet : List ℕ) → length packet ≤ 65535 → Fits 65536 (table_setup packet)
+table_fits : (packet : List ℕ) → length packet ≤ 65535 → Fits 65536 (table_start packet)
 table_fits packet short =
     let all : IsInArena 65536 (65536, quadwords_of packet) = span_in 65536 (quadwords_of packet) (omega arith) refl (omega arith) in
     record { bytes_in = all; region_in = all; reads_in = two_in (65536, quadwords_of packet) unused all unused_in; writes_in = two_in (65536, quadwords_of packet) unused all unused_in }
 
-table_words : (packet : List ℕ) → length packet ≤ 65535 → IsBytes packet → HasWords (table_setup packet)
+table_words : (packet : List ℕ) → length packet ≤ 65535 → IsBytes packet → HasWords (table_start packet)
 table_words packet short bytes = record { r16 = omega arith; r17 = omega arith; r18 = omega arith; bytes = bytes }
 
 -- what a policy's start is
-pub record IsGood (setup : Setup) : Type 0 where
+pub record IsGood (setup : StartView) : Type 0 where
   pub fits : Fits 65536 setup
   pub words : HasWords setup
 
 the_same : {A : Type 0} (P : A → Type 0) (x y : A) → P x → Some x ≡ Some y → P y
 the_same P x y p e = let same : x ≡ y = cc in subst P same p
 
-pub start_of-good : (policy : Policy) (packet : List ℕ) (setup : Setup) → length packet ≤ 65535 → IsBytes packet → start_of policy packet ≡ Some setup → IsGood setup
+pub start_of-good : (policy : Policy) (packet : List ℕ) (setup : StartView) → length packet ≤ 65535 → IsBytes packet → start_of policy packet ≡ Some setup → IsGood setup
 unfolding start_of
 start_of-good Filter packet setup short bytes e = elim (cases_lt (length packet) 64) [
   | inl less ↦ let none : None ≡ Some setup = rw (lt-ltb (length packet) 64 less) at e in cc
-  | inr enough ↦ the_same IsGood (filter_setup packet) setup (record { fits = filter_fits packet short; words = filter_words packet short bytes }) (rw (le-ltb (length packet) 64 enough) at e)
+  | inr enough ↦ the_same IsGood (filter_start packet) setup (record { fits = filter_fits packet short; words = filter_words packet short bytes }) (rw (le-ltb (length packet) 64 enough) at e)
 ]
 start_of-good Tag packet setup short bytes e = elim (cases_lt (length packet) 16) [
   | inl less ↦ let none : None ≡ Some setup = rw (lt-ltb (length packet) 16 less) at e in cc
-  | inr enough ↦ the_same IsGood (tag_setup packet) setup (record { fits = tag_fits packet enough; words = tag_words packet bytes }) (rw (le-ltb (length packet) 16 enough) at e)
+  | inr enough ↦ the_same IsGood (tag_start packet) setup (record { fits = tag_fits packet enough; words = tag_words packet bytes }) (rw (le-ltb (length packet) 16 enough) at e)
 ]
-start_of-good Table packet setup short bytes e = the_same IsGood (table_setup packet) setup (record { fits = table_fits packet short; words = table_words packet short bytes }) e
+start_of-good Table packet setup short bytes e = the_same IsGood (table_start packet) setup (record { fits = table_fits packet short; words = table_words packet short bytes }) e
 
-pub start_of-state : (policy : Policy) (packet : List ℕ) (setup : Setup) → length packet ≤ 65535 → IsBytes packet → start_of policy packet ≡ Some setup → IsState (start_state 65536 setup)
+pub start_of-state : (policy : Policy) (packet : List ℕ) (setup : StartView) → length packet ≤ 65535 → IsBytes packet → start_of policy packet ≡ Some setup → IsState (start_state 65536 setup)
 start_of-state policy packet setup short bytes e =
     let good : IsGood setup = start_of-good policy packet setup short bytes e in
     start_state-is 65536 setup refl (omega arith) good.fits good.words

@@ -1,5 +1,5 @@
 pub mod Packets
-pub mod PacketReading
+pub mod PacketDecoding
 pub mod Yields
 pub mod PolicyStarts
 pub mod Results

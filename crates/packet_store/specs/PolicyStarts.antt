@@ -4,7 +4,7 @@ use Rattle.policy_set.specs.declared.Policy.{Policy}
 use Rattle.policy_set.specs.declared.Policy.TheVariants.{Filter, Tag, Table}
 use Rattle.reference_machine.specs.declared.layout.TheConstants.{ARENA}
 use Rattle.reference_machine.specs.Arena.{quadword}
-use Rattle.reference_machine.specs.Starts.{Setup}
+use Rattle.reference_machine.specs.Starts.{StartView}
 
 -- how many quadwords the bytes fill, the last padded with zeros
 abbrev pub quadwords_of : List ℕ → ℕ
@@ -15,8 +15,8 @@ abbrev pub unused : ℕ × ℕ
 unused = (ARENA, 0)
 
 -- two quadwords of scratch, and the packet behind them; both may be loaded, and scratch stored
-abbrev pub filter_setup : List ℕ → Setup
-filter_setup packet = record {
+abbrev pub filter_start : List ℕ → StartView
+filter_start packet = record {
   r16 = ARENA + 16;
   r17 = length packet;
   r18 = ARENA;
@@ -28,8 +28,8 @@ filter_setup packet = record {
 }
 
 -- the first 16 bytes; both quadwords may be loaded, and the second stored where the first isn't 0
-abbrev pub tag_setup : List ℕ → Setup
-tag_setup packet = record {
+abbrev pub tag_start : List ℕ → StartView
+tag_start packet = record {
   r16 = ARENA;
   r17 = 0;
   r18 = 0;
@@ -41,8 +41,8 @@ tag_setup packet = record {
 }
 
 -- the packet's quadwords, all of which may be loaded and stored
-abbrev pub table_setup : List ℕ → Setup
-table_setup packet = record {
+abbrev pub table_start : List ℕ → StartView
+table_start packet = record {
   r16 = ARENA;
   r17 = quadwords_of packet;
   r18 = 0;
@@ -54,7 +54,7 @@ table_setup packet = record {
 }
 
 -- a filter's packet is short below 64 bytes, a tag's below 16, and a table's never
-unfoldable pub start_of : Policy → List ℕ → Option Setup
-start_of Filter packet = if nat_lt (length packet) 64 then None else Some (filter_setup packet)
-start_of Tag packet = if nat_lt (length packet) 16 then None else Some (tag_setup packet)
-start_of Table packet = Some (table_setup packet)
+unfoldable pub start_of : Policy → List ℕ → Option StartView
+start_of Filter packet = if nat_lt (length packet) 64 then None else Some (filter_start packet)
+start_of Tag packet = if nat_lt (length packet) 16 then None else Some (tag_start packet)
+start_of Table packet = Some (table_start packet)

@@ -4,13 +4,13 @@ use Rattle.alpha_words.specs.declared.insn.Insn.{Insn}
 use Rattle.alpha_cfg.specs.Machine.{run_of}
 use Rattle.policy_set.specs.declared.Policy.{Policy}
 use Rattle.reference_machine.specs.Arena.{sum_of}
-use Rattle.reference_machine.specs.Starts.{Setup, start_state}
+use Rattle.reference_machine.specs.Starts.{StartView, start_state}
 use Rattle.packet_store.specs.declared.results.PacketResult.{PacketResult}
 use Rattle.packet_store.specs.declared.results.PacketResult.TheVariants.{Short, Ran}
 use Rattle.packet_store.specs.PolicyStarts.{start_of}
 
 -- the run of the code with a budget of steps, from a start, where there is one
-unfoldable pub result_from : List Insn → ℕ → Option Setup → PacketResult
+unfoldable pub result_from : List Insn → ℕ → Option StartView → PacketResult
 result_from code budget None = Short
 result_from code budget (Some setup) =
     let end = run_of code budget (start_state 65536 setup) in

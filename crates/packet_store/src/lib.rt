@@ -3,7 +3,7 @@
 //! The layers above use that `packets` gives exactly the packets of a file in order, or its first
 //! fault; that `start` gives the start of a policy on a packet, None exactly where the packet is
 //! short; and the trait `PacketRunner`, whose one call runs a packet. The grammar of packet files
-//! stands in `specs/Packets` (as a relation) and `specs/PacketReading` (as a function), the start
+//! stands in `specs/Packets` (as a relation) and `specs/PacketDecoding` (as a function), the start
 //! states in `specs/PolicyStarts`, what a packet comes to in `specs/Results`, and the names of
 //! faults in `specs/Names`.
 #![tactic(auto)]

@@ -2,7 +2,7 @@
 
 ghost use Rattle.std.specs.Prelude.{◌≡◌, ◌++◌, ◌+◌, ◌<◌, ◌≤◌, MatchResult, IfOk, IfErr, length, ◌^◌};
 ghost use Rattle.packet_store.specs.Packets as file;
-ghost use Rattle.packet_store.specs.PacketReading.{packets_read};
+ghost use Rattle.packet_store.specs.PacketDecoding.{decoded_packets};
 
 use crate::fault::PacketFault;
 use std::marker::Model;
@@ -13,7 +13,7 @@ pub const MAX_PACKET: u32 = 65_535;
 /// The length that the next packet claims.
 fn claimed(bytes: &[u8]) -> u32
     requires { 4 ≤ length bytes.now }
-    ensures { result ≡ file.claimed bytes.now }
+    ensures { result ≡ file.claimed_length bytes.now }
 {
     u32::from_le_bytes([bytes[0], bytes[1], bytes[2], bytes[3]])
 }
@@ -22,7 +22,7 @@ fn claimed(bytes: &[u8]) -> u32
 fn first(bytes: &[u8], offset: u64) -> Result<(&[u8], &[u8]), PacketFault>
     requires { 0 < length bytes.now }
     ensures { MatchResult result
-        (λ r. (bytes.now ≡ file.framed r.0.now ++ r.1.now) × (length r.0.now ≤ MAX_PACKET))
+        (λ r. (bytes.now ≡ file.packet_encoding r.0.now ++ r.1.now) × (length r.0.now ≤ MAX_PACKET))
         (λ e. file.IsBadFront bytes.now e × (file.offset_of e ≡ offset)) }
 {
     if bytes.len() < 4 {
@@ -48,12 +48,12 @@ pub struct PacketIter<'b> {
 
 impl<'b> Model for PacketIter<'b> {
     ghost use Rattle.std.specs.Prelude.{ℕ, List};
-    ghost use Rattle.packet_store.specs.PacketReading.{packets_in};
+    ghost use Rattle.packet_store.specs.PacketDecoding.{whole_packets};
     ghost use Rattle.packet_store.specs.Packets.{IsWhole};
 
     ghost Value = { List (List ℕ) };
 
-    ghost view = { λ it. packets_in it.rest.now };
+    ghost view = { λ it. whole_packets it.rest.now };
 
     ghost invariant = { λ it. IsWhole it.rest.now };
 }
@@ -77,9 +77,9 @@ fn find_fault(bytes: &[u8]) -> Result<(), PacketFault>
 /// The packets of the file in order, or its first fault. The whole file is looked through first.
 pub fn packets(bytes: &[u8]) -> Result<PacketIter<'_>, PacketFault>
     requires { length bytes.now < 2 ^ 63 }
-    ensures spelled { IfOk result (λ ps. file.AreShort ps × (bytes.now ≡ file.spelling ps)) }
+    ensures spelled { IfOk result (λ ps. file.AreShort ps × (bytes.now ≡ file.packets_encoding ps)) }
     ensures fault { IfErr result (λ e. file.IsFirstFault bytes.now e) }
-    ensures tested { result ≡ packets_read bytes.now }
+    ensures tested { result ≡ decoded_packets bytes.now }
 {
     match find_fault(bytes) {
         Ok(()) => Ok(PacketIter { rest: bytes }),
@@ -95,12 +95,12 @@ pub struct PacketFile {
 
 impl Model for PacketFile {
     ghost use Rattle.std.specs.Prelude.{ℕ, List};
-    ghost use Rattle.packet_store.specs.PacketReading.{packets_in};
+    ghost use Rattle.packet_store.specs.PacketDecoding.{whole_packets};
     ghost use Rattle.packet_store.specs.Packets.{IsWhole};
 
     ghost Value = { List (List ℕ) };
 
-    ghost view = { λ f. packets_in f.bytes.items };
+    ghost view = { λ f. whole_packets f.bytes.items };
 
     ghost invariant = { λ f. IsWhole f.bytes.items };
 }
@@ -108,7 +108,7 @@ impl Model for PacketFile {
 impl PacketFile {
     /// The packet file of these bytes, or its first fault.
     pub fn new(bytes: Vec<u8>) -> Result<PacketFile, PacketFault>
-        ensures { result ≡ packets_read bytes.items }
+        ensures { result ≡ decoded_packets bytes.items }
     {
         match find_fault(&bytes) {
             Ok(()) => Ok(PacketFile { bytes }),

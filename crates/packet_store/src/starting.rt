@@ -1,9 +1,9 @@
 //! The start of each policy on a packet.
 
 ghost use Rattle.std.specs.Prelude.{◌≡◌, ◌==◌, ◌≤◌, option_map, IfSome, length};
-ghost use Rattle.packet_store.specs.PolicyStarts.{start_of, filter_setup, tag_setup, table_setup};
+ghost use Rattle.packet_store.specs.PolicyStarts.{start_of, filter_start, tag_start, table_start};
 ghost use Rattle.reference_machine.specs.Arena.{quadword};
-ghost use Rattle.reference_machine.specs.Setups.{setup_of};
+ghost use Rattle.reference_machine.specs.Setups.{start_view};
 ghost use Rattle.reference_machine.specs.Starts.{Fits, HasWords};
 
 use crate::reader::MAX_PACKET;
@@ -16,7 +16,7 @@ const UNUSED: (u64, u64) = (ARENA, 0);
 /// Two quadwords of scratch, and the packet behind them.
 fn filter_start(packet: &[u8]) -> Start<'_>
     requires { length packet.now ≤ MAX_PACKET }
-    ensures value { setup_of result ≡ filter_setup packet.now }
+    ensures value { start_view result ≡ filter_start packet.now }
 {
     Start {
         r16: ARENA + 16,
@@ -44,7 +44,7 @@ fn begins_with_zero(packet: &[u8]) -> bool
 /// The first 16 bytes, of which the second quadword may be stored where the first isn't 0.
 fn tag_start(packet: &[u8]) -> Start<'_>
     requires { 16 ≤ length packet.now }
-    ensures value { setup_of result ≡ tag_setup packet.now }
+    ensures value { start_view result ≡ tag_start packet.now }
 {
     let second = if begins_with_zero(packet) {
         UNUSED
@@ -66,7 +66,7 @@ fn tag_start(packet: &[u8]) -> Start<'_>
 /// The packet's quadwords, all of which may be loaded and stored.
 fn table_start(packet: &[u8]) -> Start<'_>
     requires { length packet.now ≤ MAX_PACKET }
-    ensures value { setup_of result ≡ table_setup packet.now }
+    ensures value { start_view result ≡ table_start packet.now }
 {
     let count = (packet.len() as u64 + 7) / 8;
     Start {
@@ -86,9 +86,9 @@ fn table_start(packet: &[u8]) -> Start<'_>
 #[tactic(auto, unfolding(crate::specs::PolicyStarts::start_of))]
 pub fn start<'b>(policy: &Policy, packet: &'b [u8]) -> Option<Start<'b>>
     requires { length packet.now ≤ MAX_PACKET }
-    ensures exact { option_map setup_of result ≡ start_of policy.now packet.now }
-    ensures fits { IfSome result (λ s. Fits ARENA (setup_of s)) }
-    ensures words { IfSome result (λ s. HasWords (setup_of s)) }
+    ensures exact { option_map start_view result ≡ start_of policy.now packet.now }
+    ensures fits { IfSome result (λ s. Fits ARENA (start_view s)) }
+    ensures words { IfSome result (λ s. HasWords (start_view s)) }
 {
     match policy {
         Policy::Filter => {

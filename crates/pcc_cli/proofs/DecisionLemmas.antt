@@ -57,7 +57,7 @@ module _ (invocation : Invocation) (old new : FilesState) (known : standing_of i
   refused_late exit some small late comes = answered (record {
     change = None;
     made = comes.same;
-    exact = IfSome_then old.told {P = λ files. (stages_of invocation files).result ≡ Err exit} {Q = λ files. answer_of (stages_of invocation files).result ≡ record { exit = exit; change = None }} comes.exact (λ files e. ap answer_of e);
+    exact = IfSome_then old.contents {P = λ files. (stages_of invocation files).result ≡ Err exit} {Q = λ files. answer_of (stages_of invocation files).result ≡ record { exit = exit; change = None }} comes.exact (λ files e. ap answer_of e);
     in_range = omega arith;
     no_change = λ _. refl;
     suits = suits_late exit late;
@@ -67,7 +67,7 @@ module _ (invocation : Invocation) (old new : FilesState) (known : standing_of i
   decides_command (Ok report) comes = answered (record {
     change = None;
     made = comes.same;
-    exact = IfSome_then old.told {P = λ files. (stages_of invocation files).result ≡ Ok (effect_of report)} {Q = λ files. answer_of (stages_of invocation files).result ≡ answer_of (Ok (effect_of report))} comes.exact (λ files e. ap answer_of e);
+    exact = IfSome_then old.contents {P = λ files. (stages_of invocation files).result ≡ Ok (effect_of report)} {Q = λ files. answer_of (stages_of invocation files).result ≡ answer_of (Ok (effect_of report))} comes.exact (λ files e. ap answer_of e);
     in_range = omega arith;
     no_change = λ _. refl;
     suits = suits_late (exit_of (Ok report)) (late_status (exit_of (Ok report)) (λ e. absurd (omega arith)) (λ e. absurd (omega arith)));

@@ -5,7 +5,7 @@ use Rattle.std.specs.Result.{IsErrAnd}
 use Rattle.file_port.specs.Files.{FileMap, FilesState}
 use Rattle.alpha_words.specs.declared.insn.Insn.{Insn}
 use Rattle.policy_set.specs.declared.Policy.{Policy}
-use Rattle.policy_set.specs.Names.{named}
+use Rattle.policy_set.specs.Names.{policy_of}
 use Rattle.packet_store.specs.Results.{packet_result}
 use Rattle.pcc_words.specs.Invocations.{ref}
 use Rattle.pcc_lines.specs.Results.{result_lines}
@@ -33,24 +33,24 @@ policy-err None e is = (cc, refl)
 policy-err (Some other) e is = absurd (let bad : Err e ≡ Ok other = is in cc)
 
 module _ (policy file packets : List ℕ) (steps : ℕ) where
-  unknown : (state : FilesState) → named policy ≡ None → Decides (request_of_command (Some (ref policy file packets steps))) state state (Err stop.UnknownPolicy)
+  unknown : (state : FilesState) → policy_of policy ≡ None → Decides (request_of_command (Some (ref policy file packets steps))) state state (Err stop.UnknownPolicy)
   unfolding ref_command
   unknown state none = answered (record {
     change = None;
     made = refl;
-    exact = told_each state.told (λ files. answer_of (ref_command policy file packets steps files).result ≡ record { exit = unknown_policy_exit texts; change = None }) (λ files. ap answer_of (go_on-err [] (λ p. code_of p file files >>= λ code. packets_of packets files >>= λ all. printing (result_lines p (packet_result p code steps) 0 all)) (policy_found (named policy)) (unknown_policy_exit texts) (ap policy_found none)));
+    exact = told_each state.contents (λ files. answer_of (ref_command policy file packets steps files).result ≡ record { exit = unknown_policy_exit texts; change = None }) (λ files. ap answer_of (go_on-err [] (λ p. code_of p file files >>= λ code. packets_of packets files >>= λ all. printing (result_lines p (packet_result p code steps) 0 all)) (policy_found (policy_of policy)) (unknown_policy_exit texts) (ap policy_found none)));
     in_range = omega arith;
     no_change = λ _. refl;
     suits = subst (λ (s : Standing). Suits texts s (unknown_policy_exit texts)) (sym (ap standing_on none)) refl;
   })
 
-  pub no_policy : (state : FilesState) (e : Stop) (r : Result Report Stop) → Err e ≡ policy_or_stop (named policy) → IsErrAnd r (λ y. y ≡ e) → Decides (request_of_command (Some (ref policy file packets steps))) state state r
+  pub no_policy : (state : FilesState) (e : Stop) (r : Result Report Stop) → Err e ≡ policy_or_stop (policy_of policy) → IsErrAnd r (λ y. y ≡ e) → Decides (request_of_command (Some (ref policy file packets steps))) state state r
   no_policy state e (Ok x) is exits = absurd exits
   no_policy state e (Err y) is exits =
-      let both = policy-err (named policy) e is in
+      let both = policy-err (policy_of policy) e is in
       subst (λ (z : Stop). Decides (request_of_command (Some (ref policy file packets steps))) state state (Err z)) (sym (exits ∙ both.0)) (unknown state both.1)
 
-  module _ (under : Policy) (known : named policy ≡ Some under) where
+  module _ (under : Policy) (known : policy_of policy ≡ Some under) where
     -- the stages behind the policy
     abbrev behind : FileMap → Staged Effect
     behind files = code_of under file files >>= λ code. packets_of packets files >>= λ all. printing (result_lines under (packet_result under code steps) 0 all)
@@ -59,7 +59,7 @@ module _ (policy file packets : List ℕ) (steps : ℕ) where
     unfolding ref_command
     whole old new r h =
         decides_command (ref policy file packets steps) old new (ap standing_on known) r
-        (gives_later (λ files. policy_named policy) (λ p files. code_of p file files >>= λ code. packets_of packets files >>= λ all. printing (result_lines p (packet_result p code steps) 0 all)) (file ∷ packets ∷ []) (file ∷ packets ∷ []) (λ name has. has) effect_of under old old new (record { same = refl; exact = told_each old.told (λ files. policy_found (named policy) ≡ Ok under) (λ files. ap policy_found known) }) r h)
+        (gives_later (λ files. policy_named policy) (λ p files. code_of p file files >>= λ code. packets_of packets files >>= λ all. printing (result_lines p (packet_result p code steps) 0 all)) (file ∷ packets ∷ []) (file ∷ packets ∷ []) (λ name has. has) effect_of under old old new (record { same = refl; exact = told_each old.contents (λ files. policy_found (policy_of policy) ≡ Ok under) (λ files. ap policy_found known) }) r h)
 
     pub no_code : (old new : FilesState) (e : Stop) (r : Result Report Stop) → Stops (file ∷ []) (code_of under file) old new e → IsErrAnd r (λ y. y ≡ e) → Decides (request_of_command (Some (ref policy file packets steps))) old new r
     no_code old new e r stops exits = whole old new r
@@ -86,4 +86,4 @@ module _ (policy file packets : List ℕ) (steps : ℕ) where
             (gives_later (packets_of packets) (λ all files. printing (result_lines under (packet_result under code steps) 0 all)) (packets ∷ []) (packets ∷ []) (λ name has. has) effect_of all mid new new second r h)
 
         pub done : (report : Report) → report_text report ≡ result_lines under (packet_result under code steps) 0 all → Decides (request_of_command (Some (ref policy file packets steps))) old new (Ok report)
-        done report lines = read (Ok report) (record { same = refl; exact = told_each new.told (λ files. (printing (result_lines under (packet_result under code steps) 0 all)).result ≡ Ok (effect_of report)) (λ files. ap (λ (text : List ℕ). (printing text).result) (sym lines)) })
+        done report lines = read (Ok report) (record { same = refl; exact = told_each new.contents (λ files. (printing (result_lines under (packet_result under code steps) 0 all)).result ≡ Ok (effect_of report)) (λ files. ap (λ (text : List ℕ). (printing text).result) (sym lines)) })

@@ -11,12 +11,12 @@ use Rattle.pcc_cli.specs.declared.stop.Stop.{Stop}
 use Rattle.pcc_cli.specs.declared.stop.Stop.TheVariants as stop
 
 -- what holds of all files
-pub told_each : (told : Option FileMap) (P : FileMap → Type 0) → ((files : FileMap) → P files) → IfSome told P
+pub told_each : (contents : Option FileMap) (P : FileMap → Type 0) → ((files : FileMap) → P files) → IfSome contents P
 told_each None P each = tt
 told_each (Some files) P each = each files
 
 -- two facts of the files
-told_both : (told : Option FileMap) (P Q R : FileMap → Type 0) → ((files : FileMap) → P files → Q files → R files) → IfSome told P → IfSome told Q → IfSome told R
+told_both : (contents : Option FileMap) (P Q R : FileMap → Type 0) → ((files : FileMap) → P files → Q files → R files) → IfSome contents P → IfSome contents Q → IfSome contents R
 told_both None P Q R joined p q = tt
 told_both (Some files) P Q R joined p q = joined files p q
 
@@ -54,11 +54,11 @@ module _ {A B : Type 0} (stage : Staged A) (next : A → Staged B) where
 
 -- a stage that reads no file, as one over files
 pub lifted : {A C : Type 0} (view : C → A) (names : List (List ℕ)) (stage : Staged A) (state : FilesState) (r : Result C Stop) → GivesPure view stage r → Gives view names (λ files. stage) state state r
-lifted view names stage state (Ok x) h = record { same = refl; exact = told_each state.told (λ files. stage.result ≡ Ok (view x)) (λ files. h) }
+lifted view names stage state (Ok x) h = record { same = refl; exact = told_each state.contents (λ files. stage.result ≡ Ok (view x)) (λ files. h) }
 lifted view names stage state (Err e) h = stopped e h
   where
     comes : (exit : Exit) → stage.result ≡ Err exit → ComesTo (λ files. stage) state state (Err exit)
-    comes exit e = record { same = refl; exact = told_each state.told (λ files. stage.result ≡ Err exit) (λ files. e) }
+    comes exit e = record { same = refl; exact = told_each state.contents (λ files. stage.result ≡ Err exit) (λ files. e) }
 
     stopped : (e : Stop) → StopsPure stage e → Stops names (λ files. stage) state state e
     stopped stop.Usage h = absurd h
@@ -77,7 +77,7 @@ module _ {A B : Type 0} (stage : FileMap → Staged A) (next : A → FileMap →
   comes_first : (old new : FilesState) (exit : Exit) → ComesTo stage old new (Err exit) → ComesTo (λ files. stage files >>= λ x. next x files) old new (Err exit)
   comes_first old new exit h = record {
     same = h.same;
-    exact = IfSome_then old.told {P = λ files. (stage files).result ≡ Err exit} {Q = λ files. (stage files >>= λ x. next x files).result ≡ Err exit} h.exact (λ files e. go_on-err (stage files).reads (λ x. next x files) (stage files).result exit e);
+    exact = IfSome_then old.contents {P = λ files. (stage files).result ≡ Err exit} {Q = λ files. (stage files >>= λ x. next x files).result ≡ Err exit} h.exact (λ files e. go_on-err (stage files).reads (λ x. next x files) (stage files).result exit e);
   }
 
   -- where the first stage stops, so do both
@@ -91,16 +91,16 @@ module _ {A B : Type 0} (stage : FileMap → Staged A) (next : A → FileMap →
   stops_first old new (stop.ReadFault name) h = record {
     fails = h.fails;
     named = within name.now h.named;
-    asked = IfSome_then old.told {P = λ files. Contains (stage files).reads name.now} {Q = λ files. Contains (stage files >>= λ x. next x files).reads name.now} h.asked (λ files has. reads_first (stage files).reads (λ x. next x files) (stage files).result name.now has);
+    asked = IfSome_then old.contents {P = λ files. Contains (stage files).reads name.now} {Q = λ files. Contains (stage files >>= λ x. next x files).reads name.now} h.asked (λ files has. reads_first (stage files).reads (λ x. next x files) (stage files).result name.now has);
   }
   stops_first old new (stop.WriteFault name) h = absurd h
   stops_first old new stop.Memory h = h
 
-  module _ (x : A) (old new : FilesState) (known : IfSome old.told (λ files. (stage files).result ≡ Ok x)) where
+  module _ (x : A) (old new : FilesState) (known : IfSome old.contents (λ files. (stage files).result ≡ Ok x)) where
     comes_later : (r : Result B Exit) → ComesTo (next x) old new r → ComesTo (λ files. stage files >>= λ x. next x files) old new r
     comes_later r h = record {
       same = h.same;
-      exact = told_both old.told (λ files. (stage files).result ≡ Ok x) (λ files. (next x files).result ≡ r) (λ files. (stage files >>= λ x. next x files).result ≡ r) (λ files e is. go_on-ok (stage files).reads (λ x. next x files) (stage files).result x e ∙ is) known h.exact;
+      exact = told_both old.contents (λ files. (stage files).result ≡ Ok x) (λ files. (next x files).result ≡ r) (λ files. (stage files >>= λ x. next x files).result ≡ r) (λ files e is. go_on-ok (stage files).reads (λ x. next x files) (stage files).result x e ∙ is) known h.exact;
     }
 
     stops_later : (e : Stop) → Stops names (next x) old new e → Stops more (λ files. stage files >>= λ x. next x files) old new e
@@ -113,7 +113,7 @@ module _ {A B : Type 0} (stage : FileMap → Staged A) (next : A → FileMap →
     stops_later (stop.ReadFault name) h = record {
       fails = h.fails;
       named = within name.now h.named;
-      asked = told_both old.told (λ files. (stage files).result ≡ Ok x) (λ files. Contains (next x files).reads name.now) (λ files. Contains (stage files >>= λ x. next x files).reads name.now) (λ files e has. reads_later (stage files).reads (λ x. next x files) (stage files).result x name.now e has) known h.asked;
+      asked = told_both old.contents (λ files. (stage files).result ≡ Ok x) (λ files. Contains (next x files).reads name.now) (λ files. Contains (stage files >>= λ x. next x files).reads name.now) (λ files e has. reads_later (stage files).reads (λ x. next x files) (stage files).result x name.now e has) known h.asked;
     }
     stops_later (stop.WriteFault name) h = absurd h
     stops_later stop.Memory h = h

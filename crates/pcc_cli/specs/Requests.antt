@@ -2,7 +2,7 @@
 use Rattle.std.specs.Prelude.{ℕ, List, [], ◌∷◌, Option, Some, None, Result, Ok, Err}
 use Rattle.file_port.specs.Files.{FileMap}
 use Rattle.policy_set.specs.declared.Policy.{Policy}
-use Rattle.policy_set.specs.Names.{named}
+use Rattle.policy_set.specs.Names.{policy_of}
 use Rattle.pcc_words.specs.Invocations.{Invocation, ref, command_of}
 use Rattle.pcc_lines.specs.Fixed.{usage_line, unknown_policy_line}
 use Rattle.pcc_lines.specs.Named.{read_fault_line, write_fault_line}
@@ -37,7 +37,7 @@ standing_on (Some policy) = command
 
 -- what a command is
 abbrev pub standing_of : Invocation → Standing
-standing_of (ref policy file packets steps) = standing_on (named policy)
+standing_of (ref policy file packets steps) = standing_on (policy_of policy)
 
 -- ---- all commands
 

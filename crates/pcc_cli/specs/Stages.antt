@@ -5,13 +5,13 @@ use Rattle.std.specs.FinMap as map
 use Rattle.file_port.specs.Files.{FileMap}
 use Rattle.alpha_words.specs.declared.insn.Insn.{Insn}
 use Rattle.alpha_cfg.specs.declared.fault.CodeFlaw.{CodeFlaw}
-use Rattle.alpha_cfg.specs.CodeReading.{code_read}
+use Rattle.alpha_cfg.specs.CodeDecoding.{decoded_code}
 use Rattle.policy_set.specs.declared.Policy.{Policy}
-use Rattle.policy_set.specs.Names.{named, number_of}
+use Rattle.policy_set.specs.Names.{policy_of, policy_number}
 use Rattle.packet_store.specs.declared.fault.PacketFault.{PacketFault}
-use Rattle.packet_store.specs.PacketReading.{packets_read}
+use Rattle.packet_store.specs.PacketDecoding.{decoded_packets}
 use Rattle.proof_container.specs.Contents.{Contents}
-use Rattle.proof_container.specs.Reading.{Fault, container_read}
+use Rattle.proof_container.specs.Decoding.{Fault, decoded_container}
 use Rattle.pcc_lines.specs.Fixed.{unknown_policy_line, packets_too_long_line}
 use Rattle.pcc_lines.specs.Named.{missing_line}
 use Rattle.pcc_lines.specs.PacketFaults.{packet_fault_line}
@@ -62,16 +62,16 @@ policy_found None = Err (refused unknown_policy_line)
 
 -- the policy of the name
 abbrev pub policy_named : List ℕ → Staged Policy
-policy_named name = pure (policy_found (named name))
+policy_named name = pure (policy_found (policy_of name))
 
 -- what was read as a container, where it is for the policy
 abbrev pub container_for : Policy → Result Contents Fault → Result Contents Exit
-container_for policy (Ok c) = if c.policy == number_of policy then Ok c else Err (refused (refusal_line (refusal.OtherPolicy c.policy)))
+container_for policy (Ok c) = if c.policy == policy_number policy then Ok c else Err (refused (refusal_line (refusal.OtherPolicy c.policy)))
 container_for policy (Err fault) = Err (refused (refusal_line (refusal.Malformed fault.0 fault.1)))
 
 -- the container that the bytes are, where it is for the policy
 unfoldable pub container_in : Policy → List ℕ → Staged Contents
-container_in policy bytes = pure (container_for policy (container_read bytes))
+container_in policy bytes = pure (container_for policy (decoded_container bytes))
 
 -- what was read as code
 abbrev pub code_found : Result (List Insn) CodeFlaw → Result (List Insn) Exit
@@ -82,7 +82,7 @@ code_found (Err flaw) = Err (refused (refusal_line (refusal.BadCode flaw)))
 unfoldable pub code_in : Policy → List ℕ → Staged (List Insn)
 code_in policy bytes = do
   container ← container_in policy bytes
-  pure (code_found (code_read container.code))
+  pure (code_found (decoded_code container.code))
 
 -- what was read as packets
 abbrev pub packets_found : Result (List (List ℕ)) PacketFault → Result (List (List ℕ)) Exit
@@ -91,7 +91,7 @@ packets_found (Err fault) = Err (refused (packet_fault_line fault))
 
 -- the packets that the bytes are
 abbrev pub packets_in : List ℕ → Staged (List (List ℕ))
-packets_in bytes = pure (packets_found (packets_read bytes))
+packets_in bytes = pure (packets_found (decoded_packets bytes))
 
 -- ---- stages that read a file
 

@@ -2,7 +2,7 @@
 //! `specs/Stages` under the same name.
 
 ghost use Rattle.std.specs.Prelude.{◌≡◌, ◌∷◌, [], IfOk};
-ghost use Rattle.policy_set.specs.Names.{named};
+ghost use Rattle.policy_set.specs.Names.{policy_of};
 ghost use Rattle.proof_container.specs.Views.{contents_of};
 ghost use Rattle.pcc_cli.specs.Stages as stages;
 ghost use Rattle.pcc_cli.specs.Inside.Gives.{Gives, GivesPure, IsTooLong, HasWholeCode, policy_or_stop};
@@ -22,7 +22,7 @@ pub const MAX_FILE: u32 = 4_194_304;
 
 /// The policy of the name.
 pub fn policy_named<'a>(name: &str) -> Result<Policy, Stop<'a>>
-    ensures { result ≡ policy_or_stop (named name.now) }
+    ensures { result ≡ policy_or_stop (policy_of name.now) }
 {
     match by_name(name) {
         Some(policy) => Ok(policy),

@@ -3,8 +3,8 @@ use Rattle.std.proofs.Common.{◌≡◌, ◌≢◌, ℕ, ◌<◌, ◌≤◌, ◌
 use Rattle.std.proofs.lemmas.List.{append_cancel_left}
 use Rattle.file_port.specs.Counts.{Rose, IsQuiet}
 use Rattle.file_port.specs.Files.{FileMap, FilesState}
-use Rattle.file_port.specs.Sink.{SinkState, PutFails, grown, with_piece}
-use Rattle.file_port.proofs.PutLemmas.{grown-nil}
+use Rattle.file_port.specs.Sink.{SinkState, PutFails, extended_contents, with_piece}
+use Rattle.file_port.proofs.PutLemmas.{extended_contents-nil}
 use Rattle.pcc_exit.specs.Exits.{Answer, Change, Exit, changed}
 use Rattle.pcc_exit.specs.Requests.{Request, Standing, Suits, no_command, unknown_policy, command, usage_exit, unknown_policy_exit}
 use Rattle.pcc_exit.specs.Ends.{Ends, IsDecision, IsReadFault, IsWriteFault, answered, not_read, not_written, printed, put_failed, out_of_memory}
@@ -24,16 +24,16 @@ same_exit : (a b : Exit) → a.status ≡ b.status → a.text ≡ b.text → a �
 same_exit a b status text = ap (λ (x : ℕ). record { status = x; text = a.text }) status ∙ ap (λ (y : List ℕ). record { status = b.status; text = y }) text
 
 module _ (request : Request) (f g : FilesState) (s t : SinkState) (status : ℕ) where
-  known_text : (exit : Exit) (change : Change) (told : Option FileMap) → IfSome told (λ files. request.answer files ≡ record { exit = exit; change = change }) → status ≡ exit.status → t ≡ with_piece exit.text s → g ≡ changed change f
-      → IfSome told (λ files. let a = request.answer files in HasExit a.exit s t status × (g ≡ changed a.change f))
+  known_text : (exit : Exit) (change : Change) (contents : Option FileMap) → IfSome contents (λ files. request.answer files ≡ record { exit = exit; change = change }) → status ≡ exit.status → t ≡ with_piece exit.text s → g ≡ changed change f
+      → IfSome contents (λ files. let a = request.answer files in HasExit a.exit s t status × (g ≡ changed a.change f))
   known_text exit change None known st e made = known
   known_text exit change (Some files) known st e made = (
     (st ∙ sym (ap (λ (a : Answer). a.exit.status) known), e ∙ ap (λ (a : Answer). with_piece a.exit.text s) (sym known)),
     made ∙ ap (λ (a : Answer). changed a.change f) (sym known),
   )
 
-  answered_from : Ends request f g s t status → FilesAreQuiet f g → IsQuiet s.faults t.faults → status ≢ 5 → IfSome f.told (λ files. let a = request.answer files in HasExit a.exit s t status × (g ≡ changed a.change f))
-  answered_from (printed exit (answered a) e st) qf qs ne = known_text exit a.change f.told a.exact st e a.made
+  answered_from : Ends request f g s t status → FilesAreQuiet f g → IsQuiet s.faults t.faults → status ≢ 5 → IfSome f.contents (λ files. let a = request.answer files in HasExit a.exit s t status × (g ≡ changed a.change f))
+  answered_from (printed exit (answered a) e st) qf qs ne = known_text exit a.change f.contents a.exact st e a.made
   answered_from (printed exit (not_read r) e st) qf qs ne = absurd (omega arith)
   answered_from (printed exit (not_written w) e st) qf qs ne = absurd (omega arith)
   answered_from (put_failed exit is fails st) qf qs ne = absurd (omega arith)
@@ -119,41 +119,41 @@ module _ (request : Request) (f g : FilesState) (s t : SinkState) (status : ℕ)
   unknown_policy_from (out_of_memory same e st) none = inr (inr st)
 
   -- where the output is known, so is what was put
-  same_text : (told : Option (List ℕ)) (text other : List ℕ) → t.told ≡ grown text told → IfSome told (λ before. t.told ≡ Some (before ++ other) → text ≡ other)
+  same_text : (contents : Option (List ℕ)) (text other : List ℕ) → t.contents ≡ extended_contents text contents → IfSome contents (λ before. t.contents ≡ Some (before ++ other) → text ≡ other)
   same_text None text other e = tt
   same_text (Some before) text other e = λ is. append_cancel_left before text other (let both : Some (before ++ text) ≡ Some (before ++ other) = sym e ∙ is in cc)
 
-  unknown_only : (told : Option (List ℕ)) (exit : Exit) → Suits request.texts request.standing exit → status ≡ exit.status → IfSome told (λ before. t.told ≡ Some (before ++ request.texts.unknown_policy) → exit.text ≡ request.texts.unknown_policy) → IfSome told (λ before. status ≡ 1 → t.told ≡ Some (before ++ request.texts.unknown_policy) → request.standing ≡ unknown_policy)
+  unknown_only : (contents : Option (List ℕ)) (exit : Exit) → Suits request.texts request.standing exit → status ≡ exit.status → IfSome contents (λ before. t.contents ≡ Some (before ++ request.texts.unknown_policy) → exit.text ≡ request.texts.unknown_policy) → IfSome contents (λ before. status ≡ 1 → t.contents ≡ Some (before ++ request.texts.unknown_policy) → request.standing ≡ unknown_policy)
   unknown_only None exit suits st text = tt
   unknown_only (Some before) exit suits st text = λ one is. suits_unknown request.standing exit suits (same_exit exit (unknown_policy_exit request.texts) (sym st ∙ one) (text is))
 
   -- status 1 isn't this status
-  never_one : (told : Option (List ℕ)) (P : List ℕ → Type 0) → status ≢ 1 → IfSome told (λ before. status ≡ 1 → P before → request.standing ≡ unknown_policy)
+  never_one : (contents : Option (List ℕ)) (P : List ℕ → Type 0) → status ≢ 1 → IfSome contents (λ before. status ≡ 1 → P before → request.standing ≡ unknown_policy)
   never_one None P ne = tt
   never_one (Some before) P ne = λ one p. absurd (ne one)
 
-  unknown_only_from : Ends request f g s t status → IfSome s.told (λ before. status ≡ 1 → t.told ≡ Some (before ++ request.texts.unknown_policy) → request.standing ≡ unknown_policy)
-  unknown_only_from (printed exit (answered a) e st) = unknown_only s.told exit a.suits st (same_text s.told exit.text request.texts.unknown_policy (ap (λ (x : SinkState). x.told) e))
-  unknown_only_from (printed exit (not_read r) e st) = let is = read_fault_status exit r st in never_one s.told (λ before. t.told ≡ Some (before ++ request.texts.unknown_policy)) (λ one. absurd (omega arith))
-  unknown_only_from (printed exit (not_written w) e st) = let is = write_fault_status exit w st in never_one s.told (λ before. t.told ≡ Some (before ++ request.texts.unknown_policy)) (λ one. absurd (omega arith))
-  unknown_only_from (put_failed exit is fails st) = never_one s.told (λ before. t.told ≡ Some (before ++ request.texts.unknown_policy)) (λ one. absurd (omega arith))
-  unknown_only_from (out_of_memory same e st) = never_one s.told (λ before. t.told ≡ Some (before ++ request.texts.unknown_policy)) (λ one. absurd (omega arith))
+  unknown_only_from : Ends request f g s t status → IfSome s.contents (λ before. status ≡ 1 → t.contents ≡ Some (before ++ request.texts.unknown_policy) → request.standing ≡ unknown_policy)
+  unknown_only_from (printed exit (answered a) e st) = unknown_only s.contents exit a.suits st (same_text s.contents exit.text request.texts.unknown_policy (ap (λ (x : SinkState). x.contents) e))
+  unknown_only_from (printed exit (not_read r) e st) = let is = read_fault_status exit r st in never_one s.contents (λ before. t.contents ≡ Some (before ++ request.texts.unknown_policy)) (λ one. absurd (omega arith))
+  unknown_only_from (printed exit (not_written w) e st) = let is = write_fault_status exit w st in never_one s.contents (λ before. t.contents ≡ Some (before ++ request.texts.unknown_policy)) (λ one. absurd (omega arith))
+  unknown_only_from (put_failed exit is fails st) = never_one s.contents (λ before. t.contents ≡ Some (before ++ request.texts.unknown_policy)) (λ one. absurd (omega arith))
+  unknown_only_from (out_of_memory same e st) = never_one s.contents (λ before. t.contents ≡ Some (before ++ request.texts.unknown_policy)) (λ one. absurd (omega arith))
 
-  known_status : (exit : Exit) (change : Change) (told : Option FileMap) (n : ℕ) → IfSome told (λ files. request.answer files ≡ record { exit = exit; change = change }) → exit.status ≡ n → IfSome told (λ files. (request.answer files).exit.status ≡ n)
+  known_status : (exit : Exit) (change : Change) (contents : Option FileMap) (n : ℕ) → IfSome contents (λ files. request.answer files ≡ record { exit = exit; change = change }) → exit.status ≡ n → IfSome contents (λ files. (request.answer files).exit.status ≡ n)
   known_status exit change None n known e = known
   known_status exit change (Some files) n known e = ap (λ (a : Answer). a.exit.status) known ∙ e
 
-  refused_from : Ends request f g s t status → status ≡ 1 → IfSome f.told (λ files. (request.answer files).exit.status ≡ 1)
-  refused_from (printed exit (answered a) e st) h = known_status exit a.change f.told 1 a.exact (sym st ∙ h)
+  refused_from : Ends request f g s t status → status ≡ 1 → IfSome f.contents (λ files. (request.answer files).exit.status ≡ 1)
+  refused_from (printed exit (answered a) e st) h = known_status exit a.change f.contents 1 a.exact (sym st ∙ h)
   refused_from (printed exit (not_read r) e st) h = let is = read_fault_status exit r st in absurd (omega arith)
   refused_from (printed exit (not_written w) e st) h = let is = write_fault_status exit w st in absurd (omega arith)
   refused_from (put_failed exit is fails st) h = absurd (omega arith)
   refused_from (out_of_memory same e st) h = absurd (omega arith)
 
-  missing_or_fault_from : Ends request f g s t status → status ≡ 3 → Rose f.read_faults g.read_faults ⊎ ((g ≡ f) × (t.faults ≡ s.faults) × IfSome f.told (λ files. (request.answer files).exit.status ≡ 3))
+  missing_or_fault_from : Ends request f g s t status → status ≡ 3 → Rose f.read_faults g.read_faults ⊎ ((g ≡ f) × (t.faults ≡ s.faults) × IfSome f.contents (λ files. (request.answer files).exit.status ≡ 3))
   missing_or_fault_from (printed exit (answered a) e st) h =
       let none : a.change ≡ None = a.no_change (omega arith) in
-      inr (a.made ∙ ap (λ c. changed c f) none, same_faults exit.text e, known_status exit a.change f.told 3 a.exact (sym st ∙ h))
+      inr (a.made ∙ ap (λ c. changed c f) none, same_faults exit.text e, known_status exit a.change f.contents 3 a.exact (sym st ∙ h))
   missing_or_fault_from (printed exit (not_read r) e st) h = inl r.fails.rose
   missing_or_fault_from (printed exit (not_written w) e st) h = let is = write_fault_status exit w st in absurd (omega arith)
   missing_or_fault_from (put_failed exit is fails st) h = absurd (omega arith)
@@ -166,19 +166,19 @@ module _ (request : Request) (f g : FilesState) (s t : SinkState) (status : ℕ)
   write_or_put_failed_from (put_failed exit is fails st) h = inr fails.rose
   write_or_put_failed_from (out_of_memory same e st) h = absurd (omega arith)
 
-  unchanged_from : Ends request f g s t status → 0 < status → status < 4 → g.told ≡ f.told
+  unchanged_from : Ends request f g s t status → 0 < status → status < 4 → g.contents ≡ f.contents
   unchanged_from (printed exit (answered a) e st) h i =
       let none : a.change ≡ None = a.no_change (omega arith) in
-      ap (λ (x : FilesState). x.told) (a.made ∙ ap (λ c. changed c f) none)
-  unchanged_from (printed exit (not_read r) e st) h i = r.fails.told
+      ap (λ (x : FilesState). x.contents) (a.made ∙ ap (λ c. changed c f) none)
+  unchanged_from (printed exit (not_read r) e st) h i = r.fails.contents
   unchanged_from (printed exit (not_written w) e st) h i = let is = write_fault_status exit w st in absurd (omega arith)
   unchanged_from (put_failed exit is fails st) h i = absurd (omega arith)
   unchanged_from (out_of_memory same e st) h i = absurd (omega arith)
 
-  extends_from : Ends request f g s t status → (text : List ℕ) × (t.told ≡ grown text s.told)
-  extends_from (printed exit is e st) = (exit.text, ap (λ (x : SinkState). x.told) e)
-  extends_from (put_failed exit is fails st) = (take fails.kept exit.text, fails.told)
-  extends_from (out_of_memory same e st) = ([], ap (λ (x : SinkState). x.told) e ∙ sym (grown-nil s.told))
+  extends_from : Ends request f g s t status → (text : List ℕ) × (t.contents ≡ extended_contents text s.contents)
+  extends_from (printed exit is e st) = (exit.text, ap (λ (x : SinkState). x.contents) e)
+  extends_from (put_failed exit is fails st) = (take fails.kept exit.text, fails.contents)
+  extends_from (out_of_memory same e st) = ([], ap (λ (x : SinkState). x.contents) e ∙ sym (extended_contents-nil s.contents))
 
   out_of_memory_from : Ends request f g s t status → status ≡ 5 → (g ≡ f) × (t ≡ s)
   out_of_memory_from (printed exit (answered a) e st) h = absurd (omega (arith, a.in_range))

@@ -2,7 +2,7 @@
 use Rattle.std.specs.Prelude.{◌≡◌, ◌≢◌, ℕ, ◌<◌, ◌≤◌, ◌⊎◌, List, ◌++◌, Some, IfSome}
 use Rattle.file_port.specs.Counts.{Rose, IsQuiet}
 use Rattle.file_port.specs.Files.{FilesState}
-use Rattle.file_port.specs.Sink.{SinkState, PutFails, grown, with_piece}
+use Rattle.file_port.specs.Sink.{SinkState, PutFails, extended_contents, with_piece}
 use Rattle.pcc_exit.specs.Exits.{Exit, changed}
 use Rattle.pcc_exit.specs.Requests as standing
 use Rattle.pcc_exit.specs.Requests.{Request, usage_exit, unknown_policy_exit}
@@ -20,7 +20,7 @@ HasExit exit old new status = (status ≡ exit.status) × (new ≡ with_piece ex
 -- A run on a request went from files f and output s to files g and output t, and ended with the status.
 pub record Accounts (request : Request) (f g : FilesState) (s t : SinkState) (status : ℕ) : Type 0 where
   -- Where nothing failed and memory did not run out, status, text and files are the answer.
-  pub answered : FilesAreQuiet f g → IsQuiet s.faults t.faults → status ≢ 5 → IfSome f.told (λ files. let a = request.answer files in HasExit a.exit s t status × (g ≡ changed a.change f))
+  pub answered : FilesAreQuiet f g → IsQuiet s.faults t.faults → status ≢ 5 → IfSome f.contents (λ files. let a = request.answer files in HasExit a.exit s t status × (g ≡ changed a.change f))
   -- Where a put failed, the status is 4, and a part of what was decided is printed.
   pub put_failed : s.faults < t.faults → (status ≡ 4) × (exit : Exit) × IsDecision request f g exit × PutFails exit.text s t
   -- Where a read failed and no put did, the status is 3, and the line of the fault is printed.
@@ -34,17 +34,17 @@ pub record Accounts (request : Request) (f g : FilesState) (s t : SinkState) (st
   pub no_command : request.standing ≡ standing.no_command → HasExit (usage_exit request.texts) s t status ⊎ ((status ≡ 4) ⊎ (status ≡ 5))
   -- Status 1 with the line of an unknown policy comes where the arguments name one, but for a failed put or want of memory, and only there.
   pub unknown_policy : request.standing ≡ standing.unknown_policy → HasExit (unknown_policy_exit request.texts) s t status ⊎ ((status ≡ 4) ⊎ (status ≡ 5))
-  pub unknown_policy_only : IfSome s.told (λ before. status ≡ 1 → t.told ≡ Some (before ++ request.texts.unknown_policy) → request.standing ≡ standing.unknown_policy)
+  pub unknown_policy_only : IfSome s.contents (λ before. status ≡ 1 → t.contents ≡ Some (before ++ request.texts.unknown_policy) → request.standing ≡ standing.unknown_policy)
   -- Status 1 comes only where the answer is a refusal.
-  pub refused : status ≡ 1 → IfSome f.told (λ files. (request.answer files).exit.status ≡ 1)
+  pub refused : status ≡ 1 → IfSome f.contents (λ files. (request.answer files).exit.status ≡ 1)
   -- Status 3 comes only where a read failed, or where nothing failed and the answer is that a file is missing.
-  pub missing_or_fault : status ≡ 3 → Rose f.read_faults g.read_faults ⊎ ((g ≡ f) × (t.faults ≡ s.faults) × IfSome f.told (λ files. (request.answer files).exit.status ≡ 3))
+  pub missing_or_fault : status ≡ 3 → Rose f.read_faults g.read_faults ⊎ ((g ≡ f) × (t.faults ≡ s.faults) × IfSome f.contents (λ files. (request.answer files).exit.status ≡ 3))
   -- Status 4 comes only where a write or a put failed.
   pub write_or_put_failed : status ≡ 4 → Rose f.write_faults g.write_faults ⊎ Rose s.faults t.faults
   -- A refused command leaves the files.
-  pub unchanged : 0 < status → status < 4 → g.told ≡ f.told
+  pub unchanged : 0 < status → status < 4 → g.contents ≡ f.contents
   -- What was put stays put.
-  pub extends : (text : List ℕ) × (t.told ≡ grown text s.told)
+  pub extends : (text : List ℕ) × (t.contents ≡ extended_contents text s.contents)
   -- Status 5 leaves all as it was.
   pub out_of_memory : status ≡ 5 → (g ≡ f) × (t ≡ s)
   pub in_range : status ≤ 5

@@ -9,7 +9,7 @@ use Rattle.pcc_exit.specs.Requests.{Request, Suits, command, read_fault_exit, wr
 pub record IsAnswer (request : Request) (old new : FilesState) (exit : Exit) : Type 0 where
   pub change : Change
   pub made : new ≡ changed change old
-  pub exact : IfSome old.told (λ files. request.answer files ≡ record { exit = exit; change = change })
+  pub exact : IfSome old.contents (λ files. request.answer files ≡ record { exit = exit; change = change })
   pub in_range : exit.status ≤ 3
   -- a refused command writes nothing
   pub no_change : 0 < exit.status → change ≡ None
@@ -19,7 +19,7 @@ pub record IsAnswer (request : Request) (old new : FilesState) (exit : Exit) : T
 -- A read that the answer asks for failed, and this is its line.
 pub record IsReadFault (request : Request) (old new : FilesState) (exit : Exit) : Type 0 where
   pub name : List ℕ
-  pub asked : IfSome old.told (λ files. Contains (request.reads files) name)
+  pub asked : IfSome old.contents (λ files. Contains (request.reads files) name)
   -- also where the files are not known
   pub named : Contains request.names name
   pub command : request.standing ≡ command
@@ -30,7 +30,7 @@ pub record IsReadFault (request : Request) (old new : FilesState) (exit : Exit) 
 pub record IsWriteFault (request : Request) (old new : FilesState) (exit : Exit) : Type 0 where
   pub name : List ℕ
   pub bytes : List ℕ
-  pub asked : IfSome old.told (λ files. (request.answer files).change ≡ Some (name, bytes))
+  pub asked : IfSome old.contents (λ files. (request.answer files).change ≡ Some (name, bytes))
   pub command : request.standing ≡ command
   pub fails : WriteFails name bytes old new
   pub line : exit ≡ write_fault_exit request.texts name

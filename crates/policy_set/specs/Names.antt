@@ -5,14 +5,14 @@ use Rattle.policy_set.specs.declared.Policy.{Policy}
 use Rattle.policy_set.specs.declared.Policy.TheVariants.{Filter, Tag, Table}
 
 -- the number that containers carry
-abbrev pub number_of : Policy → ℕ
-number_of Filter = 1
-number_of Tag = 2
-number_of Table = 3
+abbrev pub policy_number : Policy → ℕ
+policy_number Filter = 1
+policy_number Tag = 2
+policy_number Table = 3
 
 -- the policy of a name
-abbrev pub named : List ℕ → Option Policy
-named name =
+abbrev pub policy_of : List ℕ → Option Policy
+policy_of name =
     if bytes_eq name (codes "filter") then Some Filter else
     if bytes_eq name (codes "tag") then Some Tag else
     if bytes_eq name (codes "table") then Some Table else

@@ -6,7 +6,7 @@
 #![tactic(auto)]
 
 ghost use Rattle.std.specs.Prelude.{◌≡◌, Some, None};
-ghost use Rattle.policy_set.specs.Names.{named, number_of};
+ghost use Rattle.policy_set.specs.Names.{policy_of, policy_number};
 
 /// A policy by its name.
 #[derive(Clone, Copy, Debug, PartialEq, Eq)]
@@ -22,7 +22,7 @@ pub enum Policy {
 impl Policy {
     /// The number that containers carry: 1 for `filter`, 2 for `tag`, 3 for `table`.
     pub fn number(&self) -> u32
-        ensures { result ≡ number_of self.now }
+        ensures { result ≡ policy_number self.now }
     {
         match self {
             Policy::Filter => 1,
@@ -41,7 +41,7 @@ impl Policy {
 
 /// The policy of this name; None exactly where the name is none of `filter`, `tag` and `table`.
 pub fn by_name(name: &str) -> Option<Policy>
-    ensures { result ≡ named name.now }
+    ensures { result ≡ policy_of name.now }
 {
     if name == "filter" {
         Some(Policy::Filter)

@@ -4,9 +4,9 @@ use Rattle.std.proofs.lemmas.Bool.{ltb-true, lt-ltb, eqb-true}
 use Rattle.term_table.specs.Tree.{Tree, Var, Con, App, Lam, Fam, TApp, Pi, Num, Lit, Calc, Fact, Deny, IsTerm, IsAtomic}
 use Rattle.term_table.specs.Table.{tree_in, IsSmall, AreDifferent}
 use Rattle.proof_container.specs.declared.fault.Flaw.TheVariants.{EntryKind}
-use Rattle.proof_container.specs.Walks.{is_listed, HasParts}
-use Rattle.proof_container.specs.Spelling.{word_fields, entry_number, entry_fields, AreTerms, IsBytes}
-use Rattle.proof_container.specs.Reading.{◌>>=◌, field_at, word_at, triple_at, is_lam, part_at, head_at, application_at, kind_at, entry_at, entry_size}
+use Rattle.proof_container.specs.Postorder.{is_emitted, HasPartsFirst}
+use Rattle.proof_container.specs.Encoding.{word_fields, entry_number, entry_fields, AreTerms, IsBytes}
+use Rattle.proof_container.specs.Decoding.{◌>>=◌, field_at, word_at, triple_at, is_lam, part_at, head_at, application_at, kind_at, entry_at, entry_size}
 use Rattle.proof_container.proofs.Walks.{number_is, number-append, number-at, listed-at}
 use Rattle.proof_container.proofs.FieldLaws.{bind_ok, guard_ok, test_ok, either_ok, ok_is, field_takes, Stands, Stands-append, Stands-split, Stands-there, field_there, word_takes, word_again}
 
@@ -47,20 +47,20 @@ AreTerms-at [] i p lt = absurd (omega arith)
 AreTerms-at (t ∷ ts) zero p lt = (p.0, p.1)
 AreTerms-at (t ∷ ts) (suc i) p lt = AreTerms-at ts i p.2 (omega arith)
 
-pub AreTerms-listed : (ts : List Tree) (t : Tree) → AreTerms ts → is_listed t ts ≡ true → IsTerm t × IsSmall t
+pub AreTerms-listed : (ts : List Tree) (t : Tree) → AreTerms ts → is_emitted t ts ≡ true → IsTerm t × IsSmall t
 AreTerms-listed ts t p l =
     let n = number_is ts t l in
     subst (λ (x : Tree). IsTerm x × IsSmall x) n.1 (AreTerms-at ts (entry_number ts t) p n.0)
 
-pub part_takes : (bytes : List ℕ) (i : ℕ) (ts : List Tree) (t : Tree) → AreDifferent ts → part_at bytes i ts ≡ Ok t → (field_at bytes i ≡ Ok (entry_number ts t)) × (is_listed t ts ≡ true)
+pub part_takes : (bytes : List ℕ) (i : ℕ) (ts : List Tree) (t : Tree) → AreDifferent ts → part_at bytes i ts ≡ Ok t → (field_at bytes i ≡ Ok (entry_number ts t)) × (is_emitted t ts ≡ true)
 part_takes bytes i ts t different e =
     let a = bind_ok (field_at bytes i) _ t e in
     let g = test_ok (ltb a.0 (length ts)) _ _ t a.2 in
     let lt : a.0 < length ts = ltb-true _ _ g.0 in
     let number : a.0 ≡ entry_number ts (tree_in ts a.0) = sym (number-at ts different a.0 lt) in
-    subst (λ (x : Tree). (field_at bytes i ≡ Ok (entry_number ts x)) × (is_listed x ts ≡ true)) (ok_is (tree_in ts a.0) t g.1) (a.1 ∙ ap Ok number, listed-at ts a.0 lt)
+    subst (λ (x : Tree). (field_at bytes i ≡ Ok (entry_number ts x)) × (is_emitted x ts ≡ true)) (ok_is (tree_in ts a.0) t g.1) (a.1 ∙ ap Ok number, listed-at ts a.0 lt)
 
-pub part_again : (bytes : List ℕ) (i : ℕ) (ts : List Tree) (t : Tree) → is_listed t ts ≡ true → field_at bytes i ≡ Ok (entry_number ts t) → part_at bytes i ts ≡ Ok t
+pub part_again : (bytes : List ℕ) (i : ℕ) (ts : List Tree) (t : Tree) → is_emitted t ts ≡ true → field_at bytes i ≡ Ok (entry_number ts t) → part_at bytes i ts ≡ Ok t
 part_again bytes i ts t l e =
     let n = number_is ts t l in
     let below : ltb (entry_number ts t) (length ts) ≡ true = lt-ltb _ _ n.0 in
@@ -84,14 +84,14 @@ atomic_again (Fam a) p = absurd p
 atomic_again (TApp p a) q = absurd q
 atomic_again (Pi a b) p = absurd p
 
-pub head_takes : (bytes : List ℕ) (i : ℕ) (ts : List Tree) (t : Tree) → AreDifferent ts → head_at bytes i ts ≡ Ok t → (field_at bytes i ≡ Ok (entry_number ts t)) × (is_listed t ts ≡ true) × (is_lam t ≡ false)
+pub head_takes : (bytes : List ℕ) (i : ℕ) (ts : List Tree) (t : Tree) → AreDifferent ts → head_at bytes i ts ≡ Ok t → (field_at bytes i ≡ Ok (entry_number ts t)) × (is_emitted t ts ≡ true) × (is_lam t ≡ false)
 head_takes bytes i ts t different e =
     let a = bind_ok (part_at bytes i ts) _ t e in
     let g = guard_ok (is_lam a.0) _ _ t a.2 in
     let p = part_takes bytes i ts a.0 different a.1 in
-    subst (λ (x : Tree). (field_at bytes i ≡ Ok (entry_number ts x)) × (is_listed x ts ≡ true) × (is_lam x ≡ false)) (ok_is a.0 t g.1) (p.0, p.1, g.0)
+    subst (λ (x : Tree). (field_at bytes i ≡ Ok (entry_number ts x)) × (is_emitted x ts ≡ true) × (is_lam x ≡ false)) (ok_is a.0 t g.1) (p.0, p.1, g.0)
 
-pub head_again : (bytes : List ℕ) (i : ℕ) (ts : List Tree) (t : Tree) → is_listed t ts ≡ true → IsAtomic t → field_at bytes i ≡ Ok (entry_number ts t) → head_at bytes i ts ≡ Ok t
+pub head_again : (bytes : List ℕ) (i : ℕ) (ts : List Tree) (t : Tree) → is_emitted t ts ≡ true → IsAtomic t → field_at bytes i ≡ Ok (entry_number ts t) → head_at bytes i ts ≡ Ok t
 head_again bytes i ts t l atomic e =
     let part : part_at bytes i ts ≡ Ok t = part_again bytes i ts t l e in
     let no_lam : is_lam t ≡ false = atomic_again t atomic in
@@ -102,7 +102,7 @@ head_again bytes i ts t l atomic e =
 -- an entry that may stand behind the entries ts, and stands at field i
 pub record IsEntry (bytes : List ℕ) (i : ℕ) (ts : List Tree) (t : Tree) : Type 0 where
   pub stands : Stands bytes i (entry_fields ts t)
-  pub parts : HasParts ts t
+  pub parts : HasPartsFirst ts t
   pub term : IsTerm t
   pub small : IsSmall t
 
@@ -201,7 +201,7 @@ module _ (bytes : List ℕ) (i : ℕ) (ts : List Tree) (fits : IsBytes bytes) (d
   pub entry_takes : (t : Tree) → entry_at bytes i ts ≡ Ok t → IsEntry bytes i ts t
   entry_takes t e = let a = bind_ok (field_at bytes i) (λ kind. kind_at bytes i ts kind) t e in kind_takes a.0 t a.1 a.2
 
-pub entry_again : (bytes : List ℕ) (i : ℕ) (ts : List Tree) (t : Tree) → IsTerm t → HasParts ts t → Stands bytes i (entry_fields ts t) → entry_at bytes i ts ≡ Ok t
+pub entry_again : (bytes : List ℕ) (i : ℕ) (ts : List Tree) (t : Tree) → IsTerm t → HasPartsFirst ts t → Stands bytes i (entry_fields ts t) → entry_at bytes i ts ≡ Ok t
 unfolding kind_at
 entry_again bytes i ts (Var n) term parts p =
     let number : field_at bytes (i + 1) ≡ Ok n = field_there bytes (suc i) (i + 1) n (omega arith) p.1.0 in
@@ -235,7 +235,7 @@ entry_again bytes i ts (Pi a b) term parts p = absurd term
 -- ---- an entry's fields
 
 -- they are the same where more entries follow
-pub entry_fields-append : (ts us : List Tree) (t : Tree) → HasParts ts t → entry_fields (ts ++ us) t ≡ entry_fields ts t
+pub entry_fields-append : (ts us : List Tree) (t : Tree) → HasPartsFirst ts t → entry_fields (ts ++ us) t ≡ entry_fields ts t
 entry_fields-append ts us (Var n) parts = refl
 entry_fields-append ts us (Con c) parts = refl
 entry_fields-append ts us (App f a) parts = ap₂ (λ m n. 6 ∷ m ∷ n ∷ []) (number-append ts us f parts.0) (number-append ts us a parts.1)

@@ -4,67 +4,67 @@ use Rattle.std.specs.List.{AllByRecursion}
 use Rattle.std.specs.Option.{option_map}
 use Rattle.std.proofs.lemmas.List.{length-map}
 use Rattle.term_table.specs.Tree.{Tree, Var, Con, App, Lam, Fam, TApp, Pi}
-use Rattle.term_table.specs.Table.{Terms, IsKnown, tree_at, AreSmall}
+use Rattle.term_table.specs.Table.{TableView, IsKnown, tree_at, AreSmall}
 use Rattle.proof_container.specs.declared.container.View.{View}
 use Rattle.proof_container.specs.declared.walk.Walk.{Walk}
 use Rattle.proof_container.specs.Contents.{Contents, one_or_none, roots}
-use Rattle.proof_container.specs.Walks.{is_listed, HasParts, Grows, AreListed, entries}
-use Rattle.proof_container.specs.Spelling.{field_bytes, head_fields, tail_fields, spelling, AreTerms, IsContents, IsBytes}
+use Rattle.proof_container.specs.Postorder.{is_emitted, HasPartsFirst, ArePostorder, AreEmitted, entries}
+use Rattle.proof_container.specs.Encoding.{field_bytes, head_fields, tail_fields, encoding_of, AreTerms, IsContents, IsBytes}
 use Rattle.proof_container.specs.Views.{AreKnown, AllTerms, IsWritable, inv_trees, view_contents}
 use Rattle.proof_container.specs.Inside.Walked.{IsLeft, IsReady, HaveParts, root_trees, left_trees}
-use Rattle.proof_container.proofs.Small.{AreListed-split}
+use Rattle.proof_container.proofs.Small.{AreEmitted-split}
 use Rattle.proof_container.proofs.Walks.{listed-left, entries_grow, entries_listed}
 
 -- ---- parts of all entries
 
-HasParts-more : (ts us : List Tree) (t : Tree) → HasParts ts t → HasParts (ts ++ us) t
-HasParts-more ts us (Var n) h = tt
-HasParts-more ts us (Con c) h = tt
-HasParts-more ts us (App f a) h = (listed-left f ts us h.0, listed-left a ts us h.1)
-HasParts-more ts us (Lam b) h = listed-left b ts us h
-HasParts-more ts us (Fam a) h = tt
-HasParts-more ts us (TApp p a) h = (listed-left p ts us h.0, listed-left a ts us h.1)
-HasParts-more ts us (Pi a b) h = (listed-left a ts us h.0, listed-left b ts us h.1)
+HasPartsFirst-more : (ts us : List Tree) (t : Tree) → HasPartsFirst ts t → HasPartsFirst (ts ++ us) t
+HasPartsFirst-more ts us (Var n) h = tt
+HasPartsFirst-more ts us (Con c) h = tt
+HasPartsFirst-more ts us (App f a) h = (listed-left f ts us h.0, listed-left a ts us h.1)
+HasPartsFirst-more ts us (Lam b) h = listed-left b ts us h
+HasPartsFirst-more ts us (Fam a) h = tt
+HasPartsFirst-more ts us (TApp p a) h = (listed-left p ts us h.0, listed-left a ts us h.1)
+HasPartsFirst-more ts us (Pi a b) h = (listed-left a ts us h.0, listed-left b ts us h.1)
 
-have_parts : (ts us : List Tree) → Grows ts us → HaveParts (ts ++ us) us
-have_parts ts [] grows = tt
-have_parts ts (u ∷ us) grows =
-    (HasParts-more ts (u ∷ us) u grows.0, subst (λ (z : List Tree). HaveParts z us) (append_assoc ts (u ∷ []) us) (have_parts (ts ++ u ∷ []) us grows.2))
+have_parts : (ts us : List Tree) → ArePostorder ts us → HaveParts (ts ++ us) us
+have_parts ts [] extends = tt
+have_parts ts (u ∷ us) extends =
+    (HasPartsFirst-more ts (u ∷ us) u extends.0, subst (λ (z : List Tree). HaveParts z us) (append_assoc ts (u ∷ []) us) (have_parts (ts ++ u ∷ []) us extends.2))
 
 -- ---- what the roots' trees are
 
-listed_invs : (t : Terms) (es : List Tree) (invs : List (ℕ × ℕ)) → AreListed es (map (λ p. p.1) (inv_trees t invs)) → AreListed es (map (λ inv. tree_at t inv.1) invs)
+listed_invs : (t : TableView) (es : List Tree) (invs : List (ℕ × ℕ)) → AreEmitted es (map (λ p. p.1) (inv_trees t invs)) → AreEmitted es (map (λ inv. tree_at t inv.1) invs)
 listed_invs t es [] listed = tt
 listed_invs t es (inv ∷ invs) listed = (listed.0, listed_invs t es invs listed.1)
 
-listed_proof : (t : Terms) (es : List Tree) (proof : Option ℕ) → AreListed es (one_or_none (option_map (tree_at t) proof)) → IfSome proof (λ id. is_listed (tree_at t id) es ≡ true)
+listed_proof : (t : TableView) (es : List Tree) (proof : Option ℕ) → AreEmitted es (one_or_none (option_map (tree_at t) proof)) → IfSome proof (λ id. is_emitted (tree_at t id) es ≡ true)
 listed_proof t es None listed = tt
 listed_proof t es (Some id) listed = listed.0
 
 pub ready : (v : View) (w : Walk) → IsWritable v → IsLeft v.table.now (entries (root_trees v.table.now v.invs.now v.proof)) w → IsReady v w
 ready v w writable is =
-    let t : Terms = v.table.now in
+    let t : TableView = v.table.now in
     let rs : List Tree = root_trees t v.invs.now v.proof in
     let same : entries rs ≡ left_trees t w = sym is.left in
-    let listed : AreListed (entries rs) rs = entries_listed rs in
-    let apart = AreListed-split (entries rs) (map (λ p. p.1) (inv_trees t v.invs.now)) (one_or_none (option_map (tree_at t) v.proof)) listed in
+    let listed : AreEmitted (entries rs) rs = entries_listed rs in
+    let apart = AreEmitted-split (entries rs) (map (λ p. p.1) (inv_trees t v.invs.now)) (one_or_none (option_map (tree_at t) v.proof)) listed in
     record {
       left = subst (λ (z : List Tree). IsLeft t z w) same is;
       parts = subst (λ (z : List Tree). HaveParts z z) same (have_parts [] (entries rs) (entries_grow rs));
       known = writable.known;
-      invs = subst (λ (z : List Tree). AreListed z (map (λ inv. tree_at t inv.1) v.invs.now)) same (listed_invs t (entries rs) v.invs.now apart.0);
-      proof = subst (λ (z : List Tree). IfSome v.proof (λ id. is_listed (tree_at t id) z ≡ true)) same (listed_proof t (entries rs) v.proof apart.1);
+      invs = subst (λ (z : List Tree). AreEmitted z (map (λ inv. tree_at t inv.1) v.invs.now)) same (listed_invs t (entries rs) v.invs.now apart.0);
+      proof = subst (λ (z : List Tree). IfSome v.proof (λ id. is_emitted (tree_at t id) z ≡ true)) same (listed_proof t (entries rs) v.proof apart.1);
       few = omega (arith, length-map w.left.items (tree_at t), ap length is.left, writable.entries);
       few_invs = writable.invs;
     }
 
 -- ---- what the view holds
 
-terms_of_ids : (t : Terms) (ids : List ℕ) → AllByRecursion (IsKnown t) ids → AreSmall t.trees → AllTerms (map (tree_at t) ids) → AreTerms (map (tree_at t) ids)
+terms_of_ids : (t : TableView) (ids : List ℕ) → AllByRecursion (IsKnown t) ids → AreSmall t.trees → AllTerms (map (tree_at t) ids) → AreTerms (map (tree_at t) ids)
 terms_of_ids t [] known small terms = tt
 terms_of_ids t (id ∷ ids) known small terms = (terms.0, small id known.0, terms_of_ids t ids known.1 small terms.1)
 
-root_terms : (t : Terms) (invs : List (ℕ × ℕ)) (proof : Option ℕ) → AreKnown t invs proof → AreSmall t.trees → AllTerms (root_trees t invs proof) → AreTerms (root_trees t invs proof)
+root_terms : (t : TableView) (invs : List (ℕ × ℕ)) (proof : Option ℕ) → AreKnown t invs proof → AreSmall t.trees → AllTerms (root_trees t invs proof) → AreTerms (root_trees t invs proof)
 root_terms t [] None known small terms = tt
 root_terms t [] (Some id) known small terms = (terms.0, small id known.1, tt)
 root_terms t (inv ∷ invs) proof known small terms = (terms.0, small inv.1 known.0.0, root_terms t invs proof (known.0.1, known.1) small terms.1)
@@ -82,8 +82,8 @@ view_holds v writable policy bytes small = record {
   rising = writable.rising;
 }
 
-pub is_spelling : (c : Contents) (es : List Tree) (out : List ℕ) → es ≡ entries (roots c) → out ≡ (field_bytes (head_fields c) ++ c.code) ++ field_bytes (tail_fields es c) → out ≡ spelling c
-unfolding spelling
+pub is_spelling : (c : Contents) (es : List Tree) (out : List ℕ) → es ≡ entries (roots c) → out ≡ (field_bytes (head_fields c) ++ c.code) ++ field_bytes (tail_fields es c) → out ≡ encoding_of c
+unfolding encoding_of
 is_spelling c es out same e =
     e ∙ ap (λ (z : List Tree). (field_bytes (head_fields c) ++ c.code) ++ field_bytes (tail_fields z c)) same
     ∙ append_assoc (field_bytes (head_fields c)) c.code (field_bytes (tail_fields (entries (roots c)) c))

@@ -6,7 +6,7 @@ use Rattle.term_table.specs.Table.{tree_at}
 use Rattle.proof_container.specs.declared.container.Container.{Container}
 use Rattle.proof_container.specs.declared.container.View.{View}
 use Rattle.proof_container.specs.Contents.{roots}
-use Rattle.proof_container.specs.Spelling.{AreTerms, IsContents, Spells}
+use Rattle.proof_container.specs.Encoding.{AreTerms, IsContents, EncodesContents}
 use Rattle.proof_container.specs.Views.{AllTerms, AreKnown, IsCanonical, IsWritable, Shows, contents_of, view_contents}
 
 AreTerms-all : (ts : List Tree) → AreTerms ts → AllTerms ts
@@ -17,7 +17,7 @@ AreTerms-all (t ∷ ts) h = (h.0, AreTerms-all ts h.2)
 shown : (c : Container) (v : View) → Shows c v → view_contents v ≡ contents_of c
 shown c v s = rw (s.policy, s.code, s.table, s.invs, s.proof) refl
 
-pub rewritable : (bytes : List ℕ) (c : Container) (v : View) → Spells bytes (contents_of c) → IsCanonical c → Shows c v → IsWritable v
+pub rewritable : (bytes : List ℕ) (c : Container) (v : View) → EncodesContents bytes (contents_of c) → IsCanonical c → Shows c v → IsWritable v
 rewritable bytes c v p q s =
     let h : IsContents (view_contents v) = subst IsContents (sym (shown c v s)) p.contents in
     let known : AreKnown v.table.now v.invs.now v.proof = rw (s.table, s.invs, s.proof) q.known in

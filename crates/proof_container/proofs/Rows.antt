@@ -3,9 +3,9 @@ use Rattle.std.proofs.Common.{◌≡◌, ℕ, List, [], ◌∷◌, ◌++◌, Non
 use Rattle.term_table.specs.Tree.{Con, Num, Var, App, Lam}
 use Rattle.proof_container.specs.declared.fault.Flaw.TheVariants.{Cut, DoubleEntry, Order, LambdaHead, Trailing}
 use Rattle.proof_container.specs.Contents.{Contents}
-use Rattle.proof_container.specs.Walks.{entries}
-use Rattle.proof_container.specs.Spelling.{field_bytes, spelling}
-use Rattle.proof_container.specs.Reading.{container_read, entries_at, entries_read, head_read, invs_read, invs_at, proof_read, end_read, kind_at}
+use Rattle.proof_container.specs.Postorder.{entries}
+use Rattle.proof_container.specs.Encoding.{field_bytes, encoding_of}
+use Rattle.proof_container.specs.Decoding.{decoded_container, entries_at, decoded_entries, decoded_head, decoded_invs, invs_at, decoded_proof, decoded_end, kind_at}
 
 -- a loop of one instruction, whose invariant is truth
 abbrev looping : Contents
@@ -16,37 +16,37 @@ looping_bytes =
     80 ∷ 67 ∷ 67 ∷ 65 ∷ 1 ∷ 0 ∷ 0 ∷ 0 ∷ 1 ∷ 0 ∷ 0 ∷ 0 ∷ 1 ∷ 0 ∷ 0 ∷ 0 ∷ 255 ∷ 255 ∷ 255 ∷ 195 ∷
     1 ∷ 0 ∷ 0 ∷ 0 ∷ 1 ∷ 0 ∷ 0 ∷ 0 ∷ 13 ∷ 0 ∷ 0 ∷ 0 ∷ 1 ∷ 0 ∷ 0 ∷ 0 ∷ 0 ∷ 0 ∷ 0 ∷ 0 ∷ 0 ∷ 0 ∷ 0 ∷ 0 ∷ 0 ∷ 0 ∷ 0 ∷ 0 ∷ []
 
-looping_spelled : spelling looping ≡ looping_bytes
-unfolding spelling entries
+looping_spelled : encoding_of looping ≡ looping_bytes
+unfolding encoding_of entries
 looping_spelled = refl
 
-looping_read : container_read looping_bytes ≡ Ok looping
-unfolding container_read head_read entries_read entries_at kind_at invs_read invs_at proof_read end_read entries
+looping_read : decoded_container looping_bytes ≡ Ok looping
+unfolding decoded_container decoded_head decoded_entries entries_at kind_at decoded_invs invs_at decoded_proof decoded_end entries
 looping_read = refl
 
-cut_in_the_end : container_read (take 47 looping_bytes) ≡ Err (44, Cut)
-unfolding container_read head_read entries_read entries_at kind_at invs_read invs_at proof_read end_read entries
+cut_in_the_end : decoded_container (take 47 looping_bytes) ≡ Err (44, Cut)
+unfolding decoded_container decoded_head decoded_entries entries_at kind_at decoded_invs invs_at decoded_proof decoded_end entries
 cut_in_the_end = refl
 
-cut_in_the_code : container_read (take 19 looping_bytes) ≡ Err (16, Cut)
-unfolding container_read head_read entries_read entries_at kind_at invs_read invs_at proof_read end_read entries
+cut_in_the_code : decoded_container (take 19 looping_bytes) ≡ Err (16, Cut)
+unfolding decoded_container decoded_head decoded_entries entries_at kind_at decoded_invs invs_at decoded_proof decoded_end entries
 cut_in_the_code = refl
 
-one_byte_more : container_read (looping_bytes ++ 0 ∷ []) ≡ Err (48, Trailing)
-unfolding container_read head_read entries_read entries_at kind_at invs_read invs_at proof_read end_read entries
+one_byte_more : decoded_container (looping_bytes ++ 0 ∷ []) ≡ Err (48, Trailing)
+unfolding decoded_container decoded_head decoded_entries entries_at kind_at decoded_invs invs_at decoded_proof decoded_end entries
 one_byte_more = refl
 
 -- the entries 13 and 14 where the invariant is the second
-unordered : container_read (take 20 looping_bytes ++ field_bytes (2 ∷ 1 ∷ 13 ∷ 1 ∷ 14 ∷ 1 ∷ 0 ∷ 1 ∷ 0 ∷ [])) ≡ Err (24, Order)
-unfolding container_read head_read entries_read entries_at kind_at invs_read invs_at proof_read end_read entries
+unordered : decoded_container (take 20 looping_bytes ++ field_bytes (2 ∷ 1 ∷ 13 ∷ 1 ∷ 14 ∷ 1 ∷ 0 ∷ 1 ∷ 0 ∷ [])) ≡ Err (24, Order)
+unfolding decoded_container decoded_head decoded_entries entries_at kind_at decoded_invs invs_at decoded_proof decoded_end entries
 unordered = refl
 
-doubled : container_read (take 20 looping_bytes ++ field_bytes (2 ∷ 1 ∷ 13 ∷ 1 ∷ 13 ∷ 1 ∷ 0 ∷ 1 ∷ 0 ∷ [])) ≡ Err (32, DoubleEntry)
-unfolding container_read head_read entries_read entries_at kind_at invs_read invs_at proof_read end_read entries
+doubled : decoded_container (take 20 looping_bytes ++ field_bytes (2 ∷ 1 ∷ 13 ∷ 1 ∷ 13 ∷ 1 ∷ 0 ∷ 1 ∷ 0 ∷ [])) ≡ Err (32, DoubleEntry)
+unfolding decoded_container decoded_head decoded_entries entries_at kind_at decoded_invs invs_at decoded_proof decoded_end entries
 doubled = refl
 
-lam_applied : container_read (take 20 looping_bytes ++ field_bytes (3 ∷ 1 ∷ 13 ∷ 7 ∷ 0 ∷ 6 ∷ 1 ∷ 0 ∷ 1 ∷ 0 ∷ 2 ∷ 0 ∷ [])) ≡ Err (44, LambdaHead)
-unfolding container_read head_read entries_read entries_at kind_at invs_read invs_at proof_read end_read entries
+lam_applied : decoded_container (take 20 looping_bytes ++ field_bytes (3 ∷ 1 ∷ 13 ∷ 7 ∷ 0 ∷ 6 ∷ 1 ∷ 0 ∷ 1 ∷ 0 ∷ 2 ∷ 0 ∷ [])) ≡ Err (44, LambdaHead)
+unfolding decoded_container decoded_head decoded_entries entries_at kind_at decoded_invs invs_at decoded_proof decoded_end entries
 lam_applied = refl
 
 -- a walk leaves the parts first, what is applied before what it is applied to, and each tree once

@@ -6,10 +6,10 @@ use Rattle.term_table.specs.Tree.{Tree}
 use Rattle.term_table.specs.Table.{tree_in, AreDifferent}
 use Rattle.proof_container.specs.declared.fault.Flaw.TheVariants.{ForwardRef, InvOrder}
 use Rattle.proof_container.specs.Contents.{one_or_none}
-use Rattle.proof_container.specs.Walks.{is_listed, HasParts, Grows, AreListed}
-use Rattle.proof_container.specs.Spelling.{entry_number, entry_fields, inv_fields, proof_field, AreTerms, AreRising, IsBytes}
-use Rattle.proof_container.specs.Reading.{Fault, field_at, part_at, entry_at, entry_size, entries_at, inv_at, invs_at, proof_read}
-use Rattle.proof_container.proofs.Walks.{Grows-append, Grows-different, number_is, number-at, listed-at}
+use Rattle.proof_container.specs.Postorder.{is_emitted, HasPartsFirst, ArePostorder, AreEmitted}
+use Rattle.proof_container.specs.Encoding.{entry_number, entry_fields, inv_fields, proof_field, AreTerms, AreRising, IsBytes}
+use Rattle.proof_container.specs.Decoding.{Fault, field_at, part_at, entry_at, entry_size, entries_at, inv_at, invs_at, decoded_proof}
+use Rattle.proof_container.proofs.Walks.{ArePostorder-append, ArePostorder-different, number_is, number-at, listed-at}
 use Rattle.proof_container.proofs.FieldLaws.{bind_ok, guard_ok, either_ok, neither, ok_is, Stands, Stands-append, Stands-split, field_there}
 use Rattle.proof_container.proofs.EntryLaws.{part_takes, part_again, IsEntry, entry_takes, entry_again, entry_fields-append, entry_size_is}
 
@@ -23,7 +23,7 @@ later_fields ts us = flat_map (entry_fields (ts ++ us)) us
 pub record AreRead (bytes : List ℕ) (i n : ℕ) (ts us : List Tree) (r : List Tree × ℕ) : Type 0 where
   pub all : r.0 ≡ ts ++ us
   pub count : length us ≡ n
-  pub grows : Grows ts us
+  pub extends : ArePostorder ts us
   pub terms : AreTerms us
   pub stands : Stands bytes i (later_fields ts us)
   pub next : r.1 ≡ i + length (later_fields ts us)
@@ -33,57 +33,57 @@ AreTerms-append [] us p q = q
 AreTerms-append (t ∷ ts) us p q = (p.0, p.1, AreTerms-append ts us p.2 q)
 
 -- behind an entry, the fields of the others are the same
-pub later_fields-cons : (ts us : List Tree) (t : Tree) → HasParts ts t → later_fields ts (t ∷ us) ≡ entry_fields ts t ++ later_fields (ts ++ t ∷ []) us
+pub later_fields-cons : (ts us : List Tree) (t : Tree) → HasPartsFirst ts t → later_fields ts (t ∷ us) ≡ entry_fields ts t ++ later_fields (ts ++ t ∷ []) us
 later_fields-cons ts us t parts =
     let regroup : ts ++ (t ∷ us) ≡ (ts ++ t ∷ []) ++ us = sym (append_assoc ts (t ∷ []) us) in
     ap (λ (fs : List ℕ). fs ++ flat_map (entry_fields (ts ++ (t ∷ us))) us) (entry_fields-append ts (t ∷ us) t parts)
     ∙ ap (λ (es : List Tree). entry_fields ts t ++ flat_map (entry_fields es) us) regroup
 
-length-later_fields : (ts us : List Tree) (t : Tree) → HasParts ts t → length (later_fields ts (t ∷ us)) ≡ entry_size t + length (later_fields (ts ++ t ∷ []) us)
+length-later_fields : (ts us : List Tree) (t : Tree) → HasPartsFirst ts t → length (later_fields ts (t ∷ us)) ≡ entry_size t + length (later_fields (ts ++ t ∷ []) us)
 length-later_fields ts us t parts =
     ap length (later_fields-cons ts us t parts)
     ∙ length-append (entry_fields ts t) (later_fields (ts ++ t ∷ []) us)
     ∙ ap (λ (n : ℕ). n + length (later_fields (ts ++ t ∷ []) us)) (sym (entry_size_is ts t))
 
 -- an entry, and the others behind it
-pub AreRead-cons : (bytes : List ℕ) (i n : ℕ) (ts us : List Tree) (t : Tree) (r : List Tree × ℕ) → IsEntry bytes i ts t → is_listed t ts ≡ false → AreRead bytes (i + entry_size t) n (ts ++ t ∷ []) us r → AreRead bytes i (suc n) ts (t ∷ us) r
+pub AreRead-cons : (bytes : List ℕ) (i n : ℕ) (ts us : List Tree) (t : Tree) (r : List Tree × ℕ) → IsEntry bytes i ts t → is_emitted t ts ≡ false → AreRead bytes (i + entry_size t) n (ts ++ t ∷ []) us r → AreRead bytes i (suc n) ts (t ∷ us) r
 AreRead-cons bytes i n ts us t r here new others =
     let behind : i + entry_size t ≡ i + length (entry_fields ts t) = ap (λ (k : ℕ). i + k) (entry_size_is ts t) in
     let both : Stands bytes i (entry_fields ts t ++ later_fields (ts ++ t ∷ []) us) = Stands-append bytes i (i + entry_size t) (entry_fields ts t) (later_fields (ts ++ t ∷ []) us) behind here.stands others.stands in
     record {
       all = others.all ∙ append_assoc ts (t ∷ []) us;
       count = ap suc others.count;
-      grows = (here.parts, new, others.grows);
+      extends = (here.parts, new, others.extends);
       terms = (here.term, here.small, others.terms);
       stands = subst (λ (fs : List ℕ). Stands bytes i fs) (sym (later_fields-cons ts us t here.parts)) both;
       next = omega (arith, others.next, length-later_fields ts us t here.parts);
     }
 
-pub entries_take : (n : ℕ) (bytes : List ℕ) (i : ℕ) (ts : List Tree) (r : List Tree × ℕ) → IsBytes bytes → Grows [] ts → AreTerms ts → entries_at n bytes i ts ≡ Ok r → (us : List Tree) × AreRead bytes i n ts us r
+pub entries_take : (n : ℕ) (bytes : List ℕ) (i : ℕ) (ts : List Tree) (r : List Tree × ℕ) → IsBytes bytes → ArePostorder [] ts → AreTerms ts → entries_at n bytes i ts ≡ Ok r → (us : List Tree) × AreRead bytes i n ts us r
 unfolding entries_at
 entries_take zero bytes i ts r fits grown terms e =
-    ([], subst (λ (x : List Tree × ℕ). AreRead bytes i 0 ts [] x) (ok_is (ts, i) r e) (record { all = sym (append-nil ts); count = refl; grows = tt; terms = tt; stands = tt; next = sym (add-zero i) }))
+    ([], subst (λ (x : List Tree × ℕ). AreRead bytes i 0 ts [] x) (ok_is (ts, i) r e) (record { all = sym (append-nil ts); count = refl; extends = tt; terms = tt; stands = tt; next = sym (add-zero i) }))
 entries_take (suc n) bytes i ts r fits grown terms e =
     let a = bind_ok (entry_at bytes i ts) _ r e in
     let t = a.0 in
-    let g = guard_ok (is_listed t ts) _ _ r a.2 in
-    let here : IsEntry bytes i ts t = entry_takes bytes i ts fits (Grows-different ts grown) terms t a.1 in
-    let grown_on : Grows [] (ts ++ t ∷ []) = Grows-append [] ts (t ∷ []) grown (here.parts, g.0, tt) in
+    let g = guard_ok (is_emitted t ts) _ _ r a.2 in
+    let here : IsEntry bytes i ts t = entry_takes bytes i ts fits (ArePostorder-different ts grown) terms t a.1 in
+    let grown_on : ArePostorder [] (ts ++ t ∷ []) = ArePostorder-append [] ts (t ∷ []) grown (here.parts, g.0, tt) in
     let terms_on : AreTerms (ts ++ t ∷ []) = AreTerms-append ts (t ∷ []) terms (here.term, here.small, tt) in
     let others = entries_take n bytes (i + entry_size t) (ts ++ t ∷ []) r fits grown_on terms_on g.1 in
     (t ∷ others.0, AreRead-cons bytes i n ts others.0 t r here g.0 others.1)
 
-pub entries_again : (us : List Tree) (bytes : List ℕ) (i : ℕ) (ts : List Tree) → Grows ts us → AreTerms us → Stands bytes i (later_fields ts us) → entries_at (length us) bytes i ts ≡ Ok (ts ++ us, i + length (later_fields ts us))
+pub entries_again : (us : List Tree) (bytes : List ℕ) (i : ℕ) (ts : List Tree) → ArePostorder ts us → AreTerms us → Stands bytes i (later_fields ts us) → entries_at (length us) bytes i ts ≡ Ok (ts ++ us, i + length (later_fields ts us))
 unfolding entries_at
-entries_again [] bytes i ts grows terms p = rw (append-nil ts, add-zero i) refl
-entries_again (t ∷ us) bytes i ts grows terms p =
+entries_again [] bytes i ts extends terms p = rw (append-nil ts, add-zero i) refl
+entries_again (t ∷ us) bytes i ts extends terms p =
     let behind : i + entry_size t ≡ i + length (entry_fields ts t) = ap (λ (k : ℕ). i + k) (entry_size_is ts t) in
-    let apart : Stands bytes i (entry_fields ts t ++ later_fields (ts ++ t ∷ []) us) = subst (λ (fs : List ℕ). Stands bytes i fs) (later_fields-cons ts us t grows.0) p in
+    let apart : Stands bytes i (entry_fields ts t ++ later_fields (ts ++ t ∷ []) us) = subst (λ (fs : List ℕ). Stands bytes i fs) (later_fields-cons ts us t extends.0) p in
     let both = Stands-split bytes i (i + entry_size t) (entry_fields ts t) (later_fields (ts ++ t ∷ []) us) behind apart in
-    let here : entry_at bytes i ts ≡ Ok t = entry_again bytes i ts t terms.0 grows.0 both.0 in
-    let others : entries_at (length us) bytes (i + entry_size t) (ts ++ t ∷ []) ≡ Ok ((ts ++ t ∷ []) ++ us, i + entry_size t + length (later_fields (ts ++ t ∷ []) us)) = entries_again us bytes (i + entry_size t) (ts ++ t ∷ []) grows.2 terms.2 both.1 in
-    let next : i + entry_size t + length (later_fields (ts ++ t ∷ []) us) ≡ i + length (later_fields ts (t ∷ us)) = omega (arith, length-later_fields ts us t grows.0) in
-    let first : entries_at (suc (length us)) bytes i ts ≡ entries_at (length us) bytes (i + entry_size t) (ts ++ t ∷ []) = rw (here, grows.1) refl in
+    let here : entry_at bytes i ts ≡ Ok t = entry_again bytes i ts t terms.0 extends.0 both.0 in
+    let others : entries_at (length us) bytes (i + entry_size t) (ts ++ t ∷ []) ≡ Ok ((ts ++ t ∷ []) ++ us, i + entry_size t + length (later_fields (ts ++ t ∷ []) us)) = entries_again us bytes (i + entry_size t) (ts ++ t ∷ []) extends.2 terms.2 both.1 in
+    let next : i + entry_size t + length (later_fields (ts ++ t ∷ []) us) ≡ i + length (later_fields ts (t ∷ us)) = omega (arith, length-later_fields ts us t extends.0) in
+    let first : entries_at (suc (length us)) bytes i ts ≡ entries_at (length us) bytes (i + entry_size t) (ts ++ t ∷ []) = rw (here, extends.1) refl in
     let same : entries_at (length us) bytes (i + entry_size t) (ts ++ t ∷ []) ≡ Ok (ts ++ t ∷ us, i + length (later_fields ts (t ∷ us))) = rw (others, next, append_assoc ts (t ∷ []) us) refl in
     first ∙ same
 
@@ -94,10 +94,10 @@ pub record IsInv (bytes : List ℕ) (i : ℕ) (es : List Tree) (words low : ℕ)
   pub stands : Stands bytes i (inv_fields es inv)
   pub above : low ≤ inv.0
   pub below : inv.0 < words
-  pub listed : is_listed inv.1 es ≡ true
+  pub listed : is_emitted inv.1 es ≡ true
 
 -- what the tests of an invariant's index say
-inv_tested : (bytes : List ℕ) (i : ℕ) (es : List Tree) (words low k j : ℕ) (t : Tree) (inv : ℕ × Tree) → (j, t) ≡ inv → field_at bytes i ≡ Ok k → cond {A = Result ℕ Fault} (ltb k low || ltb words (k + 1)) (Err (4 * i, InvOrder)) (Ok k) ≡ Ok j → field_at bytes (i + 1) ≡ Ok (entry_number es t) → is_listed t es ≡ true → IsInv bytes i es words low inv
+inv_tested : (bytes : List ℕ) (i : ℕ) (es : List Tree) (words low k j : ℕ) (t : Tree) (inv : ℕ × Tree) → (j, t) ≡ inv → field_at bytes i ≡ Ok k → cond {A = Result ℕ Fault} (ltb k low || ltb words (k + 1)) (Err (4 * i, InvOrder)) (Ok k) ≡ Ok j → field_at bytes (i + 1) ≡ Ok (entry_number es t) → is_emitted t es ≡ true → IsInv bytes i es words low inv
 inv_tested bytes i es words low k j t inv is_inv index tested part listed =
     let g = guard_ok (ltb k low || ltb words (k + 1)) _ _ j tested in
     let both = neither (ltb k low) (ltb words (k + 1)) g.0 in
@@ -134,7 +134,7 @@ inv_trees_of invs = map (λ p. p.1) invs
 pub record AreInvs (bytes : List ℕ) (i : ℕ) (es : List Tree) (words low : ℕ) (invs : List (ℕ × Tree)) : Type 0 where
   pub stands : Stands bytes i (flat_map (inv_fields es) invs)
   pub rising : AreRising low words invs
-  pub listed : AreListed es (inv_trees_of invs)
+  pub listed : AreEmitted es (inv_trees_of invs)
 
 pub AreInvs-cons : (bytes : List ℕ) (i : ℕ) (es : List Tree) (words low : ℕ) (inv : ℕ × Tree) (invs : List (ℕ × Tree)) → IsInv bytes i es words low inv → AreInvs bytes (i + 2) es words (inv.0 + 1) invs → AreInvs bytes i es words low (inv ∷ invs)
 AreInvs-cons bytes i es words low inv invs here others =
@@ -171,26 +171,26 @@ length-invs es (inv ∷ invs) = omega (arith, length-invs es invs)
 
 -- ---- the proof
 
-pub proof_takes : (bytes : List ℕ) (i : ℕ) (es : List Tree) (proof : Option Tree) → AreDifferent es → proof_read bytes i es ≡ Ok proof → (field_at bytes i ≡ Ok (proof_field es proof)) × AreListed es (one_or_none proof)
-unfolding proof_read
+pub proof_takes : (bytes : List ℕ) (i : ℕ) (es : List Tree) (proof : Option Tree) → AreDifferent es → decoded_proof bytes i es ≡ Ok proof → (field_at bytes i ≡ Ok (proof_field es proof)) × AreEmitted es (one_or_none proof)
+unfolding decoded_proof
 proof_takes bytes i es proof different e =
     let a = bind_ok (field_at bytes i) _ proof e in
     let p = a.0 in
     elim (either_ok (eqb p 0) (Ok None) (cond (ltb (length es) p) (Err (4 * i, ForwardRef)) (Ok (Some (tree_in es (p - 1))))) proof a.2) [
       | inl none ↦
           let zero_is : p ≡ 0 = eqb-true p 0 none.0 in
-          subst (λ (x : Option Tree). (field_at bytes i ≡ Ok (proof_field es x)) × AreListed es (one_or_none x)) (ok_is None proof none.1) (a.1 ∙ ap Ok zero_is, tt)
+          subst (λ (x : Option Tree). (field_at bytes i ≡ Ok (proof_field es x)) × AreEmitted es (one_or_none x)) (ok_is None proof none.1) (a.1 ∙ ap Ok zero_is, tt)
       | inr some ↦
           let g = guard_ok (ltb (length es) p) _ _ proof some.1 in
           let most : p ≤ length es = ltb-false _ _ g.0 in
           let not_zero : p ≢ 0 = eqb-false p 0 some.0 in
           let below : p - 1 < length es = omega arith in
           let number : p ≡ 1 + entry_number es (tree_in es (p - 1)) = omega (arith, number-at es different (p - 1) below) in
-          subst (λ (x : Option Tree). (field_at bytes i ≡ Ok (proof_field es x)) × AreListed es (one_or_none x)) (ok_is (Some (tree_in es (p - 1))) proof g.1) (a.1 ∙ ap Ok number, (listed-at es (p - 1) below, tt))
+          subst (λ (x : Option Tree). (field_at bytes i ≡ Ok (proof_field es x)) × AreEmitted es (one_or_none x)) (ok_is (Some (tree_in es (p - 1))) proof g.1) (a.1 ∙ ap Ok number, (listed-at es (p - 1) below, tt))
     ]
 
-pub proof_again : (bytes : List ℕ) (i : ℕ) (es : List Tree) (proof : Option Tree) → AreListed es (one_or_none proof) → field_at bytes i ≡ Ok (proof_field es proof) → proof_read bytes i es ≡ Ok proof
-unfolding proof_read
+pub proof_again : (bytes : List ℕ) (i : ℕ) (es : List Tree) (proof : Option Tree) → AreEmitted es (one_or_none proof) → field_at bytes i ≡ Ok (proof_field es proof) → decoded_proof bytes i es ≡ Ok proof
+unfolding decoded_proof
 proof_again bytes i es None listed e = rw e refl
 proof_again bytes i es (Some t) listed e =
     let n = number_is es t listed.0 in

@@ -4,14 +4,14 @@ use Rattle.term_table.specs.Tree.{Tree}
 use Rattle.proof_container.specs.declared.fault.Flaw.TheVariants.{DoubleEntry}
 use Rattle.proof_container.specs.declared.fault.Malformed.{Malformed}
 use Rattle.proof_container.specs.declared.fault.Malformed.TheVariants as malformed
-use Rattle.proof_container.specs.Walks.{is_listed}
-use Rattle.proof_container.specs.Reading.{Fault, entry_at, entry_size, entries_at, inv_at, invs_at}
+use Rattle.proof_container.specs.Postorder.{is_emitted}
+use Rattle.proof_container.specs.Decoding.{Fault, entry_at, entry_size, entries_at, inv_at, invs_at}
 use Rattle.proof_container.specs.Views.{IsFault}
 
 -- ---- entries: of n, k were read, the trees ts, and field i comes next
 
 module _ (n k : ℕ) (bytes : List ℕ) (i : ℕ) (ts : List Tree) (total : Result (List Tree × ℕ) Fault) (so_far : entries_at (n - k) bytes i ts ≡ total) where
-  pub entries_go_on : (t : Tree) → k < n → entry_at bytes i ts ≡ Ok t → is_listed t ts ≡ false → entries_at (n - (k + 1)) bytes (i + entry_size t) (ts ++ t ∷ []) ≡ total
+  pub entries_go_on : (t : Tree) → k < n → entry_at bytes i ts ≡ Ok t → is_emitted t ts ≡ false → entries_at (n - (k + 1)) bytes (i + entry_size t) (ts ++ t ∷ []) ≡ total
   unfolding entries_at
   entries_go_on t lt here new =
       let left : n - k ≡ suc (n - (k + 1)) = omega arith in
@@ -26,7 +26,7 @@ module _ (n k : ℕ) (bytes : List ℕ) (i : ℕ) (ts : List Tree) (total : Resu
       sym so_far ∙ one
   entries_fault malformed.Memory lt here = tt
 
-  pub entries_double : (t : Tree) → k < n → entry_at bytes i ts ≡ Ok t → is_listed t ts ≡ true → total ≡ Err (4 * i, DoubleEntry)
+  pub entries_double : (t : Tree) → k < n → entry_at bytes i ts ≡ Ok t → is_emitted t ts ≡ true → total ≡ Err (4 * i, DoubleEntry)
   unfolding entries_at
   entries_double t lt here old =
       let left : n - k ≡ suc (n - (k + 1)) = omega arith in

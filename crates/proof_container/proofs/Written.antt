@@ -8,11 +8,11 @@ use Rattle.std.proofs.lemmas.List.{append-nil, take_more, get_or-map}
 use Rattle.std.proofs.lemmas.List.Concat.{flat_map-cons}
 use Rattle.std.proofs.lemmas.List.Sums.{sum_by-cons}
 use Rattle.term_table.specs.Tree.{Tree, Var}
-use Rattle.term_table.specs.Table.{Terms, tree_at}
+use Rattle.term_table.specs.Table.{TableView, tree_at}
 use Rattle.proof_container.specs.Contents.{Contents, roots}
-use Rattle.proof_container.specs.Walks.{is_listed, HasParts, AreListed, entries}
-use Rattle.proof_container.specs.Spelling.{field_bytes, entry_fields, inv_fields, proof_field, head_fields, tail_fields, spelling}
-use Rattle.proof_container.specs.Reading.{entry_size}
+use Rattle.proof_container.specs.Postorder.{is_emitted, HasPartsFirst, AreEmitted, entries}
+use Rattle.proof_container.specs.Encoding.{field_bytes, entry_fields, inv_fields, proof_field, head_fields, tail_fields, encoding_of}
+use Rattle.proof_container.specs.Decoding.{entry_size}
 use Rattle.proof_container.specs.Inside.Walked.{HaveParts}
 use Rattle.proof_container.proofs.FieldLaws.{length-field_bytes}
 use Rattle.proof_container.proofs.EntryLaws.{entry_size_is}
@@ -27,18 +27,18 @@ written_more f xs i d out lt =
     ap (λ z. field_bytes (flat_map f z)) (take_more xs i d lt) ∙ ap field_bytes one ∙ flat_map-append (to_le_bytes w32) (flat_map f (take i xs)) (f (get_or xs i d)) in
     append_assoc out (field_bytes (flat_map f (take i xs))) (field_bytes (f (get_or xs i d))) ∙ ap (λ (z : List ℕ). out ++ z) (sym all)
 
-pub parts-get : (ts us : List Tree) (i : ℕ) (d : Tree) → HaveParts ts us → i < length us → HasParts ts (get_or us i d)
+pub parts-get : (ts us : List Tree) (i : ℕ) (d : Tree) → HaveParts ts us → i < length us → HasPartsFirst ts (get_or us i d)
 parts-get ts [] i d have lt = absurd (omega arith)
 parts-get ts (u ∷ us) zero d have lt = have.0
 parts-get ts (u ∷ us) (suc i) d have lt = parts-get ts us i d have.1 (omega arith)
 
-pub listed-get : {X : Type 0} (f : X → Tree) (ts : List Tree) (xs : List X) (i : ℕ) (d : X) → AreListed ts (map f xs) → i < length xs → is_listed (f (get_or xs i d)) ts ≡ true
+pub listed-get : {X : Type 0} (f : X → Tree) (ts : List Tree) (xs : List X) (i : ℕ) (d : X) → AreEmitted ts (map f xs) → i < length xs → is_emitted (f (get_or xs i d)) ts ≡ true
 listed-get f ts [] i d listed lt = absurd (omega arith)
 listed-get f ts (x ∷ xs) zero d listed lt = listed.0
 listed-get f ts (x ∷ xs) (suc i) d listed lt = listed-get f ts xs i d listed.1 (omega arith)
 
 -- the i-th id's tree is the i-th tree
-pub tree-get : (t : Terms) (ids : List ℕ) (i id : ℕ) → i < length ids → id ≡ get_or ids i id → tree_at t id ≡ get_or (map (tree_at t) ids) i (Var 0)
+pub tree-get : (t : TableView) (ids : List ℕ) (i id : ℕ) → i < length ids → id ≡ get_or ids i id → tree_at t id ≡ get_or (map (tree_at t) ids) i (Var 0)
 tree-get t ids i id lt is = ap (tree_at t) is ∙ sym (get_or-map (tree_at t) ids i id (Var 0) lt)
 
 -- the place lies within the ids, and the id is the one there
@@ -52,9 +52,9 @@ length-entries es [] = refl
 length-entries es (u ∷ us) =
     ap length (flat_map-cons (entry_fields es) u us) ∙ omega (arith, length-append (entry_fields es u) (flat_map (entry_fields es) us), length-entries es us, entry_size_is es u, sum_by-cons entry_size u us)
 
-pub length-spelling : (c : Contents) → length (spelling c) ≡ 4 * (7 + sum_by entry_size (entries (roots c)) + 2 * length c.invs) + length c.code
-unfolding spelling
-length-spelling c =
+pub length-encoding_of : (c : Contents) → length (encoding_of c) ≡ 4 * (7 + sum_by entry_size (entries (roots c)) + 2 * length c.invs) + length c.code
+unfolding encoding_of
+length-encoding_of c =
     let es : List Tree = entries (roots c) in
     let invs : List ℕ = length c.invs ∷ flat_map (inv_fields es) c.invs in
     let last : List ℕ = proof_field es c.proof ∷ [] in

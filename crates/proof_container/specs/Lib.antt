@@ -2,9 +2,9 @@ pub use Rattle.term_table.specs.Tree
 pub use Rattle.term_table.specs.Equality
 pub use Rattle.term_table.specs.Table
 pub mod Contents
-pub mod Walks
-pub mod Spelling
-pub mod Reading
+pub mod Postorder
+pub mod Encoding
+pub mod Decoding
 pub mod Views
 pub mod Inside
 pub mod Names

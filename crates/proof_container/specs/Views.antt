@@ -3,7 +3,7 @@ use Rattle.std.specs.Prelude.{◌≡◌, ℕ, ◌*◌, ◌/◌, ◌<◌, ◌≤�
 use Rattle.std.specs.List.{AllByRecursion}
 use Rattle.std.specs.Option.{option_map}
 use Rattle.term_table.specs.Tree.{Tree, IsTerm}
-use Rattle.term_table.specs.Table.{Terms, IsKnown, tree_at}
+use Rattle.term_table.specs.Table.{TableView, IsKnown, tree_at}
 use Rattle.term_table.specs.Measures.{sigma1_places}
 use Rattle.proof_container.specs.declared.container.Container.{Container}
 use Rattle.proof_container.specs.declared.container.View.{View}
@@ -11,12 +11,12 @@ use Rattle.proof_container.specs.declared.fault.Malformed.{Malformed}
 use Rattle.proof_container.specs.declared.fault.Malformed.TheVariants as malformed
 use Rattle.proof_container.specs.declared.limits.TheConstants.{MAX_WORDS, MAX_ENTRIES, MAX_INVS}
 use Rattle.proof_container.specs.Contents.{Contents, roots}
-use Rattle.proof_container.specs.Walks.{entries}
-use Rattle.proof_container.specs.Spelling.{AreRising, Spells}
-use Rattle.proof_container.specs.Reading.{Fault}
+use Rattle.proof_container.specs.Postorder.{entries}
+use Rattle.proof_container.specs.Encoding.{AreRising, EncodesContents}
+use Rattle.proof_container.specs.Decoding.{Fault}
 
 -- invariants with their trees in place of their ids
-abbrev pub inv_trees : Terms → List (ℕ × ℕ) → List (ℕ × Tree)
+abbrev pub inv_trees : TableView → List (ℕ × ℕ) → List (ℕ × Tree)
 inv_trees t invs = map (λ inv. (inv.0, tree_at t inv.1)) invs
 
 -- what a container holds
@@ -38,7 +38,7 @@ view_contents v = record {
 }
 
 -- the roots are ids of the table
-abbrev pub AreKnown : Terms → List (ℕ × ℕ) → Option ℕ → Type 0
+abbrev pub AreKnown : TableView → List (ℕ × ℕ) → Option ℕ → Type 0
 AreKnown t invs proof = AllByRecursion (λ inv. IsKnown t inv.1) invs × IfSome proof (IsKnown t)
 
 -- the view shows the container's fields
@@ -51,7 +51,7 @@ pub record Shows (c : Container) (v : View) : Type 0 where
 
 -- no contents have these bytes as their spelling
 abbrev pub IsNone : List ℕ → Malformed → Type 0
-IsNone bytes (malformed.At offset flaw) = (c : Contents) → Spells bytes c → ⊥
+IsNone bytes (malformed.At offset flaw) = (c : Contents) → EncodesContents bytes c → ⊥
 IsNone bytes malformed.Memory = Unit {0}
 
 -- the fault that reading gives, or want of memory
@@ -60,9 +60,9 @@ IsFault read (malformed.At offset flaw) = read ≡ Err (offset, flaw)
 IsFault read malformed.Memory = Unit {0}
 
 -- an answer, seen by view, is what reading gives, unless memory ran out
-abbrev pub Gives : {X Y : Type 0} → (X → Y) → Result Y Fault → Result X Malformed → Type 0
-Gives view read (Ok x) = read ≡ Ok (view x)
-Gives view read (Err e) = IsFault read e
+abbrev pub Decodes : {X Y : Type 0} → (X → Y) → Result Y Fault → Result X Malformed → Type 0
+Decodes view read (Ok x) = read ≡ Ok (view x)
+Decodes view read (Err e) = IsFault read e
 
 -- the container's table has the entries, in the order of the walk, and no other trees; weights go by the signature's parameters
 pub record IsCanonical (c : Container) : Type 0 where

@@ -2,12 +2,12 @@
 
 ghost use Rattle.std.specs.Prelude.{◌≡◌, ◌+◌, ◌*◌, ◌≤◌, false, [], length, IfOk, OnOk};
 ghost use Rattle.term_table.specs.Table.{IsKnown, PartsKnown, tree_at, node_tree, with_tree};
-ghost use Rattle.proof_container.specs.Walks.{is_listed};
-ghost use Rattle.proof_container.specs.Reading.{part_at, head_at, application_at};
-ghost use Rattle.proof_container.specs.Reading.{entry_at, entry_size, entries_at, entries_read};
+ghost use Rattle.proof_container.specs.Postorder.{is_emitted};
+ghost use Rattle.proof_container.specs.Decoding.{part_at, head_at, application_at};
+ghost use Rattle.proof_container.specs.Decoding.{entry_at, entry_size, entries_at, decoded_entries};
 ghost use Rattle.proof_container.specs.declared.limits.TheConstants.{MAX_ENTRIES};
 ghost use Rattle.proof_container.specs.Inside.Cursor.{IsPast};
-ghost use Rattle.proof_container.specs.Views.{Gives};
+ghost use Rattle.proof_container.specs.Views.{Decodes};
 
 use crate::fault::{Flaw, Malformed};
 use crate::fields::Fields;
@@ -17,7 +17,7 @@ use term_table::{Id, Node, Table};
 
 /// The earlier entry that the next field names.
 pub fn part(fields: &mut Fields<'_>, table: &Table) -> Result<Id, Malformed>
-    ensures read { Gives (tree_at table.now)
+    ensures read { Decodes (tree_at table.now)
         (part_at fields.old.bytes.now fields.old.read table.now.trees) result }
     ensures moves { OnOk result (IsPast fields.old fields.new 1) }
     ensures known { IfOk result (λ id. IsKnown table.now id) }
@@ -33,7 +33,7 @@ pub fn part(fields: &mut Fields<'_>, table: &Table) -> Result<Id, Malformed>
 
 /// The same of what is applied, which is no abstraction.
 fn head(fields: &mut Fields<'_>, table: &Table) -> Result<Id, Malformed>
-    ensures read { Gives (tree_at table.now)
+    ensures read { Decodes (tree_at table.now)
         (head_at fields.old.bytes.now fields.old.read table.now.trees) result }
     ensures moves { OnOk result (IsPast fields.old fields.new 1) }
     ensures known { IfOk result (λ id. IsKnown table.now id) }
@@ -48,7 +48,7 @@ fn head(fields: &mut Fields<'_>, table: &Table) -> Result<Id, Malformed>
 
 /// What the next two fields name, the one applied to the other.
 fn application(fields: &mut Fields<'_>, table: &Table) -> Result<Node, Malformed>
-    ensures read { Gives (node_tree table.now)
+    ensures read { Decodes (node_tree table.now)
         (application_at fields.old.bytes.now fields.old.read table.now.trees) result }
     ensures moves { OnOk result (IsPast fields.old fields.new 2) }
     ensures parts { IfOk result (λ n. PartsKnown table.now n) }
@@ -60,9 +60,9 @@ fn application(fields: &mut Fields<'_>, table: &Table) -> Result<Node, Malformed
 }
 
 /// The next entry.
-#[tactic(auto, unfolding(crate::specs::Reading::kind_at))]
+#[tactic(auto, unfolding(crate::specs::Decoding::kind_at))]
 fn entry(fields: &mut Fields<'_>, table: &Table) -> Result<Node, Malformed>
-    ensures read { Gives (node_tree table.now)
+    ensures read { Decodes (node_tree table.now)
         (entry_at fields.old.bytes.now fields.old.read table.now.trees) result }
     ensures moves { IfOk result (λ n.
         IsPast fields.old fields.new (entry_size (node_tree table.now n))) }
@@ -109,7 +109,7 @@ pub fn size(table: &Table, node: &Node) -> usize
 /// Whether the table has the node's tree; else it comes to the table's end.
 fn is_double(table: &mut Table, node: Node) -> Result<bool, AllocError>
     requires { PartsKnown table.old node }
-    ensures listed { IfOk result (λ b. b ≡ is_listed (node_tree table.old node) table.old.trees) }
+    ensures listed { IfOk result (λ b. b ≡ is_emitted (node_tree table.old node) table.old.trees) }
     ensures added { IfOk result (λ b. b ≡ false →
         table.new ≡ with_tree table.old (node_tree table.old node)) }
 {
@@ -121,7 +121,7 @@ fn is_double(table: &mut Table, node: Node) -> Result<bool, AllocError>
 
 /// The next `count` entries come to the table.
 fn entries_from(fields: &mut Fields<'_>, count: u32, table: &mut Table) -> Result<(), Malformed>
-    ensures read { Gives (λ _. (table.new.trees, fields.new.read))
+    ensures read { Decodes (λ _. (table.new.trees, fields.new.read))
         (entries_at count fields.old.bytes.now fields.old.read table.old.trees) result }
     ensures bytes { OnOk result (fields.new.bytes.now ≡ fields.old.bytes.now) }
     ensures places { OnOk result (table.new.places ≡ table.old.places) }
@@ -138,13 +138,13 @@ fn entries_from(fields: &mut Fields<'_>, count: u32, table: &mut Table) -> Resul
 }
 
 /// The entries behind so many words of code come to the table.
-#[tactic(auto, unfolding(crate::specs::Reading::entries_read))]
+#[tactic(auto, unfolding(crate::specs::Decoding::decoded_entries))]
 pub fn entries(fields: &mut Fields<'_>, words: usize, table: &mut Table) -> Result<(), Malformed>
     requires place { fields.old.read ≡ 4 }
     requires whole { 16 + 4 * words ≤ length fields.old.bytes.now }
     requires empty { table.old.trees ≡ [] }
-    ensures read { Gives (λ _. (table.new.trees, fields.new.read))
-        (entries_read fields.old.bytes.now words) result }
+    ensures read { Decodes (λ _. (table.new.trees, fields.new.read))
+        (decoded_entries fields.old.bytes.now words) result }
     ensures bytes { OnOk result (fields.new.bytes.now ≡ fields.old.bytes.now) }
     ensures places { OnOk result (table.new.places ≡ table.old.places) }
     ensures few { OnOk result (length table.new.trees ≤ MAX_ENTRIES) }

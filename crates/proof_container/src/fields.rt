@@ -20,9 +20,9 @@ pub struct Fields<'b> {
 }
 
 impl<'b> Fields<'b> {
-    ghost use Rattle.proof_container.specs.Reading.{field_at, exact_at, count_at};
-    ghost use Rattle.proof_container.specs.Reading.{word_at, triple_at};
-    ghost use Rattle.proof_container.specs.Views.{Gives};
+    ghost use Rattle.proof_container.specs.Decoding.{field_at, exact_at, count_at};
+    ghost use Rattle.proof_container.specs.Decoding.{word_at, triple_at};
+    ghost use Rattle.proof_container.specs.Views.{Decodes};
     ghost use Rattle.proof_container.specs.Inside.Cursor.{IsPast};
 
     /// The fields of `bytes`, none of which was read.
@@ -57,7 +57,7 @@ impl<'b> Fields<'b> {
 
     /// The next field.
     pub fn field(&mut self) -> Result<u32, Malformed>
-        ensures read { Gives (λ n. n) (field_at self.old.bytes.now self.old.read) result }
+        ensures read { Decodes (λ n. n) (field_at self.old.bytes.now self.old.read) result }
         ensures moves { OnOk result (IsPast self.old self.new 1) }
     {
         let rest = &self.bytes[4 * self.read..];
@@ -70,7 +70,7 @@ impl<'b> Fields<'b> {
 
     /// The next field, which has to be this number.
     pub fn exact(&mut self, n: u32, flaw: Flaw) -> Result<u32, Malformed>
-        ensures read { Gives (λ n. n) (exact_at self.old.bytes.now self.old.read n flaw) result }
+        ensures read { Decodes (λ n. n) (exact_at self.old.bytes.now self.old.read n flaw) result }
         ensures moves { OnOk result (IsPast self.old self.new 1) }
     {
         let offset = self.offset();
@@ -84,7 +84,7 @@ impl<'b> Fields<'b> {
 
     /// The next field, which has to lie between these numbers.
     pub fn count(&mut self, low: u32, high: u32) -> Result<u32, Malformed>
-        ensures read { Gives (λ n. n) (count_at self.old.bytes.now self.old.read low high) result }
+        ensures read { Decodes (λ n. n) (count_at self.old.bytes.now self.old.read low high) result }
         ensures moves { OnOk result (IsPast self.old self.new 1) }
         ensures low { IfOk result (λ n. low ≤ n) }
         ensures high { IfOk result (λ n. n ≤ high) }
@@ -100,7 +100,7 @@ impl<'b> Fields<'b> {
 
     /// The word in the next two fields, the low half first.
     pub fn word(&mut self) -> Result<u64, Malformed>
-        ensures read { Gives (λ w. w) (word_at self.old.bytes.now self.old.read) result }
+        ensures read { Decodes (λ w. w) (word_at self.old.bytes.now self.old.read) result }
         ensures moves { OnOk result (IsPast self.old self.new 2) }
     {
         let low = self.field()?;
@@ -110,7 +110,7 @@ impl<'b> Fields<'b> {
 
     /// The number in the next field, and the two words behind it.
     pub fn triple(&mut self) -> Result<(u32, u64, u64), Malformed>
-        ensures read { Gives (λ t. (t.0, t.1, t.2))
+        ensures read { Decodes (λ t. (t.0, t.1, t.2))
             (triple_at self.old.bytes.now self.old.read) result }
         ensures moves { OnOk result (IsPast self.old self.new 5) }
     {

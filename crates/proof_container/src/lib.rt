@@ -2,9 +2,9 @@
 //!
 //! The layers above use that `read` gives the contents that the bytes spell, or else the first
 //! fault with its offset; that `write` gives the one spelling of its view's contents; and how long
-//! that is. The contents stand in `specs/Contents`, the order of the entries in `specs/Walks`, the
-//! grammar (as a relation between bytes and contents) in `specs/Spelling`, and the tests in their
-//! order in `specs/Reading`. The format is this project's own.
+//! that is. The contents stand in `specs/Contents`, the order of the entries in `specs/Postorder`, the
+//! grammar (as a relation between bytes and contents) in `specs/Encoding`, and the tests in their
+//! order in `specs/Decoding`. The format is this project's own.
 #![tactic(auto)]
 
 mod container;

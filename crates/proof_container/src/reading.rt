@@ -5,15 +5,15 @@ ghost use Rattle.std.specs.Prelude.{IfOk, IfErr, IfSome, IsTrue, OnOk};
 ghost use Rattle.std.specs.List.{AllByRecursion};
 ghost use Rattle.std.specs.Option.{option_map};
 ghost use Rattle.term_table.specs.Table.{IsKnown, AllKnown, tree_at};
-ghost use Rattle.proof_container.specs.Spelling.{Spells};
-ghost use Rattle.proof_container.specs.Reading.{head_read, inv_at, invs_at, invs_read, proof_read};
-ghost use Rattle.proof_container.specs.Reading.{first_misplaced, entry_offset, end_read};
-ghost use Rattle.proof_container.specs.Reading.{container_read};
+ghost use Rattle.proof_container.specs.Encoding.{EncodesContents};
+ghost use Rattle.proof_container.specs.Decoding.{decoded_head, inv_at, invs_at, decoded_invs, decoded_proof};
+ghost use Rattle.proof_container.specs.Decoding.{first_misplaced, entry_offset, decoded_end};
+ghost use Rattle.proof_container.specs.Decoding.{decoded_container};
 ghost use Rattle.proof_container.specs.declared.limits.TheConstants.{MAX_WORDS, MAX_INVS};
 ghost use Rattle.proof_container.specs.declared.limits.TheConstants.{MAX_ENTRIES};
 ghost use Rattle.proof_container.specs.Inside.Cursor.{IsPast};
 ghost use Rattle.proof_container.specs.Inside.Walked.{IsPlaced};
-ghost use Rattle.proof_container.specs.Views.{Gives, IsNone, IsCanonical, AreKnown};
+ghost use Rattle.proof_container.specs.Views.{Decodes, IsNone, IsCanonical, AreKnown};
 ghost use Rattle.proof_container.specs.Views.{contents_of, inv_trees};
 
 use crate::container::Container;
@@ -33,10 +33,10 @@ struct Head {
 }
 
 /// The policy and the count of code words; the code stands whole in the bytes, and comes next.
-#[tactic(auto, unfolding(crate::specs::Reading::head_read))]
+#[tactic(auto, unfolding(crate::specs::Decoding::decoded_head))]
 fn head_of(fields: &mut Fields<'_>) -> Result<Head, Malformed>
     requires { fields.old.read ≡ 0 }
-    ensures read { Gives (λ h. (h.policy, h.words)) (head_read fields.old.bytes.now) result }
+    ensures read { Decodes (λ h. (h.policy, h.words)) (decoded_head fields.old.bytes.now) result }
     ensures moves { OnOk result (IsPast fields.old fields.new 4) }
     ensures whole { IfOk result (λ h. 16 + 4 * h.words ≤ length fields.old.bytes.now) }
     ensures short { IfOk result (λ h. h.words ≤ MAX_WORDS) }
@@ -59,7 +59,7 @@ fn inv(
     words: usize,
     low: u32,
 ) -> Result<(u32, Id), Malformed>
-    ensures read { Gives (λ inv. (inv.0, tree_at table.now inv.1))
+    ensures read { Decodes (λ inv. (inv.0, tree_at table.now inv.1))
         (inv_at fields.old.bytes.now fields.old.read table.now.trees words low) result }
     ensures moves { OnOk result (IsPast fields.old fields.new 2) }
     ensures known { IfOk result (λ inv. IsKnown table.now inv.1) }
@@ -83,7 +83,7 @@ fn invs_from(
 ) -> Result<Vec<(u32, Id)>, Malformed>
     requires few { count ≤ MAX_INVS }
     requires short { words ≤ MAX_WORDS }
-    ensures read { Gives (λ v. inv_trees table.now v.items)
+    ensures read { Decodes (λ v. inv_trees table.now v.items)
         (invs_at count fields.old.bytes.now fields.old.read table.now.trees words 0 []) result }
     ensures moves { IfOk result (λ v. IsPast fields.old fields.new (2 * length v.items)) }
     ensures known { IfOk result (λ v. AllByRecursion (λ inv. IsKnown table.now inv.1) v.items) }
@@ -100,7 +100,7 @@ fn invs_from(
 }
 
 /// The invariants, whose count is the next field.
-#[tactic(auto, unfolding(crate::specs::Reading::invs_read))]
+#[tactic(auto, unfolding(crate::specs::Decoding::decoded_invs))]
 fn invs(
     alloc: Global,
     fields: &mut Fields<'_>,
@@ -108,8 +108,8 @@ fn invs(
     words: usize,
 ) -> Result<Vec<(u32, Id)>, Malformed>
     requires { words ≤ MAX_WORDS }
-    ensures read { Gives (λ v. inv_trees table.now v.items)
-        (invs_read fields.old.bytes.now fields.old.read table.now.trees words) result }
+    ensures read { Decodes (λ v. inv_trees table.now v.items)
+        (decoded_invs fields.old.bytes.now fields.old.read table.now.trees words) result }
     ensures moves { IfOk result (λ v. IsPast fields.old fields.new (1 + 2 * length v.items)) }
     ensures known { IfOk result (λ v. AllByRecursion (λ inv. IsKnown table.now inv.1) v.items) }
     ensures few { IfOk result (λ v. length v.items ≤ MAX_INVS) }
@@ -119,10 +119,10 @@ fn invs(
 }
 
 /// The proof that the next field names, if it names one.
-#[tactic(auto, unfolding(crate::specs::Reading::proof_read))]
+#[tactic(auto, unfolding(crate::specs::Decoding::decoded_proof))]
 fn proof(fields: &mut Fields<'_>, table: &Table) -> Result<Option<Id>, Malformed>
-    ensures read { Gives (λ p. option_map (tree_at table.now) p)
-        (proof_read fields.old.bytes.now fields.old.read table.now.trees) result }
+    ensures read { Decodes (λ p. option_map (tree_at table.now) p)
+        (decoded_proof fields.old.bytes.now fields.old.read table.now.trees) result }
     ensures moves { OnOk result (IsPast fields.old fields.new 1) }
     ensures known { IfOk result (λ p. IfSome p (λ id. IsKnown table.now id)) }
 {
@@ -176,7 +176,7 @@ fn offset_of(table: &Table, words: usize, e: u64) -> u64
 }
 
 /// Whether no byte is left, and the entries stand in the order of the walk; else the fault.
-#[tactic(auto, unfolding(crate::specs::Reading::end_read))]
+#[tactic(auto, unfolding(crate::specs::Decoding::decoded_end))]
 fn end(
     alloc: Global,
     fields: &Fields<'_>,
@@ -188,8 +188,8 @@ fn end(
     requires known { AreKnown container.now.table container.now.invs.items container.now.proof }
     ensures { let contents = contents_of container.now in
         let trees = container.now.table.trees in
-        Gives (λ _. contents)
-        (end_read fields.now.bytes.now fields.now.read words trees contents) result }
+        Decodes (λ _. contents)
+        (decoded_end fields.now.bytes.now fields.now.read words trees contents) result }
 {
     if fields.remaining() > 0 {
         return Err(Malformed::At(fields.offset(), Flaw::Trailing));
@@ -203,9 +203,9 @@ fn end(
 }
 
 /// The container that the bytes read as; its terms are the entries.
-#[tactic(auto, unfolding(crate::specs::Reading::container_read))]
+#[tactic(auto, unfolding(crate::specs::Decoding::decoded_container))]
 fn parse(alloc: Global, bytes: &[u8]) -> Result<Container<'_>, Malformed>
-    ensures tested { Gives contents_of (container_read bytes.now) result }
+    ensures tested { Decodes contents_of (decoded_container bytes.now) result }
     ensures canonical { IfOk result (λ c. IsCanonical c) }
 {
     let mut fields = Fields::new(bytes);
@@ -230,11 +230,11 @@ fn parse(alloc: Global, bytes: &[u8]) -> Result<Container<'_>, Malformed>
 ///
 /// Errors: the first fault with its byte offset, fields being read from the front and each tested
 /// as soon as it is read; `Memory` says nothing of `bytes`. The format is this project's own
-/// (`specs/Spelling`).
+/// (`specs/Encoding`).
 pub fn read(alloc: Global, bytes: &[u8]) -> Result<Container<'_>, Malformed>
-    ensures spelled { IfOk result (λ c. Spells bytes.now (contents_of c)) }
+    ensures spelled { IfOk result (λ c. EncodesContents bytes.now (contents_of c)) }
     ensures none { IfErr result (λ e. IsNone bytes.now e) }
-    ensures tested { Gives contents_of (container_read bytes.now) result }
+    ensures tested { Decodes contents_of (decoded_container bytes.now) result }
     ensures canonical { IfOk result (λ c. IsCanonical c) }
 {
     parse(alloc, bytes)

@@ -3,7 +3,7 @@
 ghost use Rattle.std.specs.Prelude.{◌≤◌, length, OnOk};
 ghost use Rattle.term_table.specs.Tree.{IsAtomic, IsTerm};
 ghost use Rattle.term_table.specs.Table.{IsKnown, tree_at};
-ghost use Rattle.proof_container.specs.Walks.{entries};
+ghost use Rattle.proof_container.specs.Postorder.{entries};
 ghost use Rattle.proof_container.specs.Contents.{roots};
 ghost use Rattle.proof_container.specs.Views.{AreKnown, view_contents};
 

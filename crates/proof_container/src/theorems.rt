@@ -4,9 +4,9 @@ ghost use Rattle.std.specs.Prelude.{◌≡◌, ℕ, List, ◌<◌, ◌↔◌, le
 ghost use Rattle.term_table.specs.Tree.{Tree};
 ghost use Rattle.term_table.specs.Table.{AreDifferent, tree_in};
 ghost use Rattle.proof_container.specs.Contents.{Contents};
-ghost use Rattle.proof_container.specs.Walks.{entries, HasParts, AreListed};
-ghost use Rattle.proof_container.specs.Spelling.{IsBytes, Spells};
-ghost use Rattle.proof_container.specs.Reading.{container_read};
+ghost use Rattle.proof_container.specs.Postorder.{entries, HasPartsFirst, AreEmitted};
+ghost use Rattle.proof_container.specs.Encoding.{IsBytes, EncodesContents};
+ghost use Rattle.proof_container.specs.Decoding.{decoded_container};
 ghost use Rattle.proof_container.specs.Views.{IsCanonical, AreSame, contents_of};
 ghost use Rattle.proof_container.specs.declared.container.Container.{Container};
 
@@ -15,14 +15,14 @@ ghost use Rattle.proof_container.specs.declared.container.Container.{Container};
 /// entries are the same where their contents are.
 pub fn laws()
     ensures decided { (bytes : List ℕ) (c : Contents) →
-        IsBytes bytes → (Spells bytes c ↔ (container_read bytes ≡ Ok c)) }
+        IsBytes bytes → (EncodesContents bytes c ↔ (decoded_container bytes ≡ Ok c)) }
     ensures one_content { (bytes : List ℕ) (c d : Contents) →
-        Spells bytes c → Spells bytes d → c ≡ d }
-    ensures one_spelling { (a b : List ℕ) (c : Contents) → Spells a c → Spells b c → a ≡ b }
-    ensures rooted { (rs : List Tree) → AreListed (entries rs) rs }
+        EncodesContents bytes c → EncodesContents bytes d → c ≡ d }
+    ensures one_spelling { (a b : List ℕ) (c : Contents) → EncodesContents a c → EncodesContents b c → a ≡ b }
+    ensures rooted { (rs : List Tree) → AreEmitted (entries rs) rs }
     ensures different { (rs : List Tree) → AreDifferent (entries rs) }
     ensures earlier { (rs : List Tree) (i : ℕ) → i < length (entries rs) →
-        HasParts (take i (entries rs)) (tree_in (entries rs) i) }
+        HasPartsFirst (take i (entries rs)) (tree_in (entries rs) i) }
     ensures canonical { (c d : Container) → IsCanonical c → IsCanonical d →
         contents_of c ≡ contents_of d → AreSame c d }
 {}

@@ -3,7 +3,7 @@
 ghost use Rattle.std.specs.Prelude.{◌≡◌, ◌<◌, ◌++◌, ◌∷◌, [], List, length, get_or, IfOk, OnOk};
 ghost use Rattle.term_table.specs.Tree.{Tree};
 ghost use Rattle.term_table.specs.Table.{IsKnown};
-ghost use Rattle.proof_container.specs.Walks.{entries};
+ghost use Rattle.proof_container.specs.Postorder.{entries};
 ghost use Rattle.proof_container.specs.Views.{AreKnown};
 ghost use Rattle.proof_container.specs.Inside.Walked.{IsLeft, IsUnderWay, IsStep, root_trees};
 ghost use Rattle.proof_container.specs.Inside.Walked.{first_steps, part_steps, steps_cost};

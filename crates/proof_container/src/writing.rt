@@ -7,12 +7,12 @@ ghost use Rattle.std.specs.List.{flat_map};
 ghost use Rattle.std.specs.Option.{option_map};
 ghost use Rattle.term_table.specs.Table.{IsKnown, AllKnown, tree_at};
 ghost use Rattle.proof_container.specs.Contents.{roots};
-ghost use Rattle.proof_container.specs.Walks.{entries, is_listed, HasParts, AreListed};
-ghost use Rattle.proof_container.specs.Spelling.{field_bytes, entry_number, entry_fields};
-ghost use Rattle.proof_container.specs.Spelling.{inv_fields, proof_field, tail_fields};
-ghost use Rattle.proof_container.specs.Spelling.{spelling, Spells};
+ghost use Rattle.proof_container.specs.Postorder.{entries, is_emitted, HasPartsFirst, AreEmitted};
+ghost use Rattle.proof_container.specs.Encoding.{field_bytes, entry_number, entry_fields};
+ghost use Rattle.proof_container.specs.Encoding.{inv_fields, proof_field, tail_fields};
+ghost use Rattle.proof_container.specs.Encoding.{encoding_of, EncodesContents};
 ghost use Rattle.proof_container.specs.declared.limits.TheConstants.{MAX_ENTRIES};
-ghost use Rattle.proof_container.specs.Reading.{entry_size, container_read};
+ghost use Rattle.proof_container.specs.Decoding.{entry_size, decoded_container};
 ghost use Rattle.proof_container.specs.Inside.Walked.{IsLeft, IsReady, HaveParts, left_trees};
 ghost use Rattle.proof_container.specs.Views.{AreKnown, IsWritable, inv_trees, view_contents};
 
@@ -54,7 +54,7 @@ fn high(word: u64) -> u32
 fn number(table: &Table, walk: &Walk, id: Id) -> u32
     requires left { IsLeft table.now (left_trees table.now walk.now) walk.now }
     requires known { IsKnown table.now id }
-    requires listed { is_listed (tree_at table.now id) (left_trees table.now walk.now) ≡ true }
+    requires listed { is_emitted (tree_at table.now id) (left_trees table.now walk.now) ≡ true }
     requires few { length walk.now.left.items ≤ MAX_ENTRIES }
     ensures value { result ≡ entry_number (left_trees table.now walk.now) (tree_at table.now id) }
     ensures small { result < MAX_ENTRIES }
@@ -70,7 +70,7 @@ fn number(table: &Table, walk: &Walk, id: Id) -> u32
 fn put_entry(out: &mut Vec<u8>, table: &Table, walk: &Walk, id: Id) -> Result<(), AllocError>
     requires left { IsLeft table.now (left_trees table.now walk.now) walk.now }
     requires known { IsKnown table.now id }
-    requires parts { HasParts (left_trees table.now walk.now) (tree_at table.now id) }
+    requires parts { HasPartsFirst (left_trees table.now walk.now) (tree_at table.now id) }
     requires few { length walk.now.left.items ≤ MAX_ENTRIES }
     ensures { let fields = entry_fields (left_trees table.now walk.now) (tree_at table.now id) in
         OnOk result (out.new.items ≡ out.old.items ++ field_bytes fields) }
@@ -116,7 +116,7 @@ fn put_invs(
 ) -> Result<(), AllocError>
     requires left { IsLeft table.now (left_trees table.now walk.now) walk.now }
     requires known { AreKnown table.now invs.now None }
-    requires listed { AreListed (left_trees table.now walk.now)
+    requires listed { AreEmitted (left_trees table.now walk.now)
         (map (λ inv. tree_at table.now inv.1) invs.now) }
     requires few { length walk.now.left.items ≤ MAX_ENTRIES }
     ensures { let es = left_trees table.now walk.now in
@@ -135,7 +135,7 @@ fn proof_number(table: &Table, walk: &Walk, proof: Option<Id>) -> u32
     requires left { IsLeft table.now (left_trees table.now walk.now) walk.now }
     requires known { IfSome proof (λ id. IsKnown table.now id) }
     requires listed { IfSome proof (λ id.
-        is_listed (tree_at table.now id) (left_trees table.now walk.now) ≡ true) }
+        is_emitted (tree_at table.now id) (left_trees table.now walk.now) ≡ true) }
     requires few { length walk.now.left.items ≤ MAX_ENTRIES }
     ensures { let tree = option_map (λ id. tree_at table.now id) proof in
         result ≡ proof_field (left_trees table.now walk.now) tree }
@@ -175,8 +175,8 @@ fn limits(policy: u32, code: &[u8])
 /// Errors: want of memory alone.
 pub fn write(alloc: Global, view: &View<'_>) -> Result<Vec<u8>, AllocError>
     requires { IsWritable view.now }
-    ensures spelled { IfOk result (λ v. Spells v.items (view_contents view.now)) }
-    ensures read_back { IfOk result (λ v. container_read v.items ≡ Ok (view_contents view.now)) }
+    ensures spelled { IfOk result (λ v. EncodesContents v.items (view_contents view.now)) }
+    ensures read_back { IfOk result (λ v. decoded_container v.items ≡ Ok (view_contents view.now)) }
 {
     view.table.laws();
     let policy = view.policy;
@@ -209,7 +209,7 @@ fn entries_len(table: &Table, walk: &Walk) -> u64
 pub fn extent(alloc: Global, view: &View<'_>) -> Result<(u64, u64), AllocError>
     requires { AreKnown view.now.table.now view.now.invs.now view.now.proof }
     ensures entries { IfOk result (λ e. e.0 ≡ length (entries (roots (view_contents view.now)))) }
-    ensures bytes { let size = length (spelling (view_contents view.now)) in
+    ensures bytes { let size = length (encoding_of (view_contents view.now)) in
         IfOk result (λ e. e.1 ≡ min size (2 ^ 64 - 1)) }
 {
     let walk = walk_from(alloc, view.table, view.invs, view.proof)?;

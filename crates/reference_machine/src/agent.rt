@@ -7,7 +7,7 @@ ghost use Rattle.word_ops.specs.Registers.{read_reg, write_reg};
 ghost use Rattle.alpha_cfg.specs.Machine as machine;
 ghost use Rattle.reference_machine.specs.Arena.{sum_of};
 ghost use Rattle.reference_machine.specs.Agents as agents;
-ghost use Rattle.reference_machine.specs.Setups.{setup_of};
+ghost use Rattle.reference_machine.specs.Setups.{start_view};
 ghost use Rattle.reference_machine.specs.Starts as starts;
 ghost use Rattle.reference_machine.specs.declared.layout.TheConstants.{ARENA};
 ghost use Rattle.alpha_cfg.specs.declared.code.TheConstants.{MAX_WORDS};
@@ -36,15 +36,15 @@ pub struct Agent {
 }
 
 impl Model for Agent {
-    ghost use Rattle.reference_machine.specs.Agents.{Held, held_code};
+    ghost use Rattle.reference_machine.specs.Agents.{AgentView, agent_view_code};
 
-    ghost Value = { Held };
+    ghost Value = { AgentView };
 
-    ghost coded = { held_code };
+    ghost coded = { agent_view_code };
 
-    ghost use Rattle.reference_machine.specs.Inside.Fields.{held_of, IsSound};
+    ghost use Rattle.reference_machine.specs.Inside.Fields.{agent_view, IsSound};
 
-    ghost view = { held_of };
+    ghost view = { agent_view };
 
     ghost invariant = { IsSound };
 }
@@ -70,8 +70,8 @@ impl Agent {
     /// on; every other quadword and register is 0, and so is the index. Nothing of an earlier run
     /// is left.
     pub fn load(&mut self, start: Start)
-        requires { starts.Fits ARENA (setup_of start) }
-        ensures { self.new ≡ starts.loaded ARENA (setup_of start.entry) }
+        requires { starts.Fits ARENA (start_view start) }
+        ensures { self.new ≡ starts.agent_at_start ARENA (start_view start.entry) }
     {
         let place = ((start.at - ARENA) / 8) as usize;
         self.index = 0;

@@ -7,7 +7,7 @@ use Rattle.term_table.specs.declared.Entry.{Entry}
 use Rattle.term_table.specs.declared.Node.{Node}
 use Rattle.term_table.specs.declared.Node.TheVariants as N
 use Rattle.term_table.specs.Table.{tree_in, node_tree_in, PartsBelow}
-use Rattle.term_table.specs.Inside.Entries.{trees, IsMeasured, AreMeasured}
+use Rattle.term_table.specs.Inside.Entries.{entry_trees, IsMeasured, AreMeasured}
 use Rattle.std.specs.Prelude.{not}
 use Rattle.term_table.specs.Scope.{is_atomic_shape, is_term_shape}
 use Rattle.term_table.specs.Inside.Reach.{is_atomic_node, is_term_node, reach_outside}
@@ -86,8 +86,8 @@ measured_pi places a b da db e ma mb h w l at tm re = record {
   reach = reach_pi a b (is_term_node da.node) (is_term_node db.node) e.reach da.reach db.reach ma.term mb.term ma.reach mb.reach re;
 }
 
-part : (places : List ℕ) (es : List Entry) (i : ℕ) (d : Entry) → AreMeasured places es → i < length es → d ≡ get_or es i d → IsMeasured places (tree_in (trees es) i) d
-part places es i d m h e = subst (IsMeasured places (tree_in (trees es) i)) (sym e) (m.at i d h)
+part : (places : List ℕ) (es : List Entry) (i : ℕ) (d : Entry) → AreMeasured places es → i < length es → d ≡ get_or es i d → IsMeasured places (tree_in (entry_trees es) i) d
+part places es i d m h e = subst (IsMeasured places (tree_in (entry_trees es) i)) (sym e) (m.at i d h)
 
 -- what an entry's node says of its tree
 shape_atom : (e : Entry) (n m : Node) (ts : List Tree) → e.node ≡ n → n ≡ m → is_atomic_node e.node ≡ is_atomic_shape (node_tree_in ts m)
@@ -99,36 +99,36 @@ shape_term e n m ts i j = ap is_term_node (i ∙ j) ∙ term_node m ts
 -- the node of an application, by its parts' entries
 pub node_app : (places : List ℕ) (es : List Entry) (n : Node) (f a : ℕ) (df da e : Entry) → AreMeasured places es → PartsBelow (length es) n → n ≡ N.App f a → df ≡ get_or es f df → da ≡ get_or es a da →
     e.height ≡ capped (1 + max df.height da.height) → e.weight ≡ capped (df.weight + cond (nat_lt 0 df.left) 1 da.weight) → e.left ≡ df.left - 1 → e.node ≡ n →
-    e.reach ≡ cond (is_atomic_node df.node && is_term_node da.node) (max df.reach da.reach) 4294967295 → IsMeasured places (node_tree_in (trees es) n) e
+    e.reach ≡ cond (is_atomic_node df.node && is_term_node da.node) (max df.reach da.reach) 4294967295 → IsMeasured places (node_tree_in (entry_trees es) n) e
 node_app places es n f a df da e m p is qf qa h w l en re =
     let parts : PartsBelow (length es) (N.App f a) = subst (PartsBelow (length es)) is p in
-    subst (λ z. IsMeasured places (node_tree_in (trees es) z) e) (sym is)
-    (measured_app places (tree_in (trees es) f) (tree_in (trees es) a) df da e (part places es f df m parts.0 qf) (part places es a da m parts.1 qa) h w l
-    (shape_atom e n (N.App f a) (trees es) en is) (shape_term e n (N.App f a) (trees es) en is) re)
+    subst (λ z. IsMeasured places (node_tree_in (entry_trees es) z) e) (sym is)
+    (measured_app places (tree_in (entry_trees es) f) (tree_in (entry_trees es) a) df da e (part places es f df m parts.0 qf) (part places es a da m parts.1 qa) h w l
+    (shape_atom e n (N.App f a) (entry_trees es) en is) (shape_term e n (N.App f a) (entry_trees es) en is) re)
 
 pub node_lam : (places : List ℕ) (es : List Entry) (n : Node) (b : ℕ) (db e : Entry) → AreMeasured places es → PartsBelow (length es) n → n ≡ N.Lam b → db ≡ get_or es b db →
     e.height ≡ capped (1 + db.height) → e.weight ≡ capped (1 + db.weight) → e.left ≡ 0 → e.node ≡ n →
-    e.reach ≡ cond (is_term_node db.node) (reach_outside db.reach) 4294967295 → IsMeasured places (node_tree_in (trees es) n) e
+    e.reach ≡ cond (is_term_node db.node) (reach_outside db.reach) 4294967295 → IsMeasured places (node_tree_in (entry_trees es) n) e
 node_lam places es n b db e m p is qb h w l en re =
     let parts : PartsBelow (length es) (N.Lam b) = subst (PartsBelow (length es)) is p in
-    subst (λ z. IsMeasured places (node_tree_in (trees es) z) e) (sym is)
-    (measured_lam places (tree_in (trees es) b) db e (part places es b db m parts qb) h w l
-    (shape_atom e n (N.Lam b) (trees es) en is) (shape_term e n (N.Lam b) (trees es) en is) re)
+    subst (λ z. IsMeasured places (node_tree_in (entry_trees es) z) e) (sym is)
+    (measured_lam places (tree_in (entry_trees es) b) db e (part places es b db m parts qb) h w l
+    (shape_atom e n (N.Lam b) (entry_trees es) en is) (shape_term e n (N.Lam b) (entry_trees es) en is) re)
 
 pub node_tapp : (places : List ℕ) (es : List Entry) (n : Node) (a b : ℕ) (da db e : Entry) → AreMeasured places es → PartsBelow (length es) n → n ≡ N.TApp a b →
     da ≡ get_or es a da → db ≡ get_or es b db → e.height ≡ capped (1 + max da.height db.height) → e.weight ≡ capped (1 + (da.weight + db.weight)) → e.left ≡ 0 → e.node ≡ n →
-    e.reach ≡ cond (not (is_term_node da.node) && is_term_node db.node) (max da.reach db.reach) 4294967295 → IsMeasured places (node_tree_in (trees es) n) e
+    e.reach ≡ cond (not (is_term_node da.node) && is_term_node db.node) (max da.reach db.reach) 4294967295 → IsMeasured places (node_tree_in (entry_trees es) n) e
 node_tapp places es n a b da db e m p is qa qb h w l en re =
     let parts : PartsBelow (length es) (N.TApp a b) = subst (PartsBelow (length es)) is p in
-    subst (λ z. IsMeasured places (node_tree_in (trees es) z) e) (sym is)
-    (measured_tapp places (tree_in (trees es) a) (tree_in (trees es) b) da db e (part places es a da m parts.0 qa) (part places es b db m parts.1 qb) h w l
-    (shape_atom e n (N.TApp a b) (trees es) en is) (shape_term e n (N.TApp a b) (trees es) en is) re)
+    subst (λ z. IsMeasured places (node_tree_in (entry_trees es) z) e) (sym is)
+    (measured_tapp places (tree_in (entry_trees es) a) (tree_in (entry_trees es) b) da db e (part places es a da m parts.0 qa) (part places es b db m parts.1 qb) h w l
+    (shape_atom e n (N.TApp a b) (entry_trees es) en is) (shape_term e n (N.TApp a b) (entry_trees es) en is) re)
 
 pub node_pi : (places : List ℕ) (es : List Entry) (n : Node) (a b : ℕ) (da db e : Entry) → AreMeasured places es → PartsBelow (length es) n → n ≡ N.Pi a b →
     da ≡ get_or es a da → db ≡ get_or es b db → e.height ≡ capped (1 + max da.height db.height) → e.weight ≡ capped (1 + (da.weight + db.weight)) → e.left ≡ 0 → e.node ≡ n →
-    e.reach ≡ cond (not (is_term_node da.node) && not (is_term_node db.node)) (max da.reach (reach_outside db.reach)) 4294967295 → IsMeasured places (node_tree_in (trees es) n) e
+    e.reach ≡ cond (not (is_term_node da.node) && not (is_term_node db.node)) (max da.reach (reach_outside db.reach)) 4294967295 → IsMeasured places (node_tree_in (entry_trees es) n) e
 node_pi places es n a b da db e m p is qa qb h w l en re =
     let parts : PartsBelow (length es) (N.Pi a b) = subst (PartsBelow (length es)) is p in
-    subst (λ z. IsMeasured places (node_tree_in (trees es) z) e) (sym is)
-    (measured_pi places (tree_in (trees es) a) (tree_in (trees es) b) da db e (part places es a da m parts.0 qa) (part places es b db m parts.1 qb) h w l
-    (shape_atom e n (N.Pi a b) (trees es) en is) (shape_term e n (N.Pi a b) (trees es) en is) re)
+    subst (λ z. IsMeasured places (node_tree_in (entry_trees es) z) e) (sym is)
+    (measured_pi places (tree_in (entry_trees es) a) (tree_in (entry_trees es) b) da db e (part places es a da m parts.0 qa) (part places es b db m parts.1 qb) h w l
+    (shape_atom e n (N.Pi a b) (entry_trees es) en is) (shape_term e n (N.Pi a b) (entry_trees es) en is) re)

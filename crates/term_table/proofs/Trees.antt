@@ -7,8 +7,8 @@ use Rattle.term_table.specs.Tree.{Tree}
 use Rattle.term_table.specs.declared.Node.{Node}
 use Rattle.term_table.specs.declared.Node.TheVariants as N
 use Rattle.term_table.specs.declared.Entry.{Entry}
-use Rattle.term_table.specs.Table.{Terms, IsKnown, tree_in, tree_at, node_tree_in, node_tree, PartsBelow, AreDifferent, IsSmall, AreSmall, with_tree, Adds, Extends}
-use Rattle.term_table.specs.Inside.Entries.{IsSmallNode, grow, trees, IsMeasured, AreEntries}
+use Rattle.term_table.specs.Table.{TableView, IsKnown, tree_in, tree_at, node_tree_in, node_tree, PartsBelow, AreDifferent, IsSmall, AreSmall, with_tree, Adds, Extends}
+use Rattle.term_table.specs.Inside.Entries.{IsSmallNode, grow, entry_trees, IsMeasured, AreEntries}
 
 -- the tree of a node hangs on the trees of its parts alone
 pub node_tree-same : (n : Node) (k : ℕ) (a b : List Tree) → PartsBelow k n → ((i : ℕ) → i < k → tree_in a i ≡ tree_in b i) → node_tree_in a n ≡ node_tree_in b n
@@ -46,15 +46,15 @@ length-grow : (ts : List Tree) (es : List Entry) → length (grow ts es) ≡ len
 length-grow ts [] = omega arith
 length-grow ts (e ∷ es) = omega (arith, length-grow (ts ++ node_tree_in ts e.node ∷ []) es, length-append ts (node_tree_in ts e.node ∷ []))
 
-pub length-trees : (es : List Entry) → length (trees es) ≡ length es
-length-trees es = omega (arith, length-grow [] es)
+pub length-entry_trees : (es : List Entry) → length (entry_trees es) ≡ length es
+length-entry_trees es = omega (arith, length-grow [] es)
 
 grow-append : (ts : List Tree) (es : List Entry) (e : Entry) → grow ts (es ++ e ∷ []) ≡ grow ts es ++ node_tree_in (grow ts es) e.node ∷ []
 grow-append ts [] e = refl
 grow-append ts (d ∷ es) e = grow-append (ts ++ node_tree_in ts d.node ∷ []) es e
 
-pub trees-append : (es : List Entry) (e : Entry) → trees (es ++ e ∷ []) ≡ trees es ++ node_tree_in (trees es) e.node ∷ []
-trees-append es e = grow-append [] es e
+pub entry_trees-append : (es : List Entry) (e : Entry) → entry_trees (es ++ e ∷ []) ≡ entry_trees es ++ node_tree_in (entry_trees es) e.node ∷ []
+entry_trees-append es e = grow-append [] es e
 
 pub tree_in-push : (ts : List Tree) (t : Tree) (i : ℕ) → i < length ts → tree_in (ts ++ t ∷ []) i ≡ tree_in ts i
 tree_in-push ts t i h = get_or-append ts (t ∷ []) (Tree.Var 0) i h
@@ -85,9 +85,9 @@ tree-grow ts (e ∷ es) d (suc i) h p =
     (λ j g. subst (λ k. PartsBelow k (get_or es j d).node) (next j) (p (suc j) (omega arith)))
 
 -- the tree of an id is that of its node
-pub tree_is : {places : List ℕ} {index : Node → Option ℕ} (es : List Entry) (d : Entry) (i : ℕ) → AreEntries places es index → i < length es → tree_in (trees es) i ≡ node_tree_in (trees es) (get_or es i d).node
+pub tree_is : {places : List ℕ} {index : Node → Option ℕ} (es : List Entry) (d : Entry) (i : ℕ) → AreEntries places es index → i < length es → tree_in (entry_trees es) i ≡ node_tree_in (entry_trees es) (get_or es i d).node
 tree_is es d i law h =
-    ap (tree_in (trees es)) (sym (zero-add i))
+    ap (tree_in (entry_trees es)) (sym (zero-add i))
     ∙ tree-grow [] es d i h (λ j g. subst (λ k. PartsBelow k (get_or es j d).node) (sym (zero-add j)) (law.parts j d g))
 
 PartsBelow-more : (n : Node) (a b : ℕ) → a ≤ b → PartsBelow a n → PartsBelow b n
@@ -109,20 +109,20 @@ last_or i k l e h = grind arith
 
 -- a node that the index lacks has a tree that the table lacks
 fresh : {places : List ℕ} {index : Node → Option ℕ} (es : List Entry) (e : Entry) → AreEntries places es index → PartsBelow (length es) e.node → index e.node ≡ None →
-    (i : ℕ) → i < length es → tree_in (trees es) i ≡ node_tree_in (trees es) e.node → ⊥
+    (i : ℕ) → i < length es → tree_in (entry_trees es) i ≡ node_tree_in (entry_trees es) e.node → ⊥
 fresh {index = index} es e law p new i h q =
     let own = get_or es i e in
-    let old : PartsBelow (length (trees es)) own.node = PartsBelow-more own.node i (length (trees es)) (omega (arith, length-trees es)) (law.parts i e h) in
-    let own_parts : PartsBelow (length (trees es)) e.node = rw length-trees p in
-    let same : own.node ≡ e.node = node_tree-injective own.node e.node (trees es) law.different old own_parts (sym (tree_is es e i law h) ∙ q) in
+    let old : PartsBelow (length (entry_trees es)) own.node = PartsBelow-more own.node i (length (entry_trees es)) (omega (arith, length-entry_trees es)) (law.parts i e h) in
+    let own_parts : PartsBelow (length (entry_trees es)) e.node = rw length-entry_trees p in
+    let same : own.node ≡ e.node = node_tree-injective own.node e.node (entry_trees es) law.different old own_parts (sym (tree_is es e i law h) ∙ q) in
     let one : Some i ≡ None = sym (law.listed i e h) ∙ ap index same ∙ new in
     cc
 
-different-push : {places : List ℕ} {index : Node → Option ℕ} (es : List Entry) (e : Entry) → AreEntries places es index → PartsBelow (length es) e.node → index e.node ≡ None → AreDifferent (trees es ++ node_tree_in (trees es) e.node ∷ [])
+different-push : {places : List ℕ} {index : Node → Option ℕ} (es : List Entry) (e : Entry) → AreEntries places es index → PartsBelow (length es) e.node → index e.node ≡ None → AreDifferent (entry_trees es ++ node_tree_in (entry_trees es) e.node ∷ [])
 different-push es e law p new i j hi hj q = go (split i hi) (split j hj)
   where
     ts : List Tree
-    ts = trees es
+    ts = entry_trees es
 
     t : Tree
     t = node_tree_in ts e.node
@@ -132,8 +132,8 @@ different-push es e law p new i j hi hj q = go (split i hi) (split j hj)
 
     go : (i < length ts) ⊎ (i ≡ length ts) → (j < length ts) ⊎ (j ≡ length ts) → i ≡ j
     go (inl a) (inl b) = law.different i j a b (sym (tree_in-push ts t i a) ∙ q ∙ tree_in-push ts t j b)
-    go (inl a) (inr b) = absurd (fresh es e law p new i (omega (arith, length-trees es)) (sym (tree_in-push ts t i a) ∙ q ∙ ap (tree_in (ts ++ t ∷ [])) b ∙ tree_in-last ts t))
-    go (inr a) (inl b) = absurd (fresh es e law p new j (omega (arith, length-trees es)) (sym (tree_in-push ts t j b) ∙ sym q ∙ ap (tree_in (ts ++ t ∷ [])) a ∙ tree_in-last ts t))
+    go (inl a) (inr b) = absurd (fresh es e law p new i (omega (arith, length-entry_trees es)) (sym (tree_in-push ts t i a) ∙ q ∙ ap (tree_in (ts ++ t ∷ [])) b ∙ tree_in-last ts t))
+    go (inr a) (inl b) = absurd (fresh es e law p new j (omega (arith, length-entry_trees es)) (sym (tree_in-push ts t j b) ∙ sym q ∙ ap (tree_in (ts ++ t ∷ [])) a ∙ tree_in-last ts t))
     go (inr a) (inr b) = a ∙ sym b
 
 small_node : (n : Node) (k : ℕ) (ts : List Tree) → IsSmallNode n → PartsBelow k n → ((j : ℕ) → j < k → IsSmall (tree_in ts j)) → IsSmall (node_tree_in ts n)
@@ -150,18 +150,18 @@ small_node (N.TApp f x) k ts s p h = (h f p.0, h x p.1)
 small_node (N.Pi f x) k ts s p h = (h f p.0, h x p.1)
 
 -- the trees of small nodes are small: those below k, each k
-small_below : {places : List ℕ} {index : Node → Option ℕ} (es : List Entry) (d : Entry) → AreEntries places es index → (k : ℕ) → k ≤ length es → (i : ℕ) → i < k → IsSmall (tree_in (trees es) i)
+small_below : {places : List ℕ} {index : Node → Option ℕ} (es : List Entry) (d : Entry) → AreEntries places es index → (k : ℕ) → k ≤ length es → (i : ℕ) → i < k → IsSmall (tree_in (entry_trees es) i)
 small_below es d law zero h i g = absurd (omega arith)
 small_below es d law (suc k) h i g = go (last_or i k (suc k) (omega arith) g) (small_below es d law k (omega arith))
   where
-    go : (i < k) ⊎ (i ≡ k) → ((j : ℕ) → j < k → IsSmall (tree_in (trees es) j)) → IsSmall (tree_in (trees es) i)
+    go : (i < k) ⊎ (i ≡ k) → ((j : ℕ) → j < k → IsSmall (tree_in (entry_trees es) j)) → IsSmall (tree_in (entry_trees es) i)
     go (inl q) lower = lower i q
     go (inr q) lower =
         let l : i < length es = omega arith in
-        rw (tree_is es d i law l) (small_node (get_or es i d).node i (trees es) (law.small i d l) (law.parts i d l) (λ j r. lower j (omega arith)))
+        rw (tree_is es d i law l) (small_node (get_or es i d).node i (entry_trees es) (law.small i d l) (law.parts i d l) (λ j r. lower j (omega arith)))
 
-pub small_trees : {places : List ℕ} {index : Node → Option ℕ} (es : List Entry) → AreEntries places es index → AreSmall (trees es)
-small_trees es law i h = small_below es (record { node = N.Var 0; height = 0; weight = 0; left = 0; reach = 0 }) law (length es) (omega arith) i (omega (arith, length-trees es))
+pub small_trees : {places : List ℕ} {index : Node → Option ℕ} (es : List Entry) → AreEntries places es index → AreSmall (entry_trees es)
+small_trees es law i h = small_below es (record { node = N.Var 0; height = 0; weight = 0; left = 0; reach = 0 }) law (length es) (omega arith) i (omega (arith, length-entry_trees es))
 
 -- what holds of each element and its place, with one element more
 each-push : {A : Type 0} (P : ℕ → A → Type 0) (xs : List A) (x d : A) → ((i : ℕ) → i < length xs → P i (get_or xs i d)) → P (length xs) x → (i : ℕ) → i < length (xs ++ x ∷ []) → P i (get_or (xs ++ x ∷ []) i d)
@@ -176,13 +176,13 @@ some_injective e = cc
 
 -- one more entry, whose node the index had not
 pub entries-push : (places : List ℕ) (es : List Entry) (e : Entry) (eq : Node → Node → Bool) (index after : Node → Option ℕ) → ((a b : Node) → Decides (eq a b) (a ≡ b)) →
-    AreEntries places es index → PartsBelow (length es) e.node → IsSmallNode e.node → index e.node ≡ None → IsMeasured places (node_tree_in (trees es) e.node) e →
+    AreEntries places es index → PartsBelow (length es) e.node → IsSmallNode e.node → index e.node ≡ None → IsMeasured places (node_tree_in (entry_trees es) e.node) e →
     ((q : Node) → after q ≡ cond (eq e.node q) (Some (length es)) (index q)) → AreEntries places (es ++ e ∷ []) after
 entries-push places es e eq index after same law p s new m up = record {
   parts = λ i d h. each-push (λ j z. PartsBelow j z.node) es e d (λ j g. law.parts j d g) p i h;
   small = λ i d h. each-push (λ j z. IsSmallNode z.node) es e d (λ j g. law.small j d g) s i h;
-  different = rw trees-append (different-push es e law p new);
-  measured = record { at = λ i d h. each-push (λ j z. IsMeasured places (tree_in (trees both) j) z) es e d (λ j g. old_measure j d g) last_measure i h };
+  different = rw entry_trees-append (different-push es e law p new);
+  measured = record { at = λ i d h. each-push (λ j z. IsMeasured places (tree_in (entry_trees both) j) z) es e d (λ j g. old_measure j d g) last_measure i h };
   listed = λ i d h. each-push (λ j z. after z.node ≡ Some j) es e d (λ j g. old_listed j d g) (here e.node refl) i h;
   found = λ n i d q. find n i d q (eq e.node n) refl;
 }
@@ -196,15 +196,15 @@ entries-push places es e eq index after same law p s new m up = record {
     other : (q : Node) → eq e.node q ≡ false → after q ≡ index q
     other q s = up q ∙ ap (λ b. cond b (Some (length es)) (index q)) s
 
-    old_measure : (j : ℕ) (d : Entry) → j < length es → IsMeasured places (tree_in (trees both) j) (get_or es j d)
+    old_measure : (j : ℕ) (d : Entry) → j < length es → IsMeasured places (tree_in (entry_trees both) j) (get_or es j d)
     old_measure j d g =
-        let l : j < length (trees es) = omega (arith, length-trees es) in
-        rw (trees-append es e, tree_in-push (trees es) (node_tree_in (trees es) e.node) j l) (law.measured.at j d g)
+        let l : j < length (entry_trees es) = omega (arith, length-entry_trees es) in
+        rw (entry_trees-append es e, tree_in-push (entry_trees es) (node_tree_in (entry_trees es) e.node) j l) (law.measured.at j d g)
 
-    last_measure : IsMeasured places (tree_in (trees both) (length es)) e
+    last_measure : IsMeasured places (tree_in (entry_trees both) (length es)) e
     last_measure =
-        let last : tree_in (trees both) (length es) ≡ node_tree_in (trees es) e.node =
-        ap (λ z. tree_in z (length es)) (trees-append es e) ∙ ap (tree_in (trees es ++ node_tree_in (trees es) e.node ∷ [])) (sym (length-trees es)) ∙ tree_in-last (trees es) (node_tree_in (trees es) e.node)
+        let last : tree_in (entry_trees both) (length es) ≡ node_tree_in (entry_trees es) e.node =
+        ap (λ z. tree_in z (length es)) (entry_trees-append es e) ∙ ap (tree_in (entry_trees es ++ node_tree_in (entry_trees es) e.node ∷ [])) (sym (length-entry_trees es)) ∙ tree_in-last (entry_trees es) (node_tree_in (entry_trees es) e.node)
         in subst (λ z. IsMeasured places z e) (sym last) m
 
     old_listed : (j : ℕ) (d : Entry) → j < length es → after (get_or es j d).node ≡ Some j
@@ -237,37 +237,37 @@ entries-same places es index after law s = record {
 }
 
 -- a table with one tree more extends it
-pub extends-push : (t : Terms) (tree : Tree) → Extends t (with_tree t tree)
+pub extends-push : (t : TableView) (tree : Tree) → Extends t (with_tree t tree)
 extends-push t tree = record {
   longer = omega (arith, length-append t.trees (tree ∷ []));
   same = λ id h. tree_in-push t.trees tree id h;
   places = refl;
 }
 
-pub extends-refl : (t : Terms) → Extends t t
+pub extends-refl : (t : TableView) → Extends t t
 extends-refl t = record { longer = omega arith; same = λ id h. refl; places = refl }
 
 -- the table of the entries with one more has one more tree
-pub with_entry : (places : List ℕ) (es after : List Entry) (e : Entry) (n : Node) (t : Terms) → record { trees = trees es; places = places } ≡ t → after ≡ es ++ e ∷ [] → e.node ≡ n →
-    record { trees = trees after; places = places } ≡ with_tree t (node_tree t n)
+pub with_entry : (places : List ℕ) (es after : List Entry) (e : Entry) (n : Node) (t : TableView) → record { trees = entry_trees es; places = places } ≡ t → after ≡ es ++ e ∷ [] → e.node ≡ n →
+    record { trees = entry_trees after; places = places } ≡ with_tree t (node_tree t n)
 with_entry places es after e n t v a m =
-    let grown : trees after ≡ trees es ++ node_tree_in (trees es) n ∷ [] = ap trees a ∙ trees-append es e ∙ ap (λ z. trees es ++ node_tree_in (trees es) z ∷ []) m in
-    let one : record { trees = trees after; places = places } ≡ with_tree (record { trees = trees es; places = places }) (node_tree_in (trees es) n) =
-    ap (λ (z : List Tree). let r : Terms = record { trees = z; places = places } in r) grown
+    let grown : entry_trees after ≡ entry_trees es ++ node_tree_in (entry_trees es) n ∷ [] = ap entry_trees a ∙ entry_trees-append es e ∙ ap (λ z. entry_trees es ++ node_tree_in (entry_trees es) z ∷ []) m in
+    let one : record { trees = entry_trees after; places = places } ≡ with_tree (record { trees = entry_trees es; places = places }) (node_tree_in (entry_trees es) n) =
+    ap (λ (z : List Tree). let r : TableView = record { trees = z; places = places } in r) grown
     in
-    one ∙ ap (λ (z : Terms). with_tree z (node_tree z n)) v
+    one ∙ ap (λ (z : TableView). with_tree z (node_tree z n)) v
 
 -- what a new tree's id is
-pub record IsNew (before after : Terms) (tree : Tree) (id : ℕ) : Type 0 where
+pub record IsNew (before after : TableView) (tree : Tree) (id : ℕ) : Type 0 where
   pub known : IsKnown after id × (tree_at after id ≡ tree)
   pub adds : Adds before after tree id
-  pub grows : Extends before after
+  pub extends : Extends before after
 
-pub is_new : (before after : Terms) (tree : Tree) (id : ℕ) → after ≡ with_tree before tree → id ≡ length before.trees → IsNew before after tree id
+pub is_new : (before after : TableView) (tree : Tree) (id : ℕ) → after ≡ with_tree before tree → id ≡ length before.trees → IsNew before after tree id
 is_new before after tree id a n =
     let at_end : IsNew before (with_tree before tree) tree (length before.trees) = record {
       known = (omega (arith, length-append before.trees (tree ∷ [])), tree_in-last before.trees tree);
       adds = record { old = λ h. absurd (omega (arith, h)); fresh = λ h. refl };
-      grows = extends-push before tree;
+      extends = extends-push before tree;
     } in
     subst (λ i. IsNew before after tree i) (sym n) (subst (λ u. IsNew before u tree (length before.trees)) (sym a) at_end)

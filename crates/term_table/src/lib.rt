@@ -15,7 +15,7 @@ mod theorems;
 ghost use Rattle.std.specs.Prelude.{◌≡◌, ℕ, List, Option, ◌<◌, ◌≤◌, ◌+◌, ◌^◌, ◌↔◌, length, [], get_or, max, ◌-◌, if◌then◌else◌, nat_lt, ◌&&◌, not, IfOk, OnErr, IsTrue};
 ghost use Rattle.term_table.specs.Measures.{sigma1_places, height_of, weight_of, capped};
 ghost use Rattle.term_table.specs.Table.{counts_of, IsKnown, tree_at, node_tree, node_tree_in, PartsBelow, PartsKnown, AreDifferent, AreSmall, Adds, Extends};
-ghost use Rattle.term_table.specs.Inside.Entries.{trees, IsSmallNode, IsMeasured, AreMeasured};
+ghost use Rattle.term_table.specs.Inside.Entries.{entry_trees, IsSmallNode, IsMeasured, AreMeasured};
 ghost use Rattle.term_table.specs.Scope.{HasReach};
 ghost use Rattle.term_table.specs.Inside.Reach.{is_atomic_node, is_term_node, reach_outside};
 
@@ -240,7 +240,7 @@ fn entry_of(entries: &[Entry], places: Places, node: Node) -> Entry
     requires parts { PartsBelow (length entries.now) node }
     requires measured { AreMeasured (counts_of places) entries.now }
     ensures node { result.node ≡ node }
-    ensures measured { IsMeasured (counts_of places) (node_tree_in (trees entries.now) node) result }
+    ensures measured { IsMeasured (counts_of places) (node_tree_in (entry_trees entries.now) node) result }
 {
     match node {
         Node::Var(n) => leaf(node, 0, n.saturating_add(1)),
@@ -298,16 +298,16 @@ pub struct Table {
 
 impl Model for Table {
     ghost use Rattle.std.specs.BTreeMap.{get};
-    ghost use Rattle.term_table.specs.Table.{Terms, terms_code, counts_of};
+    ghost use Rattle.term_table.specs.Table.{TableView, table_view_code, counts_of};
 
-    ghost Value = { Terms };
+    ghost Value = { TableView };
 
-    ghost coded = { terms_code };
+    ghost coded = { table_view_code };
 
     ghost use Rattle.term_table.specs.contracts.NodeOrd.TheImpl as node_block;
-    ghost use Rattle.term_table.specs.Inside.Entries.{trees, AreEntries};
+    ghost use Rattle.term_table.specs.Inside.Entries.{entry_trees, AreEntries};
 
-    ghost view = { λ t. record { trees = trees t.entries.items; places = counts_of t.places } };
+    ghost view = { λ t. record { trees = entry_trees t.entries.items; places = counts_of t.places } };
 
     ghost invariant = { λ t. AreEntries (counts_of t.places) t.entries.items (λ n. get node_block.ghosts.cmp t.index n) };
 }
@@ -421,7 +421,7 @@ impl Table {
         ensures id { IfOk result (λ id. IsKnown self.new id × (tree_at self.new id ≡ node_tree self.old node)) }
         ensures adds { IfOk result (Adds self.old self.new (node_tree self.old node)) }
         ensures err { OnErr result (self.new ≡ self.old) }
-        ensures grows { Extends self.old self.new }
+        ensures extends { Extends self.old self.new }
     {
         if let Some(id) = self.index.get(&node).copied() {
             return Ok(id);

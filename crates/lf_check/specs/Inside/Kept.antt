@@ -2,7 +2,7 @@
 use Rattle.std.specs.Prelude.{◌≡◌, ℕ, Bool, true, Option, Some, take}
 use Rattle.std.specs.BTreeMap.{get}
 use Rattle.term_table.specs.Tree.{Tree, Const}
-use Rattle.term_table.specs.Table.{Terms, IsKnown, tree_at}
+use Rattle.term_table.specs.Table.{TableView, IsKnown, tree_at}
 use Rattle.hereditary_subst.specs.Inside.Kept.{IsMemo}
 use Rattle.lf_signature.specs.Decide.{synth_of, checks_of, is_type_of}
 use Rattle.lf_check.specs.Inside.Lists.{types_of}
@@ -12,30 +12,30 @@ use Rattle.lf_check.specs.declared.judgements.Kept.{Kept}
 use Rattle.lf_check.specs.contracts.judgements.QuestionOrd.TheImpl as block
 
 -- what the term of r synthesises in the context of c
-abbrev pub synth_in : (Const → Option Tree) → Terms → ℕ → ℕ → Option Tree
+abbrev pub synth_in : (Const → Option Tree) → TableView → ℕ → ℕ → Option Tree
 synth_in sig t c r = synth_of sig (tree_at t r) (types_of (tree_at t c))
 
 -- whether the term of m checks at the type of a in the context of c
-abbrev pub checks_in : (Const → Option Tree) → Terms → ℕ → ℕ → ℕ → Bool
+abbrev pub checks_in : (Const → Option Tree) → TableView → ℕ → ℕ → ℕ → Bool
 checks_in sig t c m a = checks_of sig (tree_at t m) (types_of (tree_at t c)) (tree_at t a)
 
 -- whether the type of a is well formed in the context of c
-abbrev pub is_type_in : (Const → Option Tree) → Terms → ℕ → ℕ → Bool
+abbrev pub is_type_in : (Const → Option Tree) → TableView → ℕ → ℕ → Bool
 is_type_in sig t c a = is_type_of sig (tree_at t a) (types_of (tree_at t c))
 
 -- the judgement v is right of the question
-abbrev pub Judges : (Const → Option Tree) → Terms → Question → ℕ → Type 0
+abbrev pub Judges : (Const → Option Tree) → TableView → Question → ℕ → Type 0
 Judges sig t (Q.Synth r c) v = IsKnown t r × IsKnown t c × (synth_in sig t c r ≡ Some (tree_at t v))
 Judges sig t (Q.Under m a c) v = IsKnown t m × IsKnown t a × IsKnown t c × (checks_in sig t c m a ≡ true)
 Judges sig t (Q.Formed a c) v = IsKnown t a × IsKnown t c × (is_type_in sig t c a ≡ true)
 Judges sig t (Q.Cut c n) v = IsKnown t c × (types_of (tree_at t v) ≡ take n (types_of (tree_at t c)))
 
 -- v is an id of the table, and right of the question
-pub record IsJudgement (sig : Const → Option Tree) (t : Terms) (q : Question) (v : ℕ) : Type 0 where
+pub record IsJudgement (sig : Const → Option Tree) (t : TableView) (q : Question) (v : ℕ) : Type 0 where
   pub known : IsKnown t v
   pub judges : Judges sig t q v
 
 -- each kept result and judgement is right of the table
-pub record AreKept (sig : Const → Option Tree) (t : Terms) (k : Kept) : Type 0 where
+pub record AreKept (sig : Const → Option Tree) (t : TableView) (k : Kept) : Type 0 where
   pub memo : IsMemo t k.memo
   pub each : (q : Question) (v : ℕ) → get block.ghosts.cmp k.rows q ≡ Some v → IsJudgement sig t q v

@@ -1,7 +1,7 @@
 -- A context as a tree: a node for each type, the nearest outermost.
 use Rattle.std.specs.Prelude.{◌≡◌, ℕ, Option, List, [], ◌∷◌}
 use Rattle.term_table.specs.Tree.{Tree, Const, Var, Con, App, Lam, Fam, TApp, Pi}
-use Rattle.term_table.specs.Table.{Terms, IsKnown, tree_at}
+use Rattle.term_table.specs.Table.{TableView, IsKnown, tree_at}
 use Rattle.lf_signature.specs.Decide.{synth_of, checks_of, is_type_of}
 
 -- the types of a context that a tree is, the nearest first
@@ -21,9 +21,9 @@ pub record IsPart (m : Tree) (ctx part : List Tree) : Type 0 where
   pub formed : (sig : Const → Option Tree) → is_type_of sig m part ≡ is_type_of sig m ctx
 
 -- the id stands for a context of these types
-abbrev pub IsContextId : Terms → List Tree → ℕ → Type 0
+abbrev pub IsContextId : TableView → List Tree → ℕ → Type 0
 IsContextId t ctx c = IsKnown t c × (types_of (tree_at t c) ≡ ctx)
 
 -- the id stands for a context in which the tree is judged as in this one
-abbrev pub IsPartId : Terms → Tree → List Tree → ℕ → Type 0
+abbrev pub IsPartId : TableView → Tree → List Tree → ℕ → Type 0
 IsPartId t m ctx c = IsKnown t c × IsPart m ctx (types_of (tree_at t c))

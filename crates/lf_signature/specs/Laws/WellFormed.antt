@@ -13,7 +13,7 @@ use Rattle.lf_signature.specs.Terms.{exp, lit, rel_term}
 use Rattle.lf_signature.specs.Typing.{Checks, con_synth, IsType, atomic_type, fam_kind}
 use Rattle.lf_signature.specs.Simply.{simply, SType}
 use Rattle.lf_signature.specs.Decide.{is_type_of}
-use Rattle.lf_signature.specs.Order.{before, IsSignature}
+use Rattle.lf_signature.specs.Order.{part_before, IsSignature}
 use Rattle.lf_signature.specs.Sigma1.{constant_types, the_rules, number_types, is_word, calc_type, fact_type, deny_type, declared}
 use Rattle.lf_signature.specs.Laws.Booleans.{both, cond_is, every, every-at}
 use Rattle.lf_signature.specs.Laws.Decided.{type_follows}
@@ -24,7 +24,7 @@ use Rattle.lf_signature.specs.Laws.Applied.{fam_checks, app2_checks, pf_type}
 use Rattle.lf_signature.specs.Laws.Numbered.{declared-op, declared-rel, declared-falsity, declared-imp}
 
 -- the test runs over the whole table
-all_formed : every (λ n a. is_type_of (before (Num n) declared) a []) number_types ≡ true
+all_formed : every (λ n a. is_type_of (part_before (Num n) declared) a []) number_types ≡ true
 unfolding constant_types the_rules number_types
 all_formed = refl
 
@@ -47,31 +47,31 @@ module _ (sig : Const → Option Tree) (numbers : (n : ℕ) → sig (Num n) ≡ 
       pf_type sig (app2_checks sig 24 2 2 2 (numbers 24 ∙ declared-imp) refl (fact_formed r x y hx hy) (fam_checks sig (con_synth (numbers 14 ∙ declared-falsity))))
 
 -- each declared type is well formed over the constants before its own
-formed : (c : Const) (a : Tree) → declared c ≡ Some a → IsType (before c declared) [] a
-formed (Num n) a e = type_follows (before (Num n) declared) a [] (every-at (λ k b. is_type_of (before (Num k) declared) b []) number_types n a all_formed e)
+formed : (c : Const) (a : Tree) → declared c ≡ Some a → IsType (part_before c declared) [] a
+formed (Num n) a e = type_follows (part_before (Num n) declared) a [] (every-at (λ k b. is_type_of (part_before (Num k) declared) b []) number_types n a all_formed e)
 formed (Lit w) a e =
-    subst (λ z. IsType (before (Lit w) declared) [] z) (some_injective (cond_is (is_word w) (Some exp) a e).1) (atomic_type (fam_kind refl))
+    subst (λ z. IsType (part_before (Lit w) declared) [] z) (some_injective (cond_is (is_word w) (Some exp) a e).1) (atomic_type (fam_kind refl))
 formed (Calc o x y) a e =
     let h = bind_some (op_of o) (λ p. cond (is_word x && is_word y) (Some (calc_type p x y)) None) a e in
     let k = cond_is (is_word x && is_word y) (Some (calc_type h.0 x y)) a h.2 in
     let w = both _ _ k.0 in
-    subst (λ z. IsType (before (Calc o x y) declared) [] z) (some_injective k.1) (calc_formed (before (Calc o x y) declared) (λ n. refl) (λ w. refl) h.0 x y w.0 w.1)
+    subst (λ z. IsType (part_before (Calc o x y) declared) [] z) (some_injective k.1) (calc_formed (part_before (Calc o x y) declared) (λ n. refl) (λ w. refl) h.0 x y w.0 w.1)
 formed (Fact r x y) a e =
     let h = bind_some (rel_of r) (λ p. cond ((is_word x && is_word y) && test_of p x y) (Some (fact_type p x y)) None) a e in
     let k = cond_is ((is_word x && is_word y) && test_of h.0 x y) (Some (fact_type h.0 x y)) a h.2 in
     let w = both _ _ (both _ _ k.0).0 in
-    let sig = before (Fact r x y) declared in
+    let sig = part_before (Fact r x y) declared in
     subst (λ z. IsType sig [] z) (some_injective k.1) (pf_type sig (fact_formed sig (λ n. refl) (λ w. refl) h.0 x y w.0 w.1))
 formed (Deny r x y) a e =
     let h = bind_some (rel_of r) (λ p. cond ((is_word x && is_word y) && not (test_of p x y)) (Some (deny_type p x y)) None) a e in
     let k = cond_is ((is_word x && is_word y) && not (test_of h.0 x y)) (Some (deny_type h.0 x y)) a h.2 in
     let w = both _ _ (both _ _ k.0).0 in
-    let sig = before (Deny r x y) declared in
+    let sig = part_before (Deny r x y) declared in
     subst (λ z. IsType sig [] z) (some_injective k.1) (deny_formed sig (λ n. refl) (λ w. refl) h.0 x y w.0 w.1)
 
 -- so this is a signature
 pub declared_formed : IsSignature declared
-declared_formed c a e = let h = formed c a e in record { closed = type_over (before c declared) h; formed = h }
+declared_formed c a e = let h = formed c a e in record { closed = type_over (part_before c declared) h; formed = h }
 
 -- and each type is simply well formed
 pub declared_simply : (c : Const) (a : Tree) → declared c ≡ Some a → SType (simply declared) [] a

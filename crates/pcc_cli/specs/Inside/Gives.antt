@@ -47,12 +47,12 @@ GivesPure view stage (Err e) = StopsPure stage e
 pub record FailsRead {A : Type 0} (names : List (List ℕ)) (stage : FileMap → Staged A) (old new : FilesState) (name : List ℕ) : Type 0 where
   pub fails : ReadFails old new
   pub named : Contains names name
-  pub asked : IfSome old.told (λ files. Contains (stage files).reads name)
+  pub asked : IfSome old.contents (λ files. Contains (stage files).reads name)
 
 -- where the files are known, the stage comes to this
 pub record ComesTo {A : Type 0} (stage : FileMap → Staged A) (old new : FilesState) (result : Result A Exit) : Type 0 where
   pub same : new ≡ old
-  pub exact : IfSome old.told (λ files. (stage files).result ≡ result)
+  pub exact : IfSome old.contents (λ files. (stage files).result ≡ result)
 
 -- the stop is the stage's, a failed read, or want of memory
 abbrev pub Stops : {A : Type 0} → List (List ℕ) → (FileMap → Staged A) → FilesState → FilesState → Stop → Type 0

@@ -2,7 +2,7 @@
 use Rattle.std.specs.Prelude.{◌≡◌, ℕ, ◌+◌, ◌*◌, ◌<◌, ◌≤◌, true, IfSome, if◌then◌else◌, List, [], ◌∷◌, ◌++◌, map, reverse, length, get_or, Option, Some, None}
 use Rattle.std.specs.Option.{option_map}
 use Rattle.term_table.specs.Tree.{Tree, Var, Con, App, Lam, Fam, TApp, Pi}
-use Rattle.term_table.specs.Table.{Terms, AllKnown, IsKnown, tree_at}
+use Rattle.term_table.specs.Table.{TableView, AllKnown, IsKnown, tree_at}
 use Rattle.term_table.specs.declared.Node.{Node}
 use Rattle.term_table.specs.declared.Node.TheVariants as N
 use Rattle.proof_container.specs.declared.container.View.{View}
@@ -11,25 +11,25 @@ use Rattle.proof_container.specs.declared.walk.Step.{Step}
 use Rattle.proof_container.specs.declared.walk.Step.TheVariants.{Enter, Leave}
 use Rattle.proof_container.specs.declared.limits.TheConstants.{MAX_ENTRIES, MAX_INVS}
 use Rattle.proof_container.specs.Contents.{one_or_none}
-use Rattle.proof_container.specs.Walks.{is_listed, once, visit, HasParts, AreListed}
-use Rattle.proof_container.specs.Spelling.{entry_number}
+use Rattle.proof_container.specs.Postorder.{is_emitted, unless_emitted, emitted_with, HasPartsFirst, AreEmitted}
+use Rattle.proof_container.specs.Encoding.{entry_number}
 use Rattle.proof_container.specs.Views.{AreKnown, inv_trees}
 
 -- the trees of the roots: the invariants in order, then the proof
-abbrev pub root_trees : Terms → List (ℕ × ℕ) → Option ℕ → List Tree
+abbrev pub root_trees : TableView → List (ℕ × ℕ) → Option ℕ → List Tree
 root_trees t invs proof = map (λ p. p.1) (inv_trees t invs) ++ one_or_none (option_map (tree_at t) proof)
 
 -- the number of a tree among those that were left, if it was left
 abbrev pub mark : List Tree → Tree → Option ℕ
-mark ts t = if is_listed t ts then Some (entry_number ts t) else None
+mark ts t = if is_emitted t ts then Some (entry_number ts t) else None
 
 -- each id of the table has its tree's mark
-pub record AreMarks (t : Terms) (ts : List Tree) (marks : List (Option ℕ)) : Type 0 where
+pub record AreMarks (t : TableView) (ts : List Tree) (marks : List (Option ℕ)) : Type 0 where
   pub count : length marks ≡ length t.trees
   pub at : (id : ℕ) → id < length t.trees → get_or marks id None ≡ mark ts (tree_at t id)
 
 -- the ids were left, whose trees these are
-pub record IsLeft (t : Terms) (ts : List Tree) (w : Walk) : Type 0 where
+pub record IsLeft (t : TableView) (ts : List Tree) (w : Walk) : Type 0 where
   pub known : AllKnown t w.left.items
   pub left : map (tree_at t) w.left.items ≡ ts
   pub marks : AreMarks t ts w.numbers.items
@@ -41,10 +41,10 @@ IsPlaced left e = (e < length left) × (get_or left e 0 ≡ e)
 -- each of the trees has its parts among ts
 abbrev pub HaveParts : List Tree → List Tree → Type 0
 HaveParts ts [] = Unit {0}
-HaveParts ts (u ∷ us) = HasParts ts u × HaveParts ts us
+HaveParts ts (u ∷ us) = HasPartsFirst ts u × HaveParts ts us
 
 -- the trees that a walk has left, in order
-abbrev pub left_trees : Terms → Walk → List Tree
+abbrev pub left_trees : TableView → Walk → List Tree
 left_trees t w = map (tree_at t) w.left.items
 
 -- the walk has left what the view names, so that its entries can be written
@@ -52,8 +52,8 @@ pub record IsReady (v : View) (w : Walk) : Type 0 where
   pub left : IsLeft v.table.now (left_trees v.table.now w) w
   pub parts : HaveParts (left_trees v.table.now w) (left_trees v.table.now w)
   pub known : AreKnown v.table.now v.invs.now v.proof
-  pub invs : AreListed (left_trees v.table.now w) (map (λ inv. tree_at v.table.now inv.1) v.invs.now)
-  pub proof : IfSome v.proof (λ id. is_listed (tree_at v.table.now id) (left_trees v.table.now w) ≡ true)
+  pub invs : AreEmitted (left_trees v.table.now w) (map (λ inv. tree_at v.table.now inv.1) v.invs.now)
+  pub proof : IfSome v.proof (λ id. is_emitted (tree_at v.table.now id) (left_trees v.table.now w) ≡ true)
   pub few : length w.left.items ≤ MAX_ENTRIES
   pub few_invs : length v.invs.now ≤ MAX_INVS
 
@@ -83,27 +83,27 @@ abbrev pub first_steps : List (ℕ × ℕ) → Option ℕ → List Step
 first_steps invs proof = proof_steps proof ++ map (λ inv. Enter inv.1) (reverse invs)
 
 -- the trees that are left once the step is taken, where those of ts were left before
-abbrev pub taken : Terms → Step → List Tree → List Tree
-taken t (Enter id) ts = visit (tree_at t id) ts
-taken t (Leave id) ts = once (tree_at t id) ts ts
+abbrev pub taken : TableView → Step → List Tree → List Tree
+taken t (Enter id) ts = emitted_with (tree_at t id) ts
+taken t (Leave id) ts = unless_emitted (tree_at t id) ts ts
 
 -- the same of all of these steps
-abbrev pub all_taken : Terms → List Step → List Tree → List Tree
+abbrev pub all_taken : TableView → List Step → List Tree → List Tree
 all_taken t [] ts = ts
 all_taken t (s ∷ steps) ts = taken t s (all_taken t steps ts)
 
 -- the step is about a tree of the table
-abbrev pub IsStep : Terms → Step → Type 0
+abbrev pub IsStep : TableView → Step → Type 0
 IsStep t (Enter id) = IsKnown t id
 IsStep t (Leave id) = IsKnown t id
 
 -- each step is about a tree of the table
-abbrev pub AreSteps : Terms → List Step → Type 0
+abbrev pub AreSteps : TableView → List Step → Type 0
 AreSteps t [] = Unit {0}
 AreSteps t (s ∷ steps) = IsStep t s × AreSteps t steps
 
 -- the walk has yet to take these steps, and will have left the trees of goal then
-pub record IsUnderWay (t : Terms) (goal : List Tree) (w : Walk) (steps : List Step) : Type 0 where
+pub record IsUnderWay (t : TableView) (goal : List Tree) (w : Walk) (steps : List Step) : Type 0 where
   pub left : IsLeft t (left_trees t w) w
   pub known : AreSteps t steps
   pub leads : all_taken t steps (left_trees t w) ≡ goal
@@ -119,11 +119,11 @@ nodes (TApp p a) = 1 + (nodes p + nodes a)
 nodes (Pi a b) = 1 + (nodes a + nodes b)
 
 -- at most so many steps are taken from here on
-abbrev pub step_cost : Terms → Step → ℕ
+abbrev pub step_cost : TableView → Step → ℕ
 step_cost t (Enter id) = 2 * nodes (tree_at t id)
 step_cost t (Leave id) = 1
 
 -- the same of all of these steps
-abbrev pub steps_cost : Terms → List Step → ℕ
+abbrev pub steps_cost : TableView → List Step → ℕ
 steps_cost t [] = 0
 steps_cost t (s ∷ steps) = step_cost t s + steps_cost t steps

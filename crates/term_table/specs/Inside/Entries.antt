@@ -14,8 +14,8 @@ abbrev pub grow : List Tree → List Entry → List Tree
 grow ts [] = ts
 grow ts (e ∷ es) = grow (ts ++ node_tree_in ts e.node ∷ []) es
 
-abbrev pub trees : List Entry → List Tree
-trees es = grow [] es
+abbrev pub entry_trees : List Entry → List Tree
+entry_trees es = grow [] es
 
 -- the entry has the tree's measures, and how many of its head's parameter places are left
 pub record IsMeasured (places : List ℕ) (t : Tree) (e : Entry) : Type 0 where
@@ -42,13 +42,13 @@ IsSmallNode (N.Pi a b) = Unit {0}
 
 -- each entry has its tree's measures
 pub record AreMeasured (places : List ℕ) (es : List Entry) : Type 0 where
-  pub at : (i : ℕ) (e : Entry) → i < length es → IsMeasured places (tree_in (trees es) i) (get_or es i e)
+  pub at : (i : ℕ) (e : Entry) → i < length es → IsMeasured places (tree_in (entry_trees es) i) (get_or es i e)
 
 -- parts come before what they are parts of, no tree comes twice, the measures are right, and the index has each node with its id and no other
 pub record AreEntries (places : List ℕ) (es : List Entry) (index : Node → Option ℕ) : Type 0 where
   pub parts : (i : ℕ) (e : Entry) → i < length es → PartsBelow i (get_or es i e).node
   pub small : (i : ℕ) (e : Entry) → i < length es → IsSmallNode (get_or es i e).node
-  pub different : AreDifferent (trees es)
+  pub different : AreDifferent (entry_trees es)
   pub measured : AreMeasured places es
   pub listed : (i : ℕ) (e : Entry) → i < length es → index (get_or es i e).node ≡ Some i
   pub found : (n : Node) (i : ℕ) (e : Entry) → index n ≡ Some i → (i < length es) × ((get_or es i e).node ≡ n)

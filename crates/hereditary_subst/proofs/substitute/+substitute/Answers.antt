@@ -21,7 +21,7 @@ reduce_at-returns-in_default t c =
     let t₀ = c.args.table.now in
     record {
       tree = λ acc. reduce_other (erase (tree_at t₀ c.args.u)) (tree_at t₀ c.args.g) (tree_at t₀ c.args.b) acc (no_lam c.node.result t₀ (tree_at t₀ c.args.g) c.node.ensures.tree c.in_default.not-Lam);
-      grows = search rules;
+      extends = search rules;
       memo = c.requires.memo;
     }
 
@@ -46,12 +46,12 @@ subst_under-keep-requires-clause-says t c =
     let n : tree_at c.intern.new.self c.in_ok-term.term ≡ Lam (tree_at c.subst_at.new.table c.in-Some-3.c) = i.1 in
     let put : hsub (erase (tree_at t₀ c.args.ty)) (tree_at t₀ c.args.m) c.args.x (tree_at t₀ c.args.id) ≡ Some (tree_at c.intern.new.self c.in_ok-term.term) =
     put_under t₀ c.spare_at.new.table c.shift_at.new.table c.subst_at.new.table c.intern.new.self c.args.id c.args.b c.args.m c.args.x (c.args.x + 1) c.args.ty c.in-Some-2.raised c.in-Some-3.c c.in_ok-term.term
-    c.in_ok-r.ensures.grows c.in_ok-raised.ensures.grows kb c.requires.known_m c.requires.known_ty e up refl down n
+    c.in_ok-r.ensures.extends c.in_ok-raised.ensures.extends kb c.requires.known_m c.requires.known_ty e up refl down n
     in
-    let x₁ = c.in_ok-r.ensures.grows in
-    let x₂ = c.in_ok-raised.ensures.grows in
-    let x₃ = c.in_ok-c.ensures.grows in
-    let x₄ = c.in_ok-term.ensures.grows in
+    let x₁ = c.in_ok-r.ensures.extends in
+    let x₂ = c.in_ok-raised.ensures.extends in
+    let x₃ = c.in_ok-c.ensures.extends in
+    let x₄ = c.in_ok-term.ensures.extends in
     rw (c.number.ensures, c.number-2.ensures, c.number-3.ensures)
     (says_under t₀ c.intern.new.self c.args.id c.args.m c.args.x c.args.ty c.in_ok-term.term (grows_more _ _ _ (grows_more _ _ _ (grows_more _ _ _ x₁ x₂) x₃) x₄) c.requires.known c.requires.known_m c.requires.known_ty i.0 put)
 
@@ -69,7 +69,7 @@ subst_under-returns-clause-tree t c =
     let n : tree_at c.intern.new.self c.in_ok-term.term ≡ Lam (tree_at c.subst_at.new.table c.in-Some-3.c) = i.1 in
     let put : hsub (erase (tree_at t₀ c.args.ty)) (tree_at t₀ c.args.m) c.args.x (tree_at t₀ c.args.id) ≡ Some (tree_at c.intern.new.self c.in_ok-term.term) =
     put_under t₀ c.spare_at.new.table c.shift_at.new.table c.subst_at.new.table c.intern.new.self c.args.id c.args.b c.args.m c.args.x (c.args.x + 1) c.args.ty c.in-Some-2.raised c.in-Some-3.c c.in_ok-term.term
-    c.in_ok-r.ensures.grows c.in_ok-raised.ensures.grows kb c.requires.known_m c.requires.known_ty e up refl down n
+    c.in_ok-r.ensures.extends c.in_ok-raised.ensures.extends kb c.requires.known_m c.requires.known_ty e up refl down n
     in
     (i.0, put)
 
@@ -79,6 +79,6 @@ subst_at-returns-in-Ok-Some t c =
     let h : HeadIs c.args.ty (erase (tree_at t₀ c.args.ty)) (tree_at t₀ c.args.m) c.args.x (tree_at t₀ c.args.id) c.head_at.new.table (Some c.in-Ok-Some.atom) = rw c.in-Ok-Some.field-0-is at c.in-Ok-Some.ensures.tree in
     record {
       tree = head_result c.args.ty (erase (tree_at t₀ c.args.ty)) (tree_at t₀ c.args.m) c.args.x (tree_at t₀ c.args.id) c.head_at.new.table c.in-Ok-Some.atom h;
-      grows = c.in-Ok-Some.ensures.grows;
+      extends = c.in-Ok-Some.ensures.extends;
       memo = c.in-Ok-Some.ensures.memo;
     }

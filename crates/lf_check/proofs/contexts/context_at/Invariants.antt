@@ -6,6 +6,6 @@ use Rattle.lf_check.proofs.contexts.context_at.Given as goal
 abbrev pub invariant-loop-id : goal.invariant-loop-id
 invariant-loop-id l = record {
   known : IsKnown l.table l.c;
-  grows : Extends l.fn.table l.table;
+  extends : Extends l.fn.table l.table;
   types : types_of (tree_at l.table l.c) ≡ ctx_of l.fn.table (take l.id-index l.ctx);
 }

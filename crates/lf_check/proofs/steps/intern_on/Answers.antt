@@ -6,4 +6,4 @@ returns-clause-kept g c =
     let t = c.args.table.now in
     let u = c.intern.new.self in
     let sig = g.S.Signature.declares c.args.sig.now in
-    kept-more c.args.kept.now (sig t) (sig u) t u c.requires.kept c.intern.ensures.grows (g.met.S.Signature.same_types c.args.sig.now t u c.intern.ensures.grows c.requires.holds)
+    kept-more c.args.kept.now (sig t) (sig u) t u c.requires.kept c.intern.ensures.extends (g.met.S.Signature.same_types c.args.sig.now t u c.intern.ensures.extends c.requires.holds)

@@ -16,7 +16,7 @@ check_at-returns-then-is_atomic_type g t c =
     let ctx = types_of (tree_at t₀ c.args.c) in
     let e : node_tree t₀ c.node.result ≡ m = c.node.ensures.tree in
     let syn : Stands t₁ (synth_of sig m ctx) (Some c.in-Some.p) = rw c.in-Some.is at c.in_ok-synth_at.ensures.tree in
-    let x : Extends t₀ t₁ = c.in_ok-synth_at.ensures.grows in
+    let x : Extends t₀ t₁ = c.in_ok-synth_at.ensures.extends in
     let ka : tree_at t₁ c.args.a ≡ tree_at t₀ c.args.a = x.same c.args.a c.requires.a in
     let atomic : is_atomic (tree_at t₁ c.args.a) ≡ true = sym c.is_atomic_type.ensures ∙ c.if-is_atomic_type.true in
     let same : IsTrue c.same.result ↔ (tree_at t₁ c.in-Some.p ≡ tree_at t₁ c.args.a) = c.same.ensures in
@@ -25,7 +25,7 @@ check_at-returns-then-is_atomic_type g t c =
     ∙ ap (λ z. atom_rule z (Some (tree_at t₁ c.in-Some.p))) ka
     ∙ ap (atom_rule (tree_at t₀ c.args.a)) (sym syn.1)
     ∙ sym (checks_atom sig t₀ ctx c.node.result m (tree_at t₀ c.args.a) e c.in_default.not-Lam) in
-    record { answer = answer; grows = x; kept = c.in_ok-synth_at.ensures.kept }
+    record { answer = answer; extends = x; kept = c.in_ok-synth_at.ensures.kept }
 
 pub under_at-keep-requires-clause-judges : goal.under_at-keep-requires-clause-judges
 under_at-keep-requires-clause-judges g k c =
@@ -33,15 +33,15 @@ under_at-keep-requires-clause-judges g k c =
     let u = c.part_at.new.table in
     let w = c.intern_on.new.table in
     let s = g.S.Signature.declares c.args.sig.now in
-    let tu : Extends t u = c.in_ok-part.ensures.grows in
-    let uw : Extends u w = c.in_ok-inner.ensures.grows in
+    let tu : Extends t u = c.in_ok-part.ensures.extends in
+    let uw : Extends u w = c.in_ok-inner.ensures.extends in
     let same = g.met.S.Signature.same_types c.args.sig.now t in
     let is : c.in_ok-answer.answer ≡ checks_of (s t) (tree_at t c.args.m) (types_of (tree_at u c.in_ok-part.part)) (tree_at t c.args.a) =
     under_part (s t) (s w) t u w c.args.m c.args.a c.args.body c.args.from c.args.to c.in_ok-part.part c.in_ok-inner.inner c.in_ok-answer.answer tu uw (same w (grows_more t u w tu uw) c.requires.holds)
     c.requires.m c.requires.a c.requires.parts c.in_ok-part.ensures.part.0 c.requires.lam c.requires.pi c.in_ok-inner.ensures.id.1 c.in_ok-answer.ensures.answer
     in
     let z = c.check_at.new.table in
-    let uz : Extends u z = grows_more u w z uw c.in_ok-answer.ensures.grows in
+    let uz : Extends u z = grows_more u w z uw c.in_ok-answer.ensures.extends in
     rw (c.number.ensures, c.number-2.ensures, c.number-3.ensures)
     (judges_under (s t) (s z) t u z c.args.m c.args.a c.in_ok-part.part tu uz (same z (grows_more t u z tu uz) c.requires.holds) c.requires.m c.requires.a c.in_ok-part.ensures.part.0 (sym c.if-answer.true ∙ is))
 
@@ -51,8 +51,8 @@ under_at-returns-in_ok-keep-clause-answer g k c =
     let u = c.part_at.new.table in
     let w = c.intern_on.new.table in
     let s = g.S.Signature.declares c.args.sig.now in
-    let tu : Extends t u = c.in_ok-part.ensures.grows in
-    let uw : Extends u w = c.in_ok-inner.ensures.grows in
+    let tu : Extends t u = c.in_ok-part.ensures.extends in
+    let uw : Extends u w = c.in_ok-inner.ensures.extends in
     let same = g.met.S.Signature.same_types c.args.sig.now t in
     let is : c.in_ok-answer.answer ≡ checks_of (s t) (tree_at t c.args.m) (types_of (tree_at u c.in_ok-part.part)) (tree_at t c.args.a) =
     under_part (s t) (s w) t u w c.args.m c.args.a c.args.body c.args.from c.args.to c.in_ok-part.part c.in_ok-inner.inner c.in_ok-answer.answer tu uw (same w (grows_more t u w tu uw) c.requires.holds)
@@ -66,8 +66,8 @@ under_at-returns-else-answer-clause-answer g k c =
     let u = c.part_at.new.table in
     let w = c.intern_on.new.table in
     let s = g.S.Signature.declares c.args.sig.now in
-    let tu : Extends t u = c.in_ok-part.ensures.grows in
-    let uw : Extends u w = c.in_ok-inner.ensures.grows in
+    let tu : Extends t u = c.in_ok-part.ensures.extends in
+    let uw : Extends u w = c.in_ok-inner.ensures.extends in
     let same = g.met.S.Signature.same_types c.args.sig.now t in
     let is : c.in_ok-answer.answer ≡ checks_of (s t) (tree_at t c.args.m) (types_of (tree_at u c.in_ok-part.part)) (tree_at t c.args.a) =
     under_part (s t) (s w) t u w c.args.m c.args.a c.args.body c.args.from c.args.to c.in_ok-part.part c.in_ok-inner.inner c.in_ok-answer.answer tu uw (same w (grows_more t u w tu uw) c.requires.holds)

@@ -1,5 +1,5 @@
 use Rattle.std.proofs.Common.{sym}
-use Rattle.packet_store.proofs.Readings.{HasPackets-whole, packets_read-fault}
+use Rattle.packet_store.proofs.Readings.{HasPackets-whole, decoded_packets-fault}
 use Rattle.packet_store.proofs.reader.packets.Goals as goal
 
 pub returns-in-Ok-clause-spelled : goal.returns-in-Ok-clause-spelled
@@ -9,4 +9,4 @@ pub returns-in-Ok-clause-tested : goal.returns-in-Ok-clause-tested
 returns-in-Ok-clause-tested c = (HasPackets-whole c.args.bytes.now c.in-Ok.ensures.whole).read
 
 pub returns-in-Err-clause-tested : goal.returns-in-Err-clause-tested
-returns-in-Err-clause-tested c = sym (packets_read-fault c.args.bytes.now c.in-Err.fault c.in-Err.ensures.fault)
+returns-in-Err-clause-tested c = sym (decoded_packets-fault c.args.bytes.now c.in-Err.fault c.in-Err.ensures.fault)

@@ -1,5 +1,5 @@
 use Rattle.std.proofs.Common.{◌≡◌, ◌+◌, ◌-◌, ◌≤◌, length}
-use Rattle.proof_container.specs.Reading.{entries_at}
+use Rattle.proof_container.specs.Decoding.{entries_at}
 use Rattle.proof_container.proofs.entry.entries_from.Given as goal
 
 abbrev pub invariant-loop : goal.invariant-loop

@@ -1,7 +1,7 @@
 use Rattle.std.proofs.Common.{◌≡◌, [], ◌+◌, ◌*◌, ◌-◌, ◌≤◌, length}
 use Rattle.std.specs.List.{AllByRecursion}
 use Rattle.term_table.specs.Table.{IsKnown}
-use Rattle.proof_container.specs.Reading.{invs_at}
+use Rattle.proof_container.specs.Decoding.{invs_at}
 use Rattle.proof_container.specs.Views.{inv_trees}
 use Rattle.proof_container.proofs.reading.invs_from.Given as goal
 

@@ -2,9 +2,9 @@ use Rattle.std.proofs.Common.{rules, ◌≡◌, ◌+◌, ◌*◌, ℕ, List, len
 use Rattle.std.specs.Option.{option_map}
 use Rattle.std.proofs.lemmas.List.{length-map}
 use Rattle.term_table.specs.Tree.{Tree}
-use Rattle.term_table.specs.Table.{Terms, tree_at}
+use Rattle.term_table.specs.Table.{TableView, tree_at}
 use Rattle.proof_container.specs.Contents.{Contents}
-use Rattle.proof_container.specs.Reading.{head_read, entries_read, invs_read, proof_read, end_read}
+use Rattle.proof_container.specs.Decoding.{decoded_head, decoded_entries, decoded_invs, decoded_proof, decoded_end}
 use Rattle.proof_container.specs.Views.{inv_trees}
 use Rattle.proof_container.proofs.Whole.{parts_parsed, parsed_order}
 use Rattle.proof_container.proofs.reading.parse.Goals as goal
@@ -12,7 +12,7 @@ use Rattle.proof_container.proofs.reading.parse.Goals as goal
 pub returns-clause-canonical : goal.returns-clause-canonical
 returns-clause-canonical c =
     let bytes = c.args.bytes.now in
-    let table : Terms = c.entries.new.table in
+    let table : TableView = c.entries.new.table in
     let trees = table.trees in
     let policy = c.in_ok-head.head.policy in
     let words = c.in_ok-head.head.words in
@@ -30,13 +30,13 @@ returns-clause-canonical c =
     let count : length invs ≡ length c.in_ok-invs.invs.items = length-map c.in_ok-invs.invs.items _ in
     let proof_place : c.invs.new.fields.read ≡ next + 1 + 2 * length invs = omega (arith, count, c.in_ok-invs.ensures.moves.read) in
     let end_place : c.proof.new.fields.read ≡ next + 2 + 2 * length invs = omega (arith, proof_place, c.in_ok-proof.ensures.moves.read) in
-    let head_is = subst (λ (b : List ℕ). head_read b ≡ Ok (policy, words)) at_head c.in_ok-head.ensures.read in
-    let entries_are = subst (λ (b : List ℕ). entries_read b words ≡ Ok (trees, next)) at_entries c.in_ok-entries.ensures.read in
-    let invs_are = subst (λ (b : List ℕ). invs_read b next trees words ≡ Ok invs) at_invs c.in_ok-invs.ensures.read in
-    let proof_is = subst (λ (i : ℕ). proof_read bytes i trees ≡ Ok proof) proof_place
-    (subst (λ (b : List ℕ). proof_read b c.invs.new.fields.read trees ≡ Ok proof) at_proof c.in_ok-proof.ensures.read) in
-    let end_is = subst (λ (i : ℕ). end_read bytes i words trees made ≡ Ok made) end_place
-    (subst (λ (b : List ℕ). end_read b c.proof.new.fields.read words trees made ≡ Ok made) at_end c.in_ok-end.ensures) in
+    let head_is = subst (λ (b : List ℕ). decoded_head b ≡ Ok (policy, words)) at_head c.in_ok-head.ensures.read in
+    let entries_are = subst (λ (b : List ℕ). decoded_entries b words ≡ Ok (trees, next)) at_entries c.in_ok-entries.ensures.read in
+    let invs_are = subst (λ (b : List ℕ). decoded_invs b next trees words ≡ Ok invs) at_invs c.in_ok-invs.ensures.read in
+    let proof_is = subst (λ (i : ℕ). decoded_proof bytes i trees ≡ Ok proof) proof_place
+    (subst (λ (b : List ℕ). decoded_proof b c.invs.new.fields.read trees ≡ Ok proof) at_proof c.in_ok-proof.ensures.read) in
+    let end_is = subst (λ (i : ℕ). decoded_end bytes i words trees made ≡ Ok made) end_place
+    (subst (λ (b : List ℕ). decoded_end b c.proof.new.fields.read words trees made ≡ Ok made) at_end c.in_ok-end.ensures) in
     let parsed = parts_parsed bytes policy words trees next invs proof made (λ i. omega (arith, c.type_inv.bytes i)) head_is entries_are invs_are proof_is end_is in
     record {
       known = (c.in_ok-invs.ensures.known, c.in_ok-proof.ensures.known);

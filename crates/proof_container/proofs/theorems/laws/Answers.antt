@@ -1,5 +1,5 @@
 use Rattle.std.proofs.Common.{sym, ◌∙◌}
-use Rattle.proof_container.proofs.Walks.{entries_grow, entries_listed, Grows-different, Grows-parts}
+use Rattle.proof_container.proofs.Walks.{entries_grow, entries_listed, ArePostorder-different, ArePostorder-parts}
 use Rattle.proof_container.proofs.Whole.{container_takes, container_again, one_content}
 use Rattle.proof_container.proofs.Same.{same_canonical}
 use Rattle.proof_container.proofs.theorems.laws.Goals as goal
@@ -17,10 +17,10 @@ pub returns-clause-rooted : goal.returns-clause-rooted
 returns-clause-rooted c = entries_listed
 
 pub returns-clause-different : goal.returns-clause-different
-returns-clause-different c rs = Grows-different _ (entries_grow rs)
+returns-clause-different c rs = ArePostorder-different _ (entries_grow rs)
 
 pub returns-clause-earlier : goal.returns-clause-earlier
-returns-clause-earlier c rs = Grows-parts _ (entries_grow rs)
+returns-clause-earlier c rs = ArePostorder-parts _ (entries_grow rs)
 
 pub returns-clause-canonical : goal.returns-clause-canonical
 returns-clause-canonical c = same_canonical

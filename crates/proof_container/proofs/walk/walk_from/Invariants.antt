@@ -1,4 +1,4 @@
-use Rattle.proof_container.specs.Walks.{entries}
+use Rattle.proof_container.specs.Postorder.{entries}
 use Rattle.proof_container.specs.Inside.Walked.{IsUnderWay, root_trees, steps_cost}
 use Rattle.proof_container.proofs.walk.walk_from.Given as goal
 

@@ -4,11 +4,11 @@ use Rattle.std.proofs.lemmas.List.{length-map}
 use Rattle.term_table.specs.Tree.{Tree}
 use Rattle.term_table.specs.Table.{tree_at}
 use Rattle.proof_container.specs.Contents.{Contents, roots}
-use Rattle.proof_container.specs.Walks.{entries}
-use Rattle.proof_container.specs.Spelling.{spelling}
-use Rattle.proof_container.specs.Reading.{entry_size}
+use Rattle.proof_container.specs.Postorder.{entries}
+use Rattle.proof_container.specs.Encoding.{encoding_of}
+use Rattle.proof_container.specs.Decoding.{entry_size}
 use Rattle.proof_container.specs.Views.{view_contents}
-use Rattle.proof_container.proofs.Written.{length-spelling}
+use Rattle.proof_container.proofs.Written.{length-encoding_of}
 use Rattle.proof_container.proofs.writing.extent.Goals as goal
 
 -- sums and a product that stop at the top
@@ -22,6 +22,6 @@ returns-clause-bytes c =
     let held : Contents = view_contents v in
     let len : c.entries_len.result ≡ min (sum_by entry_size (entries (roots held))) (2 ^ 64 - 1) = c.entries_len.ensures ∙ ap (λ (z : List Tree). min (sum_by entry_size z) (2 ^ 64 - 1)) c.in_ok-walk.ensures.left in
     let invs : length held.invs ≡ length v.invs.now = length-map {B = ℕ × Tree} v.invs.now (λ inv. (inv.0, tree_at v.table.now inv.1)) in
-    let total : length (spelling held) ≡ 4 * (7 + sum_by entry_size (entries (roots held)) + 2 * length v.invs.now) + length v.code.now = length-spelling held ∙ ap (λ n. 4 * (7 + sum_by entry_size (entries (roots held)) + 2 * n) + length v.code.now) invs in
-    capped (sum_by entry_size (entries (roots held))) (length v.invs.now) (length v.code.now) c.entries_len.result c.saturating_add.result c.saturating_add-fields.result c.saturating_mul.result c.saturating_add-bytes.result (length (spelling held))
+    let total : length (encoding_of held) ≡ 4 * (7 + sum_by entry_size (entries (roots held)) + 2 * length v.invs.now) + length v.code.now = length-encoding_of held ∙ ap (λ n. 4 * (7 + sum_by entry_size (entries (roots held)) + 2 * n) + length v.code.now) invs in
+    capped (sum_by entry_size (entries (roots held))) (length v.invs.now) (length v.code.now) c.entries_len.result c.saturating_add.result c.saturating_add-fields.result c.saturating_mul.result c.saturating_add-bytes.result (length (encoding_of held))
     len c.saturating_add.ensures c.saturating_add-fields.ensures c.saturating_mul.ensures c.saturating_add-bytes.ensures total

@@ -1,5 +1,5 @@
 use Rattle.std.proofs.Common.{◌≡◌, ◌++◌, length, take}
-use Rattle.proof_container.specs.Spelling.{field_bytes}
+use Rattle.proof_container.specs.Encoding.{field_bytes}
 use Rattle.proof_container.proofs.writing.put.Given as goal
 
 abbrev pub invariant-loop-field : goal.invariant-loop-field

@@ -2,8 +2,8 @@ use Rattle.std.proofs.Common.{◌<◌, ◌++◌, List, ℕ, length, get_or, sym,
 use Rattle.std.proofs.lemmas.List.{length-map}
 use Rattle.term_table.specs.Tree.{Var}
 use Rattle.term_table.specs.Table.{IsKnown, tree_at}
-use Rattle.proof_container.specs.Walks.{HasParts}
-use Rattle.proof_container.specs.Spelling.{field_bytes, entry_fields}
+use Rattle.proof_container.specs.Postorder.{HasPartsFirst}
+use Rattle.proof_container.specs.Encoding.{field_bytes, entry_fields}
 use Rattle.proof_container.specs.Inside.Walked.{left_trees}
 use Rattle.proof_container.proofs.Ordering.{known-get}
 use Rattle.proof_container.proofs.Written.{written_more, parts-get, tree-get, place_in}
@@ -23,7 +23,7 @@ put_entry-requires-clause-parts c =
     let i = c.loop-id.id-index in
     let at = place_in ids c.deref-id-items.result.now i c.id-item.result c.deref-id-items.ensures.value c.loop-id-test.true c.id-item.is in
     let lt : i < length es = omega (arith, at.0, length-map ids (tree_at t)) in
-    subst (λ z. HasParts es z) (sym (tree-get t ids i c.id-item.result at.0 at.1)) (parts-get es es i (Var 0) c.requires.parts lt)
+    subst (λ z. HasPartsFirst es z) (sym (tree-get t ids i c.id-item.result at.0 at.1)) (parts-get es es i (Var 0) c.requires.parts lt)
 
 pub loop-id-preserved : goal.loop-id-preserved
 loop-id-preserved c =

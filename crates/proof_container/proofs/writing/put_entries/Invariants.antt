@@ -1,6 +1,6 @@
 use Rattle.std.proofs.Common.{◌≡◌, ◌++◌, take}
 use Rattle.std.specs.List.{flat_map}
-use Rattle.proof_container.specs.Spelling.{field_bytes, entry_fields}
+use Rattle.proof_container.specs.Encoding.{field_bytes, entry_fields}
 use Rattle.proof_container.specs.Inside.Walked.{left_trees}
 use Rattle.proof_container.proofs.writing.put_entries.Given as goal
 

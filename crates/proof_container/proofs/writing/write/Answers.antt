@@ -1,6 +1,6 @@
 use Rattle.std.proofs.Common.{◌≡◌, ◌++◌, [], List, ℕ, ◌∙◌, ap}
 use Rattle.proof_container.specs.Contents.{Contents}
-use Rattle.proof_container.specs.Spelling.{field_bytes, head_fields, tail_fields, Spells}
+use Rattle.proof_container.specs.Encoding.{field_bytes, head_fields, tail_fields, EncodesContents}
 use Rattle.proof_container.specs.Views.{view_contents}
 use Rattle.proof_container.specs.Inside.Walked.{left_trees}
 use Rattle.proof_container.proofs.Ready.{ready, view_holds, is_spelling}
@@ -10,7 +10,7 @@ use Rattle.proof_container.proofs.writing.write.Goals as goal
 pub put_tail-requires : goal.put_tail-requires
 put_tail-requires c = ready c.args.view.now c.in_ok-walk.walk c.requires c.in_ok-walk.ensures
 
-spelled : (c : goal.After-drop-walk-3) → Spells c.put_tail.new.out.items (view_contents c.args.view.now)
+spelled : (c : goal.After-drop-walk-3) → EncodesContents c.put_tail.new.out.items (view_contents c.args.view.now)
 spelled c =
     let v = c.args.view.now in
     let held : Contents = view_contents v in

@@ -8,9 +8,9 @@ use Rattle.term_table.specs.declared.Node.{Node}
 use Rattle.term_table.specs.declared.Entry.{Entry}
 use Rattle.term_table.specs.contracts.NodeOrd.TheImpl as block
 use Rattle.term_table.specs.contracts.NodePartialEq.TheImpl as equality
-use Rattle.term_table.specs.Table.{Terms, counts_of, IsKnown, tree_at, tree_in, node_tree_in, node_tree, PartsBelow, Adds}
-use Rattle.term_table.specs.Inside.Entries.{trees, IsMeasured}
-use Rattle.term_table.proofs.Trees.{tree_is, length-trees, entries-push, entries-same, with_entry, is_new, IsNew}
+use Rattle.term_table.specs.Table.{TableView, counts_of, IsKnown, tree_at, tree_in, node_tree_in, node_tree, PartsBelow, Adds}
+use Rattle.term_table.specs.Inside.Entries.{entry_trees, IsMeasured}
+use Rattle.term_table.proofs.Trees.{tree_is, length-entry_trees, entries-push, entries-same, with_entry, is_new, IsNew}
 use Rattle.term_table.proofs.Table.intern.Goals as goal
 
 decides_eq : (a b : Node) → Decides (equality.ghosts.eq a b) (a ≡ b)
@@ -23,11 +23,11 @@ agrees a b = search rules
 decides : (a b : Node) → Decides (eq_by_cmp block.ghosts.cmp a b) (a ≡ b)
 decides a b = subst (λ z. Decides z (a ≡ b)) (agrees a b) (decides_eq a b)
 
-is_old : (t : Terms) (tree : Tree) (id : ℕ) → IsKnown t id → Adds t t tree id
+is_old : (t : TableView) (tree : Tree) (id : ℕ) → IsKnown t id → Adds t t tree id
 is_old t tree id h = record { old = λ k. refl; fresh = λ k. absurd (k h) }
 
-count_is : (t u : Terms) → t ≡ u → length t.trees ≡ length u.trees
-count_is t u e = ap (λ (z : Terms). length z.trees) e
+count_is : (t u : TableView) → t ≡ u → length t.trees ≡ length u.trees
+count_is t u e = ap (λ (z : TableView). length z.trees) e
 
 known : (c : goal.In-Some) → IsKnown c.args.self.now c.in-Some.id × (tree_at c.args.self.now c.in-Some.id ≡ node_tree c.args.self.now c.args.node)
 known c =
@@ -35,9 +35,9 @@ known c =
     let d : Entry = record { node = c.args.node; height = 0; weight = 0; left = 0; reach = 0 } in
     let is : get block.ghosts.cmp c.self.inside.index c.args.node ≡ Some c.in-Some.id = sym c.get.ensures.value ∙ sym c.copied.ensures ∙ c.in-Some.is in
     let found = c.self.invariant.found c.args.node c.in-Some.id d is in
-    let tree : tree_in (trees items) c.in-Some.id ≡ node_tree_in (trees items) c.args.node =
-    tree_is items d c.in-Some.id c.self.invariant found.0 ∙ ap (node_tree_in (trees items)) found.1
-    in rw (← c.self.view_is) (omega (arith, found.0, length-trees items), tree)
+    let tree : tree_in (entry_trees items) c.in-Some.id ≡ node_tree_in (entry_trees items) c.args.node =
+    tree_is items d c.in-Some.id c.self.invariant found.0 ∙ ap (node_tree_in (entry_trees items)) found.1
+    in rw (← c.self.view_is) (omega (arith, found.0, length-entry_trees items), tree)
 
 pub returns-in-Some-clause-id : goal.returns-in-Some-clause-id
 returns-in-Some-clause-id c = known c
@@ -47,7 +47,7 @@ returns-in-Some-clause-adds c = is_old c.args.self.now (node_tree c.args.self.no
 
 pub entry_of-entry-requires-clause-parts : goal.entry_of-entry-requires-clause-parts
 entry_of-entry-requires-clause-parts c =
-    subst (λ k. PartsBelow k c.args.node) (ap (λ (t : Terms). length t.trees) (sym c.self.view_is) ∙ length-trees c.self.inside.entries.items ∙ ap length (sym c.as_slice.ensures.value)) c.requires
+    subst (λ k. PartsBelow k c.args.node) (ap (λ (t : TableView). length t.trees) (sym c.self.view_is) ∙ length-entry_trees c.self.inside.entries.items ∙ ap length (sym c.as_slice.ensures.value)) c.requires
 
 pub invariant_of-self : goal.invariant_of-self
 invariant_of-self c = rw c.reserve.ensures.items c.self.invariant
@@ -68,23 +68,23 @@ invariant_of-self-2 c =
     let node : e.node ≡ c.args.node = c.entry_of-entry.ensures.node in
     let none : get cmp c.self.inside.index c.args.node ≡ None = sym c.get.ensures.value ∙ sym c.copied.ensures ∙ c.in_default.is in
     let parts : PartsBelow (length items) c.args.node =
-    subst (λ k. PartsBelow k c.args.node) (ap (λ (t : Terms). length t.trees) (sym c.self.view_is) ∙ length-trees items) c.requires
+    subst (λ k. PartsBelow k c.args.node) (ap (λ (t : TableView). length t.trees) (sym c.self.view_is) ∙ length-entry_trees items) c.requires
     in
-    let measured : IsMeasured (counts_of c.self.inside.places) (node_tree_in (trees items) c.args.node) e = rw c.as_slice.ensures.value at c.entry_of-entry.ensures.measured in
+    let measured : IsMeasured (counts_of c.self.inside.places) (node_tree_in (entry_trees items) c.args.node) e = rw c.as_slice.ensures.value at c.entry_of-entry.ensures.measured in
     let put : (q : Node) → get cmp c.insert.new.self q ≡ cond (eq_by_cmp cmp c.args.node q) (Some c.len.result) (get cmp c.self.inside.index q) = c.in_ok-insert.ensures.updates.0 in
     rw more (entries-push (counts_of c.self.inside.places) items e (eq_by_cmp cmp) (get cmp c.self.inside.index) _ decides c.self.invariant (rw node parts) (rw node c.numbers.ensures) (rw node none)
-    (subst (λ z. IsMeasured (counts_of c.self.inside.places) (node_tree_in (trees items) z) e) (sym node) measured)
+    (subst (λ z. IsMeasured (counts_of c.self.inside.places) (node_tree_in (entry_trees items) z) e) (sym node) measured)
     (λ q. put q ∙ cc (n, node)))
 
-fresh : (c : goal.In_ok-push) → IsNew c.args.self.now (record { trees = trees c.push.new.self.items; places = counts_of c.self.inside.places }) (node_tree c.args.self.now c.args.node) c.len.result
+fresh : (c : goal.In_ok-push) → IsNew c.args.self.now (record { trees = entry_trees c.push.new.self.items; places = counts_of c.self.inside.places }) (node_tree c.args.self.now c.args.node) c.len.result
 fresh c =
     let items = c.self.inside.entries.items in
     let e = c.entry_of-entry.result in
     let more : c.push.new.self.items ≡ items ++ e ∷ [] = search rules in
     let n : c.len.result ≡ length items = search rules in
-    is_new c.args.self.now (record { trees = trees c.push.new.self.items; places = counts_of c.self.inside.places }) (node_tree c.args.self.now c.args.node) c.len.result
+    is_new c.args.self.now (record { trees = entry_trees c.push.new.self.items; places = counts_of c.self.inside.places }) (node_tree c.args.self.now c.args.node) c.len.result
     (with_entry (counts_of c.self.inside.places) items c.push.new.self.items e c.args.node c.args.self.now c.self.view_is more c.entry_of-entry.ensures.node)
-    (n ∙ sym (length-trees items) ∙ ap (λ (t : Terms). length t.trees) c.self.view_is)
+    (n ∙ sym (length-entry_trees items) ∙ ap (λ (t : TableView). length t.trees) c.self.view_is)
 
 pub returns-clause-id : goal.returns-clause-id
 returns-clause-id c = (fresh c).known
@@ -92,5 +92,5 @@ returns-clause-id c = (fresh c).known
 pub returns-clause-adds : goal.returns-clause-adds
 returns-clause-adds c = (fresh c).adds
 
-pub returns-clause-grows : goal.returns-clause-grows
-returns-clause-grows c = (fresh c).grows
+pub returns-clause-extends : goal.returns-clause-extends
+returns-clause-extends c = (fresh c).extends

@@ -1,9 +1,9 @@
 use Rattle.std.proofs.Common.{◌≡◌, ◌%◌, ◌^◌, ap, ◌∙◌}
 use Rattle.alpha_cfg.specs.Machine.{run_of}
-use Rattle.reference_machine.specs.Agents.{Held}
+use Rattle.reference_machine.specs.Agents.{AgentView}
 use Rattle.reference_machine.specs.Arena.{sum_of}
-use Rattle.reference_machine.specs.Setups.{setup_of}
-use Rattle.reference_machine.specs.Starts.{start_state, loaded}
+use Rattle.reference_machine.specs.Setups.{start_view}
+use Rattle.reference_machine.specs.Starts.{start_state, agent_at_start}
 use Rattle.packet_store.specs.declared.results.PacketResult.TheVariants.{Ran}
 use Rattle.packet_store.specs.PolicyStarts.{start_of}
 use Rattle.packet_store.specs.Results.{result_from}
@@ -18,13 +18,13 @@ pub returns-clause-exact : goal.returns-clause-exact
 returns-clause-exact c =
     let code = c.args.self.now.code in
     let steps = c.args.self.now.steps in
-    let setup = setup_of c.in-Some.begin in
-    let old : Held = c.load.new.self in
-    let new : Held = c.run-outcome.new.self in
-    let begun : old ≡ loaded 65536 setup = c.load.ensures in
-    let ran : (c.run-outcome.result, new.state) ≡ run_of code steps (start_state 65536 setup) = c.run-outcome.ensures.run ∙ ap (λ (h : Held). run_of code steps h.state) begun in
-    let at : new.region_at ≡ setup.at = c.run-outcome.ensures.region.0 ∙ ap (λ (h : Held). h.region_at) begun in
-    let region : new.region ≡ setup.region = c.run-outcome.ensures.region.1 ∙ ap (λ (h : Held). h.region) begun in
+    let setup = start_view c.in-Some.begin in
+    let old : AgentView = c.load.new.self in
+    let new : AgentView = c.run-outcome.new.self in
+    let begun : old ≡ agent_at_start 65536 setup = c.load.ensures in
+    let ran : (c.run-outcome.result, new.state) ≡ run_of code steps (start_state 65536 setup) = c.run-outcome.ensures.run ∙ ap (λ (h : AgentView). run_of code steps h.state) begun in
+    let at : new.region_at ≡ setup.at = c.run-outcome.ensures.region.0 ∙ ap (λ (h : AgentView). h.region_at) begun in
+    let region : new.region ≡ setup.region = c.run-outcome.ensures.region.1 ∙ ap (λ (h : AgentView). h.region) begun in
     let sum : c.sum.result ≡ sum_of new.state.memory setup.at setup.region % 2 ^ 64 = c.sum.ensures ∙ ap (λ a. sum_of new.state.memory a new.region % 2 ^ 64) at ∙ ap (λ n. sum_of new.state.memory setup.at n % 2 ^ 64) region in
     ap (Ran c.run-outcome.result) sum
     ∙ result_from-some code steps setup c.run-outcome.result new.state ran

@@ -8,9 +8,9 @@ use Rattle.term_table.specs.Table.{tree_in}
 use Rattle.proof_container.specs.declared.fault.Flaw.{Flaw}
 use Rattle.proof_container.specs.declared.fault.Flaw.TheVariants.{Cut, Magic, Version, Count, EntryKind, ForwardRef, DoubleEntry, Order, LambdaHead, InvOrder, Trailing}
 use Rattle.proof_container.specs.Contents.{Contents, roots}
-use Rattle.proof_container.specs.Walks.{is_listed, entries}
+use Rattle.proof_container.specs.Postorder.{is_emitted, entries}
 use Rattle.proof_container.specs.declared.limits.TheConstants.{MAX_WORDS, MAX_ENTRIES, MAX_INVS}
-use Rattle.proof_container.specs.Spelling.{magic}
+use Rattle.proof_container.specs.Encoding.{magic}
 
 -- an offset, and what is wrong there
 abbrev pub Fault : Type 0
@@ -46,8 +46,8 @@ word_at bytes i = do
 -- ---- the magic, the version, the policy and the code
 
 -- the policy, and how many words of code there are
-unfoldable pub head_read : List ℕ → Result (ℕ × ℕ) Fault
-head_read bytes = do
+unfoldable pub decoded_head : List ℕ → Result (ℕ × ℕ) Fault
+decoded_head bytes = do
   first ← exact_at bytes 0 magic Magic
   version ← exact_at bytes 1 1 Version
   policy ← field_at bytes 2
@@ -125,11 +125,11 @@ unfoldable pub entries_at : ℕ → List ℕ → ℕ → List Tree → Result (L
 entries_at zero bytes i ts = Ok (ts, i)
 entries_at (suc n) bytes i ts = do
   t ← entry_at bytes i ts
-  if is_listed t ts then Err (4 * i, DoubleEntry) else entries_at n bytes (i + entry_size t) (ts ++ t ∷ [])
+  if is_emitted t ts then Err (4 * i, DoubleEntry) else entries_at n bytes (i + entry_size t) (ts ++ t ∷ [])
 
 -- the entries behind so many words of code
-unfoldable pub entries_read : List ℕ → ℕ → Result (List Tree × ℕ) Fault
-entries_read bytes words = do
+unfoldable pub decoded_entries : List ℕ → ℕ → Result (List Tree × ℕ) Fault
+decoded_entries bytes words = do
   count ← count_at bytes (4 + words) 0 MAX_ENTRIES
   entries_at count bytes (5 + words) []
 
@@ -151,14 +151,14 @@ invs_at (suc n) bytes i es words low invs = do
   invs_at n bytes (i + 2) es words (inv.0 + 1) (invs ++ inv ∷ [])
 
 -- the invariants, whose count is field i
-unfoldable pub invs_read : List ℕ → ℕ → List Tree → ℕ → Result (List (ℕ × Tree)) Fault
-invs_read bytes i es words = do
+unfoldable pub decoded_invs : List ℕ → ℕ → List Tree → ℕ → Result (List (ℕ × Tree)) Fault
+decoded_invs bytes i es words = do
   count ← count_at bytes i 0 MAX_INVS
   invs_at count bytes (i + 1) es words 0 []
 
 -- field i: 0 for none, or 1 and the number of an entry
-unfoldable pub proof_read : List ℕ → ℕ → List Tree → Result (Option Tree) Fault
-proof_read bytes i es = do
+unfoldable pub decoded_proof : List ℕ → ℕ → List Tree → Result (Option Tree) Fault
+decoded_proof bytes i es = do
   p ← field_at bytes i
   if p == 0 then Ok None else if nat_lt (length es) p then Err (4 * i, ForwardRef) else Ok (Some (tree_in es (p - 1)))
 
@@ -175,23 +175,23 @@ abbrev pub entry_offset : ℕ → List Tree → ℕ → ℕ
 entry_offset words es e = 4 * (5 + words + sum_by entry_size (take e es))
 
 -- the contents, where no entry is misplaced
-abbrev pub ordered : ℕ → List Tree → Contents → Option ℕ → Result Contents Fault
-ordered words es c None = Ok c
-ordered words es c (Some e) = Err (entry_offset words es e, Order)
+abbrev pub unless_misplaced : ℕ → List Tree → Contents → Option ℕ → Result Contents Fault
+unless_misplaced words es c None = Ok c
+unless_misplaced words es c (Some e) = Err (entry_offset words es e, Order)
 
 -- the contents, where no byte is left from field i on and the entries stand in the order of the walk
-unfoldable pub end_read : List ℕ → ℕ → ℕ → List Tree → Contents → Result Contents Fault
-end_read bytes i words es c =
-    if nat_lt (4 * i) (length bytes) then Err (4 * i, Trailing) else ordered words es c (first_misplaced es (entries (roots c)))
+unfoldable pub decoded_end : List ℕ → ℕ → ℕ → List Tree → Contents → Result Contents Fault
+decoded_end bytes i words es c =
+    if nat_lt (4 * i) (length bytes) then Err (4 * i, Trailing) else unless_misplaced words es c (first_misplaced es (entries (roots c)))
 
 -- the contents of the container that the bytes are, or the first fault
-unfoldable pub container_read : List ℕ → Result Contents Fault
-container_read bytes = do
-  head ← head_read bytes
-  es ← entries_read bytes head.1
-  invs ← invs_read bytes es.1 es.0 head.1
-  proof ← proof_read bytes (es.1 + 1 + 2 * length invs) es.0
-  end_read bytes (es.1 + 2 + 2 * length invs) head.1 es.0 (record {
+unfoldable pub decoded_container : List ℕ → Result Contents Fault
+decoded_container bytes = do
+  head ← decoded_head bytes
+  es ← decoded_entries bytes head.1
+  invs ← decoded_invs bytes es.1 es.0 head.1
+  proof ← decoded_proof bytes (es.1 + 1 + 2 * length invs) es.0
+  decoded_end bytes (es.1 + 2 + 2 * length invs) head.1 es.0 (record {
     policy = head.0;
     code = slice_range bytes 16 (16 + 4 * head.1);
     invs = invs;

@@ -10,11 +10,11 @@ use Rattle.alpha_words.specs.declared.insn.Insn.{Insn}
 use Rattle.alpha_words.specs.declared.insn.Insn.TheVariants.{Lda, Ldq, Stq, Oper, Branch, Br, Ret}
 use Rattle.alpha_words.specs.declared.fault.BadWord.{BadWord}
 use Rattle.alpha_words.specs.declared.fault.BadWord.TheVariants.{Opcode, Function, Reserved, KeptRegister, LoadToZero, BadReturn, BadLink}
-use Rattle.alpha_words.specs.Spelling.{is_kept}
+use Rattle.alpha_words.specs.Encoding.{is_kept}
 
 -- the number whose k + 1 bits of two's complement are n
-abbrev pub number_of : ℕ → ℕ → ℤ
-number_of k n = if nat_lt n (2 ^ k) then pos n else negsuc (2 ^ k + 2 ^ k - suc n)
+abbrev pub signed_of : ℕ → ℕ → ℤ
+signed_of k n = if nat_lt n (2 ^ k) then pos n else negsuc (2 ^ k + 2 ^ k - suc n)
 
 -- the five bits from low on
 abbrev pub reg_at : ℕ → ℕ → ℕ
@@ -56,8 +56,8 @@ cond_at opcode =
     None
 
 -- An instruction that writes a register is refused where that register is kept.
-abbrev pub writing : ℕ → Insn → Result Insn BadWord
-writing r i = if is_kept r then Err KeptRegister else Ok i
+abbrev pub unless_kept : ℕ → Insn → Result Insn BadWord
+unless_kept r i = if is_kept r then Err KeptRegister else Ok i
 
 -- the second operand: bit 12 tells a literal from a register
 abbrev pub rhs_at : ℕ → Rhs
@@ -68,30 +68,30 @@ abbrev pub has_reserved : ℕ → Bool
 has_reserved w = (w / 2 ^ 12 % 2 == 0) && not (w / 2 ^ 13 % 8 == 0)
 
 -- an operate word, given its operator: the reserved bits, then the register written
-abbrev pub operating : ℕ → Option Op → Result Insn BadWord
-operating w None = Err Function
-operating w (Some op) = if has_reserved w then Err Reserved else writing (reg_at w 0) (Oper op (reg_at w 21) (rhs_at w) (reg_at w 0))
+abbrev pub decoded_operate : ℕ → Option Op → Result Insn BadWord
+decoded_operate w None = Err Function
+decoded_operate w (Some op) = if has_reserved w then Err Reserved else unless_kept (reg_at w 0) (Oper op (reg_at w 21) (rhs_at w) (reg_at w 0))
 
 -- a word of the branch format, given its condition
-abbrev pub branching : ℕ → Option Cond → Result Insn BadWord
-branching w None = Err Opcode
-branching w (Some cond) = Ok (Branch cond (reg_at w 21) (number_of 20 (w % 2 ^ 21)))
+abbrev pub decoded_branch : ℕ → Option Cond → Result Insn BadWord
+decoded_branch w None = Err Opcode
+decoded_branch w (Some cond) = Ok (Branch cond (reg_at w 21) (signed_of 20 (w % 2 ^ 21)))
 
 -- a return: registers 31 and 26, and 2 in the two bits above the hint
 abbrev pub is_return : ℕ → Bool
 is_return w = (reg_at w 21 == 31) && (reg_at w 16 == 26) && (w / 2 ^ 14 % 4 == 2)
 
 -- What the word reads as, or the first test that it fails.
-abbrev pub reading : ℕ → Result Insn BadWord
-reading w =
+abbrev pub decoded : ℕ → Result Insn BadWord
+decoded w =
     let opcode = w / 2 ^ 26 in
     let ra = reg_at w 21 in
     let rb = reg_at w 16 in
-    let disp = number_of 15 (w % 2 ^ 16) in
-    if opcode == 0x08 then writing ra (Lda ra rb disp) else
-    if opcode == 0x29 then (if ra == 31 then Err LoadToZero else writing ra (Ldq ra rb disp)) else
+    let disp = signed_of 15 (w % 2 ^ 16) in
+    if opcode == 0x08 then unless_kept ra (Lda ra rb disp) else
+    if opcode == 0x29 then (if ra == 31 then Err LoadToZero else unless_kept ra (Ldq ra rb disp)) else
     if opcode == 0x2D then Ok (Stq ra rb disp) else
-    if nat_le 0x10 opcode && nat_le opcode 0x12 then operating w (operator_at opcode (w / 2 ^ 5 % 128)) else
+    if nat_le 0x10 opcode && nat_le opcode 0x12 then decoded_operate w (operator_at opcode (w / 2 ^ 5 % 128)) else
     if opcode == 0x1A then (if is_return w then Ok Ret else Err BadReturn) else
-    if opcode == 0x30 then (if ra == 31 then Ok (Br (number_of 20 (w % 2 ^ 21))) else Err BadLink) else
-    branching w (cond_at opcode)
+    if opcode == 0x30 then (if ra == 31 then Ok (Br (signed_of 20 (w % 2 ^ 21))) else Err BadLink) else
+    decoded_branch w (cond_at opcode)

@@ -8,7 +8,7 @@ use Rattle.term_table.specs.Equality.{tree_eq}
 use Rattle.term_table.specs.Table.{IsSmall}
 use Rattle.proof_container.specs.declared.limits.TheConstants.{MAX_WORDS, MAX_ENTRIES, MAX_INVS}
 use Rattle.proof_container.specs.Contents.{Contents, roots}
-use Rattle.proof_container.specs.Walks.{entries}
+use Rattle.proof_container.specs.Postorder.{entries}
 
 -- fields as bytes
 abbrev pub field_bytes : List ℕ → List ℕ
@@ -63,8 +63,8 @@ abbrev pub tail_fields : List Tree → Contents → List ℕ
 tail_fields es c = (length es ∷ flat_map (entry_fields es) es) ++ ((length c.invs ∷ flat_map (inv_fields es) c.invs) ++ (proof_field es c.proof ∷ []))
 
 -- the one spelling of the contents
-unfoldable pub spelling : Contents → List ℕ
-spelling c = field_bytes (head_fields c) ++ (c.code ++ field_bytes (tail_fields (entries (roots c)) c))
+unfoldable pub encoding_of : Contents → List ℕ
+encoding_of c = field_bytes (head_fields c) ++ (c.code ++ field_bytes (tail_fields (entries (roots c)) c))
 
 -- the invariants' indices rise from this one on, and lie below the count of words
 abbrev pub AreRising : ℕ → ℕ → List (ℕ × Tree) → Type 0
@@ -93,6 +93,6 @@ pub record IsContents (c : Contents) : Type 0 where
   pub rising : AreRising 0 (length c.code / 4) c.invs
 
 -- the bytes are a container with these contents
-pub record Spells (bytes : List ℕ) (c : Contents) : Type 0 where
+pub record EncodesContents (bytes : List ℕ) (c : Contents) : Type 0 where
   pub contents : IsContents c
-  pub spelled : bytes ≡ spelling c
+  pub spelled : bytes ≡ encoding_of c

@@ -3,8 +3,8 @@ use Rattle.std.specs.Prelude.{ℕ, ◌/◌, ◌==◌, Bool, List, length, take}
 use Rattle.std.specs.List.{list_any}
 
 -- a list of failing calls has this one
-abbrev pub is_listed : List ℕ → ℕ → Bool
-is_listed failing call = list_any (λ n. n == call) failing
+abbrev pub is_failing : List ℕ → ℕ → Bool
+is_failing failing call = list_any (λ n. n == call) failing
 
 -- the first half of the bytes, rounded down
 abbrev pub first_half : List ℕ → List ℕ
