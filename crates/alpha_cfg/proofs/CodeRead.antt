@@ -88,7 +88,7 @@ shape_is bytes code (Ok out) some short are w =
       code = record {
         nonempty = omega (arith, read.count);
         short = omega (arith, read.count);
-        spelled = read.insns;
+        encoded = read.insns;
         inside = λ k insn at. let z : 0 + k ≡ k = omega arith in subst (λ j. InsideOf (length out) (target_of j insn)) z (outside_none (length out) 0 out h.0 k insn at);
         ends = off_at out (length out - 1) (omega (arith, read.count)) h.1;
       };

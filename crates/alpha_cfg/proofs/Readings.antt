@@ -15,7 +15,7 @@ use Rattle.alpha_cfg.specs.Flow.{InsideOf, IsInside, IsFinalAt, IsCode, AreInsns
 use Rattle.alpha_cfg.specs.CodeBytes.{code_word_at, EncodesFirst, EncodesCode, IsShapeFlaw, IsFlaw, IsCodeAnswer}
 use Rattle.alpha_cfg.specs.CodeDecoding.{decoded_words, is_inside, first_outside, runs_off, decoded_code, IsDecoded}
 
--- the instructions are spelled by the words from index i on
+-- the instructions are encoded by the words from index i on
 abbrev AreSpelled : List ℕ → ℕ → List Insn → Type 0
 AreSpelled bytes i code = (k : ℕ) (insn : Insn) → slice_get code k ≡ Some insn → Encodes (code_word_at bytes (i + k)) insn
 
@@ -29,10 +29,10 @@ rest_spelled bytes i insn rest each k x at =
     let e : i + suc k ≡ suc i + k = omega arith in
     subst (λ j. Encodes (code_word_at bytes j) x) e (each (suc k) x at)
 
-decoded_words-spelled : (bytes : List ℕ) (i : ℕ) (code : List Insn) → AreSpelled bytes i code → decoded_words bytes i (length code) ≡ Ok code
-decoded_words-spelled bytes i [] each = refl
-decoded_words-spelled bytes i (insn ∷ rest) each =
-    rw (first_spelled bytes i insn rest each, decoded_words-spelled bytes (suc i) rest (rest_spelled bytes i insn rest each)) refl
+decoded_words-encoded : (bytes : List ℕ) (i : ℕ) (code : List Insn) → AreSpelled bytes i code → decoded_words bytes i (length code) ≡ Ok code
+decoded_words-encoded bytes i [] each = refl
+decoded_words-encoded bytes i (insn ∷ rest) each =
+    rw (first_spelled bytes i insn rest each, decoded_words-encoded bytes (suc i) rest (rest_spelled bytes i insn rest each)) refl
 
 decoded_words-bad : (bytes : List ℕ) (i m : ℕ) (bad : BadWord) (code : List Insn) → AreSpelled bytes i code → decoded (code_word_at bytes (i + length code)) ≡ Err bad → decoded_words bytes i (length code + suc m) ≡ Err (flaw.BadWord (i + length code) (code_word_at bytes (i + length code)) bad)
 decoded_words-bad bytes i m bad [] each e =
@@ -136,7 +136,7 @@ all_inside code inside = first_outside-none (length code) 0 code (from_zero code
 all_read : (bytes : List ℕ) (code : List Insn) → EncodesCode bytes code → decoded_words bytes 0 (length bytes / 4) ≡ Ok code
 all_read bytes code s =
     let count : length bytes / 4 ≡ length code = omega (arith, s.whole) in
-    rw count (decoded_words-spelled bytes 0 code (λ k insn at. let e : k ≡ 0 + k = omega arith in subst (λ j. Encodes (code_word_at bytes j) insn) e (s.first.each k insn at)))
+    rw count (decoded_words-encoded bytes 0 code (λ k insn at. let e : k ≡ 0 + k = omega arith in subst (λ j. Encodes (code_word_at bytes j) insn) e (s.first.each k insn at)))
 
 pub decoded_code-ok : (bytes : List ℕ) (code : List Insn) → EncodesCode bytes code → IsCode code → Ok code ≡ decoded_code bytes
 unfolding decoded_code
@@ -179,8 +179,8 @@ IsDecoded-IsCodeAnswer bytes (Ok code) h = decoded_code-ok bytes code h.0 h.1
 IsDecoded-IsCodeAnswer bytes (Err (fault.At f)) h = decoded_code-flaw bytes f h
 IsDecoded-IsCodeAnswer bytes (Err fault.Memory) h = tt
 
--- ---- spelled code
+-- ---- encoded code
 
--- each instruction is spelled by its word
+-- each instruction is encoded by its word
 pub AreInsns-EncodesCode : (bytes : List ℕ) (code : List Insn) → EncodesCode bytes code → AreInsns code
 AreInsns-EncodesCode bytes code s i insn at = (code_word_at bytes i, s.first.each i insn at)

@@ -92,7 +92,7 @@ insn_outcome-keeps code Ret s ok at byte is = is
 
 step_at-keeps : (code : List Insn) (insn : Option Insn) (s : State) → IsCode code → slice_get code s.index ≡ insn → IsAt (length code) s → IsAt (length code) (step_at insn s).1
 step_at-keeps code None s ok at is = is
-step_at-keeps code (Some insn) s ok at is = insn_outcome-keeps code insn s ok at (ok.spelled s.index insn at) is
+step_at-keeps code (Some insn) s ok at is = insn_outcome-keeps code insn s ok at (ok.encoded s.index insn at) is
 
 pub step_of-keeps : (code : List Insn) (s : State) → IsCode code → IsAt (length code) s → IsAt (length code) (step_of code s).1
 step_of-keeps code s ok is = step_at-keeps code (slice_get code s.index) s ok refl is

@@ -48,18 +48,18 @@ IsInside code i = (insn : Insn) → slice_get code i ≡ Some insn → InsideOf 
 abbrev pub IsFinalAt : List Insn → ℕ → Type 0
 IsFinalAt code i = (insn : Insn) → slice_get code i ≡ Some insn → IsFinal insn
 
--- an instruction that some word spells
+-- an instruction that some word encodes
 abbrev pub IsInsn : Insn → Type 0
 IsInsn insn = (word : ℕ) × Encodes word insn
 
--- each instruction is spelled by some word
+-- each instruction is encoded by some word
 abbrev pub AreInsns : List Insn → Type 0
 AreInsns code = (i : ℕ) (insn : Insn) → slice_get code i ≡ Some insn → IsInsn insn
 
--- Code: 1 to 1,024 instructions, each of which some word spells. Its branches stay inside, and it can't run off its end.
+-- Code: 1 to 1,024 instructions, each of which some word encodes. Its branches stay inside, and it can't run off its end.
 pub record IsCode (code : List Insn) : Type 0 where
   pub nonempty : 0 < length code
   pub short : length code ≤ MAX_WORDS
-  pub spelled : AreInsns code
+  pub encoded : AreInsns code
   pub inside : (i : ℕ) → IsInside code i
   pub ends : IsFinalAt code (length code - 1)

@@ -1,4 +1,4 @@
-//! Code: the instructions that bytes spell, whose branches stay inside it.
+//! Code: the instructions that bytes encode, whose branches stay inside it.
 
 ghost use Rattle.std.specs.Prelude.{◌≡◌, ℕ, ◌+◌, ◌*◌, ◌%◌, ◌<◌, ◌≤◌, ◌↔◌, length, slice_get, Some, IsTrue, IsSome, IfSome, IfNone, IfOk, IfErr, MatchResult, Err};
 ghost use Rattle.alpha_cfg.specs.CodeBytes.{code_word_at, EncodesCode, IsShapeFlaw, IsCodeAnswer};
@@ -100,11 +100,11 @@ fn word_of(code: &[u8], i: usize) -> u32
     u32::from_le_bytes([code[at], code[at + 1], code[at + 2], code[at + 3]])
 }
 
-/// The instruction that a word spells.
+/// The instruction that a word encodes.
 fn decode_at(code: &[u8], i: usize) -> Result<Insn, CodeFlaw>
     requires within { 4 * i + 4 ≤ length code.now }
     requires short { i < MAX_WORDS }
-    ensures spelled { IfOk result (λ insn. Encodes (code_word_at code.now i) insn) }
+    ensures encodes { IfOk result (λ insn. Encodes (code_word_at code.now i) insn) }
     ensures flaw { IfErr result (λ e. IsFlawAt code.now i e) }
 {
     let word = word_of(code, i);
@@ -114,11 +114,11 @@ fn decode_at(code: &[u8], i: usize) -> Result<Insn, CodeFlaw>
     }
 }
 
-/// The instructions that the words spell, or the first word that spells none.
+/// The instructions that the words encode, or the first word that encodes none.
 fn decode_all(alloc: Global, code: &[u8]) -> Result<Vec<Insn>, CodeFault>
     requires whole { length code.now % 4 ≡ 0 }
     requires short { length code.now ≤ 4 * MAX_WORDS }
-    ensures spelled { IfOk result (λ v. EncodesCode code.now v.items) }
+    ensures encodes { IfOk result (λ v. EncodesCode code.now v.items) }
     ensures fault { IfErr result (λ e. IsCodeAnswer code.now (Err e)) }
 {
     let _no_operand: Option<Rhs> = None;
@@ -167,7 +167,7 @@ fn ends(insn: Insn) -> bool
 fn shape_flaw(insns: &[Insn]) -> Option<CodeFlaw>
     requires some { 0 < length insns.now }
     requires short { length insns.now ≤ MAX_WORDS }
-    requires spelled { AreInsns insns.now }
+    requires encoded { AreInsns insns.now }
     ensures found { IfSome result (λ e. IsShapeFlaw insns.now e) }
     ensures none { IfNone result (IsCode insns.now) }
 {
@@ -182,7 +182,7 @@ fn shape_flaw(insns: &[Insn]) -> Option<CodeFlaw>
     }
 }
 
-/// The code that the bytes spell, or the first fault.
+/// The code that the bytes encode, or the first fault.
 fn make(alloc: Global, code: &[u8]) -> Result<Code, CodeFault>
     requires whole { length code.now % 4 ≡ 0 }
     requires some { 0 < length code.now }
@@ -197,7 +197,7 @@ fn make(alloc: Global, code: &[u8]) -> Result<Code, CodeFault>
 }
 
 impl Code {
-    /// The code that the bytes, 1 to 1,024 words of four bytes, spell.
+    /// The code that the bytes, 1 to 1,024 words of four bytes, encode.
     ///
     /// Else the least index whose word is no instruction; else the least index that branches
     /// outside; else the last index, where it isn't a return or a branch that is always taken.
@@ -206,8 +206,8 @@ impl Code {
         requires whole { length code.now % 4 ≡ 0 }
         requires some { 0 < length code.now }
         requires short { length code.now ≤ 4 * MAX_WORDS }
-        ensures spelled { IsCodeAnswer code.now result }
-        ensures tested { IsDecoded code.now result }
+        ensures decodes { IsCodeAnswer code.now result }
+        ensures exact { IsDecoded code.now result }
     {
         make(alloc, code)
     }

@@ -1,10 +1,10 @@
 //! Code and its control flow, and the machine's states and steps as definitions.
 //!
 //! Source: Alpha Architecture Handbook. What code is stands in `specs/Flow`, which code bytes
-//! spell and the first fault in `specs/CodeBytes` (as a relation) and `specs/CodeDecoding` (as a
+//! encode and the first fault in `specs/CodeBytes` (as a relation) and `specs/CodeDecoding` (as a
 //! function), cycles and the unfolded length in `specs/Cuts` and `specs/Graph`, and states, steps
 //! and runs of the machine in `specs/Machine`. The layers above use that `Code::of` gives code
-//! whose instructions are spelled, whose branches stay inside and which doesn't run off its end,
+//! whose instructions are encoded, whose branches stay inside and which doesn't run off its end,
 //! and that `Code::cut` accepts exactly where each cycle has an annotated index.
 #![tactic(auto)]
 

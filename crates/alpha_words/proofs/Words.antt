@@ -1,4 +1,4 @@
--- What a word reads as is what it spells.
+-- What a word reads as is what it encodes.
 use Rattle.std.proofs.Common.{◌≡◌, ◌≢◌, ℕ, ◌+◌, ◌*◌, ◌/◌, ◌%◌, ◌^◌, ◌<◌, true, false, cond, not, leb, eqb, ◌&&◌, arith, refl, ◌∙◌, sym, Option, Some, None, Result, Ok, Err, IfOk, IfSome, ◌↔◌, lit<}
 use Rattle.std.proofs.lemmas.Bool.{cond_both, eqb-true, eqb-false, ne_eqb, and_parts, not_from_false, not-true}
 use Rattle.std.proofs.lemmas.Bool.Decides.{nat_tests}
@@ -17,7 +17,7 @@ use Rattle.alpha_words.specs.Encoding.{is_kept, bits_of, HasBits, opcode_of, fun
 use Rattle.alpha_words.specs.Decoding.{signed_of, reg_at, operator_at, cond_at, unless_kept, rhs_at, has_reserved, decoded_operate, decoded_branch, is_return, decoded}
 use Rattle.alpha_words.proofs.Fields.{HasBits-signed_of, bits_of-signed_of, signed_of-bits_of, bits_of-below}
 
--- what reads, spells
+-- what reads, encodes
 abbrev Sound : ℕ → Result Insn BadWord → Type 0
 Sound w r = IfOk r (Encodes w)
 
@@ -134,7 +134,7 @@ reading_sound w =
     (pick P o 48 _ _ (λ e. pick P (reg_at w 21) 31 _ _ (br_sound w e) tt)
     (branch_sound w))))))
 
--- what spells, reads
+-- what encodes, reads
 unkept : (r : ℕ) → not (is_kept r) ≡ true → is_kept r ≡ false
 unkept r e = not-true (is_kept r) e
 
@@ -266,7 +266,7 @@ reading_fields w Ret h =
 kept_fault-none : (r : ℕ) → not (is_kept r) ≡ true → kept_fault r ≡ None
 kept_fault-none r h = rw (unkept r h) refl
 
--- what a word spells, the profile has
+-- what a word encodes, the profile has
 pub Lawful-Encodes : (w : ℕ) (i : Insn) → Encodes w i → (fault_of i ≡ None) × HasFormat i
 Lawful-Encodes w (Lda ra rb disp) h = (kept_fault-none ra h.0.1, tt)
 Lawful-Encodes w (Ldq ra rb disp) h = (rw (ne_eqb ra 31 (omega (arith, h.1))) (kept_fault-none ra h.0.1), tt)
@@ -276,7 +276,7 @@ Lawful-Encodes w (Branch cond ra disp) h = (refl, h.1)
 Lawful-Encodes w (Br disp) h = (refl, h.0)
 Lawful-Encodes w Ret h = (refl, tt)
 
--- what a word spells has its fields
+-- what a word encodes has its fields
 HasFields-Encodes : (w : ℕ) (i : Insn) → Encodes w i → HasFields w i
 HasFields-Encodes w (Lda ra rb disp) h = (h.0.0, h.1, h.2, h.3)
 HasFields-Encodes w (Ldq ra rb disp) h = (h.0.0, h.2, h.3, h.4)
@@ -302,6 +302,6 @@ Lawful-decoded w (Err bad) e = tt
 pub decoded-refused : (w : ℕ) (i : Insn) (bad : BadWord) → HasFields w i → fault_of i ≡ Some bad → decoded w ≡ Err bad
 decoded-refused w i bad h refused = reading_fields w i h ∙ rw refused refl
 
--- a word spells the instruction whose fields it has, where the profile has that
+-- a word encodes the instruction whose fields it has, where the profile has that
 pub Encodes-exactly : (w : ℕ) (i : Insn) → Encodes w i ↔ (HasFields w i × (fault_of i ≡ None))
 Encodes-exactly w i = (λ h. (HasFields-Encodes w i h, (Lawful-Encodes w i h).0), λ p. (decoded-Encodes w i).0 (reading_fields w i p.0 ∙ rw p.1 refl))

@@ -3,8 +3,8 @@
 ghost use Rattle.std.specs.Prelude.{◌≡◌, ◌+◌, ◌/◌, ◌%◌, ◌^◌, ◌≤◌, ◌<◌, ◌↔◌, IfOk, None};
 ghost use Rattle.alpha_words.specs.Lawful.{fault_of, HasFormat};
 ghost use Rattle.alpha_words.specs.declared.insn.Insn.{Insn};
-ghost use Rattle.alpha_words.specs.Decoding as reading;
-ghost use Rattle.alpha_words.specs.Encoding as spelling;
+ghost use Rattle.alpha_words.specs.Decoding as decoding;
+ghost use Rattle.alpha_words.specs.Encoding as encoding;
 
 use crate::fault::BadWord;
 use crate::insn::{Cond, Insn, Rhs};
@@ -14,21 +14,21 @@ use word_ops::Op;
 /// The register whose number stands in the five bits from `low` on.
 fn reg_at(word: u32, low: u32) -> Reg
     requires { low ≤ 27 }
-    ensures { result ≡ reading.reg_at word low }
+    ensures { result ≡ decoding.reg_at word low }
 {
     Reg::new((word >> low) & 0x1f)
 }
 
 /// The displacement of the memory format.
 fn short_displacement(word: u32) -> i16
-    ensures { result ≡ reading.signed_of 15 (word % 2 ^ 16) }
+    ensures { result ≡ decoding.signed_of 15 (word % 2 ^ 16) }
 {
     ((word & 0xffff) as u16).cast_signed()
 }
 
 /// The displacement of the branch format.
 fn long_displacement(word: u32) -> i32
-    ensures { result ≡ reading.signed_of 20 (word % 2 ^ 21) }
+    ensures { result ≡ decoding.signed_of 20 (word % 2 ^ 21) }
 {
     let field = word & 0x1f_ffff;
     if field < 0x10_0000 {
@@ -40,7 +40,7 @@ fn long_displacement(word: u32) -> i32
 
 /// The operator of an opcode and a function.
 fn operator_at(opcode: u32, function: u32) -> Option<Op>
-    ensures { result ≡ reading.operator_at opcode function }
+    ensures { result ≡ decoding.operator_at opcode function }
 {
     match opcode {
         0x10 => match function {
@@ -69,7 +69,7 @@ fn operator_at(opcode: u32, function: u32) -> Option<Op>
 
 /// The condition of a branch's opcode.
 fn cond_at(opcode: u32) -> Option<Cond>
-    ensures { result ≡ reading.cond_at opcode }
+    ensures { result ≡ decoding.cond_at opcode }
 {
     match opcode {
         0x38 => Some(Cond::LowClear),
@@ -86,7 +86,7 @@ fn cond_at(opcode: u32) -> Option<Cond>
 
 /// The instruction, unless the register that it writes is kept.
 fn writing(written: Reg, insn: Insn) -> Result<Insn, BadWord>
-    ensures { result ≡ reading.unless_kept written insn }
+    ensures { result ≡ decoding.unless_kept written insn }
 {
     if written.is_kept() {
         Err(BadWord::KeptRegister)
@@ -97,7 +97,7 @@ fn writing(written: Reg, insn: Insn) -> Result<Insn, BadWord>
 
 /// The second operand of the operate format.
 fn rhs_at(word: u32) -> Rhs
-    ensures { result ≡ reading.rhs_at word }
+    ensures { result ≡ decoding.rhs_at word }
 {
     if (word >> 12) & 1 == 1 {
         Rhs::Lit(((word >> 13) & 0xff) as u8)
@@ -108,15 +108,15 @@ fn rhs_at(word: u32) -> Rhs
 
 /// Whether a bit is set that has to be zero beside a register.
 fn has_reserved(word: u32) -> bool
-    ensures { result ≡ reading.has_reserved word }
+    ensures { result ≡ decoding.has_reserved word }
 {
     (word >> 12) & 1 == 0 && (word >> 13) & 7 != 0
 }
 
 /// A word of the operate format.
 fn operate(word: u32) -> Result<Insn, BadWord>
-    ensures { result ≡ reading.decoded_operate word
-        (reading.operator_at (word / 2 ^ 26) (word / 2 ^ 5 % 128)) }
+    ensures { result ≡ decoding.decoded_operate word
+        (decoding.operator_at (word / 2 ^ 26) (word / 2 ^ 5 % 128)) }
 {
     let Some(op) = operator_at(word >> 26, (word >> 5) & 0x7f) else {
         return Err(BadWord::Function);
@@ -138,14 +138,14 @@ fn operate(word: u32) -> Result<Insn, BadWord>
 
 /// Whether the registers and the kind of jump are those of a return.
 fn is_return(word: u32) -> bool
-    ensures { result ≡ reading.is_return word }
+    ensures { result ≡ decoding.is_return word }
 {
     reg_at(word, 21).number() == 31 && reg_at(word, 16).number() == 26 && (word >> 14) & 3 == 2
 }
 
 /// What the word reads as, or the first test that it fails.
 fn read(word: u32) -> Result<Insn, BadWord>
-    ensures { result ≡ reading.decoded word }
+    ensures { result ≡ decoding.decoded word }
 {
     let ra = reg_at(word, 21);
     let rb = reg_at(word, 16);
@@ -188,14 +188,14 @@ fn read(word: u32) -> Result<Insn, BadWord>
     }
 }
 
-/// The instruction that a word spells, or the first test that the word fails.
+/// The instruction that a word encodes, or the first test that the word fails.
 ///
 /// The tests come in this order: an opcode that isn't listed; for operate words the function, the
 /// reserved bits, a kept register; for `lda` a kept register; for `ldq` a load into register 31,
 /// then a kept register; for the jump opcode a form other than the return's; for `br` a register.
 pub fn decode(word: u32) -> Result<Insn, BadWord>
-    ensures spelled { (i : Insn) → (result ≡ Ok i) ↔ spelling.Encodes word i }
-    ensures tested { result ≡ reading.decoded word }
+    ensures decodes { (i : Insn) → (result ≡ Ok i) ↔ encoding.Encodes word i }
+    ensures exact { result ≡ decoding.decoded word }
     ensures lawful { IfOk result (λ i. (fault_of i ≡ None) × HasFormat i) }
 {
     read(word)

@@ -1,7 +1,7 @@
 //! Instructions put into words.
 
 ghost use Rattle.std.specs.Prelude.{◌≡◌, ◌+◌, ◌*◌, ◌^◌, ◌≤◌, ◌<◌, MatchResult, Some, None, Ok};
-ghost use Rattle.alpha_words.specs.Encoding as spelling;
+ghost use Rattle.alpha_words.specs.Encoding as encoding;
 ghost use Rattle.alpha_words.specs.Decoding.{decoded};
 ghost use Rattle.alpha_words.specs.Lawful.{fault_of, kept_fault, HasFormat, target_of};
 
@@ -52,7 +52,7 @@ pub fn target(index: u32, insn: Insn) -> Option<i64>
 }
 
 fn opcode_of(op: Op) -> u32
-    ensures value { result ≡ spelling.opcode_of op }
+    ensures value { result ≡ encoding.opcode_of op }
     ensures below { result < 64 }
 {
     match op {
@@ -63,7 +63,7 @@ fn opcode_of(op: Op) -> u32
 }
 
 fn function_of(op: Op) -> u32
-    ensures value { result ≡ spelling.function_of op }
+    ensures value { result ≡ encoding.function_of op }
     ensures below { result < 128 }
 {
     match op {
@@ -82,7 +82,7 @@ fn function_of(op: Op) -> u32
 }
 
 fn cond_opcode_of(cond: Cond) -> u32
-    ensures value { result ≡ spelling.cond_opcode_of cond }
+    ensures value { result ≡ encoding.cond_opcode_of cond }
     ensures below { result < 64 }
 {
     match cond {
@@ -99,7 +99,7 @@ fn cond_opcode_of(cond: Cond) -> u32
 
 fn memory(opcode: u32, ra: Reg, rb: Reg, disp: i16) -> u32
     requires { opcode < 64 }
-    ensures { result ≡ spelling.memory_word opcode ra rb disp }
+    ensures { result ≡ encoding.memory_word opcode ra rb disp }
 {
     (opcode << 26) + (ra.number() << 21) + (rb.number() << 16) + u32::from(disp.cast_unsigned())
 }
@@ -107,15 +107,15 @@ fn memory(opcode: u32, ra: Reg, rb: Reg, disp: i16) -> u32
 fn branch(opcode: u32, ra: u32, disp: i32) -> u32
     requires opcode { opcode < 64 }
     requires ra { ra < 32 }
-    requires disp { spelling.HasBits 20 disp }
-    ensures { result ≡ spelling.branch_word opcode ra disp }
+    requires disp { encoding.HasBits 20 disp }
+    ensures { result ≡ encoding.branch_word opcode ra disp }
 {
     (opcode << 26) + (ra << 21) + (disp.cast_unsigned() & 0x1f_ffff)
 }
 
 fn rhs_bits(rhs: Rhs) -> u32
-    ensures value { result ≡ spelling.rhs_bits rhs }
-    ensures fits { spelling.IsRhs rhs }
+    ensures value { result ≡ encoding.rhs_bits rhs }
+    ensures fits { encoding.IsRhs rhs }
     ensures below { result < 2 ^ 21 }
 {
     match rhs {
@@ -125,7 +125,7 @@ fn rhs_bits(rhs: Rhs) -> u32
 }
 
 fn operate(op: Op, ra: Reg, rhs: Rhs, rc: Reg) -> u32
-    ensures { result ≡ spelling.operate_word op ra rhs rc }
+    ensures { result ≡ encoding.operate_word op ra rhs rc }
 {
     (opcode_of(op) << 26)
         + (ra.number() << 21)
@@ -138,7 +138,7 @@ fn operate(op: Op, ra: Reg, rhs: Rhs, rc: Reg) -> u32
 fn write(insn: Insn) -> u32
     requires lawful { fault_of insn ≡ None }
     requires reaches { HasFormat insn }
-    ensures spelled { spelling.Encodes result insn }
+    ensures encodes { encoding.Encodes result insn }
     ensures hint { insn ≡ Insn.Ret → result ≡ 0x6BFA8001 }
 {
     match insn {
@@ -157,8 +157,8 @@ fn write(insn: Insn) -> u32
 pub fn encode(insn: Insn) -> u32
     requires lawful { fault_of insn ≡ None }
     requires reaches { HasFormat insn }
-    ensures spelled { spelling.Encodes result insn }
-    ensures read_back { decoded result ≡ Ok insn }
+    ensures encodes { encoding.Encodes result insn }
+    ensures round_trip { decoded result ≡ Ok insn }
     ensures hint { insn ≡ Insn.Ret → result ≡ 0x6BFA8001 }
 {
     write(insn)

@@ -7,11 +7,11 @@ ghost use Rattle.alpha_words.specs.Encoding.{HasFields, Encodes};
 ghost use Rattle.alpha_words.specs.Decoding.{decoded};
 ghost use Rattle.alpha_words.specs.Lawful.{fault_of};
 
-/// What the profile refuses stands twice, in the spelling of words and as the fault of an
-/// instruction: a word spells exactly the instruction of its fields that the profile has, and
+/// What the profile refuses stands twice, in the encoding of words and as the fault of an
+/// instruction: a word encodes exactly the instruction of its fields that the profile has, and
 /// where the profile refuses that, the fault of the word is the fault of the instruction.
 pub fn laws()
-    ensures spelled { (w : ℕ) (i : Insn) → Encodes w i ↔ (HasFields w i × (fault_of i ≡ None)) }
+    ensures encodes { (w : ℕ) (i : Insn) → Encodes w i ↔ (HasFields w i × (fault_of i ≡ None)) }
     ensures refused { (w : ℕ) (i : Insn) (bad : BadWord) → HasFields w i → fault_of i ≡ Some bad
         → decoded w ≡ Err bad }
 {}

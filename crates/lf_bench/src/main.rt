@@ -57,7 +57,7 @@ fn run(alloc: Global, family: &str, task: &Task) -> Made<(u64, u64, bool)> {
     Ok((entries, table.count(), verdict))
 }
 
-/// The number that a word spells; 0 where it spells none.
+/// The number that a word encodes; 0 where it encodes none.
 fn number(words: &[String], place: usize) -> u64 {
     match words.get(place) {
         None => 0,

@@ -1,4 +1,4 @@
--- What packet files read as is what they spell.
+-- What packet files read as is what they encode.
 use Rattle.std.proofs.Common.{◌≡◌, ℕ, zero, suc, ◌+◌, ◌<◌, ◌≤◌, nat_lt, ◌==◌, false, true, List, [], ◌∷◌, ◌++◌, length, Result, Ok, Err, arith, refl, sym, ◌∙◌, ap, append_assoc, length-append, inl, inr, subst}
 use Rattle.std.proofs.Math.Seq.{take-append_seam, drop-append_seam}
 use Rattle.std.proofs.lemmas.Bool.{cases_lt, lt-ltb, le-ltb, eqb-true}
@@ -91,7 +91,7 @@ whole_packets-whole bytes ps short e = ap or_none (decoded_packets-whole bytes p
 -- what a file without a fault has
 pub record HasPackets (bytes : List ℕ) : Type 0 where
   pub short : AreShort (whole_packets bytes)
-  pub spelled : bytes ≡ packets_encoding (whole_packets bytes)
+  pub encoded : bytes ≡ packets_encoding (whole_packets bytes)
   pub read : Ok (whole_packets bytes) ≡ decoded_packets bytes
 
 pub HasPackets-whole : (bytes : List ℕ) → IsWhole bytes → HasPackets bytes
@@ -99,7 +99,7 @@ HasPackets-whole bytes whole =
     let is : whole_packets bytes ≡ whole.0 = whole_packets-whole bytes whole.0 whole.1 whole.2 in
     record {
       short = subst (λ ps. AreShort ps) (sym is) whole.1;
-      spelled = whole.2 ∙ ap packets_encoding (sym is);
+      encoded = whole.2 ∙ ap packets_encoding (sym is);
       read = rw is (sym (decoded_packets-whole bytes whole.0 whole.1 whole.2));
     }
 
@@ -155,5 +155,5 @@ pub length-whole_packets : (bytes : List ℕ) → IsWhole bytes → length (whol
 length-whole_packets bytes whole =
     let h = HasPackets-whole bytes whole in
     let l : length (whole_packets bytes) ≤ length (packets_encoding (whole_packets bytes)) = length-encoding_of (whole_packets bytes) in
-    let e : length bytes ≡ length (packets_encoding (whole_packets bytes)) = ap length h.spelled in
+    let e : length bytes ≡ length (packets_encoding (whole_packets bytes)) = ap length h.encoded in
     omega (arith, l, e)

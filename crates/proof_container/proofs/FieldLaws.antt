@@ -70,7 +70,7 @@ from_le_bytes-small bytes fits = omega (arith, fits 0, fits 1, fits 2, fits 3)
 -- the bytes hold this number as their field i
 pub record IsField (bytes : List ℕ) (i f : ℕ) : Type 0 where
   pub within : 4 * i + 4 ≤ length bytes
-  pub spelled : take 4 (drop (4 * i) bytes) ≡ to_le_bytes w32 f
+  pub encoded : take 4 (drop (4 * i) bytes) ≡ to_le_bytes w32 f
   pub small : f < 2 ^ 32
 
 pub field_takes : (bytes : List ℕ) (i f : ℕ) → IsBytes bytes → field_at bytes i ≡ Ok f → IsField bytes i f
@@ -83,7 +83,7 @@ field_takes bytes i f fits e =
     let is : f ≡ from_le_bytes w32 front = sym (from_le_bytes-take (drop (4 * i) bytes) ∙ ok_is (from_le_bytes w32 (drop (4 * i) bytes)) f g.1) in
     record {
       within = within;
-      spelled = sym (le_bytes_4 front f long front_fits is);
+      encoded = sym (le_bytes_4 front f long front_fits is);
       small = rw is (from_le_bytes-small front front_fits);
     }
 
@@ -158,26 +158,26 @@ length-field_bytes (f ∷ fs) =
     let first : length (to_le_bytes w32 f ++ field_bytes fs) ≡ length (to_le_bytes w32 f) + length (field_bytes fs) = length-append (to_le_bytes w32 f) (field_bytes fs) in
     omega (arith, first, length-field_bytes fs)
 
--- fields that stand there are fields, and are spelled there
+-- fields that stand there are fields, and are encoded there
 pub record AreSpelled (bytes : List ℕ) (i : ℕ) (fs : List ℕ) : Type 0 where
   pub small : AreFields fs
-  pub spelled : take (4 * length fs) (drop (4 * i) bytes) ≡ field_bytes fs
+  pub encoded : take (4 * length fs) (drop (4 * i) bytes) ≡ field_bytes fs
 
 pub Stands-takes : (bytes : List ℕ) (i : ℕ) (fs : List ℕ) → IsBytes bytes → Stands bytes i fs → AreSpelled bytes i fs
-Stands-takes bytes i [] fits p = record { small = tt; spelled = refl }
+Stands-takes bytes i [] fits p = record { small = tt; encoded = refl }
 Stands-takes bytes i (f ∷ fs) fits p =
     let first : IsField bytes i f = field_takes bytes i f fits p.0 in
     let others : AreSpelled bytes (suc i) fs = Stands-takes bytes (suc i) fs fits p.1 in
     let count : 4 * length (f ∷ fs) ≡ 4 + 4 * length fs = omega arith in
     let next : drop 4 (drop (4 * i) bytes) ≡ drop (4 * suc i) bytes = drop-drop 4 (4 * i) bytes ∙ ap (λ (k : ℕ). drop k bytes) (omega arith) in
-    let rest : take (4 * length fs) (drop 4 (drop (4 * i) bytes)) ≡ field_bytes fs = ap (take (4 * length fs)) next ∙ others.spelled in
+    let rest : take (4 * length fs) (drop 4 (drop (4 * i) bytes)) ≡ field_bytes fs = ap (take (4 * length fs)) next ∙ others.encoded in
     let apart : take (4 + 4 * length fs) (drop (4 * i) bytes) ≡ take 4 (drop (4 * i) bytes) ++ take (4 * length fs) (drop 4 (drop (4 * i) bytes)) = take-add 4 (4 * length fs) (drop (4 * i) bytes) in
     record {
       small = (first.small, others.small);
-      spelled = ap (λ (k : ℕ). take k (drop (4 * i) bytes)) count ∙ apart ∙ ap (λ (x : List ℕ). x ++ take (4 * length fs) (drop 4 (drop (4 * i) bytes))) first.spelled ∙ ap (λ (x : List ℕ). to_le_bytes w32 f ++ x) rest;
+      encoded = ap (λ (k : ℕ). take k (drop (4 * i) bytes)) count ∙ apart ∙ ap (λ (x : List ℕ). x ++ take (4 * length fs) (drop 4 (drop (4 * i) bytes))) first.encoded ∙ ap (λ (x : List ℕ). to_le_bytes w32 f ++ x) rest;
     }
 
--- fields that are spelled there stand there
+-- fields that are encoded there stand there
 pub Stands-again : (bytes : List ℕ) (i : ℕ) (fs rest : List ℕ) → drop (4 * i) bytes ≡ field_bytes fs ++ rest → AreFields fs → Stands bytes i fs
 Stands-again bytes i [] rest e small = tt
 Stands-again bytes i (f ∷ fs) rest e small =

@@ -1,4 +1,4 @@
--- Worked rows: containers that a reader can spell by hand, and their faults.
+-- Worked rows: containers that a reader can encode by hand, and their faults.
 use Rattle.std.proofs.Common.{◌≡◌, ℕ, List, [], ◌∷◌, ◌++◌, None, Ok, Err, refl, take}
 use Rattle.term_table.specs.Tree.{Con, Num, Var, App, Lam}
 use Rattle.proof_container.specs.declared.fault.Flaw.TheVariants.{Cut, DoubleEntry, Order, LambdaHead, Trailing}

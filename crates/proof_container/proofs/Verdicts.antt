@@ -1,4 +1,4 @@
--- What an answer that agrees with reading says of the spelling.
+-- What an answer that agrees with reading says of the encoding.
 use Rattle.std.proofs.Common.{ℕ, List, Result, Ok, Err, IfOk, IfErr}
 use Rattle.proof_container.specs.declared.container.Container.{Container}
 use Rattle.proof_container.specs.declared.fault.Malformed.{Malformed}

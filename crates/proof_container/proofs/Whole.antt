@@ -1,4 +1,4 @@
--- The two laws: what is read as a container is spelled so, and what is spelled so is read.
+-- The two laws: what is read as a container is encoded so, and what is encoded so is read.
 use Rattle.std.proofs.Common.{◌≡◌, ℕ, ◌+◌, ◌*◌, ◌-◌, ◌/◌, ◌<◌, ◌≤◌, List, [], ◌∷◌, ◌++◌, length, take, drop, Option, None, Ok, Err, refl, sym, ap, subst, ◌∙◌, append-nil, length-append, length-take, length-drop, take_all, take_at, drop_at, drop-drop, take-append-drop, arith}
 use Rattle.std.specs.List.{flat_map, slice_range}
 use Rattle.std.proofs.lemmas.List.Folds.{drop_split}
@@ -14,7 +14,7 @@ use Rattle.proof_container.proofs.Sections.{inv_trees_of, length-invs, proof_tak
 use Rattle.proof_container.proofs.Counted.{IsStart, start_takes, start_again, AreEntries, entries_read_takes, entries_read_again, invs_read_takes, invs_read_again, end_takes, end_again}
 use Rattle.proof_container.proofs.Small.{AreEmitted-split, AreEmitted-append, words_short, head_small, tail_small}
 
--- ---- what is read is spelled so
+-- ---- what is read is encoded so
 
 -- the parts of a container as they are read: so many words of code, and the entries es
 pub record IsParsed (bytes : List ℕ) (words : ℕ) (es : List Tree) (c : Contents) : Type 0 where
@@ -63,12 +63,12 @@ unfolding encoding_of
 parsed_spelling bytes words es c fits p same =
     let long : length c.code ≡ 4 * words = ap length p.code ∙ length-code bytes words p.start.within in
     let count : words ≡ length c.code / 4 = omega arith in
-    let first : take 16 bytes ≡ field_bytes (magic ∷ 1 ∷ c.policy ∷ words ∷ []) = (Stands-takes bytes 0 (magic ∷ 1 ∷ c.policy ∷ words ∷ []) fits p.start.stands).spelled in
+    let first : take 16 bytes ≡ field_bytes (magic ∷ 1 ∷ c.policy ∷ words ∷ []) = (Stands-takes bytes 0 (magic ∷ 1 ∷ c.policy ∷ words ∷ []) fits p.start.stands).encoded in
     let counted : field_bytes (magic ∷ 1 ∷ c.policy ∷ words ∷ []) ≡ field_bytes (head_fields c) = ap (λ (k : ℕ). field_bytes (magic ∷ 1 ∷ c.policy ∷ k ∷ [])) count in
     let at : 16 + 4 * words ≡ 4 * (4 + words) = omega arith in
     let left : length (drop (4 * (4 + words)) bytes) ≤ 4 * length (tail_fields es c) = omega (arith, p.ended, length-drop (4 * (4 + words)) bytes) in
     let all : take (4 * length (tail_fields es c)) (drop (4 * (4 + words)) bytes) ≡ drop (4 * (4 + words)) bytes = take_all (4 * length (tail_fields es c)) (drop (4 * (4 + words)) bytes) left in
-    let last : drop (4 * (4 + words)) bytes ≡ field_bytes (tail_fields es c) = sym all ∙ (Stands-takes bytes (4 + words) (tail_fields es c) fits p.tail).spelled in
+    let last : drop (4 * (4 + words)) bytes ≡ field_bytes (tail_fields es c) = sym all ∙ (Stands-takes bytes (4 + words) (tail_fields es c) fits p.tail).encoded in
     let behind : drop (16 + 4 * words) bytes ≡ field_bytes (tail_fields (entries (roots c)) c) = ap (λ (k : ℕ). drop k bytes) at ∙ last ∙ ap (λ (ts : List Tree). field_bytes (tail_fields ts c)) same in
     let apart : drop 16 bytes ≡ slice_range bytes 16 (16 + 4 * words) ++ drop (16 + 4 * words) bytes = drop_split bytes 16 (16 + 4 * words) (omega arith) in
     let rest : drop 16 bytes ≡ c.code ++ field_bytes (tail_fields (entries (roots c)) c) = rw (apart, p.code, behind) refl in
@@ -81,7 +81,7 @@ parsed_order bytes words es c p = ordered_is es (roots c) p.extends p.listed p.o
 pub parsed_spells : (bytes : List ℕ) (words : ℕ) (es : List Tree) (c : Contents) → IsBytes bytes → IsParsed bytes words es c → EncodesContents bytes c
 parsed_spells bytes words es c fits p =
     let same : es ≡ entries (roots c) = parsed_order bytes words es c p in
-    record { contents = parsed_contents bytes words es c fits p same; spelled = parsed_spelling bytes words es c fits p same }
+    record { contents = parsed_contents bytes words es c fits p same; encoded = parsed_spelling bytes words es c fits p same }
 
 -- the parts that were read, one after the other
 pub parts_parsed : (bytes : List ℕ) (policy words : ℕ) (es : List Tree) (next : ℕ) (invs : List (ℕ × Tree)) (proof : Option Tree) (c : Contents) → IsBytes bytes
@@ -126,23 +126,23 @@ container_takes bytes c fits e =
     let proof = bind_ok (decoded_proof bytes (es.0.1 + 1 + 2 * length invs.0) es.0.0) _ c invs.2 in
     parsed_spells bytes head.0.1 es.0.0 c fits (parts_parsed bytes head.0.0 head.0.1 es.0.0 es.0.1 invs.0 proof.0 c fits head.1 es.1 invs.1 proof.1 proof.2)
 
--- ---- what is spelled is read
+-- ---- what is encoded is read
 
--- where the parts of spelled contents stand
+-- where the parts of encoded contents stand
 record PartsStand (bytes : List ℕ) (c : Contents) (words : ℕ) (es : List Tree) : Type 0 where
   start : IsStart bytes c.policy words
   code : slice_range bytes 16 (16 + 4 * words) ≡ c.code
   tail : Stands bytes (4 + words) (tail_fields es c)
   ended : length bytes ≡ 4 * (4 + words + length (tail_fields es c))
 
-spelled_parts : (bytes : List ℕ) (c : Contents) → EncodesContents bytes c → PartsStand bytes c (length c.code / 4) (entries (roots c))
+encoded_parts : (bytes : List ℕ) (c : Contents) → EncodesContents bytes c → PartsStand bytes c (length c.code / 4) (entries (roots c))
 unfolding encoding_of
-spelled_parts bytes c s =
+encoded_parts bytes c s =
     let p : IsContents c = s.contents in
     let es : List Tree = entries (roots c) in
     let words : ℕ = length c.code / 4 in
     let tail : List ℕ = tail_fields es c in
-    let e : bytes ≡ field_bytes (head_fields c) ++ (c.code ++ field_bytes tail) = s.spelled in
+    let e : bytes ≡ field_bytes (head_fields c) ++ (c.code ++ field_bytes tail) = s.encoded in
     let long : length c.code ≡ 4 * words = sym p.whole in
     let some : 0 < length c.code = p.some in
     let code_and_tail : drop 16 bytes ≡ c.code ++ field_bytes tail = ap (drop 16) e ∙ drop_at (field_bytes (head_fields c)) (c.code ++ field_bytes tail) 16 refl in
@@ -190,9 +190,9 @@ parts_again bytes c words es p count same extends terms listed has =
 pub container_again : (bytes : List ℕ) (c : Contents) → EncodesContents bytes c → decoded_container bytes ≡ Ok c
 container_again bytes c s =
     let rs : List Tree = roots c in
-    parts_again bytes c (length c.code / 4) (entries rs) s.contents refl refl (entries_grow rs) (entries_terms rs s.contents.terms) (entries_listed rs) (spelled_parts bytes c s)
+    parts_again bytes c (length c.code / 4) (entries rs) s.contents refl refl (entries_grow rs) (entries_terms rs s.contents.terms) (entries_listed rs) (encoded_parts bytes c s)
 
--- bytes spell no more than one container
+-- bytes encode no more than one container
 pub one_content : (bytes : List ℕ) (c d : Contents) → EncodesContents bytes c → EncodesContents bytes d → c ≡ d
 one_content bytes c d p q = ok_is c d (sym (container_again bytes c p) ∙ container_again bytes d q)
 

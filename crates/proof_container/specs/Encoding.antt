@@ -62,7 +62,7 @@ head_fields c = magic ∷ 1 ∷ c.policy ∷ length c.code / 4 ∷ []
 abbrev pub tail_fields : List Tree → Contents → List ℕ
 tail_fields es c = (length es ∷ flat_map (entry_fields es) es) ++ ((length c.invs ∷ flat_map (inv_fields es) c.invs) ++ (proof_field es c.proof ∷ []))
 
--- the one spelling of the contents
+-- the one encoding of the contents
 unfoldable pub encoding_of : Contents → List ℕ
 encoding_of c = field_bytes (head_fields c) ++ (c.code ++ field_bytes (tail_fields (entries (roots c)) c))
 
@@ -95,4 +95,4 @@ pub record IsContents (c : Contents) : Type 0 where
 -- the bytes are a container with these contents
 pub record EncodesContents (bytes : List ℕ) (c : Contents) : Type 0 where
   pub contents : IsContents c
-  pub spelled : bytes ≡ encoding_of c
+  pub encoded : bytes ≡ encoding_of c

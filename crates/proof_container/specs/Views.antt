@@ -49,7 +49,7 @@ pub record Shows (c : Container) (v : View) : Type 0 where
   pub invs : v.invs.now ≡ c.invs.items
   pub proof : v.proof ≡ c.proof
 
--- no contents have these bytes as their spelling
+-- no contents have these bytes as their encoding
 abbrev pub IsNone : List ℕ → Malformed → Type 0
 IsNone bytes (malformed.At offset flaw) = (c : Contents) → EncodesContents bytes c → ⊥
 IsNone bytes malformed.Memory = Unit {0}

@@ -1,7 +1,7 @@
 //! Containers: code with its invariants and its proof, as bytes.
 //!
-//! The layers above use that `read` gives the contents that the bytes spell, or else the first
-//! fault with its offset; that `write` gives the one spelling of its view's contents; and how long
+//! The layers above use that `read` gives the contents that the bytes encode, or else the first
+//! fault with its offset; that `write` gives the one encoding of its view's contents; and how long
 //! that is. The contents stand in `specs/Contents`, the order of the entries in `specs/Postorder`, the
 //! grammar (as a relation between bytes and contents) in `specs/Encoding`, and the tests in their
 //! order in `specs/Decoding`. The format is this project's own.

@@ -205,7 +205,7 @@ fn end(
 /// The container that the bytes read as; its terms are the entries.
 #[tactic(auto, unfolding(crate::specs::Decoding::decoded_container))]
 fn parse(alloc: Global, bytes: &[u8]) -> Result<Container<'_>, Malformed>
-    ensures tested { Decodes contents_of (decoded_container bytes.now) result }
+    ensures exact { Decodes contents_of (decoded_container bytes.now) result }
     ensures canonical { IfOk result (λ c. IsCanonical c) }
 {
     let mut fields = Fields::new(bytes);
@@ -232,9 +232,9 @@ fn parse(alloc: Global, bytes: &[u8]) -> Result<Container<'_>, Malformed>
 /// as soon as it is read; `Memory` says nothing of `bytes`. The format is this project's own
 /// (`specs/Encoding`).
 pub fn read(alloc: Global, bytes: &[u8]) -> Result<Container<'_>, Malformed>
-    ensures spelled { IfOk result (λ c. EncodesContents bytes.now (contents_of c)) }
+    ensures decodes { IfOk result (λ c. EncodesContents bytes.now (contents_of c)) }
     ensures none { IfErr result (λ e. IsNone bytes.now e) }
-    ensures tested { Decodes contents_of (decoded_container bytes.now) result }
+    ensures exact { Decodes contents_of (decoded_container bytes.now) result }
     ensures canonical { IfOk result (λ c. IsCanonical c) }
 {
     parse(alloc, bytes)

@@ -10,7 +10,7 @@ ghost use Rattle.proof_container.specs.Decoding.{decoded_container};
 ghost use Rattle.proof_container.specs.Views.{IsCanonical, AreSame, contents_of};
 ghost use Rattle.proof_container.specs.declared.container.Container.{Container};
 
-/// Contents have one spelling and bytes one content, which is what the bytes read as. A walk lists
+/// Contents have one encoding and bytes one content, which is what the bytes read as. A walk lists
 /// each root, no tree twice, and each tree behind its parts. Containers whose terms are their
 /// entries are the same where their contents are.
 pub fn laws()
@@ -18,7 +18,9 @@ pub fn laws()
         IsBytes bytes → (EncodesContents bytes c ↔ (decoded_container bytes ≡ Ok c)) }
     ensures one_content { (bytes : List ℕ) (c d : Contents) →
         EncodesContents bytes c → EncodesContents bytes d → c ≡ d }
-    ensures one_spelling { (a b : List ℕ) (c : Contents) → EncodesContents a c → EncodesContents b c → a ≡ b }
+    ensures one_encoding {
+        (a b : List ℕ) (c : Contents) → EncodesContents a c → EncodesContents b c → a ≡ b
+    }
     ensures rooted { (rs : List Tree) → AreEmitted (entries rs) rs }
     ensures different { (rs : List Tree) → AreDifferent (entries rs) }
     ensures earlier { (rs : List Tree) (i : ℕ) → i < length (entries rs) →

@@ -1,8 +1,8 @@
 use Rattle.alpha_words.proofs.Words.{decoded-Encodes, Lawful-decoded}
 use Rattle.alpha_words.proofs.decoding.decode.Goals as goal
 
-pub returns-clause-spelled : goal.returns-clause-spelled
-returns-clause-spelled c i = rw c.read.ensures (decoded-Encodes c.args.word i)
+pub returns-clause-decodes : goal.returns-clause-decodes
+returns-clause-decodes c i = rw c.read.ensures (decoded-Encodes c.args.word i)
 
 pub returns-clause-lawful : goal.returns-clause-lawful
 returns-clause-lawful c = Lawful-decoded c.args.word c.read.result c.read.ensures

@@ -10,8 +10,8 @@ returns-clause-decided c bytes held fits = (container_again bytes held, containe
 pub returns-clause-one_content : goal.returns-clause-one_content
 returns-clause-one_content c = one_content
 
-pub returns-clause-one_spelling : goal.returns-clause-one_spelling
-returns-clause-one_spelling c a b held p q = p.spelled ∙ sym q.spelled
+pub returns-clause-one_encoding : goal.returns-clause-one_encoding
+returns-clause-one_encoding c a b held p q = p.encoded ∙ sym q.encoded
 
 pub returns-clause-rooted : goal.returns-clause-rooted
 returns-clause-rooted c = entries_listed

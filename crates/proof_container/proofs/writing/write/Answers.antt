@@ -10,8 +10,8 @@ use Rattle.proof_container.proofs.writing.write.Goals as goal
 pub put_tail-requires : goal.put_tail-requires
 put_tail-requires c = ready c.args.view.now c.in_ok-walk.walk c.requires c.in_ok-walk.ensures
 
-spelled : (c : goal.After-drop-walk-3) → EncodesContents c.put_tail.new.out.items (view_contents c.args.view.now)
-spelled c =
+encoded : (c : goal.After-drop-walk-3) → EncodesContents c.put_tail.new.out.items (view_contents c.args.view.now)
+encoded c =
     let v = c.args.view.now in
     let held : Contents = view_contents v in
     let es = left_trees v.table.now c.in_ok-walk.walk in
@@ -22,11 +22,11 @@ spelled c =
     c.in_ok-put_tail.ensures ∙ ap (λ (z : List ℕ). z ++ field_bytes (tail_fields es held)) code in
     record {
       contents = view_holds v c.requires c.limits.ensures.policy c.limits.ensures.code c.laws.ensures.small;
-      spelled = is_spelling held es c.put_tail.new.out.items c.in_ok-walk.ensures.left out;
+      encoded = is_spelling held es c.put_tail.new.out.items c.in_ok-walk.ensures.left out;
     }
 
-pub returns-clause-spelled : goal.returns-clause-spelled
-returns-clause-spelled c = spelled c
+pub returns-clause-encodes : goal.returns-clause-encodes
+returns-clause-encodes c = encoded c
 
-pub returns-clause-read_back : goal.returns-clause-read_back
-returns-clause-read_back c = container_again c.put_tail.new.out.items (view_contents c.args.view.now) (spelled c)
+pub returns-clause-round_trip : goal.returns-clause-round_trip
+returns-clause-round_trip c = container_again c.put_tail.new.out.items (view_contents c.args.view.now) (encoded c)
