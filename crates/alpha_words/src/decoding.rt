@@ -3,7 +3,7 @@
 ghost use Rattle.std.specs.Prelude.{◌≡◌, ◌+◌, ◌/◌, ◌%◌, ◌^◌, ◌≤◌, ◌<◌, ◌↔◌, IfOk, None};
 ghost use Rattle.alpha_words.specs.Lawful.{fault_of, Reaches};
 ghost use Rattle.alpha_words.specs.declared.insn.Insn.{Insn};
-ghost use Rattle.alpha_words.specs.Opcodes.{operator_at};
+ghost use Rattle.alpha_words.specs.Opcodes.{operator_at, cond_at};
 ghost use Rattle.alpha_words.specs.Reading as reading;
 ghost use Rattle.alpha_words.specs.Spelling as spelling;
 
@@ -98,6 +98,20 @@ fn is_return(word: u32) -> bool
     reg_at(word, 21).number() == 31 && reg_at(word, 16).number() == 26 && (word >> 14) & 3 == 2
 }
 
+/// A word of the branch format that may be a conditional branch.
+fn branch(word: u32) -> Result<Insn, BadWord>
+    ensures { result ≡ reading.branching word (cond_at (word / 2 ^ 26)) }
+{
+    match cond_at(word >> 26) {
+        Some(cond) => Ok(Insn::Branch {
+            cond,
+            ra: reg_at(word, 21),
+            disp: long_displacement(word),
+        }),
+        None => Err(BadWord::Opcode),
+    }
+}
+
 /// What the word reads as, or the first test that it fails.
 fn read(word: u32) -> Result<Insn, BadWord>
     ensures { result ≡ reading.reading word }
@@ -132,14 +146,7 @@ fn read(word: u32) -> Result<Insn, BadWord>
                 Err(BadWord::BadLink)
             }
         }
-        opcode => match cond_at(opcode) {
-            Some(cond) => Ok(Insn::Branch {
-                cond,
-                ra,
-                disp: long_displacement(word),
-            }),
-            None => Err(BadWord::Opcode),
-        },
+        _ => branch(word),
     }
 }
 
