@@ -6,6 +6,8 @@ pub mod Terms
 pub mod Rules
 pub mod Sigma1
 pub mod Order
+pub mod Near
 pub mod Nodes
 pub mod Schemas
+pub mod Outside
 pub mod Laws

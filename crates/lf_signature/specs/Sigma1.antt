@@ -10,6 +10,7 @@ use Rattle.word_ops.specs.declared.Rel.{Rel}
 use Rattle.word_ops.specs.declared.Rel.TheVariants.{Eq, Ult, Ule, Slt, Sle}
 use Rattle.word_ops.specs.Words.{word_of, test_of}
 use Rattle.lf_signature.specs.Numbers.{op_of, rel_of}
+use Rattle.lf_signature.specs.declared.numbers.TheConstants.{FIRST_RULE}
 use Rattle.lf_signature.specs.Terms.{exp, mem, form, pf, lit, op_term, rel_term, not_term}
 use Rattle.lf_signature.specs.Rules.{Sort, OfExp, OfMem, OfForm, OfExpForm, OfMemForm, SExp, SPar, SOwn, SLit, SOp, SSel, MPar, MOwn, SUpd, SForm, STrue, SFalse, FPar, FOf, FOfMem, SRel, SAnd, SOr, SImp, SAll, SAllm, Premise, Plain, Under, ForExp, ForMem, Rule, rule_type}
 
@@ -252,7 +253,7 @@ the_rules =
 
 -- the rule of a number
 abbrev pub rule_at : ℕ → Option Rule
-rule_at n = if nat_lt n 27 then None else at the_rules (n - 27)
+rule_at n = if nat_lt n FIRST_RULE then None else at the_rules (n - FIRST_RULE)
 
 -- how many parameters a numbered constant has; those that are no rules have none
 abbrev pub parameters_of : ℕ → ℕ

@@ -7,14 +7,15 @@ ghost use Rattle.lf_signature.specs.Terms.{lit, rel_term, form};
 ghost use Rattle.lf_signature.specs.Nodes.{Gives, type_at};
 ghost use Rattle.lf_signature.specs.Sigma1.{declared};
 
-use crate::build::{at_two, constant_id, pf_id, rule_id};
-use crate::numbers::{EXP, FF, IMP, op_number, op_of, rel_number, rel_of};
+use crate::build::{constant_id, rule_id};
+use crate::numbers::{EXP, FF, IMP, op_constant, op_of, rel_constant, rel_of};
 use crate::tables::{constant_at, rule_at};
+use crate::terms::{app2, pf};
 use std::alloc::AllocError;
 use term_table::{Id, Node, Table};
 use word_ops::{Rel, apply, holds};
 
-// The type of a numbered constant.
+/// The type of a numbered constant.
 fn numbered(table: &mut Table, number: u32) -> Result<Option<Id>, AllocError>
     ensures tree { IfOk result (Stands table.new (declared (Num number))) }
     ensures grows { Extends table.old table.new }
@@ -28,17 +29,17 @@ fn numbered(table: &mut Table, number: u32) -> Result<Option<Id>, AllocError>
     }
 }
 
-// A relation of two words.
+/// A relation of two words.
 fn relation(table: &mut Table, rel: Rel, a: u64, b: u64) -> Result<Id, AllocError>
     ensures id { IfOk result (Gives table.new (rel_term rel (lit a) (lit b))) }
     ensures grows { Extends table.old table.new }
 {
     let left = table.intern(Node::Lit(a))?;
     let right = table.intern(Node::Lit(b))?;
-    at_two(table, rel_number(rel), left, right)
+    app2(table, rel_constant(rel), left, right)
 }
 
-// That an operator of two words gives what it gives.
+/// That an operator of two words gives what it gives.
 fn evaluation(table: &mut Table, op: u32, a: u64, b: u64) -> Result<Option<Id>, AllocError>
     ensures tree { IfOk result (Stands table.new (declared (Calc op a b))) }
     ensures grows { Extends table.old table.new }
@@ -48,13 +49,13 @@ fn evaluation(table: &mut Table, op: u32, a: u64, b: u64) -> Result<Option<Id>, 
     };
     let left = table.intern(Node::Lit(a))?;
     let right = table.intern(Node::Lit(b))?;
-    let applied = at_two(table, op_number(op), left, right)?;
+    let applied = app2(table, op_constant(op), left, right)?;
     let value = table.intern(Node::Lit(apply(op, a, b)))?;
-    let equation = at_two(table, rel_number(Rel::Eq), applied, value)?;
-    Ok(Some(pf_id(table, equation)?))
+    let equation = app2(table, rel_constant(Rel::Eq), applied, value)?;
+    Ok(Some(pf(table, equation)?))
 }
 
-// That a relation of two words holds.
+/// That a relation of two words holds.
 fn fact(table: &mut Table, rel: u32, a: u64, b: u64) -> Result<Option<Id>, AllocError>
     ensures tree { IfOk result (Stands table.new (declared (Fact rel a b))) }
     ensures grows { Extends table.old table.new }
@@ -66,10 +67,10 @@ fn fact(table: &mut Table, rel: u32, a: u64, b: u64) -> Result<Option<Id>, Alloc
         return Ok(None);
     }
     let formula = relation(table, rel, a, b)?;
-    Ok(Some(pf_id(table, formula)?))
+    Ok(Some(pf(table, formula)?))
 }
 
-// That a relation of two words doesn't hold.
+/// That a relation of two words doesn't hold.
 fn denial(table: &mut Table, rel: u32, a: u64, b: u64) -> Result<Option<Id>, AllocError>
     ensures tree { IfOk result (Stands table.new (declared (Deny rel a b))) }
     ensures grows { Extends table.old table.new }
@@ -82,8 +83,8 @@ fn denial(table: &mut Table, rel: u32, a: u64, b: u64) -> Result<Option<Id>, All
     }
     let formula = relation(table, rel, a, b)?;
     let falsity = table.intern(Node::Const(FF))?;
-    let denied = at_two(table, IMP, formula, falsity)?;
-    Ok(Some(pf_id(table, denied)?))
+    let denied = app2(table, IMP, formula, falsity)?;
+    Ok(Some(pf(table, denied)?))
 }
 
 /// The type of a constant in the signature of word arithmetic, and None exactly where it has none

@@ -11,12 +11,13 @@
 
 mod build;
 mod declare;
-mod known;
 pub mod numbers;
 mod schema;
 mod tables;
+mod terms;
 #[cfg(test)]
 mod tests;
+mod theorems;
 
 ghost use Rattle.std.specs.Prelude.{◌≡◌, Option, IfOk, refl};
 ghost use Rattle.term_table.specs.Tree.{Tree, Const};
@@ -27,8 +28,10 @@ ghost use Rattle.lf_signature.specs.Sigma1.{declared};
 ghost use Rattle.lf_signature.specs.Laws.WellFormed.{declared_formed};
 
 pub use declare::declared;
-pub use known::{places_laws, signature_laws, simple_laws, typing_laws};
-pub use numbers::{op_number, op_of, rel_number, rel_of};
+pub use numbers::{op_constant, op_number, op_of, op_of_constant};
+pub use numbers::{rel_constant, rel_number, rel_of, rel_of_constant};
+pub use terms::{app1, app2, app3, pf};
+pub use theorems::{declared_rows, near_laws, places_laws, signature_laws, simple_laws, typing_laws};
 use std::alloc::AllocError;
 use term_table::{Id, Node, Table};
 

@@ -1,7 +1,12 @@
 //! The numbers by which terms and types name what they are made of.
+//!
+//! An operator has two: its constant, which stands in terms, and its place in `Op`, by which evaluations
+//! name it. The same goes for relations, facts and denials.
 
 ghost use Rattle.std.specs.Prelude.{◌≡◌};
 ghost use Rattle.lf_signature.specs.Numbers.{op_of, rel_of, op_number, rel_number};
+ghost use Rattle.lf_signature.specs.Numbers.{op_constant, rel_constant};
+ghost use Rattle.lf_signature.specs.Numbers.{op_of_constant, rel_of_constant};
 
 use word_ops::{Op, Rel};
 
@@ -17,6 +22,39 @@ pub const FORM: u32 = 2;
 /// The family of the proofs of a formula.
 pub const PF: u32 = 3;
 
+/// The constant of sums.
+pub const ADD: u32 = 0;
+
+/// The constant of differences.
+pub const SUB: u32 = 1;
+
+/// The constant of bitwise conjunction.
+pub const BAND: u32 = 2;
+
+/// The constant of bitwise disjunction.
+pub const BIS: u32 = 3;
+
+/// The constant of shifts to the left.
+pub const SLL: u32 = 4;
+
+/// The constant of shifts to the right.
+pub const SRL: u32 = 5;
+
+/// The constant of the test for equal words.
+pub const CMPEQ: u32 = 6;
+
+/// The constant of the signed test for less.
+pub const CMPLT: u32 = 7;
+
+/// The constant of the signed test for at most.
+pub const CMPLE: u32 = 8;
+
+/// The constant of the unsigned test for less.
+pub const CMPULT: u32 = 9;
+
+/// The constant of the unsigned test for at most.
+pub const CMPULE: u32 = 10;
+
 /// The constant of a memory's word at an address.
 pub const SEL: u32 = 11;
 
@@ -28,6 +66,21 @@ pub const TT: u32 = 13;
 
 /// The constant of falsity.
 pub const FF: u32 = 14;
+
+/// The constant of equality.
+pub const EQ: u32 = 15;
+
+/// The constant of unsigned less.
+pub const ULT: u32 = 16;
+
+/// The constant of unsigned at most.
+pub const ULE: u32 = 17;
+
+/// The constant of signed less.
+pub const SLT: u32 = 18;
+
+/// The constant of signed at most.
+pub const SLE: u32 = 19;
 
 /// The constant of what may be loaded.
 pub const RD: u32 = 20;
@@ -50,7 +103,10 @@ pub const ALL: u32 = 25;
 /// The constant of a formula for all memories.
 pub const ALLM: u32 = 26;
 
-/// The operator of a number: 0 to 10, in the order of `Op`.
+/// The first constant that is a rule; those below it are what formulas are made of.
+pub const FIRST_RULE: u32 = 27;
+
+/// Answers the operator that evaluations name by `number`: 0 to 10, in the order of `Op`, else None.
 pub fn op_of(number: u32) -> Option<Op>
     ensures { result ≡ op_of number }
 {
@@ -70,7 +126,8 @@ pub fn op_of(number: u32) -> Option<Op>
     }
 }
 
-/// The relation of a number: 0 to 4, in the order of `Rel`.
+/// Answers the relation that facts and denials name by `number`: 0 to 4, in the order of `Rel`, else
+/// None.
 pub fn rel_of(number: u32) -> Option<Rel>
     ensures { result ≡ rel_of number }
 {
@@ -84,7 +141,7 @@ pub fn rel_of(number: u32) -> Option<Rel>
     }
 }
 
-/// The constant of an operator, which is its number.
+/// Answers the number by which evaluations name an operator: its place in `Op`, 0 to 10.
 pub fn op_number(op: Op) -> u32
     ensures { result ≡ op_number op }
 {
@@ -103,15 +160,62 @@ pub fn op_number(op: Op) -> u32
     }
 }
 
-/// The constant of a relation, 15 past its number.
+/// Answers the number by which facts and denials name a relation: its place in `Rel`, 0 to 4.
 pub fn rel_number(rel: Rel) -> u32
     ensures { result ≡ rel_number rel }
 {
     match rel {
-        Rel::Eq => 15,
-        Rel::Ult => 16,
-        Rel::Ule => 17,
-        Rel::Slt => 18,
-        Rel::Sle => 19,
+        Rel::Eq => 0,
+        Rel::Ult => 1,
+        Rel::Ule => 2,
+        Rel::Slt => 3,
+        Rel::Sle => 4,
     }
+}
+
+/// Answers the constant that stands for an operator in terms.
+pub fn op_constant(op: Op) -> u32
+    ensures { result ≡ op_constant op }
+{
+    match op {
+        Op::Add => ADD,
+        Op::Sub => SUB,
+        Op::Band => BAND,
+        Op::Bis => BIS,
+        Op::Sll => SLL,
+        Op::Srl => SRL,
+        Op::Cmpeq => CMPEQ,
+        Op::Cmplt => CMPLT,
+        Op::Cmple => CMPLE,
+        Op::Cmpult => CMPULT,
+        Op::Cmpule => CMPULE,
+    }
+}
+
+/// Answers the constant that stands for a relation in terms.
+pub fn rel_constant(rel: Rel) -> u32
+    ensures { result ≡ rel_constant rel }
+{
+    match rel {
+        Rel::Eq => EQ,
+        Rel::Ult => ULT,
+        Rel::Ule => ULE,
+        Rel::Slt => SLT,
+        Rel::Sle => SLE,
+    }
+}
+
+/// Answers the operator that a constant stands for in terms: None where it is no operator's.
+pub fn op_of_constant(constant: u32) -> Option<Op>
+    ensures { result ≡ op_of_constant constant }
+{
+    // the first constants are the operators, in their order
+    op_of(constant)
+}
+
+/// Answers the relation that a constant stands for in terms: None where it is no relation's.
+pub fn rel_of_constant(constant: u32) -> Option<Rel>
+    ensures { result ≡ rel_of_constant constant }
+{
+    rel_of(constant.checked_sub(EQ)?)
 }

@@ -6,7 +6,7 @@ ghost use Rattle.term_table.specs.Tree.{at};
 ghost use Rattle.lf_signature.specs.Schemas.{constant_type, rule_of};
 ghost use Rattle.lf_signature.specs.Sigma1.{constant_types, the_rules, rule_at};
 
-use crate::numbers::{EXP, FORM, MEM};
+use crate::numbers::{EXP, FIRST_RULE, FORM, MEM};
 use crate::schema::Connective::{And, Imp, Or};
 use crate::schema::Exp::{Apply, Own, Sel, Word};
 use crate::schema::Form::{All, Allm, False, Holds, Join, Of, OfMem, True};
@@ -649,7 +649,7 @@ fn entry(rules: &'static [Rule], index: usize) -> Option<&'static Rule>
 pub fn rule_at(number: u32) -> Option<&'static Rule>
     ensures { option_map (λ r. rule_of r.now) result ≡ rule_at number }
 {
-    let index = number.checked_sub(27)? as usize;
+    let index = number.checked_sub(FIRST_RULE)? as usize;
     match index {
         0..=10 => entry(connectives(), index),
         11..=18 => entry(quantifiers(), index - 11),

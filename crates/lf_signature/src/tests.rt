@@ -1,36 +1,17 @@
 //! Declared types of worked constants.
 
 ghost use Rattle.std.specs.Prelude.{◌≡◌, IfOk};
-ghost use Rattle.term_table.specs.Table.{IsKnown, Extends, Stands};
+ghost use Rattle.term_table.specs.Table.{Stands};
 ghost use Rattle.lf_signature.specs.Nodes.{type_at};
 
-use crate::{Sigma1, Signature, declared, op_number, op_of, rel_number, rel_of};
+use crate::numbers::{EQ, FF, IMP, SUB, ULE, ULT};
+use crate::{Sigma1, Signature, app2, declared, pf};
+use crate::{op_constant, op_number, op_of, op_of_constant};
+use crate::{rel_constant, rel_number, rel_of, rel_of_constant};
 use std::alloc::AllocError;
 use std::test::Fail;
 use term_table::{Id, Node, Places, Table};
 use word_ops::{Op, Rel};
-
-// A constant at two terms.
-fn at_two(table: &mut Table, constant: u32, a: Id, b: Id) -> Result<Id, AllocError>
-    requires a { IsKnown table.old a }
-    requires b { IsKnown table.old b }
-    ensures id { IfOk result (IsKnown table.new) }
-    ensures grows { Extends table.old table.new }
-{
-    let head = table.intern(Node::Const(constant))?;
-    let applied = table.intern(Node::App(head, a))?;
-    table.intern(Node::App(applied, b))
-}
-
-// The type of the proofs of a formula.
-fn proofs(table: &mut Table, formula: Id) -> Result<Id, AllocError>
-    requires { IsKnown table.old formula }
-    ensures id { IfOk result (IsKnown table.new) }
-    ensures grows { Extends table.old table.new }
-{
-    let pf = table.intern(Node::Fam(3))?;
-    table.intern(Node::TApp(pf, formula))
-}
 
 #[test]
 fn constants_without_a_type(rt: HostRuntime) -> Result<(), Fail> {
@@ -73,22 +54,22 @@ fn declared_types(rt: HostRuntime) -> Result<(), Fail> {
     // 4 is below 5
     let four = table.intern(Node::Lit(4))?;
     let five = table.intern(Node::Lit(5))?;
-    let below = at_two(table, 16, four, five)?;
-    let fact = proofs(table, below)?;
+    let below = app2(table, ULT, four, five)?;
+    let fact = pf(table, below)?;
     assert_eq!(rt; declared(table, Node::Fact(1, 4, 5))?, Some(fact));
 
     // 4 - 5 is 2^64 - 1
-    let difference = at_two(table, 1, four, five)?;
+    let difference = app2(table, SUB, four, five)?;
     let last = table.intern(Node::Lit(u64::MAX))?;
-    let equal = at_two(table, 15, difference, last)?;
-    let evaluated = proofs(table, equal)?;
+    let equal = app2(table, EQ, difference, last)?;
+    let evaluated = pf(table, equal)?;
     assert_eq!(rt; declared(table, Node::Calc(1, 4, 5))?, Some(evaluated));
 
     // 5 isn't below 4
-    let above = at_two(table, 16, five, four)?;
-    let falsity = table.intern(Node::Const(14))?;
-    let not_above = at_two(table, 24, above, falsity)?;
-    let denied = proofs(table, not_above)?;
+    let above = app2(table, ULT, five, four)?;
+    let falsity = table.intern(Node::Const(FF))?;
+    let not_above = app2(table, IMP, above, falsity)?;
+    let denied = pf(table, not_above)?;
     assert_eq!(rt; declared(table, Node::Deny(1, 5, 4))?, Some(denied));
     Ok(())
 }
@@ -103,11 +84,11 @@ fn a_rule(rt: HostRuntime) -> Result<(), Fail> {
     let one = table.intern(Node::Var(1))?;
     let two = table.intern(Node::Var(2))?;
     let number = table.intern(Node::Lit(1))?;
-    let below = at_two(table, 16, one, zero)?;
-    let premise = proofs(table, below)?;
-    let less = at_two(table, 1, one, number)?;
-    let at_most = at_two(table, 17, two, less)?;
-    let conclusion = proofs(table, at_most)?;
+    let below = app2(table, ULT, one, zero)?;
+    let premise = pf(table, below)?;
+    let less = app2(table, SUB, one, number)?;
+    let at_most = app2(table, ULE, two, less)?;
+    let conclusion = pf(table, at_most)?;
     let from_proof = table.intern(Node::Pi(premise, conclusion))?;
     let for_b = table.intern(Node::Pi(exp, from_proof))?;
     let for_all = table.intern(Node::Pi(exp, for_b))?;
@@ -115,14 +96,17 @@ fn a_rule(rt: HostRuntime) -> Result<(), Fail> {
     Ok(())
 }
 
-// The type of a literal, asked after that of another constant.
+/// The type of a literal, asked after that of another constant.
 fn asked_later<S: Signature>(
     signature: &S,
     table: &mut Table,
     constant: Node,
 ) -> Result<Option<Id>, AllocError>
     requires { S.holds signature.now table.old }
-    ensures tree { IfOk result (Stands table.new (type_at (S.declares signature.now table.old) (Node.Lit 5))) }
+    ensures tree {
+        let types = S.declares signature.now table.old in
+        IfOk result (Stands table.new (type_at types (Node.Lit 5)))
+    }
     ensures holds { S.holds signature.now table.new }
 {
     let _first = signature.type_of(table, constant)?;
@@ -145,7 +129,12 @@ fn through_the_bound(rt: HostRuntime) -> Result<(), Fail> {
 fn numbers(rt: HostRuntime) -> Result<(), Fail> {
     assert_eq!(rt; op_of(7), Some(Op::Cmplt));
     assert_eq!(rt; op_number(Op::Srl), 5);
+    assert_eq!(rt; op_constant(Op::Srl), 5);
+    assert_eq!(rt; op_of_constant(11), None);
     assert_eq!(rt; rel_of(2), Some(Rel::Ule));
-    assert_eq!(rt; rel_number(Rel::Sle), 19);
+    assert_eq!(rt; rel_number(Rel::Sle), 4);
+    assert_eq!(rt; rel_constant(Rel::Sle), 19);
+    assert_eq!(rt; rel_of_constant(17), Some(Rel::Ule));
+    assert_eq!(rt; rel_of_constant(20), None);
     Ok(())
 }

@@ -8,7 +8,7 @@ use Rattle.word_ops.specs.Words.{word_of, test_of}
 use Rattle.word_ops.proofs.Bounds.{word_of-below}
 use Rattle.term_table.specs.Tree.{Tree, Fam, Const, Num, Lit, Calc, Fact, Deny}
 use Rattle.term_table.proofs.Options.{bind_some, some_injective}
-use Rattle.lf_signature.specs.Numbers.{op_of, rel_of, op_number, rel_number}
+use Rattle.lf_signature.specs.Numbers.{op_of, rel_of, op_constant, rel_constant}
 use Rattle.lf_signature.specs.Terms.{exp, lit, rel_term}
 use Rattle.lf_signature.specs.Typing.{Checks, con_synth, IsType, atomic_type, fam_kind}
 use Rattle.lf_signature.specs.Simply.{simply, SType}
@@ -36,11 +36,11 @@ module _ (sig : Const → Option Tree) (numbers : (n : ℕ) → sig (Num n) ≡ 
   calc_formed : (o : Op) (x y : ℕ) → is_word x ≡ true → is_word y ≡ true → IsType sig [] (calc_type o x y)
   calc_formed o x y hx hy =
       let w = lt-ltb (word_of o x y) (2 ^ 64) (word_of-below o x y (ltb-true x (2 ^ 64) hx) (ltb-true y (2 ^ 64) hy)) in
-      let value = app2_checks sig (op_number o) 0 0 0 (numbers (op_number o) ∙ declared-op o) refl (word_checks x hx) (word_checks y hy) in
+      let value = app2_checks sig (op_constant o) 0 0 0 (numbers (op_constant o) ∙ declared-op o) refl (word_checks x hx) (word_checks y hy) in
       pf_type sig (app2_checks sig 15 0 0 2 (numbers 15 ∙ declared-rel Eq) refl value (word_checks (word_of o x y) w))
 
   fact_formed : (r : Rel) (x y : ℕ) → is_word x ≡ true → is_word y ≡ true → Checks sig [] (rel_term r (lit x) (lit y)) (Fam 2)
-  fact_formed r x y hx hy = app2_checks sig (rel_number r) 0 0 2 (numbers (rel_number r) ∙ declared-rel r) refl (word_checks x hx) (word_checks y hy)
+  fact_formed r x y hx hy = app2_checks sig (rel_constant r) 0 0 2 (numbers (rel_constant r) ∙ declared-rel r) refl (word_checks x hx) (word_checks y hy)
 
   deny_formed : (r : Rel) (x y : ℕ) → is_word x ≡ true → is_word y ≡ true → IsType sig [] (deny_type r x y)
   deny_formed r x y hx hy =

@@ -1,0 +1,18 @@
+use Rattle.std.proofs.Common.{ap, ◌∙◌, sym}
+use Rattle.lf_signature.specs.Numbers.{op_of, rel_of, op_of_constant, rel_of_constant}
+use Rattle.lf_signature.specs.Laws.Numbered.{op_of-op_number, op_number_is, rel_of-rel_number, rel_number_is, op_of_constant-op_constant, op_constant_is, rel_of_constant-rel_constant, rel_constant_is}
+use Rattle.lf_signature.specs.Laws.WellFormed.{declared_formed, declared_simply}
+use Rattle.lf_signature.proofs.Lookup.{declared-constant, declared-rule}
+use Rattle.lf_signature.proofs.theorems.signature_laws.Goals as goal
+
+pub returns : goal.returns
+returns c = record {
+  formed = declared_formed;
+  simply = declared_simply;
+  constants = declared-constant;
+  rules = declared-rule;
+  operators = λ n o. (op_number_is n o, λ e. ap op_of (sym e) ∙ op_of-op_number o);
+  relations = λ n r. (rel_number_is n r, λ e. ap rel_of (sym e) ∙ rel_of-rel_number r);
+  op_constants = λ n o. (op_constant_is n o, λ e. ap op_of_constant (sym e) ∙ op_of_constant-op_constant o);
+  rel_constants = λ n r. (rel_constant_is n r, λ e. ap rel_of_constant (sym e) ∙ rel_of_constant-rel_constant r);
+}
