@@ -2,7 +2,7 @@
 use Rattle.std.proofs.Common.{◌≡◌, ℕ, zero, suc, ◌<◌, true, ◌&&◌, Option, List, ◌∷◌, refl, ap, arith}
 use Rattle.std.proofs.lemmas.Bool.{ltb-true}
 use Rattle.term_table.specs.Tree.{Tree, Var, Con, App, Lam, Fam, TApp, Pi, Const, at}
-use Rattle.lf_signature.specs.Order.{is_over}
+use Rattle.term_table.specs.Scope.{is_over}
 use Rattle.lf_signature.specs.Decide.{synth_of, checks_of, kind_of, is_type_of, app_rule, atom_rule, lam_rule, var_rule, kind_rule, is_star}
 use Rattle.lf_signature.specs.Near.{AgreeOnNearest}
 use Rattle.lf_signature.specs.Laws.Booleans.{both}

@@ -10,4 +10,5 @@ pub mod Near
 pub mod Nodes
 pub mod Schemas
 pub mod Outside
+pub mod Worked
 pub mod Laws

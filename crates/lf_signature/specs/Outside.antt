@@ -5,60 +5,72 @@ use Rattle.term_table.specs.Tree.{Tree, Var, Con, App, Lam, Fam, TApp, Pi, Const
 
 -- The notation of the rows.
 
--- the families 0 to 3
+-- expressions
 abbrev exp : Tree
 exp = Fam 0
 
+-- memories
 abbrev mem : Tree
 mem = Fam 1
 
+-- formulas
 abbrev form : Tree
 form = Fam 2
 
+-- proofs of a formula
 abbrev pf : Tree → Tree
 pf p = TApp (Fam 3) p
 
 infixr 10 ◌⇒◌
-
 -- a product, from its domain to its range
 abbrev pub ◌⇒◌ : Tree → Tree → Tree
 a ⇒ b = Pi a b
 
--- a word, and a numbered constant alone and at its arguments
+-- a word
 abbrev word : ℕ → Tree
 word w = Con (Lit w)
 
+-- a numbered constant
 abbrev con : ℕ → Tree
 con c = Con (Num c)
 
+-- a constant at one argument
 abbrev one : ℕ → Tree → Tree
 one c a = App (con c) a
 
+-- a constant at two
 abbrev two : ℕ → Tree → Tree → Tree
 two c a b = App (one c a) b
 
+-- a constant at three
 abbrev three : ℕ → Tree → Tree → Tree → Tree
 three c a b d = App (two c a b) d
 
--- the variables, the nearest first
+-- variable 0, the nearest
 abbrev v0 : Tree
 v0 = Var 0
 
+-- variable 1
 abbrev v1 : Tree
 v1 = Var 1
 
+-- variable 2
 abbrev v2 : Tree
 v2 = Var 2
 
+-- variable 3
 abbrev v3 : Tree
 v3 = Var 3
 
+-- variable 4
 abbrev v4 : Tree
 v4 = Var 4
 
+-- variable 5
 abbrev v5 : Tree
 v5 = Var 5
 
+-- variable 6
 abbrev v6 : Tree
 v6 = Var 6
 
@@ -158,8 +170,11 @@ numbered_rows =
     -- 44 sel_same  m a v ; |- (eq (sel (upd m a v) a) v)
     (3, mem ⇒ exp ⇒ exp ⇒ pf (two 15 (two 11 (three 12 v2 v1 v0) v1) v0)) ∷
     -- 45 sel_other  m a b v ; (not (eq a b)) |- (eq (sel (upd m a v) b) (sel m b))
-    (4, mem ⇒ exp ⇒ exp ⇒ exp ⇒ pf (two 24 (two 15 v2 v1) (con 14)) ⇒
-      pf (two 15 (two 11 (three 12 v4 v3 v1) v2) (two 11 v4 v2))) ∷
+    (
+      4,
+      mem ⇒ exp ⇒ exp ⇒ exp ⇒ pf (two 24 (two 15 v2 v1) (con 14)) ⇒
+          pf (two 15 (two 11 (three 12 v4 v3 v1) v2) (two 11 v4 v2)),
+    ) ∷
     -- 46 add_comm  a b ; |- (eq (add a b) (add b a))
     (2, exp ⇒ exp ⇒ pf (two 15 (two 0 v1 v0) (two 0 v0 v1))) ∷
     -- 47 add_assoc  a b c ; |- (eq (add (add a b) c) (add a (add b c)))
@@ -183,15 +198,21 @@ numbered_rows =
     -- 56 bis_zero_l  a ; |- (eq (bis 0 a) a)
     (1, exp ⇒ pf (two 15 (two 3 (word 0) v0) v0)) ∷
     -- 57 add_al  a b ; (eq (band a 7) 0), (eq (band b 7) 0) |- (eq (band (add a b) 7) 0)
-    (2, exp ⇒ exp ⇒ pf (two 15 (two 2 v1 (word 7)) (word 0)) ⇒
-      pf (two 15 (two 2 v1 (word 7)) (word 0)) ⇒ pf (two 15 (two 2 (two 0 v3 v2) (word 7)) (word 0))) ∷
+    (
+      2,
+      exp ⇒ exp ⇒ pf (two 15 (two 2 v1 (word 7)) (word 0)) ⇒
+          pf (two 15 (two 2 v1 (word 7)) (word 0)) ⇒ pf (two 15 (two 2 (two 0 v3 v2) (word 7)) (word 0)),
+    ) ∷
     -- 58 sll_al  a ; |- (eq (band (sll a 3) 7) 0)
     (1, exp ⇒ pf (two 15 (two 2 (two 4 v0 (word 3)) (word 7)) (word 0))) ∷
     -- 59 srl_mono  a b c ; (ule a b) |- (ule (srl a c) (srl b c))
     (3, exp ⇒ exp ⇒ exp ⇒ pf (two 17 v2 v1) ⇒ pf (two 17 (two 5 v3 v1) (two 5 v2 v1))) ∷
     -- 60 sll_mono  a b c ; (ule a b), (ule b (srl MAX c)) |- (ule (sll a c) (sll b c))
-    (3, exp ⇒ exp ⇒ exp ⇒ pf (two 17 v2 v1) ⇒
-      pf (two 17 v2 (two 5 (word 18446744073709551615) v1)) ⇒ pf (two 17 (two 4 v4 v2) (two 4 v3 v2))) ∷
+    (
+      3,
+      exp ⇒ exp ⇒ exp ⇒ pf (two 17 v2 v1) ⇒
+          pf (two 17 v2 (two 5 (word 18446744073709551615) v1)) ⇒ pf (two 17 (two 4 v4 v2) (two 4 v3 v2)),
+    ) ∷
     -- 61 zero_le  a ; |- (ule 0 a)
     (1, exp ⇒ pf (two 17 (word 0) v0)) ∷
     -- 62 max_le  a ; |- (ule a MAX)
@@ -215,8 +236,11 @@ numbered_rows =
     -- 71 lt_irr  a ; (ult a a) |- ff
     (1, exp ⇒ pf (two 16 v0 v0) ⇒ pf (con 14)) ∷
     -- 72 add_le  a b c d ; (ule a c), (ule b d), (ule c (add c d)) |- (ule (add a b) (add c d))
-    (4, exp ⇒ exp ⇒ exp ⇒ exp ⇒ pf (two 17 v3 v1) ⇒ pf (two 17 v3 v1) ⇒
-      pf (two 17 v3 (two 0 v3 v2)) ⇒ pf (two 17 (two 0 v6 v5) (two 0 v4 v3))) ∷
+    (
+      4,
+      exp ⇒ exp ⇒ exp ⇒ exp ⇒ pf (two 17 v3 v1) ⇒ pf (two 17 v3 v1) ⇒
+          pf (two 17 v3 (two 0 v3 v2)) ⇒ pf (two 17 (two 0 v6 v5) (two 0 v4 v3)),
+    ) ∷
     -- 73 cmp_yes  a b ; (not (eq (cmpeq a b) 0)) |- (eq a b)
     (2, exp ⇒ exp ⇒ pf (two 24 (two 15 (two 6 v1 v0) (word 0)) (con 14)) ⇒ pf (two 15 v2 v1)) ∷
     -- 74 cmp_yes  a b ; (not (eq (cmplt a b) 0)) |- (slt a b)
@@ -254,17 +278,21 @@ unfoldable pub evaluated_rows : List (Const × Option Tree)
 evaluated_rows =
     (Lit 0, Some exp) ∷
     (Lit 18446744073709551615, Some exp) ∷
-    (Lit 18446744073709551616, None) ∷
-    (Calc 0 18446744073709551615 2,
-      Some (pf (two 15 (two 0 (word 18446744073709551615) (word 2)) (word 1)))) ∷
+    (Lit 18446744073709551616, None) ∷ (
+      Calc 0 18446744073709551615 2,
+      Some (pf (two 15 (two 0 (word 18446744073709551615) (word 2)) (word 1))),
+    ) ∷
     (Calc 1 0 1, Some (pf (two 15 (two 1 (word 0) (word 1)) (word 18446744073709551615)))) ∷
-    (Calc 4 1 64, Some (pf (two 15 (two 4 (word 1) (word 64)) (word 1)))) ∷
-    (Calc 5 9223372036854775808 63,
-      Some (pf (two 15 (two 5 (word 9223372036854775808) (word 63)) (word 1)))) ∷
-    (Calc 7 9223372036854775808 0,
-      Some (pf (two 15 (two 7 (word 9223372036854775808) (word 0)) (word 1)))) ∷
-    (Calc 9 9223372036854775808 0,
-      Some (pf (two 15 (two 9 (word 9223372036854775808) (word 0)) (word 0)))) ∷
+    (Calc 4 1 64, Some (pf (two 15 (two 4 (word 1) (word 64)) (word 1)))) ∷ (
+      Calc 5 9223372036854775808 63,
+      Some (pf (two 15 (two 5 (word 9223372036854775808) (word 63)) (word 1))),
+    ) ∷ (
+      Calc 7 9223372036854775808 0,
+      Some (pf (two 15 (two 7 (word 9223372036854775808) (word 0)) (word 1))),
+    ) ∷ (
+      Calc 9 9223372036854775808 0,
+      Some (pf (two 15 (two 9 (word 9223372036854775808) (word 0)) (word 0))),
+    ) ∷
     (Calc 2 12 10, Some (pf (two 15 (two 2 (word 12) (word 10)) (word 8)))) ∷
     (Fact 0 5 5, Some (pf (two 15 (word 5) (word 5)))) ∷
     (Fact 1 4 5, Some (pf (two 16 (word 4) (word 5)))) ∷
@@ -277,9 +305,10 @@ evaluated_rows =
     (Deny 1 4 5, None) ∷
     (Deny 1 5 5, Some (pf (two 24 (two 16 (word 5) (word 5)) (con 14)))) ∷
     (Deny 2 5 5, None) ∷
-    (Deny 3 9223372036854775808 0, None) ∷
-    (Deny 3 0 9223372036854775808,
-      Some (pf (two 24 (two 18 (word 0) (word 9223372036854775808)) (con 14)))) ∷
+    (Deny 3 9223372036854775808 0, None) ∷ (
+      Deny 3 0 9223372036854775808,
+      Some (pf (two 24 (two 18 (word 0) (word 9223372036854775808)) (con 14))),
+    ) ∷
     (Deny 4 18446744073709551615 0, None) ∷
     (Calc 11 0 0, None) ∷
     (Fact 5 0 0, None) ∷

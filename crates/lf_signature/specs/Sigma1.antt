@@ -55,79 +55,103 @@ constant_types =
 
 -- The words of the table of rules below.
 
+-- a rule, in the order of the notation
 abbrev rule : List Sort → List Premise → SForm → Rule
 rule parameters premises conclusion = record { parameters = parameters; premises = premises; conclusion = conclusion }
 
--- parameters that are all words, or all formulas, and their names
+-- one word
 abbrev words1 : List Sort
 words1 = OfExp ∷ []
 
+-- two words
 abbrev words2 : List Sort
 words2 = OfExp ∷ words1
 
+-- three words
 abbrev words3 : List Sort
 words3 = OfExp ∷ words2
 
+-- four words
 abbrev words4 : List Sort
 words4 = OfExp ∷ words3
 
+-- one formula
 abbrev forms1 : List Sort
 forms1 = OfForm ∷ []
 
+-- two formulas
 abbrev forms2 : List Sort
 forms2 = OfForm ∷ forms1
 
+-- three formulas
 abbrev forms3 : List Sort
 forms3 = OfForm ∷ forms2
 
+-- the first parameter, a word
 abbrev a : SExp
 a = SPar 0
 
+-- the second parameter, a word
 abbrev b : SExp
 b = SPar 1
 
+-- the third parameter, a word
 abbrev c : SExp
 c = SPar 2
 
+-- the fourth parameter, a word
 abbrev d : SExp
 d = SPar 3
 
+-- the first parameter, a formula
 abbrev A : SForm
 A = FPar 0
 
+-- the second parameter, a formula
 abbrev B : SForm
 B = FPar 1
 
+-- the third parameter, a formula
 abbrev C : SForm
 C = FPar 2
 
+-- a sum
 abbrev add : SExp → SExp → SExp
 add = SOp Add
 
+-- a difference
 abbrev sub : SExp → SExp → SExp
 sub = SOp Sub
 
+-- bitwise and
 abbrev band : SExp → SExp → SExp
 band = SOp Band
 
+-- bitwise or
 abbrev bis : SExp → SExp → SExp
 bis = SOp Bis
 
+-- a shift to the left
 abbrev sll : SExp → SExp → SExp
 sll = SOp Sll
 
+-- a shift to the right
 abbrev srl : SExp → SExp → SExp
 srl = SOp Srl
 
+-- equality
 abbrev eq : SExp → SExp → SForm
 eq = SRel Eq
 
+-- unsigned less
 abbrev ult : SExp → SExp → SForm
 ult = SRel Ult
 
+-- unsigned at most
 abbrev ule : SExp → SExp → SForm
 ule = SRel Ule
 
+-- that a formula leads to falsity
 abbrev no : SForm → SForm
 no p = SImp p SFalse
 
@@ -139,12 +163,15 @@ max = SLit 18446744073709551615
 abbrev pairs : List (Op × Rel)
 pairs = (Cmpeq, Eq) ∷ (Cmplt, Slt) ∷ (Cmple, Sle) ∷ (Cmpult, Ult) ∷ (Cmpule, Ule) ∷ []
 
+-- an operator that isn't 0 makes its relation hold
 abbrev cmp_yes : Op × Rel → Rule
 cmp_yes p = rule words2 (Plain (no (eq (SOp p.0 a b) (SLit 0))) ∷ []) (SRel p.1 a b)
 
+-- an operator that is 0 denies its relation
 abbrev cmp_no : Op × Rel → Rule
 cmp_no p = rule words2 (Plain (eq (SOp p.0 a b) (SLit 0)) ∷ []) (no (SRel p.1 a b))
 
+-- an operator gives at most 1
 abbrev cmp_le1 : Op × Rel → Rule
 cmp_le1 p = rule words2 [] (ule (SOp p.0 a b) (SLit 1))
 
@@ -263,6 +290,7 @@ parameters_of n = option_map_or (λ r. length r.parameters) (rule_at n) 0
 unfoldable pub number_types : List Tree
 number_types = constant_types ++ map rule_type the_rules
 
+-- whether a number is a 64-bit word
 abbrev pub is_word : ℕ → Bool
 is_word w = nat_lt w (2 ^ 64)
 

@@ -4,9 +4,10 @@
 //! what a signature declares stays the same as the table grows, and each type is closed and well
 //! formed over the constants before it. [`Sigma1`] is the signature of word arithmetic. The
 //! definitions that all layers above share stand here: typing as derivations (`specs/Typing`), the
-//! same simply (`specs/Simply`) and as functions (`specs/Decide`), rules as data (`specs/Rules`), and
-//! the table of all constants (`specs/Sigma1`). Sources: Harper, Honsell and Plotkin, A Framework for
-//! Defining Logics, JACM 1993; Necula, Proof-Carrying Code, POPL 1997.
+//! same simply (`specs/Simply`) and as functions (`specs/Decide`), rules as data (`specs/Rules`),
+//! and the table of all constants (`specs/Sigma1`), which rows that were written elsewhere are held
+//! against (`specs/Outside`). Sources: Harper, Honsell and Plotkin, A Framework for Defining
+//! Logics, JACM 1993, section 2 (typing); Necula, Proof-Carrying Code, POPL 1997.
 #![tactic(auto)]
 
 mod build;
@@ -28,12 +29,16 @@ ghost use Rattle.lf_signature.specs.Sigma1.{declared};
 ghost use Rattle.lf_signature.specs.Laws.WellFormed.{declared_formed};
 
 pub use declare::declared;
-pub use numbers::{op_constant, op_number, op_of, op_of_constant};
-pub use numbers::{rel_constant, rel_number, rel_of, rel_of_constant};
-pub use terms::{app1, app2, app3, pf};
-pub use theorems::{declared_rows, near_laws, places_laws, signature_laws, simple_laws, typing_laws};
+pub use numbers::{
+    op_constant, op_number, op_of, op_of_constant, rel_constant, rel_number, rel_of,
+    rel_of_constant,
+};
 use std::alloc::AllocError;
 use term_table::{Id, Node, Table};
+pub use terms::{app1, app2, app3, pf};
+pub use theorems::{
+    declared_rows, near_laws, places_laws, signature_laws, simple_laws, typing_laws,
+};
 
 /// What gives constants their types. A signature may keep ids of a table, and its types may name
 /// their trees: so a call wants a table that holds what the signature keeps.
@@ -50,14 +55,16 @@ pub trait Signature {
     /// Fails only where memory does.
     fn type_of(&self, table: &mut Table, constant: Node) -> Result<Option<Id>, AllocError>
         requires { holds self.now table.old }
-        ensures tree { IfOk result (Stands table.new (type_at (declares self.now table.old) constant)) }
+        ensures tree { IfOk result
+            (Stands table.new (type_at (declares self.now table.old) constant)) }
         ensures grows { Extends table.old table.new };
 
     // What a table holds it holds as it grows.
     ghost still_holds: { (s : Self) (t u : Terms) → Extends t u → holds s t → holds s u };
 
     // The types stay the same trees as the table grows.
-    ghost same_types: { (s : Self) (t u : Terms) → Extends t u → holds s t → declares s u ≡ declares s t };
+    ghost same_types: { (s : Self) (t u : Terms) → Extends t u → holds s t →
+        declares s u ≡ declares s t };
 
     // Each type is closed and well formed over the constants before it.
     ghost well_formed: { (s : Self) (t : Terms) → holds s t → IsSignature (declares s t) };

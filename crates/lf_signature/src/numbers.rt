@@ -1,7 +1,7 @@
 //! The numbers by which terms and types name what they are made of.
 //!
-//! An operator has two: its constant, which stands in terms, and its place in `Op`, by which evaluations
-//! name it. The same goes for relations, facts and denials.
+//! An operator has two: its constant, which stands in terms, and its place in `Op`, by which
+//! evaluations name it. The same goes for relations, facts and denials.
 
 ghost use Rattle.std.specs.Prelude.{◌≡◌};
 ghost use Rattle.lf_signature.specs.Numbers.{op_of, rel_of, op_number, rel_number};
@@ -106,7 +106,7 @@ pub const ALLM: u32 = 26;
 /// The first constant that is a rule; those below it are what formulas are made of.
 pub const FIRST_RULE: u32 = 27;
 
-/// Answers the operator that evaluations name by `number`: 0 to 10, in the order of `Op`, else None.
+/// Answers the operator that evaluations name by `number`, its place in `Op`: None past 10.
 pub fn op_of(number: u32) -> Option<Op>
     ensures { result ≡ op_of number }
 {
@@ -126,8 +126,7 @@ pub fn op_of(number: u32) -> Option<Op>
     }
 }
 
-/// Answers the relation that facts and denials name by `number`: 0 to 4, in the order of `Rel`, else
-/// None.
+/// Answers the relation that facts and denials name by `number`, its place in `Rel`: None past 4.
 pub fn rel_of(number: u32) -> Option<Rel>
     ensures { result ≡ rel_of number }
 {

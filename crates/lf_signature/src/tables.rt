@@ -16,7 +16,7 @@ use crate::schema::{Constant, Exp, Form, Mem, Rule, Sort};
 use word_ops::Op::{Add, Band, Bis, Cmpeq, Cmple, Cmplt, Cmpule, Cmpult, Sll, Srl, Sub};
 use word_ops::Rel::{Eq, Sle, Slt, Ule, Ult};
 
-// Parameters that are all words, or all formulas.
+/// Parameters that are all words: one, and two, three and four below; then all formulas.
 const WORDS1: &[Sort] = &[Sort::Exp];
 
 const WORDS2: &[Sort] = &[Sort::Exp, Sort::Exp];
@@ -31,7 +31,8 @@ const FORMS2: &[Sort] = &[Sort::Form, Sort::Form];
 
 const FORMS3: &[Sort] = &[Sort::Form, Sort::Form, Sort::Form];
 
-// The first four parameters as words, the first as a memory, the first three as formulas.
+/// The first parameter as a word; then the second to the fourth, the first as a memory, and the
+/// first three as formulas.
 const A: Exp = Exp::Par(0);
 
 const B: Exp = Exp::Par(1);
@@ -48,7 +49,7 @@ const Q: Form = Form::Par(1);
 
 const R: Form = Form::Par(2);
 
-// The greatest word.
+/// The greatest word.
 const MAX: Exp = Word(u64::MAX);
 
 static CONSTANTS: [Constant; 27] = [
@@ -638,7 +639,7 @@ pub fn comparisons() -> &'static [Rule]
     &COMPARISONS
 }
 
-// The entry of a part of the rules.
+/// The entry of a part of the rules.
 fn entry(rules: &'static [Rule], index: usize) -> Option<&'static Rule>
     ensures { option_map (λ r. rule_of r.now) result ≡ at (map rule_of rules.now) index }
 {

@@ -5,9 +5,10 @@ ghost use Rattle.term_table.specs.Table.{Stands};
 ghost use Rattle.lf_signature.specs.Nodes.{type_at};
 
 use crate::numbers::{EQ, FF, IMP, SUB, ULE, ULT};
-use crate::{Sigma1, Signature, app2, declared, pf};
-use crate::{op_constant, op_number, op_of, op_of_constant};
-use crate::{rel_constant, rel_number, rel_of, rel_of_constant};
+use crate::{
+    Sigma1, Signature, app2, declared, op_constant, op_number, op_of, op_of_constant, pf,
+    rel_constant, rel_number, rel_of, rel_of_constant,
+};
 use std::alloc::AllocError;
 use std::test::Fail;
 use term_table::{Id, Node, Places, Table};
@@ -103,10 +104,8 @@ fn asked_later<S: Signature>(
     constant: Node,
 ) -> Result<Option<Id>, AllocError>
     requires { S.holds signature.now table.old }
-    ensures tree {
-        let types = S.declares signature.now table.old in
-        IfOk result (Stands table.new (type_at types (Node.Lit 5)))
-    }
+    ensures tree { let types = S.declares signature.now table.old in
+        IfOk result (Stands table.new (type_at types (Node.Lit 5))) }
     ensures holds { S.holds signature.now table.new }
 {
     let _first = signature.type_of(table, constant)?;

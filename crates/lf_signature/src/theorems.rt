@@ -1,14 +1,16 @@
 //! What holds of the definitions, with nothing to run.
 
-ghost use Rattle.std.specs.Prelude.{◌≡◌, ◌<◌, ◌↔◌, ℕ, true, Option, Some, List, [], length, map, get_or};
+ghost use Rattle.std.specs.Prelude.{◌≡◌, ◌<◌, ◌↔◌, ℕ, true, Option, Some, List, []};
+ghost use Rattle.std.specs.Prelude.{length, map, get_or};
 ghost use Rattle.std.specs.Option.{option_map};
 ghost use Rattle.word_ops.specs.declared.Op.{Op};
 ghost use Rattle.word_ops.specs.declared.Rel.{Rel};
 ghost use Rattle.term_table.specs.Tree.{Tree, Const, Num, at};
 ghost use Rattle.term_table.specs.Subst.{erase};
+ghost use Rattle.term_table.specs.Scope.{is_over};
 ghost use Rattle.term_table.specs.Measures.{sigma1_places};
-ghost use Rattle.lf_signature.specs.Numbers.{op_of, rel_of, op_number, rel_number};
-ghost use Rattle.lf_signature.specs.Numbers.{op_of_constant, rel_of_constant, op_constant, rel_constant};
+ghost use Rattle.lf_signature.specs.Numbers.{op_of, op_number, op_of_constant, op_constant};
+ghost use Rattle.lf_signature.specs.Numbers.{rel_of, rel_number, rel_of_constant, rel_constant};
 ghost use Rattle.lf_signature.specs.Typing.{Checks, Synth, Kind, HasKind, IsType};
 ghost use Rattle.lf_signature.specs.Simply.{simply, erased, SChecks, SSynth, SType};
 ghost use Rattle.lf_signature.specs.Decide.{checks_of, synth_of, kind_of, is_type_of};
@@ -16,80 +18,55 @@ ghost use Rattle.lf_signature.specs.Near.{AgreeOnNearest};
 ghost use Rattle.lf_signature.specs.Rules.{Rule, rule_type};
 ghost use Rattle.lf_signature.specs.Sigma1.{constant_types, rule_at, parameters_of, declared};
 ghost use Rattle.lf_signature.specs.Outside.{numbered_rows, evaluated_rows, AreDeclared};
-ghost use Rattle.lf_signature.specs.Order.{is_over, IsSignature};
+ghost use Rattle.lf_signature.specs.Worked.{AreVerdicts};
+ghost use Rattle.lf_signature.specs.Order.{IsSignature};
 ghost use Rattle.lf_signature.specs.declared.numbers.TheConstants.{FIRST_RULE};
 
 /// The functions of typing decide its derivations, over any signature; a term synthesises at most
 /// one type.
 pub fn typing_laws()
-    ensures checks {
-        (sig : Const → Option Tree) (ctx : List Tree) (m a : Tree) →
-        Checks sig ctx m a ↔ (checks_of sig m ctx a ≡ true)
-    }
-    ensures synth {
-        (sig : Const → Option Tree) (ctx : List Tree) (r a : Tree) →
-        Synth sig ctx r a ↔ (synth_of sig r ctx ≡ Some a)
-    }
-    ensures unique {
-        (sig : Const → Option Tree) (ctx : List Tree) (r a b : Tree) →
-        Synth sig ctx r a → Synth sig ctx r b → a ≡ b
-    }
-    ensures kinds {
-        (sig : Const → Option Tree) (ctx : List Tree) (p : Tree) (k : Kind) →
-        HasKind sig ctx p k ↔ (kind_of sig p ctx ≡ Some k)
-    }
-    ensures types {
-        (sig : Const → Option Tree) (ctx : List Tree) (a : Tree) →
-        IsType sig ctx a ↔ (is_type_of sig a ctx ≡ true)
-    }
+    ensures checks { (sig : Const → Option Tree) (ctx : List Tree) (m a : Tree) →
+        Checks sig ctx m a ↔ (checks_of sig m ctx a ≡ true) }
+    ensures synth { (sig : Const → Option Tree) (ctx : List Tree) (r a : Tree) →
+        Synth sig ctx r a ↔ (synth_of sig r ctx ≡ Some a) }
+    ensures unique { (sig : Const → Option Tree) (ctx : List Tree) (r a b : Tree) →
+        Synth sig ctx r a → Synth sig ctx r b → a ≡ b }
+    ensures kinds { (sig : Const → Option Tree) (ctx : List Tree) (p : Tree) (k : Kind) →
+        HasKind sig ctx p k ↔ (kind_of sig p ctx ≡ Some k) }
+    ensures types { (sig : Const → Option Tree) (ctx : List Tree) (a : Tree) →
+        IsType sig ctx a ↔ (is_type_of sig a ctx ≡ true) }
 {}
 
-/// Verdicts on a tree depend on the nearest types alone, as many as its variables reach: contexts that
-/// agree on the `n` nearest give a tree over `n` variables the same verdicts.
+/// Verdicts on a tree depend on the nearest types alone, as many as its variables reach: contexts
+/// that agree on the `n` nearest give a tree over `n` variables the same verdicts.
 pub fn near_laws()
-    ensures checks {
-        (sig : Const → Option Tree) (n : ℕ) (ctx other : List Tree) (m a : Tree) →
+    ensures checks { (sig : Const → Option Tree) (n : ℕ) (ctx other : List Tree) (m a : Tree) →
         is_over n m ≡ true → AgreeOnNearest n ctx other →
-        checks_of sig m ctx a ≡ checks_of sig m other a
-    }
-    ensures synth {
-        (sig : Const → Option Tree) (n : ℕ) (ctx other : List Tree) (r : Tree) →
-        is_over n r ≡ true → AgreeOnNearest n ctx other → synth_of sig r ctx ≡ synth_of sig r other
-    }
-    ensures kinds {
-        (sig : Const → Option Tree) (n : ℕ) (ctx other : List Tree) (p : Tree) →
-        is_over n p ≡ true → AgreeOnNearest n ctx other → kind_of sig p ctx ≡ kind_of sig p other
-    }
-    ensures types {
-        (sig : Const → Option Tree) (n : ℕ) (ctx other : List Tree) (a : Tree) →
+        checks_of sig m ctx a ≡ checks_of sig m other a }
+    ensures synth { (sig : Const → Option Tree) (n : ℕ) (ctx other : List Tree) (r : Tree) →
+        is_over n r ≡ true → AgreeOnNearest n ctx other →
+        synth_of sig r ctx ≡ synth_of sig r other }
+    ensures kinds { (sig : Const → Option Tree) (n : ℕ) (ctx other : List Tree) (p : Tree) →
+        is_over n p ≡ true → AgreeOnNearest n ctx other →
+        kind_of sig p ctx ≡ kind_of sig p other }
+    ensures types { (sig : Const → Option Tree) (n : ℕ) (ctx other : List Tree) (a : Tree) →
         is_over n a ≡ true → AgreeOnNearest n ctx other →
-        is_type_of sig a ctx ≡ is_type_of sig a other
-    }
+        is_type_of sig a ctx ≡ is_type_of sig a other }
 {}
 
 /// What is derived is derived by the simple rules at the erased types, and has no variables but
 /// those of its context.
 pub fn simple_laws()
-    ensures checks {
-        (sig : Const → Option Tree) (ctx : List Tree) (m a : Tree) →
-        Checks sig ctx m a → SChecks (simply sig) (erased ctx) m (erase a)
-    }
-    ensures synth {
-        (sig : Const → Option Tree) (ctx : List Tree) (r a : Tree) →
-        Synth sig ctx r a → SSynth (simply sig) (erased ctx) r (erase a)
-    }
-    ensures types {
-        (sig : Const → Option Tree) (ctx : List Tree) (a : Tree) →
-        IsType sig ctx a → SType (simply sig) (erased ctx) a
-    }
-    ensures terms_over {
-        (sig : Const → Option Tree) (ctx : List Tree) (m a : Tree) →
-        Checks sig ctx m a → is_over (length ctx) m ≡ true
-    }
-    ensures types_over {
-        (sig : Const → Option Tree) (ctx : List Tree) (a : Tree) →
-        IsType sig ctx a → is_over (length ctx) a ≡ true
-    }
+    ensures checks { (sig : Const → Option Tree) (ctx : List Tree) (m a : Tree) →
+        Checks sig ctx m a → SChecks (simply sig) (erased ctx) m (erase a) }
+    ensures synth { (sig : Const → Option Tree) (ctx : List Tree) (r a : Tree) →
+        Synth sig ctx r a → SSynth (simply sig) (erased ctx) r (erase a) }
+    ensures types { (sig : Const → Option Tree) (ctx : List Tree) (a : Tree) →
+        IsType sig ctx a → SType (simply sig) (erased ctx) a }
+    ensures terms_over { (sig : Const → Option Tree) (ctx : List Tree) (m a : Tree) →
+        Checks sig ctx m a → is_over (length ctx) m ≡ true }
+    ensures types_over { (sig : Const → Option Tree) (ctx : List Tree) (a : Tree) →
+        IsType sig ctx a → is_over (length ctx) a ≡ true }
 {}
 
 /// Each type that the signature of word arithmetic declares is closed and well formed over the
@@ -99,21 +76,24 @@ pub fn signature_laws()
     ensures formed { IsSignature declared }
     ensures simply { (c : Const) (a : Tree) → declared c ≡ Some a → SType (simply declared) [] a }
     ensures constants { (n : ℕ) → n < FIRST_RULE → declared (Num n) ≡ at constant_types n }
-    ensures rules {
-        (n : ℕ) (r : Rule) → rule_at n ≡ Some r → declared (Num n) ≡ Some (rule_type r)
-    }
+    ensures rules { (n : ℕ) (r : Rule) →
+        rule_at n ≡ Some r → declared (Num n) ≡ Some (rule_type r) }
     ensures operators { (n : ℕ) (o : Op) → (op_of n ≡ Some o) ↔ (op_number o ≡ n) }
     ensures relations { (n : ℕ) (r : Rel) → (rel_of n ≡ Some r) ↔ (rel_number r ≡ n) }
-    ensures op_constants { (c : ℕ) (o : Op) → (op_of_constant c ≡ Some o) ↔ (op_constant o ≡ c) }
-    ensures rel_constants { (c : ℕ) (r : Rel) → (rel_of_constant c ≡ Some r) ↔ (rel_constant r ≡ c) }
+    ensures op_constants { (c : ℕ) (o : Op) →
+        (op_of_constant c ≡ Some o) ↔ (op_constant o ≡ c) }
+    ensures rel_constants { (c : ℕ) (r : Rel) →
+        (rel_of_constant c ≡ Some r) ↔ (rel_constant r ≡ c) }
 {}
 
-/// The types of the signature are those that a second, independent implementation writes out: of every
-/// number, none past 87, with how many parameters its constant has; and of worked constants at words.
+/// The types of the signature are those that a second, independent implementation writes out: of
+/// every number, none past 87, with how many parameters its constant has; and of worked constants
+/// at words. Worked terms and types have the verdicts over it that they have by hand.
 pub fn declared_rows()
     ensures numbered { (n : ℕ) → declared (Num n) ≡ option_map (λ r. r.1) (at numbered_rows n) }
     ensures places { sigma1_places ≡ map (λ r. r.0) numbered_rows }
     ensures evaluated { AreDeclared declared evaluated_rows }
+    ensures verdicts { AreVerdicts declared }
 {}
 
 /// The counts of `Places::sigma1` are the signature's: how many parameters each numbered constant

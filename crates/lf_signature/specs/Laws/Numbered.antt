@@ -11,6 +11,7 @@ use Rattle.lf_signature.specs.Terms.{exp, form}
 use Rattle.lf_signature.specs.Sigma1.{constant_types, the_rules, number_types, declared}
 use Rattle.lf_signature.specs.Laws.Booleans.{every-at}
 
+-- an operator is found by its number
 pub op_of-op_number : (o : Op) → op_of (op_number o) ≡ Some o
 op_of-op_number Add = refl
 op_of-op_number Sub = refl
@@ -24,6 +25,7 @@ op_of-op_number Cmple = refl
 op_of-op_number Cmpult = refl
 op_of-op_number Cmpule = refl
 
+-- a relation is found by its number
 pub rel_of-rel_number : (r : Rel) → rel_of (rel_number r) ≡ Some r
 rel_of-rel_number Eq = refl
 rel_of-rel_number Ult = refl
@@ -31,6 +33,7 @@ rel_of-rel_number Ule = refl
 rel_of-rel_number Slt = refl
 rel_of-rel_number Sle = refl
 
+-- an operator is found by its constant
 pub op_of_constant-op_constant : (o : Op) → op_of_constant (op_constant o) ≡ Some o
 op_of_constant-op_constant Add = refl
 op_of_constant-op_constant Sub = refl
@@ -44,6 +47,7 @@ op_of_constant-op_constant Cmple = refl
 op_of_constant-op_constant Cmpult = refl
 op_of_constant-op_constant Cmpule = refl
 
+-- a relation is found by its constant
 pub rel_of_constant-rel_constant : (r : Rel) → rel_of_constant (rel_constant r) ≡ Some r
 rel_of_constant-rel_constant Eq = refl
 rel_of_constant-rel_constant Ult = refl
@@ -51,15 +55,19 @@ rel_of_constant-rel_constant Ule = refl
 rel_of_constant-rel_constant Slt = refl
 rel_of_constant-rel_constant Sle = refl
 
+-- what is found by a number has it
 pub op_number_is : (n : ℕ) (o : Op) → op_of n ≡ Some o → op_number o ≡ n
 op_number_is n o e = eqb-true (op_number o) n (every-at (λ k p. op_number p == k) operators n o refl e)
 
+-- the same of relations
 pub rel_number_is : (n : ℕ) (r : Rel) → rel_of n ≡ Some r → rel_number r ≡ n
 rel_number_is n r e = eqb-true (rel_number r) n (every-at (λ k p. rel_number p == k) relations n r refl e)
 
+-- what is found by a constant has it
 pub op_constant_is : (c : ℕ) (o : Op) → op_of_constant c ≡ Some o → op_constant o ≡ c
 op_constant_is c o e = eqb-true (op_constant o) c (every-at (λ k p. op_constant p == k) operators c o refl e)
 
+-- the same of relations
 pub rel_constant_is : (c : ℕ) (r : Rel) → rel_of_constant c ≡ Some r → rel_constant r ≡ c
 rel_constant_is c r e = go (nat_lt c 15) refl e
   where
@@ -70,6 +78,7 @@ rel_constant_is c r e = go (nat_lt c 15) refl e
         let found : rel_constant r ≡ 15 + (c - 15) = eqb-true (rel_constant r) (15 + (c - 15)) (every-at (λ k p. rel_constant p == 15 + k) relations (c - 15) r refl q) in
         omega arith
 
+-- operators are declared at words
 pub declared-op : (o : Op) → declared (Num (op_constant o)) ≡ Some (Pi exp (Pi exp exp))
 unfolding constant_types the_rules number_types
 declared-op Add = refl
@@ -84,6 +93,7 @@ declared-op Cmple = refl
 declared-op Cmpult = refl
 declared-op Cmpule = refl
 
+-- relations are declared at words
 pub declared-rel : (r : Rel) → declared (Num (rel_constant r)) ≡ Some (Pi exp (Pi exp form))
 unfolding constant_types the_rules number_types
 declared-rel Eq = refl
@@ -92,10 +102,12 @@ declared-rel Ule = refl
 declared-rel Slt = refl
 declared-rel Sle = refl
 
+-- falsity is declared a formula
 pub declared-falsity : declared (Num 14) ≡ Some form
 unfolding constant_types the_rules number_types
 declared-falsity = refl
 
+-- implication is declared at formulas
 pub declared-imp : declared (Num 24) ≡ Some (Pi form (Pi form form))
 unfolding constant_types the_rules number_types
 declared-imp = refl

@@ -46,6 +46,7 @@ module _ (sig : Const → Option Tree) (numbers : (n : ℕ) → sig (Num n) ≡ 
   deny_formed r x y hx hy =
       pf_type sig (app2_checks sig 24 2 2 2 (numbers 24 ∙ declared-imp) refl (fact_formed r x y hx hy) (fam_checks sig (con_synth (numbers 14 ∙ declared-falsity))))
 
+-- each declared type is well formed over the constants before its own
 formed : (c : Const) (a : Tree) → declared c ≡ Some a → IsType (before c declared) [] a
 formed (Num n) a e = type_follows (before (Num n) declared) a [] (every-at (λ k b. is_type_of (before (Num k) declared) b []) number_types n a all_formed e)
 formed (Lit w) a e =
@@ -68,8 +69,10 @@ formed (Deny r x y) a e =
     let sig = before (Deny r x y) declared in
     subst (λ z. IsType sig [] z) (some_injective k.1) (deny_formed sig (λ n. refl) (λ w. refl) h.0 x y w.0 w.1)
 
+-- so this is a signature
 pub declared_formed : IsSignature declared
 declared_formed c a e = let h = formed c a e in record { closed = type_over (before c declared) h; formed = h }
 
+-- and each type is simply well formed
 pub declared_simply : (c : Const) (a : Tree) → declared c ≡ Some a → SType (simply declared) [] a
 declared_simply c a e = type_simply declared (type_over_all declared c (formed c a e))
