@@ -16,37 +16,49 @@ use crate::schema::{Constant, Exp, Form, Mem, Rule, Sort};
 use word_ops::Op::{Add, Band, Bis, Cmpeq, Cmple, Cmplt, Cmpule, Cmpult, Sll, Srl, Sub};
 use word_ops::Rel::{Eq, Sle, Slt, Ule, Ult};
 
-/// Parameters that are all words: one, and two, three and four below; then all formulas.
+/// One word.
 const WORDS1: &[Sort] = &[Sort::Exp];
 
+/// Two words.
 const WORDS2: &[Sort] = &[Sort::Exp, Sort::Exp];
 
+/// Three words.
 const WORDS3: &[Sort] = &[Sort::Exp, Sort::Exp, Sort::Exp];
 
+/// Four words.
 const WORDS4: &[Sort] = &[Sort::Exp, Sort::Exp, Sort::Exp, Sort::Exp];
 
+/// One formula.
 const FORMS1: &[Sort] = &[Sort::Form];
 
+/// Two formulas.
 const FORMS2: &[Sort] = &[Sort::Form, Sort::Form];
 
+/// Three formulas.
 const FORMS3: &[Sort] = &[Sort::Form, Sort::Form, Sort::Form];
 
-/// The first parameter as a word; then the second to the fourth, the first as a memory, and the
-/// first three as formulas.
+/// The first parameter, a word.
 const A: Exp = Exp::Par(0);
 
+/// The second parameter, a word.
 const B: Exp = Exp::Par(1);
 
+/// The third parameter, a word.
 const C: Exp = Exp::Par(2);
 
+/// The fourth parameter, a word.
 const D: Exp = Exp::Par(3);
 
+/// The first parameter, a memory.
 const M: Mem = Mem::Par(0);
 
+/// The first parameter, a formula.
 const P: Form = Form::Par(0);
 
+/// The second parameter, a formula.
 const Q: Form = Form::Par(1);
 
+/// The third parameter, a formula.
 const R: Form = Form::Par(2);
 
 /// The greatest word.
