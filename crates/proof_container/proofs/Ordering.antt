@@ -7,7 +7,7 @@ use Rattle.term_table.specs.Equality.{tree_eq}
 use Rattle.term_table.specs.Table.{Terms, IsKnown, AllKnown, tree_in, tree_at, AreDifferent}
 use Rattle.term_table.proofs.Equality.{tree_eq_refl}
 use Rattle.proof_container.specs.Reading.{first_misplaced}
-use Rattle.proof_container.specs.Walked.{IsPlaced}
+use Rattle.proof_container.specs.Inside.Walked.{IsPlaced}
 use Rattle.proof_container.proofs.Walks.{tree_eq-false}
 
 -- the first n places have the same trees

@@ -11,7 +11,7 @@ use Rattle.proof_container.specs.Contents.{Contents, one_or_none, roots}
 use Rattle.proof_container.specs.Walks.{is_listed, HasParts, Grows, AreListed, entries}
 use Rattle.proof_container.specs.Spelling.{field_bytes, head_fields, tail_fields, spelling, AreTerms, IsContents, IsBytes}
 use Rattle.proof_container.specs.Views.{AreKnown, AllTerms, IsWritable, inv_trees, view_contents}
-use Rattle.proof_container.specs.Walked.{IsLeft, IsReady, HaveParts, root_trees, left_trees}
+use Rattle.proof_container.specs.Inside.Walked.{IsLeft, IsReady, HaveParts, root_trees, left_trees}
 use Rattle.proof_container.proofs.Small.{AreListed-split}
 use Rattle.proof_container.proofs.Walks.{listed-left, entries_grow, entries_listed}
 

@@ -16,7 +16,7 @@ use Rattle.proof_container.specs.Contents.{one_or_none}
 use Rattle.proof_container.specs.Walks.{is_listed, once, visit, walk, entries}
 use Rattle.proof_container.specs.Spelling.{entry_number}
 use Rattle.proof_container.specs.Views.{AreKnown, inv_trees}
-use Rattle.proof_container.specs.Walked.{IsLeft, AreMarks, mark, root_trees, part_steps, proof_steps, first_steps, taken, all_taken, IsStep, AreSteps, left_trees, IsUnderWay, nodes, steps_cost}
+use Rattle.proof_container.specs.Inside.Walked.{IsLeft, AreMarks, mark, root_trees, part_steps, proof_steps, first_steps, taken, all_taken, IsStep, AreSteps, left_trees, IsUnderWay, nodes, steps_cost}
 use Rattle.proof_container.proofs.Walks.{listed-last, listed-push, number_is, number-append, visit-listed, visit-app, visit-tapp, visit-pi, visit-lam}
 
 -- ---- lists of steps

@@ -8,7 +8,7 @@ use Rattle.term_table.proofs.Equality.{tree_eq_refl, tree_eq-true}
 use Rattle.proof_container.specs.Walks.{is_listed, once, visit, walk, entries, HasParts, Grows, AreListed}
 use Rattle.proof_container.specs.Spelling.{entry_number, AreTerms}
 use Rattle.proof_container.specs.Reading.{first_misplaced}
-use Rattle.proof_container.specs.Walked.{nodes}
+use Rattle.proof_container.specs.Inside.Walked.{nodes}
 
 -- ---- lists of trees
 

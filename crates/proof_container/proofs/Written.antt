@@ -13,7 +13,7 @@ use Rattle.proof_container.specs.Contents.{Contents, roots}
 use Rattle.proof_container.specs.Walks.{is_listed, HasParts, AreListed, entries}
 use Rattle.proof_container.specs.Spelling.{field_bytes, entry_fields, inv_fields, proof_field, head_fields, tail_fields, spelling}
 use Rattle.proof_container.specs.Reading.{entry_size}
-use Rattle.proof_container.specs.Walked.{HaveParts}
+use Rattle.proof_container.specs.Inside.Walked.{HaveParts}
 use Rattle.proof_container.proofs.FieldLaws.{length-field_bytes}
 use Rattle.proof_container.proofs.EntryLaws.{entry_size_is}
 use Rattle.proof_container.proofs.Sections.{length-invs}

@@ -9,6 +9,7 @@ pub record Contents : Type 0 where
   pub invs : List (ℕ × Tree)
   pub proof : Option Tree
 
+-- the tree alone, if there is one
 abbrev pub one_or_none : Option Tree → List Tree
 one_or_none None = []
 one_or_none (Some t) = t ∷ []

@@ -6,4 +6,4 @@ pub mod Walks
 pub mod Spelling
 pub mod Reading
 pub mod Views
-pub mod Walked
+pub mod Inside

@@ -9,6 +9,7 @@ use Rattle.proof_container.specs.declared.fault.Flaw.{Flaw}
 use Rattle.proof_container.specs.declared.fault.Flaw.TheVariants.{Cut, Magic, Version, Count, EntryKind, ForwardRef, DoubleEntry, Order, LambdaHead, InvOrder, Trailing}
 use Rattle.proof_container.specs.Contents.{Contents, roots}
 use Rattle.proof_container.specs.Walks.{is_listed, entries}
+use Rattle.proof_container.specs.declared.limits.TheConstants.{MAX_WORDS, MAX_ENTRIES, MAX_INVS}
 use Rattle.proof_container.specs.Spelling.{magic}
 
 -- an offset, and what is wrong there
@@ -16,12 +17,14 @@ abbrev pub Fault : Type 0
 Fault = ℕ × Flaw
 
 infixl 10 ◌>>=◌
+-- the next step at an answer; a fault stays
 abbrev pub ◌>>=◌ : {A B : Type 0} → Result A Fault → (A → Result B Fault) → Result B Fault
 (Ok x) >>= f = f x
 (Err e) >>= f = Err e
 
 -- ---- fields, by their number from the front
 
+-- field i, if it stands whole in the bytes
 abbrev pub field_at : List ℕ → ℕ → Result ℕ Fault
 field_at bytes i = if nat_lt (length bytes) (4 * i + 4) then Err (4 * i, Cut) else Ok (from_le_bytes w32 (drop (4 * i) bytes))
 
@@ -33,6 +36,7 @@ exact_at bytes i n flaw = field_at bytes i >>= λ m. if m == n then Ok m else Er
 abbrev pub count_at : List ℕ → ℕ → ℕ → ℕ → Result ℕ Fault
 count_at bytes i low high = field_at bytes i >>= λ n. if nat_lt n low || nat_lt high n then Err (4 * i, Count) else Ok n
 
+-- the word in fields i and i + 1, the low half first
 abbrev pub word_at : List ℕ → ℕ → Result ℕ Fault
 word_at bytes i = do
   low ← field_at bytes i
@@ -47,11 +51,12 @@ head_read bytes = do
   first ← exact_at bytes 0 magic Magic
   version ← exact_at bytes 1 1 Version
   policy ← field_at bytes 2
-  words ← count_at bytes 3 1 1024
+  words ← count_at bytes 3 1 MAX_WORDS
   if nat_lt (length bytes) (16 + 4 * words) then Err (4 * (length bytes / 4), Cut) else Ok (policy, words)
 
 -- ---- entries, the trees of the earlier ones being ts
 
+-- whether a tree is an abstraction
 abbrev pub is_lam : Tree → Bool
 is_lam (Lam b) = true
 is_lam (Var n) = false
@@ -69,6 +74,7 @@ part_at bytes i ts = field_at bytes i >>= λ e. if nat_lt e (length ts) then Ok 
 abbrev pub head_at : List ℕ → ℕ → List Tree → Result Tree Fault
 head_at bytes i ts = part_at bytes i ts >>= λ f. if is_lam f then Err (4 * i, LambdaHead) else Ok f
 
+-- what fields i and i + 1 name, the one applied to the other
 abbrev pub application_at : List ℕ → ℕ → List Tree → Result Tree Fault
 application_at bytes i ts = do
   f ← head_at bytes i ts
@@ -96,6 +102,7 @@ kind_at bytes i ts kind =
     if kind == 7 then part_at bytes (i + 1) ts >>= (λ b. Ok (Lam b)) else
     Err (4 * i, EntryKind)
 
+-- the entry whose kind is field i
 abbrev pub entry_at : List ℕ → ℕ → List Tree → Result Tree Fault
 entry_at bytes i ts = field_at bytes i >>= λ kind. kind_at bytes i ts kind
 
@@ -123,7 +130,7 @@ entries_at (suc n) bytes i ts = do
 -- the entries behind so many words of code
 unfoldable pub entries_read : List ℕ → ℕ → Result (List Tree × ℕ) Fault
 entries_read bytes words = do
-  count ← count_at bytes (4 + words) 0 262144
+  count ← count_at bytes (4 + words) 0 MAX_ENTRIES
   entries_at count bytes (5 + words) []
 
 -- ---- invariants and proof, the entries' trees being es
@@ -143,9 +150,10 @@ invs_at (suc n) bytes i es words low invs = do
   inv ← inv_at bytes i es words low
   invs_at n bytes (i + 2) es words (inv.0 + 1) (invs ++ inv ∷ [])
 
+-- the invariants, whose count is field i
 unfoldable pub invs_read : List ℕ → ℕ → List Tree → ℕ → Result (List (ℕ × Tree)) Fault
 invs_read bytes i es words = do
-  count ← count_at bytes i 0 256
+  count ← count_at bytes i 0 MAX_INVS
   invs_at count bytes (i + 1) es words 0 []
 
 -- field i: 0 for none, or 1 and the number of an entry
@@ -166,6 +174,7 @@ first_misplaced (e ∷ es) (w ∷ ws) = if tree_eq e w then option_map suc (firs
 abbrev pub entry_offset : ℕ → List Tree → ℕ → ℕ
 entry_offset words es e = 4 * (5 + words + sum_by entry_size (take e es))
 
+-- the contents, where no entry is misplaced
 abbrev pub ordered : ℕ → List Tree → Contents → Option ℕ → Result Contents Fault
 ordered words es c None = Ok c
 ordered words es c (Some e) = Err (entry_offset words es e, Order)
@@ -182,4 +191,9 @@ container_read bytes = do
   es ← entries_read bytes head.1
   invs ← invs_read bytes es.1 es.0 head.1
   proof ← proof_read bytes (es.1 + 1 + 2 * length invs) es.0
-  end_read bytes (es.1 + 2 + 2 * length invs) head.1 es.0 (record { policy = head.0; code = slice_range bytes 16 (16 + 4 * head.1); invs = invs; proof = proof })
+  end_read bytes (es.1 + 2 + 2 * length invs) head.1 es.0 (record {
+    policy = head.0;
+    code = slice_range bytes 16 (16 + 4 * head.1);
+    invs = invs;
+    proof = proof;
+  })

@@ -6,6 +6,7 @@ use Rattle.std.specs.Int.{w32, to_le_bytes}
 use Rattle.term_table.specs.Tree.{Tree, Var, Con, App, Lam, Fam, TApp, Pi, Const, Num, Lit, Calc, Fact, Deny, IsTerm}
 use Rattle.term_table.specs.Equality.{tree_eq}
 use Rattle.term_table.specs.Table.{IsSmall}
+use Rattle.proof_container.specs.declared.limits.TheConstants.{MAX_WORDS, MAX_ENTRIES, MAX_INVS}
 use Rattle.proof_container.specs.Contents.{Contents, roots}
 use Rattle.proof_container.specs.Walks.{entries}
 
@@ -85,10 +86,10 @@ pub record IsContents (c : Contents) : Type 0 where
   pub bytes : IsBytes c.code
   pub whole : 4 * (length c.code / 4) ≡ length c.code
   pub some : 0 < length c.code
-  pub short : length c.code ≤ 4096
+  pub short : length c.code ≤ 4 * MAX_WORDS
   pub terms : AreTerms (roots c)
-  pub entries : length (entries (roots c)) ≤ 262144
-  pub invs : length c.invs ≤ 256
+  pub entries : length (entries (roots c)) ≤ MAX_ENTRIES
+  pub invs : length c.invs ≤ MAX_INVS
   pub rising : AreRising 0 (length c.code / 4) c.invs
 
 -- the bytes are a container with these contents

@@ -9,6 +9,7 @@ use Rattle.proof_container.specs.declared.container.Container.{Container}
 use Rattle.proof_container.specs.declared.container.View.{View}
 use Rattle.proof_container.specs.declared.fault.Malformed.{Malformed}
 use Rattle.proof_container.specs.declared.fault.Malformed.TheVariants as malformed
+use Rattle.proof_container.specs.declared.limits.TheConstants.{MAX_WORDS, MAX_ENTRIES, MAX_INVS}
 use Rattle.proof_container.specs.Contents.{Contents, roots}
 use Rattle.proof_container.specs.Walks.{entries}
 use Rattle.proof_container.specs.Spelling.{AreRising, Spells}
@@ -20,10 +21,21 @@ inv_trees t invs = map (λ inv. (inv.0, tree_at t inv.1)) invs
 
 -- what a container holds
 abbrev pub contents_of : Container → Contents
-contents_of c = record { policy = c.policy; code = c.code.now; invs = inv_trees c.table c.invs.items; proof = option_map (tree_at c.table) c.proof }
+contents_of c = record {
+  policy = c.policy;
+  code = c.code.now;
+  invs = inv_trees c.table c.invs.items;
+  proof = option_map (tree_at c.table) c.proof;
+}
 
+-- what a view shows
 abbrev pub view_contents : View → Contents
-view_contents v = record { policy = v.policy; code = v.code.now; invs = inv_trees v.table.now v.invs.now; proof = option_map (tree_at v.table.now) v.proof }
+view_contents v = record {
+  policy = v.policy;
+  code = v.code.now;
+  invs = inv_trees v.table.now v.invs.now;
+  proof = option_map (tree_at v.table.now) v.proof;
+}
 
 -- the roots are ids of the table
 abbrev pub AreKnown : Terms → List (ℕ × ℕ) → Option ℕ → Type 0
@@ -63,15 +75,16 @@ abbrev pub AllTerms : List Tree → Type 0
 AllTerms [] = Unit {0}
 AllTerms (t ∷ ts) = IsTerm t × AllTerms ts
 
--- a view that can be written: its roots are terms of its table, its code is whole words, its counts are within the limits, and its indices rise below the count of words
+-- a view that can be written: its roots are terms of its table, its code is whole words, its counts are within the limits,
+-- and its indices rise below the count of words
 pub record IsWritable (v : View) : Type 0 where
   pub known : AreKnown v.table.now v.invs.now v.proof
   pub terms : AllTerms (roots (view_contents v))
   pub whole : 4 * (length v.code.now / 4) ≡ length v.code.now
   pub some : 0 < length v.code.now
-  pub short : length v.code.now ≤ 4096
-  pub entries : length (entries (roots (view_contents v))) ≤ 262144
-  pub invs : length v.invs.now ≤ 256
+  pub short : length v.code.now ≤ 4 * MAX_WORDS
+  pub entries : length (entries (roots (view_contents v))) ≤ MAX_ENTRIES
+  pub invs : length v.invs.now ≤ MAX_INVS
   pub rising : AreRising 0 (length v.code.now / 4) (view_contents v).invs
 
 -- the containers are the same, wherever their code lies

@@ -4,6 +4,7 @@ use Rattle.std.specs.List.{list_any}
 use Rattle.term_table.specs.Tree.{Tree, Var, Con, App, Lam, Fam, TApp, Pi}
 use Rattle.term_table.specs.Equality.{tree_eq}
 
+-- whether a tree is one of these
 abbrev pub is_listed : Tree → List Tree → Bool
 is_listed t ts = list_any (tree_eq t) ts
 

@@ -3,16 +3,16 @@
 ghost use Rattle.std.specs.Prelude.{◌≡◌, ◌+◌, ◌*◌, ◌<◌, ◌≤◌, ◌^◌, false, [], length, IfOk};
 ghost use Rattle.term_table.specs.Table.{IsKnown, PartsKnown, tree_at, node_tree, with_tree};
 ghost use Rattle.proof_container.specs.Walks.{is_listed};
-ghost use Rattle.proof_container.specs.Reading.{part_at, head_at, application_at, kind_at, entry_at, entry_size, entries_at, entries_read};
+ghost use Rattle.proof_container.specs.Reading.{part_at, head_at, application_at, kind_at};
+ghost use Rattle.proof_container.specs.Reading.{entry_at, entry_size, entries_at, entries_read};
+ghost use Rattle.proof_container.specs.declared.limits.TheConstants.{MAX_WORDS, MAX_ENTRIES};
 ghost use Rattle.proof_container.specs.Views.{Gives};
 
 use crate::fault::{Flaw, Malformed};
 use crate::fields::{count, fault, field, triple, word};
+use crate::limits::MAX_ENTRIES;
 use std::alloc::AllocError;
 use term_table::{Id, Node, Table};
-
-/// No container has more entries.
-const MAX_ENTRIES: u32 = 262_144;
 
 /// The earlier entry that field i names.
 pub fn part(bytes: &[u8], i: usize, table: &Table) -> Result<Id, Malformed>
@@ -109,7 +109,8 @@ pub fn size(table: &Table, node: &Node) -> usize
 fn is_double(table: &mut Table, node: Node) -> Result<bool, AllocError>
     requires { PartsKnown table.old node }
     ensures listed { IfOk result (λ b. b ≡ is_listed (node_tree table.old node) table.old.trees) }
-    ensures added { IfOk result (λ b. b ≡ false → table.new ≡ with_tree table.old (node_tree table.old node)) }
+    ensures added { IfOk result (λ b. b ≡ false →
+        table.new ≡ with_tree table.old (node_tree table.old node)) }
 {
     let known = table.count();
     let id = table.intern(node)?;
@@ -126,8 +127,9 @@ fn entries_from(
     table: &mut Table,
 ) -> Result<usize, Malformed>
     requires start { start < 2 ^ 20 }
-    requires few { count ≤ 262144 }
-    ensures read { Gives (λ next. (table.new.trees, next)) (entries_at count bytes.now start table.old.trees) result }
+    requires few { count ≤ MAX_ENTRIES }
+    ensures read { Gives (λ next. (table.new.trees, next))
+        (entries_at count bytes.now start table.old.trees) result }
     ensures places { IfOk result (λ _. table.new.places ≡ table.old.places) }
     ensures near { IfOk result (λ next. next ≤ start + 6 * count) }
     ensures few { IfOk result (λ _. length table.new.trees ≤ length table.old.trees + count) }
@@ -147,12 +149,12 @@ fn entries_from(
 /// The entries behind so many words of code come to the table. Answers with the field behind them.
 #[tactic(auto, unfolding(crate::specs::Reading::entries_read))]
 pub fn entries(bytes: &[u8], words: usize, table: &mut Table) -> Result<usize, Malformed>
-    requires short { words ≤ 1024 }
+    requires short { words ≤ MAX_WORDS }
     requires empty { table.old.trees ≡ [] }
     ensures read { Gives (λ next. (table.new.trees, next)) (entries_read bytes.now words) result }
     ensures places { IfOk result (λ _. table.new.places ≡ table.old.places) }
     ensures near { IfOk result (λ next. next < 2 ^ 22) }
-    ensures few { IfOk result (λ _. length table.new.trees ≤ 262144) }
+    ensures few { IfOk result (λ _. length table.new.trees ≤ MAX_ENTRIES) }
 {
     let count = count(bytes, 4 + words, 0, MAX_ENTRIES)?;
     entries_from(bytes, count, 5 + words, table)

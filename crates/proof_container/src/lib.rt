@@ -11,15 +11,17 @@ mod container;
 mod entry;
 mod fault;
 mod fields;
-mod known;
+mod limits;
 mod reading;
 #[cfg(test)]
 mod tests;
+mod theorems;
 mod walk;
 mod writing;
 
 pub use container::{Container, View};
 pub use fault::{Flaw, Malformed};
-pub use known::laws;
+pub use limits::{MAX_BYTES, MAX_ENTRIES, MAX_INVS, MAX_WORDS};
 pub use reading::read;
+pub use theorems::laws;
 pub use writing::{extent, write};

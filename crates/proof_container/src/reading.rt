@@ -1,27 +1,27 @@
 //! Reading a container, front to back.
 
-ghost use Rattle.std.specs.Prelude.{◌≡◌, [], ◌+◌, ◌*◌, ◌<◌, ◌≤◌, ◌^◌, length, map, ◌↔◌, IfOk, IfErr, IfSome, IsTrue};
+ghost use Rattle.std.specs.Prelude.{◌≡◌, [], ◌+◌, ◌*◌, ◌<◌, ◌≤◌, ◌^◌, length, map, ◌↔◌};
+ghost use Rattle.std.specs.Prelude.{IfOk, IfErr, IfSome, IsTrue};
 ghost use Rattle.std.specs.List.{AllByRecursion};
 ghost use Rattle.std.specs.Option.{option_map};
 ghost use Rattle.term_table.specs.Table.{IsKnown, AllKnown, tree_at};
 ghost use Rattle.proof_container.specs.Spelling.{Spells};
-ghost use Rattle.proof_container.specs.Reading.{head_read, inv_at, invs_at, invs_read, proof_read, first_misplaced, entry_offset, end_read, container_read};
-ghost use Rattle.proof_container.specs.Walked.{IsPlaced};
+ghost use Rattle.proof_container.specs.Reading.{head_read, inv_at, invs_at, invs_read, proof_read};
+ghost use Rattle.proof_container.specs.Reading.{first_misplaced, entry_offset, end_read};
+ghost use Rattle.proof_container.specs.Reading.{container_read};
+ghost use Rattle.proof_container.specs.declared.limits.TheConstants.{MAX_WORDS, MAX_INVS};
+ghost use Rattle.proof_container.specs.declared.limits.TheConstants.{MAX_ENTRIES};
+ghost use Rattle.proof_container.specs.Inside.Walked.{IsPlaced};
 ghost use Rattle.proof_container.specs.Views.{Gives, IsNone, IsCanonical, AreKnown, contents_of, inv_trees};
 
 use crate::container::Container;
 use crate::entry::{entries, part, size};
 use crate::fault::{Flaw, Malformed};
 use crate::fields::{MAGIC, VERSION, count, exact, fault, field};
+use crate::limits::{MAX_INVS, MAX_WORDS};
 use crate::walk::walk_from;
 use std::alloc::Global;
 use term_table::{Id, Places, Table};
-
-/// No code has more words.
-const MAX_WORDS: u32 = 1_024;
-
-/// No container has more invariants.
-const MAX_INVS: u32 = 256;
 
 /// What stands before the entries.
 #[derive(Clone, Copy)]
@@ -35,7 +35,7 @@ struct Head {
 fn head_of(bytes: &[u8]) -> Result<Head, Malformed>
     ensures read { Gives (λ h. (h.policy, h.words)) (head_read bytes.now) result }
     ensures whole { IfOk result (λ h. 16 + 4 * h.words ≤ length bytes.now) }
-    ensures short { IfOk result (λ h. h.words ≤ 1024) }
+    ensures short { IfOk result (λ h. h.words ≤ MAX_WORDS) }
 {
     exact(bytes, 0, MAGIC, Flaw::Magic)?;
     exact(bytes, 1, VERSION, Flaw::Version)?;
@@ -56,7 +56,8 @@ fn inv(
     low: u32,
 ) -> Result<(u32, Id), Malformed>
     requires { i < 2 ^ 59 }
-    ensures read { Gives (λ inv. (inv.0, tree_at table.now inv.1)) (inv_at bytes.now i table.now.trees words low) result }
+    ensures read { Gives (λ inv. (inv.0, tree_at table.now inv.1))
+        (inv_at bytes.now i table.now.trees words low) result }
     ensures known { IfOk result (λ inv. IsKnown table.now inv.1) }
     ensures small { IfOk result (λ inv. inv.0 < words) }
 {
@@ -77,11 +78,12 @@ fn invs_from(
     words: usize,
 ) -> Result<Vec<(u32, Id)>, Malformed>
     requires start { start < 2 ^ 30 }
-    requires few { count ≤ 256 }
-    requires short { words ≤ 1024 }
-    ensures read { Gives (λ v. inv_trees table.now v.items) (invs_at count bytes.now start table.now.trees words 0 []) result }
+    requires few { count ≤ MAX_INVS }
+    requires short { words ≤ MAX_WORDS }
+    ensures read { Gives (λ v. inv_trees table.now v.items)
+        (invs_at count bytes.now start table.now.trees words 0 []) result }
     ensures known { IfOk result (λ v. AllByRecursion (λ inv. IsKnown table.now inv.1) v.items) }
-    ensures few { IfOk result (λ v. length v.items ≤ 256) }
+    ensures few { IfOk result (λ v. length v.items ≤ MAX_INVS) }
 {
     let mut invs = Vec::new(alloc);
     let mut at = start;
@@ -105,10 +107,11 @@ fn invs(
     words: usize,
 ) -> Result<Vec<(u32, Id)>, Malformed>
     requires start { i < 2 ^ 29 }
-    requires short { words ≤ 1024 }
-    ensures read { Gives (λ v. inv_trees table.now v.items) (invs_read bytes.now i table.now.trees words) result }
+    requires short { words ≤ MAX_WORDS }
+    ensures read { Gives (λ v. inv_trees table.now v.items)
+        (invs_read bytes.now i table.now.trees words) result }
     ensures known { IfOk result (λ v. AllByRecursion (λ inv. IsKnown table.now inv.1) v.items) }
-    ensures few { IfOk result (λ v. length v.items ≤ 256) }
+    ensures few { IfOk result (λ v. length v.items ≤ MAX_INVS) }
 {
     let count = count(bytes, i, 0, MAX_INVS)?;
     invs_from(alloc, bytes, count, i + 1, table, words)
@@ -118,7 +121,8 @@ fn invs(
 #[tactic(auto, unfolding(crate::specs::Reading::proof_read))]
 fn proof(bytes: &[u8], i: usize, table: &Table) -> Result<Option<Id>, Malformed>
     requires { i < 2 ^ 59 }
-    ensures read { Gives (λ p. option_map (tree_at table.now) p) (proof_read bytes.now i table.now.trees) result }
+    ensures read { Gives (λ p. option_map (tree_at table.now) p)
+        (proof_read bytes.now i table.now.trees) result }
     ensures known { IfOk result (λ p. IfSome p (λ id. IsKnown table.now id)) }
 {
     let number = u64::from(field(bytes, i)?);
@@ -142,7 +146,8 @@ fn is_placed(left: &[Id], e: u64) -> bool
 /// The first entry that isn't the one at its place of the walk.
 fn misplaced(table: &Table, left: &[Id]) -> Option<u64>
     requires { AllKnown table.now left.now }
-    ensures place { result ≡ first_misplaced table.now.trees (map (λ id. tree_at table.now id) left.now) }
+    ensures place { result ≡
+        first_misplaced table.now.trees (map (λ id. tree_at table.now id) left.now) }
     ensures within { IfSome result (λ e. e < length table.now.trees) }
 {
     table.laws();
@@ -157,8 +162,8 @@ fn misplaced(table: &Table, left: &[Id]) -> Option<u64>
 /// The first field of an entry.
 fn entry_field(table: &Table, words: usize, e: u64) -> usize
     requires known { e ≤ length table.now.trees }
-    requires few { length table.now.trees ≤ 262144 }
-    requires short { words ≤ 1024 }
+    requires few { length table.now.trees ≤ MAX_ENTRIES }
+    requires short { words ≤ MAX_WORDS }
     ensures value { 4 * result ≡ entry_offset words table.now.trees e }
     ensures near { result < 2 ^ 30 }
 {
@@ -180,10 +185,12 @@ fn end(
     container: &Container<'_>,
 ) -> Result<(), Malformed>
     requires place { i < 2 ^ 59 }
-    requires few { length container.now.table.trees ≤ 262144 }
-    requires short { words ≤ 1024 }
+    requires few { length container.now.table.trees ≤ MAX_ENTRIES }
+    requires short { words ≤ MAX_WORDS }
     requires known { AreKnown container.now.table container.now.invs.items container.now.proof }
-    ensures { Gives (λ _. contents_of container.now) (end_read bytes.now i words container.now.table.trees (contents_of container.now)) result }
+    ensures { let contents = contents_of container.now in
+        Gives (λ _. contents)
+        (end_read bytes.now i words container.now.table.trees contents) result }
 {
     if bytes.len() > 4 * i {
         return Err(fault(i, Flaw::Trailing));
@@ -219,11 +226,12 @@ fn parse(alloc: Global, bytes: &[u8]) -> Result<Container<'_>, Malformed>
     Ok(container)
 }
 
-/// The container that the bytes spell, all of them; its terms are the entries, in the order in which
-/// they stand.
+/// Decodes container `bytes`; its terms are the entries, in the order in which they stand, and its
+/// code is a slice of `bytes`.
 ///
-/// Else the first fault with its offset: fields are read from the front, and each is tested as soon
-/// as it is read.
+/// Errors: the first fault with its byte offset, fields being read from the front and each tested as
+/// soon as it is read; `Memory` says nothing of `bytes`. The format is this project's own
+/// (`specs/Spelling`).
 pub fn read(alloc: Global, bytes: &[u8]) -> Result<Container<'_>, Malformed>
     ensures spelled { IfOk result (λ c. Spells bytes.now (contents_of c)) }
     ensures none { IfErr result (λ e. IsNone bytes.now e) }

@@ -59,6 +59,32 @@ fn bytes_of(alloc: Global, rows: &[&[u32]]) -> Result<Vec<u8>, AllocError> {
     Ok(bytes)
 }
 
+/// A container with an entry of each kind.
+fn each_kind(alloc: Global) -> Result<Vec<u8>, AllocError> {
+    bytes_of(
+        alloc,
+        &[
+            &OF_TWO,
+            &[13],
+            &[1, 15],
+            &[0, 0xffff_ffff],
+            &[6, 0, 1],
+            &[2, 5, 0],
+            &[6, 2, 3],
+            &[2, 5, HIGH],
+            &[3, 0xffff_ffff, 1, 2, 3, 4],
+            &[6, 5, 6],
+            &[4, 1, 1, 0, 0, 1],
+            &[6, 7, 8],
+            &[5, 0, 0, 1, 1, 0],
+            &[6, 10, 9],
+            &[7, 11],
+            &[2, 0, 4, 1, 9],
+            &[13],
+        ],
+    )
+}
+
 /// The node of the id of this index.
 fn node(table: &Table, index: usize) -> Made<Node> {
     let index = index as u64;
@@ -76,7 +102,7 @@ fn fault_of(alloc: Global, bytes: &[u8]) -> Option<Malformed> {
     }
 }
 
-/// How many terms there are, and what is written of what was read; both are the extent that is told.
+/// How many terms there are, and what is written of what was read; both are the extent.
 fn again(alloc: Global, bytes: &[u8]) -> Made<(u64, Vec<u8>)> {
     match read(alloc, bytes) {
         Err(_) => Err("a fault"),
@@ -200,18 +226,15 @@ fn faults_before_the_entries(rt: HostRuntime) -> Result<(), Fail> {
 #[test]
 fn faults_behind_the_code(rt: HostRuntime) -> Result<(), Fail> {
     let a = rt.alloc();
-    let rows: [(&[u32], u32, u64, Flaw); 22] = [
+    let rows: [(&[u32], u32, u64, Flaw); 18] = [
         (&[262_145], 0, 20, Flaw::Count),
         (&[1, 8], 0, 24, Flaw::EntryKind),
-        (&[1, 2, 5, 7], 2, 32, Flaw::Cut),
-        (&[1, 3, 6, 1, 2, 3, 4], 1, 44, Flaw::Cut),
         (&[1, 7, 0], 0, 28, Flaw::ForwardRef),
         (&[2, 1, 13, 6, 1, 0], 0, 36, Flaw::ForwardRef),
         (&[2, 1, 13, 6, 0, 1], 0, 40, Flaw::ForwardRef),
         (&[2, 1, 13, 1, 13], 0, 32, Flaw::DoubleEntry),
         (&[3, 1, 13, 6, 0, 0, 6, 0, 0], 0, 44, Flaw::DoubleEntry),
         (&[3, 1, 13, 7, 0, 6, 1, 0], 0, 44, Flaw::LambdaHead),
-        (&[3, 1, 13, 7, 0, 6, 1, 2], 0, 44, Flaw::LambdaHead),
         (&[0, 257], 0, 24, Flaw::Count),
         (&[1, 1, 13, 1, 1, 0], 0, 36, Flaw::InvOrder),
         (&[1, 1, 13, 1, 0, 1], 0, 40, Flaw::ForwardRef),
@@ -219,7 +242,6 @@ fn faults_behind_the_code(rt: HostRuntime) -> Result<(), Fail> {
         (&[1, 1, 13, 1, 0, 0, 0, 9], 3, 48, Flaw::Trailing),
         // the invariant is the second entry
         (&[2, 1, 13, 1, 14, 1, 0, 1, 0], 0, 24, Flaw::Order),
-        (&[2, 1, 13, 1, 14, 1, 0, 1, 0, 9], 0, 56, Flaw::Trailing),
         // the proof comes before the invariant
         (&[2, 1, 13, 1, 14, 1, 0, 1, 1], 0, 24, Flaw::Order),
         // nothing needs the second entry
@@ -247,6 +269,93 @@ fn faults_behind_the_code(rt: HostRuntime) -> Result<(), Fail> {
     let twice_at_one = bytes_of(a, &[&OF_TWO, &[1, 1, 13, 2, 1, 0, 1, 0, 0]])?;
     let rising = Malformed::At(48, Flaw::InvOrder);
     assert_eq!(rt; fault_of(a, &twice_at_one), Some(rising));
+    Ok(())
+}
+
+/// Where two faults meet, the one whose field is read first is told; one that needs the whole
+/// container comes last.
+#[test]
+fn the_first_of_two_faults(rt: HostRuntime) -> Result<(), Fail> {
+    let a = rt.alloc();
+    let rows: [(&[u32], &[u32], u64, Flaw); 26] = [
+        // the magic, the version, the counts
+        (&[PCCA + 1, 2], &[], 0, Flaw::Magic),
+        (&[PCCA, 2, 1, 0], &[], 4, Flaw::Version),
+        (&[PCCA, 1, 1, 1_025, LOOP], &[262_145], 12, Flaw::Count),
+        (&OF_LOOP, &[262_145, 8], 20, Flaw::Count),
+        // two entries
+        (&OF_LOOP, &[2, 8, 7, 9], 24, Flaw::EntryKind),
+        (&OF_LOOP, &[2, 7, 0, 8], 28, Flaw::ForwardRef),
+        (&OF_LOOP, &[3, 1, 13, 1, 13, 8], 32, Flaw::DoubleEntry),
+        (&OF_LOOP, &[3, 1, 13, 8, 1, 13], 32, Flaw::EntryKind),
+        // one entry
+        (&OF_LOOP, &[1, 6, 5, 6], 28, Flaw::ForwardRef),
+        (&OF_LOOP, &[1, 6, 5], 28, Flaw::ForwardRef),
+        (&OF_LOOP, &[3, 1, 13, 7, 0, 6, 1], 44, Flaw::LambdaHead),
+        (&OF_LOOP, &[3, 1, 13, 1, 13], 32, Flaw::DoubleEntry),
+        // an entry and what stands behind
+        (&OF_LOOP, &[2, 1, 13, 1, 13, 257], 32, Flaw::DoubleEntry),
+        (
+            &OF_LOOP,
+            &[3, 1, 14, 1, 13, 1, 14, 1, 0, 1, 0],
+            40,
+            Flaw::DoubleEntry,
+        ),
+        (
+            &OF_LOOP,
+            &[3, 1, 13, 7, 0, 6, 1, 0, 257],
+            44,
+            Flaw::LambdaHead,
+        ),
+        // invariants
+        (&OF_LOOP, &[1, 1, 13, 257, 1, 9], 32, Flaw::Count),
+        (&OF_LOOP, &[1, 1, 13, 1, 1, 9, 0], 36, Flaw::InvOrder),
+        (&OF_LOOP, &[1, 1, 13, 1, 1], 36, Flaw::InvOrder),
+        (&OF_TWO, &[1, 1, 13, 2, 1, 0, 0, 9, 0], 48, Flaw::InvOrder),
+        (&OF_TWO, &[1, 1, 13, 2, 1, 9, 0, 0, 0], 44, Flaw::ForwardRef),
+        (&OF_LOOP, &[1, 1, 13, 1, 0, 5, 7], 40, Flaw::ForwardRef),
+        (
+            &OF_LOOP,
+            &[2, 1, 13, 1, 14, 1, 0, 2, 0],
+            48,
+            Flaw::ForwardRef,
+        ),
+        (&OF_LOOP, &[2, 1, 13, 1, 14, 1, 1, 1, 0], 44, Flaw::InvOrder),
+        // the proof and the end
+        (&OF_LOOP, &[1, 1, 13, 1, 0, 0, 2, 9], 44, Flaw::ForwardRef),
+        (
+            &OF_LOOP,
+            &[2, 1, 13, 1, 14, 1, 0, 1, 9],
+            52,
+            Flaw::ForwardRef,
+        ),
+        (
+            &OF_LOOP,
+            &[2, 1, 13, 1, 14, 1, 0, 1, 0, 9],
+            56,
+            Flaw::Trailing,
+        ),
+    ];
+    for (head, tail, offset, flaw) in rows {
+        let bytes = bytes_of(a, &[head, tail])?;
+        assert_eq!(rt;
+            fault_of(a, &bytes),
+            Some(Malformed::At(offset, flaw)),
+            "{tail:?}"
+        );
+    }
+    Ok(())
+}
+
+/// Wherever bytes with each kind of entry are cut, the field that is cut is told.
+#[test]
+fn each_cut(rt: HostRuntime) -> Result<(), Fail> {
+    let a = rt.alloc();
+    let mut bytes = each_kind(a)?;
+    while bytes.pop().is_some() {
+        let offset = bytes.len() as u64 / 4 * 4;
+        assert_eq!(rt; fault_of(a, &bytes), Some(Malformed::At(offset, Flaw::Cut)));
+    }
     Ok(())
 }
 
@@ -288,28 +397,7 @@ fn a_loop_is_read(rt: HostRuntime) -> Result<(), Fail> {
 #[test]
 fn each_kind_is_read(rt: HostRuntime) -> Result<(), Fail> {
     let a = rt.alloc();
-    let bytes = bytes_of(
-        a,
-        &[
-            &OF_TWO,
-            &[13],
-            &[1, 15],
-            &[0, 0xffff_ffff],
-            &[6, 0, 1],
-            &[2, 5, 0],
-            &[6, 2, 3],
-            &[2, 5, HIGH],
-            &[3, 0xffff_ffff, 1, 2, 3, 4],
-            &[6, 5, 6],
-            &[4, 1, 1, 0, 0, 1],
-            &[6, 7, 8],
-            &[5, 0, 0, 1, 1, 0],
-            &[6, 10, 9],
-            &[7, 11],
-            &[2, 0, 4, 1, 9],
-            &[13],
-        ],
-    )?;
+    let bytes = each_kind(a)?;
     match read(a, &bytes) {
         Err(fault) => assert!(rt; false, "{fault:?}"),
         Ok(container) => {

@@ -5,7 +5,8 @@ ghost use Rattle.term_table.specs.Tree.{Tree};
 ghost use Rattle.term_table.specs.Table.{IsKnown};
 ghost use Rattle.proof_container.specs.Walks.{entries};
 ghost use Rattle.proof_container.specs.Views.{AreKnown};
-ghost use Rattle.proof_container.specs.Walked.{IsLeft, IsUnderWay, IsStep, first_steps, part_steps, root_trees, steps_cost};
+ghost use Rattle.proof_container.specs.Inside.Walked.{IsLeft, IsUnderWay, IsStep, root_trees};
+ghost use Rattle.proof_container.specs.Inside.Walked.{first_steps, part_steps, steps_cost};
 
 use std::alloc::{AllocError, Global};
 use term_table::{Id, Node, Table};
@@ -76,8 +77,11 @@ fn enter_parts(steps: &mut Vec<Step>, node: Node) -> Result<(), AllocError>
 fn enter(table: &Table, walk: &Walk, steps: &mut Vec<Step>, id: Id) -> Result<(), AllocError>
     requires known { IsKnown table.now id }
     requires numbers { length walk.now.numbers.items ≡ length table.now.trees }
-    ensures goes { OnOk result ((goal : List Tree) → IsUnderWay table.now goal walk.now (steps.old.items ++ Step.Enter id ∷ []) → IsUnderWay table.now goal walk.now steps.new.items) }
-    ensures falls { OnOk result (steps_cost table.now steps.new.items < steps_cost table.now (steps.old.items ++ Step.Enter id ∷ [])) }
+    ensures goes { OnOk result ((goal : List Tree) →
+        IsUnderWay table.now goal walk.now (steps.old.items ++ Step.Enter id ∷ []) →
+        IsUnderWay table.now goal walk.now steps.new.items) }
+    ensures falls { OnOk result (steps_cost table.now steps.new.items <
+        steps_cost table.now (steps.old.items ++ Step.Enter id ∷ [])) }
 {
     if walk.number(id).is_some() {
         return Ok(());
@@ -90,7 +94,9 @@ fn enter(table: &Table, walk: &Walk, steps: &mut Vec<Step>, id: Id) -> Result<()
 fn leave(table: &Table, walk: &mut Walk, id: Id) -> Result<(), AllocError>
     requires known { IsKnown table.now id }
     requires numbers { length walk.old.numbers.items ≡ length table.now.trees }
-    ensures { OnOk result ((goal : List Tree) (steps : List Step) → IsUnderWay table.now goal walk.old (steps ++ Step.Leave id ∷ []) → IsUnderWay table.now goal walk.new steps) }
+    ensures { OnOk result ((goal : List Tree) (steps : List Step) →
+        IsUnderWay table.now goal walk.old (steps ++ Step.Leave id ∷ []) →
+        IsUnderWay table.now goal walk.new steps) }
 {
     table.laws();
     if walk.number(id).is_some() {
@@ -111,8 +117,11 @@ fn take_step(
 ) -> Result<(), AllocError>
     requires known { IsStep table.now step }
     requires numbers { length walk.old.numbers.items ≡ length table.now.trees }
-    ensures goes { OnOk result ((goal : List Tree) → IsUnderWay table.now goal walk.old (steps.old.items ++ step ∷ []) → IsUnderWay table.now goal walk.new steps.new.items) }
-    ensures falls { OnOk result (steps_cost table.now steps.new.items < steps_cost table.now (steps.old.items ++ step ∷ [])) }
+    ensures goes { OnOk result ((goal : List Tree) →
+        IsUnderWay table.now goal walk.old (steps.old.items ++ step ∷ []) →
+        IsUnderWay table.now goal walk.new steps.new.items) }
+    ensures falls { OnOk result (steps_cost table.now steps.new.items <
+        steps_cost table.now (steps.old.items ++ step ∷ [])) }
 {
     match step {
         Step::Enter(id) => enter(table, walk, steps, id),
@@ -128,7 +137,8 @@ pub fn walk_from(
     proof: Option<Id>,
 ) -> Result<Walk, AllocError>
     requires { AreKnown table.now invs.now proof }
-    ensures { IfOk result (λ w. IsLeft table.now (entries (root_trees table.now invs.now proof)) w) }
+    ensures { let left = entries (root_trees table.now invs.now proof) in
+        IfOk result (λ w. IsLeft table.now left w) }
 {
     let mut walk = Walk {
         left: Vec::new(alloc),

@@ -1,14 +1,19 @@
 //! Writing a container, and how long it will be.
 
-ghost use Rattle.std.specs.Prelude.{◌≡◌, ℕ, ◌-◌, sum_by, slice_index, ◌+◌, ◌*◌, ◌<◌, ◌≤◌, ◌^◌, ◌++◌, ◌%◌, ◌/◌, min, length, map, true, None, Ok, IfOk, IfSome, OnOk};
+ghost use Rattle.std.specs.Prelude.{◌≡◌, ℕ, ◌-◌, ◌+◌, ◌*◌, ◌<◌, ◌≤◌, ◌^◌, ◌++◌, ◌%◌, ◌/◌, min};
+ghost use Rattle.std.specs.Prelude.{sum_by, slice_index, length, map, true, None, Ok};
+ghost use Rattle.std.specs.Prelude.{IfOk, IfSome, OnOk};
 ghost use Rattle.std.specs.List.{flat_map};
 ghost use Rattle.std.specs.Option.{option_map};
 ghost use Rattle.term_table.specs.Table.{IsKnown, AllKnown, tree_at};
 ghost use Rattle.proof_container.specs.Contents.{roots};
 ghost use Rattle.proof_container.specs.Walks.{entries, is_listed, HasParts, AreListed};
-ghost use Rattle.proof_container.specs.Spelling.{field_bytes, entry_number, entry_fields, inv_fields, proof_field, tail_fields, spelling, Spells};
+ghost use Rattle.proof_container.specs.Spelling.{field_bytes, entry_number, entry_fields};
+ghost use Rattle.proof_container.specs.Spelling.{inv_fields, proof_field, tail_fields};
+ghost use Rattle.proof_container.specs.Spelling.{spelling, Spells};
+ghost use Rattle.proof_container.specs.declared.limits.TheConstants.{MAX_ENTRIES};
 ghost use Rattle.proof_container.specs.Reading.{entry_size, container_read};
-ghost use Rattle.proof_container.specs.Walked.{IsLeft, IsReady, HaveParts, left_trees};
+ghost use Rattle.proof_container.specs.Inside.Walked.{IsLeft, IsReady, HaveParts, left_trees};
 ghost use Rattle.proof_container.specs.Views.{AreKnown, IsWritable, inv_trees, view_contents};
 
 use crate::container::View;
@@ -50,9 +55,9 @@ fn number(table: &Table, walk: &Walk, id: Id) -> u32
     requires left { IsLeft table.now (left_trees table.now walk.now) walk.now }
     requires known { IsKnown table.now id }
     requires listed { is_listed (tree_at table.now id) (left_trees table.now walk.now) ≡ true }
-    requires few { length walk.now.left.items ≤ 262144 }
+    requires few { length walk.now.left.items ≤ MAX_ENTRIES }
     ensures value { result ≡ entry_number (left_trees table.now walk.now) (tree_at table.now id) }
-    ensures small { result < 262144 }
+    ensures small { result < MAX_ENTRIES }
 {
     let _ = table;
     match walk.number(id) {
@@ -66,8 +71,9 @@ fn put_entry(out: &mut Vec<u8>, table: &Table, walk: &Walk, id: Id) -> Result<()
     requires left { IsLeft table.now (left_trees table.now walk.now) walk.now }
     requires known { IsKnown table.now id }
     requires parts { HasParts (left_trees table.now walk.now) (tree_at table.now id) }
-    requires few { length walk.now.left.items ≤ 262144 }
-    ensures { OnOk result (out.new.items ≡ out.old.items ++ field_bytes (entry_fields (left_trees table.now walk.now) (tree_at table.now id))) }
+    requires few { length walk.now.left.items ≤ MAX_ENTRIES }
+    ensures { let fields = entry_fields (left_trees table.now walk.now) (tree_at table.now id) in
+        OnOk result (out.new.items ≡ out.old.items ++ field_bytes fields) }
 {
     match table.node(id) {
         Node::Var(n) => put(out, &[0, n]),
@@ -90,8 +96,10 @@ fn put_entry(out: &mut Vec<u8>, table: &Table, walk: &Walk, id: Id) -> Result<()
 fn put_entries(out: &mut Vec<u8>, table: &Table, walk: &Walk) -> Result<(), AllocError>
     requires left { IsLeft table.now (left_trees table.now walk.now) walk.now }
     requires parts { HaveParts (left_trees table.now walk.now) (left_trees table.now walk.now) }
-    requires few { length walk.now.left.items ≤ 262144 }
-    ensures { OnOk result (out.new.items ≡ out.old.items ++ field_bytes (flat_map (entry_fields (left_trees table.now walk.now)) (left_trees table.now walk.now))) }
+    requires few { length walk.now.left.items ≤ MAX_ENTRIES }
+    ensures { let es = left_trees table.now walk.now in
+        OnOk result (out.new.items ≡
+        out.old.items ++ field_bytes (flat_map (entry_fields es) es)) }
 {
     for id in &walk.left {
         put_entry(out, table, walk, *id)?;
@@ -108,9 +116,12 @@ fn put_invs(
 ) -> Result<(), AllocError>
     requires left { IsLeft table.now (left_trees table.now walk.now) walk.now }
     requires known { AreKnown table.now invs.now None }
-    requires listed { AreListed (left_trees table.now walk.now) (map (λ inv. tree_at table.now inv.1) invs.now) }
-    requires few { length walk.now.left.items ≤ 262144 }
-    ensures { OnOk result (out.new.items ≡ out.old.items ++ field_bytes (flat_map (inv_fields (left_trees table.now walk.now)) (inv_trees table.now invs.now))) }
+    requires listed { AreListed (left_trees table.now walk.now)
+        (map (λ inv. tree_at table.now inv.1) invs.now) }
+    requires few { length walk.now.left.items ≤ MAX_ENTRIES }
+    ensures { let es = left_trees table.now walk.now in
+        OnOk result (out.new.items ≡ out.old.items ++
+        field_bytes (flat_map (inv_fields es) (inv_trees table.now invs.now))) }
 {
     for inv in invs {
         let (index, id) = *inv;
@@ -123,9 +134,11 @@ fn put_invs(
 fn proof_number(table: &Table, walk: &Walk, proof: Option<Id>) -> u32
     requires left { IsLeft table.now (left_trees table.now walk.now) walk.now }
     requires known { IfSome proof (λ id. IsKnown table.now id) }
-    requires listed { IfSome proof (λ id. is_listed (tree_at table.now id) (left_trees table.now walk.now) ≡ true) }
-    requires few { length walk.now.left.items ≤ 262144 }
-    ensures { result ≡ proof_field (left_trees table.now walk.now) (option_map (λ id. tree_at table.now id) proof) }
+    requires listed { IfSome proof (λ id.
+        is_listed (tree_at table.now id) (left_trees table.now walk.now) ≡ true) }
+    requires few { length walk.now.left.items ≤ MAX_ENTRIES }
+    ensures { let tree = option_map (λ id. tree_at table.now id) proof in
+        result ≡ proof_field (left_trees table.now walk.now) tree }
 {
     match proof {
         None => 0,
@@ -136,7 +149,9 @@ fn proof_number(table: &Table, walk: &Walk, proof: Option<Id>) -> u32
 /// Adds what stands behind the code.
 fn put_tail(out: &mut Vec<u8>, view: &View<'_>, walk: &Walk) -> Result<(), AllocError>
     requires { IsReady view.now walk.now }
-    ensures { OnOk result (out.new.items ≡ out.old.items ++ field_bytes (tail_fields (left_trees view.now.table.now walk.now) (view_contents view.now))) }
+    ensures { let es = left_trees view.now.table.now walk.now in
+        OnOk result (out.new.items ≡
+        out.old.items ++ field_bytes (tail_fields es (view_contents view.now))) }
 {
     put(out, &[walk.left.len() as u32])?;
     put_entries(out, view.table, walk)?;
@@ -154,8 +169,10 @@ fn limits(policy: u32, code: &[u8])
     let _ = code;
 }
 
-/// The one spelling of the view's contents: the entries stand in the order of the walk from the
-/// invariants and then the proof, whatever other terms the table has. Fails only for want of memory.
+/// Encodes the contents of `view`: the entries stand in the order of the walk from the invariants
+/// and then the proof, whatever other terms the table has.
+///
+/// Errors: want of memory alone.
 pub fn write(alloc: Global, view: &View<'_>) -> Result<Vec<u8>, AllocError>
     requires { IsWritable view.now }
     ensures spelled { IfOk result (λ v. Spells v.items (view_contents view.now)) }
@@ -185,12 +202,15 @@ fn entries_len(table: &Table, walk: &Walk) -> u64
     fields
 }
 
-/// How many entries the view's container has, and how many bytes; past 18,446,744,073,709,551,615
-/// bytes it answers that. Fails only for want of memory.
+/// Measures the container of `view`: how many entries it has, and how many bytes; past
+/// 18,446,744,073,709,551,615 bytes it answers that.
+///
+/// Errors: want of memory alone.
 pub fn extent(alloc: Global, view: &View<'_>) -> Result<(u64, u64), AllocError>
     requires { AreKnown view.now.table.now view.now.invs.now view.now.proof }
     ensures entries { IfOk result (λ e. e.0 ≡ length (entries (roots (view_contents view.now)))) }
-    ensures bytes { IfOk result (λ e. e.1 ≡ min (length (spelling (view_contents view.now))) (2 ^ 64 - 1)) }
+    ensures bytes { let size = length (spelling (view_contents view.now)) in
+        IfOk result (λ e. e.1 ≡ min size (2 ^ 64 - 1)) }
 {
     let walk = walk_from(alloc, view.table, view.invs, view.proof)?;
     let count = view.invs.len() as u64;

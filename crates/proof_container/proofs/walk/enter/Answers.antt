@@ -1,6 +1,6 @@
 use Rattle.std.proofs.Common.{◌≡◌, ◌<◌, ◌++◌, ◌∷◌, [], sym, ◌∙◌, ap, subst, is_some, get_or, None, true, false, rules}
 use Rattle.std.proofs.lemmas.Result.{on_ok_weaker}
-use Rattle.proof_container.specs.Walked.{IsUnderWay, part_steps, steps_cost}
+use Rattle.proof_container.specs.Inside.Walked.{IsUnderWay, part_steps, steps_cost}
 use Rattle.proof_container.specs.declared.walk.Step.TheVariants.{Enter, Leave}
 use Rattle.proof_container.proofs.Walking.{enter_old, enter_new, cost_off, cost_enter}
 use Rattle.proof_container.proofs.walk.enter.Goals as goal

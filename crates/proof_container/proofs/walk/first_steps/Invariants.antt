@@ -1,5 +1,5 @@
 use Rattle.std.proofs.Common.{◌≡◌, ◌++◌, map}
-use Rattle.proof_container.specs.Walked.{proof_steps}
+use Rattle.proof_container.specs.Inside.Walked.{proof_steps}
 use Rattle.proof_container.proofs.Walking.{enter_inv}
 use Rattle.proof_container.proofs.walk.first_steps.Given as goal
 

@@ -1,6 +1,6 @@
 use Rattle.std.proofs.Common.{◌++◌, ◌∷◌, [], subst}
 use Rattle.std.proofs.lemmas.Result.{on_ok_weaker}
-use Rattle.proof_container.specs.Walked.{IsUnderWay}
+use Rattle.proof_container.specs.Inside.Walked.{IsUnderWay}
 use Rattle.proof_container.proofs.Walking.{cost_off}
 use Rattle.proof_container.proofs.walk.take_step.Goals as goal
 

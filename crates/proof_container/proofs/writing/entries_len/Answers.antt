@@ -4,7 +4,7 @@ use Rattle.std.proofs.lemmas.List.Sums.{sum_by_more}
 use Rattle.term_table.specs.Tree.{Var}
 use Rattle.term_table.specs.Table.{IsKnown, tree_at}
 use Rattle.proof_container.specs.Reading.{entry_size}
-use Rattle.proof_container.specs.Walked.{left_trees}
+use Rattle.proof_container.specs.Inside.Walked.{left_trees}
 use Rattle.proof_container.proofs.Ordering.{known-get}
 use Rattle.proof_container.proofs.Written.{tree-get, place_in}
 use Rattle.proof_container.proofs.writing.entries_len.Goals as goal

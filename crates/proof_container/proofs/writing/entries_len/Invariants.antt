@@ -1,7 +1,7 @@
 use Rattle.std.proofs.Common.{◌≡◌, ◌-◌, ◌^◌, min, take}
 use Rattle.std.specs.Prelude.{sum_by}
 use Rattle.proof_container.specs.Reading.{entry_size}
-use Rattle.proof_container.specs.Walked.{left_trees}
+use Rattle.proof_container.specs.Inside.Walked.{left_trees}
 use Rattle.proof_container.proofs.writing.entries_len.Given as goal
 
 abbrev pub invariant-loop-id : goal.invariant-loop-id

@@ -4,7 +4,7 @@ use Rattle.term_table.specs.Tree.{Var}
 use Rattle.term_table.specs.Table.{IsKnown, tree_at}
 use Rattle.proof_container.specs.Walks.{HasParts}
 use Rattle.proof_container.specs.Spelling.{field_bytes, entry_fields}
-use Rattle.proof_container.specs.Walked.{left_trees}
+use Rattle.proof_container.specs.Inside.Walked.{left_trees}
 use Rattle.proof_container.proofs.Ordering.{known-get}
 use Rattle.proof_container.proofs.Written.{written_more, parts-get, tree-get, place_in}
 use Rattle.proof_container.proofs.writing.put_entries.Goals as goal

@@ -1,7 +1,7 @@
 use Rattle.std.proofs.Common.{◌≡◌, ◌++◌, take}
 use Rattle.std.specs.List.{flat_map}
 use Rattle.proof_container.specs.Spelling.{field_bytes, entry_fields}
-use Rattle.proof_container.specs.Walked.{left_trees}
+use Rattle.proof_container.specs.Inside.Walked.{left_trees}
 use Rattle.proof_container.proofs.writing.put_entries.Given as goal
 
 abbrev pub invariant-loop-id : goal.invariant-loop-id

@@ -1,7 +1,7 @@
 use Rattle.std.proofs.Common.{◌≡◌, ℕ, true, sym, subst}
 use Rattle.term_table.specs.Table.{tree_at}
 use Rattle.proof_container.specs.Walks.{is_listed}
-use Rattle.proof_container.specs.Walked.{left_trees}
+use Rattle.proof_container.specs.Inside.Walked.{left_trees}
 use Rattle.proof_container.proofs.Written.{listed-get}
 use Rattle.proof_container.proofs.writing.put_invs.Goals as goal
 

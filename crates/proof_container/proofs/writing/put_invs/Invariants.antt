@@ -2,7 +2,7 @@ use Rattle.std.proofs.Common.{◌≡◌, ◌++◌, take}
 use Rattle.std.specs.List.{flat_map}
 use Rattle.proof_container.specs.Spelling.{field_bytes, inv_fields}
 use Rattle.proof_container.specs.Views.{inv_trees}
-use Rattle.proof_container.specs.Walked.{left_trees}
+use Rattle.proof_container.specs.Inside.Walked.{left_trees}
 use Rattle.proof_container.proofs.writing.put_invs.Given as goal
 
 abbrev pub invariant-loop-inv : goal.invariant-loop-inv

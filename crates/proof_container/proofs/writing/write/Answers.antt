@@ -2,7 +2,7 @@ use Rattle.std.proofs.Common.{◌≡◌, ◌++◌, [], List, ℕ, ◌∙◌, ap}
 use Rattle.proof_container.specs.Contents.{Contents}
 use Rattle.proof_container.specs.Spelling.{field_bytes, head_fields, tail_fields, Spells}
 use Rattle.proof_container.specs.Views.{view_contents}
-use Rattle.proof_container.specs.Walked.{left_trees}
+use Rattle.proof_container.specs.Inside.Walked.{left_trees}
 use Rattle.proof_container.proofs.Ready.{ready, view_holds, is_spelling}
 use Rattle.proof_container.proofs.Whole.{container_again}
 use Rattle.proof_container.proofs.writing.write.Goals as goal

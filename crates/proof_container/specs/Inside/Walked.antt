@@ -9,6 +9,7 @@ use Rattle.proof_container.specs.declared.container.View.{View}
 use Rattle.proof_container.specs.declared.walk.Walk.{Walk}
 use Rattle.proof_container.specs.declared.walk.Step.{Step}
 use Rattle.proof_container.specs.declared.walk.Step.TheVariants.{Enter, Leave}
+use Rattle.proof_container.specs.declared.limits.TheConstants.{MAX_ENTRIES, MAX_INVS}
 use Rattle.proof_container.specs.Contents.{one_or_none}
 use Rattle.proof_container.specs.Walks.{is_listed, once, visit, HasParts, AreListed}
 use Rattle.proof_container.specs.Spelling.{entry_number}
@@ -42,6 +43,7 @@ abbrev pub HaveParts : List Tree → List Tree → Type 0
 HaveParts ts [] = Unit {0}
 HaveParts ts (u ∷ us) = HasParts ts u × HaveParts ts us
 
+-- the trees that a walk has left, in order
 abbrev pub left_trees : Terms → Walk → List Tree
 left_trees t w = map (tree_at t) w.left.items
 
@@ -52,8 +54,8 @@ pub record IsReady (v : View) (w : Walk) : Type 0 where
   pub known : AreKnown v.table.now v.invs.now v.proof
   pub invs : AreListed (left_trees v.table.now w) (map (λ inv. tree_at v.table.now inv.1) v.invs.now)
   pub proof : IfSome v.proof (λ id. is_listed (tree_at v.table.now id) (left_trees v.table.now w) ≡ true)
-  pub few : length w.left.items ≤ 262144
-  pub few_invs : length v.invs.now ≤ 256
+  pub few : length w.left.items ≤ MAX_ENTRIES
+  pub few_invs : length v.invs.now ≤ MAX_INVS
 
 -- ---- the steps that a walk has yet to take, the last of the list first
 
@@ -71,6 +73,7 @@ part_steps (N.Fam a) = []
 part_steps (N.TApp p a) = Enter a ∷ Enter p ∷ []
 part_steps (N.Pi a b) = Enter b ∷ Enter a ∷ []
 
+-- the step of a proof, if there is one
 abbrev pub proof_steps : Option ℕ → List Step
 proof_steps None = []
 proof_steps (Some id) = Enter id ∷ []
@@ -94,6 +97,7 @@ abbrev pub IsStep : Terms → Step → Type 0
 IsStep t (Enter id) = IsKnown t id
 IsStep t (Leave id) = IsKnown t id
 
+-- each step is about a tree of the table
 abbrev pub AreSteps : Terms → List Step → Type 0
 AreSteps t [] = Unit {0}
 AreSteps t (s ∷ steps) = IsStep t s × AreSteps t steps
@@ -119,6 +123,7 @@ abbrev pub step_cost : Terms → Step → ℕ
 step_cost t (Enter id) = 2 * nodes (tree_at t id)
 step_cost t (Leave id) = 1
 
+-- the same of all of these steps
 abbrev pub steps_cost : Terms → List Step → ℕ
 steps_cost t [] = 0
 steps_cost t (s ∷ steps) = step_cost t s + steps_cost t steps

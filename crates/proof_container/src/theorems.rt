@@ -14,11 +14,15 @@ ghost use Rattle.proof_container.specs.declared.container.Container.{Container};
 /// each root, no tree twice, and each tree behind its parts. Containers whose terms are their
 /// entries are the same where their contents are.
 pub fn laws()
-    ensures decided { (bytes : List ℕ) (c : Contents) → IsBytes bytes → (Spells bytes c ↔ (container_read bytes ≡ Ok c)) }
-    ensures one_content { (bytes : List ℕ) (c d : Contents) → Spells bytes c → Spells bytes d → c ≡ d }
+    ensures decided { (bytes : List ℕ) (c : Contents) →
+        IsBytes bytes → (Spells bytes c ↔ (container_read bytes ≡ Ok c)) }
+    ensures one_content { (bytes : List ℕ) (c d : Contents) →
+        Spells bytes c → Spells bytes d → c ≡ d }
     ensures one_spelling { (a b : List ℕ) (c : Contents) → Spells a c → Spells b c → a ≡ b }
     ensures rooted { (rs : List Tree) → AreListed (entries rs) rs }
     ensures different { (rs : List Tree) → AreDifferent (entries rs) }
-    ensures earlier { (rs : List Tree) (i : ℕ) → i < length (entries rs) → HasParts (take i (entries rs)) (tree_in (entries rs) i) }
-    ensures canonical { (c d : Container) → IsCanonical c → IsCanonical d → contents_of c ≡ contents_of d → AreSame c d }
+    ensures earlier { (rs : List Tree) (i : ℕ) → i < length (entries rs) →
+        HasParts (take i (entries rs)) (tree_in (entries rs) i) }
+    ensures canonical { (c d : Container) → IsCanonical c → IsCanonical d →
+        contents_of c ≡ contents_of d → AreSame c d }
 {}

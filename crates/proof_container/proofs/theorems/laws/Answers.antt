@@ -2,7 +2,7 @@ use Rattle.std.proofs.Common.{sym, ◌∙◌}
 use Rattle.proof_container.proofs.Walks.{entries_grow, entries_listed, Grows-different, Grows-parts}
 use Rattle.proof_container.proofs.Whole.{container_takes, container_again, one_content}
 use Rattle.proof_container.proofs.Same.{same_canonical}
-use Rattle.proof_container.proofs.known.laws.Goals as goal
+use Rattle.proof_container.proofs.theorems.laws.Goals as goal
 
 pub returns-clause-decided : goal.returns-clause-decided
 returns-clause-decided c bytes held fits = (container_again bytes held, container_takes bytes held fits)

@@ -1,0 +1,13 @@
+//! The limits of a container.
+
+/// The most words that code may have.
+pub const MAX_WORDS: u32 = 1_024;
+
+/// The most entries that a container may have.
+pub const MAX_ENTRIES: u32 = 262_144;
+
+/// The most invariants that a container may have.
+pub const MAX_INVS: u32 = 256;
+
+/// The most bytes of a file that are read as a container.
+pub const MAX_BYTES: u32 = 4_194_304;
