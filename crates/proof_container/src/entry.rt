@@ -1,94 +1,95 @@
 //! Entries: terms whose parts stand before them.
 
-ghost use Rattle.std.specs.Prelude.{◌≡◌, ◌+◌, ◌*◌, ◌<◌, ◌≤◌, ◌^◌, false, [], length, IfOk};
+ghost use Rattle.std.specs.Prelude.{◌≡◌, ◌+◌, ◌*◌, ◌≤◌, false, [], length, IfOk, OnOk};
 ghost use Rattle.term_table.specs.Table.{IsKnown, PartsKnown, tree_at, node_tree, with_tree};
 ghost use Rattle.proof_container.specs.Walks.{is_listed};
-ghost use Rattle.proof_container.specs.Reading.{part_at, head_at, application_at, kind_at};
+ghost use Rattle.proof_container.specs.Reading.{part_at, head_at, application_at};
 ghost use Rattle.proof_container.specs.Reading.{entry_at, entry_size, entries_at, entries_read};
-ghost use Rattle.proof_container.specs.declared.limits.TheConstants.{MAX_WORDS, MAX_ENTRIES};
+ghost use Rattle.proof_container.specs.declared.limits.TheConstants.{MAX_ENTRIES};
+ghost use Rattle.proof_container.specs.Inside.Cursor.{IsPast};
 ghost use Rattle.proof_container.specs.Views.{Gives};
 
 use crate::fault::{Flaw, Malformed};
-use crate::fields::{count, fault, field, triple, word};
+use crate::fields::Fields;
 use crate::limits::MAX_ENTRIES;
 use std::alloc::AllocError;
 use term_table::{Id, Node, Table};
 
-/// The earlier entry that field i names.
-pub fn part(bytes: &[u8], i: usize, table: &Table) -> Result<Id, Malformed>
-    requires { i < 2 ^ 60 }
-    ensures read { Gives (tree_at table.now) (part_at bytes.now i table.now.trees) result }
+/// The earlier entry that the next field names.
+pub fn part(fields: &mut Fields<'_>, table: &Table) -> Result<Id, Malformed>
+    ensures read { Gives (tree_at table.now)
+        (part_at fields.old.bytes.now fields.old.read table.now.trees) result }
+    ensures moves { OnOk result (IsPast fields.old fields.new 1) }
     ensures known { IfOk result (λ id. IsKnown table.now id) }
 {
-    let number = u64::from(field(bytes, i)?);
+    let offset = fields.offset();
+    let number = u64::from(fields.field()?);
     if number < table.count() {
         Ok(table.id(number))
     } else {
-        Err(fault(i, Flaw::ForwardRef))
+        Err(Malformed::At(offset, Flaw::ForwardRef))
     }
 }
 
 /// The same of what is applied, which is no abstraction.
-fn head(bytes: &[u8], i: usize, table: &Table) -> Result<Id, Malformed>
-    requires { i < 2 ^ 60 }
-    ensures read { Gives (tree_at table.now) (head_at bytes.now i table.now.trees) result }
+fn head(fields: &mut Fields<'_>, table: &Table) -> Result<Id, Malformed>
+    ensures read { Gives (tree_at table.now)
+        (head_at fields.old.bytes.now fields.old.read table.now.trees) result }
+    ensures moves { OnOk result (IsPast fields.old fields.new 1) }
     ensures known { IfOk result (λ id. IsKnown table.now id) }
 {
-    let f = part(bytes, i, table)?;
+    let offset = fields.offset();
+    let f = part(fields, table)?;
     match table.node(f) {
-        Node::Lam(_) => Err(fault(i, Flaw::LambdaHead)),
+        Node::Lam(_) => Err(Malformed::At(offset, Flaw::LambdaHead)),
         _ => Ok(f),
     }
 }
 
-/// What fields i and i + 1 name, the one applied to the other.
-fn application(bytes: &[u8], i: usize, table: &Table) -> Result<Node, Malformed>
-    requires { i < 2 ^ 59 }
-    ensures read { Gives (node_tree table.now) (application_at bytes.now i table.now.trees) result }
+/// What the next two fields name, the one applied to the other.
+fn application(fields: &mut Fields<'_>, table: &Table) -> Result<Node, Malformed>
+    ensures read { Gives (node_tree table.now)
+        (application_at fields.old.bytes.now fields.old.read table.now.trees) result }
+    ensures moves { OnOk result (IsPast fields.old fields.new 2) }
     ensures parts { IfOk result (λ n. PartsKnown table.now n) }
+    ensures size { IfOk result (λ n. entry_size (node_tree table.now n) ≡ 3) }
 {
-    let f = head(bytes, i, table)?;
-    let a = part(bytes, i + 1, table)?;
+    let f = head(fields, table)?;
+    let a = part(fields, table)?;
     Ok(Node::App(f, a))
 }
 
-/// The entry of this kind, which is field i.
+/// The next entry.
 #[tactic(auto, unfolding(crate::specs::Reading::kind_at))]
-fn of_kind(bytes: &[u8], i: usize, table: &Table, kind: u32) -> Result<Node, Malformed>
-    requires { i < 2 ^ 50 }
-    ensures read { Gives (node_tree table.now) (kind_at bytes.now i table.now.trees kind) result }
+fn entry(fields: &mut Fields<'_>, table: &Table) -> Result<Node, Malformed>
+    ensures read { Gives (node_tree table.now)
+        (entry_at fields.old.bytes.now fields.old.read table.now.trees) result }
+    ensures moves { IfOk result (λ n.
+        IsPast fields.old fields.new (entry_size (node_tree table.now n))) }
     ensures parts { IfOk result (λ n. PartsKnown table.now n) }
 {
+    let offset = fields.offset();
+    let kind = fields.field()?;
     match kind {
-        0 => Ok(Node::Var(field(bytes, i + 1)?)),
-        1 => Ok(Node::Const(field(bytes, i + 1)?)),
-        2 => Ok(Node::Lit(word(bytes, i + 1)?)),
+        0 => Ok(Node::Var(fields.field()?)),
+        1 => Ok(Node::Const(fields.field()?)),
+        2 => Ok(Node::Lit(fields.word()?)),
         3 => {
-            let (operator, a, b) = triple(bytes, i + 1)?;
+            let (operator, a, b) = fields.triple()?;
             Ok(Node::Calc(operator, a, b))
         }
         4 => {
-            let (relation, a, b) = triple(bytes, i + 1)?;
+            let (relation, a, b) = fields.triple()?;
             Ok(Node::Fact(relation, a, b))
         }
         5 => {
-            let (relation, a, b) = triple(bytes, i + 1)?;
+            let (relation, a, b) = fields.triple()?;
             Ok(Node::Deny(relation, a, b))
         }
-        6 => application(bytes, i + 1, table),
-        7 => Ok(Node::Lam(part(bytes, i + 1, table)?)),
-        _ => Err(fault(i, Flaw::EntryKind)),
+        6 => application(fields, table),
+        7 => Ok(Node::Lam(part(fields, table)?)),
+        _ => Err(Malformed::At(offset, Flaw::EntryKind)),
     }
-}
-
-/// The entry whose kind is field i.
-fn entry(bytes: &[u8], i: usize, table: &Table) -> Result<Node, Malformed>
-    requires { i < 2 ^ 50 }
-    ensures read { Gives (node_tree table.now) (entry_at bytes.now i table.now.trees) result }
-    ensures parts { IfOk result (λ n. PartsKnown table.now n) }
-{
-    let kind = field(bytes, i)?;
-    of_kind(bytes, i, table, kind)
 }
 
 /// How many fields the entry of a node has.
@@ -96,7 +97,7 @@ pub fn size(table: &Table, node: &Node) -> usize
     ensures value { result ≡ entry_size (node_tree table.now node.now) }
     ensures small { result ≤ 6 }
 {
-    let _ = table;
+    let _ = table; // only the clause reads it: the node is one of this table
     match node {
         Node::Var(_) | Node::Const(_) | Node::Lam(_) => 2,
         Node::Lit(_) | Node::App(_, _) => 3,
@@ -118,44 +119,37 @@ fn is_double(table: &mut Table, node: Node) -> Result<bool, AllocError>
     Ok((id.index() as u64) < known)
 }
 
-/// So many entries, the first of which begins with field `start`, come to the table. Answers with
-/// the field behind them.
-fn entries_from(
-    bytes: &[u8],
-    count: u32,
-    start: usize,
-    table: &mut Table,
-) -> Result<usize, Malformed>
-    requires start { start < 2 ^ 20 }
-    requires few { count ≤ MAX_ENTRIES }
-    ensures read { Gives (λ next. (table.new.trees, next))
-        (entries_at count bytes.now start table.old.trees) result }
-    ensures places { IfOk result (λ _. table.new.places ≡ table.old.places) }
-    ensures near { IfOk result (λ next. next ≤ start + 6 * count) }
-    ensures few { IfOk result (λ _. length table.new.trees ≤ length table.old.trees + count) }
+/// The next `count` entries come to the table.
+fn entries_from(fields: &mut Fields<'_>, count: u32, table: &mut Table) -> Result<(), Malformed>
+    ensures read { Gives (λ _. (table.new.trees, fields.new.read))
+        (entries_at count fields.old.bytes.now fields.old.read table.old.trees) result }
+    ensures bytes { OnOk result (fields.new.bytes.now ≡ fields.old.bytes.now) }
+    ensures places { OnOk result (table.new.places ≡ table.old.places) }
+    ensures few { OnOk result (length table.new.trees ≤ length table.old.trees + count) }
 {
-    let mut at = start;
     for _ in 0..count {
-        let node = entry(bytes, at, table)?;
-        let fields = size(table, &node);
+        let offset = fields.offset();
+        let node = entry(fields, table)?;
         if is_double(table, node)? {
-            return Err(fault(at, Flaw::DoubleEntry));
+            return Err(Malformed::At(offset, Flaw::DoubleEntry));
         }
-        at += fields;
     }
-    Ok(at)
+    Ok(())
 }
 
-/// The entries behind so many words of code come to the table. Answers with the field behind them.
+/// The entries behind so many words of code come to the table.
 #[tactic(auto, unfolding(crate::specs::Reading::entries_read))]
-pub fn entries(bytes: &[u8], words: usize, table: &mut Table) -> Result<usize, Malformed>
-    requires short { words ≤ MAX_WORDS }
+pub fn entries(fields: &mut Fields<'_>, words: usize, table: &mut Table) -> Result<(), Malformed>
+    requires place { fields.old.read ≡ 4 }
+    requires whole { 16 + 4 * words ≤ length fields.old.bytes.now }
     requires empty { table.old.trees ≡ [] }
-    ensures read { Gives (λ next. (table.new.trees, next)) (entries_read bytes.now words) result }
-    ensures places { IfOk result (λ _. table.new.places ≡ table.old.places) }
-    ensures near { IfOk result (λ next. next < 2 ^ 22) }
-    ensures few { IfOk result (λ _. length table.new.trees ≤ MAX_ENTRIES) }
+    ensures read { Gives (λ _. (table.new.trees, fields.new.read))
+        (entries_read fields.old.bytes.now words) result }
+    ensures bytes { OnOk result (fields.new.bytes.now ≡ fields.old.bytes.now) }
+    ensures places { OnOk result (table.new.places ≡ table.old.places) }
+    ensures few { OnOk result (length table.new.trees ≤ MAX_ENTRIES) }
 {
-    let count = count(bytes, 4 + words, 0, MAX_ENTRIES)?;
-    entries_from(bytes, count, 5 + words, table)
+    fields.skip(words);
+    let count = fields.count(0, MAX_ENTRIES)?;
+    entries_from(fields, count, table)
 }

@@ -1,8 +1,6 @@
-//! Fields: little-endian numbers of four bytes, counted from the front.
+//! Fields: little-endian numbers of four bytes, read from the front.
 
-ghost use Rattle.std.specs.Prelude.{◌≡◌, ◌<◌, ◌≤◌, ◌*◌, ◌^◌, IfOk};
-ghost use Rattle.proof_container.specs.Reading.{field_at, exact_at, count_at, word_at, triple_at};
-ghost use Rattle.proof_container.specs.Views.{Gives};
+ghost use Rattle.std.specs.Prelude.{◌≡◌, ◌+◌, ◌*◌, ◌≤◌, IfOk, OnOk, length};
 
 use crate::fault::{Flaw, Malformed};
 use byteorder::{ByteOrder, LittleEndian};
@@ -10,73 +8,113 @@ use byteorder::{ByteOrder, LittleEndian};
 /// The bytes `PCCA`.
 pub const MAGIC: u32 = 0x4143_4350;
 
+/// The only version.
 pub const VERSION: u32 = 1;
 
-/// A fault at field i.
-pub fn fault(i: usize, flaw: Flaw) -> Malformed
-    requires { i < 2 ^ 60 }
-    ensures { result ≡ Malformed.At (4 * i) flaw }
-{
-    Malformed::At(4 * i as u64, flaw)
+/// The fields of some bytes, with how many of them were read.
+#[derive(Drop)]
+pub struct Fields<'b> {
+    bytes: &'b [u8],
+    read: usize,
+    ghost within: { 4 * read ≤ length bytes.now },
 }
 
-/// Field i.
-pub fn field(bytes: &[u8], i: usize) -> Result<u32, Malformed>
-    requires { i < 2 ^ 60 }
-    ensures { Gives (λ n. n) (field_at bytes.now i) result }
-{
-    let at = 4 * i;
-    if bytes.len() < at + 4 {
-        return Err(fault(i, Flaw::Cut));
+impl<'b> Fields<'b> {
+    ghost use Rattle.proof_container.specs.Reading.{field_at, exact_at, count_at, word_at, triple_at};
+    ghost use Rattle.proof_container.specs.Views.{Gives};
+    ghost use Rattle.proof_container.specs.Inside.Cursor.{IsPast};
+
+    /// The fields of `bytes`, none of which was read.
+    pub fn new(bytes: &'b [u8]) -> Fields<'b>
+        ensures bytes { result.bytes.now ≡ bytes.now }
+        ensures first { result.read ≡ 0 }
+    {
+        Fields { bytes, read: 0 }
     }
-    Ok(LittleEndian::read_u32(&bytes[at..]))
-}
 
-/// Field i, which has to be this number.
-pub fn exact(bytes: &[u8], i: usize, n: u32, flaw: Flaw) -> Result<u32, Malformed>
-    requires { i < 2 ^ 60 }
-    ensures { Gives (λ n. n) (exact_at bytes.now i n flaw) result }
-{
-    let found = field(bytes, i)?;
-    if found == n {
-        Ok(found)
-    } else {
-        Err(fault(i, flaw))
+    /// The byte offset of the next field.
+    pub fn offset(&self) -> u64
+        ensures { result ≡ 4 * self.now.read }
+    {
+        4 * self.read as u64
     }
-}
 
-/// Field i, which has to lie between these numbers.
-pub fn count(bytes: &[u8], i: usize, low: u32, high: u32) -> Result<u32, Malformed>
-    requires { i < 2 ^ 60 }
-    ensures read { Gives (λ n. n) (count_at bytes.now i low high) result }
-    ensures low { IfOk result (λ n. low ≤ n) }
-    ensures high { IfOk result (λ n. n ≤ high) }
-{
-    let found = field(bytes, i)?;
-    if found < low || found > high {
-        Err(fault(i, Flaw::Count))
-    } else {
-        Ok(found)
+    /// How many bytes weren't read.
+    pub fn remaining(&self) -> usize
+        ensures { 4 * self.now.read + result ≡ length self.now.bytes.now }
+    {
+        self.bytes.len() - 4 * self.read
     }
-}
 
-/// The word in fields i and i + 1, the low half first.
-pub fn word(bytes: &[u8], i: usize) -> Result<u64, Malformed>
-    requires { i < 2 ^ 59 }
-    ensures { Gives (λ w. w) (word_at bytes.now i) result }
-{
-    let low = field(bytes, i)?;
-    let high = field(bytes, i + 1)?;
-    Ok(u64::from(low) + 4_294_967_296 * u64::from(high))
-}
+    /// Passes over so many fields.
+    pub fn skip(&mut self, count: usize)
+        requires { 4 * (self.old.read + count) ≤ length self.old.bytes.now }
+        ensures { IsPast self.old self.new count }
+    {
+        self.read += count;
+    }
 
-/// The number in field i, and the two words behind it.
-pub fn triple(bytes: &[u8], i: usize) -> Result<(u32, u64, u64), Malformed>
-    requires { i < 2 ^ 58 }
-    ensures { Gives (λ t. (t.0, t.1, t.2)) (triple_at bytes.now i) result }
-{
-    let n = field(bytes, i)?;
-    let a = word(bytes, i + 1)?;
-    let b = word(bytes, i + 3)?;
-    Ok((n, a, b))
+    /// The next field.
+    pub fn field(&mut self) -> Result<u32, Malformed>
+        ensures read { Gives (λ n. n) (field_at self.old.bytes.now self.old.read) result }
+        ensures moves { OnOk result (IsPast self.old self.new 1) }
+    {
+        let rest = &self.bytes[4 * self.read..];
+        if rest.len() < 4 {
+            return Err(Malformed::At(self.offset(), Flaw::Cut));
+        }
+        self.read += 1;
+        Ok(LittleEndian::read_u32(rest))
+    }
+
+    /// The next field, which has to be this number.
+    pub fn exact(&mut self, n: u32, flaw: Flaw) -> Result<u32, Malformed>
+        ensures read { Gives (λ n. n) (exact_at self.old.bytes.now self.old.read n flaw) result }
+        ensures moves { OnOk result (IsPast self.old self.new 1) }
+    {
+        let offset = self.offset();
+        let found = self.field()?;
+        if found == n {
+            Ok(found)
+        } else {
+            Err(Malformed::At(offset, flaw))
+        }
+    }
+
+    /// The next field, which has to lie between these numbers.
+    pub fn count(&mut self, low: u32, high: u32) -> Result<u32, Malformed>
+        ensures read { Gives (λ n. n) (count_at self.old.bytes.now self.old.read low high) result }
+        ensures moves { OnOk result (IsPast self.old self.new 1) }
+        ensures low { IfOk result (λ n. low ≤ n) }
+        ensures high { IfOk result (λ n. n ≤ high) }
+    {
+        let offset = self.offset();
+        let found = self.field()?;
+        if found < low || found > high {
+            Err(Malformed::At(offset, Flaw::Count))
+        } else {
+            Ok(found)
+        }
+    }
+
+    /// The word in the next two fields, the low half first.
+    pub fn word(&mut self) -> Result<u64, Malformed>
+        ensures read { Gives (λ w. w) (word_at self.old.bytes.now self.old.read) result }
+        ensures moves { OnOk result (IsPast self.old self.new 2) }
+    {
+        let low = self.field()?;
+        let high = self.field()?;
+        Ok(u64::from(low) + 4_294_967_296 * u64::from(high))
+    }
+
+    /// The number in the next field, and the two words behind it.
+    pub fn triple(&mut self) -> Result<(u32, u64, u64), Malformed>
+        ensures read { Gives (λ t. (t.0, t.1, t.2)) (triple_at self.old.bytes.now self.old.read) result }
+        ensures moves { OnOk result (IsPast self.old self.new 5) }
+    {
+        let n = self.field()?;
+        let a = self.word()?;
+        let b = self.word()?;
+        Ok((n, a, b))
+    }
 }

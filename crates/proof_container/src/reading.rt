@@ -1,7 +1,7 @@
 //! Reading a container, front to back.
 
-ghost use Rattle.std.specs.Prelude.{◌≡◌, [], ◌+◌, ◌*◌, ◌<◌, ◌≤◌, ◌^◌, length, map, ◌↔◌};
-ghost use Rattle.std.specs.Prelude.{IfOk, IfErr, IfSome, IsTrue};
+ghost use Rattle.std.specs.Prelude.{◌≡◌, [], ◌+◌, ◌*◌, ◌<◌, ◌≤◌, length, map, ◌↔◌};
+ghost use Rattle.std.specs.Prelude.{IfOk, IfErr, IfSome, IsTrue, OnOk};
 ghost use Rattle.std.specs.List.{AllByRecursion};
 ghost use Rattle.std.specs.Option.{option_map};
 ghost use Rattle.term_table.specs.Table.{IsKnown, AllKnown, tree_at};
@@ -11,13 +11,15 @@ ghost use Rattle.proof_container.specs.Reading.{first_misplaced, entry_offset, e
 ghost use Rattle.proof_container.specs.Reading.{container_read};
 ghost use Rattle.proof_container.specs.declared.limits.TheConstants.{MAX_WORDS, MAX_INVS};
 ghost use Rattle.proof_container.specs.declared.limits.TheConstants.{MAX_ENTRIES};
+ghost use Rattle.proof_container.specs.Inside.Cursor.{IsPast};
 ghost use Rattle.proof_container.specs.Inside.Walked.{IsPlaced};
-ghost use Rattle.proof_container.specs.Views.{Gives, IsNone, IsCanonical, AreKnown, contents_of, inv_trees};
+ghost use Rattle.proof_container.specs.Views.{Gives, IsNone, IsCanonical, AreKnown};
+ghost use Rattle.proof_container.specs.Views.{contents_of, inv_trees};
 
 use crate::container::Container;
 use crate::entry::{entries, part, size};
 use crate::fault::{Flaw, Malformed};
-use crate::fields::{MAGIC, VERSION, count, exact, fault, field};
+use crate::fields::{Fields, MAGIC, VERSION};
 use crate::limits::{MAX_INVS, MAX_WORDS};
 use crate::walk::walk_from;
 use std::alloc::Global;
@@ -30,107 +32,107 @@ struct Head {
     words: usize,
 }
 
-/// The policy and the count of code words; the code stands whole in the bytes.
+/// The policy and the count of code words; the code stands whole in the bytes, and comes next.
 #[tactic(auto, unfolding(crate::specs::Reading::head_read))]
-fn head_of(bytes: &[u8]) -> Result<Head, Malformed>
-    ensures read { Gives (λ h. (h.policy, h.words)) (head_read bytes.now) result }
-    ensures whole { IfOk result (λ h. 16 + 4 * h.words ≤ length bytes.now) }
+fn head_of(fields: &mut Fields<'_>) -> Result<Head, Malformed>
+    requires { fields.old.read ≡ 0 }
+    ensures read { Gives (λ h. (h.policy, h.words)) (head_read fields.old.bytes.now) result }
+    ensures moves { OnOk result (IsPast fields.old fields.new 4) }
+    ensures whole { IfOk result (λ h. 16 + 4 * h.words ≤ length fields.old.bytes.now) }
     ensures short { IfOk result (λ h. h.words ≤ MAX_WORDS) }
 {
-    exact(bytes, 0, MAGIC, Flaw::Magic)?;
-    exact(bytes, 1, VERSION, Flaw::Version)?;
-    let policy = field(bytes, 2)?;
-    let words = count(bytes, 3, 1, MAX_WORDS)? as usize;
-    if bytes.len() < 16 + 4 * words {
-        return Err(fault(bytes.len() / 4, Flaw::Cut));
+    fields.exact(MAGIC, Flaw::Magic)?;
+    fields.exact(VERSION, Flaw::Version)?;
+    let policy = fields.field()?;
+    let words = fields.count(1, MAX_WORDS)? as usize;
+    if fields.remaining() < 4 * words {
+        let whole = fields.remaining() / 4;
+        return Err(Malformed::At(fields.offset() + 4 * whole as u64, Flaw::Cut));
     }
     Ok(Head { policy, words })
 }
 
-/// The invariant in fields i and i + 1. Its index is at least `low` and below the count of words.
+/// The next invariant. Its index is at least `low` and below the count of words.
 fn inv(
-    bytes: &[u8],
-    i: usize,
+    fields: &mut Fields<'_>,
     table: &Table,
     words: usize,
     low: u32,
 ) -> Result<(u32, Id), Malformed>
-    requires { i < 2 ^ 59 }
     ensures read { Gives (λ inv. (inv.0, tree_at table.now inv.1))
-        (inv_at bytes.now i table.now.trees words low) result }
+        (inv_at fields.old.bytes.now fields.old.read table.now.trees words low) result }
+    ensures moves { OnOk result (IsPast fields.old fields.new 2) }
     ensures known { IfOk result (λ inv. IsKnown table.now inv.1) }
     ensures small { IfOk result (λ inv. inv.0 < words) }
 {
-    let index = field(bytes, i)?;
+    let offset = fields.offset();
+    let index = fields.field()?;
     if index < low || index as usize >= words {
-        return Err(fault(i, Flaw::InvOrder));
+        return Err(Malformed::At(offset, Flaw::InvOrder));
     }
-    Ok((index, part(bytes, i + 1, table)?))
+    Ok((index, part(fields, table)?))
 }
 
-/// So many invariants, the first of which begins with field `start`.
+/// The next `count` invariants.
 fn invs_from(
     alloc: Global,
-    bytes: &[u8],
+    fields: &mut Fields<'_>,
     count: u32,
-    start: usize,
     table: &Table,
     words: usize,
 ) -> Result<Vec<(u32, Id)>, Malformed>
-    requires start { start < 2 ^ 30 }
     requires few { count ≤ MAX_INVS }
     requires short { words ≤ MAX_WORDS }
     ensures read { Gives (λ v. inv_trees table.now v.items)
-        (invs_at count bytes.now start table.now.trees words 0 []) result }
+        (invs_at count fields.old.bytes.now fields.old.read table.now.trees words 0 []) result }
+    ensures moves { IfOk result (λ v. IsPast fields.old fields.new (2 * length v.items)) }
     ensures known { IfOk result (λ v. AllByRecursion (λ inv. IsKnown table.now inv.1) v.items) }
     ensures few { IfOk result (λ v. length v.items ≤ MAX_INVS) }
 {
     let mut invs = Vec::new(alloc);
-    let mut at = start;
     let mut low = 0;
     for _ in 0..count {
-        let (index, id) = inv(bytes, at, table, words, low)?;
+        let (index, id) = inv(fields, table, words, low)?;
         invs.push((index, id))?;
-        at += 2;
         low = index + 1;
     }
     Ok(invs)
 }
 
-/// The invariants, whose count is field i.
+/// The invariants, whose count is the next field.
 #[tactic(auto, unfolding(crate::specs::Reading::invs_read))]
 fn invs(
     alloc: Global,
-    bytes: &[u8],
-    i: usize,
+    fields: &mut Fields<'_>,
     table: &Table,
     words: usize,
 ) -> Result<Vec<(u32, Id)>, Malformed>
-    requires start { i < 2 ^ 29 }
-    requires short { words ≤ MAX_WORDS }
+    requires { words ≤ MAX_WORDS }
     ensures read { Gives (λ v. inv_trees table.now v.items)
-        (invs_read bytes.now i table.now.trees words) result }
+        (invs_read fields.old.bytes.now fields.old.read table.now.trees words) result }
+    ensures moves { IfOk result (λ v. IsPast fields.old fields.new (1 + 2 * length v.items)) }
     ensures known { IfOk result (λ v. AllByRecursion (λ inv. IsKnown table.now inv.1) v.items) }
     ensures few { IfOk result (λ v. length v.items ≤ MAX_INVS) }
 {
-    let count = count(bytes, i, 0, MAX_INVS)?;
-    invs_from(alloc, bytes, count, i + 1, table, words)
+    let count = fields.count(0, MAX_INVS)?;
+    invs_from(alloc, fields, count, table, words)
 }
 
-/// The proof that field i names, if it names one.
+/// The proof that the next field names, if it names one.
 #[tactic(auto, unfolding(crate::specs::Reading::proof_read))]
-fn proof(bytes: &[u8], i: usize, table: &Table) -> Result<Option<Id>, Malformed>
-    requires { i < 2 ^ 59 }
+fn proof(fields: &mut Fields<'_>, table: &Table) -> Result<Option<Id>, Malformed>
     ensures read { Gives (λ p. option_map (tree_at table.now) p)
-        (proof_read bytes.now i table.now.trees) result }
+        (proof_read fields.old.bytes.now fields.old.read table.now.trees) result }
+    ensures moves { OnOk result (IsPast fields.old fields.new 1) }
     ensures known { IfOk result (λ p. IfSome p (λ id. IsKnown table.now id)) }
 {
-    let number = u64::from(field(bytes, i)?);
+    let offset = fields.offset();
+    let number = u64::from(fields.field()?);
     if number == 0 {
         return Ok(None);
     }
     if number > table.count() {
-        return Err(fault(i, Flaw::ForwardRef));
+        return Err(Malformed::At(offset, Flaw::ForwardRef));
     }
     Ok(Some(table.id(number - 1)))
 }
@@ -159,46 +161,43 @@ fn misplaced(table: &Table, left: &[Id]) -> Option<u64>
     None
 }
 
-/// The first field of an entry.
-fn entry_field(table: &Table, words: usize, e: u64) -> usize
+/// The byte offset of entry e, which stands behind so many words of code.
+fn offset_of(table: &Table, words: usize, e: u64) -> u64
     requires known { e ≤ length table.now.trees }
     requires few { length table.now.trees ≤ MAX_ENTRIES }
     requires short { words ≤ MAX_WORDS }
-    ensures value { 4 * result ≡ entry_offset words table.now.trees e }
-    ensures near { result < 2 ^ 30 }
+    ensures { result ≡ entry_offset words table.now.trees e }
 {
     let mut field = 5 + words;
     for k in 0..e {
         field += size(table, &table.node(table.id(k)));
     }
-    field
+    4 * field as u64
 }
 
-/// Whether nothing is left behind field i, and the entries stand in the order of the walk; else the
-/// fault.
+/// Whether no byte is left, and the entries stand in the order of the walk; else the fault.
 #[tactic(auto, unfolding(crate::specs::Reading::end_read))]
 fn end(
     alloc: Global,
-    bytes: &[u8],
-    i: usize,
+    fields: &Fields<'_>,
     words: usize,
     container: &Container<'_>,
 ) -> Result<(), Malformed>
-    requires place { i < 2 ^ 59 }
     requires few { length container.now.table.trees ≤ MAX_ENTRIES }
     requires short { words ≤ MAX_WORDS }
     requires known { AreKnown container.now.table container.now.invs.items container.now.proof }
     ensures { let contents = contents_of container.now in
+        let trees = container.now.table.trees in
         Gives (λ _. contents)
-        (end_read bytes.now i words container.now.table.trees contents) result }
+        (end_read fields.now.bytes.now fields.now.read words trees contents) result }
 {
-    if bytes.len() > 4 * i {
-        return Err(fault(i, Flaw::Trailing));
+    if fields.remaining() > 0 {
+        return Err(Malformed::At(fields.offset(), Flaw::Trailing));
     }
     let table = &container.table;
     let walk = walk_from(alloc, table, &container.invs, container.proof)?;
     match misplaced(table, &walk.left) {
-        Some(e) => Err(fault(entry_field(table, words, e), Flaw::Order)),
+        Some(e) => Err(Malformed::At(offset_of(table, words, e), Flaw::Order)),
         None => Ok(()),
     }
 }
@@ -209,12 +208,12 @@ fn parse(alloc: Global, bytes: &[u8]) -> Result<Container<'_>, Malformed>
     ensures tested { Gives contents_of (container_read bytes.now) result }
     ensures canonical { IfOk result (λ c. IsCanonical c) }
 {
-    let head = head_of(bytes)?;
+    let mut fields = Fields::new(bytes);
+    let head = head_of(&mut fields)?;
     let mut table = Table::new(alloc, Places::sigma1());
-    let next = entries(bytes, head.words, &mut table)?;
-    let invs = invs(alloc, bytes, next, &table, head.words)?;
-    let count = invs.len();
-    let proof = proof(bytes, next + 1 + 2 * count, &table)?;
+    entries(&mut fields, head.words, &mut table)?;
+    let invs = invs(alloc, &mut fields, &table, head.words)?;
+    let proof = proof(&mut fields, &table)?;
     let container = Container {
         policy: head.policy,
         code: &bytes[16..16 + 4 * head.words],
@@ -222,7 +221,7 @@ fn parse(alloc: Global, bytes: &[u8]) -> Result<Container<'_>, Malformed>
         invs,
         proof,
     };
-    end(alloc, bytes, next + 2 + 2 * count, head.words, &container)?;
+    end(alloc, &fields, head.words, &container)?;
     Ok(container)
 }
 

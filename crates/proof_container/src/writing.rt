@@ -59,7 +59,7 @@ fn number(table: &Table, walk: &Walk, id: Id) -> u32
     ensures value { result ≡ entry_number (left_trees table.now walk.now) (tree_at table.now id) }
     ensures small { result < MAX_ENTRIES }
 {
-    let _ = table;
+    let _ = table; // only the clauses read it: the walk is over this table
     match walk.number(id) {
         Some(number) => number as u32,
         None => unreachable!(),
@@ -165,8 +165,8 @@ fn limits(policy: u32, code: &[u8])
     ensures policy { policy < 2 ^ 32 }
     ensures code { (i : ℕ) → slice_index code.now i < 256 }
 {
-    let _ = policy;
-    let _ = code;
+    let _ = policy; // opens its range for the prover
+    let _ = code; // opens its bytes' range for the prover
 }
 
 /// Encodes the contents of `view`: the entries stand in the order of the walk from the invariants

@@ -7,9 +7,11 @@ use Rattle.proof_container.proofs.reading.invs_from.Given as goal
 
 abbrev pub invariant-loop : goal.invariant-loop
 invariant-loop l = record {
-  read : invs_at (l.count - l.counter) l.bytes l.at l.table.trees l.words l.low (inv_trees l.table l.invs.items) ≡ invs_at l.count l.bytes l.start l.table.trees l.words 0 [];
+  bytes : l.fields.bytes.now ≡ l.initial.fields.bytes.now;
+  place : l.fields.read ≡ l.initial.fields.read + 2 * length l.invs.items;
+  read : invs_at (l.count - l.counter) l.fields.bytes.now l.fields.read l.table.trees l.words l.low (inv_trees l.table l.invs.items) ≡
+      invs_at l.count l.initial.fields.bytes.now l.initial.fields.read l.table.trees l.words 0 [];
   known : AllByRecursion (λ inv. IsKnown l.table inv.1) l.invs.items;
   few : length l.invs.items ≤ l.counter;
-  near : l.at ≤ l.start + 2 * l.counter;
   low : l.low ≤ 1024;
 }

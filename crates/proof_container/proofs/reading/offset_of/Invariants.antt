@@ -1,7 +1,7 @@
 use Rattle.std.proofs.Common.{◌≡◌, ◌+◌, ◌*◌, ◌≤◌, take}
 use Rattle.std.specs.Prelude.{sum_by}
 use Rattle.proof_container.specs.Reading.{entry_size}
-use Rattle.proof_container.proofs.reading.entry_field.Given as goal
+use Rattle.proof_container.proofs.reading.offset_of.Given as goal
 
 abbrev pub invariant-loop-k : goal.invariant-loop-k
 invariant-loop-k l = record {
