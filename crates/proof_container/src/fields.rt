@@ -20,7 +20,8 @@ pub struct Fields<'b> {
 }
 
 impl<'b> Fields<'b> {
-    ghost use Rattle.proof_container.specs.Reading.{field_at, exact_at, count_at, word_at, triple_at};
+    ghost use Rattle.proof_container.specs.Reading.{field_at, exact_at, count_at};
+    ghost use Rattle.proof_container.specs.Reading.{word_at, triple_at};
     ghost use Rattle.proof_container.specs.Views.{Gives};
     ghost use Rattle.proof_container.specs.Inside.Cursor.{IsPast};
 
@@ -109,7 +110,8 @@ impl<'b> Fields<'b> {
 
     /// The number in the next field, and the two words behind it.
     pub fn triple(&mut self) -> Result<(u32, u64, u64), Malformed>
-        ensures read { Gives (λ t. (t.0, t.1, t.2)) (triple_at self.old.bytes.now self.old.read) result }
+        ensures read { Gives (λ t. (t.0, t.1, t.2))
+            (triple_at self.old.bytes.now self.old.read) result }
         ensures moves { OnOk result (IsPast self.old self.new 5) }
     {
         let n = self.field()?;

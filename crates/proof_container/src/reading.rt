@@ -228,8 +228,8 @@ fn parse(alloc: Global, bytes: &[u8]) -> Result<Container<'_>, Malformed>
 /// Decodes container `bytes`; its terms are the entries, in the order in which they stand, and its
 /// code is a slice of `bytes`.
 ///
-/// Errors: the first fault with its byte offset, fields being read from the front and each tested as
-/// soon as it is read; `Memory` says nothing of `bytes`. The format is this project's own
+/// Errors: the first fault with its byte offset, fields being read from the front and each tested
+/// as soon as it is read; `Memory` says nothing of `bytes`. The format is this project's own
 /// (`specs/Spelling`).
 pub fn read(alloc: Global, bytes: &[u8]) -> Result<Container<'_>, Malformed>
     ensures spelled { IfOk result (λ c. Spells bytes.now (contents_of c)) }
