@@ -351,10 +351,12 @@ fn the_first_of_two_faults(rt: HostRuntime) -> Result<(), Fail> {
 #[test]
 fn each_cut(rt: HostRuntime) -> Result<(), Fail> {
     let a = rt.alloc();
-    let mut bytes = each_kind(a)?;
-    while bytes.pop().is_some() {
-        let offset = bytes.len() as u64 / 4 * 4;
-        assert_eq!(rt; fault_of(a, &bytes), Some(Malformed::At(offset, Flaw::Cut)));
+    let bytes = each_kind(a)?;
+    let bytes = bytes.as_slice();
+    for len in 0..bytes.len() {
+        let field = len as u64 / 4;
+        let cut = Malformed::At(field.saturating_mul(4), Flaw::Cut);
+        assert_eq!(rt; fault_of(a, &bytes[..len]), Some(cut));
     }
     Ok(())
 }
