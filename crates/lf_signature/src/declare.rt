@@ -87,10 +87,10 @@ fn denial(table: &mut Table, rel: u32, a: u64, b: u64) -> Result<Option<Id>, All
     Ok(Some(pf(table, denied)?))
 }
 
-/// The type of a constant in the signature of word arithmetic, and None exactly where it has none
-/// or the node is no constant.
+/// Answers the type of `constant` in the signature of word arithmetic: None exactly where it has
+/// none, or the node is no constant.
 ///
-/// Fails only where memory does.
+/// Errors: want of memory alone; each id keeps its tree.
 pub fn declared(table: &mut Table, constant: Node) -> Result<Option<Id>, AllocError>
     ensures tree { IfOk result (Stands table.new (type_at declared constant)) }
     ensures grows { Extends table.old table.new }

@@ -49,10 +49,10 @@ pub trait Signature {
     // The declared types, over the table's trees.
     ghost declares: { Self → Terms → Const → Option Tree };
 
-    /// The type of a constant: None exactly where the signature gives it none, or the node is no
-    /// constant.
+    /// Answers the type of `constant`: None exactly where the signature gives it none, or the node
+    /// is no constant.
     ///
-    /// Fails only where memory does.
+    /// Errors: want of memory alone; each id keeps its tree.
     fn type_of(&self, table: &mut Table, constant: Node) -> Result<Option<Id>, AllocError>
         requires { holds self.now table.old }
         ensures tree { IfOk result

@@ -16,6 +16,7 @@ pub struct Container<'b> {
     pub table: Table,
     /// The annotated indices, each with its invariant.
     pub invs: Vec<(u32, Id)>,
+    /// The term of the proof, where there is one.
     pub proof: Option<Id>,
 }
 
@@ -30,11 +31,12 @@ pub struct View<'v> {
     pub table: &'v Table,
     /// The annotated indices, each with its invariant.
     pub invs: &'v [(u32, Id)],
+    /// The term of the proof, where there is one.
     pub proof: Option<Id>,
 }
 
 impl Container<'_> {
-    /// The same, lent.
+    /// Lends the container's fields as a view.
     pub fn view(&self) -> View<'_>
         ensures shows { Shows self.now result }
     {
