@@ -1,12 +1,14 @@
 #!/usr/bin/env bash
-# Times `pcc ref` of code that returns at once, in containers of the most entries: a chain of
-# 262,144, each the next one's part, and a balanced tree of 262,143.
+# Times `pcc ref` of code that returns at once, in containers of 262,144 entries or one less: a chain,
+# each entry the next one's part; a balanced tree; and a chain over 104,000 entries of an operator at
+# two words, which rise, are drawn at random, or have equal hashes under the toolchain's hasher, whose
+# seed is fixed. Median of five; processor time and peak memory.
 set -eu
 top=$(cd "$(dirname "${BASH_SOURCE[0]}")/.." && pwd)
 work=$(mktemp -d)
 trap 'rm -rf "$work"' EXIT
 python3 - "$work" <<'PY'
-import struct, sys
+import random, struct, sys
 
 def write(name, entries, root):
     fields = [0x41434350, 1, 1, 2, 0x201F0001, 0x6BFA8001, len(entries)]
@@ -15,9 +17,6 @@ def write(name, entries, root):
     fields += [1, 0, root, 0]
     with open(sys.argv[1] + "/" + name, "wb") as out:
         out.write(struct.pack("<%dI" % len(fields), *fields))
-
-chain = [[2, 1, 0]] + [[7, k] for k in range(262143)]
-write("chain", chain, 262143)
 
 def build(low, high):  # the Lits from low on, below high
     if high - low == 1:
@@ -29,13 +28,56 @@ def build(low, high):  # the Lits from low on, below high
         build(middle, high)
         tree.append([6, left, len(tree) - 1])
 
+MASK = 2**64 - 1
+MULTIPLIER = 0x9E3779B97F4A7C15
+
+def folded(a, b):
+    return (a * b & MASK) ^ (a * b >> 64)
+
+def twin(word):  # the second word that gives operator 0 at this first one the same hash as any other
+    state = folded(0x243F6A8885A308D3 ^ 3, MULTIPLIER ^ 16)
+    state = folded(state, MULTIPLIER ^ 8)
+    return folded(state ^ word, MULTIPLIER ^ 16)
+
+def applied(pairs):  # the first applied to the others, one after the other, under binders
+    entries = []
+    for a, b in pairs:
+        entries.append([3, 0, a & 0xFFFFFFFF, a >> 32, b & 0xFFFFFFFF, b >> 32])
+        if len(entries) > 1:
+            entries.append([6, head, len(entries) - 1])
+        head = len(entries) - 1
+    while len(entries) < 262144:
+        entries.append([7, len(entries) - 1])
+    return entries
+
+write("chain", [[2, 1, 0]] + [[7, k] for k in range(262143)], 262143)
 tree = []
 build(0, 131072)
 write("tree", tree, len(tree) - 1)
+count = 104000
+random.seed(1)
+rising = [(k, k) for k in range(count)]
+drawn = [(random.getrandbits(64), random.getrandbits(64)) for _ in range(count)]
+equal = [(k, twin(k)) for k in range(count)]
+for name, pairs in [("rising", rising), ("random", drawn), ("equal hashes", equal)]:
+    entries = applied(pairs)
+    write(name, entries, len(entries) - 1)
 with open(sys.argv[1] + "/packets", "wb") as out:
     out.write(struct.pack("<I", 64) + bytes(64))
 PY
-for name in chain tree; do
-  echo "$name:"
-  time "$top/pcc" ref filter "$work/$name" "$work/packets"
-done
+"$top/pcc" ref filter "$work/chain" "$work/packets"
+python3 - "$top/crates/pcc_cli/out/pcc_cli" "$work" <<'PY'
+import os, statistics, subprocess, sys
+
+for name in ["chain", "tree", "rising", "random", "equal hashes"]:
+    runs = []
+    for _ in range(5):
+        words = [sys.argv[1], "ref", "filter", sys.argv[2] + "/" + name, sys.argv[2] + "/packets"]
+        process = subprocess.Popen(words, stdout=subprocess.PIPE)
+        line = process.stdout.read().decode().strip()
+        _, status, used = os.wait4(process.pid, 0)
+        assert status == 0, line
+        runs.append((used.ru_utime + used.ru_stime, used.ru_maxrss / 1024))
+    print("%s: %s  %.2f s  %.0f MB" % (
+        name, line, statistics.median(r[0] for r in runs), statistics.median(r[1] for r in runs)))
+PY

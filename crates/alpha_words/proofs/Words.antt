@@ -1,5 +1,5 @@
 -- What a word reads as is what it encodes.
-use Rattle.std.proofs.Common.{◌≡◌, ◌≢◌, ℕ, ◌+◌, ◌*◌, ◌/◌, ◌%◌, ◌^◌, ◌<◌, true, false, cond, not, leb, eqb, ◌&&◌, arith, refl, ◌∙◌, sym, Option, Some, None, Result, Ok, Err, IfOk, IfSome, ◌↔◌, lit<}
+use Rattle.std.proofs.Common.{◌≡◌, ◌≢◌, ℕ, ◌+◌, ◌*◌, ◌/◌, ◌%◌, ◌^◌, ◌<◌, true, false, cond, not, leb, eqb, ◌&&◌, arith, refl, ◌∙◌, sym, Option, Some, None, Result, Ok, Err, IfOk, IfSome, ◌↔◌, lit<, List, [], ◌∷◌, find}
 use Rattle.std.proofs.lemmas.Bool.{cond_both, eqb-true, eqb-false, ne_eqb, and_parts, not_from_false, not-true}
 use Rattle.std.proofs.lemmas.Bool.Decides.{nat_tests}
 use Rattle.word_ops.specs.declared.Op.{Op}
@@ -12,9 +12,10 @@ use Rattle.alpha_words.specs.declared.insn.Insn.{Insn}
 use Rattle.alpha_words.specs.declared.insn.Insn.TheVariants.{Lda, Ldq, Stq, Oper, Branch, Br, Ret}
 use Rattle.alpha_words.specs.declared.fault.BadWord.{BadWord}
 use Rattle.alpha_words.specs.declared.fault.BadWord.TheVariants.{KeptRegister, LoadToZero}
+use Rattle.alpha_words.specs.Opcodes.{operators, opcode_of, function_of, operator_at, conditions, cond_opcode_of, cond_at}
 use Rattle.alpha_words.specs.Lawful.{fault_of, kept_fault, HasFormat}
-use Rattle.alpha_words.specs.Encoding.{is_kept, bits_of, HasBits, opcode_of, function_of, cond_opcode_of, rhs_bits, IsRhs, operate_word, HasFields, Encodes}
-use Rattle.alpha_words.specs.Decoding.{signed_of, reg_at, operator_at, cond_at, unless_kept, rhs_at, has_reserved, decoded_operate, decoded_branch, is_return, decoded}
+use Rattle.alpha_words.specs.Encoding.{is_kept, bits_of, HasBits, rhs_bits, IsRhs, operate_word, HasFields, Encodes}
+use Rattle.alpha_words.specs.Decoding.{signed_of, reg_at, unless_kept, rhs_at, has_reserved, decoded_operate, decoded_branch, is_return, decoded}
 use Rattle.alpha_words.proofs.Fields.{HasBits-signed_of, bits_of-signed_of, signed_of-bits_of, bits_of-below}
 
 -- what reads, encodes
@@ -46,13 +47,15 @@ pick P n m x y h k = cond_both (eqb n m) x y P (λ e. h (eqb-true n m e)) (λ _.
 abbrev IsOperator : ℕ → ℕ → Option Op → Type 0
 IsOperator o f r = IfSome r (λ op. (opcode_of op ≡ o) × (function_of op ≡ f))
 
+found_operator : (o f : ℕ) (ops : List Op) → IsOperator o f (find (λ op. eqb (opcode_of op) o && eqb (function_of op) f) ops)
+found_operator o f [] = tt
+found_operator o f (op ∷ ops) =
+    cond_both (eqb (opcode_of op) o && eqb (function_of op) f) _ _ (IsOperator o f)
+    (λ e. let p = and_parts (eqb (opcode_of op) o) (eqb (function_of op) f) e in (eqb-true (opcode_of op) o p.0, eqb-true (function_of op) f p.1))
+    (λ _. found_operator o f ops)
+
 operator_sound : (o f : ℕ) → IsOperator o f (operator_at o f)
-operator_sound o f =
-    let P : Option Op → Type 0 = IsOperator o f in
-    pick P o 16 _ _
-    (λ e. pick P f 32 _ _ (λ g. (sym e, sym g)) (pick P f 41 _ _ (λ g. (sym e, sym g)) (pick P f 45 _ _ (λ g. (sym e, sym g)) (pick P f 77 _ _ (λ g. (sym e, sym g)) (pick P f 109 _ _ (λ g. (sym e, sym g)) (pick P f 29 _ _ (λ g. (sym e, sym g)) (pick P f 61 _ _ (λ g. (sym e, sym g)) tt)))))))
-    (pick P o 17 _ _ (λ e. pick P f 0 _ _ (λ g. (sym e, sym g)) (pick P f 32 _ _ (λ g. (sym e, sym g)) tt))
-    (pick P o 18 _ _ (λ e. pick P f 57 _ _ (λ g. (sym e, sym g)) (pick P f 52 _ _ (λ g. (sym e, sym g)) tt)) tt))
+operator_sound o f = found_operator o f operators
 
 operator_complete : (op : Op) → operator_at (opcode_of op) (function_of op) ≡ Some op
 operator_complete Add = refl
@@ -70,10 +73,12 @@ operator_complete Cmpule = refl
 abbrev IsCond : ℕ → Option Cond → Type 0
 IsCond o r = IfSome r (λ c. cond_opcode_of c ≡ o)
 
+found_cond : (o : ℕ) (cs : List Cond) → IsCond o (find (λ c. eqb (cond_opcode_of c) o) cs)
+found_cond o [] = tt
+found_cond o (c ∷ cs) = cond_both (eqb (cond_opcode_of c) o) _ _ (IsCond o) (λ e. eqb-true (cond_opcode_of c) o e) (λ _. found_cond o cs)
+
 cond_sound : (o : ℕ) → IsCond o (cond_at o)
-cond_sound o =
-    let P : Option Cond → Type 0 = IsCond o in
-    pick P o 56 _ _ sym (pick P o 57 _ _ sym (pick P o 58 _ _ sym (pick P o 59 _ _ sym (pick P o 60 _ _ sym (pick P o 61 _ _ sym (pick P o 62 _ _ sym (pick P o 63 _ _ sym tt)))))))
+cond_sound o = found_cond o conditions
 
 lda_sound : (w : ℕ) → w / 2 ^ 26 ≡ 8 → Sound w (unless_kept (reg_at w 21) (Lda (reg_at w 21) (reg_at w 16) (signed_of 15 (w % 2 ^ 16))))
 lda_sound w o = writing_sound w (reg_at w 21) _ (λ k. ((omega arith, written (reg_at w 21) k), omega arith, short_has w, omega (arith, short_bits w)))

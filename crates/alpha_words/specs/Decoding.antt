@@ -1,15 +1,14 @@
 -- The tests that a word meets, in their order, and the fields that are read.
 use Rattle.std.specs.Prelude.{ℕ, ◌+◌, ◌-◌, ◌/◌, ◌%◌, ◌^◌, Bool, ◌&&◌, not, ◌==◌, nat_le, nat_lt, if◌then◌else◌, ℤ, pos, negsuc, suc, Option, Some, None, Result, Ok, Err}
 use Rattle.word_ops.specs.declared.Op.{Op}
-use Rattle.word_ops.specs.declared.Op.TheVariants.{Add, Sub, Band, Bis, Sll, Srl, Cmpeq, Cmplt, Cmple, Cmpult, Cmpule}
 use Rattle.alpha_words.specs.declared.insn.Rhs.{Rhs}
 use Rattle.alpha_words.specs.declared.insn.Rhs.TheVariants.{Reg, Lit}
 use Rattle.alpha_words.specs.declared.insn.Cond.{Cond}
-use Rattle.alpha_words.specs.declared.insn.Cond.TheVariants.{LowClear, Zero, Negative, NotPositive, LowSet, NotZero, NotNegative, Positive}
 use Rattle.alpha_words.specs.declared.insn.Insn.{Insn}
 use Rattle.alpha_words.specs.declared.insn.Insn.TheVariants.{Lda, Ldq, Stq, Oper, Branch, Br, Ret}
 use Rattle.alpha_words.specs.declared.fault.BadWord.{BadWord}
 use Rattle.alpha_words.specs.declared.fault.BadWord.TheVariants.{Opcode, Function, Reserved, KeptRegister, LoadToZero, BadReturn, BadLink}
+use Rattle.alpha_words.specs.Opcodes.{operator_at, cond_at}
 use Rattle.alpha_words.specs.Encoding.{is_kept}
 
 -- the number whose k + 1 bits of two's complement are n
@@ -19,41 +18,6 @@ signed_of k n = if nat_lt n (2 ^ k) then pos n else negsuc (2 ^ k + 2 ^ k - suc 
 -- the five bits from low on
 abbrev pub reg_at : ℕ → ℕ → ℕ
 reg_at w low = w / 2 ^ low % 32
-
--- the operator of an opcode and a function
-abbrev pub operator_at : ℕ → ℕ → Option Op
-operator_at opcode function =
-    if opcode == 0x10 then
-    if function == 0x20 then Some Add else
-    if function == 0x29 then Some Sub else
-    if function == 0x2D then Some Cmpeq else
-    if function == 0x4D then Some Cmplt else
-    if function == 0x6D then Some Cmple else
-    if function == 0x1D then Some Cmpult else
-    if function == 0x3D then Some Cmpule else
-    None
-    else if opcode == 0x11 then
-    if function == 0x00 then Some Band else
-    if function == 0x20 then Some Bis else
-    None
-    else if opcode == 0x12 then
-    if function == 0x39 then Some Sll else
-    if function == 0x34 then Some Srl else
-    None
-    else None
-
--- the condition of a branch's opcode
-abbrev pub cond_at : ℕ → Option Cond
-cond_at opcode =
-    if opcode == 0x38 then Some LowClear else
-    if opcode == 0x39 then Some Zero else
-    if opcode == 0x3A then Some Negative else
-    if opcode == 0x3B then Some NotPositive else
-    if opcode == 0x3C then Some LowSet else
-    if opcode == 0x3D then Some NotZero else
-    if opcode == 0x3E then Some NotNegative else
-    if opcode == 0x3F then Some Positive else
-    None
 
 -- An instruction that writes a register is refused where that register is kept.
 abbrev pub unless_kept : ℕ → Insn → Result Insn BadWord

@@ -3,13 +3,14 @@
 ghost use Rattle.std.specs.Prelude.{◌≡◌, ◌+◌, ◌/◌, ◌%◌, ◌^◌, ◌≤◌, ◌<◌, ◌↔◌, IfOk, None};
 ghost use Rattle.alpha_words.specs.Lawful.{fault_of, HasFormat};
 ghost use Rattle.alpha_words.specs.declared.insn.Insn.{Insn};
+ghost use Rattle.alpha_words.specs.Opcodes.{operator_at, cond_at};
 ghost use Rattle.alpha_words.specs.Decoding as decoding;
 ghost use Rattle.alpha_words.specs.Encoding as encoding;
 
 use crate::fault::BadWord;
-use crate::insn::{Cond, Insn, Rhs};
+use crate::insn::{Insn, Rhs};
+use crate::opcodes::{cond_at, operator_at};
 use crate::reg::Reg;
-use word_ops::Op;
 
 /// The register whose number stands in the five bits from `low` on.
 fn reg_at(word: u32, low: u32) -> Reg
@@ -35,52 +36,6 @@ fn long_displacement(word: u32) -> i32
         field as i32
     } else {
         field as i32 - 0x20_0000
-    }
-}
-
-/// The operator of an opcode and a function.
-fn operator_at(opcode: u32, function: u32) -> Option<Op>
-    ensures { result ≡ decoding.operator_at opcode function }
-{
-    match opcode {
-        0x10 => match function {
-            0x20 => Some(Op::Add),
-            0x29 => Some(Op::Sub),
-            0x2d => Some(Op::Cmpeq),
-            0x4d => Some(Op::Cmplt),
-            0x6d => Some(Op::Cmple),
-            0x1d => Some(Op::Cmpult),
-            0x3d => Some(Op::Cmpule),
-            _ => None,
-        },
-        0x11 => match function {
-            0x00 => Some(Op::Band),
-            0x20 => Some(Op::Bis),
-            _ => None,
-        },
-        0x12 => match function {
-            0x39 => Some(Op::Sll),
-            0x34 => Some(Op::Srl),
-            _ => None,
-        },
-        _ => None,
-    }
-}
-
-/// The condition of a branch's opcode.
-fn cond_at(opcode: u32) -> Option<Cond>
-    ensures { result ≡ decoding.cond_at opcode }
-{
-    match opcode {
-        0x38 => Some(Cond::LowClear),
-        0x39 => Some(Cond::Zero),
-        0x3a => Some(Cond::Negative),
-        0x3b => Some(Cond::NotPositive),
-        0x3c => Some(Cond::LowSet),
-        0x3d => Some(Cond::NotZero),
-        0x3e => Some(Cond::NotNegative),
-        0x3f => Some(Cond::Positive),
-        _ => None,
     }
 }
 
@@ -116,7 +71,7 @@ fn has_reserved(word: u32) -> bool
 /// A word of the operate format.
 fn operate(word: u32) -> Result<Insn, BadWord>
     ensures { result ≡ decoding.decoded_operate word
-        (decoding.operator_at (word / 2 ^ 26) (word / 2 ^ 5 % 128)) }
+        (operator_at (word / 2 ^ 26) (word / 2 ^ 5 % 128)) }
 {
     let Some(op) = operator_at(word >> 26, (word >> 5) & 0x7f) else {
         return Err(BadWord::Function);
@@ -141,6 +96,20 @@ fn is_return(word: u32) -> bool
     ensures { result ≡ decoding.is_return word }
 {
     reg_at(word, 21).number() == 31 && reg_at(word, 16).number() == 26 && (word >> 14) & 3 == 2
+}
+
+/// A word of the branch format that may be a conditional branch.
+fn branch(word: u32) -> Result<Insn, BadWord>
+    ensures { result ≡ decoding.decoded_branch word (cond_at (word / 2 ^ 26)) }
+{
+    match cond_at(word >> 26) {
+        Some(cond) => Ok(Insn::Branch {
+            cond,
+            ra: reg_at(word, 21),
+            disp: long_displacement(word),
+        }),
+        None => Err(BadWord::Opcode),
+    }
 }
 
 /// What the word reads as, or the first test that it fails.
@@ -177,14 +146,7 @@ fn read(word: u32) -> Result<Insn, BadWord>
                 Err(BadWord::BadLink)
             }
         }
-        opcode => match cond_at(opcode) {
-            Some(cond) => Ok(Insn::Branch {
-                cond,
-                ra,
-                disp: long_displacement(word),
-            }),
-            None => Err(BadWord::Opcode),
-        },
+        _ => branch(word),
     }
 }
 

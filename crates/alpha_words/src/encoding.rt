@@ -6,7 +6,8 @@ ghost use Rattle.alpha_words.specs.Decoding.{decoded};
 ghost use Rattle.alpha_words.specs.Lawful.{fault_of, kept_fault, HasFormat, target_of};
 
 use crate::fault::BadWord;
-use crate::insn::{Cond, Insn, Rhs};
+use crate::insn::{Insn, Rhs};
+use crate::opcodes::{cond_opcode_of, operate_code};
 use crate::reg::Reg;
 use word_ops::Op;
 
@@ -29,6 +30,7 @@ pub fn lawful(insn: Insn) -> Result<(), BadWord>
     }
 }
 
+/// Whether the profile lets an instruction write the register.
 fn unkept(reg: Reg) -> Result<(), BadWord>
     ensures { MatchResult result (λ _. kept_fault reg ≡ None) (λ e. kept_fault reg ≡ Some e) }
 {
@@ -51,52 +53,7 @@ pub fn target(index: u32, insn: Insn) -> Option<i64>
     }
 }
 
-fn opcode_of(op: Op) -> u32
-    ensures value { result ≡ encoding.opcode_of op }
-    ensures below { result < 64 }
-{
-    match op {
-        Op::Add | Op::Sub | Op::Cmpeq | Op::Cmplt | Op::Cmple | Op::Cmpult | Op::Cmpule => 0x10,
-        Op::Band | Op::Bis => 0x11,
-        Op::Sll | Op::Srl => 0x12,
-    }
-}
-
-fn function_of(op: Op) -> u32
-    ensures value { result ≡ encoding.function_of op }
-    ensures below { result < 128 }
-{
-    match op {
-        Op::Add => 0x20,
-        Op::Sub => 0x29,
-        Op::Cmpeq => 0x2d,
-        Op::Cmplt => 0x4d,
-        Op::Cmple => 0x6d,
-        Op::Cmpult => 0x1d,
-        Op::Cmpule => 0x3d,
-        Op::Band => 0x00,
-        Op::Bis => 0x20,
-        Op::Sll => 0x39,
-        Op::Srl => 0x34,
-    }
-}
-
-fn cond_opcode_of(cond: Cond) -> u32
-    ensures value { result ≡ encoding.cond_opcode_of cond }
-    ensures below { result < 64 }
-{
-    match cond {
-        Cond::LowClear => 0x38,
-        Cond::Zero => 0x39,
-        Cond::Negative => 0x3a,
-        Cond::NotPositive => 0x3b,
-        Cond::LowSet => 0x3c,
-        Cond::NotZero => 0x3d,
-        Cond::NotNegative => 0x3e,
-        Cond::Positive => 0x3f,
-    }
-}
-
+/// A word of the memory format.
 fn memory(opcode: u32, ra: Reg, rb: Reg, disp: i16) -> u32
     requires { opcode < 64 }
     ensures { result ≡ encoding.memory_word opcode ra rb disp }
@@ -104,6 +61,7 @@ fn memory(opcode: u32, ra: Reg, rb: Reg, disp: i16) -> u32
     (opcode << 26) + (ra.number() << 21) + (rb.number() << 16) + u32::from(disp.cast_unsigned())
 }
 
+/// A word of the branch format.
 fn branch(opcode: u32, ra: u32, disp: i32) -> u32
     requires opcode { opcode < 64 }
     requires ra { ra < 32 }
@@ -113,6 +71,7 @@ fn branch(opcode: u32, ra: u32, disp: i32) -> u32
     (opcode << 26) + (ra << 21) + (disp.cast_unsigned() & 0x1f_ffff)
 }
 
+/// Bits 20 to 12 of the operate format: the second operand.
 fn rhs_bits(rhs: Rhs) -> u32
     ensures value { result ≡ encoding.rhs_bits rhs }
     ensures fits { encoding.IsRhs rhs }
@@ -124,14 +83,12 @@ fn rhs_bits(rhs: Rhs) -> u32
     }
 }
 
+/// A word of the operate format.
 fn operate(op: Op, ra: Reg, rhs: Rhs, rc: Reg) -> u32
     ensures { result ≡ encoding.operate_word op ra rhs rc }
 {
-    (opcode_of(op) << 26)
-        + (ra.number() << 21)
-        + rhs_bits(rhs)
-        + (function_of(op) << 5)
-        + rc.number()
+    let (opcode, function) = operate_code(op);
+    (opcode << 26) + (ra.number() << 21) + rhs_bits(rhs) + (function << 5) + rc.number()
 }
 
 /// The word of a lawful instruction.

@@ -1,16 +1,18 @@
 //! Instruction words of profile 1: decoded, encoded, and the places that branches lead to.
 //!
-//! Source: Alpha Architecture Handbook, "Instruction Formats" and the opcode tables. How a word
-//! encodes an instruction, its fields added up, stands in `specs/Encoding`; the tests of a word in
-//! their order in `specs/Decoding`; what the profile refuses and where a branch leads in
-//! `specs/Lawful`; the names of the kinds of faults in `specs/Names`. The layer above uses that
-//! `decode` answers Ok(i) exactly where the word encodes i, and else the first test that fails.
+//! Source: Alpha Architecture Handbook, "Instruction Formats" and the opcode tables. Opcodes and
+//! functions stand in `specs/Opcodes`; how a word encodes an instruction, its fields added up, in
+//! `specs/Encoding`; the tests of a word in their order in `specs/Decoding`; what the profile
+//! refuses and where a branch leads in `specs/Lawful`; the names of the kinds of faults in
+//! `specs/Names`. The layer above uses that `decode` answers Ok(i) exactly where the word encodes i,
+//! and else the first test that fails.
 #![tactic(auto)]
 
 mod decoding;
 mod encoding;
 mod fault;
 mod insn;
+mod opcodes;
 mod reg;
 #[cfg(test)]
 mod tests;

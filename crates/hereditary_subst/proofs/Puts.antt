@@ -1,13 +1,13 @@
 -- What the code's steps give of a substitution.
-use Rattle.std.proofs.Common.{◌≡◌, ℕ, true, false, Option, Some, None, List, [], ◌∷◌, refl, sym, ◌∙◌, ap, subst, add-one, option_map, ◌+◌, suc}
+use Rattle.std.proofs.Common.{◌≡◌, ℕ, true, false, Some, None, List, [], ◌∷◌, refl, sym, ◌∙◌, ap, subst, add-one, option_map, ◌+◌, suc}
 use Rattle.term_table.specs.Tree.{Tree, Var, Con, App, Lam, Fam, TApp, Pi, shift, shifted}
 use Rattle.term_table.specs.Subst.{Simple, Base, Arrow, erase, reduce, walk, hsub, hsub_type, bind}
 use Rattle.term_table.specs.Scope.{is_atomic_shape, is_term_shape}
 use Rattle.term_table.specs.Table.{TableView, IsKnown, tree_at, node_tree, Extends, Stands}
 use Rattle.term_table.specs.declared.Node.{Node}
 use Rattle.term_table.specs.declared.Node.TheVariants as N
-use Rattle.hereditary_subst.specs.Inside.Heads.{MetIs, HeadIs}
-use Rattle.hereditary_subst.specs.Inside.Kept.{IfKnown, Says}
+use Rattle.hereditary_subst.specs.Inside.Heads.{HeadIs}
+use Rattle.hereditary_subst.specs.Inside.Kept.{Says}
 use Rattle.hereditary_subst.specs.Inside.Spare.{Spares}
 use Rattle.hereditary_subst.specs.declared.kept.Question.TheVariants as Q
 use Rattle.hereditary_subst.proofs.Rows.{known-more}
@@ -44,28 +44,9 @@ pub spare_head : (ty : ℕ) (s : Simple) (ts : TableView) (m : Tree) (x : ℕ) (
 spare_head ty s ts m x t r h q =
     (h.0, λ acc. subst (λ z. walk (reduce s) m x z acc ≡ Some (Rattle.term_table.specs.Tree.apps (tree_at ts r) acc)) h.1 (cancel_atom (reduce s) h.2.scope x (tree_at ts r) m acc (sym (atom_shift 1 x (tree_at ts r)) ∙ ap is_atomic_shape h.1 ∙ q) h.2.within h.2.raises))
 
--- what is kept
-pub says_head : (t u : TableView) (id m x ty r : ℕ) (met : Option ℕ) → Extends t u → IsKnown t id → IsKnown t m → IsKnown t ty →
-    HeadIs ty (erase (tree_at t ty)) (tree_at t m) x (tree_at t id) u (Some (record { term = r; met = met })) → Says u (Q.Head id m x ty) r met
-says_head t u id m x ty r met e i j k h = record {
-  known = record { term = h.0; met = go met h.1 };
-  tells = (known-more t u id i e, known-more t u m j e, known-more t u ty k e, rw (e.same id i, e.same m j, e.same ty k) h.1);
-}
-  where
-    go : (o : Option ℕ) → MetIs u ty (erase (tree_at t ty)) (tree_at t m) x (tree_at t id) (tree_at u r) o → IfKnown u o
-    go None g = tt
-    go (Some v) g = g.0
-
 pub says_under : (t u : TableView) (id m x ty r : ℕ) → Extends t u → IsKnown t id → IsKnown t m → IsKnown t ty → IsKnown u r →
     hsub (erase (tree_at t ty)) (tree_at t m) x (tree_at t id) ≡ Some (tree_at u r) → Says u (Q.Under id m x ty) r None
 says_under t u id m x ty r e i j k n h = record {
-  known = record { term = n; met = tt };
-  tells = (known-more t u id i e, known-more t u m j e, known-more t u ty k e, rw (e.same id i, e.same m j, e.same ty k) h);
-}
-
-pub says_type : (t u : TableView) (id m x ty r : ℕ) → Extends t u → IsKnown t id → IsKnown t m → IsKnown t ty → IsKnown u r →
-    hsub_type (erase (tree_at t ty)) (tree_at t m) x (tree_at t id) ≡ Some (tree_at u r) → Says u (Q.Type id m x ty) r None
-says_type t u id m x ty r e i j k n h = record {
   known = record { term = n; met = tt };
   tells = (known-more t u id i e, known-more t u m j e, known-more t u ty k e, rw (e.same id i, e.same m j, e.same ty k) h);
 }
@@ -114,13 +95,3 @@ put_under t u v w z id b m x y ty up d term e f kb km kt l r q h n =
     ap (λ k. hsub (erase k) (tree_at v up) y (tree_at t b)) (sym same_ty) ∙ ap (λ k. hsub (erase (tree_at v ty)) (tree_at v up) y k) (sym same_b) ∙ h.1
     in
     lam_to (erase (tree_at t ty)) (tree_at t m) (tree_at v up) x y (tree_at t b) (tree_at w d) (tree_at t id) l r' q h' ∙ ap Some (sym n)
-
--- a term is no type
-pub type_none : (s : Simple) (m : Tree) (x : ℕ) (t : Tree) → is_term_shape t ≡ true → hsub_type s m x t ≡ None
-type_none s m x (Var n) h = refl
-type_none s m x (Con c) h = refl
-type_none s m x (App f a) h = refl
-type_none s m x (Lam b) h = refl
-type_none s m x (Fam a) h = cc
-type_none s m x (TApp p a) h = cc
-type_none s m x (Pi a b) h = cc

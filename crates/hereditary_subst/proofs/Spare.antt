@@ -7,6 +7,7 @@ use Rattle.term_table.specs.Subst.{Simple, at_spot, bind, walk, reduce, hsub, hs
 use Rattle.term_table.specs.Measures.{height_of, capped}
 use Rattle.term_table.specs.Scope.{is_atomic_shape, is_term_shape, is_scoped, HasReach}
 use Rattle.term_table.specs.Table.{IsSmall}
+use Rattle.term_table.proofs.Shifts.{shift-over, scoped-over}
 use Rattle.hereditary_subst.specs.Inside.Spare.{CanRaise, IsLowerable}
 
 pub both : (a b : Bool) → (a && b) ≡ true → (a ≡ true) × (b ≡ true)
@@ -18,19 +19,8 @@ not_true true q = cc
 not_true false q = refl
 
 -- a shift past all variables
-raise_within : (k c n : ℕ) → n < c → raise k c n ≡ n
-raise_within k zero n h = absurd (omega arith)
-raise_within k (suc c) zero h = refl
-raise_within k (suc c) (suc n) h = ap suc (raise_within k c n (omega arith))
-
 pub shift-scoped : (k c : ℕ) (t : Tree) → is_scoped c t ≡ true → shift k c t ≡ t
-shift-scoped k c (Var n) h = ap Var (raise_within k c n (ltb-true n c h))
-shift-scoped k c (Con d) h = refl
-shift-scoped k c (App f a) h = let s = both _ _ (both _ _ h).1 in let p = shift-scoped k c f s.0 in let q = shift-scoped k c a s.1 in λ i. App (p i) (q i)
-shift-scoped k c (Lam b) h = ap Lam (shift-scoped k (suc c) b (both _ _ h).1)
-shift-scoped k c (Fam a) h = refl
-shift-scoped k c (TApp f a) h = let s = both _ _ (both _ _ h).1 in let p = shift-scoped k c f s.0 in let q = shift-scoped k c a s.1 in λ i. TApp (p i) (q i)
-shift-scoped k c (Pi a b) h = let s = both _ _ (both _ _ h).1 in let p = shift-scoped k c a s.0 in let q = shift-scoped k (suc c) b s.1 in λ i. Pi (p i) (q i)
+shift-scoped k c t h = shift-over k c t (scoped-over c t h)
 
 -- the trees of a table fit
 pub fits_small : (t : Tree) → IsSmall t → fits t ≡ true
@@ -106,15 +96,6 @@ raise-fewer : (k n : ℕ) (m : Tree) → k ≤ n → CanRaise n m → CanRaise k
 raise-fewer zero n m l h = tt
 raise-fewer (suc k) zero m l h = absurd (omega arith)
 raise-fewer (suc k) (suc n) m l h = (h.0, raise-fewer k n (shift 1 0 m) (omega arith) h.1)
-
-height_some : (t : Tree) → 1 ≤ height_of t
-height_some (Var n) = omega arith
-height_some (Con c) = omega arith
-height_some (App f a) = omega arith
-height_some (Lam b) = omega arith
-height_some (Fam a) = omega arith
-height_some (TApp f a) = omega arith
-height_some (Pi a b) = omega arith
 
 -- what the table knows of m and r
 pub ready : (m r : Tree) (i j h k : ℕ) → HasReach i m → HasReach j r → h ≡ capped (height_of m) → k ≡ capped (height_of r) → j < 4294967295 → i + h + k < 4294967295 → IsLowerable m r

@@ -1,6 +1,6 @@
 -- Removing a variable, by cases as the code makes them.
-use Rattle.std.proofs.Common.{◌≡◌, ℕ, zero, suc, ◌+◌, ◌-◌, ◌<◌, Some, Option, None, List, [], ◌∷◌, refl, sym, ◌∙◌, ap, subst, arith, option_map, add-one}
-use Rattle.term_table.specs.Tree.{Tree, Var, App, Lam, Here, Other, spot, later, apps, Pi, shifted}
+use Rattle.std.proofs.Common.{◌≡◌, ℕ, zero, suc, ◌-◌, ◌<◌, Some, Option, None, List, [], refl, sym, ◌∙◌, ap, arith}
+use Rattle.term_table.specs.Tree.{Tree, Var, Here, Other, spot, later, apps}
 use Rattle.term_table.specs.Subst as L
 use Rattle.term_table.specs.Table.{TableView, IsKnown, tree_at}
 use Rattle.hereditary_subst.specs.declared.kept.Atom.{Atom}
@@ -29,15 +29,6 @@ pub walk_other : (s : L.Simple) (m : Tree) (x n k : ℕ) (t r : Tree) → Var n 
 walk_other s m x n k t r e q w acc =
     ap (λ z. L.walk (L.reduce s) m x z acc) (sym e) ∙ ap (L.at_spot (L.reduce s m acc) (λ k. Some (apps (Var k) acc))) q ∙ ap (λ z. Some (apps z acc)) (sym w)
 
-pub walk_meets : (s from to : L.Simple) (m : Tree) (x : ℕ) (f a g b body r t : Tree) → App f a ≡ t →
-    ((acc : List Tree) → L.walk (L.reduce s) m x f acc ≡ L.reduce (L.Arrow from to) g acc) → L.hsub s m x a ≡ Some b → Lam body ≡ g → L.hsub from b 0 body ≡ Some r →
-    (acc : List Tree) → L.walk (L.reduce s) m x t acc ≡ L.reduce to r acc
-walk_meets s from to m x f a g b body r t e h p l q acc =
-    ap (λ z. L.walk (L.reduce s) m x z acc) (sym e)
-    ∙ ap (λ o. L.bind o (λ z. L.walk (L.reduce s) m x f (z ∷ acc))) p
-    ∙ h (b ∷ acc) ∙ ap (λ z. L.reduce (L.Arrow from to) z (b ∷ acc)) (sym l)
-    ∙ ap (λ o. L.bind o (λ z. L.reduce to z acc)) q
-
 pub reduce_none : (s : L.Simple) (m : Tree) → L.reduce s m [] ≡ Some m
 reduce_none (L.Base b) m = refl
 reduce_none (L.Arrow s t) m = refl
@@ -49,17 +40,3 @@ head_result ty s m x t ts a h = (h.0, go a.met h.1)
     go : (u : Option ℕ) → MetIs ts ty s m x t (tree_at ts a.term) u → L.hsub s m x t ≡ Some (tree_at ts a.term)
     go None k = k []
     go (Some u) k = k.2 [] ∙ reduce_none (L.erase (tree_at ts u)) (tree_at ts a.term)
-
--- one step of reduction
-pub goes_to : (from to : L.Simple) (g b body r : Tree) → Lam body ≡ g → L.hsub from b 0 body ≡ Some r → (acc : List Tree) → L.reduce (L.Arrow from to) g (b ∷ acc) ≡ L.reduce to r acc
-goes_to from to g b body r l q acc =
-    ap (λ z. L.reduce (L.Arrow from to) z (b ∷ acc)) (sym l) ∙ ap (λ o. L.bind o (λ z. L.reduce to z acc)) q
-
-pub pi_to : (s : L.Simple) (m m' : Tree) (x y : ℕ) (a b c d t : Tree) → Pi a b ≡ t → L.hsub_type s m x a ≡ Some c → shifted 1 0 m ≡ Some m' → y ≡ x + 1 → L.hsub_type s m' y b ≡ Some d →
-    L.hsub_type s m x t ≡ Some (Pi c d)
-pi_to s m m' x y a b c d t e p r q w =
-    let w' : L.hsub_type s m' (suc x) b ≡ Some d = subst (λ z. L.hsub_type s m' z b ≡ Some d) (q ∙ add-one x) w in
-    ap (L.hsub_type s m x) (sym e)
-    ∙ ap (λ o. L.bind o (λ z. L.bind (L.raised m) (λ m'. option_map (Pi z) (L.hsub_type s m' (suc x) b)))) p
-    ∙ ap (λ o. L.bind o (λ m'. option_map (Pi c) (L.hsub_type s m' (suc x) b))) r
-    ∙ ap (option_map (Pi c)) w'

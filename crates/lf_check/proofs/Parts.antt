@@ -82,6 +82,3 @@ part_take m n ctx h = record {
   checks = λ sig a. checks-part sig m n ctx a h;
   formed = λ sig. formed-part sig m n ctx h;
 }
-
-pub part_whole : (m : Tree) (ctx : List Tree) → IsPart m ctx ctx
-part_whole m ctx = record { synth = λ sig. refl; checks = λ sig a. refl; formed = λ sig. refl }

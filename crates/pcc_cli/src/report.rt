@@ -1,6 +1,5 @@
 //! What a command prints that is done.
 
-ghost use Rattle.std.specs.Prelude.{◌≡◌};
 ghost use Rattle.file_port.specs.Sink.{Puts};
 ghost use Rattle.packet_store.specs.Runners.{testing_results};
 ghost use Rattle.pcc_lines.specs.Results.{result_lines};

@@ -9,7 +9,8 @@ use Rattle.pcc_exit.specs.Requests.{Request, Suits, command, read_fault_exit, wr
 pub record IsAnswer (request : Request) (old new : FilesState) (exit : Exit) : Type 0 where
   pub change : Change
   pub made : new ≡ changed change old
-  pub exact : IfSome old.contents (λ files. request.answer files ≡ record { exit = exit; change = change })
+  pub exact : IfSome old.contents (λ files.
+      request.answer files ≡ record { exit = exit; change = change })
   pub in_range : exit.status ≤ 3
   -- a refused command writes nothing
   pub no_change : 0 < exit.status → change ≡ None
@@ -30,7 +31,8 @@ pub record IsReadFault (request : Request) (old new : FilesState) (exit : Exit) 
 pub record IsWriteFault (request : Request) (old new : FilesState) (exit : Exit) : Type 0 where
   pub name : List ℕ
   pub bytes : List ℕ
-  pub asked : IfSome old.contents (λ files. (request.answer files).change ≡ Some (name, bytes))
+  pub asked : IfSome old.contents (λ files.
+      (request.answer files).change ≡ Some (name, bytes))
   pub command : request.standing ≡ command
   pub fails : WriteFails name bytes old new
   pub line : exit ≡ write_fault_exit request.texts name
@@ -44,6 +46,8 @@ pub data IsDecision (request : Request) (old new : FilesState) (exit : Exit) : T
 -- From files f and output s to files g and output t: all of what was decided is printed, or a put fails and a part of
 -- it is, or memory ran out before anything was done.
 pub data Ends (request : Request) (f g : FilesState) (s t : SinkState) (status : ℕ) : Type 0 where
-  printed : (exit : Exit) → IsDecision request f g exit → t ≡ with_piece exit.text s → status ≡ exit.status → Ends request f g s t status
-  put_failed : (exit : Exit) → IsDecision request f g exit → PutFails exit.text s t → status ≡ 4 → Ends request f g s t status
+  printed : (exit : Exit) → IsDecision request f g exit → t ≡ with_piece exit.text s → status ≡ exit.status
+      → Ends request f g s t status
+  put_failed : (exit : Exit) → IsDecision request f g exit → PutFails exit.text s t → status ≡ 4
+      → Ends request f g s t status
   out_of_memory : g ≡ f → t ≡ s → status ≡ 5 → Ends request f g s t status

@@ -19,6 +19,7 @@ pub record Texts : Type 0 where
   pub read_fault : List ℕ → List ℕ
   pub write_fault : List ℕ → List ℕ
 
+-- what the arguments ask for
 pub record Request : Type 0 where
   pub standing : Standing
   -- the answer, where these are the files

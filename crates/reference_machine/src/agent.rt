@@ -1,6 +1,6 @@
 //! An agent: a state in an arena.
 
-ghost use Rattle.std.specs.Prelude.{◌≡◌, ◌+◌, ◌<◌, length, IfOk, true, if◌then◌else◌, Some, None, slice_index, ◌%◌, ◌^◌};
+ghost use Rattle.std.specs.Prelude.{◌≡◌, ◌+◌, ◌<◌, ◌≤◌, length, IfOk, true, if◌then◌else◌, Some, None, slice_index, ◌%◌, ◌^◌};
 ghost use Rattle.word_ops.specs.Memory as memory;
 ghost use Rattle.word_ops.specs.Rights.{allowed};
 ghost use Rattle.word_ops.specs.Registers.{read_reg, write_reg};
@@ -158,6 +158,48 @@ impl Agent {
         Step::Moved
     }
 
+    /// Loads the word at an address into a register and goes on, where that is allowed.
+    fn load_word(&mut self, ra: Reg, addr: u64) -> Step
+        requires { self.old.state.index < MAX_WORDS }
+        ensures step { let s : machine.State = self.old.state in
+            (result, self.new.state) ≡ machine.access_outcome Kind.Load (allowed s.rights.reads addr) addr s
+            (record s {
+              index = s.index + 1;
+              regs = write_reg s.regs ra (memory.read s.memory addr);
+            }) }
+        ensures region { (self.new.region_at ≡ self.old.region_at)
+            × (self.new.region ≡ self.old.region) }
+        ensures near { self.new.state.index ≤ self.old.state.index + 1 }
+    {
+        let (index, kind) = (self.index, Kind::Load);
+        match self.word_at(addr) {
+            Some(word) => self.set_reg(ra, word),
+            None => Step::Blocked { index, kind, addr },
+        }
+    }
+
+    /// Stores a register's word at an address and goes on, where that is allowed.
+    fn store_word(&mut self, ra: Reg, addr: u64) -> Step
+        requires { self.old.state.index < MAX_WORDS }
+        ensures step { let s : machine.State = self.old.state in
+            (result, self.new.state) ≡ machine.access_outcome Kind.Store (allowed s.rights.writes addr) addr s
+            (record s {
+              index = s.index + 1;
+              memory = memory.write s.memory addr (read_reg s.regs ra);
+            }) }
+        ensures region { (self.new.region_at ≡ self.old.region_at)
+            × (self.new.region ≡ self.old.region) }
+        ensures near { self.new.state.index ≤ self.old.state.index + 1 }
+    {
+        let (index, kind) = (self.index, Kind::Store);
+        let word = self.reg(ra);
+        if self.may_store(addr) {
+            self.store(addr, word)
+        } else {
+            Step::Blocked { index, kind, addr }
+        }
+    }
+
     /// Goes on to the instruction at the index.
     fn go_to(&mut self, index: u32) -> Step
         ensures result { result ≡ Step.Moved }
@@ -192,22 +234,12 @@ impl Agent {
                 self.set_reg(ra, addr)
             }
             Insn::Ldq { ra, rb, disp } => {
-                let kind = Kind::Load;
                 let addr = self.address(rb, disp);
-                match self.word_at(addr) {
-                    Some(word) => self.set_reg(ra, word),
-                    None => Step::Blocked { index, kind, addr },
-                }
+                self.load_word(ra, addr)
             }
             Insn::Stq { ra, rb, disp } => {
-                let kind = Kind::Store;
                 let addr = self.address(rb, disp);
-                let word = self.reg(ra);
-                if self.may_store(addr) {
-                    self.store(addr, word)
-                } else {
-                    Step::Blocked { index, kind, addr }
-                }
+                self.store_word(ra, addr)
             }
             Insn::Oper { op, ra, rhs, rc } => {
                 let word = apply(op, self.reg(ra), self.rhs(&rhs));

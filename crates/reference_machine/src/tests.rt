@@ -1,7 +1,7 @@
 //! When conditional branches are taken, at edge words.
 
-use crate::{Agent, takes};
-use alpha_words::Cond;
+use crate::{Agent, address_of, takes};
+use alpha_words::{Cond, Reg};
 use std::test::Fail;
 
 /// A condition, the word of the register, and whether qemu-alpha 7.2 took the branch.
@@ -53,6 +53,27 @@ fn branches_are_taken_at_zero(rt: HostRuntime) {
     ];
     for (cond, word, want) in rows {
         assert_eq!(rt; takes(cond, word), want, "{cond:?} of {word}");
+    }
+}
+
+/// What qemu-alpha 7.2 left in r0 for `lda r0,disp(r1)`.
+#[test]
+fn addresses_are_sums(rt: HostRuntime) {
+    let rows = [
+        (0, 0, 0),
+        (0x8000_0000_0000_0000, 1, 0x8000_0000_0000_0001),
+        (0xffff_ffff_ffff_ffff, -1, 0xffff_ffff_ffff_fffe),
+        (0x7fff_ffff_ffff_ffff, 32_767, 0x8000_0000_0000_7ffe),
+        (0xffff_ffff_ffff_ffff, -32_768, 0xffff_ffff_ffff_7fff),
+    ];
+    for (word, disp, want) in rows {
+        let mut regs = [0; 31];
+        regs[1] = word;
+        assert_eq!(rt;
+            address_of(&regs, Reg::new(1), disp),
+            want,
+            "{word} and {disp}"
+        );
     }
 }
 

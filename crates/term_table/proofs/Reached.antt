@@ -39,10 +39,6 @@ term_node (N.Pi f x) ts = refl
 nothing : (r : ℕ) (t : Tree) → r ≡ 4294967295 → HasReach r t
 nothing r t e h n l = absurd (omega arith)
 
--- the reach of a variable
-pub reach_var : (k r : ℕ) → (r < 4294967295 → r ≡ k + 1) → HasReach r (Var k)
-reach_var k r e h n l = let q : r ≡ k + 1 = e h in lt-ltb k n (omega arith)
-
 pub reach_app : (f a : Tree) (x y : Bool) (r p q : ℕ) → x ≡ is_atomic_shape f → y ≡ is_term_shape a → HasReach p f → HasReach q a → r ≡ cond (x && y) (max p q) 4294967295 → HasReach r (App f a)
 reach_app f a true true r p q i j hf ha e h n l =
     both_true (both_true (sym i) (sym j)) (both_true (hf (omega arith) n (omega arith)) (ha (omega arith) n (omega arith)))

@@ -24,7 +24,8 @@ shift-shift j k c (Fam a) = refl
 shift-shift j k c (TApp p a) = λ i. TApp (shift-shift j k c p i) (shift-shift j k c a i)
 shift-shift j k c (Pi a b) = λ i. Pi (shift-shift j k c a i) (shift-shift j k (suc c) b i)
 
-raise-over : (k c n : ℕ) → n < c → raise k c n ≡ n
+-- a variable below the place stays
+pub raise-over : (k c n : ℕ) → n < c → raise k c n ≡ n
 raise-over k zero n l = absurd (omega (arith, l))
 raise-over k (suc c) zero l = refl
 raise-over k (suc c) (suc n) l = ap suc (raise-over k c n (omega (arith, l)))

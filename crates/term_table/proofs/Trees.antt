@@ -244,9 +244,6 @@ extends-push t tree = record {
   places = refl;
 }
 
-pub extends-refl : (t : TableView) → Extends t t
-extends-refl t = record { longer = omega arith; same = λ id h. refl; places = refl }
-
 -- the table of the entries with one more has one more tree
 pub with_entry : (places : List ℕ) (es after : List Entry) (e : Entry) (n : Node) (t : TableView) → record { trees = entry_trees es; places = places } ≡ t → after ≡ es ++ e ∷ [] → e.node ≡ n →
     record { trees = entry_trees after; places = places } ≡ with_tree t (node_tree t n)

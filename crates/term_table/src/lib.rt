@@ -81,7 +81,7 @@ pub struct Places {
     counts: &'static [u8],
 }
 
-// Constants 0 to 26 build formulas and have no parameters; 27 to 87 are the rules.
+/// Constants 0 to 26 build formulas and have no parameters; 27 to 87 are the rules.
 static SIGMA1: [u8; 88] = [
     0, 0, 0, 0, 0, 0, 0, 0, 0, 0, 0, 0, 0, 0, 0, 0, 0, 0, 0, 0, 0, 0, 0, 0, 0, 0, 0, 0, 1, 2, 2, 2,
     2, 2, 3, 2, 2, 1, 1, 2, 1, 2, 1, 3, 3, 4, 2, 3, 1, 2, 2, 2, 3, 1, 2, 1, 1, 2, 1, 3, 3, 1, 1, 1,
@@ -103,7 +103,7 @@ impl Places {
         Places { counts: &SIGMA1 }
     }
 
-    // How many parameters the constant has.
+    /// How many parameters the constant has.
     fn count(self, constant: u32) -> u32
         ensures { result ≡ get_or (counts_of self) constant 0 }
     {
@@ -114,7 +114,7 @@ impl Places {
     }
 }
 
-// A node with its measures, and how many of its head's parameter places no argument fills yet.
+/// A node with its measures, and how many of its head's parameter places no argument fills yet.
 #[derive(Clone, Copy)]
 struct Entry {
     node: Node,
@@ -125,7 +125,7 @@ struct Entry {
     reach: u32,
 }
 
-// A tree without parts.
+/// A tree without parts.
 fn leaf(node: Node, left: u32, reach: u32) -> Entry
     ensures { result ≡ record { node = node; height = 1; weight = 1; left = left; reach = reach } }
 {
@@ -138,7 +138,7 @@ fn leaf(node: Node, left: u32, reach: u32) -> Entry
     }
 }
 
-// Whether the node is a variable, a constant or an application.
+/// Whether the node is a variable, a constant or an application.
 fn is_atomic(node: Node) -> bool
     ensures { result ≡ is_atomic_node node }
 {
@@ -148,7 +148,7 @@ fn is_atomic(node: Node) -> bool
     }
 }
 
-// Whether the node is a term's.
+/// Whether the node is a term's.
 fn is_term(node: Node) -> bool
     ensures { result ≡ is_term_node node }
 {
@@ -158,7 +158,7 @@ fn is_term(node: Node) -> bool
     }
 }
 
-// The reach of a body, one binder further out.
+/// The reach of a body, one binder further out.
 fn outside(reach: u32) -> u32
     ensures { result ≡ reach_outside reach }
 {
@@ -169,21 +169,21 @@ fn outside(reach: u32) -> u32
     }
 }
 
-// The reach of two parts, where they may stand together.
+/// The reach of two parts, where they may stand together.
 fn joined(first: bool, second: bool, a: u32, b: u32) -> u32
     ensures { result ≡ (if first && second then max a b else 4294967295) }
 {
     if first && second { a.max(b) } else { u32::MAX }
 }
 
-// The reach of a term under a binder.
+/// The reach of a term under a binder.
 fn under(term: bool, reach: u32) -> u32
     ensures { result ≡ (if term then reach_outside reach else 4294967295) }
 {
     if term { outside(reach) } else { u32::MAX }
 }
 
-// A tree of two parts that weighs them and 1 more.
+/// A tree of two parts that weighs them and 1 more.
 fn pair(node: Node, a: Entry, b: Entry, reach: u32) -> Entry
     ensures reach { result.reach ≡ reach }
     ensures node { result.node ≡ node }
@@ -200,7 +200,7 @@ fn pair(node: Node, a: Entry, b: Entry, reach: u32) -> Entry
     }
 }
 
-// A term with one argument more.
+/// A term with one argument more.
 fn applied(node: Node, f: Entry, a: Entry) -> Entry
     ensures node { result.node ≡ node }
     ensures height { result.height ≡ capped (1 + max f.height a.height) }
@@ -221,7 +221,7 @@ fn applied(node: Node, f: Entry, a: Entry) -> Entry
     }
 }
 
-// A term under a binder.
+/// A term under a binder.
 fn abstracted(node: Node, b: Entry) -> Entry
     ensures node { result.node ≡ node }
     ensures height { result.height ≡ capped (1 + b.height) }
@@ -240,7 +240,7 @@ fn abstracted(node: Node, b: Entry) -> Entry
     }
 }
 
-// The node with its measures, by the entries of its parts.
+/// The node with its measures, by the entries of its parts.
 fn entry_of(entries: &[Entry], places: Places, node: Node) -> Entry
     requires parts { PartsBelow (length entries.now) node }
     requires measured { AreMeasured (counts_of places) entries.now }
@@ -253,10 +253,7 @@ fn entry_of(entries: &[Entry], places: Places, node: Node) -> Entry
         Node::Var(n) => leaf(node, 0, n.saturating_add(1)),
         Node::Const(n) => leaf(node, places.count(n), 0),
         Node::App(f, a) => applied(node, entries[f.0 as usize], entries[a.0 as usize]),
-        Node::Lam(b) => {
-            let body = entries[b.0 as usize];
-            abstracted(node, body)
-        }
+        Node::Lam(b) => abstracted(node, entries[b.0 as usize]),
         Node::TApp(p, a) => {
             let family = entries[p.0 as usize];
             let argument = entries[a.0 as usize];
@@ -283,7 +280,7 @@ fn entry_of(entries: &[Entry], places: Places, node: Node) -> Entry
     }
 }
 
-// What the fields' types say of a node's numbers.
+/// What the fields' types say of a node's numbers.
 fn numbers(node: Node)
     ensures { IsSmallNode node }
 {
@@ -336,7 +333,7 @@ impl Table {
         *self.entries.allocator()
     }
 
-    // The entry of an id.
+    /// The entry of an id.
     fn entry(&self, id: Id) -> Entry
         requires { IsKnown self.now id }
         ensures tree { node_tree self.now result.node ≡ tree_at self.now id }

@@ -1,12 +1,13 @@
 use Rattle.std.proofs.Common.{rules, ◌≡◌, ◌<◌, ◌+◌, ◌-◌, arith, ◌∙◌, ap}
 use Rattle.term_table.specs.Tree.{Var, shift}
-use Rattle.hereditary_subst.proofs.Shifting.{raise_below, raise_from}
+use Rattle.term_table.proofs.Shifts.{raise-over}
+use Rattle.hereditary_subst.proofs.Shifting.{raise_from}
 use Rattle.hereditary_subst.proofs.shifts.lower_variable.Goals as goal
 
 pub returns-then-from-x-2-clause-tree : goal.returns-then-from-x-2-clause-tree
 returns-then-from-x-2-clause-tree c =
     let below : c.args.n < c.args.x = omega arith in
-    (c.requires.known, rw (← c.requires.is) (ap Var (raise_below 1 c.args.x c.args.n below)))
+    (c.requires.known, rw (← c.requires.is) (ap Var (raise-over 1 c.args.x c.args.n below)))
 
 pub returns-clause-tree : goal.returns-clause-tree
 returns-clause-tree c =
