@@ -12,7 +12,7 @@ use Rattle.alpha_words.specs.declared.insn.Insn.{Insn}
 use Rattle.alpha_words.specs.declared.insn.Insn.TheVariants.{Lda, Ldq, Stq, Oper, Branch, Br, Ret}
 use Rattle.alpha_words.specs.declared.fault.BadWord.{BadWord}
 use Rattle.alpha_words.specs.declared.fault.BadWord.TheVariants.{KeptRegister, LoadToZero}
-use Rattle.alpha_words.specs.Opcodes.{operators, opcode_of, function_of, operator_at, conditions, cond_opcode_of, cond_at}
+use Rattle.alpha_words.specs.Opcodes.{operate_operators, opcode_of, function_of, operator_at, conditions, cond_opcode_of, cond_at}
 use Rattle.alpha_words.specs.Lawful.{fault_of, kept_fault, HasFormat}
 use Rattle.alpha_words.specs.Encoding.{is_kept, bits_of, HasBits, rhs_bits, IsRhs, operate_word, HasFields, Encodes}
 use Rattle.alpha_words.specs.Decoding.{signed_of, reg_at, unless_kept, rhs_at, has_reserved, decoded_operate, decoded_branch, is_return, decoded}
@@ -55,7 +55,7 @@ found_operator o f (op ∷ ops) =
     (λ _. found_operator o f ops)
 
 operator_sound : (o f : ℕ) → IsOperator o f (operator_at o f)
-operator_sound o f = found_operator o f operators
+operator_sound o f = found_operator o f operate_operators
 
 operator_complete : (op : Op) → operator_at (opcode_of op) (function_of op) ≡ Some op
 operator_complete Add = refl

@@ -21,8 +21,8 @@ operate_code Srl = (0x12, 0x34)
 operate_code Sll = (0x12, 0x39)
 
 -- all operators
-abbrev pub operators : List Op
-operators = Cmpult ∷ Add ∷ Sub ∷ Cmpeq ∷ Cmpule ∷ Cmplt ∷ Cmple ∷ Band ∷ Bis ∷ Srl ∷ Sll ∷ []
+abbrev pub operate_operators : List Op
+operate_operators = Cmpult ∷ Add ∷ Sub ∷ Cmpeq ∷ Cmpule ∷ Cmplt ∷ Cmple ∷ Band ∷ Bis ∷ Srl ∷ Sll ∷ []
 
 -- the opcode of an operator
 abbrev pub opcode_of : Op → ℕ
@@ -34,7 +34,7 @@ function_of op = (operate_code op).1
 
 -- the operator of an opcode and a function
 abbrev pub operator_at : ℕ → ℕ → Option Op
-operator_at opcode function = find (λ op. opcode_of op == opcode && function_of op == function) operators
+operator_at opcode function = find (λ op. opcode_of op == opcode && function_of op == function) operate_operators
 
 -- the opcode of each conditional branch
 abbrev pub cond_opcode_of : Cond → ℕ

@@ -162,7 +162,8 @@ impl Agent {
     fn load_word(&mut self, ra: Reg, addr: u64) -> Step
         requires { self.old.state.index < MAX_WORDS }
         ensures step { let s : machine.State = self.old.state in
-            (result, self.new.state) ≡ machine.access_outcome Kind.Load (allowed s.rights.reads addr) addr s
+            (result, self.new.state) ≡ machine.access_outcome Kind.Load
+            (allowed s.rights.reads addr) addr s
             (record s {
               index = s.index + 1;
               regs = write_reg s.regs ra (memory.read s.memory addr);
@@ -182,7 +183,8 @@ impl Agent {
     fn store_word(&mut self, ra: Reg, addr: u64) -> Step
         requires { self.old.state.index < MAX_WORDS }
         ensures step { let s : machine.State = self.old.state in
-            (result, self.new.state) ≡ machine.access_outcome Kind.Store (allowed s.rights.writes addr) addr s
+            (result, self.new.state) ≡ machine.access_outcome Kind.Store
+            (allowed s.rights.writes addr) addr s
             (record s {
               index = s.index + 1;
               memory = memory.write s.memory addr (read_reg s.regs ra);

@@ -21,6 +21,7 @@ abbrev pub LowersTo : TableView → ℕ → Tree → ℕ → Option ℕ → Type
 LowersTo t x tree r None = shift 1 x (tree_at t r) ≡ tree
 LowersTo t x tree r (Some u) = Unit {0}
 
+-- an id, if there is one, is of the table
 abbrev pub IfKnown : TableView → Option ℕ → Type 0
 IfKnown t None = Unit {0}
 IfKnown t (Some id) = IsKnown t id
@@ -38,6 +39,7 @@ Tells t (Q.Head id m x ty) r met = IsKnown t id × IsKnown t m × IsKnown t ty �
 Tells t (Q.Under id m x ty) r met = IsKnown t id × IsKnown t m × IsKnown t ty × (hsub (erase (tree_at t ty)) (tree_at t m) x (tree_at t id) ≡ Some (tree_at t r))
 Tells t (Q.Type id m x ty) r met = IsKnown t id × IsKnown t m × IsKnown t ty × (hsub_type (erase (tree_at t ty)) (tree_at t m) x (tree_at t id) ≡ Some (tree_at t r))
 
+-- the answer is of the table, and right of the question
 pub record Says (t : TableView) (q : Question) (r : ℕ) (u : Option ℕ) : Type 0 where
   pub known : AreKnownIds t r u
   pub tells : Tells t q r u

@@ -14,6 +14,7 @@ abbrev pub grow : List Tree → List Entry → List Tree
 grow ts [] = ts
 grow ts (e ∷ es) = grow (ts ++ node_tree_in ts e.node ∷ []) es
 
+-- the trees of entries
 abbrev pub entry_trees : List Entry → List Tree
 entry_trees es = grow [] es
 
