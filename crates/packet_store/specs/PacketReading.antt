@@ -18,6 +18,7 @@ abbrev pub before : List ℕ → Result (List (List ℕ)) PacketFault → Result
 before packet (Ok packets) = Ok (packet ∷ packets)
 before packet (Err fault) = Err fault
 
+-- what comes behind the first packet, where there is one
 abbrev pub and_then : Result (List ℕ × List ℕ) PacketFault → (List ℕ → List ℕ → Result (List (List ℕ)) PacketFault) → Result (List (List ℕ)) PacketFault
 and_then (Ok split) more = more split.0 split.1
 and_then (Err fault) more = Err fault
@@ -32,6 +33,7 @@ packets_within (suc k) offset (b ∷ bytes) = and_then (front offset (b ∷ byte
 unfoldable pub packets_read : List ℕ → Result (List (List ℕ)) PacketFault
 packets_read bytes = packets_within (length bytes) 0 bytes
 
+-- the packets, or none at a fault
 abbrev pub or_none : Result (List (List ℕ)) PacketFault → List (List ℕ)
 or_none (Ok packets) = packets
 or_none (Err fault) = []

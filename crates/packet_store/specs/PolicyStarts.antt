@@ -9,6 +9,7 @@ use Rattle.reference_machine.specs.Starts.{Setup}
 abbrev pub quadwords_of : List ℕ → ℕ
 quadwords_of bytes = (length bytes + 7) / 8
 
+-- a span of no quadwords
 abbrev pub unused : ℕ × ℕ
 unused = (65536, 0)
 
