@@ -81,8 +81,10 @@ fn table_start(packet: &[u8]) -> Start<'_>
     }
 }
 
-/// The start of the policy on a packet of at most `MAX_PACKET` bytes; None exactly where the packet is
-/// short, which is below 64 bytes for `filter`, below 16 for `tag` and never for `table`.
+/// The start of the policy on a packet of at most `MAX_PACKET` bytes.
+///
+/// None exactly where the packet is short, which is below 64 bytes for `filter`, below 16 for
+/// `tag` and never for `table`.
 #[tactic(auto, unfolding(crate::specs::PolicyStarts::start_of))]
 pub fn start<'b>(policy: &Policy, packet: &'b [u8]) -> Option<Start<'b>>
     requires { length packet.now ≤ MAX_PACKET }

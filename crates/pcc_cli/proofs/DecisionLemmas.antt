@@ -56,7 +56,7 @@ module _ (invocation : Invocation) (old new : FilesState) (known : standing_of i
   refused_late : (exit : Exit) → 0 < exit.status → exit.status < 4 → IsLate exit → ComesTo (stages_of invocation) old new (Err exit) → IsDecision (request_of_command (Some invocation)) old new exit
   refused_late exit some small late comes = answered (record {
     change = None;
-    made = comes.same;
+    made = comes.unchanged;
     exact = IfSome_then old.contents {P = λ files. (stages_of invocation files).result ≡ Err exit} {Q = λ files. answer_of (stages_of invocation files).result ≡ record { exit = exit; change = None }} comes.exact (λ files e. ap answer_of e);
     in_range = omega arith;
     no_change = λ _. refl;
@@ -66,7 +66,7 @@ module _ (invocation : Invocation) (old new : FilesState) (known : standing_of i
   pub decides_command : (r : Result Report Stop) → Gives effect_of (names_of invocation) (stages_of invocation) old new r → Decides (request_of_command (Some invocation)) old new r
   decides_command (Ok report) comes = answered (record {
     change = None;
-    made = comes.same;
+    made = comes.unchanged;
     exact = IfSome_then old.contents {P = λ files. (stages_of invocation files).result ≡ Ok (effect_of report)} {Q = λ files. answer_of (stages_of invocation files).result ≡ answer_of (Ok (effect_of report))} comes.exact (λ files e. ap answer_of e);
     in_range = omega arith;
     no_change = λ _. refl;

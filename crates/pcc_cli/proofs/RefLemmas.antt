@@ -59,7 +59,7 @@ module _ (policy file packets : List ℕ) (steps : ℕ) where
     unfolding ref_command
     whole old new r h =
         decides_command (ref policy file packets steps) old new (ap standing_on known) r
-        (gives_later (λ files. policy_named policy) (λ p files. code_of p file files >>= λ code. packets_of packets files >>= λ all. printing (result_lines p (packet_result p code steps) 0 all)) (file ∷ packets ∷ []) (file ∷ packets ∷ []) (λ name has. has) effect_of under old old new (record { same = refl; exact = told_each old.contents (λ files. policy_found (policy_of policy) ≡ Ok under) (λ files. ap policy_found known) }) r h)
+        (gives_later (λ files. policy_named policy) (λ p files. code_of p file files >>= λ code. packets_of packets files >>= λ all. printing (result_lines p (packet_result p code steps) 0 all)) (file ∷ packets ∷ []) (file ∷ packets ∷ []) (λ name has. has) effect_of under old old new (record { unchanged = refl; exact = told_each old.contents (λ files. policy_found (policy_of policy) ≡ Ok under) (λ files. ap policy_found known) }) r h)
 
     pub no_code : (old new : FilesState) (e : Stop) (r : Result Report Stop) → Stops (file ∷ []) (code_of under file) old new e → IsErrAnd r (λ y. y ≡ e) → Decides (request_of_command (Some (ref policy file packets steps))) old new r
     no_code old new e r stops exits = whole old new r
@@ -86,4 +86,4 @@ module _ (policy file packets : List ℕ) (steps : ℕ) where
             (gives_later (packets_of packets) (λ all files. printing (result_lines under (packet_result under code steps) 0 all)) (packets ∷ []) (packets ∷ []) (λ name has. has) effect_of all mid new new second r h)
 
         pub done : (report : Report) → report_text report ≡ result_lines under (packet_result under code steps) 0 all → Decides (request_of_command (Some (ref policy file packets steps))) old new (Ok report)
-        done report lines = read (Ok report) (record { same = refl; exact = told_each new.contents (λ files. (printing (result_lines under (packet_result under code steps) 0 all)).result ≡ Ok (effect_of report)) (λ files. ap (λ (text : List ℕ). (printing text).result) (sym lines)) })
+        done report lines = read (Ok report) (record { unchanged = refl; exact = told_each new.contents (λ files. (printing (result_lines under (packet_result under code steps) 0 all)).result ≡ Ok (effect_of report)) (λ files. ap (λ (text : List ℕ). (printing text).result) (sym lines)) })

@@ -54,11 +54,11 @@ module _ {A B : Type 0} (stage : Staged A) (next : A → Staged B) where
 
 -- a stage that reads no file, as one over files
 pub lifted : {A C : Type 0} (view : C → A) (names : List (List ℕ)) (stage : Staged A) (state : FilesState) (r : Result C Stop) → GivesPure view stage r → Gives view names (λ files. stage) state state r
-lifted view names stage state (Ok x) h = record { same = refl; exact = told_each state.contents (λ files. stage.result ≡ Ok (view x)) (λ files. h) }
+lifted view names stage state (Ok x) h = record { unchanged = refl; exact = told_each state.contents (λ files. stage.result ≡ Ok (view x)) (λ files. h) }
 lifted view names stage state (Err e) h = stopped e h
   where
     comes : (exit : Exit) → stage.result ≡ Err exit → ComesTo (λ files. stage) state state (Err exit)
-    comes exit e = record { same = refl; exact = told_each state.contents (λ files. stage.result ≡ Err exit) (λ files. e) }
+    comes exit e = record { unchanged = refl; exact = told_each state.contents (λ files. stage.result ≡ Err exit) (λ files. e) }
 
     stopped : (e : Stop) → StopsPure stage e → Stops names (λ files. stage) state state e
     stopped stop.Usage h = absurd h
@@ -76,7 +76,7 @@ lifted view names stage state (Err e) h = stopped e h
 module _ {A B : Type 0} (stage : FileMap → Staged A) (next : A → FileMap → Staged B) (names more : List (List ℕ)) (within : (name : List ℕ) → Contains names name → Contains more name) where
   comes_first : (old new : FilesState) (exit : Exit) → ComesTo stage old new (Err exit) → ComesTo (λ files. stage files >>= λ x. next x files) old new (Err exit)
   comes_first old new exit h = record {
-    same = h.same;
+    unchanged = h.unchanged;
     exact = IfSome_then old.contents {P = λ files. (stage files).result ≡ Err exit} {Q = λ files. (stage files >>= λ x. next x files).result ≡ Err exit} h.exact (λ files e. go_on-err (stage files).reads (λ x. next x files) (stage files).result exit e);
   }
 
@@ -99,7 +99,7 @@ module _ {A B : Type 0} (stage : FileMap → Staged A) (next : A → FileMap →
   module _ (x : A) (old new : FilesState) (known : IfSome old.contents (λ files. (stage files).result ≡ Ok x)) where
     comes_later : (r : Result B Exit) → ComesTo (next x) old new r → ComesTo (λ files. stage files >>= λ x. next x files) old new r
     comes_later r h = record {
-      same = h.same;
+      unchanged = h.unchanged;
       exact = told_both old.contents (λ files. (stage files).result ≡ Ok x) (λ files. (next x files).result ≡ r) (λ files. (stage files >>= λ x. next x files).result ≡ r) (λ files e is. go_on-ok (stage files).reads (λ x. next x files) (stage files).result x e ∙ is) known h.exact;
     }
 
@@ -124,7 +124,7 @@ module _ {A B : Type 0} (stage : FileMap → Staged A) (next : A → FileMap →
 
   -- where the first stage gives its value, the second has the answer
   pub gives_later : {C : Type 0} (view : C → B) (x : A) (old mid new : FilesState) → ComesTo stage old mid (Ok x) → (r : Result C Stop) → Gives view names (next x) mid new r → Gives view more (λ files. stage files >>= λ x. next x files) old new r
-  gives_later view x old mid new first r h = here x old new first.exact view r (subst (λ (s : FilesState). Gives view names (next x) s new r) first.same h)
+  gives_later view x old mid new first r h = here x old new first.exact view r (subst (λ (s : FilesState). Gives view names (next x) s new r) first.unchanged h)
 
 -- the exit of a `?`
 pub refuses : {A C : Type 0} (view : C → A) (names : List (List ℕ)) (stage : FileMap → Staged A) (old new : FilesState) (e : Stop) (r : Result C Stop) → IsErrAnd r (λ y. y ≡ e) → Stops names stage old new e → Gives view names stage old new r

@@ -26,7 +26,7 @@ pub record Accounts (request : Request) (f g : FilesState) (s t : SinkState) (st
   -- Where nothing failed and memory did not run out, status, text and files are the answer.
   pub answered : FilesAreQuiet f g → IsQuiet s.faults t.faults → status ≢ 5
       → IfSome f.contents (λ files. let a = request.answer files in
-          HasExit a.exit s t status × (g ≡ changed a.change f))
+      HasExit a.exit s t status × (g ≡ changed a.change f))
   -- Where a put failed, the status is 4, and a part of what was decided is printed.
   pub put_failed : s.faults < t.faults
       → (status ≡ 4) × (exit : Exit) × IsDecision request f g exit × PutFails exit.text s t
@@ -55,7 +55,7 @@ pub record Accounts (request : Request) (f g : FilesState) (s t : SinkState) (st
   pub missing_or_fault : status ≡ 3
       → Rose f.read_faults g.read_faults
       ⊎ ((g ≡ f) × (t.faults ≡ s.faults)
-          × IfSome f.contents (λ files. (request.answer files).exit.status ≡ 3))
+      × IfSome f.contents (λ files. (request.answer files).exit.status ≡ 3))
   -- Status 4 comes only where a write or a put failed.
   pub write_or_put_failed : status ≡ 4 → Rose f.write_faults g.write_faults ⊎ Rose s.faults t.faults
   -- A refused command leaves the files.

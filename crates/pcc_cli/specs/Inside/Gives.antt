@@ -51,7 +51,7 @@ pub record FailsRead {A : Type 0} (names : List (List ℕ)) (stage : FileMap →
 
 -- where the files are known, the stage comes to this
 pub record ComesTo {A : Type 0} (stage : FileMap → Staged A) (old new : FilesState) (result : Result A Exit) : Type 0 where
-  pub same : new ≡ old
+  pub unchanged : new ≡ old
   pub exact : IfSome old.contents (λ files. (stage files).result ≡ result)
 
 -- the stop is the stage's, a failed read, or want of memory
