@@ -159,7 +159,8 @@ impl Files for MemFiles {
         ensures exact { (self.new, result) ≡ after_write self.old name.now bytes.now }
 
         // Only a listed write fails, and one past the room.
-        ensures sure { files_fail_next self.old ≡ false → 0 < self.old.room → length name.now ≤ MAX_NAME
+        ensures sure { files_fail_next self.old ≡ false → 0 < self.old.room →
+            length name.now ≤ MAX_NAME
             → length bytes.now ≤ MAX_BYTES → result ≡ Put.Done }
     {
         let fails = is_failing(self.failing.as_slice(), self.calls);

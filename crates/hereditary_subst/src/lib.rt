@@ -85,10 +85,8 @@ pub fn weaken_with(
 
 /// A type with this simple type.
 fn type_of_simple(table: &mut Table, s: &Simple) -> Result<Id, AllocError>
-    ensures erased {
-        IfOk result (λ id. IsKnown table.new id ×
-        (erase (tree_at table.new id) ≡ simple_of s.now))
-    }
+    ensures erased { IfOk result (λ id. IsKnown table.new id ×
+        (erase (tree_at table.new id) ≡ simple_of s.now)) }
     ensures extends { Extends table.old table.new }
 {
     match s {
@@ -109,10 +107,10 @@ pub fn subst(table: &mut Table, body: Id, arg: Id, s: &Simple) -> Result<Option<
     requires arg { IsKnown table.old arg }
     ensures related { let arg_tree = tree_at table.old arg in
         IfOk result (IsResult table.new
-            (HSub (simple_of s.now) arg_tree 0 (tree_at table.old body))) }
+        (HSub (simple_of s.now) arg_tree 0 (tree_at table.old body))) }
     ensures computed { let arg_tree = tree_at table.old arg in
         IfOk result (Stands table.new (hsub (simple_of s.now) arg_tree 0
-            (tree_at table.old body))) }
+        (tree_at table.old body))) }
     ensures extends { Extends table.old table.new }
 {
     substitution_laws();
@@ -133,10 +131,10 @@ pub fn subst_type(
     requires arg { IsKnown table.old arg }
     ensures related { let arg_tree = tree_at table.old arg in
         IfOk result (IsResult table.new
-            (HSubType (simple_of s.now) arg_tree 0 (tree_at table.old body))) }
+        (HSubType (simple_of s.now) arg_tree 0 (tree_at table.old body))) }
     ensures computed { let arg_tree = tree_at table.old arg in
         IfOk result (Stands table.new (hsub_type (simple_of s.now) arg_tree 0
-            (tree_at table.old body))) }
+        (tree_at table.old body))) }
     ensures extends { Extends table.old table.new }
 {
     substitution_laws();
@@ -161,10 +159,10 @@ pub fn subst_type_with(
     requires memo { IsMemo table.old memo.old }
     ensures related { let s = erase (tree_at table.old ty) in
         IfOk result (IsResult table.new
-            (HSubType s (tree_at table.old arg) 0 (tree_at table.old body))) }
+        (HSubType s (tree_at table.old arg) 0 (tree_at table.old body))) }
     ensures computed { let s = erase (tree_at table.old ty) in
         IfOk result (Stands table.new (hsub_type s (tree_at table.old arg) 0
-            (tree_at table.old body))) }
+        (tree_at table.old body))) }
     ensures extends { Extends table.old table.new }
     ensures memo { IsMemo table.new memo.new }
 {

@@ -52,7 +52,7 @@ pub fn check_term<S: Signature>(
     requires a { IsKnown table.old a }
     ensures answer { let types = ctx_of table.old ctx.now in
         let holds = Checks (S.declares sig.now table.old) types (tree_at table.old m)
-            (tree_at table.old a) in
+        (tree_at table.old a) in
         IfOk result (λ b. IsTrue b ↔ holds) }
     ensures extends { Extends table.old table.new }
 {
@@ -76,7 +76,7 @@ pub fn check_term_with<S: Signature>(
     requires kept { AreKept (S.declares sig.now table.old) table.old kept.old }
     ensures answer { let types = ctx_of table.old ctx.now in
         let holds = Checks (S.declares sig.now table.old) types (tree_at table.old m)
-            (tree_at table.old a) in
+        (tree_at table.old a) in
         IfOk result (λ b. IsTrue b ↔ holds) }
     ensures extends { Extends table.old table.new }
     ensures kept { AreKept (S.declares sig.now table.new) table.new kept.new }
@@ -101,7 +101,7 @@ pub fn synth<S: Signature>(
     requires r { IsKnown table.old r }
     ensures derived { let types = ctx_of table.old ctx.now in
         IfOk result (IsResult table.new
-            (Synth (S.declares sig.now table.old) types (tree_at table.old r))) }
+        (Synth (S.declares sig.now table.old) types (tree_at table.old r))) }
     ensures extends { Extends table.old table.new }
 {
     let mut kept = Kept::new(alloc, MOST_RESULTS);
@@ -122,7 +122,7 @@ pub fn synth_with<S: Signature>(
     requires kept { AreKept (S.declares sig.now table.old) table.old kept.old }
     ensures derived { let types = ctx_of table.old ctx.now in
         IfOk result (IsResult table.new
-            (Synth (S.declares sig.now table.old) types (tree_at table.old r))) }
+        (Synth (S.declares sig.now table.old) types (tree_at table.old r))) }
     ensures extends { Extends table.old table.new }
     ensures kept { AreKept (S.declares sig.now table.new) table.new kept.new }
 {
@@ -146,7 +146,7 @@ pub fn check_type<S: Signature>(
     requires a { IsKnown table.old a }
     ensures answer { let types = ctx_of table.old ctx.now in
         IfOk result (λ b. IsTrue b ↔ IsType (S.declares sig.now table.old) types
-            (tree_at table.old a)) }
+        (tree_at table.old a)) }
     ensures extends { Extends table.old table.new }
 {
     let mut kept = Kept::new(alloc, MOST_RESULTS);
@@ -167,7 +167,7 @@ pub fn check_type_with<S: Signature>(
     requires kept { AreKept (S.declares sig.now table.old) table.old kept.old }
     ensures answer { let types = ctx_of table.old ctx.now in
         IfOk result (λ b. IsTrue b ↔ IsType (S.declares sig.now table.old) types
-            (tree_at table.old a)) }
+        (tree_at table.old a)) }
     ensures extends { Extends table.old table.new }
     ensures kept { AreKept (S.declares sig.now table.new) table.new kept.new }
 {

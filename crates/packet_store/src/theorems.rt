@@ -14,7 +14,8 @@ ghost use Rattle.packet_store.specs.PolicyStarts.{start_of};
 /// The start of a policy on a packet of bytes is a state of the machine; and a file of bytes reads
 /// as the packets that encode it, or as its first fault, exactly.
 pub fn laws()
-    ensures state { (policy : Policy) (packet : List ℕ) (setup : StartView) → length packet ≤ MAX_PACKET
+    ensures state { (policy : Policy) (packet : List ℕ) (setup : StartView) →
+        length packet ≤ MAX_PACKET
         → IsBytes packet → start_of policy packet ≡ Some setup
         → IsState (start_state ARENA setup) }
     ensures whole { (bytes : List ℕ) (ps : List (List ℕ)) → IsBytes bytes

@@ -40,6 +40,7 @@ go_on reads (Ok x) next = after_reads reads (next x)
 go_on reads (Err exit) next = record { reads = reads; result = Err exit }
 
 -- a stage, and what comes after its value
+-- a stage, and what comes after its value
 infixl 10 ◌>>=◌
 abbrev pub ◌>>=◌ : {A B : Type 0} → Staged A → (A → Staged B) → Staged B
 stage >>= next = go_on stage.reads stage.result next

@@ -18,9 +18,8 @@ pub fn laws()
         IsBytes bytes → (EncodesContents bytes c ↔ (decoded_container bytes ≡ Ok c)) }
     ensures one_content { (bytes : List ℕ) (c d : Contents) →
         EncodesContents bytes c → EncodesContents bytes d → c ≡ d }
-    ensures one_encoding {
-        (a b : List ℕ) (c : Contents) → EncodesContents a c → EncodesContents b c → a ≡ b
-    }
+    ensures one_encoding { (a b : List ℕ) (c : Contents) → EncodesContents a c →
+        EncodesContents b c → a ≡ b }
     ensures rooted { (rs : List Tree) → AreEmitted (entries rs) rs }
     ensures different { (rs : List Tree) → AreDifferent (entries rs) }
     ensures earlier { (rs : List Tree) (i : ℕ) → i < length (entries rs) →

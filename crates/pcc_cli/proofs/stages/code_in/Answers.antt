@@ -11,10 +11,10 @@ returns-in-Err c = pure_first (container_in c.args.policy c.args.bytes.now) (λ 
 
 pub returns-in-Ok-of : goal.returns-in-Ok-of
 unfolding code_in
-returns-in-Ok-of c = pure_later (container_in c.args.policy c.args.bytes.now) (λ container. pure (code_found (decoded_code container.code))) (contents_of c.in-Ok.container) c.in-Ok.ensures.exact _ (ap code_found (sym c.in-Ok-of.ensures.tested))
+returns-in-Ok-of c = pure_later (container_in c.args.policy c.args.bytes.now) (λ container. pure (code_found (decoded_code container.code))) (contents_of c.in-Ok.container) c.in-Ok.ensures.exact _ (ap code_found (sym c.in-Ok-of.ensures.exact))
 
 pub returns-in-Err-At : goal.returns-in-Err-At
 unfolding code_in
 returns-in-Err-At c =
-    let read : Err c.in-Err-At.flaw ≡ decoded_code c.in-Ok.container.code.now = rw c.in-Err-At.field-0-is at c.in-Err-At.ensures.tested in
+    let read : Err c.in-Err-At.flaw ≡ decoded_code c.in-Ok.container.code.now = rw c.in-Err-At.field-0-is at c.in-Err-At.ensures.exact in
     pure_later (container_in c.args.policy c.args.bytes.now) (λ container. pure (code_found (decoded_code container.code))) (contents_of c.in-Ok.container) c.in-Ok.ensures.exact _ (ap code_found (sym read))
