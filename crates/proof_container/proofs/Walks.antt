@@ -24,10 +24,6 @@ or_neither : (a b : Bool) → a ≡ false → b ≡ false → (a || b) ≡ false
 or_neither true b p q = p
 or_neither false b p q = q
 
-or_first : (a b : Bool) → (a || b) ≡ false → a ≡ false
-or_first true b q = q
-or_first false b q = refl
-
 pub listed-append : (t : Tree) (ts us : List Tree) → is_listed t (ts ++ us) ≡ (is_listed t ts || is_listed t us)
 listed-append t ts us = list_any-append (tree_eq t) ts us
 
@@ -54,9 +50,6 @@ listed-push u t ts h = listed-append u ts (t ∷ []) ∙ go (is_listed u ts) (tr
     go : (a b : Bool) → b ≡ false → (a || (b || false)) ≡ a
     go true b q = refl
     go false b q = or_neither b false q refl
-
-unlisted-left : (t : Tree) (ts us : List Tree) → is_listed t (ts ++ us) ≡ false → is_listed t ts ≡ false
-unlisted-left t ts us h = or_first _ _ (sym (listed-append t ts us) ∙ h)
 
 HasParts-left : (t : Tree) (ts us : List Tree) → HasParts ts t → HasParts (ts ++ us) t
 HasParts-left (Var n) ts us h = tt
