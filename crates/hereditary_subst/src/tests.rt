@@ -358,9 +358,21 @@ fn shared_terms(rt: HostRuntime) -> Result<(), Fail> {
         let of_x = doubled(&mut table, x, times)?;
         let of_y = doubled(&mut table, y, times)?;
         let of_one = doubled(&mut table, one, times)?;
-        assert_eq!(rt; in_term(&mut table, of_x, one, &exp)?, Some(of_one), "{times}");
-        assert_eq!(rt; in_term(&mut table, of_y, one, &exp)?, Some(of_x), "lowered {times}");
-        assert_eq!(rt; shifted(&mut table, of_x, 1, 0)?, Some(of_y), "shifted {times}");
+        assert_eq!(rt;
+            in_term(&mut table, of_x, one, &exp)?,
+            Some(of_one),
+            "{times}"
+        );
+        assert_eq!(rt;
+            in_term(&mut table, of_y, one, &exp)?,
+            Some(of_x),
+            "lowered {times}"
+        );
+        assert_eq!(rt;
+            shifted(&mut table, of_x, 1, 0)?,
+            Some(of_y),
+            "shifted {times}"
+        );
     }
     Ok(())
 }
@@ -368,10 +380,12 @@ fn shared_terms(rt: HostRuntime) -> Result<(), Fail> {
 // The type with the term for the nearest word, and then shifted by one, keeping up to so many results.
 fn in_type_with(alloc: Global, table: &mut Table, body: Id, arg: Id, limit: usize) -> Made<Id> {
     let exp = made(table.intern(Node::Fam(0)))?;
+    known(table, exp)?;
     known(table, body)?;
     known(table, arg)?;
     let mut memo = Memo::new(alloc, limit);
     let put = made(subst_type_with(table, &mut memo, body, arg, exp))?.ok_or("no result")?;
+    known(table, put)?;
     made(weaken_with(table, &mut memo, put, 1))?.ok_or("no result")
 }
 
@@ -385,7 +399,10 @@ fn a_limit(rt: HostRuntime) -> Result<(), Fail> {
     let held = tree(rt.alloc(), &mut table, &[Proof])?;
     let body = tapp(&mut table, held, sum)?;
     let before = table.count();
-    assert_eq!(rt; in_type_with(rt.alloc(), &mut table, body, y, 20), Err("no memory"));
+    assert_eq!(rt;
+        in_type_with(rt.alloc(), &mut table, body, y, 20),
+        Err("no memory")
+    );
     for (k, id) in [x, y, sum, held, body].iter().enumerate() {
         assert!(rt; (id.index() as u64) < before, "{k}");
     }

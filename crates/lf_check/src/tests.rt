@@ -342,7 +342,11 @@ fn shared_terms(rt: HostRuntime) -> Result<(), Fail> {
         let equal = con(table, EQ, &[sum, sum])?;
         let proof = con(table, EQ_REFL, &[sum])?;
         let ty = pf(table, equal)?;
-        assert_eq!(rt; judged(rt.alloc(), table, proof, ty, 50), Err("no memory"), "{times}");
+        assert_eq!(rt;
+            judged(rt.alloc(), table, proof, ty, 50),
+            Err("no memory"),
+            "{times}"
+        );
         assert_eq!(rt; con(table, EQ, &[sum, sum])?, equal, "the id that it had");
         assert_eq!(rt; doubled(table, times)?, sum, "the id that it had");
         assert!(rt; judged(rt.alloc(), table, proof, ty, 10_000)?, "{times}");
