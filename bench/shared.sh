@@ -23,7 +23,7 @@ def median(words, times=5):
 families = {
     "chains": (1450, [2, 4, 8, 16]),
     "layers": (500, [9, 20, 41, 83]),
-    "contexts": (8, [2280, 4560, 9130, 18270]),
+    "contexts": (40, [2280, 4560, 9130, 18270]),
     "instances": (20, [2450, 4900, 9800, 19600]),
 }
 for family, (shared, sizes) in families.items():
@@ -35,7 +35,7 @@ for family, (shared, sizes) in families.items():
         before = seconds - made
         print("%s %d %d: %s  %.2f s (making %.2f s)  %.0f MB%s"
               % (family, shared, uses, line, seconds, made, megabytes, ratio))
-for words in [("contexts", 4000, 8000), ("instances", 4000, 8000)]:
+for words in [("contexts", 3000, 17000), ("instances", 3000, 8000)]:
     line, seconds, megabytes = median(words, 1)
     print("%s %d %d: %s  %.2f s  %.0f MB" % (*words, line, seconds, megabytes))
 PY

@@ -85,8 +85,8 @@ pub fn weaken_with(
 
 /// A type with this simple type.
 fn type_of_simple(table: &mut Table, s: &Simple) -> Result<Id, AllocError>
-    ensures erased { IfOk result (λ id. IsKnown table.new id ×
-        (erase (tree_at table.new id) ≡ simple_of s.now)) }
+    ensures erased { IfOk result
+        (λ id. IsKnown table.new id × (erase (tree_at table.new id) ≡ simple_of s.now)) }
     ensures extends { Extends table.old table.new }
 {
     match s {
@@ -105,12 +105,12 @@ fn type_of_simple(table: &mut Table, s: &Simple) -> Result<Id, AllocError>
 pub fn subst(table: &mut Table, body: Id, arg: Id, s: &Simple) -> Result<Option<Id>, AllocError>
     requires body { IsKnown table.old body }
     requires arg { IsKnown table.old arg }
-    ensures related { let arg_tree = tree_at table.old arg in
-        IfOk result (IsResult table.new
-        (HSub (simple_of s.now) arg_tree 0 (tree_at table.old body))) }
-    ensures computed { let arg_tree = tree_at table.old arg in
-        IfOk result (Stands table.new (hsub (simple_of s.now) arg_tree 0
-        (tree_at table.old body))) }
+    ensures related { let m = tree_at table.old arg in
+        let t = tree_at table.old body in
+        IfOk result (IsResult table.new (HSub (simple_of s.now) m 0 t)) }
+    ensures computed { let m = tree_at table.old arg in
+        let t = tree_at table.old body in
+        IfOk result (Stands table.new (hsub (simple_of s.now) m 0 t)) }
     ensures extends { Extends table.old table.new }
 {
     substitution_laws();
@@ -129,12 +129,12 @@ pub fn subst_type(
 ) -> Result<Option<Id>, AllocError>
     requires body { IsKnown table.old body }
     requires arg { IsKnown table.old arg }
-    ensures related { let arg_tree = tree_at table.old arg in
-        IfOk result (IsResult table.new
-        (HSubType (simple_of s.now) arg_tree 0 (tree_at table.old body))) }
-    ensures computed { let arg_tree = tree_at table.old arg in
-        IfOk result (Stands table.new (hsub_type (simple_of s.now) arg_tree 0
-        (tree_at table.old body))) }
+    ensures related { let m = tree_at table.old arg in
+        let t = tree_at table.old body in
+        IfOk result (IsResult table.new (HSubType (simple_of s.now) m 0 t)) }
+    ensures computed { let m = tree_at table.old arg in
+        let t = tree_at table.old body in
+        IfOk result (Stands table.new (hsub_type (simple_of s.now) m 0 t)) }
     ensures extends { Extends table.old table.new }
 {
     substitution_laws();
@@ -158,11 +158,13 @@ pub fn subst_type_with(
     requires ty { IsKnown table.old ty }
     requires memo { IsMemo table.old memo.old }
     ensures related { let s = erase (tree_at table.old ty) in
-        IfOk result (IsResult table.new
-        (HSubType s (tree_at table.old arg) 0 (tree_at table.old body))) }
+        let m = tree_at table.old arg in
+        let t = tree_at table.old body in
+        IfOk result (IsResult table.new (HSubType s m 0 t)) }
     ensures computed { let s = erase (tree_at table.old ty) in
-        IfOk result (Stands table.new (hsub_type s (tree_at table.old arg) 0
-        (tree_at table.old body))) }
+        let m = tree_at table.old arg in
+        let t = tree_at table.old body in
+        IfOk result (Stands table.new (hsub_type s m 0 t)) }
     ensures extends { Extends table.old table.new }
     ensures memo { IsMemo table.new memo.new }
 {

@@ -380,10 +380,12 @@ fn shared_terms(rt: HostRuntime) -> Result<(), Fail> {
 // The type with the term for the nearest word, and then shifted by one, keeping up to so many results.
 fn in_type_with(alloc: Global, table: &mut Table, body: Id, arg: Id, limit: usize) -> Made<Id> {
     let exp = made(table.intern(Node::Fam(0)))?;
+    known(table, exp)?;
     known(table, body)?;
     known(table, arg)?;
     let mut memo = Memo::new(alloc, limit);
     let put = made(subst_type_with(table, &mut memo, body, arg, exp))?.ok_or("no result")?;
+    known(table, put)?;
     made(weaken_with(table, &mut memo, put, 1))?.ok_or("no result")
 }
 

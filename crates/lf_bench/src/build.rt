@@ -131,14 +131,21 @@ fn links(table: &mut Table, variable: u32, first: u64, count: u64) -> Made<Prove
     Ok(chain)
 }
 
-/// The formula over words that has so many different parts.
-fn predicate(table: &mut Table, parts: u64) -> Made<Id> {
-    let mut word = var(table, 0)?;
+/// The word with so many others added, one after the other.
+fn grown(table: &mut Table, first: Id, parts: u64) -> Made<Id> {
+    let mut word = first;
     for k in 0..parts {
         let w = lit(table, k.wrapping_add(1 << 40))?;
         word = con(table, ADD, &[w, word])?;
     }
-    con(table, EQ, &[word, word])
+    Ok(word)
+}
+
+/// That the variable with so many words added is itself.
+fn reflexive_sum(table: &mut Table, variable: u32, parts: u64) -> Made<Proved> {
+    let x = var(table, variable)?;
+    let word = grown(table, x, parts)?;
+    reflexive(table, word)
 }
 
 /// The hypothesis that all words are equal, under which `instances` goes from word to word.
@@ -170,14 +177,10 @@ fn equality(table: &mut Table, a: Id, b: Id) -> Made<Id> {
 /// From the predicate of word `first` to that of the word `count` later, a step a word: each step's
 /// formula is an instance that nothing states.
 fn steps(table: &mut Table, parts: u64, first: u64, count: u64) -> Made<Proved> {
-    let formula = predicate(table, parts)?;
-    let over = lam(table, formula)?;
+    let predicate = reflexive_sum(table, 0, parts)?;
+    let over = lam(table, predicate.formula)?;
     let mut a = lit(table, first)?;
-    let mut word = a;
-    for k in 0..parts {
-        let w = lit(table, k.wrapping_add(1 << 40))?;
-        word = con(table, ADD, &[w, word])?;
-    }
+    let word = grown(table, a, parts)?;
     let mut proof = con(table, EQ_REFL, &[word])?;
     for k in 0..count {
         let b = lit(table, first.wrapping_add(k).wrapping_add(1))?;
@@ -185,12 +188,8 @@ fn steps(table: &mut Table, parts: u64, first: u64, count: u64) -> Made<Proved> 
         proof = con(table, EQ_SUB, &[over, a, b, equal, proof])?;
         a = b;
     }
-    let mut last = a;
-    for k in 0..parts {
-        let w = lit(table, k.wrapping_add(1 << 40))?;
-        last = con(table, ADD, &[w, last])?;
-    }
-    let formula = con(table, EQ, &[last, last])?;
+    let word = grown(table, a, parts)?;
+    let formula = con(table, EQ, &[word, word])?;
     Ok(Proved { proof, formula })
 }
 
@@ -234,10 +233,11 @@ pub(crate) fn layers(alloc: Global, table: &mut Table, width: u64, count: u64) -
     Ok(whole)
 }
 
-/// One open proof under so many hypotheses that differ, in conjunctions of `GROUP`.
-pub(crate) fn contexts(table: &mut Table, links_each: u64, count: u64) -> Made<Proved> {
-    let inner = links(table, 2, 0, links_each)?;
-    let outer = links(table, 1, 0, links_each)?;
+/// A proof of one open word of so many parts, under so many hypotheses that differ, in conjunctions
+/// of `GROUP`.
+pub(crate) fn contexts(table: &mut Table, parts: u64, count: u64) -> Made<Proved> {
+    let inner = reflexive_sum(table, 2, parts)?;
+    let outer = reflexive_sum(table, 1, parts)?;
     let mut whole = outer;
     let mut group = outer;
     for k in 0..count {

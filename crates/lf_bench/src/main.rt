@@ -1,10 +1,10 @@
 //! Checks proofs of many entries, to be timed: `lf_bench FAMILY SHARED USES [build]`.
 //!
-//! FAMILY is `chains` (of SHARED links, USES of them), `layers` (SHARED wide, USES of them), `contexts`
-//! (a proof of SHARED links under USES hypotheses) or `instances` (of a predicate of SHARED parts, USES of
-//! them). What is printed is how many entries the proof's table has, how many trees afterwards, and
-//! the verdict; with `build` the proof is made and not checked. Without words each family is checked
-//! at a small size.
+//! FAMILY is `chains` (USES chains of SHARED links), `layers` (USES layers, SHARED wide), `contexts` (a
+//! word of SHARED parts under USES hypotheses) or `instances` (USES of a predicate of SHARED parts).
+//! What is printed is how many entries the proof's table has, how many trees afterwards, and the
+//! verdict; with `build` the proof is made and not checked. Without words each family is checked at a
+//! small size.
 #![tactic(auto)]
 
 mod build;

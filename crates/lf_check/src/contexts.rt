@@ -105,8 +105,8 @@ pub(crate) fn part_at<S: Signature>(
     requires c { IsKnown table.old c }
     requires m { IsKnown table.old m }
     requires kept { AreKept (S.declares sig.now table.old) table.old kept.old }
-    ensures part { IfOk result (IsPartId table.new (tree_at table.old m)
-        (types_of (tree_at table.old c))) }
+    ensures part { IfOk result
+        (IsPartId table.new (tree_at table.old m) (types_of (tree_at table.old c))) }
     ensures extends { Extends table.old table.new }
     ensures kept { AreKept (S.declares sig.now table.new) table.new kept.new }
 {

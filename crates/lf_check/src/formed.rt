@@ -44,7 +44,8 @@ pub(crate) fn is_type_at<S: Signature>(
     requires c { IsKnown table.old c }
     requires a { IsKnown table.old a }
     requires kept { AreKept (S.declares sig.now table.old) table.old kept.old }
-    ensures answer { IfOk result (λ b. b ≡ is_type_in (S.declares sig.now table.old) table.old c a) }
+    ensures answer { IfOk result
+        (λ b. b ≡ is_type_in (S.declares sig.now table.old) table.old c a) }
     ensures extends { Extends table.old table.new }
     ensures kept { AreKept (S.declares sig.now table.new) table.new kept.new }
 {
@@ -79,7 +80,8 @@ fn product_at<S: Signature>(
     requires parts { (from < a) × (to < a) }
     requires is { Pi (tree_at table.old from) (tree_at table.old to) ≡ tree_at table.old a }
     requires kept { AreKept (S.declares sig.now table.old) table.old kept.old }
-    ensures answer { IfOk result (λ b. b ≡ is_type_in (S.declares sig.now table.old) table.old c a) }
+    ensures answer { IfOk result
+        (λ b. b ≡ is_type_in (S.declares sig.now table.old) table.old c a) }
     ensures extends { Extends table.old table.new }
     ensures kept { AreKept (S.declares sig.now table.new) table.new kept.new }
 {

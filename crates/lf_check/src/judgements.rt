@@ -85,7 +85,8 @@ impl Kept {
     /// What is kept of the question, as a number.
     fn row<S: Signature>(&self, table: &Table, sig: &S, question: &Question) -> Option<u64>
         requires { AreKept (S.declares sig.now table.now) table.now self.now }
-        ensures { IfSome result (IsJudgement (S.declares sig.now table.now) table.now question.now) }
+        ensures { IfSome result
+            (IsJudgement (S.declares sig.now table.now) table.now question.now) }
     {
         let _ = table; // only the clauses speak of it
         let _ = sig; // only the clauses speak of it
@@ -100,7 +101,8 @@ impl Kept {
         question: &Question,
     ) -> Option<Id>
         requires { AreKept (S.declares sig.now table.now) table.now self.now }
-        ensures { IfSome result (IsJudgement (S.declares sig.now table.now) table.now question.now) }
+        ensures { IfSome result
+            (IsJudgement (S.declares sig.now table.now) table.now question.now) }
     {
         match self.row(table, sig, question) {
             None => None,

@@ -28,7 +28,7 @@ ghost use Rattle.lf_check.specs.Inside.Kept.{AreKept};
 
 use contexts::context_on;
 use formed::is_type_at;
-use hereditary_subst::MOST_RESULTS;
+pub use hereditary_subst::MOST_RESULTS;
 pub use judgements::Kept;
 use lf_signature::{Signature, typing_laws};
 use std::alloc::{AllocError, Global};
@@ -51,8 +51,8 @@ pub fn check_term<S: Signature>(
     requires m { IsKnown table.old m }
     requires a { IsKnown table.old a }
     ensures answer { let types = ctx_of table.old ctx.now in
-        let holds = Checks (S.declares sig.now table.old) types (tree_at table.old m)
-        (tree_at table.old a) in
+        let holds =
+        Checks (S.declares sig.now table.old) types (tree_at table.old m) (tree_at table.old a) in
         IfOk result (λ b. IsTrue b ↔ holds) }
     ensures extends { Extends table.old table.new }
 {
@@ -75,8 +75,8 @@ pub fn check_term_with<S: Signature>(
     requires a { IsKnown table.old a }
     requires kept { AreKept (S.declares sig.now table.old) table.old kept.old }
     ensures answer { let types = ctx_of table.old ctx.now in
-        let holds = Checks (S.declares sig.now table.old) types (tree_at table.old m)
-        (tree_at table.old a) in
+        let holds =
+        Checks (S.declares sig.now table.old) types (tree_at table.old m) (tree_at table.old a) in
         IfOk result (λ b. IsTrue b ↔ holds) }
     ensures extends { Extends table.old table.new }
     ensures kept { AreKept (S.declares sig.now table.new) table.new kept.new }
@@ -100,8 +100,8 @@ pub fn synth<S: Signature>(
     requires ctx { AllKnown table.old ctx.now }
     requires r { IsKnown table.old r }
     ensures derived { let types = ctx_of table.old ctx.now in
-        IfOk result (IsResult table.new
-        (Synth (S.declares sig.now table.old) types (tree_at table.old r))) }
+        let holds = Synth (S.declares sig.now table.old) types (tree_at table.old r) in
+        IfOk result (IsResult table.new holds) }
     ensures extends { Extends table.old table.new }
 {
     let mut kept = Kept::new(alloc, MOST_RESULTS);
@@ -121,8 +121,8 @@ pub fn synth_with<S: Signature>(
     requires r { IsKnown table.old r }
     requires kept { AreKept (S.declares sig.now table.old) table.old kept.old }
     ensures derived { let types = ctx_of table.old ctx.now in
-        IfOk result (IsResult table.new
-        (Synth (S.declares sig.now table.old) types (tree_at table.old r))) }
+        let holds = Synth (S.declares sig.now table.old) types (tree_at table.old r) in
+        IfOk result (IsResult table.new holds) }
     ensures extends { Extends table.old table.new }
     ensures kept { AreKept (S.declares sig.now table.new) table.new kept.new }
 {
@@ -145,8 +145,8 @@ pub fn check_type<S: Signature>(
     requires ctx { AllKnown table.old ctx.now }
     requires a { IsKnown table.old a }
     ensures answer { let types = ctx_of table.old ctx.now in
-        IfOk result (λ b. IsTrue b ↔ IsType (S.declares sig.now table.old) types
-        (tree_at table.old a)) }
+        let holds = IsType (S.declares sig.now table.old) types (tree_at table.old a) in
+        IfOk result (λ b. IsTrue b ↔ holds) }
     ensures extends { Extends table.old table.new }
 {
     let mut kept = Kept::new(alloc, MOST_RESULTS);
@@ -166,8 +166,8 @@ pub fn check_type_with<S: Signature>(
     requires a { IsKnown table.old a }
     requires kept { AreKept (S.declares sig.now table.old) table.old kept.old }
     ensures answer { let types = ctx_of table.old ctx.now in
-        IfOk result (λ b. IsTrue b ↔ IsType (S.declares sig.now table.old) types
-        (tree_at table.old a)) }
+        let holds = IsType (S.declares sig.now table.old) types (tree_at table.old a) in
+        IfOk result (λ b. IsTrue b ↔ holds) }
     ensures extends { Extends table.old table.new }
     ensures kept { AreKept (S.declares sig.now table.new) table.new kept.new }
 {

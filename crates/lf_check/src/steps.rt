@@ -23,8 +23,8 @@ pub(crate) fn intern_on<S: Signature>(
     requires holds { S.holds sig.now table.old }
     requires parts { PartsKnown table.old node }
     requires kept { AreKept (S.declares sig.now table.old) table.old kept.now }
-    ensures id { IfOk result (λ id. IsKnown table.new id ×
-        (tree_at table.new id ≡ node_tree table.old node)) }
+    ensures id { IfOk result
+        (λ id. IsKnown table.new id × (tree_at table.new id ≡ node_tree table.old node)) }
     ensures extends { Extends table.old table.new }
     ensures kept { AreKept (S.declares sig.now table.new) table.new kept.now }
 {
@@ -84,7 +84,8 @@ pub(crate) fn declared_on<S: Signature>(
 ) -> Result<Option<Id>, AllocError>
     requires holds { S.holds sig.now table.old }
     requires kept { AreKept (S.declares sig.now table.old) table.old kept.now }
-    ensures tree { IfOk result (Stands table.new (type_at (S.declares sig.now table.old) constant)) }
+    ensures tree { IfOk result
+        (Stands table.new (type_at (S.declares sig.now table.old) constant)) }
     ensures extends { Extends table.old table.new }
     ensures kept { AreKept (S.declares sig.now table.new) table.new kept.now }
 {

@@ -38,8 +38,8 @@ fn var_type<S: Signature>(
     requires holds { S.holds sig.now table.old }
     requires known { IsKnown table.old c }
     requires kept { AreKept (S.declares sig.now table.old) table.old kept.old }
-    ensures tree { IfOk result (Stands table.new
-        (var_rule n (at (types_of (tree_at table.old c)) n))) }
+    ensures tree { IfOk result
+        (Stands table.new (var_rule n (at (types_of (tree_at table.old c)) n))) }
     ensures extends { Extends table.old table.new }
     ensures kept { AreKept (S.declares sig.now table.new) table.new kept.new }
 {
@@ -65,7 +65,8 @@ pub(crate) fn check_at<S: Signature>(
     requires m { IsKnown table.old m }
     requires a { IsKnown table.old a }
     requires kept { AreKept (S.declares sig.now table.old) table.old kept.old }
-    ensures answer { IfOk result (λ b. b ≡ checks_in (S.declares sig.now table.old) table.old c m a) }
+    ensures answer { IfOk result
+        (λ b. b ≡ checks_in (S.declares sig.now table.old) table.old c m a) }
     ensures extends { Extends table.old table.new }
     ensures kept { AreKept (S.declares sig.now table.new) table.new kept.new }
 {
@@ -102,7 +103,8 @@ fn under_at<S: Signature>(
     requires lam { Lam (tree_at table.old body) ≡ tree_at table.old m }
     requires pi { Pi (tree_at table.old from) (tree_at table.old to) ≡ tree_at table.old a }
     requires kept { AreKept (S.declares sig.now table.old) table.old kept.old }
-    ensures answer { IfOk result (λ b. b ≡ checks_in (S.declares sig.now table.old) table.old c m a) }
+    ensures answer { IfOk result
+        (λ b. b ≡ checks_in (S.declares sig.now table.old) table.old c m a) }
     ensures extends { Extends table.old table.new }
     ensures kept { AreKept (S.declares sig.now table.new) table.new kept.new }
 {
@@ -132,8 +134,8 @@ pub(crate) fn synth_at<S: Signature>(
     requires c { IsKnown table.old c }
     requires r { IsKnown table.old r }
     requires kept { AreKept (S.declares sig.now table.old) table.old kept.old }
-    ensures tree { IfOk result (Stands table.new
-        (synth_in (S.declares sig.now table.old) table.old c r)) }
+    ensures tree { IfOk result
+        (Stands table.new (synth_in (S.declares sig.now table.old) table.old c r)) }
     ensures extends { Extends table.old table.new }
     ensures kept { AreKept (S.declares sig.now table.new) table.new kept.new }
 {
@@ -175,8 +177,8 @@ fn applied_at<S: Signature>(
     requires parts { (f < r) × (m < r) }
     requires is { App (tree_at table.old f) (tree_at table.old m) ≡ tree_at table.old r }
     requires kept { AreKept (S.declares sig.now table.old) table.old kept.old }
-    ensures tree { IfOk result (Stands table.new
-        (synth_in (S.declares sig.now table.old) table.old c r)) }
+    ensures tree { IfOk result
+        (Stands table.new (synth_in (S.declares sig.now table.old) table.old c r)) }
     ensures extends { Extends table.old table.new }
     ensures kept { AreKept (S.declares sig.now table.new) table.new kept.new }
 {

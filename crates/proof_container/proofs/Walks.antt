@@ -24,10 +24,6 @@ or_neither : (a b : Bool) → a ≡ false → b ≡ false → (a || b) ≡ false
 or_neither true b p q = p
 or_neither false b p q = q
 
-or_first : (a b : Bool) → (a || b) ≡ false → a ≡ false
-or_first true b q = q
-or_first false b q = refl
-
 pub listed-append : (t : Tree) (ts us : List Tree) → is_emitted t (ts ++ us) ≡ (is_emitted t ts || is_emitted t us)
 listed-append t ts us = list_any-append (tree_eq t) ts us
 
@@ -54,9 +50,6 @@ listed-push u t ts h = listed-append u ts (t ∷ []) ∙ go (is_emitted u ts) (t
     go : (a b : Bool) → b ≡ false → (a || (b || false)) ≡ a
     go true b q = refl
     go false b q = or_neither b false q refl
-
-unlisted-left : (t : Tree) (ts us : List Tree) → is_emitted t (ts ++ us) ≡ false → is_emitted t ts ≡ false
-unlisted-left t ts us h = or_first _ _ (sym (listed-append t ts us) ∙ h)
 
 HasPartsFirst-left : (t : Tree) (ts us : List Tree) → HasPartsFirst ts t → HasPartsFirst (ts ++ us) t
 HasPartsFirst-left (Var n) ts us h = tt

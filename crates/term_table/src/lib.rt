@@ -206,9 +206,8 @@ fn applied(node: Node, f: Entry, a: Entry) -> Entry
     ensures height { result.height ≡ capped (1 + max f.height a.height) }
     ensures weight { result.weight ≡ capped (f.weight + (if nat_lt 0 f.left then 1 else a.weight)) }
     ensures left { result.left ≡ f.left - 1 }
-    ensures reach { result.reach ≡ (if is_atomic_node f.node && is_term_node a.node then max f.reach
-        a.reach
-        else 4294967295) }
+    ensures reach { result.reach ≡
+        (if is_atomic_node f.node && is_term_node a.node then max f.reach a.reach else 4294967295) }
 {
     let counted = if f.left > 0 { 1 } else { a.weight };
     Entry {
@@ -226,8 +225,8 @@ fn abstracted(node: Node, b: Entry) -> Entry
     ensures height { result.height ≡ capped (1 + b.height) }
     ensures weight { result.weight ≡ capped (1 + b.weight) }
     ensures left { result.left ≡ 0 }
-    ensures reach { result.reach ≡ (if is_term_node b.node then reach_outside b.reach else
-        4294967295) }
+    ensures reach { result.reach ≡
+        (if is_term_node b.node then reach_outside b.reach else 4294967295) }
 {
     Entry {
         node,
@@ -419,8 +418,8 @@ impl Table {
     /// Fails only where memory does; the table then has the trees that it had.
     pub fn intern(&mut self, node: Node) -> Result<Id, AllocError>
         requires { PartsKnown self.old node }
-        ensures id { IfOk result (λ id. IsKnown self.new id ×
-            (tree_at self.new id ≡ node_tree self.old node)) }
+        ensures id { IfOk result
+            (λ id. IsKnown self.new id × (tree_at self.new id ≡ node_tree self.old node)) }
         ensures adds { IfOk result (Adds self.old self.new (node_tree self.old node)) }
         ensures err { OnErr result (self.new ≡ self.old) }
         ensures extends { Extends self.old self.new }
