@@ -77,7 +77,7 @@ fn find_fault(bytes: &[u8]) -> Result<(), PacketFault>
 /// The packets of the file in order, or its first fault. The whole file is looked through first.
 pub fn packets(bytes: &[u8]) -> Result<PacketIter<'_>, PacketFault>
     requires { length bytes.now < 2 ^ 63 }
-    ensures decodes { IfOk result (λ ps. file.AreShort ps × (bytes.now ≡ file.packets_encoding ps)) }
+    ensures decodes { IfOk result (λ p. file.AreShort p × (bytes.now ≡ file.packets_encoding p)) }
     ensures fault { IfErr result (λ e. file.IsFirstFault bytes.now e) }
     ensures exact { result ≡ decoded_packets bytes.now }
 {

@@ -176,7 +176,8 @@ fn limits(policy: u32, code: &[u8])
 pub fn write(alloc: Global, view: &View<'_>) -> Result<Vec<u8>, AllocError>
     requires { IsWritable view.now }
     ensures encodes { IfOk result (λ v. EncodesContents v.items (view_contents view.now)) }
-    ensures round_trip { IfOk result (λ v. decoded_container v.items ≡ Ok (view_contents view.now)) }
+    ensures round_trip { let c = view_contents view.now in
+        IfOk result (λ v. decoded_container v.items ≡ Ok c) }
 {
     view.table.laws();
     let policy = view.policy;
