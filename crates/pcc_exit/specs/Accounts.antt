@@ -39,11 +39,11 @@ pub record Accounts (request : Request) (f g : FilesState) (s t : SinkState) (st
   -- The statuses 0, 1 and 2 come only where no count rose.
   pub no_count_rose : status < 3
       → (g.read_faults ≡ f.read_faults) × (g.write_faults ≡ f.write_faults) × (t.faults ≡ s.faults)
-  -- Status 2 comes only where the arguments are no command, and there only it comes, with the usage line.
+  -- Status 2 comes only where the arguments are no command. There no other comes, and the usage line is printed.
   pub usage : status ≡ 2 → request.standing ≡ standing.no_command
   pub no_command : request.standing ≡ standing.no_command
       → HasExitOrFails (usage_exit request.texts) s t status
-  -- Status 1 with the line of an unknown policy comes only where the arguments name one, and there only it comes.
+  -- An unknown policy brings status 1 and its line. Nothing else brings that line with status 1.
   pub unknown_policy : request.standing ≡ standing.unknown_policy
       → HasExitOrFails (unknown_policy_exit request.texts) s t status
   pub unknown_policy_only : IfSome s.contents (λ before. status ≡ 1
