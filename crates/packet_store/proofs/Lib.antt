@@ -1,3 +1,4 @@
 pub mod Frames
 pub mod Readings
 pub mod StartLemmas
+pub mod ResultLemmas

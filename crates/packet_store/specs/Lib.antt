@@ -2,4 +2,6 @@ pub mod Packets
 pub mod PacketReading
 pub mod Yields
 pub mod PolicyStarts
-pub mod Lines
+pub mod Results
+pub mod Runners
+pub mod Names

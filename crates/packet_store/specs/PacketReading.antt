@@ -1,5 +1,6 @@
 -- The packets that bytes read as, or their first fault, by the tests in their order.
 use Rattle.std.specs.Prelude.{ℕ, zero, suc, ◌+◌, nat_lt, if◌then◌else◌, List, [], ◌∷◌, length, take, drop, Result, Ok, Err}
+use Rattle.packet_store.specs.declared.reader.TheConstants.{MAX_PACKET}
 use Rattle.packet_store.specs.declared.fault.PacketFault.{PacketFault}
 use Rattle.packet_store.specs.declared.fault.PacketFault.TheVariants.{Cut, TooLong}
 use Rattle.packet_store.specs.Packets.{claimed}
@@ -8,7 +9,7 @@ use Rattle.packet_store.specs.Packets.{claimed}
 unfoldable pub front : ℕ → List ℕ → Result (List ℕ × List ℕ) PacketFault
 front offset bytes =
     if nat_lt (length bytes) 4 then Err (Cut offset) else
-    if nat_lt 65535 (claimed bytes) then Err (TooLong offset) else
+    if nat_lt MAX_PACKET (claimed bytes) then Err (TooLong offset) else
     if nat_lt (length bytes) (4 + claimed bytes) then Err (Cut offset) else
     Ok (take (claimed bytes) (drop 4 bytes), drop (claimed bytes) (drop 4 bytes))
 

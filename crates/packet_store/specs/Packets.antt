@@ -1,6 +1,7 @@
 -- A packet file: any number of packets, each behind its length.
 use Rattle.std.specs.Prelude.{◌≡◌, ℕ, ◌+◌, ◌<◌, ◌≤◌, ◌⊎◌, List, [], ◌∷◌, ◌++◌, length, take}
 use Rattle.std.specs.Int.{to_le_bytes, from_le_bytes, w32}
+use Rattle.packet_store.specs.declared.reader.TheConstants.{MAX_PACKET}
 use Rattle.packet_store.specs.declared.fault.PacketFault.{PacketFault}
 use Rattle.packet_store.specs.declared.fault.PacketFault.TheVariants.{Cut, TooLong}
 
@@ -13,10 +14,10 @@ abbrev pub spelling : List (List ℕ) → List ℕ
 spelling [] = []
 spelling (packet ∷ packets) = framed packet ++ spelling packets
 
--- packets of at most 65,535 bytes
+-- packets of at most MAX_PACKET bytes
 abbrev pub AreShort : List (List ℕ) → Type 0
 AreShort [] = Unit {0}
-AreShort (packet ∷ packets) = (length packet ≤ 65535) × AreShort packets
+AreShort (packet ∷ packets) = (length packet ≤ MAX_PACKET) × AreShort packets
 
 -- whole packets, and nothing behind them
 abbrev pub IsWhole : List ℕ → Type 0
@@ -28,8 +29,8 @@ claimed bytes = from_le_bytes w32 (take 4 bytes)
 
 -- no packet stands at the front of these bytes, which aren't empty
 abbrev pub IsBadFront : List ℕ → PacketFault → Type 0
-IsBadFront bytes (Cut offset) = (0 < length bytes) × ((length bytes < 4) ⊎ ((claimed bytes ≤ 65535) × (length bytes < 4 + claimed bytes)))
-IsBadFront bytes (TooLong offset) = (4 ≤ length bytes) × (65535 < claimed bytes)
+IsBadFront bytes (Cut offset) = (0 < length bytes) × ((length bytes < 4) ⊎ ((claimed bytes ≤ MAX_PACKET) × (length bytes < 4 + claimed bytes)))
+IsBadFront bytes (TooLong offset) = (4 ≤ length bytes) × (MAX_PACKET < claimed bytes)
 
 -- the offset of a fault
 abbrev pub offset_of : PacketFault → ℕ

@@ -1,20 +1,25 @@
-//! Packet files, start states and result lines.
+//! Packet files, start states, and what packets come to.
 //!
 //! The layers above use that `packets` gives exactly the packets of a file in order, or its first
 //! fault; that `start` gives the start of a policy on a packet, None exactly where the packet is
-//! short; and the definition of a result line. The grammar of packet files stands in
-//! `specs/Packets` (as a relation) and `specs/PacketReading` (as a function), the start states in
-//! `specs/PolicyStarts` and the lines in `specs/Lines`.
+//! short; and the trait `PacketRunner`, whose one call runs a packet. The grammar of packet files
+//! stands in `specs/Packets` (as a relation) and `specs/PacketReading` (as a function), the start
+//! states in `specs/PolicyStarts`, what a packet comes to in `specs/Results`, and the names of
+//! faults in `specs/Names`.
 #![tactic(auto)]
 
 mod fault;
-mod known;
 mod reader;
+mod results;
 mod starting;
+mod testing;
 #[cfg(test)]
 mod tests;
+mod theorems;
 
-pub use fault::PacketFault;
-pub use known::laws;
-pub use reader::{PacketFile, PacketIter, packets};
+pub use fault::{MAX_KIND, PacketFault};
+pub use reader::{MAX_PACKET, PacketFile, PacketIter, packets};
+pub use results::{PacketResult, PacketRunner};
 pub use starting::start;
+pub use testing::TestingRunner;
+pub use theorems::laws;

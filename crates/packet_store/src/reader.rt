@@ -7,6 +7,9 @@ ghost use Rattle.packet_store.specs.PacketReading.{packets_read};
 use crate::fault::PacketFault;
 use std::marker::Model;
 
+/// The most bytes that a packet has.
+pub const MAX_PACKET: u32 = 65_535;
+
 /// The length that the next packet claims.
 fn claimed(bytes: &[u8]) -> u32
     requires { 4 ≤ length bytes.now }
@@ -18,13 +21,15 @@ fn claimed(bytes: &[u8]) -> u32
 /// The first packet and the bytes after it; the fault has the offset that is given.
 fn first(bytes: &[u8], offset: u64) -> Result<(&[u8], &[u8]), PacketFault>
     requires { 0 < length bytes.now }
-    ensures { MatchResult result (λ r. (bytes.now ≡ file.framed r.0.now ++ r.1.now) × (length r.0.now ≤ 65535)) (λ e. file.IsBadFront bytes.now e × (file.offset_of e ≡ offset)) }
+    ensures { MatchResult result
+        (λ r. (bytes.now ≡ file.framed r.0.now ++ r.1.now) × (length r.0.now ≤ MAX_PACKET))
+        (λ e. file.IsBadFront bytes.now e × (file.offset_of e ≡ offset)) }
 {
     if bytes.len() < 4 {
         return Err(PacketFault::Cut(offset));
     }
     let count = claimed(bytes);
-    if count > 65_535 {
+    if count > MAX_PACKET {
         return Err(PacketFault::TooLong(offset));
     }
     let (_, body) = bytes.split_at(4);

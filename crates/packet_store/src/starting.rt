@@ -6,6 +6,7 @@ ghost use Rattle.reference_machine.specs.Arena.{quadword};
 ghost use Rattle.reference_machine.specs.Setups.{setup_of};
 ghost use Rattle.reference_machine.specs.Starts.{Fits, HasWords};
 
+use crate::reader::MAX_PACKET;
 use policy_set::Policy;
 use reference_machine::Start;
 
@@ -16,7 +17,7 @@ const UNUSED: (u64, u64) = (ARENA, 0);
 
 /// Two quadwords of scratch, and the packet behind them.
 fn filter_start(packet: &[u8]) -> Start<'_>
-    requires { length packet.now ≤ 65535 }
+    requires { length packet.now ≤ MAX_PACKET }
     ensures value { setup_of result ≡ filter_setup packet.now }
 {
     Start {
@@ -66,7 +67,7 @@ fn tag_start(packet: &[u8]) -> Start<'_>
 
 /// The packet's quadwords, all of which may be loaded and stored.
 fn table_start(packet: &[u8]) -> Start<'_>
-    requires { length packet.now ≤ 65535 }
+    requires { length packet.now ≤ MAX_PACKET }
     ensures value { setup_of result ≡ table_setup packet.now }
 {
     let count = (packet.len() as u64 + 7) / 8;
@@ -82,11 +83,11 @@ fn table_start(packet: &[u8]) -> Start<'_>
     }
 }
 
-/// The start of the policy on a packet of at most 65,535 bytes; None exactly where the packet is
+/// The start of the policy on a packet of at most `MAX_PACKET` bytes; None exactly where the packet is
 /// short, which is below 64 bytes for `filter`, below 16 for `tag` and never for `table`.
 #[tactic(auto, unfolding(crate::specs::PolicyStarts::start_of))]
 pub fn start<'b>(policy: &Policy, packet: &'b [u8]) -> Option<Start<'b>>
-    requires { length packet.now ≤ 65535 }
+    requires { length packet.now ≤ MAX_PACKET }
     ensures exact { option_map setup_of result ≡ start_of policy.now packet.now }
     ensures fits { IfSome result (λ s. Fits 65536 (setup_of s)) }
     ensures words { IfSome result (λ s. HasWords (setup_of s)) }

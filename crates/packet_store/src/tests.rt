@@ -1,9 +1,8 @@
 //! Packet files, start states, and runs from them, on worked bytes.
 
-use crate::{PacketFault, packets, start};
+use crate::{PacketFault, PacketResult, PacketRunner, TestingRunner, packets, start};
 use alpha_cfg::{Code, CodeFault, Kind, Outcome};
 use policy_set::Policy;
-use reference_machine::Agent;
 use std::alloc::{AllocError, Global};
 use std::process::Abort;
 use std::test::Fail;
@@ -39,6 +38,8 @@ fn files_have_packets_or_a_fault(rt: HostRuntime) {
     for (bytes, want) in rows {
         assert_eq!(rt; counted(bytes), want);
     }
+    assert_eq!(rt; PacketFault::Cut(4).name(), "CutPacket");
+    assert_eq!(rt; PacketFault::TooLong(5).offset(), 5);
 }
 
 #[test]
@@ -85,24 +86,18 @@ fn code_of(rt: &impl Abort, alloc: Global, words: &[u32]) -> Result<Code, CodeFa
     Code::of(alloc, &bytes)
 }
 
-/// The outcome, and the sum of the region, of a run of 1,000 steps.
+/// What a run of 1,000 steps comes to.
 fn ran(
     rt: &impl Abort,
     alloc: Global,
     policy: Policy,
     words: &[u32],
     packet: &[u8],
-) -> Result<Option<(Outcome, u64)>, CodeFault> {
+) -> Result<PacketResult, CodeFault> {
     let code = code_of(rt, alloc, words)?;
-    let mut agent = Agent::new(alloc)?;
+    let mut runner = TestingRunner::new(alloc, policy, code, 1000)?;
     assert!(rt; packet.len() <= 65_535);
-    let Some(begin) = start(&policy, packet) else {
-        return Ok(None);
-    };
-    agent.load(begin);
-    assert!(rt; agent.index() < code.count());
-    let outcome = agent.run(&code, 1000);
-    Ok(Some((outcome, agent.sum())))
+    Ok(runner.run_packet(packet))
 }
 
 #[test]
@@ -112,15 +107,9 @@ fn filters_run(rt: HostRuntime) -> Result<(), Fail> {
     let odd = [0; 65];
     let load = [0xa430_0040, 0x201f_0001, RETURN];
     let kind = Kind::Load;
-    let blocked = |addr| Some((
-        Outcome::Blocked {
-            index: 0,
-            kind,
-            addr,
-        },
-        0,
-    ));
-    let one = Some((Outcome::Returned(1), 0));
+    let index = 0;
+    let blocked = |addr| PacketResult::Ran(Outcome::Blocked { index, kind, addr }, 0);
+    let one = PacketResult::Ran(Outcome::Returned(1), 0);
     assert_eq!(rt;
         ran(&rt, a, Policy::Filter, &load, &zeros)?,
         blocked(0x1_0050)
@@ -142,7 +131,7 @@ fn tags_and_tables_run(rt: HostRuntime) -> Result<(), Fail> {
     let tag = [0xa430_0000, 0xe420_0001, 0xb430_0008, RETURN];
     let five_seven = [5, 0, 0, 0, 0, 0, 0, 0, 7, 0, 0, 0, 0, 0, 0, 0];
     let zero_seven = [0, 0, 0, 0, 0, 0, 0, 0, 7, 0, 0, 0, 0, 0, 0, 0];
-    let end = |sum| Some((Outcome::Returned(0), sum));
+    let end = |sum| PacketResult::Ran(Outcome::Returned(0), sum);
     assert_eq!(rt; ran(&rt, a, Policy::Tag, &tag, &five_seven)?, end(10));
     assert_eq!(rt; ran(&rt, a, Policy::Tag, &tag, &zero_seven)?, end(7));
     let unasked = [0xa430_0000, 0xb430_0008, RETURN];
@@ -153,7 +142,7 @@ fn tags_and_tables_run(rt: HostRuntime) -> Result<(), Fail> {
     };
     assert_eq!(rt;
         ran(&rt, a, Policy::Tag, &unasked, &zero_seven)?,
-        Some((outcome, 7))
+        PacketResult::Ran(outcome, 7)
     );
     assert_eq!(rt; ran(&rt, a, Policy::Table, &[RETURN], &[])?, end(0));
     assert_eq!(rt;

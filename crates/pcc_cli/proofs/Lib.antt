@@ -1,3 +1,4 @@
+pub mod StageLemmas
+pub mod DecisionLemmas
+pub mod RefLemmas
 pub mod EndLemmas
-pub mod LawLemmas
-pub mod PrintLemmas

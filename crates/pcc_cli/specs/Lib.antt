@@ -1,5 +1,4 @@
-pub mod Lines
-pub mod Answer
-pub mod Due
-pub mod Ends
-pub mod Accounts
+pub mod Stages
+pub mod Commands
+pub mod Requests
+pub mod Inside

@@ -1,16 +1,16 @@
 //! `pcc`: runs Alpha code on packets by the machine that tests every access.
 //!
-//! The top call is `pcc`; `main` makes the real files and output and calls it. What it answers to
-//! words and files stands in `specs/Answer`, how a run may end in `specs/Ends`, and what that says
-//! of status and counts, sentence by sentence, in `specs/Accounts`.
+//! The top call is `pcc`; `main` makes the real files and output and calls it. What arguments ask
+//! for stands in `specs/Requests`, over the stages in `specs/Stages` and a file a command in
+//! `specs/Commands`. How a run may end, and what that says of status and counts, sentence by
+//! sentence, stands in pcc_exit.
 #![tactic(auto)]
 
-mod decide;
-mod due;
-mod line;
+mod commands;
 mod pcc;
-mod print;
-mod refusal;
+mod report;
+mod stages;
+mod stop;
 #[cfg(test)]
 mod tests;
 
@@ -20,17 +20,20 @@ use std::io::ErrorKind;
 use std::process::ExitCode;
 use std::{env, io};
 
+/// The arguments after the program's name. It is an error where one is no text, or for want of
+/// memory.
 fn words_of(rt: &HostRuntime) -> io::Result<Vec<String>> {
     let words: Vec<String> = env::args(rt)?.skip(1).collect(rt.alloc())?;
     Ok(words)
 }
 
+/// Calls `pcc` with the real arguments, files and output, and ends with its status.
 fn main(rt: HostRuntime) -> ExitCode {
     let words = match words_of(&rt) {
         Ok(words) => words,
         Err(error) => match error.kind() {
             ErrorKind::OutOfMemory => return ExitCode::from(5),
-            // An argument is no text, so the words are no command.
+            // An argument is no text, so the arguments are no command.
             _ => Vec::new(rt.alloc()),
         },
     };

@@ -1,65 +1,66 @@
 //! The whole program, over any files and any output.
 
 ghost use Rattle.std.specs.Prelude.{◌≡◌, map, string_bytes};
-ghost use Rattle.file_port.specs.Sink.{Puts};
-ghost use Rattle.pcc_cli.specs.Due.{Prints, outcome_of};
-ghost use Rattle.pcc_cli.specs.Ends.{Ends};
-ghost use Rattle.pcc_cli.specs.Accounts.{Accounts};
+ghost use Rattle.pcc_exit.specs.Ends.{Ends};
+ghost use Rattle.pcc_exit.specs.Accounts.{Accounts};
+ghost use Rattle.pcc_cli.specs.Requests.{request_of};
+ghost use Rattle.pcc_cli.specs.Inside.Decisions.{Decides, Prints, exit_of, status_after};
 
-use crate::decide::decide;
-use crate::due::Due;
-use crate::print::{print_bad_packets, print_job, print_named, print_refusal, print_text};
+use crate::commands::ref_command;
+use crate::report::Report;
+use crate::stop::Stop;
 use file_port::{Files, Put, Sink};
+use pcc_words::{Command, read_arguments};
 use std::alloc::Global;
 
-/// The status after the puts, where all of them were done.
-fn status_of(due: &Due<'_>) -> u8
-    ensures { result ≡ (outcome_of due.now).status }
+/// Reads and refuses: what the run comes to, by the arguments and the files. Nothing is printed.
+fn decide<'a, F: Files>(
+    alloc: Global,
+    words: &'a [String],
+    files: &mut F,
+) -> Result<Report, Stop<'a>>
+    ensures { Decides (request_of (map string_bytes words.entry.now))
+        (F.state files.old) (F.state files.new) result }
 {
-    match due {
-        Due::Lines(_) => 0,
-        Due::UnknownPolicy | Due::Refused(_) | Due::PacketsTooLong | Due::BadPackets(_) => 1,
-        Due::Usage => 2,
-        Due::Missing(_) | Due::ReadFault(_) => 3,
-        Due::Memory => 5,
+    match read_arguments(alloc, words) {
+        Ok(Some(Command::Ref(args))) => ref_command(alloc, args, files),
+        Ok(None) => Err(Stop::Usage),
+        Err(_) => Err(Stop::Memory),
     }
 }
 
-fn print_due<S: Sink>(due: Due<'_>, out: &mut S) -> Put
-    ensures { Puts (outcome_of due.entry).text (S.state out.old) (S.state out.new) result }
+/// The status of a run, after its puts: a failed put has the last word.
+fn status_of(status: u8, put: Put) -> u8
+    ensures { result ≡ status_after status put }
 {
-    match due {
-        Due::Usage => print_text("usage: pcc asm|prove|check|run|ref|demo\n", out),
-        Due::UnknownPolicy => print_text("unknown policy\n", out),
-        Due::Refused(refusal) => print_refusal(refusal, out),
-        Due::PacketsTooLong => print_text("packets TooLong\n", out),
-        Due::BadPackets(fault) => print_bad_packets(fault, out),
-        Due::Missing(name) => print_named("missing ", name, out),
-        Due::ReadFault(name) => print_named("read fault ", name, out),
-        Due::Lines(job) => print_job(job, out),
-        Due::Memory => Put::Done,
-    }
-}
-
-fn print<S: Sink>(due: Due<'_>, out: &mut S) -> u8
-    ensures { Prints (outcome_of due.entry) (S.state out.old) (S.state out.new) result }
-{
-    let status = status_of(&due);
-    match print_due(due, out) {
+    match put {
         Put::Done => status,
         Put::Failed => 4,
     }
 }
 
-/// Does what the words say, over the files and the output, and answers with the status: 0 done,
-/// 1 refused, 2 the words are no command, 3 a file is missing or its read failed, 4 a write or a
-/// put failed, 5 want of memory. The words are the arguments after the program's name.
+/// Prints what the run came to, and answers with its status.
+fn print<S: Sink>(decision: Result<Report, Stop<'_>>, out: &mut S) -> u8
+    ensures { Prints (exit_of decision.entry) (S.state out.old) (S.state out.new) result }
+{
+    match decision {
+        Ok(report) => status_of(0, report.print(out)),
+        Err(stop) => status_of(stop.status(), stop.print(out)),
+    }
+}
+
+/// Does what the arguments `words` ask for, over the files and the output, and answers with the
+/// status: 0 done, 1 refused, 2 the arguments are no command, 3 a file is missing or its read
+/// failed, 4 a write or a put failed, 5 want of memory. The program's name is not among the
+/// arguments.
 ///
 /// Reads and refuses first, and prints then; nothing is printed before all files were read.
 pub fn pcc<F: Files, S: Sink>(alloc: Global, words: Vec<String>, files: &mut F, out: &mut S) -> u8
-    ensures ends { Ends (map string_bytes words.items) (F.state files.old) (F.state files.new) (S.state out.old) (S.state out.new) result }
-    ensures accounts { Accounts (map string_bytes words.items) (F.state files.old) (F.state files.new) (S.state out.old) (S.state out.new) result }
+    ensures ends { Ends (request_of (map string_bytes words.items))
+        (F.state files.old) (F.state files.new) (S.state out.old) (S.state out.new) result }
+    ensures accounts { Accounts (request_of (map string_bytes words.items))
+        (F.state files.old) (F.state files.new) (S.state out.old) (S.state out.new) result }
 {
-    let due = decide(alloc, words.as_slice(), files);
-    print(due, out)
+    let decision = decide(alloc, words.as_slice(), files);
+    print(decision, out)
 }

@@ -7,7 +7,7 @@ use Rattle.clap.specs.Words.{App, HasMatchesOf, IsAmong, Kinds, Row, Text, fault
 use Rattle.clap.specs.declared.ArgMatches.{ArgMatches}
 use Rattle.clap.specs.declared.error.ErrorKind.{ErrorKind}
 use Rattle.clap.proofs.WalkLemmas.{both, one_text-rows}
-use Rattle.pcc_words.specs.Words.{command_at, command_of, is_number, number_of, words_of_subcommand, pcc_app}
+use Rattle.pcc_words.specs.Invocations.{command_at, command_of, is_number, number_of, invocation_of_subcommand, pcc_app}
 
 digits_pass : (ds : List ℕ) → AllDigits 10 ds → list_all (λ d. nat_lt (digit_value d) 10) ds ≡ true
 digits_pass [] h = refl
@@ -53,12 +53,12 @@ no_number m id value = go (one_text (found_of m) id) refl
     go (Some t) e = number_err t (value t e) ∙ ap (λ o. number_of (unwrap_or o [])) (sym e ∙ one_text-rows (found_of m) id)
 
 -- a parse that succeeds gives the command that the words are
-pub parsed_ok : (app : App) (words : List Text) (m : ArgMatches) → app ≡ pcc_app → fault_of app words ≡ [] → HasMatchesOf app words m → option_and_then words_of_subcommand (subcommand_rows_of m) ≡ command_of words
+pub parsed_ok : (app : App) (words : List Text) (m : ArgMatches) → app ≡ pcc_app → fault_of app words ≡ [] → HasMatchesOf app words m → option_and_then invocation_of_subcommand (subcommand_rows_of m) ≡ command_of words
 unfolding command_of
 parsed_ok app words m is none found =
     let none_here : fault_of pcc_app words ≡ [] = subst (λ (a : App). fault_of a words ≡ []) is none in
     let found_here : HasMatchesOf pcc_app words m = subst (λ (a : App). HasMatchesOf a words m) is found in
-    ap (option_and_then words_of_subcommand) (found_here refl).1 ∙ ap (λ k. command_at k (subcommand_of pcc_app words)) (sym none_here)
+    ap (option_and_then invocation_of_subcommand) (found_here refl).1 ∙ ap (λ k. command_at k (subcommand_of pcc_app words)) (sym none_here)
 
 no_command : (k : ErrorKind) (kinds : Kinds) (found : Option (Text × List Row)) → IsAmong k kinds → None ≡ command_at kinds found
 no_command k [] found h = absurd h

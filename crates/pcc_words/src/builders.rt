@@ -2,12 +2,13 @@
 ghost use Rattle.std.specs.Prelude.{◌≡◌, IfOk, false};
 ghost use Rattle.clap.specs.Words.{app_of, rule_of};
 ghost use Rattle.clap.specs.declared.Command.TheViews.{out-Command as fields_of};
-ghost use Rattle.pcc_words.specs.Words.{file_app, packets_app, pcc_app, steps_rule};
-ghost use Rattle.pcc_words.specs.Words.{positional as positional_rule};
+ghost use Rattle.pcc_words.specs.Invocations.{file_app, run_app, pcc_app, steps_rule};
+ghost use Rattle.pcc_words.specs.Invocations.{positional as positional_rule};
 
 use clap::{Arg, Command, value_parser};
 use std::alloc::{AllocError, Global};
 
+/// An argument that has to be there.
 fn positional<'a>(alloc: Global, id: &'a str) -> Arg<'a>
     ensures rule { rule_of result ≡ positional_rule id.entry.now }
     ensures local { result.global ≡ false }
@@ -15,6 +16,7 @@ fn positional<'a>(alloc: Global, id: &'a str) -> Arg<'a>
     Arg::new(alloc, id).required(true)
 }
 
+/// `--steps N`.
 fn steps<'a>(alloc: Global) -> Arg<'a>
     ensures rule { rule_of result ≡ steps_rule }
     ensures local { result.global ≡ false }
@@ -25,6 +27,7 @@ fn steps<'a>(alloc: Global) -> Arg<'a>
         .default_value("1000000")
 }
 
+/// `NAME POLICY FILE`
 fn file_command<'a>(alloc: Global, name: &'a str) -> Result<Command<'a>, AllocError>
     ensures app { IfOk result (λ c. app_of c ≡ file_app name.entry.now) }
     ensures local { IfOk result (λ c. (fields_of c).has_globals ≡ false) }
@@ -34,8 +37,9 @@ fn file_command<'a>(alloc: Global, name: &'a str) -> Result<Command<'a>, AllocEr
         .arg(positional(alloc, "FILE"))
 }
 
-fn packets_command<'a>(alloc: Global, name: &'a str) -> Result<Command<'a>, AllocError>
-    ensures app { IfOk result (λ c. app_of c ≡ packets_app name.entry.now) }
+/// `NAME POLICY FILE PACKETS [--steps N]`
+fn run_command<'a>(alloc: Global, name: &'a str) -> Result<Command<'a>, AllocError>
+    ensures app { IfOk result (λ c. app_of c ≡ run_app name.entry.now) }
     ensures local { IfOk result (λ c. (fields_of c).has_globals ≡ false) }
 {
     file_command(alloc, name)?
@@ -49,5 +53,5 @@ pub fn pcc_command<'a>(alloc: Global) -> Result<Command<'a>, AllocError>
 {
     Command::new(alloc, "pcc")
         .no_binary_name(true)
-        .subcommand(packets_command(alloc, "ref")?)
+        .subcommand(run_command(alloc, "ref")?)
 }

@@ -1,8 +1,8 @@
 //! The commands of pcc, with their values.
 
-/// `POLICY FILE PACKETS [--steps N]`
+/// The arguments of a command that runs packets: `POLICY FILE PACKETS [--steps N]`.
 #[derive(Clone, Copy, Debug, PartialEq, Eq)]
-pub struct Packets<'a> {
+pub struct RunArgs<'a> {
     /// The policy's name.
     pub policy: &'a str,
     /// The name of the container's file.
@@ -17,5 +17,5 @@ pub struct Packets<'a> {
 #[derive(Clone, Copy, Debug, PartialEq, Eq)]
 pub enum Command<'a> {
     /// Runs the testing machine on packets.
-    Ref(Packets<'a>),
+    Ref(RunArgs<'a>),
 }

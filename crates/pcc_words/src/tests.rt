@@ -1,6 +1,6 @@
-//! Which words are a command.
+//! Which arguments are a command.
 
-use crate::{Command, Packets, read_words};
+use crate::{Command, RunArgs, read_arguments};
 use std::alloc::{AllocError, Global};
 use std::test::Fail;
 
@@ -14,7 +14,7 @@ fn words_in(alloc: Global, line: &str) -> Result<Vec<String>, AllocError> {
 
 /// Each line with its number of steps, if it is a command.
 #[test]
-fn words_of_ref(rt: HostRuntime) -> Result<(), Fail> {
+fn arguments_of_ref(rt: HostRuntime) -> Result<(), Fail> {
     let rows = [
         ("ref filter C1 Z64", Some(1_000_000)),
         ("ref filter C1 Z64 --steps 1", Some(1)),
@@ -27,9 +27,9 @@ fn words_of_ref(rt: HostRuntime) -> Result<(), Fail> {
     ];
     for (line, steps) in rows {
         let words = words_in(rt.alloc(), line)?;
-        let found = read_words(rt.alloc(), words.as_slice())?;
+        let found = read_arguments(rt.alloc(), words.as_slice())?;
         let want = steps.map(|steps| {
-            Command::Ref(Packets {
+            Command::Ref(RunArgs {
                 policy: "filter",
                 file: "C1",
                 packets: "Z64",

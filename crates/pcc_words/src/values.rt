@@ -1,14 +1,16 @@
 //! The values of a command, from the matches of a parse.
 ghost use Rattle.std.specs.Prelude.{◌≡◌, IfSome, Some, None, codes, if◌then◌else◌, option_and_then, option_map};
 ghost use Rattle.clap.specs.Words.{found_of, rows_of, subcommand_rows_of};
-ghost use Rattle.pcc_words.specs.Words.{is_step_count, number_at, value_of, words_at, words_of_subcommand};
-ghost use Rattle.pcc_words.specs.Command.{words_of, IsInRange};
+ghost use Rattle.pcc_words.specs.Invocations.{is_step_count, number_at, value_of, invocation_at, invocation_of_subcommand};
+ghost use Rattle.pcc_words.specs.Commands.{invocation_of, IsInRange};
 
-use crate::commands::{Command, Packets};
+use crate::commands::{Command, RunArgs};
 use clap::ArgMatches;
 
+/// The most steps for a packet that may be asked for.
 const MAX_STEPS: u64 = 1_000_000_000;
 
+/// The number of an optional argument, or 0 where it says none.
 fn number_given(matches: &ArgMatches<'_>, id: &str) -> u64
     ensures { result ≡ number_at id.now (rows_of (found_of matches.now)) }
 {
@@ -18,6 +20,7 @@ fn number_given(matches: &ArgMatches<'_>, id: &str) -> u64
     }
 }
 
+/// The text of a required argument.
 fn text_given<'a>(matches: &ArgMatches<'a>, id: &str) -> &'a str
     ensures { result.now ≡ value_of id.now (rows_of (found_of matches.now)) }
 {
@@ -27,13 +30,16 @@ fn text_given<'a>(matches: &ArgMatches<'a>, id: &str) -> &'a str
     }
 }
 
-fn packets_given<'a>(matches: &ArgMatches<'a>) -> Packets<'a>
-    ensures policy { result.policy.now ≡ value_of (codes "POLICY") (rows_of (found_of matches.now)) }
+/// The arguments of a command that runs packets.
+fn run_args_given<'a>(matches: &ArgMatches<'a>) -> RunArgs<'a>
+    ensures policy { result.policy.now ≡ value_of (codes "POLICY") (rows_of
+        (found_of matches.now)) }
     ensures file { result.file.now ≡ value_of (codes "FILE") (rows_of (found_of matches.now)) }
-    ensures packets { result.packets.now ≡ value_of (codes "PACKETS") (rows_of (found_of matches.now)) }
+    ensures packets { result.packets.now ≡ value_of (codes "PACKETS") (rows_of
+        (found_of matches.now)) }
     ensures steps { result.steps ≡ number_at (codes "steps") (rows_of (found_of matches.now)) }
 {
-    Packets {
+    RunArgs {
         policy: text_given(matches, "POLICY"),
         file: text_given(matches, "FILE"),
         packets: text_given(matches, "PACKETS"),
@@ -41,32 +47,36 @@ fn packets_given<'a>(matches: &ArgMatches<'a>) -> Packets<'a>
     }
 }
 
-// clap took a number of steps in its range alone. Its contract does not say so of the argument of
-// a subcommand, so the range is tested here again: this refuses nothing that clap takes.
-fn with_steps_in_range<'a>(packets: Packets<'a>) -> Option<Packets<'a>>
-    ensures { result ≡ (if is_step_count packets.entry.steps then Some packets.entry else None) }
+/// The arguments, where the number of steps is in its range. clap took no other. Its contract does
+/// not say so of the argument of a subcommand, so the range is tested here again: this refuses
+/// nothing that clap takes.
+fn with_steps_in_range<'a>(args: RunArgs<'a>) -> Option<RunArgs<'a>>
+    ensures { result ≡ (if is_step_count args.entry.steps then Some args.entry else None) }
 {
-    if 1 <= packets.steps && packets.steps <= MAX_STEPS {
-        Some(packets)
+    if 1 <= args.steps && args.steps <= MAX_STEPS {
+        Some(args)
     } else {
         None
     }
 }
 
+/// The command of a subcommand's name, if it is one.
 fn command_given<'a>(name: &str, matches: &ArgMatches<'a>) -> Option<Command<'a>>
-    ensures words { option_map words_of result ≡ words_at name.now (rows_of (found_of matches.now)) }
-    ensures range { IfSome result IsInRange }
+    ensures exact { option_map invocation_of result
+        ≡ invocation_at name.now (rows_of (found_of matches.now)) }
+    ensures in_range { IfSome result IsInRange }
 {
     match name {
-        "ref" => Some(Command::Ref(with_steps_in_range(packets_given(matches))?)),
+        "ref" => Some(Command::Ref(with_steps_in_range(run_args_given(matches))?)),
         _ => None,
     }
 }
 
 /// The command of the subcommand that was found.
 pub fn command_found<'a>(matches: &ArgMatches<'a>) -> Option<Command<'a>>
-    ensures words { option_map words_of result ≡ option_and_then words_of_subcommand (subcommand_rows_of matches.now) }
-    ensures range { IfSome result IsInRange }
+    ensures exact { option_map invocation_of result
+        ≡ option_and_then invocation_of_subcommand (subcommand_rows_of matches.now) }
+    ensures in_range { IfSome result IsInRange }
 {
     let (name, inner) = matches.subcommand()?;
     command_given(name, inner)

@@ -7,3 +7,4 @@ pub mod Spelling
 pub mod Reading
 pub mod Views
 pub mod Walked
+pub mod Names

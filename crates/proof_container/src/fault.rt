@@ -1,6 +1,7 @@
 //! What is wrong with bytes that are no container.
 
-ghost use Rattle.std.specs.Prelude.{◌≡◌};
+ghost use Rattle.std.specs.Prelude.{◌≡◌, ◌≤◌, length};
+ghost use Rattle.proof_container.specs.Names.{flaw_name};
 
 use std::alloc::{AllocError, AllocFailed};
 use thiserror::Error;
@@ -41,6 +42,31 @@ pub enum Flaw {
     /// Bytes are left behind the container.
     #[error("bytes are left")]
     Trailing,
+}
+
+/// The most bytes that the name of a kind has.
+pub const MAX_KIND: usize = 11;
+
+impl Flaw {
+    /// The kind's name, of at most `MAX_KIND` bytes, as a refusal line shows it.
+    pub fn name(self) -> &'static str
+        ensures exact { result.now ≡ flaw_name self }
+        ensures short { length result.now ≤ MAX_KIND }
+    {
+        match self {
+            Flaw::Cut => "Cut",
+            Flaw::Magic => "Magic",
+            Flaw::Version => "Version",
+            Flaw::Count => "Count",
+            Flaw::EntryKind => "EntryKind",
+            Flaw::ForwardRef => "ForwardRef",
+            Flaw::DoubleEntry => "DoubleEntry",
+            Flaw::Order => "Order",
+            Flaw::LambdaHead => "LambdaHead",
+            Flaw::InvOrder => "InvOrder",
+            Flaw::Trailing => "Trailing",
+        }
+    }
 }
 
 /// Why bytes are no container.

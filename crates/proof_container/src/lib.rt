@@ -19,7 +19,7 @@ mod walk;
 mod writing;
 
 pub use container::{Container, View};
-pub use fault::{Flaw, Malformed};
+pub use fault::{Flaw, MAX_KIND, Malformed};
 pub use known::laws;
 pub use reading::read;
 pub use writing::{extent, write};

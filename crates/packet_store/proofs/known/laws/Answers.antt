@@ -1,5 +1,0 @@
-use Rattle.packet_store.proofs.StartLemmas.{start_of-state}
-use Rattle.packet_store.proofs.known.laws.Goals as goal
-
-pub returns : goal.returns
-returns c = start_of-state

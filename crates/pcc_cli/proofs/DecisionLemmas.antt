@@ -1,0 +1,87 @@
+-- What the stages of a command come to is a decision on its request.
+use Rattle.std.proofs.Common.{◌≡◌, ◌≢◌, ℕ, ◌<◌, List, get_or, Some, None, Result, Ok, Err, refl, sym, ap, subst, arith}
+use Rattle.std.proofs.lemmas.Option.{IfSome_then}
+use Rattle.file_port.specs.Files.{FilesState}
+use Rattle.packet_store.specs.declared.fault.PacketFault.{PacketFault}
+use Rattle.packet_store.specs.declared.fault.PacketFault.TheVariants as packet
+use Rattle.pcc_words.specs.Invocations.{Invocation}
+use Rattle.pcc_lines.specs.Fixed.{unknown_policy_line}
+use Rattle.pcc_lines.specs.PacketFaults.{packet_fault_line}
+use Rattle.pcc_lines.specs.Refusals.{refusal_line}
+use Rattle.pcc_lines.specs.declared.refusals.Refusal.{Refusal}
+use Rattle.pcc_lines.specs.declared.refusals.Refusal.TheVariants as refusal
+use Rattle.pcc_exit.specs.Exits.{Exit}
+use Rattle.pcc_exit.specs.Requests.{Standing, Suits, command, unknown_policy_exit}
+use Rattle.pcc_exit.specs.Ends.{IsDecision, answered, not_read}
+use Rattle.pcc_cli.specs.Requests.{texts, answer_of, stages_of, names_of, standing_of, request_of_command}
+use Rattle.pcc_cli.specs.Inside.Decisions.{Decides, effect_of, exit_of, stop_exit}
+use Rattle.pcc_cli.specs.Inside.Gives.{ComesTo, Gives}
+use Rattle.pcc_cli.specs.declared.stop.Stop.{Stop}
+use Rattle.pcc_cli.specs.declared.stop.Stop.TheVariants as stop
+use Rattle.pcc_cli.specs.declared.report.Report.{Report}
+
+-- a line that begins with another letter isn't the one of an unknown policy
+another_text : (text : List ℕ) → get_or text 0 0 < 117 → text ≢ unknown_policy_line
+another_text text less is =
+    let first : get_or text 0 0 ≡ 117 = ap (λ (x : List ℕ). get_or x 0 0) is in
+    absurd (omega arith)
+
+refusal-first : (r : Refusal) → get_or (refusal_line r) 0 0 ≡ 114
+unfolding refusal_line
+refusal-first refusal.TooLong = refl
+refusal-first (refusal.Malformed offset flaw) = refl
+refusal-first (refusal.OtherPolicy number) = refl
+refusal-first (refusal.BadCode flaw) = refl
+
+packet_fault-first : (fault : PacketFault) → get_or (packet_fault_line fault) 0 0 ≡ 112
+unfolding packet_fault_line
+packet_fault-first (packet.Cut offset) = refl
+packet_fault-first (packet.TooLong offset) = refl
+
+-- an exit that the arguments alone never bring
+abbrev IsLate : Exit → Type 0
+IsLate exit = (exit.status ≢ 2) × (exit ≢ unknown_policy_exit texts)
+
+late_status : (exit : Exit) → exit.status ≢ 2 → exit.status ≢ 1 → IsLate exit
+late_status exit two one = (two, λ is. one (ap (λ (x : Exit). x.status) is))
+
+late_text : (exit : Exit) → exit.status ≡ 1 → get_or exit.text 0 0 < 117 → IsLate exit
+late_text exit one less = (λ two. absurd (omega arith), λ is. another_text exit.text less (ap (λ (x : Exit). x.text) is))
+
+module _ (invocation : Invocation) (old new : FilesState) (known : standing_of invocation ≡ command) where
+  suits_late : (exit : Exit) → IsLate exit → Suits texts (standing_of invocation) exit
+  suits_late exit late = subst (λ (s : Standing). Suits texts s exit) (sym known) late
+
+  -- the stages refuse, and the exit comes from the files
+  refused_late : (exit : Exit) → 0 < exit.status → exit.status < 4 → IsLate exit → ComesTo (stages_of invocation) old new (Err exit) → IsDecision (request_of_command (Some invocation)) old new exit
+  refused_late exit some small late comes = answered (record {
+    change = None;
+    made = comes.same;
+    exact = IfSome_then old.told {P = λ files. (stages_of invocation files).result ≡ Err exit} {Q = λ files. answer_of (stages_of invocation files).result ≡ record { exit = exit; change = None }} comes.exact (λ files e. ap answer_of e);
+    in_range = omega arith;
+    no_change = λ _. refl;
+    suits = suits_late exit late;
+  })
+
+  pub decides_command : (r : Result Report Stop) → Gives effect_of (names_of invocation) (stages_of invocation) old new r → Decides (request_of_command (Some invocation)) old new r
+  decides_command (Ok report) comes = answered (record {
+    change = None;
+    made = comes.same;
+    exact = IfSome_then old.told {P = λ files. (stages_of invocation files).result ≡ Ok (effect_of report)} {Q = λ files. answer_of (stages_of invocation files).result ≡ answer_of (Ok (effect_of report))} comes.exact (λ files e. ap answer_of e);
+    in_range = omega arith;
+    no_change = λ _. refl;
+    suits = suits_late (exit_of (Ok report)) (late_status (exit_of (Ok report)) (λ e. absurd (omega arith)) (λ e. absurd (omega arith)));
+  })
+  decides_command (Err stop.Usage) h = absurd h
+  decides_command (Err stop.UnknownPolicy) h = absurd h
+  decides_command (Err (stop.Refused r)) h =
+      let first : get_or (refusal_line r) 0 0 ≡ 114 = refusal-first r in
+      refused_late _ (omega arith) (omega arith) (late_text (stop_exit (stop.Refused r)) refl (omega arith)) h
+  decides_command (Err stop.PacketsTooLong) h = refused_late _ (omega arith) (omega arith) (late_text (stop_exit stop.PacketsTooLong) refl (omega arith)) h
+  decides_command (Err (stop.BadPackets fault)) h =
+      let first : get_or (packet_fault_line fault) 0 0 ≡ 112 = packet_fault-first fault in
+      refused_late _ (omega arith) (omega arith) (late_text (stop_exit (stop.BadPackets fault)) refl (omega arith)) h
+  decides_command (Err (stop.Missing name)) h = refused_late _ (omega arith) (omega arith) (late_status (stop_exit (stop.Missing name)) (λ e. absurd (omega arith)) (λ e. absurd (omega arith))) h
+  decides_command (Err (stop.ReadFault name)) h = not_read (record { name = name.now; asked = h.asked; named = h.named; command = known; fails = h.fails; line = refl })
+  decides_command (Err (stop.WriteFault name)) h = absurd h
+  decides_command (Err stop.Memory) h = h

@@ -1,0 +1,68 @@
+-- What the arguments of pcc ask for.
+use Rattle.std.specs.Prelude.{ℕ, List, [], ◌∷◌, Option, Some, None, Result, Ok, Err}
+use Rattle.file_port.specs.Files.{FileMap}
+use Rattle.policy_set.specs.declared.Policy.{Policy}
+use Rattle.policy_set.specs.Names.{named}
+use Rattle.pcc_words.specs.Invocations.{Invocation, ref, command_of}
+use Rattle.pcc_lines.specs.Fixed.{usage_line, unknown_policy_line}
+use Rattle.pcc_lines.specs.Named.{read_fault_line, write_fault_line}
+use Rattle.pcc_exit.specs.Exits.{Exit, Answer}
+use Rattle.pcc_exit.specs.Requests.{Request, Standing, Texts, no_command, unknown_policy, command, usage_exit}
+use Rattle.pcc_cli.specs.Stages.{Staged, Effect}
+use Rattle.pcc_cli.specs.Commands.Reference.{ref_command}
+
+-- the lines that don't come from what the files hold
+abbrev pub texts : Texts
+texts = record {
+  usage = usage_line;
+  unknown_policy = unknown_policy_line;
+  read_fault = read_fault_line;
+  write_fault = write_fault_line;
+}
+
+-- ---- each command
+
+-- what a command comes to over files
+abbrev pub stages_of : Invocation → FileMap → Staged Effect
+stages_of (ref policy file packets steps) files = ref_command policy file packets steps files
+
+-- the files that a command reads, whatever they hold
+abbrev pub names_of : Invocation → List (List ℕ)
+names_of (ref policy file packets steps) = file ∷ packets ∷ []
+
+-- what a command on this policy is
+abbrev pub standing_on : Option Policy → Standing
+standing_on None = unknown_policy
+standing_on (Some policy) = command
+
+-- what a command is
+abbrev pub standing_of : Invocation → Standing
+standing_of (ref policy file packets steps) = standing_on (named policy)
+
+-- ---- all commands
+
+-- a command that isn't refused ends with status 0, and a refused one writes nothing
+abbrev pub answer_of : Result Effect Exit → Answer
+answer_of (Ok effect) = record { exit = record { status = 0; text = effect.text }; change = effect.change }
+answer_of (Err exit) = record { exit = exit; change = None }
+
+-- what a command asks for, or arguments that are none
+abbrev pub request_of_command : Option Invocation → Request
+request_of_command None = record {
+  standing = no_command;
+  answer = λ files. answer_of (Err (usage_exit texts));
+  reads = λ files. [];
+  names = [];
+  texts = texts;
+}
+request_of_command (Some invocation) = record {
+  standing = standing_of invocation;
+  answer = λ files. answer_of (stages_of invocation files).result;
+  reads = λ files. (stages_of invocation files).reads;
+  names = names_of invocation;
+  texts = texts;
+}
+
+-- what the arguments ask for
+abbrev pub request_of : List (List ℕ) → Request
+request_of args = request_of_command (command_of args)

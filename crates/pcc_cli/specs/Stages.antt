@@ -1,0 +1,128 @@
+-- The stages of commands. A stage over files gives its value, or the exit that ends the command there; and the names of the
+-- files that are read on the way.
+use Rattle.std.specs.Prelude.{ℕ, ◌==◌, List, [], ◌∷◌, ◌++◌, length, Option, Some, None, nat_lt, if◌then◌else◌, Result, Ok, Err}
+use Rattle.std.specs.FinMap as map
+use Rattle.file_port.specs.Files.{FileMap}
+use Rattle.alpha_words.specs.declared.insn.Insn.{Insn}
+use Rattle.alpha_cfg.specs.declared.fault.CodeFlaw.{CodeFlaw}
+use Rattle.alpha_cfg.specs.CodeReading.{code_read}
+use Rattle.policy_set.specs.declared.Policy.{Policy}
+use Rattle.policy_set.specs.Names.{named, number_of}
+use Rattle.packet_store.specs.declared.fault.PacketFault.{PacketFault}
+use Rattle.packet_store.specs.PacketReading.{packets_read}
+use Rattle.proof_container.specs.Contents.{Contents}
+use Rattle.proof_container.specs.Reading.{Fault, container_read}
+use Rattle.pcc_lines.specs.Fixed.{unknown_policy_line, packets_too_long_line}
+use Rattle.pcc_lines.specs.Named.{missing_line}
+use Rattle.pcc_lines.specs.PacketFaults.{packet_fault_line}
+use Rattle.pcc_lines.specs.Refusals.{refusal_line}
+use Rattle.pcc_lines.specs.declared.refusals.Refusal.TheVariants as refusal
+use Rattle.pcc_exit.specs.Exits.{Exit, Change}
+use Rattle.pcc_cli.specs.declared.stages.TheConstants.{MAX_FILE}
+
+-- what a stage comes to
+pub record Staged (A : Type 0) : Type 0 where
+  -- the names of the files that are read, in order
+  pub reads : List (List ℕ)
+  pub result : Result A Exit
+
+-- a stage that reads no file
+abbrev pub pure : {A : Type 0} → Result A Exit → Staged A
+pure result = record { reads = []; result = result }
+
+-- reads before those of a stage
+abbrev pub after_reads : {A : Type 0} → List (List ℕ) → Staged A → Staged A
+after_reads reads stage = record { reads = reads ++ stage.reads; result = stage.result }
+
+-- what comes after reads and their result
+abbrev pub go_on : {A B : Type 0} → List (List ℕ) → Result A Exit → (A → Staged B) → Staged B
+go_on reads (Ok x) next = after_reads reads (next x)
+go_on reads (Err exit) next = record { reads = reads; result = Err exit }
+
+infixl 10 ◌>>=◌
+abbrev pub ◌>>=◌ : {A B : Type 0} → Staged A → (A → Staged B) → Staged B
+stage >>= next = go_on stage.reads stage.result next
+
+-- ---- exits
+
+-- the command is refused
+abbrev pub refused : List ℕ → Exit
+refused text = record { status = 1; text = text }
+
+-- there is no file of the name
+abbrev pub missing : List ℕ → Exit
+missing name = record { status = 3; text = missing_line name }
+
+-- ---- stages that read no file
+
+-- the policy that was found
+abbrev pub policy_found : Option Policy → Result Policy Exit
+policy_found (Some policy) = Ok policy
+policy_found None = Err (refused unknown_policy_line)
+
+-- the policy of the name
+abbrev pub policy_named : List ℕ → Staged Policy
+policy_named name = pure (policy_found (named name))
+
+-- what was read as a container, where it is for the policy
+abbrev pub container_for : Policy → Result Contents Fault → Result Contents Exit
+container_for policy (Ok c) = if c.policy == number_of policy then Ok c else Err (refused (refusal_line (refusal.OtherPolicy c.policy)))
+container_for policy (Err fault) = Err (refused (refusal_line (refusal.Malformed fault.0 fault.1)))
+
+-- the container that the bytes are, where it is for the policy
+unfoldable pub container_in : Policy → List ℕ → Staged Contents
+container_in policy bytes = pure (container_for policy (container_read bytes))
+
+-- what was read as code
+abbrev pub code_found : Result (List Insn) CodeFlaw → Result (List Insn) Exit
+code_found (Ok code) = Ok code
+code_found (Err flaw) = Err (refused (refusal_line (refusal.BadCode flaw)))
+
+-- the code of the container that the bytes are, where it is for the policy
+unfoldable pub code_in : Policy → List ℕ → Staged (List Insn)
+code_in policy bytes = do
+  container ← container_in policy bytes
+  pure (code_found (code_read container.code))
+
+-- what was read as packets
+abbrev pub packets_found : Result (List (List ℕ)) PacketFault → Result (List (List ℕ)) Exit
+packets_found (Ok packets) = Ok packets
+packets_found (Err fault) = Err (refused (packet_fault_line fault))
+
+-- the packets that the bytes are
+abbrev pub packets_in : List ℕ → Staged (List (List ℕ))
+packets_in bytes = pure (packets_found (packets_read bytes))
+
+-- ---- stages that read a file
+
+-- the bytes that were found under a name, where they aren't too many
+abbrev pub bytes_found : Exit → List ℕ → Option (List ℕ) → Result (List ℕ) Exit
+bytes_found too_long name None = Err (missing name)
+bytes_found too_long name (Some bytes) = if nat_lt MAX_FILE (length bytes) then Err too_long else Ok bytes
+
+-- the bytes of the file of the name
+abbrev pub bytes_of : Exit → List ℕ → FileMap → Staged (List ℕ)
+bytes_of too_long name files = record { reads = name ∷ []; result = bytes_found too_long name (map.get files name) }
+
+-- the code of the container in the file of the name, where it is for the policy
+unfoldable pub code_of : Policy → List ℕ → FileMap → Staged (List Insn)
+code_of policy name files = do
+  bytes ← bytes_of (refused (refusal_line refusal.TooLong)) name files
+  code_in policy bytes
+
+-- the packets in the file of the name
+unfoldable pub packets_of : List ℕ → FileMap → Staged (List (List ℕ))
+packets_of name files = do
+  bytes ← bytes_of (refused packets_too_long_line) name files
+  packets_in bytes
+
+-- ---- what a command comes to
+
+-- what a command that isn't refused prints, and what it writes before
+pub record Effect : Type 0 where
+  pub text : List ℕ
+  pub change : Change
+
+-- it prints, and writes nothing
+abbrev pub printing : List ℕ → Staged Effect
+printing text = pure (Ok (record { text = text; change = None }))

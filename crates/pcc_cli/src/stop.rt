@@ -1,0 +1,68 @@
+//! What ends a command before it is done.
+
+ghost use Rattle.std.specs.Prelude.{◌≡◌};
+ghost use Rattle.file_port.specs.Sink.{Puts};
+ghost use Rattle.pcc_cli.specs.Inside.Decisions.{stop_exit};
+
+use file_port::{Put, Sink};
+use packet_store::PacketFault;
+use pcc_lines::{
+    Refusal, print_missing, print_packet_fault, print_packets_too_long, print_read_fault,
+    print_refusal, print_unknown_policy, print_usage, print_write_fault,
+};
+
+/// What ends a command before it is done.
+#[derive(Drop)]
+pub enum Stop<'a> {
+    /// The arguments are no command.
+    Usage,
+    /// No policy has the name.
+    UnknownPolicy,
+    /// The container is refused.
+    Refused(Refusal),
+    /// The packet file is longer than a file may be.
+    PacketsTooLong,
+    /// The packet file has a fault.
+    BadPackets(PacketFault),
+    /// There is no file of this name.
+    Missing(&'a str),
+    /// The read of the file of this name failed.
+    ReadFault(&'a str),
+    /// The write of the file of this name failed.
+    WriteFault(&'a str),
+    /// There was no memory.
+    Memory,
+}
+
+impl Stop<'_> {
+    /// The status of the run, where its line is put.
+    pub fn status(&self) -> u8
+        ensures { result ≡ (stop_exit self.now).status }
+    {
+        match self {
+            Stop::UnknownPolicy | Stop::Refused(_) | Stop::PacketsTooLong | Stop::BadPackets(_) =>
+                1,
+            Stop::Usage => 2,
+            Stop::Missing(_) | Stop::ReadFault(_) => 3,
+            Stop::WriteFault(_) => 4,
+            Stop::Memory => 5,
+        }
+    }
+
+    /// Prints its line. Want of memory has none.
+    pub fn print<S: Sink>(&self, out: &mut S) -> Put
+        ensures { Puts (stop_exit self.now).text (S.state out.old) (S.state out.new) result }
+    {
+        match self {
+            Stop::Usage => print_usage(out),
+            Stop::UnknownPolicy => print_unknown_policy(out),
+            Stop::Refused(refusal) => print_refusal(*refusal, out),
+            Stop::PacketsTooLong => print_packets_too_long(out),
+            Stop::BadPackets(fault) => print_packet_fault(*fault, out),
+            Stop::Missing(name) => print_missing(name, out),
+            Stop::ReadFault(name) => print_read_fault(name, out),
+            Stop::WriteFault(name) => print_write_fault(name, out),
+            Stop::Memory => Put::Done,
+        }
+    }
+}

@@ -1,0 +1,4 @@
+pub mod Exits
+pub mod Requests
+pub mod Ends
+pub mod Accounts

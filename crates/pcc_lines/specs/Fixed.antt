@@ -1,0 +1,14 @@
+-- Lines that are always the same.
+use Rattle.std.specs.Prelude.{ℕ, List, codes}
+
+-- the arguments are no command
+abbrev pub usage_line : List ℕ
+usage_line = codes "usage: pcc asm|prove|check|run|ref|demo\n"
+
+-- no policy has the name
+abbrev pub unknown_policy_line : List ℕ
+unknown_policy_line = codes "unknown policy\n"
+
+-- the packet file is longer than a file may be
+abbrev pub packets_too_long_line : List ℕ
+packets_too_long_line = codes "packets TooLong\n"

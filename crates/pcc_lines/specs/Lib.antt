@@ -1,0 +1,6 @@
+pub mod Line
+pub mod Fixed
+pub mod Named
+pub mod PacketFaults
+pub mod Refusals
+pub mod Results

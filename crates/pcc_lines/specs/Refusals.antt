@@ -1,0 +1,36 @@
+-- Why a container is refused.
+use Rattle.std.specs.Prelude.{ℕ, List, ◌++◌, codes, decimal}
+use Rattle.alpha_words.specs.declared.fault.BadWord.{BadWord}
+use Rattle.alpha_words.specs.Names.{bad_word_name}
+use Rattle.alpha_cfg.specs.declared.fault.CodeFlaw.{CodeFlaw}
+use Rattle.alpha_cfg.specs.declared.fault.CodeFlaw.TheVariants as code
+use Rattle.proof_container.specs.declared.fault.Flaw.{Flaw}
+use Rattle.proof_container.specs.Names.{flaw_name}
+use Rattle.pcc_lines.specs.Line.{hex_digits}
+use Rattle.pcc_lines.specs.declared.refusals.Refusal.{Refusal}
+use Rattle.pcc_lines.specs.declared.refusals.Refusal.TheVariants as refusal
+
+-- a word that is no instruction: its index, the kind of fault, and the word
+abbrev pub bad_word_text : ℕ → ℕ → BadWord → List ℕ
+bad_word_text i word bad = decimal i ++ codes " " ++ bad_word_name bad ++ codes " " ++ hex_digits 8 word
+
+-- what is wrong with code
+abbrev pub code_flaw_text : CodeFlaw → List ℕ
+code_flaw_text (code.BadWord i word bad) = bad_word_text i word bad
+code_flaw_text (code.Target i) = decimal i ++ codes " Target"
+code_flaw_text (code.FallsOff i) = decimal i ++ codes " FallsOff"
+
+-- where bytes are no container, and what is wrong there
+abbrev pub malformed_text : ℕ → Flaw → List ℕ
+malformed_text offset flaw = decimal offset ++ codes " " ++ flaw_name flaw
+
+-- why a container is refused
+abbrev pub refusal_text : Refusal → List ℕ
+refusal_text refusal.TooLong = codes "refused 1 TooLong"
+refusal_text (refusal.Malformed offset flaw) = codes "refused 2 Malformed " ++ malformed_text offset flaw
+refusal_text (refusal.OtherPolicy number) = codes "refused 3 OtherPolicy " ++ decimal number
+refusal_text (refusal.BadCode flaw) = codes "refused 4 BadCode " ++ code_flaw_text flaw
+
+-- the line of a refusal
+unfoldable pub refusal_line : Refusal → List ℕ
+refusal_line refusal = refusal_text refusal ++ codes "\n"

@@ -1,0 +1,24 @@
+//! The printed lines: how each is written, and what prints it.
+//!
+//! The layer above calls one function a line. Each has one clause: the line, or a part of it where
+//! a put fails, is put. A line is made in a fixed buffer and put as one piece; a line with a name
+//! is three pieces. No call takes memory. A file of `src/` has its definitions in the file of
+//! `specs/` with the same name: lines that are always the same (`Fixed`), lines with a name
+//! (`Named`), faults of packet files (`PacketFaults`), refusals (`Refusals`) and result lines
+//! (`Results`). The names of the kinds of faults come from the crates that have the kinds.
+#![tactic(auto)]
+
+mod fixed;
+mod line;
+mod named;
+mod packet_faults;
+mod refusals;
+mod results;
+#[cfg(test)]
+mod tests;
+
+pub use fixed::{print_packets_too_long, print_unknown_policy, print_usage};
+pub use named::{print_missing, print_read_fault, print_write_fault};
+pub use packet_faults::print_packet_fault;
+pub use refusals::{Refusal, print_refusal};
+pub use results::print_results;

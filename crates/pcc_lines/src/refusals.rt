@@ -1,0 +1,112 @@
+//! Why a container is refused.
+
+ghost use Rattle.std.specs.Prelude.{◌≡◌, ◌+◌, ◌≤◌, ◌++◌};
+ghost use Rattle.arrayvec.specs.ArrayVec.{array_vec_len};
+ghost use Rattle.file_port.specs.Sink.{Puts};
+ghost use Rattle.pcc_lines.specs.Refusals.{refusal_line, refusal_text, code_flaw_text, bad_word_text, malformed_text};
+
+use crate::line::{LINE, Line, push_decimal, push_hex, push_text};
+use alpha_cfg::CodeFlaw;
+use alpha_words::BadWord;
+use arrayvec::ArrayVec;
+use file_port::{Put, Sink};
+use proof_container::Flaw;
+
+/// The first thing that is wrong with a container. Each kind has its number in the line.
+#[derive(Clone, Copy, Debug, PartialEq, Eq)]
+pub enum Refusal {
+    /// 1: the file is longer than a file may be.
+    TooLong,
+    /// 2: the bytes are no container; the offset of the first fault, in bytes, and its kind.
+    Malformed(u64, Flaw),
+    /// 3: the container is for the policy of this number, which is another than the one named.
+    OtherPolicy(u32),
+    /// 4: the container's code is none.
+    BadCode(CodeFlaw),
+}
+
+/// The most bytes of what is said of a bad word: two numbers, a kind and two blanks.
+const BAD_WORD: usize = 42;
+
+/// The most bytes of what is said of a container that is malformed.
+const MALFORMED: usize = 32;
+
+/// The most bytes of a refusal's text.
+const REFUSAL: usize = 62;
+
+/// Adds a word that is no instruction: its index, the kind of fault, and the word.
+fn push_bad_word(line: &mut Line, index: u32, word: u32, bad: BadWord)
+    requires { array_vec_len line.old + BAD_WORD ≤ LINE }
+    ensures items { line.new.items ≡ line.old.items ++ bad_word_text index word bad }
+    ensures len { array_vec_len line.new ≤ array_vec_len line.old + BAD_WORD }
+{
+    push_decimal(line, u64::from(index));
+    push_text(line, " ");
+    push_text(line, bad.name());
+    push_text(line, " ");
+    push_hex(line, 8, u64::from(word));
+}
+
+/// Adds what is wrong with code.
+fn push_code_flaw(line: &mut Line, flaw: CodeFlaw)
+    requires { array_vec_len line.old + BAD_WORD ≤ LINE }
+    ensures items { line.new.items ≡ line.old.items ++ code_flaw_text flaw }
+    ensures len { array_vec_len line.new ≤ array_vec_len line.old + BAD_WORD }
+{
+    match flaw {
+        CodeFlaw::BadWord(index, word, bad) => push_bad_word(line, index, word, bad),
+        CodeFlaw::Target(index) => {
+            push_decimal(line, u64::from(index));
+            push_text(line, " Target");
+        }
+        CodeFlaw::FallsOff(index) => {
+            push_decimal(line, u64::from(index));
+            push_text(line, " FallsOff");
+        }
+    }
+}
+
+/// Adds where bytes are no container, and what is wrong there.
+fn push_malformed(line: &mut Line, offset: u64, flaw: Flaw)
+    requires { array_vec_len line.old + MALFORMED ≤ LINE }
+    ensures items { line.new.items ≡ line.old.items ++ malformed_text offset flaw }
+    ensures len { array_vec_len line.new ≤ array_vec_len line.old + MALFORMED }
+{
+    push_decimal(line, offset);
+    push_text(line, " ");
+    push_text(line, flaw.name());
+}
+
+/// Adds why a container is refused.
+fn push_refusal(line: &mut Line, refusal: Refusal)
+    requires { array_vec_len line.old + REFUSAL ≤ LINE }
+    ensures items { line.new.items ≡ line.old.items ++ refusal_text refusal }
+    ensures len { array_vec_len line.new ≤ array_vec_len line.old + REFUSAL }
+{
+    match refusal {
+        Refusal::TooLong => push_text(line, "refused 1 TooLong"),
+        Refusal::Malformed(offset, flaw) => {
+            push_text(line, "refused 2 Malformed ");
+            push_malformed(line, offset, flaw);
+        }
+        Refusal::OtherPolicy(number) => {
+            push_text(line, "refused 3 OtherPolicy ");
+            push_decimal(line, u64::from(number));
+        }
+        Refusal::BadCode(flaw) => {
+            push_text(line, "refused 4 BadCode ");
+            push_code_flaw(line, flaw);
+        }
+    }
+}
+
+/// Prints why a container is refused, as one piece.
+#[tactic(auto, unfolding(crate::specs::Refusals::refusal_line))]
+pub fn print_refusal<S: Sink>(refusal: Refusal, out: &mut S) -> Put
+    ensures { Puts (refusal_line refusal) (S.state out.old) (S.state out.new) result }
+{
+    let mut line: Line = ArrayVec::new();
+    push_refusal(&mut line, refusal);
+    push_text(&mut line, "\n");
+    out.put(line.as_slice())
+}

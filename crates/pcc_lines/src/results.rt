@@ -1,0 +1,125 @@
+//! Result lines: what each packet comes to.
+
+ghost use Rattle.std.specs.Prelude.{◌≡◌, ◌+◌, ◌^◌, ◌≤◌, ◌<◌, ◌++◌, length};
+ghost use Rattle.arrayvec.specs.ArrayVec.{array_vec_len};
+ghost use Rattle.file_port.specs.Sink.{Puts};
+ghost use Rattle.packet_store.specs.Packets.{AreShort};
+ghost use Rattle.pcc_lines.specs.Results.{result_lines, result_line, result_text, outcome_text, returned_text, blocked_text, kind_text};
+
+use crate::line::{LINE, Line, push_decimal, push_hex, push_text};
+use alpha_cfg::{Kind, Outcome};
+use arrayvec::ArrayVec;
+use file_port::{Put, Sink};
+use packet_store::{PacketIter, PacketResult, PacketRunner};
+use policy_set::Policy;
+
+/// The most bytes of the kind of an access.
+const KIND: usize = 7;
+
+/// The most bytes of a result without its number: those of a blocked access.
+const RESULT: usize = 51;
+
+/// Adds the kind of an access.
+fn push_kind(line: &mut Line, kind: Kind)
+    requires { array_vec_len line.old + KIND ≤ LINE }
+    ensures items { line.new.items ≡ line.old.items ++ kind_text kind }
+    ensures len { array_vec_len line.new ≤ array_vec_len line.old + KIND }
+{
+    match kind {
+        Kind::Load => push_text(line, " load "),
+        Kind::Store => push_text(line, " store "),
+    }
+}
+
+/// Adds the number of a return and, where the policy has a region, its sum.
+fn push_returned(line: &mut Line, policy: Policy, word: u64, sum: u64)
+    requires { array_vec_len line.old + RESULT ≤ LINE }
+    ensures items { line.new.items ≡ line.old.items ++ returned_text policy word sum }
+    ensures len { array_vec_len line.new ≤ array_vec_len line.old + RESULT }
+{
+    push_decimal(line, word);
+    match policy {
+        Policy::Filter => {}
+        Policy::Tag | Policy::Table => {
+            push_text(line, " ");
+            push_decimal(line, sum);
+        }
+    }
+}
+
+/// Adds the index, the kind and the address of a blocked access.
+fn push_blocked(line: &mut Line, index: u32, kind: Kind, addr: u64)
+    requires { array_vec_len line.old + RESULT ≤ LINE }
+    ensures items { line.new.items ≡ line.old.items ++ blocked_text index kind addr }
+    ensures len { array_vec_len line.new ≤ array_vec_len line.old + RESULT }
+{
+    push_text(line, "blocked ");
+    push_decimal(line, u64::from(index));
+    push_kind(line, kind);
+    push_hex(line, 16, addr);
+}
+
+/// Adds how a run ended.
+fn push_outcome(line: &mut Line, policy: Policy, outcome: Outcome, sum: u64)
+    requires { array_vec_len line.old + RESULT ≤ LINE }
+    ensures items { line.new.items ≡ line.old.items ++ outcome_text policy outcome sum }
+    ensures len { array_vec_len line.new ≤ array_vec_len line.old + RESULT }
+{
+    match outcome {
+        Outcome::Returned(word) => push_returned(line, policy, word, sum),
+        Outcome::OutOfSteps => push_text(line, "out of steps"),
+        Outcome::Blocked { index, kind, addr } => push_blocked(line, index, kind, addr),
+    }
+}
+
+/// Adds what a packet came to.
+fn push_result(line: &mut Line, policy: Policy, end: PacketResult)
+    requires { array_vec_len line.old + RESULT ≤ LINE }
+    ensures items { line.new.items ≡ line.old.items ++ result_text policy end }
+    ensures len { array_vec_len line.new ≤ array_vec_len line.old + RESULT }
+{
+    match end {
+        PacketResult::Short => push_text(line, "short"),
+        PacketResult::Ran(outcome, sum) => push_outcome(line, policy, outcome, sum),
+    }
+}
+
+/// Prints what the packet of a number came to, as one piece.
+#[tactic(auto, unfolding(crate::specs::Results::result_line))]
+fn print_result<S: Sink>(policy: Policy, number: u64, end: PacketResult, out: &mut S) -> Put
+    ensures { Puts (result_line policy number end) (S.state out.old) (S.state out.new) result }
+{
+    let mut line: Line = ArrayVec::new();
+    push_decimal(&mut line, number);
+    push_text(&mut line, ": ");
+    push_result(&mut line, policy, end);
+    push_text(&mut line, "\n");
+    out.put(line.as_slice())
+}
+
+/// Runs the packets in order and prints the result line of each, numbered from 0, before the next
+/// is run; stops at the first put that fails.
+pub fn print_results<R: PacketRunner, S: Sink>(
+    policy: Policy,
+    runner: &mut R,
+    packets: PacketIter<'_>,
+    out: &mut S,
+) -> Put
+    requires few { length packets < 2 ^ 63 }
+    requires short { AreShort packets }
+    ensures exact { Puts (result_lines policy (R.results runner.old) 0 packets.entry)
+        (S.state out.old) (S.state out.new) result }
+    ensures unchanged { R.results runner.new ≡ R.results runner.old }
+{
+    let mut packets = packets;
+    let mut number = 0;
+    while let Some(packet) = packets.next() {
+        let end = runner.run_packet(packet);
+        match print_result(policy, number, end, out) {
+            Put::Done => {}
+            Put::Failed => return Put::Failed,
+        }
+        number += 1;
+    }
+    Put::Done
+}

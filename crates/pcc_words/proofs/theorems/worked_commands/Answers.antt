@@ -1,0 +1,17 @@
+use Rattle.std.proofs.Common.{refl}
+use Rattle.clap.proofs.OnLiterals.{clap_on_literals}
+use Rattle.pcc_words.specs.Invocations.{command_of}
+use Rattle.pcc_words.proofs.theorems.worked_commands.Goals as goal
+
+pub returns : goal.returns
+unfolding clap_on_literals command_of
+returns c = record {
+  given = refl;
+  steps = refl;
+  attached = refl;
+  most = refl;
+  plus = refl;
+  zeros = refl;
+  behind_dashes = refl;
+  dash = refl;
+}

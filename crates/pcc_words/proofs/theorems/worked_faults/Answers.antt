@@ -1,0 +1,26 @@
+use Rattle.std.proofs.Common.{refl}
+use Rattle.clap.proofs.OnLiterals.{clap_on_literals}
+use Rattle.pcc_words.specs.Invocations.{command_of}
+use Rattle.pcc_words.proofs.theorems.worked_faults.Goals as goal
+
+pub returns : goal.returns
+unfolding clap_on_literals command_of
+returns c = record {
+  zero = refl;
+  above = refl;
+  negative = refl;
+  letters = refl;
+  no_number = refl;
+  twice = refl;
+  shortened = refl;
+  before = refl;
+  dash = refl;
+  too_many = refl;
+  too_few = refl;
+  nothing = refl;
+  other = refl;
+  help = refl;
+  help_flag = refl;
+  help_of_ref = refl;
+  version = refl;
+}

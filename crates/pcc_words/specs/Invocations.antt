@@ -1,0 +1,93 @@
+-- What arguments are a command of pcc, and with which values, by the definitions of `clap` for simple commands.
+use Rattle.std.specs.Prelude.{ℕ, ◌^◌, ◌&&◌, Bool, true, List, [], ◌∷◌, length, nat_le, nat_lt, Option, Some, None, codes, unwrap_or, option_and_then, if◌then◌else◌}
+use Rattle.std.specs.Char.{digit_value}
+use Rattle.std.specs.List.{list_all}
+use Rattle.std.specs.Str.{bytes_eq}
+use Rattle.std.specs.Str.Parse.{digits_value, without_leading_plus}
+use Rattle.clap.specs.Words.{App, Kinds, Row, Rule, Text, fault_of, first_of, new_app, new_rule, one_of, subcommand_of, with_rule, with_subcommand}
+use Rattle.clap.specs.Simple.{on_top}
+use Rattle.clap.specs.declared.builder.value_parser.ValueParser.TheVariants as parser
+
+-- ---- the command line
+
+-- a positional that has to be there
+abbrev pub positional : Text → Rule
+positional id = record (new_rule id) { required = true }
+
+-- `--steps N`, from 1 to 1,000,000,000, and 1,000,000 where it is not given
+abbrev pub steps_rule : Rule
+steps_rule = record (new_rule (codes "steps")) {
+  long = Some (codes "steps");
+  parser = Some (parser.Unsigned 1 1000000000);
+  defaults = codes "1000000" ∷ [];
+}
+
+-- `NAME POLICY FILE`
+abbrev pub file_app : Text → App
+file_app name = with_rule (with_rule (new_app name) (positional (codes "POLICY"))) (positional (codes "FILE"))
+
+-- `NAME POLICY FILE PACKETS [--steps N]`
+abbrev pub run_app : Text → App
+run_app name = with_rule (with_rule (file_app name) (positional (codes "PACKETS"))) steps_rule
+
+-- the program with no command yet, whose own name is not among the arguments
+abbrev pub bare_app : App
+bare_app = on_top (λ top. record top { no_binary_name = true }) (new_app (codes "pcc"))
+
+-- the program
+abbrev pub pcc_app : App
+pcc_app = with_subcommand bare_app (run_app (codes "ref")).top
+
+-- ---- the values
+
+-- a command with its values
+pub data Invocation : Type 0 where
+  -- `ref POLICY FILE PACKETS`, and the steps for a packet
+  ref : Text → Text → Text → ℕ → Invocation
+
+-- the value of a required argument
+abbrev pub value_of : Text → List Row → Text
+value_of id rows = unwrap_or (first_of id rows) []
+
+-- the text says a u64 in digits, which a plus may precede
+abbrev pub is_number : Text → Bool
+is_number text =
+    let ds = without_leading_plus text in
+    nat_lt 0 (length ds) && list_all (λ d. nat_lt (digit_value d) 10) ds && nat_lt (digits_value 10 ds) (2 ^ 64)
+
+-- the number, or 0 where the text says none
+abbrev pub number_of : Text → ℕ
+number_of text = if is_number text then digits_value 10 (without_leading_plus text) else 0
+
+-- the number of an optional argument
+abbrev pub number_at : Text → List Row → ℕ
+number_at id rows = number_of (unwrap_or (one_of id rows) [])
+
+-- from 1 to 1,000,000,000
+abbrev pub is_step_count : ℕ → Bool
+is_step_count steps = nat_le 1 steps && nat_le steps 1000000000
+
+-- a command that runs packets, of these rows. The parse takes no other numbers of steps, so the test refuses none of them.
+abbrev pub run_invocation : (Text → Text → Text → ℕ → Invocation) → List Row → Option Invocation
+run_invocation command rows =
+    let steps = number_at (codes "steps") rows in
+    if is_step_count steps
+    then Some (command (value_of (codes "POLICY") rows) (value_of (codes "FILE") rows) (value_of (codes "PACKETS") rows) steps)
+    else None
+
+-- what was found for the subcommand of this name
+abbrev pub invocation_at : Text → List Row → Option Invocation
+invocation_at name rows = if bytes_eq name (codes "ref") then run_invocation ref rows else None
+
+-- the same of a name with its rows
+abbrev pub invocation_of_subcommand : Text × List Row → Option Invocation
+invocation_of_subcommand found = invocation_at found.0 found.1
+
+-- where there is no fault, the subcommand that was met, with its values
+abbrev pub command_at : Kinds → Option (Text × List Row) → Option Invocation
+command_at [] found = option_and_then invocation_of_subcommand found
+command_at (kind ∷ kinds) found = None
+
+-- The command that the arguments are, by `clap`: they are one where its parse has no fault and meets a subcommand.
+unfoldable pub command_of : List Text → Option Invocation
+command_of args = command_at (fault_of pcc_app args) (subcommand_of pcc_app args)

@@ -1,0 +1,57 @@
+//! What the definition of the command line says of some arguments, with nothing to run.
+ghost use Rattle.std.specs.Prelude.{◌≡◌, Some, None, [], ◌∷◌, codes};
+ghost use Rattle.pcc_words.specs.Invocations.{command_of, ref};
+
+/// Arguments that are a command.
+pub fn worked_commands()
+    ensures given { command_of (codes "ref" ∷ codes "filter" ∷ codes "C1" ∷ codes "Z64" ∷ [])
+        ≡ Some (ref (codes "filter") (codes "C1") (codes "Z64") 1000000) }
+    ensures steps { command_of (codes "ref" ∷ codes "filter" ∷ codes "C1" ∷ codes "Z64"
+        ∷ codes "--steps" ∷ codes "1" ∷ []) ≡ Some (ref (codes "filter") (codes "C1")
+        (codes "Z64") 1) }
+    ensures attached { command_of (codes "ref" ∷ codes "filter" ∷ codes "--steps=7" ∷ codes "C1"
+        ∷ codes "Z64" ∷ []) ≡ Some (ref (codes "filter") (codes "C1") (codes "Z64") 7) }
+    ensures most { command_of (codes "ref" ∷ codes "--steps" ∷ codes "1000000000" ∷ codes "filter"
+        ∷ codes "C1" ∷ codes "Z64" ∷ []) ≡ Some (ref (codes "filter") (codes "C1")
+        (codes "Z64") 1000000000) }
+    ensures plus { command_of (codes "ref" ∷ codes "filter" ∷ codes "C1" ∷ codes "Z64"
+        ∷ codes "--steps" ∷ codes "+7" ∷ []) ≡ Some (ref (codes "filter") (codes "C1")
+        (codes "Z64") 7) }
+    ensures zeros { command_of (codes "ref" ∷ codes "filter" ∷ codes "C1" ∷ codes "Z64"
+        ∷ codes "--steps" ∷ codes "007" ∷ []) ≡ Some (ref (codes "filter") (codes "C1")
+        (codes "Z64") 7) }
+    ensures behind_dashes { command_of (codes "ref" ∷ codes "--" ∷ codes "-x" ∷ codes "--steps"
+        ∷ codes "Z64" ∷ []) ≡ Some (ref (codes "-x") (codes "--steps") (codes "Z64") 1000000) }
+    ensures dash { command_of (codes "ref" ∷ codes "filter" ∷ codes "-" ∷ codes "Z64" ∷ [])
+        ≡ Some (ref (codes "filter") (codes "-") (codes "Z64") 1000000) }
+{}
+
+/// Arguments that are no command.
+pub fn worked_faults()
+    ensures zero { command_of (codes "ref" ∷ codes "filter" ∷ codes "C1" ∷ codes "Z64"
+        ∷ codes "--steps" ∷ codes "0" ∷ []) ≡ None }
+    ensures above { command_of (codes "ref" ∷ codes "filter" ∷ codes "C1" ∷ codes "Z64"
+        ∷ codes "--steps" ∷ codes "1000000001" ∷ []) ≡ None }
+    ensures negative { command_of (codes "ref" ∷ codes "filter" ∷ codes "C1" ∷ codes "Z64"
+        ∷ codes "--steps" ∷ codes "-1" ∷ []) ≡ None }
+    ensures letters { command_of (codes "ref" ∷ codes "filter" ∷ codes "C1" ∷ codes "Z64"
+        ∷ codes "--steps" ∷ codes "x" ∷ []) ≡ None }
+    ensures no_number { command_of (codes "ref" ∷ codes "filter" ∷ codes "C1" ∷ codes "Z64"
+        ∷ codes "--steps" ∷ []) ≡ None }
+    ensures twice { command_of (codes "ref" ∷ codes "filter" ∷ codes "C1" ∷ codes "Z64"
+        ∷ codes "--steps=1" ∷ codes "--steps=1" ∷ []) ≡ None }
+    ensures shortened { command_of (codes "ref" ∷ codes "filter" ∷ codes "C1" ∷ codes "Z64"
+        ∷ codes "--step=1" ∷ []) ≡ None }
+    ensures before { command_of (codes "--steps=1" ∷ codes "ref" ∷ codes "filter" ∷ codes "C1"
+        ∷ codes "Z64" ∷ []) ≡ None }
+    ensures dash { command_of (codes "ref" ∷ codes "-x" ∷ codes "C1" ∷ codes "Z64" ∷ []) ≡ None }
+    ensures too_many { command_of (codes "ref" ∷ codes "filter" ∷ codes "C1" ∷ codes "Z64"
+        ∷ codes "more" ∷ []) ≡ None }
+    ensures too_few { command_of (codes "ref" ∷ codes "filter" ∷ codes "C1" ∷ []) ≡ None }
+    ensures nothing { command_of [] ≡ None }
+    ensures other { command_of (codes "check" ∷ codes "filter" ∷ codes "C1" ∷ []) ≡ None }
+    ensures help { command_of (codes "help" ∷ []) ≡ None }
+    ensures help_flag { command_of (codes "--help" ∷ []) ≡ None }
+    ensures help_of_ref { command_of (codes "ref" ∷ codes "--help" ∷ []) ≡ None }
+    ensures version { command_of (codes "--version" ∷ []) ≡ None }
+{}
