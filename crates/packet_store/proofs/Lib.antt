@@ -1,4 +1,5 @@
 pub mod Frames
 pub mod Readings
 pub mod StartLemmas
+pub mod Meeting
 pub mod ResultLemmas

@@ -2,7 +2,7 @@
 
 use crate::{PacketFault, PacketResult, PacketRunner, TestingRunner, packets, start};
 use alpha_cfg::{Code, CodeFault, Kind, Outcome};
-use policy_set::Policy;
+use policy_set::{Policy, PolicyKind};
 use std::alloc::{AllocError, Global};
 use std::process::Abort;
 use std::test::Fail;
@@ -57,19 +57,19 @@ fn packets_come_in_order(rt: HostRuntime) -> Result<(), Fail> {
 fn short_packets_have_no_start(rt: HostRuntime) {
     let bytes = [0; 65];
     let rows = [
-        (Policy::Filter, 63, false),
-        (Policy::Filter, 64, true),
-        (Policy::Tag, 15, false),
-        (Policy::Tag, 16, true),
-        (Policy::Table, 0, true),
+        (PolicyKind::Filter, 63, false),
+        (PolicyKind::Filter, 64, true),
+        (PolicyKind::Tag, 15, false),
+        (PolicyKind::Tag, 16, true),
+        (PolicyKind::Table, 0, true),
     ];
-    for (policy, count, starts) in rows {
+    for (kind, count, starts) in rows {
         if let Some(packet) = bytes.get(..count) {
             assert_eq!(rt; packet.len(), count);
             assert_eq!(rt;
                 start(&policy, packet).is_some(),
                 starts,
-                "{policy:?} on {count}"
+                "{kind:?} on {count}"
             );
         }
     }
@@ -90,12 +90,12 @@ fn code_of(rt: &impl Abort, alloc: Global, words: &[u32]) -> Result<Code, CodeFa
 fn ran(
     rt: &impl Abort,
     alloc: Global,
-    policy: Policy,
+    kind: PolicyKind,
     words: &[u32],
     packet: &[u8],
 ) -> Result<PacketResult, CodeFault> {
     let code = code_of(rt, alloc, words)?;
-    let mut runner = TestingRunner::new(alloc, policy, code, 1000)?;
+    let mut runner = TestingRunner::new(alloc, Policy::of(alloc, kind)?, code, 1000)?;
     assert!(rt; packet.len() <= 65_535);
     Ok(runner.run_packet(packet))
 }
@@ -111,17 +111,17 @@ fn filters_run(rt: HostRuntime) -> Result<(), Fail> {
     let blocked = |addr| PacketResult::Ran(Outcome::Blocked { index, kind, addr }, 0);
     let one = PacketResult::Ran(Outcome::Returned(1), 0);
     assert_eq!(rt;
-        ran(&rt, a, Policy::Filter, &load, &zeros)?,
+        ran(&rt, a, PolicyKind::Filter, &load, &zeros)?,
         blocked(0x1_0050)
     );
-    assert_eq!(rt; ran(&rt, a, Policy::Filter, &load, &odd)?, one);
+    assert_eq!(rt; ran(&rt, a, PolicyKind::Filter, &load, &odd)?, one);
     let unaligned = [0xa430_0004, 0x201f_0001, RETURN];
     assert_eq!(rt;
-        ran(&rt, a, Policy::Filter, &unaligned, &zeros)?,
+        ran(&rt, a, PolicyKind::Filter, &unaligned, &zeros)?,
         blocked(0x1_0014)
     );
     let old_address = [0x2030_0000, 0xa421_0000, 0x201f_0001, RETURN];
-    assert_eq!(rt; ran(&rt, a, Policy::Filter, &old_address, &zeros)?, one);
+    assert_eq!(rt; ran(&rt, a, PolicyKind::Filter, &old_address, &zeros)?, one);
     Ok(())
 }
 
@@ -132,8 +132,8 @@ fn tags_and_tables_run(rt: HostRuntime) -> Result<(), Fail> {
     let five_seven = [5, 0, 0, 0, 0, 0, 0, 0, 7, 0, 0, 0, 0, 0, 0, 0];
     let zero_seven = [0, 0, 0, 0, 0, 0, 0, 0, 7, 0, 0, 0, 0, 0, 0, 0];
     let end = |sum| PacketResult::Ran(Outcome::Returned(0), sum);
-    assert_eq!(rt; ran(&rt, a, Policy::Tag, &tag, &five_seven)?, end(10));
-    assert_eq!(rt; ran(&rt, a, Policy::Tag, &tag, &zero_seven)?, end(7));
+    assert_eq!(rt; ran(&rt, a, PolicyKind::Tag, &tag, &five_seven)?, end(10));
+    assert_eq!(rt; ran(&rt, a, PolicyKind::Tag, &tag, &zero_seven)?, end(7));
     let unasked = [0xa430_0000, 0xb430_0008, RETURN];
     let outcome = Outcome::Blocked {
         index: 1,
@@ -141,12 +141,12 @@ fn tags_and_tables_run(rt: HostRuntime) -> Result<(), Fail> {
         addr: 0x1_0008,
     };
     assert_eq!(rt;
-        ran(&rt, a, Policy::Tag, &unasked, &zero_seven)?,
+        ran(&rt, a, PolicyKind::Tag, &unasked, &zero_seven)?,
         PacketResult::Ran(outcome, 7)
     );
-    assert_eq!(rt; ran(&rt, a, Policy::Table, &[RETURN], &[])?, end(0));
+    assert_eq!(rt; ran(&rt, a, PolicyKind::Table, &[RETURN], &[])?, end(0));
     assert_eq!(rt;
-        ran(&rt, a, Policy::Table, &[RETURN], &five_seven)?,
+        ran(&rt, a, PolicyKind::Table, &[RETURN], &five_seven)?,
         end(12)
     );
     Ok(())

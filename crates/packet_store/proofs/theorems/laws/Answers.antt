@@ -1,5 +1,6 @@
 use Rattle.packet_store.proofs.StartLemmas.{start_of-state}
+use Rattle.packet_store.proofs.Meeting.{start_of-meets}
 use Rattle.packet_store.proofs.theorems.laws.Goals as goal
 
 pub returns : goal.returns
-returns c = start_of-state
+returns c = record { state = start_of-state; meets = start_of-meets }
