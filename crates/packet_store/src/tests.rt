@@ -54,7 +54,7 @@ fn packets_come_in_order(rt: HostRuntime) -> Result<(), Fail> {
 }
 
 #[test]
-fn short_packets_have_no_start(rt: HostRuntime) {
+fn short_packets_have_no_start(rt: HostRuntime) -> Result<(), Fail> {
     let bytes = [0; 65];
     let rows = [
         (PolicyKind::Filter, 63, false),
@@ -64,6 +64,7 @@ fn short_packets_have_no_start(rt: HostRuntime) {
         (PolicyKind::Table, 0, true),
     ];
     for (kind, count, starts) in rows {
+        let policy = Policy::of(rt.alloc(), kind)?;
         if let Some(packet) = bytes.get(..count) {
             assert_eq!(rt; packet.len(), count);
             assert_eq!(rt;
@@ -73,6 +74,7 @@ fn short_packets_have_no_start(rt: HostRuntime) {
             );
         }
     }
+    Ok(())
 }
 
 fn code_of(rt: &impl Abort, alloc: Global, words: &[u32]) -> Result<Code, CodeFault> {

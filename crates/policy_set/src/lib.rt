@@ -9,6 +9,8 @@ mod formulas;
 mod kind;
 mod policy;
 mod theorems;
+#[cfg(test)]
+mod tests;
 
 pub use kind::PolicyKind;
 pub use policy::{Policy, by_name};
