@@ -2,8 +2,8 @@
 use Rattle.std.proofs.Common.{◌≡◌, ℕ, ◌+◌, ◌-◌, ◌*◌, ◌/◌, ◌%◌, ◌≤◌, ◌==◌, min, Bool, true, false, if◌then◌else◌, List, [], ◌∷◌, length, take, slice_index, Some, None, refl, subst, arith, inl, inr}
 use Rattle.std.proofs.lemmas.Bool.{cases_lt, lt-ltb, le-ltb}
 use Rattle.std.proofs.lemmas.List.{get_or-take, get_or_past, length-take}
-use Rattle.policy_set.specs.declared.Policy.{Policy}
-use Rattle.policy_set.specs.declared.Policy.TheVariants.{Filter, Tag, Table}
+use Rattle.policy_set.specs.declared.kind.PolicyKind.{PolicyKind}
+use Rattle.policy_set.specs.declared.kind.PolicyKind.TheVariants.{Filter, Tag, Table}
 use Rattle.alpha_cfg.specs.Machine.{IsState}
 use Rattle.reference_machine.specs.Arena.{quadword}
 use Rattle.reference_machine.specs.Agents.{IsInArena, AreInArena}
@@ -73,10 +73,10 @@ pub record IsGood (setup : StartView) : Type 0 where
   pub fits : Fits 65536 setup
   pub words : HasWords setup
 
-the_same : {A : Type 0} (P : A → Type 0) (x y : A) → P x → Some x ≡ Some y → P y
+pub the_same : {A : Type 0} (P : A → Type 0) (x y : A) → P x → Some x ≡ Some y → P y
 the_same P x y p e = let same : x ≡ y = cc in subst P same p
 
-pub start_of-good : (policy : Policy) (packet : List ℕ) (setup : StartView) → length packet ≤ 65535 → IsBytes packet → start_of policy packet ≡ Some setup → IsGood setup
+pub start_of-good : (policy : PolicyKind) (packet : List ℕ) (setup : StartView) → length packet ≤ 65535 → IsBytes packet → start_of policy packet ≡ Some setup → IsGood setup
 unfolding start_of
 start_of-good Filter packet setup short bytes e = elim (cases_lt (length packet) 64) [
   | inl less ↦ let none : None ≡ Some setup = rw (lt-ltb (length packet) 64 less) at e in cc
@@ -88,7 +88,7 @@ start_of-good Tag packet setup short bytes e = elim (cases_lt (length packet) 16
 ]
 start_of-good Table packet setup short bytes e = the_same IsGood (table_start packet) setup (record { fits = table_fits packet short; words = table_words packet short bytes }) e
 
-pub start_of-state : (policy : Policy) (packet : List ℕ) (setup : StartView) → length packet ≤ 65535 → IsBytes packet → start_of policy packet ≡ Some setup → IsState (start_state 65536 setup)
+pub start_of-state : (policy : PolicyKind) (packet : List ℕ) (setup : StartView) → length packet ≤ 65535 → IsBytes packet → start_of policy packet ≡ Some setup → IsState (start_state 65536 setup)
 start_of-state policy packet setup short bytes e =
     let good : IsGood setup = start_of-good policy packet setup short bytes e in
     start_state-is 65536 setup refl (omega arith) good.fits good.words

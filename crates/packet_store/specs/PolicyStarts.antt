@@ -1,7 +1,7 @@
 -- The start of each policy on a packet, in the arena of 8,194 quadwords from address 65,536 on. A span that isn't used is (65,536, 0).
 use Rattle.std.specs.Prelude.{ℕ, ◌+◌, ◌/◌, ◌==◌, nat_lt, if◌then◌else◌, List, [], ◌∷◌, length, take, Option, Some, None}
-use Rattle.policy_set.specs.declared.Policy.{Policy}
-use Rattle.policy_set.specs.declared.Policy.TheVariants.{Filter, Tag, Table}
+use Rattle.policy_set.specs.declared.kind.PolicyKind.{PolicyKind}
+use Rattle.policy_set.specs.declared.kind.PolicyKind.TheVariants.{Filter, Tag, Table}
 use Rattle.reference_machine.specs.declared.layout.TheConstants.{ARENA}
 use Rattle.reference_machine.specs.Arena.{quadword}
 use Rattle.reference_machine.specs.Starts.{StartView}
@@ -54,7 +54,7 @@ table_start packet = record {
 }
 
 -- a filter's packet is short below 64 bytes, a tag's below 16, and a table's never
-unfoldable pub start_of : Policy → List ℕ → Option StartView
+unfoldable pub start_of : PolicyKind → List ℕ → Option StartView
 start_of Filter packet = if nat_lt (length packet) 64 then None else Some (filter_start packet)
 start_of Tag packet = if nat_lt (length packet) 16 then None else Some (tag_start packet)
 start_of Table packet = Some (table_start packet)

@@ -2,12 +2,14 @@
 
 ghost use Rattle.std.specs.Prelude.{◌≡◌, ◌==◌, ◌≤◌, option_map, IfSome, length};
 ghost use Rattle.packet_store.specs.PolicyStarts.{start_of, filter_start, tag_start, table_start};
+ghost use Rattle.packet_store.specs.StartMeets.{StartMeets};
+ghost use Rattle.policy_set.specs.Policies.{pre_of};
 ghost use Rattle.reference_machine.specs.Arena.{quadword};
 ghost use Rattle.reference_machine.specs.Setups.{start_view};
 ghost use Rattle.reference_machine.specs.Starts.{Fits, HasWords};
 
 use crate::reader::MAX_PACKET;
-use policy_set::Policy;
+use policy_set::{Policy, PolicyKind};
 use reference_machine::{ARENA, Start};
 
 /// A span of no quadwords.
@@ -84,27 +86,28 @@ fn table_start(packet: &[u8]) -> Start<'_>
 /// The start of the policy on a packet of at most `MAX_PACKET` bytes.
 ///
 /// None exactly where the packet is short, which is below 64 bytes for `filter`, below 16 for
-/// `tag` and never for `table`.
+/// `tag` and never for `table`. The start meets the policy's precondition.
 #[tactic(auto, unfolding(crate::specs::PolicyStarts::start_of))]
 pub fn start<'b>(policy: &Policy, packet: &'b [u8]) -> Option<Start<'b>>
     requires { length packet.now ≤ MAX_PACKET }
     ensures exact { option_map start_view result ≡ start_of policy.now packet.now }
     ensures fits { IfSome result (λ s. Fits ARENA (start_view s)) }
     ensures words { IfSome result (λ s. HasWords (start_view s)) }
+    ensures meets { IfSome result (λ s. StartMeets (start_view s) (pre_of policy.now)) }
 {
-    match policy {
-        Policy::Filter => {
+    match policy.kind() {
+        PolicyKind::Filter => {
             if packet.len() < 64 {
                 return None;
             }
             Some(filter_start(packet))
         }
-        Policy::Tag => {
+        PolicyKind::Tag => {
             if packet.len() < 16 {
                 return None;
             }
             Some(tag_start(packet))
         }
-        Policy::Table => Some(table_start(packet)),
+        PolicyKind::Table => Some(table_start(packet)),
     }
 }

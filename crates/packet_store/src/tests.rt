@@ -3,7 +3,8 @@
 use crate::{PacketFault, PacketResult, PacketRunner, TestingRunner, packets, start};
 use alpha_cfg::Kind::{self, Load, Store};
 use alpha_cfg::{Code, CodeFault, Outcome};
-use policy_set::Policy::{self, Filter, Table, Tag};
+use policy_set::Policy;
+use policy_set::PolicyKind::{self, Filter, Table, Tag};
 use std::alloc::{AllocError, Global};
 use std::process::Abort;
 use std::test::Fail;
@@ -26,7 +27,7 @@ const ONES: u64 = 0x101_0101_0101_0101;
 
 /// Registers 16 to 18 and the sum of the region at the start of a policy, where the packet has so
 /// many bytes 1: the shortest, an odd and the longest packet.
-static REGISTERS: [(Policy, usize, [u64; 3], u64); 9] = [
+static REGISTERS: [(PolicyKind, usize, [u64; 3], u64); 9] = [
     (Filter, 64, [65_552, 64, 65_536], 0),
     (Filter, 65, [65_552, 65, 65_536], 0),
     (Filter, 65_535, [65_552, 65_535, 65_536], 0),
@@ -40,7 +41,7 @@ static REGISTERS: [(Policy, usize, [u64; 3], u64); 9] = [
 
 /// The word in r0 and the sum of the region after code whose accesses are allowed, ends of spans
 /// among them, on a packet of so many bytes 1.
-static ALLOWED: [(Policy, usize, [u32; 3], u64, u64); 11] = [
+static ALLOWED: [(PolicyKind, usize, [u32; 3], u64, u64); 11] = [
     (Filter, 64, [0xa412_0000, NOP, NOP], 0, 0), // scratch
     (Filter, 64, [END, 0xa401_fff8, NOP], ONES, 0), // the last quadword
     (Filter, 65, [END, 0xa401_ffff, NOP], 1, 0), // one byte and zeros
@@ -73,7 +74,7 @@ static ALLOWED: [(Policy, usize, [u32; 3], u64, u64); 11] = [
 ];
 
 /// Where code is blocked just past the ends of the spans, on a packet of so many times this byte.
-static BLOCKED: [(Policy, u8, usize, [u32; 3], u32, Kind, u64); 18] = [
+static BLOCKED: [(PolicyKind, u8, usize, [u32; 3], u32, Kind, u64); 18] = [
     (Filter, 1, 64, [0xa412_fff8, NOP, NOP], 0, Load, 65_528), // before scratch
     (Filter, 1, 64, [END, 0xa401_0000, NOP], 1, Load, 65_616), // behind it
     (Filter, 1, 65, [END, 0xa401_0007, NOP], 1, Load, 65_624), // behind it
@@ -155,25 +156,27 @@ fn packets_come_in_order(rt: HostRuntime) -> Result<(), Fail> {
 }
 
 #[test]
-fn short_packets_have_no_start(rt: HostRuntime) {
+fn short_packets_have_no_start(rt: HostRuntime) -> Result<(), Fail> {
     let bytes = [0; 65];
     let rows = [
-        (Policy::Filter, 63, false),
-        (Policy::Filter, 64, true),
-        (Policy::Tag, 15, false),
-        (Policy::Tag, 16, true),
-        (Policy::Table, 0, true),
+        (Filter, 63, false),
+        (Filter, 64, true),
+        (Tag, 15, false),
+        (Tag, 16, true),
+        (Table, 0, true),
     ];
-    for (policy, count, starts) in rows {
+    for (kind, count, starts) in rows {
+        let policy = Policy::of(rt.alloc(), kind)?;
         if let Some(packet) = bytes.get(..count) {
             assert_eq!(rt; packet.len(), count);
             assert_eq!(rt;
                 start(&policy, packet).is_some(),
                 starts,
-                "{policy:?} on {count}"
+                "{kind:?} on {count}"
             );
         }
     }
+    Ok(())
 }
 
 fn code_of(rt: &impl Abort, alloc: Global, words: &[u32]) -> Result<Code, CodeFault> {
@@ -191,12 +194,12 @@ fn code_of(rt: &impl Abort, alloc: Global, words: &[u32]) -> Result<Code, CodeFa
 fn ran(
     rt: &impl Abort,
     alloc: Global,
-    policy: Policy,
+    kind: PolicyKind,
     words: &[u32],
     packet: &[u8],
 ) -> Result<PacketResult, CodeFault> {
     let code = code_of(rt, alloc, words)?;
-    let mut runner = TestingRunner::new(alloc, policy, code, 1000)?;
+    let mut runner = TestingRunner::new(alloc, Policy::of(alloc, kind)?, code, 1000)?;
     assert!(rt; packet.len() <= 65_535);
     Ok(runner.run_packet(packet))
 }
@@ -207,7 +210,7 @@ fn ended(
     rt: &impl Abort,
     alloc: Global,
     ones: &[u8],
-    (policy, byte, count): (Policy, u8, usize),
+    (policy, byte, count): (PolicyKind, u8, usize),
     [first, second, third]: [u32; 3],
 ) -> Result<PacketResult, CodeFault> {
     let zeros = [0u8; 16];
@@ -268,7 +271,7 @@ fn accesses_outside_are_blocked(rt: HostRuntime) -> Result<(), Fail> {
 fn a_load_takes_the_old_address(rt: HostRuntime) -> Result<(), Fail> {
     let a = rt.alloc();
     let old_address = [0x2030_0000, 0xa421_0000, 0x201f_0001, RETURN];
-    let found = ran(&rt, a, Policy::Filter, &old_address, &[0; 64])?;
+    let found = ran(&rt, a, Filter, &old_address, &[0; 64])?;
     assert_eq!(rt; found, PacketResult::Ran(Outcome::Returned(1), 0));
     let unaligned = [0xa430_0004, RETURN];
     let blocked = Outcome::Blocked {
@@ -276,7 +279,7 @@ fn a_load_takes_the_old_address(rt: HostRuntime) -> Result<(), Fail> {
         kind: Kind::Load,
         addr: 0x1_0014,
     };
-    let found = ran(&rt, a, Policy::Filter, &unaligned, &[0; 64])?;
+    let found = ran(&rt, a, Filter, &unaligned, &[0; 64])?;
     assert_eq!(rt; found, PacketResult::Ran(blocked, 0));
     Ok(())
 }

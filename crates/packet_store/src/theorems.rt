@@ -1,23 +1,27 @@
 //! What holds of the definitions, with nothing to run.
 
 ghost use Rattle.std.specs.Prelude.{◌≡◌, ℕ, ◌≤◌, ◌↔◌, List, length, Some, Ok, Err};
-ghost use Rattle.policy_set.specs.declared.Policy.{Policy};
+ghost use Rattle.policy_set.specs.declared.kind.PolicyKind.{PolicyKind};
 ghost use Rattle.alpha_cfg.specs.Machine.{IsState};
 ghost use Rattle.reference_machine.specs.Starts.{StartView, start_state};
 ghost use Rattle.reference_machine.specs.declared.layout.TheConstants.{ARENA};
+ghost use Rattle.policy_set.specs.Policies.{pre_of};
 ghost use Rattle.packet_store.specs.declared.fault.PacketFault.{PacketFault};
 ghost use Rattle.packet_store.specs.Packets.{IsBytes, AreShort, packets_encoding, IsFirstFault};
 ghost use Rattle.packet_store.specs.declared.reader.TheConstants.{MAX_PACKET};
 ghost use Rattle.packet_store.specs.PacketDecoding.{decoded_packets};
 ghost use Rattle.packet_store.specs.PolicyStarts.{start_of};
+ghost use Rattle.packet_store.specs.StartMeets.{StartMeets};
 
-/// The start of a policy on a packet of bytes is a state of the machine; and a file of bytes reads
-/// as the packets that encode it, or as its first fault, exactly.
+/// The start of a policy on a packet of bytes is a state of the machine, and meets the policy's
+/// precondition; and a file of bytes reads as the packets that spell it, or as its first fault,
+/// exactly.
 pub fn laws()
-    ensures state { (policy : Policy) (packet : List ℕ) (setup : StartView) →
-        length packet ≤ MAX_PACKET
+    ensures state { (policy : PolicyKind) (packet : List ℕ) (setup : StartView) → length packet ≤ MAX_PACKET
         → IsBytes packet → start_of policy packet ≡ Some setup
         → IsState (start_state ARENA setup) }
+    ensures meets { (policy : PolicyKind) (packet : List ℕ) (setup : StartView) → length packet ≤ MAX_PACKET
+        → start_of policy packet ≡ Some setup → StartMeets setup (pre_of policy) }
     ensures whole { (bytes : List ℕ) (ps : List (List ℕ)) → IsBytes bytes
         → ((decoded_packets bytes ≡ Ok ps) ↔ (AreShort ps × (bytes ≡ packets_encoding ps))) }
     ensures fault { (bytes : List ℕ) (f : PacketFault) → IsBytes bytes

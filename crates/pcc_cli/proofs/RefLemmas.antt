@@ -4,7 +4,7 @@ use Rattle.std.proofs.lemmas.List.Elements.{Contains-append_left, Contains-appen
 use Rattle.std.specs.Result.{IsErrAnd}
 use Rattle.file_port.specs.Files.{FileMap, FilesState}
 use Rattle.alpha_words.specs.declared.insn.Insn.{Insn}
-use Rattle.policy_set.specs.declared.Policy.{Policy}
+use Rattle.policy_set.specs.declared.kind.PolicyKind.{PolicyKind}
 use Rattle.policy_set.specs.Names.{policy_of}
 use Rattle.packet_store.specs.Results.{packet_result}
 use Rattle.pcc_words.specs.Invocations.{ref}
@@ -15,22 +15,12 @@ use Rattle.pcc_cli.specs.Stages.{Staged, Effect, ◌>>=◌, policy_found, policy
 use Rattle.pcc_cli.specs.Commands.Reference.{ref_command}
 use Rattle.pcc_cli.specs.Requests.{texts, answer_of, standing_on, request_of_command}
 use Rattle.pcc_cli.specs.Inside.Decisions.{Decides, effect_of, report_text}
-use Rattle.pcc_cli.specs.Inside.Gives.{ComesTo, Stops, Gives, policy_or_stop}
+use Rattle.pcc_cli.specs.Inside.Gives.{ComesTo, Stops, Gives, GivesPolicy}
 use Rattle.pcc_cli.specs.declared.stop.Stop.{Stop}
 use Rattle.pcc_cli.specs.declared.stop.Stop.TheVariants as stop
 use Rattle.pcc_cli.specs.declared.report.Report.{Report}
 use Rattle.pcc_cli.proofs.StageLemmas.{told_each, go_on-err, stops_first, gives_later, refuses}
 use Rattle.pcc_cli.proofs.DecisionLemmas.{decides_command}
-
--- a policy that is found
-pub policy-ok : (found : Option Policy) (under : Policy) → Ok under ≡ policy_or_stop found → found ≡ Some under
-policy-ok None under e = cc
-policy-ok (Some other) under e = cc
-
--- and one that isn't
-policy-err : (found : Option Policy) (e : Stop) → Err e ≡ policy_or_stop found → (e ≡ stop.UnknownPolicy) × (found ≡ None)
-policy-err None e is = (cc, refl)
-policy-err (Some other) e is = absurd (let bad : Err e ≡ Ok other = is in cc)
 
 module _ (policy file packets : List ℕ) (steps : ℕ) where
   unknown : (state : FilesState) → policy_of policy ≡ None → Decides (request_of_command (Some (ref policy file packets steps))) state state (Err stop.UnknownPolicy)
@@ -44,13 +34,23 @@ module _ (policy file packets : List ℕ) (steps : ℕ) where
     suits = subst (λ (s : Standing). Suits texts s (unknown_policy_exit texts)) (sym (ap standing_on none)) refl;
   })
 
-  pub no_policy : (state : FilesState) (e : Stop) (r : Result Report Stop) → Err e ≡ policy_or_stop (policy_of policy) → IsErrAnd r (λ y. y ≡ e) → Decides (request_of_command (Some (ref policy file packets steps))) state state r
+  no_policy_at : (state : FilesState) (e : Stop) → GivesPolicy (policy_of policy) (Err e) → Decides (request_of_command (Some (ref policy file packets steps))) state state (Err e)
+  no_policy_at state stop.Usage h = absurd h
+  no_policy_at state stop.UnknownPolicy h = unknown state h
+  no_policy_at state (stop.Refused refusal) h = absurd h
+  no_policy_at state stop.PacketsTooLong h = absurd h
+  no_policy_at state (stop.BadPackets fault) h = absurd h
+  no_policy_at state (stop.Missing name) h = absurd h
+  no_policy_at state (stop.ReadFault name) h = absurd h
+  no_policy_at state (stop.WriteFault name) h = absurd h
+  no_policy_at state stop.Memory h = refl
+
+  pub no_policy : (state : FilesState) (e : Stop) (r : Result Report Stop) → GivesPolicy (policy_of policy) (Err e) → IsErrAnd r (λ y. y ≡ e) → Decides (request_of_command (Some (ref policy file packets steps))) state state r
   no_policy state e (Ok x) is exits = absurd exits
   no_policy state e (Err y) is exits =
-      let both = policy-err (policy_of policy) e is in
-      subst (λ (z : Stop). Decides (request_of_command (Some (ref policy file packets steps))) state state (Err z)) (sym (exits ∙ both.0)) (unknown state both.1)
+      subst (λ (z : Stop). Decides (request_of_command (Some (ref policy file packets steps))) state state (Err z)) (sym exits) (no_policy_at state e is)
 
-  module _ (under : Policy) (known : policy_of policy ≡ Some under) where
+  module _ (under : PolicyKind) (known : policy_of policy ≡ Some under) where
     -- the stages behind the policy
     abbrev behind : FileMap → Staged Effect
     behind files = code_of under file files >>= λ code. packets_of packets files >>= λ all. printing (result_lines under (packet_result under code steps) 0 all)

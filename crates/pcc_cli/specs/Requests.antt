@@ -1,7 +1,7 @@
 -- What the arguments of pcc ask for.
 use Rattle.std.specs.Prelude.{ℕ, List, [], ◌∷◌, Option, Some, None, Result, Ok, Err}
 use Rattle.file_port.specs.Files.{FileMap}
-use Rattle.policy_set.specs.declared.Policy.{Policy}
+use Rattle.policy_set.specs.declared.kind.PolicyKind.{PolicyKind}
 use Rattle.policy_set.specs.Names.{policy_of}
 use Rattle.pcc_words.specs.Invocations.{Invocation, ref, command_of}
 use Rattle.pcc_lines.specs.Fixed.{usage_line, unknown_policy_line}
@@ -31,7 +31,7 @@ abbrev pub names_of : Invocation → List (List ℕ)
 names_of (ref policy file packets steps) = file ∷ packets ∷ []
 
 -- what a command on this policy is
-abbrev pub standing_on : Option Policy → Standing
+abbrev pub standing_on : Option PolicyKind → Standing
 standing_on None = unknown_policy
 standing_on (Some policy) = command
 

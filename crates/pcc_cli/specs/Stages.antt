@@ -6,7 +6,7 @@ use Rattle.file_port.specs.Files.{FileMap}
 use Rattle.alpha_words.specs.declared.insn.Insn.{Insn}
 use Rattle.alpha_cfg.specs.declared.fault.CodeFlaw.{CodeFlaw}
 use Rattle.alpha_cfg.specs.CodeDecoding.{decoded_code}
-use Rattle.policy_set.specs.declared.Policy.{Policy}
+use Rattle.policy_set.specs.declared.kind.PolicyKind.{PolicyKind}
 use Rattle.policy_set.specs.Names.{policy_of, policy_number}
 use Rattle.packet_store.specs.declared.fault.PacketFault.{PacketFault}
 use Rattle.packet_store.specs.PacketDecoding.{decoded_packets}
@@ -58,21 +58,21 @@ missing name = record { status = 3; text = missing_line name }
 -- ---- stages that read no file
 
 -- the policy that was found
-abbrev pub policy_found : Option Policy → Result Policy Exit
+abbrev pub policy_found : Option PolicyKind → Result PolicyKind Exit
 policy_found (Some policy) = Ok policy
 policy_found None = Err (refused unknown_policy_line)
 
 -- the policy of the name
-abbrev pub policy_named : List ℕ → Staged Policy
+abbrev pub policy_named : List ℕ → Staged PolicyKind
 policy_named name = pure (policy_found (policy_of name))
 
 -- what was read as a container, where it is for the policy
-abbrev pub container_for : Policy → Result Contents Fault → Result Contents Exit
+abbrev pub container_for : PolicyKind → Result Contents Fault → Result Contents Exit
 container_for policy (Ok c) = if c.policy == policy_number policy then Ok c else Err (refused (refusal_line (refusal.OtherPolicy c.policy)))
 container_for policy (Err fault) = Err (refused (refusal_line (refusal.Malformed fault.0 fault.1)))
 
 -- the container that the bytes are, where it is for the policy
-unfoldable pub container_in : Policy → List ℕ → Staged Contents
+unfoldable pub container_in : PolicyKind → List ℕ → Staged Contents
 container_in policy bytes = pure (container_for policy (decoded_container bytes))
 
 -- what was read as code
@@ -81,7 +81,7 @@ code_found (Ok code) = Ok code
 code_found (Err flaw) = Err (refused (refusal_line (refusal.BadCode flaw)))
 
 -- the code of the container that the bytes are, where it is for the policy
-unfoldable pub code_in : Policy → List ℕ → Staged (List Insn)
+unfoldable pub code_in : PolicyKind → List ℕ → Staged (List Insn)
 code_in policy bytes = do
   container ← container_in policy bytes
   pure (code_found (decoded_code container.code))
@@ -107,7 +107,7 @@ abbrev pub bytes_of : Exit → List ℕ → FileMap → Staged (List ℕ)
 bytes_of too_long name files = record { reads = name ∷ []; result = bytes_found too_long name (map.get files name) }
 
 -- the code of the container in the file of the name, where it is for the policy
-unfoldable pub code_of : Policy → List ℕ → FileMap → Staged (List Insn)
+unfoldable pub code_of : PolicyKind → List ℕ → FileMap → Staged (List Insn)
 code_of policy name files = do
   bytes ← bytes_of (refused (refusal_line refusal.TooLong)) name files
   code_in policy bytes

@@ -8,12 +8,12 @@ ghost use Rattle.pcc_cli.specs.Inside.Decisions.{report_text};
 use file_port::{Put, Sink};
 use packet_store::{PacketFile, TestingRunner};
 use pcc_lines::print_results;
-use policy_set::Policy;
+use policy_set::PolicyKind;
 
 /// What runs packets, and those of a file. All memory that the runs need is reserved.
 #[derive(Drop)]
 pub struct Job {
-    pub policy: Policy,
+    pub policy: PolicyKind,
     pub runner: TestingRunner,
     pub packets: PacketFile,
 }

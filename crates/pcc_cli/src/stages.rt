@@ -5,7 +5,7 @@ ghost use Rattle.std.specs.Prelude.{◌≡◌, ◌∷◌, [], IfOk};
 ghost use Rattle.policy_set.specs.Names.{policy_of};
 ghost use Rattle.proof_container.specs.Views.{contents_of};
 ghost use Rattle.pcc_cli.specs.Stages as stages;
-ghost use Rattle.pcc_cli.specs.Inside.Gives.{Gives, GivesPure, IsTooLong, HasWholeCode, policy_or_stop};
+ghost use Rattle.pcc_cli.specs.Inside.Gives.{Gives, GivesPure, IsTooLong, HasWholeCode, GivesPolicy};
 ghost use Rattle.pcc_cli.specs.Inside.Decisions.{stop_exit};
 
 use crate::stop::Stop;
@@ -13,7 +13,7 @@ use alpha_cfg::{Code, CodeFault};
 use file_port::{Files, Got};
 use packet_store::PacketFile;
 use pcc_lines::Refusal;
-use policy_set::{Policy, by_name};
+use policy_set::{Policy, PolicyKind, by_name};
 use proof_container::{Container, Malformed, read};
 use std::alloc::Global;
 
@@ -21,12 +21,13 @@ use std::alloc::Global;
 pub const MAX_FILE: u32 = 4_194_304;
 
 /// The policy of the name.
-pub fn policy_named<'a>(name: &str) -> Result<Policy, Stop<'a>>
-    ensures { result ≡ policy_or_stop (policy_of name.now) }
+pub fn policy_named<'a>(alloc: Global, name: &str) -> Result<Policy, Stop<'a>>
+    ensures { GivesPolicy (policy_of name.now) result }
 {
-    match by_name(name) {
-        Some(policy) => Ok(policy),
-        None => Err(Stop::UnknownPolicy),
+    match by_name(alloc, name) {
+        Ok(Some(policy)) => Ok(policy),
+        Ok(None) => Err(Stop::UnknownPolicy),
+        Err(_) => Err(Stop::Memory),
     }
 }
 
@@ -55,7 +56,7 @@ fn bytes_of<'a, F: Files>(
 #[tactic(auto, unfolding(crate::specs::Stages::container_in))]
 pub fn container_in<'a, 'b>(
     alloc: Global,
-    policy: Policy,
+    policy: PolicyKind,
     bytes: &'b [u8],
 ) -> Result<Container<'b>, Stop<'a>>
     ensures exact { GivesPure contents_of (stages.container_in policy bytes.entry.now) result }
@@ -70,7 +71,7 @@ pub fn container_in<'a, 'b>(
 }
 
 /// The code of the container that the bytes are, where it is for the policy.
-fn code_in<'a>(alloc: Global, policy: Policy, bytes: &[u8]) -> Result<Code, Stop<'a>>
+fn code_in<'a>(alloc: Global, policy: PolicyKind, bytes: &[u8]) -> Result<Code, Stop<'a>>
     ensures { GivesPure (λ code. code) (stages.code_in policy bytes.now) result }
 {
     let container = match container_in(alloc, policy, bytes) {
@@ -97,7 +98,7 @@ fn packets_in<'a>(bytes: Vec<u8>) -> Result<PacketFile, Stop<'a>>
 /// The code of the container in the file of the name, where it is for the policy.
 pub fn code_of<'a, F: Files>(
     alloc: Global,
-    policy: Policy,
+    policy: PolicyKind,
     name: &'a str,
     files: &mut F,
 ) -> Result<Code, Stop<'a>>

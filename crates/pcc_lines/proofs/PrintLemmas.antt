@@ -2,12 +2,12 @@
 use Rattle.std.proofs.Common.{◌≡◌, ℕ, ◌+◌, List, [], ◌∷◌, ◌++◌, length, sym, ap, ◌∙◌, subst, arith, append_assoc}
 use Rattle.file_port.specs.Sink.{SinkState, PutFails, with_piece}
 use Rattle.file_port.proofs.PutLemmas.{part_fails, rest_fails, with_piece-with_piece}
-use Rattle.policy_set.specs.declared.Policy.{Policy}
+use Rattle.policy_set.specs.declared.kind.PolicyKind.{PolicyKind}
 use Rattle.packet_store.specs.declared.results.PacketResult.{PacketResult}
 use Rattle.packet_store.specs.Packets.{AreShort}
 use Rattle.pcc_lines.specs.Results.{result_line, result_lines}
 
-module _ (policy : Policy) (results : List ℕ → PacketResult) where
+module _ (policy : PolicyKind) (results : List ℕ → PacketResult) where
   -- the lines of the packets before those that remain are printed, since the output was s
   pub record Printed (all remaining : List (List ℕ)) (number : ℕ) (s t : SinkState) (now : List ℕ → PacketResult) : Type 0 where
     pub text : List ℕ

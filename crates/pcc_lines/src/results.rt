@@ -11,7 +11,7 @@ use alpha_cfg::{Kind, Outcome};
 use arrayvec::ArrayVec;
 use file_port::{Put, Sink};
 use packet_store::{PacketIter, PacketResult, PacketRunner};
-use policy_set::Policy;
+use policy_set::PolicyKind;
 
 /// The most bytes of the kind of an access.
 const KIND: usize = 7;
@@ -32,15 +32,15 @@ fn push_kind(line: &mut Line, kind: Kind)
 }
 
 /// Adds the number of a return and, where the policy has a region, its sum.
-fn push_returned(line: &mut Line, policy: Policy, word: u64, sum: u64)
+fn push_returned(line: &mut Line, policy: PolicyKind, word: u64, sum: u64)
     requires { array_vec_len line.old + RESULT ≤ LINE }
     ensures items { line.new.items ≡ line.old.items ++ returned_text policy word sum }
     ensures len { array_vec_len line.new ≤ array_vec_len line.old + RESULT }
 {
     push_decimal(line, word);
     match policy {
-        Policy::Filter => {}
-        Policy::Tag | Policy::Table => {
+        PolicyKind::Filter => {}
+        PolicyKind::Tag | PolicyKind::Table => {
             push_text(line, " ");
             push_decimal(line, sum);
         }
@@ -60,7 +60,7 @@ fn push_blocked(line: &mut Line, index: u32, kind: Kind, addr: u64)
 }
 
 /// Adds how a run ended.
-fn push_outcome(line: &mut Line, policy: Policy, outcome: Outcome, sum: u64)
+fn push_outcome(line: &mut Line, policy: PolicyKind, outcome: Outcome, sum: u64)
     requires { array_vec_len line.old + RESULT ≤ LINE }
     ensures items { line.new.items ≡ line.old.items ++ outcome_text policy outcome sum }
     ensures len { array_vec_len line.new ≤ array_vec_len line.old + RESULT }
@@ -73,7 +73,7 @@ fn push_outcome(line: &mut Line, policy: Policy, outcome: Outcome, sum: u64)
 }
 
 /// Adds what a packet came to.
-fn push_result(line: &mut Line, policy: Policy, end: PacketResult)
+fn push_result(line: &mut Line, policy: PolicyKind, end: PacketResult)
     requires { array_vec_len line.old + RESULT ≤ LINE }
     ensures items { line.new.items ≡ line.old.items ++ result_text policy end }
     ensures len { array_vec_len line.new ≤ array_vec_len line.old + RESULT }
@@ -86,7 +86,7 @@ fn push_result(line: &mut Line, policy: Policy, end: PacketResult)
 
 /// Prints what the packet of a number came to, as one piece.
 #[tactic(auto, unfolding(crate::specs::Results::result_line))]
-fn print_result<S: Sink>(policy: Policy, number: u64, end: PacketResult, out: &mut S) -> Put
+fn print_result<S: Sink>(policy: PolicyKind, number: u64, end: PacketResult, out: &mut S) -> Put
     ensures { Puts (result_line policy number end) (S.state out.old) (S.state out.new) result }
 {
     let mut line: Line = ArrayVec::new();
@@ -100,7 +100,7 @@ fn print_result<S: Sink>(policy: Policy, number: u64, end: PacketResult, out: &m
 /// Runs the packets in order and prints the result line of each, numbered from 0, before the next
 /// is run; stops at the first put that fails.
 pub fn print_results<R: PacketRunner, S: Sink>(
-    policy: Policy,
+    policy: PolicyKind,
     runner: &mut R,
     packets: PacketIter<'_>,
     out: &mut S,

@@ -1,17 +1,19 @@
 -- What the code of a stage answers, by what the stage comes to.
 use Rattle.std.specs.Prelude.{◌≡◌, ℕ, ◌*◌, ◌/◌, ◌<◌, ◌≤◌, List, length, Option, Some, None, Result, Ok, Err, IfSome, Contains}
 use Rattle.file_port.specs.Files.{FileMap, FilesState, ReadFails}
-use Rattle.policy_set.specs.declared.Policy.{Policy}
+use Rattle.policy_set.specs.declared.kind.PolicyKind.{PolicyKind}
 use Rattle.pcc_exit.specs.Exits.{Exit}
 use Rattle.pcc_cli.specs.Stages.{Staged}
 use Rattle.pcc_cli.specs.declared.stop.Stop.{Stop}
 use Rattle.pcc_cli.specs.declared.stop.Stop.TheVariants as stop
 use Rattle.pcc_cli.specs.Inside.Decisions.{stop_exit}
 
--- the policy, or that there is none
-abbrev pub policy_or_stop : Option Policy → Result Policy Stop
-policy_or_stop None = Err stop.UnknownPolicy
-policy_or_stop (Some policy) = Ok policy
+-- the policy that was found, that there is none, or want of memory
+abbrev pub GivesPolicy : Option PolicyKind → Result PolicyKind Stop → Type 0
+GivesPolicy found (Ok policy) = found ≡ Some policy
+GivesPolicy found (Err stop.UnknownPolicy) = found ≡ None
+GivesPolicy found (Err stop.Memory) = Unit {0}
+GivesPolicy found (Err other) = ⊥
 
 -- a stop that says that a file is too long
 abbrev pub IsTooLong : Stop → Type 0

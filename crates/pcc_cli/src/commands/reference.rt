@@ -24,12 +24,13 @@ pub fn ref_command<'a, F: Files>(
         Decides (request_of_command (Some (ref a.policy.now a.file.now a.packets.now a.steps)))
         (F.state files.old) (F.state files.new) result }
 {
-    let policy = policy_named(args.policy)?;
-    let code = code_of(alloc, policy, args.file, files)?;
+    let policy = policy_named(alloc, args.policy)?;
+    let under = policy.kind();
+    let code = code_of(alloc, under, args.file, files)?;
     let packets = packets_of(alloc, args.packets, files)?;
     match TestingRunner::new(alloc, policy, code, args.steps) {
         Ok(runner) => Ok(Report::Results(Job {
-            policy,
+            policy: under,
             runner,
             packets,
         })),

@@ -1,0 +1,39 @@
+-- Formulas as they stand in memory, without the places of their boxes.
+use Rattle.std.specs.Prelude.{List, map}
+use Rattle.formula_tree.specs.declared.exp.Exp as exp
+use Rattle.formula_tree.specs.declared.exp.Exp.TheVariants as E
+use Rattle.formula_tree.specs.declared.exp.MemExp as mem
+use Rattle.formula_tree.specs.declared.exp.MemExp.TheVariants as M
+use Rattle.formula_tree.specs.declared.form.Form as form
+use Rattle.formula_tree.specs.declared.form.Form.TheVariants as F
+use Rattle.formula_tree.specs.Formulas.{Exp, EReg, ELeft, EVar, ELit, EOp, ESel, MemExp, MMem, MVar, MUpd, Form, FTrue, FFalse, FRel, FRd, FWr, FAnd, FOr, FImp, FAll, FAllm}
+use Rattle.formula_tree.specs.Substitution.{Change}
+
+abbrev mutual
+  pub exp_view : exp.Exp → Exp
+  exp_view (E.Reg r) = EReg r
+  exp_view (E.Var n) = EVar n
+  exp_view (E.Lit w) = ELit w
+  exp_view (E.Oper' o p a q b) = EOp o (exp_view a) (exp_view b)
+  exp_view (E.Sel' p m q a) = ESel (mem_exp_view m) (exp_view a)
+
+  pub mem_exp_view : mem.MemExp → MemExp
+  mem_exp_view M.Mem = MMem
+  mem_exp_view (M.Var n) = MVar n
+  mem_exp_view (M.Upd' p m q a r v) = MUpd (mem_exp_view m) (exp_view a) (exp_view v)
+
+abbrev pub form_view : form.Form → Form
+form_view F.True = FTrue
+form_view F.False = FFalse
+form_view (F.Rel p a b) = FRel p (exp_view a) (exp_view b)
+form_view (F.Rd a) = FRd (exp_view a)
+form_view (F.Wr a) = FWr (exp_view a)
+form_view (F.And' p a q b) = FAnd (form_view a) (form_view b)
+form_view (F.Or' p a q b) = FOr (form_view a) (form_view b)
+form_view (F.Imp' p a q b) = FImp (form_view a) (form_view b)
+form_view (F.All' p a) = FAll (form_view a)
+form_view (F.Allm' p a) = FAllm (form_view a)
+
+-- these expressions for the registers, and this memory for m; the steps that are left stay
+abbrev pub change_of : List exp.Exp → mem.MemExp → Change
+change_of regs m = record { regs = map exp_view regs; memory = mem_exp_view m; left = ELeft }

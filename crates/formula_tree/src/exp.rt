@@ -1,0 +1,236 @@
+//! Expressions: words and memories.
+
+ghost use Rattle.std.specs.Prelude.{◌≡◌, IfOk, ◌<◌, ◌^◌};
+ghost use Rattle.formula_tree.specs.Formulas.{EOp, ESel, MUpd, raise, shift_exp, shift_mem};
+ghost use Rattle.formula_tree.specs.Sizes.{exp_height, mem_height, capped, HasRoomExp, HasRoomMem, HasRoomChange};
+ghost use Rattle.formula_tree.specs.Substitution.{shift_change, subst_exp, subst_mem};
+ghost use Rattle.formula_tree.specs.Views.{exp_view, mem_exp_view, change_of};
+
+use std::alloc::{AllocError, Global};
+use word_ops::Op;
+
+/// A word of 64 bits.
+#[cycle(exp)]
+#[derive(Debug, Drop, PartialEq, Eq)]
+pub enum Exp {
+    /// The register of this number, 0 to 31; register 31 is 0.
+    Reg(u8),
+    /// A bound variable by its number: 0 is the nearest binder's, words and memories counted
+    /// together.
+    Var(u32),
+    /// This word.
+    Lit(u64),
+    /// What the operator gives of two words.
+    Oper(Op, Box<Exp>, Box<Exp>),
+    /// What the memory has at the address.
+    Sel(Box<MemExp>, Box<Exp>),
+}
+
+/// A memory, from words to words.
+#[cycle(exp)]
+#[derive(Debug, Drop, PartialEq, Eq)]
+pub enum MemExp {
+    /// The memory m.
+    Mem,
+    /// A bound variable by its number, counted as in `Exp`.
+    Var(u32),
+    /// The memory after a store, at the address, of the word.
+    Upd(Box<MemExp>, Box<Exp>, Box<Exp>),
+}
+
+/// The number of a variable where `by` binders more stand outside the `from` nearest.
+#[tactic(auto, using(crate::proofs::Raising::raise_below, crate::proofs::Raising::raise_past))]
+fn raised(number: u32, by: u32, from: u64) -> u32
+    requires { raise by from number < 2 ^ 32 }
+    ensures { result ≡ raise by from number }
+{
+    if u64::from(number) < from {
+        number
+    } else {
+        number + by
+    }
+}
+
+impl Exp {
+    /// The operator at two expressions. Fails only for want of memory.
+    pub fn oper(alloc: Global, op: Op, a: Exp, b: Exp) -> Result<Exp, AllocError>
+        ensures exact { IfOk result (λ e. exp_view e ≡ EOp op (exp_view a) (exp_view b)) }
+    {
+        Ok(Exp::Oper(op, Box::new(alloc, a)?, Box::new(alloc, b)?))
+    }
+
+    /// What the memory has at the address. Fails only for want of memory.
+    pub fn sel(alloc: Global, memory: MemExp, address: Exp) -> Result<Exp, AllocError>
+        ensures exact { IfOk result (λ e. exp_view e ≡ ESel (mem_exp_view memory) (exp_view address)) }
+    {
+        Ok(Exp::Sel(Box::new(alloc, memory)?, Box::new(alloc, address)?))
+    }
+
+    /// The same expression. Fails only for want of memory.
+    #[cycle(copy)]
+    pub(crate) fn copy(&self, alloc: Global) -> Result<Exp, AllocError>
+        ensures exact { IfOk result (λ e. exp_view e ≡ exp_view self.now) }
+    {
+        match self {
+            Exp::Reg(number) => Ok(Exp::Reg(*number)),
+            Exp::Var(number) => Ok(Exp::Var(*number)),
+            Exp::Lit(word) => Ok(Exp::Lit(*word)),
+            Exp::Oper(op, a, b) => Exp::oper(alloc, *op, a.copy(alloc)?, b.copy(alloc)?),
+            Exp::Sel(memory, a) => Exp::sel(alloc, memory.copy(alloc)?, a.copy(alloc)?),
+        }
+    }
+
+    /// The expression where `by` binders more stand outside the `from` nearest. Fails only for
+    /// want of memory.
+    #[cycle(shift)]
+    pub(crate) fn shift_at(&self, alloc: Global, by: u32, from: u64) -> Result<Exp, AllocError>
+        requires room { HasRoomExp by from (exp_view self.now) }
+        ensures exact { IfOk result (λ e. exp_view e ≡ shift_exp by from (exp_view self.now)) }
+    {
+        match self {
+            Exp::Reg(number) => Ok(Exp::Reg(*number)),
+            Exp::Var(number) => Ok(Exp::Var(raised(*number, by, from))),
+            Exp::Lit(word) => Ok(Exp::Lit(*word)),
+            Exp::Oper(op, a, b) => {
+                let left = a.shift_at(alloc, by, from)?;
+                Exp::oper(alloc, *op, left, b.shift_at(alloc, by, from)?)
+            }
+            Exp::Sel(memory, a) => {
+                let shifted = memory.shift_at(alloc, by, from)?;
+                Exp::sel(alloc, shifted, a.shift_at(alloc, by, from)?)
+            }
+        }
+    }
+
+    /// The expression with `regs` for r0 to r30 and `memory` for m, which stand outside `depth`
+    /// binders; register 31 becomes 0. Fails only for want of memory.
+    #[cycle(subst)]
+    pub(crate) fn subst_at(
+        &self,
+        alloc: Global,
+        regs: &[Exp],
+        memory: &MemExp,
+        depth: u32,
+    ) -> Result<Exp, AllocError>
+        requires room { HasRoomChange depth (change_of regs.now memory.now) }
+        ensures exact { IfOk result (λ e. exp_view e ≡ subst_exp (exp_view self.now) (shift_change depth (change_of regs.now memory.now))) }
+    {
+        match self {
+            Exp::Reg(number) => match regs.get(usize::from(*number)) {
+                Some(put) => put.shift_at(alloc, depth, 0),
+                None => Ok(Exp::Lit(0)),
+            },
+            Exp::Var(number) => Ok(Exp::Var(*number)),
+            Exp::Lit(word) => Ok(Exp::Lit(*word)),
+            Exp::Oper(op, a, b) => {
+                let left = a.subst_at(alloc, regs, memory, depth)?;
+                Exp::oper(alloc, *op, left, b.subst_at(alloc, regs, memory, depth)?)
+            }
+            Exp::Sel(from, a) => {
+                let from = from.subst_at(alloc, regs, memory, depth)?;
+                Exp::sel(alloc, from, a.subst_at(alloc, regs, memory, depth)?)
+            }
+        }
+    }
+
+    /// The height: 1 without parts, else one more than the highest part; 4,294,967,295 where that
+    /// is greater.
+    #[cycle(height)]
+    pub(crate) fn height(&self) -> u32
+        ensures exact { result ≡ capped (exp_height (exp_view self.now)) }
+    {
+        match self {
+            Exp::Oper(_, a, b) => a.height().max(b.height()).saturating_add(1),
+            Exp::Sel(memory, a) => memory.height().max(a.height()).saturating_add(1),
+            Exp::Reg(_) | Exp::Var(_) | Exp::Lit(_) => 1,
+        }
+    }
+}
+
+impl MemExp {
+    /// The memory after a store, at the address, of the word. Fails only for want of memory.
+    pub fn upd(alloc: Global, memory: MemExp, address: Exp, word: Exp) -> Result<MemExp, AllocError>
+        ensures exact { IfOk result (λ m. mem_exp_view m ≡ MUpd (mem_exp_view memory) (exp_view address) (exp_view word)) }
+    {
+        Ok(MemExp::Upd(
+            Box::new(alloc, memory)?,
+            Box::new(alloc, address)?,
+            Box::new(alloc, word)?,
+        ))
+    }
+
+    /// The same memory. Fails only for want of memory.
+    #[cycle(copy)]
+    pub(crate) fn copy(&self, alloc: Global) -> Result<MemExp, AllocError>
+        ensures exact { IfOk result (λ m. mem_exp_view m ≡ mem_exp_view self.now) }
+    {
+        match self {
+            MemExp::Mem => Ok(MemExp::Mem),
+            MemExp::Var(number) => Ok(MemExp::Var(*number)),
+            MemExp::Upd(memory, a, word) => {
+                let copied = memory.copy(alloc)?;
+                MemExp::upd(alloc, copied, a.copy(alloc)?, word.copy(alloc)?)
+            }
+        }
+    }
+
+    /// The memory where `by` binders more stand outside the `from` nearest. Fails only for want
+    /// of memory.
+    #[cycle(shift)]
+    pub(crate) fn shift_at(&self, alloc: Global, by: u32, from: u64) -> Result<MemExp, AllocError>
+        requires room { HasRoomMem by from (mem_exp_view self.now) }
+        ensures exact { IfOk result (λ m. mem_exp_view m ≡ shift_mem by from (mem_exp_view self.now)) }
+    {
+        match self {
+            MemExp::Mem => Ok(MemExp::Mem),
+            MemExp::Var(number) => Ok(MemExp::Var(raised(*number, by, from))),
+            MemExp::Upd(memory, a, word) => {
+                let shifted = memory.shift_at(alloc, by, from)?;
+                let address = a.shift_at(alloc, by, from)?;
+                MemExp::upd(alloc, shifted, address, word.shift_at(alloc, by, from)?)
+            }
+        }
+    }
+
+    /// The memory with `regs` for r0 to r30 and `memory` for m, as that of an expression.
+    #[cycle(subst)]
+    pub(crate) fn subst_at(
+        &self,
+        alloc: Global,
+        regs: &[Exp],
+        memory: &MemExp,
+        depth: u32,
+    ) -> Result<MemExp, AllocError>
+        requires room { HasRoomChange depth (change_of regs.now memory.now) }
+        ensures exact { IfOk result (λ m. mem_exp_view m ≡ subst_mem (mem_exp_view self.now) (shift_change depth (change_of regs.now memory.now))) }
+    {
+        match self {
+            MemExp::Mem => memory.shift_at(alloc, depth, 0),
+            MemExp::Var(number) => Ok(MemExp::Var(*number)),
+            MemExp::Upd(of, a, word) => {
+                let of = of.subst_at(alloc, regs, memory, depth)?;
+                let address = a.subst_at(alloc, regs, memory, depth)?;
+                MemExp::upd(
+                    alloc,
+                    of,
+                    address,
+                    word.subst_at(alloc, regs, memory, depth)?,
+                )
+            }
+        }
+    }
+
+    /// The height, as that of an expression.
+    #[cycle(height)]
+    pub(crate) fn height(&self) -> u32
+        ensures exact { result ≡ capped (mem_height (mem_exp_view self.now)) }
+    {
+        match self {
+            MemExp::Upd(memory, a, word) => {
+                let parts = a.height().max(word.height());
+                memory.height().max(parts).saturating_add(1)
+            }
+            MemExp::Mem | MemExp::Var(_) => 1,
+        }
+    }
+}

@@ -1,0 +1,209 @@
+//! Formulas.
+
+ghost use Rattle.std.specs.Prelude.{◌≡◌, IfOk, ◌+◌, length};
+ghost use Rattle.formula_tree.specs.Formulas.{FAnd, FOr, FImp, FAll, FAllm, shift_form};
+ghost use Rattle.formula_tree.specs.Sizes.{form_height, capped, binders, HasRoom, HasRoomChange};
+ghost use Rattle.formula_tree.specs.Views.{form_view, change_of};
+ghost use Rattle.formula_tree.specs.Substitution.{shift_change, subst_form};
+
+use crate::exp::{Exp, MemExp};
+use std::alloc::{AllocError, Global};
+use word_ops::Rel;
+
+/// A formula.
+#[derive(Debug, Drop, PartialEq, Eq)]
+pub enum Form {
+    /// True.
+    True,
+    /// False.
+    False,
+    /// The relation holds of two words.
+    Rel(Rel, Exp, Exp),
+    /// The address may be loaded.
+    Rd(Exp),
+    /// The address may be stored.
+    Wr(Exp),
+    /// Both hold.
+    And(Box<Form>, Box<Form>),
+    /// They aren't both false.
+    Or(Box<Form>, Box<Form>),
+    /// The second holds where the first does.
+    Imp(Box<Form>, Box<Form>),
+    /// It holds for all words, which its variable 0 is.
+    All(Box<Form>),
+    /// It holds for all memories, which its variable 0 is.
+    Allm(Box<Form>),
+}
+
+impl Form {
+    /// Both formulas. Fails only for want of memory.
+    pub fn and(alloc: Global, a: Form, b: Form) -> Result<Form, AllocError>
+        ensures exact { IfOk result (λ f. form_view f ≡ FAnd (form_view a) (form_view b)) }
+    {
+        Ok(Form::And(Box::new(alloc, a)?, Box::new(alloc, b)?))
+    }
+
+    /// One of the formulas. Fails only for want of memory.
+    pub fn or(alloc: Global, a: Form, b: Form) -> Result<Form, AllocError>
+        ensures exact { IfOk result (λ f. form_view f ≡ FOr (form_view a) (form_view b)) }
+    {
+        Ok(Form::Or(Box::new(alloc, a)?, Box::new(alloc, b)?))
+    }
+
+    /// The second formula under the first. Fails only for want of memory.
+    pub fn imp(alloc: Global, a: Form, b: Form) -> Result<Form, AllocError>
+        ensures exact { IfOk result (λ f. form_view f ≡ FImp (form_view a) (form_view b)) }
+    {
+        Ok(Form::Imp(Box::new(alloc, a)?, Box::new(alloc, b)?))
+    }
+
+    /// The formula for all words. Fails only for want of memory.
+    pub fn all(alloc: Global, body: Form) -> Result<Form, AllocError>
+        ensures exact { IfOk result (λ f. form_view f ≡ FAll (form_view body)) }
+    {
+        Ok(Form::All(Box::new(alloc, body)?))
+    }
+
+    /// The formula for all memories. Fails only for want of memory.
+    pub fn allm(alloc: Global, body: Form) -> Result<Form, AllocError>
+        ensures exact { IfOk result (λ f. form_view f ≡ FAllm (form_view body)) }
+    {
+        Ok(Form::Allm(Box::new(alloc, body)?))
+    }
+
+    /// The same formula. Fails only for want of memory.
+    pub fn copy(&self, alloc: Global) -> Result<Form, AllocError>
+        ensures exact { IfOk result (λ f. form_view f ≡ form_view self.now) }
+    {
+        match self {
+            Form::True => Ok(Form::True),
+            Form::False => Ok(Form::False),
+            Form::Rel(rel, a, b) => Ok(Form::Rel(*rel, a.copy(alloc)?, b.copy(alloc)?)),
+            Form::Rd(a) => Ok(Form::Rd(a.copy(alloc)?)),
+            Form::Wr(a) => Ok(Form::Wr(a.copy(alloc)?)),
+            Form::And(a, b) => Form::and(alloc, a.copy(alloc)?, b.copy(alloc)?),
+            Form::Or(a, b) => Form::or(alloc, a.copy(alloc)?, b.copy(alloc)?),
+            Form::Imp(a, b) => Form::imp(alloc, a.copy(alloc)?, b.copy(alloc)?),
+            Form::All(a) => Form::all(alloc, a.copy(alloc)?),
+            Form::Allm(a) => Form::allm(alloc, a.copy(alloc)?),
+        }
+    }
+
+    /// The formula where `by` binders more stand outside the `from` nearest. Fails only for want
+    /// of memory.
+    #[tactic(auto, using(crate::proofs::Raising::shift_form_next))]
+    fn shift_at(&self, alloc: Global, by: u32, from: u64) -> Result<Form, AllocError>
+        requires room { HasRoom by from (form_view self.now) }
+        ensures exact { IfOk result (λ f. form_view f ≡ shift_form by from (form_view self.now)) }
+    {
+        match self {
+            Form::True => Ok(Form::True),
+            Form::False => Ok(Form::False),
+            Form::Rel(rel, a, b) => {
+                let left = a.shift_at(alloc, by, from)?;
+                Ok(Form::Rel(*rel, left, b.shift_at(alloc, by, from)?))
+            }
+            Form::Rd(a) => Ok(Form::Rd(a.shift_at(alloc, by, from)?)),
+            Form::Wr(a) => Ok(Form::Wr(a.shift_at(alloc, by, from)?)),
+            Form::And(a, b) => {
+                let left = a.shift_at(alloc, by, from)?;
+                Form::and(alloc, left, b.shift_at(alloc, by, from)?)
+            }
+            Form::Or(a, b) => {
+                let left = a.shift_at(alloc, by, from)?;
+                Form::or(alloc, left, b.shift_at(alloc, by, from)?)
+            }
+            Form::Imp(a, b) => {
+                let left = a.shift_at(alloc, by, from)?;
+                Form::imp(alloc, left, b.shift_at(alloc, by, from)?)
+            }
+            Form::All(a) => Form::all(alloc, a.shift_at(alloc, by, from.saturating_add(1))?),
+            Form::Allm(a) => Form::allm(alloc, a.shift_at(alloc, by, from.saturating_add(1))?),
+        }
+    }
+
+    /// The formula where `by` binders more stand outside the `from` nearest: each variable from
+    /// `from` on is raised by `by`. Fails only for want of memory.
+    pub fn shift(&self, alloc: Global, by: u32, from: u32) -> Result<Form, AllocError>
+        requires room { HasRoom by from (form_view self.now) }
+        ensures exact { IfOk result (λ f. form_view f ≡ shift_form by from (form_view self.now)) }
+    {
+        self.shift_at(alloc, by, u64::from(from))
+    }
+
+    /// The formula with `regs` for r0 to r30 and `memory` for m, which stand outside `depth`
+    /// binders. Fails only for want of memory.
+    #[tactic(auto, using(crate::proofs::Putting::room_part))]
+    fn subst_at(
+        &self,
+        alloc: Global,
+        regs: &[Exp],
+        memory: &MemExp,
+        depth: u32,
+    ) -> Result<Form, AllocError>
+        requires room { HasRoomChange (depth + binders (form_view self.now)) (change_of regs.now memory.now) }
+        ensures exact { IfOk result (λ f. form_view f ≡ subst_form (form_view self.now) (shift_change depth (change_of regs.now memory.now))) }
+    {
+        match self {
+            Form::True => Ok(Form::True),
+            Form::False => Ok(Form::False),
+            Form::Rel(rel, a, b) => {
+                let left = a.subst_at(alloc, regs, memory, depth)?;
+                Ok(Form::Rel(*rel, left, b.subst_at(alloc, regs, memory, depth)?))
+            }
+            Form::Rd(a) => Ok(Form::Rd(a.subst_at(alloc, regs, memory, depth)?)),
+            Form::Wr(a) => Ok(Form::Wr(a.subst_at(alloc, regs, memory, depth)?)),
+            Form::And(a, b) => {
+                let left = a.subst_at(alloc, regs, memory, depth)?;
+                Form::and(alloc, left, b.subst_at(alloc, regs, memory, depth)?)
+            }
+            Form::Or(a, b) => {
+                let left = a.subst_at(alloc, regs, memory, depth)?;
+                Form::or(alloc, left, b.subst_at(alloc, regs, memory, depth)?)
+            }
+            Form::Imp(a, b) => {
+                let left = a.subst_at(alloc, regs, memory, depth)?;
+                Form::imp(alloc, left, b.subst_at(alloc, regs, memory, depth)?)
+            }
+            Form::All(a) => {
+                let inner = depth.saturating_add(1);
+                Form::all(alloc, a.subst_at(alloc, regs, memory, inner)?)
+            }
+            Form::Allm(a) => {
+                let inner = depth.saturating_add(1);
+                Form::allm(alloc, a.subst_at(alloc, regs, memory, inner)?)
+            }
+        }
+    }
+
+    /// The formula with `regs` for r0 to r30, in this order, and `memory` for m, all at once;
+    /// register 31 becomes 0, and no variable is captured. Fails only for want of memory.
+    pub fn subst_regs(
+        &self,
+        alloc: Global,
+        regs: &[Exp],
+        memory: &MemExp,
+    ) -> Result<Form, AllocError>
+        requires count { length regs.now ≡ 31 }
+        requires room { HasRoomChange (binders (form_view self.now)) (change_of regs.now memory.now) }
+        ensures exact { IfOk result (λ f. form_view f ≡ subst_form (form_view self.now) (change_of regs.now memory.now)) }
+    {
+        self.subst_at(alloc, regs, memory, 0)
+    }
+
+    /// The height: 1 without parts, else one more than the highest part; 4,294,967,295 where that
+    /// is greater.
+    pub fn height(&self) -> u32
+        ensures exact { result ≡ capped (form_height (form_view self.now)) }
+    {
+        match self {
+            Form::True | Form::False => 1,
+            Form::Rel(_, a, b) => a.height().max(b.height()).saturating_add(1),
+            Form::Rd(a) | Form::Wr(a) => a.height().saturating_add(1),
+            Form::And(a, b) | Form::Or(a, b) | Form::Imp(a, b) => {
+                a.height().max(b.height()).saturating_add(1)
+            }
+            Form::All(a) | Form::Allm(a) => a.height().saturating_add(1),
+        }
+    }
+}

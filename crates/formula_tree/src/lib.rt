@@ -1,0 +1,18 @@
+//! Formulas over registers, the memory m and bound variables: their trees, their truth, and
+//! substitution.
+//!
+//! The definitions of all layers above stand here, over plain data: formulas and shifts
+//! (`specs/Formulas`), simultaneous substitution (`specs/Substitution`), substitution for one
+//! variable (`specs/Variables`), the formulas over a context (`specs/Scope`) and truth
+//! (`specs/Truth`). The layers use that `subst_regs` is that substitution, and what `laws` says of
+//! truth. `specs/Views` leads from the trees in memory to the plain data, which beside them has the
+//! steps that are left: no tree in memory and no context has these yet. Source: Necula, POPL 1997.
+#![tactic(auto)]
+
+mod exp;
+mod form;
+mod known;
+
+pub use exp::{Exp, MemExp};
+pub use form::Form;
+pub use known::laws;

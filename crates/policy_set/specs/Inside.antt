@@ -1,0 +1,2 @@
+-- What no clause of a public function cites.
+pub mod Held
