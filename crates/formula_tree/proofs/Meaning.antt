@@ -7,10 +7,11 @@ use Rattle.word_ops.specs.Memory.{Memory, read, write, IsMemory}
 use Rattle.word_ops.specs.Rights.{Rights, allowed}
 use Rattle.word_ops.specs.Registers.{read_reg}
 use Rattle.word_ops.proofs.Memories.{read-write_same, read-write_other}
-use Rattle.formula_tree.specs.Formulas.{Exp, EReg, ELeft, EVar, ELit, EOp, ESel, MemExp, MMem, MVar, MUpd, Form, FTrue, FFalse, FRel, FRd, FWr, FAnd, FOr, FImp, FAll, FAllm, raise, shift_exp, shift_mem, shift_form}
-use Rattle.formula_tree.specs.Substitution.{Change, shift_change, subst_exp, subst_mem, subst_form}
+use Rattle.formula_tree.specs.Formulas.{Exp, EReg, ELeft, EVar, ELit, EOp, ESel, MemExp, MMem, MVar, MUpd, Form, FTrue, FFalse, FRel, FRd, FWr, FAnd, FOr, FImp, FAll, FAllm, shift_exp, shift_mem, shift_form}
+use Rattle.term_table.specs.Tree.{raise}
+use Rattle.formula_tree.specs.Substitution.{Substitution, shift_substitution, subst_exp, subst_mem, subst_form}
 use Rattle.formula_tree.specs.Scope.{VarSort, OfWord, OfMem, IsOverExp, IsOverMem, IsOver}
-use Rattle.formula_tree.specs.Truth.{Valuation, Bound, BWord, BMem, bound_at, bound_word, bound_memory, exp_value, mem_value, IsTrueIn, change_value, ReadsAlike, IsAlike, AreAlike}
+use Rattle.formula_tree.specs.Truth.{Valuation, Bound, BWord, BMem, bound_at, bound_word, bound_memory, exp_value, mem_value, IsTrueIn, substitution_value, ReadsAlike, IsAlike, AreAlike}
 
 -- an equation of facts, both ways
 pub both_ways : (A B : Type 0) → A ≡ B → A ↔ B
@@ -80,7 +81,7 @@ reg_value l r v ρ len =
     ]
 
 mutual
-  exp_value-subst : (e : Exp) (s : Change) (v : Valuation) (ρ : List Bound) → length s.regs ≡ 31 → exp_value (subst_exp e s) v ρ ≡ exp_value e (change_value s v ρ) ρ
+  exp_value-subst : (e : Exp) (s : Substitution) (v : Valuation) (ρ : List Bound) → length s.regs ≡ 31 → exp_value (subst_exp e s) v ρ ≡ exp_value e (substitution_value s v ρ) ρ
   exp_value-subst (EReg r) s v ρ len = reg_value s.regs r v ρ len
   exp_value-subst ELeft s v ρ len = refl
   exp_value-subst (EVar n) s v ρ len = refl
@@ -88,7 +89,7 @@ mutual
   exp_value-subst (EOp o a b) s v ρ len = λ i. word_of o (exp_value-subst a s v ρ len i) (exp_value-subst b s v ρ len i)
   exp_value-subst (ESel m a) s v ρ len = λ i. read (mem_value-subst m s v ρ len i) (exp_value-subst a s v ρ len i)
 
-  mem_value-subst : (m : MemExp) (s : Change) (v : Valuation) (ρ : List Bound) → length s.regs ≡ 31 → mem_value (subst_mem m s) v ρ ≡ mem_value m (change_value s v ρ) ρ
+  mem_value-subst : (m : MemExp) (s : Substitution) (v : Valuation) (ρ : List Bound) → length s.regs ≡ 31 → mem_value (subst_mem m s) v ρ ≡ mem_value m (substitution_value s v ρ) ρ
   mem_value-subst MMem s v ρ len = refl
   mem_value-subst (MVar n) s v ρ len = refl
   mem_value-subst (MUpd m a e) s v ρ len = λ i. write (mem_value-subst m s v ρ len i) (exp_value-subst a s v ρ len i) (exp_value-subst e s v ρ len i)
@@ -97,10 +98,10 @@ values_under : (l : List Exp) (v : Valuation) (b : Bound) (ρ : List Bound) → 
 values_under [] v b ρ = refl
 values_under (e ∷ l) v b ρ = λ i. exp_value-shift e v 1 0 ρ (b ∷ ρ) (one_wider b ρ) i ∷ values_under l v b ρ i
 
-change_value-under : (s : Change) (v : Valuation) (b : Bound) (ρ : List Bound) → change_value (shift_change 1 s) v (b ∷ ρ) ≡ change_value s v ρ
-change_value-under s v b ρ = λ i. record { regs = values_under s.regs v b ρ i; memory = mem_value-shift s.memory v 1 0 ρ (b ∷ ρ) (one_wider b ρ) i; left = exp_value-shift s.left v 1 0 ρ (b ∷ ρ) (one_wider b ρ) i }
+substitution_value-under : (s : Substitution) (v : Valuation) (b : Bound) (ρ : List Bound) → substitution_value (shift_substitution 1 s) v (b ∷ ρ) ≡ substitution_value s v ρ
+substitution_value-under s v b ρ = λ i. record { regs = values_under s.regs v b ρ i; memory = mem_value-shift s.memory v 1 0 ρ (b ∷ ρ) (one_wider b ρ) i; left = exp_value-shift s.left v 1 0 ρ (b ∷ ρ) (one_wider b ρ) i }
 
-true-subst : (R : Rights) (F : Form) (s : Change) (v : Valuation) (ρ : List Bound) → length s.regs ≡ 31 → IsTrueIn R (subst_form F s) v ρ ≡ IsTrueIn R F (change_value s v ρ) ρ
+true-subst : (R : Rights) (F : Form) (s : Substitution) (v : Valuation) (ρ : List Bound) → length s.regs ≡ 31 → IsTrueIn R (subst_form F s) v ρ ≡ IsTrueIn R F (substitution_value s v ρ) ρ
 true-subst R FTrue s v ρ len = refl
 true-subst R FFalse s v ρ len = refl
 true-subst R (FRel p a b) s v ρ len = λ i. test_of p (exp_value-subst a s v ρ len i) (exp_value-subst b s v ρ len i) ≡ true
@@ -109,11 +110,11 @@ true-subst R (FWr a) s v ρ len = λ i. allowed R.writes (exp_value-subst a s v 
 true-subst R (FAnd A B) s v ρ len = λ i. true-subst R A s v ρ len i × true-subst R B s v ρ len i
 true-subst R (FOr A B) s v ρ len = λ i. (true-subst R A s v ρ len i → ⊥) → (true-subst R B s v ρ len i → ⊥) → ⊥
 true-subst R (FImp A B) s v ρ len = λ i. true-subst R A s v ρ len i → true-subst R B s v ρ len i
-true-subst R (FAll A) s v ρ len = λ i. (w : ℕ) → w < 2 ^ 64 → (true-subst R A (shift_change 1 s) v (BWord w ∷ ρ) (simp length-map len) ∙ ap (λ u. IsTrueIn R A u (BWord w ∷ ρ)) (change_value-under s v (BWord w) ρ)) i
-true-subst R (FAllm A) s v ρ len = λ i. (m : Memory) → IsMemory m → (true-subst R A (shift_change 1 s) v (BMem m ∷ ρ) (simp length-map len) ∙ ap (λ u. IsTrueIn R A u (BMem m ∷ ρ)) (change_value-under s v (BMem m) ρ)) i
+true-subst R (FAll A) s v ρ len = λ i. (w : ℕ) → w < 2 ^ 64 → (true-subst R A (shift_substitution 1 s) v (BWord w ∷ ρ) (simp length-map len) ∙ ap (λ u. IsTrueIn R A u (BWord w ∷ ρ)) (substitution_value-under s v (BWord w) ρ)) i
+true-subst R (FAllm A) s v ρ len = λ i. (m : Memory) → IsMemory m → (true-subst R A (shift_substitution 1 s) v (BMem m ∷ ρ) (simp length-map len) ∙ ap (λ u. IsTrueIn R A u (BMem m ∷ ρ)) (substitution_value-under s v (BMem m) ρ)) i
 
-pub subst-truth : (R : Rights) (F : Form) (s : Change) (v : Valuation) (ρ : List Bound) → length s.regs ≡ 31 → IsTrueIn R (subst_form F s) v ρ ↔ IsTrueIn R F (change_value s v ρ) ρ
-subst-truth R F s v ρ len = both_ways (IsTrueIn R (subst_form F s) v ρ) (IsTrueIn R F (change_value s v ρ) ρ) (true-subst R F s v ρ len)
+pub subst-truth : (R : Rights) (F : Form) (s : Substitution) (v : Valuation) (ρ : List Bound) → length s.regs ≡ 31 → IsTrueIn R (subst_form F s) v ρ ↔ IsTrueIn R F (substitution_value s v ρ) ρ
+subst-truth R F s v ρ len = both_ways (IsTrueIn R (subst_form F s) v ρ) (IsTrueIn R F (substitution_value s v ρ) ρ) (true-subst R F s v ρ len)
 
 -- what names no register
 mutual

@@ -4,8 +4,9 @@ use Rattle.word_ops.specs.Words.{word_of, test_of}
 use Rattle.word_ops.specs.Memory.{Memory, read, write, IsMemory}
 use Rattle.word_ops.specs.Rights.{Rights, allowed}
 use Rattle.formula_tree.specs.Formulas.{Exp, EReg, ELeft, EVar, ELit, EOp, ESel, MemExp, MMem, MVar, MUpd, Form, FTrue, FFalse, FRel, FRd, FWr, FAnd, FOr, FImp, FAll, FAllm}
-use Rattle.formula_tree.specs.Variables.{Part, PExp, PMem, shift_part, Spot, Here, Other, later, spot, exp_at, mem_at, subst_var_exp, subst_var_mem, subst_var}
-use Rattle.formula_tree.specs.Scope.{VarSort, OfWord, OfMem, sort_at, IsOverExp, IsOverMem, IsOver, sort_of, IsOverPart}
+use Rattle.formula_tree.specs.Variables.{Part, PExp, PMem, shift_part, exp_at, mem_at, subst_var_exp, subst_var_mem, subst_var}
+use Rattle.term_table.specs.Tree.{Spot, Here, Other, later, spot}
+use Rattle.formula_tree.specs.Scope.{VarSort, OfWord, OfMem, sort_at, IsOverExp, IsOverMem, IsOver, part_sort, IsOverPart}
 use Rattle.formula_tree.specs.Truth.{Valuation, Bound, BWord, BMem, bound_at, bound_word, bound_memory, exp_value, mem_value, IsTrueIn, part_value}
 use Rattle.formula_tree.proofs.Meaning.{both_ways, exp_value-shift, mem_value-shift, one_wider}
 use Rattle.formula_tree.proofs.Scopes.{wider_exp, wider_mem}
@@ -39,20 +40,20 @@ bound-spot [] σ b (suc n) = refl
 bound-spot (c ∷ ρ) σ b zero = refl
 bound-spot (c ∷ ρ) σ b (suc n) = bound-spot ρ σ b n ∙ bound-later b c (ρ ++ σ) (spot (length ρ) n)
 
-exp_at-value : (p : Part) (x : Spot) (s : VarSort) (G : List VarSort) (v : Valuation) (ρ : List Bound) → sort_of p ≡ s → sort_by s G x ≡ Some OfWord → exp_value (exp_at p x) v ρ ≡ bound_word (bound_by (part_value p v ρ) ρ x)
+exp_at-value : (p : Part) (x : Spot) (s : VarSort) (G : List VarSort) (v : Valuation) (ρ : List Bound) → part_sort p ≡ s → sort_by s G x ≡ Some OfWord → exp_value (exp_at p x) v ρ ≡ bound_word (bound_by (part_value p v ρ) ρ x)
 exp_at-value (PExp e) Here s G v ρ t q = refl
 exp_at-value (PMem m) Here s G v ρ t q = refl
 exp_at-value (PExp e) (Other k) s G v ρ t q = refl
 exp_at-value (PMem m) (Other k) s G v ρ t q = refl
 
-mem_at-value : (p : Part) (x : Spot) (s : VarSort) (G : List VarSort) (v : Valuation) (ρ : List Bound) → sort_of p ≡ s → sort_by s G x ≡ Some OfMem → mem_value (mem_at p x) v ρ ≡ bound_memory (bound_by (part_value p v ρ) ρ x)
+mem_at-value : (p : Part) (x : Spot) (s : VarSort) (G : List VarSort) (v : Valuation) (ρ : List Bound) → part_sort p ≡ s → sort_by s G x ≡ Some OfMem → mem_value (mem_at p x) v ρ ≡ bound_memory (bound_by (part_value p v ρ) ρ x)
 mem_at-value (PExp e) Here s G v ρ t q = cc
 mem_at-value (PMem m) Here s G v ρ t q = refl
 mem_at-value (PExp e) (Other k) s G v ρ t q = refl
 mem_at-value (PMem m) (Other k) s G v ρ t q = refl
 
 mutual
-  exp_value-var : (e : Exp) (r : ℕ) (p : Part) (s : VarSort) (G H : List VarSort) (v : Valuation) (ρ σ : List Bound) → sort_of p ≡ s → length ρ ≡ length G → IsOverExp r e (G ++ s ∷ H) → exp_value (subst_var_exp e (length G) p) v (ρ ++ σ) ≡ exp_value e v (ρ ++ part_value p v (ρ ++ σ) ∷ σ)
+  exp_value-var : (e : Exp) (r : ℕ) (p : Part) (s : VarSort) (G H : List VarSort) (v : Valuation) (ρ σ : List Bound) → part_sort p ≡ s → length ρ ≡ length G → IsOverExp r e (G ++ s ∷ H) → exp_value (subst_var_exp e (length G) p) v (ρ ++ σ) ≡ exp_value e v (ρ ++ part_value p v (ρ ++ σ) ∷ σ)
   exp_value-var (EReg k) r p s G H v ρ σ t l o = refl
   exp_value-var ELeft r p s G H v ρ σ t l o = refl
   exp_value-var (EVar n) r p s G H v ρ σ t l o =
@@ -63,7 +64,7 @@ mutual
   exp_value-var (EOp q a b) r p s G H v ρ σ t l o = λ i. word_of q (exp_value-var a r p s G H v ρ σ t l o.0 i) (exp_value-var b r p s G H v ρ σ t l o.1 i)
   exp_value-var (ESel m a) r p s G H v ρ σ t l o = λ i. read (mem_value-var m r p s G H v ρ σ t l o.0 i) (exp_value-var a r p s G H v ρ σ t l o.1 i)
 
-  mem_value-var : (m : MemExp) (r : ℕ) (p : Part) (s : VarSort) (G H : List VarSort) (v : Valuation) (ρ σ : List Bound) → sort_of p ≡ s → length ρ ≡ length G → IsOverMem r m (G ++ s ∷ H) → mem_value (subst_var_mem m (length G) p) v (ρ ++ σ) ≡ mem_value m v (ρ ++ part_value p v (ρ ++ σ) ∷ σ)
+  mem_value-var : (m : MemExp) (r : ℕ) (p : Part) (s : VarSort) (G H : List VarSort) (v : Valuation) (ρ σ : List Bound) → part_sort p ≡ s → length ρ ≡ length G → IsOverMem r m (G ++ s ∷ H) → mem_value (subst_var_mem m (length G) p) v (ρ ++ σ) ≡ mem_value m v (ρ ++ part_value p v (ρ ++ σ) ∷ σ)
   mem_value-var MMem r p s G H v ρ σ t l o = refl
   mem_value-var (MVar n) r p s G H v ρ σ t l o =
       mem_at-value p (spot (length G) n) s (G ++ H) v (ρ ++ σ) t (sym (sort-spot G H s n) ∙ o)
@@ -75,11 +76,11 @@ part-under : (p : Part) (v : Valuation) (b : Bound) (ρ : List Bound) → part_v
 part-under (PExp e) v b ρ = ap BWord (exp_value-shift e v 1 0 ρ (b ∷ ρ) (one_wider b ρ))
 part-under (PMem m) v b ρ = ap BMem (mem_value-shift m v 1 0 ρ (b ∷ ρ) (one_wider b ρ))
 
-sort-under : (p : Part) (s : VarSort) → sort_of p ≡ s → sort_of (shift_part 1 p) ≡ s
+sort-under : (p : Part) (s : VarSort) → part_sort p ≡ s → part_sort (shift_part 1 p) ≡ s
 sort-under (PExp e) s t = t
 sort-under (PMem m) s t = t
 
-true-var : (R : Rights) (F : Form) (r : ℕ) (p : Part) (s : VarSort) (G H : List VarSort) (v : Valuation) (ρ σ : List Bound) → sort_of p ≡ s → length ρ ≡ length G → IsOver r F (G ++ s ∷ H) → IsTrueIn R (subst_var F (length G) p) v (ρ ++ σ) ≡ IsTrueIn R F v (ρ ++ part_value p v (ρ ++ σ) ∷ σ)
+true-var : (R : Rights) (F : Form) (r : ℕ) (p : Part) (s : VarSort) (G H : List VarSort) (v : Valuation) (ρ σ : List Bound) → part_sort p ≡ s → length ρ ≡ length G → IsOver r F (G ++ s ∷ H) → IsTrueIn R (subst_var F (length G) p) v (ρ ++ σ) ≡ IsTrueIn R F v (ρ ++ part_value p v (ρ ++ σ) ∷ σ)
 true-var R FTrue r p s G H v ρ σ t l o = refl
 true-var R FFalse r p s G H v ρ σ t l o = refl
 true-var R (FRel q a b) r p s G H v ρ σ t l o = λ i. test_of q (exp_value-var a r p s G H v ρ σ t l o.0 i) (exp_value-var b r p s G H v ρ σ t l o.1 i) ≡ true
@@ -91,17 +92,17 @@ true-var R (FImp A B) r p s G H v ρ σ t l o = λ i. true-var R A r p s G H v �
 true-var R (FAll A) r p s G H v ρ σ t l o = λ i. (w : ℕ) → w < 2 ^ 64 → (true-var R A r (shift_part 1 p) s (OfWord ∷ G) H v (BWord w ∷ ρ) σ (sort-under p s t) (ap suc l) o ∙ ap (λ b. IsTrueIn R A v (BWord w ∷ ρ ++ b ∷ σ)) (part-under p v (BWord w) (ρ ++ σ))) i
 true-var R (FAllm A) r p s G H v ρ σ t l o = λ i. (m : Memory) → IsMemory m → (true-var R A r (shift_part 1 p) s (OfMem ∷ G) H v (BMem m ∷ ρ) σ (sort-under p s t) (ap suc l) o ∙ ap (λ b. IsTrueIn R A v (BMem m ∷ ρ ++ b ∷ σ)) (part-under p v (BMem m) (ρ ++ σ))) i
 
-pub var-truth : (R : Rights) (F : Form) (r : ℕ) (p : Part) (G H : List VarSort) (v : Valuation) (ρ σ : List Bound) → length ρ ≡ length G → IsOver r F (G ++ sort_of p ∷ H) → IsTrueIn R (subst_var F (length G) p) v (ρ ++ σ) ↔ IsTrueIn R F v (ρ ++ part_value p v (ρ ++ σ) ∷ σ)
-var-truth R F r p G H v ρ σ l o = both_ways (IsTrueIn R (subst_var F (length G) p) v (ρ ++ σ)) (IsTrueIn R F v (ρ ++ part_value p v (ρ ++ σ) ∷ σ)) (true-var R F r p (sort_of p) G H v ρ σ refl l o)
+pub var-truth : (R : Rights) (F : Form) (r : ℕ) (p : Part) (G H : List VarSort) (v : Valuation) (ρ σ : List Bound) → length ρ ≡ length G → IsOver r F (G ++ part_sort p ∷ H) → IsTrueIn R (subst_var F (length G) p) v (ρ ++ σ) ↔ IsTrueIn R F v (ρ ++ part_value p v (ρ ++ σ) ∷ σ)
+var-truth R F r p G H v ρ σ l o = both_ways (IsTrueIn R (subst_var F (length G) p) v (ρ ++ σ)) (IsTrueIn R F v (ρ ++ part_value p v (ρ ++ σ) ∷ σ)) (true-var R F r p (part_sort p) G H v ρ σ refl l o)
 
 -- the scope
-exp_at-over : (p : Part) (x : Spot) (r : ℕ) (s : VarSort) (G : List VarSort) → sort_of p ≡ s → sort_by s G x ≡ Some OfWord → IsOverPart r p G → IsOverExp r (exp_at p x) G
+exp_at-over : (p : Part) (x : Spot) (r : ℕ) (s : VarSort) (G : List VarSort) → part_sort p ≡ s → sort_by s G x ≡ Some OfWord → IsOverPart r p G → IsOverExp r (exp_at p x) G
 exp_at-over (PExp e) Here r s G t q o = o
 exp_at-over (PMem m) Here r s G t q o = omega arith
 exp_at-over (PExp e) (Other k) r s G t q o = q
 exp_at-over (PMem m) (Other k) r s G t q o = q
 
-mem_at-over : (p : Part) (x : Spot) (r : ℕ) (s : VarSort) (G : List VarSort) → sort_of p ≡ s → sort_by s G x ≡ Some OfMem → IsOverPart r p G → IsOverMem r (mem_at p x) G
+mem_at-over : (p : Part) (x : Spot) (r : ℕ) (s : VarSort) (G : List VarSort) → part_sort p ≡ s → sort_by s G x ≡ Some OfMem → IsOverPart r p G → IsOverMem r (mem_at p x) G
 mem_at-over (PExp e) Here r s G t q o = cc
 mem_at-over (PMem m) Here r s G t q o = o
 mem_at-over (PExp e) (Other k) r s G t q o = q
@@ -112,7 +113,7 @@ part-over (PExp e) r u G o = wider_exp r e G u o
 part-over (PMem m) r u G o = wider_mem r m G u o
 
 mutual
-  over_exp-var : (e : Exp) (r : ℕ) (p : Part) (s : VarSort) (G H : List VarSort) → sort_of p ≡ s → IsOverExp r e (G ++ s ∷ H) → IsOverPart r p (G ++ H) → IsOverExp r (subst_var_exp e (length G) p) (G ++ H)
+  over_exp-var : (e : Exp) (r : ℕ) (p : Part) (s : VarSort) (G H : List VarSort) → part_sort p ≡ s → IsOverExp r e (G ++ s ∷ H) → IsOverPart r p (G ++ H) → IsOverExp r (subst_var_exp e (length G) p) (G ++ H)
   over_exp-var (EReg k) r p s G H t o q = o
   over_exp-var ELeft r p s G H t o q = o
   over_exp-var (EVar n) r p s G H t o q = exp_at-over p (spot (length G) n) r s (G ++ H) t (sym (sort-spot G H s n) ∙ o) q
@@ -120,12 +121,12 @@ mutual
   over_exp-var (EOp f a b) r p s G H t o q = (over_exp-var a r p s G H t o.0 q, over_exp-var b r p s G H t o.1 q)
   over_exp-var (ESel m a) r p s G H t o q = (over_mem-var m r p s G H t o.0 q, over_exp-var a r p s G H t o.1 q)
 
-  over_mem-var : (m : MemExp) (r : ℕ) (p : Part) (s : VarSort) (G H : List VarSort) → sort_of p ≡ s → IsOverMem r m (G ++ s ∷ H) → IsOverPart r p (G ++ H) → IsOverMem r (subst_var_mem m (length G) p) (G ++ H)
+  over_mem-var : (m : MemExp) (r : ℕ) (p : Part) (s : VarSort) (G H : List VarSort) → part_sort p ≡ s → IsOverMem r m (G ++ s ∷ H) → IsOverPart r p (G ++ H) → IsOverMem r (subst_var_mem m (length G) p) (G ++ H)
   over_mem-var MMem r p s G H t o q = o
   over_mem-var (MVar n) r p s G H t o q = mem_at-over p (spot (length G) n) r s (G ++ H) t (sym (sort-spot G H s n) ∙ o) q
   over_mem-var (MUpd m a e) r p s G H t o q = (over_mem-var m r p s G H t o.0 q, over_exp-var a r p s G H t o.1 q, over_exp-var e r p s G H t o.2 q)
 
-over-var : (F : Form) (r : ℕ) (p : Part) (s : VarSort) (G H : List VarSort) → sort_of p ≡ s → IsOver r F (G ++ s ∷ H) → IsOverPart r p (G ++ H) → IsOver r (subst_var F (length G) p) (G ++ H)
+over-var : (F : Form) (r : ℕ) (p : Part) (s : VarSort) (G H : List VarSort) → part_sort p ≡ s → IsOver r F (G ++ s ∷ H) → IsOverPart r p (G ++ H) → IsOver r (subst_var F (length G) p) (G ++ H)
 over-var FTrue r p s G H t o q = tt
 over-var FFalse r p s G H t o q = tt
 over-var (FRel f a b) r p s G H t o q = (over_exp-var a r p s G H t o.0 q, over_exp-var b r p s G H t o.1 q)
@@ -137,5 +138,5 @@ over-var (FImp A B) r p s G H t o q = (over-var A r p s G H t o.0 q, over-var B 
 over-var (FAll A) r p s G H t o q = over-var A r (shift_part 1 p) s (OfWord ∷ G) H (sort-under p s t) o (part-over p r OfWord (G ++ H) q)
 over-var (FAllm A) r p s G H t o q = over-var A r (shift_part 1 p) s (OfMem ∷ G) H (sort-under p s t) o (part-over p r OfMem (G ++ H) q)
 
-pub var-scope : (r : ℕ) (F : Form) (p : Part) (G H : List VarSort) → IsOver r F (G ++ sort_of p ∷ H) → IsOverPart r p (G ++ H) → IsOver r (subst_var F (length G) p) (G ++ H)
-var-scope r F p G H o q = over-var F r p (sort_of p) G H refl o q
+pub var-scope : (r : ℕ) (F : Form) (p : Part) (G H : List VarSort) → IsOver r F (G ++ part_sort p ∷ H) → IsOverPart r p (G ++ H) → IsOver r (subst_var F (length G) p) (G ++ H)
+var-scope r F p G H o q = over-var F r p (part_sort p) G H refl o q

@@ -3,10 +3,10 @@ use Rattle.std.proofs.Common.{◌≡◌, ℕ, zero, suc, ◌+◌, ◌<◌, ◌�
 use Rattle.std.proofs.lemmas.Bool.{cases_lt}
 use Rattle.std.proofs.Math.Nat.{min-eq_left, min-le_left, le-max_left, le-max_right}
 use Rattle.formula_tree.specs.Formulas.{Exp, EReg, ELeft, EVar, ELit, EOp, ESel, MemExp, MMem, MVar, MUpd, shift_exp, shift_mem}
-use Rattle.formula_tree.specs.Substitution.{Change, shift_change}
-use Rattle.formula_tree.specs.Sizes.{HasRoomExp, HasRoomMem, HaveRoom, HasRoomChange}
+use Rattle.formula_tree.specs.Substitution.{Substitution, shift_substitution}
+use Rattle.formula_tree.specs.Sizes.{HasRoomExp, HasRoomMem, HaveRoom, HasRoomSubstitution}
 use Rattle.formula_tree.specs.declared.exp.Exp as rust
-use Rattle.formula_tree.specs.Views.{exp_view, change_of}
+use Rattle.formula_tree.specs.Views.{exp_view, substitution_of}
 
 -- what is put for a register that the list has, and for one past its end
 pub reg_some : (regs : List rust.Exp) (r d : ℕ) (e : rust.Exp) → r < length regs → e ≡ get_or regs r e → get_or (map (shift_exp d 0) (map exp_view regs)) r (ELit 0) ≡ shift_exp d 0 (exp_view e)
@@ -43,7 +43,7 @@ rooms-fewer : (l : List Exp) (k d : ℕ) → HaveRoom k 0 l → d ≤ k → Have
 rooms-fewer [] k d o h = tt
 rooms-fewer (e ∷ l) k d o h = (room_exp-fewer e k d o.0 h, rooms-fewer l k d o.1 h)
 
-pub room_fewer : (s : Change) (k d : ℕ) → HasRoomChange k s → d ≤ k → HasRoomChange d s
+pub room_fewer : (s : Substitution) (k d : ℕ) → HasRoomSubstitution k s → d ≤ k → HasRoomSubstitution d s
 room_fewer s k d o h = record { regs = rooms-fewer s.regs k d o.regs h; memory = room_mem-fewer s.memory k d o.memory h }
 
 -- one binder more, where the count of binders stops at 2 ^ 32 - 1
@@ -68,26 +68,26 @@ regs-next : (l : List Exp) (d e : ℕ) → e ≡ min (d + 1) 4294967295 → Have
 regs-next [] d e q o = refl
 regs-next (x ∷ l) d e q o = λ i. shift_exp-next x d e q o.0 i ∷ regs-next l d e q o.1 i
 
-pub change_next : (s : Change) (d e : ℕ) → e ≡ min (d + 1) 4294967295 → s.left ≡ ELeft → HasRoomChange (suc d) s → shift_change 1 (shift_change d s) ≡ shift_change e s
+pub change_next : (s : Substitution) (d e : ℕ) → e ≡ min (d + 1) 4294967295 → s.left ≡ ELeft → HasRoomSubstitution (suc d) s → shift_substitution 1 (shift_substitution d s) ≡ shift_substitution e s
 change_next s d e q left o =
     let same : shift_exp 1 0 (shift_exp d 0 s.left) ≡ shift_exp e 0 s.left = rw left refl in
     λ i. record { regs = regs-next s.regs d e q o.regs i; memory = shift_mem-next s.memory d e q o.memory i; left = same i }
 
 -- room for a formula's binders is room for those of its parts
-pub room_part : (s : Change) (d b : ℕ) → HasRoomChange (d + b) s → HasRoomChange d s
+pub room_part : (s : Substitution) (d b : ℕ) → HasRoomSubstitution (d + b) s → HasRoomSubstitution d s
 room_part s d b o = room_fewer s (d + b) d o (omega arith)
 
-pub room_left : (s : Change) (d a b : ℕ) → HasRoomChange (d + max a b) s → HasRoomChange (d + a) s
+pub room_left : (s : Substitution) (d a b : ℕ) → HasRoomSubstitution (d + max a b) s → HasRoomSubstitution (d + a) s
 room_left s d a b o = let h = le-max_left a b in room_fewer s (d + max a b) (d + a) o (omega (arith, h))
 
-pub room_right : (s : Change) (d a b : ℕ) → HasRoomChange (d + max a b) s → HasRoomChange (d + b) s
+pub room_right : (s : Substitution) (d a b : ℕ) → HasRoomSubstitution (d + max a b) s → HasRoomSubstitution (d + b) s
 room_right s d a b o = let h = le-max_right a b in room_fewer s (d + max a b) (d + b) o (omega (arith, h))
 
-pub room_body : (s : Change) (d e b : ℕ) → e ≡ min (d + 1) 4294967295 → HasRoomChange (d + suc b) s → HasRoomChange (e + b) s
+pub room_body : (s : Substitution) (d e b : ℕ) → e ≡ min (d + 1) 4294967295 → HasRoomSubstitution (d + suc b) s → HasRoomSubstitution (e + b) s
 room_body s d e b q o = let h : e ≤ d + 1 = subst (λ x. x ≤ d + 1) (sym q) (min-le_left (d + 1) 4294967295) in room_fewer s (d + suc b) (e + b) o (omega (arith, h))
 
 -- what is put under one binder more
-pub change_body : (s : Change) (d e b : ℕ) → e ≡ min (d + 1) 4294967295 → s.left ≡ ELeft → HasRoomChange (d + suc b) s → shift_change e s ≡ shift_change 1 (shift_change d s)
+pub change_body : (s : Substitution) (d e b : ℕ) → e ≡ min (d + 1) 4294967295 → s.left ≡ ELeft → HasRoomSubstitution (d + suc b) s → shift_substitution e s ≡ shift_substitution 1 (shift_substitution d s)
 change_body s d e b q left o = sym (change_next s d e q left (room_fewer s (d + suc b) (suc d) o (omega arith)))
 
 -- under no binder
@@ -109,5 +109,5 @@ regs-none : (l : List Exp) → map (shift_exp 0 0) l ≡ l
 regs-none [] = refl
 regs-none (x ∷ l) = λ i. shift_exp-none x i ∷ regs-none l i
 
-pub change_none : (s : Change) → shift_change 0 s ≡ s
+pub change_none : (s : Substitution) → shift_substitution 0 s ≡ s
 change_none s = λ i. record { regs = regs-none s.regs i; memory = shift_mem-none s.memory i; left = shift_exp-none s.left i }

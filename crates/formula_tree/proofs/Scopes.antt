@@ -1,8 +1,8 @@
 -- Substitution keeps a formula over the variables of its context and over registers below a bound.
 use Rattle.std.proofs.Common.{◌≡◌, ℕ, zero, suc, ◌<◌, Some, List, [], ◌∷◌, map, get_or, arith, one-add}
 use Rattle.formula_tree.specs.Formulas.{Exp, EReg, ELeft, EVar, ELit, EOp, ESel, MemExp, MMem, MVar, MUpd, Form, FTrue, FFalse, FRel, FRd, FWr, FAnd, FOr, FImp, FAll, FAllm, shift_exp, shift_mem}
-use Rattle.formula_tree.specs.Substitution.{Change, shift_change, subst_exp, subst_mem, subst_form}
-use Rattle.formula_tree.specs.Scope.{VarSort, OfWord, OfMem, sort_at, IsOverExp, IsOverMem, IsOver, IsOverChange}
+use Rattle.formula_tree.specs.Substitution.{Substitution, shift_substitution, subst_exp, subst_mem, subst_form}
+use Rattle.formula_tree.specs.Scope.{VarSort, OfWord, OfMem, sort_at, IsOverExp, IsOverMem, IsOver, IsOverSubstitution}
 
 mutual
   pub wider_exp : (r : ℕ) (e : Exp) (G : List VarSort) (s : VarSort) → IsOverExp r e G → IsOverExp r (shift_exp 1 0 e) (s ∷ G)
@@ -32,11 +32,11 @@ regs_under zero q (e ∷ l) H t o k h = absurd (omega (arith, h))
 regs_under (suc r) q (e ∷ l) H t o zero h = wider_exp q e H t (o zero h)
 regs_under (suc r) q (e ∷ l) H t o (suc k) h = regs_under r q l H t (λ j g. o (suc j) (omega (arith, g))) k (omega (arith, h))
 
-change_under : (r q : ℕ) (s : Change) (H : List VarSort) (t : VarSort) → IsOverChange r q s H → IsOverChange r q (shift_change 1 s) (t ∷ H)
+change_under : (r q : ℕ) (s : Substitution) (H : List VarSort) (t : VarSort) → IsOverSubstitution r q s H → IsOverSubstitution r q (shift_substitution 1 s) (t ∷ H)
 change_under r q s H t o = record { regs = regs_under r q s.regs H t o.regs; memory = λ h. wider_mem q s.memory H t (o.memory h) }
 
 mutual
-  pub scope-subst_exp : (r q : ℕ) (e : Exp) (s : Change) (G H : List VarSort) → IsOverExp r e G → Includes G H → IsOverChange r q s H → IsOverExp q (subst_exp e s) H
+  pub scope-subst_exp : (r q : ℕ) (e : Exp) (s : Substitution) (G H : List VarSort) → IsOverExp r e G → Includes G H → IsOverSubstitution r q s H → IsOverExp q (subst_exp e s) H
   scope-subst_exp r q (EReg k) s G H h i o = o.regs k h
   scope-subst_exp r q ELeft s G H h i o = absurd h
   scope-subst_exp r q (EVar n) s G H h i o = i n OfWord h
@@ -44,12 +44,12 @@ mutual
   scope-subst_exp r q (EOp p a b) s G H h i o = (scope-subst_exp r q a s G H h.0 i o, scope-subst_exp r q b s G H h.1 i o)
   scope-subst_exp r q (ESel m a) s G H h i o = (scope-subst_mem r q m s G H h.0 i o, scope-subst_exp r q a s G H h.1 i o)
 
-  pub scope-subst_mem : (r q : ℕ) (m : MemExp) (s : Change) (G H : List VarSort) → IsOverMem r m G → Includes G H → IsOverChange r q s H → IsOverMem q (subst_mem m s) H
+  pub scope-subst_mem : (r q : ℕ) (m : MemExp) (s : Substitution) (G H : List VarSort) → IsOverMem r m G → Includes G H → IsOverSubstitution r q s H → IsOverMem q (subst_mem m s) H
   scope-subst_mem r q MMem s G H h i o = o.memory h
   scope-subst_mem r q (MVar n) s G H h i o = i n OfMem h
   scope-subst_mem r q (MUpd m a v) s G H h i o = (scope-subst_mem r q m s G H h.0 i o, scope-subst_exp r q a s G H h.1 i o, scope-subst_exp r q v s G H h.2 i o)
 
-pub scope-subst : (r q : ℕ) (F : Form) (s : Change) (G H : List VarSort) → IsOver r F G → Includes G H → IsOverChange r q s H → IsOver q (subst_form F s) H
+pub scope-subst : (r q : ℕ) (F : Form) (s : Substitution) (G H : List VarSort) → IsOver r F G → Includes G H → IsOverSubstitution r q s H → IsOver q (subst_form F s) H
 scope-subst r q FTrue s G H h i o = tt
 scope-subst r q FFalse s G H h i o = tt
 scope-subst r q (FRel p a b) s G H h i o = (scope-subst_exp r q a s G H h.0 i o, scope-subst_exp r q b s G H h.1 i o)
@@ -58,5 +58,5 @@ scope-subst r q (FWr a) s G H h i o = scope-subst_exp r q a s G H h i o
 scope-subst r q (FAnd A B) s G H h i o = (scope-subst r q A s G H h.0 i o, scope-subst r q B s G H h.1 i o)
 scope-subst r q (FOr A B) s G H h i o = (scope-subst r q A s G H h.0 i o, scope-subst r q B s G H h.1 i o)
 scope-subst r q (FImp A B) s G H h i o = (scope-subst r q A s G H h.0 i o, scope-subst r q B s G H h.1 i o)
-scope-subst r q (FAll A) s G H h i o = scope-subst r q A (shift_change 1 s) (OfWord ∷ G) (OfWord ∷ H) h (includes_under G H OfWord i) (change_under r q s H OfWord o)
-scope-subst r q (FAllm A) s G H h i o = scope-subst r q A (shift_change 1 s) (OfMem ∷ G) (OfMem ∷ H) h (includes_under G H OfMem i) (change_under r q s H OfMem o)
+scope-subst r q (FAll A) s G H h i o = scope-subst r q A (shift_substitution 1 s) (OfWord ∷ G) (OfWord ∷ H) h (includes_under G H OfWord i) (change_under r q s H OfWord o)
+scope-subst r q (FAllm A) s G H h i o = scope-subst r q A (shift_substitution 1 s) (OfMem ∷ G) (OfMem ∷ H) h (includes_under G H OfMem i) (change_under r q s H OfMem o)

@@ -1,6 +1,7 @@
 -- Formulas as plain data: over registers, the memory m, the steps that are left, and bound variables.
 -- Necula, POPL 1997, and Necula and Lee, OSDI 1996 (the logic of safety predicates).
-use Rattle.std.specs.Prelude.{ℕ, zero, suc, ◌+◌}
+use Rattle.std.specs.Prelude.{ℕ, suc}
+use Rattle.term_table.specs.Tree.{raise}
 use Rattle.word_ops.specs.declared.Op.{Op}
 use Rattle.word_ops.specs.declared.Rel.{Rel}
 
@@ -28,12 +29,6 @@ pub data Form : Type 0 where
   FRd FWr : Exp → Form
   FAnd FOr FImp : Form → Form → Form
   FAll FAllm : Form → Form
-
--- the number of a variable once k binders more stand outside the c nearest
-abbrev pub raise : ℕ → ℕ → ℕ → ℕ
-raise k zero n = k + n
-raise k (suc c) zero = zero
-raise k (suc c) (suc n) = suc (raise k c n)
 
 -- an expression, and a memory, once k binders more stand outside the c nearest
 abbrev mutual

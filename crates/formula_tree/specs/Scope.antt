@@ -1,7 +1,7 @@
 -- The formulas over a context: each free variable is one of the context's, of its sort.
 use Rattle.std.specs.Prelude.{◌≡◌, ℕ, zero, suc, ◌^◌, ◌<◌, Option, Some, None, List, [], ◌∷◌, slice_index_or}
 use Rattle.formula_tree.specs.Formulas.{Exp, EReg, ELeft, EVar, ELit, EOp, ESel, MemExp, MMem, MVar, MUpd, Form, FTrue, FFalse, FRel, FRd, FWr, FAnd, FOr, FImp, FAll, FAllm}
-use Rattle.formula_tree.specs.Substitution.{Change}
+use Rattle.formula_tree.specs.Substitution.{Substitution}
 use Rattle.formula_tree.specs.Variables.{Part, PExp, PMem}
 
 -- what a variable stands for; formulas name no proof, but contexts of proofs have such variables too
@@ -43,14 +43,14 @@ IsOver r (FAll A) G = IsOver r A (OfWord ∷ G)
 IsOver r (FAllm A) G = IsOver r A (OfMem ∷ G)
 
 -- what is put for registers below r, and for m where there are any, is over registers below q and a context
-pub record IsOverChange (r q : ℕ) (s : Change) (G : List VarSort) : Type 0 where
+pub record IsOverSubstitution (r q : ℕ) (s : Substitution) (G : List VarSort) : Type 0 where
   pub regs : (k : ℕ) → k < r → IsOverExp q (slice_index_or s.regs k (ELit 0)) G
   pub memory : 0 < r → IsOverMem q s.memory G
 
 -- the sort of the variable that a part is put for
-abbrev pub sort_of : Part → VarSort
-sort_of (PExp e) = OfWord
-sort_of (PMem m) = OfMem
+abbrev pub part_sort : Part → VarSort
+part_sort (PExp e) = OfWord
+part_sort (PMem m) = OfMem
 
 -- a part over registers below r and a context
 abbrev pub IsOverPart : ℕ → Part → List VarSort → Type 0

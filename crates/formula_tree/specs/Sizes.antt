@@ -1,7 +1,9 @@
 -- The height of a formula, how deep its binders stand, and which shifts leave variables below 2 ^ 32.
 use Rattle.std.specs.Prelude.{ℕ, suc, ◌+◌, ◌<◌, ◌^◌, min, max, List, [], ◌∷◌}
-use Rattle.formula_tree.specs.Formulas.{Exp, EReg, ELeft, EVar, ELit, EOp, ESel, MemExp, MMem, MVar, MUpd, Form, FTrue, FFalse, FRel, FRd, FWr, FAnd, FOr, FImp, FAll, FAllm, raise}
-use Rattle.formula_tree.specs.Substitution.{Change}
+use Rattle.formula_tree.specs.Formulas.{Exp, EReg, ELeft, EVar, ELit, EOp, ESel, MemExp, MMem, MVar, MUpd, Form, FTrue, FFalse, FRel, FRd, FWr, FAnd, FOr, FImp, FAll, FAllm}
+use Rattle.term_table.specs.Tree.{raise}
+use Rattle.term_table.specs.Tree.{raise}
+use Rattle.formula_tree.specs.Substitution.{Substitution}
 
 -- 1 for what has no parts, else one more than the highest part
 abbrev mutual
@@ -18,6 +20,7 @@ abbrev mutual
   mem_height (MVar n) = 1
   mem_height (MUpd m a v) = 1 + max (mem_height m) (max (exp_height a) (exp_height v))
 
+-- the same of a formula
 abbrev pub form_height : Form → ℕ
 form_height FTrue = 1
 form_height FFalse = 1
@@ -29,10 +32,6 @@ form_height (FOr A B) = 1 + max (form_height A) (form_height B)
 form_height (FImp A B) = 1 + max (form_height A) (form_height B)
 form_height (FAll A) = 1 + form_height A
 form_height (FAllm A) = 1 + form_height A
-
--- a measure as it is answered: the number, or 4,294,967,295 where it is greater
-abbrev pub capped : ℕ → ℕ
-capped n = min n 4294967295
 
 -- how many binders stand one within the other at most
 abbrev pub binders : Form → ℕ
@@ -81,6 +80,6 @@ HaveRoom k c [] = Unit {0}
 HaveRoom k c (e ∷ l) = HasRoomExp k c e × HaveRoom k c l
 
 -- no variable of what is put for registers and m reaches 2 ^ 32 under k binders
-pub record HasRoomChange (k : ℕ) (s : Change) : Type 0 where
+pub record HasRoomSubstitution (k : ℕ) (s : Substitution) : Type 0 where
   pub regs : HaveRoom k 0 s.regs
   pub memory : HasRoomMem k 0 s.memory

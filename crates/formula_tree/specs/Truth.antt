@@ -6,7 +6,7 @@ use Rattle.word_ops.specs.Memory.{Memory, read, write, IsMemory}
 use Rattle.word_ops.specs.Rights.{Rights, IsRights, allowed}
 use Rattle.word_ops.specs.Registers.{read_reg}
 use Rattle.formula_tree.specs.Formulas.{Exp, EReg, ELeft, EVar, ELit, EOp, ESel, MemExp, MMem, MVar, MUpd, Form, FTrue, FFalse, FRel, FRd, FWr, FAnd, FOr, FImp, FAll, FAllm}
-use Rattle.formula_tree.specs.Substitution.{Change}
+use Rattle.formula_tree.specs.Substitution.{Substitution}
 use Rattle.formula_tree.specs.Variables.{Part, PExp, PMem}
 
 -- the words of r0 to r30, the memory m, and the number of steps that are left
@@ -26,10 +26,12 @@ bound_at [] n = BWord 0
 bound_at (b ∷ ρ) zero = b
 bound_at (b ∷ ρ) (suc n) = bound_at ρ n
 
+-- the word that a bound variable stands for
 abbrev pub bound_word : Bound → ℕ
 bound_word (BWord w) = w
 bound_word (BMem m) = 0
 
+-- the memory that it stands for
 abbrev pub bound_memory : Bound → Memory
 bound_memory (BWord w) = empty
 bound_memory (BMem m) = m
@@ -70,9 +72,9 @@ nowhere = record { regs = []; memory = empty; left = 0 }
 abbrev pub IsValid : Form → Type 0
 IsValid F = (R : Rights) → IsRights R → IsTrueIn R F nowhere []
 
--- what a change puts, as words and a memory
-abbrev pub change_value : Change → Valuation → List Bound → Valuation
-change_value s v ρ = record { regs = map (λ e. exp_value e v ρ) s.regs; memory = mem_value s.memory v ρ; left = exp_value s.left v ρ }
+-- what a substitution puts, as words and a memory
+abbrev pub substitution_value : Substitution → Valuation → List Bound → Valuation
+substitution_value s v ρ = record { regs = map (λ e. exp_value e v ρ) s.regs; memory = mem_value s.memory v ρ; left = exp_value s.left v ρ }
 
 -- what a part stands for
 abbrev pub part_value : Part → Valuation → List Bound → Bound

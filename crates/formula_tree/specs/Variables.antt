@@ -1,5 +1,6 @@
 -- Substitution of an expression or a memory for one variable of a context; the others are named as in the context without it. No variable is captured.
-use Rattle.std.specs.Prelude.{ℕ, zero, suc}
+use Rattle.std.specs.Prelude.{ℕ, suc}
+use Rattle.term_table.specs.Tree.{Spot, Here, Other, spot}
 use Rattle.formula_tree.specs.Formulas.{Exp, EReg, ELeft, EVar, ELit, EOp, ESel, MemExp, MMem, MVar, MUpd, Form, FTrue, FFalse, FRel, FRd, FWr, FAnd, FOr, FImp, FAll, FAllm, shift_exp, shift_mem}
 
 -- what is put for a variable
@@ -11,22 +12,6 @@ pub data Part : Type 0 where
 abbrev pub shift_part : ℕ → Part → Part
 shift_part k (PExp e) = PExp (shift_exp k 0 e)
 shift_part k (PMem m) = PMem (shift_mem k 0 m)
-
--- what a variable is where one is taken out of its context: that one, or another by its new number
-pub data Spot : Type 0 where
-  Here : Spot
-  Other : ℕ → Spot
-
-abbrev pub later : Spot → Spot
-later Here = Here
-later (Other n) = Other (suc n)
-
--- what the variable n is where x is taken out
-abbrev pub spot : ℕ → ℕ → Spot
-spot zero zero = Here
-spot zero (suc n) = Other n
-spot (suc x) zero = Other zero
-spot (suc x) (suc n) = later (spot x n)
 
 -- A word variable; a memory in its place, which no context allows, is read as 0.
 abbrev pub exp_at : Part → Spot → Exp

@@ -7,7 +7,7 @@ use Rattle.formula_tree.specs.declared.exp.MemExp.TheVariants as M
 use Rattle.formula_tree.specs.declared.form.Form as form
 use Rattle.formula_tree.specs.declared.form.Form.TheVariants as F
 use Rattle.formula_tree.specs.Formulas.{Exp, EReg, ELeft, EVar, ELit, EOp, ESel, MemExp, MMem, MVar, MUpd, Form, FTrue, FFalse, FRel, FRd, FWr, FAnd, FOr, FImp, FAll, FAllm}
-use Rattle.formula_tree.specs.Substitution.{Change}
+use Rattle.formula_tree.specs.Substitution.{Substitution}
 
 abbrev mutual
   pub exp_view : exp.Exp → Exp
@@ -22,6 +22,7 @@ abbrev mutual
   mem_exp_view (M.Var n) = MVar n
   mem_exp_view (M.Upd' p m q a r v) = MUpd (mem_exp_view m) (exp_view a) (exp_view v)
 
+-- a formula without the places of its boxes
 abbrev pub form_view : form.Form → Form
 form_view F.True = FTrue
 form_view F.False = FFalse
@@ -35,5 +36,5 @@ form_view (F.All' p a) = FAll (form_view a)
 form_view (F.Allm' p a) = FAllm (form_view a)
 
 -- these expressions for the registers, and this memory for m; the steps that are left stay
-abbrev pub change_of : List exp.Exp → mem.MemExp → Change
-change_of regs m = record { regs = map exp_view regs; memory = mem_exp_view m; left = ELeft }
+abbrev pub substitution_of : List exp.Exp → mem.MemExp → Substitution
+substitution_of regs m = record { regs = map exp_view regs; memory = mem_exp_view m; left = ELeft }

@@ -1,10 +1,12 @@
 //! Expressions: words and memories.
 
 ghost use Rattle.std.specs.Prelude.{◌≡◌, IfOk, ◌<◌, ◌^◌};
-ghost use Rattle.formula_tree.specs.Formulas.{EOp, ESel, MUpd, raise, shift_exp, shift_mem};
-ghost use Rattle.formula_tree.specs.Sizes.{exp_height, mem_height, capped, HasRoomExp, HasRoomMem, HasRoomChange};
-ghost use Rattle.formula_tree.specs.Substitution.{shift_change, subst_exp, subst_mem};
-ghost use Rattle.formula_tree.specs.Views.{exp_view, mem_exp_view, change_of};
+ghost use Rattle.formula_tree.specs.Formulas.{EOp, ESel, MUpd, shift_exp, shift_mem};
+ghost use Rattle.term_table.specs.Tree.{raise};
+ghost use Rattle.formula_tree.specs.Sizes.{exp_height, mem_height, HasRoomExp, HasRoomMem, HasRoomSubstitution};
+ghost use Rattle.term_table.specs.Measures.{capped};
+ghost use Rattle.formula_tree.specs.Substitution.{shift_substitution, subst_exp, subst_mem};
+ghost use Rattle.formula_tree.specs.Views.{exp_view, mem_exp_view, substitution_of};
 
 use std::alloc::{AllocError, Global};
 use word_ops::Op;
@@ -61,7 +63,8 @@ impl Exp {
 
     /// What the memory has at the address. Fails only for want of memory.
     pub fn sel(alloc: Global, memory: MemExp, address: Exp) -> Result<Exp, AllocError>
-        ensures exact { IfOk result (λ e. exp_view e ≡ ESel (mem_exp_view memory) (exp_view address)) }
+        ensures exact { IfOk result (λ e. exp_view e ≡ ESel (mem_exp_view memory)
+            (exp_view address)) }
     {
         Ok(Exp::Sel(Box::new(alloc, memory)?, Box::new(alloc, address)?))
     }
@@ -112,8 +115,9 @@ impl Exp {
         memory: &MemExp,
         depth: u32,
     ) -> Result<Exp, AllocError>
-        requires room { HasRoomChange depth (change_of regs.now memory.now) }
-        ensures exact { IfOk result (λ e. exp_view e ≡ subst_exp (exp_view self.now) (shift_change depth (change_of regs.now memory.now))) }
+        requires room { HasRoomSubstitution depth (substitution_of regs.now memory.now) }
+        ensures exact { IfOk result (λ e. exp_view e ≡ subst_exp (exp_view self.now)
+            (shift_substitution depth (substitution_of regs.now memory.now))) }
     {
         match self {
             Exp::Reg(number) => match regs.get(usize::from(*number)) {
@@ -150,7 +154,8 @@ impl Exp {
 impl MemExp {
     /// The memory after a store, at the address, of the word. Fails only for want of memory.
     pub fn upd(alloc: Global, memory: MemExp, address: Exp, word: Exp) -> Result<MemExp, AllocError>
-        ensures exact { IfOk result (λ m. mem_exp_view m ≡ MUpd (mem_exp_view memory) (exp_view address) (exp_view word)) }
+        ensures exact { IfOk result (λ m. mem_exp_view m ≡ MUpd (mem_exp_view memory)
+            (exp_view address) (exp_view word)) }
     {
         Ok(MemExp::Upd(
             Box::new(alloc, memory)?,
@@ -179,7 +184,8 @@ impl MemExp {
     #[cycle(shift)]
     pub(crate) fn shift_at(&self, alloc: Global, by: u32, from: u64) -> Result<MemExp, AllocError>
         requires room { HasRoomMem by from (mem_exp_view self.now) }
-        ensures exact { IfOk result (λ m. mem_exp_view m ≡ shift_mem by from (mem_exp_view self.now)) }
+        ensures exact { IfOk result (λ m. mem_exp_view m ≡ shift_mem by from
+            (mem_exp_view self.now)) }
     {
         match self {
             MemExp::Mem => Ok(MemExp::Mem),
@@ -201,8 +207,9 @@ impl MemExp {
         memory: &MemExp,
         depth: u32,
     ) -> Result<MemExp, AllocError>
-        requires room { HasRoomChange depth (change_of regs.now memory.now) }
-        ensures exact { IfOk result (λ m. mem_exp_view m ≡ subst_mem (mem_exp_view self.now) (shift_change depth (change_of regs.now memory.now))) }
+        requires room { HasRoomSubstitution depth (substitution_of regs.now memory.now) }
+        ensures exact { IfOk result (λ m. mem_exp_view m ≡ subst_mem (mem_exp_view self.now)
+            (shift_substitution depth (substitution_of regs.now memory.now))) }
     {
         match self {
             MemExp::Mem => memory.shift_at(alloc, depth, 0),

@@ -2,9 +2,10 @@
 
 ghost use Rattle.std.specs.Prelude.{◌≡◌, IfOk, ◌+◌, length};
 ghost use Rattle.formula_tree.specs.Formulas.{FAnd, FOr, FImp, FAll, FAllm, shift_form};
-ghost use Rattle.formula_tree.specs.Sizes.{form_height, capped, binders, HasRoom, HasRoomChange};
-ghost use Rattle.formula_tree.specs.Views.{form_view, change_of};
-ghost use Rattle.formula_tree.specs.Substitution.{shift_change, subst_form};
+ghost use Rattle.formula_tree.specs.Sizes.{form_height, binders, HasRoom, HasRoomSubstitution};
+ghost use Rattle.term_table.specs.Measures.{capped};
+ghost use Rattle.formula_tree.specs.Views.{form_view, substitution_of};
+ghost use Rattle.formula_tree.specs.Substitution.{shift_substitution, subst_form};
 
 use crate::exp::{Exp, MemExp};
 use std::alloc::{AllocError, Global};
@@ -141,8 +142,10 @@ impl Form {
         memory: &MemExp,
         depth: u32,
     ) -> Result<Form, AllocError>
-        requires room { HasRoomChange (depth + binders (form_view self.now)) (change_of regs.now memory.now) }
-        ensures exact { IfOk result (λ f. form_view f ≡ subst_form (form_view self.now) (shift_change depth (change_of regs.now memory.now))) }
+        requires room { HasRoomSubstitution (depth + binders (form_view self.now))
+            (substitution_of regs.now memory.now) }
+        ensures exact { IfOk result (λ f. form_view f ≡ subst_form (form_view self.now)
+            (shift_substitution depth (substitution_of regs.now memory.now))) }
     {
         match self {
             Form::True => Ok(Form::True),
@@ -185,8 +188,10 @@ impl Form {
         memory: &MemExp,
     ) -> Result<Form, AllocError>
         requires count { length regs.now ≡ 31 }
-        requires room { HasRoomChange (binders (form_view self.now)) (change_of regs.now memory.now) }
-        ensures exact { IfOk result (λ f. form_view f ≡ subst_form (form_view self.now) (change_of regs.now memory.now)) }
+        requires room { HasRoomSubstitution (binders (form_view self.now))
+            (substitution_of regs.now memory.now) }
+        ensures exact { IfOk result (λ f. form_view f ≡ subst_form (form_view self.now)
+            (substitution_of regs.now memory.now)) }
     {
         self.subst_at(alloc, regs, memory, 0)
     }

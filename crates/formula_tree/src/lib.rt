@@ -11,8 +11,10 @@
 
 mod exp;
 mod form;
-mod known;
+#[cfg(test)]
+mod tests;
+mod theorems;
 
 pub use exp::{Exp, MemExp};
 pub use form::Form;
-pub use known::laws;
+pub use theorems::laws;

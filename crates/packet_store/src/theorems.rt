@@ -14,13 +14,15 @@ ghost use Rattle.packet_store.specs.PolicyStarts.{start_of};
 ghost use Rattle.packet_store.specs.StartMeets.{StartMeets};
 
 /// The start of a policy on a packet of bytes is a state of the machine, and meets the policy's
-/// precondition; and a file of bytes reads as the packets that spell it, or as its first fault,
+/// precondition; and a file of bytes reads as the packets that encode it, or as its first fault,
 /// exactly.
 pub fn laws()
-    ensures state { (policy : PolicyKind) (packet : List ℕ) (setup : StartView) → length packet ≤ MAX_PACKET
+    ensures state { (policy : PolicyKind) (packet : List ℕ) (setup : StartView) →
+        length packet ≤ MAX_PACKET
         → IsBytes packet → start_of policy packet ≡ Some setup
         → IsState (start_state ARENA setup) }
-    ensures meets { (policy : PolicyKind) (packet : List ℕ) (setup : StartView) → length packet ≤ MAX_PACKET
+    ensures meets { (policy : PolicyKind) (packet : List ℕ) (setup : StartView) →
+        length packet ≤ MAX_PACKET
         → start_of policy packet ≡ Some setup → StartMeets setup (pre_of policy) }
     ensures whole { (bytes : List ℕ) (ps : List (List ℕ)) → IsBytes bytes
         → ((decoded_packets bytes ≡ Ok ps) ↔ (AreShort ps × (bytes ≡ packets_encoding ps))) }

@@ -1,4 +1,4 @@
 pub mod Names
 pub mod Policies
-pub mod Meets
+pub mod Satisfies
 pub mod Inside

@@ -32,6 +32,7 @@ usable_scratch = FAll (FImp (aligned_below (EVar 0) (ELit 16)) (FAnd (FRd (offse
 abbrev pub separate_scratch : Form
 separate_scratch = FAll (FAll (FImp (FAnd (aligned_below (EVar 1) (EReg 17)) (aligned_below (EVar 0) (ELit 16))) (FImp (FRel Eq (offset_from 16 (EVar 1)) (offset_from 18 (EVar 0))) FFalse)))
 
+-- what `filter` asks
 abbrev pub filter_pre : Form
 filter_pre = FAnd long_packet (FAnd readable_packet (FAnd usable_scratch separate_scratch))
 
@@ -53,6 +54,7 @@ readable_word = FRd (offset_from 16 (ELit 8))
 abbrev pub writable_word : Form
 writable_word = FImp (FImp (FRel Eq (ESel MMem (offset_from 16 (ELit 0))) (ELit 0)) FFalse) (FWr (offset_from 16 (ELit 8)))
 
+-- what `tag` asks
 abbrev pub tag_pre : Form
 tag_pre = FAnd readable_tag (FAnd readable_word writable_word)
 
@@ -70,6 +72,7 @@ entry_address = offset_from 16 (EOp Sll (EVar 0) (ELit 3))
 abbrev pub usable_table : Form
 usable_table = FAll (FImp (FRel Ult (EVar 0) (EReg 17)) (FAnd (FRd entry_address) (FWr entry_address)))
 
+-- what `table` asks
 abbrev pub table_pre : Form
 table_pre = FAnd short_table usable_table
 

@@ -6,5 +6,5 @@ use Rattle.formula_tree.specs.Formulas.{Form}
 use Rattle.formula_tree.specs.Truth.{IsTrueIn}
 
 -- the formula is true under the state's own rights, registers and memory
-abbrev pub Meets : Rights → List ℕ → Memory → Form → Type 0
-Meets rights regs memory F = IsTrueIn rights F (record { regs = regs; memory = memory; left = 0 }) []
+abbrev pub Satisfies : Rights → List ℕ → Memory → Form → Type 0
+Satisfies rights regs memory F = IsTrueIn rights F (record { regs = regs; memory = memory; left = 0 }) []

@@ -1,9 +1,9 @@
 use Rattle.formula_tree.specs.Formulas.{Form}
-use Rattle.formula_tree.specs.Substitution.{Change}
+use Rattle.formula_tree.specs.Substitution.{Substitution}
 use Rattle.formula_tree.proofs.Meaning.{subst-truth, shift-truth, closed-truth, reads-truth, stable-truth}
 use Rattle.formula_tree.proofs.Parts.{var-truth, var-scope}
 use Rattle.formula_tree.proofs.Scopes.{scope-subst}
-use Rattle.formula_tree.proofs.known.laws.Goals as goal
+use Rattle.formula_tree.proofs.theorems.laws.Goals as goal
 
 pub returns : goal.returns
 returns c = record {
