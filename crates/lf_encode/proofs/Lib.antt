@@ -1,0 +1,9 @@
+pub mod Encoded
+pub mod Typed
+pub mod Adequate
+pub mod Naming
+pub mod Substituted
+pub mod Named
+pub mod Counts
+pub mod Types
+pub mod PutTree

@@ -1,0 +1,232 @@
+-- Encodings over a context of word and memory variables, the machine's among them.
+use Rattle.std.proofs.Common.{◌≡◌, ℕ, zero, suc, ◌+◌, ◌^◌, ◌<◌, ◌≤◌, max, Bool, true, false, cond, List, [], ◌∷◌, ◌++◌, length, drop, refl, sym, ◌∙◌, ap, subst, arith, append_assoc, append-nil}
+use Rattle.term_table.specs.Tree.{Tree, Fam}
+use Rattle.lf_signature.specs.Sigma1.{declared}
+use Rattle.lf_signature.specs.Typing.{Checks}
+use Rattle.formula_tree.specs.Formulas.{Exp, MemExp, Form, FTrue, FFalse, FRel, FRd, FWr, FAnd, FOr, FImp, FAll, FAllm}
+use Rattle.formula_tree.specs.Scope.{VarSort, OfWord, OfMem, IsOverExp, IsOverMem, IsOver}
+use Rattle.formula_tree.specs.Sizes.{binders, form_height}
+use Rattle.lf_encode.specs.declared.contexts.Sort as sort
+use Rattle.lf_encode.specs.declared.contexts.Sort.TheVariants as S
+use Rattle.lf_encode.specs.Encoding.{exp_encoding, mem_encoding, form_encoding, var_types}
+use Rattle.lf_encode.specs.Contexts.{var_sort, put_nearest, sorts_of, sort_types, has_words, has_machine, bound_sorts, registers_in, IsExpIn, IsMemIn, IsFormIn, encoding_in, exp_encoding_in, mem_encoding_in, EncodesForm, EncodesExp, EncodesMem}
+use Rattle.lf_encode.specs.Inside.Naming.{words, named_exp, named_mem, named_form, unnamed_exp, unnamed_mem, unnamed_form}
+use Rattle.lf_encode.proofs.Naming.{named_exp-is, named_mem-is, named_form-is, named_exp-over, named_mem-over, named_form-over, named_exp-none, named_mem-none, named_form-none, unnamed_exp-over, unnamed_mem-over, unnamed_form-over, back_exp, back_mem, back_form}
+use Rattle.lf_encode.proofs.Encoded.{exp_encoding-injective, mem_encoding-injective, form_encoding-injective}
+use Rattle.lf_encode.proofs.Typed.{exp_checks, mem_checks, form_checks}
+use Rattle.lf_encode.proofs.Adequate.{checked_form, checked_mem, checked_exp}
+
+-- ---- the machine's variables are the furthest
+
+put_nearest-append : (ctx : List sort.Sort) (G : List VarSort) → put_nearest ctx G ≡ sorts_of ctx ++ G
+put_nearest-append [] G = refl
+put_nearest-append (s ∷ ctx) G =
+    put_nearest-append ctx (var_sort s ∷ G) ∙ sym (append_assoc (sorts_of ctx) (var_sort s ∷ []) G) ∙ ap (λ l. l ++ G) (sym (put_nearest-append ctx (var_sort s ∷ [])))
+
+words-more : (n : ℕ) (G : List VarSort) → words n (OfWord ∷ G) ≡ OfWord ∷ words n G
+words-more zero G = refl
+words-more (suc n) G = ap (λ H. OfWord ∷ H) (words-more n G)
+
+put_nearest-words : (n : ℕ) (ctx : List sort.Sort) (G : List VarSort) → has_words n ctx ≡ true → put_nearest ctx G ≡ put_nearest (drop n ctx) (words n G)
+put_nearest-words zero ctx G h = refl
+put_nearest-words (suc n) [] G h = cc
+put_nearest-words (suc n) (S.Exp ∷ ctx) G h = put_nearest-words n ctx (OfWord ∷ G) h ∙ ap (put_nearest (drop n ctx)) (words-more n G)
+put_nearest-words (suc n) (S.Mem ∷ ctx) G h = cc
+
+abbrev pub machine : List VarSort
+machine = words 31 (OfMem ∷ [])
+
+sorts_of-machine : (ctx : List sort.Sort) → has_machine ctx ≡ true → sorts_of ctx ≡ sorts_of (drop 32 ctx) ++ machine
+sorts_of-machine [] h = cc
+sorts_of-machine (S.Exp ∷ ctx) h = cc
+sorts_of-machine (S.Mem ∷ ctx) h = put_nearest-words 31 ctx (OfMem ∷ []) h ∙ put_nearest-append (drop 31 ctx) machine
+
+length-put_nearest : (ctx : List sort.Sort) (G : List VarSort) → length (put_nearest ctx G) ≡ length ctx + length G
+length-put_nearest [] G = let same : length G ≡ 0 + length G = omega arith in same
+length-put_nearest (s ∷ ctx) G = let rest = length-put_nearest ctx (var_sort s ∷ G) in omega (arith, rest)
+
+pub length-sorts_of : (ctx : List sort.Sort) → length (sorts_of ctx) ≡ length ctx
+length-sorts_of ctx = let all = length-put_nearest ctx [] in omega (arith, all)
+
+-- a context is that of the machine and nearer variables, or of variables without names
+record Split (ctx : List sort.Sort) (b : Bool) : Type 0 where
+  near : List VarSort
+  bound : bound_sorts ctx ≡ near
+  registers : (r : ℕ) → registers_in ctx r ≡ cond b r 0
+  sorts : sorts_of ctx ≡ cond b (near ++ machine) near
+
+split : (ctx : List sort.Sort) (b : Bool) → has_machine ctx ≡ b → Split ctx b
+split ctx true h = record {
+  near = sorts_of (drop 32 ctx);
+  bound = ap (λ c. cond c (sorts_of (drop 32 ctx)) (sorts_of ctx)) h;
+  registers = λ r. ap (λ c. cond c r 0) h;
+  sorts = sorts_of-machine ctx h;
+}
+split ctx false h = record {
+  near = sorts_of ctx;
+  bound = ap (λ c. cond c (sorts_of (drop 32 ctx)) (sorts_of ctx)) h;
+  registers = λ r. ap (λ c. cond c r 0) h;
+  sorts = refl;
+}
+
+-- ---- what is over a context is, once named, over its variables
+
+abbrev count : List sort.Sort → ℕ
+count ctx = length (bound_sorts ctx)
+
+pub exp_in-over : (ctx : List sort.Sort) (r : ℕ) (e : Exp) → IsExpIn ctx r e → IsOverExp 0 (named_exp (count ctx) e) (sorts_of ctx)
+exp_in-over ctx r e = go (has_machine ctx) refl
+  where
+    go : (b : Bool) → has_machine ctx ≡ b → IsExpIn ctx r e → IsOverExp 0 (named_exp (count ctx) e) (sorts_of ctx)
+    go true q h = let s = split ctx true q in rw (s.bound, s.sorts) (named_exp-over r e s.near (subst (λ B. IsOverExp r e B) s.bound (subst (λ k. IsOverExp k e (bound_sorts ctx)) (s.registers r) h)))
+    go false q h =
+        let s = split ctx false q in
+        let plain : IsOverExp 0 e s.near = subst (λ B. IsOverExp 0 e B) s.bound (subst (λ k. IsOverExp k e (bound_sorts ctx)) (s.registers r) h) in
+        rw (s.bound, s.sorts) (subst (λ (z : Exp). IsOverExp 0 z s.near) (sym (named_exp-none e (length s.near) s.near plain)) plain)
+
+pub mem_in-over : (ctx : List sort.Sort) (r : ℕ) (m : MemExp) → IsMemIn ctx r m → IsOverMem 0 (named_mem (count ctx) m) (sorts_of ctx)
+mem_in-over ctx r m = go (has_machine ctx) refl
+  where
+    go : (b : Bool) → has_machine ctx ≡ b → IsMemIn ctx r m → IsOverMem 0 (named_mem (count ctx) m) (sorts_of ctx)
+    go true q h = let s = split ctx true q in rw (s.bound, s.sorts) (named_mem-over r m s.near (subst (λ B. IsOverMem r m B) s.bound (subst (λ k. IsOverMem k m (bound_sorts ctx)) (s.registers r) h)))
+    go false q h =
+        let s = split ctx false q in
+        let plain : IsOverMem 0 m s.near = subst (λ B. IsOverMem 0 m B) s.bound (subst (λ k. IsOverMem k m (bound_sorts ctx)) (s.registers r) h) in
+        rw (s.bound, s.sorts) (subst (λ (z : MemExp). IsOverMem 0 z s.near) (sym (named_mem-none m (length s.near) s.near plain)) plain)
+
+pub form_in-over : (ctx : List sort.Sort) (r : ℕ) (F : Form) → IsFormIn ctx r F → IsOver 0 (named_form (count ctx) F) (sorts_of ctx)
+form_in-over ctx r F = go (has_machine ctx) refl
+  where
+    go : (b : Bool) → has_machine ctx ≡ b → IsFormIn ctx r F → IsOver 0 (named_form (count ctx) F) (sorts_of ctx)
+    go true q h = let s = split ctx true q in rw (s.bound, s.sorts) (named_form-over r F s.near (subst (λ B. IsOver r F B) s.bound (subst (λ k. IsOver k F (bound_sorts ctx)) (s.registers r) h)))
+    go false q h =
+        let s = split ctx false q in
+        let plain : IsOver 0 F s.near = subst (λ B. IsOver 0 F B) s.bound (subst (λ k. IsOver k F (bound_sorts ctx)) (s.registers r) h) in
+        rw (s.bound, s.sorts) (subst (λ (z : Form). IsOver 0 z s.near) (sym (named_form-none F (length s.near) s.near plain)) plain)
+
+-- ---- and what is over its variables is a named one
+
+pub exp_over-in : (ctx : List sort.Sort) (e : Exp) → IsOverExp 0 e (sorts_of ctx) → (f : Exp) × IsExpIn ctx 31 f × (named_exp (count ctx) f ≡ e)
+exp_over-in ctx e = go (has_machine ctx) refl
+  where
+    go : (b : Bool) → has_machine ctx ≡ b → IsOverExp 0 e (sorts_of ctx) → (f : Exp) × IsExpIn ctx 31 f × (named_exp (count ctx) f ≡ e)
+    go true q h =
+        let s = split ctx true q in let u = unnamed_exp-over e s.near (subst (λ B. IsOverExp 0 e B) s.sorts h) in
+        (unnamed_exp (length s.near) e, rw (s.registers 31, s.bound) u.0, rw s.bound u.1)
+    go false q h =
+        let s = split ctx false q in let plain : IsOverExp 0 e s.near = subst (λ B. IsOverExp 0 e B) s.sorts h in
+        (e, rw (s.registers 31, s.bound) plain, named_exp-none e (count ctx) s.near plain)
+
+pub mem_over-in : (ctx : List sort.Sort) (m : MemExp) → IsOverMem 0 m (sorts_of ctx) → (f : MemExp) × IsMemIn ctx 31 f × (named_mem (count ctx) f ≡ m)
+mem_over-in ctx m = go (has_machine ctx) refl
+  where
+    go : (b : Bool) → has_machine ctx ≡ b → IsOverMem 0 m (sorts_of ctx) → (f : MemExp) × IsMemIn ctx 31 f × (named_mem (count ctx) f ≡ m)
+    go true q h =
+        let s = split ctx true q in let u = unnamed_mem-over m s.near (subst (λ B. IsOverMem 0 m B) s.sorts h) in
+        (unnamed_mem (length s.near) m, rw (s.registers 31, s.bound) u.0, rw s.bound u.1)
+    go false q h =
+        let s = split ctx false q in let plain : IsOverMem 0 m s.near = subst (λ B. IsOverMem 0 m B) s.sorts h in
+        (m, rw (s.registers 31, s.bound) plain, named_mem-none m (count ctx) s.near plain)
+
+pub form_over-in : (ctx : List sort.Sort) (F : Form) → IsOver 0 F (sorts_of ctx) → (E : Form) × IsFormIn ctx 31 E × (named_form (count ctx) E ≡ F)
+form_over-in ctx F = go (has_machine ctx) refl
+  where
+    go : (b : Bool) → has_machine ctx ≡ b → IsOver 0 F (sorts_of ctx) → (E : Form) × IsFormIn ctx 31 E × (named_form (count ctx) E ≡ F)
+    go true q h =
+        let s = split ctx true q in let u = unnamed_form-over F s.near (subst (λ B. IsOver 0 F B) s.sorts h) in
+        (unnamed_form (length s.near) F, rw (s.registers 31, s.bound) u.0, rw s.bound u.1)
+    go false q h =
+        let s = split ctx false q in let plain : IsOver 0 F s.near = subst (λ B. IsOver 0 F B) s.sorts h in
+        (F, rw (s.registers 31, s.bound) plain, named_form-none F (count ctx) s.near plain)
+
+-- ---- adequacy over a context
+
+pub form_encoded : (ctx : List sort.Sort) (t : Tree) → Checks declared (sort_types ctx) t (Fam 2) → (F : Form) × EncodesForm ctx F t
+form_encoded ctx t d =
+    let f = checked_form (sorts_of ctx) t d in let e = form_over-in ctx f.form f.over in
+    (e.0, record { over = e.1; is = ap form_encoding (named_form-is (count ctx) e.0 ∙ e.2) ∙ f.is })
+
+pub exp_encoded : (ctx : List sort.Sort) (t : Tree) → Checks declared (sort_types ctx) t (Fam 0) → (e : Exp) × EncodesExp ctx e t
+exp_encoded ctx t d =
+    let f = checked_exp (sorts_of ctx) t d in let e = exp_over-in ctx f.form f.over in
+    (e.0, record { over = e.1; is = ap exp_encoding (named_exp-is (count ctx) e.0 ∙ e.2) ∙ f.is })
+
+pub mem_encoded : (ctx : List sort.Sort) (t : Tree) → Checks declared (sort_types ctx) t (Fam 1) → (m : MemExp) × EncodesMem ctx m t
+mem_encoded ctx t d =
+    let f = checked_mem (sorts_of ctx) t d in let e = mem_over-in ctx f.form f.over in
+    (e.0, record { over = e.1; is = ap mem_encoding (named_mem-is (count ctx) e.0 ∙ e.2) ∙ f.is })
+
+low : (ctx : List sort.Sort) → registers_in ctx 31 ≤ 31
+low ctx = go (has_machine ctx)
+  where
+    go : (b : Bool) → cond b 31 0 ≤ 31
+    go true = omega arith
+    go false = omega arith
+
+pub form_same : (ctx : List sort.Sort) (t : Tree) (F G : Form) → EncodesForm ctx F t → EncodesForm ctx G t → F ≡ G
+form_same ctx t F G f g =
+    let B : List VarSort = bound_sorts ctx in
+    let same : named_form (count ctx) F ≡ named_form (count ctx) G =
+    sym (named_form-is (count ctx) F) ∙ form_encoding-injective _ _ (f.is ∙ sym g.is) ∙ named_form-is (count ctx) G
+    in
+    sym (back_form (registers_in ctx 31) B F (low ctx) f.over) ∙ ap (unnamed_form (count ctx)) same ∙ back_form (registers_in ctx 31) B G (low ctx) g.over
+
+pub exp_same : (ctx : List sort.Sort) (t : Tree) (d e : Exp) → EncodesExp ctx d t → EncodesExp ctx e t → d ≡ e
+exp_same ctx t F G f g =
+    let B : List VarSort = bound_sorts ctx in
+    let same : named_exp (count ctx) F ≡ named_exp (count ctx) G =
+    sym (named_exp-is (count ctx) F) ∙ exp_encoding-injective _ _ (f.is ∙ sym g.is) ∙ named_exp-is (count ctx) G
+    in
+    sym (back_exp (registers_in ctx 31) B F (low ctx) f.over) ∙ ap (unnamed_exp (count ctx)) same ∙ back_exp (registers_in ctx 31) B G (low ctx) g.over
+
+pub mem_same : (ctx : List sort.Sort) (t : Tree) (m l : MemExp) → EncodesMem ctx m t → EncodesMem ctx l t → m ≡ l
+mem_same ctx t F G f g =
+    let B : List VarSort = bound_sorts ctx in
+    let same : named_mem (count ctx) F ≡ named_mem (count ctx) G =
+    sym (named_mem-is (count ctx) F) ∙ mem_encoding-injective _ _ (f.is ∙ sym g.is) ∙ named_mem-is (count ctx) G
+    in
+    sym (back_mem (registers_in ctx 31) B F (low ctx) f.over) ∙ ap (unnamed_mem (count ctx)) same ∙ back_mem (registers_in ctx 31) B G (low ctx) g.over
+
+-- ---- the other way, within bounds
+
+binders-named : (F : Form) (d : ℕ) → binders (named_form d F) ≡ binders F
+binders-named FTrue d = refl
+binders-named FFalse d = refl
+binders-named (FRel p a b) d = refl
+binders-named (FRd a) d = refl
+binders-named (FWr a) d = refl
+binders-named (FAnd A B) d = λ i. max (binders-named A d i) (binders-named B d i)
+binders-named (FOr A B) d = λ i. max (binders-named A d i) (binders-named B d i)
+binders-named (FImp A B) d = λ i. max (binders-named A d i) (binders-named B d i)
+binders-named (FAll A) d = ap suc (binders-named A (suc d))
+binders-named (FAllm A) d = ap suc (binders-named A (suc d))
+
+pub binders-height : (F : Form) → binders F < form_height F
+binders-height FTrue = omega arith
+binders-height FFalse = omega arith
+binders-height (FRel p a b) = omega arith
+binders-height (FRd a) = omega arith
+binders-height (FWr a) = omega arith
+binders-height (FAnd A B) = let a = binders-height A in let b = binders-height B in omega (arith, a, b)
+binders-height (FOr A B) = let a = binders-height A in let b = binders-height B in omega (arith, a, b)
+binders-height (FImp A B) = let a = binders-height A in let b = binders-height B in omega (arith, a, b)
+binders-height (FAll A) = let a = binders-height A in omega (arith, a)
+binders-height (FAllm A) = let a = binders-height A in omega (arith, a)
+
+pub form_typed : (ctx : List sort.Sort) (r : ℕ) (F : Form) → IsFormIn ctx r F → length ctx + binders F + 2 ≤ 2 ^ 32 → Checks declared (sort_types ctx) (encoding_in ctx F) (Fam 2)
+form_typed ctx r F h small =
+    let many = length-sorts_of ctx in let deep = binders-named F (count ctx) in
+    subst (λ (z : Form). Checks declared (sort_types ctx) (form_encoding z) (Fam 2)) (sym (named_form-is (count ctx) F))
+    (form_checks (named_form (count ctx) F) (sorts_of ctx) (form_in-over ctx r F h) (omega (arith, many, deep, small)))
+
+pub exp_typed : (ctx : List sort.Sort) (r : ℕ) (e : Exp) → IsExpIn ctx r e → length ctx + 2 ≤ 2 ^ 32 → Checks declared (sort_types ctx) (exp_encoding_in ctx e) (Fam 0)
+exp_typed ctx r e h small =
+    let many = length-sorts_of ctx in
+    subst (λ (z : Exp). Checks declared (sort_types ctx) (exp_encoding z) (Fam 0)) (sym (named_exp-is (count ctx) e))
+    (exp_checks (named_exp (count ctx) e) (sorts_of ctx) (exp_in-over ctx r e h) (omega (arith, many, small)))
+
+pub mem_typed : (ctx : List sort.Sort) (r : ℕ) (m : MemExp) → IsMemIn ctx r m → length ctx + 2 ≤ 2 ^ 32 → Checks declared (sort_types ctx) (mem_encoding_in ctx m) (Fam 1)
+mem_typed ctx r m h small =
+    let many = length-sorts_of ctx in
+    subst (λ (z : MemExp). Checks declared (sort_types ctx) (mem_encoding z) (Fam 1)) (sym (named_mem-is (count ctx) m))
+    (mem_checks (named_mem (count ctx) m) (sorts_of ctx) (mem_in-over ctx r m h) (omega (arith, many, small)))

@@ -1,0 +1,142 @@
+//! From formulas to terms.
+
+ghost use Rattle.std.specs.Prelude.{◌≡◌, ◌<◌, ◌+◌, ◌^◌, IfOk, length};
+ghost use Rattle.term_table.specs.Table.{Extends};
+ghost use Rattle.formula_tree.specs.Formulas.{EReg, MMem};
+ghost use Rattle.formula_tree.specs.Sizes.{form_height};
+ghost use Rattle.formula_tree.specs.Views.{exp_view, mem_exp_view, form_view};
+ghost use Rattle.lf_signature.specs.Nodes.{IsIdOf};
+ghost use Rattle.lf_encode.specs.Encoding.{exp_encoding, mem_encoding, form_encoding};
+ghost use Rattle.lf_encode.specs.Contexts.{IsFormIn, encoding_in};
+ghost use Rattle.lf_encode.specs.Inside.Naming.{named_exp, named_mem, named_form};
+
+use crate::contexts::{Sort, depth_of};
+use formula_tree::{Exp, Form, MemExp};
+use lf_signature::numbers::{ALL, ALLM, AND, FF, IMP, OR, RD, SEL, TT, UPD, WR};
+use lf_signature::{app1, app2, app3, op_constant, rel_constant};
+use std::alloc::AllocError;
+use term_table::{Id, Node, Table};
+
+/// The term of a register where `depth` variables are nearer than the machine's.
+#[tactic(auto, using(crate::proofs::Naming::named_register, crate::proofs::Naming::named_zero))]
+fn encode_register(table: &mut Table, number: u8, depth: u32) -> Result<Id, AllocError>
+    requires room { depth + 31 < 2 ^ 32 }
+    ensures id { IfOk result (IsIdOf table.new (exp_encoding (named_exp depth (EReg number)))) }
+    ensures extends { Extends table.old table.new }
+{
+    if number < 31 {
+        table.intern(Node::Var(30 - u32::from(number) + depth))
+    } else {
+        table.intern(Node::Lit(0))
+    }
+}
+
+/// The term of an expression where `depth` variables are nearer than the machine's.
+#[cycle(encoding)]
+fn encode_exp(table: &mut Table, exp: &Exp, depth: u32) -> Result<Id, AllocError>
+    requires room { depth + 31 < 2 ^ 32 }
+    ensures id { IfOk result (IsIdOf table.new (exp_encoding (named_exp depth (exp_view exp.now)))) }
+    ensures extends { Extends table.old table.new }
+{
+    match exp {
+        Exp::Reg(number) => encode_register(table, *number, depth),
+        Exp::Var(number) => table.intern(Node::Var(*number)),
+        Exp::Lit(word) => table.intern(Node::Lit(*word)),
+        Exp::Oper(op, a, b) => {
+            let left = encode_exp(table, a, depth)?;
+            let right = encode_exp(table, b, depth)?;
+            app2(table, op_constant(*op), left, right)
+        }
+        Exp::Sel(memory, a) => {
+            let memory = encode_mem(table, memory, depth)?;
+            let address = encode_exp(table, a, depth)?;
+            app2(table, SEL, memory, address)
+        }
+    }
+}
+
+/// The term of a memory where `depth` variables are nearer than the machine's.
+#[cycle(encoding)]
+fn encode_mem(table: &mut Table, memory: &MemExp, depth: u32) -> Result<Id, AllocError>
+    requires room { depth + 31 < 2 ^ 32 }
+    ensures id { IfOk result (IsIdOf table.new
+        (mem_encoding (named_mem depth (mem_exp_view memory.now)))) }
+    ensures extends { Extends table.old table.new }
+{
+    match memory {
+        MemExp::Mem => table.intern(Node::Var(31 + depth)),
+        MemExp::Var(number) => table.intern(Node::Var(*number)),
+        MemExp::Upd(before, a, word) => {
+            let before = encode_mem(table, before, depth)?;
+            let address = encode_exp(table, a, depth)?;
+            let written = encode_exp(table, word, depth)?;
+            app3(table, UPD, before, address, written)
+        }
+    }
+}
+
+/// The term of a formula where `depth` variables are nearer than the machine's.
+fn encode_at(table: &mut Table, form: &Form, depth: u32) -> Result<Id, AllocError>
+    requires room { depth + form_height (form_view form.now) + 31 < 2 ^ 32 }
+    ensures id { IfOk result (IsIdOf table.new
+        (form_encoding (named_form depth (form_view form.now)))) }
+    ensures extends { Extends table.old table.new }
+{
+    match form {
+        Form::True => table.intern(Node::Const(TT)),
+        Form::False => table.intern(Node::Const(FF)),
+        Form::Rel(rel, a, b) => {
+            let left = encode_exp(table, a, depth)?;
+            let right = encode_exp(table, b, depth)?;
+            app2(table, rel_constant(*rel), left, right)
+        }
+        Form::Rd(a) => {
+            let address = encode_exp(table, a, depth)?;
+            app1(table, RD, address)
+        }
+        Form::Wr(a) => {
+            let address = encode_exp(table, a, depth)?;
+            app1(table, WR, address)
+        }
+        Form::And(a, b) => {
+            let left = encode_at(table, a, depth)?;
+            let right = encode_at(table, b, depth)?;
+            app2(table, AND, left, right)
+        }
+        Form::Or(a, b) => {
+            let left = encode_at(table, a, depth)?;
+            let right = encode_at(table, b, depth)?;
+            app2(table, OR, left, right)
+        }
+        Form::Imp(a, b) => {
+            let left = encode_at(table, a, depth)?;
+            let right = encode_at(table, b, depth)?;
+            app2(table, IMP, left, right)
+        }
+        Form::All(a) => {
+            let body = encode_at(table, a, depth + 1)?;
+            let under = table.intern(Node::Lam(body))?;
+            app1(table, ALL, under)
+        }
+        Form::Allm(a) => {
+            let body = encode_at(table, a, depth + 1)?;
+            let under = table.intern(Node::Lam(body))?;
+            app1(table, ALLM, under)
+        }
+    }
+}
+
+/// EncodesForm `form` over the variables of `ctx`, the nearest last. Where `ctx` begins with a memory
+/// and 31 words, these are m and r0 to r30; any other variable is a bound one, whose binder would
+/// stand outside. Register 31 is the literal 0.
+///
+/// Errors: want of memory alone; each id keeps its tree.
+pub fn encode_form(table: &mut Table, form: &Form, ctx: &[Sort]) -> Result<Id, AllocError>
+    requires over { IsFormIn ctx.now 32 (form_view form.now) }
+    requires low { form_height (form_view form.now) < 2 ^ 31 }
+    requires short { length ctx.now < 2 ^ 31 }
+    ensures exact { IfOk result (IsIdOf table.new (encoding_in ctx.now (form_view form.now))) }
+    ensures extends { Extends table.old table.new }
+{
+    encode_at(table, form, depth_of(ctx) as u32)
+}

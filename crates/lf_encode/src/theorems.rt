@@ -1,0 +1,79 @@
+//! What holds of encodings, with nothing to run.
+
+ghost use Rattle.std.specs.Prelude.{◌≡◌, ◌<◌, ◌^◌, ℕ, Some, List, length};
+ghost use Rattle.term_table.specs.Tree.{Tree};
+ghost use Rattle.term_table.specs.Subst.{Base, hsub};
+ghost use Rattle.lf_signature.specs.Sigma1.{declared};
+ghost use Rattle.lf_signature.specs.Terms.{exp, mem, form};
+ghost use Rattle.lf_signature.specs.Typing.{Checks};
+ghost use Rattle.formula_tree.specs.Formulas.{Exp, MemExp, Form};
+ghost use Rattle.formula_tree.specs.Scope.{VarSort, sort_at, part_sort};
+ghost use Rattle.formula_tree.specs.Scope.{IsOverExp, IsOverMem, IsOver, IsOverPart};
+ghost use Rattle.formula_tree.specs.Sizes.{form_height};
+ghost use Rattle.formula_tree.specs.Substitution.{Substitution, shift_substitution, subst_form};
+ghost use Rattle.formula_tree.specs.Variables.{Part, subst_var_exp, subst_var_mem, subst_var};
+ghost use Rattle.lf_encode.specs.declared.contexts.Sort.{Sort};
+ghost use Rattle.lf_encode.specs.Encoding.{exp_encoding, mem_encoding, form_encoding};
+ghost use Rattle.lf_encode.specs.Encoding.{part_encoding, part_family};
+ghost use Rattle.lf_encode.specs.Contexts.{sort_types, IsExpIn, IsMemIn, IsFormIn};
+ghost use Rattle.lf_encode.specs.Contexts.{exp_encoding_in, mem_encoding_in, encoding_in};
+ghost use Rattle.lf_encode.specs.Contexts.{EncodesForm, EncodesExp, EncodesMem, machine_names};
+ghost use Rattle.lf_encode.specs.PutTree.{machine_terms_of, put_tree};
+
+/// A term of type form, exp or mem in a context of word and memory variables, whose nearest stands
+/// last, is the encoding of exactly one formula, expression or memory over the context without
+/// register 31. The other way, each over the context, also with register 31, has the type where its
+/// height and the context's length are below 2^31.
+pub fn adequacy_laws()
+    ensures forms { (ctx : List Sort) (t : Tree) →
+        Checks declared (sort_types ctx) t form → (F : Form) × EncodesForm ctx F t }
+    ensures exps { (ctx : List Sort) (t : Tree) →
+        Checks declared (sort_types ctx) t exp → (e : Exp) × EncodesExp ctx e t }
+    ensures mems { (ctx : List Sort) (t : Tree) →
+        Checks declared (sort_types ctx) t mem → (m : MemExp) × EncodesMem ctx m t }
+    ensures one_form { (ctx : List Sort) (t : Tree) (F G : Form) →
+        EncodesForm ctx F t → EncodesForm ctx G t → F ≡ G }
+    ensures one_exp { (ctx : List Sort) (t : Tree) (d e : Exp) →
+        EncodesExp ctx d t → EncodesExp ctx e t → d ≡ e }
+    ensures one_mem { (ctx : List Sort) (t : Tree) (m l : MemExp) →
+        EncodesMem ctx m t → EncodesMem ctx l t → m ≡ l }
+    ensures form_typed { (ctx : List Sort) (F : Form) →
+        IsFormIn ctx 32 F → form_height F < 2 ^ 31 → length ctx < 2 ^ 31 →
+        Checks declared (sort_types ctx) (encoding_in ctx F) form }
+    ensures exp_typed { (ctx : List Sort) (e : Exp) →
+        IsExpIn ctx 32 e → length ctx < 2 ^ 31 →
+        Checks declared (sort_types ctx) (exp_encoding_in ctx e) exp }
+    ensures mem_typed { (ctx : List Sort) (m : MemExp) →
+        IsMemIn ctx 32 m → length ctx < 2 ^ 31 →
+        Checks declared (sort_types ctx) (mem_encoding_in ctx m) mem }
+{}
+
+/// Where an expression or a memory over variables is put for a variable of its sort, the encoding
+/// of what comes of it is hereditary substitution on the encodings: at expressions and memories
+/// always, at formulas where the height, and the length of the context that the part is over, are
+/// below 2^31.
+pub fn substitution_on_encodings()
+    ensures exps { (e : Exp) (G : List VarSort) (x : ℕ) (p : Part) →
+        IsOverExp 0 e G → sort_at G x ≡ Some (part_sort p) →
+        hsub (Base (part_family p)) (part_encoding p) x (exp_encoding e)
+        ≡ Some (exp_encoding (subst_var_exp e x p)) }
+    ensures mems { (m : MemExp) (G : List VarSort) (x : ℕ) (p : Part) →
+        IsOverMem 0 m G → sort_at G x ≡ Some (part_sort p) →
+        hsub (Base (part_family p)) (part_encoding p) x (mem_encoding m)
+        ≡ Some (mem_encoding (subst_var_mem m x p)) }
+    ensures forms { (F : Form) (G H : List VarSort) (x : ℕ) (p : Part) →
+        IsOver 0 F G → sort_at G x ≡ Some (part_sort p) → IsOverPart 0 p H →
+        form_height F < 2 ^ 31 → length H < 2 ^ 31 →
+        hsub (Base (part_family p)) (part_encoding p) x (form_encoding F)
+        ≡ Some (form_encoding (subst_var F x p)) }
+{}
+
+/// Terms put for the machine's variables in the encoding of a formula, where `B` are the nearer
+/// variables, give the encoding of the formula in which their formulas were put for registers and m.
+pub fn put_laws()
+    ensures { (r : ℕ) (F : Form) (B : List VarSort) (s : Substitution) →
+        length s.regs ≡ 31 → IsOver r F B →
+        put_tree (machine_terms_of s) (length B)
+        (form_encoding (subst_form F (shift_substitution (length B) machine_names)))
+        ≡ form_encoding (subst_form F (shift_substitution (length B) s)) }
+{}
