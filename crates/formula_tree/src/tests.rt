@@ -1,10 +1,84 @@
-//! Heights and copies of formulas 4,096 high, on an ordinary stack.
+//! Rows of substitution, and formulas 4,096 high on an ordinary stack.
 
-use crate::{Exp, Form, laws};
+ghost use Rattle.std.specs.Prelude.{◌≡◌, IfOk};
+ghost use Rattle.word_ops.specs.declared.Op.TheVariants.{Add};
+ghost use Rattle.word_ops.specs.declared.Rel.TheVariants.{Eq};
+ghost use Rattle.formula_tree.specs.Formulas.{EReg, EVar, ELit, EOp, FRel, FAll};
+ghost use Rattle.formula_tree.specs.Sizes.{binders, HasRoomExp};
+ghost use Rattle.formula_tree.specs.Views.{exp_view, form_view};
+
+use crate::{Exp, Form, MemExp, laws};
+use std::alloc::{AllocError, Global};
 use std::test::Fail;
 use word_ops::{Op, Rel};
 
 const HIGHEST: u32 = 4_096;
+
+/// The formula with the expression for r1.
+fn with_r1(alloc: Global, form: &Form, put: Exp) -> Result<Form, AllocError>
+    requires { HasRoomExp (binders (form_view form.now)) 0 (exp_view put) }
+{
+    let regs = [
+        Exp::Reg(0),
+        put,
+        Exp::Reg(2),
+        Exp::Reg(3),
+        Exp::Reg(4),
+        Exp::Reg(5),
+        Exp::Reg(6),
+        Exp::Reg(7),
+        Exp::Reg(8),
+        Exp::Reg(9),
+        Exp::Reg(10),
+        Exp::Reg(11),
+        Exp::Reg(12),
+        Exp::Reg(13),
+        Exp::Reg(14),
+        Exp::Reg(15),
+        Exp::Reg(16),
+        Exp::Reg(17),
+        Exp::Reg(18),
+        Exp::Reg(19),
+        Exp::Reg(20),
+        Exp::Reg(21),
+        Exp::Reg(22),
+        Exp::Reg(23),
+        Exp::Reg(24),
+        Exp::Reg(25),
+        Exp::Reg(26),
+        Exp::Reg(27),
+        Exp::Reg(28),
+        Exp::Reg(29),
+        Exp::Reg(30),
+    ];
+    form.subst_regs(alloc, &regs, &MemExp::Mem)
+}
+
+/// `(add r1 1)`
+fn sum(alloc: Global) -> Result<Exp, AllocError>
+    ensures { IfOk result (λ e. exp_view e ≡ EOp Add (EReg 1) (ELit 1)) }
+{
+    Exp::oper(alloc, Op::Add, Exp::Reg(1), Exp::Lit(1))
+}
+
+/// `(all i (eq a i))`
+fn equals_each(alloc: Global, a: Exp) -> Result<Form, AllocError>
+    ensures { IfOk result (λ f. form_view f ≡ FAll (FRel Eq (exp_view a) (EVar 0))) }
+{
+    Form::all(alloc, Form::Rel(Rel::Eq, a, Exp::Var(0)))
+}
+
+/// For r1 a sum of r1, and the variable of a quantifier outside.
+#[test]
+fn nothing_is_captured(rt: HostRuntime) -> Result<(), Fail> {
+    let alloc = rt.alloc();
+    let form = equals_each(alloc, Exp::Reg(1))?;
+    let summed = with_r1(alloc, &form, sum(alloc)?)?;
+    assert!(rt; summed == equals_each(alloc, sum(alloc)?)?);
+    let outer = with_r1(alloc, &form, Exp::Var(0))?;
+    assert!(rt; outer == equals_each(alloc, Exp::Var(1))?);
+    Ok(())
+}
 
 /// Quantifiers over an equation, implications, and a relation of sums.
 #[test]
@@ -23,6 +97,8 @@ fn highest_formulas(rt: HostRuntime) -> Result<(), Fail> {
     for form in [&quantified, &implied, &compared] {
         assert_eq!(rt; form.height(), HIGHEST);
         assert_eq!(rt; form.copy(alloc)?.height(), HIGHEST);
+        let put = Exp::oper(alloc, Op::Sub, Exp::Reg(2), Exp::Lit(1))?;
+        assert_eq!(rt; with_r1(alloc, form, put)?.height(), HIGHEST + 1);
     }
     Ok(())
 }
