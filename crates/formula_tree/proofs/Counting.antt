@@ -1,5 +1,5 @@
 -- How many formulas a formula is made of, which a recursion over its parts goes down.
-use Rattle.std.proofs.Common.{ℕ, suc, ◌+◌}
+use Rattle.std.proofs.Common.{ℕ, ◌+◌}
 use Rattle.formula_tree.specs.Formulas.{Form, FTrue, FFalse, FRel, FRd, FWr, FAnd, FOr, FImp, FAll, FAllm}
 
 abbrev pub form_count : Form → ℕ

@@ -1,12 +1,11 @@
 -- What stands for the registers and m, as the binders grow in number.
-use Rattle.std.proofs.Common.{◌≡◌, ℕ, zero, suc, ◌+◌, ◌<◌, ◌≤◌, ◌^◌, min, max, List, [], ◌∷◌, map, length, get_or, refl, sym, ◌∙◌, ap, arith, inl, inr, subst}
-use Rattle.std.proofs.lemmas.Bool.{cases_lt}
+use Rattle.std.proofs.Common.{◌≡◌, ℕ, zero, suc, ◌+◌, ◌<◌, ◌≤◌, ◌^◌, min, max, List, [], ◌∷◌, map, length, get_or, refl, sym, ◌∙◌, ap, arith, subst}
 use Rattle.std.proofs.Math.Nat.{min-eq_left, min-le_left, le-max_left, le-max_right}
 use Rattle.formula_tree.specs.Formulas.{Exp, EReg, ELeft, EVar, ELit, EOp, ESel, MemExp, MMem, MVar, MUpd, shift_exp, shift_mem}
 use Rattle.formula_tree.specs.Substitution.{Substitution, shift_substitution}
 use Rattle.formula_tree.specs.Sizes.{HasRoomExp, HasRoomMem, HaveRoom, HasRoomSubstitution}
 use Rattle.formula_tree.specs.declared.exp.Exp as rust
-use Rattle.formula_tree.specs.Views.{exp_view, substitution_of}
+use Rattle.formula_tree.specs.Views.{exp_view}
 
 -- what is put for a register that the list has, and for one past its end
 pub reg_some : (regs : List rust.Exp) (r d : ℕ) (e : rust.Exp) → r < length regs → e ≡ get_or regs r e → get_or (map (shift_exp d 0) (map exp_view regs)) r (ELit 0) ≡ shift_exp d 0 (exp_view e)

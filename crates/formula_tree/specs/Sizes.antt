@@ -1,7 +1,6 @@
 -- The height of a formula, how deep its binders stand, and which shifts leave variables below 2 ^ 32.
-use Rattle.std.specs.Prelude.{ℕ, suc, ◌+◌, ◌<◌, ◌^◌, min, max, List, [], ◌∷◌}
+use Rattle.std.specs.Prelude.{ℕ, suc, ◌+◌, ◌<◌, ◌^◌, max, List, [], ◌∷◌}
 use Rattle.formula_tree.specs.Formulas.{Exp, EReg, ELeft, EVar, ELit, EOp, ESel, MemExp, MMem, MVar, MUpd, Form, FTrue, FFalse, FRel, FRd, FWr, FAnd, FOr, FImp, FAll, FAllm}
-use Rattle.term_table.specs.Tree.{raise}
 use Rattle.term_table.specs.Tree.{raise}
 use Rattle.formula_tree.specs.Substitution.{Substitution}
 

@@ -1,5 +1,5 @@
 -- Simultaneous substitution for the registers, the memory m and the steps that are left. No variable is captured.
-use Rattle.std.specs.Prelude.{ℕ, suc, List, [], ◌∷◌, map, slice_index_or, slice_set}
+use Rattle.std.specs.Prelude.{ℕ, List, map, slice_index_or}
 use Rattle.formula_tree.specs.Formulas.{Exp, EReg, ELeft, EVar, ELit, EOp, ESel, MemExp, MMem, MVar, MUpd, Form, FTrue, FFalse, FRel, FRd, FWr, FAnd, FOr, FImp, FAll, FAllm, shift_exp, shift_mem}
 
 -- what is put for r0 to r30, in this order, for m, and for the steps that are left

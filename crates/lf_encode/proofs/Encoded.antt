@@ -4,7 +4,7 @@ use Rattle.word_ops.specs.declared.Op.TheVariants.{Add, Sub, Band, Bis, Sll, Srl
 use Rattle.word_ops.specs.declared.Rel.{Rel}
 use Rattle.word_ops.specs.declared.Rel.TheVariants.{Eq, Ult, Ule, Slt, Sle}
 use Rattle.lf_signature.specs.Numbers.{op_of_constant, op_constant, rel_constant}
-use Rattle.lf_signature.specs.Terms.{app1, app2}
+use Rattle.lf_signature.specs.Terms.{app2}
 use Rattle.std.proofs.Common.{◌≡◌, ℕ, zero, suc, Some, List, [], ◌∷◌, refl, ◌∙◌, ap, arith}
 use Rattle.term_table.specs.Tree.{Tree, Var, Con, App, Lam, Fam, Num, at, shift}
 use Rattle.term_table.specs.Tree as tree

@@ -1,5 +1,5 @@
 -- Simultaneous substitution on encodings is the encoding of what it is in formulas.
-use Rattle.std.proofs.Common.{◌≡◌, ℕ, zero, suc, ◌+◌, ◌-◌, ◌^◌, ◌<◌, ◌≤◌, Bool, true, false, cond, ◌&&◌, Option, Some, None, List, [], ◌∷◌, map, length, get_or, refl, sym, ◌∙◌, ap, subst, arith, ltb, lt-ltb, inl, inr}
+use Rattle.std.proofs.Common.{◌≡◌, ℕ, zero, suc, ◌+◌, ◌-◌, ◌^◌, ◌<◌, ◌≤◌, true, cond, Some, None, List, [], ◌∷◌, map, length, get_or, refl, sym, ◌∙◌, ap, arith, lt-ltb, inl, inr}
 use Rattle.std.proofs.lemmas.Bool.{cases_lt, le-ltb, ltb-true}
 use Rattle.term_table.specs.Tree.{Tree, Var, Con, App, Lam, Fam, TApp, Pi, shift, fits, raise, shifted}
 use Rattle.term_table.specs.Scope.{is_scoped}
@@ -12,7 +12,7 @@ use Rattle.formula_tree.specs.Scope.{VarSort, OfWord, OfMem, IsOverExp, IsOverMe
 use Rattle.lf_encode.specs.Encoding.{exp_encoding, mem_encoding, form_encoding}
 use Rattle.lf_encode.specs.Contexts.{machine_names}
 use Rattle.lf_encode.specs.Inside.Naming.{named_exp, named_mem, named_form}
-use Rattle.lf_encode.specs.PutTree.{MachineTerms, machine_terms_of, put_for, put_tree, HasRoomUnder}
+use Rattle.lf_encode.specs.PutTree.{MachineTerms, machine_terms_of, put_for, put_tree}
 use Rattle.lf_encode.proofs.Naming.{below, named_form-is}
 use Rattle.lf_encode.proofs.Encoded.{shift-exp_encoding, shift-mem_encoding}
 

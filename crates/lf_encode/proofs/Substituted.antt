@@ -1,5 +1,5 @@
 -- On encodings hereditary substitution is substitution in formulas: of an expression for a word variable, and of a memory for a memory variable.
-use Rattle.std.proofs.Common.{◌≡◌, ℕ, zero, suc, ◌+◌, ◌^◌, ◌≤◌, true, cond, Option, Some, None, List, [], ◌∷◌, length, refl, sym, ◌∙◌, ap, subst, option_map, arith}
+use Rattle.std.proofs.Common.{◌≡◌, ℕ, zero, suc, ◌+◌, ◌^◌, ◌≤◌, true, cond, Option, Some, None, List, [], ◌∷◌, length, refl, sym, ◌∙◌, ap, option_map, arith}
 use Rattle.term_table.specs.Tree as tree
 use Rattle.term_table.specs.Tree.{Tree, Var, App, Lam, shift, fits}
 use Rattle.term_table.specs.Subst.{Base, bind, raised, walk, reduce, hsub, at_spot}

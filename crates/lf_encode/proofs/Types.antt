@@ -1,5 +1,5 @@
 -- The types of a context, as ids.
-use Rattle.std.proofs.Common.{◌≡◌, ℕ, zero, suc, ◌+◌, ◌<◌, List, [], ◌∷◌, ◌++◌, length, take, get_or, refl, sym, ◌∙◌, ap, subst, arith}
+use Rattle.std.proofs.Common.{◌≡◌, ℕ, zero, suc, ◌+◌, ◌<◌, List, [], ◌∷◌, ◌++◌, length, take, get_or, refl, sym, ◌∙◌, ap, arith}
 use Rattle.term_table.specs.Tree.{Tree, Fam}
 use Rattle.term_table.specs.Table.{TableView, IsKnown, AllKnown, tree_at, ctx_of}
 use Rattle.lf_check.proofs.TypeLists.{ctx-push}

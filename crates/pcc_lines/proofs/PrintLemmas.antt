@@ -1,5 +1,5 @@
 -- Result lines while they are printed.
-use Rattle.std.proofs.Common.{◌≡◌, ℕ, ◌+◌, List, [], ◌∷◌, ◌++◌, length, sym, ap, ◌∙◌, subst, arith, append_assoc}
+use Rattle.std.proofs.Common.{◌≡◌, ℕ, ◌+◌, List, ◌∷◌, ◌++◌, length, sym, ap, ◌∙◌, subst, arith, append_assoc}
 use Rattle.file_port.specs.Sink.{SinkState, PutFails, with_piece}
 use Rattle.file_port.proofs.PutLemmas.{part_fails, rest_fails, with_piece-with_piece}
 use Rattle.policy_set.specs.declared.kind.PolicyKind.{PolicyKind}

@@ -3,7 +3,7 @@ use Rattle.std.proofs.Common.{[], refl, arith}
 use Rattle.formula_tree.specs.Scope.{IsOver}
 use Rattle.policy_set.specs.declared.kind.PolicyKind.{PolicyKind}
 use Rattle.policy_set.specs.declared.kind.PolicyKind.TheVariants.{Filter, Tag, Table}
-use Rattle.policy_set.specs.Policies.{pre_of, post_of, long_packet, readable_packet, usable_scratch, separate_scratch, filter_pre, tag_pre, table_pre}
+use Rattle.policy_set.specs.Policies.{pre_of, post_of, long_packet, readable_packet, usable_scratch, separate_scratch}
 
 long_packet-over : IsOver 31 long_packet []
 long_packet-over = (omega arith, omega arith)

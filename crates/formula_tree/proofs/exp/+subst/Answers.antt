@@ -1,7 +1,6 @@
-use Rattle.std.proofs.Common.{rules, ◌≡◌, ◌<◌, length, get_or, sym, ◌∙◌}
+use Rattle.std.proofs.Common.{rules, ◌≡◌, ◌<◌, length, get_or}
 use Rattle.formula_tree.specs.Formulas.{EReg}
-use Rattle.formula_tree.specs.Views.{exp_view, substitution_of}
-use Rattle.formula_tree.specs.Substitution.{shift_substitution, subst_exp}
+use Rattle.formula_tree.specs.Views.{exp_view}
 use Rattle.formula_tree.proofs.Putting.{reg_room, reg_some}
 use Rattle.formula_tree.proofs.exp.+subst.Goals as goal
 

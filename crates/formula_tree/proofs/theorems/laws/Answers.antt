@@ -1,5 +1,3 @@
-use Rattle.formula_tree.specs.Formulas.{Form}
-use Rattle.formula_tree.specs.Substitution.{Substitution}
 use Rattle.formula_tree.proofs.Meaning.{subst-truth, shift-truth, closed-truth, reads-truth, stable-truth}
 use Rattle.formula_tree.proofs.Parts.{var-truth, var-scope}
 use Rattle.formula_tree.proofs.Scopes.{scope-subst}

@@ -1,7 +1,6 @@
 use Rattle.std.proofs.Common.{rules, ◌≡◌, arith, subst, sym}
 use Rattle.reference_machine.specs.Starts.{StartView, HasWords}
 use Rattle.packet_store.proofs.StartLemmas.{tag_words}
-use Rattle.policy_set.specs.declared.kind.PolicyKind.{PolicyKind}
 use Rattle.policy_set.specs.declared.kind.PolicyKind.TheVariants.{Tag}
 use Rattle.policy_set.specs.Policies.{tag_pre}
 use Rattle.packet_store.specs.StartMeets.{StartMeets}

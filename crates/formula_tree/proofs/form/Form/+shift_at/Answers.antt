@@ -1,4 +1,4 @@
-use Rattle.std.proofs.Common.{rules, arith, ◌≡◌, ◌<◌, sym, ap, min, ◌+◌, suc}
+use Rattle.std.proofs.Common.{rules, arith, ◌≡◌, ◌<◌, min, ◌+◌, suc}
 use Rattle.formula_tree.specs.Formulas.{FAll, FAllm}
 use Rattle.formula_tree.specs.Sizes.{HasRoom}
 use Rattle.formula_tree.specs.Views.{form_view}

@@ -1,4 +1,4 @@
-use Rattle.std.proofs.Common.{rules, arith, ◌≡◌, ◌<◌, ◌+◌, min, max, suc, sym, ap, ◌∙◌, refl}
+use Rattle.std.proofs.Common.{rules, arith, ◌≡◌, ◌<◌, ◌+◌, min, max, suc, refl}
 use Rattle.formula_tree.specs.Formulas.{FAnd, FOr, FImp, FAll, FAllm}
 use Rattle.formula_tree.specs.Sizes.{binders, HasRoomSubstitution}
 use Rattle.formula_tree.specs.Views.{form_view, substitution_of}

@@ -5,7 +5,6 @@ use Rattle.reference_machine.specs.Arena.{sum_of}
 use Rattle.reference_machine.specs.Setups.{start_view}
 use Rattle.reference_machine.specs.Starts.{start_state, agent_at_start}
 use Rattle.packet_store.specs.declared.results.PacketResult.TheVariants.{Ran}
-use Rattle.packet_store.specs.PolicyStarts.{start_of}
 use Rattle.packet_store.specs.Results.{result_from}
 use Rattle.packet_store.proofs.ResultLemmas.{result_from-some}
 use Rattle.packet_store.proofs.testing.TestingRunnerPacketRunner.run_packet.Goals as goal
