@@ -7,3 +7,4 @@ pub mod Named
 pub mod Counts
 pub mod Types
 pub mod PutTree
+pub mod KeptRows

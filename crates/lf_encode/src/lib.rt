@@ -11,6 +11,7 @@
 mod contexts;
 mod decode;
 mod encode;
+mod puts;
 #[cfg(test)]
 mod tests;
 mod theorems;
@@ -18,4 +19,5 @@ mod theorems;
 pub use contexts::Sort;
 pub use decode::is_form;
 pub use encode::encode_form;
+pub use puts::put;
 pub use theorems::{adequacy_laws, put_laws, substitution_on_encodings};

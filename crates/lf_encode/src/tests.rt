@@ -1,12 +1,15 @@
 //! Encodings of small formulas, and terms that share, by the numbers of their constants.
 
-ghost use Rattle.std.specs.Prelude.{◌≡◌, IfOk};
+ghost use Rattle.std.specs.Prelude.{◌≡◌, ◌<◌, ◌^◌, IfOk};
 ghost use Rattle.word_ops.specs.declared.Rel.TheVariants.{Eq};
-ghost use Rattle.term_table.specs.Table.{IsKnown};
+ghost use Rattle.term_table.specs.Table.{IsKnown, tree_at};
+ghost use Rattle.term_table.specs.Measures.{height_of};
+ghost use Rattle.lf_signature.specs.Nodes.{IsIdOf};
+ghost use Rattle.lf_signature.specs.Terms.{lit};
 ghost use Rattle.formula_tree.specs.Formulas.{FTrue, FFalse, FRel, FAnd, FImp, ELit};
 ghost use Rattle.formula_tree.specs.Views.{form_view};
 
-use crate::{adequacy_laws, encode_form, is_form, substitution_on_encodings};
+use crate::{adequacy_laws, encode_form, is_form, put, put_laws, substitution_on_encodings};
 use formula_tree::{Exp, Form};
 use lf_signature::{app1, app2};
 use std::alloc::{AllocError, Global};
@@ -78,5 +81,45 @@ fn shared_formulas(rt: HostRuntime) -> Result<(), Fail> {
     assert!(rt; is_form(&mut table, form, &[])?);
     known(&rt, &table, other);
     assert!(rt; !is_form(&mut table, other, &[])?);
+    Ok(())
+}
+
+/// The term with the word for each of the machine's variables.
+fn put_word(table: &mut Table, id: Id, word: Id) -> Result<Id, AllocError>
+    requires known { IsKnown table.old id }
+    requires word { IsIdOf table.old (lit 5) word }
+    requires low { height_of (tree_at table.old id) < 2 ^ 31 }
+{
+    let regs = [word; 31];
+    put(table, id, &regs, word)
+}
+
+/// `(all i (eq a i))`, doubled sixty times by `imp`.
+fn doubled(rt: &impl Abort, table: &mut Table, a: Id) -> Result<Id, AllocError> {
+    known(rt, table, a);
+    let nearest = table.intern(Node::Var(0))?;
+    let equal = app2(table, 15, a, nearest)?;
+    let body = table.intern(Node::Lam(equal))?;
+    let mut form = app1(table, 25, body)?;
+    for _ in 0..60 {
+        known(rt, table, form);
+        form = app2(table, 24, form, form)?;
+    }
+    Ok(form)
+}
+
+/// 5 for r1, which under a quantifier is variable 30: in a formula of 2^60 leaves.
+#[test]
+fn puts_words(rt: HostRuntime) -> Result<(), Fail> {
+    put_laws();
+    let mut table = Table::new(rt.alloc(), Places::sigma1());
+    let register = table.intern(Node::Var(30))?;
+    let form = doubled(&rt, &mut table, register)?;
+    let word = table.intern(Node::Lit(5))?;
+    let wanted = doubled(&rt, &mut table, word)?;
+    let five = table.intern(Node::Lit(5))?;
+    known(&rt, &table, form);
+    assert!(rt; table.height(form) < 1_000);
+    assert!(rt; put_word(&mut table, form, five)? == wanted);
     Ok(())
 }
