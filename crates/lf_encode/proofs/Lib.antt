@@ -8,3 +8,4 @@ pub mod Counts
 pub mod Types
 pub mod PutTree
 pub mod KeptRows
+pub mod Decoded

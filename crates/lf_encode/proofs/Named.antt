@@ -156,7 +156,7 @@ mem_encoded ctx t d =
     let f = checked_mem (sorts_of ctx) t d in let e = mem_over-in ctx f.form f.over in
     (e.0, record { over = e.1; is = ap mem_encoding (named_mem-is (count ctx) e.0 ∙ e.2) ∙ f.is })
 
-low : (ctx : List sort.Sort) → registers_in ctx 31 ≤ 31
+pub low : (ctx : List sort.Sort) → registers_in ctx 31 ≤ 31
 low ctx = go (has_machine ctx)
   where
     go : (b : Bool) → cond b 31 0 ≤ 31

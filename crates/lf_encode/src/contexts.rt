@@ -4,6 +4,7 @@ ghost use Rattle.std.specs.Prelude.{◌≡◌, ◌≤◌, ◌+◌, ◌-◌, leng
 ghost use Rattle.formula_tree.specs.Formulas.{Form};
 ghost use Rattle.lf_encode.specs.Encoding.{form_encoding};
 ghost use Rattle.lf_encode.specs.Contexts.{has_words, has_machine, IsFormIn, encoding_in};
+ghost use Rattle.lf_encode.specs.Contexts.{bound_sorts};
 ghost use Rattle.lf_encode.specs.Inside.Naming.{named_form};
 
 /// What a variable of a context stands for.
@@ -52,4 +53,15 @@ pub(crate) fn depth_of(ctx: &[Sort]) -> usize
     ensures within { result ≤ length ctx.now - 32 }
 {
     if has_machine(ctx) { ctx.len() - 32 } else { 0 }
+}
+
+/// How many variables of the context aren't the machine's.
+pub(crate) fn bound_count(ctx: &[Sort]) -> usize
+    ensures { result ≡ length (bound_sorts ctx.now) }
+{
+    if has_machine(ctx) {
+        ctx.len() - 32
+    } else {
+        ctx.len()
+    }
 }

@@ -17,7 +17,7 @@ mod tests;
 mod theorems;
 
 pub use contexts::Sort;
-pub use decode::is_form;
+pub use decode::{form_of, is_form};
 pub use encode::encode_form;
 pub use puts::put;
 pub use theorems::{adequacy_laws, put_laws, substitution_on_encodings};

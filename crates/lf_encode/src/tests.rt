@@ -9,7 +9,9 @@ ghost use Rattle.lf_signature.specs.Terms.{lit};
 ghost use Rattle.formula_tree.specs.Formulas.{FTrue, FFalse, FRel, FAnd, FImp, ELit};
 ghost use Rattle.formula_tree.specs.Views.{form_view};
 
-use crate::{adequacy_laws, encode_form, is_form, put, put_laws, substitution_on_encodings};
+use crate::{
+    adequacy_laws, encode_form, form_of, is_form, put, put_laws, substitution_on_encodings,
+};
 use formula_tree::{Exp, Form};
 use lf_signature::{app1, app2};
 use std::alloc::{AllocError, Global};
@@ -45,6 +47,8 @@ fn encodes_small_formulas(rt: HostRuntime) -> Result<(), Fail> {
     assert!(rt; id == wanted);
     assert!(rt; is_form(&mut table, id, &[])?);
     assert!(rt; !is_form(&mut table, five, &[])?);
+    assert!(rt; form_of(&mut table, id, &[])? == Some(form));
+    assert!(rt; form_of(&mut table, five, &[])?.is_none());
     Ok(())
 }
 
