@@ -6,14 +6,14 @@ use Rattle.term_table.specs.Measures.{height_of}
 use Rattle.term_table.specs.Table.{TableView, IsKnown, AllKnown, tree_at, Extends, Stands}
 use Rattle.term_table.proofs.Options.{some_injective}
 use Rattle.lf_encode.specs.PutTree.{MachineTerms, machine_terms_at, put_for, put_tree, HasRoomUnder}
-use Rattle.lf_encode.specs.Inside.Kept.{IsPut, IsKept, AreMachineTerms}
+use Rattle.lf_encode.specs.Inside.Kept.{IsPut, IsPutMemo, AreMachineTerms}
 use Rattle.std.proofs.lemmas.Bool.{le-ltb}
 use Rattle.lf_signature.specs.Nodes.{IsIdOf}
 use Rattle.lf_signature.specs.Terms.{lit}
 use Rattle.hereditary_subst.proofs.Rows.{memo-more}
 use Rattle.lf_encode.proofs.PutTree.{fits-less, shifted-fits}
 use Rattle.lf_encode.specs.declared.puts.Place.{Place}
-use Rattle.lf_encode.specs.declared.puts.Kept.{Kept}
+use Rattle.lf_encode.specs.declared.puts.PutMemo.{PutMemo}
 
 regs-same : (t u : TableView) (regs : List ℕ) → AllKnown t regs → Extends t u → map (λ id. tree_at u id) regs ≡ map (λ id. tree_at t id) regs
 regs-same t u [] h e = refl
@@ -33,7 +33,7 @@ put-more t u regs memory place r h k e p = record {
   is = e.same r p.known ∙ p.is ∙ sym (λ i. put_tree (machine_terms_at-same t u regs memory h k e i) place.depth (e.same place.id p.of i));
 }
 
-pub kept-more : (kept : Kept) (t u : TableView) (regs : List ℕ) (memory : ℕ) → IsKept t regs memory kept → AllKnown t regs → IsKnown t memory → Extends t u → IsKept u regs memory kept
+pub kept-more : (kept : PutMemo) (t u : TableView) (regs : List ℕ) (memory : ℕ) → IsPutMemo t regs memory kept → AllKnown t regs → IsKnown t memory → Extends t u → IsPutMemo u regs memory kept
 kept-more kept t u regs memory h k m e = record { each = λ place r q. put-more t u regs memory place r k m e (h.each place r q) }
 
 -- one row more
@@ -57,7 +57,7 @@ ready-more t u regs memory r e = record {
   room = subst (HasRoomUnder 2147483648) (sym (machine_terms_at-same t u regs memory r.regs r.memory e)) r.room;
 }
 
-pub kept-ready : (kept : Kept) (t u : TableView) (regs : List ℕ) (memory : ℕ) → IsKept t regs memory kept → AreMachineTerms t regs memory → Extends t u → IsKept u regs memory kept
+pub kept-ready : (kept : PutMemo) (t u : TableView) (regs : List ℕ) (memory : ℕ) → IsPutMemo t regs memory kept → AreMachineTerms t regs memory → Extends t u → IsPutMemo u regs memory kept
 kept-ready kept t u regs memory h r e = kept-more kept t u regs memory h r.regs r.memory e
 
 pub ready-same : (t u : TableView) (regs : List ℕ) (memory : ℕ) → AreMachineTerms t regs memory → Extends t u → machine_terms_at u regs memory ≡ machine_terms_at t regs memory

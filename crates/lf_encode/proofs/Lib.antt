@@ -9,3 +9,4 @@ pub mod Types
 pub mod PutTree
 pub mod KeptRows
 pub mod Decoded
+pub mod MachineContext

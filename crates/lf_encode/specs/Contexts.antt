@@ -39,6 +39,15 @@ has_machine [] = false
 has_machine (S.Exp ∷ ctx) = false
 has_machine (S.Mem ∷ ctx) = has_words 31 ctx
 
+-- n words before other variables, the nearest last
+abbrev pub with_words : ℕ → List sort.Sort → List sort.Sort
+with_words zero ctx = ctx
+with_words (suc n) ctx = S.Exp ∷ with_words n ctx
+
+-- the context m, r0 to r30
+unfoldable pub machine_context : List sort.Sort
+machine_context = S.Mem ∷ with_words 31 []
+
 -- the variables of a context but the machine's, the nearest first: bound ones, the binder being further out
 abbrev pub bound_sorts : List sort.Sort → List VarSort
 bound_sorts ctx = if has_machine ctx then sorts_of (drop 32 ctx) else sorts_of ctx

@@ -4,7 +4,7 @@ ghost use Rattle.std.specs.Prelude.{◌≡◌, ◌≤◌, ◌+◌, ◌-◌, leng
 ghost use Rattle.formula_tree.specs.Formulas.{Form};
 ghost use Rattle.lf_encode.specs.Encoding.{form_encoding};
 ghost use Rattle.lf_encode.specs.Contexts.{has_words, has_machine, IsFormIn, encoding_in};
-ghost use Rattle.lf_encode.specs.Contexts.{bound_sorts};
+ghost use Rattle.lf_encode.specs.Contexts.{bound_sorts, machine_context};
 ghost use Rattle.lf_encode.specs.Inside.Naming.{named_form};
 
 /// What a variable of a context stands for.
@@ -14,6 +14,15 @@ pub enum Sort {
     Exp,
     /// A memory.
     Mem,
+}
+
+/// The context of m and r0 to r30.
+pub fn machine_context() -> [Sort; 32]
+    ensures { result ≡ machine_context }
+{
+    let mut context = [Sort::Exp; 32];
+    context[0] = Sort::Mem;
+    context
 }
 
 /// Whether the `count` variables from place `from` on are words.

@@ -11,7 +11,7 @@ ghost use Rattle.formula_tree.specs.Views.{exp_view, mem_exp_view, form_view};
 ghost use Rattle.lf_encode.specs.Contexts.{sort_types, EncodesForm};
 ghost use Rattle.lf_encode.specs.Inside.Naming.{unnamed_exp, unnamed_mem, unnamed_form};
 ghost use Rattle.lf_encode.specs.Inside.Reading.{id_of_sort, exp_of, mem_of};
-ghost use Rattle.lf_encode.specs.Inside.Reading.{form_of, body_of, joined, unary};
+ghost use Rattle.lf_encode.specs.Inside.Reading.{form_of, body_of, connected, unary};
 
 use crate::contexts::{Sort, bound_count};
 use formula_tree::{Exp, Form, MemExp};
@@ -263,8 +263,8 @@ fn decode_joined(
     requires room { depth + max s t < 2 ^ 64 }
     ensures exact { let first = tree_at table.now s in
         let second = tree_at table.now t in
-        let joined = joined constant (form_of first) (form_of second) (exp_of first) (exp_of second) in
-        IfOk result (λ f. form_view f ≡ unnamed_form depth joined) }
+        let both = connected constant (form_of first) (form_of second) (exp_of first) (exp_of second) in
+        IfOk result (λ f. form_view f ≡ unnamed_form depth both) }
 {
     if let Some(rel) = rel_of_constant(constant) {
         let left = decode_exp(alloc, table, s, depth)?;

@@ -1,8 +1,10 @@
 //! From formulas to terms.
 
 ghost use Rattle.std.specs.Prelude.{◌≡◌, ◌<◌, ◌+◌, ◌^◌, IfOk, length};
-ghost use Rattle.term_table.specs.Table.{Extends};
-ghost use Rattle.formula_tree.specs.Formulas.{EReg, MMem};
+ghost use Rattle.term_table.specs.Tree.{Lam};
+ghost use Rattle.term_table.specs.Table.{IsKnown, tree_at, Extends};
+ghost use Rattle.lf_signature.specs.Terms.{app1};
+ghost use Rattle.formula_tree.specs.Formulas.{EReg, MMem, FRel};
 ghost use Rattle.formula_tree.specs.Sizes.{form_height};
 ghost use Rattle.formula_tree.specs.Views.{exp_view, mem_exp_view, form_view};
 ghost use Rattle.lf_signature.specs.Nodes.{IsIdOf};
@@ -16,6 +18,7 @@ use lf_signature::numbers::{ALL, ALLM, AND, FF, IMP, OR, RD, SEL, TT, UPD, WR};
 use lf_signature::{app1, app2, app3, op_constant, rel_constant};
 use std::alloc::AllocError;
 use term_table::{Id, Node, Table};
+use word_ops::Rel;
 
 /// The term of a register where `depth` variables are nearer than the machine's.
 #[tactic(auto, using(crate::proofs::Naming::named_register, crate::proofs::Naming::named_zero))]
@@ -75,6 +78,51 @@ fn encode_mem(table: &mut Table, memory: &MemExp, depth: u32) -> Result<Id, Allo
     }
 }
 
+/// The term of a relation of two expressions where `depth` variables are nearer than the machine's.
+fn encode_relation(
+    table: &mut Table,
+    rel: Rel,
+    a: &Exp,
+    b: &Exp,
+    depth: u32,
+) -> Result<Id, AllocError>
+    requires room { depth + 31 < 2 ^ 32 }
+    ensures id { IfOk result (IsIdOf table.new (form_encoding (named_form depth
+        (FRel rel (exp_view a.now) (exp_view b.now))))) }
+    ensures extends { Extends table.old table.new }
+{
+    let left = encode_exp(table, a, depth)?;
+    let right = encode_exp(table, b, depth)?;
+    app2(table, rel_constant(rel), left, right)
+}
+
+/// The term of the right to load or store at an address, by the constant of the right.
+fn encode_access(
+    table: &mut Table,
+    constant: u32,
+    address: &Exp,
+    depth: u32,
+) -> Result<Id, AllocError>
+    requires room { depth + 31 < 2 ^ 32 }
+    ensures id { IfOk result (IsIdOf table.new
+        (app1 constant (exp_encoding (named_exp depth (exp_view address.now))))) }
+    ensures extends { Extends table.old table.new }
+{
+    let address = encode_exp(table, address, depth)?;
+    app1(table, constant, address)
+}
+
+/// The term of a quantifier, by its constant (`ALL` or `ALLM`), over the term `body`, in which
+/// variable 0 is the quantifier's. Fails only for want of memory; each id keeps its tree.
+pub fn quantified(table: &mut Table, constant: u32, body: Id) -> Result<Id, AllocError>
+    requires { IsKnown table.old body }
+    ensures id { IfOk result (IsIdOf table.new (app1 constant (Lam (tree_at table.old body)))) }
+    ensures extends { Extends table.old table.new }
+{
+    let under = table.intern(Node::Lam(body))?;
+    app1(table, constant, under)
+}
+
 /// The term of a formula where `depth` variables are nearer than the machine's.
 fn encode_at(table: &mut Table, form: &Form, depth: u32) -> Result<Id, AllocError>
     requires room { depth + form_height (form_view form.now) + 31 < 2 ^ 32 }
@@ -85,19 +133,9 @@ fn encode_at(table: &mut Table, form: &Form, depth: u32) -> Result<Id, AllocErro
     match form {
         Form::True => table.intern(Node::Const(TT)),
         Form::False => table.intern(Node::Const(FF)),
-        Form::Rel(rel, a, b) => {
-            let left = encode_exp(table, a, depth)?;
-            let right = encode_exp(table, b, depth)?;
-            app2(table, rel_constant(*rel), left, right)
-        }
-        Form::Rd(a) => {
-            let address = encode_exp(table, a, depth)?;
-            app1(table, RD, address)
-        }
-        Form::Wr(a) => {
-            let address = encode_exp(table, a, depth)?;
-            app1(table, WR, address)
-        }
+        Form::Rel(rel, a, b) => encode_relation(table, *rel, a, b, depth),
+        Form::Rd(a) => encode_access(table, RD, a, depth),
+        Form::Wr(a) => encode_access(table, WR, a, depth),
         Form::And(a, b) => {
             let left = encode_at(table, a, depth)?;
             let right = encode_at(table, b, depth)?;
@@ -115,18 +153,16 @@ fn encode_at(table: &mut Table, form: &Form, depth: u32) -> Result<Id, AllocErro
         }
         Form::All(a) => {
             let body = encode_at(table, a, depth + 1)?;
-            let under = table.intern(Node::Lam(body))?;
-            app1(table, ALL, under)
+            quantified(table, ALL, body)
         }
         Form::Allm(a) => {
             let body = encode_at(table, a, depth + 1)?;
-            let under = table.intern(Node::Lam(body))?;
-            app1(table, ALLM, under)
+            quantified(table, ALLM, body)
         }
     }
 }
 
-/// EncodesForm `form` over the variables of `ctx`, the nearest last. Where `ctx` begins with a memory
+/// Encodes `form` over the variables of `ctx`, the nearest last. Where `ctx` begins with a memory
 /// and 31 words, these are m and r0 to r30; any other variable is a bound one, whose binder would
 /// stand outside. Register 31 is the literal 0.
 ///

@@ -16,8 +16,8 @@ mod puts;
 mod tests;
 mod theorems;
 
-pub use contexts::Sort;
+pub use contexts::{Sort, machine_context};
 pub use decode::{form_of, is_form};
-pub use encode::encode_form;
-pub use puts::put;
+pub use encode::{encode_form, quantified};
+pub use puts::{PutMemo, put, put_with};
 pub use theorems::{adequacy_laws, put_laws, substitution_on_encodings};

@@ -11,7 +11,7 @@ ghost use Rattle.term_table.specs.Scope.{is_scoped};
 ghost use Rattle.hereditary_subst.specs.Inside.Kept.{IsMemo};
 ghost use Rattle.lf_signature.specs.Nodes.{IsIdOf};
 ghost use Rattle.lf_encode.specs.PutTree.{machine_terms_at, put_for, put_tree, HasRoomUnder};
-ghost use Rattle.lf_encode.specs.Inside.Kept.{IsKept, IsPut, AreMachineTerms};
+ghost use Rattle.lf_encode.specs.Inside.Kept.{IsPutMemo, IsPut, AreMachineTerms};
 
 use hereditary_subst::{MOST_RESULTS, Memo, weaken_with};
 use std::alloc::{AllocError, Global};
@@ -25,10 +25,11 @@ struct Place {
     depth: u32,
 }
 
-/// The results of one substitution.
+/// Results of one substitution of terms for the machine's variables, up to a limit.
 #[derive(Drop)]
-struct Kept {
+pub struct PutMemo {
     rows: BTreeMap<Place, u64>,
+    left: usize,
 }
 
 /// The id as a number.
@@ -38,19 +39,34 @@ fn number(id: Id) -> u64
     id.index() as u64
 }
 
-impl Kept {
-    /// Nothing kept.
-    fn new(alloc: Global) -> Kept
-        ensures { (t : TableView) (regs : List ℕ) (memory : ℕ) → IsKept t regs memory result }
+impl PutMemo {
+    /// A memo without results, which takes no memory yet, for any terms. A call that would keep more
+    /// than `left` results in it answers want of memory.
+    pub fn new(alloc: Global, left: usize) -> PutMemo
+        ensures { (t : TableView) (regs : List ℕ) (memory : ℕ) → IsPutMemo t regs memory result }
     {
-        Kept {
+        PutMemo {
             rows: BTreeMap::new(alloc),
+            left,
         }
+    }
+
+    /// How many results it may still keep.
+    pub fn left(&self) -> usize {
+        self.left
+    }
+
+    /// Lets it keep `left` results more. What it keeps stays.
+    pub fn set_left(&mut self, left: usize)
+        ensures { (t : TableView) (regs : List ℕ) (memory : ℕ) →
+            IsPutMemo t regs memory self.old → IsPutMemo t regs memory self.new }
+    {
+        self.left = left;
     }
 
     /// What is kept at the place, as a number.
     fn row(&self, table: &Table, regs: &[Id], memory: Id, place: &Place) -> Option<u64>
-        requires { IsKept table.now regs.now memory self.now }
+        requires { IsPutMemo table.now regs.now memory self.now }
         ensures { IfSome result (λ r. IsPut table.now regs.now memory place.now r) }
     {
         // Only the clauses speak of them.
@@ -62,7 +78,7 @@ impl Kept {
 
     /// What is kept at the place.
     fn find(&self, table: &Table, regs: &[Id], memory: Id, place: &Place) -> Option<Id>
-        requires { IsKept table.now regs.now memory self.now }
+        requires { IsPutMemo table.now regs.now memory self.now }
         ensures { IfSome result (λ r. IsPut table.now regs.now memory place.now r) }
     {
         match self.row(table, regs, memory, place) {
@@ -71,7 +87,7 @@ impl Kept {
         }
     }
 
-    /// Keeps what stands at the place. Fails only for want of memory.
+    /// Keeps what stands at the place. Fails past the limit, and where memory does.
     fn keep(
         &mut self,
         table: &Table,
@@ -80,14 +96,18 @@ impl Kept {
         place: Place,
         put: Id,
     ) -> Result<(), AllocError>
-        requires kept { IsKept table.now regs.now memory self.old }
+        requires kept { IsPutMemo table.now regs.now memory self.old }
         requires put { IsPut table.now regs.now memory place put }
-        ensures { IsKept table.now regs.now memory self.new }
+        ensures { IsPutMemo table.now regs.now memory self.new }
     {
         // Only the clauses speak of them.
         let _ = table;
         let _ = regs;
         let _ = memory;
+        if self.left == 0 {
+            return Err(AllocError);
+        }
+        self.left -= 1;
         self.rows.insert(place, number(put))?;
         Ok(())
     }
@@ -149,7 +169,7 @@ fn put_variable(
 fn put_at(
     table: &mut Table,
     shifts: &mut Memo,
-    kept: &mut Kept,
+    kept: &mut PutMemo,
     regs: &[Id],
     memory: Id,
     id: Id,
@@ -158,13 +178,13 @@ fn put_at(
     requires known { IsKnown table.old id }
     requires ready { AreMachineTerms table.old regs.now memory }
     requires shifts { IsMemo table.old shifts.old }
-    requires kept { IsKept table.old regs.now memory kept.old }
+    requires kept { IsPutMemo table.old regs.now memory kept.old }
     requires low { depth + height_of (tree_at table.old id) < 2 ^ 31 }
     ensures id { let puts = machine_terms_at table.old regs.now memory in
         IfOk result (IsIdOf table.new (put_tree puts depth (tree_at table.old id))) }
     ensures grows { Extends table.old table.new }
     ensures shifts { IsMemo table.new shifts.new }
-    ensures kept { IsKept table.new regs.now memory kept.new }
+    ensures kept { IsPutMemo table.new regs.now memory kept.new }
 {
     if is_near(table, id, depth) {
         return Ok(id);
@@ -187,7 +207,7 @@ fn put_at(
 fn put_parts(
     table: &mut Table,
     shifts: &mut Memo,
-    kept: &mut Kept,
+    kept: &mut PutMemo,
     regs: &[Id],
     memory: Id,
     id: Id,
@@ -196,13 +216,13 @@ fn put_parts(
     requires known { IsKnown table.old id }
     requires ready { AreMachineTerms table.old regs.now memory }
     requires shifts { IsMemo table.old shifts.old }
-    requires kept { IsKept table.old regs.now memory kept.old }
+    requires kept { IsPutMemo table.old regs.now memory kept.old }
     requires low { depth + height_of (tree_at table.old id) < 2 ^ 31 }
     ensures id { let puts = machine_terms_at table.old regs.now memory in
         IfOk result (IsIdOf table.new (put_tree puts depth (tree_at table.old id))) }
     ensures grows { Extends table.old table.new }
     ensures shifts { IsMemo table.new shifts.new }
-    ensures kept { IsKept table.new regs.now memory kept.new }
+    ensures kept { IsPutMemo table.new regs.now memory kept.new }
 {
     match table.node(id) {
         Node::Var(n) => put_variable(table, shifts, regs, memory, n, depth),
@@ -219,12 +239,12 @@ fn put_parts(
     }
 }
 
-/// MachineTerms terms for the machine's variables in the term `id`, which is over the context m, r0 to r30:
+/// Puts terms for the machine's variables in the term `id`, which is over the context m, r0 to r30:
 /// those of `regs`, 31 ids, for r0 to r30 in this order, and that of `memory` for m. Nothing is
 /// captured. Of the encoding of a formula this is the encoding of the formula with these put for its
 /// registers and m (`put_laws`).
 ///
-/// Errors: want of memory alone; each id keeps its tree.
+/// Errors: want of memory, which more than `MOST_RESULTS` results are too; each id keeps its tree.
 pub fn put(table: &mut Table, id: Id, regs: &[Id], memory: Id) -> Result<Id, AllocError>
     requires known { IsKnown table.old id }
     requires regs { AllKnown table.old regs.now }
@@ -238,6 +258,30 @@ pub fn put(table: &mut Table, id: Id, regs: &[Id], memory: Id) -> Result<Id, All
 {
     let alloc = table.allocator();
     let mut shifts = Memo::new(alloc, MOST_RESULTS);
-    let mut kept = Kept::new(alloc);
-    put_at(table, &mut shifts, &mut kept, regs, memory, id, 0)
+    let mut kept = PutMemo::new(alloc, MOST_RESULTS);
+    put_with(table, &mut shifts, &mut kept, id, regs, memory)
+}
+
+/// `put`, with the shifts and the results that earlier calls on the table kept, the results being of
+/// the same terms. The same clauses.
+pub fn put_with(
+    table: &mut Table,
+    shifts: &mut Memo,
+    kept: &mut PutMemo,
+    id: Id,
+    regs: &[Id],
+    memory: Id,
+) -> Result<Id, AllocError>
+    requires known { IsKnown table.old id }
+    requires ready { AreMachineTerms table.old regs.now memory }
+    requires low { height_of (tree_at table.old id) < 2 ^ 31 }
+    requires shifts { IsMemo table.old shifts.old }
+    requires kept { IsPutMemo table.old regs.now memory kept.old }
+    ensures exact { let puts = machine_terms_at table.old regs.now memory in
+        IfOk result (IsIdOf table.new (put_tree puts 0 (tree_at table.old id))) }
+    ensures extends { Extends table.old table.new }
+    ensures shifts { IsMemo table.new shifts.new }
+    ensures kept { IsPutMemo table.new regs.now memory kept.new }
+{
+    put_at(table, shifts, kept, regs, memory, id, 0)
 }

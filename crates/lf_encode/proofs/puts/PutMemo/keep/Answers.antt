@@ -8,7 +8,7 @@ use Rattle.lf_encode.specs.contracts.puts.PlaceOrd.TheImpl as block
 use Rattle.lf_encode.specs.contracts.puts.PlacePartialEq.TheImpl as equality
 use Rattle.lf_encode.specs.Inside.Kept.{IsPut}
 use Rattle.lf_encode.proofs.KeptRows.{kept-keep}
-use Rattle.lf_encode.proofs.puts.Kept.keep.Goals as goal
+use Rattle.lf_encode.proofs.puts.PutMemo.keep.Goals as goal
 
 decides_eq : (a b : Place) → Decides (equality.ghosts.eq a b) (a ≡ b)
 decides_eq a b = search rules
