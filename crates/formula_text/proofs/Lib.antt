@@ -1,0 +1,13 @@
+pub mod Lexing
+pub mod Fronts
+pub mod Known
+pub mod Rows
+pub mod Stacks
+pub mod Running
+pub mod Reached
+pub mod Joined
+pub mod Closed
+pub mod Printed
+pub mod Turns
+pub mod Viable
+pub mod Refused

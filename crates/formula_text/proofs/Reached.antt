@@ -1,0 +1,331 @@
+-- Tokens that are read as a formula spell it.
+use Rattle.std.proofs.Common.{◌≡◌, ℕ, suc, ◌^◌, Bool, true, false, cond, List, [], ◌∷◌, ◌++◌, Option, Some, None, Result, Ok, Err, refl, sym, ap, ◌∙◌, subst, append_assoc, ltb}
+use Rattle.std.specs.Prelude.{codes}
+use Rattle.std.specs.Str.{bytes_eq}
+use Rattle.std.specs.Option.{option_map}
+use Rattle.std.proofs.lemmas.Bool.{ltb-true}
+use Rattle.std.proofs.lemmas.List.{append-nil}
+use Rattle.formula_tree.specs.Formulas.{Exp, MemExp, Form}
+use Rattle.formula_text.specs.declared.keywords.PhraseSort.{PhraseSort}
+use Rattle.formula_text.specs.declared.keywords.PhraseSort.TheVariants as S
+use Rattle.formula_text.specs.declared.keywords.Keyword.{Keyword}
+use Rattle.formula_text.specs.declared.keywords.Keyword.TheVariants as K
+use Rattle.formula_text.specs.declared.fault.TextFlaw.{TextFlaw}
+use Rattle.formula_text.specs.declared.parens.Paren.{Paren}
+use Rattle.formula_text.specs.declared.parens.Paren.TheVariants as P
+use Rattle.formula_text.specs.Tokens.{Token, Mark, Lexeme}
+use Rattle.formula_text.specs.Registers.{register_of}
+use Rattle.formula_text.specs.Numbers.{lexeme_number, begins_with_digit}
+use Rattle.formula_text.specs.Keywords.{phrase_sort, binder_sort, keyword_text, keyword_of}
+use Rattle.formula_text.specs.Bindings.{is_name, Bindings, nearest_binding}
+use Rattle.formula_text.specs.Grammar.{group, SpellsExp, SpellsMem, SpellsForm}
+use Rattle.formula_text.specs.Parsing.{◌>>=◌, Phrase, AForm, AnExp, AMem, Parts, NoParts, OneExp, TwoExps, OneForm, TwoForms, OneMem, MemThenExp, MemThenExps, with_phrase, of_two_exps, of_one_exp, of_two_forms, of_one_form, of_mem_exp, of_mem_exps, group_phrase, Frame, Expected, Inside, Opened, Binding, Whole, ParseState, with_binding, bindings_of, awaited_sort, number_phrase, variable_exp, variable_mem, register_phrase, lexeme_phrase, with_frame_parts, put_phrase, put_group, close_group, inside_open, inside_lexeme, opened, same_sort, opened_keyword, binding_step, parse_step}
+use Rattle.formula_text.proofs.Known.{same_bytes, register_is, keyword_is, number_is}
+use Rattle.formula_text.proofs.Running.{parse_steps}
+
+abbrev pub SpellsPhrase : Phrase → Bindings → List (Token Paren) → Type 0
+SpellsPhrase (AForm A) s ts = SpellsForm A s ts
+SpellsPhrase (AnExp a) s ts = SpellsExp a s ts
+SpellsPhrase (AMem m) s ts = SpellsMem m s ts
+
+abbrev pub SpellsParts : Parts → Bindings → List (Token Paren) → Type 0
+SpellsParts NoParts s ts = ts ≡ []
+SpellsParts (OneExp a) s ts = SpellsExp a s ts
+SpellsParts (TwoExps a b) s ts = (us vs : List (Token Paren)) × SpellsExp a s us × SpellsExp b s vs × (ts ≡ us ++ vs)
+SpellsParts (OneForm A) s ts = SpellsForm A s ts
+SpellsParts (TwoForms A B) s ts = (us vs : List (Token Paren)) × SpellsForm A s us × SpellsForm B s vs × (ts ≡ us ++ vs)
+SpellsParts (OneMem m) s ts = SpellsMem m s ts
+SpellsParts (MemThenExp m a) s ts = (us vs : List (Token Paren)) × SpellsMem m s us × SpellsExp a s vs × (ts ≡ us ++ vs)
+SpellsParts (MemThenExps m a v) s ts = (us vs ws : List (Token Paren)) × SpellsMem m s us × SpellsExp a s vs × SpellsExp v s ws × (ts ≡ (us ++ vs) ++ ws)
+
+-- what stands behind a keyword before the parts
+abbrev pub name_tokens : Option PhraseSort → List ℕ → List (Token Paren)
+name_tokens None x = []
+name_tokens (Some q) x = Lexeme x ∷ []
+
+abbrev pub IsBinding : Option PhraseSort → List ℕ → Type 0
+IsBinding None x = Unit {0}
+IsBinding (Some q) x = is_name x ≡ true
+
+abbrev pub opening : Frame → List (Token Paren)
+opening f = (Mark P.Open) ∷ Lexeme (keyword_text f.keyword) ∷ name_tokens (binder_sort f.keyword) f.name
+
+-- these parentheses are open, the nearest first
+abbrev pub AreOpen : List Frame → List (Token Paren) → Type 0
+AreOpen [] ts = ts ≡ []
+AreOpen (f ∷ fs) ts = (us vs : List (Token Paren)) × AreOpen fs us × IsBinding (binder_sort f.keyword) f.name × SpellsParts f.parts (bindings_of (f ∷ fs)) vs × (ts ≡ us ++ (opening f ++ vs))
+
+abbrev pub IsReached : Expected → List Frame → List (Token Paren) → Type 0
+IsReached Inside fs ts = AreOpen fs ts
+IsReached (Opened q) fs ts = (us : List (Token Paren)) × AreOpen fs us × (ts ≡ us ++ ((Mark P.Open) ∷ []))
+IsReached (Binding h) fs ts = (us : List (Token Paren)) × (q : PhraseSort) × AreOpen fs us × (binder_sort h ≡ Some q) × (ts ≡ us ++ ((Mark P.Open) ∷ Lexeme (keyword_text h) ∷ []))
+IsReached (Whole A) fs ts = SpellsForm A [] ts
+
+-- ---- the names in scope are names
+
+abbrev AreNames : Bindings → Type 0
+AreNames [] = Unit {0}
+AreNames (b ∷ bs) = (is_name b.0 ≡ true) × AreNames bs
+
+binding_names : (o : Option PhraseSort) (x : List ℕ) (s : Bindings) → IsBinding o x → AreNames s → AreNames (with_binding o x s)
+binding_names None x s h g = g
+binding_names (Some q) x s h g = (h, g)
+
+open_names : (fs : List Frame) (ts : List (Token Paren)) → AreOpen fs ts → AreNames (bindings_of fs)
+open_names [] ts h = tt
+open_names (f ∷ fs) ts h = binding_names (binder_sort f.keyword) f.name (bindings_of fs) h.3 (open_names fs h.0 h.2)
+
+binding_by : (b : List ℕ × PhraseSort) (x : List ℕ) (p : ℕ × PhraseSort) (o : Option (ℕ × PhraseSort)) (t : Bool) → bytes_eq b.0 x ≡ t → is_name b.0 ≡ true → cond t (Some (0, b.1)) (option_map (λ p. (suc p.0, p.1)) o) ≡ Some p → ((q : ℕ × PhraseSort) → o ≡ Some q → is_name x ≡ true) → is_name x ≡ true
+binding_by b x p o true e n f g = subst (λ y. is_name y ≡ true) (same_bytes b.0 x e) n
+binding_by b x p None false e n f g = cc
+binding_by b x p (Some q) false e n f g = g q refl
+
+binding_name : (s : Bindings) (x : List ℕ) (p : ℕ × PhraseSort) → AreNames s → nearest_binding s x ≡ Some p → is_name x ≡ true
+binding_name [] x p n e = cc
+binding_name (b ∷ bs) x p n e = binding_by b x p (nearest_binding bs x) (bytes_eq b.0 x) refl n.0 e (λ q f. binding_name bs x q n.1 f)
+
+-- ---- lexemes
+
+chosen : {A : Type 0} (t : Bool) (x y z : A) → cond t x y ≡ z → (P : Type 0) → (t ≡ true → x ≡ z → P) → (t ≡ false → y ≡ z → P) → P
+chosen true x y z e P f g = f refl e
+chosen false x y z e P f g = g refl e
+
+some_same : {A : Type 0} (x y : A) → Some x ≡ Some y → x ≡ y
+some_same x y e = cc
+
+same_Ok : {A E : Type 0} (x y : A) → ◌≡◌ {A = Result A E} (Ok x) (Ok y) → x ≡ y
+same_Ok x y e = cc
+
+number_spells : (s : Bindings) (w : List ℕ) (x : Phrase) (o : Option ℕ) → lexeme_number w ≡ o → number_phrase o ≡ Ok x → SpellsPhrase x s (Lexeme w ∷ [])
+number_spells s w x None e h = cc
+number_spells s w x (Some n) e h = chosen (ltb n (2 ^ 64)) _ _ _ h (SpellsPhrase x s (Lexeme w ∷ []))
+    (λ t f. subst (λ y. SpellsPhrase y s (Lexeme w ∷ [])) (same_Ok _ _ f) (w, number_is w n e, ltb-true n (2 ^ 64) t, refl))
+    (λ t f. cc)
+
+exp_bound_spells : (s : Bindings) (w : List ℕ) (x : Phrase) (o : Option (ℕ × PhraseSort)) → AreNames s → nearest_binding s w ≡ o → variable_exp o ≡ Ok x → SpellsPhrase x s (Lexeme w ∷ [])
+exp_bound_spells s w x None n e h = cc
+exp_bound_spells s w x (Some (k, S.Exp)) n e h = subst (λ y. SpellsPhrase y s (Lexeme w ∷ [])) (same_Ok _ _ h) (w, binding_name s w _ n e, e, refl)
+exp_bound_spells s w x (Some (k, S.Mem)) n e h = cc
+exp_bound_spells s w x (Some (k, S.Form)) n e h = cc
+
+mem_bound_spells : (s : Bindings) (w : List ℕ) (x : Phrase) (o : Option (ℕ × PhraseSort)) → AreNames s → nearest_binding s w ≡ o → variable_mem o ≡ Ok x → SpellsPhrase x s (Lexeme w ∷ [])
+mem_bound_spells s w x None n e h = cc
+mem_bound_spells s w x (Some (k, S.Mem)) n e h = subst (λ y. SpellsPhrase y s (Lexeme w ∷ [])) (same_Ok _ _ h) (w, binding_name s w _ n e, e, refl)
+mem_bound_spells s w x (Some (k, S.Exp)) n e h = cc
+mem_bound_spells s w x (Some (k, S.Form)) n e h = cc
+
+register_spells : (s : Bindings) (w : List ℕ) (x : Phrase) (o : Option ℕ) → AreNames s → register_of w ≡ o → register_phrase s w o ≡ Ok x → SpellsPhrase x s (Lexeme w ∷ [])
+register_spells s w x (Some r) n e h = subst (λ y. SpellsPhrase y s (Lexeme w ∷ [])) (same_Ok _ _ h) (w, register_is w r e, refl)
+register_spells s w x None n e h = exp_bound_spells s w x (nearest_binding s w) n refl h
+
+lexeme_spells : (s : Bindings) (q : PhraseSort) (w : List ℕ) (x : Phrase) → AreNames s → lexeme_phrase s q w ≡ Ok x → SpellsPhrase x s (Lexeme w ∷ [])
+unfolding lexeme_phrase
+lexeme_spells s S.Form w x n h =
+    chosen (bytes_eq w (codes "tt")) _ _ _ h (SpellsPhrase x s (Lexeme w ∷ []))
+    (λ t f. subst (λ y. SpellsPhrase y s (Lexeme w ∷ [])) (same_Ok _ _ f) (ap (λ y. Lexeme y ∷ []) (same_bytes w (codes "tt") t)))
+    (λ t f. chosen (bytes_eq w (codes "ff")) _ _ _ f (SpellsPhrase x s (Lexeme w ∷ []))
+    (λ u g. subst (λ y. SpellsPhrase y s (Lexeme w ∷ [])) (same_Ok _ _ g) (ap (λ y. Lexeme y ∷ []) (same_bytes w (codes "ff") u)))
+    (λ u g. cc))
+lexeme_spells s S.Exp w x n h =
+    chosen (begins_with_digit w) _ _ _ h (SpellsPhrase x s (Lexeme w ∷ []))
+    (λ t f. number_spells s w x (lexeme_number w) refl f)
+    (λ t f. register_spells s w x (register_of w) n refl f)
+lexeme_spells s S.Mem w x n h =
+    chosen (bytes_eq w (codes "m")) _ _ _ h (SpellsPhrase x s (Lexeme w ∷ []))
+    (λ t f. subst (λ y. SpellsPhrase y s (Lexeme w ∷ [])) (same_Ok _ _ f) (ap (λ y. Lexeme y ∷ []) (same_bytes w (codes "m") t)))
+    (λ t f. mem_bound_spells s w x (nearest_binding s w) n refl f)
+
+-- ---- parts
+
+parts_spell : (h k : Parts) (x : Phrase) (s : Bindings) (ts us : List (Token Paren)) → with_phrase h x ≡ Some k → SpellsParts h s ts → SpellsPhrase x s us → SpellsParts k s (ts ++ us)
+parts_spell NoParts k (AForm A) s ts us e g f = subst (λ y. SpellsParts y s (ts ++ us)) (some_same _ _ e) (subst (λ l. SpellsForm A s (l ++ us)) (sym g) f)
+parts_spell NoParts k (AnExp a) s ts us e g f = subst (λ y. SpellsParts y s (ts ++ us)) (some_same _ _ e) (subst (λ l. SpellsExp a s (l ++ us)) (sym g) f)
+parts_spell NoParts k (AMem m) s ts us e g f = subst (λ y. SpellsParts y s (ts ++ us)) (some_same _ _ e) (subst (λ l. SpellsMem m s (l ++ us)) (sym g) f)
+parts_spell (OneExp b) k (AnExp a) s ts us e g f = subst (λ y. SpellsParts y s (ts ++ us)) (some_same _ _ e) (ts, us, g, f, refl)
+parts_spell (OneForm B) k (AForm A) s ts us e g f = subst (λ y. SpellsParts y s (ts ++ us)) (some_same _ _ e) (ts, us, g, f, refl)
+parts_spell (OneMem m) k (AnExp a) s ts us e g f = subst (λ y. SpellsParts y s (ts ++ us)) (some_same _ _ e) (ts, us, g, f, refl)
+parts_spell (MemThenExp m b) k (AnExp a) s ts us e g f = subst (λ y. SpellsParts y s (ts ++ us)) (some_same _ _ e) (g.0, g.1, us, g.2, g.3, f, ap (λ l. l ++ us) g.4)
+parts_spell (OneExp b) k (AForm A) s ts us e g f = cc
+parts_spell (OneExp b) k (AMem m) s ts us e g f = cc
+parts_spell (OneForm B) k (AnExp a) s ts us e g f = cc
+parts_spell (OneForm B) k (AMem m) s ts us e g f = cc
+parts_spell (OneMem m) k (AForm A) s ts us e g f = cc
+parts_spell (OneMem m) k (AMem n) s ts us e g f = cc
+parts_spell (MemThenExp m b) k (AForm A) s ts us e g f = cc
+parts_spell (MemThenExp m b) k (AMem n) s ts us e g f = cc
+parts_spell (TwoExps b c) k (AForm A) s ts us e g f = cc
+parts_spell (TwoExps b c) k (AnExp a) s ts us e g f = cc
+parts_spell (TwoExps b c) k (AMem m) s ts us e g f = cc
+parts_spell (TwoForms B C) k (AForm A) s ts us e g f = cc
+parts_spell (TwoForms B C) k (AnExp a) s ts us e g f = cc
+parts_spell (TwoForms B C) k (AMem m) s ts us e g f = cc
+parts_spell (MemThenExps n b c) k (AForm A) s ts us e g f = cc
+parts_spell (MemThenExps n b c) k (AnExp a) s ts us e g f = cc
+parts_spell (MemThenExps n b c) k (AMem m) s ts us e g f = cc
+
+phrase_reached : (x : Phrase) (f : Frame) (fs : List Frame) (us vs : List (Token Paren)) (s : ParseState) (k : Option Parts) → with_phrase f.parts x ≡ k → AreOpen (f ∷ fs) us → SpellsPhrase x (bindings_of (f ∷ fs)) vs → with_frame_parts f fs k ≡ Ok s → IsReached s.0 s.1 (us ++ vs)
+phrase_reached x f fs us vs s None e o h g = cc
+phrase_reached x f fs us vs s (Some k) e o h g =
+    subst (λ n. IsReached n.0 n.1 (us ++ vs)) (same_Ok (Inside, record { keyword = f.keyword; name = f.name; parts = k } ∷ fs) s g)
+    (o.0, o.1 ++ vs, o.2, o.3, parts_spell f.parts k x (bindings_of (f ∷ fs)) o.1 vs e o.4 h, ap (λ l. l ++ vs) o.5 ∙ append_assoc o.0 (opening f ++ o.1) vs ∙ ap (λ l. o.0 ++ l) (append_assoc (opening f) o.1 vs))
+
+-- a part for the nearest parentheses
+put_reached : (x : Phrase) (fs : List Frame) (us vs : List (Token Paren)) (s : ParseState) → AreOpen fs us → SpellsPhrase x (bindings_of fs) vs → put_phrase x fs ≡ Ok s → IsReached s.0 s.1 (us ++ vs)
+unfolding put_phrase
+put_reached (AForm A) [] us vs s o h e = subst (λ n. IsReached n.0 n.1 (us ++ vs)) (same_Ok (Whole A, []) s e) (subst (λ l. SpellsForm A [] (l ++ vs)) (sym o) h)
+put_reached (AnExp a) [] us vs s o h e = cc
+put_reached (AMem m) [] us vs s o h e = cc
+put_reached x (f ∷ fs) us vs s o h e = phrase_reached x f fs us vs s (with_phrase f.parts x) refl o h e
+
+-- ---- the end of parentheses
+
+two_exps : (f : Exp → Exp → Phrase) (k : Parts) (x : Phrase) → of_two_exps f k ≡ Some x → (a b : Exp) × (k ≡ TwoExps a b) × (f a b ≡ x)
+two_exps f NoParts x e = cc
+two_exps f (OneExp a) x e = cc
+two_exps f (TwoExps a b) x e = (a, b, refl, some_same _ _ e)
+two_exps f (OneForm A) x e = cc
+two_exps f (TwoForms A B) x e = cc
+two_exps f (OneMem m) x e = cc
+two_exps f (MemThenExp m a) x e = cc
+two_exps f (MemThenExps m a v) x e = cc
+
+one_exp : (f : Exp → Phrase) (k : Parts) (x : Phrase) → of_one_exp f k ≡ Some x → (a : Exp) × (k ≡ OneExp a) × (f a ≡ x)
+one_exp f NoParts x e = cc
+one_exp f (OneExp a) x e = (a, refl, some_same _ _ e)
+one_exp f (TwoExps a b) x e = cc
+one_exp f (OneForm A) x e = cc
+one_exp f (TwoForms A B) x e = cc
+one_exp f (OneMem m) x e = cc
+one_exp f (MemThenExp m a) x e = cc
+one_exp f (MemThenExps m a v) x e = cc
+
+two_forms : (f : Form → Form → Phrase) (k : Parts) (x : Phrase) → of_two_forms f k ≡ Some x → (A B : Form) × (k ≡ TwoForms A B) × (f A B ≡ x)
+two_forms f NoParts x e = cc
+two_forms f (OneExp a) x e = cc
+two_forms f (TwoExps a b) x e = cc
+two_forms f (OneForm A) x e = cc
+two_forms f (TwoForms A B) x e = (A, B, refl, some_same _ _ e)
+two_forms f (OneMem m) x e = cc
+two_forms f (MemThenExp m a) x e = cc
+two_forms f (MemThenExps m a v) x e = cc
+
+one_form : (f : Form → Phrase) (k : Parts) (x : Phrase) → of_one_form f k ≡ Some x → (A : Form) × (k ≡ OneForm A) × (f A ≡ x)
+one_form f NoParts x e = cc
+one_form f (OneExp a) x e = cc
+one_form f (TwoExps a b) x e = cc
+one_form f (OneForm A) x e = (A, refl, some_same _ _ e)
+one_form f (TwoForms A B) x e = cc
+one_form f (OneMem m) x e = cc
+one_form f (MemThenExp m a) x e = cc
+one_form f (MemThenExps m a v) x e = cc
+
+mem_exp : (f : MemExp → Exp → Phrase) (k : Parts) (x : Phrase) → of_mem_exp f k ≡ Some x → (m : MemExp) × (a : Exp) × (k ≡ MemThenExp m a) × (f m a ≡ x)
+mem_exp f NoParts x e = cc
+mem_exp f (OneExp a) x e = cc
+mem_exp f (TwoExps a b) x e = cc
+mem_exp f (OneForm A) x e = cc
+mem_exp f (TwoForms A B) x e = cc
+mem_exp f (OneMem m) x e = cc
+mem_exp f (MemThenExp m a) x e = (m, a, refl, some_same _ _ e)
+mem_exp f (MemThenExps m a v) x e = cc
+
+mem_exps : (f : MemExp → Exp → Exp → Phrase) (k : Parts) (x : Phrase) → of_mem_exps f k ≡ Some x → (m : MemExp) × (a v : Exp) × (k ≡ MemThenExps m a v) × (f m a v ≡ x)
+mem_exps f NoParts x e = cc
+mem_exps f (OneExp a) x e = cc
+mem_exps f (TwoExps a b) x e = cc
+mem_exps f (OneForm A) x e = cc
+mem_exps f (TwoForms A B) x e = cc
+mem_exps f (OneMem m) x e = cc
+mem_exps f (MemThenExp m a) x e = cc
+mem_exps f (MemThenExps m a v) x e = (m, a, v, refl, some_same _ _ e)
+
+-- parentheses that end are what was built of their parts
+group_spells : (h : Keyword) (n : List ℕ) (k : Parts) (s : Bindings) (x : Phrase) (vs : List (Token Paren)) → IsBinding (binder_sort h) n → SpellsParts k (with_binding (binder_sort h) n s) vs → group_phrase h k ≡ Some x → SpellsPhrase x s ((Mark P.Open) ∷ Lexeme (keyword_text h) ∷ (name_tokens (binder_sort h) n ++ (vs ++ ((Mark P.Close) ∷ []))))
+group_spells (K.Rel p) n k s x vs b g e = let f = two_exps _ k x e in let q = subst (λ y. SpellsParts y s vs) f.2 g in subst (λ y. SpellsPhrase y s (group (K.Rel p) vs)) f.3 (q.0, q.1, q.2, q.3, ap (group (K.Rel p)) q.4)
+group_spells K.Rd n k s x vs b g e = let f = one_exp _ k x e in let q = subst (λ y. SpellsParts y s vs) f.1 g in subst (λ y. SpellsPhrase y s (group K.Rd vs)) f.2 (vs, q, refl)
+group_spells K.Wr n k s x vs b g e = let f = one_exp _ k x e in let q = subst (λ y. SpellsParts y s vs) f.1 g in subst (λ y. SpellsPhrase y s (group K.Wr vs)) f.2 (vs, q, refl)
+group_spells K.And n k s x vs b g e = let f = two_forms _ k x e in let q = subst (λ y. SpellsParts y s vs) f.2 g in subst (λ y. SpellsPhrase y s (group K.And vs)) f.3 (q.0, q.1, q.2, q.3, ap (group K.And) q.4)
+group_spells K.Or n k s x vs b g e = let f = two_forms _ k x e in let q = subst (λ y. SpellsParts y s vs) f.2 g in subst (λ y. SpellsPhrase y s (group K.Or vs)) f.3 (q.0, q.1, q.2, q.3, ap (group K.Or) q.4)
+group_spells K.Imp n k s x vs b g e = let f = two_forms _ k x e in let q = subst (λ y. SpellsParts y s vs) f.2 g in subst (λ y. SpellsPhrase y s (group K.Imp vs)) f.3 (q.0, q.1, q.2, q.3, ap (group K.Imp) q.4)
+group_spells K.All n k s x vs b g e = let f = one_form _ k x e in let q = subst (λ y. SpellsParts y ((n, S.Exp) ∷ s) vs) f.1 g in subst (λ y. SpellsPhrase y s (group K.All (Lexeme n ∷ vs))) f.2 (n, vs, b, q, refl)
+group_spells K.Allm n k s x vs b g e = let f = one_form _ k x e in let q = subst (λ y. SpellsParts y ((n, S.Mem) ∷ s) vs) f.1 g in subst (λ y. SpellsPhrase y s (group K.Allm (Lexeme n ∷ vs))) f.2 (n, vs, b, q, refl)
+group_spells (K.Oper o) n k s x vs b g e = let f = two_exps _ k x e in let q = subst (λ y. SpellsParts y s vs) f.2 g in subst (λ y. SpellsPhrase y s (group (K.Oper o) vs)) f.3 (q.0, q.1, q.2, q.3, ap (group (K.Oper o)) q.4)
+group_spells K.Sel n k s x vs b g e = let f = mem_exp _ k x e in let q = subst (λ y. SpellsParts y s vs) f.2 g in subst (λ y. SpellsPhrase y s (group K.Sel vs)) f.3 (q.0, q.1, q.2, q.3, ap (group K.Sel) q.4)
+group_spells K.Upd n k s x vs b g e = let f = mem_exps _ k x e in let q = subst (λ y. SpellsParts y s vs) f.3 g in subst (λ y. SpellsPhrase y s (group K.Upd vs)) f.4 (q.0, q.1, q.2, q.3, q.4, q.5, ap (group K.Upd) q.6)
+
+closed_reached : (f : Frame) (fs : List Frame) (ts : List (Token Paren)) (s : ParseState) (o : Option Phrase) → group_phrase f.keyword f.parts ≡ o → AreOpen (f ∷ fs) ts → put_group o fs ≡ Ok s → IsReached s.0 s.1 (ts ++ ((Mark P.Close) ∷ []))
+closed_reached f fs ts s None e h g = cc
+closed_reached f fs ts s (Some x) e h g =
+    let line : h.0 ++ (opening f ++ (h.1 ++ ((Mark P.Close) ∷ []))) ≡ ts ++ ((Mark P.Close) ∷ []) =
+    ap (λ l. h.0 ++ l) (sym (append_assoc (opening f) h.1 ((Mark P.Close) ∷ []))) ∙ sym (append_assoc h.0 (opening f ++ h.1) ((Mark P.Close) ∷ [])) ∙ ap (λ l. l ++ ((Mark P.Close) ∷ [])) (sym h.5) in
+    subst (λ l. IsReached s.0 s.1 l) line
+    (put_reached x fs h.0 (opening f ++ (h.1 ++ ((Mark P.Close) ∷ []))) s h.2 (group_spells f.keyword f.name f.parts (bindings_of fs) x h.1 h.3 h.4 e) g)
+
+-- ---- one token, and all of them
+
+inside_opened : (fs : List Frame) (ts : List (Token Paren)) (s : ParseState) (o : Option PhraseSort) → AreOpen fs ts → inside_open fs o ≡ Ok s → IsReached s.0 s.1 (ts ++ ((Mark P.Open) ∷ []))
+inside_opened fs ts s None h e = cc
+inside_opened fs ts s (Some q) h e = subst (λ n. IsReached n.0 n.1 (ts ++ ((Mark P.Open) ∷ []))) (same_Ok (Opened q, fs) s e) (ts, h, refl)
+
+worded : (fs : List Frame) (ts : List (Token Paren)) (w : List ℕ) (s : ParseState) (q : PhraseSort) (r : Result Phrase TextFlaw) → lexeme_phrase (bindings_of fs) q w ≡ r → AreOpen fs ts → (r >>= λ x. put_phrase x fs) ≡ Ok s → IsReached s.0 s.1 (ts ++ (Lexeme w ∷ []))
+worded fs ts w s q (Ok x) f h e = put_reached x fs ts (Lexeme w ∷ []) s h (lexeme_spells (bindings_of fs) q w x (open_names fs ts h) f) e
+worded fs ts w s q (Err flaw) f h e = cc
+
+inside_worded : (fs : List Frame) (ts : List (Token Paren)) (w : List ℕ) (s : ParseState) (o : Option PhraseSort) → AreOpen fs ts → inside_lexeme fs w o ≡ Ok s → IsReached s.0 s.1 (ts ++ (Lexeme w ∷ []))
+inside_worded fs ts w s None h e = cc
+inside_worded fs ts w s (Some q) h e = worded fs ts w s q (lexeme_phrase (bindings_of fs) q w) refl h e
+
+begun_reached : (h : Keyword) (fs : List Frame) (us ts : List (Token Paren)) (o : Option PhraseSort) → binder_sort h ≡ o → AreOpen fs us → ts ≡ us ++ ((Mark P.Open) ∷ Lexeme (keyword_text h) ∷ []) → IsReached (opened h fs o).0 (opened h fs o).1 ts
+begun_reached h fs us ts None b o e =
+    (us, [], o, subst (λ y. IsBinding y []) (sym b) tt, refl, e ∙ ap (λ l. us ++ l) (ap (λ y. (Mark P.Open) ∷ Lexeme (keyword_text h) ∷ (name_tokens y [] ++ [])) (sym b)))
+begun_reached h fs us ts (Some q) b o e = (us, q, o, b, e)
+
+keyword_reached : (q : PhraseSort) (fs : List Frame) (us ts : List (Token Paren)) (w : List ℕ) (s : ParseState) (o : Option Keyword) → keyword_of w ≡ o → AreOpen fs us → ts ≡ us ++ ((Mark P.Open) ∷ []) → opened_keyword q fs o ≡ Ok s → IsReached s.0 s.1 (ts ++ (Lexeme w ∷ []))
+keyword_reached q fs us ts w s None f h e g = cc
+keyword_reached q fs us ts w s (Some k) f h e g =
+    chosen (same_sort (phrase_sort k) q) _ _ _ g (IsReached s.0 s.1 (ts ++ (Lexeme w ∷ [])))
+    (λ t i. subst (λ n. IsReached n.0 n.1 (ts ++ (Lexeme w ∷ []))) (same_Ok _ _ i)
+    (begun_reached k fs us (ts ++ (Lexeme w ∷ [])) (binder_sort k) refl h (ap (λ l. l ++ (Lexeme w ∷ [])) e ∙ append_assoc us ((Mark P.Open) ∷ []) (Lexeme w ∷ []) ∙ ap (λ y. us ++ ((Mark P.Open) ∷ Lexeme y ∷ [])) (keyword_is w k f))))
+    (λ t i. cc)
+
+binding_reached : (h : Keyword) (fs : List Frame) (ts : List (Token Paren)) (w : List ℕ) (s : ParseState) → IsReached (Binding h) fs ts → binding_step h (Lexeme w) fs ≡ Ok s → IsReached s.0 s.1 (ts ++ (Lexeme w ∷ []))
+binding_reached h fs ts w s r g =
+    chosen (is_name w) _ _ _ g (IsReached s.0 s.1 (ts ++ (Lexeme w ∷ [])))
+    (λ t i. subst (λ n. IsReached n.0 n.1 (ts ++ (Lexeme w ∷ []))) (same_Ok _ _ i) (
+      r.0,
+      [],
+      r.2,
+      subst (λ y. IsBinding y w) (sym r.3) t,
+      refl,
+      ap (λ l. l ++ (Lexeme w ∷ [])) r.4 ∙ append_assoc r.0 ((Mark P.Open) ∷ Lexeme (keyword_text h) ∷ []) (Lexeme w ∷ []) ∙ ap (λ l. r.0 ++ l) (ap (λ y. (Mark P.Open) ∷ Lexeme (keyword_text h) ∷ (name_tokens y w ++ [])) (sym r.3)),
+    ))
+    (λ t i. cc)
+
+close_reached : (fs : List Frame) (ts : List (Token Paren)) (s : ParseState) → AreOpen fs ts → close_group fs ≡ Ok s → IsReached s.0 s.1 (ts ++ ((Mark P.Close) ∷ []))
+close_reached [] ts s h e = cc
+close_reached (f ∷ fs) ts s h e = closed_reached f fs ts s (group_phrase f.keyword f.parts) refl h e
+
+step_reached : (t : Token Paren) (st : Expected) (fs : List Frame) (s : ParseState) (ts : List (Token Paren)) → IsReached st fs ts → parse_step t (st, fs) ≡ Ok s → IsReached s.0 s.1 (ts ++ (t ∷ []))
+unfolding parse_step
+step_reached (Mark P.Open) Inside fs s ts h e = inside_opened fs ts s (awaited_sort fs) h e
+step_reached (Mark P.Close) Inside fs s ts h e = close_reached fs ts s h e
+step_reached (Lexeme w) Inside fs s ts h e = inside_worded fs ts w s (awaited_sort fs) h e
+step_reached (Mark P.Open) (Opened q) fs s ts h e = cc
+step_reached (Mark P.Close) (Opened q) fs s ts h e = cc
+step_reached (Lexeme w) (Opened q) fs s ts h e = keyword_reached q fs h.0 ts w s (keyword_of w) refl h.1 h.2 e
+step_reached (Mark P.Open) (Binding k) fs s ts h e = cc
+step_reached (Mark P.Close) (Binding k) fs s ts h e = cc
+step_reached (Lexeme w) (Binding k) fs s ts h e = binding_reached k fs ts w s h e
+step_reached (Mark P.Open) (Whole A) fs s ts h e = cc
+step_reached (Mark P.Close) (Whole A) fs s ts h e = cc
+step_reached (Lexeme w) (Whole A) fs s ts h e = cc
+
+run_from : (t : Token Paren) (ts us : List (Token Paren)) (s : ParseState) (r : Result ParseState TextFlaw) → ((n : ParseState) → r ≡ Ok n → IsReached n.0 n.1 (us ++ (t ∷ []))) → (r >>= λ n. parse_steps ts n) ≡ Ok s →
+    ((n : ParseState) → IsReached n.0 n.1 (us ++ (t ∷ [])) → parse_steps ts n ≡ Ok s → IsReached s.0 s.1 ((us ++ (t ∷ [])) ++ ts)) → IsReached s.0 s.1 (us ++ (t ∷ ts))
+run_from t ts us s (Ok n) f e g = subst (λ l. IsReached s.0 s.1 l) (append_assoc us (t ∷ []) ts) (g n (f n refl) e)
+run_from t ts us s (Err flaw) f e g = cc
+
+-- what is reached by tokens
+pub run_reached : (ts us : List (Token Paren)) (n s : ParseState) → IsReached n.0 n.1 us → parse_steps ts n ≡ Ok s → IsReached s.0 s.1 (us ++ ts)
+run_reached [] us n s h e = subst (λ l. IsReached s.0 s.1 l) (sym (append-nil us)) (subst (λ m. IsReached m.0 m.1 us) (same_Ok n s e) h)
+run_reached (t ∷ ts) us n s h e = run_from t ts us s (parse_step t n) (λ m f. step_reached t n.0 n.1 m us h f) e (λ m g f. run_reached ts (us ++ (t ∷ [])) m s g f)

@@ -1,0 +1,105 @@
+-- Keywords, and what stands in parentheses behind each.
+use Rattle.std.specs.Prelude.{ℕ, if◌then◌else◌, List, [], ◌∷◌, codes, Option, Some, None}
+use Rattle.std.specs.Str.{bytes_eq}
+use Rattle.word_ops.specs.declared.Op.{Op}
+use Rattle.word_ops.specs.declared.Op.TheVariants as O
+use Rattle.word_ops.specs.declared.Rel.{Rel}
+use Rattle.word_ops.specs.declared.Rel.TheVariants as R
+use Rattle.formula_text.specs.declared.keywords.PhraseSort.{PhraseSort}
+use Rattle.formula_text.specs.declared.keywords.PhraseSort.TheVariants as S
+use Rattle.formula_text.specs.declared.keywords.Keyword.{Keyword}
+use Rattle.formula_text.specs.declared.keywords.Keyword.TheVariants as K
+
+-- the name of a relation
+abbrev pub relation_text : Rel → List ℕ
+relation_text R.Eq = codes "eq"
+relation_text R.Ult = codes "ult"
+relation_text R.Ule = codes "ule"
+relation_text R.Slt = codes "slt"
+relation_text R.Sle = codes "sle"
+
+-- the name of an operator
+abbrev pub operator_text : Op → List ℕ
+operator_text O.Add = codes "add"
+operator_text O.Sub = codes "sub"
+operator_text O.Band = codes "band"
+operator_text O.Bis = codes "bis"
+operator_text O.Sll = codes "sll"
+operator_text O.Srl = codes "srl"
+operator_text O.Cmpeq = codes "cmpeq"
+operator_text O.Cmplt = codes "cmplt"
+operator_text O.Cmple = codes "cmple"
+operator_text O.Cmpult = codes "cmpult"
+operator_text O.Cmpule = codes "cmpule"
+
+-- the lexeme that stands first in parentheses
+abbrev pub keyword_text : Keyword → List ℕ
+keyword_text (K.Rel p) = relation_text p
+keyword_text K.Rd = codes "rd"
+keyword_text K.Wr = codes "wr"
+keyword_text K.And = codes "and"
+keyword_text K.Or = codes "or"
+keyword_text K.Imp = codes "imp"
+keyword_text K.All = codes "all"
+keyword_text K.Allm = codes "allm"
+keyword_text (K.Oper o) = operator_text o
+keyword_text K.Sel = codes "sel"
+keyword_text K.Upd = codes "upd"
+
+-- what the parentheses stand for
+abbrev pub phrase_sort : Keyword → PhraseSort
+phrase_sort (K.Rel p) = S.Form
+phrase_sort K.Rd = S.Form
+phrase_sort K.Wr = S.Form
+phrase_sort K.And = S.Form
+phrase_sort K.Or = S.Form
+phrase_sort K.Imp = S.Form
+phrase_sort K.All = S.Form
+phrase_sort K.Allm = S.Form
+phrase_sort (K.Oper o) = S.Exp
+phrase_sort K.Sel = S.Exp
+phrase_sort K.Upd = S.Mem
+
+-- what stands behind the keyword, in order; a bound name stands before it
+abbrev pub part_sorts : Keyword → List PhraseSort
+part_sorts (K.Rel p) = S.Exp ∷ S.Exp ∷ []
+part_sorts K.Rd = S.Exp ∷ []
+part_sorts K.Wr = S.Exp ∷ []
+part_sorts K.And = S.Form ∷ S.Form ∷ []
+part_sorts K.Or = S.Form ∷ S.Form ∷ []
+part_sorts K.Imp = S.Form ∷ S.Form ∷ []
+part_sorts K.All = S.Form ∷ []
+part_sorts K.Allm = S.Form ∷ []
+part_sorts (K.Oper o) = S.Exp ∷ S.Exp ∷ []
+part_sorts K.Sel = S.Mem ∷ S.Exp ∷ []
+part_sorts K.Upd = S.Mem ∷ S.Exp ∷ S.Exp ∷ []
+
+-- the sort of the variable that is bound, if one is
+abbrev pub binder_sort : Keyword → Option PhraseSort
+binder_sort (K.Rel p) = None
+binder_sort K.Rd = None
+binder_sort K.Wr = None
+binder_sort K.And = None
+binder_sort K.Or = None
+binder_sort K.Imp = None
+binder_sort K.All = Some S.Exp
+binder_sort K.Allm = Some S.Mem
+binder_sort (K.Oper o) = None
+binder_sort K.Sel = None
+binder_sort K.Upd = None
+
+-- all of them
+unfoldable pub keywords : List Keyword
+keywords =
+    K.Rel R.Eq ∷ K.Rel R.Ult ∷ K.Rel R.Ule ∷ K.Rel R.Slt ∷ K.Rel R.Sle ∷ K.Rd ∷ K.Wr ∷ K.And ∷ K.Or ∷ K.Imp ∷ K.All ∷ K.Allm ∷
+    K.Oper O.Add ∷ K.Oper O.Sub ∷ K.Oper O.Band ∷ K.Oper O.Bis ∷ K.Oper O.Sll ∷ K.Oper O.Srl ∷
+    K.Oper O.Cmpeq ∷ K.Oper O.Cmplt ∷ K.Oper O.Cmple ∷ K.Oper O.Cmpult ∷ K.Oper O.Cmpule ∷ K.Sel ∷ K.Upd ∷ []
+
+-- the first of these keywords that the lexeme is
+abbrev pub keyword_in : List Keyword → List ℕ → Option Keyword
+keyword_in [] w = None
+keyword_in (k ∷ ks) w = if bytes_eq w (keyword_text k) then Some k else keyword_in ks w
+
+-- the keyword that the lexeme is
+unfoldable pub keyword_of : List ℕ → Option Keyword
+keyword_of w = keyword_in keywords w

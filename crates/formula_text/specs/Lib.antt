@@ -1,0 +1,12 @@
+pub mod Tokens
+pub mod Registers
+pub mod Numbers
+pub mod Keywords
+pub mod Bindings
+pub mod Grammar
+pub mod Parsing
+pub mod Printing
+pub mod Faults
+pub mod Names
+pub mod Answers
+pub mod Inside

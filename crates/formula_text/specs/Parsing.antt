@@ -1,0 +1,357 @@
+-- Parsing a text as a formula, a token at a time: the first token that may not stand where it stands is the fault.
+use Rattle.std.specs.Prelude.{ℕ, ◌^◌, Bool, true, false, nat_lt, if◌then◌else◌, List, [], ◌∷◌, codes, length, slice_get, Option, Some, None, Result, Ok, Err}
+use Rattle.std.specs.Str.{bytes_eq}
+use Rattle.formula_tree.specs.Formulas.{Exp, EReg, EVar, ELit, EOp, ESel, MemExp, MMem, MVar, MUpd, Form, FTrue, FFalse, FRel, FRd, FWr, FAnd, FOr, FImp, FAll, FAllm}
+use Rattle.formula_text.specs.declared.parens.Paren.{Paren}
+use Rattle.formula_text.specs.declared.parens.Paren.TheVariants as P
+use Rattle.formula_text.specs.declared.keywords.PhraseSort.{PhraseSort}
+use Rattle.formula_text.specs.declared.keywords.PhraseSort.TheVariants as S
+use Rattle.formula_text.specs.declared.keywords.Keyword.{Keyword}
+use Rattle.formula_text.specs.declared.keywords.Keyword.TheVariants as K
+use Rattle.formula_text.specs.declared.fault.TextFlaw.{TextFlaw}
+use Rattle.formula_text.specs.declared.fault.TextFlaw.TheVariants.{Shape, Name, Number, Trailing}
+use Rattle.formula_text.specs.Tokens.{Token, Mark, Lexeme, Placed, tokens_at}
+use Rattle.formula_text.specs.Registers.{register_of}
+use Rattle.formula_text.specs.Numbers.{lexeme_number, begins_with_digit}
+use Rattle.formula_text.specs.Keywords.{phrase_sort, part_sorts, binder_sort, keyword_of}
+use Rattle.formula_text.specs.Bindings.{is_name, Bindings, nearest_binding}
+use Rattle.formula_text.specs.Grammar.{paren_class}
+
+-- a position, and what is wrong there
+abbrev pub FaultAt : Type 0
+FaultAt = ℕ × TextFlaw
+
+infixl 10 ◌>>=◌
+-- the next step at an answer; a fault stays
+abbrev pub ◌>>=◌ : {A B E : Type 0} → Result A E → (A → Result B E) → Result B E
+(Ok x) >>= f = f x
+(Err e) >>= f = Err e
+
+-- what a lexeme or a pair of parentheses stands for
+pub data Phrase : Type 0 where
+  AForm : Form → Phrase
+  AnExp : Exp → Phrase
+  AMem : MemExp → Phrase
+
+-- the parts of parentheses that have been read
+pub data Parts : Type 0 where
+  NoParts : Parts
+  OneExp : Exp → Parts
+  TwoExps : Exp → Exp → Parts
+  OneForm : Form → Parts
+  TwoForms : Form → Form → Parts
+  OneMem : MemExp → Parts
+  MemThenExp : MemExp → Exp → Parts
+  MemThenExps : MemExp → Exp → Exp → Parts
+
+-- how many parts
+abbrev pub parts_count : Parts → ℕ
+parts_count NoParts = 0
+parts_count (OneExp a) = 1
+parts_count (TwoExps a b) = 2
+parts_count (OneForm A) = 1
+parts_count (TwoForms A B) = 2
+parts_count (OneMem m) = 1
+parts_count (MemThenExp m a) = 2
+parts_count (MemThenExps m a v) = 3
+
+-- with an expression more
+abbrev pub with_exp : Parts → Exp → Option Parts
+with_exp NoParts b = Some (OneExp b)
+with_exp (OneExp a) b = Some (TwoExps a b)
+with_exp (TwoExps a c) b = None
+with_exp (OneForm A) b = None
+with_exp (TwoForms A B) b = None
+with_exp (OneMem m) b = Some (MemThenExp m b)
+with_exp (MemThenExp m a) b = Some (MemThenExps m a b)
+with_exp (MemThenExps m a v) b = None
+
+-- with a formula more
+abbrev pub with_form : Parts → Form → Option Parts
+with_form NoParts B = Some (OneForm B)
+with_form (OneExp a) B = None
+with_form (TwoExps a c) B = None
+with_form (OneForm A) B = Some (TwoForms A B)
+with_form (TwoForms A C) B = None
+with_form (OneMem m) B = None
+with_form (MemThenExp m a) B = None
+with_form (MemThenExps m a v) B = None
+
+-- with a memory more
+abbrev pub with_mem : Parts → MemExp → Option Parts
+with_mem NoParts n = Some (OneMem n)
+with_mem (OneExp a) n = None
+with_mem (TwoExps a c) n = None
+with_mem (OneForm A) n = None
+with_mem (TwoForms A C) n = None
+with_mem (OneMem m) n = None
+with_mem (MemThenExp m a) n = None
+with_mem (MemThenExps m a v) n = None
+
+-- with one part more, where it fits
+abbrev pub with_phrase : Parts → Phrase → Option Parts
+with_phrase h (AForm A) = with_form h A
+with_phrase h (AnExp a) = with_exp h a
+with_phrase h (AMem m) = with_mem h m
+
+-- what is made of two expressions, where the parts are these; and so on
+abbrev pub of_two_exps : (Exp → Exp → Phrase) → Parts → Option Phrase
+of_two_exps f NoParts = None
+of_two_exps f (OneExp a) = None
+of_two_exps f (TwoExps a b) = Some (f a b)
+of_two_exps f (OneForm A) = None
+of_two_exps f (TwoForms A C) = None
+of_two_exps f (OneMem m) = None
+of_two_exps f (MemThenExp m a) = None
+of_two_exps f (MemThenExps m a v) = None
+
+-- the same of one expression
+abbrev pub of_one_exp : (Exp → Phrase) → Parts → Option Phrase
+of_one_exp f NoParts = None
+of_one_exp f (OneExp a) = Some (f a)
+of_one_exp f (TwoExps a b) = None
+of_one_exp f (OneForm A) = None
+of_one_exp f (TwoForms A C) = None
+of_one_exp f (OneMem m) = None
+of_one_exp f (MemThenExp m a) = None
+of_one_exp f (MemThenExps m a v) = None
+
+-- of two formulas
+abbrev pub of_two_forms : (Form → Form → Phrase) → Parts → Option Phrase
+of_two_forms f NoParts = None
+of_two_forms f (OneExp a) = None
+of_two_forms f (TwoExps a b) = None
+of_two_forms f (OneForm A) = None
+of_two_forms f (TwoForms A C) = Some (f A C)
+of_two_forms f (OneMem m) = None
+of_two_forms f (MemThenExp m a) = None
+of_two_forms f (MemThenExps m a v) = None
+
+-- of one formula
+abbrev pub of_one_form : (Form → Phrase) → Parts → Option Phrase
+of_one_form f NoParts = None
+of_one_form f (OneExp a) = None
+of_one_form f (TwoExps a b) = None
+of_one_form f (OneForm A) = Some (f A)
+of_one_form f (TwoForms A C) = None
+of_one_form f (OneMem m) = None
+of_one_form f (MemThenExp m a) = None
+of_one_form f (MemThenExps m a v) = None
+
+-- of a memory and an expression
+abbrev pub of_mem_exp : (MemExp → Exp → Phrase) → Parts → Option Phrase
+of_mem_exp f NoParts = None
+of_mem_exp f (OneExp a) = None
+of_mem_exp f (TwoExps a b) = None
+of_mem_exp f (OneForm A) = None
+of_mem_exp f (TwoForms A C) = None
+of_mem_exp f (OneMem m) = None
+of_mem_exp f (MemThenExp m a) = Some (f m a)
+of_mem_exp f (MemThenExps m a v) = None
+
+-- of a memory and two expressions
+abbrev pub of_mem_exps : (MemExp → Exp → Exp → Phrase) → Parts → Option Phrase
+of_mem_exps f NoParts = None
+of_mem_exps f (OneExp a) = None
+of_mem_exps f (TwoExps a b) = None
+of_mem_exps f (OneForm A) = None
+of_mem_exps f (TwoForms A C) = None
+of_mem_exps f (OneMem m) = None
+of_mem_exps f (MemThenExp m a) = None
+of_mem_exps f (MemThenExps m a v) = Some (f m a v)
+
+-- what parentheses with this keyword stand for, where they have all their parts
+abbrev pub group_phrase : Keyword → Parts → Option Phrase
+group_phrase (K.Rel p) h = of_two_exps (λ a b. AForm (FRel p a b)) h
+group_phrase K.Rd h = of_one_exp (λ a. AForm (FRd a)) h
+group_phrase K.Wr h = of_one_exp (λ a. AForm (FWr a)) h
+group_phrase K.And h = of_two_forms (λ A B. AForm (FAnd A B)) h
+group_phrase K.Or h = of_two_forms (λ A B. AForm (FOr A B)) h
+group_phrase K.Imp h = of_two_forms (λ A B. AForm (FImp A B)) h
+group_phrase K.All h = of_one_form (λ A. AForm (FAll A)) h
+group_phrase K.Allm h = of_one_form (λ A. AForm (FAllm A)) h
+group_phrase (K.Oper o) h = of_two_exps (λ a b. AnExp (EOp o a b)) h
+group_phrase K.Sel h = of_mem_exp (λ m a. AnExp (ESel m a)) h
+group_phrase K.Upd h = of_mem_exps (λ m a v. AMem (MUpd m a v)) h
+
+-- parentheses that are open: their keyword, the name that they bind, if they bind one, and the parts so far
+pub record Frame : Type 0 where
+  pub keyword : Keyword
+  pub name : List ℕ
+  pub parts : Parts
+
+-- what may come next: a part of the nearest parentheses or their end; a keyword of this sort; the name that is bound; or nothing behind a formula
+pub data Expected : Type 0 where
+  Inside : Expected
+  Opened : PhraseSort → Expected
+  Binding : Keyword → Expected
+  Whole : Form → Expected
+
+-- what may come next, and the parentheses that are open, the nearest first
+abbrev pub ParseState : Type 0
+ParseState = Expected × List Frame
+
+-- a name in front of others, where parentheses bind one
+abbrev pub with_binding : Option PhraseSort → List ℕ → Bindings → Bindings
+with_binding None x s = s
+with_binding (Some q) x s = (x, q) ∷ s
+
+-- the names that the open parentheses bind
+abbrev pub bindings_of : List Frame → Bindings
+bindings_of [] = []
+bindings_of (f ∷ fs) = with_binding (binder_sort f.keyword) f.name (bindings_of fs)
+
+-- the sort of the next part, if one may stand here
+abbrev pub awaited_sort : List Frame → Option PhraseSort
+awaited_sort [] = Some S.Form
+awaited_sort (f ∷ fs) = slice_get (part_sorts f.keyword) (parts_count f.parts)
+
+-- ---- a lexeme in the place of a part
+
+-- a number as a word
+abbrev pub number_phrase : Option ℕ → Result Phrase TextFlaw
+number_phrase None = Err Number
+number_phrase (Some n) = if nat_lt n (2 ^ 64) then Ok (AnExp (ELit n)) else Err Number
+
+-- a bound name in the place of an expression
+abbrev pub variable_exp : Option (ℕ × PhraseSort) → Result Phrase TextFlaw
+variable_exp None = Err Name
+variable_exp (Some (n, S.Exp)) = Ok (AnExp (EVar n))
+variable_exp (Some (n, S.Mem)) = Err Name
+variable_exp (Some (n, S.Form)) = Err Name
+
+-- a bound name in the place of a memory
+abbrev pub variable_mem : Option (ℕ × PhraseSort) → Result Phrase TextFlaw
+variable_mem None = Err Name
+variable_mem (Some (n, S.Mem)) = Ok (AMem (MVar n))
+variable_mem (Some (n, S.Exp)) = Err Name
+variable_mem (Some (n, S.Form)) = Err Name
+
+-- a register, else a bound name
+abbrev pub register_phrase : Bindings → List ℕ → Option ℕ → Result Phrase TextFlaw
+register_phrase s w (Some r) = Ok (AnExp (EReg r))
+register_phrase s w None = variable_exp (nearest_binding s w)
+
+-- a lexeme in the place of an expression
+abbrev pub exp_lexeme : Bindings → List ℕ → Result Phrase TextFlaw
+exp_lexeme s w = if begins_with_digit w then number_phrase (lexeme_number w) else register_phrase s w (register_of w)
+
+-- in the place of a memory
+abbrev pub mem_lexeme : Bindings → List ℕ → Result Phrase TextFlaw
+mem_lexeme s w = if bytes_eq w (codes "m") then Ok (AMem MMem) else variable_mem (nearest_binding s w)
+
+-- in the place of a formula
+abbrev pub form_lexeme : List ℕ → Result Phrase TextFlaw
+form_lexeme w = if bytes_eq w (codes "tt") then Ok (AForm FTrue) else if bytes_eq w (codes "ff") then Ok (AForm FFalse) else Err Shape
+
+-- what the lexeme stands for in the place of this sort
+unfoldable pub lexeme_phrase : Bindings → PhraseSort → List ℕ → Result Phrase TextFlaw
+lexeme_phrase s S.Form w = form_lexeme w
+lexeme_phrase s S.Exp w = exp_lexeme s w
+lexeme_phrase s S.Mem w = mem_lexeme s w
+
+-- ---- one token
+
+-- a phrase behind which nothing is open
+abbrev pub whole_form : Phrase → Result ParseState TextFlaw
+whole_form (AForm A) = Ok (Whole A, [])
+whole_form (AnExp a) = Err Shape
+whole_form (AMem m) = Err Shape
+
+-- the nearest parentheses with other parts
+abbrev pub with_frame_parts : Frame → List Frame → Option Parts → Result ParseState TextFlaw
+with_frame_parts f fs None = Err Shape
+with_frame_parts f fs (Some h) = Ok (Inside, record { keyword = f.keyword; name = f.name; parts = h } ∷ fs)
+
+-- a phrase goes to the nearest parentheses; where none are open it is the formula
+unfoldable pub put_phrase : Phrase → List Frame → Result ParseState TextFlaw
+put_phrase x [] = whole_form x
+put_phrase x (f ∷ fs) = with_frame_parts f fs (with_phrase f.parts x)
+
+-- what parentheses that end stand for
+abbrev pub put_group : Option Phrase → List Frame → Result ParseState TextFlaw
+put_group None fs = Err Shape
+put_group (Some x) fs = put_phrase x fs
+
+-- the end of the nearest parentheses
+abbrev pub close_group : List Frame → Result ParseState TextFlaw
+close_group [] = Err Shape
+close_group (f ∷ fs) = put_group (group_phrase f.keyword f.parts) fs
+
+-- a parenthesis opens in the place of a part of this sort, if one may stand there
+abbrev pub inside_open : List Frame → Option PhraseSort → Result ParseState TextFlaw
+inside_open fs None = Err Shape
+inside_open fs (Some q) = Ok (Opened q, fs)
+
+-- a lexeme in the place of such a part
+abbrev pub inside_lexeme : List Frame → List ℕ → Option PhraseSort → Result ParseState TextFlaw
+inside_lexeme fs w None = Err Shape
+inside_lexeme fs w (Some q) = lexeme_phrase (bindings_of fs) q w >>= λ x. put_phrase x fs
+
+-- a token where a part of the nearest parentheses, or their end, may come
+abbrev pub inside_step : Token Paren → List Frame → Result ParseState TextFlaw
+inside_step (Mark P.Open) fs = inside_open fs (awaited_sort fs)
+inside_step (Mark P.Close) fs = close_group fs
+inside_step (Lexeme w) fs = inside_lexeme fs w (awaited_sort fs)
+
+-- whether two sorts are the same
+abbrev pub same_sort : PhraseSort → PhraseSort → Bool
+same_sort S.Form S.Form = true
+same_sort S.Form S.Exp = false
+same_sort S.Form S.Mem = false
+same_sort S.Exp S.Form = false
+same_sort S.Exp S.Exp = true
+same_sort S.Exp S.Mem = false
+same_sort S.Mem S.Form = false
+same_sort S.Mem S.Exp = false
+same_sort S.Mem S.Mem = true
+
+-- parentheses with this keyword are open; next comes the name, where they bind one
+abbrev pub opened : Keyword → List Frame → Option PhraseSort → ParseState
+opened k fs None = (Inside, record { keyword = k; name = []; parts = NoParts } ∷ fs)
+opened k fs (Some q) = (Binding k, fs)
+
+-- the same, where it is a keyword of the sort
+abbrev pub opened_keyword : PhraseSort → List Frame → Option Keyword → Result ParseState TextFlaw
+opened_keyword q fs None = Err Shape
+opened_keyword q fs (Some k) = if same_sort (phrase_sort k) q then Ok (opened k fs (binder_sort k)) else Err Shape
+
+-- a token where a keyword has to come
+abbrev pub keyword_step : PhraseSort → Token Paren → List Frame → Result ParseState TextFlaw
+keyword_step q (Mark p) fs = Err Shape
+keyword_step q (Lexeme w) fs = opened_keyword q fs (keyword_of w)
+
+-- a token where the name that is bound has to come
+abbrev pub binding_step : Keyword → Token Paren → List Frame → Result ParseState TextFlaw
+binding_step k (Mark p) fs = Err Shape
+binding_step k (Lexeme w) fs = if is_name w then Ok (Inside, record { keyword = k; name = w; parts = NoParts } ∷ fs) else Err Name
+
+-- the state behind one token, or what is wrong with it
+unfoldable pub parse_step : Token Paren → ParseState → Result ParseState TextFlaw
+parse_step t (Inside, fs) = inside_step t fs
+parse_step t (Opened q, fs) = keyword_step q t fs
+parse_step t (Binding k, fs) = binding_step k t fs
+parse_step t (Whole f, fs) = Err Trailing
+
+-- ---- all tokens
+
+-- a fault with its position
+abbrev pub at_position : {A : Type 0} → ℕ → Result A TextFlaw → Result A FaultAt
+at_position p (Ok x) = Ok x
+at_position p (Err flaw) = Err (p, flaw)
+
+-- the formula, where all tokens were read; end is the length of the text
+abbrev pub parse_end : ℕ → Expected → Result Form FaultAt
+parse_end end Inside = Err (end, Shape)
+parse_end end (Opened q) = Err (end, Shape)
+parse_end end (Binding k) = Err (end, Shape)
+parse_end end (Whole f) = Ok f
+
+-- the formula of all tokens, or the first fault
+unfoldable pub parsed_tokens : ℕ → List (Placed Paren) → ParseState → Result Form FaultAt
+parsed_tokens end [] s = parse_end end s.0
+parsed_tokens end (t ∷ ts) s = at_position t.0 (parse_step t.1 s) >>= λ next. parsed_tokens end ts next
+
+-- the formula that the text is parsed as, or the first fault
+unfoldable pub parsed_form : List ℕ → Result Form FaultAt
+parsed_form text = parsed_tokens (length text) (tokens_at paren_class 0 text) (Inside, [])

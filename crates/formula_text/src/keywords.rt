@@ -1,0 +1,194 @@
+//! Keywords, and what stands behind them.
+
+ghost use Rattle.std.specs.Prelude.{◌≡◌, slice_get};
+ghost use Rattle.formula_text.specs.Keywords.{relation_text, operator_text, keyword_text};
+ghost use Rattle.formula_text.specs.Keywords.{phrase_sort, part_sorts, binder_sort};
+ghost use Rattle.formula_text.specs.Keywords.{keyword_in, keyword_of};
+ghost use Rattle.formula_text.specs.Parsing.{same_sort};
+
+use word_ops::{Op, Rel};
+
+/// What a part of a text stands for.
+#[derive(Clone, Copy, Debug, PartialEq, Eq)]
+pub enum PhraseSort {
+    /// A formula.
+    Form,
+    /// A word.
+    Exp,
+    /// A memory.
+    Mem,
+}
+
+/// What may stand first in parentheses.
+#[derive(Clone, Copy, Debug, PartialEq, Eq)]
+pub enum Keyword {
+    /// A relation of two words.
+    Rel(Rel),
+    /// `rd`.
+    Rd,
+    /// `wr`.
+    Wr,
+    /// `and`.
+    And,
+    /// `or`.
+    Or,
+    /// `imp`.
+    Imp,
+    /// `all`.
+    All,
+    /// `allm`.
+    Allm,
+    /// An operator at two words.
+    Oper(Op),
+    /// `sel`.
+    Sel,
+    /// `upd`.
+    Upd,
+}
+
+static KEYWORDS: [Keyword; 25] = [
+    Keyword::Rel(Rel::Eq),
+    Keyword::Rel(Rel::Ult),
+    Keyword::Rel(Rel::Ule),
+    Keyword::Rel(Rel::Slt),
+    Keyword::Rel(Rel::Sle),
+    Keyword::Rd,
+    Keyword::Wr,
+    Keyword::And,
+    Keyword::Or,
+    Keyword::Imp,
+    Keyword::All,
+    Keyword::Allm,
+    Keyword::Oper(Op::Add),
+    Keyword::Oper(Op::Sub),
+    Keyword::Oper(Op::Band),
+    Keyword::Oper(Op::Bis),
+    Keyword::Oper(Op::Sll),
+    Keyword::Oper(Op::Srl),
+    Keyword::Oper(Op::Cmpeq),
+    Keyword::Oper(Op::Cmplt),
+    Keyword::Oper(Op::Cmple),
+    Keyword::Oper(Op::Cmpult),
+    Keyword::Oper(Op::Cmpule),
+    Keyword::Sel,
+    Keyword::Upd,
+];
+
+fn relation_text(rel: Rel) -> &'static str
+    ensures { result.now ≡ relation_text rel }
+{
+    match rel {
+        Rel::Eq => "eq",
+        Rel::Ult => "ult",
+        Rel::Ule => "ule",
+        Rel::Slt => "slt",
+        Rel::Sle => "sle",
+    }
+}
+
+fn operator_text(op: Op) -> &'static str
+    ensures { result.now ≡ operator_text op }
+{
+    match op {
+        Op::Add => "add",
+        Op::Sub => "sub",
+        Op::Band => "band",
+        Op::Bis => "bis",
+        Op::Sll => "sll",
+        Op::Srl => "srl",
+        Op::Cmpeq => "cmpeq",
+        Op::Cmplt => "cmplt",
+        Op::Cmple => "cmple",
+        Op::Cmpult => "cmpult",
+        Op::Cmpule => "cmpule",
+    }
+}
+
+/// The lexeme that the keyword is.
+pub fn keyword_text(keyword: Keyword) -> &'static str
+    ensures { result.now ≡ keyword_text keyword }
+{
+    match keyword {
+        Keyword::Rel(rel) => relation_text(rel),
+        Keyword::Rd => "rd",
+        Keyword::Wr => "wr",
+        Keyword::And => "and",
+        Keyword::Or => "or",
+        Keyword::Imp => "imp",
+        Keyword::All => "all",
+        Keyword::Allm => "allm",
+        Keyword::Oper(op) => operator_text(op),
+        Keyword::Sel => "sel",
+        Keyword::Upd => "upd",
+    }
+}
+
+/// What the parentheses stand for.
+pub fn phrase_sort(keyword: Keyword) -> PhraseSort
+    ensures { result ≡ phrase_sort keyword }
+{
+    match keyword {
+        Keyword::Oper(_) | Keyword::Sel => PhraseSort::Exp,
+        Keyword::Upd => PhraseSort::Mem,
+        _ => PhraseSort::Form,
+    }
+}
+
+/// The sort of the part behind `count` others, if there is one.
+pub fn part_sort(keyword: Keyword, count: usize) -> Option<PhraseSort>
+    ensures { result ≡ slice_get (part_sorts keyword) count }
+{
+    match (keyword, count) {
+        (Keyword::Rel(_) | Keyword::Oper(_), 0 | 1) => Some(PhraseSort::Exp),
+        (Keyword::Rd | Keyword::Wr, 0) => Some(PhraseSort::Exp),
+        (Keyword::And | Keyword::Or | Keyword::Imp, 0 | 1) => Some(PhraseSort::Form),
+        (Keyword::All | Keyword::Allm, 0) => Some(PhraseSort::Form),
+        (Keyword::Sel | Keyword::Upd, 0) => Some(PhraseSort::Mem),
+        (Keyword::Sel, 1) => Some(PhraseSort::Exp),
+        (Keyword::Upd, 1 | 2) => Some(PhraseSort::Exp),
+        _ => None,
+    }
+}
+
+/// The sort of the variable that is bound, if one is.
+pub fn binder_sort(keyword: Keyword) -> Option<PhraseSort>
+    ensures { result ≡ binder_sort keyword }
+{
+    match keyword {
+        Keyword::All => Some(PhraseSort::Exp),
+        Keyword::Allm => Some(PhraseSort::Mem),
+        _ => None,
+    }
+}
+
+/// Whether the sorts are the same.
+pub fn is_sort(a: PhraseSort, b: PhraseSort) -> bool
+    ensures { result ≡ same_sort a b }
+{
+    match (a, b) {
+        (PhraseSort::Form, PhraseSort::Form)
+        | (PhraseSort::Exp, PhraseSort::Exp)
+        | (PhraseSort::Mem, PhraseSort::Mem) => true,
+        _ => false,
+    }
+}
+
+/// The first of these keywords that the lexeme is.
+fn keyword_in(keywords: &[Keyword], lexeme: &[u8]) -> Option<Keyword>
+    ensures { result ≡ keyword_in keywords.now lexeme.now }
+{
+    for i in 0..keywords.len() {
+        if lexeme == keyword_text(keywords[i]).as_bytes() {
+            return Some(keywords[i]);
+        }
+    }
+    None
+}
+
+/// The keyword that the lexeme is.
+#[tactic(auto, unfolding(crate::specs::Keywords::keyword_of, crate::specs::Keywords::keywords))]
+pub fn keyword_named(lexeme: &[u8]) -> Option<Keyword>
+    ensures { result ≡ keyword_of lexeme.now }
+{
+    keyword_in(&KEYWORDS, lexeme)
+}

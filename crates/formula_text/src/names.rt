@@ -1,0 +1,54 @@
+//! Names that a formula may bind.
+
+ghost use Rattle.std.specs.Prelude.{◌≡◌};
+ghost use Rattle.formula_text.specs.Bindings.{is_lower, are_lower_or_digits, is_identifier};
+ghost use Rattle.formula_text.specs.Bindings.{is_reserved, is_name};
+
+use crate::keywords::keyword_named;
+use crate::numbers::is_digit;
+use crate::registers::register;
+
+fn is_lower(byte: u8) -> bool
+    ensures { result ≡ is_lower byte }
+{
+    b'a' <= byte && byte <= b'z'
+}
+
+fn are_lower_or_digits(lexeme: &[u8]) -> bool
+    ensures { result ≡ are_lower_or_digits lexeme.now }
+{
+    for i in 0..lexeme.len() {
+        if !(is_lower(lexeme[i]) || is_digit(lexeme[i])) {
+            return false;
+        }
+    }
+    true
+}
+
+/// Whether the lexeme is a lower-case letter, and then lower-case letters and digits.
+fn is_identifier(lexeme: &[u8]) -> bool
+    ensures { result ≡ is_identifier lexeme.now }
+{
+    match lexeme {
+        [] => false,
+        [first, rest @ ..] => is_lower(*first) && are_lower_or_digits(rest),
+    }
+}
+
+/// Whether the lexeme is a keyword, `tt`, `ff` or `m`.
+fn is_reserved(lexeme: &[u8]) -> bool
+    ensures { result ≡ is_reserved lexeme.now }
+{
+    keyword_named(lexeme).is_some()
+        || lexeme == b"tt".as_slice()
+        || lexeme == b"ff".as_slice()
+        || lexeme == b"m".as_slice()
+}
+
+/// Whether the lexeme may be bound.
+#[tactic(auto, unfolding(crate::specs::Bindings::is_name))]
+pub fn is_name(lexeme: &[u8]) -> bool
+    ensures { result ≡ is_name lexeme.now }
+{
+    is_identifier(lexeme) && register(lexeme).is_none() && !is_reserved(lexeme)
+}

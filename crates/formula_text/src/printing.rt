@@ -1,0 +1,225 @@
+//! Printing a formula.
+
+ghost use Rattle.std.specs.Prelude.{◌≡◌, ◌+◌, ◌<◌, ◌^◌, suc, ◌++◌, ◌∷◌, [], Ok};
+ghost use Rattle.std.specs.Prelude.{OnOk, IfOk, decimal};
+ghost use Rattle.formula_tree.specs.Scope.{IsOver};
+ghost use Rattle.formula_tree.specs.Sizes.{binders};
+ghost use Rattle.formula_tree.specs.Views.{exp_view, mem_exp_view, form_view};
+ghost use Rattle.formula_text.specs.Keywords.{keyword_text};
+ghost use Rattle.formula_text.specs.Grammar.{Spells};
+ghost use Rattle.formula_text.specs.Parsing.{parsed_form};
+ghost use Rattle.formula_text.specs.Printing.{name_of, exp_text, mem_text, form_text};
+
+use crate::keywords::{Keyword, keyword_text};
+use formula_tree::{Exp, Form, MemExp};
+use itoa::Buffer;
+use std::alloc::{AllocError, Global};
+
+fn push_number(out: &mut Vec<u8>, n: u64) -> Result<(), AllocError>
+    ensures { OnOk result (out.new.items ≡ out.old.items ++ decimal n) }
+{
+    let mut buffer = Buffer::new();
+    out.extend_from_slice(buffer.format(n).as_bytes())
+}
+
+/// The name of the binder that so many others stand around.
+fn push_name(out: &mut Vec<u8>, depth: u64) -> Result<(), AllocError>
+    ensures { OnOk result (out.new.items ≡ out.old.items ++ name_of depth) }
+{
+    out.push(b'x')?;
+    push_number(out, depth)
+}
+
+fn push_keyword(out: &mut Vec<u8>, keyword: Keyword) -> Result<(), AllocError>
+    ensures { OnOk result (out.new.items ≡ (out.old.items ++ (40 ∷ [])) ++ keyword_text keyword) }
+{
+    out.push(b'(')?;
+    out.extend_from_slice(keyword_text(keyword).as_bytes())
+}
+
+fn push_end(out: &mut Vec<u8>) -> Result<(), AllocError>
+    ensures { OnOk result (out.new.items ≡ out.old.items ++ (41 ∷ [])) }
+{
+    out.push(b')')?;
+    Ok(())
+}
+
+#[cycle(expressions)]
+fn push_exp_part(out: &mut Vec<u8>, depth: u64, exp: &Exp) -> Result<(), AllocError>
+    ensures { OnOk result (out.new.items
+        ≡ (out.old.items ++ (32 ∷ [])) ++ exp_text depth (exp_view exp.now)) }
+{
+    out.push(b' ')?;
+    push_exp(out, depth, exp)
+}
+
+#[cycle(expressions)]
+fn push_last(out: &mut Vec<u8>, depth: u64, exp: &Exp) -> Result<(), AllocError>
+    ensures { OnOk result (out.new.items
+        ≡ (out.old.items ++ (32 ∷ [])) ++ (exp_text depth (exp_view exp.now) ++ (41 ∷ []))) }
+{
+    push_exp_part(out, depth, exp)?;
+    push_end(out)
+}
+
+#[cycle(expressions)]
+fn push_mem_part(out: &mut Vec<u8>, depth: u64, mem: &MemExp) -> Result<(), AllocError>
+    ensures { OnOk result (out.new.items
+        ≡ (out.old.items ++ (32 ∷ [])) ++ mem_text depth (mem_exp_view mem.now)) }
+{
+    out.push(b' ')?;
+    push_mem(out, depth, mem)
+}
+
+/// Prints an expression under so many binders.
+#[cycle(expressions)]
+fn push_exp(out: &mut Vec<u8>, depth: u64, exp: &Exp) -> Result<(), AllocError>
+    ensures { OnOk result (out.new.items ≡ out.old.items ++ exp_text depth (exp_view exp.now)) }
+{
+    match exp {
+        Exp::Reg(number) => {
+            out.push(b'r')?;
+            push_number(out, u64::from(*number))
+        }
+        Exp::Var(n) => push_name(out, depth.saturating_sub(u64::from(*n)).saturating_sub(1)),
+        Exp::Lit(word) => push_number(out, *word),
+        Exp::Oper(op, a, b) => {
+            push_keyword(out, Keyword::Oper(*op))?;
+            push_exp_part(out, depth, a)?;
+            push_exp_part(out, depth, b)?;
+            push_end(out)
+        }
+        Exp::Sel(m, a) => {
+            push_keyword(out, Keyword::Sel)?;
+            push_mem_part(out, depth, m)?;
+            push_exp_part(out, depth, a)?;
+            push_end(out)
+        }
+    }
+}
+
+/// Prints a memory under so many binders.
+#[cycle(expressions)]
+fn push_mem(out: &mut Vec<u8>, depth: u64, mem: &MemExp) -> Result<(), AllocError>
+    ensures { OnOk result (out.new.items ≡ out.old.items ++ mem_text depth (mem_exp_view mem.now)) }
+{
+    match mem {
+        MemExp::Mem => {
+            out.push(b'm')?;
+            Ok(())
+        }
+        MemExp::Var(n) => push_name(out, depth.saturating_sub(u64::from(*n)).saturating_sub(1)),
+        MemExp::Upd(m, a, v) => {
+            push_keyword(out, Keyword::Upd)?;
+            push_mem_part(out, depth, m)?;
+            push_exp_part(out, depth, a)?;
+            push_last(out, depth, v)
+        }
+    }
+}
+
+/// What stands before the part of a binder.
+fn push_binding(out: &mut Vec<u8>, depth: u64, keyword: Keyword) -> Result<(), AllocError>
+    ensures { OnOk result (out.new.items
+        ≡ out.old.items ++ (40 ∷ (keyword_text keyword ++ (32 ∷ name_of depth)))) }
+{
+    push_keyword(out, keyword)?;
+    out.push(b' ')?;
+    push_name(out, depth)
+}
+
+/// One binder more. Memory doesn't hold 2^64 of them.
+fn deeper(depth: u64) -> Result<u64, AllocError>
+    ensures { IfOk result (λ d. d ≡ suc depth) }
+{
+    match depth.checked_add(1) {
+        Some(under) => Ok(under),
+        None => Err(AllocError),
+    }
+}
+
+#[cycle(formulas)]
+fn push_form_part(out: &mut Vec<u8>, depth: u64, form: &Form) -> Result<(), AllocError>
+    ensures text { OnOk result (out.new.items
+        ≡ (out.old.items ++ (32 ∷ [])) ++ form_text depth (form_view form.now)) }
+    ensures few { OnOk result (depth + binders (form_view form.now) < 2 ^ 64) }
+{
+    out.push(b' ')?;
+    push_form(out, depth, form)
+}
+
+/// Prints a formula under so many binders.
+#[cycle(formulas)]
+fn push_form(out: &mut Vec<u8>, depth: u64, form: &Form) -> Result<(), AllocError>
+    ensures text { OnOk result (out.new.items
+        ≡ out.old.items ++ form_text depth (form_view form.now)) }
+    ensures few { OnOk result (depth + binders (form_view form.now) < 2 ^ 64) }
+{
+    match form {
+        Form::True => out.extend_from_slice(b"tt"),
+        Form::False => out.extend_from_slice(b"ff"),
+        Form::Rel(rel, a, b) => {
+            push_keyword(out, Keyword::Rel(*rel))?;
+            push_exp_part(out, depth, a)?;
+            push_exp_part(out, depth, b)?;
+            push_end(out)
+        }
+        Form::Rd(a) => {
+            push_keyword(out, Keyword::Rd)?;
+            push_exp_part(out, depth, a)?;
+            push_end(out)
+        }
+        Form::Wr(a) => {
+            push_keyword(out, Keyword::Wr)?;
+            push_exp_part(out, depth, a)?;
+            push_end(out)
+        }
+        Form::And(a, b) => {
+            push_keyword(out, Keyword::And)?;
+            push_form_part(out, depth, a)?;
+            push_form_part(out, depth, b)?;
+            push_end(out)
+        }
+        Form::Or(a, b) => {
+            push_keyword(out, Keyword::Or)?;
+            push_form_part(out, depth, a)?;
+            push_form_part(out, depth, b)?;
+            push_end(out)
+        }
+        Form::Imp(a, b) => {
+            push_keyword(out, Keyword::Imp)?;
+            push_form_part(out, depth, a)?;
+            push_form_part(out, depth, b)?;
+            push_end(out)
+        }
+        Form::All(a) => {
+            let under = deeper(depth)?;
+            push_binding(out, depth, Keyword::All)?;
+            push_form_part(out, under, a)?;
+            push_end(out)
+        }
+        Form::Allm(a) => {
+            let under = deeper(depth)?;
+            push_binding(out, depth, Keyword::Allm)?;
+            push_form_part(out, under, a)?;
+            push_end(out)
+        }
+    }
+}
+
+/// The text of `form`: one blank between parts, decimal numbers, registers as `r` and their
+/// number, and bound names x0, x1, .. from the outermost. Fails only for want of memory.
+///
+/// Asks that each bound variable of `form` has its binder, of its sort, and that registers are
+/// below 32.
+#[tactic(auto, using(crate::proofs::Printed::print_spells, crate::proofs::Joined::spelled_parsed))]
+pub fn print_form(alloc: Global, form: &Form) -> Result<Vec<u8>, AllocError>
+    requires closed { IsOver 32 (form_view form.now) [] }
+    ensures exact { IfOk result (λ v. v.items ≡ form_text 0 (form_view form.now)) }
+    ensures spells { IfOk result (λ v. Spells v.items (form_view form.now)) }
+    ensures round_trip { IfOk result (λ v. parsed_form v.items ≡ Ok (form_view form.now)) }
+{
+    let mut out = Vec::new(alloc);
+    push_form(&mut out, 0, form)?;
+    Ok(out)
+}
