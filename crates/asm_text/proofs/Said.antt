@@ -1,0 +1,267 @@
+-- A line says something exactly where it is parsed as that.
+use Rattle.std.proofs.Common.{◌≡◌, ⊎_elim, ℕ, Bool, true, false, cond, List, [], ◌∷◌, ◌++◌, length, Option, Some, None, Result, Ok, Err, refl, sym, ap, ◌∙◌, subst}
+use Rattle.std.specs.Prelude.{◌&&◌, not, nat_lt, codes, ℤ}
+use Rattle.std.specs.Str.{bytes_eq}
+use Rattle.std.proofs.lemmas.Bool.{and_parts, and_right, cond-true, cond-false, ltb-false, le-ltb}
+use Rattle.formula_tree.specs.Formulas.{Form}
+use Rattle.formula_text.specs.declared.fault.TextFlaw.{TextFlaw}
+use Rattle.formula_text.specs.declared.tokens.Class.TheVariants as C
+use Rattle.formula_text.specs.Tokens.{Token, Mark, Lexeme, is_ordinary, goes_on, tokens_of, front_token}
+use Rattle.formula_text.specs.Grammar.{Spells}
+use Rattle.formula_text.specs.Parsing.{◌>>=◌, parsed_form}
+use Rattle.formula_text.proofs.Known.{same_bytes}
+use Rattle.formula_text.proofs.Lexing.{lexed, lexes}
+use Rattle.formula_text.proofs.Joined as form
+use Rattle.asm_text.specs.declared.fault.LineFlaw.{LineFlaw}
+use Rattle.asm_text.specs.declared.limits.TheConstants.{MAX_LINE}
+use Rattle.asm_text.specs.declared.marks.Punct.{Punct}
+use Rattle.asm_text.specs.declared.marks.Punct.TheVariants as M
+use Rattle.alpha_words.specs.declared.insn.Insn.TheVariants as I
+use Rattle.asm_text.specs.Marks.{source_class, AreBlanks, same_mark}
+use Rattle.asm_text.specs.Labels.{is_label}
+use Rattle.asm_text.specs.Mnemonics.{operator_mnemonic, branch_mnemonic, mnemonic_of, mnemonics}
+use Rattle.asm_text.specs.Insns.{SourceInsn, Plain, BranchTo, BrTo, SpellsMemory, SpellsInsn}
+use Rattle.asm_text.specs.InsnParsing.{by_mnemonic, parsed_insn}
+use Rattle.asm_text.specs.Statements.{Statement, NoStatement, AnInsn, AnInv, Content, SpellsStatement, SpellsBody, before_comment, are_printable, SpellsLine}
+use Rattle.asm_text.specs.SourceParsing.{colon_by, label_by, label_split, label_of, behind_label, inv_or_flaw, insn_statement, statement_by, parsed_statement, Progress, take_label, take_statement, take_body, take_line}
+use Rattle.asm_text.proofs.Operands.{bind_ok, bind_of, same_Ok, marks_same, parsed_spelled, spelled_parsed}
+use Rattle.asm_text.proofs.Splitting.{label_lexeme, colon_is, colon_class, inv_lexeme, Begins, front_is, front_of, none_at_front, no_front, first_token, tokens_behind}
+
+some_same : {A : Type 0} (x y : A) → Some x ≡ Some y → x ≡ y
+some_same x y e = cc
+
+chosen : {A : Type 0} (t : Bool) (x y z : A) → cond t x y ≡ z → (P : Type 0) → (t ≡ true → x ≡ z → P) → (t ≡ false → y ≡ z → P) → P
+chosen true x y z e P f g = f refl e
+chosen false x y z e P f g = g refl e
+
+not_false : (t : Bool) → not t ≡ false → t ≡ true
+not_false true e = refl
+not_false false e = cc
+
+-- ---- labels
+
+-- the text begins with the label and its colon, and goes on so
+abbrev HasLabel : List ℕ → List ℕ → List ℕ → Type 0
+HasLabel text l rest = (bs cs : List ℕ) × AreBlanks bs × AreBlanks cs × (is_label l ≡ true) × (text ≡ bs ++ (l ++ (cs ++ (58 ∷ rest))))
+
+label_parts : (text l front : List ℕ) (p : List ℕ × List ℕ) (o : Option (Token Punct × List ℕ)) → Begins text (Lexeme l) front → front_token source_class front ≡ o → colon_by l o ≡ Some p → HasLabel text p.0 p.1
+label_parts text l front p None b e h = cc
+label_parts text l front p (Some (Lexeme w, r)) b e h = cc
+label_parts text l front p (Some (Mark m, r)) b e h =
+    chosen (same_mark m M.Colon && is_label l) _ _ _ h (HasLabel text p.0 p.1)
+    (λ t f.
+    let s : (l, r) ≡ p = some_same _ _ f in
+    let q = and_parts (same_mark m M.Colon) (is_label l) t in
+    let c = front_is front (Mark m) r e in
+    let d = c.3 in
+    let k : d.0 ≡ 58 = colon_is d.0 (d.1 ∙ ap (λ y. C.Mark y) (marks_same m M.Colon q.0)) in
+    let w : c.1 ≡ 58 ∷ [] = d.2 ∙ ap (λ y. y ∷ []) k in
+    subst (λ y. HasLabel text y.0 y.1) s
+    (b.0, c.0, b.2, c.2, q.1, b.4 ∙ ap (λ y. b.0 ++ y) (ap (λ y. y ++ front) b.3.0 ∙ ap (λ y. l ++ y) (c.4 ∙ ap (λ y. c.0 ++ (y ++ r)) w))))
+    (λ t f. cc)
+
+label_found_by : (text : List ℕ) (p : List ℕ × List ℕ) (o : Option (Token Punct × List ℕ)) → front_token source_class text ≡ o → label_by o ≡ Some p → HasLabel text p.0 p.1
+label_found_by text p None e h = cc
+label_found_by text p (Some (Mark m, r)) e h = cc
+label_found_by text p (Some (Lexeme l, r)) e h = label_parts text l r p (front_token source_class r) (front_is text (Lexeme l) r e) refl h
+
+label_found : (text : List ℕ) (p : List ℕ × List ℕ) → label_split text ≡ Some p → HasLabel text p.0 p.1
+unfolding label_split
+label_found text p e = label_found_by text p (front_token source_class text) refl e
+
+colon_stops : (cs rest : List ℕ) → AreBlanks cs → goes_on source_class (cs ++ (58 ∷ rest)) ≡ false
+colon_stops [] rest h = ap is_ordinary colon_class
+colon_stops (b ∷ cs) rest h = ap is_ordinary h.0
+
+colon_first : (l rest : List ℕ) → is_label l ≡ true → colon_by l (Some (Mark M.Colon, rest)) ≡ Some (l, rest)
+colon_first l rest e = cond-true (is_label l) (Some (l, rest)) None e
+
+found_label : (text l rest : List ℕ) → HasLabel text l rest → label_split text ≡ Some (l, rest)
+unfolding label_split
+found_label text l rest h =
+    let behind = h.1 ++ (58 ∷ rest) in
+    ap label_by (front_of text (Lexeme l) behind (h.0, l, h.2, (refl, label_lexeme l h.4, colon_stops h.1 rest h.3), h.5))
+    ∙ ap (colon_by l) (front_of behind (Mark M.Colon) rest (h.1, 58 ∷ [], h.3, (58, colon_class, refl), refl))
+    ∙ colon_first l rest h.4
+
+-- ---- statements
+
+inv_is_ok : (s : Statement) (rest : List ℕ) (r : Result Form (ℕ × TextFlaw)) → parsed_form rest ≡ r → inv_or_flaw r ≡ Ok s → (F : Form) × (s ≡ AnInv F) × Spells rest F
+inv_is_ok s rest (Ok F) e h = (F, sym (same_Ok _ _ h), form.parsed_spelled rest F e)
+inv_is_ok s rest (Err x) e h = cc
+
+inv_spelled : (text w rest : List ℕ) (s : Statement) → Begins text (Lexeme w) rest → bytes_eq w (codes ".inv") ≡ true → inv_or_flaw (parsed_form rest) ≡ Ok s → SpellsStatement s text
+inv_spelled text w rest s b t e =
+    let f = inv_is_ok s rest (parsed_form rest) refl e in
+    subst (λ y. SpellsStatement y text) (sym f.1)
+    (b.0, rest, b.2, b.3.2, b.4 ∙ ap (λ y. b.0 ++ (y ++ rest)) (b.3.0 ∙ same_bytes w (codes ".inv") t), f.2)
+
+insn_spelled : (text : List ℕ) (s : Statement) → insn_statement text ≡ Ok s → SpellsStatement s text
+insn_spelled text s e =
+    let a = bind_ok (parsed_insn (tokens_of source_class text)) _ s e in
+    subst (λ y. SpellsStatement y text) (same_Ok _ _ a.2) (tokens_of source_class text, lexed source_class 0 text, parsed_spelled (tokens_of source_class text) a.0 a.1)
+
+statement_by_ok : (text : List ℕ) (s : Statement) (o : Option (Token Punct × List ℕ)) → front_token source_class text ≡ o → statement_by text o ≡ Ok s → SpellsStatement s text
+statement_by_ok text s None e h = subst (λ y. SpellsStatement y text) (same_Ok _ _ h) (no_front text e)
+statement_by_ok text s (Some (Mark m, r)) e h = cc
+statement_by_ok text s (Some (Lexeme w, r)) e h =
+    chosen (bytes_eq w (codes ".inv")) _ _ _ h (SpellsStatement s text)
+    (λ t f. inv_spelled text w r s (front_is text (Lexeme w) r e) t f)
+    (λ t f. insn_spelled text s f)
+
+statement_ok : (text : List ℕ) (s : Statement) → parsed_statement text ≡ Ok s → SpellsStatement s text
+unfolding parsed_statement
+statement_ok text s e = statement_by_ok text s (front_token source_class text) refl e
+
+-- the first token of an instruction is a lexeme, and no colon stands behind it
+abbrev colon_next : List (Token Punct) → Bool
+colon_next [] = false
+colon_next (Lexeme w ∷ ts) = false
+colon_next (Mark m ∷ ts) = same_mark m M.Colon
+
+abbrev IsPlain : List (Token Punct) → Type 0
+IsPlain ts = (w : List ℕ) × (us : List (Token Punct)) × (ts ≡ Lexeme w ∷ us) × (colon_next us ≡ false)
+
+no_colon_memory : (ra rb : ℕ) (disp : ℤ) (us : List (Token Punct)) → SpellsMemory ra rb disp us → colon_next us ≡ false
+no_colon_memory ra rb disp us h = ⊎_elim (λ p. ap colon_next p.0) (λ p. ap colon_next p.5) h.4
+
+insn_plain : (i : SourceInsn) (ts : List (Token Punct)) → SpellsInsn i ts → IsPlain ts
+insn_plain (Plain (I.Lda ra rb disp)) ts h = (codes "lda", h.0, h.2, no_colon_memory ra rb disp h.0 h.1)
+insn_plain (Plain (I.Ldq ra rb disp)) ts h = (codes "ldq", h.0, h.2, no_colon_memory ra rb disp h.0 h.1)
+insn_plain (Plain (I.Stq ra rb disp)) ts h = (codes "stq", h.0, h.2, no_colon_memory ra rb disp h.0 h.1)
+insn_plain (Plain (I.Oper op ra rhs rc)) ts h = ⊎_elim (λ p. (operator_mnemonic op, p.0, p.2, ap colon_next p.1.6)) (λ p. (codes "nop", [], p.1, refl)) h
+insn_plain (Plain (I.Branch j ra disp)) ts h = absurd h
+insn_plain (Plain (I.Br disp)) ts h = absurd h
+insn_plain (Plain I.Ret) ts h = (codes "ret", h.0, h.2, ⊎_elim (λ e. ap colon_next e) (λ g. ap colon_next g.9) h.1)
+insn_plain (BranchTo j ra l) ts h = (branch_mnemonic j, h.0, h.2, ap colon_next h.1.3)
+insn_plain (BrTo l) ts h = (codes "br", h.0, h.2, ⊎_elim (λ e. ap colon_next e) (λ g. ap colon_next g.2) h.1.1)
+
+no_inv_mnemonic : mnemonic_of (codes ".inv") ≡ None
+unfolding mnemonic_of mnemonics
+no_inv_mnemonic = refl
+
+inv_no_insn : (us : List (Token Punct)) (i : SourceInsn) → parsed_insn (Lexeme (codes ".inv") ∷ us) ≡ Ok i → ⊥
+unfolding parsed_insn
+inv_no_insn us i e = let f : by_mnemonic None us ≡ Ok i = ap (λ o. by_mnemonic o us) (sym no_inv_mnemonic) ∙ e in cc
+
+insn_by : (text w rest : List ℕ) (us : List (Token Punct)) (i : SourceInsn) (t : Bool) → bytes_eq w (codes ".inv") ≡ t → parsed_insn (Lexeme w ∷ us) ≡ Ok i → tokens_of source_class text ≡ Lexeme w ∷ us →
+    cond t (inv_or_flaw (parsed_form rest)) (insn_statement text) ≡ Ok (AnInsn i)
+insn_by text w rest us i true t e f = absurd (inv_no_insn us i (subst (λ y. parsed_insn (Lexeme y ∷ us) ≡ Ok i) (same_bytes w (codes ".inv") t) e))
+insn_by text w rest us i false t e f = bind_of (parsed_insn (tokens_of source_class text)) _ i (Ok (AnInsn i)) (ap parsed_insn f ∙ e) refl
+
+insn_statement_of : (text : List ℕ) (i : SourceInsn) → SpellsStatement (AnInsn i) text → parsed_statement text ≡ Ok (AnInsn i)
+unfolding parsed_statement
+insn_statement_of text i h =
+    let ts : tokens_of source_class text ≡ h.0 = lexes source_class 0 text h.0 h.1 in
+    let p = insn_plain i h.0 h.2 in
+    let all : tokens_of source_class text ≡ Lexeme p.0 ∷ p.1 = ts ∙ p.2 in
+    let f = first_token text (Lexeme p.0) p.1 all in
+    ap (statement_by text) f.1
+    ∙ insn_by text p.0 f.0 p.1 i (bytes_eq p.0 (codes ".inv")) refl (ap parsed_insn (sym p.2) ∙ spelled_parsed h.0 i h.2) all
+
+inv_begins : (F : Form) (text : List ℕ) (h : SpellsStatement (AnInv F) text) → Begins text (Lexeme (codes ".inv")) h.1
+inv_begins F text h = (h.0, codes ".inv", h.2, (refl, inv_lexeme, h.3), h.4)
+
+statement_of : (text : List ℕ) (s : Statement) → SpellsStatement s text → parsed_statement text ≡ Ok s
+unfolding parsed_statement
+statement_of text NoStatement h = ap (statement_by text) (none_at_front text h)
+statement_of text (AnInsn i) h = insn_statement_of text i h
+statement_of text (AnInv F) h =
+    ap (statement_by text) (front_of text (Lexeme (codes ".inv")) h.1 (inv_begins F text h))
+    ∙ ap inv_or_flaw (form.spelled_parsed h.1 F h.5)
+
+-- ---- a statement has no label before it
+
+no_colon_by : (w : List ℕ) (rest : List ℕ) (us : List (Token Punct)) (o : Option (Token Punct × List ℕ)) → front_token source_class rest ≡ o → tokens_of source_class rest ≡ us → colon_next us ≡ false → colon_by w o ≡ None
+no_colon_by w rest us None e f n = refl
+no_colon_by w rest us (Some (Lexeme l, r)) e f n = refl
+no_colon_by w rest us (Some (Mark m, r)) e f n =
+    let b = tokens_behind rest (Mark m) r (front_is rest (Mark m) r e) in
+    let k : same_mark m M.Colon ≡ false = ap colon_next (sym b ∙ f) ∙ n in
+    ap (λ y. cond (y && is_label w) (Some (w, r)) None) k
+
+tail_same : {A : Type 0} (x y : A) (xs ys : List A) → x ∷ xs ≡ y ∷ ys → xs ≡ ys
+tail_same x y xs ys e = cc
+
+insn_no_label : (text : List ℕ) (i : SourceInsn) → SpellsStatement (AnInsn i) text → label_split text ≡ None
+unfolding label_split
+insn_no_label text i h =
+    let ts : tokens_of source_class text ≡ h.0 = lexes source_class 0 text h.0 h.1 in
+    let p = insn_plain i h.0 h.2 in
+    let all : tokens_of source_class text ≡ Lexeme p.0 ∷ p.1 = ts ∙ p.2 in
+    let f = first_token text (Lexeme p.0) p.1 all in
+    let b = tokens_behind text (Lexeme p.0) f.0 (front_is text (Lexeme p.0) f.0 f.1) in
+    let us : tokens_of source_class f.0 ≡ p.1 = tail_same _ _ _ _ (sym b ∙ all) in
+    ap label_by f.1 ∙ no_colon_by p.0 f.0 p.1 (front_token source_class f.0) refl us p.3
+
+inv_no_colon : (o : Option (Token Punct × List ℕ)) → colon_by (codes ".inv") o ≡ None
+inv_no_colon None = refl
+inv_no_colon (Some (Lexeme l, r)) = refl
+inv_no_colon (Some (Mark m, r)) = ap (λ y. cond y (Some (codes ".inv", r)) None) (and_right (same_mark m M.Colon) (is_label (codes ".inv")) refl)
+
+no_label : (text : List ℕ) (s : Statement) → SpellsStatement s text → label_split text ≡ None
+unfolding label_split
+no_label text NoStatement h = ap label_by (none_at_front text h)
+no_label text (AnInsn i) h = insn_no_label text i h
+no_label text (AnInv F) h = ap label_by (front_of text (Lexeme (codes ".inv")) h.1 (inv_begins F text h)) ∙ inv_no_colon (front_token source_class h.1)
+
+-- ---- bodies
+
+-- what stands before the comment says this content
+abbrev SaysBody : List ℕ → Content → Type 0
+SaysBody text c = (label_of (label_split text) ≡ c.label) × (parsed_statement (behind_label text (label_split text)) ≡ Ok c.statement)
+
+body_by : (text : List ℕ) (c : Content) (o : Option (List ℕ × List ℕ)) → label_split text ≡ o → label_of o ≡ c.label → parsed_statement (behind_label text o) ≡ Ok c.statement → SpellsBody c.label c.statement text
+body_by text c None e f g = subst (λ y. SpellsBody y c.statement text) f (statement_ok text c.statement g)
+body_by text c (Some p) e f g =
+    let h = label_found text p e in
+    subst (λ y. SpellsBody y c.statement text) f (h.0, h.1, p.1, h.2, h.3, h.4, h.5, statement_ok p.1 c.statement g)
+
+body_spelled : (text : List ℕ) (c : Content) → SaysBody text c → SpellsBody c.label c.statement text
+body_spelled text c h = body_by text c (label_split text) refl h.0 h.1
+
+spelled_body_by : (text : List ℕ) (o : Option (List ℕ)) (s : Statement) → SpellsBody o s text → SaysBody text (record { label = o; statement = s })
+spelled_body_by text None s h = let e = no_label text s h in (ap label_of e, ap (λ y. parsed_statement (behind_label text y)) e ∙ statement_of text s h)
+spelled_body_by text (Some l) s h =
+    let e = found_label text l h.2 (h.0, h.1, h.3, h.4, h.5, h.6) in
+    (ap label_of e, ap (λ y. parsed_statement (behind_label text y)) e ∙ statement_of h.2 s h.7)
+
+spelled_body : (text : List ℕ) (c : Content) → SpellsBody c.label c.statement text → SaysBody text c
+spelled_body text c h = spelled_body_by text c.label c.statement h
+
+-- ---- lines
+
+-- the content is taken on
+abbrev pub takes : ℕ → Content → Progress → Result Progress LineFlaw
+takes n c p = take_label c.label p >>= λ q. take_statement n c.statement q
+
+body_takes : (n : ℕ) (text : List ℕ) (c : Content) (p : Progress) → SaysBody text c → take_body n text p ≡ takes n c p
+body_takes n text c p h =
+    ap (λ o. take_label o p >>= λ q. parsed_statement (behind_label text (label_split text)) >>= λ s. take_statement n s q) h.0
+    ∙ ap (λ r. take_label c.label p >>= λ q. r >>= λ s. take_statement n s q) h.1
+
+-- a line that says a content is taken as that
+pub line_takes : (n : ℕ) (line : List ℕ) (c : Content) (p : Progress) → SpellsLine line c → take_line n line p ≡ takes n c p
+unfolding take_line
+line_takes n line c p h =
+    cond-false (nat_lt MAX_LINE (length line)) _ _ (le-ltb MAX_LINE (length line) h.short)
+    ∙ cond-false (not (are_printable line)) _ _ (ap not h.printable)
+    ∙ body_takes n (before_comment line) c p (spelled_body (before_comment line) c h.body)
+
+body_said : (n : ℕ) (text : List ℕ) (p r : Progress) → take_body n text p ≡ Ok r → (c : Content) × SaysBody text c × (takes n c p ≡ Ok r)
+body_said n text p r e =
+    let a = bind_ok (take_label (label_of (label_split text)) p) _ r e in
+    let b = bind_ok (parsed_statement (behind_label text (label_split text))) _ r a.2 in
+    (record { label = label_of (label_split text); statement = b.0 }, (refl, b.1), bind_of (take_label (label_of (label_split text)) p) _ a.0 (Ok r) a.1 b.2)
+
+-- a line that is taken says a content
+pub line_said : (n : ℕ) (line : List ℕ) (p r : Progress) → take_line n line p ≡ Ok r → (c : Content) × SpellsLine line c × (takes n c p ≡ Ok r)
+unfolding take_line
+line_said n line p r e =
+    chosen (nat_lt MAX_LINE (length line)) _ _ _ e ((c : Content) × SpellsLine line c × (takes n c p ≡ Ok r))
+    (λ t f. cc)
+    (λ t f. chosen (not (are_printable line)) _ _ _ f ((c : Content) × SpellsLine line c × (takes n c p ≡ Ok r))
+    (λ u g. cc)
+    (λ u g.
+    let b = body_said n (before_comment line) p r g in
+    (b.0, record { short = ltb-false MAX_LINE (length line) t; printable = not_false (are_printable line) u; body = body_spelled (before_comment line) b.0 b.1 }, b.2)))

@@ -1,0 +1,13 @@
+use Rattle.std.proofs.Common.{subst}
+use Rattle.asm_text.specs.Lines.{AreLines}
+use Rattle.asm_text.proofs.Operands as insn
+use Rattle.asm_text.proofs.Endings.{lines_are, are_lines}
+use Rattle.asm_text.proofs.Collected as source
+use Rattle.asm_text.proofs.theorems.laws.Goals as goal
+
+pub returns : goal.returns
+returns c = record {
+  insns = λ ts i. (insn.spelled_parsed ts i, insn.parsed_spelled ts i);
+  lines = λ text ls. (lines_are text ls, λ e. subst (λ l. AreLines text l) e (are_lines text));
+  sources = λ text s. (source.spelled_parsed text s, source.parsed_spelled text s);
+}

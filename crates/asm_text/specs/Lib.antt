@@ -1,0 +1,13 @@
+pub mod Marks
+pub mod Labels
+pub mod Integers
+pub mod Mnemonics
+pub mod Insns
+pub mod InsnParsing
+pub mod Lines
+pub mod Statements
+pub mod Sources
+pub mod SourceParsing
+pub mod Names
+pub mod Views
+pub mod Inside

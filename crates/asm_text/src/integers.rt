@@ -1,0 +1,120 @@
+//! Integers.
+
+ghost use Rattle.std.specs.Prelude.{◌≡◌, Option};
+ghost use Rattle.std.specs.Option.{option_map};
+ghost use Rattle.asm_text.specs.Integers.{Integer as IntegerView, lexeme_integer, is_integer};
+ghost use Rattle.asm_text.specs.InsnParsing.{in_displacement, displacement_of};
+ghost use Rattle.asm_text.specs.InsnParsing.{count_of, rhs_by};
+ghost use Rattle.asm_text.specs.Inside.Views.{Gives, IsIntegerAnswer};
+
+use crate::fault::LineFlaw;
+use crate::registers::register_at;
+use alpha_words::Rhs;
+use formula_text::{Number, read_decimal, read_number};
+
+/// Which integer a lexeme is: how far it is from 0, and whether there is a `-`.
+#[derive(Clone, Copy, Debug, PartialEq, Eq)]
+pub struct Integer {
+    pub minus: bool,
+    pub size: Number,
+}
+
+/// The integer that the lexeme is: decimal with an optional `-`, or `0x` and hexadecimal digits.
+pub fn read_integer(lexeme: &[u8]) -> Integer
+    ensures { IsIntegerAnswer (lexeme_integer lexeme.now) result.minus result.size }
+{
+    match lexeme {
+        [b'-', digits @ ..] => Integer {
+            minus: true,
+            size: read_decimal(digits),
+        },
+        _ => Integer {
+            minus: false,
+            size: read_number(lexeme),
+        },
+    }
+}
+
+/// Whether the lexeme is an integer.
+pub fn is_integer(lexeme: &[u8]) -> bool
+    ensures { result ≡ is_integer lexeme.now }
+{
+    match read_integer(lexeme).size {
+        Number::NoNumber => false,
+        Number::Word(_) | Number::Large => true,
+    }
+}
+
+/// The displacement, in its range.
+fn in_displacement(integer: Integer) -> Result<i16, LineFlaw>
+    ensures { (o : Option IntegerView) → IsIntegerAnswer o integer.minus integer.size
+        → Gives (λ d. d) (in_displacement o) result }
+{
+    match integer.size {
+        Number::NoNumber => Err(LineFlaw::Operand),
+        Number::Large => Err(LineFlaw::Range),
+        Number::Word(n) => {
+            if integer.minus {
+                if n <= 32_768 {
+                    Ok((0 - n as i64) as i16)
+                } else {
+                    Err(LineFlaw::Range)
+                }
+            } else if n < 32_768 {
+                Ok(n as i16)
+            } else {
+                Err(LineFlaw::Range)
+            }
+        }
+    }
+}
+
+/// The displacement that the lexeme is, and 0 for none.
+pub fn displacement(lexeme: Option<&[u8]>) -> Result<i16, LineFlaw>
+    ensures { Gives (λ d. d) (displacement_of (option_map (λ w. w.now) lexeme.entry)) result }
+{
+    match lexeme {
+        None => Ok(0),
+        Some(lexeme) => in_displacement(read_integer(lexeme)),
+    }
+}
+
+/// The number from 0 on and below the limit.
+fn in_count(limit: u64, integer: Integer) -> Result<u64, LineFlaw>
+    ensures { (o : Option IntegerView) → IsIntegerAnswer o integer.minus integer.size
+        → Gives (λ n. n) (count_of limit o) result }
+{
+    match integer.size {
+        Number::NoNumber => Err(LineFlaw::Operand),
+        Number::Large => Err(LineFlaw::Range),
+        Number::Word(n) => {
+            if integer.minus {
+                if n == 0 { Ok(0) } else { Err(LineFlaw::Range) }
+            } else if n < limit {
+                Ok(n)
+            } else {
+                Err(LineFlaw::Range)
+            }
+        }
+    }
+}
+
+/// The number that the lexeme is, from 0 on and below the limit.
+pub fn count(limit: u64, lexeme: &[u8]) -> Result<u64, LineFlaw>
+    ensures { Gives (λ n. n) (count_of limit (lexeme_integer lexeme.now)) result }
+{
+    in_count(limit, read_integer(lexeme))
+}
+
+/// A number from 0 to 255 where the lexeme is an integer, else a register.
+pub fn rhs(lexeme: &[u8]) -> Result<Rhs, LineFlaw>
+    ensures { Gives (λ r. r) (rhs_by lexeme.now (lexeme_integer lexeme.now)) result }
+{
+    if is_integer(lexeme) {
+        let n = count(256, lexeme)?;
+        Ok(Rhs::Lit(n as u8))
+    } else {
+        let reg = register_at(lexeme)?;
+        Ok(Rhs::Reg(reg))
+    }
+}

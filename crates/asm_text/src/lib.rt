@@ -1,0 +1,33 @@
+//! Sources: assembler text with labels and invariants.
+//!
+//! The layer above uses that `read_source` gives the instructions, labels and invariants of the
+//! source that a text spells, or else the first line that is wrong. The grammar stands in
+//! `specs/Sources` (a whole source), `specs/Statements` (a line), `specs/Insns` (an instruction)
+//! and `specs/Lines`, the tests in their order in `specs/SourceParsing` and `specs/InsnParsing`.
+//! The format is this project's own; the mnemonics are those of the Alpha Architecture Handbook.
+#![tactic(auto)]
+
+mod fault;
+mod insns;
+mod integers;
+mod labels;
+mod limits;
+mod lines;
+mod marks;
+mod mnemonics;
+mod progress;
+mod reading;
+mod registers;
+mod sources;
+mod statements;
+#[cfg(test)]
+mod tests;
+mod theorems;
+
+pub use fault::{LineFault, LineFlaw, MAX_KIND};
+pub use insns::SrcInsn;
+pub use labels::Label;
+pub use limits::{MAX_INSNS, MAX_INVS, MAX_LINE, MAX_SOURCE};
+pub use reading::read_source;
+pub use sources::Source;
+pub use theorems::laws;

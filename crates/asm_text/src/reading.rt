@@ -1,0 +1,49 @@
+//! Reading a source.
+
+ghost use Rattle.std.specs.Prelude.{◌≤◌, length, IfOk, IfErr};
+ghost use Rattle.asm_text.specs.declared.limits.TheConstants.{MAX_SOURCE};
+ghost use Rattle.asm_text.specs.Sources.{SpellsSource};
+ghost use Rattle.asm_text.specs.SourceParsing.{parsed_source};
+ghost use Rattle.asm_text.specs.Views.{ParsesSource, SpellsNoSource, source_view};
+
+use crate::fault::LineFault;
+use crate::lines::split_line;
+use crate::progress::{no_progress, source_end, take_numbered};
+use crate::sources::Source;
+use std::alloc::Global;
+
+/// The source that the text is parsed as, or the first fault.
+fn parse(alloc: Global, text: &[u8]) -> Result<Source, LineFault>
+    requires short { length text.now ≤ MAX_SOURCE }
+    ensures { ParsesSource source_view (parsed_source text.now) result }
+{
+    let mut progress = no_progress(alloc);
+    let mut rest = text;
+    let mut n = 1;
+    'lines: while !rest.is_empty() {
+        let (line, more) = split_line(rest);
+        match take_numbered(alloc, &mut progress, n, line) {
+            Ok(()) => {}
+            Err(fault) => return Err(fault),
+        }
+        rest = more;
+        n += 1;
+    }
+    source_end(progress)
+}
+
+/// Parses `text` as a source: its instructions, labels and invariants.
+///
+/// Errors: the first line that is wrong, with its number and the first test that it fails; `Memory`
+/// says nothing of `text`. The grammar is this project's own (`specs/Sources`, `specs/Statements`,
+/// `specs/Insns`).
+///
+/// Asks that `text` has at most `MAX_SOURCE` bytes.
+pub fn read_source(alloc: Global, text: &[u8]) -> Result<Source, LineFault>
+    requires short { length text.now ≤ MAX_SOURCE }
+    ensures spells { IfOk result (λ s. SpellsSource text.now (source_view s)) }
+    ensures none { IfErr result (λ e. SpellsNoSource text.now e) }
+    ensures exact { ParsesSource source_view (parsed_source text.now) result }
+{
+    parse(alloc, text)
+}

@@ -1,0 +1,31 @@
+//! Registers.
+
+ghost use Rattle.std.specs.Prelude.{◌≡◌, ◌<◌};
+ghost use Rattle.asm_text.specs.InsnParsing.{register_at, fixed_register};
+ghost use Rattle.asm_text.specs.Inside.Views.{Gives};
+
+use crate::fault::LineFlaw;
+use alpha_words::Reg;
+use formula_text::register;
+
+/// The register that the lexeme names.
+pub fn register_at(lexeme: &[u8]) -> Result<Reg, LineFlaw>
+    ensures { Gives (λ r. r) (register_at lexeme.now) result }
+{
+    match register(lexeme) {
+        Some(number) => Ok(Reg::new(u32::from(number))),
+        None => Err(LineFlaw::Register),
+    }
+}
+
+/// Refuses a lexeme that doesn't name this register.
+pub fn fixed_register(number: u32, lexeme: &[u8]) -> Result<u32, LineFlaw>
+    ensures { Gives (λ r. r) (fixed_register number lexeme.now) result }
+{
+    let reg = register_at(lexeme)?;
+    if reg.number() == number {
+        Ok(number)
+    } else {
+        Err(LineFlaw::Register)
+    }
+}

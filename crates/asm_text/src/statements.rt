@@ -1,0 +1,113 @@
+//! What a line says.
+
+ghost use Rattle.std.specs.Prelude.{◌≡◌, IfOk};
+ghost use Rattle.std.specs.Option.{option_map};
+ghost use Rattle.asm_text.specs.Statements.{before_comment, is_printable, are_printable};
+ghost use Rattle.formula_text.specs.Parsing.{parsed_form};
+ghost use Rattle.asm_text.specs.SourceParsing.{label_split, inv_or_flaw, insn_statement};
+ghost use Rattle.asm_text.specs.SourceParsing.{parsed_statement};
+ghost use Rattle.asm_text.specs.Inside.Views.{GivesOrMemory, statement_view};
+
+use crate::fault::{LineFlaw, Refused};
+use crate::insns::{SrcInsn, read_insn};
+use crate::labels::is_label;
+use crate::marks::{Punct, front, is_mark};
+use formula_text::{TextFault, Token, read_form};
+use formula_tree::Form;
+use std::alloc::Global;
+
+/// What a line says behind its label.
+#[derive(Drop)]
+pub enum Statement {
+    /// Nothing.
+    NoStatement,
+    /// An instruction.
+    Insn(SrcInsn),
+    /// An invariant of the next instruction.
+    Inv(Form),
+}
+
+fn is_printable(byte: u8) -> bool
+    ensures { result ≡ is_printable byte }
+{
+    byte == b'\t' || (b' ' <= byte && byte <= b'~')
+}
+
+/// Whether each byte is a tab, or from blank to tilde.
+pub fn are_printable(line: &[u8]) -> bool
+    ensures { result ≡ are_printable line.now }
+{
+    for i in 0..line.len() {
+        if !is_printable(line[i]) {
+            return false;
+        }
+    }
+    true
+}
+
+/// What stands before `#`.
+pub fn before_comment(line: &[u8]) -> &[u8]
+    ensures { result.now ≡ before_comment line.now }
+{
+    for i in 0..line.len() {
+        if line[i] == b'#' {
+            return &line[..i];
+        }
+    }
+    line
+}
+
+/// The label at the front, if there is one, and the text behind its colon.
+#[tactic(auto, unfolding(crate::specs::SourceParsing::label_split))]
+pub fn split_label(text: &[u8]) -> Option<(&[u8], &[u8])>
+    ensures { option_map (λ p. (p.0.now, p.1.now)) result ≡ label_split text.now }
+{
+    let Some((Token::Lexeme(label), rest)) = front(text) else {
+        return None;
+    };
+    let Some((Token::Mark(mark), rest)) = front(rest) else {
+        return None;
+    };
+    if is_mark(mark, Punct::Colon) && is_label(label) {
+        Some((label, rest))
+    } else {
+        None
+    }
+}
+
+/// The invariant that the text spells.
+fn read_inv(alloc: Global, text: &[u8]) -> Result<Statement, Refused>
+    ensures { GivesOrMemory statement_view (inv_or_flaw (parsed_form text.now)) result }
+{
+    match read_form(alloc, text) {
+        Ok(form) => Ok(Statement::Inv(form)),
+        Err(TextFault::At(_, _)) => Err(Refused::Flaw(LineFlaw::Formula)),
+        Err(TextFault::Memory) => Err(Refused::Memory),
+    }
+}
+
+/// The instruction that the text spells.
+fn insn_statement(alloc: Global, text: &[u8]) -> Result<Statement, Refused>
+    ensures { GivesOrMemory statement_view (insn_statement text.now) result }
+{
+    let insn = read_insn(alloc, text)?;
+    Ok(Statement::Insn(insn))
+}
+
+/// The statement of a line, from the text behind its label.
+#[tactic(auto, unfolding(crate::specs::SourceParsing::parsed_statement))]
+pub fn read_statement(alloc: Global, text: &[u8]) -> Result<Statement, Refused>
+    ensures { GivesOrMemory statement_view (parsed_statement text.now) result }
+{
+    match front(text) {
+        None => Ok(Statement::NoStatement),
+        Some((Token::Mark(_), _)) => Err(Refused::Flaw(LineFlaw::Mnemonic)),
+        Some((Token::Lexeme(lexeme), rest)) => {
+            if lexeme == b".inv".as_slice() {
+                read_inv(alloc, rest)
+            } else {
+                insn_statement(alloc, text)
+            }
+        }
+    }
+}

@@ -1,0 +1,20 @@
+//! What holds of the definitions, with nothing to run.
+
+ghost use Rattle.std.specs.Prelude.{◌≡◌, ◌↔◌, ℕ, List, Ok};
+ghost use Rattle.formula_text.specs.Tokens.{Token};
+ghost use Rattle.asm_text.specs.declared.marks.Punct.{Punct};
+ghost use Rattle.asm_text.specs.Insns.{SourceInsn, SpellsInsn};
+ghost use Rattle.asm_text.specs.InsnParsing.{parsed_insn};
+ghost use Rattle.asm_text.specs.Lines.{AreLines, lines_of};
+ghost use Rattle.asm_text.specs.Sources.{Source, SpellsSource};
+ghost use Rattle.asm_text.specs.SourceParsing.{parsed_source};
+
+/// Tokens spell an instruction, and a text has lines and spells a source, exactly where it is
+/// parsed as that.
+pub fn laws()
+    ensures insns { (ts : List (Token Punct)) (i : SourceInsn)
+        → SpellsInsn i ts ↔ (parsed_insn ts ≡ Ok i) }
+    ensures lines { (text : List ℕ) (ls : List (List ℕ)) → AreLines text ls ↔ (lines_of text ≡ ls) }
+    ensures sources { (text : List ℕ) (s : Source)
+        → SpellsSource text s ↔ (parsed_source text ≡ Ok s) }
+{}
