@@ -1,0 +1,15 @@
+pub mod Substitutions
+pub mod WalkTrees
+pub mod Conditions
+pub mod Values
+pub mod BoundValues
+pub mod StepCounts
+pub mod Closing
+pub mod Outcomes
+pub mod Steps
+pub mod Scopes
+pub mod Encodings
+pub mod PolicyHeights
+pub mod MachineRegs
+pub mod Walking
+pub mod Parts

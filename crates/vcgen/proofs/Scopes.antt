@@ -1,0 +1,170 @@
+-- The condition of formulas over r0 to r30 and m names no register and no m, and all its literals are words.
+use Rattle.std.proofs.Common.{◌≡◌, ℕ, zero, suc, ◌+◌, ◌<◌, ◌^◌, All, List, [], ◌∷◌, length, get_or, slice_get, Option, Some, None, refl, sym, ◌∙◌, ap, subst, arith, inl, inr, eqb, ℤ, pos, negsuc, set, get_or-set_same, get_or-set_other}
+use Rattle.std.proofs.lemmas.Bool.{cases_Bool, cases_eq, eq-eqb, ne_eqb}
+use Rattle.std.proofs.lemmas.Option.{same_Some}
+use Rattle.std.proofs.lemmas.List.Elements.{All-head, All-tail}
+use Rattle.std.specs.Int.{cast_unsigned, w64}
+use Rattle.alpha_words.specs.declared.insn.Rhs.{Rhs}
+use Rattle.alpha_words.specs.declared.insn.Rhs.TheVariants.{Reg, Lit}
+use Rattle.alpha_words.specs.declared.insn.Cond.{Cond}
+use Rattle.alpha_words.specs.declared.insn.Cond.TheVariants.{LowClear, Zero, Negative, NotPositive, LowSet, NotZero, NotNegative, Positive}
+use Rattle.alpha_words.specs.declared.insn.Insn.{Insn}
+use Rattle.alpha_words.specs.declared.insn.Insn.TheVariants.{Lda, Ldq, Stq, Oper, Branch, Br, Ret}
+use Rattle.alpha_words.specs.Encoding.{IsRhs, HasBits}
+use Rattle.alpha_cfg.specs.Flow.{jump_of, IsInsn}
+use Rattle.formula_tree.specs.Formulas.{Exp, EReg, ELit, EOp, ESel, MemExp, MMem, MUpd, Form, FFalse, FImp}
+use Rattle.formula_tree.specs.Substitution.{subst_form}
+use Rattle.formula_tree.specs.Scope.{VarSort, OfMem, IsOverExp, IsOverMem, IsOver, IsOverSubstitution}
+use Rattle.formula_tree.proofs.Scopes.{Includes, scope-subst}
+use Rattle.lf_encode.specs.Contexts.{machine_names}
+use Rattle.lf_encode.specs.Inside.Naming.{words}
+use Rattle.lf_encode.proofs.Naming.{named_form-over}
+use Rattle.vcgen.specs.Assignments.{regs_from, unchanged, for_reg, for_memory}
+use Rattle.vcgen.specs.Conditions.{AnnotatedCode, reg_exp, rhs_exp, address_exp, taken_if, passed_if, at_target, insn_condition, condition_at, invariant_at, or_else, wp_within, wp, body, alls, close, entered, inv_parts, condition}
+use Rattle.vcgen.specs.Safety.{IsAnnotated}
+use Rattle.vcgen.proofs.Substitutions.{unchanged-regs, unchanged-memory, length-unchanged}
+use Rattle.vcgen.proofs.WalkTrees.{subst-names}
+
+-- ---- operands
+
+over-reg_exp : (r : ℕ) → r < 32 → IsOverExp 31 (reg_exp r) []
+over-reg_exp r h = elim (cases_eq r 31) [ inl e ↦ rw (eq-eqb r 31 e) (omega arith) | inr e ↦ rw (ne_eqb r 31 e) (omega (arith, h, e)) ]
+
+over-rhs_exp : (rhs : Rhs) → IsRhs rhs → IsOverExp 31 (rhs_exp rhs) []
+over-rhs_exp (Reg r) h = over-reg_exp r h
+over-rhs_exp (Lit n) h = omega (arith, h)
+
+disp-word : (z : ℤ) → HasBits 15 z → cast_unsigned w64 z < 2 ^ 64
+disp-word (pos n) h = omega (arith, h)
+disp-word (negsuc n) h = omega (arith, h)
+
+over-address_exp : (rb : ℕ) (disp : ℤ) → rb < 32 → HasBits 15 disp → IsOverExp 31 (address_exp rb disp) []
+over-address_exp rb disp h b = (over-reg_exp rb h, disp-word disp b)
+
+over-taken_if : (c : Cond) (x : Exp) → IsOverExp 31 x [] → IsOver 31 (taken_if c x) []
+over-taken_if LowClear x o = ((o, omega arith), omega arith)
+over-taken_if Zero x o = (o, omega arith)
+over-taken_if Negative x o = (o, omega arith)
+over-taken_if NotPositive x o = (o, omega arith)
+over-taken_if LowSet x o = (((o, omega arith), omega arith), tt)
+over-taken_if NotZero x o = ((o, omega arith), tt)
+over-taken_if NotNegative x o = ((o, omega arith), tt)
+over-taken_if Positive x o = ((o, omega arith), tt)
+
+over-passed_if : (c : Cond) (x : Exp) → IsOverExp 31 x [] → IsOver 31 (passed_if c x) []
+over-passed_if LowClear x o = (((o, omega arith), omega arith), tt)
+over-passed_if Zero x o = ((o, omega arith), tt)
+over-passed_if Negative x o = ((o, omega arith), tt)
+over-passed_if NotPositive x o = ((o, omega arith), tt)
+over-passed_if LowSet x o = ((o, omega arith), omega arith)
+over-passed_if NotZero x o = (o, omega arith)
+over-passed_if NotNegative x o = (o, omega arith)
+over-passed_if Positive x o = (o, omega arith)
+
+-- ---- assignments
+
+regs_from-at : (n k j : ℕ) → j < n → get_or (regs_from n k) j (ELit 0) ≡ EReg (k + j)
+regs_from-at zero k j h = absurd (omega (arith, h))
+regs_from-at (suc n) k zero h = let e : k ≡ k + 0 = omega arith in ap EReg e
+regs_from-at (suc n) k (suc j) h = let e : suc k + j ≡ k + suc j = omega arith in regs_from-at n (suc k) j (omega (arith, h)) ∙ ap EReg e
+
+unchanged-at : (n j : ℕ) → n ≡ 31 → j < n → get_or unchanged.regs j (ELit 0) ≡ EReg j
+unchanged-at n j e h = let z : 0 + j ≡ j = omega arith in ap (λ l. get_or l j (ELit 0)) (unchanged-regs n e) ∙ regs_from-at n 0 j h ∙ ap EReg z
+
+over-unchanged : (j : ℕ) → j < 31 → IsOverExp 31 (get_or unchanged.regs j (ELit 0)) []
+over-unchanged j h = subst (λ e. IsOverExp 31 e []) (sym (unchanged-at 31 j refl h)) h
+
+over-for_reg : (r : ℕ) (e : Exp) → IsOverExp 31 e [] → IsOverSubstitution 31 31 (for_reg r e) []
+over-for_reg r e o = record {
+  regs = λ k h. elim (cases_eq k r) [
+    | inl same ↦ subst (λ x. IsOverExp 31 x []) (sym (ap (λ j. get_or (set unchanged.regs r e) j (ELit 0)) same ∙ get_or-set_same unchanged.regs r e (ELit 0) (omega (arith, h, same, length-unchanged)))) o
+    | inr apart ↦ subst (λ x. IsOverExp 31 x []) (sym (get_or-set_other unchanged.regs r k e (ELit 0) apart)) (over-unchanged k h)
+  ];
+  memory = λ h. subst (λ m. IsOverMem 31 m []) (sym unchanged-memory) h;
+}
+
+over-for_memory : (m : MemExp) → IsOverMem 31 m [] → IsOverSubstitution 31 31 (for_memory m) []
+over-for_memory m o = record { regs = λ k h. over-unchanged k h; memory = λ h. o }
+
+same-scope : Includes [] []
+same-scope n s q = q
+
+over-subst-reg : (F : Form) (r : ℕ) (e : Exp) → IsOver 31 F [] → IsOverExp 31 e [] → IsOver 31 (subst_form F (for_reg r e)) []
+over-subst-reg F r e h o = scope-subst 31 31 F (for_reg r e) [] [] h same-scope (over-for_reg r e o)
+
+-- ---- what has to hold
+
+over-target : (next : ℕ → Form) (o : Option ℕ) → ((j : ℕ) → IsOver 31 (next j) []) → IsOver 31 (at_target next o) []
+over-target next None h = tt
+over-target next (Some j) h = h j
+
+over-insn : (next : ℕ → Form) (post : Form) (i : ℕ) (insn : Insn) → IsInsn insn → ((j : ℕ) → IsOver 31 (next j) []) → IsOver 31 post [] → IsOver 31 (insn_condition next post i insn) []
+over-insn next post i (Lda ra rb disp) w h p = over-subst-reg (next (i + 1)) ra (address_exp rb disp) (h (i + 1)) (over-address_exp rb disp w.1.1 w.1.2)
+over-insn next post i (Ldq ra rb disp) w h p =
+    let o = over-address_exp rb disp w.1.2 w.1.3 in
+    (o, over-subst-reg (next (i + 1)) ra (ESel MMem (address_exp rb disp)) (h (i + 1)) (omega arith, o))
+over-insn next post i (Stq ra rb disp) w h p =
+    let o = over-address_exp rb disp w.1.1 w.1.2 in
+    let m : MemExp = MUpd MMem (address_exp rb disp) (reg_exp ra) in
+    (o, scope-subst 31 31 (next (i + 1)) (for_memory m) [] [] (h (i + 1)) same-scope (over-for_memory m (omega arith, o, over-reg_exp ra w.1.0)))
+over-insn next post i (Oper op ra rhs rc) w h p = over-subst-reg (next (i + 1)) rc (EOp op (reg_exp ra) (rhs_exp rhs)) (h (i + 1)) (over-reg_exp ra w.1.0, over-rhs_exp rhs w.1.1)
+over-insn next post i (Branch c ra disp) w h p =
+    let o = over-reg_exp ra w.1.0 in
+    ((over-taken_if c (reg_exp ra) o, over-target next (jump_of i (Branch c ra disp)) h), (over-passed_if c (reg_exp ra) o, h (i + 1)))
+over-insn next post i (Br disp) w h p = over-target next (jump_of i (Br disp)) h
+over-insn next post i Ret w h p = p
+
+over-condition_at : (next : ℕ → Form) (post : Form) (i : ℕ) (o : Option Insn) → ((insn : Insn) → o ≡ Some insn → IsInsn insn) → ((j : ℕ) → IsOver 31 (next j) []) → IsOver 31 post [] → IsOver 31 (condition_at None next post i o) []
+over-condition_at next post i None w h p = tt
+over-condition_at next post i (Some insn) w h p = over-insn next post i insn (w insn refl) h p
+
+over-else : (o : Option Form) (F : Form) → ((I : Form) → o ≡ Some I → IsOver 31 I []) → IsOver 31 F [] → IsOver 31 (or_else o F) []
+over-else None F k h = h
+over-else (Some I) F k h = k I refl
+
+over-inv : (ps : List (ℕ × Form)) → All (λ p. IsOver 31 p.1 []) ps → (i : ℕ) (F : Form) → invariant_at ps i ≡ Some F → IsOver 31 F []
+over-inv [] h i F q = cc
+over-inv (p ∷ ps) h i F q =
+    elim (cases_Bool (eqb p.0 i)) [
+      | inl e ↦ subst (λ G. IsOver 31 G []) (same_Some p.1 F (rw e at q)) (All-head (λ (p : ℕ × Form). IsOver 31 p.1 []) p ps h)
+      | inr e ↦ over-inv ps (All-tail (λ (p : ℕ × Form). IsOver 31 p.1 []) p ps h) i F (rw e at q)
+    ]
+
+-- ---- closing
+
+-- n of k words are bound
+over-alls : (n m k : ℕ) (F : Form) (G : List VarSort) → k ≡ n + m → IsOver 0 F (words k G) → IsOver 0 (alls n F) (words m G)
+over-alls zero m k F G e h = let same : k ≡ m = omega (arith, e) in subst (λ j. IsOver 0 F (words j G)) same h
+over-alls (suc n) m k F G e h = over-alls n (suc m) k F G (omega (arith, e)) h
+
+over-names : (F : Form) → IsOver 31 F [] → IsOver 0 (subst_form F machine_names) (words 31 (OfMem ∷ []))
+over-names F h = subst (λ E. IsOver 0 E (words 31 (OfMem ∷ []))) (sym (subst-names F)) (named_form-over 31 F [] h)
+
+over-close : (F : Form) → IsOver 31 F [] → IsOver 0 (close None F) []
+over-close F h = over-alls 31 0 31 (subst_form F machine_names) (OfMem ∷ []) refl (over-names F h)
+
+-- ---- the condition
+
+module _ (c : AnnotatedCode) (is : IsAnnotated c) (uncounted : c.bound ≡ None) (over : All (λ p. IsOver 31 p.1 []) c.invs) where
+  at-index : (next : ℕ → Form) (i : ℕ) → ((j : ℕ) → IsOver 31 (next j) []) → IsOver 31 (condition_at c.bound next c.post i (slice_get c.code i)) []
+  at-index next i h = subst (λ b. IsOver 31 (condition_at b next c.post i (slice_get c.code i)) []) (sym uncounted) (over-condition_at next c.post i (slice_get c.code i) (is.code.encoded i) h is.post)
+
+  over-wp_within : (n i : ℕ) → IsOver 31 (wp_within c n i) []
+  over-wp_within zero i = over-else (invariant_at c.invs i) FFalse (over-inv c.invs over i) tt
+  over-wp_within (suc n) i = over-else (invariant_at c.invs i) (condition_at c.bound (wp_within c n) c.post i (slice_get c.code i)) (over-inv c.invs over i) (at-index (wp_within c n) i (over-wp_within n))
+
+  over-body : (i : ℕ) → IsOver 31 (body c i) []
+  over-body i = at-index (wp c) i (over-wp_within (length c.code))
+
+  closed : (F : Form) → IsOver 31 F [] → IsOver 0 (close c.bound F) []
+  closed F h = subst (λ b. IsOver 0 (close b F) []) (sym uncounted) (over-close F h)
+
+  over-parts : (ps : List (ℕ × Form)) → All (λ p. IsOver 31 p.1 []) ps → IsOver 0 (inv_parts c ps) []
+  over-parts [] h = tt
+  over-parts (p ∷ ps) h = (closed (FImp p.1 (body c p.0)) (All-head (λ (q : ℕ × Form). IsOver 31 q.1 []) p ps h, over-body p.0), over-parts ps (All-tail (λ (q : ℕ × Form). IsOver 31 q.1 []) p ps h))
+
+  over-entered : IsOver 31 (entered c.bound (wp c 0)) []
+  over-entered = subst (λ b. IsOver 31 (entered b (wp c 0)) []) (sym uncounted) (over-wp_within (length c.code) 0)
+
+  pub condition-closed : IsOver 0 (condition c) []
+  condition-closed = (closed (FImp c.pre (entered c.bound (wp c 0))) (is.pre, over-entered), over-parts c.invs over)

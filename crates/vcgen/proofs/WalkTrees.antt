@@ -1,0 +1,213 @@
+-- The walk forward on terms makes the encoding of the verification condition.
+use Rattle.std.proofs.Common.{◌≡◌, ℕ, zero, suc, ◌+◌, eqb, List, [], ◌∷◌, map, length, set, slice_get, Option, Some, None, refl, sym, ◌∙◌, ap, subst, inl, inr, ℤ}
+use Rattle.std.proofs.Common.{length-set}
+use Rattle.std.proofs.lemmas.List.{map-set}
+use Rattle.std.proofs.Math.ListN.{get_or-map}
+use Rattle.std.proofs.lemmas.Bool.{cases_Bool}
+use Rattle.std.specs.Int.{cast_unsigned, w64}
+use Rattle.word_ops.specs.declared.Op.TheVariants.{Add}
+use Rattle.alpha_words.specs.declared.insn.Rhs.{Rhs}
+use Rattle.alpha_words.specs.declared.insn.Rhs.TheVariants.{Reg, Lit}
+use Rattle.alpha_words.specs.declared.insn.Cond.{Cond}
+use Rattle.alpha_words.specs.declared.insn.Cond.TheVariants.{LowClear, Zero, Negative, NotPositive, LowSet, NotZero, NotNegative, Positive}
+use Rattle.alpha_words.specs.declared.insn.Insn.{Insn}
+use Rattle.alpha_words.specs.declared.insn.Insn.TheVariants.{Lda, Ldq, Stq, Oper, Branch, Br, Ret}
+use Rattle.alpha_cfg.specs.Flow.{jump_of}
+use Rattle.term_table.specs.Tree.{Tree, Var}
+use Rattle.lf_signature.specs.Terms.{lit, op_term, sel, upd, falsity, rd, wr, and_term, imp_term, all_term, allm_term}
+use Rattle.formula_tree.specs.Formulas.{Exp, ELit, EOp, ESel, MemExp, MMem, MUpd, Form, FFalse, FImp}
+use Rattle.formula_tree.specs.Substitution.{Substitution, subst_exp, subst_mem, subst_form}
+use Rattle.formula_tree.specs.Scope.{IsOver}
+use Rattle.formula_tree.proofs.Putting.{change_none}
+use Rattle.lf_encode.specs.Encoding.{exp_encoding, mem_encoding, form_encoding}
+use Rattle.lf_encode.specs.Contexts.{machine_context, bound_sorts, vars_down, machine_names, EncodesForm}
+use Rattle.lf_encode.specs.PutTree.{MachineTerms, machine_terms_of, put_tree}
+use Rattle.lf_encode.specs.Inside.Naming.{named_form}
+use Rattle.lf_encode.proofs.Naming.{named_form-is}
+use Rattle.lf_encode.proofs.MachineContext.{bound_sorts-machine, registers_in-machine, names_in-machine}
+use Rattle.lf_encode.proofs.PutTree.{put-encoding}
+use Rattle.vcgen.specs.Assignments.{for_reg, for_memory}
+use Rattle.vcgen.specs.Conditions.{AnnotatedCode, reg_exp, rhs_exp, address_exp, taken_if, passed_if, at_target, insn_condition, condition_at, invariant_at, or_else, wp_within, wp, body, alls, close, inv_parts, condition}
+use Rattle.vcgen.specs.Encoded.{AreEncodings}
+use Rattle.vcgen.specs.Inside.WalkTree.{reg_term, rhs_term, address_term, tested_term, taken_term, passed_term, with_reg, with_memory, walked_to, insn_effect, walked_on, walked_at, inv_term, ended, walked, walked_from, var_terms, start_terms, all_terms, closed_term, part_terms, condition_term}
+use Rattle.vcgen.proofs.Substitutions.{subst-for_reg, subst-for_memory}
+
+-- ---- formulas in the context m, r0 to r30
+
+pub encodes-over : (F : Form) (t : Tree) → EncodesForm machine_context F t → IsOver 31 F []
+encodes-over F t f = subst (λ B. IsOver 31 F B) bound_sorts-machine (subst (λ r. IsOver r F (bound_sorts machine_context)) (registers_in-machine 31) f.over)
+
+pub encodes-is : (F : Form) (t : Tree) → EncodesForm machine_context F t → form_encoding (subst_form F machine_names) ≡ t
+encodes-is F t f = ap (λ s. form_encoding (subst_form F s)) (sym names_in-machine) ∙ f.is
+
+pub length-vars_down : (n : ℕ) → length (vars_down n) ≡ n
+length-vars_down zero = refl
+length-vars_down (suc n) = ap suc (length-vars_down n)
+
+pub length-machine_names : length machine_names.regs ≡ 31
+unfolding machine_names
+length-machine_names = length-vars_down 31
+
+-- the names are put by recursion on the formula
+pub subst-names : (F : Form) → subst_form F machine_names ≡ named_form 0 F
+subst-names F = ap (subst_form F) (sym (change_none machine_names)) ∙ named_form-is 0 F
+
+-- terms put in the encoding of a formula over r0 to r30 and m
+put-names : (F : Form) (t : Substitution) → length t.regs ≡ 31 → IsOver 31 F [] → put_tree (machine_terms_of t) 0 (form_encoding (subst_form F machine_names)) ≡ form_encoding (subst_form F t)
+put-names F t len over =
+    ap (λ s. put_tree (machine_terms_of t) 0 (form_encoding (subst_form F s))) (sym (change_none machine_names)) ∙ put-encoding 31 F [] t len over ∙ ap (λ s. form_encoding (subst_form F s)) (change_none t)
+
+-- ---- operands
+
+reg_term-is : (t : Substitution) (r : ℕ) → reg_term (machine_terms_of t) r ≡ exp_encoding (subst_exp (reg_exp r) t)
+reg_term-is t r = elim (cases_Bool (eqb r 31)) [ inl e ↦ rw e refl | inr e ↦ rw e (get_or-map exp_encoding t.regs r (ELit 0)) ]
+
+rhs_term-is : (t : Substitution) (rhs : Rhs) → rhs_term (machine_terms_of t) rhs ≡ exp_encoding (subst_exp (rhs_exp rhs) t)
+rhs_term-is t (Reg r) = reg_term-is t r
+rhs_term-is t (Lit n) = refl
+
+address_term-is : (t : Substitution) (rb : ℕ) (disp : ℤ) → address_term (machine_terms_of t) rb disp ≡ exp_encoding (subst_exp (address_exp rb disp) t)
+address_term-is t rb disp = ap (λ x. op_term Add x (lit (cast_unsigned w64 disp))) (reg_term-is t rb)
+
+taken_term-is : (c : Cond) (x : Exp) (t : Substitution) → taken_term c (tested_term c (exp_encoding (subst_exp x t))) ≡ form_encoding (subst_form (taken_if c x) t)
+taken_term-is LowClear x t = refl
+taken_term-is Zero x t = refl
+taken_term-is Negative x t = refl
+taken_term-is NotPositive x t = refl
+taken_term-is LowSet x t = refl
+taken_term-is NotZero x t = refl
+taken_term-is NotNegative x t = refl
+taken_term-is Positive x t = refl
+
+passed_term-is : (c : Cond) (x : Exp) (t : Substitution) → passed_term c (tested_term c (exp_encoding (subst_exp x t))) ≡ form_encoding (subst_form (passed_if c x) t)
+passed_term-is LowClear x t = refl
+passed_term-is Zero x t = refl
+passed_term-is Negative x t = refl
+passed_term-is NotPositive x t = refl
+passed_term-is LowSet x t = refl
+passed_term-is NotZero x t = refl
+passed_term-is NotNegative x t = refl
+passed_term-is Positive x t = refl
+
+-- ---- one instruction
+
+-- the walk on makes the encodings of what has to hold at an index, with what was put
+abbrev Makes : (ℕ → MachineTerms → Tree) → (ℕ → Form) → Type 0
+Makes next F = (j : ℕ) (t : Substitution) → length t.regs ≡ 31 → next j (machine_terms_of t) ≡ form_encoding (subst_form (F j) t)
+
+module _ (next : ℕ → MachineTerms → Tree) (F : ℕ → Form) (makes : Makes next F) (post : Form) (over : IsOver 31 post []) where
+  reg-set : (j r : ℕ) (u : Tree) (e : Exp) (t : Substitution) → length t.regs ≡ 31 → u ≡ exp_encoding (subst_exp e t) → next j (with_reg (machine_terms_of t) r u) ≡ form_encoding (subst_form (subst_form (F j) (for_reg r e)) t)
+  reg-set j r u e t len is =
+      let long : length (set t.regs r (subst_exp e t)) ≡ 31 = length-set t.regs r (subst_exp e t) ∙ len in
+      ap (λ x. next j (with_reg (machine_terms_of t) r x)) is
+      ∙ ap (λ l. next j (record { regs = l; memory = mem_encoding t.memory })) (sym (map-set exp_encoding t.regs r (subst_exp e t)))
+      ∙ makes j (record t { regs = set t.regs r (subst_exp e t) }) long
+      ∙ ap form_encoding (sym (subst-for_reg (F j) r e t len))
+
+  memory-set : (j : ℕ) (u : Tree) (m : MemExp) (t : Substitution) → length t.regs ≡ 31 → u ≡ mem_encoding (subst_mem m t) → next j (with_memory (machine_terms_of t) u) ≡ form_encoding (subst_form (subst_form (F j) (for_memory m)) t)
+  memory-set j u m t len is =
+      ap (λ x. next j (with_memory (machine_terms_of t) x)) is ∙ makes j (record t { memory = subst_mem m t }) len ∙ ap form_encoding (sym (subst-for_memory (F j) m t len))
+
+  walked_to-is : (o : Option ℕ) (t : Substitution) → length t.regs ≡ 31 → walked_to next o (machine_terms_of t) ≡ form_encoding (subst_form (at_target F o) t)
+  walked_to-is None t len = refl
+  walked_to-is (Some j) t len = makes j t len
+
+  insn-is : (i : ℕ) (insn : Insn) (t : Substitution) → length t.regs ≡ 31 → walked_on next (form_encoding (subst_form post machine_names)) i (machine_terms_of t) (insn_effect i insn (machine_terms_of t)) ≡ form_encoding (subst_form (insn_condition F post i insn) t)
+  insn-is i (Lda ra rb disp) t len = reg-set (i + 1) ra (address_term (machine_terms_of t) rb disp) (address_exp rb disp) t len (address_term-is t rb disp)
+  insn-is i (Ldq ra rb disp) t len =
+      let a = address_term-is t rb disp in
+      let on = reg-set (i + 1) ra (sel (mem_encoding t.memory) (address_term (machine_terms_of t) rb disp)) (ESel MMem (address_exp rb disp)) t len (ap (sel (mem_encoding t.memory)) a) in
+      λ k. and_term (rd (a k)) (on k)
+  insn-is i (Stq ra rb disp) t len =
+      let a = address_term-is t rb disp in
+      let v = reg_term-is t ra in
+      let on = memory-set (i + 1) (upd (mem_encoding t.memory) (address_term (machine_terms_of t) rb disp) (reg_term (machine_terms_of t) ra)) (MUpd MMem (address_exp rb disp) (reg_exp ra)) t len (λ k. upd (mem_encoding t.memory) (a k) (v k)) in
+      λ k. and_term (wr (a k)) (on k)
+  insn-is i (Oper op ra rhs rc) t len =
+      let a = reg_term-is t ra in
+      let b = rhs_term-is t rhs in
+      reg-set (i + 1) rc (op_term op (reg_term (machine_terms_of t) ra) (rhs_term (machine_terms_of t) rhs)) (EOp op (reg_exp ra) (rhs_exp rhs)) t len (λ k. op_term op (a k) (b k))
+  insn-is i (Branch c ra disp) t len =
+      let x = ap (λ u. taken_term c (tested_term c u)) (reg_term-is t ra) ∙ taken_term-is c (reg_exp ra) t in
+      let y = ap (λ u. passed_term c (tested_term c u)) (reg_term-is t ra) ∙ passed_term-is c (reg_exp ra) t in
+      let a = walked_to-is (jump_of i (Branch c ra disp)) t len in
+      let b = makes (i + 1) t len in
+      λ k. and_term (imp_term (x k) (a k)) (imp_term (y k) (b k))
+  insn-is i (Br disp) t len = walked_to-is (jump_of i (Br disp)) t len
+  insn-is i Ret t len = put-names post t len over
+
+  walked_at-is : (i : ℕ) (o : Option Insn) (t : Substitution) → length t.regs ≡ 31 → walked_at next (form_encoding (subst_form post machine_names)) i o (machine_terms_of t) ≡ form_encoding (subst_form (condition_at None F post i o) t)
+  walked_at-is i None t len = refl
+  walked_at-is i (Some insn) t len = insn-is i insn t len
+
+-- ---- all of the code
+
+ended-is : (ps : List (ℕ × Tree)) (qs : List (ℕ × Form)) (i : ℕ) (u : Tree) (F : Form) (t : Substitution) → AreEncodings ps qs → length t.regs ≡ 31 → u ≡ form_encoding (subst_form F t) →
+    ended (inv_term ps i) u (machine_terms_of t) ≡ form_encoding (subst_form (or_else (invariant_at qs i) F) t)
+ended-is [] [] i u F t f len is = is
+ended-is [] (q ∷ qs) i u F t f len is = absurd f
+ended-is (p ∷ ps) [] i u F t f len is = absurd f
+ended-is (p ∷ ps) (q ∷ qs) i u F t f len is =
+    elim (cases_Bool (eqb q.0 i)) [
+      | inl here ↦ rw (← f.0, here) (ap (put_tree (machine_terms_of t) 0) (sym (encodes-is q.1 p.1 f.1)) ∙ put-names q.1 t len (encodes-over q.1 p.1 f.1))
+      | inr other ↦ rw (← f.0, other) (ended-is ps qs i u F t f.2 len is)
+    ]
+
+-- ---- quantifiers
+
+encoding-alls : (n : ℕ) (F : Form) → all_terms n (form_encoding F) ≡ form_encoding (alls n F)
+encoding-alls zero F = refl
+encoding-alls (suc n) F = ap all_term (encoding-alls n F)
+
+closed_term-is : (F : Form) → closed_term (form_encoding (subst_form F machine_names)) ≡ form_encoding (close None F)
+unfolding closed_term
+closed_term-is F = ap allm_term (encoding-alls 31 (subst_form F machine_names))
+
+encoding-vars : (n : ℕ) → var_terms n ≡ map exp_encoding (vars_down n)
+encoding-vars zero = refl
+encoding-vars (suc n) = ap (λ l. Var n ∷ l) (encoding-vars n)
+
+start_terms-is : start_terms ≡ machine_terms_of machine_names
+unfolding start_terms machine_names
+start_terms-is = ap (λ l. record { regs = l; memory = Var 31 }) (encoding-vars 31)
+
+-- ---- the condition
+
+module _ (code : List Insn) (ps : List (ℕ × Tree)) (qs : List (ℕ × Form)) (pre post : Form) (f : AreEncodings ps qs) (pre_over : IsOver 31 pre []) (post_over : IsOver 31 post []) where
+  abbrev the_code : AnnotatedCode
+  the_code = record { code = code; invs = qs; pre = pre; post = post; bound = None }
+
+  abbrev post_term : Tree
+  post_term = form_encoding (subst_form post machine_names)
+
+  -- the walk makes the encoding of what has to hold, with what was put
+  pub walked-is : (n i : ℕ) (t : Substitution) → length t.regs ≡ 31 → walked code ps post_term n i (machine_terms_of t) ≡ form_encoding (subst_form (wp_within the_code n i) t)
+  walked-is zero i t len = ended-is ps qs i falsity FFalse t f len refl
+  walked-is (suc n) i t len =
+      ended-is ps qs i (walked_at (walked code ps post_term n) post_term i (slice_get code i) (machine_terms_of t)) (condition_at None (wp_within the_code n) post i (slice_get code i)) t f len
+      (walked_at-is (walked code ps post_term n) (wp_within the_code n) (walked-is n) post post_over i (slice_get code i) t len)
+
+  entry-is : walked code ps post_term (length code) 0 start_terms ≡ form_encoding (subst_form (wp the_code 0) machine_names)
+  entry-is = ap (walked code ps post_term (length code) 0) start_terms-is ∙ walked-is (length code) 0 machine_names length-machine_names
+
+  walked_from-is : (i : ℕ) → walked_from code ps post_term i start_terms ≡ form_encoding (subst_form (body the_code i) machine_names)
+  walked_from-is i =
+      ap (walked_from code ps post_term i) start_terms-is ∙ walked_at-is (walked code ps post_term (length code)) (wp the_code) (walked-is (length code)) post post_over i (slice_get code i) machine_names length-machine_names
+
+  parts-are : (rs : List (ℕ × Tree)) (us : List (ℕ × Form)) → AreEncodings rs us → part_terms code ps post_term rs ≡ form_encoding (inv_parts the_code us)
+  parts-are [] [] g = refl
+  parts-are [] (u ∷ us) g = absurd g
+  parts-are (r ∷ rs) [] g = absurd g
+  parts-are (r ∷ rs) (u ∷ us) g =
+      let b = walked_from-is r.0 ∙ ap (λ j. form_encoding (subst_form (body the_code j) machine_names)) (sym g.0) in
+      let inv = sym (encodes-is u.1 r.1 g.1) in
+      let here = (λ k. closed_term (imp_term (inv k) (b k))) ∙ closed_term-is (FImp u.1 (body the_code u.0)) in
+      let rest = parts-are rs us g.2 in
+      λ k. and_term (here k) (rest k)
+
+  -- the term that the walk makes is the encoding of the condition
+  pub condition_term-is : condition_term code ps (form_encoding (subst_form pre machine_names)) post_term ≡ form_encoding (condition the_code)
+  condition_term-is =
+      let here = (λ k. closed_term (imp_term (form_encoding (subst_form pre machine_names)) (entry-is k))) ∙ closed_term-is (FImp pre (wp the_code 0)) in
+      let rest = parts-are ps qs f in
+      λ k. and_term (here k) (rest k)

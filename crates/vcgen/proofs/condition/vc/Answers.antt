@@ -1,0 +1,29 @@
+use Rattle.std.proofs.Common.{◌≡◌, ◌<◌, length, slice_index_or, sym, ◌∙◌, subst, arith}
+use Rattle.policy_set.specs.Policies.{pre_of, post_of}
+use Rattle.policy_set.proofs.Closed.{pre-over, post-over}
+use Rattle.formula_tree.specs.Substitution.{subst_form}
+use Rattle.lf_encode.specs.Encoding.{form_encoding}
+use Rattle.lf_encode.specs.Contexts.{machine_names}
+use Rattle.vcgen.specs.Conditions.{condition}
+use Rattle.vcgen.specs.Encoded.{annotated, inv_trees, EncodesCondition}
+use Rattle.vcgen.specs.Inside.WalkTree.{condition_term}
+use Rattle.vcgen.proofs.WalkTrees.{condition_term-is}
+use Rattle.vcgen.proofs.Encodings.{encoding-exists}
+use Rattle.lf_encode.proofs.MachineContext.{encoding-machine}
+use Rattle.vcgen.proofs.Parts.{invs-inside}
+use Rattle.vcgen.proofs.condition.vc.Goals as goal
+
+pub encoded_condition-requires-clause-inside : goal.encoded_condition-requires-clause-inside
+encoded_condition-requires-clause-inside c k d lt =
+    subst (λ l. (slice_index_or c.args.invs.now k d).0 < length l) (sym c.code.ensures.value) (invs-inside c.args.invs.now (length c.args.cut.now.code) c.args.cut.now.marks c.requires.marks k d lt)
+
+pub returns-clause-exact : goal.returns-clause-exact
+returns-clause-exact c =
+    let policy = c.args.policy.now in
+    let code = c.args.cut.now.code in
+    let invs = inv_trees c.args.table.now c.args.invs.now in
+    let has : EncodesCondition policy code invs _ = (encoding-exists policy code invs c.requires.forms).1 in
+    let term : condition_term code invs (form_encoding (subst_form (pre_of policy) machine_names)) (form_encoding (subst_form (post_of policy) machine_names)) ≡ form_encoding (condition (annotated policy code has.formulas)) =
+    condition_term-is code invs has.formulas (pre_of policy) (post_of policy) has.encoded (pre-over policy) (post-over policy) in
+    let made = c.in_ok-encoded_condition.ensures.id.is ∙ (λ i. condition_term (c.code.ensures.value i) invs (encoding-machine (pre_of policy) i) (encoding-machine (post_of policy) i)) ∙ term in
+    (omega arith, c.in_ok-encoded_condition.ensures.id.known, record { formulas = has.formulas; encoded = has.encoded; is = sym made })

@@ -1,0 +1,32 @@
+use Rattle.std.proofs.Common.{refl}
+use Rattle.lf_encode.specs.Contexts.{machine_names}
+use Rattle.vcgen.specs.Assignments.{unchanged}
+use Rattle.vcgen.proofs.theorems.worked_conditions.Goals as goal
+
+pub returns-clause-filter_ret : goal.returns-clause-filter_ret
+unfolding machine_names unchanged
+returns-clause-filter_ret c = refl
+
+pub returns-clause-tag_ret : goal.returns-clause-tag_ret
+unfolding machine_names unchanged
+returns-clause-tag_ret c = refl
+
+pub returns-clause-table_ret : goal.returns-clause-table_ret
+unfolding machine_names unchanged
+returns-clause-table_ret c = refl
+
+pub returns-clause-counting : goal.returns-clause-counting
+unfolding machine_names unchanged
+returns-clause-counting c = refl
+
+pub returns-clause-guarded : goal.returns-clause-guarded
+unfolding machine_names unchanged
+returns-clause-guarded c = refl
+
+pub returns-clause-twice : goal.returns-clause-twice
+unfolding machine_names unchanged
+returns-clause-twice c = refl
+
+pub returns-clause-computing : goal.returns-clause-computing
+unfolding machine_names unchanged
+returns-clause-computing c = refl

@@ -1,0 +1,3 @@
+-- Words of the private functions and of the proofs.
+pub mod WalkTree
+pub mod Symbols

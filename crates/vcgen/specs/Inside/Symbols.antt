@@ -1,0 +1,64 @@
+-- What a walk keeps: ids of terms for the machine's variables, and the invariants of a program.
+use Rattle.std.specs.Prelude.{◌≡◌, ℕ, ◌+◌, ◌<◌, ◌^◌, ◌==◌, true, List, [], ◌∷◌, Option, Some, find, option_map}
+use Rattle.alpha_words.specs.declared.insn.Insn.{Insn}
+use Rattle.alpha_cfg.specs.Flow.{IsCode}
+use Rattle.term_table.specs.Tree.{Tree, shift, fits}
+use Rattle.term_table.specs.Measures.{height_of}
+use Rattle.term_table.specs.Table.{TableView, IsKnown, tree_at}
+use Rattle.hereditary_subst.specs.declared.kept.Memo.{Memo}
+use Rattle.hereditary_subst.specs.Inside.Kept.{IsMemo}
+use Rattle.lf_signature.specs.Nodes.{IsIdOf}
+use Rattle.lf_encode.specs.declared.puts.PutMemo.{PutMemo}
+use Rattle.lf_encode.specs.PutTree.{MachineTerms, machine_terms_at}
+use Rattle.lf_encode.specs.Inside.Kept.{IsPutMemo, AreMachineTerms}
+use Rattle.vcgen.specs.declared.symbols.Symbols.{Symbols}
+use Rattle.vcgen.specs.declared.walk.Program.{Program}
+use Rattle.vcgen.specs.declared.effects.Effect as rust
+use Rattle.vcgen.specs.declared.effects.Effect.TheVariants as E
+use Rattle.vcgen.specs.Inside.WalkTree.{InsnEffect, Computed, Access, Split, Jump, Return}
+
+-- the id stands for the term, which can be shifted over so many binders as a formula may have
+pub record IsTermFor (t : TableView) (tree : Tree) (id : ℕ) : Type 0 where
+  pub stands : IsIdOf t tree id
+  pub room : fits (shift 2147483648 0 tree) ≡ true
+
+-- the id of an index's invariant, if it is annotated
+abbrev pub inv_id : List (ℕ × ℕ) → ℕ → Option ℕ
+inv_id ps i = option_map (λ p. p.1) (find (λ p. p.0 == i) ps)
+
+-- ids of invariants are the table's, and their terms aren't high
+abbrev pub AreInvs : TableView → List (ℕ × ℕ) → Type 0
+AreInvs t [] = Unit {0}
+AreInvs t (p ∷ ps) = IsKnown t p.1 × (height_of (tree_at t p.1) < 2 ^ 31) × AreInvs t ps
+
+-- code, with ids for its invariants and for what holds at its end
+pub record IsProgram (t : TableView) (insns : List Insn) (ids : List (ℕ × ℕ)) (at_end : ℕ) : Type 0 where
+  pub code : IsCode insns
+  pub invs : AreInvs t ids
+  pub post : IsKnown t at_end
+  pub low : height_of (tree_at t at_end) < 2 ^ 31
+
+-- a program, ids for the machine's variables, and what is kept of their terms, are right of the table
+pub record IsWalking (t : TableView) (insns : List Insn) (ids : List (ℕ × ℕ)) (at_end : ℕ) (registers : List ℕ) (m : ℕ) (memo : Memo) (puts : PutMemo) : Type 0 where
+  pub program : IsProgram t insns ids at_end
+  pub ready : AreMachineTerms t registers m
+  pub shifts : IsMemo t memo
+  pub kept : IsPutMemo t registers m puts
+
+-- the symbols stand for the terms
+pub record StandFor (t : TableView) (s : Symbols) (terms : MachineTerms) : Type 0 where
+  pub ready : AreMachineTerms t s.regs s.memory
+  pub are : machine_terms_at t s.regs s.memory ≡ terms
+
+-- An effect by ids is the one on terms, and what it goes on to is an index below the count.
+abbrev pub IsEffect : TableView → ℕ → ℕ → rust.Effect → InsnEffect → Type 0
+IsEffect t count i (E.Computed s) (Computed terms) = (i + 1 < count) × StandFor t s terms
+IsEffect t count i (E.Access a s) (Access tree terms) = (i + 1 < count) × IsIdOf t tree a × StandFor t s terms
+IsEffect t count i (E.Split a b j) (Split first second to) = (i + 1 < count) × (j < count) × IsIdOf t first a × IsIdOf t second b × (to ≡ Some j)
+IsEffect t count i (E.Jump j) (Jump to) = (j < count) × (to ≡ Some j)
+IsEffect t count i E.Return Return = Unit {0}
+IsEffect t count i _ _ = ⊥
+
+-- the same of what a walk has in memory
+abbrev pub Walks : TableView → Program → Symbols → Memo → PutMemo → Type 0
+Walks t p s memo puts = IsWalking t p.code.now p.invs.now p.post s.regs s.memory memo puts

@@ -1,0 +1,158 @@
+-- The term of the verification condition by a walk forward on terms: what stands for r0 to r30 and m are terms in the context m, r0 to r30.
+use Rattle.std.specs.Prelude.{ℕ, zero, suc, ◌+◌, ◌==◌, if◌then◌else◌, List, [], ◌∷◌, length, slice_get, slice_index_or, slice_set, Option, Some, None, ℤ}
+use Rattle.std.specs.Int.{cast_unsigned, w64}
+use Rattle.word_ops.specs.declared.Op.TheVariants.{Add, Band}
+use Rattle.word_ops.specs.declared.Rel.TheVariants.{Eq, Slt, Sle}
+use Rattle.alpha_words.specs.declared.insn.Rhs.{Rhs}
+use Rattle.alpha_words.specs.declared.insn.Rhs.TheVariants.{Reg, Lit}
+use Rattle.alpha_words.specs.declared.insn.Cond.{Cond}
+use Rattle.alpha_words.specs.declared.insn.Cond.TheVariants.{LowClear, Zero, Negative, NotPositive, LowSet, NotZero, NotNegative, Positive}
+use Rattle.alpha_words.specs.declared.insn.Insn.{Insn}
+use Rattle.alpha_words.specs.declared.insn.Insn.TheVariants.{Lda, Ldq, Stq, Oper, Branch, Br, Ret}
+use Rattle.alpha_cfg.specs.Flow.{jump_of}
+use Rattle.term_table.specs.Tree.{Tree, Var}
+use Rattle.lf_signature.specs.Terms.{lit, op_term, sel, upd, truth, falsity, rel_term, rd, wr, and_term, imp_term, not_term, all_term, allm_term}
+use Rattle.lf_encode.specs.PutTree.{MachineTerms, put_tree}
+
+-- ---- operands
+
+-- a register's term; register 31 is 0
+abbrev pub reg_term : MachineTerms → ℕ → Tree
+reg_term s r = if r == 31 then lit 0 else slice_index_or s.regs r (lit 0)
+
+-- the second operand
+abbrev pub rhs_term : MachineTerms → Rhs → Tree
+rhs_term s (Reg rb) = reg_term s rb
+rhs_term s (Lit n) = lit n
+
+-- an address
+abbrev pub address_term : MachineTerms → ℕ → ℤ → Tree
+address_term s rb disp = op_term Add (reg_term s rb) (lit (cast_unsigned w64 disp))
+
+-- what a conditional branch tests, which holds or doesn't where it is taken
+abbrev pub tested_term : Cond → Tree → Tree
+tested_term LowClear x = rel_term Eq (op_term Band x (lit 1)) (lit 0)
+tested_term Zero x = rel_term Eq x (lit 0)
+tested_term Negative x = rel_term Slt x (lit 0)
+tested_term NotPositive x = rel_term Sle x (lit 0)
+tested_term LowSet x = rel_term Eq (op_term Band x (lit 1)) (lit 0)
+tested_term NotZero x = rel_term Eq x (lit 0)
+tested_term NotNegative x = rel_term Slt x (lit 0)
+tested_term Positive x = rel_term Sle x (lit 0)
+
+-- what holds where it is taken
+abbrev pub taken_term : Cond → Tree → Tree
+taken_term LowClear t = t
+taken_term Zero t = t
+taken_term Negative t = t
+taken_term NotPositive t = t
+taken_term LowSet t = not_term t
+taken_term NotZero t = not_term t
+taken_term NotNegative t = not_term t
+taken_term Positive t = not_term t
+
+-- and where it isn't
+abbrev pub passed_term : Cond → Tree → Tree
+passed_term LowClear t = not_term t
+passed_term Zero t = not_term t
+passed_term Negative t = not_term t
+passed_term NotPositive t = not_term t
+passed_term LowSet t = t
+passed_term NotZero t = t
+passed_term NotNegative t = t
+passed_term Positive t = t
+
+-- ---- the walk
+
+-- a term for a register; nothing is kept for register 31
+abbrev pub with_reg : MachineTerms → ℕ → Tree → MachineTerms
+with_reg s r t = record s { regs = slice_set s.regs r t }
+
+-- a term for m
+abbrev pub with_memory : MachineTerms → Tree → MachineTerms
+with_memory s t = record s { memory = t }
+
+-- What an instruction does to the terms: it goes on with others, it does so after an access for which the first has to hold, it
+-- goes on to its target or to the next index as the first or the second holds, it goes on to its target, or it returns.
+pub data InsnEffect : Type 0 where
+  Computed : MachineTerms → InsnEffect
+  Access : Tree → MachineTerms → InsnEffect
+  Split : Tree → Tree → Option ℕ → InsnEffect
+  Jump : Option ℕ → InsnEffect
+  Return : InsnEffect
+
+-- the effect of the instruction at i
+abbrev pub insn_effect : ℕ → Insn → MachineTerms → InsnEffect
+insn_effect i (Lda ra rb disp) s = Computed (with_reg s ra (address_term s rb disp))
+insn_effect i (Ldq ra rb disp) s = Access (rd (address_term s rb disp)) (with_reg s ra (sel s.memory (address_term s rb disp)))
+insn_effect i (Stq ra rb disp) s = Access (wr (address_term s rb disp)) (with_memory s (upd s.memory (address_term s rb disp) (reg_term s ra)))
+insn_effect i (Oper op ra rhs rc) s = Computed (with_reg s rc (op_term op (reg_term s ra) (rhs_term s rhs)))
+insn_effect i (Branch c ra disp) s = Split (taken_term c (tested_term c (reg_term s ra))) (passed_term c (tested_term c (reg_term s ra))) (jump_of i (Branch c ra disp))
+insn_effect i (Br disp) s = Jump (jump_of i (Br disp))
+insn_effect i Ret s = Return
+
+-- the walk on from a target
+abbrev pub walked_to : (ℕ → MachineTerms → Tree) → Option ℕ → MachineTerms → Tree
+walked_to next None s = falsity
+walked_to next (Some j) s = next j s
+
+-- what the walk makes of an effect at i, `next` being the walk on from an index
+abbrev pub walked_on : (ℕ → MachineTerms → Tree) → Tree → ℕ → MachineTerms → InsnEffect → Tree
+walked_on next post i s (Computed u) = next (i + 1) u
+walked_on next post i s (Access a u) = and_term a (next (i + 1) u)
+walked_on next post i s (Split a b to) = and_term (imp_term a (walked_to next to s)) (imp_term b (next (i + 1) s))
+walked_on next post i s (Jump to) = walked_to next to s
+walked_on next post i s Return = put_tree s 0 post
+
+-- the same of the instruction at i, if there is one
+abbrev pub walked_at : (ℕ → MachineTerms → Tree) → Tree → ℕ → Option Insn → MachineTerms → Tree
+walked_at next post i None s = falsity
+walked_at next post i (Some insn) s = walked_on next post i s (insn_effect i insn s)
+
+-- the term of an index's invariant, if it is annotated
+abbrev pub inv_term : List (ℕ × Tree) → ℕ → Option Tree
+inv_term [] i = None
+inv_term (p ∷ ps) i = if p.0 == i then Some p.1 else inv_term ps i
+
+-- an invariant ends the walk: the terms are put into it
+abbrev pub ended : Option Tree → Tree → MachineTerms → Tree
+ended None t s = t
+ended (Some inv) t s = put_tree s 0 inv
+
+-- the walk over at most so many instructions
+abbrev pub walked : List Insn → List (ℕ × Tree) → Tree → ℕ → ℕ → MachineTerms → Tree
+walked code invs post zero i s = ended (inv_term invs i) falsity s
+walked code invs post (suc n) i s = ended (inv_term invs i) (walked_at (walked code invs post n) post i (slice_get code i) s) s
+
+-- the same from an index whose own invariant doesn't end it
+abbrev pub walked_from : List Insn → List (ℕ × Tree) → Tree → ℕ → MachineTerms → Tree
+walked_from code invs post i s = walked_at (walked code invs post (length code)) post i (slice_get code i) s
+
+-- ---- the condition
+
+-- n variables, the furthest first
+abbrev pub var_terms : ℕ → List Tree
+var_terms zero = []
+var_terms (suc n) = Var n ∷ var_terms n
+
+-- each of r0 to r30 and m for itself
+unfoldable pub start_terms : MachineTerms
+start_terms = record { regs = var_terms 31; memory = Var 31 }
+
+-- n quantifiers over words
+abbrev pub all_terms : ℕ → Tree → Tree
+all_terms zero t = t
+all_terms (suc n) t = all_term (all_terms n t)
+
+-- for all memories and registers
+unfoldable pub closed_term : Tree → Tree
+closed_term t = allm_term (all_terms 31 t)
+
+-- the parts of invariants, and'ed to the right
+abbrev pub part_terms : List Insn → List (ℕ × Tree) → Tree → List (ℕ × Tree) → Tree
+part_terms code invs post [] = truth
+part_terms code invs post (p ∷ ps) = and_term (closed_term (imp_term p.1 (walked_from code invs post p.0 start_terms))) (part_terms code invs post ps)
+
+-- the condition, from the terms of what holds at the start and at the end, and of the invariants
+abbrev pub condition_term : List Insn → List (ℕ × Tree) → Tree → Tree → Tree
+condition_term code invs pre post = and_term (closed_term (imp_term pre (walked code invs post (length code) 0 start_terms))) (part_terms code invs post invs)

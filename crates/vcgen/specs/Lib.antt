@@ -1,0 +1,11 @@
+pub use Rattle.lf_encode.specs.Encoding
+pub use Rattle.lf_encode.specs.Contexts
+pub mod Assignments
+pub mod Conditions
+pub mod Variables
+pub mod Safety
+pub mod Encoded
+pub mod Answers
+pub mod Laws
+pub mod Worked
+pub mod Inside

@@ -1,0 +1,159 @@
+//! The verification condition.
+
+ghost use Rattle.std.specs.Prelude.{◌≡◌, ℕ, List, ◌<◌, ◌≤◌, IfOk, length, drop, map, All};
+ghost use Rattle.alpha_cfg.specs.Cuts.{AreFlags};
+ghost use Rattle.term_table.specs.Table.{IsKnown, tree_at, Extends};
+ghost use Rattle.lf_signature.specs.Nodes.{IsIdOf};
+ghost use Rattle.lf_signature.specs.Terms.{imp_term};
+ghost use Rattle.policy_set.specs.Policies.{pre_of, post_of};
+ghost use Rattle.lf_encode.specs.PutTree.{machine_terms_at};
+ghost use Rattle.lf_encode.specs.Contexts.{machine_context, encoding_in};
+ghost use Rattle.vcgen.specs.Encoded.{inv_trees, AreForms};
+ghost use Rattle.vcgen.specs.Answers.{IsVcAnswer, AreLowInvs};
+ghost use Rattle.vcgen.specs.Inside.WalkTree.{start_terms, all_terms, closed_term};
+ghost use Rattle.vcgen.specs.Inside.WalkTree.{part_terms, condition_term};
+ghost use Rattle.vcgen.specs.Inside.Symbols.{IsProgram, Walks};
+
+use crate::fault::VcFault;
+use crate::symbols::Symbols;
+use crate::walk::{Program, walk, walk_from};
+use alpha_cfg::{Code, Cut};
+use hereditary_subst::{MOST_RESULTS, Memo};
+use lf_encode::{PutMemo, encode_form, machine_context, quantified};
+use lf_signature::app2;
+use lf_signature::numbers::{ALL, ALLM, AND, IMP, TT};
+use policy_set::Policy;
+use std::alloc::AllocError;
+use term_table::{Id, Node, Table};
+
+/// The greatest unfolded length of code that has a verification condition here.
+pub const MAX_UNFOLDED: u32 = 65_536;
+
+/// The greatest height of an invariant's term.
+pub const MAX_HEIGHT: u32 = 4_096;
+
+/// The formula of a term for all words of `count` variables, the nearest first.
+fn all_words(table: &mut Table, count: u32, formula: Id) -> Result<Id, AllocError>
+    requires { IsKnown table.old formula }
+    ensures id { IfOk result (IsIdOf table.new (all_terms count (tree_at table.old formula))) }
+    ensures extends { Extends table.old table.new }
+{
+    if count == 0 {
+        return Ok(formula);
+    }
+    let body = all_words(table, count - 1, formula)?;
+    quantified(table, ALL, body)
+}
+
+/// That one formula leads to the other, for all memories and registers.
+fn part(table: &mut Table, from: Id, to: Id) -> Result<Id, AllocError>
+    requires from { IsKnown table.old from }
+    requires to { IsKnown table.old to }
+    ensures id { IfOk result (IsIdOf table.new
+        (closed_term (imp_term (tree_at table.old from) (tree_at table.old to)))) }
+    ensures extends { Extends table.old table.new }
+{
+    let implied = app2(table, IMP, from, to)?;
+    let words = all_words(table, 31, implied)?;
+    quantified(table, ALLM, words)
+}
+
+/// The parts of the invariants from place `from` on.
+fn inv_parts(
+    table: &mut Table,
+    shifts: &mut Memo,
+    kept: &mut PutMemo,
+    program: &Program,
+    start: &Symbols,
+    from: usize,
+) -> Result<Id, AllocError>
+    requires walking { Walks table.old program.now start.now shifts.old kept.old }
+    requires inside { All (λ p. p.0 < length program.now.code.now) program.now.invs.now }
+    requires from { from ≤ length program.now.invs.now }
+    requires start { machine_terms_at table.old start.now.regs start.now.memory ≡ start_terms }
+    ensures id { let t = table.old in
+        let invs = inv_trees t program.now.invs.now in
+        let rest = inv_trees t (drop from program.now.invs.now) in
+        IfOk result (IsIdOf table.new
+        (part_terms program.now.code.now invs (tree_at t program.now.post) rest)) }
+    ensures extends { Extends table.old table.new }
+{
+    if from == program.invs.len() {
+        return table.intern(Node::Const(TT));
+    }
+    let pair = program.invs[from];
+    let (index, inv) = pair;
+    let count = program.code.count();
+    let walked = walk_from(table, shifts, kept, program, count, index, start)?;
+    let here = part(table, inv, walked)?;
+    let rest = inv_parts(table, shifts, kept, program, start, from + 1)?;
+    app2(table, AND, here, rest)
+}
+
+/// The condition, from the terms of what holds at the start and of the program.
+fn condition_of(table: &mut Table, program: &Program, pre: Id) -> Result<Id, AllocError>
+    requires program { let p = program.now in
+        IsProgram table.old p.code.now p.invs.now p.post }
+    requires inside { All (λ p. p.0 < length program.now.code.now) program.now.invs.now }
+    requires pre { IsKnown table.old pre }
+    ensures id { let t = table.old in
+        let invs = inv_trees t program.now.invs.now in
+        IfOk result (IsIdOf table.new
+        (condition_term program.now.code.now invs (tree_at t pre) (tree_at t program.now.post))) }
+    ensures extends { Extends table.old table.new }
+{
+    let alloc = table.allocator();
+    let mut shifts = Memo::new(alloc, MOST_RESULTS);
+    let mut kept = PutMemo::new(alloc, MOST_RESULTS);
+    let start = Symbols::start(table)?;
+    let count = program.code.count();
+    let walked = walk(table, &mut shifts, &mut kept, program, count, 0, &start)?;
+    let entry = part(table, pre, walked)?;
+    let rest = inv_parts(table, &mut shifts, &mut kept, program, &start, 0)?;
+    app2(table, AND, entry, rest)
+}
+
+/// The encoding of the condition of code, its unfolded length being within its limit.
+fn encoded_condition(
+    table: &mut Table,
+    code: &Code,
+    policy: &Policy,
+    invs: &[(u32, Id)],
+) -> Result<Id, AllocError>
+    requires invs { AreLowInvs table.old invs.now }
+    requires inside { All (λ p. p.0 < length code.now) invs.now }
+    ensures id { let t = table.old in
+        let pre = encoding_in machine_context (pre_of policy.now) in
+        let post = encoding_in machine_context (post_of policy.now) in
+        IfOk result (IsIdOf table.new
+        (condition_term code.now (inv_trees t invs.now) pre post)) }
+    ensures extends { Extends table.old table.new }
+{
+    let _ = code.insns(); // tells the prover that this is code
+    let context = machine_context();
+    let pre = encode_form(table, policy.pre(), &context)?;
+    let post = encode_form(table, policy.post(), &context)?;
+    let program = Program { code, invs, post };
+    condition_of(table, &program, pre)
+}
+
+/// The encoding of the verification condition of `cut` under `policy`, the formulas of its invariants
+/// being those that the terms of `invs` encode: each annotated index with a term of type form in the
+/// context m, r0 to r30, at most `MAX_HEIGHT` high, in rising order of indices.
+///
+/// Errors: `UnfoldLimit` names the unfolded length exactly where it exceeds `MAX_UNFOLDED`, which is
+/// tested first; `Memory` says nothing of the condition, and more than `MOST_RESULTS` results of
+/// substitution are want of memory too. Each id keeps its tree.
+pub fn vc(table: &mut Table, cut: &Cut, policy: &Policy, invs: &[(u32, Id)]) -> Result<Id, VcFault>
+    requires invs { AreLowInvs table.old invs.now }
+    requires forms { AreForms (inv_trees table.old invs.now) }
+    requires marks { AreFlags (map (λ p. p.0) invs.now) (length cut.now.code) cut.now.marks }
+    ensures exact { IsVcAnswer policy.now cut.now (inv_trees table.old invs.now) table.new result }
+    ensures extends { Extends table.old table.new }
+{
+    let unfolded = cut.unfolded();
+    if unfolded > MAX_UNFOLDED {
+        return Err(VcFault::UnfoldLimit(unfolded));
+    }
+    Ok(encoded_condition(table, cut.code(), policy, invs)?)
+}

@@ -1,0 +1,139 @@
+//! What an instruction does to the terms for registers and memory.
+
+ghost use Rattle.std.specs.Prelude.{◌≡◌, ◌<◌, Some, IfOk, IfSome, length, slice_get};
+ghost use Rattle.alpha_cfg.specs.Flow.{next_of};
+ghost use Rattle.term_table.specs.Table.{Extends};
+ghost use Rattle.lf_encode.specs.PutTree.{machine_terms_at};
+ghost use Rattle.lf_encode.specs.Inside.Kept.{AreMachineTerms};
+ghost use Rattle.lf_signature.specs.Nodes.{IsIdOf};
+ghost use Rattle.lf_signature.specs.Terms.{rd, wr, sel, upd};
+ghost use Rattle.vcgen.specs.Inside.WalkTree.{insn_effect, reg_term, address_term, with_reg, with_memory};
+ghost use Rattle.vcgen.specs.Inside.WalkTree.{tested_term, taken_term, passed_term};
+ghost use Rattle.vcgen.specs.Inside.Symbols.{IsEffect, StandFor};
+
+use crate::branches::{passed, taken, tested};
+use crate::symbols::Symbols;
+use alpha_cfg::Code;
+use alpha_words::{Cond, Insn, Reg};
+use lf_signature::app1;
+use lf_signature::numbers::{RD, WR};
+use std::alloc::AllocError;
+use term_table::{Id, Table};
+
+/// What an instruction does to the terms.
+#[derive(Clone, Copy)]
+pub(crate) enum Effect {
+    /// The walk goes on with these.
+    Computed(Symbols),
+    /// It does so behind an access, for which the formula has to hold.
+    Access(Id, Symbols),
+    /// It goes on to an index where the first formula holds, else to the next where the second does.
+    Split(Id, Id, u32),
+    /// It goes on to an index.
+    Jump(u32),
+    /// It ends.
+    Return,
+}
+
+/// A load: its address may be loaded, and the register has what m has there.
+fn load(
+    table: &mut Table,
+    symbols: &Symbols,
+    ra: Reg,
+    rb: Reg,
+    disp: i16,
+) -> Result<(Id, Symbols), AllocError>
+    requires ready { AreMachineTerms table.old symbols.now.regs symbols.now.memory }
+    ensures allowed { let terms = machine_terms_at table.old symbols.now.regs symbols.now.memory in
+        IfOk result (λ r. IsIdOf table.new (rd (address_term terms rb disp)) r.0) }
+    ensures after { let terms = machine_terms_at table.old symbols.now.regs symbols.now.memory in
+        IfOk result (λ r. StandFor table.new r.1
+        (with_reg terms ra (sel terms.memory (address_term terms rb disp)))) }
+    ensures extends { Extends table.old table.new }
+{
+    let address = symbols.address(table, rb, disp)?;
+    let word = symbols.loaded(table, address)?;
+    let allowed = app1(table, RD, address)?;
+    Ok((allowed, symbols.with_reg(table, ra, word)))
+}
+
+/// A store: its address may be stored to, and m has the register's word there.
+fn store(
+    table: &mut Table,
+    symbols: &Symbols,
+    ra: Reg,
+    rb: Reg,
+    disp: i16,
+) -> Result<(Id, Symbols), AllocError>
+    requires ready { AreMachineTerms table.old symbols.now.regs symbols.now.memory }
+    ensures allowed { let terms = machine_terms_at table.old symbols.now.regs symbols.now.memory in
+        IfOk result (λ r. IsIdOf table.new (wr (address_term terms rb disp)) r.0) }
+    ensures after { let terms = machine_terms_at table.old symbols.now.regs symbols.now.memory in
+        IfOk result (λ r. StandFor table.new r.1
+        (with_memory terms (upd terms.memory (address_term terms rb disp) (reg_term terms ra)))) }
+    ensures extends { Extends table.old table.new }
+{
+    let address = symbols.address(table, rb, disp)?;
+    let memory = symbols.stored(table, address, ra)?;
+    let allowed = app1(table, WR, address)?;
+    Ok((allowed, symbols.with_memory(table, memory)))
+}
+
+/// What has to hold where a conditional branch is taken, and where it isn't.
+fn split(table: &mut Table, symbols: &Symbols, cond: Cond, ra: Reg) -> Result<(Id, Id), AllocError>
+    requires ready { AreMachineTerms table.old symbols.now.regs symbols.now.memory }
+    ensures taken { let terms = machine_terms_at table.old symbols.now.regs symbols.now.memory in
+        let tested = tested_term cond (reg_term terms ra) in
+        IfOk result (λ r. IsIdOf table.new (taken_term cond tested) r.0) }
+    ensures passed { let terms = machine_terms_at table.old symbols.now.regs symbols.now.memory in
+        let tested = tested_term cond (reg_term terms ra) in
+        IfOk result (λ r. IsIdOf table.new (passed_term cond tested) r.1) }
+    ensures extends { Extends table.old table.new }
+{
+    let register = symbols.reg(table, ra)?;
+    let tested = tested(table, cond, register)?;
+    let taken = taken(table, cond, tested)?;
+    Ok((taken, passed(table, cond, tested)?))
+}
+
+/// The effect of the instruction `insn` at `index` of the code.
+pub(crate) fn effect_at(
+    table: &mut Table,
+    code: &Code,
+    index: u32,
+    insn: Insn,
+    symbols: &Symbols,
+) -> Result<Effect, AllocError>
+    requires at { slice_get code.now index ≡ Some insn }
+    requires on { IfSome (next_of index insn) (λ j. j < length code.now) }
+    requires ready { AreMachineTerms table.old symbols.now.regs symbols.now.memory }
+    ensures exact { let terms = machine_terms_at table.old symbols.now.regs symbols.now.memory in
+        IfOk result
+        (λ e. IsEffect table.new (length code.now) index e (insn_effect index insn terms)) }
+    ensures extends { Extends table.old table.new }
+{
+    match insn {
+        Insn::Lda { ra, rb, disp } => {
+            let address = symbols.address(table, rb, disp)?;
+            Ok(Effect::Computed(symbols.with_reg(table, ra, address)))
+        }
+        Insn::Ldq { ra, rb, disp } => {
+            let (allowed, after) = load(table, symbols, ra, rb, disp)?;
+            Ok(Effect::Access(allowed, after))
+        }
+        Insn::Stq { ra, rb, disp } => {
+            let (allowed, after) = store(table, symbols, ra, rb, disp)?;
+            Ok(Effect::Access(allowed, after))
+        }
+        Insn::Oper { op, ra, rhs, rc } => {
+            let word = symbols.operated(table, op, ra, rhs)?;
+            Ok(Effect::Computed(symbols.with_reg(table, rc, word)))
+        }
+        Insn::Branch { cond, ra, .. } => {
+            let (taken, passed) = split(table, symbols, cond, ra)?;
+            Ok(Effect::Split(taken, passed, code.jump(index, &insn)))
+        }
+        Insn::Br { .. } => Ok(Effect::Jump(code.jump(index, &insn))),
+        Insn::Ret => Ok(Effect::Return),
+    }
+}

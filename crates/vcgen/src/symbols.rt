@@ -1,0 +1,166 @@
+//! What stands for registers and memory on a walk, and the terms of operands.
+
+ghost use Rattle.std.specs.Prelude.{◌≡◌, ◌<◌, ◌≤◌, ◌^◌, true, IfOk};
+ghost use Rattle.term_table.specs.Tree.{shift, fits};
+ghost use Rattle.term_table.specs.Table.{IsKnown, tree_at, Extends};
+ghost use Rattle.lf_encode.specs.PutTree.{machine_terms_at};
+ghost use Rattle.lf_encode.specs.Inside.Kept.{AreMachineTerms};
+ghost use Rattle.lf_signature.specs.Terms.{sel, upd, op_term};
+ghost use Rattle.vcgen.specs.Inside.WalkTree.{reg_term, rhs_term, address_term};
+ghost use Rattle.vcgen.specs.Inside.WalkTree.{with_reg, with_memory, start_terms};
+ghost use Rattle.vcgen.specs.Inside.Symbols.{IsTermFor};
+
+use alpha_words::{Reg, Rhs};
+use lf_signature::numbers::{SEL, UPD};
+use lf_signature::{app2, app3, op_constant};
+use std::alloc::AllocError;
+use term_table::{Id, Node, Table};
+use word_ops::Op;
+
+/// Terms for r0 to r30 and for m, in the context m, r0 to r30.
+#[derive(Clone, Copy)]
+pub(crate) struct Symbols {
+    pub(crate) regs: [Id; 31],
+    pub(crate) memory: Id,
+}
+
+impl Symbols {
+    /// Each register and m for itself.
+    pub(crate) fn start(table: &mut Table) -> Result<Symbols, AllocError>
+        ensures ready { IfOk result (λ s. AreMachineTerms table.new s.regs s.memory) }
+        ensures terms { IfOk result
+            (λ s. machine_terms_at table.new s.regs s.memory ≡ start_terms) }
+        ensures extends { Extends table.old table.new }
+    {
+        let memory = table.intern(Node::Var(31))?;
+        let mut regs = [memory; 31];
+        for k in 0..31 {
+            regs[k] = table.intern(Node::Var(30 - k as u32))?;
+        }
+        Ok(Symbols { regs, memory })
+    }
+
+    /// Another term for a register; none is kept for register 31.
+    pub(crate) fn with_reg(&self, table: &Table, reg: Reg, id: Id) -> Symbols
+        requires ready { AreMachineTerms table.now self.now.regs self.now.memory }
+        requires known { IsKnown table.now id }
+        requires room { fits (shift 2147483648 0 (tree_at table.now id)) ≡ true }
+        ensures ready { AreMachineTerms table.now result.regs result.memory }
+        ensures terms { machine_terms_at table.now result.regs result.memory
+            ≡ with_reg (machine_terms_at table.now self.now.regs self.now.memory) reg
+            (tree_at table.now id) }
+    {
+        let _ = table; // only the clauses speak of it
+        let number = reg.number() as usize;
+        if number >= 31 {
+            return *self;
+        }
+        let mut regs = self.regs;
+        regs[number] = id;
+        Symbols {
+            regs,
+            memory: self.memory,
+        }
+    }
+
+    /// Another term for m.
+    pub(crate) fn with_memory(&self, table: &Table, id: Id) -> Symbols
+        requires ready { AreMachineTerms table.now self.now.regs self.now.memory }
+        requires known { IsKnown table.now id }
+        requires room { fits (shift 2147483648 0 (tree_at table.now id)) ≡ true }
+        ensures ready { AreMachineTerms table.now result.regs result.memory }
+        ensures terms { machine_terms_at table.now result.regs result.memory
+            ≡ with_memory (machine_terms_at table.now self.now.regs self.now.memory)
+            (tree_at table.now id) }
+    {
+        let _ = table; // only the clauses speak of it
+        Symbols {
+            regs: self.regs,
+            memory: id,
+        }
+    }
+
+    /// The term of a register; register 31 is 0.
+    pub(crate) fn reg(&self, table: &mut Table, reg: Reg) -> Result<Id, AllocError>
+        requires { AreMachineTerms table.old self.now.regs self.now.memory }
+        ensures id { let terms = machine_terms_at table.old self.now.regs self.now.memory in
+            IfOk result (IsTermFor table.new (reg_term terms reg)) }
+        ensures extends { Extends table.old table.new }
+    {
+        let number = reg.number() as usize;
+        if number < 31 {
+            return Ok(self.regs[number]);
+        }
+        table.intern(Node::Lit(0))
+    }
+
+    /// The term of a second operand.
+    pub(crate) fn rhs(&self, table: &mut Table, rhs: Rhs) -> Result<Id, AllocError>
+        requires { AreMachineTerms table.old self.now.regs self.now.memory }
+        ensures id { let terms = machine_terms_at table.old self.now.regs self.now.memory in
+            IfOk result (IsTermFor table.new (rhs_term terms rhs)) }
+        ensures extends { Extends table.old table.new }
+    {
+        match rhs {
+            Rhs::Reg(reg) => self.reg(table, reg),
+            Rhs::Lit(literal) => table.intern(Node::Lit(u64::from(literal))),
+        }
+    }
+
+    /// The term of an operator at a register and a second operand.
+    pub(crate) fn operated(
+        &self,
+        table: &mut Table,
+        op: Op,
+        ra: Reg,
+        rhs: Rhs,
+    ) -> Result<Id, AllocError>
+        requires { AreMachineTerms table.old self.now.regs self.now.memory }
+        ensures id { let terms = machine_terms_at table.old self.now.regs self.now.memory in
+            let word = op_term op (reg_term terms ra) (rhs_term terms rhs) in
+            IfOk result (IsTermFor table.new word) }
+        ensures extends { Extends table.old table.new }
+    {
+        let left = self.reg(table, ra)?;
+        let right = self.rhs(table, rhs)?;
+        app2(table, op_constant(op), left, right)
+    }
+
+    /// The term of an address.
+    pub(crate) fn address(&self, table: &mut Table, rb: Reg, disp: i16) -> Result<Id, AllocError>
+        requires { AreMachineTerms table.old self.now.regs self.now.memory }
+        ensures id { let terms = machine_terms_at table.old self.now.regs self.now.memory in
+            IfOk result (IsTermFor table.new (address_term terms rb disp)) }
+        ensures extends { Extends table.old table.new }
+    {
+        let base = self.reg(table, rb)?;
+        let offset = table.intern(Node::Lit(i64::from(disp).cast_unsigned()))?;
+        app2(table, op_constant(Op::Add), base, offset)
+    }
+
+    /// The term of what m has at an address.
+    pub(crate) fn loaded(&self, table: &mut Table, address: Id) -> Result<Id, AllocError>
+        requires ready { AreMachineTerms table.old self.now.regs self.now.memory }
+        requires known { IsKnown table.old address }
+        requires room { fits (shift 2147483648 0 (tree_at table.old address)) ≡ true }
+        ensures id { IfOk result (IsTermFor table.new
+            (sel (tree_at table.old self.now.memory) (tree_at table.old address))) }
+        ensures extends { Extends table.old table.new }
+    {
+        app2(table, SEL, self.memory, address)
+    }
+
+    /// The term of m after a store of a register's word at an address.
+    pub(crate) fn stored(&self, table: &mut Table, address: Id, ra: Reg) -> Result<Id, AllocError>
+        requires ready { AreMachineTerms table.old self.now.regs self.now.memory }
+        requires known { IsKnown table.old address }
+        requires room { fits (shift 2147483648 0 (tree_at table.old address)) ≡ true }
+        ensures id { let terms = machine_terms_at table.old self.now.regs self.now.memory in
+            IfOk result (IsTermFor table.new
+            (upd terms.memory (tree_at table.old address) (reg_term terms ra))) }
+        ensures extends { Extends table.old table.new }
+    {
+        let word = self.reg(table, ra)?;
+        app3(table, UPD, self.memory, address, word)
+    }
+}

@@ -1,0 +1,48 @@
+//! What holds of verification conditions, with nothing to run.
+
+ghost use Rattle.std.specs.Prelude.{◌≡◌, []};
+ghost use Rattle.policy_set.specs.declared.kind.PolicyKind.TheVariants.{Filter, Tag, Table};
+ghost use Rattle.vcgen.specs.Conditions.{condition};
+ghost use Rattle.vcgen.specs.Encoded.{annotated};
+ghost use Rattle.vcgen.specs.Worked.{ret_alone, filter_ret, tag_ret, table_ret};
+ghost use Rattle.vcgen.specs.Worked.{counting, counting_invs, counting_condition};
+ghost use Rattle.vcgen.specs.Worked.{guarded, guarded_condition};
+ghost use Rattle.vcgen.specs.Worked.{twice, twice_condition, computing, computing_condition};
+ghost use Rattle.vcgen.specs.Laws.{WpUnfolds, ConditionSafe, ConditionReturns, HoldsAtStart};
+ghost use Rattle.vcgen.specs.Laws.{StepsGood, RunsGood, ConditionClosed};
+ghost use Rattle.vcgen.specs.Laws.{EncodingExists, EncodingUnique, EncodedAnnotates, PolicySafe};
+
+/// Code whose verification condition is true in every structure is safe: from each state at index 0
+/// that satisfies the precondition no run is blocked, and a return satisfies the postcondition; where
+/// its steps are counted, it returns within the bound. What has to hold at an index holds at the
+/// start, and again after each step.
+pub fn condition_laws()
+    ensures wp { WpUnfolds }
+    ensures safe { ConditionSafe }
+    ensures returns { ConditionReturns }
+    ensures start { HoldsAtStart }
+    ensures steps { StepsGood }
+    ensures runs { RunsGood }
+    ensures closed { ConditionClosed }
+{}
+
+/// Invariants that are terms of type form, under a policy, have exactly one condition; where it is
+/// true, the code is safe for the policy.
+pub fn encoding_laws()
+    ensures exists { EncodingExists }
+    ensures unique { EncodingUnique }
+    ensures annotates { EncodedAnnotates }
+    ensures safe { PolicySafe }
+{}
+
+/// The conditions of small code under the policies are those of `specs/Worked`, which were written
+/// out by hand.
+pub fn worked_conditions()
+    ensures filter_ret { condition (annotated Filter ret_alone []) ≡ filter_ret }
+    ensures tag_ret { condition (annotated Tag ret_alone []) ≡ tag_ret }
+    ensures table_ret { condition (annotated Table ret_alone []) ≡ table_ret }
+    ensures counting { condition (annotated Filter counting counting_invs) ≡ counting_condition }
+    ensures guarded { condition (annotated Tag guarded []) ≡ guarded_condition }
+    ensures twice { condition (annotated Tag twice []) ≡ twice_condition }
+    ensures computing { condition (annotated Filter computing []) ≡ computing_condition }
+{}
