@@ -1,0 +1,10 @@
+mod Values
+mod ValueSubst
+mod TypeMeaning
+mod Soundness
+mod WordValues
+mod WordRules
+mod RuleMeaning
+mod FormMeaning
+mod DeclaredModel
+mod Closed

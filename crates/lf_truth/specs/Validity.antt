@@ -1,0 +1,26 @@
+-- What a proof is worth: the closed formula that a term encodes, and soundness of a signature.
+use Rattle.std.specs.Prelude.{◌≡◌, Option, []}
+use Rattle.term_table.specs.Tree.{Tree, Const}
+use Rattle.lf_signature.specs.Typing.{Checks}
+use Rattle.lf_signature.specs.Terms.{pf}
+use Rattle.formula_tree.specs.Formulas.{Form}
+use Rattle.formula_tree.specs.Scope.{IsOver}
+use Rattle.formula_tree.specs.Truth.{IsValid}
+use Rattle.lf_encode.specs.Encoding.{form_encoding}
+
+-- the tree is the encoding of a closed formula: over no register, not m, and no variable
+pub record EncodesClosed (F : Form) (tree : Tree) : Type 0 where
+  pub over : IsOver 0 F []
+  pub is : form_encoding F ≡ tree
+
+-- A signature is sound where each closed formula that has a proof over it is true in every structure.
+abbrev pub IsSoundSignature : (Const → Option Tree) → Type 0
+IsSoundSignature sig = (F : Form) (proof : Tree) →
+    IsOver 0 F [] → Checks sig [] proof (pf (form_encoding F)) → IsValid F
+
+-- the type is that of the proofs of a closed formula that is valid
+pub record IsTrueType (type : Tree) : Type 0 where
+  pub formula : Form
+  pub over : IsOver 0 formula []
+  pub is : pf (form_encoding formula) ≡ type
+  pub valid : IsValid formula
