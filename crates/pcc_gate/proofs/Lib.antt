@@ -1,0 +1,4 @@
+pub mod Safe
+pub mod CodeBytes
+pub mod Front
+pub mod First

@@ -1,0 +1,39 @@
+-- The code of accepted bytes is safe.
+use Rattle.std.proofs.Common.{ℕ, Bool, List, [], ◌∷◌, All, refl, sym, subst}
+use Rattle.std.proofs.lemmas.List.Elements.{All-nil, All-cons}
+use Rattle.alpha_words.specs.declared.insn.Insn.{Insn}
+use Rattle.formula_tree.specs.Formulas.{Form}
+use Rattle.formula_tree.specs.Scope.{IsOver}
+use Rattle.policy_set.specs.declared.kind.PolicyKind.{PolicyKind}
+use Rattle.policy_set.specs.Policies.{pre_of, post_of}
+use Rattle.term_table.specs.Tree.{Tree}
+use Rattle.lf_signature.specs.Sigma1.{declared}
+use Rattle.lf_signature.specs.Terms.{pf}
+use Rattle.lf_signature.specs.Typing.{Checks}
+use Rattle.lf_encode.specs.Encoding.{form_encoding}
+use Rattle.lf_truth.specs.Validity.{IsSoundSignature}
+use Rattle.proof_container.specs.Contents.{Contents}
+use Rattle.vcgen.specs.Conditions.{condition}
+use Rattle.vcgen.specs.Safety.{IsAnnotated, IsSafe}
+use Rattle.vcgen.specs.Encoded.{annotated, AreEncodings}
+use Rattle.vcgen.proofs.WalkTrees.{encodes-over}
+use Rattle.vcgen.proofs.Scopes.{condition-closed}
+use Rattle.vcgen.proofs.Encodings.{encoded-annotates, policy-safe}
+use Rattle.pcc_gate.specs.Accepted.{Accepts}
+
+-- the formulas of invariants are over m and r0 to r30
+formulas-over : (ps : List (ℕ × Tree)) (qs : List (ℕ × Form)) → AreEncodings ps qs → All (λ (q : ℕ × Form). IsOver 31 q.1 []) qs
+formulas-over [] [] f = All-nil (λ (q : ℕ × Form). IsOver 31 q.1 [])
+formulas-over [] (q ∷ qs) f = absurd f
+formulas-over (p ∷ ps) [] f = absurd f
+formulas-over (p ∷ ps) (q ∷ qs) f = All-cons (λ (q : ℕ × Form). IsOver 31 q.1 []) q qs (encodes-over q.1 p.1 f.1) (formulas-over ps qs f.2)
+
+pub accepted-safe : IsSoundSignature declared → (policy : PolicyKind) (bytes : List ℕ) (contents : Contents) (code : List Insn) (marks : List Bool) → Accepts policy bytes contents code marks → IsSafe code (pre_of policy) (post_of policy)
+accepted-safe sound policy bytes contents code marks a =
+    let p = a.passes in
+    let e = a.condition in
+    let fs : List (ℕ × Form) = e.formulas in
+    let is : IsAnnotated (annotated policy code fs) = encoded-annotates policy code contents.invs fs marks e.encoded p.code p.annotated p.cut in
+    let over : IsOver 0 (condition (annotated policy code fs)) [] = condition-closed (annotated policy code fs) is refl (formulas-over contents.invs fs e.encoded) in
+    let proved : Checks declared [] a.proof (pf (form_encoding (condition (annotated policy code fs)))) = subst (λ t. Checks declared [] a.proof (pf t)) (sym e.is) a.proved in
+    policy-safe policy code contents.invs fs marks e.encoded p.code p.annotated p.cut (sound (condition (annotated policy code fs)) a.proof over proved)

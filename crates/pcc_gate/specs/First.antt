@@ -1,0 +1,114 @@
+-- The first of the eleven clauses that fails, with the values that its line has. The tests stand in their order; `laws` joins
+-- them to the clauses.
+use Rattle.std.specs.Prelude.{ℕ, suc, Bool, List, [], ◌∷◌, map, length, nat_lt, ◌==◌, if◌then◌else◌, Option, Some, None, Result, Ok, Err}
+use Rattle.alpha_words.specs.declared.insn.Insn.{Insn}
+use Rattle.alpha_cfg.specs.CodeDecoding.{decoded_code}
+use Rattle.alpha_cfg.specs.Cuts.{unfolded_of}
+use Rattle.alpha_cfg.specs.Deciding.{flags_of, uncut_of}
+use Rattle.alpha_cfg.specs.declared.fault.CodeFlaw.{CodeFlaw}
+use Rattle.formula_tree.specs.Formulas.{Form}
+use Rattle.policy_set.specs.declared.kind.PolicyKind.{PolicyKind}
+use Rattle.policy_set.specs.Names.{policy_number}
+use Rattle.term_table.specs.Tree.{Tree}
+use Rattle.term_table.specs.Measures.{height_of, weight_of, sigma1_places, capped}
+use Rattle.lf_signature.specs.Sigma1.{declared}
+use Rattle.lf_signature.specs.Terms.{form, pf}
+use Rattle.lf_signature.specs.Decide.{checks_of}
+use Rattle.lf_encode.specs.Encoding.{form_encoding}
+use Rattle.lf_encode.specs.Contexts.{machine_context, sort_types}
+use Rattle.lf_encode.specs.Inside.Naming.{unnamed_form}
+use Rattle.lf_encode.specs.Inside.Reading.{form_of}
+use Rattle.proof_container.specs.Contents.{Contents, roots}
+use Rattle.proof_container.specs.Decoding.{Fault, decoded_container}
+use Rattle.proof_container.specs.declared.limits.TheConstants.{MAX_BYTES}
+use Rattle.vcgen.specs.Conditions.{condition}
+use Rattle.vcgen.specs.Encoded.{annotated}
+use Rattle.vcgen.specs.declared.condition.TheConstants.{MAX_HEIGHT, MAX_UNFOLDED}
+use Rattle.pcc_gate.specs.declared.limits.TheConstants.{MAX_WEIGHT}
+use Rattle.pcc_gate.specs.declared.refusal.Refusal.{Refusal}
+use Rattle.pcc_gate.specs.declared.refusal.Refusal.TheVariants as refusal
+
+-- ---- the questions
+
+-- whether a term has type form in the context m, r0 to r30
+abbrev pub has_form : Tree → Bool
+has_form t = checks_of declared t (sort_types machine_context) form
+
+-- the formula over m and r0 to r30 that a term of type form encodes
+abbrev pub formula_of : Tree → Form
+formula_of t = unnamed_form 0 (form_of t)
+
+-- the invariants' formulas, with their indices
+abbrev pub formulas : List (ℕ × Tree) → List (ℕ × Form)
+formulas invs = map (λ p. (p.0, formula_of p.1)) invs
+
+-- the encoding of the verification condition
+abbrev pub vc_of : PolicyKind → List Insn → List (ℕ × Tree) → Tree
+vc_of policy code invs = form_encoding (condition (annotated policy code (formulas invs)))
+
+-- whether a term is a proof of it
+abbrev pub proves : Tree → Tree → Bool
+proves proof vc = checks_of declared proof [] (pf vc)
+
+-- the flags of the annotated indices
+abbrev pub marks_of : Contents → List Insn → List Bool
+marks_of c code = flags_of (map (λ p. p.0) c.invs) (length code)
+
+-- the height of the first root that is too high
+abbrev pub too_high : List Tree → Option ℕ
+too_high [] = None
+too_high (t ∷ ts) = if nat_lt MAX_HEIGHT (height_of t) then Some (height_of t) else too_high ts
+
+-- the first invariant that is no formula, counted from k
+abbrev pub formless : ℕ → List (ℕ × Tree) → Option ℕ
+formless k [] = None
+formless k (p ∷ ps) = if has_form p.1 then formless (suc k) ps else Some k
+
+-- ---- the clauses
+
+-- the refusal of a value that was found, else what comes after
+abbrev pub refused_by : {A : Type 0} → (A → Refusal) → Option A → Option Refusal → Option Refusal
+refused_by refused (Some x) next = Some (refused x)
+refused_by refused None next = next
+
+-- clause 8, and what comes after
+abbrev pub first_long : List Insn → List Bool → Option Refusal → Option Refusal
+first_long code marks next = if nat_lt MAX_UNFOLDED (unfolded_of code marks) then Some (refusal.UnfoldLimit (capped (unfolded_of code marks))) else next
+
+-- clauses 5 to 8, and what comes after
+abbrev pub first_shape : Contents → List Insn → Option Refusal → Option Refusal
+first_shape c code next =
+    refused_by (λ h. refusal.Height (capped h)) (too_high (roots c))
+    (refused_by refusal.InvNotForm (formless 0 c.invs)
+    (refused_by refusal.Uncut (uncut_of code (marks_of c code))
+    (first_long code (marks_of c code) next)))
+
+-- clauses 4 to 8, and what comes after, by the code
+abbrev pub first_code : Contents → Result (List Insn) CodeFlaw → (List Insn → Option Refusal) → Option Refusal
+first_code c (Err flaw) next = Some (refusal.BadCode flaw)
+first_code c (Ok code) next = first_shape c code (next code)
+
+-- clauses 2 to 8, and what comes after, by the contents and the code
+abbrev pub first_read : PolicyKind → Result Contents Fault → (Contents → List Insn → Option Refusal) → Option Refusal
+first_read policy (Err fault) next = Some (refusal.Malformed fault.0 fault.1)
+first_read policy (Ok c) next = if c.policy == policy_number policy then first_code c (decoded_code c.code) (next c) else Some (refusal.OtherPolicy c.policy)
+
+-- clauses 1 to 8, and what comes after
+abbrev pub first_front : PolicyKind → List ℕ → (Contents → List Insn → Option Refusal) → Option Refusal
+first_front policy bytes next = if nat_lt MAX_BYTES (length bytes) then Some (refusal.TooLong (length bytes)) else first_read policy (decoded_container bytes) next
+
+-- clauses 9 to 11
+abbrev pub first_proof : Tree → Option Tree → Option Refusal
+first_proof vc None = Some refusal.NoProof
+first_proof vc (Some proof) =
+    if nat_lt MAX_WEIGHT (weight_of sigma1_places proof) then Some (refusal.ProofWeight (capped (weight_of sigma1_places proof))) else
+    if proves proof vc then None else
+    Some refusal.NotProof
+
+-- the first of clauses 1 to 8 that fails
+unfoldable pub front_refusal : PolicyKind → List ℕ → Option Refusal
+front_refusal policy bytes = first_front policy bytes (λ c code. None)
+
+-- the first of the eleven clauses that fails
+unfoldable pub first_refusal : PolicyKind → List ℕ → Option Refusal
+first_refusal policy bytes = first_front policy bytes (λ c code. first_proof (vc_of policy code c.invs) c.proof)

@@ -1,0 +1,28 @@
+-- What ties the clauses to the first that fails.
+use Rattle.std.specs.Prelude.{◌≡◌, ℕ, ◌↔◌, Bool, List, None}
+use Rattle.alpha_words.specs.declared.insn.Insn.{Insn}
+use Rattle.policy_set.specs.declared.kind.PolicyKind.{PolicyKind}
+use Rattle.proof_container.specs.Contents.{Contents}
+use Rattle.proof_container.specs.Encoding.{IsBytes}
+use Rattle.pcc_gate.specs.Passing.{Passes}
+use Rattle.pcc_gate.specs.Accepted.{IsAccepted}
+use Rattle.pcc_gate.specs.First.{front_refusal, first_refusal}
+
+-- bytes are accepted exactly where no clause is the first that fails
+abbrev pub AcceptedFirst : Type 0
+AcceptedFirst = (policy : PolicyKind) (bytes : List ℕ) → IsBytes bytes → IsAccepted policy bytes ↔ (first_refusal policy bytes ≡ None)
+
+-- clauses 1 to 8 hold exactly where none of them is the first that fails
+pub record HasPassed (policy : PolicyKind) (bytes : List ℕ) : Type 0 where
+  pub contents : Contents
+  pub code : List Insn
+  pub marks : List Bool
+  pub passes : Passes policy bytes contents code marks
+
+-- the same of clauses 1 to 8
+abbrev pub PassedFirst : Type 0
+PassedFirst = (policy : PolicyKind) (bytes : List ℕ) → IsBytes bytes → HasPassed policy bytes ↔ (front_refusal policy bytes ≡ None)
+
+-- what bytes hold is one
+abbrev pub PassedOne : Type 0
+PassedOne = (policy : PolicyKind) (bytes : List ℕ) (c d : Contents) (code other : List Insn) (marks flags : List Bool) → IsBytes bytes → Passes policy bytes c code marks → Passes policy bytes d other flags → (c ≡ d) × (code ≡ other) × (marks ≡ flags)
