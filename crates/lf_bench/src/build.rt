@@ -12,11 +12,11 @@ pub(crate) type Made<T> = Result<T, &'static str>;
 
 const ADD: u32 = 0;
 
-const EQ: u32 = 15;
+pub(crate) const EQ: u32 = 15;
 
-const AND: u32 = 22;
+pub(crate) const AND: u32 = 22;
 
-const IMP: u32 = 24;
+pub(crate) const IMP: u32 = 24;
 
 const ALL: u32 = 25;
 
@@ -61,11 +61,11 @@ pub(crate) fn known(table: &Table, id: Id) -> Made<()>
     }
 }
 
-fn var(table: &mut Table, n: u32) -> Made<Id> {
+pub(crate) fn var(table: &mut Table, n: u32) -> Made<Id> {
     made(table.intern(Node::Var(n)))
 }
 
-fn lit(table: &mut Table, word: u64) -> Made<Id> {
+pub(crate) fn lit(table: &mut Table, word: u64) -> Made<Id> {
     made(table.intern(Node::Lit(word)))
 }
 
@@ -75,7 +75,7 @@ fn lam(table: &mut Table, body: Id) -> Made<Id> {
 }
 
 /// A constant at terms.
-fn con(table: &mut Table, constant: u32, terms: &[Id]) -> Made<Id> {
+pub(crate) fn con(table: &mut Table, constant: u32, terms: &[Id]) -> Made<Id> {
     let mut applied = made(table.intern(Node::Const(constant)))?;
     for term in terms {
         known(table, applied)?;
@@ -113,7 +113,7 @@ fn both(table: &mut Table, a: Proved, b: Proved) -> Made<Proved> {
 }
 
 /// The sum of the variable and a word.
-fn sum(table: &mut Table, variable: u32, word: u64) -> Made<Id> {
+pub(crate) fn sum(table: &mut Table, variable: u32, word: u64) -> Made<Id> {
     let x = var(table, variable)?;
     let w = lit(table, word)?;
     con(table, ADD, &[x, w])

@@ -1,0 +1,39 @@
+#!/usr/bin/env bash
+# Times substitution in formulas and the making of verification conditions: 5 put for each of the
+# machine's variables in chains that share and in a balanced tree of some 64,000, 128,000 and 256,000
+# entries, and conditions of straight code and of branches that double the unfolded length (median of
+# five; processor time and peak memory, making included, and of making alone).
+set -eu
+top=$(cd "$(dirname "${BASH_SOURCE[0]}")/.." && pwd)
+binary=$top/crates/lf_bench/out/lf_bench
+[ -x "$binary" ] || (cd "$top/crates/lf_bench" && rt run) >&2
+python3 - "$binary" <<'PY'
+import os, statistics, subprocess, sys
+
+def once(words):
+    process = subprocess.Popen([sys.argv[1]] + [str(word) for word in words], stdout=subprocess.PIPE)
+    line = process.stdout.read().decode().strip()
+    _, status, used = os.wait4(process.pid, 0)
+    assert status == 0, line
+    return line, used.ru_utime + used.ru_stime, used.ru_maxrss / 1024
+
+def median(words, times=5):
+    runs = [once(words) for _ in range(times)]
+    return runs[0][0], statistics.median(r[1] for r in runs), statistics.median(r[2] for r in runs)
+
+rows = [
+    ("put-chains", [(3000, 12000), (3000, 26000), (3000, 53000)]),
+    ("put-tree", [(13, 0), (14, 0), (15, 0)]),
+    ("vc-straight", [(255, 0), (511, 0), (1022, 0)]),
+    ("vc-branches", [(11, 0), (12, 0), (13, 0)]),
+]
+for family, sizes in rows:
+    before = None
+    for size in sizes:
+        line, seconds, megabytes = median([family, *size])
+        _, made, _ = median([family, *size, "build"]) if family.startswith("put") else ("", 0, 0)
+        ratio = "" if before is None else "  x %.2f" % ((seconds - made) / before)
+        before = seconds - made
+        print("%s %d %d: %s  %.3f s (making %.3f s)  %.0f MB%s"
+              % (family, *size, line, seconds, made, megabytes, ratio))
+PY
