@@ -1,5 +1,5 @@
 -- Bytes are accepted exactly where no clause is the first that fails.
-use Rattle.std.proofs.Common.{◌≡◌, ℕ, ◌≤◌, cond, ltb, ltb-false, le-ltb, List, [], ◌∷◌, length, Option, Some, None, refl, sym, ◌∙◌, ap, subst}
+use Rattle.std.proofs.Common.{◌≡◌, ℕ, ◌≤◌, Bool, true, false, cond, ltb, ltb-false, le-ltb, List, [], ◌∷◌, length, Option, Some, None, refl, sym, ◌∙◌, ap, subst}
 use Rattle.alpha_words.specs.declared.insn.Insn.{Insn}
 use Rattle.policy_set.specs.declared.kind.PolicyKind.{PolicyKind}
 use Rattle.term_table.specs.Tree.{Tree}
@@ -22,7 +22,7 @@ use Rattle.pcc_gate.specs.declared.limits.TheConstants.{MAX_WEIGHT}
 use Rattle.pcc_gate.specs.declared.refusal.Refusal.TheVariants as refusal
 use Rattle.pcc_gate.specs.Accepted.{IsAccepted}
 use Rattle.pcc_gate.specs.First.{formula_of, formulas, vc_of, proves, marks_of, first_proof, first_refusal}
-use Rattle.pcc_gate.proofs.Front.{passes, passing, holds, holding, IsFront, front-none, none-front}
+use Rattle.pcc_gate.proofs.FirstFront.{passes, passing, holds, holding, IsFront, front-none, none-front}
 
 -- ---- the condition's term
 
@@ -35,7 +35,7 @@ formulas-encoded (p ∷ ps) h =
     let f = form_encoded machine_context p.1 h.0 in
     (refl, subst (λ F. EncodesForm machine_context F p.1) (sym (formula_of-encoding p.1 f.0 f.1)) f.1, formulas-encoded ps h.1)
 
-vc_of-encodes : (policy : PolicyKind) (code : List Insn) (ps : List (ℕ × Tree)) → AreForms ps → EncodesCondition policy code ps (vc_of policy code ps)
+pub vc_of-encodes : (policy : PolicyKind) (code : List Insn) (ps : List (ℕ × Tree)) → AreForms ps → EncodesCondition policy code ps (vc_of policy code ps)
 vc_of-encodes policy code ps h = record { formulas = formulas ps; encoded = formulas-encoded ps h; is = refl }
 
 -- ---- the proof
@@ -92,3 +92,25 @@ none-accepted policy bytes fits e =
         proved = p.proved;
       };
     }
+
+-- a condition's term is that of the first refusal
+pub condition-one : (policy : PolicyKind) (code : List Insn) (ps : List (ℕ × Tree)) (vc : Tree) → AreForms ps → EncodesCondition policy code ps vc → vc ≡ vc_of policy code ps
+condition-one policy code ps vc h e = encoding-unique policy code ps vc (vc_of policy code ps) e (vc_of-encodes policy code ps h)
+
+-- whether it proves it, by an answer to words
+pub proves-true : (proof vc : Tree) → Checks declared [] proof (pf vc) → proves proof vc ≡ true
+proves-true proof vc h = checks_is declared h
+
+pub proves-false : (proof vc : Tree) → (Checks declared [] proof (pf vc) → ⊥) → proves proof vc ≡ false
+proves-false proof vc h = not-true (proves proof vc) (λ e. h (checks_follows declared proof [] (pf vc) e))
+  where
+    not-true : (b : Bool) → (b ≡ true → ⊥) → b ≡ false
+    not-true true n = absurd (n refl)
+    not-true false n = refl
+
+module _ (policy : PolicyKind) (code : List Insn) (ps : List (ℕ × Tree)) (proof vc : Tree) (h : AreForms ps) (e : EncodesCondition policy code ps vc) where
+  pub judged-true : Checks declared [] proof (pf vc) → proves proof (vc_of policy code ps) ≡ true
+  judged-true k = subst (λ x. proves proof x ≡ true) (condition-one policy code ps vc h e) (proves-true proof vc k)
+
+  pub judged-false : (Checks declared [] proof (pf vc) → ⊥) → proves proof (vc_of policy code ps) ≡ false
+  judged-false k = subst (λ x. proves proof x ≡ false) (condition-one policy code ps vc h e) (proves-false proof vc k)

@@ -1,4 +1,7 @@
 pub mod Safe
 pub mod CodeBytes
-pub mod Front
+pub mod FirstFront
 pub mod First
+pub mod Kept
+pub mod Refusing
+pub mod Stages

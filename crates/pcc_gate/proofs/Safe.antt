@@ -1,8 +1,9 @@
 -- The code of accepted bytes is safe.
-use Rattle.std.proofs.Common.{ℕ, Bool, List, [], ◌∷◌, All, refl, sym, subst}
+use Rattle.std.proofs.Common.{◌≡◌, ℕ, Bool, List, [], ◌∷◌, All, refl, sym, subst}
 use Rattle.std.proofs.lemmas.List.Elements.{All-nil, All-cons}
 use Rattle.alpha_words.specs.declared.insn.Insn.{Insn}
 use Rattle.formula_tree.specs.Formulas.{Form}
+use Rattle.formula_tree.specs.Truth.{IsValid}
 use Rattle.formula_tree.specs.Scope.{IsOver}
 use Rattle.policy_set.specs.declared.kind.PolicyKind.{PolicyKind}
 use Rattle.policy_set.specs.Policies.{pre_of, post_of}
@@ -15,10 +16,10 @@ use Rattle.lf_truth.specs.Validity.{IsSoundSignature}
 use Rattle.proof_container.specs.Contents.{Contents}
 use Rattle.vcgen.specs.Conditions.{condition}
 use Rattle.vcgen.specs.Safety.{IsAnnotated, IsSafe}
-use Rattle.vcgen.specs.Encoded.{annotated, AreEncodings}
+use Rattle.vcgen.specs.Encoded.{annotated, AreEncodings, EncodesCondition}
 use Rattle.vcgen.proofs.WalkTrees.{encodes-over}
 use Rattle.vcgen.proofs.Scopes.{condition-closed}
-use Rattle.vcgen.proofs.Encodings.{encoded-annotates, policy-safe}
+use Rattle.vcgen.proofs.Encodings.{encoded-annotates, encoding-unique, policy-safe}
 use Rattle.pcc_gate.specs.Accepted.{Accepts}
 
 -- the formulas of invariants are over m and r0 to r30
@@ -37,3 +38,15 @@ accepted-safe sound policy bytes contents code marks a =
     let over : IsOver 0 (condition (annotated policy code fs)) [] = condition-closed (annotated policy code fs) is refl (formulas-over contents.invs fs e.encoded) in
     let proved : Checks declared [] a.proof (pf (form_encoding (condition (annotated policy code fs)))) = subst (λ t. Checks declared [] a.proof (pf t)) (sym e.is) a.proved in
     policy-safe policy code contents.invs fs marks e.encoded p.code p.annotated p.cut (sound (condition (annotated policy code fs)) a.proof over proved)
+
+-- The condition of any formulas that the invariants encode is true in every structure.
+pub accepted-valid : IsSoundSignature declared → (policy : PolicyKind) (bytes : List ℕ) (contents : Contents) (code : List Insn) (marks : List Bool) → Accepts policy bytes contents code marks →
+    (fs : List (ℕ × Form)) → AreEncodings contents.invs fs → IsValid (condition (annotated policy code fs))
+accepted-valid sound policy bytes contents code marks a fs enc =
+    let p = a.passes in
+    let f : Form = condition (annotated policy code fs) in
+    let mine : EncodesCondition policy code contents.invs (form_encoding f) = record { formulas = fs; encoded = enc; is = refl } in
+    let same : a.vc ≡ form_encoding f = encoding-unique policy code contents.invs a.vc (form_encoding f) a.condition mine in
+    let is : IsAnnotated (annotated policy code fs) = encoded-annotates policy code contents.invs fs marks enc p.code p.annotated p.cut in
+    let over : IsOver 0 f [] = condition-closed (annotated policy code fs) is refl (formulas-over contents.invs fs enc) in
+    sound f a.proof over (subst (λ t. Checks declared [] a.proof (pf t)) same a.proved)

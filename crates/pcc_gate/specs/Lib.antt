@@ -3,3 +3,6 @@ pub mod Accepted
 pub mod First
 pub mod Safe
 pub mod Laws
+pub mod Views
+pub mod Answers
+pub mod Inside

@@ -1,17 +1,28 @@
 //! The gate: which containers are accepted under a policy, and why any other is refused.
 //!
-//! The layers above use the laws: bytes are accepted exactly where none of eleven clauses is the
-//! first that fails, and the code of accepted bytes is safe. The clauses stand in `specs/Passing` and
-//! `specs/Accepted`, the first that fails in `specs/First`, what is promised in `specs/Safe`. Source:
-//! Necula, Proof-Carrying Code, POPL 1997.
+//! The layers above use that `gate` accepts bytes exactly where eleven clauses hold, and else names
+//! the first that fails; `front` does the same of the clauses before the proof; and that the code of
+//! what is accepted is safe (`Accepted::laws`, `laws`). The clauses stand in `specs/Passing` and
+//! `specs/Accepted`, the first that fails in `specs/First`, what the calls answer in `specs/Answers`,
+//! what is promised in `specs/Safe`. Source: Necula, Proof-Carrying Code, POPL 1997.
 #![tactic(auto)]
 
+mod acceptance;
+mod clauses;
+mod fault;
+mod judging;
 mod limits;
+mod passing;
+mod proving;
 mod refusal;
 #[cfg(test)]
 mod tests;
 mod theorems;
 
+pub use acceptance::Accepted;
+pub use fault::GateFault;
+pub use judging::gate;
 pub use limits::MAX_WEIGHT;
+pub use passing::{Passed, front};
 pub use refusal::Refusal;
 pub use theorems::laws;

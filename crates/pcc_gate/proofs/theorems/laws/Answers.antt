@@ -1,5 +1,5 @@
 use Rattle.pcc_gate.proofs.Safe.{accepted-safe}
-use Rattle.pcc_gate.proofs.Front.{passed-none, none-passed, passed-one}
+use Rattle.pcc_gate.proofs.FirstFront.{passed-none, none-passed, passed-one}
 use Rattle.pcc_gate.proofs.First.{accepted-none, none-accepted}
 use Rattle.pcc_gate.proofs.theorems.laws.Goals as goal
 

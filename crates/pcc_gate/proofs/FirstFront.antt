@@ -1,5 +1,5 @@
 -- Clauses 1 to 8 hold exactly where none of them is the first that fails.
-use Rattle.std.proofs.Common.{◌≡◌, ℕ, zero, suc, ◌/◌, ◌<◌, ◌≤◌, Bool, true, false, cond, eqb, ltb, ltb-false, le-ltb, eqb-true, eq-eqb, List, [], ◌∷◌, map, length, get_or, Option, Some, None, Result, Ok, Err, refl, sym, ◌∙◌, ap, subst, arith}
+use Rattle.std.proofs.Common.{◌≡◌, ℕ, zero, suc, ◌+◌, ◌/◌, ◌<◌, ◌≤◌, Bool, true, false, cond, eqb, ltb, ltb-false, le-ltb, eqb-true, eq-eqb, List, [], ◌∷◌, map, length, get_or, slice_index, Option, Some, None, Result, Ok, Err, refl, sym, ◌∙◌, ap, subst, arith}
 use Rattle.std.proofs.lemmas.List.Elements.{All-nil, All-cons, All-head, All-tail}
 use Rattle.alpha_words.specs.declared.insn.Insn.{Insn}
 use Rattle.alpha_cfg.specs.declared.fault.CodeFlaw.{CodeFlaw}
@@ -75,21 +75,21 @@ missed_none false n next e = absurd (cc)
 abbrev IsLow : Tree → Type 0
 IsLow t = height_of t ≤ MAX_HEIGHT
 
-low_none : (ts : List Tree) → AreLow ts → too_high ts ≡ None
+pub low_none : (ts : List Tree) → AreLow ts → too_high ts ≡ None
 low_none [] h = refl
 low_none (t ∷ ts) h = ap (λ b. cond b (Some (height_of t)) (too_high ts)) (le-ltb MAX_HEIGHT (height_of t) (All-head IsLow t ts h)) ∙ low_none ts (All-tail IsLow t ts h)
 
-none_low : (ts : List Tree) → too_high ts ≡ None → AreLow ts
+pub none_low : (ts : List Tree) → too_high ts ≡ None → AreLow ts
 none_low [] e = All-nil IsLow
 none_low (t ∷ ts) e =
     let a = found_none (ltb MAX_HEIGHT (height_of t)) (height_of t) (too_high ts) e in
     All-cons IsLow t ts (ltb-false MAX_HEIGHT (height_of t) a.0) (none_low ts a.1)
 
-forms_none : (ps : List (ℕ × Tree)) (k : ℕ) → AreForms ps → formless k ps ≡ None
+pub forms_none : (ps : List (ℕ × Tree)) (k : ℕ) → AreForms ps → formless k ps ≡ None
 forms_none [] k h = refl
 forms_none (p ∷ ps) k h = ap (λ b. cond b (formless (suc k) ps) (Some k)) (checks_is declared h.0) ∙ forms_none ps (suc k) h.1
 
-none_forms : (ps : List (ℕ × Tree)) (k : ℕ) → formless k ps ≡ None → AreForms ps
+pub none_forms : (ps : List (ℕ × Tree)) (k : ℕ) → formless k ps ≡ None → AreForms ps
 none_forms [] k e = tt
 none_forms (p ∷ ps) k e =
     let a = missed_none (has_form p.1) k (formless (suc k) ps) e in
@@ -97,10 +97,19 @@ none_forms (p ∷ ps) k e =
 
 -- ---- flags
 
-key_below : (ps : List (ℕ × Tree)) (low words k d : ℕ) → AreRising low words ps → k < length (map (λ p. p.0) ps) → get_or (map (λ p. p.0) ps) k d < words
+pub key_below : (ps : List (ℕ × Tree)) (low words k d : ℕ) → AreRising low words ps → k < length (map (λ p. p.0) ps) → get_or (map (λ p. p.0) ps) k d < words
 key_below [] low words k d r h = absurd (omega (arith, h))
 key_below (p ∷ ps) low words zero d r h = r.1
 key_below (p ∷ ps) low words (suc k) d r h = key_below ps (suc p.0) words k d r.2 (omega (arith, h))
+
+pub key_rises : (ps : List (ℕ × Tree)) (low words k : ℕ) → AreRising low words ps → k + 1 < length (map (λ p. p.0) ps) → slice_index (map (λ p. p.0) ps) k < slice_index (map (λ p. p.0) ps) (k + 1)
+key_rises [] low words k r h = absurd (omega (arith, h))
+key_rises (p ∷ []) low words k r h = absurd (omega (arith, h))
+key_rises (p ∷ q ∷ ps) low words zero r h = omega (arith, r.2.0)
+key_rises (p ∷ q ∷ ps) low words (suc k) r h =
+    let one : suc k + 1 ≡ suc (k + 1) = omega arith in
+    let keys : List ℕ = map (λ (z : ℕ × Tree). z.0) (p ∷ q ∷ ps) in
+    subst (λ j. slice_index keys (suc k) < slice_index keys j) (sym one) (key_rises (q ∷ ps) (suc p.0) words k r.2 (omega (arith, h)))
 
 -- what holds of contents whose code bytes read as code
 record IsHeld (c : Contents) (code : List Insn) : Type 0 where

@@ -1,0 +1,61 @@
+-- What stays as a table grows.
+use Rattle.std.proofs.Common.{◌≡◌, ℕ, zero, suc, List, [], ◌∷◌, drop, Option, Some, None, IfSome, replicate, slice_set, refl, sym, ◌∙◌, ap, arith}
+use Rattle.std.specs.List.{AllByRecursion}
+use Rattle.std.specs.Option.{option_map}
+use Rattle.term_table.specs.Tree.{Tree, Fam}
+use Rattle.term_table.specs.Table.{TableView, IsKnown, AllKnown, tree_at, put_last, ctx_of, Extends}
+use Rattle.lf_signature.specs.Nodes.{IsIdOf}
+use Rattle.lf_encode.specs.Contexts.{machine_context, sort_types}
+use Rattle.proof_container.specs.Views.{inv_trees}
+
+module _ (t u : TableView) where
+  pub known-id : (id : ℕ) → Extends t u → IsKnown t id → IsKnown u id
+  known-id id e k = omega (arith, k, e.longer)
+
+  pub known-more : (ps : List (ℕ × ℕ)) → Extends t u → AllByRecursion (λ (inv : ℕ × ℕ). IsKnown t inv.1) ps → AllByRecursion (λ (inv : ℕ × ℕ). IsKnown u inv.1) ps
+  known-more [] e k = tt
+  known-more (p ∷ ps) e k = (known-id p.1 e k.0, known-more ps e k.1)
+
+  pub ids-more : (ids : List ℕ) → Extends t u → AllKnown t ids → AllKnown u ids
+  ids-more [] e k = tt
+  ids-more (id ∷ ids) e k = (known-id id e k.0, ids-more ids e k.1)
+
+  put-more : (ids : List ℕ) (ctx : List Tree) → Extends t u → AllKnown t ids → put_last u ids ctx ≡ put_last t ids ctx
+  put-more [] ctx e k = refl
+  put-more (id ∷ ids) ctx e k = ap (λ x. put_last u ids (x ∷ ctx)) (e.same id k.0) ∙ put-more ids (tree_at t id ∷ ctx) e k.1
+
+  pub ctx-more : (ids : List ℕ) → Extends t u → AllKnown t ids → ctx_of u ids ≡ ctx_of t ids
+  ctx-more ids e k = put-more ids [] e k
+
+  pub id-more : (x : Tree) (id : ℕ) → Extends t u → IsIdOf t x id → IsIdOf u x id
+  id-more x id e h = record { known = known-id id e h.known; is = e.same id h.known ∙ h.is }
+
+  -- the trees of known ids stay
+  pub trees-same : (ps : List (ℕ × ℕ)) → Extends t u → AllByRecursion (λ (inv : ℕ × ℕ). IsKnown t inv.1) ps → inv_trees t ps ≡ inv_trees u ps
+  trees-same [] e k = refl
+  trees-same (p ∷ ps) e k = λ i. (p.0, sym (e.same p.1 k.0) i) ∷ trees-same ps e k.1 i
+
+  pub option-same : (o : Option ℕ) → Extends t u → IfSome o (IsKnown t) → option_map (tree_at t) o ≡ option_map (tree_at u) o
+  option-same None e k = refl
+  option-same (Some id) e k = ap Some (sym (e.same id k))
+
+  pub option-more : (o : Option ℕ) → Extends t u → IfSome o (IsKnown t) → IfSome o (IsKnown u)
+  option-more None e k = k
+  option-more (Some id) e k = known-id id e k
+
+pub trees-drop : (t : TableView) (ps : List (ℕ × ℕ)) (n : ℕ) → AllByRecursion (λ (inv : ℕ × ℕ). IsKnown t inv.1) ps → AllByRecursion (λ (inv : ℕ × ℕ). IsKnown t inv.1) (drop n ps)
+trees-drop t ps zero k = k
+trees-drop t [] (suc n) k = k
+trees-drop t (p ∷ ps) (suc n) k = trees-drop t ps n k.1
+
+-- 31 words behind a memory are the machine's variables
+pub types-machine : (t : TableView) (word memory : ℕ) → tree_at t word ≡ Fam 0 → tree_at t memory ≡ Fam 1 → ctx_of t (slice_set (replicate 32 word) 0 memory) ≡ sort_types machine_context
+unfolding machine_context
+types-machine t word memory w m = rw (w, m) refl
+
+pub grown-twice : (s t u : TableView) → Extends s t → Extends t u → Extends s u
+grown-twice s t u e h = record {
+  longer = omega (arith, e.longer, h.longer);
+  same = λ id k. h.same id (known-id s t id e k) ∙ e.same id k;
+  places = h.places ∙ e.places;
+}

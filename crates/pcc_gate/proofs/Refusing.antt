@@ -1,0 +1,78 @@
+-- A stage's refusal is the first of the stages together, where those before it pass.
+use Rattle.std.proofs.Common.{◌≡◌, ℕ, Bool, true, false, List, [], ◌∷◌, map, length, Option, Some, None, Result, Ok, Err, IsErrAnd, refl, sym, ◌∙◌, ap, subst}
+use Rattle.std.specs.Option.{option_map}
+use Rattle.alpha_words.specs.declared.insn.Insn.{Insn}
+use Rattle.alpha_cfg.specs.Deciding.{flags_of, uncut_of}
+use Rattle.term_table.specs.Tree.{Tree}
+use Rattle.term_table.specs.Measures.{capped}
+use Rattle.term_table.specs.Table.{TableView}
+use Rattle.alpha_cfg.specs.Cuts.{CutView}
+use Rattle.proof_container.specs.Views.{inv_trees}
+use Rattle.proof_container.specs.Contents.{Contents, roots}
+use Rattle.pcc_gate.specs.declared.fault.GateFault.{GateFault}
+use Rattle.pcc_gate.specs.declared.fault.GateFault.TheVariants as fault
+use Rattle.pcc_gate.specs.declared.refusal.Refusal.{Refusal}
+use Rattle.pcc_gate.specs.declared.refusal.Refusal.TheVariants as refusal
+use Rattle.pcc_gate.specs.First.{marks_of, too_high, formless, refused_by, first_long, first_shape}
+use Rattle.pcc_gate.specs.Inside.Stages.{Refuses, IsMade, first_uncut, first_no_form}
+
+pub refuses-into : {N M : Type 0} (first : N → Option Refusal) (inner : M → Option Refusal) (into : N → M) → ((next : N) → first next ≡ inner (into next)) → (e : GateFault) → Refuses inner e → Refuses first e
+refuses-into first inner into same (fault.Refused r) h = λ next. same next ∙ h (into next)
+refuses-into first inner into same fault.Memory h = tt
+
+-- an early return keeps what is said of its error
+pub carries : {X : Type 0} (P : Result X GateFault → Type 0) (e : GateFault) → P (Err e) → (r : Result X GateFault) → IsErrAnd r (λ y. y ≡ e) → P r
+carries P e h (Ok x) k = absurd k
+carries P e h (Err y) k = subst (λ z. P (Err z)) (sym k) h
+
+height-some : (o : Option ℕ) (h : ℕ) (next : Option Refusal) → option_map capped o ≡ Some h → refused_by (λ n. refusal.Height (capped n)) o next ≡ Some (refusal.Height h)
+height-some None h next e = absurd (cc)
+height-some (Some n) h next e = ap (option_map refusal.Height) e
+
+pub height-none : (o : Option ℕ) → option_map capped o ≡ None → o ≡ None
+height-none None e = refl
+height-none (Some n) e = absurd (cc)
+
+module _ (c : Contents) (code : List Insn) where
+  pub shape-height : (h : ℕ) → option_map capped (too_high (roots c)) ≡ Some h → Refuses (first_shape c code) (fault.Refused (refusal.Height h))
+  shape-height h e = λ next. height-some (too_high (roots c)) h _ e
+
+  shape-uncut : too_high (roots c) ≡ None → formless 0 c.invs ≡ None → (next : Option Refusal) → first_shape c code next ≡ first_uncut code (map (λ p. p.0) c.invs) (first_long code (marks_of c code) next)
+  shape-uncut low forms next =
+      let last : Option Refusal = first_uncut code (map (λ p. p.0) c.invs) (first_long code (marks_of c code) next) in
+      λ i. refused_by (λ h. refusal.Height (capped h)) (low i) (refused_by refusal.InvNotForm (forms i) last)
+
+  shape-form : too_high (roots c) ≡ None → (next : Option Refusal) → first_shape c code next ≡ first_no_form c.invs (first_uncut code (map (λ p. p.0) c.invs) (first_long code (marks_of c code) next))
+  shape-form low next =
+      let last : Option Refusal = first_uncut code (map (λ p. p.0) c.invs) (first_long code (marks_of c code) next) in
+      λ i. refused_by (λ h. refusal.Height (capped h)) (low i) (refused_by refusal.InvNotForm (formless 0 c.invs) last)
+
+  pub forms-refuse : too_high (roots c) ≡ None → (e : GateFault) → Refuses (first_no_form c.invs) e → Refuses (first_shape c code) e
+  forms-refuse low e h = refuses-into (first_shape c code) (first_no_form c.invs) (λ next. first_uncut code (map (λ p. p.0) c.invs) (first_long code (marks_of c code) next)) (shape-form low) e h
+
+  pub uncut-refuses : too_high (roots c) ≡ None → formless 0 c.invs ≡ None → (e : GateFault) → Refuses (first_uncut code (map (λ p. p.0) c.invs)) e → Refuses (first_shape c code) e
+  uncut-refuses low forms e h = refuses-into (first_shape c code) (first_uncut code (map (λ p. p.0) c.invs)) (first_long code (marks_of c code)) (shape-uncut low forms) e h
+
+  -- clauses 5 to 7 pass
+  pub shape-long : too_high (roots c) ≡ None → formless 0 c.invs ≡ None → uncut_of code (marks_of c code) ≡ None → (next : Option Refusal) → first_shape c code next ≡ first_long code (marks_of c code) next
+  shape-long low forms uncut next = shape-uncut low forms next ∙ ap (λ o. refused_by refusal.Uncut o (first_long code (marks_of c code) next)) uncut
+
+  pub long-refuses : too_high (roots c) ≡ None → formless 0 c.invs ≡ None → uncut_of code (marks_of c code) ≡ None → (e : GateFault) → Refuses (first_long code (marks_of c code)) e → Refuses (first_shape c code) e
+  long-refuses low forms uncut e h = refuses-into (first_shape c code) (first_long code (marks_of c code)) (λ next. next) (shape-long low forms uncut) e h
+
+-- the indices of invariants are those of their trees
+pub keys : (t : TableView) (ps : List (ℕ × ℕ)) → map (λ (p : ℕ × Tree). p.0) (inv_trees t ps) ≡ map (λ (p : ℕ × ℕ). p.0) ps
+keys t [] = refl
+keys t (p ∷ ps) = ap (λ l. p.0 ∷ l) (keys t ps)
+
+-- the flags of cut code are those of its indices
+pub made-uncut : (c : Contents) (code : List Insn) (cut : CutView) (annotated : List ℕ) → annotated ≡ map (λ p. p.0) c.invs → IsMade code annotated cut → uncut_of code (marks_of c code) ≡ None
+made-uncut c code cut annotated same m = subst (λ l. uncut_of code (flags_of l (length code)) ≡ None) same m.uncut
+
+pub made-short : (c : Contents) (code : List Insn) (cut : CutView) (annotated : List ℕ) → annotated ≡ map (λ p. p.0) c.invs → IsMade code annotated cut → (e : GateFault) → Refuses (first_long cut.code cut.marks) e → Refuses (first_long code (marks_of c code)) e
+made-short c code cut annotated same m e h =
+    let marks : cut.marks ≡ marks_of c code = m.marks_are ∙ ap (λ l. flags_of l (length code)) same in
+    subst (λ k. Refuses (first_long k (marks_of c code)) e) m.code_is (subst (λ f. Refuses (first_long cut.code f) e) marks h)
+
+pub not-both : (b : Bool) → b ≡ false → b ≡ true → ⊥
+not-both b f t = absurd (cc)

@@ -1,0 +1,69 @@
+use Rattle.std.proofs.Common.{◌≡◌, ℕ, List, length, map, true, Err, option_map, refl, sym, ◌∙◌, ap, subst}
+use Rattle.alpha_cfg.specs.Cuts.{AreFlags}
+use Rattle.term_table.specs.Table.{tree_at}
+use Rattle.proof_container.specs.Views.{contents_of, inv_trees}
+use Rattle.vcgen.specs.Answers.{AreLowInvs}
+use Rattle.pcc_gate.specs.Answers.{IsGateAnswer}
+use Rattle.pcc_gate.specs.Inside.Acceptance.{IsProved, IsProofAnswer}
+use Rattle.pcc_gate.specs.First.{vc_of, proves}
+use Rattle.pcc_gate.proofs.Kept.{trees-same}
+use Rattle.pcc_gate.proofs.Refusing.{carries, keys}
+use Rattle.pcc_gate.proofs.Stages.{gate-refused, gate-judged, gate-none, gate-accepts, low-invs, proved-by}
+use Rattle.pcc_gate.proofs.judging.judge.Goals as goal
+
+pub returns-in_err-proof : goal.returns-in_err-proof
+returns-in_err-proof c =
+    let p = c.args.passed in
+    let e = c.in_err-proof.field-0.0 in
+    carries (IsGateAnswer c.args.policy.now c.args.bytes.now) e (gate-refused c.args.policy.now c.args.bytes.now (contents_of p.container) p.cut.code p.cut.marks c.requires.passes e c.in_err-proof.ensures) c.from_residual.result c.from_residual.ensures.1
+
+pub proved-requires-clause-invs : goal.proved-requires-clause-invs
+proved-requires-clause-invs c =
+    let k = c.args.passed.container in
+    subst (λ l. AreLowInvs k.table l) (sym c.deref.ensures.value) (low-invs k.table k.invs.items _ c.requires.held.known.0 c.requires.passes.heights)
+
+pub proved-requires-clause-marks : goal.proved-requires-clause-marks
+proved-requires-clause-marks c =
+    let k = c.args.passed.container in
+    let cut = c.args.passed.cut in
+    let same : map (λ p. p.0) (inv_trees k.table k.invs.items) ≡ map (λ p. p.0) c.deref.result.now = keys k.table k.invs.items ∙ ap (λ (l : List (ℕ × ℕ)). map (λ (p : ℕ × ℕ). p.0) l) (sym c.deref.ensures.value) in
+    subst (λ l. AreFlags l (length cut.code) cut.marks) same c.requires.passes.annotated
+
+pub returns-in_err-proved : goal.returns-in_err-proved
+returns-in_err-proved c =
+    let p = c.args.passed in
+    let e = c.in_err-proved.field-0.0 in
+    let found = c.in_ok-proof.ensures in
+    let t = p.container.table in
+    let tree = tree_at t c.in_ok-proof.proof in
+    let answer = subst (λ l. IsProofAnswer c.args.policy.now p.cut.code (inv_trees t l) tree (Err e)) c.deref.ensures.value c.in_err-proved.ensures.answer in
+    carries (IsGateAnswer c.args.policy.now c.args.bytes.now) e (gate-judged c.args.policy.now c.args.bytes.now (contents_of p.container) p.cut.code p.cut.marks c.requires.passes tree (ap (option_map (tree_at t)) found.0) found.2 e answer) c.from_residual-in_err-proved.result c.from_residual-in_err-proved.ensures.1
+
+pub invariant_of-result : goal.invariant_of-result
+invariant_of-result c =
+    let p = c.args.passed in
+    let t = p.container.table in
+    let u = c.proved.new.table in
+    let found = c.in_ok-proof.ensures in
+    let tree = tree_at t c.in_ok-proof.proof in
+    let h = subst (λ l. proves tree (vc_of c.args.policy.now p.cut.code (inv_trees t l)) ≡ true) c.deref.ensures.value c.in_ok-proved.ensures.answer in
+    let a = gate-accepts c.args.policy.now c.args.bytes.now (contents_of p.container) p.cut.code p.cut.marks c.requires.passes tree (ap (option_map (tree_at t)) found.0) found.2 h in
+    subst (λ k. IsProved k p.cut u p.container.invs.items) (sym c.in_ok-policy.ensures.exact)
+    (proved-by c.truth_laws.ensures.sound c.args.policy.now c.args.bytes.now (contents_of p.container) p.cut t u p.container.invs.items c.in_ok-proved.ensures.extends c.requires.held.known.0 refl a)
+
+pub returns : goal.returns
+returns c =
+    let p = c.args.passed in
+    let t = p.container.table in
+    let u = c.proved.new.table in
+    let found = c.in_ok-proof.ensures in
+    let tree = tree_at t c.in_ok-proof.proof in
+    let h = subst (λ l. proves tree (vc_of c.args.policy.now p.cut.code (inv_trees t l)) ≡ true) c.deref.ensures.value c.in_ok-proved.ensures.answer in
+    let given = ap (option_map (tree_at t)) found.0 in
+    record {
+      contents = contents_of p.container;
+      policy_is = c.in_ok-policy.ensures.exact;
+      invs_are = trees-same t u p.container.invs.items c.in_ok-proved.ensures.extends c.requires.held.known.0;
+      accepts = gate-accepts c.args.policy.now c.args.bytes.now (contents_of p.container) p.cut.code p.cut.marks c.requires.passes tree given found.2 h;
+      first = gate-none c.args.policy.now c.args.bytes.now (contents_of p.container) p.cut.code p.cut.marks c.requires.passes tree given found.2 h;
+    }

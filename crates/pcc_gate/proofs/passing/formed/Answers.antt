@@ -1,0 +1,43 @@
+use Rattle.std.proofs.Common.{◌≡◌, Some, sym, ◌∙◌, ap}
+use Rattle.term_table.specs.Table.{Extends, ctx_of}
+use Rattle.proof_container.specs.Views.{inv_trees}
+use Rattle.pcc_gate.specs.declared.refusal.Refusal.TheVariants as refusal
+use Rattle.pcc_gate.specs.First.{formless, refused_by}
+use Rattle.pcc_gate.proofs.Kept.{grown-twice, known-more, ids-more, ctx-more, trees-same}
+use Rattle.pcc_gate.proofs.passing.formed.Goals as goal
+
+pub first_formless-requires-clause-known : goal.first_formless-requires-clause-known
+first_formless-requires-clause-known c =
+    let o = c.args.table.now in
+    let v = c.intern.new.self in
+    let grown : Extends o v = grown-twice o c.machine_types.new.table v c.in_ok-context.ensures.extends c.in_ok-form.ensures.extends in
+    known-more o v c.args.invs.now grown c.requires.known
+
+pub first_formless-requires-clause-context : goal.first_formless-requires-clause-context
+first_formless-requires-clause-context c =
+    rw c.deref.ensures.value (ids-more c.machine_types.new.table c.intern.new.self c.in_ok-context.context.items c.in_ok-form.ensures.extends c.in_ok-context.ensures.known)
+
+pub first_formless-requires-clause-types : goal.first_formless-requires-clause-types
+first_formless-requires-clause-types c =
+    ap (ctx_of c.intern.new.self) c.deref.ensures.value
+    ∙ ctx-more c.machine_types.new.table c.intern.new.self c.in_ok-context.context.items c.in_ok-form.ensures.extends c.in_ok-context.ensures.known ∙ c.in_ok-context.ensures.types
+
+pub first_formless-requires-clause-kept : goal.first_formless-requires-clause-kept
+first_formless-requires-clause-kept c = c.requires.kept _
+
+pub returns-in-Some-clause-answer : goal.returns-in-Some-clause-answer
+returns-in-Some-clause-answer c =
+    let o = c.args.table.now in
+    let v = c.intern.new.self in
+    let invs = c.args.invs.now in
+    let grown : Extends o v = grown-twice o c.machine_types.new.table v c.in_ok-context.ensures.extends c.in_ok-form.ensures.extends in
+    let found : formless 0 (inv_trees o invs) ≡ Some c.in-Some.inv = ap (formless 0) (trees-same o v invs grown c.requires.known) ∙ sym c.in_ok-inv.ensures.exact ∙ c.in-Some.is in
+    λ next. ap (λ x. refused_by refusal.InvNotForm x next) found
+
+pub returns-clause-answer : goal.returns-clause-answer
+returns-clause-answer c =
+    let o = c.args.table.now in
+    let v = c.intern.new.self in
+    let invs = c.args.invs.now in
+    let grown : Extends o v = grown-twice o c.machine_types.new.table v c.in_ok-context.ensures.extends c.in_ok-form.ensures.extends in
+    ap (formless 0) (trees-same o v invs grown c.requires.known) ∙ sym c.in_ok-inv.ensures.exact ∙ c.in-None.is

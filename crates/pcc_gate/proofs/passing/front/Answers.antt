@@ -1,0 +1,8 @@
+use Rattle.pcc_gate.proofs.Stages.{front-answer}
+use Rattle.pcc_gate.proofs.passing.front.Goals as goal
+
+pub pass-requires : goal.pass-requires
+pass-requires c = record { kept = λ t. c.new-kept.ensures _ t }
+
+pub returns : goal.returns
+returns c = record { exact = front-answer c.args.policy.now c.args.bytes.now c.pass.result c.pass.ensures.answer }

@@ -1,0 +1,6 @@
+use Rattle.proof_container.specs.Views.{contents_of}
+use Rattle.pcc_gate.proofs.Stages.{rest-passed}
+use Rattle.pcc_gate.proofs.passing.pass.Goals as goal
+
+pub returns-in-Ok-clause-answer : goal.returns-in-Ok-clause-answer
+returns-in-Ok-clause-answer c = rest-passed c.args.policy.now c.args.bytes.now (contents_of c.in-Ok.container) c.in-Ok.ensures.0 c.rest.result c.rest.ensures.answer

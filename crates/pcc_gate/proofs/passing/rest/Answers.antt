@@ -1,0 +1,70 @@
+use Rattle.std.proofs.Common.{◌≡◌, ◌<◌, ◌/◌, ℕ, All, List, length, map, sym, ◌∙◌, ap, subst, slice_index_or, arith}
+use Rattle.std.specs.List.Sorted.{IsStrictlyIncreasing}
+use Rattle.alpha_cfg.specs.CodeBytes.{EncodesCode}
+use Rattle.alpha_cfg.specs.Flow.{IsCode}
+use Rattle.term_table.specs.Table.{Extends}
+use Rattle.proof_container.specs.Contents.{Contents}
+use Rattle.proof_container.specs.Views.{contents_of, inv_trees}
+use Rattle.pcc_gate.specs.Inside.Stages.{Refuses, with_roots, IsShaped}
+use Rattle.pcc_gate.specs.Inside.Passed.{IsRestAnswer}
+use Rattle.pcc_gate.specs.First.{first_shape}
+use Rattle.pcc_gate.proofs.FirstFront.{key_below, key_rises}
+use Rattle.pcc_gate.proofs.Kept.{known-more, option-more, trees-same, option-same}
+use Rattle.pcc_gate.proofs.Refusing.{carries, keys}
+use Rattle.pcc_gate.proofs.Stages.{code-refuses}
+use Rattle.pcc_gate.proofs.passing.rest.Goals as goal
+
+pub returns-in_err-insns-clause-answer : goal.returns-in_err-insns-clause-answer
+returns-in_err-insns-clause-answer c =
+    let k : Contents = contents_of c.args.container in
+    carries (IsRestAnswer k) c.in_err-insns.field-0.0 (c.in_err-insns.ensures k) c.from_residual.result c.from_residual.ensures.1
+
+pub shaped-requires-clause-rising : goal.shaped-requires-clause-rising
+shaped-requires-clause-rising c =
+    let t = c.args.container.table in
+    let ps : List (ℕ × ℕ) = c.args.container.invs.items in
+    let n : ℕ = length c.args.container.code.now / 4 in
+    let same : map (λ p. p.0) (inv_trees t ps) ≡ map (λ p. p.0) c.deref.result.now = keys t ps ∙ ap (λ (l : List (ℕ × ℕ)). map (λ (p : ℕ × ℕ). p.0) l) (sym c.deref.ensures.value) in
+    subst (λ l. IsStrictlyIncreasing l) same (λ k h. key_rises (inv_trees t ps) 0 n k c.requires.contents.rising h)
+
+pub shaped-requires-clause-below : goal.shaped-requires-clause-below
+shaped-requires-clause-below c =
+    let t = c.args.container.table in
+    let ps : List (ℕ × ℕ) = c.args.container.invs.items in
+    let n : ℕ = length c.args.container.code.now / 4 in
+    let insns = c.in_ok-insns.insns in
+    let count : n ≡ length insns = omega (arith, c.in_ok-insns.ensures.1.whole) in
+    let same : map (λ p. p.0) (inv_trees t ps) ≡ map (λ p. p.0) c.deref.result.now = keys t ps ∙ ap (λ (l : List (ℕ × ℕ)). map (λ (p : ℕ × ℕ). p.0) l) (sym c.deref.ensures.value) in
+    let all : All (λ j. j < length insns) (map (λ p. p.0) (inv_trees t ps)) = λ k d h. subst (λ w. slice_index_or (map (λ p. p.0) (inv_trees t ps)) k d < w) count (key_below (inv_trees t ps) 0 n k d c.requires.contents.rising h) in
+    subst (λ l. All (λ j. j < length insns) l) same all
+
+pub returns-in_err-cut-clause-answer : goal.returns-in_err-cut-clause-answer
+returns-in_err-cut-clause-answer c =
+    let t = c.args.container.table in
+    let k : Contents = contents_of c.args.container in
+    let insns = c.in_ok-insns.insns in
+    let e = c.in_err-cut.field-0.0 in
+    let here : Refuses (first_shape (with_roots t c.args.container.invs.items c.args.container.proof) insns) e =
+    subst (λ l. Refuses (first_shape (with_roots t l c.args.container.proof) insns) e) c.deref.ensures.value c.in_err-cut.ensures.answer in
+    carries (IsRestAnswer k) e (code-refuses k insns c.in_ok-insns.ensures.0 e here) c.from_residual-in_err-cut.result c.from_residual-in_err-cut.ensures.1
+
+pub returns-clause-answer : goal.returns-clause-answer
+returns-clause-answer c =
+    let t = c.args.container.table in
+    let u = c.shaped.new.table in
+    let ps : List (ℕ × ℕ) = c.args.container.invs.items in
+    let proof = c.args.container.proof in
+    let insns = c.in_ok-insns.insns in
+    let cut = c.in_ok-cut.cut in
+    let grown : Extends t u = c.in_ok-cut.ensures.extends in
+    let known = c.requires.held.known in
+    let shaped : IsShaped (with_roots t ps proof) insns cut = subst (λ l. IsShaped (with_roots t l proof) insns cut) c.deref.ensures.value c.in_ok-cut.ensures.answer in
+    let code : cut.code ≡ insns = shaped.made.code_is in
+    let mine = subst (λ x. IsShaped (with_roots t ps proof) x cut) (sym code) shaped in
+    record {
+      contents = λ i. record { policy = c.args.container.policy; code = c.args.container.code.now; invs = sym (trees-same t u ps grown known.0) i; proof = sym (option-same t u proof grown known.1) i };
+      held = record { known = (known-more t u ps grown known.0, option-more t u proof grown known.1); places = grown.places ∙ c.requires.held.places };
+      encoded = subst (λ x. EncodesCode c.args.container.code.now x) (sym code) c.in_ok-insns.ensures.1;
+      is = subst (λ x. IsCode x) (sym code) c.in_ok-insns.ensures.2;
+      shaped = record { low = mine.low; forms = mine.forms; made = mine.made; short = mine.short };
+    }

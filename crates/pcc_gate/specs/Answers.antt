@@ -1,0 +1,32 @@
+-- What the gate answers.
+use Rattle.std.specs.Prelude.{◌≡◌, ℕ, List, None, Some, Result, Ok, Err}
+use Rattle.policy_set.specs.declared.kind.PolicyKind.{PolicyKind}
+use Rattle.proof_container.specs.Views.{contents_of, inv_trees}
+use Rattle.proof_container.specs.Contents.{Contents}
+use Rattle.pcc_gate.specs.declared.fault.GateFault.{GateFault}
+use Rattle.pcc_gate.specs.declared.fault.GateFault.TheVariants.{Refused, Memory}
+use Rattle.pcc_gate.specs.declared.passing.Passed.{Passed}
+use Rattle.pcc_gate.specs.Passing.{Passes}
+use Rattle.pcc_gate.specs.First.{front_refusal, first_refusal}
+use Rattle.pcc_gate.specs.Accepted.{Accepts}
+use Rattle.pcc_gate.specs.Views.{AcceptedView}
+
+-- Clauses 1 to 8 hold of what is passed on; a refusal is the first of them that fails; want of memory says nothing.
+abbrev pub IsFrontAnswer : PolicyKind → List ℕ → Result Passed GateFault → Type 0
+IsFrontAnswer policy bytes (Ok p) = Passes policy bytes (contents_of p.container) p.cut.code p.cut.marks × (front_refusal policy bytes ≡ None)
+IsFrontAnswer policy bytes (Err (Refused r)) = front_refusal policy bytes ≡ Some r
+IsFrontAnswer policy bytes (Err Memory) = Unit {0}
+
+-- What the gate shows of accepted bytes: the policy, the code with its flags, and the invariants of their contents.
+pub record IsAcceptedBy (policy : PolicyKind) (bytes : List ℕ) (a : AcceptedView) : Type 0 where
+  pub contents : Contents
+  pub policy_is : a.policy ≡ policy
+  pub invs_are : contents.invs ≡ inv_trees a.table a.invs
+  pub accepts : Accepts policy bytes contents a.code a.marks
+  pub first : first_refusal policy bytes ≡ None
+
+-- All clauses hold of what is accepted; a refusal is the first of them that fails; want of memory says nothing.
+abbrev pub IsGateAnswer : PolicyKind → List ℕ → Result AcceptedView GateFault → Type 0
+IsGateAnswer policy bytes (Ok a) = IsAcceptedBy policy bytes a
+IsGateAnswer policy bytes (Err (Refused r)) = first_refusal policy bytes ≡ Some r
+IsGateAnswer policy bytes (Err Memory) = Unit {0}

@@ -1,0 +1,44 @@
+-- What makes accepted code safe and its condition true.
+use Rattle.std.specs.Prelude.{◌≡◌, ℕ, ◌≤◌, true, false, List, map, length, Option, Some, Result, Ok, Err}
+use Rattle.std.specs.Option.{option_map}
+use Rattle.alpha_words.specs.declared.insn.Insn.{Insn}
+use Rattle.std.specs.List.{AllByRecursion}
+use Rattle.alpha_cfg.specs.Flow.{IsCode}
+use Rattle.alpha_cfg.specs.Cuts.{CutView, AreFlags, IsCut}
+use Rattle.formula_tree.specs.Formulas.{Form}
+use Rattle.formula_tree.specs.Truth.{IsValid}
+use Rattle.policy_set.specs.declared.kind.PolicyKind.{PolicyKind}
+use Rattle.policy_set.specs.Policies.{pre_of, post_of}
+use Rattle.term_table.specs.Tree.{Tree}
+use Rattle.term_table.specs.Measures.{weight_of, sigma1_places}
+use Rattle.term_table.specs.Table.{TableView, IsKnown, tree_at}
+use Rattle.vcgen.specs.Conditions.{condition}
+use Rattle.vcgen.specs.Encoded.{annotated, AreForms, AreEncodings, inv_trees}
+use Rattle.vcgen.specs.Safety.{IsSafe}
+use Rattle.pcc_gate.specs.declared.fault.GateFault.{GateFault}
+use Rattle.pcc_gate.specs.declared.fault.GateFault.TheVariants as fault
+use Rattle.pcc_gate.specs.declared.limits.TheConstants.{MAX_WEIGHT}
+use Rattle.pcc_gate.specs.declared.refusal.Refusal.TheVariants as refusal
+use Rattle.pcc_gate.specs.First.{vc_of, proves, first_proof}
+use Rattle.pcc_gate.specs.Inside.Stages.{Refuses}
+
+-- the code is safe for the policy, its invariants are forms, and the condition of their formulas is true in every structure
+pub record IsProved (policy : PolicyKind) (cut : CutView) (table : TableView) (invs : List (ℕ × ℕ)) : Type 0 where
+  pub code : IsCode cut.code
+  pub flags : AreFlags (map (λ p. p.0) (inv_trees table invs)) (length cut.code) cut.marks
+  pub cuts : IsCut cut.code cut.marks
+  pub known : AllByRecursion (λ (inv : ℕ × ℕ). IsKnown table inv.1) invs
+  pub forms : AreForms (inv_trees table invs)
+  pub safe : IsSafe cut.code (pre_of policy) (post_of policy)
+  pub valid : (formulas : List (ℕ × Form)) → AreEncodings (inv_trees table invs) formulas → IsValid (condition (annotated policy cut.code formulas))
+
+-- the proof isn't too heavy, and is the one that there is
+abbrev pub IsProofFound : TableView → Option ℕ → Result ℕ GateFault → Type 0
+IsProofFound t proof (Ok id) = (proof ≡ Some id) × IsKnown t id × (weight_of sigma1_places (tree_at t id) ≤ MAX_WEIGHT)
+IsProofFound t proof (Err e) = Refuses (λ vc. first_proof vc (option_map (tree_at t) proof)) e
+
+-- clause 11, the proof's term being given
+abbrev pub IsProofAnswer : PolicyKind → List Insn → List (ℕ × Tree) → Tree → Result Unit GateFault → Type 0
+IsProofAnswer policy code invs proof (Ok _) = proves proof (vc_of policy code invs) ≡ true
+IsProofAnswer policy code invs proof (Err (fault.Refused r)) = (proves proof (vc_of policy code invs) ≡ false) × (r ≡ refusal.NotProof)
+IsProofAnswer policy code invs proof (Err fault.Memory) = Unit {0}

@@ -1,0 +1,31 @@
+-- What clauses 4 to 8, and 1 to 8, answer within the gate.
+use Rattle.std.specs.Prelude.{◌≡◌, ℕ, List, Result, Ok, Err}
+use Rattle.alpha_cfg.specs.CodeBytes.{EncodesCode}
+use Rattle.alpha_cfg.specs.CodeDecoding.{decoded_code}
+use Rattle.alpha_cfg.specs.Flow.{IsCode}
+use Rattle.policy_set.specs.declared.kind.PolicyKind.{PolicyKind}
+use Rattle.proof_container.specs.Contents.{Contents}
+use Rattle.proof_container.specs.Views.{contents_of}
+use Rattle.pcc_gate.specs.declared.fault.GateFault.{GateFault}
+use Rattle.pcc_gate.specs.declared.passing.Passed.{Passed}
+use Rattle.pcc_gate.specs.First.{first_code, first_front}
+use Rattle.pcc_gate.specs.Passing.{Passes}
+use Rattle.pcc_gate.specs.Inside.Stages.{Refuses, IsHeld, IsShaped}
+
+-- what passed clauses 4 to 8 of the contents
+pub record IsRest (c : Contents) (p : Passed) : Type 0 where
+  pub contents : contents_of p.container ≡ c
+  pub held : IsHeld p.container
+  pub encoded : EncodesCode c.code p.cut.code
+  pub is : IsCode p.cut.code
+  pub shaped : IsShaped c p.cut.code p.cut
+
+-- clauses 4 to 8
+abbrev pub IsRestAnswer : Contents → Result Passed GateFault → Type 0
+IsRestAnswer c (Ok p) = IsRest c p
+IsRestAnswer c (Err e) = Refuses (first_code c (decoded_code c.code)) e
+
+-- clauses 1 to 8
+abbrev pub IsPassedAnswer : PolicyKind → List ℕ → Result Passed GateFault → Type 0
+IsPassedAnswer policy bytes (Ok p) = Passes policy bytes (contents_of p.container) p.cut.code p.cut.marks × IsHeld p.container
+IsPassedAnswer policy bytes (Err e) = Refuses (first_front policy bytes) e

@@ -1,0 +1,102 @@
+-- What each stage of the gate answers.
+use Rattle.std.specs.Prelude.{◌≡◌, ℕ, ◌≤◌, List, [], ◌++◌, Bool, Option, None, Result, Ok, Err, map, length}
+use Rattle.std.specs.Option.{option_map}
+use Rattle.alpha_words.specs.declared.insn.Insn.{Insn}
+use Rattle.alpha_cfg.specs.CodeBytes.{EncodesCode}
+use Rattle.alpha_cfg.specs.CodeDecoding.{decoded_code}
+use Rattle.alpha_cfg.specs.Flow.{IsCode}
+use Rattle.alpha_cfg.specs.Cuts.{CutView, AreFlags, IsCut, unfolded_of}
+use Rattle.alpha_cfg.specs.Deciding.{flags_of, uncut_of}
+use Rattle.policy_set.specs.declared.kind.PolicyKind.{PolicyKind}
+use Rattle.policy_set.specs.Names.{policy_number}
+use Rattle.term_table.specs.Tree.{Tree}
+use Rattle.term_table.specs.Table.{TableView, tree_at}
+use Rattle.term_table.specs.Measures.{sigma1_places}
+use Rattle.proof_container.specs.Contents.{Contents, roots, one_or_none}
+use Rattle.proof_container.specs.Encoding.{EncodesContents}
+use Rattle.proof_container.specs.Views.{AreKnown, contents_of, inv_trees}
+use Rattle.proof_container.specs.declared.container.Container.{Container}
+use Rattle.proof_container.specs.declared.limits.TheConstants.{MAX_BYTES}
+use Rattle.pcc_gate.specs.declared.fault.GateFault.{GateFault}
+use Rattle.pcc_gate.specs.declared.fault.GateFault.TheVariants as fault
+use Rattle.pcc_gate.specs.declared.refusal.Refusal.{Refusal}
+use Rattle.pcc_gate.specs.declared.refusal.Refusal.TheVariants as refusal
+use Rattle.vcgen.specs.declared.condition.TheConstants.{MAX_UNFOLDED}
+use Rattle.pcc_gate.specs.First.{too_high, formless, first_code, first_front, first_long, first_shape, refused_by}
+
+-- the trees of the roots, by their ids
+abbrev pub root_trees : TableView → List (ℕ × ℕ) → Option ℕ → List Tree
+root_trees t invs proof = map (λ p. p.1) (inv_trees t invs) ++ one_or_none (option_map (tree_at t) proof)
+
+-- a refusal is the first whatever comes after the stage, for which next stands; want of memory says nothing
+abbrev pub Refuses : {N : Type 0} → (N → Option Refusal) → GateFault → Type 0
+Refuses {N} first (fault.Refused r) = (next : N) → first next ≡ Option.Some r
+Refuses first fault.Memory = Unit {0}
+
+-- the container's terms are the table's, and its weights go by the rules' parameters
+pub record IsHeld (c : Container) : Type 0 where
+  pub known : AreKnown c.table c.invs.items c.proof
+  pub places : c.table.places ≡ sigma1_places
+
+-- the contents pass clauses 1 to 3
+pub record IsRead (policy : PolicyKind) (bytes : List ℕ) (c : Contents) : Type 0 where
+  pub size : length bytes ≤ MAX_BYTES
+  pub encoded : EncodesContents bytes c
+  pub number : c.policy ≡ policy_number policy
+
+-- clauses 1 to 3
+abbrev pub IsContainerAnswer : PolicyKind → List ℕ → Result Container GateFault → Type 0
+IsContainerAnswer policy bytes (Ok c) = IsRead policy bytes (contents_of c) × IsHeld c
+IsContainerAnswer policy bytes (Err e) = Refuses (first_front policy bytes) e
+
+-- clause 4
+abbrev pub IsCodeRead : List ℕ → Result (List Insn) GateFault → Type 0
+IsCodeRead bytes (Ok code) = (decoded_code bytes ≡ Ok code) × EncodesCode bytes code × IsCode code
+IsCodeRead bytes (Err e) = (c : Contents) → Refuses (first_code c (decoded_code bytes)) e
+
+-- the first refusal by clause 7, and what comes after
+abbrev pub first_uncut : List Insn → List ℕ → Option Refusal → Option Refusal
+first_uncut code annotated next = refused_by refusal.Uncut (uncut_of code (flags_of annotated (length code))) next
+
+-- cut code: its flags, that they cut it, and that clause 7 doesn't refuse
+pub record IsMade (code : List Insn) (annotated : List ℕ) (cut : CutView) : Type 0 where
+  pub code_is : cut.code ≡ code
+  pub flags : AreFlags annotated (length code) cut.marks
+  pub cuts : IsCut code cut.marks
+  pub marks_are : cut.marks ≡ flags_of annotated (length code)
+  pub uncut : uncut_of code (flags_of annotated (length code)) ≡ None
+
+-- clause 7
+abbrev pub IsCutMade : List Insn → List ℕ → Result CutView GateFault → Type 0
+IsCutMade code annotated (Ok cut) = IsMade code annotated cut
+IsCutMade code annotated (Err e) = Refuses (first_uncut code annotated) e
+
+-- clause 8
+abbrev pub IsShort : List Insn → List Bool → Result Unit GateFault → Type 0
+IsShort code marks (Ok _) = unfolded_of code marks ≤ MAX_UNFOLDED
+IsShort code marks (Err e) = Refuses (first_long code marks) e
+
+-- contents of which the roots alone are of interest, by their ids
+abbrev pub with_roots : TableView → List (ℕ × ℕ) → Option ℕ → Contents
+with_roots t invs proof = record { policy = 0; code = []; invs = inv_trees t invs; proof = option_map (tree_at t) proof }
+
+-- the first refusal by clause 6, and what comes after
+abbrev pub first_no_form : List (ℕ × Tree) → Option Refusal → Option Refusal
+first_no_form invs next = refused_by refusal.InvNotForm (formless 0 invs) next
+
+-- clause 6
+abbrev pub AreFormed : List (ℕ × Tree) → Result Unit GateFault → Type 0
+AreFormed invs (Ok _) = formless 0 invs ≡ None
+AreFormed invs (Err e) = Refuses (first_no_form invs) e
+
+-- cut code of contents that pass clauses 5 to 8
+pub record IsShaped (c : Contents) (code : List Insn) (cut : CutView) : Type 0 where
+  pub low : too_high (roots c) ≡ None
+  pub forms : formless 0 c.invs ≡ None
+  pub made : IsMade code (map (λ p. p.0) c.invs) cut
+  pub short : unfolded_of code cut.marks ≤ MAX_UNFOLDED
+
+-- clauses 5 to 8
+abbrev pub IsShapeAnswer : Contents → List Insn → Result CutView GateFault → Type 0
+IsShapeAnswer c code (Ok cut) = IsShaped c code cut
+IsShapeAnswer c code (Err e) = Refuses (first_shape c code) e

@@ -1,0 +1,21 @@
+-- What is accepted, as callers see it.
+use Rattle.std.specs.Prelude.{ℕ, Bool, List}
+use Rattle.alpha_words.specs.declared.insn.Insn.{Insn}
+use Rattle.policy_set.specs.declared.kind.PolicyKind.{PolicyKind}
+use Rattle.formula_tree.specs.Formulas.{Form}
+use Rattle.formula_tree.specs.Truth.{IsValid}
+use Rattle.term_table.specs.Table.{TableView}
+use Rattle.vcgen.specs.Conditions.{condition}
+use Rattle.vcgen.specs.Encoded.{annotated, AreEncodings, inv_trees}
+
+-- accepted code: its policy, the code with its flags, and its invariants as ids of the table
+pub record AcceptedView : Type 0 where
+  pub policy : PolicyKind
+  pub code : List Insn
+  pub marks : List Bool
+  pub table : TableView
+  pub invs : List (ℕ × ℕ)
+
+-- the condition of the policy, the code and the formulas of the invariants is true in every structure
+abbrev pub IsConditionTrue : AcceptedView → Type 0
+IsConditionTrue a = (formulas : List (ℕ × Form)) → AreEncodings (inv_trees a.table a.invs) formulas → IsValid (condition (annotated a.policy a.code formulas))

@@ -1,0 +1,84 @@
+//! What is accepted.
+
+ghost use Rattle.std.specs.Prelude.{◌≡◌};
+ghost use Rattle.policy_set.specs.Policies.{pre_of, post_of};
+ghost use Rattle.vcgen.specs.Safety.{IsSafe};
+ghost use Rattle.pcc_gate.specs.Views.{IsConditionTrue};
+
+use alpha_cfg::Cut;
+use policy_set::Policy;
+use std::marker::Model;
+use term_table::{Id, Table};
+
+/// Code that was accepted under a policy. Contracts see the policy's kind, the code with its flags,
+/// and the invariants as ids of the table.
+#[derive(Drop)]
+pub struct Accepted {
+    pub(crate) policy: Policy,
+    pub(crate) cut: Cut,
+    pub(crate) table: Table,
+    pub(crate) invs: Vec<(u32, Id)>,
+}
+
+impl Model for Accepted {
+    ghost use Rattle.pcc_gate.specs.Views.{AcceptedView};
+    ghost use Rattle.pcc_gate.specs.Inside.Acceptance.{IsProved};
+
+    ghost Value = { AcceptedView };
+
+    ghost use Rattle.std.specs.Coded.{codes};
+    ghost use Rattle.term_table.specs.Table.{table_view_code};
+
+    ghost coded = { Prim.hlevel (codes, table_view_code) };
+
+    ghost view = { λ a. record {
+      policy = a.policy;
+      code = a.cut.code;
+      marks = a.cut.marks;
+      table = a.table;
+      invs = a.invs.items;
+    } };
+
+    ghost invariant = { λ a. IsProved a.policy a.cut a.table a.invs.items };
+}
+
+impl Accepted {
+    /// The policy that it was accepted under.
+    pub fn policy(&self) -> &Policy
+        ensures { result.now ≡ self.now.policy }
+    {
+        &self.policy
+    }
+
+    /// The code with its annotated indices.
+    pub fn cut(&self) -> &Cut
+        ensures code { result.now.code ≡ self.now.code }
+        ensures marks { result.now.marks ≡ self.now.marks }
+    {
+        &self.cut
+    }
+
+    /// The table that has the terms of the invariants.
+    pub fn table(&self) -> &Table
+        ensures { result.now ≡ self.now.table }
+    {
+        &self.table
+    }
+
+    /// The annotated indices, each with its invariant.
+    pub fn invs(&self) -> &[(u32, Id)]
+        ensures { result.now ≡ self.now.invs }
+    {
+        &self.invs
+    }
+
+    /// What acceptance promises, with nothing to run: the code is safe for the policy, and the
+    /// verification condition of the policy, the code and the formulas of the invariants is true in
+    /// every structure.
+    pub fn laws(&self)
+        ensures safe { IsSafe self.now.code (pre_of self.now.policy) (post_of self.now.policy) }
+        ensures valid { IsConditionTrue self.now }
+    {
+        let _ = &self.cut; // opens the invariant for the prover
+    }
+}

@@ -1,0 +1,211 @@
+//! The clauses before the proof, a function for each.
+
+ghost use Rattle.std.specs.Prelude.{◌≡◌, ◌≤◌, ◌+◌, ◌<◌, ◌*◌, ◌%◌, [], ◌∷◌, length, drop, map, All, IfOk};
+ghost use Rattle.std.specs.List.Sorted.{IsStrictlyIncreasing};
+ghost use Rattle.std.specs.List.{AllByRecursion};
+ghost use Rattle.std.specs.Option.{option_map};
+ghost use Rattle.alpha_cfg.specs.declared.code.TheConstants.{MAX_WORDS};
+ghost use Rattle.term_table.specs.Table.{IsKnown, AllKnown, tree_at, ctx_of, Extends};
+ghost use Rattle.term_table.specs.Measures.{capped};
+ghost use Rattle.lf_signature.specs.Nodes.{IsIdOf};
+ghost use Rattle.lf_signature.specs.Sigma1.{declared};
+ghost use Rattle.term_table.specs.Tree.{Fam};
+ghost use Rattle.lf_check.specs.Inside.Kept.{AreKept};
+ghost use Rattle.lf_encode.specs.Contexts.{machine_context, sort_types};
+ghost use Rattle.proof_container.specs.Views.{AreKnown, inv_trees};
+ghost use Rattle.proof_container.specs.declared.limits.TheConstants.{MAX_INVS};
+ghost use Rattle.pcc_gate.specs.First.{too_high, has_form, formless};
+ghost use Rattle.pcc_gate.specs.Inside.Stages.{IsContainerAnswer, IsCodeRead, root_trees};
+ghost use Rattle.pcc_gate.specs.Inside.Stages.{IsCutMade, IsShort};
+
+use crate::fault::GateFault;
+use crate::refusal::Refusal;
+use alpha_cfg::{Code, CodeFault, Cut, CutFault};
+use lf_check::{Kept, check_term_with};
+use lf_signature::numbers::{EXP, MEM};
+use lf_signature::{Sigma1, typing_laws};
+use policy_set::Policy;
+use proof_container::{Container, MAX_BYTES, Malformed, read};
+use std::alloc::{AllocError, Global};
+use term_table::{Id, Node, Table};
+use vcgen::{MAX_HEIGHT, MAX_UNFOLDED};
+
+/// Clauses 1 to 3: the container in the bytes, which is for the policy.
+pub(crate) fn container_for<'b>(
+    alloc: Global,
+    policy: &Policy,
+    bytes: &'b [u8],
+) -> Result<Container<'b>, GateFault>
+    ensures { IsContainerAnswer policy.now bytes.now result }
+{
+    if bytes.len() > MAX_BYTES as usize {
+        return Err(GateFault::Refused(Refusal::TooLong(bytes.len() as u64)));
+    }
+    match read(alloc, bytes) {
+        Err(Malformed::At(offset, flaw)) => {
+            Err(GateFault::Refused(Refusal::Malformed(offset, flaw)))
+        }
+        Err(Malformed::Memory) => Err(GateFault::Memory),
+        Ok(container) => {
+            if container.policy != policy.number() {
+                let number = container.policy;
+                return Err(GateFault::Refused(Refusal::OtherPolicy(number)));
+            }
+            Ok(container)
+        }
+    }
+}
+
+/// Clause 4: the code that the bytes encode.
+pub(crate) fn code_in(alloc: Global, bytes: &[u8]) -> Result<Code, GateFault>
+    requires whole { length bytes.now % 4 ≡ 0 }
+    requires some { 0 < length bytes.now }
+    requires short { length bytes.now ≤ 4 * MAX_WORDS }
+    ensures { IsCodeRead bytes.now result }
+{
+    match Code::of(alloc, bytes) {
+        Ok(code) => Ok(code),
+        Err(CodeFault::At(flaw)) => Err(GateFault::Refused(Refusal::BadCode(flaw))),
+        Err(CodeFault::Memory) => Err(GateFault::Memory),
+    }
+}
+
+/// The height of the term, where it is past the limit.
+fn height_past(table: &Table, id: Id) -> Option<u32>
+    requires { IsKnown table.now id }
+    ensures { result ≡ option_map capped (too_high (tree_at table.now id ∷ [])) }
+{
+    let height = table.height(id);
+    if height > MAX_HEIGHT {
+        Some(height)
+    } else {
+        None
+    }
+}
+
+/// Clause 5: the height of the first root, from this place of the invariants on, that is too high.
+pub(crate) fn first_too_high(
+    table: &Table,
+    invs: &[(u32, Id)],
+    proof: Option<Id>,
+    from: usize,
+) -> Option<u32>
+    requires known { AreKnown table.now invs.now proof }
+    requires from { from ≤ length invs.now }
+    ensures { let rest = drop from invs.now in
+        result ≡ option_map capped (too_high (root_trees table.now rest proof)) }
+{
+    if from == invs.len() {
+        return match proof {
+            None => None,
+            Some(id) => height_past(table, id),
+        };
+    }
+    let (_, inv) = invs[from];
+    match height_past(table, inv) {
+        Some(height) => Some(height),
+        None => first_too_high(table, invs, proof, from + 1),
+    }
+}
+
+/// The types of m and r0 to r30.
+pub(crate) fn machine_types(alloc: Global, table: &mut Table) -> Result<Vec<Id>, AllocError>
+    ensures known { IfOk result (λ ids. AllKnown table.new ids.items) }
+    ensures types { IfOk result
+        (λ ids. ctx_of table.new ids.items ≡ sort_types machine_context) }
+    ensures extends { Extends table.old table.new }
+{
+    let word = table.intern(Node::Fam(EXP))?;
+    let memory = table.intern(Node::Fam(MEM))?;
+    let mut types = vec![in alloc; word; 32]?;
+    types[0] = memory;
+    Ok(types)
+}
+
+/// Whether the term has type form in the context of m and r0 to r30.
+fn has_form(
+    table: &mut Table,
+    kept: &mut Kept,
+    context: &[Id],
+    form: Id,
+    id: Id,
+) -> Result<bool, AllocError>
+    requires id { IsKnown table.old id }
+    requires form { IsIdOf table.old (Fam 2) form }
+    requires context { AllKnown table.old context.now }
+    requires types { ctx_of table.old context.now ≡ sort_types machine_context }
+    requires kept { AreKept declared table.old kept.old }
+    ensures exact { IfOk result (λ b. b ≡ has_form (tree_at table.old id)) }
+    ensures extends { Extends table.old table.new }
+    ensures kept { AreKept declared table.new kept.new }
+{
+    typing_laws();
+    check_term_with(table, kept, &Sigma1, context, id, form)
+}
+
+/// Clause 6: the first invariant, from this place on, that is no formula over m and r0 to r30.
+pub(crate) fn first_formless(
+    table: &mut Table,
+    kept: &mut Kept,
+    context: &[Id],
+    form: Id,
+    invs: &[(u32, Id)],
+    from: usize,
+) -> Result<Option<u32>, AllocError>
+    requires known { AllByRecursion (λ inv. IsKnown table.old inv.1) invs.now }
+    requires few { length invs.now ≤ MAX_INVS }
+    requires from { from ≤ length invs.now }
+    requires form { IsIdOf table.old (Fam 2) form }
+    requires context { AllKnown table.old context.now }
+    requires types { ctx_of table.old context.now ≡ sort_types machine_context }
+    requires kept { AreKept declared table.old kept.old }
+    ensures exact { let rest = inv_trees table.old (drop from invs.now) in
+        IfOk result (λ found. found ≡ formless from rest) }
+    ensures extends { Extends table.old table.new }
+    ensures kept { AreKept declared table.new kept.new }
+{
+    if from == invs.len() {
+        return Ok(None);
+    }
+    let (_, inv) = invs[from];
+    if !has_form(table, kept, context, form, inv)? {
+        return Ok(Some(from as u32));
+    }
+    first_formless(table, kept, context, form, invs, from + 1)
+}
+
+/// The annotated indices.
+fn indices(alloc: Global, invs: &[(u32, Id)]) -> Result<Vec<u32>, AllocError>
+    ensures { IfOk result (λ v. v.items ≡ map (λ p. p.0) invs.now) }
+{
+    let mut indices = Vec::new(alloc);
+    for (index, _) in invs {
+        indices.push(*index)?;
+    }
+    Ok(indices)
+}
+
+/// Clause 7: the code with its annotated indices, where they cut it.
+pub(crate) fn cut_at(alloc: Global, code: Code, invs: &[(u32, Id)]) -> Result<Cut, GateFault>
+    requires rising { IsStrictlyIncreasing (map (λ p. p.0) invs.now) }
+    requires below { All (λ k. k < length code) (map (λ p. p.0) invs.now) }
+    ensures { IsCutMade code (map (λ p. p.0) invs.now) result }
+{
+    let annotated = indices(alloc, invs)?;
+    match code.cut(alloc, &annotated) {
+        Ok(cut) => Ok(cut),
+        Err(CutFault::Uncut(index)) => Err(GateFault::Refused(Refusal::Uncut(index))),
+        Err(CutFault::Memory) => Err(GateFault::Memory),
+    }
+}
+
+/// Clause 8: the unfolded length is within its limit.
+pub(crate) fn short(cut: &Cut) -> Result<(), GateFault>
+    ensures { IsShort cut.now.code cut.now.marks result }
+{
+    let unfolded = cut.unfolded();
+    if unfolded > MAX_UNFOLDED {
+        return Err(GateFault::Refused(Refusal::UnfoldLimit(unfolded)));
+    }
+    Ok(())
+}

@@ -1,0 +1,66 @@
+//! The gate.
+
+ghost use Rattle.proof_container.specs.Views.{contents_of};
+ghost use Rattle.term_table.specs.Table.{TableView};
+ghost use Rattle.lf_signature.specs.Sigma1.{declared};
+ghost use Rattle.lf_check.specs.Inside.Kept.{AreKept};
+ghost use Rattle.pcc_gate.specs.Answers.{IsGateAnswer};
+ghost use Rattle.pcc_gate.specs.Passing.{Passes};
+ghost use Rattle.pcc_gate.specs.Inside.Stages.{IsHeld};
+
+use crate::acceptance::Accepted;
+use crate::fault::GateFault;
+use crate::passing::{Passed, pass};
+use crate::proving::{proof_in, proved};
+use lf_check::{Kept, MOST_RESULTS};
+use lf_truth::truth_laws;
+use policy_set::Policy;
+use std::alloc::Global;
+
+/// Clauses 9 to 11 of what passed those before.
+fn judge(
+    alloc: Global,
+    kept: &mut Kept,
+    policy: &Policy,
+    bytes: &[u8],
+    passed: Passed<'_>,
+) -> Result<Accepted, GateFault>
+    requires passes { let contents = contents_of passed.container in
+        Passes policy.now bytes.now contents passed.cut.code passed.cut.marks }
+    requires held { IsHeld passed.container }
+    requires kept { AreKept declared passed.container.table kept.old }
+    ensures { IsGateAnswer policy.now bytes.now result }
+{
+    let _ = bytes; // only the clauses speak of it
+    truth_laws();
+    let container = passed.container;
+    let cut = passed.cut;
+    let mut table = container.table;
+    let invs = container.invs;
+    let found = container.proof;
+    let proof = proof_in(&table, found)?;
+    proved(&mut table, kept, policy, &cut, &invs, proof)?;
+    let policy = policy.copy(alloc)?;
+    Ok(Accepted {
+        policy,
+        cut,
+        table,
+        invs,
+    })
+}
+
+/// What `bytes` hold, where they are accepted under `policy`: all eleven clauses hold, the last of
+/// which is that the proof proves the verification condition of the policy, the code and the
+/// invariants.
+///
+/// Errors: `Refused` names the first clause that fails (`specs/First`), exactly where one does;
+/// `Memory` says nothing of `bytes`. The clauses are tried in their order.
+pub fn gate(alloc: Global, policy: &Policy, bytes: &[u8]) -> Result<Accepted, GateFault>
+    ensures exact { IsGateAnswer policy.now bytes.now result }
+{
+    let mut kept = Kept::new(alloc, MOST_RESULTS);
+    match pass(alloc, &mut kept, policy, bytes) {
+        Err(fault) => Err(fault),
+        Ok(passed) => judge(alloc, &mut kept, policy, bytes, passed),
+    }
+}

@@ -1,0 +1,135 @@
+//! The clauses before the proof.
+
+ghost use Rattle.std.specs.Prelude.{◌≡◌, ◌≤◌, ◌<◌, length, map, All, IfOk, OnOk};
+ghost use Rattle.std.specs.List.{AllByRecursion};
+ghost use Rattle.std.specs.List.Sorted.{IsStrictlyIncreasing};
+ghost use Rattle.term_table.specs.Table.{TableView, IsKnown, Extends};
+ghost use Rattle.lf_signature.specs.Sigma1.{declared};
+ghost use Rattle.lf_check.specs.Inside.Kept.{AreKept};
+ghost use Rattle.proof_container.specs.Views.{AreKnown, contents_of, inv_trees};
+ghost use Rattle.proof_container.specs.Encoding.{IsContents};
+ghost use Rattle.proof_container.specs.declared.limits.TheConstants.{MAX_INVS};
+ghost use Rattle.pcc_gate.specs.Answers.{IsFrontAnswer};
+ghost use Rattle.pcc_gate.specs.Inside.Stages.{IsHeld, with_roots, AreFormed, IsShapeAnswer};
+ghost use Rattle.pcc_gate.specs.Inside.Passed.{IsRestAnswer, IsPassedAnswer};
+
+use crate::clauses::{
+    code_in, container_for, cut_at, first_formless, first_too_high, machine_types, short,
+};
+use crate::fault::GateFault;
+use crate::refusal::Refusal;
+use alpha_cfg::{Code, Cut};
+use lf_check::{Kept, MOST_RESULTS};
+use lf_signature::numbers::FORM;
+use policy_set::Policy;
+use proof_container::Container;
+use std::alloc::Global;
+use term_table::{Id, Node, Table};
+
+/// What passed the clauses before the proof.
+#[derive(Drop)]
+pub struct Passed<'b> {
+    /// The container in the bytes. Its table may have more terms than the bytes.
+    pub container: Container<'b>,
+    /// The code with its annotated indices.
+    pub cut: Cut,
+}
+
+/// Clause 6: each invariant is a formula over m and r0 to r30.
+fn formed(
+    alloc: Global,
+    kept: &mut Kept,
+    table: &mut Table,
+    invs: &[(u32, Id)],
+) -> Result<(), GateFault>
+    requires known { AllByRecursion (λ inv. IsKnown table.old inv.1) invs.now }
+    requires few { length invs.now ≤ MAX_INVS }
+    requires kept { (t : TableView) → AreKept declared t kept.old }
+    ensures answer { AreFormed (inv_trees table.old invs.now) result }
+    ensures extends { Extends table.old table.new }
+    ensures kept { OnOk result (AreKept declared table.new kept.new) }
+{
+    let context = machine_types(alloc, table)?;
+    let form = table.intern(Node::Fam(FORM))?;
+    match first_formless(table, kept, &context, form, invs, 0)? {
+        Some(inv) => Err(GateFault::Refused(Refusal::InvNotForm(inv))),
+        None => Ok(()),
+    }
+}
+
+/// Clauses 5 to 8: the code with its annotated indices.
+fn shaped(
+    alloc: Global,
+    kept: &mut Kept,
+    table: &mut Table,
+    code: Code,
+    invs: &[(u32, Id)],
+    proof: Option<Id>,
+) -> Result<Cut, GateFault>
+    requires known { AreKnown table.old invs.now proof }
+    requires few { length invs.now ≤ MAX_INVS }
+    requires rising { IsStrictlyIncreasing (map (λ p. p.0) invs.now) }
+    requires below { All (λ k. k < length code) (map (λ p. p.0) invs.now) }
+    requires kept { (t : TableView) → AreKept declared t kept.old }
+    ensures answer { IsShapeAnswer (with_roots table.old invs.now proof) code result }
+    ensures extends { Extends table.old table.new }
+    ensures kept { OnOk result (AreKept declared table.new kept.new) }
+{
+    if let Some(height) = first_too_high(table, invs, proof, 0) {
+        return Err(GateFault::Refused(Refusal::Height(height)));
+    }
+    formed(alloc, kept, table, invs)?;
+    let cut = cut_at(alloc, code, invs)?;
+    short(&cut)?;
+    Ok(cut)
+}
+
+/// Clauses 4 to 8 of a container.
+fn rest<'b>(
+    alloc: Global,
+    kept: &mut Kept,
+    container: Container<'b>,
+) -> Result<Passed<'b>, GateFault>
+    requires contents { IsContents (contents_of container) }
+    requires held { IsHeld container }
+    requires kept { (t : TableView) → AreKept declared t kept.old }
+    ensures answer { IsRestAnswer (contents_of container.entry) result }
+    ensures kept { IfOk result (λ p. AreKept declared p.container.table kept.new) }
+{
+    let mut container = container;
+    let insns = code_in(alloc, container.code)?;
+    let held = &mut container;
+    let cut = shaped(alloc, kept, &mut held.table, insns, &held.invs, held.proof)?;
+    Ok(Passed { container, cut })
+}
+
+/// Clauses 1 to 8, with what is kept of the judgements.
+pub(crate) fn pass<'b>(
+    alloc: Global,
+    kept: &mut Kept,
+    policy: &Policy,
+    bytes: &'b [u8],
+) -> Result<Passed<'b>, GateFault>
+    requires kept { (t : TableView) → AreKept declared t kept.old }
+    ensures answer { IsPassedAnswer policy.now bytes.now result }
+    ensures kept { IfOk result (λ p. AreKept declared p.container.table kept.new) }
+{
+    match container_for(alloc, policy, bytes) {
+        Err(fault) => Err(fault),
+        Ok(container) => rest(alloc, kept, container),
+    }
+}
+
+/// The container in `bytes`, and its code with its annotated indices, where the clauses before the
+/// proof hold: the bytes are a container for `policy`, its code bytes are code, no term is too high,
+/// each invariant is a formula, the annotated indices cut the code, and its unfolded length is
+/// within the limit.
+///
+/// Errors: `Refused` names the first of these clauses that fails (`specs/First`), exactly where one
+/// does; `Memory` says nothing of `bytes`.
+pub fn front<'b>(alloc: Global, policy: &Policy, bytes: &'b [u8]) -> Result<Passed<'b>, GateFault>
+    ensures exact { IsFrontAnswer policy.now bytes.now result }
+{
+    let mut kept = Kept::new(alloc, MOST_RESULTS);
+    pass(alloc, &mut kept, policy, bytes)
+}

@@ -1,0 +1,70 @@
+//! The clauses of the proof.
+
+ghost use Rattle.std.specs.Prelude.{◌≡◌, ◌≤◌, IfSome, length, map};
+ghost use Rattle.alpha_cfg.specs.Cuts.{AreFlags, unfolded_of};
+ghost use Rattle.term_table.specs.Table.{IsKnown, Extends, tree_at};
+ghost use Rattle.term_table.specs.Measures.{sigma1_places};
+ghost use Rattle.lf_signature.specs.Sigma1.{declared};
+ghost use Rattle.lf_check.specs.Inside.Kept.{AreKept};
+ghost use Rattle.vcgen.specs.Answers.{AreLowInvs};
+ghost use Rattle.vcgen.specs.Encoded.{AreForms, inv_trees};
+ghost use Rattle.vcgen.specs.declared.condition.TheConstants.{MAX_UNFOLDED};
+ghost use Rattle.pcc_gate.specs.Inside.Acceptance.{IsProofFound, IsProofAnswer};
+
+use crate::fault::GateFault;
+use crate::limits::MAX_WEIGHT;
+use crate::refusal::Refusal;
+use alpha_cfg::Cut;
+use lf_check::Kept;
+use lf_truth::prove_true_with;
+use policy_set::Policy;
+use term_table::{Id, Table};
+use vcgen::{VcFault, vc};
+
+/// Clauses 9 and 10: the proof, which isn't too heavy.
+pub(crate) fn proof_in(table: &Table, proof: Option<Id>) -> Result<Id, GateFault>
+    requires known { IfSome proof (IsKnown table.now) }
+    requires places { table.now.places ≡ sigma1_places }
+    ensures { IsProofFound table.now proof result }
+{
+    match proof {
+        None => Err(GateFault::Refused(Refusal::NoProof)),
+        Some(id) => {
+            let weight = table.weight(id);
+            if weight > MAX_WEIGHT {
+                return Err(GateFault::Refused(Refusal::ProofWeight(weight)));
+            }
+            Ok(id)
+        }
+    }
+}
+
+/// Clause 11: the proof proves the verification condition.
+pub(crate) fn proved(
+    table: &mut Table,
+    kept: &mut Kept,
+    policy: &Policy,
+    cut: &Cut,
+    invs: &[(u32, Id)],
+    proof: Id,
+) -> Result<(), GateFault>
+    requires invs { AreLowInvs table.old invs.now }
+    requires forms { AreForms (inv_trees table.old invs.now) }
+    requires marks { AreFlags (map (λ p. p.0) invs.now) (length cut.now.code) cut.now.marks }
+    requires short { unfolded_of cut.now.code cut.now.marks ≤ MAX_UNFOLDED }
+    requires proof { IsKnown table.old proof }
+    requires kept { AreKept declared table.old kept.old }
+    ensures answer { let invs = inv_trees table.old invs.now in
+        IsProofAnswer policy.now cut.now.code invs (tree_at table.old proof) result }
+    ensures extends { Extends table.old table.new }
+{
+    let goal = match vc(table, cut, policy, invs) {
+        Ok(goal) => goal,
+        Err(VcFault::Memory) => return Err(GateFault::Memory),
+        Err(VcFault::UnfoldLimit(_)) => unreachable!(),
+    };
+    if !prove_true_with(table, kept, proof, goal)? {
+        return Err(GateFault::Refused(Refusal::NotProof));
+    }
+    Ok(())
+}
