@@ -15,8 +15,8 @@ ghost use Rattle.lf_encode.specs.Contexts.{machine_context, sort_types};
 ghost use Rattle.proof_container.specs.Views.{AreKnown, inv_trees};
 ghost use Rattle.proof_container.specs.declared.limits.TheConstants.{MAX_INVS};
 ghost use Rattle.pcc_gate.specs.First.{too_high, has_form, formless};
-ghost use Rattle.pcc_gate.specs.Inside.Stages.{IsContainerAnswer, IsCodeRead, root_trees};
-ghost use Rattle.pcc_gate.specs.Inside.Stages.{IsCutMade, IsShort};
+ghost use Rattle.pcc_gate.specs.Inside.Stages.{IsContainerAnswer, IsCodeRead, measured_trees};
+ghost use Rattle.pcc_gate.specs.Inside.Stages.{IsCutMade, IsLengthAnswer};
 
 use crate::fault::GateFault;
 use crate::refusal::Refusal;
@@ -93,7 +93,7 @@ pub(crate) fn first_too_high(
     requires known { AreKnown table.now invs.now proof }
     requires from { from ≤ length invs.now }
     ensures { let rest = drop from invs.now in
-        result ≡ option_map capped (too_high (root_trees table.now rest proof)) }
+        result ≡ option_map capped (too_high (measured_trees table.now rest proof)) }
 {
     if from == invs.len() {
         return match proof {
@@ -201,7 +201,7 @@ pub(crate) fn cut_at(alloc: Global, code: Code, invs: &[(u32, Id)]) -> Result<Cu
 
 /// Clause 8: the unfolded length is within its limit.
 pub(crate) fn short(cut: &Cut) -> Result<(), GateFault>
-    ensures { IsShort cut.now.code cut.now.marks result }
+    ensures { IsLengthAnswer cut.now.code cut.now.marks result }
 {
     let unfolded = cut.unfolded();
     if unfolded > MAX_UNFOLDED {

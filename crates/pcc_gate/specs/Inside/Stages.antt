@@ -25,8 +25,8 @@ use Rattle.vcgen.specs.declared.condition.TheConstants.{MAX_UNFOLDED}
 use Rattle.pcc_gate.specs.First.{too_high, formless, first_code, first_front, first_long, first_shape, refused_by}
 
 -- the trees of the roots, by their ids
-abbrev pub root_trees : TableView → List (ℕ × ℕ) → Option ℕ → List Tree
-root_trees t invs proof = map (λ p. p.1) (inv_trees t invs) ++ one_or_none (option_map (tree_at t) proof)
+abbrev pub measured_trees : TableView → List (ℕ × ℕ) → Option ℕ → List Tree
+measured_trees t invs proof = map (λ p. p.1) (inv_trees t invs) ++ one_or_none (option_map (tree_at t) proof)
 
 -- a refusal is the first whatever comes after the stage, for which next stands; want of memory says nothing
 abbrev pub Refuses : {N : Type 0} → (N → Option Refusal) → GateFault → Type 0
@@ -72,9 +72,9 @@ IsCutMade code annotated (Ok cut) = IsMade code annotated cut
 IsCutMade code annotated (Err e) = Refuses (first_uncut code annotated) e
 
 -- clause 8
-abbrev pub IsShort : List Insn → List Bool → Result Unit GateFault → Type 0
-IsShort code marks (Ok _) = unfolded_of code marks ≤ MAX_UNFOLDED
-IsShort code marks (Err e) = Refuses (first_long code marks) e
+abbrev pub IsLengthAnswer : List Insn → List Bool → Result Unit GateFault → Type 0
+IsLengthAnswer code marks (Ok _) = unfolded_of code marks ≤ MAX_UNFOLDED
+IsLengthAnswer code marks (Err e) = Refuses (first_long code marks) e
 
 -- contents of which the roots alone are of interest, by their ids
 abbrev pub with_roots : TableView → List (ℕ × ℕ) → Option ℕ → Contents
