@@ -42,11 +42,13 @@ pub(crate) struct Atom {
     pub(crate) met: Option<Id>,
 }
 
-/// Results of shifts and substitutions on one table, up to a limit.
+/// Results of shifts and substitutions on one table, up to a limit that results kept elsewhere can
+/// count in too.
 #[derive(Drop)]
 pub struct Memo {
     rows: BTreeMap<Question, Row>,
-    limit: usize,
+    // how many results may still be kept
+    left: usize,
 }
 
 /// The id as a number.
@@ -94,15 +96,26 @@ fn row_of(term: Id, met: Option<Id>) -> Row
 }
 
 impl Memo {
-    /// A memo without results, which takes no memory yet. A call that would keep more than `limit`
-    /// results in it answers want of memory.
-    pub fn new(alloc: Global, limit: usize) -> Memo
+    /// A memo without results, which takes no memory yet. A call that would keep more than `left`
+    /// results, with those that `spend` counts, answers want of memory.
+    pub fn new(alloc: Global, left: usize) -> Memo
         ensures { (t : TableView) → IsMemo t result }
     {
         Memo {
             rows: BTreeMap::new(alloc),
-            limit,
+            left,
         }
+    }
+
+    /// Counts a result that is kept elsewhere. Fails past the limit.
+    pub fn spend(&mut self) -> Result<(), AllocError>
+        ensures { (t : TableView) → IsMemo t self.old → IsMemo t self.new }
+    {
+        if self.left == 0 {
+            return Err(AllocError);
+        }
+        self.left -= 1;
+        Ok(())
     }
 
     /// What is kept of the question, as numbers.
@@ -138,9 +151,7 @@ impl Memo {
         ensures { IsMemo table.now self.new }
     {
         let _ = table; // only the clauses speak of it
-        if self.rows.len() >= self.limit {
-            return Err(AllocError);
-        }
+        self.spend()?;
         let row = row_of(term, met);
         self.rows.insert(question, row)?;
         Ok(())

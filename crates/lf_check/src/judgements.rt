@@ -32,14 +32,15 @@ pub(crate) enum Question {
     Cut(u64, u64),
 }
 
-/// Results and judgements on one table and signature, up to a limit.
+/// Results and judgements on one table and signature, all up to one limit.
 #[derive(Drop)]
 pub struct Kept {
-    pub(crate) memo: Memo,
+    /// Results of shifts and substitutions on the table. Its limit is that of the judgements too.
+    pub memo: Memo,
     rows: BTreeMap<Question, u64>,
-    limit: usize,
-    // along contexts
+    // along contexts, with their limit in judgements
     steps: u64,
+    limit: usize,
 }
 
 /// The id as a number.
@@ -51,19 +52,19 @@ pub(crate) fn number(id: Id) -> u64
 
 impl Kept {
     /// Nothing kept yet, which takes no memory. A call that would keep more than `limit` results of
-    /// shifts and substitutions, or more than `limit` judgements, answers want of memory.
+    /// shifts and substitutions and judgements, counted together, answers want of memory.
     pub fn new(alloc: Global, limit: usize) -> Kept
         ensures { (sig : Const → Option Tree) (t : TableView) → AreKept sig t result }
     {
         Kept {
             memo: Memo::new(alloc, limit),
             rows: BTreeMap::new(alloc),
-            limit,
             steps: 0,
+            limit,
         }
     }
 
-    /// Counts steps along a context, which keep nothing. Fails past the limit.
+    /// Counts steps along a context, which keep nothing. Fails past their limit.
     pub(crate) fn step<S: Signature>(
         &mut self,
         table: &Table,
@@ -124,9 +125,7 @@ impl Kept {
     {
         let _ = table; // only the clauses speak of it
         let _ = sig; // only the clauses speak of it
-        if self.rows.len() >= self.limit {
-            return Err(AllocError);
-        }
+        self.memo.spend()?;
         let n = number(id);
         self.rows.insert(question, n)?;
         Ok(())

@@ -7,9 +7,10 @@
 //! its tree, also where memory fails.
 //!
 //! No shared term is judged twice in the part of a context that it can speak of: `Kept` has the
-//! judgements, and can be handed from call to call on one table and signature. It has a limit, past
-//! which a call answers want of memory. Source: Harper and Licata, Mechanizing Metatheory in a Logical
-//! Framework, JFP 2007, section 2.
+//! judgements, and can be handed from call to call on one table and signature. It has one limit for
+//! all that it keeps, past which a call answers want of memory; its `memo` can be lent to other calls
+//! on the table. Source: Harper and Licata, Mechanizing Metatheory in a Logical Framework, JFP 2007,
+//! section 2.
 #![tactic(auto)]
 
 mod contexts;
@@ -37,7 +38,7 @@ use walk::{check_at, synth_at};
 
 /// Whether the term `m` checks at the type `a` in the context `ctx`, whose nearest type stands last:
 /// true exactly where there is a derivation. Fails only for want of memory, which more than
-/// `MOST_RESULTS` results or judgements are too.
+/// `MOST_RESULTS` results and judgements, counted together, are too.
 pub fn check_term<S: Signature>(
     alloc: Global,
     table: &mut Table,
@@ -88,7 +89,7 @@ pub fn check_term_with<S: Signature>(
 
 /// The type that the atomic term `r` synthesises in the context `ctx`, whose nearest type stands
 /// last: None exactly where it synthesises none. Fails only for want of memory, which more than
-/// `MOST_RESULTS` results or judgements are too.
+/// `MOST_RESULTS` results and judgements, counted together, are too.
 pub fn synth<S: Signature>(
     alloc: Global,
     table: &mut Table,
@@ -133,7 +134,7 @@ pub fn synth_with<S: Signature>(
 
 /// Whether the type `a` is well formed in the context `ctx`, whose nearest type stands last: true
 /// exactly where there is a derivation. Fails only for want of memory, which more than `MOST_RESULTS`
-/// results or judgements are too.
+/// results and judgements, counted together, are too.
 pub fn check_type<S: Signature>(
     alloc: Global,
     table: &mut Table,

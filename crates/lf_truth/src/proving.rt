@@ -20,8 +20,8 @@ use term_table::{Id, Table};
 /// exactly where it checks at the type of the proofs of `goal`. Where it does, and `goal` encodes a
 /// closed formula, that formula is true in every structure.
 ///
-/// Errors: want of memory alone, which more than `MOST_RESULTS` results or judgements are too; each
-/// id keeps its tree.
+/// Errors: want of memory alone, which more than `MOST_RESULTS` results and judgements, counted
+/// together, are too; each id keeps its tree.
 pub fn prove_true(table: &mut Table, proof: Id, goal: Id) -> Result<bool, AllocError>
     requires proof { IsKnown table.old proof }
     requires goal { IsKnown table.old goal }

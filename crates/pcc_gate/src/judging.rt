@@ -54,7 +54,9 @@ fn judge(
 /// invariants.
 ///
 /// Errors: `Refused` names the first clause that fails (`specs/First`), exactly where one does;
-/// `Memory` says nothing of `bytes`. The clauses are tried in their order.
+/// `Memory` says nothing of `bytes`. The clauses are tried in their order. One memory of at most
+/// `MOST_RESULTS` results and judgements serves the invariants, the condition and the proof; past
+/// that the answer is `Memory`.
 pub fn gate(alloc: Global, policy: &Policy, bytes: &[u8]) -> Result<Accepted, GateFault>
     ensures exact { IsGateAnswer policy.now bytes.now result }
 {

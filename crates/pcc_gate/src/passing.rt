@@ -126,7 +126,8 @@ pub(crate) fn pass<'b>(
 /// within the limit.
 ///
 /// Errors: `Refused` names the first of these clauses that fails (`specs/First`), exactly where one
-/// does; `Memory` says nothing of `bytes`.
+/// does; `Memory` says nothing of `bytes`. One memory of at most `MOST_RESULTS` results and
+/// judgements serves all invariants; past that the answer is `Memory`.
 pub fn front<'b>(alloc: Global, policy: &Policy, bytes: &'b [u8]) -> Result<Passed<'b>, GateFault>
     ensures exact { IsFrontAnswer policy.now bytes.now result }
 {

@@ -19,7 +19,7 @@ use lf_check::Kept;
 use lf_truth::prove_true_with;
 use policy_set::Policy;
 use term_table::{Id, Table};
-use vcgen::{VcFault, vc};
+use vcgen::{VcFault, vc_with};
 
 /// Clauses 9 and 10: the proof, which isn't too heavy.
 pub(crate) fn proof_in(table: &Table, proof: Option<Id>) -> Result<Id, GateFault>
@@ -58,7 +58,7 @@ pub(crate) fn proved(
         IsProofAnswer policy.now cut.now.code invs (tree_at table.old proof) result }
     ensures extends { Extends table.old table.new }
 {
-    let goal = match vc(table, cut, policy, invs) {
+    let goal = match vc_with(table, &mut kept.memo, cut, policy, invs) {
         Ok(goal) => goal,
         Err(VcFault::Memory) => return Err(GateFault::Memory),
         Err(VcFault::UnfoldLimit(_)) => unreachable!(),

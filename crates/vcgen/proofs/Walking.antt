@@ -142,3 +142,5 @@ at-return u count i Return h = refl
 -- the walk from an instruction, by its effect
 pub walked_at-effect : (next : ℕ → MachineTerms → Tree) (post : Tree) (i : ℕ) (o : Option Insn) (insn : Insn) (s : MachineTerms) (e : InsnEffect) → o ≡ Some insn → insn_effect i insn s ≡ e → walked_at next post i o s ≡ walked_on next post i s e
 walked_at-effect next post i o insn s e at is = ap (λ x. walked_at next post i x s) at ∙ ap (walked_on next post i s) is
+
+pub ruleset memos = (memo-more)

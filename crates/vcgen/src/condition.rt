@@ -3,6 +3,7 @@
 ghost use Rattle.std.specs.Prelude.{◌≡◌, ℕ, List, ◌<◌, ◌≤◌, IfOk, length, drop, map, All};
 ghost use Rattle.alpha_cfg.specs.Cuts.{AreFlags};
 ghost use Rattle.term_table.specs.Table.{IsKnown, tree_at, Extends};
+ghost use Rattle.hereditary_subst.specs.Inside.Kept.{IsMemo};
 ghost use Rattle.lf_signature.specs.Nodes.{IsIdOf};
 ghost use Rattle.lf_signature.specs.Terms.{imp_term};
 ghost use Rattle.policy_set.specs.Policies.{pre_of, post_of};
@@ -59,6 +60,7 @@ fn part(table: &mut Table, from: Id, to: Id) -> Result<Id, AllocError>
 }
 
 /// The parts of the invariants from place `from` on.
+#[tactic(auto, using(crate::proofs::Walking::memos))]
 fn inv_parts(
     table: &mut Table,
     shifts: &mut Memo,
@@ -77,6 +79,7 @@ fn inv_parts(
         IfOk result (IsIdOf table.new
         (part_terms program.now.code.now invs (tree_at t program.now.post) rest)) }
     ensures extends { Extends table.old table.new }
+    ensures shifts { IsMemo table.new shifts.new }
 {
     if from == program.invs.len() {
         return table.intern(Node::Const(TT));
@@ -91,50 +94,60 @@ fn inv_parts(
 }
 
 /// The condition, from the terms of what holds at the start and of the program.
-fn condition_of(table: &mut Table, program: &Program, pre: Id) -> Result<Id, AllocError>
+#[tactic(auto, using(crate::proofs::Walking::memos))]
+fn condition_of(
+    table: &mut Table,
+    shifts: &mut Memo,
+    program: &Program,
+    pre: Id,
+) -> Result<Id, AllocError>
     requires program { let p = program.now in
         IsProgram table.old p.code.now p.invs.now p.post }
     requires inside { All (λ p. p.0 < length program.now.code.now) program.now.invs.now }
     requires pre { IsKnown table.old pre }
+    requires shifts { IsMemo table.old shifts.old }
     ensures id { let t = table.old in
         let invs = inv_trees t program.now.invs.now in
         IfOk result (IsIdOf table.new
         (condition_term program.now.code.now invs (tree_at t pre) (tree_at t program.now.post))) }
     ensures extends { Extends table.old table.new }
+    ensures shifts { IsMemo table.new shifts.new }
 {
-    let alloc = table.allocator();
-    let mut shifts = Memo::new(alloc, MOST_RESULTS);
-    let mut kept = PutMemo::new(alloc, MOST_RESULTS);
+    let mut kept = PutMemo::new(table.allocator());
     let start = Symbols::start(table)?;
     let count = program.code.count();
-    let walked = walk(table, &mut shifts, &mut kept, program, count, 0, &start)?;
+    let walked = walk(table, shifts, &mut kept, program, count, 0, &start)?;
     let entry = part(table, pre, walked)?;
-    let rest = inv_parts(table, &mut shifts, &mut kept, program, &start, 0)?;
+    let rest = inv_parts(table, shifts, &mut kept, program, &start, 0)?;
     app2(table, AND, entry, rest)
 }
 
 /// The encoding of the condition of code, its unfolded length being within its limit.
+#[tactic(auto, using(crate::proofs::Walking::memos))]
 fn encoded_condition(
     table: &mut Table,
+    shifts: &mut Memo,
     code: &Code,
     policy: &Policy,
     invs: &[(u32, Id)],
 ) -> Result<Id, AllocError>
     requires invs { AreLowInvs table.old invs.now }
     requires inside { All (λ p. p.0 < length code.now) invs.now }
+    requires shifts { IsMemo table.old shifts.old }
     ensures id { let t = table.old in
         let pre = encoding_in machine_context (pre_of policy.now) in
         let post = encoding_in machine_context (post_of policy.now) in
         IfOk result (IsIdOf table.new
         (condition_term code.now (inv_trees t invs.now) pre post)) }
     ensures extends { Extends table.old table.new }
+    ensures shifts { IsMemo table.new shifts.new }
 {
     let _ = code.insns(); // tells the prover that this is code
     let context = machine_context();
     let pre = encode_form(table, policy.pre(), &context)?;
     let post = encode_form(table, policy.post(), &context)?;
     let program = Program { code, invs, post };
-    condition_of(table, &program, pre)
+    condition_of(table, shifts, &program, pre)
 }
 
 /// The encoding of the verification condition of `cut` under `policy`, the formulas of its invariants
@@ -151,9 +164,30 @@ pub fn vc(table: &mut Table, cut: &Cut, policy: &Policy, invs: &[(u32, Id)]) -> 
     ensures exact { IsVcAnswer policy.now cut.now (inv_trees table.old invs.now) table.new result }
     ensures extends { Extends table.old table.new }
 {
+    let mut memo = Memo::new(table.allocator(), MOST_RESULTS);
+    vc_with(table, &mut memo, cut, policy, invs)
+}
+
+/// `vc`, with the results that `memo` keeps of earlier calls on the table. What is kept here counts
+/// in its limit, past which the answer is `Memory`. The same clauses.
+pub fn vc_with(
+    table: &mut Table,
+    memo: &mut Memo,
+    cut: &Cut,
+    policy: &Policy,
+    invs: &[(u32, Id)],
+) -> Result<Id, VcFault>
+    requires invs { AreLowInvs table.old invs.now }
+    requires forms { AreForms (inv_trees table.old invs.now) }
+    requires marks { AreFlags (map (λ p. p.0) invs.now) (length cut.now.code) cut.now.marks }
+    requires memo { IsMemo table.old memo.old }
+    ensures exact { IsVcAnswer policy.now cut.now (inv_trees table.old invs.now) table.new result }
+    ensures extends { Extends table.old table.new }
+    ensures memo { IsMemo table.new memo.new }
+{
     let unfolded = cut.unfolded();
     if unfolded > MAX_UNFOLDED {
         return Err(VcFault::UnfoldLimit(unfolded));
     }
-    Ok(encoded_condition(table, cut.code(), policy, invs)?)
+    Ok(encoded_condition(table, memo, cut.code(), policy, invs)?)
 }

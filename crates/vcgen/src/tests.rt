@@ -3,8 +3,9 @@
 ghost use Rattle.std.specs.Prelude.{[], IfOk, length};
 ghost use Rattle.alpha_cfg.specs.Cuts.{AreFlags};
 
-use crate::{VcFault, condition_laws, encoding_laws, vc, worked_conditions};
+use crate::{VcFault, condition_laws, encoding_laws, vc, vc_with, worked_conditions};
 use alpha_cfg::{Code, Cut};
+use hereditary_subst::Memo;
 use lf_encode::{encode_form, form_of, is_form, machine_context};
 use policy_set::{Policy, PolicyKind};
 use std::alloc::{AllocError, Global};
@@ -92,6 +93,22 @@ fn a_condition_that_shares(rt: HostRuntime) -> Result<(), Fail> {
     words.push(0x4420_3000)?;
     words.push(RETURN)?;
     assert!(rt; entries(&rt, alloc, PolicyKind::Filter, &words)? < 1_000);
+    Ok(())
+}
+
+/// Past the limit of what is kept there is want of memory; within it a second call gives the same.
+#[test]
+fn a_limit(rt: HostRuntime) -> Result<(), Fail> {
+    let alloc = rt.alloc();
+    let policy = Policy::of(alloc, PolicyKind::Filter)?;
+    let mut table = Table::new(alloc, Places::sigma1());
+    let cut = cut_of(&rt, alloc, &[ONE, RETURN])?;
+    let mut memo = Memo::new(alloc, 1);
+    assert!(rt; vc_with(&mut table, &mut memo, &cut, &policy, &[]) == Err(VcFault::Memory));
+    let mut memo = Memo::new(alloc, 1_000);
+    let first = vc_with(&mut table, &mut memo, &cut, &policy, &[])?;
+    let again = vc_with(&mut table, &mut memo, &cut, &policy, &[])?;
+    assert!(rt; first == again);
     Ok(())
 }
 

@@ -73,7 +73,7 @@ pub(crate) fn walk(
 }
 
 /// The same with the terms of `after`; of these nothing is kept beyond the walk. What it keeps
-/// meanwhile counts with what `kept` keeps of the terms of `symbols`.
+/// meanwhile counts on in the limit of `shifts`.
 #[cycle(walking)]
 fn walk_with(
     table: &mut Table,
@@ -96,11 +96,11 @@ fn walk_with(
     ensures extends { Extends table.old table.new }
     ensures walking { Walks table.new program.now symbols.now shifts.new kept.new }
 {
-    let _ = symbols; // only the clauses speak of it
-    let mut fresh = PutMemo::new(table.allocator(), kept.left());
-    let walked = walk(table, shifts, &mut fresh, program, fuel, index, after)?;
-    kept.set_left(fresh.left());
-    Ok(walked)
+    // Only the clauses speak of them.
+    let _ = symbols;
+    let _ = &kept;
+    let mut fresh = PutMemo::new(table.allocator());
+    walk(table, shifts, &mut fresh, program, fuel, index, after)
 }
 
 /// That the walk from `target` holds where `taken` does, and the one from `next` where `passed` does.

@@ -1,6 +1,6 @@
 use Rattle.std.proofs.Common.{◌≡◌, IfOk, length, ◌∙◌, ap, subst}
 use Rattle.term_table.specs.Table.{tree_at, Extends}
-use Rattle.hereditary_subst.proofs.Rows.{grows_more}
+use Rattle.hereditary_subst.proofs.Rows.{grows_more, memo-more}
 use Rattle.lf_encode.specs.PutTree.{machine_terms_at}
 use Rattle.lf_encode.proofs.KeptRows.{ready-same}
 use Rattle.lf_signature.specs.Nodes.{IsIdOf}
@@ -16,7 +16,7 @@ walk-requires-clause-walking c =
     record {
       program = program-more c.args.table.now s c.args.program.now.code.now c.args.program.now.invs.now c.args.program.now.post c.requires.program c.in_ok-start.ensures.extends;
       ready = c.in_ok-start.ensures.ready;
-      shifts = c.new-shifts.ensures s;
+      shifts = memo-more c.args.shifts.now c.args.table.now s c.requires.shifts c.in_ok-start.ensures.extends;
       kept = c.new-kept.ensures s c.in_ok-start.start.regs c.in_ok-start.start.memory;
     }
 

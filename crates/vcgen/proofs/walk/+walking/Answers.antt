@@ -61,27 +61,15 @@ walk-returns-else-fuel-eq0-clause-id t c =
 
 -- ---- the walk with other terms
 
-pub walk_with-returns-in_err-walked-clause-walking : goal.walk_with-returns-in_err-walked-clause-walking
-walk_with-returns-in_err-walked-clause-walking t c =
-    let o = c.args.table.now in
-    let u = c.walk.new.table in
-    record {
-      program = program-more o u c.args.program.now.code.now c.args.program.now.invs.now c.args.program.now.post c.requires.walking.program c.in_err-walked.ensures.extends;
-      ready = ready-more o u c.args.symbols.now.regs c.args.symbols.now.memory c.requires.walking.ready c.in_err-walked.ensures.extends;
-      shifts = c.in_err-walked.ensures.walking.shifts;
-      kept = kept-ready c.args.kept.now o u c.args.symbols.now.regs c.args.symbols.now.memory c.requires.walking.kept c.requires.walking.ready c.in_err-walked.ensures.extends;
-    }
-
 pub walk_with-returns-clause-walking : goal.walk_with-returns-clause-walking
 walk_with-returns-clause-walking t c =
     let o = c.args.table.now in
     let u = c.walk.new.table in
-    let kept = kept-ready c.args.kept.now o u c.args.symbols.now.regs c.args.symbols.now.memory c.requires.walking.kept c.requires.walking.ready c.in_ok-walked.ensures.extends in
     record {
-      program = program-more o u c.args.program.now.code.now c.args.program.now.invs.now c.args.program.now.post c.requires.walking.program c.in_ok-walked.ensures.extends;
-      ready = ready-more o u c.args.symbols.now.regs c.args.symbols.now.memory c.requires.walking.ready c.in_ok-walked.ensures.extends;
-      shifts = c.in_ok-walked.ensures.walking.shifts;
-      kept = c.set_left.ensures u c.args.symbols.now.regs c.args.symbols.now.memory kept;
+      program = program-more o u c.args.program.now.code.now c.args.program.now.invs.now c.args.program.now.post c.requires.walking.program c.walk.ensures.extends;
+      ready = ready-more o u c.args.symbols.now.regs c.args.symbols.now.memory c.requires.walking.ready c.walk.ensures.extends;
+      shifts = c.walk.ensures.walking.shifts;
+      kept = kept-ready c.args.kept.now o u c.args.symbols.now.regs c.args.symbols.now.memory c.requires.walking.kept c.requires.walking.ready c.walk.ensures.extends;
     }
 
 -- ---- the walk behind an access, and both walks of a branch

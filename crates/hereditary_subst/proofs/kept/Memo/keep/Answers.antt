@@ -22,7 +22,7 @@ decides a b = subst (λ z. Decides z (a ≡ b)) (agrees a b) (decides_eq a b)
 
 pub returns-in_err-insert : goal.returns-in_err-insert
 returns-in_err-insert c =
-    record { each = λ q r i. c.requires.memo.each q r (sym (ap (lookup (is_at (block.ghosts.cmp q))) c.in_err-insert.ensures.err) ∙ i) }
+    record { each = λ q r i. (c.spend.ensures c.args.table.now c.requires.memo).each q r (sym (ap (lookup (is_at (block.ghosts.cmp q))) c.in_err-insert.ensures.err) ∙ i) }
 
 pub returns : goal.returns
 returns c =
@@ -32,5 +32,5 @@ returns c =
     subst (λ (z : ℕ). Says t c.args.question z row.met) (sym c.row_of-row.ensures.term)
     (subst (λ (z : Option ℕ). Says t c.args.question c.args.term z) (sym c.row_of-row.ensures.met) c.requires.says) in
     record {
-      each = memo-keep t (get block.ghosts.cmp c.args.self.now.rows) (get block.ghosts.cmp c.insert.new.self) (eq_by_cmp block.ghosts.cmp) c.args.question row decides c.requires.memo.each says c.in_ok-insert.ensures.updates.0;
+      each = memo-keep t (get block.ghosts.cmp c.spend.new.self.rows) (get block.ghosts.cmp c.insert.new.self) (eq_by_cmp block.ghosts.cmp) c.args.question row decides (c.spend.ensures t c.requires.memo).each says c.in_ok-insert.ensures.updates.0;
     }

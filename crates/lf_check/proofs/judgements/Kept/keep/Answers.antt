@@ -22,7 +22,7 @@ decides a b = subst (λ z. Decides z (a ≡ b)) (agrees a b) (decides_eq a b)
 
 pub returns-in_err-insert : goal.returns-in_err-insert
 returns-in_err-insert g c = record {
-  memo = c.requires.kept.memo;
+  memo = c.spend.ensures c.args.table.now c.requires.kept.memo;
   each = λ q v i. c.requires.kept.each q v (sym (ap (lookup (is_at (block.ghosts.cmp q))) c.in_err-insert.ensures.err) ∙ i);
 }
 
@@ -32,6 +32,6 @@ returns g c =
     let sig = g.S.Signature.declares c.args.sig.now t in
     let judges : IsJudgement sig t c.args.question c.number-n.result = subst (λ (z : ℕ). IsJudgement sig t c.args.question z) (sym c.number-n.ensures) c.requires.judges in
     record {
-      memo = c.requires.kept.memo;
+      memo = c.spend.ensures t c.requires.kept.memo;
       each = kept-one sig t (get block.ghosts.cmp c.args.self.now.rows) (get block.ghosts.cmp c.insert.new.self) (eq_by_cmp block.ghosts.cmp) c.args.question c.number-n.result decides c.requires.kept.each judges c.in_ok-insert.ensures.updates.0;
     }
