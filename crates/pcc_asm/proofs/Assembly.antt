@@ -1,0 +1,136 @@
+-- Instructions are those of a source, and are code, exactly where they pass the tests in their order.
+use Rattle.std.proofs.Common.{◌≡◌, ℕ, zero, suc, ◌+◌, ◌<◌, ◌≤◌, List, [], ◌∷◌, length, slice_get, Some, Result, Ok, Err, refl, sym, ap, ◌∙◌, subst, arith}
+use Rattle.std.specs.Prelude.{ℤ, pos, negsuc, ◌+ℤ◌, ◌≤ℤ◌, ◌↔◌}
+use Rattle.std.specs.List.{AllByRecursion}
+use Rattle.std.proofs.lemmas.Int.{ints}
+use Rattle.std.proofs.lemmas.Option.{same_Some}
+use Rattle.alpha_words.specs.declared.insn.Insn.{Insn}
+use Rattle.alpha_words.specs.declared.insn.Insn.TheVariants as I
+use Rattle.alpha_words.specs.Encoding.{HasBits, HasFields, Encodes}
+use Rattle.alpha_words.specs.Lawful.{HasFormat, target_of}
+use Rattle.alpha_words.proofs.Words.{Lawful-Encodes, Encodes-exactly}
+use Rattle.alpha_cfg.specs.Flow.{InsideOf, AreInsns, IsCode}
+use Rattle.asm_text.specs.Insns.{SourceInsn, Plain, BranchTo, BrTo}
+use Rattle.asm_text.specs.Sources.{Source, SpellsSource}
+use Rattle.pcc_asm.specs.declared.fault.AsmFlaw.{AsmFlaw}
+use Rattle.pcc_asm.specs.Words.{insn_word}
+use Rattle.pcc_asm.specs.Assembling.{IsResolved, AreResolved, IsAssembled, resolved_insns, as_code, assembled_code}
+use Rattle.pcc_asm.specs.Views.{IsSpelled}
+use Rattle.pcc_asm.specs.Inside.Views.{IsEncodable}
+use Rattle.pcc_asm.proofs.Resolved.{all-resolved, resolved-all, resolved-length}
+use Rattle.pcc_asm.proofs.Shaped.{IsLawful, unlawful-none, none-unlawful, AreInside, outside-none, inside-all, all-inside, off-false, false-off, Passes, passes, good_code}
+use Rattle.pcc_asm.proofs.Ranges.{HasRange, SaysRange, bounded}
+
+-- ---- the profile has what some word encodes
+
+all_lawful : (code : List Insn) → AreInsns code → AllByRecursion IsLawful code
+all_lawful [] h = tt
+all_lawful (x ∷ code) h = let first = h 0 x refl in ((Lawful-Encodes first.0 x first.1).0, all_lawful code (λ i insn e. h (suc i) insn e))
+
+pub assembled-code : (s : Source) (insns : List Insn) → IsAssembled s insns → assembled_code s ≡ Ok insns
+unfolding assembled_code
+assembled-code s insns h =
+    ap (as_code s.insns) (resolved-all s.labels 0 s.insns insns h.resolved)
+    ∙ good_code s.insns insns (none-unlawful s.insns insns (all_lawful insns h.code.encoded)) (all-inside insns h.code.inside) (false-off insns h.code.nonempty h.code.ends)
+
+-- ---- the word that is written encodes the instruction
+
+bounds_of : (n : ℕ) (z : ℤ) → InsideOf n (Some z) → (pos 0 ≤ℤ z) × (z ≤ℤ pos n)
+bounds_of n (pos k) h = (omega (arith, ints), omega (arith, ints))
+bounds_of n (negsuc k) h = absurd h
+
+has_bits : (n i : ℕ) (d : ℤ) → n ≤ 1024 → i < 1024 → InsideOf n (Some (pos (i + 1) +ℤ d)) → HasBits 20 d
+has_bits n i (pos m) a b h = let s = bounds_of n (pos (i + 1) +ℤ pos m) h in omega (arith, ints, s.0, s.1)
+has_bits n i (negsuc m) a b h = let s = bounds_of n (pos (i + 1) +ℤ negsuc m) h in omega (arith, ints, s.0, s.1)
+
+format_by : (n i : ℕ) (insn : Insn) → n ≤ 1024 → i < 1024 → InsideOf n (target_of i insn) → HasFormat insn
+format_by n i (I.Lda ra rb disp) a b h = tt
+format_by n i (I.Ldq ra rb disp) a b h = tt
+format_by n i (I.Stq ra rb disp) a b h = tt
+format_by n i (I.Oper op ra rhs rc) a b h = tt
+format_by n i (I.Branch c ra disp) a b h = has_bits n i disp a b h
+format_by n i (I.Br disp) a b h = has_bits n i disp a b h
+format_by n i I.Ret a b h = tt
+
+pub all_encodable : (n i : ℕ) (code : List Insn) → n ≤ 1024 → i + length code ≤ 1024 → AllByRecursion IsLawful code → AreInside n i code → AllByRecursion IsEncodable code
+all_encodable n i [] a b l h = tt
+all_encodable n i (x ∷ code) a b l h = ((l.0, format_by n i x a (omega arith) h.0), all_encodable n (suc i) code a (omega arith) l.1 h.1)
+
+has_fields : (insn : Insn) → HasRange insn → HasFormat insn → HasFields (insn_word insn) insn
+has_fields (I.Lda ra rb disp) r f = (r.0, r.1, r.2, refl)
+has_fields (I.Ldq ra rb disp) r f = (r.0, r.1, r.2, refl)
+has_fields (I.Stq ra rb disp) r f = (r.0, r.1, r.2, refl)
+has_fields (I.Oper op ra rhs rc) r f = (r.0, r.1, r.2, refl)
+has_fields (I.Branch c ra disp) r f = (r, f, refl)
+has_fields (I.Br disp) r f = (f, refl)
+has_fields I.Ret r f = (1, omega arith, refl)
+
+pub encodes_word : (insn : Insn) → HasRange insn → IsEncodable insn → Encodes (insn_word insn) insn
+encodes_word insn r e = (Encodes-exactly (insn_word insn) insn).1 (has_fields insn r e.1, e.0)
+
+resolved_range : (labels : List (List ℕ × ℕ)) (i : ℕ) (x : SourceInsn) (insn : Insn) → IsResolved labels i x insn → SaysRange x → HasRange insn
+resolved_range labels i (Plain p) insn h r = subst HasRange (sym h) r
+resolved_range labels i (BranchTo c ra l) insn h r = subst HasRange (sym h.3) r
+resolved_range labels i (BrTo l) insn h r = subst HasRange (sym h.3) tt
+
+pub all_ranges : (labels : List (List ℕ × ℕ)) (i : ℕ) (xs : List (ℕ × SourceInsn)) (code : List Insn) → AreResolved labels i xs code → AllByRecursion (λ x. SaysRange x.1) xs → AllByRecursion HasRange code
+all_ranges labels i [] [] h r = tt
+all_ranges labels i [] (insn ∷ code) h r = absurd h
+all_ranges labels i (x ∷ xs) [] h r = absurd h
+all_ranges labels i (x ∷ xs) (insn ∷ code) h r = (resolved_range labels i x.1 insn h.0 r.0, all_ranges labels (suc i) xs code h.1 r.1)
+
+pub at_index : {X : Type 0} (P : X → Type 0) (xs : List X) (i : ℕ) (x : X) → AllByRecursion P xs → slice_get xs i ≡ Some x → P x
+at_index P [] i x h e = cc
+at_index P (y ∷ xs) zero x h e = subst P (same_Some y x e) h.0
+at_index P (y ∷ xs) (suc i) x h e = at_index P xs i x h.1 e
+
+-- ---- what passes the tests
+
+-- what a source and its code give together
+pub record IsSound (s : Source) (insns : List Insn) : Type 0 where
+  pub resolved : AreResolved s.labels 0 s.insns insns
+  pub count : length insns ≡ length s.insns
+  pub passes : Passes s.insns insns insns
+  pub inside : AreInside (length insns) 0 insns
+  pub encodable : AllByRecursion IsEncodable insns
+  pub ranges : AllByRecursion HasRange insns
+
+pub sound_by : (text : List ℕ) (s : Source) (insns : List Insn) → SpellsSource text s → resolved_insns s.labels 0 s.insns ≡ Ok insns → Passes s.insns insns insns → IsSound s insns
+sound_by text s insns h e p =
+    let resolved = all-resolved s.labels 0 s.insns insns e in
+    let count = resolved-length s.labels 0 s.insns insns resolved in
+    let inside = outside-none (length insns) 0 insns p.inside in
+    record {
+      resolved = resolved;
+      count = count;
+      passes = p;
+      inside = inside;
+      encodable = all_encodable (length insns) 0 insns (omega (arith, count, h.sound.insns)) (omega (arith, count, h.sound.insns)) (unlawful-none s.insns insns count p.lawful) inside;
+      ranges = all_ranges s.labels 0 s.insns insns resolved (bounded text s h).insns;
+    }
+
+pub sound_code : (text : List ℕ) (s : Source) (insns : List Insn) → SpellsSource text s → IsSound s insns → IsCode insns
+sound_code text s insns h k = record {
+  nonempty = omega (arith, k.count, h.sound.some);
+  short = omega (arith, k.count, h.sound.insns);
+  encoded = λ i insn e. (insn_word insn, encodes_word insn (at_index HasRange insns i insn k.ranges e) (at_index IsEncodable insns i insn k.encodable e));
+  inside = inside-all insns k.inside;
+  ends = off-false insns (omega (arith, k.count, h.sound.some)) k.passes.ends;
+}
+
+pub sound_assembled : (text : List ℕ) (s : Source) (insns : List Insn) → SpellsSource text s → IsSound s insns → IsAssembled s insns
+sound_assembled text s insns h k = record { resolved = k.resolved; code = sound_code text s insns h k }
+
+code_by : (text : List ℕ) (s : Source) (insns : List Insn) (r : Result (List Insn) AsmFlaw) → SpellsSource text s → resolved_insns s.labels 0 s.insns ≡ r → as_code s.insns r ≡ Ok insns → IsSound s insns
+code_by text s insns (Err k) h e f = cc
+code_by text s insns (Ok all) h e f =
+    let p = passes s.insns all insns f in
+    let same : all ≡ insns = p.same in
+    sound_by text s insns h (e ∙ ap Ok same) (subst (λ y. Passes s.insns y insns) same p)
+
+pub code_sound : (text : List ℕ) (s : Source) (insns : List Insn) → SpellsSource text s → assembled_code s ≡ Ok insns → IsSound s insns
+unfolding assembled_code
+code_sound text s insns h e = code_by text s insns (resolved_insns s.labels 0 s.insns) h refl e
+
+pub law : (s : Source) (insns : List Insn) → IsSpelled s → IsAssembled s insns ↔ (assembled_code s ≡ Ok insns)
+law s insns h = (λ a. assembled-code s insns a, λ e. sound_assembled h.0 s insns h.1 (code_sound h.0 s insns h.1 e))

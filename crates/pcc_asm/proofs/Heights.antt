@@ -1,0 +1,105 @@
+-- The tokens of a text are no longer than it, and a formula no higher than its tokens are long.
+use Rattle.std.proofs.Common.{◌≡◌, ℕ, ◌+◌, ◌≤◌, max, List, [], ◌∷◌, ◌++◌, length, ap, ◌∙◌, arith, length-append}
+use Rattle.formula_tree.specs.Formulas.{Exp, EReg, ELeft, EVar, ELit, EOp, ESel, MemExp, MMem, MVar, MUpd, Form, FTrue, FFalse, FRel, FRd, FWr, FAnd, FOr, FImp, FAll, FAllm}
+use Rattle.formula_tree.specs.Sizes.{exp_height, mem_height, form_height}
+use Rattle.formula_text.specs.declared.parens.Paren.{Paren}
+use Rattle.formula_text.specs.declared.parens.Paren.TheVariants as P
+use Rattle.formula_text.specs.declared.keywords.PhraseSort.TheVariants as S
+use Rattle.formula_text.specs.declared.keywords.Keyword.{Keyword}
+use Rattle.formula_text.specs.declared.keywords.Keyword.TheVariants as K
+use Rattle.formula_text.specs.Tokens.{Token, Mark, Lexeme, Consists, nothing, blank, mark, lexeme, token_length}
+use Rattle.formula_text.specs.Keywords.{keyword_text}
+use Rattle.formula_text.specs.Bindings.{Bindings}
+use Rattle.formula_text.specs.Grammar.{paren_class, group, SpellsExp, SpellsMem, SpellsForm}
+use Rattle.formula_text.proofs.Closed.{spelled_closed}
+use Rattle.pcc_asm.specs.Inside.Views.{IsEncodableForm}
+use Rattle.pcc_asm.proofs.Ranges.{IsTextual}
+
+-- how many bytes the tokens have
+abbrev pub size : List (Token Paren) → ℕ
+size [] = 0
+size (t ∷ ts) = token_length t + size ts
+
+pub size-append : (us vs : List (Token Paren)) → size (us ++ vs) ≡ size us + size vs
+size-append [] vs = omega arith
+size-append (u ∷ us) vs = let h = size-append us vs in omega (arith, h)
+
+pub size-group : (k : Keyword) (ts : List (Token Paren)) → size (group k ts) ≡ 2 + (length (keyword_text k) + size ts)
+size-group k ts = let h = size-append ts (Mark P.Close ∷ []) in omega (arith, h)
+
+pub size-two : (k : Keyword) (us vs ts : List (Token Paren)) → ts ≡ group k (us ++ vs) → size ts ≡ 2 + (length (keyword_text k) + (size us + size vs))
+size-two k us vs ts e = let h = size-append us vs in ap size e ∙ size-group k (us ++ vs) ∙ ap (λ n. 2 + (length (keyword_text k) + n)) h
+
+pub size-one : (k : Keyword) (us ts : List (Token Paren)) → ts ≡ group k us → size ts ≡ 2 + (length (keyword_text k) + size us)
+size-one k us ts e = ap size e ∙ size-group k us
+
+pub size-within : (text : List ℕ) (ts : List (Token Paren)) → Consists paren_class text ts → size ts ≤ length text
+size-within text ts (nothing) = omega arith
+size-within text ts (blank c h) = let k = size-within _ _ h in omega (arith, k)
+size-within text ts (mark c h) = let k = size-within _ _ h in omega (arith, k)
+size-within text ts (lexeme {w = w} {bs = bs} l g h) = let k = size-within _ _ h in let a = length-append w bs in omega (arith, k, a)
+
+high : (a b n : ℕ) → a ≤ 1 + n → b ≤ 1 + n → max a b ≤ 1 + n
+high a b n h g = omega (arith, h, g)
+
+mutual
+  exp_high : (a : Exp) (s : Bindings) (ts : List (Token Paren)) → SpellsExp a s ts → exp_height a ≤ 1 + size ts
+  exp_high (EReg r) s ts h = omega arith
+  exp_high ELeft s ts h = absurd h
+  exp_high (EVar n) s ts h = omega arith
+  exp_high (ELit n) s ts h = omega arith
+  exp_high (EOp o a b) s ts h =
+      let z = size-two (K.Oper o) h.0 h.1 ts h.4 in
+      let l = exp_high a s h.0 h.2 in
+      let r = exp_high b s h.1 h.3 in
+      omega (arith, z, l, r)
+  exp_high (ESel m a) s ts h =
+      let z = size-two K.Sel h.0 h.1 ts h.4 in
+      let l = mem_high m s h.0 h.2 in
+      let r = exp_high a s h.1 h.3 in
+      omega (arith, z, l, r)
+
+  mem_high : (m : MemExp) (s : Bindings) (ts : List (Token Paren)) → SpellsMem m s ts → mem_height m ≤ 1 + size ts
+  mem_high MMem s ts h = omega arith
+  mem_high (MVar n) s ts h = omega arith
+  mem_high (MUpd m a v) s ts h =
+      let y = size-append h.0 h.1 in
+      let z = size-two K.Upd (h.0 ++ h.1) h.2 ts h.6 in
+      let l = mem_high m s h.0 h.3 in
+      let r = exp_high a s h.1 h.4 in
+      let w = exp_high v s h.2 h.5 in
+      omega (arith, y, z, l, r, w)
+
+form_high : (F : Form) (s : Bindings) (ts : List (Token Paren)) → SpellsForm F s ts → form_height F ≤ 1 + size ts
+form_high FTrue s ts h = omega arith
+form_high FFalse s ts h = omega arith
+form_high (FRel p a b) s ts h =
+    let z = size-two (K.Rel p) h.0 h.1 ts h.4 in
+    let l = exp_high a s h.0 h.2 in
+    let r = exp_high b s h.1 h.3 in
+    omega (arith, z, l, r)
+form_high (FRd a) s ts h = let z = size-one K.Rd h.0 ts h.2 in let l = exp_high a s h.0 h.1 in omega (arith, z, l)
+form_high (FWr a) s ts h = let z = size-one K.Wr h.0 ts h.2 in let l = exp_high a s h.0 h.1 in omega (arith, z, l)
+form_high (FAnd A B) s ts h =
+    let z = size-two K.And h.0 h.1 ts h.4 in
+    let l = form_high A s h.0 h.2 in
+    let r = form_high B s h.1 h.3 in
+    omega (arith, z, l, r)
+form_high (FOr A B) s ts h =
+    let z = size-two K.Or h.0 h.1 ts h.4 in
+    let l = form_high A s h.0 h.2 in
+    let r = form_high B s h.1 h.3 in
+    omega (arith, z, l, r)
+form_high (FImp A B) s ts h =
+    let z = size-two K.Imp h.0 h.1 ts h.4 in
+    let l = form_high A s h.0 h.2 in
+    let r = form_high B s h.1 h.3 in
+    omega (arith, z, l, r)
+form_high (FAll A) s ts h = let z = size-one K.All (Lexeme h.0 ∷ h.1) ts h.4 in let l = form_high A ((h.0, S.Exp) ∷ s) h.1 h.3 in omega (arith, z, l)
+form_high (FAllm A) s ts h = let z = size-one K.Allm (Lexeme h.0 ∷ h.1) ts h.4 in let l = form_high A ((h.0, S.Mem) ∷ s) h.1 h.3 in omega (arith, z, l)
+
+pub textual_closed : (F : Form) → IsTextual F → IsEncodableForm F
+textual_closed F h =
+    let k = form_high F [] h.2.tokens h.2.spelled in
+    let w = size-within h.0 h.2.tokens h.2.consists in
+    (spelled_closed h.0 F h.2, omega (arith, k, w, h.1))

@@ -1,0 +1,193 @@
+-- What is assembled keeps to the limits: its terms are low, and its entries short.
+use Rattle.std.proofs.Common.{◌≡◌, ℕ, suc, ◌+◌, ◌*◌, ◌≤◌, Bool, true, false, cond, List, [], ◌∷◌, ◌++◌, length, map, Result, Ok, Err, IfOk, refl, sym, subst, arith, length-append}
+use Rattle.std.specs.Prelude.{nat_lt}
+use Rattle.std.specs.List.{AllByRecursion, flat_map}
+use Rattle.std.proofs.lemmas.List.{length-map}
+use Rattle.alpha_words.specs.declared.insn.Insn.{Insn}
+use Rattle.policy_set.specs.declared.kind.PolicyKind.{PolicyKind}
+use Rattle.formula_tree.specs.Formulas.{Exp, EReg, ELeft, EVar, ELit, EOp, ESel, MemExp, MMem, MVar, MUpd, Form, FTrue, FFalse, FRel, FRd, FWr, FAnd, FOr, FImp, FAll, FAllm}
+use Rattle.formula_tree.specs.Scope.{VarSort, OfWord, OfMem, IsOverExp, IsOverMem, IsOver}
+use Rattle.term_table.specs.Tree.{Tree, Var, Con, App, Lam, Fam, TApp, Pi, Const, Num, Lit, Calc, Fact, Deny}
+use Rattle.term_table.specs.Measures.{height_of}
+use Rattle.lf_encode.specs.Encoding.{exp_encoding, mem_encoding, form_encoding}
+use Rattle.lf_encode.specs.Contexts.{machine_context, encoding_in}
+use Rattle.lf_encode.specs.Inside.Naming.{named_exp, named_mem, named_form}
+use Rattle.proof_container.specs.Contents.{Contents, roots}
+use Rattle.proof_container.specs.Postorder.{is_emitted, emitted_with, emitted_with_all, entries}
+use Rattle.proof_container.specs.Encoding.{field_bytes, entry_fields, inv_fields, proof_field, head_fields, tail_fields, encoding_of}
+use Rattle.proof_container.proofs.FieldLaws.{length-field_bytes}
+use Rattle.asm_text.specs.declared.limits.TheConstants.{MAX_LINE}
+use Rattle.asm_text.specs.Sources.{Source}
+use Rattle.pcc_asm.specs.declared.fault.AsmFault.{AsmFault}
+use Rattle.pcc_asm.specs.Assembling.{inv_encodings, plain_contents}
+use Rattle.pcc_asm.specs.Views.{IsSpelled, IsAsmAnswer}
+use Rattle.pcc_asm.specs.Limits.{IsWithinLimits}
+use Rattle.pcc_asm.proofs.Ranges.{IsTextual, bounded}
+use Rattle.pcc_asm.proofs.Heights.{textual_closed}
+use Rattle.pcc_asm.proofs.Counting.{heavy, textual_light, encoding-named, entries_few}
+use Rattle.pcc_asm.proofs.Assembly.{IsSound}
+use Rattle.pcc_asm.proofs.Written.{bytes_length}
+use Rattle.pcc_asm.proofs.Answering.{contents_sound}
+
+-- ---- heights
+
+high-heavy : (t : Tree) → height_of t ≤ suc (heavy t)
+high-heavy (Var n) = omega arith
+high-heavy (Con c) = omega arith
+high-heavy (App f a) = let h = high-heavy f in let g = high-heavy a in omega (arith, h, g)
+high-heavy (Lam b) = let h = high-heavy b in omega (arith, h)
+high-heavy (Fam a) = omega arith
+high-heavy (TApp p a) = let h = high-heavy p in let g = high-heavy a in omega (arith, h, g)
+high-heavy (Pi a b) = let h = high-heavy a in let g = high-heavy b in omega (arith, h, g)
+
+all_low : (invs : List (ℕ × Form)) → AllByRecursion (λ x. IsTextual x.1) invs → AllByRecursion (λ p. height_of p.1 ≤ MAX_LINE) (inv_encodings invs)
+all_low [] h = tt
+all_low (v ∷ invs) h = let l = textual_light v.1 h.0 in let k = high-heavy (encoding_in machine_context v.1) in (omega (arith, l, k), all_low invs h.1)
+
+-- ---- entries of at most three fields
+
+abbrev IsPlainConst : Const → Type 0
+IsPlainConst (Num n) = Unit {0}
+IsPlainConst (Lit w) = Unit {0}
+IsPlainConst (Calc o a b) = ⊥
+IsPlainConst (Fact p a b) = ⊥
+IsPlainConst (Deny p a b) = ⊥
+
+-- a tree with no evaluation, fact or denial
+abbrev IsPlain : Tree → Type 0
+IsPlain (Var n) = Unit {0}
+IsPlain (Con c) = IsPlainConst c
+IsPlain (App f a) = IsPlain f × IsPlain a
+IsPlain (Lam b) = IsPlain b
+IsPlain (Fam a) = Unit {0}
+IsPlain (TApp p a) = IsPlain p × IsPlain a
+IsPlain (Pi a b) = IsPlain a × IsPlain b
+
+reg_plain : (n : ℕ) (b : Bool) → IsPlain (exp_encoding (cond b (EVar n) (ELit 0)))
+reg_plain n true = tt
+reg_plain n false = tt
+
+mutual
+  exp_plain : (a : Exp) (d : ℕ) (G : List VarSort) → IsOverExp 32 a G → IsPlain (exp_encoding (named_exp d a))
+  exp_plain (EReg r) d G h = reg_plain _ (nat_lt r 31)
+  exp_plain ELeft d G h = absurd h
+  exp_plain (EVar n) d G h = tt
+  exp_plain (ELit w) d G h = tt
+  exp_plain (EOp o a b) d G h = ((tt, exp_plain a d G h.0), exp_plain b d G h.1)
+  exp_plain (ESel m a) d G h = ((tt, mem_plain m d G h.0), exp_plain a d G h.1)
+
+  mem_plain : (m : MemExp) (d : ℕ) (G : List VarSort) → IsOverMem 32 m G → IsPlain (mem_encoding (named_mem d m))
+  mem_plain MMem d G h = tt
+  mem_plain (MVar n) d G h = tt
+  mem_plain (MUpd m a v) d G h = (((tt, mem_plain m d G h.0), exp_plain a d G h.1), exp_plain v d G h.2)
+
+form_plain : (F : Form) (d : ℕ) (G : List VarSort) → IsOver 32 F G → IsPlain (form_encoding (named_form d F))
+form_plain FTrue d G h = tt
+form_plain FFalse d G h = tt
+form_plain (FRel p a b) d G h = ((tt, exp_plain a d G h.0), exp_plain b d G h.1)
+form_plain (FRd a) d G h = (tt, exp_plain a d G h)
+form_plain (FWr a) d G h = (tt, exp_plain a d G h)
+form_plain (FAnd A B) d G h = ((tt, form_plain A d G h.0), form_plain B d G h.1)
+form_plain (FOr A B) d G h = ((tt, form_plain A d G h.0), form_plain B d G h.1)
+form_plain (FImp A B) d G h = ((tt, form_plain A d G h.0), form_plain B d G h.1)
+form_plain (FAll A) d G h = (tt, form_plain A (suc d) (OfWord ∷ G) h)
+form_plain (FAllm A) d G h = (tt, form_plain A (suc d) (OfMem ∷ G) h)
+
+abbrev AllPlain : List Tree → Type 0
+AllPlain ts = AllByRecursion IsPlain ts
+
+last_plain : (ts : List Tree) (t : Tree) → AllPlain ts → IsPlain t → AllPlain (ts ++ t ∷ [])
+last_plain [] t h k = (k, tt)
+last_plain (u ∷ ts) t h k = (h.0, last_plain ts t h.1 k)
+
+unless_plain : (b : Bool) (t : Tree) (ts more : List Tree) → IsPlain t → AllPlain ts → AllPlain more → AllPlain (cond b ts (more ++ t ∷ []))
+unless_plain true t ts more k h g = h
+unless_plain false t ts more k h g = last_plain more t g k
+
+emitted_plain : (t : Tree) (ts : List Tree) → IsPlain t → AllPlain ts → AllPlain (emitted_with t ts)
+emitted_plain (Var n) ts k h = unless_plain (is_emitted (Var n) ts) (Var n) ts ts k h h
+emitted_plain (Con c) ts k h = unless_plain (is_emitted (Con c) ts) (Con c) ts ts k h h
+emitted_plain (App f a) ts k h = unless_plain (is_emitted (App f a) ts) (App f a) ts (emitted_with a (emitted_with f ts)) k h (emitted_plain a (emitted_with f ts) k.1 (emitted_plain f ts k.0 h))
+emitted_plain (Lam b) ts k h = unless_plain (is_emitted (Lam b) ts) (Lam b) ts (emitted_with b ts) k h (emitted_plain b ts k h)
+emitted_plain (Fam a) ts k h = unless_plain (is_emitted (Fam a) ts) (Fam a) ts ts k h h
+emitted_plain (TApp p a) ts k h = unless_plain (is_emitted (TApp p a) ts) (TApp p a) ts (emitted_with a (emitted_with p ts)) k h (emitted_plain a (emitted_with p ts) k.1 (emitted_plain p ts k.0 h))
+emitted_plain (Pi a b) ts k h = unless_plain (is_emitted (Pi a b) ts) (Pi a b) ts (emitted_with b (emitted_with a ts)) k h (emitted_plain b (emitted_with a ts) k.1 (emitted_plain a ts k.0 h))
+
+all_plain : (rs ts : List Tree) → AllPlain rs → AllPlain ts → AllPlain (emitted_with_all rs ts)
+all_plain [] ts k h = h
+all_plain (r ∷ rs) ts k h = all_plain rs (emitted_with r ts) k.1 (emitted_plain r ts k.0 h)
+
+entries_plain : (rs : List Tree) → AllPlain rs → AllPlain (entries rs)
+unfolding entries
+entries_plain rs k = all_plain rs [] k tt
+
+roots_plain : (invs : List (ℕ × Form)) → AllByRecursion (λ x. IsTextual x.1) invs → AllPlain (map (λ p. p.1) (inv_encodings invs) ++ [])
+roots_plain [] h = tt
+roots_plain (v ∷ invs) h = (subst IsPlain (sym (encoding-named v.1)) (form_plain v.1 0 [] (textual_closed v.1 h.0).0), roots_plain invs h.1)
+
+const_short : (es : List Tree) (c : Const) → IsPlainConst c → length (entry_fields es (Con c)) ≤ 3
+const_short es (Num n) k = omega arith
+const_short es (Lit w) k = omega arith
+const_short es (Calc o a b) k = absurd k
+const_short es (Fact p a b) k = absurd k
+const_short es (Deny p a b) k = absurd k
+
+fields_short : (es : List Tree) (t : Tree) → IsPlain t → length (entry_fields es t) ≤ 3
+fields_short es (Var n) k = omega arith
+fields_short es (Con c) k = const_short es c k
+fields_short es (App f a) k = omega arith
+fields_short es (Lam b) k = omega arith
+fields_short es (Fam a) k = omega arith
+fields_short es (TApp p a) k = omega arith
+fields_short es (Pi a b) k = omega arith
+
+entries_short : (es us : List Tree) → AllPlain us → length (flat_map (entry_fields es) us) ≤ 3 * length us
+entries_short es [] k = omega arith
+entries_short es (u ∷ us) k =
+    let a : length (flat_map (entry_fields es) (u ∷ us)) ≡ length (entry_fields es u) + length (flat_map (entry_fields es) us) = length-append (entry_fields es u) (flat_map (entry_fields es) us) in
+    let f = fields_short es u k.0 in
+    let h = entries_short es us k.1 in
+    omega (arith, a, f, h)
+
+invs_short : (es : List Tree) (invs : List (ℕ × Tree)) → length (flat_map (inv_fields es) invs) ≡ 2 * length invs
+invs_short es [] = refl
+invs_short es (v ∷ invs) = let h = invs_short es invs in omega (arith, h)
+
+-- ---- the whole
+
+tail_length : (es : List Tree) (c : Contents) → length (tail_fields es c) ≡ 3 + (length (flat_map (entry_fields es) es) + length (flat_map (inv_fields es) c.invs))
+tail_length es c =
+    let es_fields = flat_map (entry_fields es) es in
+    let inv_part = flat_map (inv_fields es) c.invs in
+    let last = proof_field es c.proof ∷ [] in
+    let a = length-append (length es ∷ es_fields) ((length c.invs ∷ inv_part) ++ last) in
+    let b = length-append (length c.invs ∷ inv_part) last in
+    omega (arith, a, b)
+
+encoding_length : (c : Contents) → length (encoding_of c) ≡ 16 + (length c.code + 4 * length (tail_fields (entries (roots c)) c))
+unfolding encoding_of
+encoding_length c =
+    let tail = field_bytes (tail_fields (entries (roots c)) c) in
+    let a = length-append (field_bytes (head_fields c)) (c.code ++ tail) in
+    let b = length-append c.code tail in
+    let h : length (field_bytes (head_fields c)) ≡ 16 = length-field_bytes (head_fields c) in
+    let t : length tail ≡ 4 * length (tail_fields (entries (roots c)) c) = length-field_bytes (tail_fields (entries (roots c)) c) in
+    omega (arith, a, b, h, t)
+
+pub within_limits : (policy : PolicyKind) (s : Source) (insns : List Insn) → IsSpelled s → IsSound s insns → IsWithinLimits (plain_contents policy s.invs insns)
+within_limits policy s insns h k =
+    let texts = (bounded h.0 s h.1).invs in
+    let c = plain_contents policy s.invs insns in
+    let es = entries (roots c) in
+    let few = entries_few s.invs h.1.sound.invs texts in
+    let fields = entries_short es es (entries_plain (roots c) (roots_plain s.invs texts)) in
+    let count : length (inv_encodings s.invs) ≡ length s.invs = length-map s.invs (λ (p : ℕ × Form). (p.0, encoding_in machine_context p.1)) in
+    let places = invs_short es (inv_encodings s.invs) in
+    let tail = tail_length es c in
+    let all = encoding_length c in
+    let code = bytes_length insns in
+    record { low = all_low s.invs texts; bytes = omega (arith, few, fields, count, places, tail, all, code, k.count, h.1.sound.insns, h.1.sound.invs) }
+
+pub answer_limits : (policy : PolicyKind) (s : Source) (r : Result Contents AsmFault) → IsSpelled s → IsAsmAnswer policy s r → IfOk r IsWithinLimits
+answer_limits policy s (Ok c) h e = let k = contents_sound policy s c h e in subst IsWithinLimits k.2 (within_limits policy s k.0 h k.1)
+answer_limits policy s (Err f) h e = tt

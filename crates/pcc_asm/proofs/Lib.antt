@@ -1,0 +1,12 @@
+pub mod Resolved
+pub mod Shaped
+pub mod Ranges
+pub mod Assembly
+pub mod Labelled
+pub mod Walking
+pub mod Written
+pub mod Terms
+pub mod Heights
+pub mod Counting
+pub mod Answering
+pub mod Lengths

@@ -1,0 +1,188 @@
+-- What the grammar of sources says of numbers: registers, literals, displacements, labels' indices, and invariants.
+use Rattle.std.proofs.Common.{◌≡◌, ⊎_elim, ℕ, zero, suc, ◌+◌, ◌<◌, ◌≤◌, Bool, true, false, List, [], ◌∷◌, ◌++◌, length, Option, Some, None, sym, ap, ◌∙◌, subst, arith, length-append}
+use Rattle.std.specs.Prelude.{ℤ, pos, ◌==◌, cond, codes}
+use Rattle.std.specs.List.{AllByRecursion}
+use Rattle.std.proofs.lemmas.Bool.{true≢false}
+use Rattle.std.proofs.lemmas.Option.{slice_get_within}
+use Rattle.alpha_words.specs.declared.insn.Insn.{Insn}
+use Rattle.alpha_words.specs.declared.insn.Insn.TheVariants as I
+use Rattle.alpha_words.specs.declared.insn.Rhs.{Rhs}
+use Rattle.alpha_words.specs.declared.insn.Rhs.TheVariants as R
+use Rattle.alpha_words.specs.Encoding.{HasBits, IsRhs}
+use Rattle.formula_tree.specs.Formulas.{Form}
+use Rattle.formula_text.specs.Tokens.{Token}
+use Rattle.formula_text.specs.Grammar.{Spells}
+use Rattle.formula_text.specs.Registers.{registers, IsRegister}
+use Rattle.formula_text.proofs.Known.{length-registers}
+use Rattle.asm_text.specs.declared.limits.TheConstants.{MAX_INSNS, MAX_LINE}
+use Rattle.asm_text.specs.declared.marks.Punct.{Punct}
+use Rattle.asm_text.specs.Integers.{integer_value}
+use Rattle.asm_text.specs.Insns.{SourceInsn, Plain, BranchTo, BrTo, IsDisplacement, SpellsMemory, SpellsRhs, SpellsOperate, SpellsInsn}
+use Rattle.asm_text.specs.Statements.{Statement, NoStatement, AnInsn, AnInv, Content, SpellsStatement, SpellsBody, before_comment, SpellsLine}
+use Rattle.asm_text.specs.Sources.{Source, AreSpelled, insn_count, add_insn, add_label, add_inv, insns_from, labels_from, invs_from, SpellsSource}
+
+-- ---- one instruction
+
+-- the fields of an instruction fit; a branch's displacement isn't spelled
+abbrev pub HasRange : Insn → Type 0
+HasRange (I.Lda ra rb disp) = (ra < 32) × (rb < 32) × HasBits 15 disp
+HasRange (I.Ldq ra rb disp) = (ra < 32) × (rb < 32) × HasBits 15 disp
+HasRange (I.Stq ra rb disp) = (ra < 32) × (rb < 32) × HasBits 15 disp
+HasRange (I.Oper op ra rhs rc) = (ra < 32) × IsRhs rhs × (rc < 32)
+HasRange (I.Branch c ra disp) = ra < 32
+HasRange (I.Br disp) = Unit {0}
+HasRange I.Ret = Unit {0}
+
+-- the same of an instruction of a source
+abbrev pub SaysRange : SourceInsn → Type 0
+SaysRange (Plain i) = HasRange i
+SaysRange (BranchTo c ra l) = ra < 32
+SaysRange (BrTo l) = Unit {0}
+
+register_below : (r : ℕ) (w : List ℕ) → IsRegister r w → r < 32
+register_below r w h = let l = slice_get_within registers r h.0 h.1 in omega (arith, l, length-registers)
+
+minus_bits : (n : ℕ) → n ≤ 32768 → HasBits 15 (integer_value (true, n))
+minus_bits zero h = omega arith
+minus_bits (suc n) h = omega (arith, h)
+
+displacement_bits : (b : Bool) (n : ℕ) → IsDisplacement (b, n) → HasBits 15 (integer_value (b, n))
+displacement_bits true n h = ⊎_elim (λ p. minus_bits n p.1) (λ p. absurd (true≢false p.0)) h
+displacement_bits false n h = ⊎_elim (λ p. absurd (true≢false (sym p.0))) (λ p. p.1) h
+
+memory_range : (ra rb : ℕ) (disp : ℤ) (ts : List (Token Punct)) → SpellsMemory ra rb disp ts → (ra < 32) × (rb < 32) × HasBits 15 disp
+memory_range ra rb disp ts h =
+    let zero_bits : HasBits 15 (pos 0) = omega arith in
+    (register_below ra h.0 h.2, register_below rb h.1 h.3, ⊎_elim (λ p. subst (HasBits 15) (sym p.1) zero_bits) (λ p. subst (HasBits 15) (sym p.4) (displacement_bits p.1.0 p.1.1 p.3)) h.4)
+
+rhs_range : (rhs : Rhs) (w : List ℕ) → SpellsRhs rhs w → IsRhs rhs
+rhs_range (R.Reg r) w h = register_below r w h
+rhs_range (R.Lit n) w h = h.2.2
+
+operate_range : (ra rc : ℕ) (rhs : Rhs) (ts : List (Token Punct)) → SpellsOperate ra rhs rc ts → (ra < 32) × IsRhs rhs × (rc < 32)
+operate_range ra rc rhs ts h = (register_below ra h.0 h.3, rhs_range rhs h.1 h.4, register_below rc h.2 h.5)
+
+nop_range : (ra rc : ℕ) (rhs : Rhs) → ra ≡ 31 → rhs ≡ R.Reg 31 → rc ≡ 31 → (ra < 32) × IsRhs rhs × (rc < 32)
+nop_range ra rc rhs e f g = let low : IsRhs (R.Reg 31) = omega arith in (omega (arith, e), subst IsRhs (sym f) low, omega (arith, g))
+
+insn_range : (i : SourceInsn) (ts : List (Token Punct)) → SpellsInsn i ts → SaysRange i
+insn_range (Plain (I.Lda ra rb disp)) ts h = memory_range ra rb disp h.0 h.1
+insn_range (Plain (I.Ldq ra rb disp)) ts h = memory_range ra rb disp h.0 h.1
+insn_range (Plain (I.Stq ra rb disp)) ts h = memory_range ra rb disp h.0 h.1
+insn_range (Plain (I.Oper op ra rhs rc)) ts h = ⊎_elim (λ p. operate_range ra rc rhs p.0 p.1) (λ p. nop_range ra rc rhs p.0.1 p.0.2 p.0.3) h
+insn_range (Plain (I.Branch c ra disp)) ts h = absurd h
+insn_range (Plain (I.Br disp)) ts h = absurd h
+insn_range (Plain I.Ret) ts h = tt
+insn_range (BranchTo c ra l) ts h = register_below ra h.1.0 h.1.1
+insn_range (BrTo l) ts h = tt
+
+-- ---- one line
+
+shorter_by : (t : Bool) (b : ℕ) (front bs : List ℕ) → length front ≤ length bs → length (cond t [] (b ∷ front)) ≤ length (b ∷ bs)
+shorter_by true b front bs h = omega arith
+shorter_by false b front bs h = omega (arith, h)
+
+before-shorter : (text : List ℕ) → length (before_comment text) ≤ length text
+before-shorter [] = omega arith
+before-shorter (b ∷ bs) = shorter_by (b == 35) b (before_comment bs) bs (before-shorter bs)
+
+-- the statement of a line, in a text that isn't longer
+abbrev Says : Statement → ℕ → Type 0
+Says s n = (text : List ℕ) × (length text ≤ n) × SpellsStatement s text
+
+behind_label : (l : Option (List ℕ)) (s : Statement) (text : List ℕ) → SpellsBody l s text → Says s (length text)
+behind_label None s text h = (text, omega arith, h)
+behind_label (Some l) s text h =
+    let a = ap length h.6 ∙ length-append h.0 (l ++ (h.1 ++ (58 ∷ h.2))) in
+    let b = length-append l (h.1 ++ (58 ∷ h.2)) in
+    let d = length-append h.1 (58 ∷ h.2) in
+    (h.2, omega (arith, a, b, d), h.7)
+
+line_says : (line : List ℕ) (c : Content) → SpellsLine line c → Says c.statement MAX_LINE
+line_says line c h =
+    let s = behind_label c.label c.statement (before_comment line) h.body in
+    (s.0, omega (arith, s.1, before-shorter line, h.short), s.2)
+
+-- a text of at most 2,044 bytes spells the formula
+abbrev pub IsTextual : Form → Type 0
+IsTextual F = (text : List ℕ) × (length text ≤ 2044) × Spells text F
+
+-- what a statement's numbers are
+abbrev Fits : Statement → Type 0
+Fits NoStatement = Unit {0}
+Fits (AnInsn i) = SaysRange i
+Fits (AnInv F) = IsTextual F
+
+fits : (s : Statement) → Says s MAX_LINE → Fits s
+fits NoStatement h = tt
+fits (AnInsn i) h = insn_range i h.2.0 h.2.2
+fits (AnInv F) h =
+    let t = h.2 in
+    let a = ap length t.4 ∙ length-append t.0 (codes ".inv" ++ t.1) in
+    let b = length-append (codes ".inv") t.1 in
+    (t.1, omega (arith, a, b, h.1), t.5)
+
+abbrev AllFit : List Content → Type 0
+AllFit cs = AllByRecursion (λ c. Fits c.statement) cs
+
+all_fit : (lines : List (List ℕ)) (cs : List Content) → AreSpelled lines cs → AllFit cs
+all_fit [] [] h = tt
+all_fit [] (c ∷ cs) h = absurd h
+all_fit (l ∷ lines) [] h = absurd h
+all_fit (l ∷ lines) (c ∷ cs) h = (fits c.statement (line_says l c h.0), all_fit lines cs h.1)
+
+-- ---- what is collected
+
+add_insn-range : (n : ℕ) (s : Statement) (rest : List (ℕ × SourceInsn)) → Fits s → AllByRecursion (λ x. SaysRange x.1) rest → AllByRecursion (λ x. SaysRange x.1) (add_insn n s rest)
+add_insn-range n NoStatement rest f h = h
+add_insn-range n (AnInsn i) rest f h = (f, h)
+add_insn-range n (AnInv F) rest f h = h
+
+insns_from-range : (n : ℕ) (cs : List Content) → AllFit cs → AllByRecursion (λ x. SaysRange x.1) (insns_from n cs)
+insns_from-range n [] h = tt
+insns_from-range n (c ∷ cs) h = add_insn-range n c.statement (insns_from (suc n) cs) h.0 (insns_from-range (suc n) cs h.1)
+
+add_inv-textual : (i : ℕ) (s : Statement) (rest : List (ℕ × Form)) → Fits s → AllByRecursion (λ x. IsTextual x.1) rest → AllByRecursion (λ x. IsTextual x.1) (add_inv i s rest)
+add_inv-textual i NoStatement rest f h = h
+add_inv-textual i (AnInsn j) rest f h = h
+add_inv-textual i (AnInv F) rest f h = (f, h)
+
+invs_from-textual : (i : ℕ) (cs : List Content) → AllFit cs → AllByRecursion (λ x. IsTextual x.1) (invs_from i cs)
+invs_from-textual i [] h = tt
+invs_from-textual i (c ∷ cs) h = add_inv-textual i c.statement (invs_from (i + insn_count c.statement) cs) h.0 (invs_from-textual (i + insn_count c.statement) cs h.1)
+
+length-add_insn : (n : ℕ) (s : Statement) (rest : List (ℕ × SourceInsn)) → length (add_insn n s rest) ≡ insn_count s + length rest
+length-add_insn n NoStatement rest = omega arith
+length-add_insn n (AnInsn i) rest = omega arith
+length-add_insn n (AnInv F) rest = omega arith
+
+-- each label's index is at most the number
+abbrev pub AreUpTo : ℕ → List (List ℕ × ℕ) → Type 0
+AreUpTo n labels = AllByRecursion (λ l. l.1 ≤ n) labels
+
+add_label-up : (n i : ℕ) (l : Option (List ℕ)) (rest : List (List ℕ × ℕ)) → i ≤ n → AreUpTo n rest → AreUpTo n (add_label i l rest)
+add_label-up n i None rest h r = r
+add_label-up n i (Some l) rest h r = (h, r)
+
+labels_from-up : (n i m : ℕ) (cs : List Content) → i + length (insns_from m cs) ≤ n → AreUpTo n (labels_from i cs)
+labels_from-up n i m [] h = tt
+labels_from-up n i m (c ∷ cs) h =
+    let e = length-add_insn m c.statement (insns_from (suc m) cs) in
+    add_label-up n i c.label (labels_from (i + insn_count c.statement) cs) (omega (arith, h)) (labels_from-up n (i + insn_count c.statement) (suc m) cs (omega (arith, h, e)))
+
+-- what is within bounds in a source that some text spells
+pub record IsBounded (s : Source) : Type 0 where
+  pub insns : AllByRecursion (λ x. SaysRange x.1) s.insns
+  pub labels : AreUpTo MAX_INSNS s.labels
+  pub invs : AllByRecursion (λ x. IsTextual x.1) s.invs
+
+pub bounded : (text : List ℕ) (s : Source) → SpellsSource text s → IsBounded s
+bounded text s h =
+    let cs = h.contents in
+    let fit = all_fit h.lines cs h.spelled in
+    let short : length (insns_from 1 cs) ≤ MAX_INSNS = subst (λ (y : Source). length y.insns ≤ MAX_INSNS) h.collected h.sound.insns in
+    subst IsBounded (sym h.collected) (record {
+      insns = insns_from-range 1 cs fit;
+      labels = labels_from-up MAX_INSNS 0 1 cs (omega (arith, short));
+      invs = invs_from-textual 0 cs fit;
+    })

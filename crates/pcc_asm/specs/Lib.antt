@@ -1,0 +1,6 @@
+pub mod Words
+pub mod Assembling
+pub mod Names
+pub mod Views
+pub mod Limits
+pub mod Inside
