@@ -29,7 +29,7 @@ use Rattle.pcc_gate.proofs.FirstFront.{passes, passing, holds, holding, IsFront,
 formula_of-encoding : (t : Tree) (F : Form) → EncodesForm machine_context F t → formula_of t ≡ F
 formula_of-encoding t F e = ap (λ B. unnamed_form (length B) (form_of t)) (sym bound_sorts-machine) ∙ form_of-encoding machine_context t F e
 
-formulas-encoded : (ps : List (ℕ × Tree)) → AreForms ps → AreEncodings ps (formulas ps)
+pub formulas-encoded : (ps : List (ℕ × Tree)) → AreForms ps → AreEncodings ps (formulas ps)
 formulas-encoded [] h = tt
 formulas-encoded (p ∷ ps) h =
     let f = form_encoded machine_context p.1 h.0 in

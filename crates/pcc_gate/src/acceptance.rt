@@ -2,8 +2,9 @@
 
 ghost use Rattle.std.specs.Prelude.{◌≡◌};
 ghost use Rattle.policy_set.specs.Policies.{pre_of, post_of};
+ghost use Rattle.vcgen.specs.Encoded.{AreForms, inv_trees};
 ghost use Rattle.vcgen.specs.Safety.{IsSafe};
-ghost use Rattle.pcc_gate.specs.Views.{IsConditionTrue};
+ghost use Rattle.pcc_gate.specs.Views.{IsConditionTrue, AreAnnotations};
 
 use alpha_cfg::Cut;
 use policy_set::Policy;
@@ -72,11 +73,13 @@ impl Accepted {
         &self.invs
     }
 
-    /// What acceptance promises, with nothing to run: the code is safe for the policy, and the
-    /// verification condition of the policy, the code and the formulas of the invariants is true in
-    /// every structure.
+    /// What acceptance promises, with nothing to run: the code is safe for the policy; the
+    /// invariants encode formulas, which annotate the code; and the verification condition of the
+    /// policy, the code and these formulas is true in every structure.
     pub fn laws(&self)
         ensures safe { IsSafe self.now.code (pre_of self.now.policy) (post_of self.now.policy) }
+        ensures forms { AreForms (inv_trees self.now.table self.now.invs) }
+        ensures annotates { AreAnnotations self.now }
         ensures valid { IsConditionTrue self.now }
     {
         let _ = &self.cut; // opens the invariant for the prover

@@ -1,0 +1,3 @@
+pub mod Unblocked
+pub mod Running
+pub mod Packets

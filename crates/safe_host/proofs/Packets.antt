@@ -1,0 +1,70 @@
+-- What loading and running a packet come to.
+use Rattle.std.proofs.Common.{◌≡◌, ℕ, ◌%◌, ◌^◌, true, false, List, length, Option, Some, None, refl, sym, ◌∙◌, ap, inl, inr}
+use Rattle.std.proofs.lemmas.Bool.{cases_lt, lt-ltb, le-ltb}
+use Rattle.word_ops.specs.Memory.{Memory}
+use Rattle.alpha_cfg.specs.Machine.{State, run_of}
+use Rattle.policy_set.specs.declared.kind.PolicyKind.{PolicyKind}
+use Rattle.policy_set.specs.declared.kind.PolicyKind.TheVariants.{Filter, Tag, Table}
+use Rattle.reference_machine.specs.Arena.{map_of, sum_of}
+use Rattle.reference_machine.specs.Starts.{StartView, start_state}
+use Rattle.packet_store.specs.declared.results.PacketResult.TheVariants.{Short, Ran}
+use Rattle.packet_store.specs.PolicyStarts.{start_of, filter_start, tag_start, table_start}
+use Rattle.packet_store.specs.Results.{result_from, packet_result}
+use Rattle.packet_store.proofs.ResultLemmas.{result_from-some}
+use Rattle.packet_store.proofs.StartLemmas.{the_same}
+use Rattle.safe_host.specs.declared.ended.Ended.{Ended}
+use Rattle.safe_host.specs.Hosts.{HostView, state_under, RightsFit, host_at, start_rights}
+use Rattle.safe_host.specs.Runs.{Loads, outcome_of, IsRun}
+
+-- ---- a short packet
+
+pub short-none : (old new : HostView) (o : Option StartView) → Loads old o new false → None ≡ o
+short-none old new None l = refl
+short-none old new (Some setup) l = absurd (cc)
+
+pub short-result : (old new : HostView) (n : ℕ) (o : Option StartView) → Loads old o new false → Short ≡ result_from old.accepted.code n o
+unfolding result_from
+short-result old new n o l = ap (result_from old.accepted.code n) (short-none old new o l)
+
+-- ---- any other
+
+-- a start that was loaded
+pub record IsLoaded (old new : HostView) (o : Option StartView) : Type 0 where
+  pub setup : StartView
+  pub is : Some setup ≡ o
+  pub new_is : new ≡ host_at old.accepted setup
+  pub fits : RightsFit new (start_rights setup)
+
+pub loaded : (old new : HostView) (o : Option StartView) → Loads old o new true → IsLoaded old new o
+loaded old new None l = absurd (cc)
+loaded old new (Some setup) (e, is, meets, fits) = record { setup = setup; is = refl; new_is = is; fits = fits }
+
+-- where the region isn't empty it is at the arena's front
+sum-at : (policy : PolicyKind) (packet : List ℕ) (setup : StartView) (m : Memory) → start_of policy packet ≡ Some setup → sum_of m 65536 setup.region ≡ sum_of m setup.at setup.region
+unfolding start_of
+sum-at Filter packet setup m e = elim (cases_lt (length packet) 64) [
+  | inl less ↦ let none : None ≡ Some setup = rw (lt-ltb (length packet) 64 less) at e in absurd (cc)
+  | inr enough ↦ the_same (λ s. sum_of m 65536 s.region ≡ sum_of m s.at s.region) (filter_start packet) setup refl (rw (le-ltb (length packet) 64 enough) at e)
+]
+sum-at Tag packet setup m e = elim (cases_lt (length packet) 16) [
+  | inl less ↦ let none : None ≡ Some setup = rw (lt-ltb (length packet) 16 less) at e in absurd (cc)
+  | inr enough ↦ the_same (λ s. sum_of m 65536 s.region ≡ sum_of m s.at s.region) (tag_start packet) setup refl (rw (le-ltb (length packet) 16 enough) at e)
+]
+sum-at Table packet setup m e = the_same (λ s. sum_of m 65536 s.region ≡ sum_of m s.at s.region) (table_start packet) setup refl e
+
+-- a run from a start that was loaded, and the sum behind it
+pub ran-result : (old begun after : HostView) (n sum : ℕ) (result : Ended) (packet : List ℕ) → Loads old (start_of old.accepted.policy packet) begun true → IsRun begun n result after → after.region ≡ begun.region → sum ≡ sum_of (map_of 65536 after.words) 65536 after.region % 2 ^ 64 →
+    Ran (outcome_of result) sum ≡ packet_result old.accepted.policy old.accepted.code n packet
+ran-result old begun after n sum result packet loads run region is =
+    let l : IsLoaded old begun (start_of old.accepted.policy packet) = loaded old begun (start_of old.accepted.policy packet) loads in
+    let setup : StartView = l.setup in
+    let end : State = state_under after (start_rights setup) in
+    let m : Memory = map_of 65536 after.words in
+    let ran : run_of begun.accepted.code n (state_under begun (start_rights setup)) ≡ (outcome_of result, end) = (run (start_rights setup) l.fits).same in
+    let from : (outcome_of result, end) ≡ run_of old.accepted.code n (start_state 65536 setup) = sym ran ∙ ap (λ (h : HostView). run_of h.accepted.code n (state_under h (start_rights setup))) l.new_is in
+    let size : after.region ≡ setup.region = region ∙ ap (λ (h : HostView). h.region) l.new_is in
+    let total : sum ≡ sum_of m setup.at setup.region % 2 ^ 64 =
+    is ∙ ap (λ k. sum_of m 65536 k % 2 ^ 64) size ∙ ap (λ k. k % 2 ^ 64) (sum-at old.accepted.policy packet setup m (sym l.is)) in
+    ap (Ran (outcome_of result)) total
+    ∙ result_from-some old.accepted.code n setup (outcome_of result) end from
+    ∙ ap (result_from old.accepted.code n) l.is

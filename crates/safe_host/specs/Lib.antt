@@ -1,0 +1,4 @@
+pub mod Hosts
+pub mod Runs
+pub mod Runners
+pub mod Inside

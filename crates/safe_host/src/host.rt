@@ -1,0 +1,145 @@
+//! A host: accepted code and the arena that it runs in.
+
+ghost use Rattle.std.specs.Prelude.{◌≡◌, ◌≤◌, ◌%◌, ◌^◌, IfOk, true, false, length};
+ghost use Rattle.reference_machine.specs.declared.layout.TheConstants.{ARENA};
+ghost use Rattle.reference_machine.specs.Arena.{sum_of, map_of};
+ghost use Rattle.packet_store.specs.declared.reader.TheConstants.{MAX_PACKET};
+ghost use Rattle.packet_store.specs.PolicyStarts.{start_of};
+ghost use Rattle.safe_host.specs.Hosts.{HasRights};
+ghost use Rattle.safe_host.specs.Runs.{Loads, IsRun, goes_on_after};
+
+use crate::ended::Ended;
+use crate::stepping::run_steps;
+use packet_store::start;
+use pcc_gate::Accepted;
+use reference_machine::{ARENA, QUADWORDS, fill};
+use std::alloc::{AllocError, Global};
+use std::marker::Model;
+
+/// Accepted code, registers, and an arena of 8,194 quadwords from address 65,536 on. It keeps no
+/// rights: while it is `live`, some rights fit it, under which the code accesses nothing that isn't
+/// allowed.
+#[derive(Drop)]
+pub struct Host {
+    pub(crate) accepted: Accepted,
+    pub(crate) index: u32,
+    pub(crate) regs: [u64; 31],
+    pub(crate) words: Vec<u64>,
+    pub(crate) region: u64,
+    pub(crate) live: bool,
+}
+
+impl Model for Host {
+    ghost use Rattle.safe_host.specs.Hosts.{HostView};
+
+    ghost Value = { HostView };
+
+    ghost use Rattle.std.specs.Coded.{codes};
+    ghost use Rattle.term_table.specs.Table.{table_view_code};
+
+    ghost coded = { Prim.hlevel (codes, table_view_code) };
+
+    ghost use Rattle.safe_host.specs.Inside.Fields.{host_view, IsHost};
+
+    ghost view = { host_view };
+
+    ghost invariant = { IsHost };
+}
+
+impl Host {
+    /// The host of the accepted code, with the arena reserved. Nothing is loaded, so it isn't live.
+    /// Fails only for want of memory.
+    pub fn new(alloc: Global, accepted: Accepted) -> Result<Host, AllocError>
+        ensures accepted { IfOk result (λ host. host.accepted ≡ accepted) }
+        ensures live { IfOk result (λ host. host.live ≡ false) }
+        ensures region { IfOk result (λ host. host.region ≡ 0) }
+    {
+        let words = vec![in alloc; 0; QUADWORDS]?;
+        Ok(Host {
+            accepted,
+            index: 0,
+            regs: [0; 31],
+            words,
+            region: 0,
+            live: false,
+        })
+    }
+}
+
+impl Host {
+    /// Begins anew at the start of the policy on `packet`, which has at most `MAX_PACKET` bytes: its
+    /// bytes stand in the arena, every other quadword is 0, and nothing of an earlier run is left.
+    /// The rights of the start then fit. Takes no memory.
+    ///
+    /// Answers false exactly where the packet is short; the host is then unchanged.
+    pub fn load(&mut self, packet: &[u8]) -> bool
+        requires { length packet.now ≤ MAX_PACKET }
+        ensures exact { Loads self.old (start_of self.old.accepted.policy packet.now)
+            self.new result }
+    {
+        self.accepted.laws(); // tells the prover that the condition is true
+        let Some(begin) = start(self.accepted.policy(), packet) else {
+            return false;
+        };
+        let place = ((begin.at - ARENA) / 8) as usize;
+        self.index = 0;
+        self.regs = [0; 31];
+        self.regs[16] = begin.r16;
+        self.regs[17] = begin.r17;
+        self.regs[18] = begin.r18;
+        fill(&mut self.words, place, begin.bytes);
+        self.region = begin.region;
+        self.live = true;
+        true
+    }
+
+    /// Makes at most `budget` steps, a return among them, and answers how the run ended. No access
+    /// is tested: under all rights that fit, this is the run of the machine that tests each. Where
+    /// it is out of steps, they fit again, and it may go on; after a return it isn't live.
+    pub fn run(&mut self, budget: u64) -> Ended
+        requires { self.old.live ≡ true }
+        ensures under { IsRun self.old budget result self.new }
+        ensures accepted { self.new.accepted ≡ self.old.accepted }
+        ensures region { self.new.region ≡ self.old.region }
+        ensures live { self.new.live ≡ goes_on_after result }
+    {
+        self.accepted.laws(); // tells the prover that the condition is true
+        let code = self.accepted.cut().code();
+        let ended = run_steps(
+            code,
+            &mut self.index,
+            &mut self.regs,
+            &mut self.words,
+            budget,
+        );
+        self.live = ended.goes_on();
+        ended
+    }
+
+    /// The sum of the region's quadwords, modulo 2^64; the region is at the arena's front. Takes no
+    /// memory.
+    pub fn sum(&self) -> u64
+        ensures { result
+            ≡ sum_of (map_of ARENA self.now.words) ARENA self.now.region % 2 ^ 64 }
+    {
+        let mut total: u64 = 0;
+        for i in 0..self.region as usize {
+            total = total.wrapping_add(self.words[i]);
+        }
+        total
+    }
+
+    /// What was accepted.
+    pub fn accepted(&self) -> &Accepted
+        ensures { result.now ≡ self.now.accepted }
+    {
+        &self.accepted
+    }
+
+    /// What holds of every host, with nothing to run: while it is live, some rights fit it.
+    pub fn laws(&self)
+        ensures { self.now.live ≡ true → HasRights self.now }
+    {
+        let _ = &self.live; // opens the invariant for the prover
+    }
+}

@@ -1,0 +1,20 @@
+//! The host: accepted code runs on packets, and no access is tested.
+//!
+//! A `Host` keeps accepted code and an arena, and no rights. The layers above use that `load` begins
+//! at the policy's start, whose rights then fit the host; that under all rights that fit, `run` is
+//! the run of the machine that tests each access; and that `HostRunner` makes of packets what that
+//! machine makes of them. What a host holds and which rights fit it stands in `specs/Hosts`, loading
+//! and running in `specs/Runs`, packets in `specs/Runners`. Source: Necula and Lee, Safe Kernel
+//! Extensions Without Run-Time Checking, OSDI 1996.
+#![tactic(auto)]
+
+mod ended;
+mod host;
+mod runner;
+mod stepping;
+#[cfg(test)]
+mod tests;
+
+pub use ended::Ended;
+pub use host::Host;
+pub use runner::HostRunner;
