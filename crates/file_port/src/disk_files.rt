@@ -17,6 +17,10 @@ use std::rt;
 /// counted nowhere. Any other fault of the system there, as a name that is too long, is a failed
 /// read, and one in creating or writing a failed write. A device that takes nothing of what is left
 /// is at fault.
+///
+/// A write makes the file, or empties it where it is there, and then writes from the front. So where
+/// it fails, or the machine stops in the middle, the file holds its old bytes or a prefix of the new
+/// ones, and at worst none of them. A file that is there keeps its permissions.
 #[derive(Drop)]
 pub struct DiskFiles<R> {
     rt: R,

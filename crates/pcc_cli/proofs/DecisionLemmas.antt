@@ -1,24 +1,29 @@
 -- What the stages of a command come to is a decision on its request.
-use Rattle.std.proofs.Common.{◌≡◌, ◌≢◌, ℕ, ◌<◌, List, get_or, Some, None, Result, Ok, Err, refl, sym, ap, subst, arith}
+use Rattle.std.proofs.Common.{◌≡◌, ◌≢◌, ℕ, ◌<◌, List, length, get_or, Some, None, Result, Ok, Err, refl, sym, ap, ◌∙◌, subst, arith}
 use Rattle.std.proofs.lemmas.Option.{IfSome_then}
-use Rattle.file_port.specs.Files.{FilesState}
+use Rattle.file_port.specs.Files.{FilesState, WriteFails, with_file}
 use Rattle.packet_store.specs.declared.fault.PacketFault.{PacketFault}
 use Rattle.packet_store.specs.declared.fault.PacketFault.TheVariants as packet
 use Rattle.pcc_words.specs.Invocations.{Invocation}
 use Rattle.pcc_lines.specs.Fixed.{unknown_policy_line}
 use Rattle.pcc_lines.specs.PacketFaults.{packet_fault_line}
 use Rattle.pcc_lines.specs.Refusals.{refusal_line}
-use Rattle.pcc_lines.specs.declared.refusals.Refusal.{Refusal}
-use Rattle.pcc_lines.specs.declared.refusals.Refusal.TheVariants as refusal
+use Rattle.pcc_lines.specs.Sources.{source_fault_line, written_line}
+use Rattle.asm_text.specs.Names.{line_flaw_name}
+use Rattle.pcc_asm.specs.Names.{asm_flaw_line, asm_flaw_name}
+use Rattle.pcc_gate.specs.declared.refusal.Refusal.{Refusal}
+use Rattle.pcc_gate.specs.declared.refusal.Refusal.TheVariants as refusal
 use Rattle.pcc_exit.specs.Exits.{Exit}
-use Rattle.pcc_exit.specs.Requests.{Standing, Suits, command, unknown_policy_exit}
-use Rattle.pcc_exit.specs.Ends.{IsDecision, answered, not_read}
+use Rattle.pcc_exit.specs.Requests.{Standing, Suits, command, unknown_policy_exit, write_fault_exit}
+use Rattle.pcc_exit.specs.Ends.{IsDecision, answered, not_read, not_written}
 use Rattle.pcc_cli.specs.Requests.{texts, answer_of, stages_of, names_of, standing_of, request_of_command}
 use Rattle.pcc_cli.specs.Inside.Decisions.{Decides, effect_of, exit_of, stop_exit}
-use Rattle.pcc_cli.specs.Inside.Gives.{ComesTo, Gives}
+use Rattle.pcc_cli.specs.Inside.Gives.{ComesTo, Gives, Wrote}
 use Rattle.pcc_cli.specs.declared.stop.Stop.{Stop}
 use Rattle.pcc_cli.specs.declared.stop.Stop.TheVariants as stop
+use Rattle.pcc_cli.specs.Stages.{Effect}
 use Rattle.pcc_cli.specs.declared.report.Report.{Report}
+use Rattle.pcc_cli.specs.declared.report.Report.TheVariants as report
 
 -- a line that begins with another letter isn't the one of an unknown policy
 another_text : (text : List ℕ) → get_or text 0 0 < 117 → text ≢ unknown_policy_line
@@ -28,15 +33,26 @@ another_text text less is =
 
 refusal-first : (r : Refusal) → get_or (refusal_line r) 0 0 ≡ 114
 unfolding refusal_line
-refusal-first refusal.TooLong = refl
+refusal-first (refusal.TooLong length) = refl
 refusal-first (refusal.Malformed offset flaw) = refl
 refusal-first (refusal.OtherPolicy number) = refl
 refusal-first (refusal.BadCode flaw) = refl
+refusal-first (refusal.Height h) = refl
+refusal-first (refusal.InvNotForm k) = refl
+refusal-first (refusal.Uncut i) = refl
+refusal-first (refusal.UnfoldLimit n) = refl
+refusal-first refusal.NoProof = refl
+refusal-first (refusal.ProofWeight n) = refl
+refusal-first refusal.NotProof = refl
 
 packet_fault-first : (fault : PacketFault) → get_or (packet_fault_line fault) 0 0 ≡ 112
 unfolding packet_fault_line
 packet_fault-first (packet.Cut offset) = refl
 packet_fault-first (packet.TooLong offset) = refl
+
+source_fault-first : (number : ℕ) (kind : List ℕ) → get_or (source_fault_line number kind) 0 0 ≡ 108
+unfolding source_fault_line
+source_fault-first number kind = refl
 
 -- an exit that the arguments alone never bring
 abbrev IsLate : Exit → Type 0
@@ -77,6 +93,14 @@ module _ (invocation : Invocation) (old new : FilesState) (known : standing_of i
   decides_command (Err (stop.Refused r)) h =
       let first : get_or (refusal_line r) 0 0 ≡ 114 = refusal-first r in
       refused_late _ (omega arith) (omega arith) (late_text (stop_exit (stop.Refused r)) refl (omega arith)) h
+  decides_command (Err stop.ContainerTooLong) h = refused_late _ (omega arith) (omega arith) (late_text (stop_exit stop.ContainerTooLong) refl (omega arith)) h
+  decides_command (Err stop.SourceTooLong) h = refused_late _ (omega arith) (omega arith) (late_text (stop_exit stop.SourceTooLong) refl (omega arith)) h
+  decides_command (Err (stop.BadLine line flaw)) h =
+      let first : get_or (source_fault_line line (line_flaw_name flaw)) 0 0 ≡ 108 = source_fault-first line (line_flaw_name flaw) in
+      refused_late _ (omega arith) (omega arith) (late_text (stop_exit (stop.BadLine line flaw)) refl (omega arith)) h
+  decides_command (Err (stop.BadSource flaw)) h =
+      let first : get_or (source_fault_line (asm_flaw_line flaw) (asm_flaw_name flaw)) 0 0 ≡ 108 = source_fault-first (asm_flaw_line flaw) (asm_flaw_name flaw) in
+      refused_late _ (omega arith) (omega arith) (late_text (stop_exit (stop.BadSource flaw)) refl (omega arith)) h
   decides_command (Err stop.PacketsTooLong) h = refused_late _ (omega arith) (omega arith) (late_text (stop_exit stop.PacketsTooLong) refl (omega arith)) h
   decides_command (Err (stop.BadPackets fault)) h =
       let first : get_or (packet_fault_line fault) 0 0 ≡ 112 = packet_fault-first fault in
@@ -85,3 +109,41 @@ module _ (invocation : Invocation) (old new : FilesState) (known : standing_of i
   decides_command (Err (stop.ReadFault name)) h = not_read (record { name = name.now; asked = h.asked; named = h.named; command = known; fails = h.fails; line = refl })
   decides_command (Err (stop.WriteFault name)) h = absurd h
   decides_command (Err stop.Memory) h = h
+
+  -- what a command does that writes
+  abbrev written_effect : List ℕ → List ℕ → Effect
+  written_effect name bytes = record { text = written_line (length bytes); change = Some (name, bytes) }
+
+  -- where the stages come to a write, what the write comes to is decided
+  pub decides_written : (name bytes : List ℕ) (mid : FilesState) → ComesTo (stages_of invocation) old mid (Ok (written_effect name bytes)) → (r : Result Report Stop) → Wrote name bytes mid new r → Decides (request_of_command (Some invocation)) old new r
+  decides_written name bytes mid comes (Ok (report.Written count)) h = answered (record {
+    change = Some (name, bytes);
+    made = h.0 ∙ ap (with_file name bytes) comes.unchanged;
+    exact = IfSome_then old.contents {P = λ files. (stages_of invocation files).result ≡ Ok (written_effect name bytes)} {Q = λ files. answer_of (stages_of invocation files).result ≡ record { exit = record { status = 0; text = written_line count }; change = Some (name, bytes) }} comes.exact (λ files e. ap answer_of e ∙ ap (λ (n : ℕ). record { exit = record { status = 0; text = written_line n }; change = Some (name, bytes) }) (sym h.1));
+    in_range = omega arith;
+    no_change = λ some. absurd (omega arith);
+    suits = suits_late (exit_of (Ok (report.Written count))) (late_status (exit_of (Ok (report.Written count))) (λ e. absurd (omega arith)) (λ e. absurd (omega arith)));
+  })
+  decides_written name bytes mid comes (Ok report.Accepted) h = absurd h
+  decides_written name bytes mid comes (Ok (report.Results job)) h = absurd h
+  decides_written name bytes mid comes (Ok (report.Hosted job)) h = absurd h
+  decides_written name bytes mid comes (Err (stop.WriteFault other)) h = not_written (record {
+    name = name;
+    bytes = bytes;
+    asked = IfSome_then old.contents {P = λ files. (stages_of invocation files).result ≡ Ok (written_effect name bytes)} {Q = λ files. (answer_of (stages_of invocation files).result).change ≡ Some (name, bytes)} comes.exact (λ files e. ap (λ (x : Result Effect Exit). (answer_of x).change) e);
+    command = known;
+    fails = subst (λ (s : FilesState). WriteFails name bytes s new) comes.unchanged h.0;
+    line = ap (write_fault_exit texts) h.1;
+  })
+  decides_written name bytes mid comes (Err stop.Usage) h = absurd h
+  decides_written name bytes mid comes (Err stop.UnknownPolicy) h = absurd h
+  decides_written name bytes mid comes (Err (stop.Refused refusal)) h = absurd h
+  decides_written name bytes mid comes (Err stop.ContainerTooLong) h = absurd h
+  decides_written name bytes mid comes (Err stop.SourceTooLong) h = absurd h
+  decides_written name bytes mid comes (Err (stop.BadLine line flaw)) h = absurd h
+  decides_written name bytes mid comes (Err (stop.BadSource flaw)) h = absurd h
+  decides_written name bytes mid comes (Err stop.PacketsTooLong) h = absurd h
+  decides_written name bytes mid comes (Err (stop.BadPackets fault)) h = absurd h
+  decides_written name bytes mid comes (Err (stop.Missing other)) h = absurd h
+  decides_written name bytes mid comes (Err (stop.ReadFault other)) h = absurd h
+  decides_written name bytes mid comes (Err stop.Memory) h = absurd h

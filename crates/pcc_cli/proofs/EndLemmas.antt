@@ -28,6 +28,10 @@ module _ (request : Request) (f g : FilesState) (s t : SinkState) (status : ℕ)
   ends_of_decision (Err stop.Usage) d p = decision_printed _ d p.put p.puts p.after
   ends_of_decision (Err stop.UnknownPolicy) d p = decision_printed _ d p.put p.puts p.after
   ends_of_decision (Err (stop.Refused refusal)) d p = decision_printed _ d p.put p.puts p.after
+  ends_of_decision (Err stop.ContainerTooLong) d p = decision_printed _ d p.put p.puts p.after
+  ends_of_decision (Err stop.SourceTooLong) d p = decision_printed _ d p.put p.puts p.after
+  ends_of_decision (Err (stop.BadLine line flaw)) d p = decision_printed _ d p.put p.puts p.after
+  ends_of_decision (Err (stop.BadSource flaw)) d p = decision_printed _ d p.put p.puts p.after
   ends_of_decision (Err stop.PacketsTooLong) d p = decision_printed _ d p.put p.puts p.after
   ends_of_decision (Err (stop.BadPackets fault)) d p = decision_printed _ d p.put p.puts p.after
   ends_of_decision (Err (stop.Missing name)) d p = decision_printed _ d p.put p.puts p.after

@@ -1,4 +1,9 @@
 pub mod StageLemmas
 pub mod DecisionLemmas
+pub mod PolicyLemmas
+pub mod AsmLemmas
+pub mod CheckLemmas
+pub mod PacketLemmas
 pub mod RefLemmas
+pub mod RunLemmas
 pub mod EndLemmas

@@ -42,6 +42,10 @@ module _ {A B : Type 0} (stage : Staged A) (next : A → Staged B) where
   pure_first stop.Usage h = absurd h
   pure_first stop.UnknownPolicy h = absurd h
   pure_first (stop.Refused refusal) h = go_on-err stage.reads next stage.result _ h
+  pure_first stop.ContainerTooLong h = go_on-err stage.reads next stage.result _ h
+  pure_first stop.SourceTooLong h = go_on-err stage.reads next stage.result _ h
+  pure_first (stop.BadLine line flaw) h = go_on-err stage.reads next stage.result _ h
+  pure_first (stop.BadSource flaw) h = go_on-err stage.reads next stage.result _ h
   pure_first stop.PacketsTooLong h = go_on-err stage.reads next stage.result _ h
   pure_first (stop.BadPackets fault) h = go_on-err stage.reads next stage.result _ h
   pure_first (stop.Missing name) h = go_on-err stage.reads next stage.result _ h
@@ -51,6 +55,26 @@ module _ {A B : Type 0} (stage : Staged A) (next : A → Staged B) where
 
   pub pure_later : (x : A) → stage.result ≡ Ok x → (r : Result B Exit) → (next x).result ≡ r → (stage >>= next).result ≡ r
   pure_later x e r h = go_on-ok stage.reads next stage.result x e ∙ h
+
+  stops_pure_later : (x : A) → stage.result ≡ Ok x → (e : Stop) → StopsPure (next x) e → StopsPure (stage >>= next) e
+  stops_pure_later x is stop.Usage h = absurd h
+  stops_pure_later x is stop.UnknownPolicy h = absurd h
+  stops_pure_later x is (stop.Refused refusal) h = pure_later x is _ h
+  stops_pure_later x is stop.ContainerTooLong h = pure_later x is _ h
+  stops_pure_later x is stop.SourceTooLong h = pure_later x is _ h
+  stops_pure_later x is (stop.BadLine line flaw) h = pure_later x is _ h
+  stops_pure_later x is (stop.BadSource flaw) h = pure_later x is _ h
+  stops_pure_later x is stop.PacketsTooLong h = pure_later x is _ h
+  stops_pure_later x is (stop.BadPackets fault) h = pure_later x is _ h
+  stops_pure_later x is (stop.Missing name) h = pure_later x is _ h
+  stops_pure_later x is (stop.ReadFault name) h = absurd h
+  stops_pure_later x is (stop.WriteFault name) h = absurd h
+  stops_pure_later x is stop.Memory h = tt
+
+  -- behind a value comes what the next stage gives
+  pub pure_gives : {C : Type 0} (view : C → B) (x : A) → stage.result ≡ Ok x → (r : Result C Stop) → GivesPure view (next x) r → GivesPure view (stage >>= next) r
+  pure_gives view x is (Ok y) h = pure_later x is _ h
+  pure_gives view x is (Err why) h = stops_pure_later x is why h
 
 -- a stage that reads no file, as one over files
 pub lifted : {A C : Type 0} (view : C → A) (names : List (List ℕ)) (stage : Staged A) (state : FilesState) (r : Result C Stop) → GivesPure view stage r → Gives view names (λ files. stage) state state r
@@ -64,6 +88,10 @@ lifted view names stage state (Err e) h = stopped e h
     stopped stop.Usage h = absurd h
     stopped stop.UnknownPolicy h = absurd h
     stopped (stop.Refused refusal) h = comes _ h
+    stopped stop.ContainerTooLong h = comes _ h
+    stopped stop.SourceTooLong h = comes _ h
+    stopped (stop.BadLine line flaw) h = comes _ h
+    stopped (stop.BadSource flaw) h = comes _ h
     stopped stop.PacketsTooLong h = comes _ h
     stopped (stop.BadPackets fault) h = comes _ h
     stopped (stop.Missing name) h = comes _ h
@@ -85,6 +113,10 @@ module _ {A B : Type 0} (stage : FileMap → Staged A) (next : A → FileMap →
   stops_first old new stop.Usage h = absurd h
   stops_first old new stop.UnknownPolicy h = absurd h
   stops_first old new (stop.Refused refusal) h = comes_first old new _ h
+  stops_first old new stop.ContainerTooLong h = comes_first old new _ h
+  stops_first old new stop.SourceTooLong h = comes_first old new _ h
+  stops_first old new (stop.BadLine line flaw) h = comes_first old new _ h
+  stops_first old new (stop.BadSource flaw) h = comes_first old new _ h
   stops_first old new stop.PacketsTooLong h = comes_first old new _ h
   stops_first old new (stop.BadPackets fault) h = comes_first old new _ h
   stops_first old new (stop.Missing name) h = comes_first old new _ h
@@ -107,6 +139,10 @@ module _ {A B : Type 0} (stage : FileMap → Staged A) (next : A → FileMap →
     stops_later stop.Usage h = absurd h
     stops_later stop.UnknownPolicy h = absurd h
     stops_later (stop.Refused refusal) h = comes_later _ h
+    stops_later stop.ContainerTooLong h = comes_later _ h
+    stops_later stop.SourceTooLong h = comes_later _ h
+    stops_later (stop.BadLine line flaw) h = comes_later _ h
+    stops_later (stop.BadSource flaw) h = comes_later _ h
     stops_later stop.PacketsTooLong h = comes_later _ h
     stops_later (stop.BadPackets fault) h = comes_later _ h
     stops_later (stop.Missing name) h = comes_later _ h

@@ -1,1 +1,4 @@
+pub mod Assemble
+pub mod Check
 pub mod Reference
+pub mod Running

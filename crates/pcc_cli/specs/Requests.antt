@@ -3,13 +3,16 @@ use Rattle.std.specs.Prelude.{ℕ, List, [], ◌∷◌, Option, Some, None, Resu
 use Rattle.file_port.specs.Files.{FileMap}
 use Rattle.policy_set.specs.declared.kind.PolicyKind.{PolicyKind}
 use Rattle.policy_set.specs.Names.{policy_of}
-use Rattle.pcc_words.specs.Invocations.{Invocation, ref, command_of}
+use Rattle.pcc_words.specs.Invocations.{Invocation, asm, check, run, ref, command_of}
 use Rattle.pcc_lines.specs.Fixed.{usage_line, unknown_policy_line}
 use Rattle.pcc_lines.specs.Named.{read_fault_line, write_fault_line}
 use Rattle.pcc_exit.specs.Exits.{Exit, Answer}
 use Rattle.pcc_exit.specs.Requests.{Request, Standing, Texts, no_command, unknown_policy, command, usage_exit}
 use Rattle.pcc_cli.specs.Stages.{Staged, Effect}
+use Rattle.pcc_cli.specs.Commands.Assemble.{asm_command}
+use Rattle.pcc_cli.specs.Commands.Check.{check_command}
 use Rattle.pcc_cli.specs.Commands.Reference.{ref_command}
+use Rattle.pcc_cli.specs.Commands.Running.{run_command}
 
 -- the lines that don't come from what the files hold
 abbrev pub texts : Texts
@@ -24,10 +27,16 @@ texts = record {
 
 -- what a command comes to over files
 abbrev pub stages_of : Invocation → FileMap → Staged Effect
+stages_of (asm policy input output) files = asm_command policy input output files
+stages_of (check policy file) files = check_command policy file files
+stages_of (run policy file packets steps) files = run_command policy file packets steps files
 stages_of (ref policy file packets steps) files = ref_command policy file packets steps files
 
 -- the files that a command reads, whatever they hold
 abbrev pub names_of : Invocation → List (List ℕ)
+names_of (asm policy input output) = input ∷ []
+names_of (check policy file) = file ∷ []
+names_of (run policy file packets steps) = file ∷ packets ∷ []
 names_of (ref policy file packets steps) = file ∷ packets ∷ []
 
 -- what a command on this policy is
@@ -35,9 +44,16 @@ abbrev pub standing_on : Option PolicyKind → Standing
 standing_on None = unknown_policy
 standing_on (Some policy) = command
 
+-- the policy that a command names
+abbrev pub policy_name_of : Invocation → List ℕ
+policy_name_of (asm policy input output) = policy
+policy_name_of (check policy file) = policy
+policy_name_of (run policy file packets steps) = policy
+policy_name_of (ref policy file packets steps) = policy
+
 -- what a command is
 abbrev pub standing_of : Invocation → Standing
-standing_of (ref policy file packets steps) = standing_on (policy_of policy)
+standing_of invocation = standing_on (policy_of (policy_name_of invocation))
 
 -- ---- all commands
 

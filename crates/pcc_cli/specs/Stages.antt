@@ -12,11 +12,23 @@ use Rattle.packet_store.specs.declared.fault.PacketFault.{PacketFault}
 use Rattle.packet_store.specs.PacketDecoding.{decoded_packets}
 use Rattle.proof_container.specs.Contents.{Contents}
 use Rattle.proof_container.specs.Decoding.{Fault, decoded_container}
-use Rattle.pcc_lines.specs.Fixed.{unknown_policy_line, packets_too_long_line}
+use Rattle.asm_text.specs.declared.fault.LineFlaw.{LineFlaw}
+use Rattle.asm_text.specs.declared.limits.TheConstants.{MAX_SOURCE}
+use Rattle.asm_text.specs.Names.{line_flaw_name}
+use Rattle.asm_text.specs.Sources.{Source}
+use Rattle.asm_text.specs.SourceParsing.{parsed_source}
+use Rattle.proof_container.specs.Encoding.{encoding_of}
+use Rattle.pcc_asm.specs.declared.fault.AsmFlaw.{AsmFlaw}
+use Rattle.pcc_asm.specs.Names.{asm_flaw_line, asm_flaw_name}
+use Rattle.pcc_asm.specs.Assembling.{assembled_contents}
+use Rattle.pcc_lines.specs.Fixed.{unknown_policy_line, container_too_long_line, packets_too_long_line, source_too_long_line}
+use Rattle.pcc_lines.specs.Sources.{source_fault_line, written_line}
 use Rattle.pcc_lines.specs.Named.{missing_line}
 use Rattle.pcc_lines.specs.PacketFaults.{packet_fault_line}
 use Rattle.pcc_lines.specs.Refusals.{refusal_line}
-use Rattle.pcc_lines.specs.declared.refusals.Refusal.TheVariants as refusal
+use Rattle.pcc_gate.specs.declared.refusal.Refusal.{Refusal}
+use Rattle.pcc_gate.specs.declared.refusal.Refusal.TheVariants as refusal
+use Rattle.pcc_gate.specs.First.{first_refusal}
 use Rattle.pcc_exit.specs.Exits.{Exit, Change}
 use Rattle.pcc_cli.specs.declared.stages.TheConstants.{MAX_FILE}
 
@@ -39,7 +51,6 @@ abbrev pub go_on : {A B : Type 0} → List (List ℕ) → Result A Exit → (A �
 go_on reads (Ok x) next = after_reads reads (next x)
 go_on reads (Err exit) next = record { reads = reads; result = Err exit }
 
--- a stage, and what comes after its value
 -- a stage, and what comes after its value
 infixl 10 ◌>>=◌
 abbrev pub ◌>>=◌ : {A B : Type 0} → Staged A → (A → Staged B) → Staged B
@@ -86,6 +97,45 @@ code_in policy bytes = do
   container ← container_in policy bytes
   pure (code_found (decoded_code container.code))
 
+-- a container that isn't refused
+abbrev pub unless_refused : Option Refusal → Result (Unit {0}) Exit
+unless_refused None = Ok tt
+unless_refused (Some refusal) = Err (refused (refusal_line refusal))
+
+-- that the bytes are accepted under the policy, or the first clause that fails
+unfoldable pub accepted_in : PolicyKind → List ℕ → Staged (Unit {0})
+accepted_in policy bytes = pure (unless_refused (first_refusal policy bytes))
+
+-- the code of the container that the bytes are, where it is accepted under the policy
+unfoldable pub accepted_code_in : PolicyKind → List ℕ → Staged (List Insn)
+accepted_code_in policy bytes = do
+  accepted ← accepted_in policy bytes
+  code_in policy bytes
+
+-- what was read as a source
+abbrev pub source_found : Result Source (ℕ × LineFlaw) → Result Source Exit
+source_found (Ok source) = Ok source
+source_found (Err fault) = Err (refused (source_fault_line fault.0 (line_flaw_name fault.1)))
+
+-- the source that the text spells
+unfoldable pub source_in : List ℕ → Staged Source
+source_in text = pure (source_found (parsed_source text))
+
+-- the bytes of a container of what was assembled
+abbrev pub container_made : Result Contents AsmFlaw → Result (List ℕ) Exit
+container_made (Ok contents) = Ok (encoding_of contents)
+container_made (Err flaw) = Err (refused (source_fault_line (asm_flaw_line flaw) (asm_flaw_name flaw)))
+
+-- the container, as bytes, that the source is assembled into for the policy
+unfoldable pub assembled_as : PolicyKind → Source → Staged (List ℕ)
+assembled_as policy source = pure (container_made (assembled_contents policy source))
+
+-- the same of the source that the text spells
+unfoldable pub assembled_in : PolicyKind → List ℕ → Staged (List ℕ)
+assembled_in policy text = do
+  source ← source_in text
+  assembled_as policy source
+
 -- what was read as packets
 abbrev pub packets_found : Result (List (List ℕ)) PacketFault → Result (List (List ℕ)) Exit
 packets_found (Ok packets) = Ok packets
@@ -97,26 +147,52 @@ packets_in bytes = pure (packets_found (decoded_packets bytes))
 
 -- ---- stages that read a file
 
--- the bytes that were found under a name, where they aren't too many
-abbrev pub bytes_found : Exit → List ℕ → Option (List ℕ) → Result (List ℕ) Exit
-bytes_found too_long name None = Err (missing name)
-bytes_found too_long name (Some bytes) = if nat_lt MAX_FILE (length bytes) then Err too_long else Ok bytes
+-- the bytes that were found under a name, where there aren't more than max
+abbrev pub bytes_found : ℕ → Exit → List ℕ → Option (List ℕ) → Result (List ℕ) Exit
+bytes_found max too_long name None = Err (missing name)
+bytes_found max too_long name (Some bytes) = if nat_lt max (length bytes) then Err too_long else Ok bytes
 
 -- the bytes of the file of the name
-abbrev pub bytes_of : Exit → List ℕ → FileMap → Staged (List ℕ)
-bytes_of too_long name files = record { reads = name ∷ []; result = bytes_found too_long name (map.get files name) }
+abbrev pub bytes_of : ℕ → Exit → List ℕ → FileMap → Staged (List ℕ)
+bytes_of max too_long name files = record { reads = name ∷ []; result = bytes_found max too_long name (map.get files name) }
+
+-- the bytes of the container's file of the name
+abbrev pub container_bytes_of : List ℕ → FileMap → Staged (List ℕ)
+container_bytes_of name files = bytes_of MAX_FILE (refused container_too_long_line) name files
 
 -- the code of the container in the file of the name, where it is for the policy
 unfoldable pub code_of : PolicyKind → List ℕ → FileMap → Staged (List Insn)
 code_of policy name files = do
-  bytes ← bytes_of (refused (refusal_line refusal.TooLong)) name files
+  bytes ← container_bytes_of name files
   code_in policy bytes
+
+-- that the file of the name is accepted under the policy
+unfoldable pub accepted_of : PolicyKind → List ℕ → FileMap → Staged (Unit {0})
+accepted_of policy name files = do
+  bytes ← container_bytes_of name files
+  accepted_in policy bytes
 
 -- the packets in the file of the name
 unfoldable pub packets_of : List ℕ → FileMap → Staged (List (List ℕ))
 packets_of name files = do
-  bytes ← bytes_of (refused packets_too_long_line) name files
+  bytes ← bytes_of MAX_FILE (refused packets_too_long_line) name files
   packets_in bytes
+
+-- the code of the container in the file of the name, where it is accepted under the policy
+unfoldable pub accepted_code_of : PolicyKind → List ℕ → FileMap → Staged (List Insn)
+accepted_code_of policy name files = do
+  bytes ← container_bytes_of name files
+  accepted_code_in policy bytes
+
+-- the text of the source's file of the name
+abbrev pub source_text_of : List ℕ → FileMap → Staged (List ℕ)
+source_text_of name files = bytes_of MAX_SOURCE (refused source_too_long_line) name files
+
+-- the container, as bytes, that the source in the file of the name is assembled into for the policy
+unfoldable pub assembled_of : PolicyKind → List ℕ → FileMap → Staged (List ℕ)
+assembled_of policy name files = do
+  text ← source_text_of name files
+  assembled_in policy text
 
 -- ---- what a command comes to
 
@@ -128,3 +204,7 @@ pub record Effect : Type 0 where
 -- it prints, and writes nothing
 abbrev pub printing : List ℕ → Staged Effect
 printing text = pure (Ok (record { text = text; change = None }))
+
+-- it writes the bytes to the file of the name, and prints how many they are
+abbrev pub writing : List ℕ → List ℕ → Staged Effect
+writing name bytes = pure (Ok (record { text = written_line (length bytes); change = Some (name, bytes) }))

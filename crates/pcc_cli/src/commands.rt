@@ -1,5 +1,11 @@
 //! The commands, a file each.
 
+mod assemble;
+mod check;
 mod reference;
+mod running;
 
+pub use assemble::asm_command;
+pub use check::check_command;
 pub use reference::ref_command;
+pub use running::run_command;

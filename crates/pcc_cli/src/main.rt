@@ -6,6 +6,10 @@
 //! sentence, stands in pcc_exit.
 #![tactic(auto)]
 
+#[cfg(test)]
+mod asm_tests;
+#[cfg(test)]
+mod check_tests;
 mod commands;
 mod pcc;
 mod report;

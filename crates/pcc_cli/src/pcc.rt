@@ -6,7 +6,7 @@ ghost use Rattle.pcc_exit.specs.Accounts.{Accounts};
 ghost use Rattle.pcc_cli.specs.Requests.{request_of};
 ghost use Rattle.pcc_cli.specs.Inside.Decisions.{Decides, Prints, exit_of, status_after};
 
-use crate::commands::ref_command;
+use crate::commands::{asm_command, check_command, ref_command, run_command};
 use crate::report::Report;
 use crate::stop::Stop;
 use file_port::{Files, Put, Sink};
@@ -23,6 +23,9 @@ fn decide<'a, F: Files>(
         (F.state files.old) (F.state files.new) result }
 {
     match read_arguments(alloc, words) {
+        Ok(Some(Command::Asm(args))) => asm_command(alloc, args, files),
+        Ok(Some(Command::Check(args))) => check_command(alloc, args, files),
+        Ok(Some(Command::Run(args))) => run_command(alloc, args, files),
         Ok(Some(Command::Ref(args))) => ref_command(alloc, args, files),
         Ok(None) => Err(Stop::Usage),
         Err(_) => Err(Stop::Memory),

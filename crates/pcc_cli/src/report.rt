@@ -1,38 +1,50 @@
 //! What a command prints that is done.
 
 ghost use Rattle.file_port.specs.Sink.{Puts};
-ghost use Rattle.packet_store.specs.Runners.{testing_results};
 ghost use Rattle.pcc_lines.specs.Results.{result_lines};
 ghost use Rattle.pcc_cli.specs.Inside.Decisions.{report_text};
 
 use file_port::{Put, Sink};
-use packet_store::{PacketFile, TestingRunner};
-use pcc_lines::print_results;
+use packet_store::{PacketFile, PacketRunner, TestingRunner};
+use pcc_lines::{print_accepted, print_results, print_written};
 use policy_set::PolicyKind;
+use safe_host::HostRunner;
 
 /// What runs packets, and those of a file. All memory that the runs need is reserved.
 #[derive(Drop)]
-pub struct Job {
+pub struct Job<R> {
     pub policy: PolicyKind,
-    pub runner: TestingRunner,
+    pub runner: R,
     pub packets: PacketFile,
 }
 
-impl Job {
+impl<R: PacketRunner + Drop> Job<R> {
     /// Runs the packets, and prints the result line of each.
-    fn print<S: Sink>(mut self, out: &mut S) -> Put
-        ensures { Puts (result_lines self.policy (testing_results self.runner) 0 self.packets)
+    fn print<S: Sink>(self, out: &mut S) -> Put
+        ensures { Puts (result_lines self.policy (R.results self.runner) 0 self.packets)
             (S.state out.old) (S.state out.new) result }
     {
-        print_results(self.policy, &mut self.runner, self.packets.packets(), out)
+        let Job {
+            policy,
+            runner,
+            packets,
+        } = self;
+        let mut runner = runner;
+        print_results(policy, &mut runner, packets.packets(), out)
     }
 }
 
 /// What a command prints that is done.
 #[derive(Drop)]
 pub enum Report {
-    /// The result line of each packet.
-    Results(Job),
+    /// The container is accepted.
+    Accepted,
+    /// So many bytes were written.
+    Written(u64),
+    /// The result line of each packet, by the machine that tests every access.
+    Results(Job<TestingRunner>),
+    /// The result line of each packet, by the host that tests none.
+    Hosted(Job<HostRunner>),
 }
 
 impl Report {
@@ -41,7 +53,10 @@ impl Report {
         ensures { Puts (report_text self) (S.state out.old) (S.state out.new) result }
     {
         match self {
+            Report::Accepted => print_accepted(out),
+            Report::Written(count) => print_written(count, out),
             Report::Results(job) => job.print(out),
+            Report::Hosted(job) => job.print(out),
         }
     }
 }

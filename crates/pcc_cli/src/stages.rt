@@ -1,23 +1,30 @@
 //! The stages of commands: each gives its value, or what ends the command there. A stage stands in
 //! `specs/Stages` under the same name.
 
-ghost use Rattle.std.specs.Prelude.{◌≡◌, ◌∷◌, [], IfOk};
+ghost use Rattle.std.specs.Prelude.{◌≡◌, ◌≤◌, ◌∷◌, [], length, IfOk};
 ghost use Rattle.policy_set.specs.Names.{policy_of};
 ghost use Rattle.proof_container.specs.Views.{contents_of};
+ghost use Rattle.asm_text.specs.declared.limits.TheConstants.{MAX_SOURCE};
+ghost use Rattle.asm_text.specs.Views.{source_view};
+ghost use Rattle.pcc_asm.specs.Views.{IsSpelled};
+ghost use Rattle.pcc_gate.specs.Answers.{IsAcceptedBy};
 ghost use Rattle.pcc_cli.specs.Stages as stages;
-ghost use Rattle.pcc_cli.specs.Inside.Gives.{Gives, GivesPure, IsTooLong, HasWholeCode, GivesPolicy};
+ghost use Rattle.pcc_cli.specs.Inside.Gives.{Gives, GivesPure, IsTooLong, HasWholeCode, GivesPolicy, Wrote};
 ghost use Rattle.pcc_cli.specs.Inside.Decisions.{stop_exit};
 
+use crate::report::Report;
 use crate::stop::Stop;
 use alpha_cfg::{Code, CodeFault};
-use file_port::{Files, Got};
+use asm_text::{LineFault, MAX_SOURCE, Source, read_source};
+use file_port::{Files, Got, Put};
 use packet_store::PacketFile;
-use pcc_lines::Refusal;
+use pcc_asm::{AsmFault, assemble};
+use pcc_gate::{Accepted, GateFault, Refusal, gate};
 use policy_set::{Policy, PolicyKind, by_name};
-use proof_container::{Container, Malformed, read};
+use proof_container::{Container, Malformed, read, write};
 use std::alloc::Global;
 
-/// The most bytes of a file that is read.
+/// The most bytes of a container and of a packet file.
 pub const MAX_FILE: u32 = 4_194_304;
 
 /// The policy of the name.
@@ -31,19 +38,21 @@ pub fn policy_named<'a>(alloc: Global, name: &str) -> Result<Policy, Stop<'a>>
     }
 }
 
-/// The bytes of the file of the name; `too_long` where it has more than `MAX_FILE`.
+/// The bytes of the file of the name; `too_long` where it has more than `max`.
 fn bytes_of<'a, F: Files>(
     alloc: Global,
     name: &'a str,
+    max: u32,
     too_long: Stop<'a>,
     files: &mut F,
 ) -> Result<Vec<u8>, Stop<'a>>
     requires { IsTooLong too_long }
-    ensures { Gives (λ bytes. bytes.items) (name.entry.now ∷ [])
-        (stages.bytes_of (stop_exit too_long.entry) name.entry.now)
+    ensures exact { Gives (λ bytes. bytes.items) (name.entry.now ∷ [])
+        (stages.bytes_of max (stop_exit too_long.entry) name.entry.now)
         (F.state files.old) (F.state files.new) result }
+    ensures short { IfOk result (λ bytes. length bytes.items ≤ max) }
 {
-    match files.read(alloc, name, MAX_FILE) {
+    match files.read(alloc, name, max) {
         Got::Bytes(bytes) => Ok(bytes),
         Got::Missing => Err(Stop::Missing(name)),
         Got::TooLong => Err(too_long),
@@ -85,6 +94,70 @@ fn code_in<'a>(alloc: Global, policy: PolicyKind, bytes: &[u8]) -> Result<Code, 
     }
 }
 
+/// What the gate says of the bytes.
+#[tactic(auto, unfolding(crate::specs::Stages::accepted_in))]
+fn judged<'a>(alloc: Global, policy: &Policy, bytes: &[u8]) -> Result<Accepted, Stop<'a>>
+    ensures exact { GivesPure (λ a. tt) (stages.accepted_in policy.now bytes.now) result }
+    ensures accepted { IfOk result (λ a. IsAcceptedBy policy.now bytes.now a) }
+{
+    match gate(alloc, policy, bytes) {
+        Ok(accepted) => Ok(accepted),
+        Err(GateFault::Refused(refusal)) => Err(Stop::Refused(refusal)),
+        Err(GateFault::Memory) => Err(Stop::Memory),
+    }
+}
+
+/// What the bytes hold, where they are accepted under the policy.
+fn accepted_in<'a>(alloc: Global, policy: &Policy, bytes: &[u8]) -> Result<Accepted, Stop<'a>>
+    ensures exact { GivesPure (λ a. tt) (stages.accepted_in policy.now bytes.now) result }
+    ensures code { GivesPure (λ a. a.code) (stages.accepted_code_in policy.now bytes.now) result }
+    ensures policy { IfOk result (λ a. a.policy ≡ policy.now) }
+{
+    judged(alloc, policy, bytes)
+}
+
+/// The source that the text spells.
+#[tactic(auto, unfolding(crate::specs::Stages::source_in))]
+fn source_in<'a>(alloc: Global, text: &[u8]) -> Result<Source, Stop<'a>>
+    requires short { length text.now ≤ MAX_SOURCE }
+    ensures exact { GivesPure source_view (stages.source_in text.now) result }
+    ensures spelled { IfOk result (λ s. IsSpelled (source_view s)) }
+{
+    match read_source(alloc, text) {
+        Ok(source) => Ok(source),
+        Err(LineFault::At(line, flaw)) => Err(Stop::BadLine(line, flaw)),
+        Err(LineFault::Memory) => Err(Stop::Memory),
+    }
+}
+
+/// The container, as bytes, that the source is assembled into for the policy.
+fn assembled_as<'a>(alloc: Global, policy: &Policy, source: &Source) -> Result<Vec<u8>, Stop<'a>>
+    requires spelled { IsSpelled (source_view source.now) }
+    ensures { GivesPure (λ bytes. bytes.items)
+        (stages.assembled_as policy.now (source_view source.now)) result }
+{
+    match assemble(alloc, source, policy) {
+        Ok(assembled) => match write(alloc, &assembled.view()) {
+            Ok(bytes) => Ok(bytes),
+            Err(_) => Err(Stop::Memory),
+        },
+        Err(AsmFault::At(flaw)) => Err(Stop::BadSource(flaw)),
+        Err(AsmFault::Memory) => Err(Stop::Memory),
+    }
+}
+
+/// The same of the source that the text spells.
+fn assembled_in<'a>(alloc: Global, policy: &Policy, text: &[u8]) -> Result<Vec<u8>, Stop<'a>>
+    requires short { length text.now ≤ MAX_SOURCE }
+    ensures { GivesPure (λ bytes. bytes.items) (stages.assembled_in policy.now text.now) result }
+{
+    let source = match source_in(alloc, text) {
+        Ok(source) => source,
+        Err(stop) => return Err(stop),
+    };
+    assembled_as(alloc, policy, &source)
+}
+
 /// The packets that the bytes are.
 fn packets_in<'a>(bytes: Vec<u8>) -> Result<PacketFile, Stop<'a>>
     ensures { GivesPure (λ packets. packets) (stages.packets_in bytes.items) result }
@@ -93,6 +166,18 @@ fn packets_in<'a>(bytes: Vec<u8>) -> Result<PacketFile, Stop<'a>>
         Ok(packets) => Ok(packets),
         Err(fault) => Err(Stop::BadPackets(fault)),
     }
+}
+
+/// The bytes of the container's file of the name.
+fn container_bytes_of<'a, F: Files>(
+    alloc: Global,
+    name: &'a str,
+    files: &mut F,
+) -> Result<Vec<u8>, Stop<'a>>
+    ensures { Gives (λ bytes. bytes.items) (name.entry.now ∷ [])
+        (stages.container_bytes_of name.entry.now) (F.state files.old) (F.state files.new) result }
+{
+    bytes_of(alloc, name, MAX_FILE, Stop::ContainerTooLong, files)
 }
 
 /// The code of the container in the file of the name, where it is for the policy.
@@ -105,8 +190,27 @@ pub fn code_of<'a, F: Files>(
     ensures { Gives (λ code. code) (name.entry.now ∷ []) (stages.code_of policy name.entry.now)
         (F.state files.old) (F.state files.new) result }
 {
-    let bytes = bytes_of(alloc, name, Stop::Refused(Refusal::TooLong), files)?;
+    let bytes = container_bytes_of(alloc, name, files)?;
     code_in(alloc, policy, &bytes)
+}
+
+/// What the file of the name holds, where it is accepted under the policy.
+pub fn accepted_of<'a, F: Files>(
+    alloc: Global,
+    policy: &Policy,
+    name: &'a str,
+    files: &mut F,
+) -> Result<Accepted, Stop<'a>>
+    ensures exact { Gives (λ a. tt) (name.entry.now ∷ [])
+        (stages.accepted_of policy.now name.entry.now)
+        (F.state files.old) (F.state files.new) result }
+    ensures code { Gives (λ a. a.code) (name.entry.now ∷ [])
+        (stages.accepted_code_of policy.now name.entry.now)
+        (F.state files.old) (F.state files.new) result }
+    ensures policy { IfOk result (λ a. a.policy ≡ policy.now) }
+{
+    let bytes = container_bytes_of(alloc, name, files)?;
+    accepted_in(alloc, policy, &bytes)
 }
 
 /// The packets in the file of the name.
@@ -118,6 +222,36 @@ pub fn packets_of<'a, F: Files>(
     ensures { Gives (λ packets. packets) (name.entry.now ∷ []) (stages.packets_of name.entry.now)
         (F.state files.old) (F.state files.new) result }
 {
-    let bytes = bytes_of(alloc, name, Stop::PacketsTooLong, files)?;
+    let bytes = bytes_of(alloc, name, MAX_FILE, Stop::PacketsTooLong, files)?;
     packets_in(bytes)
+}
+
+/// The container, as bytes, that the source in the file of the name is assembled into for the
+/// policy.
+pub fn assembled_of<'a, F: Files>(
+    alloc: Global,
+    policy: &Policy,
+    name: &'a str,
+    files: &mut F,
+) -> Result<Vec<u8>, Stop<'a>>
+    ensures { Gives (λ bytes. bytes.items) (name.entry.now ∷ [])
+        (stages.assembled_of policy.now name.entry.now)
+        (F.state files.old) (F.state files.new) result }
+{
+    let text = bytes_of(alloc, name, MAX_SOURCE as u32, Stop::SourceTooLong, files)?;
+    assembled_in(alloc, policy, &text)
+}
+
+/// Writes the bytes to the file of the name, and reports how many they are.
+pub fn write_to<'a, F: Files>(
+    name: &'a str,
+    bytes: &[u8],
+    files: &mut F,
+) -> Result<Report, Stop<'a>>
+    ensures { Wrote name.entry.now bytes.now (F.state files.old) (F.state files.new) result }
+{
+    match files.write(name, bytes) {
+        Put::Done => Ok(Report::Written(bytes.len() as u64)),
+        Put::Failed => Err(Stop::WriteFault(name)),
+    }
 }

@@ -4,11 +4,15 @@ ghost use Rattle.std.specs.Prelude.{◌≡◌};
 ghost use Rattle.file_port.specs.Sink.{Puts};
 ghost use Rattle.pcc_cli.specs.Inside.Decisions.{stop_exit};
 
+use asm_text::LineFlaw;
 use file_port::{Put, Sink};
 use packet_store::PacketFault;
+use pcc_asm::AsmFlaw;
+use pcc_gate::Refusal;
 use pcc_lines::{
-    Refusal, print_missing, print_packet_fault, print_packets_too_long, print_read_fault,
-    print_refusal, print_unknown_policy, print_usage, print_write_fault,
+    print_container_too_long, print_missing, print_packet_fault, print_packets_too_long,
+    print_read_fault, print_refusal, print_source_fault, print_source_too_long,
+    print_unknown_policy, print_usage, print_write_fault,
 };
 
 /// What ends a command before it is done.
@@ -20,6 +24,14 @@ pub enum Stop<'a> {
     UnknownPolicy,
     /// The container is refused.
     Refused(Refusal),
+    /// The container's file is longer than a file may be.
+    ContainerTooLong,
+    /// The source's file is longer than a source may be.
+    SourceTooLong,
+    /// The line of this number, from 1, is the first that is wrong; 0 where there is no instruction.
+    BadLine(u32, LineFlaw),
+    /// The source's lines are right, and give no code.
+    BadSource(AsmFlaw),
     /// The packet file is longer than a file may be.
     PacketsTooLong,
     /// The packet file has a fault.
@@ -40,8 +52,14 @@ impl Stop<'_> {
         ensures { result ≡ (stop_exit self.now).status }
     {
         match self {
-            Stop::UnknownPolicy | Stop::Refused(_) | Stop::PacketsTooLong | Stop::BadPackets(_) =>
-                1,
+            Stop::UnknownPolicy
+            | Stop::Refused(_)
+            | Stop::ContainerTooLong
+            | Stop::SourceTooLong
+            | Stop::BadLine(_, _)
+            | Stop::BadSource(_)
+            | Stop::PacketsTooLong
+            | Stop::BadPackets(_) => 1,
             Stop::Usage => 2,
             Stop::Missing(_) | Stop::ReadFault(_) => 3,
             Stop::WriteFault(_) => 4,
@@ -57,6 +75,10 @@ impl Stop<'_> {
             Stop::Usage => print_usage(out),
             Stop::UnknownPolicy => print_unknown_policy(out),
             Stop::Refused(refusal) => print_refusal(*refusal, out),
+            Stop::ContainerTooLong => print_container_too_long(out),
+            Stop::SourceTooLong => print_source_too_long(out),
+            Stop::BadLine(line, flaw) => print_source_fault(*line, flaw.name(), out),
+            Stop::BadSource(flaw) => print_source_fault(flaw.line(), flaw.name(), out),
             Stop::PacketsTooLong => print_packets_too_long(out),
             Stop::BadPackets(fault) => print_packet_fault(*fault, out),
             Stop::Missing(name) => print_missing(name, out),

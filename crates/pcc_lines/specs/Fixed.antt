@@ -12,3 +12,15 @@ unknown_policy_line = codes "unknown policy\n"
 -- the packet file is longer than a file may be
 abbrev pub packets_too_long_line : List ℕ
 packets_too_long_line = codes "packets TooLong\n"
+
+-- a container is accepted
+abbrev pub accepted_line : List ℕ
+accepted_line = codes "accepted\n"
+
+-- the container's file is longer than a file may be
+abbrev pub container_too_long_line : List ℕ
+container_too_long_line = codes "refused 1 TooLong\n"
+
+-- the source's file is longer than a source may be
+abbrev pub source_too_long_line : List ℕ
+source_too_long_line = codes "source TooLong\n"

@@ -4,3 +4,4 @@ pub mod Named
 pub mod PacketFaults
 pub mod Refusals
 pub mod Results
+pub mod Sources

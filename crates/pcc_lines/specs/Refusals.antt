@@ -7,8 +7,8 @@ use Rattle.alpha_cfg.specs.declared.fault.CodeFlaw.TheVariants as code
 use Rattle.proof_container.specs.declared.fault.Flaw.{Flaw}
 use Rattle.proof_container.specs.Names.{flaw_name}
 use Rattle.pcc_lines.specs.Line.{hex_digits}
-use Rattle.pcc_lines.specs.declared.refusals.Refusal.{Refusal}
-use Rattle.pcc_lines.specs.declared.refusals.Refusal.TheVariants as refusal
+use Rattle.pcc_gate.specs.declared.refusal.Refusal.{Refusal}
+use Rattle.pcc_gate.specs.declared.refusal.Refusal.TheVariants as refusal
 
 -- a word that is no instruction: its index, the kind of fault, and the word
 abbrev pub bad_word_text : ℕ → ℕ → BadWord → List ℕ
@@ -26,10 +26,17 @@ malformed_text offset flaw = decimal offset ++ codes " " ++ flaw_name flaw
 
 -- why a container is refused
 abbrev pub refusal_text : Refusal → List ℕ
-refusal_text refusal.TooLong = codes "refused 1 TooLong"
+refusal_text (refusal.TooLong length) = codes "refused 1 TooLong"
 refusal_text (refusal.Malformed offset flaw) = codes "refused 2 Malformed " ++ malformed_text offset flaw
 refusal_text (refusal.OtherPolicy number) = codes "refused 3 OtherPolicy " ++ decimal number
 refusal_text (refusal.BadCode flaw) = codes "refused 4 BadCode " ++ code_flaw_text flaw
+refusal_text (refusal.Height h) = codes "refused 5 Height " ++ decimal h
+refusal_text (refusal.InvNotForm k) = codes "refused 6 InvNotForm " ++ decimal k
+refusal_text (refusal.Uncut i) = codes "refused 7 Uncut " ++ decimal i
+refusal_text (refusal.UnfoldLimit n) = codes "refused 8 UnfoldLimit " ++ decimal n
+refusal_text refusal.NoProof = codes "refused 9 NoProof"
+refusal_text (refusal.ProofWeight n) = codes "refused 10 ProofWeight " ++ decimal n
+refusal_text refusal.NotProof = codes "refused 11 NotProof"
 
 -- the line of a refusal
 unfoldable pub refusal_line : Refusal → List ℕ

@@ -2,6 +2,8 @@
 
 ghost use Rattle.file_port.specs.Sink.{Puts};
 ghost use Rattle.pcc_lines.specs.Fixed.{usage_line, unknown_policy_line, packets_too_long_line};
+ghost use Rattle.pcc_lines.specs.Fixed.{accepted_line, container_too_long_line};
+ghost use Rattle.pcc_lines.specs.Fixed.{source_too_long_line};
 
 use file_port::{Put, Sink};
 
@@ -24,4 +26,25 @@ pub fn print_packets_too_long<S: Sink>(out: &mut S) -> Put
     ensures { Puts packets_too_long_line (S.state out.old) (S.state out.new) result }
 {
     out.put(b"packets TooLong\n")
+}
+
+/// Prints that a container is accepted.
+pub fn print_accepted<S: Sink>(out: &mut S) -> Put
+    ensures { Puts accepted_line (S.state out.old) (S.state out.new) result }
+{
+    out.put(b"accepted\n")
+}
+
+/// Prints that the container's file is longer than a file may be.
+pub fn print_container_too_long<S: Sink>(out: &mut S) -> Put
+    ensures { Puts container_too_long_line (S.state out.old) (S.state out.new) result }
+{
+    out.put(b"refused 1 TooLong\n")
+}
+
+/// Prints that the source's file is longer than a source may be.
+pub fn print_source_too_long<S: Sink>(out: &mut S) -> Put
+    ensures { Puts source_too_long_line (S.state out.old) (S.state out.new) result }
+{
+    out.put(b"source TooLong\n")
 }

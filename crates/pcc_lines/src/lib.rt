@@ -4,8 +4,8 @@
 //! a put fails, is put. A line is made in a fixed buffer and put as one piece; a line with a name
 //! is three pieces. No call takes memory. A file of `src/` has its definitions in the file of
 //! `specs/` with the same name: lines that are always the same (`Fixed`), lines with a name
-//! (`Named`), faults of packet files (`PacketFaults`), refusals (`Refusals`) and result lines
-//! (`Results`). The names of the kinds of faults come from the crates that have the kinds.
+//! (`Named`), faults of packet files (`PacketFaults`), refusals (`Refusals`), result lines
+//! (`Results`), and what is said of a source (`Sources`). The names of the kinds of faults come from the crates that have the kinds.
 #![tactic(auto)]
 
 mod fixed;
@@ -14,11 +14,16 @@ mod named;
 mod packet_faults;
 mod refusals;
 mod results;
+mod sources;
 #[cfg(test)]
 mod tests;
 
-pub use fixed::{print_packets_too_long, print_unknown_policy, print_usage};
+pub use fixed::{
+    print_accepted, print_container_too_long, print_packets_too_long, print_source_too_long,
+    print_unknown_policy, print_usage,
+};
 pub use named::{print_missing, print_read_fault, print_write_fault};
 pub use packet_faults::print_packet_fault;
-pub use refusals::{Refusal, print_refusal};
+pub use refusals::print_refusal;
 pub use results::print_results;
+pub use sources::{MAX_SOURCE_KIND, print_source_fault, print_written};

@@ -1,29 +1,17 @@
 //! Why a container is refused.
 
-ghost use Rattle.std.specs.Prelude.{◌≡◌, ◌+◌, ◌≤◌, ◌++◌};
+ghost use Rattle.std.specs.Prelude.{◌≡◌, ◌+◌, ◌≤◌, ◌++◌, length, decimal};
 ghost use Rattle.arrayvec.specs.ArrayVec.{array_vec_len};
 ghost use Rattle.file_port.specs.Sink.{Puts};
 ghost use Rattle.pcc_lines.specs.Refusals.{refusal_line, refusal_text, code_flaw_text, bad_word_text, malformed_text};
 
-use crate::line::{LINE, Line, push_decimal, push_hex, push_text};
+use crate::line::{DIGITS, LINE, Line, push_decimal, push_hex, push_text};
 use alpha_cfg::CodeFlaw;
 use alpha_words::BadWord;
 use arrayvec::ArrayVec;
 use file_port::{Put, Sink};
+use pcc_gate::Refusal;
 use proof_container::Flaw;
-
-/// The first thing that is wrong with a container. Each kind has its number in the line.
-#[derive(Clone, Copy, Debug, PartialEq, Eq)]
-pub enum Refusal {
-    /// 1: the file is longer than a file may be.
-    TooLong,
-    /// 2: the bytes are no container; the offset of the first fault, in bytes, and its kind.
-    Malformed(u64, Flaw),
-    /// 3: the container is for the policy of this number, which is another than the one named.
-    OtherPolicy(u32),
-    /// 4: the container's code is none.
-    BadCode(CodeFlaw),
-}
 
 /// The most bytes of what is said of a bad word: two numbers, a kind and two blanks.
 const BAD_WORD: usize = 42;
@@ -77,6 +65,16 @@ fn push_malformed(line: &mut Line, offset: u64, flaw: Flaw)
     push_text(line, flaw.name());
 }
 
+/// Adds a text and a number behind it.
+fn push_numbered(line: &mut Line, text: &str, number: u32)
+    requires { array_vec_len line.old + length text.now + DIGITS ≤ LINE }
+    ensures items { line.new.items ≡ line.old.items ++ (text.now ++ decimal number) }
+    ensures len { array_vec_len line.new ≤ array_vec_len line.old + length text.now + DIGITS }
+{
+    push_text(line, text);
+    push_decimal(line, u64::from(number));
+}
+
 /// Adds why a container is refused.
 fn push_refusal(line: &mut Line, refusal: Refusal)
     requires { array_vec_len line.old + REFUSAL ≤ LINE }
@@ -84,19 +82,23 @@ fn push_refusal(line: &mut Line, refusal: Refusal)
     ensures len { array_vec_len line.new ≤ array_vec_len line.old + REFUSAL }
 {
     match refusal {
-        Refusal::TooLong => push_text(line, "refused 1 TooLong"),
+        Refusal::TooLong(_) => push_text(line, "refused 1 TooLong"),
         Refusal::Malformed(offset, flaw) => {
             push_text(line, "refused 2 Malformed ");
             push_malformed(line, offset, flaw);
         }
-        Refusal::OtherPolicy(number) => {
-            push_text(line, "refused 3 OtherPolicy ");
-            push_decimal(line, u64::from(number));
-        }
+        Refusal::OtherPolicy(n) => push_numbered(line, "refused 3 OtherPolicy ", n),
         Refusal::BadCode(flaw) => {
             push_text(line, "refused 4 BadCode ");
             push_code_flaw(line, flaw);
         }
+        Refusal::Height(height) => push_numbered(line, "refused 5 Height ", height),
+        Refusal::InvNotForm(k) => push_numbered(line, "refused 6 InvNotForm ", k),
+        Refusal::Uncut(index) => push_numbered(line, "refused 7 Uncut ", index),
+        Refusal::UnfoldLimit(n) => push_numbered(line, "refused 8 UnfoldLimit ", n),
+        Refusal::NoProof => push_text(line, "refused 9 NoProof"),
+        Refusal::ProofWeight(n) => push_numbered(line, "refused 10 ProofWeight ", n),
+        Refusal::NotProof => push_text(line, "refused 11 NotProof"),
     }
 }
 

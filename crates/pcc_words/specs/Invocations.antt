@@ -26,6 +26,10 @@ steps_rule = record (new_rule (codes "steps")) {
 abbrev pub file_app : Text → App
 file_app name = with_rule (with_rule (new_app name) (positional (codes "POLICY"))) (positional (codes "FILE"))
 
+-- `NAME POLICY IN OUT`
+abbrev pub copy_app : Text → App
+copy_app name = with_rule (with_rule (with_rule (new_app name) (positional (codes "POLICY"))) (positional (codes "IN"))) (positional (codes "OUT"))
+
 -- `NAME POLICY FILE PACKETS [--steps N]`
 abbrev pub run_app : Text → App
 run_app name = with_rule (with_rule (file_app name) (positional (codes "PACKETS"))) steps_rule
@@ -34,14 +38,24 @@ run_app name = with_rule (with_rule (file_app name) (positional (codes "PACKETS"
 abbrev pub bare_app : App
 bare_app = on_top (λ top. record top { no_binary_name = true }) (new_app (codes "pcc"))
 
+-- the program with the commands that run no code
+abbrev pub file_commands_app : App
+file_commands_app = with_subcommand (with_subcommand bare_app (copy_app (codes "asm")).top) (file_app (codes "check")).top
+
 -- the program
 abbrev pub pcc_app : App
-pcc_app = with_subcommand bare_app (run_app (codes "ref")).top
+pcc_app = with_subcommand (with_subcommand file_commands_app (run_app (codes "run")).top) (run_app (codes "ref")).top
 
 -- ---- the values
 
 -- a command with its values
 pub data Invocation : Type 0 where
+  -- `asm POLICY IN OUT`
+  asm : Text → Text → Text → Invocation
+  -- `check POLICY FILE`
+  check : Text → Text → Invocation
+  -- `run POLICY FILE PACKETS`, and the steps for a packet
+  run : Text → Text → Text → ℕ → Invocation
   -- `ref POLICY FILE PACKETS`, and the steps for a packet
   ref : Text → Text → Text → ℕ → Invocation
 
@@ -75,9 +89,22 @@ run_invocation command rows =
     then Some (command (value_of (codes "POLICY") rows) (value_of (codes "FILE") rows) (value_of (codes "PACKETS") rows) steps)
     else None
 
+-- a command that makes a file of another, of these rows
+abbrev pub copy_invocation : (Text → Text → Text → Invocation) → List Row → Invocation
+copy_invocation command rows = command (value_of (codes "POLICY") rows) (value_of (codes "IN") rows) (value_of (codes "OUT") rows)
+
+-- a command that reads a container, of these rows
+abbrev pub file_invocation : (Text → Text → Invocation) → List Row → Invocation
+file_invocation command rows = command (value_of (codes "POLICY") rows) (value_of (codes "FILE") rows)
+
 -- what was found for the subcommand of this name
 abbrev pub invocation_at : Text → List Row → Option Invocation
-invocation_at name rows = if bytes_eq name (codes "ref") then run_invocation ref rows else None
+invocation_at name rows =
+    if bytes_eq name (codes "asm") then Some (copy_invocation asm rows) else
+    if bytes_eq name (codes "check") then Some (file_invocation check rows) else
+    if bytes_eq name (codes "run") then run_invocation run rows else
+    if bytes_eq name (codes "ref") then run_invocation ref rows else
+    None
 
 -- the same of a name with its rows
 abbrev pub invocation_of_subcommand : Text × List Row → Option Invocation

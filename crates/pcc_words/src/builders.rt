@@ -2,7 +2,8 @@
 ghost use Rattle.std.specs.Prelude.{◌≡◌, IfOk, false};
 ghost use Rattle.clap.specs.Words.{app_of, rule_of};
 ghost use Rattle.clap.specs.declared.Command.TheViews.{out-Command as fields_of};
-ghost use Rattle.pcc_words.specs.Invocations.{file_app, run_app, pcc_app, steps_rule};
+ghost use Rattle.pcc_words.specs.Invocations.{copy_app, file_app, run_app, file_commands_app};
+ghost use Rattle.pcc_words.specs.Invocations.{pcc_app, steps_rule};
 ghost use Rattle.pcc_words.specs.Invocations.{positional as positional_rule};
 
 use clap::{Arg, Command, value_parser};
@@ -37,6 +38,17 @@ fn file_command<'a>(alloc: Global, name: &'a str) -> Result<Command<'a>, AllocEr
         .arg(positional(alloc, "FILE"))
 }
 
+/// `NAME POLICY IN OUT`
+fn copy_command<'a>(alloc: Global, name: &'a str) -> Result<Command<'a>, AllocError>
+    ensures app { IfOk result (λ c. app_of c ≡ copy_app name.entry.now) }
+    ensures local { IfOk result (λ c. (fields_of c).has_globals ≡ false) }
+{
+    Command::new(alloc, name)
+        .arg(positional(alloc, "POLICY"))?
+        .arg(positional(alloc, "IN"))?
+        .arg(positional(alloc, "OUT"))
+}
+
 /// `NAME POLICY FILE PACKETS [--steps N]`
 fn run_command<'a>(alloc: Global, name: &'a str) -> Result<Command<'a>, AllocError>
     ensures app { IfOk result (λ c. app_of c ≡ run_app name.entry.now) }
@@ -47,11 +59,21 @@ fn run_command<'a>(alloc: Global, name: &'a str) -> Result<Command<'a>, AllocErr
         .arg(steps(alloc))
 }
 
+/// The command line with the commands that run no code.
+fn file_commands<'a>(alloc: Global) -> Result<Command<'a>, AllocError>
+    ensures app { IfOk result (λ c. app_of c ≡ file_commands_app) }
+{
+    Command::new(alloc, "pcc")
+        .no_binary_name(true)
+        .subcommand(copy_command(alloc, "asm")?)?
+        .subcommand(file_command(alloc, "check")?)
+}
+
 /// The whole command line.
 pub fn pcc_command<'a>(alloc: Global) -> Result<Command<'a>, AllocError>
     ensures app { IfOk result (λ c. app_of c ≡ pcc_app) }
 {
-    Command::new(alloc, "pcc")
-        .no_binary_name(true)
+    file_commands(alloc)?
+        .subcommand(run_command(alloc, "run")?)?
         .subcommand(run_command(alloc, "ref")?)
 }

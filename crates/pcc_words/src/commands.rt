@@ -1,5 +1,25 @@
 //! The commands of pcc, with their values.
 
+/// The arguments of a command that makes a file of another: `POLICY IN OUT`.
+#[derive(Clone, Copy, Debug, PartialEq, Eq)]
+pub struct CopyArgs<'a> {
+    /// The policy's name.
+    pub policy: &'a str,
+    /// The name of the file that is read.
+    pub input: &'a str,
+    /// The name of the file that is written, which may be the same.
+    pub output: &'a str,
+}
+
+/// The arguments of a command that reads a container: `POLICY FILE`.
+#[derive(Clone, Copy, Debug, PartialEq, Eq)]
+pub struct FileArgs<'a> {
+    /// The policy's name.
+    pub policy: &'a str,
+    /// The name of the container's file.
+    pub file: &'a str,
+}
+
 /// The arguments of a command that runs packets: `POLICY FILE PACKETS [--steps N]`.
 #[derive(Clone, Copy, Debug, PartialEq, Eq)]
 pub struct RunArgs<'a> {
@@ -16,6 +36,12 @@ pub struct RunArgs<'a> {
 /// A command with its values.
 #[derive(Clone, Copy, Debug, PartialEq, Eq)]
 pub enum Command<'a> {
+    /// Assembles a source into a container without a proof.
+    Asm(CopyArgs<'a>),
+    /// Judges a container.
+    Check(FileArgs<'a>),
+    /// Runs accepted code on packets, by the host that tests no access.
+    Run(RunArgs<'a>),
     /// Runs the testing machine on packets.
     Ref(RunArgs<'a>),
 }

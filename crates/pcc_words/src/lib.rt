@@ -20,7 +20,7 @@ ghost use Rattle.pcc_words.specs.Commands.{invocation_of, IsInRange};
 
 use builders::pcc_command;
 use clap::error::ErrorKind;
-pub use commands::{Command, RunArgs};
+pub use commands::{Command, CopyArgs, FileArgs, RunArgs};
 use std::alloc::{AllocError, Global};
 pub use theorems::{worked_commands, worked_faults};
 use values::command_found;

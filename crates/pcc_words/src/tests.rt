@@ -1,6 +1,6 @@
 //! Which arguments are a command.
 
-use crate::{Command, RunArgs, read_arguments};
+use crate::{Command, CopyArgs, FileArgs, RunArgs, read_arguments};
 use std::alloc::{AllocError, Global};
 use std::test::Fail;
 
@@ -22,7 +22,7 @@ fn arguments_of_ref(rt: HostRuntime) -> Result<(), Fail> {
         ("ref filter C1 Z64 --steps 0", None),
         ("ref filter C1 Z64 --steps 1000000001", None),
         ("ref filter C1", None),
-        ("check filter C1", None),
+        ("demo 3", None),
         ("--help", None),
     ];
     for (line, steps) in rows {
@@ -36,6 +36,43 @@ fn arguments_of_ref(rt: HostRuntime) -> Result<(), Fail> {
                 steps,
             })
         });
+        assert_eq!(rt; found, want, "{line}");
+    }
+    Ok(())
+}
+
+/// Lines of the other commands, and lines that are none.
+#[test]
+fn arguments_of_others(rt: HostRuntime) -> Result<(), Fail> {
+    let assembling = Command::Asm(CopyArgs {
+        policy: "filter",
+        input: "S1",
+        output: "C1",
+    });
+    let checking = Command::Check(FileArgs {
+        policy: "filter",
+        file: "C1",
+    });
+    let running = Command::Run(RunArgs {
+        policy: "filter",
+        file: "C1",
+        packets: "Z64",
+        steps: 7,
+    });
+    let rows = [
+        ("run filter C1 Z64 --steps 7", Some(running)),
+        ("run filter C1", None),
+        ("asm filter S1 C1", Some(assembling)),
+        ("asm filter S1", None),
+        ("asm filter S1 C1 more", None),
+        ("check filter C1", Some(checking)),
+        ("check filter", None),
+        ("check filter C1 more", None),
+        ("check filter C1 --steps 1", None),
+    ];
+    for (line, want) in rows {
+        let words = words_in(rt.alloc(), line)?;
+        let found = read_arguments(rt.alloc(), words.as_slice())?;
         assert_eq!(rt; found, want, "{line}");
     }
     Ok(())

@@ -1,9 +1,17 @@
 //! What the definition of the command line says of some arguments, with nothing to run.
 ghost use Rattle.std.specs.Prelude.{◌≡◌, Some, None, [], ◌∷◌, codes};
-ghost use Rattle.pcc_words.specs.Invocations.{command_of, ref};
+ghost use Rattle.pcc_words.specs.Invocations.{command_of, asm, check, run, ref};
 
 /// Arguments that are a command.
 pub fn worked_commands()
+    ensures asm { command_of (codes "asm" ∷ codes "filter" ∷ codes "S1" ∷ codes "C1" ∷ [])
+        ≡ Some (asm (codes "filter") (codes "S1") (codes "C1")) }
+    ensures check { command_of (codes "check" ∷ codes "filter" ∷ codes "C1" ∷ [])
+        ≡ Some (check (codes "filter") (codes "C1")) }
+    ensures run { command_of (codes "run" ∷ codes "filter" ∷ codes "P1" ∷ codes "Z64" ∷ [])
+        ≡ Some (run (codes "filter") (codes "P1") (codes "Z64") 1000000) }
+    ensures run_steps { command_of (codes "run" ∷ codes "filter" ∷ codes "P1" ∷ codes "Z64"
+        ∷ codes "--steps=2" ∷ []) ≡ Some (run (codes "filter") (codes "P1") (codes "Z64") 2) }
     ensures given { command_of (codes "ref" ∷ codes "filter" ∷ codes "C1" ∷ codes "Z64" ∷ [])
         ≡ Some (ref (codes "filter") (codes "C1") (codes "Z64") 1000000) }
     ensures steps { command_of (codes "ref" ∷ codes "filter" ∷ codes "C1" ∷ codes "Z64"
@@ -49,7 +57,19 @@ pub fn worked_faults()
         ∷ codes "more" ∷ []) ≡ None }
     ensures too_few { command_of (codes "ref" ∷ codes "filter" ∷ codes "C1" ∷ []) ≡ None }
     ensures nothing { command_of [] ≡ None }
-    ensures other { command_of (codes "check" ∷ codes "filter" ∷ codes "C1" ∷ []) ≡ None }
+    ensures asm_too_few { command_of (codes "asm" ∷ codes "filter" ∷ codes "S1" ∷ []) ≡ None }
+    ensures asm_too_many { command_of (codes "asm" ∷ codes "filter" ∷ codes "S1" ∷ codes "C1"
+        ∷ codes "more" ∷ []) ≡ None }
+    ensures check_too_few { command_of (codes "check" ∷ codes "filter" ∷ []) ≡ None }
+    ensures check_too_many { command_of (codes "check" ∷ codes "filter" ∷ codes "C1"
+        ∷ codes "more" ∷ []) ≡ None }
+    ensures check_has_no_steps { command_of (codes "check" ∷ codes "filter" ∷ codes "C1"
+        ∷ codes "--steps=1" ∷ []) ≡ None }
+    ensures run_too_few { command_of (codes "run" ∷ codes "filter" ∷ codes "P1" ∷ []) ≡ None }
+    ensures run_zero { command_of (codes "run" ∷ codes "filter" ∷ codes "P1" ∷ codes "Z64"
+        ∷ codes "--steps=0" ∷ []) ≡ None }
+    ensures other { command_of (codes "prove" ∷ codes "filter" ∷ codes "C1" ∷ codes "P1" ∷ [])
+        ≡ None }
     ensures help { command_of (codes "help" ∷ []) ≡ None }
     ensures help_flag { command_of (codes "--help" ∷ []) ≡ None }
     ensures help_of_ref { command_of (codes "ref" ∷ codes "--help" ∷ []) ≡ None }

@@ -4,7 +4,7 @@ ghost use Rattle.clap.specs.Words.{found_of, rows_of, subcommand_rows_of};
 ghost use Rattle.pcc_words.specs.Invocations.{is_step_count, number_at, value_of, invocation_at, invocation_of_subcommand};
 ghost use Rattle.pcc_words.specs.Commands.{invocation_of, IsInRange};
 
-use crate::commands::{Command, RunArgs};
+use crate::commands::{Command, CopyArgs, FileArgs, RunArgs};
 use clap::ArgMatches;
 
 /// The most steps for a packet that may be asked for.
@@ -27,6 +27,32 @@ fn text_given<'a>(matches: &ArgMatches<'a>, id: &str) -> &'a str
     match matches.get_str(id) {
         Some(text) => text,
         None => "",
+    }
+}
+
+/// The arguments of a command that makes a file of another.
+fn copy_args_given<'a>(matches: &ArgMatches<'a>) -> CopyArgs<'a>
+    ensures policy { result.policy.now ≡ value_of (codes "POLICY") (rows_of
+        (found_of matches.now)) }
+    ensures input { result.input.now ≡ value_of (codes "IN") (rows_of (found_of matches.now)) }
+    ensures output { result.output.now ≡ value_of (codes "OUT") (rows_of (found_of matches.now)) }
+{
+    CopyArgs {
+        policy: text_given(matches, "POLICY"),
+        input: text_given(matches, "IN"),
+        output: text_given(matches, "OUT"),
+    }
+}
+
+/// The arguments of a command that reads a container.
+fn file_args_given<'a>(matches: &ArgMatches<'a>) -> FileArgs<'a>
+    ensures policy { result.policy.now ≡ value_of (codes "POLICY") (rows_of
+        (found_of matches.now)) }
+    ensures file { result.file.now ≡ value_of (codes "FILE") (rows_of (found_of matches.now)) }
+{
+    FileArgs {
+        policy: text_given(matches, "POLICY"),
+        file: text_given(matches, "FILE"),
     }
 }
 
@@ -67,6 +93,9 @@ fn command_given<'a>(name: &str, matches: &ArgMatches<'a>) -> Option<Command<'a>
     ensures in_range { IfSome result IsInRange }
 {
     match name {
+        "asm" => Some(Command::Asm(copy_args_given(matches))),
+        "check" => Some(Command::Check(file_args_given(matches))),
+        "run" => Some(Command::Run(with_steps_in_range(run_args_given(matches))?)),
         "ref" => Some(Command::Ref(with_steps_in_range(run_args_given(matches))?)),
         _ => None,
     }

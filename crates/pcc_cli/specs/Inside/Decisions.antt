@@ -5,9 +5,13 @@ use Rattle.file_port.specs.Sink.{SinkState, Puts}
 use Rattle.file_port.specs.declared.Put.{Put}
 use Rattle.file_port.specs.declared.Put.TheVariants as put
 use Rattle.packet_store.specs.Runners.{testing_results}
-use Rattle.pcc_lines.specs.Fixed.{packets_too_long_line}
+use Rattle.pcc_lines.specs.Fixed.{accepted_line, container_too_long_line, packets_too_long_line, source_too_long_line}
 use Rattle.pcc_lines.specs.PacketFaults.{packet_fault_line}
+use Rattle.asm_text.specs.Names.{line_flaw_name}
+use Rattle.pcc_asm.specs.Names.{asm_flaw_line, asm_flaw_name}
 use Rattle.pcc_lines.specs.Refusals.{refusal_line}
+use Rattle.pcc_lines.specs.Sources.{source_fault_line, written_line}
+use Rattle.safe_host.specs.Runners.{host_results}
 use Rattle.pcc_lines.specs.Results.{result_lines}
 use Rattle.pcc_exit.specs.Exits.{Exit}
 use Rattle.pcc_exit.specs.Requests.{Request, usage_exit, unknown_policy_exit, read_fault_exit, write_fault_exit}
@@ -24,6 +28,10 @@ abbrev pub stop_exit : Stop → Exit
 stop_exit stop.Usage = usage_exit texts
 stop_exit stop.UnknownPolicy = unknown_policy_exit texts
 stop_exit (stop.Refused refusal) = refused (refusal_line refusal)
+stop_exit stop.ContainerTooLong = refused container_too_long_line
+stop_exit stop.SourceTooLong = refused source_too_long_line
+stop_exit (stop.BadLine line flaw) = refused (source_fault_line line (line_flaw_name flaw))
+stop_exit (stop.BadSource flaw) = refused (source_fault_line (asm_flaw_line flaw) (asm_flaw_name flaw))
 stop_exit stop.PacketsTooLong = refused packets_too_long_line
 stop_exit (stop.BadPackets fault) = refused (packet_fault_line fault)
 stop_exit (stop.Missing name) = missing name.now
@@ -33,9 +41,12 @@ stop_exit stop.Memory = record { status = 5; text = [] }
 
 -- the lines of a report
 abbrev pub report_text : Report → List ℕ
+report_text report.Accepted = accepted_line
+report_text (report.Written count) = written_line count
 report_text (report.Results job) = result_lines job.policy (testing_results job.runner) 0 job.packets
+report_text (report.Hosted job) = result_lines job.policy (host_results job.runner) 0 job.packets
 
--- what a command does that ends with a report
+-- what a command does that ends with a report, and writes nothing
 abbrev pub effect_of : Report → Effect
 effect_of report = record { text = report_text report; change = None }
 

@@ -1,11 +1,13 @@
 -- What the code of a stage answers, by what the stage comes to.
 use Rattle.std.specs.Prelude.{◌≡◌, ℕ, ◌*◌, ◌/◌, ◌<◌, ◌≤◌, List, length, Option, Some, None, Result, Ok, Err, IfSome, Contains}
-use Rattle.file_port.specs.Files.{FileMap, FilesState, ReadFails}
+use Rattle.file_port.specs.Files.{FileMap, FilesState, ReadFails, WriteFails, with_file}
 use Rattle.policy_set.specs.declared.kind.PolicyKind.{PolicyKind}
 use Rattle.pcc_exit.specs.Exits.{Exit}
 use Rattle.pcc_cli.specs.Stages.{Staged}
 use Rattle.pcc_cli.specs.declared.stop.Stop.{Stop}
 use Rattle.pcc_cli.specs.declared.stop.Stop.TheVariants as stop
+use Rattle.pcc_cli.specs.declared.report.Report.{Report}
+use Rattle.pcc_cli.specs.declared.report.Report.TheVariants as report
 use Rattle.pcc_cli.specs.Inside.Decisions.{stop_exit}
 
 -- the policy that was found, that there is none, or want of memory
@@ -17,7 +19,8 @@ GivesPolicy found (Err other) = ⊥
 
 -- a stop that says that a file is too long
 abbrev pub IsTooLong : Stop → Type 0
-IsTooLong (stop.Refused refusal) = Unit {0}
+IsTooLong stop.ContainerTooLong = Unit {0}
+IsTooLong stop.SourceTooLong = Unit {0}
 IsTooLong stop.PacketsTooLong = Unit {0}
 IsTooLong other = ⊥
 
@@ -69,3 +72,11 @@ Stops names stage old new other = ComesTo stage old new (Err (stop_exit other))
 abbrev pub Gives : {A B : Type 0} → (B → A) → List (List ℕ) → (FileMap → Staged A) → FilesState → FilesState → Result B Stop → Type 0
 Gives view names stage old new (Ok x) = ComesTo stage old new (Ok (view x))
 Gives view names stage old new (Err e) = Stops names stage old new e
+
+-- ---- the write
+
+-- the bytes were written to the file of the name, and are counted; or the write failed
+abbrev pub Wrote : List ℕ → List ℕ → FilesState → FilesState → Result Report Stop → Type 0
+Wrote name bytes old new (Ok (report.Written count)) = (new ≡ with_file name bytes old) × (count ≡ length bytes)
+Wrote name bytes old new (Err (stop.WriteFault other)) = WriteFails name bytes old new × (other.now ≡ name)
+Wrote name bytes old new other = ⊥

@@ -6,6 +6,10 @@ use Rattle.pcc_words.proofs.theorems.worked_commands.Goals as goal
 pub returns : goal.returns
 unfolding clap_on_literals command_of
 returns c = record {
+  asm = refl;
+  check = refl;
+  run = refl;
+  run_steps = refl;
   given = refl;
   steps = refl;
   attached = refl;

@@ -1,0 +1,30 @@
+//! `asm POLICY IN OUT`: assembles a source into a container without a proof.
+
+ghost use Rattle.std.specs.Prelude.{Some};
+ghost use Rattle.pcc_words.specs.Invocations.{asm};
+ghost use Rattle.pcc_cli.specs.Requests.{request_of_command};
+ghost use Rattle.pcc_cli.specs.Inside.Decisions.{Decides};
+
+use crate::report::Report;
+use crate::stages::{assembled_of, policy_named, write_to};
+use crate::stop::Stop;
+use file_port::Files;
+use pcc_words::CopyArgs;
+use std::alloc::Global;
+
+/// Reads the source, assembles it, and writes the container. The source is judged whole before
+/// anything is written.
+pub fn asm_command<'a, F: Files>(
+    alloc: Global,
+    args: CopyArgs<'a>,
+    files: &mut F,
+) -> Result<Report, Stop<'a>>
+    ensures { let a = args.entry in
+        Decides (request_of_command (Some (asm a.policy.now a.input.now a.output.now)))
+        (F.state files.old) (F.state files.new) result }
+{
+    let policy = policy_named(alloc, args.policy)?;
+    let container = assembled_of(alloc, &policy, args.input, files)?;
+    drop(policy);
+    write_to(args.output, &container, files)
+}

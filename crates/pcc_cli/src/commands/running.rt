@@ -1,0 +1,53 @@
+//! `run POLICY FILE PACKETS [--steps N]`: runs accepted code on packets, by the host that tests no
+//! access.
+
+ghost use Rattle.std.specs.Prelude.{◌≡◌, Some, IfSome};
+ghost use Rattle.packet_store.specs.Results.{packet_result};
+ghost use Rattle.safe_host.specs.Runners.{host_results};
+ghost use Rattle.pcc_words.specs.Invocations.{run};
+ghost use Rattle.pcc_cli.specs.Requests.{request_of_command};
+ghost use Rattle.pcc_cli.specs.Inside.Decisions.{Decides};
+
+use crate::report::{Job, Report};
+use crate::stages::{accepted_of, packets_of, policy_named};
+use crate::stop::Stop;
+use file_port::Files;
+use pcc_gate::Accepted;
+use pcc_words::RunArgs;
+use safe_host::{Host, HostRunner};
+use std::alloc::Global;
+
+/// What runs accepted code, with the arena reserved; None where there is no memory for it.
+fn runner_of(alloc: Global, accepted: Accepted, steps: u64) -> Option<HostRunner>
+    ensures { IfSome result (λ runner. host_results runner
+        ≡ packet_result accepted.policy accepted.code steps) }
+{
+    match Host::new(alloc, accepted) {
+        Ok(host) => Some(HostRunner::new(host, steps)),
+        Err(_) => None,
+    }
+}
+
+/// Reads the container and judges it, reads the packets, and reserves all that the runs need.
+pub fn run_command<'a, F: Files>(
+    alloc: Global,
+    args: RunArgs<'a>,
+    files: &mut F,
+) -> Result<Report, Stop<'a>>
+    ensures { let a = args.entry in
+        Decides (request_of_command (Some (run a.policy.now a.file.now a.packets.now a.steps)))
+        (F.state files.old) (F.state files.new) result }
+{
+    let policy = policy_named(alloc, args.policy)?;
+    let under = policy.kind();
+    let accepted = accepted_of(alloc, &policy, args.file, files)?;
+    let packets = packets_of(alloc, args.packets, files)?;
+    match runner_of(alloc, accepted, args.steps) {
+        Some(runner) => Ok(Report::Hosted(Job {
+            policy: under,
+            runner,
+            packets,
+        })),
+        None => Err(Stop::Memory),
+    }
+}
