@@ -9,7 +9,7 @@ lines_of() {
   { find "$1" -type f -name "$2" ! -name "${3-}" -exec cat {} + 2> /dev/null || true; } | wc -l
 }
 
-# How many lines of the crate's code match, its tests.rt included or not.
+# How many lines of the crate's code match, its test files included or not.
 count_of() {
   { find "$1/src" -type f -name '*.rt' ! -name "${3-}" -exec cat {} + || true; } | grep -cE "$2" || true
 }
@@ -18,13 +18,13 @@ edits_of() {
   { find "$1/must-fail" -type f -name '*.edit' 2> /dev/null || true; } | wc -l
 }
 
-echo '| crate | src | tests.rt | specs | proofs | functions | clauses | tests | edits |'
+echo '| crate | src | test files | specs | proofs | functions | clauses | tests | edits |'
 echo '|---|---|---|---|---|---|---|---|---|'
 sed 's/#.*//; s/:.*//' ../crates.txt | grep . | while read -r crate _; do
   echo "$crate" \
-    "$(lines_of "$crate/src" '*.rt' tests.rt)" "$(lines_of "$crate/src" tests.rt)" \
+    "$(lines_of "$crate/src" '*.rt' '*tests.rt')" "$(lines_of "$crate/src" '*tests.rt')" \
     "$(lines_of "$crate/specs" '*.antt')" "$(lines_of "$crate/proofs" '*.antt')" \
-    "$(count_of "$crate" '^ *(pub )?fn ' tests.rt)" "$(count_of "$crate" '^ *ensures' tests.rt)" \
+    "$(count_of "$crate" '^ *(pub )?fn ' '*tests.rt')" "$(count_of "$crate" '^ *ensures' '*tests.rt')" \
     "$(count_of "$crate" '#\[test\]')" "$(edits_of "$crate")"
 done | awk '{
   printf "| %s |", $1

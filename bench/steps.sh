@@ -1,19 +1,26 @@
 #!/usr/bin/env bash
-# Times `pcc ref` of an endless loop with 1,000,000 steps on one packet, and with 1.
+# Times `pcc ref` and `pcc run` of a proved endless loop on one packet, with 1 step and with 200,000,000:
+# processor time, median of five each, and how much longer or shorter `run` takes.
 set -eu
 top=$(cd "$(dirname "${BASH_SOURCE[0]}")/.." && pwd)
-work=$(mktemp -d)
-trap 'rm -rf "$work"' EXIT
-python3 - "$work" <<'PY'
-import struct, sys
-code = [0x40203401, 0xC3FFFFFE]  # addq r1,1,r1; br to the first
-with open(sys.argv[1] + "/container", "wb") as out:
-    out.write(b"PCCA" + struct.pack("<III", 1, 1, len(code)))
-    out.write(b"".join(struct.pack("<I", word) for word in code) + bytes(12))
-with open(sys.argv[1] + "/packets", "wb") as out:
-    out.write(struct.pack("<I", 64) + bytes(64))
+"$top/pcc" check filter "$top/examples/endless/container" > /dev/null
+python3 - "$top/crates/pcc_cli/out/pcc_cli" "$top/examples" <<'PY'
+import os, statistics, subprocess, sys
+
+binary, examples = sys.argv[1:]
+
+def once(command, steps):
+    words = [binary, command, "filter", examples + "/endless/container", examples + "/first/packets", "--steps", str(steps)]
+    process = subprocess.Popen(words, stdout=subprocess.PIPE)
+    line = process.stdout.read().decode().strip()
+    _, status, used = os.wait4(process.pid, 0)
+    assert line == "0: out of steps" and status == 0, line
+    return used.ru_utime + used.ru_stime
+
+times = {}
+for steps in (1, 200000000):
+    for command in ("ref", "run"):
+        times[command] = statistics.median(once(command, steps) for _ in range(5))
+        print("%s, %d steps: %.3f s" % (command, steps, times[command]))
+print("run takes %+.1f %% of ref's time more" % (100 * (times["run"] / times["ref"] - 1)))
 PY
-for steps in 1 1000000; do
-  echo "$steps steps:"
-  time "$top/pcc" ref filter "$work/container" "$work/packets" --steps "$steps"
-done

@@ -1,0 +1,74 @@
+#!/usr/bin/env bash
+# Times `pcc asm` on sources at its limits, median of five: the line that is printed, processor time and
+# peak memory; and GNU as for Alpha on the same 1,024 instructions, where it is installed.
+set -eu
+top=$(cd "$(dirname "${BASH_SOURCE[0]}")/.." && pwd)
+work=$(mktemp -d)
+trap 'rm -rf "$work"' EXIT
+"$top/pcc" asm filter "$top/examples/sum/source" "$work/out" > /dev/null || true
+python3 - "$top/crates/pcc_cli/out/pcc_cli" "$work" <<'PY'
+import os, shutil, statistics, subprocess, sys
+
+binary, work = sys.argv[1:]
+
+def once(words):
+    process = subprocess.Popen(words, stdout=subprocess.PIPE, stderr=subprocess.DEVNULL)
+    line = process.stdout.read().decode().strip()
+    _, status, used = os.wait4(process.pid, 0)
+    return line, used.ru_utime + used.ru_stime, used.ru_maxrss / 1024
+
+def row(name, source, wanted, policy="filter"):
+    with open(work + "/source", "w") as out:
+        out.write(source)
+    runs = [once([binary, "asm", policy, work + "/source", work + "/out"]) for _ in range(5)]
+    line = runs[0][0]
+    print("%-52s %6.3f s %5.0f MB  %9d bytes  %s%s" % (name, statistics.median(r[1] for r in runs),
+          statistics.median(r[2] for r in runs), len(source), line, "" if line.startswith(wanted) else "  EXPECTED " + wanted))
+
+LIMIT, LINE = 1048576, 2048
+insns = ["addq $%d,%d,$%d" % (k % 8, k % 256, (k + 1) % 8) for k in range(1023)] + ["ret"]
+forms = [".inv (all i (imp (ult i r17) (eq (band (add r%d %d) 7) (sel (upd m r16 %d) i))))" % (k % 9, k, k) for k in range(256)]
+
+def filled(lines):  # comments of the longest lines up to the limit
+    text = "\n".join(lines) + "\n"
+    while len(text) + LINE + 1 <= LIMIT:
+        text += "#" * LINE + "\n"
+    return text + "#" * (LIMIT - len(text))
+
+both = []
+for k, insn in enumerate(insns):
+    both += forms[k // 4:k // 4 + 1] if k % 4 == 0 else []
+    both.append(insn)
+row("1,024 instructions", "\n".join(insns), "written")
+row("1,024 instructions, 256 invariants, comments", filled(both), "written")
+
+def nested(length):  # the formula of so many bytes that nests deepest
+    depth = (length - 3) // 7
+    return "(or tt" * depth + " ff" + ")" * depth
+
+deep = [line for k in range(256) for line in (".inv" + nested(LINE - 4), "nop")] + ["ret"]
+row("256 invariants of 2,048 bytes, nested", "\n".join(deep), "written")
+wide = []
+for k in range(256):
+    parts, number = [], 10000 * k + 1000
+    while len("".join(parts)) + 4 * len(parts) + 30 < LINE - 10:
+        parts.append("(eq %d %d)" % (number, number + 1))
+        number += 2
+    text = parts[0]
+    for part in parts[1:]:
+        text = "(or" + text + part + ")"
+    wide += [".inv" + text, "nop"]
+row("256 invariants of many literals", "\n".join(wide + ["ret"]), "written")
+labels = ["l%d:" % k for k in range(120000)]
+row("120,000 labels, a branch to each of the last 1,000", "\n".join(labels + ["l%d: nop" % k for k in range(120000, 120023)]
+    + ["beq $1,l%d" % k for k in range(119000, 120000)] + ["ret"]), "written")
+row("120,000 labels, the last one twice", "\n".join(labels + ["l119999:", "ret"]), "line 120001 DoubleLabel")
+assembler = next((name for name in ("alpha-linux-gnu-as", "alpha-unknown-linux-gnu-as") if shutil.which(name)), None)
+if assembler is None:
+    print("GNU as for Alpha isn't installed: skipped")
+else:
+    with open(work + "/source", "w") as out:
+        out.write("\n".join(insns) + "\n")
+    runs = [once([assembler, "-o", work + "/object", work + "/source"]) for _ in range(5)]
+    print("%-52s %6.3f s %5.0f MB" % (assembler, statistics.median(r[1] for r in runs), statistics.median(r[2] for r in runs)))
+PY

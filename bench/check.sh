@@ -1,0 +1,110 @@
+#!/usr/bin/env bash
+# Times `pcc check` on containers at its limits, accepted and refused, median of five (the worst files
+# known once each): the line that is printed, processor time and peak memory. A line that isn't the one
+# expected ends the run with status 1.
+set -eu
+top=$(cd "$(dirname "${BASH_SOURCE[0]}")/.." && pwd)
+work=$(mktemp -d)
+trap 'rm -rf "$work"' EXIT
+"$top/pcc" check tag "$top/examples/tag/container" > /dev/null
+python3 - "$top/bench" "$top/crates/pcc_cli/out/pcc_cli" "$work" <<'PY'
+import os, statistics, subprocess, sys
+sys.path.insert(0, sys.argv[1])
+from terms import *
+
+binary, work = sys.argv[2:]
+failed = False
+
+# A process of its own, since the peak memory of a child counts that of its parent.
+MEASURE = """
+import os, subprocess, sys
+process = subprocess.Popen(sys.argv[1:], stdout=subprocess.PIPE)
+line = process.stdout.read().decode().strip()
+_, status, used = os.wait4(process.pid, 0)
+print(os.waitstatus_to_exitcode(status), used.ru_utime + used.ru_stime, used.ru_maxrss / 1024, line)
+"""
+
+def once(policy, path):
+    words = [sys.executable, "-S", "-E", "-c", MEASURE, binary, "check", policy, path]
+    status, seconds, megabytes, line = (subprocess.check_output(words).decode().rstrip("\n").split(" ", 3) + [""])[:4]
+    return line, int(status), float(seconds), float(megabytes)
+
+def row(name, policy, data, wanted, times=5):
+    global failed
+    path = work + "/container"
+    with open(path, "wb") as out:
+        out.write(data)
+    runs = [once(policy, path) for _ in range(times)]
+    line = runs[0][0] or "status %d" % runs[0][1]
+    note = "" if line == wanted else "  EXPECTED " + wanted
+    failed = failed or line != wanted
+    print("%-52s %7.2f s %6.0f MB  %9d bytes  %s%s" % (name, statistics.median(r[2] for r in runs),
+          statistics.median(r[3] for r in runs), len(data), line, note), flush=True)
+
+t = Terms()
+row("ret under tag", "tag", returning_container(t), "accepted")
+least = weight(t, returning(t))
+row("the proof padded to weight 1,048,576", "tag", returning_container(t, padded(t, 1048577 - least)), "accepted")
+row("one more", "tag", returning_container(t, padded(t, 1048578 - least)), "refused 10 ProofWeight 1048577")
+row("sixty doublings", "tag", returning_container(t, sixty_times(t)), "refused 10 ProofWeight 4294967295")
+
+t = Terms()
+chained = t.con(TT_I)
+for _ in range(1364):
+    chained = t.con(AND_L, t.con(TT), t.con(TT), t.con(AND_I, t.con(TT), t.con(TT), chained, t.con(TT_I)))
+high = height(t, returning(t, chained))
+row("1,364 steps, one on the other (height %d)" % high, "tag", returning_container(t, chained), "accepted")
+
+for leaves, wanted in [(26170, "accepted")]:
+    t = Terms()
+    whole = conjunction(t, [reflexive(t, t.lit(k)) for k in range(leaves)])
+    data = returning_container(t, instead(t, *whole))
+    row("%d facts, conjoined (%d entries)" % (leaves, struct.unpack_from("<I", data, 20)[0]), "tag", data, wanted)
+
+PAIR, ZERO = [0xE4200001, 0x47FF041F], 0x47FF041F
+double = [ZERO] * 2 + PAIR * 14 + [RETURN_1, RETURN]
+t = Terms()
+row("unfolded length 65,536, no proof", "filter", container(t, FILTER, double), "refused 9 NoProof")
+row("unfolded length 65,536, another proof", "filter", container(t, FILTER, double, (), t.con(TT_I)), "refused 11 NotProof")
+row("unfolded length 65,537", "filter", container(t, FILTER, [ZERO] + double), "refused 8 UnfoldLimit 65537")
+
+straight = [0x40203401] * 1022 + [RETURN_1, RETURN]
+row("1,024 instructions, another proof", "filter", container(t, FILTER, straight, (), t.con(TT_I)), "refused 11 NotProof")
+
+def balanced(t, leaf, low, high):
+    if high - low == 1:
+        return leaf(low)
+    middle = (low + high) // 2
+    return t.con(AND, balanced(t, leaf, low, middle), balanced(t, leaf, middle, high))
+
+t = Terms()
+many = [(4 * k, t.con(EQ, t.var(30 - k % 31), t.lit(k))) for k in range(256)]
+row("256 invariants, another proof", "filter", container(t, FILTER, straight, many, t.con(TT_I)), "refused 11 NotProof")
+wide = balanced(t, lambda k: t.con(EQ, t.lit(k), t.lit(k)), 0, 52400)
+data = container(t, FILTER, [0xC3FFFFFF], [(0, wide)])
+row("an invariant of %d entries" % struct.unpack_from("<I", data, 20)[0], "filter", data, "refused 9 NoProof")
+open_wide = balanced(t, lambda k: t.con(EQ, t.var(14), t.lit(k)), 0, 52400)
+data = container(t, FILTER, [0x40203401, 0x40203401, 0xC3FFFFFE], [(1, open_wide)], t.con(TT_I))
+row(".. over r16, put into 3 ways, another proof", "filter", data, "refused 11 NotProof")
+
+def applied(t, low, high):
+    return t.lit(low) if high - low == 1 else t.node(APP, applied(t, low, (low + high) // 2), applied(t, (low + high) // 2, high))
+
+t = Terms()
+row("a balanced tree of 262,143 entries", "filter", container(t, FILTER, [0xC3FFFFFF], [(0, applied(t, 0, 131072))]), "refused 6 InvNotForm 0")
+quantified = t.con(TT)
+for _ in range(60):
+    quantified = t.con(IMP, t.con(ALL, t.lam(quantified)), t.con(ALLM, t.lam(quantified)))
+row("quantifiers that double sixty times", "filter", container(t, FILTER, [0xC3FFFFFF], [(0, quantified)]), "refused 9 NoProof")
+row("262,144 abstractions", "filter", container(t, FILTER, [0xC3FFFFFF], [(0, t.lam(t.var(0), 262143))]), "refused 5 Height 262144")
+
+for parts, count in [(40, 14500), (3000, 14500)]:
+    t = Terms()
+    data = returning_container(t, under_equality(t, contexts(t, parts, count)))
+    row("a word of %d parts under %d hypotheses" % (parts, count), "tag", data, "accepted" if parts < 100 else "status 5", 1)
+for parts, count in [(20, 14000), (3000, 12000)]:
+    t = Terms()
+    data = returning_container(t, under_equality(t, instances(t, parts, count)))
+    row("%d instances of a predicate of %d parts" % (count, parts), "tag", data, "accepted" if parts < 100 else "status 5", 1)
+sys.exit(1 if failed else 0)
+PY
