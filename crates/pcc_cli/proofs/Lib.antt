@@ -7,3 +7,4 @@ pub mod PacketLemmas
 pub mod RefLemmas
 pub mod RunLemmas
 pub mod EndLemmas
+pub mod HeadlineLemmas

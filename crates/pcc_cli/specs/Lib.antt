@@ -1,4 +1,5 @@
 pub mod Stages
 pub mod Commands
 pub mod Requests
+pub mod Headline
 pub mod Inside

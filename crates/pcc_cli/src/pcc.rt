@@ -3,7 +3,10 @@
 ghost use Rattle.std.specs.Prelude.{◌≡◌, map, string_bytes};
 ghost use Rattle.pcc_exit.specs.Ends.{Ends};
 ghost use Rattle.pcc_exit.specs.Accounts.{Accounts};
+ghost use Rattle.file_port.specs.Files.{FileMap};
+ghost use Rattle.pcc_words.specs.Invocations.{command_of};
 ghost use Rattle.pcc_cli.specs.Requests.{request_of};
+ghost use Rattle.pcc_cli.specs.Headline.{HoldBytes, Accepts, IsSafeToRun};
 ghost use Rattle.pcc_cli.specs.Inside.Decisions.{Decides, Prints, exit_of, status_after};
 
 use crate::commands::{asm_command, check_command, ref_command, run_command};
@@ -58,12 +61,22 @@ fn print<S: Sink>(decision: Result<Report, Stop<'_>>, out: &mut S) -> u8
 /// arguments.
 ///
 /// Reads and refuses first, and prints then; nothing is printed before all files were read.
+///
+/// By `accepts`, `check` answers `accepted` exactly where the file is accepted under the policy,
+/// and `run` refuses what `check` refuses, and else answers what the machine that tests every
+/// access makes of the code. By `safe`, no run of accepted code from a start of the policy is
+/// blocked, whatever the budget, and what it returns satisfies the postcondition.
 pub fn pcc<F: Files, S: Sink>(alloc: Global, words: Vec<String>, files: &mut F, out: &mut S) -> u8
     ensures ends { Ends (request_of (map string_bytes words.items))
         (F.state files.old) (F.state files.new) (S.state out.old) (S.state out.new) result }
+    ensures accepts { (files : FileMap) → HoldBytes files
+        → Accepts (command_of (map string_bytes words.items)) files }
+    ensures safe { (files : FileMap) → IsSafeToRun (command_of (map string_bytes words.items)) files }
     ensures accounts { Accounts (request_of (map string_bytes words.items))
         (F.state files.old) (F.state files.new) (S.state out.old) (S.state out.new) result }
 {
+    pcc_gate::laws();
+    packet_store::laws();
     let decision = decide(alloc, words.as_slice(), files);
     print(decision, out)
 }
