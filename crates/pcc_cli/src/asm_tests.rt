@@ -1,7 +1,7 @@
 //! Sources that `asm` assembles, over files and output in memory.
 
-use crate::pcc::pcc;
-use file_port::{MemFiles, MemSink};
+use crate::test_files::{ends_so, file};
+use file_port::MemFiles;
 use std::alloc::{AllocError, Global};
 use std::test::Fail;
 
@@ -13,32 +13,9 @@ fn files_of(
     failing: &[u32],
 ) -> Result<MemFiles, AllocError> {
     let mut files = Vec::new(alloc);
-    files.push((
-        String::from_str(alloc, "S")?,
-        Vec::from_slice(alloc, source)?,
-    ))?;
-    files.push((
-        String::from_str(alloc, "P")?,
-        Vec::from_slice(alloc, packets)?,
-    ))?;
+    files.push(file(alloc, "S", Vec::from_slice(alloc, source)?)?)?;
+    files.push(file(alloc, "P", Vec::from_slice(alloc, packets)?)?)?;
     MemFiles::new(alloc, files, 1, Vec::from_slice(alloc, failing)?)
-}
-
-/// Whether the program ends with this status and output on these files.
-fn ends_so(
-    alloc: Global,
-    files: &mut MemFiles,
-    words: &str,
-    puts: &[u32],
-    ends: (u8, &str),
-) -> Result<bool, AllocError> {
-    let mut out = MemSink::new(alloc, 200, Vec::from_slice(alloc, puts)?)?;
-    let mut args = Vec::new(alloc);
-    for word in words.split(' ') {
-        args.push(String::from_str(alloc, word)?)?;
-    }
-    let status = pcc(alloc, args, files, &mut out);
-    Ok(status == ends.0 && out.bytes() == ends.1.as_bytes())
 }
 
 /// Whether `asm` of this source prints so, refuses, and writes nothing.

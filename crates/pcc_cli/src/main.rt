@@ -1,4 +1,4 @@
-//! `pcc`: runs Alpha code on packets by the machine that tests every access.
+//! `pcc`: assembles, judges and runs Alpha code that carries its proof.
 //!
 //! The top call is `pcc`; `main` makes the real files and output and calls it. What arguments ask
 //! for stands in `specs/Requests`, over the stages in `specs/Stages` and a file a command in
@@ -13,8 +13,12 @@ mod check_tests;
 mod commands;
 mod pcc;
 mod report;
+#[cfg(test)]
+mod run_tests;
 mod stages;
 mod stop;
+#[cfg(test)]
+mod test_files;
 #[cfg(test)]
 mod tests;
 

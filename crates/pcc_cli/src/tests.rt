@@ -1,19 +1,15 @@
 //! Rows of words, files and failing calls, over files and output in memory.
 
 use crate::pcc::pcc;
+use crate::test_files::{
+    BARE, LDA, LOOP, RETURN, container, ends_on, file, with_field, words_of, zeros,
+};
 use file_port::{MemFiles, MemSink};
 use std::alloc::{AllocError, Global};
 use std::test::Fail;
 
-const LDA: u32 = 0x201f_0001;
-
-const RETURN: u32 = 0x6bfa_8001;
-
 /// A container without terms, by its fields. Its filter returns 1.
 const ONE: [u32; 9] = [0x4143_4350, 1, 1, 2, LDA, RETURN, 0, 0, 0];
-
-/// A container of a loop, by its fields: the entry Const 13, and the invariant 13 at index 0.
-const LOOP: [u32; 12] = [0x4143_4350, 1, 1, 1, 0xc3ff_ffff, 1, 1, 13, 1, 0, 0, 0];
 
 /// What a row expects. The code is a filter's unless another policy is named.
 #[derive(Clone, Copy)]
@@ -26,85 +22,19 @@ struct Row<'a> {
     output: &'a str,
 }
 
-fn container(alloc: Global, policy: u32, code: &[u32]) -> Result<Vec<u8>, AllocError> {
-    let mut bytes = Vec::from_slice(alloc, b"PCCA\x01\x00\x00\x00")?;
-    bytes.extend_from_slice(&policy.to_le_bytes())?;
-    let mut count = 0u32;
-    for _ in code {
-        count = count.saturating_add(1);
-    }
-    bytes.extend_from_slice(&count.to_le_bytes())?;
-    for word in code {
-        bytes.extend_from_slice(&word.to_le_bytes())?;
-    }
-    bytes.extend_from_slice(&[0; 12])?;
-    Ok(bytes)
-}
-
-fn words_of(alloc: Global, text: &str) -> Result<Vec<String>, AllocError> {
-    let mut words = Vec::new(alloc);
-    for word in text.split(' ') {
-        words.push(String::from_str(alloc, word)?)?;
-    }
-    Ok(words)
-}
-
-fn file(alloc: Global, name: &str, bytes: Vec<u8>) -> Result<(String, Vec<u8>), AllocError> {
-    Ok((String::from_str(alloc, name)?, bytes))
-}
-
-fn listed(alloc: Global, call: Option<u32>) -> Result<Vec<u32>, AllocError> {
-    let mut calls = Vec::new(alloc);
-    if let Some(call) = call {
-        calls.push(call)?;
-    }
-    Ok(calls)
-}
-
-/// The files `C`, the container, and `P`, the packets.
-fn files_of(alloc: Global, row: &Row<'_>, failing: Option<u32>) -> Result<MemFiles, AllocError> {
+/// Whether the status and the output are the row's, where `C` is the container, `P` has the packets,
+/// and these calls fail.
+fn passes(alloc: Global, row: &Row<'_>, reads: &[u32], puts: &[u32]) -> Result<bool, AllocError> {
     let mut files = Vec::new(alloc);
-    files.push(file(alloc, "C", container(alloc, row.policy, row.code)?)?)?;
+    files.push(file(alloc, "C", container(alloc, row.policy, row.code, &BARE)?)?)?;
     files.push(file(alloc, "P", Vec::from_slice(alloc, row.packets)?)?)?;
-    MemFiles::new(alloc, files, 0, listed(alloc, failing)?)
-}
-
-/// Whether the status and the output are the row's, where these calls fail.
-fn passes(
-    alloc: Global,
-    row: &Row<'_>,
-    read: Option<u32>,
-    put: Option<u32>,
-) -> Result<bool, AllocError> {
-    let mut files = files_of(alloc, row, read)?;
-    let mut out = MemSink::new(alloc, 200, listed(alloc, put)?)?;
-    let words = words_of(alloc, row.words)?;
-    let status = pcc(alloc, words, &mut files, &mut out);
-    Ok(status == row.status && out.bytes() == row.output.as_bytes())
-}
-
-/// A packet file of one packet of zeros.
-fn zeros(alloc: Global, count: u32) -> Result<Vec<u8>, AllocError> {
-    let mut bytes = Vec::from_slice(alloc, &count.to_le_bytes())?;
-    for _ in 0..count {
-        bytes.push(0)?;
-    }
-    Ok(bytes)
-}
-
-/// The fields with another one at this offset, as bytes.
-fn with_field(
-    alloc: Global,
-    fields: &[u32],
-    offset: usize,
-    value: u32,
-) -> Result<Vec<u8>, AllocError> {
-    let mut bytes = Vec::new(alloc);
-    for (i, field) in fields.iter().enumerate() {
-        let there = if i == offset / 4 { value } else { *field };
-        bytes.extend_from_slice(&there.to_le_bytes())?;
-    }
-    Ok(bytes)
+    ends_on(
+        alloc,
+        row.words,
+        files,
+        (reads, puts),
+        (row.status, row.output),
+    )
 }
 
 /// The first five fields of the loop, and other ones behind them, as bytes.
@@ -117,15 +47,12 @@ fn with_tail(alloc: Global, tail: &[u32]) -> Result<Vec<u8>, AllocError> {
 }
 
 /// Whether `ref` of a filter on one packet of zeros ends so, where these are the container's bytes.
-fn ends_so(alloc: Global, bytes: Vec<u8>, status: u8, output: &str) -> Result<bool, AllocError> {
+fn runs_so(alloc: Global, bytes: Vec<u8>, status: u8, output: &str) -> Result<bool, AllocError> {
     let mut files = Vec::new(alloc);
     files.push(file(alloc, "C", bytes)?)?;
     files.push(file(alloc, "P", zeros(alloc, 64)?)?)?;
-    let mut files = MemFiles::new(alloc, files, 0, Vec::new(alloc))?;
-    let mut out = MemSink::new(alloc, 200, Vec::new(alloc))?;
-    let words = words_of(alloc, "ref filter C P --steps 1000")?;
-    let ended = pcc(alloc, words, &mut files, &mut out);
-    Ok(ended == status && out.bytes() == output.as_bytes())
+    let words = "ref filter C P --steps 1000";
+    ends_on(alloc, words, files, (&[], &[]), (status, output))
 }
 
 /// `ref` of a filter.
@@ -192,7 +119,7 @@ fn filters_on_one_packet(rt: HostRuntime) -> Result<(), Fail> {
         filter_row(&[LDA, RETURN], &[], ""),
     ];
     for row in rows {
-        assert!(rt; passes(a, &row, None, None)?, "{}", row.output);
+        assert!(rt; passes(a, &row, &[], &[])?, "{}", row.output);
     }
     Ok(())
 }
@@ -220,7 +147,7 @@ fn packets_of_other_lengths(rt: HostRuntime) -> Result<(), Fail> {
         fault(&[0, 0, 1, 0], "packets PacketTooLong 0\n"),
     ];
     for row in rows {
-        assert!(rt; passes(a, &row, None, None)?, "{}", row.output);
+        assert!(rt; passes(a, &row, &[], &[])?, "{}", row.output);
     }
     Ok(())
 }
@@ -260,7 +187,7 @@ fn containers_are_refused(rt: HostRuntime) -> Result<(), Fail> {
         },
     ];
     for row in rows {
-        assert!(rt; passes(a, &row, None, None)?, "{}", row.output);
+        assert!(rt; passes(a, &row, &[], &[])?, "{}", row.output);
     }
     Ok(())
 }
@@ -285,7 +212,7 @@ fn tags_and_tables(rt: HostRuntime) -> Result<(), Fail> {
         },
     ];
     for row in rows {
-        assert!(rt; passes(a, &row, None, None)?, "{}", row.output);
+        assert!(rt; passes(a, &row, &[], &[])?, "{}", row.output);
     }
     Ok(())
 }
@@ -315,7 +242,7 @@ fn words_are_read_by_clap(rt: HostRuntime) -> Result<(), Fail> {
         words_row("ref nosuch none P", z64, 1, "unknown policy\n"),
     ];
     for row in rows {
-        assert!(rt; passes(a, &row, None, None)?, "{}", row.words);
+        assert!(rt; passes(a, &row, &[], &[])?, "{}", row.words);
     }
     Ok(())
 }
@@ -328,25 +255,21 @@ fn calls_fail(rt: HostRuntime) -> Result<(), Fail> {
     two.extend_from_slice(zeros(a, 64)?.as_slice())?;
     let z64 = two.as_slice();
     let run = "ref filter C P";
-    let rows = [
-        (Some(0), None, words_row(run, z64, 3, "read fault C\n")),
-        (Some(1), None, words_row(run, z64, 3, "read fault P\n")),
-        (None, Some(0), words_row(run, z64, 4, "0:")),
-        (None, Some(1), words_row(run, z64, 4, "0: 1\n1:")),
-        (Some(0), Some(0), words_row(run, z64, 4, "read ")),
+    let rows: [(&[u32], &[u32], Row<'_>); 7] = [
+        (&[0], &[], words_row(run, z64, 3, "read fault C\n")),
+        (&[1], &[], words_row(run, z64, 3, "read fault P\n")),
+        (&[], &[0], words_row(run, z64, 4, "0:")),
+        (&[], &[1], words_row(run, z64, 4, "0: 1\n1:")),
+        (&[0], &[0], words_row(run, z64, 4, "read ")),
         (
-            None,
-            Some(1),
+            &[],
+            &[1],
             words_row("ref filter C none", z64, 4, "missing no"),
         ),
-        (
-            None,
-            Some(0),
-            words_row("ref", z64, 4, "usage: pcc asm|prove"),
-        ),
+        (&[], &[0], words_row("ref", z64, 4, "usage: pcc asm|prove")),
     ];
-    for (read, put, row) in rows {
-        assert!(rt; passes(a, &row, read, put)?, "{}", row.output);
+    for (reads, puts, row) in rows {
+        assert!(rt; passes(a, &row, reads, puts)?, "{}", row.output);
     }
     Ok(())
 }
@@ -362,13 +285,13 @@ fn files_at_their_limit(rt: HostRuntime) -> Result<(), Fail> {
     ];
     for (name, count, status, output) in rows {
         let mut files = Vec::new(a);
-        files.push(file(a, "C", container(a, 1, &[LDA, RETURN])?)?)?;
+        files.push(file(a, "C", container(a, 1, &[LDA, RETURN], &BARE)?)?)?;
         files.push(file(a, name, vec![in a; 0; count]?)?)?;
-        let mut files = MemFiles::new(a, files, 0, Vec::new(a))?;
-        let mut out = MemSink::new(a, 200, Vec::new(a))?;
-        let words = words_of(a, "ref filter C P")?;
-        assert_eq!(rt; pcc(a, words, &mut files, &mut out), status, "{output}");
-        assert!(rt; out.bytes() == output.as_bytes(), "{output}");
+        let ends = (status, output);
+        assert!(rt;
+            ends_on(a, "ref filter C P", files, (&[], &[]), ends)?,
+            "{output}"
+        );
     }
     Ok(())
 }
@@ -381,10 +304,10 @@ fn containers_cut_short(rt: HostRuntime) -> Result<(), Fail> {
     for byte in with_field(a, &LOOP, 0, LOOP[0])? {
         let offset = less.len() / 4 * 4;
         let output = format!(in a; "refused 2 Malformed {offset} Cut\n")?;
-        assert!(rt; ends_so(a, less.clone()?, 1, output.as_str())?, "{offset}");
+        assert!(rt; runs_so(a, less.clone()?, 1, output.as_str())?, "{offset}");
         less.push(byte)?;
     }
-    assert!(rt; ends_so(a, less, 0, "0: out of steps\n")?);
+    assert!(rt; runs_so(a, less, 0, "0: out of steps\n")?);
     Ok(())
 }
 
@@ -392,12 +315,12 @@ fn containers_cut_short(rt: HostRuntime) -> Result<(), Fail> {
 #[test]
 fn a_byte_off(rt: HostRuntime) -> Result<(), Fail> {
     let a = rt.alloc();
-    let mut less = container(a, 1, &[LDA, RETURN])?;
+    let mut less = container(a, 1, &[LDA, RETURN], &BARE)?;
     less.pop();
-    assert!(rt; ends_so(a, less, 1, "refused 2 Malformed 32 Cut\n")?);
-    let mut more = container(a, 1, &[LDA, RETURN])?;
+    assert!(rt; runs_so(a, less, 1, "refused 2 Malformed 32 Cut\n")?);
+    let mut more = container(a, 1, &[LDA, RETURN], &BARE)?;
     more.push(0)?;
-    assert!(rt; ends_so(a, more, 1, "refused 2 Malformed 36 Trailing\n")?);
+    assert!(rt; runs_so(a, more, 1, "refused 2 Malformed 36 Trailing\n")?);
     Ok(())
 }
 
@@ -410,7 +333,7 @@ fn one_field_changed(rt: HostRuntime) -> Result<(), Fail> {
     ];
     for (offset, value, output) in of_one {
         let bytes = with_field(a, &ONE, offset, value)?;
-        assert!(rt; ends_so(a, bytes, 1, output)?, "{output}");
+        assert!(rt; runs_so(a, bytes, 1, output)?, "{output}");
     }
     let of_loop = [
         (0, 0, "refused 2 Malformed 0 Magic\n"),
@@ -427,7 +350,7 @@ fn one_field_changed(rt: HostRuntime) -> Result<(), Fail> {
     ];
     for (offset, value, output) in of_loop {
         let bytes = with_field(a, &LOOP, offset, value)?;
-        assert!(rt; ends_so(a, bytes, 1, output)?, "{output}");
+        assert!(rt; runs_so(a, bytes, 1, output)?, "{output}");
     }
     Ok(())
 }
@@ -438,7 +361,7 @@ fn other_terms(rt: HostRuntime) -> Result<(), Fail> {
     let a = rt.alloc();
     let loops: [&[u32]; 3] = [&[0, 0, 0], &[1, 1, 13, 1, 0, 0, 0], &[1, 1, 88, 1, 0, 0, 1]];
     for tail in loops {
-        assert!(rt; ends_so(a, with_tail(a, tail)?, 0, "0: out of steps\n")?);
+        assert!(rt; runs_so(a, with_tail(a, tail)?, 0, "0: out of steps\n")?);
     }
     let rows: [(&[u32], &str); 5] = [
         (&[1, 1, 13, 0, 0], "refused 2 Malformed 24 Order\n"),
@@ -460,7 +383,7 @@ fn other_terms(rt: HostRuntime) -> Result<(), Fail> {
         ),
     ];
     for (tail, output) in rows {
-        assert!(rt; ends_so(a, with_tail(a, tail)?, 1, output)?, "{output}");
+        assert!(rt; runs_so(a, with_tail(a, tail)?, 1, output)?, "{output}");
     }
     Ok(())
 }
@@ -470,7 +393,7 @@ fn other_terms(rt: HostRuntime) -> Result<(), Fail> {
 fn the_most_packets(rt: HostRuntime) -> Result<(), Fail> {
     let a = rt.alloc();
     let mut files = Vec::new(a);
-    files.push(file(a, "C", container(a, 1, &[LDA, RETURN])?)?)?;
+    files.push(file(a, "C", container(a, 1, &[LDA, RETURN], &BARE)?)?)?;
     files.push(file(a, "P", vec![in a; 0; 4_194_304]?)?)?;
     let mut files = MemFiles::new(a, files, 0, Vec::new(a))?;
     let mut out = MemSink::new(a, 20_000_000, Vec::new(a))?;
