@@ -26,9 +26,6 @@ pub record AreTypes (t : TableView) (ctx : List sort.Sort) (n : ℕ) (ids : List
   pub known : AllKnown t ids
   pub are : ctx_of t ids ≡ sort_types (take n ctx)
 
-pub types-none : (t : TableView) (ctx : List sort.Sort) → AreTypes t ctx 0 []
-types-none t ctx = record { known = tt; are = refl }
-
 abbrev type_of : sort.Sort → Tree
 type_of S.Exp = Fam 0
 type_of S.Mem = Fam 1

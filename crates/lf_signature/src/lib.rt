@@ -6,14 +6,14 @@
 //! definitions that all layers above share stand here: typing as derivations (`specs/Typing`), the
 //! same simply (`specs/Simply`) and as functions (`specs/Decide`), rules as data (`specs/Rules`),
 //! and the table of all constants (`specs/Sigma1`), which rows that were written elsewhere are held
-//! against (`specs/Outside`). Sources: Harper, Honsell and Plotkin, A Framework for Defining
+//! against (`specs/Outside`). What builds proofs reads a rule's row by [`rule_at`]. Sources: Harper, Honsell and Plotkin, A Framework for Defining
 //! Logics, JACM 1993, section 2 (typing); Necula, Proof-Carrying Code, POPL 1997.
 #![tactic(auto)]
 
 mod build;
 mod declare;
 pub mod numbers;
-mod schema;
+pub mod schema;
 mod tables;
 mod terms;
 #[cfg(test)]
@@ -34,6 +34,7 @@ pub use numbers::{
     rel_of_constant,
 };
 use std::alloc::AllocError;
+pub use tables::rule_at;
 use term_table::{Id, Node, Table};
 pub use terms::{app1, app2, app3, pf};
 pub use theorems::{

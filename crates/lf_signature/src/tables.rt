@@ -658,7 +658,7 @@ fn entry(rules: &'static [Rule], index: usize) -> Option<&'static Rule>
     rules.get(index)
 }
 
-/// The rule of a constant: None below 27 and past 87.
+/// Answers the rule of the constant of this number: None below 27 and past 87.
 pub fn rule_at(number: u32) -> Option<&'static Rule>
     ensures { option_map (λ r. rule_of r.now) result ≡ rule_at number }
 {

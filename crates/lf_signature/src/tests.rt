@@ -7,7 +7,7 @@ ghost use Rattle.lf_signature.specs.Nodes.{type_at};
 use crate::numbers::{EQ, FF, IMP, SUB, ULE, ULT};
 use crate::{
     Sigma1, Signature, app2, declared, op_constant, op_number, op_of, op_of_constant, pf,
-    rel_constant, rel_number, rel_of, rel_of_constant,
+    rel_constant, rel_number, rel_of, rel_of_constant, rule_at,
 };
 use std::alloc::AllocError;
 use std::test::Fail;
@@ -135,5 +135,32 @@ fn numbers(rt: HostRuntime) -> Result<(), Fail> {
     assert_eq!(rt; rel_constant(Rel::Sle), 19);
     assert_eq!(rt; rel_of_constant(17), Some(Rel::Ule));
     assert_eq!(rt; rel_of_constant(20), None);
+    Ok(())
+}
+
+/// So many parameters and premises has each rule, and no other number is a rule's.
+#[test]
+fn rows_of_rules(rt: HostRuntime) -> Result<(), Fail> {
+    let rows = [
+        (27, 0, 0),
+        (29, 2, 2),
+        (34, 3, 3),
+        (35, 2, 1),
+        (39, 2, 1),
+        (43, 3, 2),
+        (45, 4, 1),
+        (72, 4, 3),
+        (87, 2, 0),
+    ];
+    for (number, parameters, premises) in rows {
+        let counts = match rule_at(number) {
+            Some(rule) => Some((rule.parameters.len(), rule.premises.len())),
+            None => None,
+        };
+        assert_eq!(rt; counts, Some((parameters, premises)), "rule {number}");
+    }
+    for number in [0, 26, 88, u32::MAX] {
+        assert!(rt; rule_at(number).is_none(), "rule {number}");
+    }
     Ok(())
 }
