@@ -9,7 +9,7 @@ use Rattle.std.specs.Ordering.{is_eq, match_ordering, nat_cmp}
 use Rattle.std.specs.Cmp.Lexicographic.{slice_cmp}
 use Rattle.std.specs.BTreeSet.{insert_key}
 use Rattle.std.proofs.lemmas.Map.Text.{is_eq-slice_cmp}
-use Rattle.formula_text.proofs.Known.{same_bytes, bytes_same}
+use Rattle.text_tokens.proofs.Known.{same_bytes, bytes_same}
 use Rattle.asm_text.specs.SourceParsing.{is_known}
 
 bytes_by : (xs ys : List ℕ) (s t : Bool) → bytes_eq xs ys ≡ s → bytes_eq ys xs ≡ t → s ≡ t

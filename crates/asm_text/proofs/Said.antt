@@ -4,13 +4,13 @@ use Rattle.std.specs.Prelude.{◌&&◌, not, nat_lt, codes, ℤ}
 use Rattle.std.specs.Str.{bytes_eq}
 use Rattle.std.proofs.lemmas.Bool.{and_parts, and_right, cond-true, cond-false, ltb-false, le-ltb}
 use Rattle.formula_tree.specs.Formulas.{Form}
+use Rattle.text_tokens.specs.declared.tokens.Class.TheVariants as C
+use Rattle.text_tokens.specs.Tokens.{Token, Mark, Lexeme, is_ordinary, goes_on, tokens_of, front_token}
+use Rattle.text_tokens.proofs.Known.{same_bytes}
+use Rattle.text_tokens.proofs.Lexing.{lexed, lexes}
 use Rattle.formula_text.specs.declared.fault.TextFlaw.{TextFlaw}
-use Rattle.formula_text.specs.declared.tokens.Class.TheVariants as C
-use Rattle.formula_text.specs.Tokens.{Token, Mark, Lexeme, is_ordinary, goes_on, tokens_of, front_token}
 use Rattle.formula_text.specs.Grammar.{Spells}
 use Rattle.formula_text.specs.Parsing.{◌>>=◌, parsed_form}
-use Rattle.formula_text.proofs.Known.{same_bytes}
-use Rattle.formula_text.proofs.Lexing.{lexed, lexes}
 use Rattle.formula_text.proofs.Joined as form
 use Rattle.asm_text.specs.declared.fault.LineFlaw.{LineFlaw}
 use Rattle.asm_text.specs.declared.limits.TheConstants.{MAX_LINE}

@@ -5,11 +5,11 @@ use Rattle.std.specs.List.{AllByRecursion}
 use Rattle.std.proofs.lemmas.Bool.{false≢true, cond-false, and_parts, or_cases, eqb-true, leb-true, false_from_ne_true}
 use Rattle.std.proofs.lemmas.List.{drop_at}
 use Rattle.std.proofs.Common.{length-append}
-use Rattle.formula_text.specs.declared.tokens.Class.{Class}
-use Rattle.formula_text.specs.declared.tokens.Class.TheVariants as C
-use Rattle.formula_text.specs.Tokens.{Token, Mark, Lexeme, goes_on, IsLexeme, Consists, Placed, with_byte, tokens_at, tokens_of, token_length, front_by, front_token}
-use Rattle.formula_text.specs.Inside.Fronts.{lexeme_front, lexeme_rest}
-use Rattle.formula_text.proofs.Lexing.{front_rest, front_whole, rest_stops, one_token, lexed, lexes, lexeme_token}
+use Rattle.text_tokens.specs.declared.tokens.Class.{Class}
+use Rattle.text_tokens.specs.declared.tokens.Class.TheVariants as C
+use Rattle.text_tokens.specs.Tokens.{Token, Mark, Lexeme, goes_on, IsLexeme, Consists, Placed, with_byte, tokens_at, tokens_of, token_length, front_by, front_token}
+use Rattle.text_tokens.specs.Inside.Fronts.{lexeme_front, lexeme_rest}
+use Rattle.text_tokens.proofs.Lexing.{front_rest, front_whole, rest_stops, one_token, lexed, lexes, lexeme_token}
 use Rattle.asm_text.specs.declared.marks.Punct.{Punct}
 use Rattle.asm_text.specs.declared.marks.Punct.TheVariants as M
 use Rattle.asm_text.specs.Marks.{source_class, AreBlanks}

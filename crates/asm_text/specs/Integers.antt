@@ -2,7 +2,7 @@
 use Rattle.std.specs.Prelude.{◌≡◌, ℕ, ◌⊎◌, Bool, true, false, ◌==◌, is_some, if◌then◌else◌, List, [], ◌∷◌, Option, None, ℤ, pos, neg_ℤ}
 use Rattle.std.specs.Option.{option_map}
 use Rattle.std.specs.Str.Parse.{IsNumeral, digits_value}
-use Rattle.formula_text.specs.Numbers.{IsNumber, numeral, lexeme_number}
+use Rattle.text_tokens.specs.Numbers.{IsNumber, numeral, lexeme_number}
 
 -- whether there is a `-`, and how far from 0
 abbrev pub Integer : Type 0

@@ -1,8 +1,8 @@
 -- The bytes of a source line: blank and tab stand between tokens, commas, parentheses and colons are marks, and all other bytes stand in lexemes.
 use Rattle.std.specs.Prelude.{◌≡◌, ℕ, ◌==◌, if◌then◌else◌, Bool, true, false, List}
 use Rattle.std.specs.List.{AllByRecursion}
-use Rattle.formula_text.specs.declared.tokens.Class.{Class}
-use Rattle.formula_text.specs.declared.tokens.Class.TheVariants as C
+use Rattle.text_tokens.specs.declared.tokens.Class.{Class}
+use Rattle.text_tokens.specs.declared.tokens.Class.TheVariants as C
 use Rattle.asm_text.specs.declared.marks.Punct.{Punct}
 use Rattle.asm_text.specs.declared.marks.Punct.TheVariants as M
 

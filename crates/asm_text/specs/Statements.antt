@@ -1,7 +1,7 @@
 -- The lines of a source: `[label:] [statement]`, and a comment from `#` on.
 use Rattle.std.specs.Prelude.{◌≡◌, ℕ, ◌≤◌, Bool, true, false, ◌||◌, ◌&&◌, ◌==◌, nat_le, if◌then◌else◌, List, [], ◌∷◌, ◌++◌, codes, length, Option, Some, None}
 use Rattle.formula_tree.specs.Formulas.{Form}
-use Rattle.formula_text.specs.Tokens.{Token, goes_on, Consists}
+use Rattle.text_tokens.specs.Tokens.{Token, goes_on, Consists}
 use Rattle.formula_text.specs.Grammar.{Spells}
 use Rattle.asm_text.specs.declared.limits.TheConstants.{MAX_LINE}
 use Rattle.asm_text.specs.declared.marks.Punct.{Punct}

@@ -2,7 +2,7 @@
 
 ghost use Rattle.std.specs.Prelude.{◌≡◌, IfOk};
 ghost use Rattle.std.specs.Option.{option_map};
-ghost use Rattle.formula_text.specs.Tokens.{tokens_of};
+ghost use Rattle.text_tokens.specs.Tokens.{tokens_of};
 ghost use Rattle.asm_text.specs.Marks.{source_class};
 ghost use Rattle.asm_text.specs.InsnParsing.{next_lexeme, behind, at_end, displacement_at};
 ghost use Rattle.asm_text.specs.InsnParsing.{memory_form, operate_form, last_label};
@@ -22,8 +22,8 @@ use crate::marks::{Punct, front, is_mark};
 use crate::mnemonics::{Mnemonic, mnemonic_named};
 use crate::registers::{fixed_register, register_at};
 use alpha_words::{Cond, Insn, Reg, Rhs};
-use formula_text::Token;
 use std::alloc::{AllocError, Global};
+use text_tokens::Token;
 use word_ops::Op;
 
 /// An instruction of a source; a branch goes to a label.

@@ -10,7 +10,7 @@ ghost use Rattle.asm_text.specs.Inside.Views.{Gives, IsIntegerAnswer};
 use crate::fault::LineFlaw;
 use crate::registers::register_at;
 use alpha_words::Rhs;
-use formula_text::{Number, read_decimal, read_number};
+use text_tokens::{Number, read_decimal, read_number};
 
 /// Which integer a lexeme is: how far it is from 0, and whether there is a `-`.
 #[derive(Clone, Copy, Debug, PartialEq, Eq)]

@@ -2,10 +2,10 @@
 
 ghost use Rattle.std.specs.Prelude.{◌≡◌, ◌∷◌, [], IfSome, IfNone};
 ghost use Rattle.std.specs.Option.{option_map};
-ghost use Rattle.formula_text.specs.Tokens.{token_view, tokens_of, front_token};
+ghost use Rattle.text_tokens.specs.Tokens.{token_view, tokens_of, front_token};
 ghost use Rattle.asm_text.specs.Marks.{source_class, same_mark};
 
-use formula_text::{Class, Marks, Token, next_token};
+use text_tokens::{Class, Marks, Token, next_token};
 
 /// A token of one byte.
 #[derive(Clone, Copy, Debug, PartialEq, Eq)]

@@ -6,7 +6,7 @@ ghost use Rattle.asm_text.specs.Inside.Views.{Gives};
 
 use crate::fault::LineFlaw;
 use alpha_words::Reg;
-use formula_text::register;
+use text_tokens::register;
 
 /// The register that the lexeme names.
 pub fn register_at(lexeme: &[u8]) -> Result<Reg, LineFlaw>

@@ -12,9 +12,10 @@ use crate::fault::{LineFlaw, Refused};
 use crate::insns::{SrcInsn, read_insn};
 use crate::labels::is_label;
 use crate::marks::{Punct, front, is_mark};
-use formula_text::{TextFault, Token, read_form};
+use formula_text::{TextFault, read_form};
 use formula_tree::Form;
 use std::alloc::Global;
+use text_tokens::Token;
 
 /// What a line says behind its label.
 #[derive(Drop)]

@@ -1,7 +1,7 @@
 //! What holds of the definitions, with nothing to run.
 
 ghost use Rattle.std.specs.Prelude.{◌≡◌, ◌↔◌, ℕ, List, Ok};
-ghost use Rattle.formula_text.specs.Tokens.{Token};
+ghost use Rattle.text_tokens.specs.Tokens.{Token};
 ghost use Rattle.asm_text.specs.declared.marks.Punct.{Punct};
 ghost use Rattle.asm_text.specs.Insns.{SourceInsn, SpellsInsn};
 ghost use Rattle.asm_text.specs.InsnParsing.{parsed_insn};

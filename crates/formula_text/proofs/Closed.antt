@@ -5,14 +5,14 @@ use Rattle.std.specs.Option.{option_map}
 use Rattle.std.proofs.lemmas.Option.{slice_get_within}
 use Rattle.formula_tree.specs.Formulas.{Exp, EReg, ELeft, EVar, ELit, EOp, ESel, MemExp, MMem, MVar, MUpd, Form, FTrue, FFalse, FRel, FRd, FWr, FAnd, FOr, FImp, FAll, FAllm}
 use Rattle.formula_tree.specs.Scope.{VarSort, OfWord, OfMem, OfProof, sort_at, IsOverExp, IsOverMem, IsOver}
-use Rattle.formula_text.specs.declared.parens.Paren.{Paren}
+use Rattle.text_tokens.specs.declared.parens.Paren.{Paren}
+use Rattle.text_tokens.specs.Tokens.{Token}
+use Rattle.text_tokens.specs.Registers.{registers, IsRegister}
+use Rattle.text_tokens.proofs.Known.{length-registers}
 use Rattle.formula_text.specs.declared.keywords.PhraseSort.{PhraseSort}
 use Rattle.formula_text.specs.declared.keywords.PhraseSort.TheVariants as S
-use Rattle.formula_text.specs.Tokens.{Token}
-use Rattle.formula_text.specs.Registers.{registers, IsRegister}
 use Rattle.formula_text.specs.Bindings.{Bindings, nearest_binding}
 use Rattle.formula_text.specs.Grammar.{SpellsExp, SpellsMem, SpellsForm, Spells}
-use Rattle.formula_text.proofs.Known.{length-registers}
 
 abbrev var_sort : PhraseSort → VarSort
 var_sort S.Exp = OfWord

@@ -1,12 +1,13 @@
 -- A text spells a formula exactly where it reads as it.
 use Rattle.std.proofs.Common.{◌≡◌, ℕ, List, [], ◌∷◌, ◌++◌, length, map, Result, Ok, Err, refl, ap, ◌∙◌, subst}
 use Rattle.formula_tree.specs.Formulas.{Form}
+use Rattle.text_tokens.specs.declared.parens.Paren.{Paren}
+use Rattle.text_tokens.specs.Tokens.{Token, Placed, tokens_at}
+use Rattle.text_tokens.specs.Parens.{paren_class}
+use Rattle.text_tokens.proofs.Lexing.{lexed, lexes}
 use Rattle.formula_text.specs.declared.fault.TextFlaw.{TextFlaw}
-use Rattle.formula_text.specs.declared.parens.Paren.{Paren}
-use Rattle.formula_text.specs.Tokens.{Token, Placed, tokens_at}
-use Rattle.formula_text.specs.Grammar.{paren_class, Spells}
+use Rattle.formula_text.specs.Grammar.{Spells}
 use Rattle.formula_text.specs.Parsing.{◌>>=◌, AForm, Expected, Inside, Opened, Binding, Whole, ParseState, put_phrase, parse_step, at_position, parse_end, parsed_tokens, parsed_form}
-use Rattle.formula_text.proofs.Lexing.{lexed, lexes}
 use Rattle.formula_text.proofs.Running.{parse_steps, form_runs}
 use Rattle.formula_text.proofs.Reached.{IsReached, run_reached}
 

@@ -1,5 +1,3 @@
-pub mod Lexing
-pub mod Fronts
 pub mod Known
 pub mod Rows
 pub mod Stacks

@@ -15,21 +15,22 @@ use Rattle.word_ops.specs.declared.Rel.TheVariants as R
 use Rattle.formula_tree.specs.Formulas.{Exp, EReg, ELeft, EVar, ELit, EOp, ESel, MemExp, MMem, MVar, MUpd, Form, FTrue, FFalse, FRel, FRd, FWr, FAnd, FOr, FImp, FAll, FAllm}
 use Rattle.formula_tree.specs.Scope.{VarSort, OfWord, OfMem, OfProof, sort_at, IsOverExp, IsOverMem, IsOver}
 use Rattle.formula_tree.specs.Sizes.{binders}
-use Rattle.formula_text.specs.declared.tokens.Class.TheVariants as C
+use Rattle.text_tokens.specs.declared.tokens.Class.TheVariants as C
+use Rattle.text_tokens.specs.declared.parens.Paren.{Paren}
+use Rattle.text_tokens.specs.declared.parens.Paren.TheVariants as P
+use Rattle.text_tokens.specs.Tokens.{Token, Mark, Lexeme, is_ordinary, goes_on, IsLexeme, Consists, nothing, blank, mark, lexeme}
+use Rattle.text_tokens.specs.Registers.{registers, IsRegister, register_of}
+use Rattle.text_tokens.specs.Numbers.{is_digit}
+use Rattle.text_tokens.specs.Parens.{paren_class}
+use Rattle.text_tokens.proofs.Known.{same_bytes, bytes_same}
 use Rattle.formula_text.specs.declared.keywords.PhraseSort.{PhraseSort}
 use Rattle.formula_text.specs.declared.keywords.PhraseSort.TheVariants as S
 use Rattle.formula_text.specs.declared.keywords.Keyword.{Keyword}
 use Rattle.formula_text.specs.declared.keywords.Keyword.TheVariants as K
-use Rattle.formula_text.specs.declared.parens.Paren.{Paren}
-use Rattle.formula_text.specs.declared.parens.Paren.TheVariants as P
-use Rattle.formula_text.specs.Tokens.{Token, Mark, Lexeme, is_ordinary, goes_on, IsLexeme, Consists, nothing, blank, mark, lexeme}
-use Rattle.formula_text.specs.Registers.{registers, IsRegister, register_of}
-use Rattle.formula_text.specs.Numbers.{is_digit}
 use Rattle.formula_text.specs.Keywords.{keyword_text, keywords, keyword_of}
 use Rattle.formula_text.specs.Bindings.{is_lower, are_lower_or_digits, is_name, Bindings, nearest_binding}
-use Rattle.formula_text.specs.Grammar.{paren_class, group, SpellsExp, SpellsMem, SpellsForm, Spells}
+use Rattle.formula_text.specs.Grammar.{group, SpellsExp, SpellsMem, SpellsForm, Spells}
 use Rattle.formula_text.specs.Printing.{name_of, spaced, group_text, exp_text, mem_text, form_text}
-use Rattle.formula_text.proofs.Known.{same_bytes, bytes_same}
 
 -- ---- bytes
 

@@ -6,21 +6,22 @@ use Rattle.std.specs.Option.{option_map}
 use Rattle.std.proofs.lemmas.Bool.{ltb-true}
 use Rattle.std.proofs.lemmas.List.{append-nil}
 use Rattle.formula_tree.specs.Formulas.{Exp, MemExp, Form}
+use Rattle.text_tokens.specs.declared.parens.Paren.{Paren}
+use Rattle.text_tokens.specs.declared.parens.Paren.TheVariants as P
+use Rattle.text_tokens.specs.Tokens.{Token, Mark, Lexeme}
+use Rattle.text_tokens.specs.Registers.{register_of}
+use Rattle.text_tokens.specs.Numbers.{lexeme_number, begins_with_digit}
+use Rattle.text_tokens.proofs.Known.{same_bytes, register_is, number_is}
 use Rattle.formula_text.specs.declared.keywords.PhraseSort.{PhraseSort}
 use Rattle.formula_text.specs.declared.keywords.PhraseSort.TheVariants as S
 use Rattle.formula_text.specs.declared.keywords.Keyword.{Keyword}
 use Rattle.formula_text.specs.declared.keywords.Keyword.TheVariants as K
 use Rattle.formula_text.specs.declared.fault.TextFlaw.{TextFlaw}
-use Rattle.formula_text.specs.declared.parens.Paren.{Paren}
-use Rattle.formula_text.specs.declared.parens.Paren.TheVariants as P
-use Rattle.formula_text.specs.Tokens.{Token, Mark, Lexeme}
-use Rattle.formula_text.specs.Registers.{register_of}
-use Rattle.formula_text.specs.Numbers.{lexeme_number, begins_with_digit}
 use Rattle.formula_text.specs.Keywords.{phrase_sort, binder_sort, keyword_text, keyword_of}
 use Rattle.formula_text.specs.Bindings.{is_name, Bindings, nearest_binding}
 use Rattle.formula_text.specs.Grammar.{group, SpellsExp, SpellsMem, SpellsForm}
 use Rattle.formula_text.specs.Parsing.{◌>>=◌, Phrase, AForm, AnExp, AMem, Parts, NoParts, OneExp, TwoExps, OneForm, TwoForms, OneMem, MemThenExp, MemThenExps, with_phrase, of_two_exps, of_one_exp, of_two_forms, of_one_form, of_mem_exp, of_mem_exps, group_phrase, Frame, Expected, Inside, Opened, Binding, Whole, ParseState, with_binding, bindings_of, awaited_sort, number_phrase, variable_exp, variable_mem, register_phrase, lexeme_phrase, with_frame_parts, put_phrase, put_group, close_group, inside_open, inside_lexeme, opened, same_sort, opened_keyword, binding_step, parse_step}
-use Rattle.formula_text.proofs.Known.{same_bytes, register_is, keyword_is, number_is}
+use Rattle.formula_text.proofs.Known.{keyword_is}
 use Rattle.formula_text.proofs.Running.{parse_steps}
 
 abbrev pub SpellsPhrase : Phrase → Bindings → List (Token Paren) → Type 0

@@ -1,10 +1,11 @@
 -- Where reading stops.
 use Rattle.std.proofs.Common.{◌≡◌, ◌⊎◌, ⊎_elim, inl, inr, ℕ, List, [], ◌∷◌, ◌++◌, length, Result, Ok, Err, refl, sym, ap, ◌∙◌, append_assoc}
 use Rattle.formula_tree.specs.Formulas.{Form}
+use Rattle.text_tokens.specs.declared.parens.Paren.{Paren}
+use Rattle.text_tokens.specs.Tokens.{Token, Placed, tokens_at}
+use Rattle.text_tokens.specs.Parens.{paren_class}
 use Rattle.formula_text.specs.declared.fault.TextFlaw.{TextFlaw}
-use Rattle.formula_text.specs.declared.parens.Paren.{Paren}
-use Rattle.formula_text.specs.Tokens.{Token, Placed, tokens_at}
-use Rattle.formula_text.specs.Grammar.{paren_class, SpellsForm}
+use Rattle.formula_text.specs.Grammar.{SpellsForm}
 use Rattle.formula_text.specs.Parsing.{◌>>=◌, FaultAt, AForm, Expected, Inside, Opened, Binding, Whole, ParseState, put_phrase, parse_step, at_position, parse_end, parsed_tokens, parsed_form}
 use Rattle.formula_text.proofs.Running.{parse_steps, parse_steps-append, form_runs}
 use Rattle.formula_text.proofs.Viable.{taken_begins}

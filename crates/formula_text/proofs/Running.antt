@@ -4,21 +4,22 @@ use Rattle.std.specs.Prelude.{codes}
 use Rattle.std.specs.Str.{bytes_eq}
 use Rattle.std.proofs.lemmas.Bool.{lt-ltb, cond-true, cond-false}
 use Rattle.formula_tree.specs.Formulas.{Exp, EReg, ELeft, EVar, ELit, EOp, ESel, MemExp, MMem, MVar, MUpd, Form, FTrue, FFalse, FRel, FRd, FWr, FAnd, FOr, FImp, FAll, FAllm}
+use Rattle.text_tokens.specs.declared.parens.Paren.{Paren}
+use Rattle.text_tokens.specs.declared.parens.Paren.TheVariants as P
+use Rattle.text_tokens.specs.Tokens.{Token, Mark, Lexeme}
+use Rattle.text_tokens.specs.Registers.{register_of}
+use Rattle.text_tokens.specs.Numbers.{lexeme_number, begins_with_digit}
+use Rattle.text_tokens.proofs.Known.{register_found, number_found}
 use Rattle.formula_text.specs.declared.keywords.PhraseSort.{PhraseSort}
 use Rattle.formula_text.specs.declared.keywords.PhraseSort.TheVariants as S
 use Rattle.formula_text.specs.declared.keywords.Keyword.{Keyword}
 use Rattle.formula_text.specs.declared.keywords.Keyword.TheVariants as K
 use Rattle.formula_text.specs.declared.fault.TextFlaw.{TextFlaw}
-use Rattle.formula_text.specs.declared.parens.Paren.{Paren}
-use Rattle.formula_text.specs.declared.parens.Paren.TheVariants as P
-use Rattle.formula_text.specs.Tokens.{Token, Mark, Lexeme}
-use Rattle.formula_text.specs.Registers.{register_of}
-use Rattle.formula_text.specs.Numbers.{lexeme_number, begins_with_digit}
 use Rattle.formula_text.specs.Keywords.{phrase_sort, binder_sort, keyword_text}
 use Rattle.formula_text.specs.Bindings.{is_name, Bindings, nearest_binding}
 use Rattle.formula_text.specs.Grammar.{group, SpellsExp, SpellsMem, SpellsForm}
 use Rattle.formula_text.specs.Parsing.{◌>>=◌, Phrase, AForm, AnExp, AMem, Parts, NoParts, OneExp, TwoExps, OneForm, TwoForms, OneMem, MemThenExp, MemThenExps, Frame, Inside, Opened, Binding, ParseState, bindings_of, awaited_sort, number_phrase, variable_exp, variable_mem, register_phrase, lexeme_phrase, put_phrase, inside_open, inside_lexeme, opened, same_sort, opened_keyword, parse_step}
-use Rattle.formula_text.proofs.Known.{register_found, keyword_found, number_found, name_free}
+use Rattle.formula_text.proofs.Known.{keyword_found, name_free}
 
 -- all of these tokens
 abbrev pub parse_steps : List (Token Paren) → ParseState → Result ParseState TextFlaw

@@ -55,7 +55,3 @@ binding_other fs w n i d q h e t =
 
 pub binding_past : (fs : List A.Frame) (w : List ℕ) (n : ℕ) → binding_from fs w n 0 ≡ None
 binding_past fs w n = ap (λ s. further n (nearest_binding (bindings_of s) w)) frames_none
-
-none_further : (o : Option (ℕ × PhraseSort)) → further 0 o ≡ o
-none_further None = refl
-none_further (Some p) = let z : 0 + p.0 ≡ p.0 = omega arith in ap (λ k. Some (k, p.1)) z

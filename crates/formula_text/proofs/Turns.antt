@@ -5,12 +5,13 @@ use Rattle.formula_tree.specs.Formulas.{Form}
 use Rattle.formula_tree.specs.Scope.{IsOver}
 use Rattle.formula_tree.specs.Views.{form_view}
 use Rattle.formula_tree.specs.declared.form.Form as D
+use Rattle.text_tokens.specs.declared.parens.Paren.{Paren}
+use Rattle.text_tokens.specs.Tokens.{Token, Placed, tokens_at}
+use Rattle.text_tokens.specs.Parens.{paren_class}
 use Rattle.formula_text.specs.declared.fault.TextFlaw.{TextFlaw}
 use Rattle.formula_text.specs.declared.fault.TextFault.{TextFault}
 use Rattle.formula_text.specs.declared.fault.TextFault.TheVariants as FV
-use Rattle.formula_text.specs.declared.parens.Paren.{Paren}
-use Rattle.formula_text.specs.Tokens.{Token, Placed, tokens_at}
-use Rattle.formula_text.specs.Grammar.{paren_class, Spells}
+use Rattle.formula_text.specs.Grammar.{Spells}
 use Rattle.formula_text.specs.Parsing.{◌>>=◌, FaultAt, Frame, Inside, ParseState, parse_step, at_position, parse_end, parsed_tokens, parsed_form}
 use Rattle.formula_text.specs.Answers.{Parses, SpellsNone}
 use Rattle.formula_text.specs.Inside.Views.{MovesAt}

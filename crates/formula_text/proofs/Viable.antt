@@ -5,16 +5,16 @@ use Rattle.std.specs.Str.{bytes_eq}
 use Rattle.std.proofs.lemmas.List.{append-nil}
 use Rattle.std.proofs.lemmas.Bool.{cond-true}
 use Rattle.formula_tree.specs.Formulas.{ELit, MMem, Form, FTrue}
+use Rattle.text_tokens.specs.declared.parens.Paren.{Paren}
+use Rattle.text_tokens.specs.declared.parens.Paren.TheVariants as P
+use Rattle.text_tokens.specs.Tokens.{Token, Mark, Lexeme}
+use Rattle.text_tokens.specs.Registers.{registers, register_of}
+use Rattle.text_tokens.specs.Numbers.{lexeme_number, begins_with_digit}
 use Rattle.formula_text.specs.declared.keywords.PhraseSort.{PhraseSort}
 use Rattle.formula_text.specs.declared.keywords.PhraseSort.TheVariants as S
 use Rattle.formula_text.specs.declared.keywords.Keyword.{Keyword}
 use Rattle.formula_text.specs.declared.keywords.Keyword.TheVariants as K
 use Rattle.formula_text.specs.declared.fault.TextFlaw.{TextFlaw}
-use Rattle.formula_text.specs.declared.parens.Paren.{Paren}
-use Rattle.formula_text.specs.declared.parens.Paren.TheVariants as P
-use Rattle.formula_text.specs.Tokens.{Token, Mark, Lexeme}
-use Rattle.formula_text.specs.Registers.{registers, register_of}
-use Rattle.formula_text.specs.Numbers.{lexeme_number, begins_with_digit}
 use Rattle.formula_text.specs.Keywords.{phrase_sort, part_sorts, binder_sort, keyword_of, keywords}
 use Rattle.formula_text.specs.Bindings.{is_name, Bindings, nearest_binding}
 use Rattle.formula_text.specs.Grammar.{SpellsForm}

@@ -1,10 +1,8 @@
 -- What answers of calls say.
-use Rattle.std.specs.Prelude.{◌≡◌, ℕ, ◌^◌, ◌<◌, ◌≤◌, List, Option, Some, None, Result, Ok, Err}
+use Rattle.std.specs.Prelude.{◌≡◌, ℕ, List, Result, Ok, Err}
 use Rattle.formula_tree.specs.Formulas.{Form}
 use Rattle.formula_text.specs.declared.fault.TextFault.{TextFault}
 use Rattle.formula_text.specs.declared.fault.TextFault.TheVariants as fault
-use Rattle.formula_text.specs.declared.numbers.Number.{Number}
-use Rattle.formula_text.specs.declared.numbers.Number.TheVariants as N
 use Rattle.formula_text.specs.Grammar.{Spells}
 use Rattle.formula_text.specs.Parsing.{FaultAt}
 
@@ -18,9 +16,3 @@ Parses view parsed (Err fault.Memory) = Unit {0}
 abbrev pub SpellsNone : List ℕ → TextFault → Type 0
 SpellsNone text (fault.At p flaw) = (f : Form) → Spells text f → ⊥
 SpellsNone text fault.Memory = Unit {0}
-
--- which number a lexeme is, if it is one, and whether it is a word
-abbrev pub IsNumberAnswer : Option ℕ → Number → Type 0
-IsNumberAnswer number N.NoNumber = number ≡ None
-IsNumberAnswer number (N.Word n) = (number ≡ Some n) × (n < 2 ^ 64)
-IsNumberAnswer number N.Large = (n : ℕ) × (number ≡ Some n) × (2 ^ 64 ≤ n)

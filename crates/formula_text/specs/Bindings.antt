@@ -2,9 +2,9 @@
 use Rattle.std.specs.Prelude.{ℕ, suc, Bool, true, false, not, ◌||◌, ◌&&◌, nat_le, is_some, if◌then◌else◌, List, [], ◌∷◌, codes, Option, Some, None}
 use Rattle.std.specs.Str.{bytes_eq}
 use Rattle.std.specs.Option.{option_map}
+use Rattle.text_tokens.specs.Registers.{register_of}
+use Rattle.text_tokens.specs.Numbers.{is_digit}
 use Rattle.formula_text.specs.declared.keywords.PhraseSort.{PhraseSort}
-use Rattle.formula_text.specs.Registers.{register_of}
-use Rattle.formula_text.specs.Numbers.{is_digit}
 use Rattle.formula_text.specs.Keywords.{keyword_of}
 
 -- a lower-case letter

@@ -1,9 +1,10 @@
 -- What the position of a fault means, with no word of how a text is parsed.
 use Rattle.std.specs.Prelude.{◌≡◌, ℕ, ◌⊎◌, List, [], ◌∷◌, ◌++◌, length, map}
 use Rattle.formula_tree.specs.Formulas.{Form}
-use Rattle.formula_text.specs.declared.parens.Paren.{Paren}
-use Rattle.formula_text.specs.Tokens.{Token, Placed, tokens_at}
-use Rattle.formula_text.specs.Grammar.{paren_class, SpellsForm}
+use Rattle.text_tokens.specs.declared.parens.Paren.{Paren}
+use Rattle.text_tokens.specs.Tokens.{Token, Placed, tokens_at}
+use Rattle.text_tokens.specs.Parens.{paren_class}
+use Rattle.formula_text.specs.Grammar.{SpellsForm}
 
 -- tokens without their positions
 abbrev pub bare : List (Placed Paren) → List (Token Paren)

@@ -4,25 +4,20 @@
 --   exp  = REGISTER | NAME | NUMBER | (OPERATOR exp exp) | (sel mem exp)
 --   mem  = m | NAME | (upd mem exp exp)
 --
--- Registers stand in specs/Registers, numbers in specs/Numbers, relations and operators in specs/Keywords, names in specs/Bindings.
-use Rattle.std.specs.Prelude.{◌≡◌, ℕ, ◌<◌, ◌^◌, true, ◌==◌, if◌then◌else◌, List, [], ◌∷◌, ◌++◌, codes, Some}
+-- Blanks, parentheses and lexemes stand in text_tokens (specs/Tokens, specs/Parens), as registers (specs/Registers) and numbers (specs/Numbers) do; relations and operators stand in specs/Keywords, names in specs/Bindings.
+use Rattle.std.specs.Prelude.{◌≡◌, ℕ, ◌<◌, ◌^◌, true, List, [], ◌∷◌, ◌++◌, codes, Some}
 use Rattle.formula_tree.specs.Formulas.{Exp, EReg, ELeft, EVar, ELit, EOp, ESel, MemExp, MMem, MVar, MUpd, Form, FTrue, FFalse, FRel, FRd, FWr, FAnd, FOr, FImp, FAll, FAllm}
-use Rattle.formula_text.specs.declared.tokens.Class.{Class}
-use Rattle.formula_text.specs.declared.tokens.Class.TheVariants as C
-use Rattle.formula_text.specs.declared.parens.Paren.{Paren}
-use Rattle.formula_text.specs.declared.parens.Paren.TheVariants as P
+use Rattle.text_tokens.specs.declared.parens.Paren.{Paren}
+use Rattle.text_tokens.specs.declared.parens.Paren.TheVariants as P
+use Rattle.text_tokens.specs.Tokens.{Token, Mark, Lexeme, Consists}
+use Rattle.text_tokens.specs.Parens.{paren_class}
+use Rattle.text_tokens.specs.Registers.{IsRegister}
+use Rattle.text_tokens.specs.Numbers.{IsNumber}
 use Rattle.formula_text.specs.declared.keywords.PhraseSort.TheVariants as S
 use Rattle.formula_text.specs.declared.keywords.Keyword.{Keyword}
 use Rattle.formula_text.specs.declared.keywords.Keyword.TheVariants as K
-use Rattle.formula_text.specs.Tokens.{Token, Mark, Lexeme, Consists}
-use Rattle.formula_text.specs.Registers.{IsRegister}
-use Rattle.formula_text.specs.Numbers.{IsNumber}
 use Rattle.formula_text.specs.Keywords.{keyword_text}
 use Rattle.formula_text.specs.Bindings.{is_name, Bindings, nearest_binding}
-
--- blank and tab stand between tokens, parentheses are marks, and all other bytes stand in lexemes
-unfoldable pub paren_class : ℕ → Class Paren
-paren_class b = if b == 32 then C.Blank else if b == 9 then C.Blank else if b == 40 then C.Mark P.Open else if b == 41 then C.Mark P.Close else C.Ordinary
 
 -- parentheses with a keyword and what stands behind it
 abbrev pub group : Keyword → List (Token Paren) → List (Token Paren)

@@ -1,6 +1,3 @@
-pub mod Tokens
-pub mod Registers
-pub mod Numbers
 pub mod Keywords
 pub mod Bindings
 pub mod Grammar

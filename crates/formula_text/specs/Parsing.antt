@@ -2,20 +2,20 @@
 use Rattle.std.specs.Prelude.{ℕ, ◌^◌, Bool, true, false, nat_lt, if◌then◌else◌, List, [], ◌∷◌, codes, length, slice_get, Option, Some, None, Result, Ok, Err}
 use Rattle.std.specs.Str.{bytes_eq}
 use Rattle.formula_tree.specs.Formulas.{Exp, EReg, EVar, ELit, EOp, ESel, MemExp, MMem, MVar, MUpd, Form, FTrue, FFalse, FRel, FRd, FWr, FAnd, FOr, FImp, FAll, FAllm}
-use Rattle.formula_text.specs.declared.parens.Paren.{Paren}
-use Rattle.formula_text.specs.declared.parens.Paren.TheVariants as P
+use Rattle.text_tokens.specs.declared.parens.Paren.{Paren}
+use Rattle.text_tokens.specs.declared.parens.Paren.TheVariants as P
+use Rattle.text_tokens.specs.Tokens.{Token, Mark, Lexeme, Placed, tokens_at}
+use Rattle.text_tokens.specs.Registers.{register_of}
+use Rattle.text_tokens.specs.Numbers.{lexeme_number, begins_with_digit}
+use Rattle.text_tokens.specs.Parens.{paren_class}
 use Rattle.formula_text.specs.declared.keywords.PhraseSort.{PhraseSort}
 use Rattle.formula_text.specs.declared.keywords.PhraseSort.TheVariants as S
 use Rattle.formula_text.specs.declared.keywords.Keyword.{Keyword}
 use Rattle.formula_text.specs.declared.keywords.Keyword.TheVariants as K
 use Rattle.formula_text.specs.declared.fault.TextFlaw.{TextFlaw}
 use Rattle.formula_text.specs.declared.fault.TextFlaw.TheVariants.{Shape, Name, Number, Trailing}
-use Rattle.formula_text.specs.Tokens.{Token, Mark, Lexeme, Placed, tokens_at}
-use Rattle.formula_text.specs.Registers.{register_of}
-use Rattle.formula_text.specs.Numbers.{lexeme_number, begins_with_digit}
 use Rattle.formula_text.specs.Keywords.{phrase_sort, part_sorts, binder_sort, keyword_of}
 use Rattle.formula_text.specs.Bindings.{is_name, Bindings, nearest_binding}
-use Rattle.formula_text.specs.Grammar.{paren_class}
 
 -- a position, and what is wrong there
 abbrev pub FaultAt : Type 0

@@ -5,8 +5,7 @@ ghost use Rattle.formula_text.specs.Bindings.{is_lower, are_lower_or_digits, is_
 ghost use Rattle.formula_text.specs.Bindings.{is_reserved, is_name};
 
 use crate::keywords::keyword_named;
-use crate::numbers::is_digit;
-use crate::registers::register;
+use text_tokens::{is_digit, register};
 
 fn is_lower(byte: u8) -> bool
     ensures { result ≡ is_lower byte }

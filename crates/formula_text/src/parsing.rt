@@ -3,8 +3,8 @@
 ghost use Rattle.std.specs.Prelude.{◌≡◌, ◌∷◌, [], Ok, IfOk, IfErr};
 ghost use Rattle.formula_tree.specs.Scope.{IsOver};
 ghost use Rattle.formula_tree.specs.Views.{form_view};
-ghost use Rattle.formula_text.specs.Tokens.{token_view};
-ghost use Rattle.formula_text.specs.Numbers.{lexeme_number};
+ghost use Rattle.text_tokens.specs.Tokens.{token_view};
+ghost use Rattle.text_tokens.specs.Numbers.{lexeme_number};
 ghost use Rattle.formula_text.specs.Bindings.{nearest_binding};
 ghost use Rattle.formula_text.specs.Grammar.{Spells};
 ghost use Rattle.formula_text.specs.Parsing.{Inside, NoParts, awaited_sort, bindings_of};
@@ -22,13 +22,12 @@ use crate::keywords::{
     Keyword, PhraseSort, binder_sort, is_sort, keyword_named, part_sort, phrase_sort,
 };
 use crate::names::is_name;
-use crate::numbers::{Number, begins_with_digit, read_number};
-use crate::parens::Paren;
 use crate::parts::{Parts, Phrase, group_phrase, parts_count, with_phrase};
-use crate::registers::register;
-use crate::tokens::{Placed, Token, next_token};
 use formula_tree::{Exp, Form, MemExp};
 use std::alloc::Global;
+use text_tokens::{
+    Number, Paren, Placed, Token, begins_with_digit, next_token, read_number, register,
+};
 
 /// Parentheses that are open: their keyword, the name that they bind, if they bind one, and the
 /// parts so far.

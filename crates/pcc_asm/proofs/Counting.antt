@@ -15,13 +15,13 @@ use Rattle.word_ops.specs.declared.Rel.{Rel}
 use Rattle.word_ops.specs.declared.Rel.TheVariants as R
 use Rattle.formula_tree.specs.Formulas.{Exp, EReg, ELeft, EVar, ELit, EOp, ESel, MemExp, MMem, MVar, MUpd, Form, FTrue, FFalse, FRel, FRd, FWr, FAnd, FOr, FImp, FAll, FAllm}
 use Rattle.formula_tree.specs.Substitution.{shift_substitution, subst_form}
-use Rattle.formula_text.specs.declared.parens.Paren.{Paren}
+use Rattle.text_tokens.specs.declared.parens.Paren.{Paren}
+use Rattle.text_tokens.specs.Tokens.{Token, Lexeme}
+use Rattle.text_tokens.specs.Numbers.{IsNumber}
+use Rattle.text_tokens.specs.Registers.{registers, IsRegister}
 use Rattle.formula_text.specs.declared.keywords.PhraseSort.{PhraseSort}
 use Rattle.formula_text.specs.declared.keywords.PhraseSort.TheVariants as S
 use Rattle.formula_text.specs.declared.keywords.Keyword.TheVariants as K
-use Rattle.formula_text.specs.Tokens.{Token, Lexeme}
-use Rattle.formula_text.specs.Numbers.{IsNumber}
-use Rattle.formula_text.specs.Registers.{registers, IsRegister}
 use Rattle.formula_text.specs.Keywords.{relation_text, operator_text}
 use Rattle.formula_text.specs.Bindings.{is_name, Bindings, nearest_binding}
 use Rattle.formula_text.specs.Grammar.{SpellsExp, SpellsMem, SpellsForm}

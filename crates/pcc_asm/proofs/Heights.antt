@@ -2,15 +2,16 @@
 use Rattle.std.proofs.Common.{◌≡◌, ℕ, ◌+◌, ◌≤◌, max, List, [], ◌∷◌, ◌++◌, length, ap, ◌∙◌, arith, length-append}
 use Rattle.formula_tree.specs.Formulas.{Exp, EReg, ELeft, EVar, ELit, EOp, ESel, MemExp, MMem, MVar, MUpd, Form, FTrue, FFalse, FRel, FRd, FWr, FAnd, FOr, FImp, FAll, FAllm}
 use Rattle.formula_tree.specs.Sizes.{exp_height, mem_height, form_height}
-use Rattle.formula_text.specs.declared.parens.Paren.{Paren}
-use Rattle.formula_text.specs.declared.parens.Paren.TheVariants as P
+use Rattle.text_tokens.specs.declared.parens.Paren.{Paren}
+use Rattle.text_tokens.specs.declared.parens.Paren.TheVariants as P
+use Rattle.text_tokens.specs.Tokens.{Token, Mark, Lexeme, Consists, nothing, blank, mark, lexeme, token_length}
+use Rattle.text_tokens.specs.Parens.{paren_class}
 use Rattle.formula_text.specs.declared.keywords.PhraseSort.TheVariants as S
 use Rattle.formula_text.specs.declared.keywords.Keyword.{Keyword}
 use Rattle.formula_text.specs.declared.keywords.Keyword.TheVariants as K
-use Rattle.formula_text.specs.Tokens.{Token, Mark, Lexeme, Consists, nothing, blank, mark, lexeme, token_length}
 use Rattle.formula_text.specs.Keywords.{keyword_text}
 use Rattle.formula_text.specs.Bindings.{Bindings}
-use Rattle.formula_text.specs.Grammar.{paren_class, group, SpellsExp, SpellsMem, SpellsForm}
+use Rattle.formula_text.specs.Grammar.{group, SpellsExp, SpellsMem, SpellsForm}
 use Rattle.formula_text.proofs.Closed.{spelled_closed}
 use Rattle.pcc_asm.specs.Inside.Views.{IsEncodableForm}
 use Rattle.pcc_asm.proofs.Ranges.{IsTextual}

@@ -10,10 +10,10 @@ use Rattle.alpha_words.specs.declared.insn.Rhs.{Rhs}
 use Rattle.alpha_words.specs.declared.insn.Rhs.TheVariants as R
 use Rattle.alpha_words.specs.Encoding.{HasBits, IsRhs}
 use Rattle.formula_tree.specs.Formulas.{Form}
-use Rattle.formula_text.specs.Tokens.{Token}
+use Rattle.text_tokens.specs.Tokens.{Token}
+use Rattle.text_tokens.specs.Registers.{registers, IsRegister}
+use Rattle.text_tokens.proofs.Known.{length-registers}
 use Rattle.formula_text.specs.Grammar.{Spells}
-use Rattle.formula_text.specs.Registers.{registers, IsRegister}
-use Rattle.formula_text.proofs.Known.{length-registers}
 use Rattle.asm_text.specs.declared.limits.TheConstants.{MAX_INSNS, MAX_LINE}
 use Rattle.asm_text.specs.declared.marks.Punct.{Punct}
 use Rattle.asm_text.specs.Integers.{integer_value}

@@ -3,8 +3,8 @@ use Rattle.std.specs.Prelude.{◌≡◌, ℕ, ◌<◌, ◌≤◌, ◌^◌, Bool,
 use Rattle.std.specs.List.{list_any}
 use Rattle.std.specs.Str.{bytes_eq}
 use Rattle.formula_tree.specs.Views.{form_view}
-use Rattle.formula_text.specs.declared.numbers.Number.{Number}
-use Rattle.formula_text.specs.declared.numbers.Number.TheVariants as N
+use Rattle.text_tokens.specs.declared.numbers.Number.{Number}
+use Rattle.text_tokens.specs.declared.numbers.Number.TheVariants as N
 use Rattle.asm_text.specs.declared.fault.LineFlaw.{LineFlaw}
 use Rattle.asm_text.specs.declared.fault.Refused.{Refused}
 use Rattle.asm_text.specs.declared.fault.Refused.TheVariants as V

@@ -1,6 +1,6 @@
 use Rattle.std.proofs.Common.{drop}
 use Rattle.std.proofs.lemmas.List.{take_rest}
-use Rattle.formula_text.specs.Tokens.{tokens_at, token_view}
+use Rattle.text_tokens.specs.Tokens.{tokens_at, token_view}
 use Rattle.asm_text.specs.Marks.{source_class}
 use Rattle.asm_text.proofs.Splitting.{front_found, rest_found, none_found}
 use Rattle.asm_text.proofs.marks.front.Goals as goal

@@ -1,6 +1,6 @@
 use Rattle.std.proofs.Common.{length, drop, arith, refl, ap, ◌∙◌}
-use Rattle.formula_text.specs.Tokens.{tokens_at, token_view}
-use Rattle.formula_text.specs.Grammar.{paren_class}
+use Rattle.text_tokens.specs.Tokens.{tokens_at, token_view}
+use Rattle.text_tokens.specs.Parens.{paren_class}
 use Rattle.formula_text.specs.Parsing.{Inside, parsed_tokens, parsed_form, parse_end}
 use Rattle.formula_text.specs.Inside.Views.{expected_view, frames_view}
 use Rattle.formula_text.proofs.Stacks.{frames_none}

@@ -1,6 +1,6 @@
 use Rattle.std.proofs.Common.{◌≡◌, ◌≤◌, ◌-◌, drop, length}
-use Rattle.formula_text.specs.Tokens.{tokens_at}
-use Rattle.formula_text.specs.Grammar.{paren_class}
+use Rattle.text_tokens.specs.Tokens.{tokens_at}
+use Rattle.text_tokens.specs.Parens.{paren_class}
 use Rattle.formula_text.specs.Parsing.{parsed_tokens, parsed_form}
 use Rattle.formula_text.specs.Inside.Views.{expected_view, frames_view}
 use Rattle.formula_text.proofs.parsing.parse.Given as goal

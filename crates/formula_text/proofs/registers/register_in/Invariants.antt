@@ -1,7 +1,0 @@
-use Rattle.std.proofs.Common.{◌≡◌, drop}
-use Rattle.formula_text.specs.Registers.{register_in}
-use Rattle.formula_text.specs.Inside.Rows.{rows_view}
-use Rattle.formula_text.proofs.registers.register_in.Given as goal
-
-abbrev pub invariant-loop-i : goal.invariant-loop-i
-invariant-loop-i l = register_in (rows_view (drop l.i l.rows)) l.i l.lexeme ≡ register_in (rows_view l.rows) 0 l.lexeme

@@ -1,0 +1,4 @@
+pub mod Lexing
+pub mod Fronts
+pub mod Known
+pub mod Rows
