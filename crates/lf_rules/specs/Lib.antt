@@ -1,0 +1,5 @@
+pub mod Plain
+pub mod Instance
+pub mod Sequents
+pub mod Answers
+pub mod Inside

@@ -1,0 +1,42 @@
+-- Constants that are proofs.
+use Rattle.std.proofs.Common.{◌≡◌, ◌&&◌, Bool, true, false, cond, Option, Some, None, sym, not}
+use Rattle.term_table.specs.Tree.{Tree, Const, Num, Lit, Calc, Fact, Deny, TApp}
+use Rattle.term_table.specs.Subst.{bind}
+use Rattle.term_table.proofs.Options.{some_injective}
+use Rattle.word_ops.specs.declared.Op.{Op}
+use Rattle.word_ops.specs.declared.Rel.{Rel}
+use Rattle.word_ops.specs.Words.{test_of}
+use Rattle.lf_signature.specs.Numbers.{op_of, rel_of}
+use Rattle.lf_signature.specs.Terms.{pf}
+use Rattle.lf_signature.specs.Sigma1.{declared, is_word, calc_type, fact_type, deny_type}
+use Rattle.proof_kit.specs.Constants.{IsEvaluation}
+
+-- what may be a proof, or nothing, is the proof of a formula where it is something
+guarded : (b : Bool) (g a : Tree) → cond b (Some (pf g)) None ≡ Some a → (f : Tree) × (a ≡ pf f)
+guarded true g a e = (g, sym (some_injective e))
+guarded false g a e = cc
+
+pub evaluation_pf : (c : Const) (a : Tree) → IsEvaluation c → declared c ≡ Some a → (f : Tree) × (a ≡ pf f)
+evaluation_pf (Calc o x y) a h e = by_op (op_of o) e
+  where
+    by_op : (p : Option Op) → bind p (λ p. cond (is_word x && is_word y) (Some (calc_type p x y)) None) ≡ Some a → (f : Tree) × (a ≡ pf f)
+    by_op (Some p) e = guarded (is_word x && is_word y) _ a e
+    by_op None e = cc
+evaluation_pf (Fact r x y) a h e = by_rel (rel_of r) e
+  where
+    by_rel : (p : Option Rel) → bind p (λ p. cond ((is_word x && is_word y) && test_of p x y) (Some (fact_type p x y)) None) ≡ Some a → (f : Tree) × (a ≡ pf f)
+    by_rel (Some p) e = guarded ((is_word x && is_word y) && test_of p x y) _ a e
+    by_rel None e = cc
+evaluation_pf (Deny r x y) a h e = by_rel (rel_of r) e
+  where
+    by_rel : (p : Option Rel) → bind p (λ p. cond ((is_word x && is_word y) && not (test_of p x y)) (Some (deny_type p x y)) None) ≡ Some a → (f : Tree) × (a ≡ pf f)
+    by_rel (Some p) e = guarded ((is_word x && is_word y) && not (test_of p x y)) _ a e
+    by_rel None e = cc
+evaluation_pf (Num n) a h e = elim h [ ]
+evaluation_pf (Lit w) a h e = elim h [ ]
+
+pub goal_of : (p g f : Tree) → TApp p g ≡ pf f → pf f ≡ pf g
+goal_of p g f e = same e
+  where
+    same : TApp p g ≡ pf f → pf f ≡ pf g
+    same e = cc

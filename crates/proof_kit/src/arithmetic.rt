@@ -1,0 +1,307 @@
+//! The rules of sums, differences, bits and multiples of 8.
+//!
+//! Each function answers the sequent of its rule's conclusion exactly where the parameters and the
+//! premises have the rule's form, else None. Errors: want of memory alone; each id keeps its tree.
+
+ghost use Rattle.std.specs.Prelude.{◌≡◌, [], ◌∷◌, IfOk};
+ghost use Rattle.term_table.specs.Table.{AllKnown, Extends};
+ghost use Rattle.lf_signature.specs.Sigma1.{declared};
+ghost use Rattle.lf_check.specs.Inside.Kept.{AreKept};
+ghost use Rattle.lf_rules.specs.Sequents.{AreSequents};
+ghost use Rattle.lf_rules.specs.Answers.{IsAnswer};
+ghost use Rattle.proof_kit.specs.declared.numbers.TheConstants.{ADD_AL, ADD_ASSOC, ADD_COMM, ADD_ZERO, AND_ASSOC, AND_COMM, AND_LE, AND_ZERO, BIS_ZERO, BIS_ZERO_L, SLL_AL, SUB_ADD, SUB_NEG};
+
+use crate::numbers::{
+    ADD_AL, ADD_ASSOC, ADD_COMM, ADD_ZERO, AND_ASSOC, AND_COMM, AND_LE, AND_ZERO, BIS_ZERO,
+    BIS_ZERO_L, SLL_AL, SUB_ADD, SUB_NEG,
+};
+use lf_check::Kept;
+use lf_rules::{Sequent, by_rule};
+use std::alloc::{AllocError, Global};
+use term_table::{Id, Table};
+
+/// Sums commute.
+///
+/// `add_comm a b ; |- (eq (add a b) (add b a))`
+pub fn add_comm(
+    alloc: Global,
+    table: &mut Table,
+    kept: &mut Kept,
+    hyps: &[Id],
+    a: Id,
+    b: Id,
+) -> Result<Option<Sequent>, AllocError>
+    requires hyps { AllKnown table.old hyps.now }
+    requires params { AllKnown table.old (a ∷ b ∷ []) }
+    requires kept { AreKept declared table.old kept.old }
+    ensures exact { IfOk result (IsAnswer ADD_COMM table.old table.new hyps.now
+        (a ∷ b ∷ []) []) }
+    ensures extends { Extends table.old table.new }
+    ensures kept { AreKept declared table.new kept.new }
+{
+    by_rule(alloc, table, kept, hyps, ADD_COMM, &[a, b], &[])
+}
+
+/// Sums associate.
+///
+/// `add_assoc a b c ; |- (eq (add (add a b) c) (add a (add b c)))`
+pub fn add_assoc(
+    alloc: Global,
+    table: &mut Table,
+    kept: &mut Kept,
+    hyps: &[Id],
+    a: Id,
+    b: Id,
+    c: Id,
+) -> Result<Option<Sequent>, AllocError>
+    requires hyps { AllKnown table.old hyps.now }
+    requires params { AllKnown table.old (a ∷ b ∷ c ∷ []) }
+    requires kept { AreKept declared table.old kept.old }
+    ensures exact { IfOk result (IsAnswer ADD_ASSOC table.old table.new hyps.now
+        (a ∷ b ∷ c ∷ []) []) }
+    ensures extends { Extends table.old table.new }
+    ensures kept { AreKept declared table.new kept.new }
+{
+    by_rule(alloc, table, kept, hyps, ADD_ASSOC, &[a, b, c], &[])
+}
+
+/// 0 adds nothing.
+///
+/// `add_zero a ; |- (eq (add a 0) a)`
+pub fn add_zero(
+    alloc: Global,
+    table: &mut Table,
+    kept: &mut Kept,
+    hyps: &[Id],
+    a: Id,
+) -> Result<Option<Sequent>, AllocError>
+    requires hyps { AllKnown table.old hyps.now }
+    requires params { AllKnown table.old (a ∷ []) }
+    requires kept { AreKept declared table.old kept.old }
+    ensures exact { IfOk result (IsAnswer ADD_ZERO table.old table.new hyps.now
+        (a ∷ []) []) }
+    ensures extends { Extends table.old table.new }
+    ensures kept { AreKept declared table.new kept.new }
+{
+    by_rule(alloc, table, kept, hyps, ADD_ZERO, &[a], &[])
+}
+
+/// What was taken away comes back.
+///
+/// `sub_add a b ; |- (eq (add (sub a b) b) a)`
+pub fn sub_add(
+    alloc: Global,
+    table: &mut Table,
+    kept: &mut Kept,
+    hyps: &[Id],
+    a: Id,
+    b: Id,
+) -> Result<Option<Sequent>, AllocError>
+    requires hyps { AllKnown table.old hyps.now }
+    requires params { AllKnown table.old (a ∷ b ∷ []) }
+    requires kept { AreKept declared table.old kept.old }
+    ensures exact { IfOk result (IsAnswer SUB_ADD table.old table.new hyps.now
+        (a ∷ b ∷ []) []) }
+    ensures extends { Extends table.old table.new }
+    ensures kept { AreKept declared table.new kept.new }
+{
+    by_rule(alloc, table, kept, hyps, SUB_ADD, &[a, b], &[])
+}
+
+/// A difference is a sum with the negated word.
+///
+/// `sub_neg a b ; |- (eq (sub a b) (add a (sub 0 b)))`
+pub fn sub_neg(
+    alloc: Global,
+    table: &mut Table,
+    kept: &mut Kept,
+    hyps: &[Id],
+    a: Id,
+    b: Id,
+) -> Result<Option<Sequent>, AllocError>
+    requires hyps { AllKnown table.old hyps.now }
+    requires params { AllKnown table.old (a ∷ b ∷ []) }
+    requires kept { AreKept declared table.old kept.old }
+    ensures exact { IfOk result (IsAnswer SUB_NEG table.old table.new hyps.now
+        (a ∷ b ∷ []) []) }
+    ensures extends { Extends table.old table.new }
+    ensures kept { AreKept declared table.new kept.new }
+{
+    by_rule(alloc, table, kept, hyps, SUB_NEG, &[a, b], &[])
+}
+
+/// Bitwise and commutes.
+///
+/// `and_comm a b ; |- (eq (band a b) (band b a))`
+pub fn and_comm(
+    alloc: Global,
+    table: &mut Table,
+    kept: &mut Kept,
+    hyps: &[Id],
+    a: Id,
+    b: Id,
+) -> Result<Option<Sequent>, AllocError>
+    requires hyps { AllKnown table.old hyps.now }
+    requires params { AllKnown table.old (a ∷ b ∷ []) }
+    requires kept { AreKept declared table.old kept.old }
+    ensures exact { IfOk result (IsAnswer AND_COMM table.old table.new hyps.now
+        (a ∷ b ∷ []) []) }
+    ensures extends { Extends table.old table.new }
+    ensures kept { AreKept declared table.new kept.new }
+{
+    by_rule(alloc, table, kept, hyps, AND_COMM, &[a, b], &[])
+}
+
+/// Bitwise and associates.
+///
+/// `and_assoc a b c ; |- (eq (band (band a b) c) (band a (band b c)))`
+pub fn and_assoc(
+    alloc: Global,
+    table: &mut Table,
+    kept: &mut Kept,
+    hyps: &[Id],
+    a: Id,
+    b: Id,
+    c: Id,
+) -> Result<Option<Sequent>, AllocError>
+    requires hyps { AllKnown table.old hyps.now }
+    requires params { AllKnown table.old (a ∷ b ∷ c ∷ []) }
+    requires kept { AreKept declared table.old kept.old }
+    ensures exact { IfOk result (IsAnswer AND_ASSOC table.old table.new hyps.now
+        (a ∷ b ∷ c ∷ []) []) }
+    ensures extends { Extends table.old table.new }
+    ensures kept { AreKept declared table.new kept.new }
+{
+    by_rule(alloc, table, kept, hyps, AND_ASSOC, &[a, b, c], &[])
+}
+
+/// Bitwise and with 0 is 0.
+///
+/// `and_zero a ; |- (eq (band a 0) 0)`
+pub fn and_zero(
+    alloc: Global,
+    table: &mut Table,
+    kept: &mut Kept,
+    hyps: &[Id],
+    a: Id,
+) -> Result<Option<Sequent>, AllocError>
+    requires hyps { AllKnown table.old hyps.now }
+    requires params { AllKnown table.old (a ∷ []) }
+    requires kept { AreKept declared table.old kept.old }
+    ensures exact { IfOk result (IsAnswer AND_ZERO table.old table.new hyps.now
+        (a ∷ []) []) }
+    ensures extends { Extends table.old table.new }
+    ensures kept { AreKept declared table.new kept.new }
+{
+    by_rule(alloc, table, kept, hyps, AND_ZERO, &[a], &[])
+}
+
+/// Bitwise and is at most its right side.
+///
+/// `and_le a b ; |- (ule (band a b) b)`
+pub fn and_le(
+    alloc: Global,
+    table: &mut Table,
+    kept: &mut Kept,
+    hyps: &[Id],
+    a: Id,
+    b: Id,
+) -> Result<Option<Sequent>, AllocError>
+    requires hyps { AllKnown table.old hyps.now }
+    requires params { AllKnown table.old (a ∷ b ∷ []) }
+    requires kept { AreKept declared table.old kept.old }
+    ensures exact { IfOk result (IsAnswer AND_LE table.old table.new hyps.now
+        (a ∷ b ∷ []) []) }
+    ensures extends { Extends table.old table.new }
+    ensures kept { AreKept declared table.new kept.new }
+{
+    by_rule(alloc, table, kept, hyps, AND_LE, &[a, b], &[])
+}
+
+/// Bitwise or with 0 on the right.
+///
+/// `bis_zero a ; |- (eq (bis a 0) a)`
+pub fn bis_zero(
+    alloc: Global,
+    table: &mut Table,
+    kept: &mut Kept,
+    hyps: &[Id],
+    a: Id,
+) -> Result<Option<Sequent>, AllocError>
+    requires hyps { AllKnown table.old hyps.now }
+    requires params { AllKnown table.old (a ∷ []) }
+    requires kept { AreKept declared table.old kept.old }
+    ensures exact { IfOk result (IsAnswer BIS_ZERO table.old table.new hyps.now
+        (a ∷ []) []) }
+    ensures extends { Extends table.old table.new }
+    ensures kept { AreKept declared table.new kept.new }
+{
+    by_rule(alloc, table, kept, hyps, BIS_ZERO, &[a], &[])
+}
+
+/// Bitwise or with 0 on the left.
+///
+/// `bis_zero_l a ; |- (eq (bis 0 a) a)`
+pub fn bis_zero_l(
+    alloc: Global,
+    table: &mut Table,
+    kept: &mut Kept,
+    hyps: &[Id],
+    a: Id,
+) -> Result<Option<Sequent>, AllocError>
+    requires hyps { AllKnown table.old hyps.now }
+    requires params { AllKnown table.old (a ∷ []) }
+    requires kept { AreKept declared table.old kept.old }
+    ensures exact { IfOk result (IsAnswer BIS_ZERO_L table.old table.new hyps.now
+        (a ∷ []) []) }
+    ensures extends { Extends table.old table.new }
+    ensures kept { AreKept declared table.new kept.new }
+{
+    by_rule(alloc, table, kept, hyps, BIS_ZERO_L, &[a], &[])
+}
+
+/// The sum of two multiples of 8 is one.
+///
+/// `add_al a b ; (eq (band a 7) 0), (eq (band b 7) 0) |- (eq (band (add a b) 7) 0)`
+pub fn add_al(
+    alloc: Global,
+    table: &mut Table,
+    kept: &mut Kept,
+    hyps: &[Id],
+    a: Id,
+    b: Id,
+    p: &Sequent,
+    q: &Sequent,
+) -> Result<Option<Sequent>, AllocError>
+    requires hyps { AllKnown table.old hyps.now }
+    requires params { AllKnown table.old (a ∷ b ∷ []) }
+    requires premises { AreSequents table.old (p.now ∷ q.now ∷ []) }
+    requires kept { AreKept declared table.old kept.old }
+    ensures exact { IfOk result (IsAnswer ADD_AL table.old table.new hyps.now
+        (a ∷ b ∷ []) (p.now ∷ q.now ∷ [])) }
+    ensures extends { Extends table.old table.new }
+    ensures kept { AreKept declared table.new kept.new }
+{
+    by_rule(alloc, table, kept, hyps, ADD_AL, &[a, b], &[p, q])
+}
+
+/// A word shifted left by 3 is a multiple of 8.
+///
+/// `sll_al a ; |- (eq (band (sll a 3) 7) 0)`
+pub fn sll_al(
+    alloc: Global,
+    table: &mut Table,
+    kept: &mut Kept,
+    hyps: &[Id],
+    a: Id,
+) -> Result<Option<Sequent>, AllocError>
+    requires hyps { AllKnown table.old hyps.now }
+    requires params { AllKnown table.old (a ∷ []) }
+    requires kept { AreKept declared table.old kept.old }
+    ensures exact { IfOk result (IsAnswer SLL_AL table.old table.new hyps.now
+        (a ∷ []) []) }
+    ensures extends { Extends table.old table.new }
+    ensures kept { AreKept declared table.new kept.new }
+{
+    by_rule(alloc, table, kept, hyps, SLL_AL, &[a], &[])
+}

@@ -1,0 +1,117 @@
+//! The rules of the compares, each for five pairs of operator and relation.
+//!
+//! Each function answers the sequent of its rule's conclusion exactly where the parameters and the
+//! premises have the rule's form, else None. Errors: want of memory alone; each id keeps its tree.
+
+ghost use Rattle.std.specs.Prelude.{◌≡◌, ◌≤◌, [], ◌∷◌, IfOk};
+ghost use Rattle.term_table.specs.Table.{AllKnown, Extends};
+ghost use Rattle.lf_signature.specs.Sigma1.{declared};
+ghost use Rattle.lf_check.specs.Inside.Kept.{AreKept};
+ghost use Rattle.lf_rules.specs.Sequents.{AreSequents};
+ghost use Rattle.proof_kit.specs.Pairs.{of_pair, IsPairAnswer};
+ghost use Rattle.proof_kit.specs.declared.numbers.TheConstants.{CMP_LE1, CMP_NO, CMP_YES};
+
+use crate::numbers::{CMP_LE1, CMP_NO, CMP_YES};
+use lf_check::Kept;
+use lf_rules::{Sequent, by_rule};
+use std::alloc::{AllocError, Global};
+use term_table::{Id, Table};
+
+/// The number of the rule of a pair, the first pair's being given.
+fn of_pair(first: u32, pair: u32) -> Option<u32>
+    requires { first ≤ 83 }
+    ensures { result ≡ of_pair first pair }
+{
+    if pair < 5 { Some(first + pair) } else { None }
+}
+
+/// A compare that is not 0 has its relation hold.
+///
+/// `cmp_yes a b ; (not (eq (o a b) 0)) |- (p a b)`
+///
+/// `pair` is 0 to 4, for cmpeq and eq, cmplt and slt, cmple and sle, cmpult and ult, cmpule and ule;
+/// a greater one hasn't the rule's form.
+pub fn cmp_yes(
+    alloc: Global,
+    table: &mut Table,
+    kept: &mut Kept,
+    hyps: &[Id],
+    pair: u32,
+    a: Id,
+    b: Id,
+    p: &Sequent,
+) -> Result<Option<Sequent>, AllocError>
+    requires hyps { AllKnown table.old hyps.now }
+    requires params { AllKnown table.old (a ∷ b ∷ []) }
+    requires premises { AreSequents table.old (p.now ∷ []) }
+    requires kept { AreKept declared table.old kept.old }
+    ensures exact { IfOk result (IsPairAnswer (of_pair CMP_YES pair) table.old table.new hyps.now
+        (a ∷ b ∷ []) (p.now ∷ [])) }
+    ensures extends { Extends table.old table.new }
+    ensures kept { AreKept declared table.new kept.new }
+{
+    match of_pair(CMP_YES, pair) {
+        Some(number) => by_rule(alloc, table, kept, hyps, number, &[a, b], &[p]),
+        None => Ok(None),
+    }
+}
+
+/// A compare that is 0 has its relation denied.
+///
+/// `cmp_no a b ; (eq (o a b) 0) |- (not (p a b))`
+///
+/// `pair` is 0 to 4, for cmpeq and eq, cmplt and slt, cmple and sle, cmpult and ult, cmpule and ule;
+/// a greater one hasn't the rule's form.
+pub fn cmp_no(
+    alloc: Global,
+    table: &mut Table,
+    kept: &mut Kept,
+    hyps: &[Id],
+    pair: u32,
+    a: Id,
+    b: Id,
+    p: &Sequent,
+) -> Result<Option<Sequent>, AllocError>
+    requires hyps { AllKnown table.old hyps.now }
+    requires params { AllKnown table.old (a ∷ b ∷ []) }
+    requires premises { AreSequents table.old (p.now ∷ []) }
+    requires kept { AreKept declared table.old kept.old }
+    ensures exact { IfOk result (IsPairAnswer (of_pair CMP_NO pair) table.old table.new hyps.now
+        (a ∷ b ∷ []) (p.now ∷ [])) }
+    ensures extends { Extends table.old table.new }
+    ensures kept { AreKept declared table.new kept.new }
+{
+    match of_pair(CMP_NO, pair) {
+        Some(number) => by_rule(alloc, table, kept, hyps, number, &[a, b], &[p]),
+        None => Ok(None),
+    }
+}
+
+/// A compare is at most 1.
+///
+/// `cmp_le1 a b ; |- (ule (o a b) 1)`
+///
+/// `pair` is 0 to 4, for cmpeq and eq, cmplt and slt, cmple and sle, cmpult and ult, cmpule and ule;
+/// a greater one hasn't the rule's form.
+pub fn cmp_le1(
+    alloc: Global,
+    table: &mut Table,
+    kept: &mut Kept,
+    hyps: &[Id],
+    pair: u32,
+    a: Id,
+    b: Id,
+) -> Result<Option<Sequent>, AllocError>
+    requires hyps { AllKnown table.old hyps.now }
+    requires params { AllKnown table.old (a ∷ b ∷ []) }
+    requires kept { AreKept declared table.old kept.old }
+    ensures exact { IfOk result (IsPairAnswer (of_pair CMP_LE1 pair) table.old table.new hyps.now
+        (a ∷ b ∷ []) []) }
+    ensures extends { Extends table.old table.new }
+    ensures kept { AreKept declared table.new kept.new }
+{
+    match of_pair(CMP_LE1, pair) {
+        Some(number) => by_rule(alloc, table, kept, hyps, number, &[a, b], &[]),
+        None => Ok(None),
+    }
+}

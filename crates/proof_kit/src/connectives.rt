@@ -1,0 +1,278 @@
+//! The rules of the connectives.
+//!
+//! Each function answers the sequent of its rule's conclusion exactly where the parameters and the
+//! premises have the rule's form, else None. Errors: want of memory alone; each id keeps its tree.
+
+ghost use Rattle.std.specs.Prelude.{◌≡◌, [], ◌∷◌, IfOk};
+ghost use Rattle.term_table.specs.Table.{AllKnown, Extends};
+ghost use Rattle.lf_signature.specs.Sigma1.{declared};
+ghost use Rattle.lf_check.specs.Inside.Kept.{AreKept};
+ghost use Rattle.lf_rules.specs.Sequents.{AreSequents};
+ghost use Rattle.lf_rules.specs.Answers.{IsAnswer};
+ghost use Rattle.proof_kit.specs.declared.numbers.TheConstants.{AND_I, AND_L, AND_R, EM, FF_E, IMP_E, IMP_I, OR_E, OR_L, OR_R, TT_I};
+
+use crate::numbers::{AND_I, AND_L, AND_R, EM, FF_E, IMP_E, IMP_I, OR_E, OR_L, OR_R, TT_I};
+use lf_check::Kept;
+use lf_rules::{Sequent, by_rule};
+use std::alloc::{AllocError, Global};
+use term_table::{Id, Table};
+
+/// Truth holds.
+///
+/// `tt_i ; |- tt`
+pub fn tt_i(
+    alloc: Global,
+    table: &mut Table,
+    kept: &mut Kept,
+    hyps: &[Id],
+) -> Result<Option<Sequent>, AllocError>
+    requires hyps { AllKnown table.old hyps.now }
+    requires kept { AreKept declared table.old kept.old }
+    ensures exact { IfOk result (IsAnswer TT_I table.old table.new hyps.now
+        [] []) }
+    ensures extends { Extends table.old table.new }
+    ensures kept { AreKept declared table.new kept.new }
+{
+    by_rule(alloc, table, kept, hyps, TT_I, &[], &[])
+}
+
+/// From falsity follows any formula.
+///
+/// `ff_e A ; ff |- A`
+pub fn ff_e(
+    alloc: Global,
+    table: &mut Table,
+    kept: &mut Kept,
+    hyps: &[Id],
+    a: Id,
+    p: &Sequent,
+) -> Result<Option<Sequent>, AllocError>
+    requires hyps { AllKnown table.old hyps.now }
+    requires params { AllKnown table.old (a ∷ []) }
+    requires premises { AreSequents table.old (p.now ∷ []) }
+    requires kept { AreKept declared table.old kept.old }
+    ensures exact { IfOk result (IsAnswer FF_E table.old table.new hyps.now
+        (a ∷ []) (p.now ∷ [])) }
+    ensures extends { Extends table.old table.new }
+    ensures kept { AreKept declared table.new kept.new }
+{
+    by_rule(alloc, table, kept, hyps, FF_E, &[a], &[p])
+}
+
+/// Two proofs give one of both.
+///
+/// `and_i A B ; A, B |- (and A B)`
+pub fn and_i(
+    alloc: Global,
+    table: &mut Table,
+    kept: &mut Kept,
+    hyps: &[Id],
+    a: Id,
+    b: Id,
+    p: &Sequent,
+    q: &Sequent,
+) -> Result<Option<Sequent>, AllocError>
+    requires hyps { AllKnown table.old hyps.now }
+    requires params { AllKnown table.old (a ∷ b ∷ []) }
+    requires premises { AreSequents table.old (p.now ∷ q.now ∷ []) }
+    requires kept { AreKept declared table.old kept.old }
+    ensures exact { IfOk result (IsAnswer AND_I table.old table.new hyps.now
+        (a ∷ b ∷ []) (p.now ∷ q.now ∷ [])) }
+    ensures extends { Extends table.old table.new }
+    ensures kept { AreKept declared table.new kept.new }
+{
+    by_rule(alloc, table, kept, hyps, AND_I, &[a, b], &[p, q])
+}
+
+/// The left of both.
+///
+/// `and_l A B ; (and A B) |- A`
+pub fn and_l(
+    alloc: Global,
+    table: &mut Table,
+    kept: &mut Kept,
+    hyps: &[Id],
+    a: Id,
+    b: Id,
+    p: &Sequent,
+) -> Result<Option<Sequent>, AllocError>
+    requires hyps { AllKnown table.old hyps.now }
+    requires params { AllKnown table.old (a ∷ b ∷ []) }
+    requires premises { AreSequents table.old (p.now ∷ []) }
+    requires kept { AreKept declared table.old kept.old }
+    ensures exact { IfOk result (IsAnswer AND_L table.old table.new hyps.now
+        (a ∷ b ∷ []) (p.now ∷ [])) }
+    ensures extends { Extends table.old table.new }
+    ensures kept { AreKept declared table.new kept.new }
+{
+    by_rule(alloc, table, kept, hyps, AND_L, &[a, b], &[p])
+}
+
+/// The right of both.
+///
+/// `and_r A B ; (and A B) |- B`
+pub fn and_r(
+    alloc: Global,
+    table: &mut Table,
+    kept: &mut Kept,
+    hyps: &[Id],
+    a: Id,
+    b: Id,
+    p: &Sequent,
+) -> Result<Option<Sequent>, AllocError>
+    requires hyps { AllKnown table.old hyps.now }
+    requires params { AllKnown table.old (a ∷ b ∷ []) }
+    requires premises { AreSequents table.old (p.now ∷ []) }
+    requires kept { AreKept declared table.old kept.old }
+    ensures exact { IfOk result (IsAnswer AND_R table.old table.new hyps.now
+        (a ∷ b ∷ []) (p.now ∷ [])) }
+    ensures extends { Extends table.old table.new }
+    ensures kept { AreKept declared table.new kept.new }
+{
+    by_rule(alloc, table, kept, hyps, AND_R, &[a, b], &[p])
+}
+
+/// One of two, from the left.
+///
+/// `or_l A B ; A |- (or A B)`
+pub fn or_l(
+    alloc: Global,
+    table: &mut Table,
+    kept: &mut Kept,
+    hyps: &[Id],
+    a: Id,
+    b: Id,
+    p: &Sequent,
+) -> Result<Option<Sequent>, AllocError>
+    requires hyps { AllKnown table.old hyps.now }
+    requires params { AllKnown table.old (a ∷ b ∷ []) }
+    requires premises { AreSequents table.old (p.now ∷ []) }
+    requires kept { AreKept declared table.old kept.old }
+    ensures exact { IfOk result (IsAnswer OR_L table.old table.new hyps.now
+        (a ∷ b ∷ []) (p.now ∷ [])) }
+    ensures extends { Extends table.old table.new }
+    ensures kept { AreKept declared table.new kept.new }
+{
+    by_rule(alloc, table, kept, hyps, OR_L, &[a, b], &[p])
+}
+
+/// One of two, from the right.
+///
+/// `or_r A B ; B |- (or A B)`
+pub fn or_r(
+    alloc: Global,
+    table: &mut Table,
+    kept: &mut Kept,
+    hyps: &[Id],
+    a: Id,
+    b: Id,
+    p: &Sequent,
+) -> Result<Option<Sequent>, AllocError>
+    requires hyps { AllKnown table.old hyps.now }
+    requires params { AllKnown table.old (a ∷ b ∷ []) }
+    requires premises { AreSequents table.old (p.now ∷ []) }
+    requires kept { AreKept declared table.old kept.old }
+    ensures exact { IfOk result (IsAnswer OR_R table.old table.new hyps.now
+        (a ∷ b ∷ []) (p.now ∷ [])) }
+    ensures extends { Extends table.old table.new }
+    ensures kept { AreKept declared table.new kept.new }
+{
+    by_rule(alloc, table, kept, hyps, OR_R, &[a, b], &[p])
+}
+
+/// What follows from either follows from one of two.
+///
+/// `or_e A B C ; (or A B), [A] C, [B] C |- C`
+pub fn or_e(
+    alloc: Global,
+    table: &mut Table,
+    kept: &mut Kept,
+    hyps: &[Id],
+    a: Id,
+    b: Id,
+    c: Id,
+    p: &Sequent,
+    q: &Sequent,
+    r: &Sequent,
+) -> Result<Option<Sequent>, AllocError>
+    requires hyps { AllKnown table.old hyps.now }
+    requires params { AllKnown table.old (a ∷ b ∷ c ∷ []) }
+    requires premises { AreSequents table.old (p.now ∷ q.now ∷ r.now ∷ []) }
+    requires kept { AreKept declared table.old kept.old }
+    ensures exact { IfOk result (IsAnswer OR_E table.old table.new hyps.now
+        (a ∷ b ∷ c ∷ []) (p.now ∷ q.now ∷ r.now ∷ [])) }
+    ensures extends { Extends table.old table.new }
+    ensures kept { AreKept declared table.new kept.new }
+{
+    by_rule(alloc, table, kept, hyps, OR_E, &[a, b, c], &[p, q, r])
+}
+
+/// What is proved under a hypothesis follows from it.
+///
+/// `imp_i A B ; [A] B |- (imp A B)`
+pub fn imp_i(
+    alloc: Global,
+    table: &mut Table,
+    kept: &mut Kept,
+    hyps: &[Id],
+    a: Id,
+    b: Id,
+    p: &Sequent,
+) -> Result<Option<Sequent>, AllocError>
+    requires hyps { AllKnown table.old hyps.now }
+    requires params { AllKnown table.old (a ∷ b ∷ []) }
+    requires premises { AreSequents table.old (p.now ∷ []) }
+    requires kept { AreKept declared table.old kept.old }
+    ensures exact { IfOk result (IsAnswer IMP_I table.old table.new hyps.now
+        (a ∷ b ∷ []) (p.now ∷ [])) }
+    ensures extends { Extends table.old table.new }
+    ensures kept { AreKept declared table.new kept.new }
+{
+    by_rule(alloc, table, kept, hyps, IMP_I, &[a, b], &[p])
+}
+
+/// What follows from what is proved is proved.
+///
+/// `imp_e A B ; (imp A B), A |- B`
+pub fn imp_e(
+    alloc: Global,
+    table: &mut Table,
+    kept: &mut Kept,
+    hyps: &[Id],
+    a: Id,
+    b: Id,
+    p: &Sequent,
+    q: &Sequent,
+) -> Result<Option<Sequent>, AllocError>
+    requires hyps { AllKnown table.old hyps.now }
+    requires params { AllKnown table.old (a ∷ b ∷ []) }
+    requires premises { AreSequents table.old (p.now ∷ q.now ∷ []) }
+    requires kept { AreKept declared table.old kept.old }
+    ensures exact { IfOk result (IsAnswer IMP_E table.old table.new hyps.now
+        (a ∷ b ∷ []) (p.now ∷ q.now ∷ [])) }
+    ensures extends { Extends table.old table.new }
+    ensures kept { AreKept declared table.new kept.new }
+{
+    by_rule(alloc, table, kept, hyps, IMP_E, &[a, b], &[p, q])
+}
+
+/// A formula or its denial.
+///
+/// `em A ; |- (or A (not A))`
+pub fn em(
+    alloc: Global,
+    table: &mut Table,
+    kept: &mut Kept,
+    hyps: &[Id],
+    a: Id,
+) -> Result<Option<Sequent>, AllocError>
+    requires hyps { AllKnown table.old hyps.now }
+    requires params { AllKnown table.old (a ∷ []) }
+    requires kept { AreKept declared table.old kept.old }
+    ensures exact { IfOk result (IsAnswer EM table.old table.new hyps.now
+        (a ∷ []) []) }
+    ensures extends { Extends table.old table.new }
+    ensures kept { AreKept declared table.new kept.new }
+{
+    by_rule(alloc, table, kept, hyps, EM, &[a], &[])
+}

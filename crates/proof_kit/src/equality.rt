@@ -1,0 +1,114 @@
+//! The rules of equality, and of memories with a word written.
+//!
+//! Each function answers the sequent of its rule's conclusion exactly where the parameters and the
+//! premises have the rule's form, else None. Errors: want of memory alone; each id keeps its tree.
+
+ghost use Rattle.std.specs.Prelude.{◌≡◌, [], ◌∷◌, IfOk};
+ghost use Rattle.term_table.specs.Table.{AllKnown, Extends};
+ghost use Rattle.lf_signature.specs.Sigma1.{declared};
+ghost use Rattle.lf_check.specs.Inside.Kept.{AreKept};
+ghost use Rattle.lf_rules.specs.Sequents.{AreSequents};
+ghost use Rattle.lf_rules.specs.Answers.{IsAnswer};
+ghost use Rattle.proof_kit.specs.declared.numbers.TheConstants.{EQ_REFL, EQ_SUB, SEL_OTHER, SEL_SAME};
+
+use crate::numbers::{EQ_REFL, EQ_SUB, SEL_OTHER, SEL_SAME};
+use lf_check::Kept;
+use lf_rules::{Sequent, by_rule};
+use std::alloc::{AllocError, Global};
+use term_table::{Id, Table};
+
+/// A word equals itself.
+///
+/// `eq_refl a ; |- (eq a a)`
+pub fn eq_refl(
+    alloc: Global,
+    table: &mut Table,
+    kept: &mut Kept,
+    hyps: &[Id],
+    a: Id,
+) -> Result<Option<Sequent>, AllocError>
+    requires hyps { AllKnown table.old hyps.now }
+    requires params { AllKnown table.old (a ∷ []) }
+    requires kept { AreKept declared table.old kept.old }
+    ensures exact { IfOk result (IsAnswer EQ_REFL table.old table.new hyps.now
+        (a ∷ []) []) }
+    ensures extends { Extends table.old table.new }
+    ensures kept { AreKept declared table.new kept.new }
+{
+    by_rule(alloc, table, kept, hyps, EQ_REFL, &[a], &[])
+}
+
+/// What holds of a word holds of an equal one.
+///
+/// `eq_sub F a b ; (eq a b), F a |- F b`
+pub fn eq_sub(
+    alloc: Global,
+    table: &mut Table,
+    kept: &mut Kept,
+    hyps: &[Id],
+    f: Id,
+    a: Id,
+    b: Id,
+    p: &Sequent,
+    q: &Sequent,
+) -> Result<Option<Sequent>, AllocError>
+    requires hyps { AllKnown table.old hyps.now }
+    requires params { AllKnown table.old (f ∷ a ∷ b ∷ []) }
+    requires premises { AreSequents table.old (p.now ∷ q.now ∷ []) }
+    requires kept { AreKept declared table.old kept.old }
+    ensures exact { IfOk result (IsAnswer EQ_SUB table.old table.new hyps.now
+        (f ∷ a ∷ b ∷ []) (p.now ∷ q.now ∷ [])) }
+    ensures extends { Extends table.old table.new }
+    ensures kept { AreKept declared table.new kept.new }
+{
+    by_rule(alloc, table, kept, hyps, EQ_SUB, &[f, a, b], &[p, q])
+}
+
+/// A word that was written is read back.
+///
+/// `sel_same m a v ; |- (eq (sel (upd m a v) a) v)`
+pub fn sel_same(
+    alloc: Global,
+    table: &mut Table,
+    kept: &mut Kept,
+    hyps: &[Id],
+    m: Id,
+    a: Id,
+    v: Id,
+) -> Result<Option<Sequent>, AllocError>
+    requires hyps { AllKnown table.old hyps.now }
+    requires params { AllKnown table.old (m ∷ a ∷ v ∷ []) }
+    requires kept { AreKept declared table.old kept.old }
+    ensures exact { IfOk result (IsAnswer SEL_SAME table.old table.new hyps.now
+        (m ∷ a ∷ v ∷ []) []) }
+    ensures extends { Extends table.old table.new }
+    ensures kept { AreKept declared table.new kept.new }
+{
+    by_rule(alloc, table, kept, hyps, SEL_SAME, &[m, a, v], &[])
+}
+
+/// A write leaves the words at other addresses.
+///
+/// `sel_other m a b v ; (not (eq a b)) |- (eq (sel (upd m a v) b) (sel m b))`
+pub fn sel_other(
+    alloc: Global,
+    table: &mut Table,
+    kept: &mut Kept,
+    hyps: &[Id],
+    m: Id,
+    a: Id,
+    b: Id,
+    v: Id,
+    p: &Sequent,
+) -> Result<Option<Sequent>, AllocError>
+    requires hyps { AllKnown table.old hyps.now }
+    requires params { AllKnown table.old (m ∷ a ∷ b ∷ v ∷ []) }
+    requires premises { AreSequents table.old (p.now ∷ []) }
+    requires kept { AreKept declared table.old kept.old }
+    ensures exact { IfOk result (IsAnswer SEL_OTHER table.old table.new hyps.now
+        (m ∷ a ∷ b ∷ v ∷ []) (p.now ∷ [])) }
+    ensures extends { Extends table.old table.new }
+    ensures kept { AreKept declared table.new kept.new }
+{
+    by_rule(alloc, table, kept, hyps, SEL_OTHER, &[m, a, b, v], &[p])
+}

@@ -1,0 +1,361 @@
+//! The rules of the unsigned order.
+//!
+//! Each function answers the sequent of its rule's conclusion exactly where the parameters and the
+//! premises have the rule's form, else None. Errors: want of memory alone; each id keeps its tree.
+
+ghost use Rattle.std.specs.Prelude.{◌≡◌, [], ◌∷◌, IfOk};
+ghost use Rattle.term_table.specs.Table.{AllKnown, Extends};
+ghost use Rattle.lf_signature.specs.Sigma1.{declared};
+ghost use Rattle.lf_check.specs.Inside.Kept.{AreKept};
+ghost use Rattle.lf_rules.specs.Sequents.{AreSequents};
+ghost use Rattle.lf_rules.specs.Answers.{IsAnswer};
+ghost use Rattle.proof_kit.specs.declared.numbers.TheConstants.{ADD_LE, LE_ANTI, LE_LT, LT_IRR, LT_LE, LT_PRED, MAX_LE, NOT_LT, SLL_MONO, SRL_MONO, ULE_REFL, ULE_TRANS, ULT_ULE, ZERO_LE};
+
+use crate::numbers::{
+    ADD_LE, LE_ANTI, LE_LT, LT_IRR, LT_LE, LT_PRED, MAX_LE, NOT_LT, SLL_MONO, SRL_MONO, ULE_REFL,
+    ULE_TRANS, ULT_ULE, ZERO_LE,
+};
+use lf_check::Kept;
+use lf_rules::{Sequent, by_rule};
+use std::alloc::{AllocError, Global};
+use term_table::{Id, Table};
+
+/// Right shifts keep the order.
+///
+/// `srl_mono a b c ; (ule a b) |- (ule (srl a c) (srl b c))`
+pub fn srl_mono(
+    alloc: Global,
+    table: &mut Table,
+    kept: &mut Kept,
+    hyps: &[Id],
+    a: Id,
+    b: Id,
+    c: Id,
+    p: &Sequent,
+) -> Result<Option<Sequent>, AllocError>
+    requires hyps { AllKnown table.old hyps.now }
+    requires params { AllKnown table.old (a ∷ b ∷ c ∷ []) }
+    requires premises { AreSequents table.old (p.now ∷ []) }
+    requires kept { AreKept declared table.old kept.old }
+    ensures exact { IfOk result (IsAnswer SRL_MONO table.old table.new hyps.now
+        (a ∷ b ∷ c ∷ []) (p.now ∷ [])) }
+    ensures extends { Extends table.old table.new }
+    ensures kept { AreKept declared table.new kept.new }
+{
+    by_rule(alloc, table, kept, hyps, SRL_MONO, &[a, b, c], &[p])
+}
+
+/// Left shifts keep the order where no bit is lost.
+///
+/// `sll_mono a b c ; (ule a b), (ule b (srl MAX c)) |- (ule (sll a c) (sll b c))`
+pub fn sll_mono(
+    alloc: Global,
+    table: &mut Table,
+    kept: &mut Kept,
+    hyps: &[Id],
+    a: Id,
+    b: Id,
+    c: Id,
+    p: &Sequent,
+    q: &Sequent,
+) -> Result<Option<Sequent>, AllocError>
+    requires hyps { AllKnown table.old hyps.now }
+    requires params { AllKnown table.old (a ∷ b ∷ c ∷ []) }
+    requires premises { AreSequents table.old (p.now ∷ q.now ∷ []) }
+    requires kept { AreKept declared table.old kept.old }
+    ensures exact { IfOk result (IsAnswer SLL_MONO table.old table.new hyps.now
+        (a ∷ b ∷ c ∷ []) (p.now ∷ q.now ∷ [])) }
+    ensures extends { Extends table.old table.new }
+    ensures kept { AreKept declared table.new kept.new }
+{
+    by_rule(alloc, table, kept, hyps, SLL_MONO, &[a, b, c], &[p, q])
+}
+
+/// 0 is least.
+///
+/// `zero_le a ; |- (ule 0 a)`
+pub fn zero_le(
+    alloc: Global,
+    table: &mut Table,
+    kept: &mut Kept,
+    hyps: &[Id],
+    a: Id,
+) -> Result<Option<Sequent>, AllocError>
+    requires hyps { AllKnown table.old hyps.now }
+    requires params { AllKnown table.old (a ∷ []) }
+    requires kept { AreKept declared table.old kept.old }
+    ensures exact { IfOk result (IsAnswer ZERO_LE table.old table.new hyps.now
+        (a ∷ []) []) }
+    ensures extends { Extends table.old table.new }
+    ensures kept { AreKept declared table.new kept.new }
+{
+    by_rule(alloc, table, kept, hyps, ZERO_LE, &[a], &[])
+}
+
+/// MAX, 2^64 - 1, is greatest.
+///
+/// `max_le a ; |- (ule a MAX)`
+pub fn max_le(
+    alloc: Global,
+    table: &mut Table,
+    kept: &mut Kept,
+    hyps: &[Id],
+    a: Id,
+) -> Result<Option<Sequent>, AllocError>
+    requires hyps { AllKnown table.old hyps.now }
+    requires params { AllKnown table.old (a ∷ []) }
+    requires kept { AreKept declared table.old kept.old }
+    ensures exact { IfOk result (IsAnswer MAX_LE table.old table.new hyps.now
+        (a ∷ []) []) }
+    ensures extends { Extends table.old table.new }
+    ensures kept { AreKept declared table.new kept.new }
+{
+    by_rule(alloc, table, kept, hyps, MAX_LE, &[a], &[])
+}
+
+/// A word is at most itself.
+///
+/// `ule_refl a ; |- (ule a a)`
+pub fn ule_refl(
+    alloc: Global,
+    table: &mut Table,
+    kept: &mut Kept,
+    hyps: &[Id],
+    a: Id,
+) -> Result<Option<Sequent>, AllocError>
+    requires hyps { AllKnown table.old hyps.now }
+    requires params { AllKnown table.old (a ∷ []) }
+    requires kept { AreKept declared table.old kept.old }
+    ensures exact { IfOk result (IsAnswer ULE_REFL table.old table.new hyps.now
+        (a ∷ []) []) }
+    ensures extends { Extends table.old table.new }
+    ensures kept { AreKept declared table.new kept.new }
+{
+    by_rule(alloc, table, kept, hyps, ULE_REFL, &[a], &[])
+}
+
+/// At most, through a third word.
+///
+/// `ule_trans a b c ; (ule a b), (ule b c) |- (ule a c)`
+pub fn ule_trans(
+    alloc: Global,
+    table: &mut Table,
+    kept: &mut Kept,
+    hyps: &[Id],
+    a: Id,
+    b: Id,
+    c: Id,
+    p: &Sequent,
+    q: &Sequent,
+) -> Result<Option<Sequent>, AllocError>
+    requires hyps { AllKnown table.old hyps.now }
+    requires params { AllKnown table.old (a ∷ b ∷ c ∷ []) }
+    requires premises { AreSequents table.old (p.now ∷ q.now ∷ []) }
+    requires kept { AreKept declared table.old kept.old }
+    ensures exact { IfOk result (IsAnswer ULE_TRANS table.old table.new hyps.now
+        (a ∷ b ∷ c ∷ []) (p.now ∷ q.now ∷ [])) }
+    ensures extends { Extends table.old table.new }
+    ensures kept { AreKept declared table.new kept.new }
+{
+    by_rule(alloc, table, kept, hyps, ULE_TRANS, &[a, b, c], &[p, q])
+}
+
+/// Less is at most.
+///
+/// `ult_ule a b ; (ult a b) |- (ule a b)`
+pub fn ult_ule(
+    alloc: Global,
+    table: &mut Table,
+    kept: &mut Kept,
+    hyps: &[Id],
+    a: Id,
+    b: Id,
+    p: &Sequent,
+) -> Result<Option<Sequent>, AllocError>
+    requires hyps { AllKnown table.old hyps.now }
+    requires params { AllKnown table.old (a ∷ b ∷ []) }
+    requires premises { AreSequents table.old (p.now ∷ []) }
+    requires kept { AreKept declared table.old kept.old }
+    ensures exact { IfOk result (IsAnswer ULT_ULE table.old table.new hyps.now
+        (a ∷ b ∷ []) (p.now ∷ [])) }
+    ensures extends { Extends table.old table.new }
+    ensures kept { AreKept declared table.new kept.new }
+{
+    by_rule(alloc, table, kept, hyps, ULT_ULE, &[a, b], &[p])
+}
+
+/// Less, then at most.
+///
+/// `lt_le a b c ; (ult a b), (ule b c) |- (ult a c)`
+pub fn lt_le(
+    alloc: Global,
+    table: &mut Table,
+    kept: &mut Kept,
+    hyps: &[Id],
+    a: Id,
+    b: Id,
+    c: Id,
+    p: &Sequent,
+    q: &Sequent,
+) -> Result<Option<Sequent>, AllocError>
+    requires hyps { AllKnown table.old hyps.now }
+    requires params { AllKnown table.old (a ∷ b ∷ c ∷ []) }
+    requires premises { AreSequents table.old (p.now ∷ q.now ∷ []) }
+    requires kept { AreKept declared table.old kept.old }
+    ensures exact { IfOk result (IsAnswer LT_LE table.old table.new hyps.now
+        (a ∷ b ∷ c ∷ []) (p.now ∷ q.now ∷ [])) }
+    ensures extends { Extends table.old table.new }
+    ensures kept { AreKept declared table.new kept.new }
+{
+    by_rule(alloc, table, kept, hyps, LT_LE, &[a, b, c], &[p, q])
+}
+
+/// At most, then less.
+///
+/// `le_lt a b c ; (ule a b), (ult b c) |- (ult a c)`
+pub fn le_lt(
+    alloc: Global,
+    table: &mut Table,
+    kept: &mut Kept,
+    hyps: &[Id],
+    a: Id,
+    b: Id,
+    c: Id,
+    p: &Sequent,
+    q: &Sequent,
+) -> Result<Option<Sequent>, AllocError>
+    requires hyps { AllKnown table.old hyps.now }
+    requires params { AllKnown table.old (a ∷ b ∷ c ∷ []) }
+    requires premises { AreSequents table.old (p.now ∷ q.now ∷ []) }
+    requires kept { AreKept declared table.old kept.old }
+    ensures exact { IfOk result (IsAnswer LE_LT table.old table.new hyps.now
+        (a ∷ b ∷ c ∷ []) (p.now ∷ q.now ∷ [])) }
+    ensures extends { Extends table.old table.new }
+    ensures kept { AreKept declared table.new kept.new }
+{
+    by_rule(alloc, table, kept, hyps, LE_LT, &[a, b, c], &[p, q])
+}
+
+/// Less is at most the word before.
+///
+/// `lt_pred a b ; (ult a b) |- (ule a (sub b 1))`
+pub fn lt_pred(
+    alloc: Global,
+    table: &mut Table,
+    kept: &mut Kept,
+    hyps: &[Id],
+    a: Id,
+    b: Id,
+    p: &Sequent,
+) -> Result<Option<Sequent>, AllocError>
+    requires hyps { AllKnown table.old hyps.now }
+    requires params { AllKnown table.old (a ∷ b ∷ []) }
+    requires premises { AreSequents table.old (p.now ∷ []) }
+    requires kept { AreKept declared table.old kept.old }
+    ensures exact { IfOk result (IsAnswer LT_PRED table.old table.new hyps.now
+        (a ∷ b ∷ []) (p.now ∷ [])) }
+    ensures extends { Extends table.old table.new }
+    ensures kept { AreKept declared table.new kept.new }
+{
+    by_rule(alloc, table, kept, hyps, LT_PRED, &[a, b], &[p])
+}
+
+/// Words at most each other are equal.
+///
+/// `le_anti a b ; (ule a b), (ule b a) |- (eq a b)`
+pub fn le_anti(
+    alloc: Global,
+    table: &mut Table,
+    kept: &mut Kept,
+    hyps: &[Id],
+    a: Id,
+    b: Id,
+    p: &Sequent,
+    q: &Sequent,
+) -> Result<Option<Sequent>, AllocError>
+    requires hyps { AllKnown table.old hyps.now }
+    requires params { AllKnown table.old (a ∷ b ∷ []) }
+    requires premises { AreSequents table.old (p.now ∷ q.now ∷ []) }
+    requires kept { AreKept declared table.old kept.old }
+    ensures exact { IfOk result (IsAnswer LE_ANTI table.old table.new hyps.now
+        (a ∷ b ∷ []) (p.now ∷ q.now ∷ [])) }
+    ensures extends { Extends table.old table.new }
+    ensures kept { AreKept declared table.new kept.new }
+{
+    by_rule(alloc, table, kept, hyps, LE_ANTI, &[a, b], &[p, q])
+}
+
+/// What is not less is at least.
+///
+/// `not_lt a b ; (not (ult a b)) |- (ule b a)`
+pub fn not_lt(
+    alloc: Global,
+    table: &mut Table,
+    kept: &mut Kept,
+    hyps: &[Id],
+    a: Id,
+    b: Id,
+    p: &Sequent,
+) -> Result<Option<Sequent>, AllocError>
+    requires hyps { AllKnown table.old hyps.now }
+    requires params { AllKnown table.old (a ∷ b ∷ []) }
+    requires premises { AreSequents table.old (p.now ∷ []) }
+    requires kept { AreKept declared table.old kept.old }
+    ensures exact { IfOk result (IsAnswer NOT_LT table.old table.new hyps.now
+        (a ∷ b ∷ []) (p.now ∷ [])) }
+    ensures extends { Extends table.old table.new }
+    ensures kept { AreKept declared table.new kept.new }
+{
+    by_rule(alloc, table, kept, hyps, NOT_LT, &[a, b], &[p])
+}
+
+/// No word is less than itself.
+///
+/// `lt_irr a ; (ult a a) |- ff`
+pub fn lt_irr(
+    alloc: Global,
+    table: &mut Table,
+    kept: &mut Kept,
+    hyps: &[Id],
+    a: Id,
+    p: &Sequent,
+) -> Result<Option<Sequent>, AllocError>
+    requires hyps { AllKnown table.old hyps.now }
+    requires params { AllKnown table.old (a ∷ []) }
+    requires premises { AreSequents table.old (p.now ∷ []) }
+    requires kept { AreKept declared table.old kept.old }
+    ensures exact { IfOk result (IsAnswer LT_IRR table.old table.new hyps.now
+        (a ∷ []) (p.now ∷ [])) }
+    ensures extends { Extends table.old table.new }
+    ensures kept { AreKept declared table.new kept.new }
+{
+    by_rule(alloc, table, kept, hyps, LT_IRR, &[a], &[p])
+}
+
+/// Sums keep the order where the greater one does not wrap.
+///
+/// `add_le a b c d ; (ule a c), (ule b d), (ule c (add c d)) |- (ule (add a b) (add c d))`
+pub fn add_le(
+    alloc: Global,
+    table: &mut Table,
+    kept: &mut Kept,
+    hyps: &[Id],
+    a: Id,
+    b: Id,
+    c: Id,
+    d: Id,
+    p: &Sequent,
+    q: &Sequent,
+    r: &Sequent,
+) -> Result<Option<Sequent>, AllocError>
+    requires hyps { AllKnown table.old hyps.now }
+    requires params { AllKnown table.old (a ∷ b ∷ c ∷ d ∷ []) }
+    requires premises { AreSequents table.old (p.now ∷ q.now ∷ r.now ∷ []) }
+    requires kept { AreKept declared table.old kept.old }
+    ensures exact { IfOk result (IsAnswer ADD_LE table.old table.new hyps.now
+        (a ∷ b ∷ c ∷ d ∷ []) (p.now ∷ q.now ∷ r.now ∷ [])) }
+    ensures extends { Extends table.old table.new }
+    ensures kept { AreKept declared table.new kept.new }
+{
+    by_rule(alloc, table, kept, hyps, ADD_LE, &[a, b, c, d], &[p, q, r])
+}

@@ -1,0 +1,112 @@
+//! The rules of the quantifiers over words and over memories.
+//!
+//! Each function answers the sequent of its rule's conclusion exactly where the parameters and the
+//! premises have the rule's form, else None. Errors: want of memory alone; each id keeps its tree.
+
+ghost use Rattle.std.specs.Prelude.{◌≡◌, [], ◌∷◌, IfOk};
+ghost use Rattle.term_table.specs.Table.{AllKnown, Extends};
+ghost use Rattle.lf_signature.specs.Sigma1.{declared};
+ghost use Rattle.lf_check.specs.Inside.Kept.{AreKept};
+ghost use Rattle.lf_rules.specs.Sequents.{AreSequents};
+ghost use Rattle.lf_rules.specs.Answers.{IsAnswer};
+ghost use Rattle.proof_kit.specs.declared.numbers.TheConstants.{ALLM_E, ALLM_I, ALL_E, ALL_I};
+
+use crate::numbers::{ALL_E, ALL_I, ALLM_E, ALLM_I};
+use lf_check::Kept;
+use lf_rules::{Sequent, by_rule};
+use std::alloc::{AllocError, Global};
+use term_table::{Id, Table};
+
+/// What is proved of any word holds of all.
+///
+/// `all_i F ; [x] F x |- (all F)`
+pub fn all_i(
+    alloc: Global,
+    table: &mut Table,
+    kept: &mut Kept,
+    hyps: &[Id],
+    f: Id,
+    p: &Sequent,
+) -> Result<Option<Sequent>, AllocError>
+    requires hyps { AllKnown table.old hyps.now }
+    requires params { AllKnown table.old (f ∷ []) }
+    requires premises { AreSequents table.old (p.now ∷ []) }
+    requires kept { AreKept declared table.old kept.old }
+    ensures exact { IfOk result (IsAnswer ALL_I table.old table.new hyps.now
+        (f ∷ []) (p.now ∷ [])) }
+    ensures extends { Extends table.old table.new }
+    ensures kept { AreKept declared table.new kept.new }
+{
+    by_rule(alloc, table, kept, hyps, ALL_I, &[f], &[p])
+}
+
+/// What holds of all words holds of one.
+///
+/// `all_e F a ; (all F) |- F a`
+pub fn all_e(
+    alloc: Global,
+    table: &mut Table,
+    kept: &mut Kept,
+    hyps: &[Id],
+    f: Id,
+    a: Id,
+    p: &Sequent,
+) -> Result<Option<Sequent>, AllocError>
+    requires hyps { AllKnown table.old hyps.now }
+    requires params { AllKnown table.old (f ∷ a ∷ []) }
+    requires premises { AreSequents table.old (p.now ∷ []) }
+    requires kept { AreKept declared table.old kept.old }
+    ensures exact { IfOk result (IsAnswer ALL_E table.old table.new hyps.now
+        (f ∷ a ∷ []) (p.now ∷ [])) }
+    ensures extends { Extends table.old table.new }
+    ensures kept { AreKept declared table.new kept.new }
+{
+    by_rule(alloc, table, kept, hyps, ALL_E, &[f, a], &[p])
+}
+
+/// What is proved of any memory holds of all.
+///
+/// `allm_i G ; [m] G m |- (allm G)`
+pub fn allm_i(
+    alloc: Global,
+    table: &mut Table,
+    kept: &mut Kept,
+    hyps: &[Id],
+    g: Id,
+    p: &Sequent,
+) -> Result<Option<Sequent>, AllocError>
+    requires hyps { AllKnown table.old hyps.now }
+    requires params { AllKnown table.old (g ∷ []) }
+    requires premises { AreSequents table.old (p.now ∷ []) }
+    requires kept { AreKept declared table.old kept.old }
+    ensures exact { IfOk result (IsAnswer ALLM_I table.old table.new hyps.now
+        (g ∷ []) (p.now ∷ [])) }
+    ensures extends { Extends table.old table.new }
+    ensures kept { AreKept declared table.new kept.new }
+{
+    by_rule(alloc, table, kept, hyps, ALLM_I, &[g], &[p])
+}
+
+/// What holds of all memories holds of one.
+///
+/// `allm_e G m ; (allm G) |- G m`
+pub fn allm_e(
+    alloc: Global,
+    table: &mut Table,
+    kept: &mut Kept,
+    hyps: &[Id],
+    g: Id,
+    m: Id,
+    p: &Sequent,
+) -> Result<Option<Sequent>, AllocError>
+    requires hyps { AllKnown table.old hyps.now }
+    requires params { AllKnown table.old (g ∷ m ∷ []) }
+    requires premises { AreSequents table.old (p.now ∷ []) }
+    requires kept { AreKept declared table.old kept.old }
+    ensures exact { IfOk result (IsAnswer ALLM_E table.old table.new hyps.now
+        (g ∷ m ∷ []) (p.now ∷ [])) }
+    ensures extends { Extends table.old table.new }
+    ensures kept { AreKept declared table.new kept.new }
+{
+    by_rule(alloc, table, kept, hyps, ALLM_E, &[g, m], &[p])
+}
