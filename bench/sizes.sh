@@ -6,12 +6,18 @@ cd "$(dirname "${BASH_SOURCE[0]}")/../crates"
 
 # The lines of the files below a folder whose names match, or 0.
 lines_of() {
-  { find "$1" -type f -name "$2" ! -name "${3-}" -exec cat {} + 2> /dev/null || true; } | wc -l
+  { find "$1" -type f -name "$2" -exec cat {} + 2> /dev/null || true; } | wc -l
+}
+
+# The lines of the files of tests, and of what several of them use.
+test_lines_of() {
+  echo $(($(lines_of "$1" '*tests.rt') + $(lines_of "$1" 'test_*.rt')))
 }
 
 # How many lines of the crate's code match, its test files included or not.
 count_of() {
-  { find "$1/src" -type f -name '*.rt' ! -name "${3-}" -exec cat {} + || true; } | grep -cE "$2" || true
+  { find "$1/src" -type f -name '*.rt' ! -name "${3-}" ! -name "${4-}" -exec cat {} + || true; } |
+    grep -cE "$2" || true
 }
 
 edits_of() {
@@ -22,9 +28,11 @@ echo '| crate | src | test files | specs | proofs | functions | clauses | tests 
 echo '|---|---|---|---|---|---|---|---|---|'
 sed 's/#.*//; s/:.*//' ../crates.txt | grep . | while read -r crate _; do
   echo "$crate" \
-    "$(lines_of "$crate/src" '*.rt' '*tests.rt')" "$(lines_of "$crate/src" '*tests.rt')" \
+    "$(($(lines_of "$crate/src" '*.rt') - $(test_lines_of "$crate/src")))" \
+    "$(test_lines_of "$crate/src")" \
     "$(lines_of "$crate/specs" '*.antt')" "$(lines_of "$crate/proofs" '*.antt')" \
-    "$(count_of "$crate" '^ *(pub )?fn ' '*tests.rt')" "$(count_of "$crate" '^ *ensures' '*tests.rt')" \
+    "$(count_of "$crate" '^ *(pub )?fn ' '*tests.rt' 'test_*.rt')" \
+    "$(count_of "$crate" '^ *ensures' '*tests.rt' 'test_*.rt')" \
     "$(count_of "$crate" '#\[test\]')" "$(edits_of "$crate")"
 done | awk '{
   printf "| %s |", $1
