@@ -1,0 +1,18 @@
+-- The class gives the worked goals their proofs.
+use Rattle.std.proofs.Common.{refl}
+use Rattle.easy_class.specs.NormalForms.{normalized}
+use Rattle.easy_class.specs.Worked.{AreWorked, small_rows}
+use Rattle.easy_class.specs.WorkedReturns.{return_rows, t0_part, row_18_part, row_1_part}
+use Rattle.easy_class.specs.WorkedLoads.{load_rows, row_6_part, row_5_part, row_19_0_part, row_19_1_part, row_21_part}
+
+pub small_worked : AreWorked small_rows
+unfolding normalized small_rows
+small_worked = (refl, (refl, (refl, (refl, (refl, (refl, (refl, (refl, (refl, (refl, (refl, (refl, (refl, (refl, tt))))))))))))))
+
+pub returns_worked : AreWorked return_rows
+unfolding normalized return_rows t0_part row_18_part row_1_part
+returns_worked = (refl, (refl, (refl, tt)))
+
+pub loads_worked : AreWorked load_rows
+unfolding normalized load_rows row_6_part row_5_part row_19_0_part row_19_1_part row_21_part
+loads_worked = (refl, (refl, (refl, (refl, (refl, tt)))))

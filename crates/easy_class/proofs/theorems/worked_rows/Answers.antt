@@ -1,0 +1,9 @@
+use Rattle.easy_class.proofs.Rows.{small_worked, returns_worked, loads_worked}
+use Rattle.easy_class.proofs.theorems.worked_rows.Goals as goal
+
+pub returns : goal.returns
+returns c = record {
+  small = small_worked;
+  code_that_returns = returns_worked;
+  code_that_loads = loads_worked;
+}

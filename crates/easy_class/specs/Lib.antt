@@ -1,0 +1,10 @@
+pub mod ProofTerms
+pub mod Hypotheses
+pub mod Bounds
+pub mod NormalForms
+pub mod Goals
+pub mod Parts
+pub mod Access
+pub mod Worked
+pub mod WorkedReturns
+pub mod WorkedLoads
