@@ -1,1 +1,15 @@
+mod Scope
+mod Proved
+mod Encoded
+mod Typed
+mod Uses
+mod Named
+mod Hypotheses
+mod Shapes
+mod Bounds
+mod Goals
+mod NormalForms
+mod Access
+mod Parts
+mod Laws
 mod Rows

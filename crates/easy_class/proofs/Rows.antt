@@ -7,7 +7,7 @@ use Rattle.easy_class.specs.WorkedLoads.{load_rows, row_6_part, row_5_part, row_
 
 pub small_worked : AreWorked small_rows
 unfolding normalized small_rows
-small_worked = (refl, (refl, (refl, (refl, (refl, (refl, (refl, (refl, (refl, (refl, (refl, (refl, (refl, (refl, tt))))))))))))))
+small_worked = (refl, (refl, (refl, (refl, (refl, (refl, (refl, (refl, (refl, (refl, (refl, (refl, (refl, (refl, (refl, tt)))))))))))))))
 
 pub returns_worked : AreWorked return_rows
 unfolding normalized return_rows t0_part row_18_part row_1_part

@@ -1,8 +1,32 @@
-//! The class against another implementation of it.
+//! What the class gives: proofs, and those of another implementation.
 
+ghost use Rattle.std.specs.Prelude.{◌≡◌, ◌≤◌, ◌^◌, ◌↔◌, ℕ, List, [], Some, None};
+ghost use Rattle.term_table.specs.Tree.{Tree};
+ghost use Rattle.lf_signature.specs.Terms.{pf};
+ghost use Rattle.lf_signature.specs.Typing.{Checks};
+ghost use Rattle.lf_signature.specs.Sigma1.{declared};
+ghost use Rattle.formula_tree.specs.Formulas.{Form};
+ghost use Rattle.formula_tree.specs.Scope.{IsOver};
+ghost use Rattle.formula_tree.specs.Sizes.{form_height};
+ghost use Rattle.lf_encode.specs.Encoding.{form_encoding};
+ghost use Rattle.easy_class.specs.Parts.{conjoined, condition_proof, first_not_easy};
+ghost use Rattle.easy_class.specs.Access.{by_all_means};
 ghost use Rattle.easy_class.specs.Worked.{AreWorked, small_rows};
 ghost use Rattle.easy_class.specs.WorkedReturns.{return_rows};
 ghost use Rattle.easy_class.specs.WorkedLoads.{load_rows};
+
+/// The class is sound: what it gives a closed condition is a proof of it, a term of that type by the
+/// typing derivations, where the condition's height is at most 2^29. It gives one exactly where no
+/// part is the first that isn't easy, wherever their numbers begin.
+pub fn class_laws()
+    ensures sound { (parts : List Form) (p : Tree) → IsOver 0 (conjoined parts) []
+        → form_height (conjoined parts) ≤ 2 ^ 29
+        → condition_proof by_all_means parts ≡ Some p
+        → Checks declared [] p (pf (form_encoding (conjoined parts))) }
+    ensures exact { (parts : List Form) (n : ℕ) →
+        (first_not_easy by_all_means n parts ≡ None)
+        ↔ ((p : Tree) × (condition_proof by_all_means parts ≡ Some p)) }
+{}
 
 /// What an independent implementation gives goals and parts of conditions, the class gives them: that
 /// proof, term for term, or none.
