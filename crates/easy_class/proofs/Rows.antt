@@ -4,10 +4,14 @@ use Rattle.easy_class.specs.NormalForms.{normalized}
 use Rattle.easy_class.specs.Worked.{AreWorked, small_rows}
 use Rattle.easy_class.specs.WorkedReturns.{return_rows, t0_part, row_18_part, row_1_part}
 use Rattle.easy_class.specs.WorkedLoads.{load_rows, row_6_part, row_5_part, row_19_0_part, row_19_1_part, row_21_part}
+use Rattle.easy_class.specs.WorkedShapes.{shape_rows}
+use Rattle.easy_class.specs.WorkedForms.{form_rows}
+use Rattle.easy_class.specs.WorkedBounds.{bound_rows}
+use Rattle.easy_class.specs.WorkedAccess.{access_rows}
 
 pub small_worked : AreWorked small_rows
 unfolding normalized small_rows
-small_worked = (refl, (refl, (refl, (refl, (refl, (refl, (refl, (refl, (refl, (refl, (refl, (refl, (refl, (refl, (refl, tt)))))))))))))))
+small_worked = (refl, (refl, (refl, (refl, (refl, (refl, (refl, (refl, (refl, (refl, (refl, (refl, (refl, (refl, tt))))))))))))))
 
 pub returns_worked : AreWorked return_rows
 unfolding normalized return_rows t0_part row_18_part row_1_part
@@ -16,3 +20,19 @@ returns_worked = (refl, (refl, (refl, tt)))
 pub loads_worked : AreWorked load_rows
 unfolding normalized load_rows row_6_part row_5_part row_19_0_part row_19_1_part row_21_part
 loads_worked = (refl, (refl, (refl, (refl, (refl, tt)))))
+
+pub shapes_worked : AreWorked shape_rows
+unfolding normalized shape_rows
+shapes_worked = (refl, (refl, (refl, (refl, (refl, (refl, (refl, (refl, (refl, (refl, (refl, (refl, (refl, (refl, (refl, (refl, (refl, (refl, (refl, (refl, (refl, (refl, (refl, (refl, (refl, tt)))))))))))))))))))))))))
+
+pub forms_worked : AreWorked form_rows
+unfolding normalized form_rows
+forms_worked = (refl, (refl, (refl, (refl, (refl, (refl, (refl, (refl, (refl, (refl, (refl, (refl, (refl, (refl, (refl, (refl, (refl, (refl, (refl, tt)))))))))))))))))))
+
+pub bounds_worked : AreWorked bound_rows
+unfolding normalized bound_rows
+bounds_worked = (refl, (refl, (refl, (refl, (refl, (refl, (refl, (refl, (refl, (refl, (refl, (refl, (refl, (refl, (refl, (refl, (refl, (refl, (refl, (refl, (refl, (refl, (refl, (refl, (refl, (refl, (refl, (refl, (refl, (refl, (refl, (refl, (refl, (refl, (refl, (refl, (refl, tt)))))))))))))))))))))))))))))))))))))
+
+pub access_worked : AreWorked access_rows
+unfolding normalized access_rows
+access_worked = (refl, (refl, (refl, (refl, (refl, (refl, (refl, (refl, (refl, (refl, (refl, (refl, (refl, (refl, (refl, (refl, (refl, (refl, (refl, (refl, (refl, (refl, (refl, tt)))))))))))))))))))))))

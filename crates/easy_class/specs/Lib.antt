@@ -8,3 +8,7 @@ pub mod Access
 pub mod Worked
 pub mod WorkedReturns
 pub mod WorkedLoads
+pub mod WorkedShapes
+pub mod WorkedForms
+pub mod WorkedBounds
+pub mod WorkedAccess

@@ -3,7 +3,7 @@ use Rattle.std.specs.Prelude.{◌≡◌, Option, Some, None, List, [], ◌∷◌
 use Rattle.term_table.specs.Tree.{Tree, Var, Con, App, Lam, Num, Lit, Calc, Fact}
 use Rattle.word_ops.specs.declared.Op.TheVariants.{Add, Sub, Band, Sll, Cmpeq, Cmpult}
 use Rattle.word_ops.specs.declared.Rel.TheVariants.{Eq, Ult, Ule}
-use Rattle.formula_tree.specs.Formulas.{EVar, ELit, EOp, Form, FTrue, FFalse, FRel, FRd, FWr, FAnd, FOr, FImp, FAll, FAllm}
+use Rattle.formula_tree.specs.Formulas.{EVar, ELit, EOp, Form, FFalse, FRel, FRd, FWr, FAnd, FImp, FAll, FAllm}
 use Rattle.easy_class.specs.Parts.{part_proof}
 use Rattle.easy_class.specs.Access.{by_all_means}
 
@@ -39,8 +39,6 @@ small_rows =
     ((FAll (FImp FFalse (FRel Eq (EVar 0) (ELit 0)))), Some (App (App (Con (Num 38)) (Lam (App (App (Con (Num 24)) (Con (Num 14))) (App (App (Con (Num 15)) (Var 0)) (Con (Lit 0)))))) (Lam (App (App (App (Con (Num 35)) (Con (Num 14))) (App (App (Con (Num 15)) (Var 0)) (Con (Lit 0)))) (Lam (App (App (Con (Num 28)) (App (App (Con (Num 15)) (Var 1)) (Con (Lit 0)))) (Var 0))))))) ∷
     -- a sum
     ((FAll (FAll (FRel Ule (EOp Add (EOp Band (EVar 1) (ELit 7)) (EOp Sll (EOp Band (EVar 0) (ELit 3)) (ELit 2))) (ELit 19)))), Some (App (App (Con (Num 38)) (Lam (App (Con (Num 25)) (Lam (App (App (Con (Num 17)) (App (App (Con (Num 0)) (App (App (Con (Num 2)) (Var 1)) (Con (Lit 7)))) (App (App (Con (Num 4)) (App (App (Con (Num 2)) (Var 0)) (Con (Lit 3)))) (Con (Lit 2))))) (Con (Lit 19))))))) (Lam (App (App (Con (Num 38)) (Lam (App (App (Con (Num 17)) (App (App (Con (Num 0)) (App (App (Con (Num 2)) (Var 1)) (Con (Lit 7)))) (App (App (Con (Num 4)) (App (App (Con (Num 2)) (Var 0)) (Con (Lit 3)))) (Con (Lit 2))))) (Con (Lit 19))))) (Lam (App (App (App (App (App (Con (Num 64)) (App (App (Con (Num 0)) (App (App (Con (Num 2)) (Var 1)) (Con (Lit 7)))) (App (App (Con (Num 4)) (App (App (Con (Num 2)) (Var 0)) (Con (Lit 3)))) (Con (Lit 2))))) (Con (Lit 19))) (Con (Lit 19))) (App (App (App (App (App (Con (Num 43)) (Lam (App (App (Con (Num 17)) (App (App (Con (Num 0)) (App (App (Con (Num 2)) (Var 2)) (Con (Lit 7)))) (App (App (Con (Num 4)) (App (App (Con (Num 2)) (Var 1)) (Con (Lit 3)))) (Con (Lit 2))))) (Var 0)))) (App (App (Con (Num 0)) (Con (Lit 7))) (Con (Lit 12)))) (Con (Lit 19))) (Con (Calc 0 7 12))) (App (App (App (App (App (App (App (Con (Num 72)) (App (App (Con (Num 2)) (Var 1)) (Con (Lit 7)))) (App (App (Con (Num 4)) (App (App (Con (Num 2)) (Var 0)) (Con (Lit 3)))) (Con (Lit 2)))) (Con (Lit 7))) (Con (Lit 12))) (App (App (App (App (App (Con (Num 64)) (App (App (Con (Num 2)) (Var 1)) (Con (Lit 7)))) (Con (Lit 7))) (Con (Lit 7))) (App (App (Con (Num 54)) (Var 1)) (Con (Lit 7)))) (App (Con (Num 63)) (Con (Lit 7))))) (App (App (App (App (App (Con (Num 43)) (Lam (App (App (Con (Num 17)) (App (App (Con (Num 4)) (App (App (Con (Num 2)) (Var 1)) (Con (Lit 3)))) (Con (Lit 2)))) (Var 0)))) (App (App (Con (Num 4)) (Con (Lit 3))) (Con (Lit 2)))) (Con (Lit 12))) (Con (Calc 4 3 2))) (App (App (App (App (App (Con (Num 60)) (App (App (Con (Num 2)) (Var 0)) (Con (Lit 3)))) (Con (Lit 3))) (Con (Lit 2))) (App (App (App (App (App (Con (Num 64)) (App (App (Con (Num 2)) (Var 0)) (Con (Lit 3)))) (Con (Lit 3))) (Con (Lit 3))) (App (App (Con (Num 54)) (Var 0)) (Con (Lit 3)))) (App (Con (Num 63)) (Con (Lit 3))))) (App (App (App (App (App (Con (Num 43)) (Lam (App (App (Con (Num 17)) (Con (Lit 3))) (Var 0)))) (Con (Lit 4611686018427387903))) (App (App (Con (Num 5)) (Con (Lit 18446744073709551615))) (Con (Lit 2)))) (App (App (App (App (App (Con (Num 43)) (Lam (App (App (Con (Num 15)) (Var 0)) (App (App (Con (Num 5)) (Con (Lit 18446744073709551615))) (Con (Lit 2)))))) (App (App (Con (Num 5)) (Con (Lit 18446744073709551615))) (Con (Lit 2)))) (Con (Lit 4611686018427387903))) (Con (Calc 5 18446744073709551615 2))) (App (Con (Num 42)) (App (App (Con (Num 5)) (Con (Lit 18446744073709551615))) (Con (Lit 2)))))) (Con (Fact 2 3 4611686018427387903)))))) (App (App (App (App (App (Con (Num 43)) (Lam (App (App (Con (Num 17)) (Con (Lit 7))) (Var 0)))) (Con (Lit 19))) (App (App (Con (Num 0)) (Con (Lit 7))) (Con (Lit 12)))) (App (App (App (App (App (Con (Num 43)) (Lam (App (App (Con (Num 15)) (Var 0)) (App (App (Con (Num 0)) (Con (Lit 7))) (Con (Lit 12)))))) (App (App (Con (Num 0)) (Con (Lit 7))) (Con (Lit 12)))) (Con (Lit 19))) (Con (Calc 0 7 12))) (App (Con (Num 42)) (App (App (Con (Num 0)) (Con (Lit 7))) (Con (Lit 12)))))) (Con (Fact 2 7 19)))))) (App (App (App (App (App (Con (Num 64)) (Con (Lit 19))) (Con (Lit 19))) (Con (Lit 19))) (Con (Fact 2 19 19))) (App (Con (Num 63)) (Con (Lit 19)))))))))) ∷
-    -- either side, by hand: the left one
-    (FOr FTrue FTrue, Some (App (App (App (Con (Num 32)) (Con (Num 13))) (Con (Num 13))) (Con (Num 27)))) ∷
     -- none
     ((FAll (FRel Ult (EVar 0) (ELit 8))), None) ∷
     -- none: 64 below a word that is at least 64

@@ -14,6 +14,10 @@ ghost use Rattle.easy_class.specs.Access.{by_all_means};
 ghost use Rattle.easy_class.specs.Worked.{AreWorked, small_rows};
 ghost use Rattle.easy_class.specs.WorkedReturns.{return_rows};
 ghost use Rattle.easy_class.specs.WorkedLoads.{load_rows};
+ghost use Rattle.easy_class.specs.WorkedShapes.{shape_rows};
+ghost use Rattle.easy_class.specs.WorkedForms.{form_rows};
+ghost use Rattle.easy_class.specs.WorkedBounds.{bound_rows};
+ghost use Rattle.easy_class.specs.WorkedAccess.{access_rows};
 
 /// The class is sound: what it gives a closed condition is a proof of it, a term of that type by the
 /// typing derivations, where the condition's height is at most 2^29. It gives one exactly where no
@@ -28,10 +32,14 @@ pub fn class_laws()
         ↔ ((p : Tree) × (condition_proof by_all_means parts ≡ Some p)) }
 {}
 
-/// What an independent implementation gives goals and parts of conditions, the class gives them: that
-/// proof, term for term, or none.
+/// What a second implementation gives goals and parts of conditions, the class gives them: that proof,
+/// term for term, or none. An independent one makes the same containers of nearly all of these goals.
 pub fn worked_rows()
     ensures small { AreWorked small_rows }
     ensures code_that_returns { AreWorked return_rows }
     ensures code_that_loads { AreWorked load_rows }
+    ensures shapes { AreWorked shape_rows }
+    ensures forms { AreWorked form_rows }
+    ensures bounds { AreWorked bound_rows }
+    ensures access { AreWorked access_rows }
 {}

@@ -1,4 +1,4 @@
-use Rattle.easy_class.proofs.Rows.{small_worked, returns_worked, loads_worked}
+use Rattle.easy_class.proofs.Rows.{small_worked, returns_worked, loads_worked, shapes_worked, forms_worked, bounds_worked, access_worked}
 use Rattle.easy_class.proofs.theorems.worked_rows.Goals as goal
 
 pub returns : goal.returns
@@ -6,4 +6,8 @@ returns c = record {
   small = small_worked;
   code_that_returns = returns_worked;
   code_that_loads = loads_worked;
+  shapes = shapes_worked;
+  forms = forms_worked;
+  bounds = bounds_worked;
+  access = access_worked;
 }
