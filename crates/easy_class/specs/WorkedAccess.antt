@@ -851,86 +851,86 @@ at280 = Lam (App at252 (App (Con (Num 20)) (App at275 (Var 0))))
 -- each after what it is about
 unfoldable pub access_rows : List (Form × Option Tree)
 access_rows =
-    -- G7 plain
+    -- access: plain
     (
       (FAllm (FAll (FAll (FImp (FRd (EOp Add (EVar 0) (ELit 8))) (FRd (EOp Add (ELit 8) (EVar 0))))))),
       Some (App (App (Con (Num 40)) (Lam (App (Con (Num 25)) at6))) (Lam (App (App (Con (Num 38)) at6) (Lam (App (App (Con (Num 38)) at5) (Lam (App (App (App (Con (Num 35)) at1) at4) (Lam (App (App (App (App at7 at8) at9) at13) (Var 0)))))))))),
     ) ∷
-    -- G7 wr
+    -- access: wr
     (
       (FAllm (FAll (FAll (FImp (FWr (EOp Add (EVar 0) (ELit 8))) (FWr (EOp Add (ELit 8) (EVar 0))))))),
       Some (App (App (Con (Num 40)) (Lam (App (Con (Num 25)) at17))) (Lam (App (App (Con (Num 38)) at17) (Lam (App (App (Con (Num 38)) at16) (Lam (App (App (App (Con (Num 35)) at14) at15) (Lam (App (App (App (App at18 at8) at9) at13) (Var 0)))))))))),
     ) ∷
-    -- G7 imp
+    -- access: imp
     (
       (FAllm (FAll (FAll (FAll (FAll (FImp (FAnd (FRel Ule (EVar 2) (ELit 5)) (FImp (FRel Ule (EVar 2) (ELit 6)) (FAnd (FWr (EVar 0)) (FRd (EVar 1))))) (FRd (EOp Add (EVar 1) (ELit 0))))))))),
       Some (App (App (Con (Num 40)) (Lam (App (Con (Num 25)) at24))) (Lam (App (App (Con (Num 38)) at24) (Lam (App (App (Con (Num 38)) at23) (Lam (App (App (Con (Num 38)) at22) (Lam (App (App (Con (Num 38)) at21) (Lam (App (App (App (Con (Num 35)) at19) at20) (Lam (App at30 (App (App (App (Con (Num 31)) (App (Con (Num 21)) (Var 1))) (App (Con (Num 20)) (Var 2))) (App (App (App (App (Con (Num 36)) at31) at32) (App (App (App (Con (Num 31)) at33) at34) (Var 0))) (App (App (App (App (App (Con (Num 64)) (Var 3)) (Con (Lit 5))) (Con (Lit 6))) (App (App (App (Con (Num 30)) at33) at34) (Var 0))) (App (App (App (App (App (Con (Num 64)) (Con (Lit 5))) (Con (Lit 6))) (Con (Lit 6))) (Con (Fact 2 5 6))) (App (Con (Num 63)) (Con (Lit 6)))))))))))))))))))),
     ) ∷
-    -- G7 imp premise missing: none
+    -- access: imp premise missing: none
     ((FAllm (FAll (FAll (FAll (FImp (FImp (FRel Ule (EVar 1) (ELit 6)) (FRd (EVar 0))) (FRd (EOp Add (EVar 0) (ELit 0)))))))), None) ∷
-    -- G7 imp of imp is none: none
+    -- access: imp of imp: none
     ((FAllm (FAll (FAll (FAll (FAll (FAll (FAll (FAll (FAll (FAll (FAll (FImp (FAnd (FRd (EVar 0)) (FImp FTrue (FImp FTrue (FRd (EVar 7))))) (FRd (EOp Add (EVar 7) (ELit 0))))))))))))))), None) ∷
-    -- G7 premise by G1
+    -- access: premise by a hypothesis
     (
       (FAllm (FAll (FAll (FAll (FAll (FImp (FAnd (FRd (EOp Add (EVar 0) (ELit 8))) (FImp (FRd (EOp Add (EVar 0) (ELit 8))) (FRd (EVar 1)))) (FRd (EOp Add (EVar 1) (ELit 0))))))))),
       Some (App (App (Con (Num 40)) (Lam (App (Con (Num 25)) at39))) (Lam (App (App (Con (Num 38)) at39) (Lam (App (App (Con (Num 38)) at38) (Lam (App (App (Con (Num 38)) at37) (Lam (App (App (Con (Num 38)) at36) (Lam (App (App (App (Con (Num 35)) at35) at20) (Lam (App at30 (App (App (App (App (Con (Num 36)) at40) (App (Con (Num 20)) (Var 2))) (App (App (App (Con (Num 31)) at40) at41) (Var 0))) (App (App (App (Con (Num 30)) at40) at41) (Var 0)))))))))))))))),
     ) ∷
-    -- G7 all first form
+    -- access: all first form
     (
       (FAllm (FAll (FAll (FAll (FAll (FAll (FAll (FAll (FAll (FAll (FAll (FAll (FAll (FAll (FAll (FAll (FAll (FAll (FAll (FImp (FAnd (FAll (FImp (FAnd (FRel Ult (EVar 0) (EVar 1)) (FRel Eq (EOp Band (EVar 0) (ELit 7)) (ELit 0))) (FRd (EOp Add (EVar 2) (EVar 0))))) (FRel Ule (ELit 64) (EVar 0))) (FRd (EOp Add (EVar 1) (ELit 8))))))))))))))))))))))),
       Some (App (App (Con (Num 40)) (Lam (App (Con (Num 25)) at65))) (Lam (App (App (Con (Num 38)) at65) (Lam (App (App (Con (Num 38)) at64) (Lam (App (App (Con (Num 38)) at63) (Lam (App (App (Con (Num 38)) at62) (Lam (App (App (Con (Num 38)) at61) (Lam (App (App (Con (Num 38)) at60) (Lam (App (App (Con (Num 38)) at59) (Lam (App (App (Con (Num 38)) at58) (Lam (App (App (Con (Num 38)) at57) (Lam (App (App (Con (Num 38)) at56) (Lam (App (App (Con (Num 38)) at55) (Lam (App (App (Con (Num 38)) at54) (Lam (App (App (Con (Num 38)) at53) (Lam (App (App (Con (Num 38)) at52) (Lam (App (App (Con (Num 38)) at51) (Lam (App (App (Con (Num 38)) at50) (Lam (App (App (Con (Num 38)) at49) (Lam (App (App (Con (Num 38)) at48) (Lam (App (App at66 at40) (Lam (App (App (App (App at7 at10) at10) (App (App (App (App (App (Con (Num 43)) (Lam (App (App (Con (Num 15)) at67) (Var 0)))) at10) at10) (App (App (App (App (App (Con (Num 43)) (Lam (App (App (Con (Num 15)) (Var 0)) at67))) at10) at10) at68) at68)) at68)) (App (App (App (App (Con (Num 36)) (App (App (Con (Num 22)) at69) at70)) (App (Con (Num 20)) at10)) (App (App at73 (Con (Lit 8))) at77)) (App (App (App (App (Con (Num 29)) at69) at70) (App (App (App (App (App (Con (Num 66)) (Con (Lit 8))) (Con (Lit 64))) (Var 1)) (App (App (App (App (App (Con (Num 67)) (Con (Lit 8))) (Con (Lit 8))) (Con (Lit 64))) (App (Con (Num 63)) (Con (Lit 8)))) (Con (Fact 1 8 64)))) at79)) (Con (Calc 2 8 7))))))))))))))))))))))))))))))))))))))))))))),
     ) ∷
-    -- G7 all at the end
+    -- access: all at the end
     (
       (FAllm (FAll (FAll (FAll (FAll (FAll (FAll (FAll (FAll (FAll (FAll (FAll (FAll (FAll (FAll (FAll (FAll (FAll (FAll (FImp (FAnd (FAll (FImp (FAnd (FRel Ult (EVar 0) (EVar 1)) (FRel Eq (EOp Band (EVar 0) (ELit 7)) (ELit 0))) (FRd (EOp Add (EVar 2) (EVar 0))))) (FRel Ule (ELit 64) (EVar 0))) (FRd (EOp Add (EVar 1) (ELit 56))))))))))))))))))))))),
       Some (App (App (Con (Num 40)) (Lam (App (Con (Num 25)) at98))) (Lam (App (App (Con (Num 38)) at98) (Lam (App (App (Con (Num 38)) at97) (Lam (App (App (Con (Num 38)) at96) (Lam (App (App (Con (Num 38)) at95) (Lam (App (App (Con (Num 38)) at94) (Lam (App (App (Con (Num 38)) at93) (Lam (App (App (Con (Num 38)) at92) (Lam (App (App (Con (Num 38)) at91) (Lam (App (App (Con (Num 38)) at90) (Lam (App (App (Con (Num 38)) at89) (Lam (App (App (Con (Num 38)) at88) (Lam (App (App (Con (Num 38)) at87) (Lam (App (App (Con (Num 38)) at86) (Lam (App (App (Con (Num 38)) at85) (Lam (App (App (Con (Num 38)) at84) (Lam (App (App (Con (Num 38)) at83) (Lam (App (App (Con (Num 38)) at82) (Lam (App (App (Con (Num 38)) at81) (Lam (App (App at66 at80) (Lam (App (App (App (App at7 at99) at99) (App (App (App (App (App (Con (Num 43)) (Lam (App (App (Con (Num 15)) at100) (Var 0)))) at99) at99) (App (App (App (App (App (Con (Num 43)) (Lam (App (App (Con (Num 15)) (Var 0)) at100))) at99) at99) at101) at101)) at101)) (App (App (App (App (Con (Num 36)) (App (App (Con (Num 22)) at102) at103)) (App (Con (Num 20)) at99)) (App (App at73 (Con (Lit 56))) at77)) (App (App (App (App (Con (Num 29)) at102) at103) (App (App (App (App (App (Con (Num 66)) (Con (Lit 56))) (Con (Lit 64))) (Var 1)) (App (App (App (App (App (Con (Num 67)) (Con (Lit 56))) (Con (Lit 56))) (Con (Lit 64))) (App (Con (Num 63)) (Con (Lit 56)))) (Con (Fact 1 56 64)))) at79)) (Con (Calc 2 56 7))))))))))))))))))))))))))))))))))))))))))))),
     ) ∷
-    -- G7 all not aligned: none
+    -- access: all not aligned: none
     ((FAllm (FAll (FAll (FAll (FAll (FAll (FAll (FAll (FAll (FAll (FAll (FAll (FAll (FAll (FAll (FAll (FAll (FAll (FAll (FImp (FAnd (FAll (FImp (FAnd (FRel Ult (EVar 0) (EVar 1)) (FRel Eq (EOp Band (EVar 0) (ELit 7)) (ELit 0))) (FRd (EOp Add (EVar 2) (EVar 0))))) (FRel Ule (ELit 64) (EVar 0))) (FRd (EOp Add (EVar 1) (ELit 4))))))))))))))))))))))), None) ∷
-    -- G7 all rest 0
+    -- access: all rest 0
     (
       (FAllm (FAll (FAll (FAll (FAll (FAll (FAll (FAll (FAll (FAll (FAll (FAll (FAll (FAll (FAll (FAll (FAll (FAll (FAll (FImp (FAnd (FAll (FImp (FAnd (FRel Ult (EVar 0) (EVar 1)) (FRel Eq (EOp Band (EVar 0) (ELit 7)) (ELit 0))) (FRd (EOp Add (EVar 2) (EVar 0))))) (FRel Ule (ELit 64) (EVar 0))) (FRd (EVar 1)))))))))))))))))))))),
       Some (App (App (Con (Num 40)) (Lam (App (Con (Num 25)) at121))) (Lam (App (App (Con (Num 38)) at121) (Lam (App (App (Con (Num 38)) at120) (Lam (App (App (Con (Num 38)) at119) (Lam (App (App (Con (Num 38)) at118) (Lam (App (App (Con (Num 38)) at117) (Lam (App (App (Con (Num 38)) at116) (Lam (App (App (Con (Num 38)) at115) (Lam (App (App (Con (Num 38)) at114) (Lam (App (App (Con (Num 38)) at113) (Lam (App (App (Con (Num 38)) at112) (Lam (App (App (Con (Num 38)) at111) (Lam (App (App (Con (Num 38)) at110) (Lam (App (App (Con (Num 38)) at109) (Lam (App (App (Con (Num 38)) at108) (Lam (App (App (Con (Num 38)) at107) (Lam (App (App (Con (Num 38)) at106) (Lam (App (App (Con (Num 38)) at105) (Lam (App (App (Con (Num 38)) at104) (Lam (App (App at66 (App (Con (Num 20)) (Var 1))) (Lam (App (App (App (App at7 at25) (Var 2)) (App (App (App (App at27 (Var 2)) (Var 2)) (App (App (App (App (App (Con (Num 43)) (Lam (App (App (Con (Num 15)) (Var 0)) (Var 3)))) (Var 2)) (Var 2)) (App (Con (Num 42)) (Var 2))) (App (Con (Num 42)) (Var 2)))) at29)) (App (App (App (App (Con (Num 36)) (App (App (Con (Num 22)) at122) at123)) (App (Con (Num 20)) at25)) (App (App at73 (Con (Lit 0))) at77)) (App (App (App (App (Con (Num 29)) at122) at123) (App (App (App (App (App (Con (Num 66)) (Con (Lit 0))) (Con (Lit 64))) (Var 1)) (App (App (App (App (App (Con (Num 67)) (Con (Lit 0))) (Con (Lit 0))) (Con (Lit 64))) (App (Con (Num 63)) (Con (Lit 0)))) (Con (Fact 1 0 64)))) at79)) (Con (Calc 2 0 7))))))))))))))))))))))))))))))))))))))))))))),
     ) ∷
-    -- G7 all with a register
+    -- access: all with a register
     (
       (FAllm (FAll (FAll (FAll (FAll (FAll (FAll (FAll (FAll (FAll (FAll (FAll (FAll (FAll (FAll (FAll (FAll (FAll (FAll (FImp (FAnd (FAll (FImp (FAnd (FRel Ult (EVar 0) (EVar 1)) (FRel Eq (EOp Band (EVar 0) (ELit 7)) (ELit 0))) (FRd (EOp Add (EVar 2) (EVar 0))))) (FAnd (FRel Ult (EVar 14) (EVar 0)) (FRel Eq (EOp Band (EVar 14) (ELit 7)) (ELit 0)))) (FRd (EOp Add (EVar 1) (EVar 14))))))))))))))))))))))),
       Some (App (App (Con (Num 40)) (Lam (App (Con (Num 25)) at144))) (Lam (App (App (Con (Num 38)) at144) (Lam (App (App (Con (Num 38)) at143) (Lam (App (App (Con (Num 38)) at142) (Lam (App (App (Con (Num 38)) at141) (Lam (App (App (Con (Num 38)) at140) (Lam (App (App (Con (Num 38)) at139) (Lam (App (App (Con (Num 38)) at138) (Lam (App (App (Con (Num 38)) at137) (Lam (App (App (Con (Num 38)) at136) (Lam (App (App (Con (Num 38)) at135) (Lam (App (App (Con (Num 38)) at134) (Lam (App (App (Con (Num 38)) at133) (Lam (App (App (Con (Num 38)) at132) (Lam (App (App (Con (Num 38)) at131) (Lam (App (App (Con (Num 38)) at130) (Lam (App (App (Con (Num 38)) at129) (Lam (App (App (Con (Num 38)) at128) (Lam (App (App (Con (Num 38)) at127) (Lam (App (App (App (Con (Num 35)) at125) at126) (Lam (App (App (App (App at7 at145) at145) (App (App (App (App at147 at148) at145) (App (App (App (App (App (Con (Num 43)) (Lam (App (App (Con (Num 15)) (Var 0)) at146))) at145) at148) at151) at150)) at151)) (App (App (App (App (Con (Num 36)) at154) (App (Con (Num 20)) at145)) (App (App at73 (Var 15)) (App (App at75 at154) (Var 0)))) (App (App (App (App (Con (Num 29)) at152) at153) (App (App (App (Con (Num 30)) at152) at153) at155)) (App (App (App (Con (Num 31)) at152) at153) at155)))))))))))))))))))))))))))))))))))))))))))),
     ) ∷
-    -- G7 all with a sum
+    -- access: all with a sum
     (
       (FAllm (FAll (FAll (FAll (FAll (FAll (FAll (FAll (FAll (FAll (FAll (FAll (FAll (FAll (FAll (FAll (FAll (FAll (FAll (FImp (FAnd (FAll (FImp (FAnd (FRel Ult (EVar 0) (EVar 1)) (FRel Eq (EOp Band (EVar 0) (ELit 7)) (ELit 0))) (FRd (EOp Add (EVar 2) (EVar 0))))) (FAnd (FRel Ult (EOp Add (EVar 14) (EVar 13)) (EVar 0)) (FAnd (FRel Eq (EOp Band (EVar 14) (ELit 7)) (ELit 0)) (FRel Eq (EOp Band (EVar 13) (ELit 7)) (ELit 0))))) (FRd (EOp Add (EVar 14) (EOp Add (EVar 1) (EVar 13)))))))))))))))))))))))),
       Some (App (App (Con (Num 40)) (Lam (App (Con (Num 25)) at175))) (Lam (App (App (Con (Num 38)) at175) (Lam (App (App (Con (Num 38)) at174) (Lam (App (App (Con (Num 38)) at173) (Lam (App (App (Con (Num 38)) at172) (Lam (App (App (Con (Num 38)) at171) (Lam (App (App (Con (Num 38)) at170) (Lam (App (App (Con (Num 38)) at169) (Lam (App (App (Con (Num 38)) at168) (Lam (App (App (Con (Num 38)) at167) (Lam (App (App (Con (Num 38)) at166) (Lam (App (App (Con (Num 38)) at165) (Lam (App (App (Con (Num 38)) at164) (Lam (App (App (Con (Num 38)) at163) (Lam (App (App (Con (Num 38)) at162) (Lam (App (App (Con (Num 38)) at161) (Lam (App (App (Con (Num 38)) at160) (Lam (App (App (Con (Num 38)) at159) (Lam (App (App (Con (Num 38)) at158) (Lam (App (App (App (Con (Num 35)) at156) at157) (Lam (App (App (App (App at7 at177) at179) (App (App (App (App at181 at183) at179) (App (App (App (App (App (Con (Num 43)) (Lam (App (App (Con (Num 15)) (Var 0)) at184))) at179) at183) (App (App (App (App (App (Con (Num 43)) (Lam (App (App (Con (Num 15)) at184) at185))) at178) at182) at186) at187)) at187)) (App (App (App (App (App (Con (Num 43)) (Lam (App at180 at185))) at178) at182) at186) (App (App (App (App at181 (App (App (Con (Num 0)) at148) (Var 14))) at179) (App (App (App (Con (Num 47)) (Var 15)) (Var 2)) (Var 14))) (App (App (App (App (App (Con (Num 43)) (Lam (App at180 (App (App (Con (Num 0)) (Var 0)) (Var 15))))) at145) at148) at149) (App (App (App (App at181 at177) at188) (App (App (App (App (App (Con (Num 43)) (Lam (App (App (Con (Num 15)) (Var 0)) (App (App (Con (Num 0)) at146) (Var 15))))) at188) at177) (App (App (App (Con (Num 47)) (Var 2)) (Var 15)) (Var 14))) (App (Con (Num 42)) at188))) (App (Con (Num 42)) at177))))))) (App (App (App (App (Con (Num 36)) (App at190 at191)) (App (Con (Num 20)) at177)) (App (App at73 at176) (App (App at75 at193) (Var 0)))) (App (App (App (App (Con (Num 29)) at189) at191) (App (App (App (Con (Num 30)) at189) at192) at194)) (App (App (App (App (Con (Num 57)) (Var 15)) (Var 14)) (App (App (App (Con (Num 30)) at153) at124) at195)) (App (App (App (Con (Num 31)) at153) at124) at195))))))))))))))))))))))))))))))))))))))))))))),
     ) ∷
-    -- G7 base missing: none
+    -- access: base missing: none
     ((FAllm (FAll (FAll (FAll (FAll (FAll (FAll (FAll (FAll (FAll (FAll (FAll (FAll (FAll (FAll (FAll (FAll (FAll (FAll (FAll (FImp (FAnd (FAll (FImp (FAnd (FRel Ult (EVar 0) (EVar 2)) (FRel Eq (EOp Band (EVar 0) (ELit 7)) (ELit 0))) (FRd (EOp Add (EVar 3) (EVar 0))))) (FRel Ule (ELit 64) (EVar 1))) (FRd (EOp Add (EVar 0) (ELit 8)))))))))))))))))))))))), None) ∷
-    -- G7 all (add x b) is no leaf: none
+    -- access: all (add x b) is no leaf: none
     ((FAllm (FAll (FAll (FAll (FAll (FAll (FAll (FAll (FAll (FAll (FAll (FAll (FAll (FAll (FAll (FAll (FAll (FAll (FAll (FImp (FAnd (FAll (FImp (FRel Ult (EVar 0) (EVar 1)) (FRd (EOp Add (EVar 0) (EVar 2))))) (FRel Ule (ELit 64) (EVar 0))) (FRd (EOp Add (EVar 1) (ELit 8))))))))))))))))))))))), None) ∷
-    -- G7 base holds the variable: none
+    -- access: base holds the variable: none
     ((FAllm (FAll (FAll (FAll (FAll (FAll (FAll (FAll (FAll (FAll (FAll (FAll (FAll (FAll (FAll (FAll (FAll (FAll (FAll (FImp (FAnd (FAll (FImp (FRel Ult (EVar 0) (EVar 1)) (FRd (EOp Add (EOp Band (EVar 0) (ELit 8)) (EVar 0))))) (FRel Ule (ELit 64) (EVar 0))) (FRd (EOp Add (ELit 8) (ELit 8))))))))))))))))))))))), None) ∷
-    -- G7 second form
+    -- access: second form
     (
       (FAllm (FAll (FAll (FAll (FAll (FAll (FAll (FAll (FAll (FAll (FAll (FAll (FAll (FAll (FAll (FAll (FAll (FAll (FAll (FImp (FAnd (FAll (FImp (FRel Ult (EVar 0) (EVar 1)) (FAnd (FRd (EOp Add (EVar 2) (EOp Sll (EVar 0) (ELit 3)))) (FWr (EOp Add (EVar 2) (EOp Sll (EVar 0) (ELit 3))))))) (FRel Ult (EVar 13) (EVar 0))) (FRd (EOp Add (EVar 1) (EOp Sll (EVar 13) (ELit 3)))))))))))))))))))))))),
       Some (App (App (Con (Num 40)) (Lam (App (Con (Num 25)) at219))) (Lam (App (App (Con (Num 38)) at219) (Lam (App (App (Con (Num 38)) at218) (Lam (App (App (Con (Num 38)) at217) (Lam (App (App (Con (Num 38)) at216) (Lam (App (App (Con (Num 38)) at215) (Lam (App (App (Con (Num 38)) at214) (Lam (App (App (Con (Num 38)) at213) (Lam (App (App (Con (Num 38)) at212) (Lam (App (App (Con (Num 38)) at211) (Lam (App (App (Con (Num 38)) at210) (Lam (App (App (Con (Num 38)) at209) (Lam (App (App (Con (Num 38)) at208) (Lam (App (App (Con (Num 38)) at207) (Lam (App (App (Con (Num 38)) at206) (Lam (App (App (Con (Num 38)) at205) (Lam (App (App (Con (Num 38)) at204) (Lam (App (App (Con (Num 38)) at203) (Lam (App (App (Con (Num 38)) at202) (Lam (App (App at220 at201) (Lam (App (App (App (App at7 at221) at221) at224) (App (App (App (Con (Num 30)) at225) at226) at231)))))))))))))))))))))))))))))))))))))))))),
     ) ∷
-    -- G7 second form, wr
+    -- access: second form, wr
     (
       (FAllm (FAll (FAll (FAll (FAll (FAll (FAll (FAll (FAll (FAll (FAll (FAll (FAll (FAll (FAll (FAll (FAll (FAll (FAll (FImp (FAnd (FAll (FImp (FRel Ult (EVar 0) (EVar 1)) (FAnd (FRd (EOp Add (EVar 2) (EOp Sll (EVar 0) (ELit 3)))) (FWr (EOp Add (EVar 2) (EOp Sll (EVar 0) (ELit 3))))))) (FRel Ult (EVar 13) (EVar 0))) (FWr (EOp Add (EVar 1) (EOp Sll (EVar 13) (ELit 3)))))))))))))))))))))))),
       Some (App (App (Con (Num 40)) (Lam (App (Con (Num 25)) at250))) (Lam (App (App (Con (Num 38)) at250) (Lam (App (App (Con (Num 38)) at249) (Lam (App (App (Con (Num 38)) at248) (Lam (App (App (Con (Num 38)) at247) (Lam (App (App (Con (Num 38)) at246) (Lam (App (App (Con (Num 38)) at245) (Lam (App (App (Con (Num 38)) at244) (Lam (App (App (Con (Num 38)) at243) (Lam (App (App (Con (Num 38)) at242) (Lam (App (App (Con (Num 38)) at241) (Lam (App (App (Con (Num 38)) at240) (Lam (App (App (Con (Num 38)) at239) (Lam (App (App (Con (Num 38)) at238) (Lam (App (App (Con (Num 38)) at237) (Lam (App (App (Con (Num 38)) at236) (Lam (App (App (Con (Num 38)) at235) (Lam (App (App (Con (Num 38)) at234) (Lam (App (App (Con (Num 38)) at233) (Lam (App (App at220 at232) (Lam (App (App (App (App at18 at221) at221) at224) (App (App (App (Con (Num 31)) at225) at226) at231)))))))))))))))))))))))))))))))))))))))))),
     ) ∷
-    -- G7 second form, literal past: none
+    -- access: second form, literal past: none
     ((FAllm (FAll (FAll (FAll (FAll (FAll (FAll (FAll (FAll (FAll (FAll (FAll (FAll (FAll (FAll (FAll (FAll (FAll (FAll (FImp (FAnd (FAll (FImp (FRel Ult (EVar 0) (EVar 1)) (FAnd (FRd (EOp Add (EVar 2) (EOp Sll (EVar 0) (ELit 3)))) (FWr (EOp Add (EVar 2) (EOp Sll (EVar 0) (ELit 3))))))) (FRel Ule (ELit 1) (EVar 0))) (FWr (EOp Add (EVar 1) (ELit 8))))))))))))))))))))))), None) ∷
-    -- G7 second form, not a shift by 3: none
+    -- access: second form, not a shift by 3: none
     ((FAllm (FAll (FAll (FAll (FAll (FAll (FAll (FAll (FAll (FAll (FAll (FAll (FAll (FAll (FAll (FAll (FAll (FAll (FAll (FImp (FAnd (FAll (FImp (FRel Ult (EVar 0) (EVar 1)) (FAnd (FRd (EOp Add (EVar 2) (EOp Sll (EVar 0) (ELit 3)))) (FWr (EOp Add (EVar 2) (EOp Sll (EVar 0) (ELit 3))))))) (FRel Ult (EVar 13) (EVar 0))) (FRd (EOp Add (EVar 1) (EOp Sll (EVar 13) (ELit 4)))))))))))))))))))))))), None) ∷
-    -- G7 second form, sum in the rest: none
+    -- access: second form, sum in the rest: none
     ((FAllm (FAll (FAll (FAll (FAll (FAll (FAll (FAll (FAll (FAll (FAll (FAll (FAll (FAll (FAll (FAll (FAll (FAll (FAll (FImp (FAnd (FAll (FImp (FRel Ult (EVar 0) (EVar 1)) (FAnd (FRd (EOp Add (EVar 2) (EOp Sll (EVar 0) (ELit 3)))) (FWr (EOp Add (EVar 2) (EOp Sll (EVar 0) (ELit 3))))))) (FRel Ult (EOp Add (EVar 13) (ELit 1)) (EVar 0))) (FRd (EOp Add (EVar 1) (EOp Add (EOp Sll (EVar 13) (ELit 3)) (ELit 8)))))))))))))))))))))))), None) ∷
-    -- G7 literal of the base
+    -- access: literal of the base
     (
       (FAllm (FAll (FAll (FAll (FAll (FAll (FAll (FAll (FAll (FAll (FAll (FAll (FAll (FAll (FAll (FAll (FAll (FAll (FImp (FAnd (FAll (FImp (FRel Ult (EVar 0) (ELit 16)) (FRd (EOp Add (EOp Add (EVar 1) (ELit 8)) (EVar 0))))) FTrue) (FRd (EOp Add (EVar 0) (ELit 16)))))))))))))))))))))),
       Some (App (App (Con (Num 40)) (Lam (App (Con (Num 25)) at272))) (Lam (App (App (Con (Num 38)) at272) (Lam (App (App (Con (Num 38)) at271) (Lam (App (App (Con (Num 38)) at270) (Lam (App (App (Con (Num 38)) at269) (Lam (App (App (Con (Num 38)) at268) (Lam (App (App (Con (Num 38)) at267) (Lam (App (App (Con (Num 38)) at266) (Lam (App (App (Con (Num 38)) at265) (Lam (App (App (Con (Num 38)) at264) (Lam (App (App (Con (Num 38)) at263) (Lam (App (App (Con (Num 38)) at262) (Lam (App (App (Con (Num 38)) at261) (Lam (App (App (Con (Num 38)) at260) (Lam (App (App (Con (Num 38)) at259) (Lam (App (App (Con (Num 38)) at258) (Lam (App (App (Con (Num 38)) at257) (Lam (App (App (Con (Num 38)) at256) (Lam (App (App (App (Con (Num 35)) at254) at255) (Lam (App (App (App (App at7 at273) at274) (App (App (App (App at277 at274) at274) (App (App (App (App (App (Con (Num 43)) (Lam (App (App (Con (Num 15)) (Var 0)) (App (App (Con (Num 0)) (Var 2)) (Con (Lit 16)))))) at274) at274) at278) at278)) (App (App (App (App (App (Con (Num 43)) (Lam (App at276 at44))) at279) (Con (Lit 16))) (Con (Calc 0 8 8))) (App (App (App (App at277 at273) (App (App (Con (Num 0)) (Var 1)) at279)) (App (App (App (Con (Num 47)) (Var 1)) (Con (Lit 8))) (Con (Lit 8)))) (App (Con (Num 42)) at273))))) (App (App (App (App (Con (Num 36)) (App (App (Con (Num 16)) (Con (Lit 8))) (Con (Lit 16)))) (App (Con (Num 20)) at273)) (App (App (App (Con (Num 39)) at280) (Con (Lit 8))) (App (App (App (Con (Num 30)) (App (Con (Num 25)) at280)) (Con (Num 13))) (Var 0)))) (App (App (App (App (App (Con (Num 43)) (Lam (App (App (Con (Num 16)) (Con (Lit 8))) (Var 0)))) (Con (Lit 16))) (Con (Lit 16))) (App (App (App (App (App (Con (Num 43)) (Lam (App (App (Con (Num 15)) (Var 0)) (Con (Lit 16))))) (Con (Lit 16))) (Con (Lit 16))) (App (Con (Num 42)) (Con (Lit 16)))) (App (Con (Num 42)) (Con (Lit 16))))) (App (App (App (App (App (Con (Num 43)) (Lam at251)) (Con (Lit 8))) (Con (Lit 8))) (App (App (App (App (App (Con (Num 43)) (Lam (App (App (Con (Num 15)) (Var 0)) (Con (Lit 8))))) (Con (Lit 8))) (Con (Lit 8))) (App (Con (Num 42)) (Con (Lit 8)))) (App (Con (Num 42)) (Con (Lit 8))))) (Con (Fact 1 8 16)))))))))))))))))))))))))))))))))))))))))))),
     ) ∷
-    -- G7 literal below the base wraps: none
+    -- access: literal below the base wraps: none
     ((FAllm (FAll (FAll (FAll (FAll (FAll (FAll (FAll (FAll (FAll (FAll (FAll (FAll (FAll (FAll (FAll (FAll (FAll (FImp (FAnd (FAll (FImp (FRel Ult (EVar 0) (ELit 16)) (FRd (EOp Add (EOp Add (EVar 1) (ELit 8)) (EVar 0))))) FTrue) (FRd (EVar 0))))))))))))))))))))), None) ∷
-    -- G7 two all are none: none
+    -- access: two all: none
     ((FAllm (FAll (FAll (FAll (FAll (FAll (FAll (FAll (FAll (FAll (FAll (FAll (FAll (FAll (FAll (FAll (FAll (FAll (FImp (FAll (FAll (FImp (FRel Ult (EVar 1) (EVar 0)) (FRd (EOp Add (EVar 2) (EVar 1)))))) (FRd (EOp Add (EVar 0) (ELit 1)))))))))))))))))))))), None) ∷
     []

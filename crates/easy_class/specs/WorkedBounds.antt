@@ -422,157 +422,157 @@ bt137 = Lam (App (Con (Num 25)) bt136)
 -- each after what it is about
 unfoldable pub bound_rows : List (Form × Option Tree)
 bound_rows =
-    -- U ule
+    -- upper bound: ule
     (
       (FAllm (FAll (FAll (FImp (FRel Ule (EVar 0) (ELit 7)) (FRel Ule (EVar 0) (ELit 8)))))),
       Some (App (App (Con (Num 40)) (Lam (App (Con (Num 25)) bt3))) (Lam (App (App (Con (Num 38)) bt3) (Lam (App (App (Con (Num 38)) bt2) (Lam (App (App (App (Con (Num 35)) bt0) bt1) (Lam (App (App (App bt4 (Con (Lit 8))) (Var 0)) (App (App (App bt5 (Con (Lit 8))) (Con (Fact 2 7 8))) (App (Con (Num 63)) (Con (Lit 8))))))))))))),
     ) ∷
-    -- U ule too great: none
+    -- upper bound: ule too great: none
     ((FAllm (FAll (FAll (FImp (FRel Ule (EVar 0) (ELit 9)) (FRel Ule (EVar 0) (ELit 8)))))), None) ∷
-    -- U ult
+    -- upper bound: ult
     (
       (FAllm (FAll (FAll (FImp (FRel Ult (EVar 0) (ELit 8)) (FRel Ule (EVar 0) (ELit 7)))))),
       Some (App (App (Con (Num 40)) (Lam (App (Con (Num 25)) bt8))) (Lam (App (App (Con (Num 38)) bt8) (Lam (App (App (Con (Num 38)) bt7) (Lam (App (App (App (Con (Num 35)) bt6) bt0) (Lam (App (App (App bt4 (Con (Lit 7))) (App (App (App (App bt9 (App (App (Con (Num 1)) (Con (Lit 8))) (Con (Lit 1)))) (Con (Lit 7))) (Con (Calc 1 8 1))) (App (App (App (Con (Num 68)) (Var 1)) (Con (Lit 8))) (Var 0)))) bt11))))))))),
     ) ∷
-    -- U ult 0 gives nothing: none
+    -- upper bound: ult 0 gives nothing: none
     ((FAllm (FAll (FAll (FImp (FRel Ult (EVar 0) (ELit 0)) (FRel Ule (EVar 0) (ELit 8)))))), None) ∷
-    -- U eq
+    -- upper bound: eq
     (
       (FAllm (FAll (FAll (FImp (FRel Eq (EVar 0) (ELit 7)) (FRel Ult (EVar 0) (ELit 8)))))),
       Some (App (App (Con (Num 40)) (Lam (App (Con (Num 25)) bt14))) (Lam (App (App (Con (Num 38)) bt14) (Lam (App (App (Con (Num 38)) bt13) (Lam (App (App (App (Con (Num 35)) bt12) bt6) (Lam (App (App (App (App (App (Con (Num 66)) (Var 1)) (Con (Lit 8))) (Con (Lit 8))) (App (App (App (App (App (Con (Num 67)) (Var 1)) (Con (Lit 7))) (Con (Lit 8))) (App (App (App (App bt9 (Var 1)) (Con (Lit 7))) (Var 0)) (App (Con (Num 63)) (Var 1)))) (Con (Fact 1 7 8)))) (App (Con (Num 63)) (Con (Lit 8)))))))))))),
     ) ∷
-    -- U eq the other way round: none
+    -- upper bound: eq the other way round: none
     ((FAllm (FAll (FAll (FImp (FRel Eq (ELit 7) (EVar 0)) (FRel Ult (EVar 0) (ELit 8)))))), None) ∷
-    -- U band right
+    -- upper bound: band right
     (
       (FAllm (FAll (FAll (FImp FTrue (FRel Ule (EOp Band (EVar 0) (ELit 7)) (ELit 7)))))),
       Some (App (App (Con (Num 40)) (Lam (App (Con (Num 25)) bt17))) (Lam (App (App (Con (Num 38)) bt17) (Lam (App (App (Con (Num 38)) bt16) (Lam (App (App (App (Con (Num 35)) (Con (Num 13))) bt15) (Lam (App (App bt19 (App (App bt19 bt20) (App (Con (Num 63)) (Con (Lit 7))))) bt11))))))))),
     ) ∷
-    -- U band left
+    -- upper bound: band left
     (
       (FAllm (FAll (FAll (FImp FTrue (FRel Ule (EOp Band (ELit 7) (EVar 0)) (ELit 7)))))),
       Some (App (App (Con (Num 40)) (Lam (App (Con (Num 25)) bt23))) (Lam (App (App (Con (Num 38)) bt23) (Lam (App (App (Con (Num 38)) bt22) (Lam (App (App (App (Con (Num 35)) (Con (Num 13))) bt21) (Lam (App (App bt25 (App (App bt25 (App (App (App (App (App (Con (Num 43)) (Lam bt0)) bt18) bt24) (App (App (Con (Num 51)) (Var 1)) (Con (Lit 7)))) bt20)) (App (Con (Num 63)) (Con (Lit 7))))) bt11))))))))),
     ) ∷
-    -- U band of bounded
+    -- upper bound: band of bounded
     (
       (FAllm (FAll (FAll (FAll (FImp (FRel Ule (EVar 1) (ELit 5)) (FRel Ule (EOp Band (EVar 1) (EVar 0)) (ELit 5))))))),
       Some (App (App (Con (Num 40)) (Lam (App (Con (Num 25)) bt30))) (Lam (App (App (Con (Num 38)) bt30) (Lam (App (App (Con (Num 38)) bt29) (Lam (App (App (Con (Num 38)) bt28) (Lam (App (App (App (Con (Num 35)) bt26) bt27) (Lam (App (App (App (App bt32 (Con (Lit 5))) (Con (Lit 5))) (App (App (App (App bt32 (Var 2)) (Con (Lit 5))) (App (App (App (App (App (Con (Num 43)) (Lam (App (App (Con (Num 17)) (Var 0)) (Var 3)))) (App (App (Con (Num 2)) (Var 1)) (Var 2))) bt31) (App (App (Con (Num 51)) (Var 1)) (Var 2))) (App (App (Con (Num 54)) (Var 1)) (Var 2)))) (Var 0))) (App (App (App (App (App (Con (Num 64)) (Con (Lit 5))) (Con (Lit 5))) (Con (Lit 5))) (Con (Fact 2 5 5))) (App (Con (Num 63)) (Con (Lit 5))))))))))))))),
     ) ∷
-    -- U srl by 64: none
+    -- upper bound: srl by 64: none
     ((FAllm (FAll (FAll (FImp FTrue (FRel Ule (EOp Srl (EVar 0) (ELit 64)) (ELit 15)))))), None) ∷
-    -- U srl of bounded
+    -- upper bound: srl of bounded
     (
       (FAllm (FAll (FAll (FImp (FRel Ule (EVar 0) (ELit 255)) (FRel Ule (EOp Srl (EVar 0) (ELit 4)) (ELit 15)))))),
       Some (App (App (Con (Num 40)) (Lam (App (Con (Num 25)) bt36))) (Lam (App (App (Con (Num 38)) bt36) (Lam (App (App (Con (Num 38)) bt35) (Lam (App (App (App (Con (Num 35)) bt33) bt34) (Lam (App (App (App (App (App (Con (Num 64)) (App (App (Con (Num 5)) (Var 1)) (Con (Lit 4)))) (Con (Lit 15))) (Con (Lit 15))) (App (App (App (App (App (Con (Num 43)) (Lam (App (App (Con (Num 17)) (App (App (Con (Num 5)) (Var 2)) (Con (Lit 4)))) (Var 0)))) (App (App (Con (Num 5)) (Con (Lit 255))) (Con (Lit 4)))) (Con (Lit 15))) (Con (Calc 5 255 4))) (App (App (App (App (Con (Num 59)) (Var 1)) (Con (Lit 255))) (Con (Lit 4))) (Var 0)))) (App (App (App (App (App (Con (Num 64)) (Con (Lit 15))) (Con (Lit 15))) (Con (Lit 15))) (Con (Fact 2 15 15))) (App (Con (Num 63)) (Con (Lit 15))))))))))))),
     ) ∷
-    -- U sll
+    -- upper bound: sll
     (
       (FAllm (FAll (FAll (FImp (FRel Ule (EVar 0) (ELit 15)) (FRel Ule (EOp Sll (EVar 0) (ELit 4)) (ELit 240)))))),
       Some (App (App (Con (Num 40)) (Lam (App (Con (Num 25)) bt41))) (Lam (App (App (Con (Num 38)) bt41) (Lam (App (App (Con (Num 38)) bt40) (Lam (App (App (App (Con (Num 35)) bt37) bt39) (Lam (App (App (App (App bt42 (Con (Lit 240))) (Con (Lit 240))) (App (App (App (App bt43 (App (App (Con (Num 4)) (Con (Lit 15))) (Con (Lit 4)))) (Con (Lit 240))) (Con (Calc 4 15 4))) (App (App (App (App (App (Con (Num 60)) (Var 1)) (Con (Lit 15))) (Con (Lit 4))) (Var 0)) (App (App (App (App (App (Con (Num 43)) (Lam (App (App (Con (Num 17)) (Con (Lit 15))) (Var 0)))) (Con (Lit 1152921504606846975))) bt44) bt45) (Con (Fact 2 15 1152921504606846975)))))) (App (App (App (App (App (Con (Num 64)) (Con (Lit 240))) (Con (Lit 240))) (Con (Lit 240))) (Con (Fact 2 240 240))) (App (Con (Num 63)) (Con (Lit 240))))))))))))),
     ) ∷
-    -- U sll at the edge
+    -- upper bound: sll at the edge
     (
       (FAllm (FAll (FAll (FImp (FRel Ule (EVar 0) (ELit 1152921504606846975)) (FRel Ule (EOp Sll (EVar 0) (ELit 4)) (ELit 18446744073709551600)))))),
       Some (App (App (Con (Num 40)) (Lam (App (Con (Num 25)) bt49))) (Lam (App (App (Con (Num 38)) bt49) (Lam (App (App (Con (Num 38)) bt48) (Lam (App (App (App (Con (Num 35)) bt46) bt47) (Lam (App (App (App (App bt42 (Con (Lit 18446744073709551600))) (Con (Lit 18446744073709551600))) (App (App (App (App bt43 (App (App (Con (Num 4)) (Con (Lit 1152921504606846975))) (Con (Lit 4)))) (Con (Lit 18446744073709551600))) (Con (Calc 4 1152921504606846975 4))) (App (App (App (App (App (Con (Num 60)) (Var 1)) (Con (Lit 1152921504606846975))) (Con (Lit 4))) (Var 0)) (App (App (App (App (App (Con (Num 43)) (Lam (App (App (Con (Num 17)) (Con (Lit 1152921504606846975))) (Var 0)))) (Con (Lit 1152921504606846975))) bt44) bt45) (Con (Fact 2 1152921504606846975 1152921504606846975)))))) (App (App (App (App (App (Con (Num 64)) (Con (Lit 18446744073709551600))) (Con (Lit 18446744073709551600))) (Con (Lit 18446744073709551600))) (Con (Fact 2 18446744073709551600 18446744073709551600))) (App (Con (Num 63)) (Con (Lit 18446744073709551600))))))))))))),
     ) ∷
-    -- U add
+    -- upper bound: add
     (
       (FAllm (FAll (FAll (FAll (FImp (FAnd (FRel Ule (EVar 1) (ELit 3)) (FRel Ule (EVar 0) (ELit 4))) (FRel Ule (EOp Add (EVar 1) (EVar 0)) (ELit 7))))))),
       Some (App (App (Con (Num 40)) (Lam (App (Con (Num 25)) bt54))) (Lam (App (App (Con (Num 38)) bt54) (Lam (App (App (Con (Num 38)) bt53) (Lam (App (App (Con (Num 38)) bt52) (Lam (App (App (App (Con (Num 35)) bt50) bt51) (Lam (App (App (App (App (App (Con (Num 64)) (App (App (Con (Num 0)) (Var 2)) (Var 1))) (Con (Lit 7))) (Con (Lit 7))) (App (App (App (App (App (Con (Num 43)) (Lam (App (App (Con (Num 17)) (App (App (Con (Num 0)) (Var 3)) (Var 2))) (Var 0)))) bt55) (Con (Lit 7))) (Con (Calc 0 3 4))) (App (App (App (App (App (App (App (Con (Num 72)) (Var 2)) (Var 1)) (Con (Lit 3))) (Con (Lit 4))) (App (App (App (Con (Num 30)) bt56) bt57) (Var 0))) (App (App (App (Con (Num 31)) bt56) bt57) (Var 0))) (App (App (App (App (App (Con (Num 43)) (Lam bt58)) (Con (Lit 7))) bt55) (App (App (App (App (App (Con (Num 43)) (Lam (App (App (Con (Num 15)) (Var 0)) bt55))) bt55) (Con (Lit 7))) (Con (Calc 0 3 4))) (App (Con (Num 42)) bt55))) (Con (Fact 2 3 7)))))) bt11))))))))))),
     ) ∷
-    -- U add past 2^64: none
+    -- upper bound: add past 2^64: none
     ((FAllm (FAll (FAll (FImp (FRel Ule (EVar 0) (ELit 3)) (FRel Ule (EOp Add (EVar 0) (ELit 18446744073709551613)) (ELit 18446744073709551614)))))), None) ∷
-    -- U compare
+    -- upper bound: compare
     (
       (FAllm (FAll (FAll (FAll (FImp FTrue (FRel Ule (EOp Cmpult (EVar 1) (EVar 0)) (ELit 1))))))),
       Some (App (App (Con (Num 40)) (Lam (App (Con (Num 25)) bt63))) (Lam (App (App (Con (Num 38)) bt63) (Lam (App (App (Con (Num 38)) bt62) (Lam (App (App (Con (Num 38)) bt61) (Lam (App (App (App (Con (Num 35)) (Con (Num 13))) bt60) (Lam (App (App (App (App (App (Con (Num 64)) bt64) (Con (Lit 1))) (Con (Lit 1))) (App (App (Con (Num 86)) (Var 2)) (Var 1))) (App (App (App (App (App (Con (Num 64)) (Con (Lit 1))) (Con (Lit 1))) (Con (Lit 1))) (Con (Fact 2 1 1))) (App (Con (Num 63)) (Con (Lit 1))))))))))))))),
     ) ∷
-    -- U compare strict
+    -- upper bound: compare strict
     (
       (FAllm (FAll (FAll (FAll (FImp FTrue (FRel Ult (EOp Cmpeq (EVar 1) (EVar 0)) (ELit 2))))))),
       Some (App (App (Con (Num 40)) (Lam (App (Con (Num 25)) bt69))) (Lam (App (App (Con (Num 38)) bt69) (Lam (App (App (Con (Num 38)) bt68) (Lam (App (App (Con (Num 38)) bt67) (Lam (App (App (App (Con (Num 35)) (Con (Num 13))) bt66) (Lam (App (App (App (App (App (Con (Num 66)) bt70) (Con (Lit 2))) (Con (Lit 2))) (App (App (App (App (App (Con (Num 67)) bt70) (Con (Lit 1))) (Con (Lit 2))) (App (App (Con (Num 83)) (Var 2)) (Var 1))) (Con (Fact 1 1 2)))) (App (Con (Num 63)) (Con (Lit 2)))))))))))))),
     ) ∷
-    -- U MAX
+    -- upper bound: 2^64 - 1
     (
       (FAllm (FAll (FAll (FImp FTrue (FRel Ule (EVar 0) (ELit 18446744073709551615)))))),
       Some (App (App (Con (Num 40)) (Lam (App (Con (Num 25)) bt73))) (Lam (App (App (Con (Num 38)) bt73) (Lam (App (App (Con (Num 38)) bt72) (Lam (App (App (App (Con (Num 35)) (Con (Num 13))) bt71) (Lam (App (App (App (App (App (Con (Num 64)) (Var 1)) (Con (Lit 18446744073709551615))) (Con (Lit 18446744073709551615))) (App (Con (Num 62)) (Var 1))) (App (App (App (App (App (Con (Num 64)) (Con (Lit 18446744073709551615))) (Con (Lit 18446744073709551615))) (Con (Lit 18446744073709551615))) (Con (Fact 2 18446744073709551615 18446744073709551615))) (App (Con (Num 63)) (Con (Lit 18446744073709551615))))))))))))),
     ) ∷
-    -- U sub is none: none
+    -- upper bound: sub: none
     ((FAllm (FAll (FAll (FImp (FRel Ule (EVar 0) (ELit 8)) (FRel Ule (EOp Sub (EVar 0) (ELit 1)) (ELit 8)))))), None) ∷
-    -- L literal
+    -- lower bound: literal
     (
       (FAllm (FAll (FAll (FImp (FRel Ule (EVar 0) (ELit 5)) (FRel Ule (EVar 0) (ELit 6)))))),
       Some (App (App (Con (Num 40)) (Lam (App (Con (Num 25)) bt77))) (Lam (App (App (Con (Num 38)) bt77) (Lam (App (App (Con (Num 38)) bt76) (Lam (App (App (App (Con (Num 35)) bt74) bt75) (Lam (App (App bt78 (Var 0)) bt79))))))))),
     ) ∷
-    -- L ule
+    -- lower bound: ule
     (
       (FAllm (FAll (FAll (FImp (FRel Ule (ELit 8) (EVar 0)) (FRel Ule (ELit 7) (EVar 0)))))),
       Some (App (App (Con (Num 40)) (Lam (App (Con (Num 25)) bt83))) (Lam (App (App (Con (Num 38)) bt83) (Lam (App (App (Con (Num 38)) bt82) (Lam (App (App (App (Con (Num 35)) bt80) bt81) (Lam (App (App (App bt10 (Var 1)) (App (Con (Num 63)) (Con (Lit 7)))) (App (App (App bt5 (Var 1)) (Con (Fact 2 7 8))) (Var 0))))))))))),
     ) ∷
-    -- L ult not plus one: none
+    -- lower bound: ult not plus one: none
     ((FAllm (FAll (FAll (FImp (FRel Ult (ELit 7) (EVar 0)) (FRel Ule (ELit 8) (EVar 0)))))), None) ∷
-    -- L eq
+    -- lower bound: eq
     (
       (FAllm (FAll (FAll (FImp (FRel Eq (EVar 0) (ELit 9)) (FRel Ule (ELit 8) (EVar 0)))))),
       Some (App (App (Con (Num 40)) (Lam (App (Con (Num 25)) bt86))) (Lam (App (App (Con (Num 38)) bt86) (Lam (App (App (Con (Num 38)) bt85) (Lam (App (App (App (Con (Num 35)) bt84) bt80) (Lam (App (App (App (App (App (Con (Num 64)) (Con (Lit 8))) (Con (Lit 8))) (Var 1)) (App (Con (Num 63)) (Con (Lit 8)))) (App (App (App (App (App (Con (Num 64)) (Con (Lit 8))) (Con (Lit 9))) (Var 1)) (Con (Fact 2 8 9))) (App (App (App (App (App (Con (Num 43)) (Lam (App (App (Con (Num 17)) (Var 0)) (Var 2)))) (Var 1)) (Con (Lit 9))) (Var 0)) (App (Con (Num 63)) (Var 1))))))))))))),
     ) ∷
-    -- L zero
+    -- lower bound: zero
     (
       (FAllm (FAll (FAll (FImp FTrue (FRel Ule (ELit 0) (EVar 0)))))),
       Some (App (App (Con (Num 40)) (Lam (App (Con (Num 25)) bt89))) (Lam (App (App (Con (Num 38)) bt89) (Lam (App (App (Con (Num 38)) bt88) (Lam (App (App (App (Con (Num 35)) (Con (Num 13))) bt87) (Lam (App (App bt90 (App (Con (Num 63)) (Con (Lit 0)))) (App (App bt90 (Con (Fact 2 0 0))) (App (Con (Num 61)) (Var 1)))))))))))),
     ) ∷
-    -- L both equal: none
+    -- lower bound: both equal: none
     ((FAllm (FAll (FAll (FAll (FImp (FAnd (FRel Ule (EVar 1) (ELit 4)) (FRel Ule (ELit 4) (EVar 0))) (FRel Ult (EVar 1) (EVar 0))))))), None) ∷
-    -- L greatest
+    -- lower bound: greatest
     (
       (FAllm (FAll (FAll (FImp (FAnd (FRel Ule (ELit 3) (EVar 0)) (FRel Ule (ELit 9) (EVar 0))) (FRel Ult (ELit 8) (EVar 0)))))),
       Some (App (App (Con (Num 40)) (Lam (App (Con (Num 25)) bt94))) (Lam (App (App (Con (Num 38)) bt94) (Lam (App (App (Con (Num 38)) bt93) (Lam (App (App (App (Con (Num 35)) bt91) bt92) (Lam (App (App (App (App (App (Con (Num 66)) (Con (Lit 8))) (Con (Lit 9))) (Var 1)) (App (App (App (App (App (Con (Num 67)) (Con (Lit 8))) (Con (Lit 8))) (Con (Lit 9))) (App (Con (Num 63)) (Con (Lit 8)))) (Con (Fact 1 8 9)))) (App (App (App (Con (Num 31)) (App (App (Con (Num 17)) (Con (Lit 3))) (Var 1))) (App (App (Con (Num 17)) (Con (Lit 9))) (Var 1))) (Var 0))))))))))),
     ) ∷
-    -- G6 ult gives ule
+    -- bounds: ult gives ule
     (
       (FAllm (FAll (FAll (FAll (FImp (FRel Ult (EVar 1) (EVar 0)) (FRel Ule (EVar 1) (EVar 0))))))),
       Some (App (App (Con (Num 40)) (Lam (App (Con (Num 25)) bt100))) (Lam (App (App (Con (Num 38)) bt100) (Lam (App (App (Con (Num 38)) bt99) (Lam (App (App (Con (Num 38)) bt98) (Lam (App (App (App (Con (Num 35)) bt95) bt97) (Lam (App (App (App (Con (Num 65)) (Var 2)) (Var 1)) (Var 0)))))))))))),
     ) ∷
-    -- G6 slt is none: none
+    -- bounds: slt: none
     ((FAllm (FAll (FAll (FImp (FRel Slt (EVar 0) (ELit 5)) (FRel Slt (EVar 0) (ELit 6)))))), None) ∷
-    -- S cmp yes
+    -- split: cmp yes
     (
       (FAllm (FAll (FAll (FAll (FImp (FImp (FRel Eq (EOp Cmpult (EVar 1) (EVar 0)) (ELit 0)) FFalse) (FRel Ult (EVar 1) (EVar 0))))))),
       Some (App (App (Con (Num 40)) (Lam (App (Con (Num 25)) bt106))) (Lam (App (App (Con (Num 38)) bt106) (Lam (App (App (Con (Num 38)) bt105) (Lam (App (App (Con (Num 38)) bt104) (Lam (App (App (App (Con (Num 35)) bt103) bt95) (Lam (App (App (App (Con (Num 76)) (Var 2)) (Var 1)) (Var 0)))))))))))),
     ) ∷
-    -- S cmp yes eq
+    -- split: cmp yes eq
     (
       (FAllm (FAll (FAll (FAll (FImp (FImp (FRel Eq (EOp Cmpeq (EVar 1) (EVar 0)) (ELit 0)) FFalse) (FRel Eq (EVar 1) (EVar 0))))))),
       Some (App (App (Con (Num 40)) (Lam (App (Con (Num 25)) bt111))) (Lam (App (App (Con (Num 38)) bt111) (Lam (App (App (Con (Num 38)) bt110) (Lam (App (App (Con (Num 38)) bt109) (Lam (App (App (App (Con (Num 35)) bt107) bt108) (Lam (App (App (App (Con (Num 73)) (Var 2)) (Var 1)) (Var 0)))))))))))),
     ) ∷
-    -- S cmp yes sle
+    -- split: cmp yes sle
     (
       (FAllm (FAll (FAll (FAll (FImp (FImp (FRel Eq (EOp Cmple (EVar 1) (EVar 0)) (ELit 0)) FFalse) (FRel Sle (EVar 1) (EVar 0))))))),
       Some (App (App (Con (Num 40)) (Lam (App (Con (Num 25)) bt116))) (Lam (App (App (Con (Num 38)) bt116) (Lam (App (App (Con (Num 38)) bt115) (Lam (App (App (Con (Num 38)) bt114) (Lam (App (App (App (Con (Num 35)) bt112) bt113) (Lam (App (App (App (Con (Num 75)) (Var 2)) (Var 1)) (Var 0)))))))))))),
     ) ∷
-    -- S cmp yes ule
+    -- split: cmp yes ule
     (
       (FAllm (FAll (FAll (FAll (FImp (FImp (FRel Eq (EOp Cmpule (EVar 1) (EVar 0)) (ELit 0)) FFalse) (FRel Ule (EVar 1) (EVar 0))))))),
       Some (App (App (Con (Num 40)) (Lam (App (Con (Num 25)) bt120))) (Lam (App (App (Con (Num 38)) bt120) (Lam (App (App (Con (Num 38)) bt119) (Lam (App (App (Con (Num 38)) bt118) (Lam (App (App (App (Con (Num 35)) bt117) bt97) (Lam (App (App (App (Con (Num 77)) (Var 2)) (Var 1)) (Var 0)))))))))))),
     ) ∷
-    -- S cmp no
+    -- split: cmp no
     (
       (FAllm (FAll (FAll (FAll (FImp (FRel Eq (EOp Cmpult (EVar 1) (EVar 0)) (ELit 0)) (FImp (FRel Ult (EVar 1) (EVar 0)) FFalse)))))),
       Some (App (App (Con (Num 40)) (Lam (App (Con (Num 25)) bt124))) (Lam (App (App (Con (Num 38)) bt124) (Lam (App (App (Con (Num 38)) bt123) (Lam (App (App (Con (Num 38)) bt122) (Lam (App (App (App (Con (Num 35)) bt101) bt121) (Lam (App bt125 (Var 0)))))))))))),
     ) ∷
-    -- S not lt
+    -- split: not lt
     (
       (FAllm (FAll (FAll (FAll (FImp (FImp (FRel Ult (EVar 1) (EVar 0)) FFalse) (FRel Ule (EVar 0) (EVar 1))))))),
       Some (App (App (Con (Num 40)) (Lam (App (Con (Num 25)) bt129))) (Lam (App (App (Con (Num 38)) bt129) (Lam (App (App (Con (Num 38)) bt128) (Lam (App (App (Con (Num 38)) bt127) (Lam (App (App (App (Con (Num 35)) bt121) bt126) (Lam (App bt130 (Var 0)))))))))))),
     ) ∷
-    -- S not le is none: none
+    -- split: not le: none
     ((FAllm (FAll (FAll (FAll (FImp (FImp (FRel Ule (EVar 1) (EVar 0)) FFalse) (FRel Ult (EVar 0) (EVar 1))))))), None) ∷
-    -- S nested compare
+    -- split: nested compare
     (
       (FAllm (FAll (FAll (FAll (FImp (FImp (FRel Eq (EOp Cmpeq (EOp Cmpult (EVar 1) (EVar 0)) (ELit 0)) (ELit 0)) FFalse) (FRel Ule (EVar 0) (EVar 1))))))),
       Some (App (App (Con (Num 40)) (Lam (App (Con (Num 25)) bt134))) (Lam (App (App (Con (Num 38)) bt134) (Lam (App (App (Con (Num 38)) bt133) (Lam (App (App (Con (Num 38)) bt132) (Lam (App (App (App (Con (Num 35)) bt131) bt126) (Lam (App bt130 (App bt125 (App (App (App (Con (Num 73)) bt64) (Con (Lit 0))) (Var 0)))))))))))))),
     ) ∷
-    -- S order of and
+    -- split: order of and
     (
       (FAllm (FAll (FAll (FImp (FAnd (FRel Ule (EVar 0) (ELit 5)) (FRel Ule (EVar 0) (ELit 5))) (FRel Ule (EVar 0) (ELit 6)))))),
       Some (App (App (Con (Num 40)) (Lam (App (Con (Num 25)) bt137))) (Lam (App (App (Con (Num 38)) bt137) (Lam (App (App (Con (Num 38)) bt136) (Lam (App (App (App (Con (Num 35)) bt135) bt75) (Lam (App (App bt78 (App (App (App (Con (Num 30)) bt26) bt26) (Var 0))) bt79))))))))),

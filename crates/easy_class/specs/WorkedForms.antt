@@ -320,77 +320,77 @@ nt103 = App (App (Con (Num 0)) (Con (Lit 8))) nt100
 -- each after what it is about
 unfoldable pub form_rows : List (Form × Option Tree)
 form_rows =
-    -- G5 literals not: none
+    -- words: literals not: none
     ((FAllm (FAll (FImp FTrue (FRel Ult (ELit 5) (ELit 5))))), None) ∷
-    -- G5 folded
+    -- words: folded
     (
       (FAllm (FAll (FImp FTrue (FRel Slt (EOp Sub (ELit 3) (ELit 4)) (ELit 0))))),
       Some (App (App (Con (Num 40)) (Lam (App (Con (Num 25)) nt3))) (Lam (App (App (Con (Num 38)) nt3) (Lam (App (App (App (Con (Num 35)) (Con (Num 13))) nt2) (Lam (App (App (App (App (App (Con (Num 43)) (Lam (App nt1 (Var 0)))) (Con (Lit 0))) (Con (Lit 0))) (App (App (App (App (App (Con (Num 43)) (Lam (App (App (Con (Num 15)) (Var 0)) (Con (Lit 0))))) (Con (Lit 0))) (Con (Lit 0))) (App (Con (Num 42)) (Con (Lit 0)))) (App (Con (Num 42)) (Con (Lit 0))))) (App (App (App (App (App (Con (Num 43)) (Lam (App (App (Con (Num 18)) (Var 0)) (Con (Lit 0))))) (Con (Lit 18446744073709551615))) nt0) (App (App (App (App (App (Con (Num 43)) (Lam (App (App (Con (Num 15)) (Var 0)) nt0))) nt0) (Con (Lit 18446744073709551615))) (App (App (App (App (App (Con (Num 43)) (Lam (App (App (Con (Num 15)) nt0) (Var 0)))) nt0) (Con (Lit 18446744073709551615))) (Con (Calc 1 3 4))) nt4)) nt4)) (Con (Fact 3 18446744073709551615 0)))))))))),
     ) ∷
-    -- G5 folded sle
+    -- words: folded sle
     (
       (FAllm (FAll (FImp FTrue (FRel Sle (EOp Add (ELit 1) (ELit 1)) (ELit 2))))),
       Some (App (App (Con (Num 40)) (Lam (App (Con (Num 25)) nt8))) (Lam (App (App (Con (Num 38)) nt8) (Lam (App (App (App (Con (Num 35)) (Con (Num 13))) nt7) (Lam (App (App (App (App (App (Con (Num 43)) (Lam (App nt6 (Var 0)))) (Con (Lit 2))) (Con (Lit 2))) (App (App (App (App (App (Con (Num 43)) (Lam (App (App (Con (Num 15)) (Var 0)) (Con (Lit 2))))) (Con (Lit 2))) (Con (Lit 2))) (App (Con (Num 42)) (Con (Lit 2)))) (App (Con (Num 42)) (Con (Lit 2))))) (App (App (App (App (App (Con (Num 43)) (Lam (App (App (Con (Num 19)) (Var 0)) (Con (Lit 2))))) (Con (Lit 2))) nt5) (App (App (App (App (App (Con (Num 43)) (Lam (App (App (Con (Num 15)) (Var 0)) nt5))) nt5) (Con (Lit 2))) (App (App (App (App (App (Con (Num 43)) (Lam (App (App (Con (Num 15)) nt5) (Var 0)))) nt5) (Con (Lit 2))) (Con (Calc 0 1 1))) nt9)) nt9)) (Con (Fact 4 2 2)))))))))),
     ) ∷
-    -- G5 same form is for eq alone: none
+    -- words: same form is for eq alone: none
     ((FAllm (FAll (FAll (FImp FTrue (FRel Ule (EOp Add (EVar 0) (ELit 8)) (EOp Add (ELit 8) (EVar 0))))))), None) ∷
-    -- G5 eq of literals that differ: none
+    -- words: eq of literals that differ: none
     ((FAllm (FAll (FImp FTrue (FRel Eq (ELit 4) (ELit 5))))), None) ∷
-    -- N sub w
+    -- normal form: sub w
     (
       (FAllm (FAll (FAll (FImp FTrue (FRel Eq (EOp Sub (EVar 0) (ELit 8)) (EOp Add (EVar 0) (ELit 18446744073709551608))))))),
       Some (App (App (Con (Num 40)) (Lam (App (Con (Num 25)) nt12))) (Lam (App (App (Con (Num 38)) nt12) (Lam (App (App (Con (Num 38)) nt11) (Lam (App (App (App (Con (Num 35)) (Con (Num 13))) nt10) (Lam (App (App (App (App nt14 nt15) nt15) (App (App (App (App (App (Con (Num 43)) (Lam (App (App (Con (Num 15)) (Var 0)) (App (App (Con (Num 0)) (Var 2)) (Con (Lit 18446744073709551608)))))) nt15) nt15) nt16) nt16)) (App (App (App (App (App (Con (Num 43)) (Lam (App nt13 nt17))) nt18) (Con (Lit 18446744073709551608))) (Con (Calc 1 0 8))) (App (App (App (App nt14 nt19) (App (App (Con (Num 0)) (Var 1)) nt18)) (App (App (Con (Num 50)) (Var 1)) (Con (Lit 8)))) (App (Con (Num 42)) nt19)))))))))))),
     ) ∷
-    -- N add zero
+    -- normal form: add zero
     (
       (FAllm (FAll (FAll (FImp FTrue (FRel Eq (EOp Add (EVar 0) (ELit 0)) (EVar 0)))))),
       Some (App (App (Con (Num 40)) (Lam (App (Con (Num 25)) nt22))) (Lam (App (App (Con (Num 38)) nt22) (Lam (App (App (Con (Num 38)) nt21) (Lam (App (App (App (Con (Num 35)) (Con (Num 13))) nt20) (Lam (App (App (App (App nt23 (Var 1)) (Var 1)) nt24) (App (App (App (App nt23 nt25) (Var 1)) (App (Con (Num 48)) (Var 1))) (App (Con (Num 42)) nt25))))))))))),
     ) ∷
-    -- N zero add
+    -- normal form: zero add
     (
       (FAllm (FAll (FAll (FImp FTrue (FRel Eq (EOp Add (ELit 0) (EVar 0)) (EVar 0)))))),
       Some (App (App (Con (Num 40)) (Lam (App (Con (Num 25)) nt28))) (Lam (App (App (Con (Num 38)) nt28) (Lam (App (App (Con (Num 38)) nt27) (Lam (App (App (App (Con (Num 35)) (Con (Num 13))) nt26) (Lam (App (App (App (App nt29 (Var 1)) (Var 1)) nt24) (App (App (App (App nt29 nt25) (Var 1)) (App (Con (Num 48)) (Var 1))) (App (App (App (App nt29 nt30) nt25) (App (App (Con (Num 46)) (Con (Lit 0))) (Var 1))) (App (Con (Num 42)) nt30)))))))))))),
     ) ∷
-    -- N bis zero
+    -- normal form: bis zero
     (
       (FAllm (FAll (FAll (FImp FTrue (FRel Eq (EOp Bis (EVar 0) (ELit 0)) (EVar 0)))))),
       Some (App (App (Con (Num 40)) (Lam (App (Con (Num 25)) nt33))) (Lam (App (App (Con (Num 38)) nt33) (Lam (App (App (Con (Num 38)) nt32) (Lam (App (App (App (Con (Num 35)) (Con (Num 13))) nt31) (Lam (App (App (App (App nt34 (Var 1)) (Var 1)) nt24) (App (App (App (App nt34 nt35) (Var 1)) (App (Con (Num 55)) (Var 1))) (App (Con (Num 42)) nt35))))))))))),
     ) ∷
-    -- N assoc
+    -- normal form: assoc
     (
       (FAllm (FAll (FAll (FAll (FAll (FImp FTrue (FRel Eq (EOp Add (EOp Add (EVar 2) (EVar 1)) (EVar 0)) (EOp Add (EVar 2) (EOp Add (EVar 1) (EVar 0)))))))))),
       Some (App (App (Con (Num 40)) (Lam (App (Con (Num 25)) nt43))) (Lam (App (App (Con (Num 38)) nt43) (Lam (App (App (Con (Num 38)) nt42) (Lam (App (App (Con (Num 38)) nt41) (Lam (App (App (Con (Num 38)) nt40) (Lam (App (App (App (Con (Num 35)) (Con (Num 13))) nt39) (Lam (App (App (App (App nt45 nt46) nt46) nt49) (App (App (App (App nt45 nt50) nt46) (App (App (App (Con (Num 47)) (Var 3)) (Var 2)) (Var 1))) (App (Con (Num 42)) nt50))))))))))))))),
     ) ∷
-    -- N comm
+    -- normal form: comm
     (
       (FAllm (FAll (FAll (FAll (FImp FTrue (FRel Eq (EOp Add (EVar 0) (EVar 1)) (EOp Add (EVar 1) (EVar 0)))))))),
       Some (App (App (Con (Num 40)) (Lam (App (Con (Num 25)) nt54))) (Lam (App (App (Con (Num 38)) nt54) (Lam (App (App (Con (Num 38)) nt53) (Lam (App (App (Con (Num 38)) nt52) (Lam (App (App (App (Con (Num 35)) (Con (Num 13))) nt51) (Lam (App (App (App (App nt55 nt36) nt36) (App (App (App (App (App (Con (Num 43)) (Lam (App (App (Con (Num 15)) (Var 0)) nt47))) nt36) nt36) nt56) nt56)) (App (App (App (App nt55 nt57) nt36) nt58) (App (Con (Num 42)) nt57))))))))))))),
     ) ∷
-    -- N swap inside
+    -- normal form: swap inside
     (
       (FAllm (FAll (FAll (FAll (FAll (FImp FTrue (FRel Eq (EOp Add (EVar 0) (EOp Add (EVar 2) (EVar 1))) (EOp Add (EVar 2) (EOp Add (EVar 1) (EVar 0)))))))))),
       Some (App (App (Con (Num 40)) (Lam (App (Con (Num 25)) nt63))) (Lam (App (App (Con (Num 38)) nt63) (Lam (App (App (Con (Num 38)) nt62) (Lam (App (App (Con (Num 38)) nt61) (Lam (App (App (Con (Num 38)) nt60) (Lam (App (App (App (Con (Num 35)) (Con (Num 13))) nt59) (Lam (App (App (App (App nt65 nt46) nt46) nt49) (App (App (App (App (App (Con (Num 43)) (Lam (App nt64 (App (App (Con (Num 0)) (Var 4)) (Var 0))))) nt57) nt36) nt58) (App (App (App (App nt65 (App (App (Con (Num 0)) nt66) (Var 2))) (App (App (Con (Num 0)) (Var 3)) nt57)) (App (App (App (Con (Num 47)) (Var 3)) (Var 1)) (Var 2))) (App (App (App (App (App (Con (Num 43)) (Lam (App nt64 (App (App (Con (Num 0)) (Var 0)) (Var 3))))) nt67) nt66) (App (App (Con (Num 46)) (Var 1)) (Var 3))) (App (App (App (App nt65 nt68) nt69) (App (App (App (App (App (Con (Num 43)) (Lam (App (App (Con (Num 15)) (Var 0)) (App (App (Con (Num 0)) (App (App (Con (Num 0)) (Var 2)) (Var 4))) (Var 3))))) nt69) nt68) (App (App (App (Con (Num 47)) (Var 1)) (Var 3)) (Var 2))) (App (Con (Num 42)) nt69))) (App (Con (Num 42)) nt68)))))))))))))))))),
     ) ∷
-    -- N two literals not summed apart by order
+    -- normal form: two literals not summed apart by order
     (
       (FAllm (FAll (FAll (FAll (FImp FTrue (FRel Eq (EOp Add (EOp Add (EVar 1) (ELit 8)) (EOp Add (EVar 0) (ELit 8))) (EOp Add (EVar 1) (EOp Add (EVar 0) (ELit 16))))))))),
       Some (App (App (Con (Num 40)) (Lam (App (Con (Num 25)) nt76))) (Lam (App (App (Con (Num 38)) nt76) (Lam (App (App (Con (Num 38)) nt75) (Lam (App (App (Con (Num 38)) nt74) (Lam (App (App (App (Con (Num 35)) (Con (Num 13))) nt73) (Lam (App (App (App (App nt79 nt80) nt80) (App (App (App (App (App (Con (Num 43)) (Lam (App (App (Con (Num 15)) (Var 0)) (App (App (Con (Num 0)) (Var 3)) (App (App (Con (Num 0)) (Var 2)) (Con (Lit 16))))))) nt80) nt80) nt81) nt81)) (App (App (App (App (App (Con (Num 43)) (Lam (App nt78 (App (App (Con (Num 0)) (Var 3)) nt17)))) nt82) (Con (Lit 16))) (Con (Calc 0 8 8))) (App (App (App (App nt83 (App nt71 (Con (Lit 8)))) (App (App (Con (Num 0)) (Var 1)) nt82)) (App (App (App (Con (Num 47)) (Var 1)) (Con (Lit 8))) (Con (Lit 8)))) (App (App (App (App (App (Con (Num 43)) (Lam (App nt78 (App (App (Con (Num 0)) (Var 3)) nt72)))) nt84) nt70) (App (App (Con (Num 46)) (Con (Lit 8))) (Var 1))) (App (App (App (App nt83 nt85) nt86) (App (App (App (App (App (Con (Num 43)) (Lam (App (App (Con (Num 15)) (Var 0)) (App (App (Con (Num 0)) (App (App (Con (Num 0)) (Con (Lit 8))) (Var 2))) (Con (Lit 8)))))) nt86) nt85) (App (App (App (Con (Num 47)) (Con (Lit 8))) (Var 1)) (Con (Lit 8)))) (App (Con (Num 42)) nt86))) (App (App (App (App nt79 nt87) (App (App (Con (Num 0)) (Var 2)) nt85)) (App (App (App (Con (Num 47)) (Var 2)) (Con (Lit 8))) nt70)) (App (Con (Num 42)) nt87))))))))))))))))),
     ) ∷
-    -- N calc inside
+    -- normal form: calc inside
     (
       (FAllm (FAll (FAll (FImp FTrue (FRel Eq (EOp Add (EVar 0) (EOp Sll (ELit 1) (ELit 3))) (EOp Add (EVar 0) (ELit 8))))))),
       Some (App (App (Con (Num 40)) (Lam (App (Con (Num 25)) nt91))) (Lam (App (App (Con (Num 38)) nt91) (Lam (App (App (Con (Num 38)) nt90) (Lam (App (App (App (Con (Num 35)) (Con (Num 13))) nt89) (Lam (App (App (App (App (App (Con (Num 43)) (Lam (App nt92 (Var 0)))) nt70) nt70) (App (App (App (App (App (Con (Num 43)) (Lam (App (App (Con (Num 15)) (Var 0)) nt77))) nt70) nt70) nt93) nt93)) (App (App (App (App (App (Con (Num 43)) (Lam (App nt92 nt17))) nt88) (Con (Lit 8))) (Con (Calc 4 1 3))) (App (Con (Num 42)) (App (App (Con (Num 0)) (Var 1)) nt88)))))))))))),
     ) ∷
-    -- N sel not entered: none
+    -- normal form: sel not entered: none
     ((FAllm (FAll (FAll (FImp FTrue (FRel Eq (ESel (MVar 2) (EOp Add (EVar 0) (ELit 0))) (ESel (MVar 2) (EVar 0))))))), None) ∷
-    -- N sel key 31 before literal
+    -- normal form: sel key 31 before literal
     (
       (FAllm (FAll (FAll (FImp FTrue (FRel Eq (EOp Add (ELit 8) (ESel (MVar 2) (EVar 0))) (EOp Add (ESel (MVar 2) (EVar 0)) (ELit 8))))))),
       Some (App (App (Con (Num 40)) (Lam (App (Con (Num 25)) nt97))) (Lam (App (App (Con (Num 38)) nt97) (Lam (App (App (Con (Num 38)) nt96) (Lam (App (App (App (Con (Num 35)) (Con (Num 13))) nt95) (Lam (App (App (App (App nt99 nt101) nt101) (App (App (App (App (App (Con (Num 43)) (Lam (App (App (Con (Num 15)) (Var 0)) (App (App (Con (Num 0)) nt98) (Con (Lit 8)))))) nt101) nt101) nt102) nt102)) (App (App (App (App nt99 nt103) nt101) (App (App (Con (Num 46)) (Con (Lit 8))) nt100)) (App (Con (Num 42)) nt103))))))))))),
     ) ∷
-    -- N equal keys keep order: none
+    -- normal form: equal keys keep order: none
     ((FAllm (FAll (FAll (FAll (FAll (FAll (FImp FTrue (FRel Eq (EOp Add (EOp Band (EVar 3) (EVar 2)) (EOp Band (EVar 1) (EVar 0))) (EOp Add (EOp Band (EVar 1) (EVar 0)) (EOp Band (EVar 3) (EVar 2))))))))))), None) ∷
-    -- N band not commuted: none
+    -- normal form: band not commuted: none
     ((FAllm (FAll (FAll (FAll (FImp FTrue (FRel Eq (EOp Band (EVar 1) (EVar 0)) (EOp Band (EVar 0) (EVar 1)))))))), None) ∷
     -- memory: sel of upd isn't rewritten: none
     ((FAllm (FAll (FAll (FAll (FImp FTrue (FRel Eq (ESel (MUpd (MVar 3) (EVar 1) (EVar 0)) (EVar 1)) (EVar 0))))))), None) ∷

@@ -290,111 +290,111 @@ gt93 = App (App (Con (Num 2)) (App (App (Con (Num 2)) (Var 1)) (Con (Lit 1844674
 -- each after what it is about
 unfoldable pub shape_rows : List (Form × Option Tree)
 shape_rows =
-    -- G1 hypothesis
+    -- hypothesis: the goal itself
     (
       (FAllm (FAll (FAll (FImp (FRd (EVar 0)) (FRd (EVar 0)))))),
       Some (App (App (Con (Num 40)) (Lam (App (Con (Num 25)) gt3))) (Lam (App (App (Con (Num 38)) gt3) (Lam (App (App (Con (Num 38)) gt2) (Lam (App (App gt4 (App (Con (Num 20)) (Var 0))) (Lam (Var 0))))))))),
     ) ∷
-    -- G1 misses, G7 by the normal form
+    -- hypothesis: missed, access by the normal form
     (
       (FAllm (FAll (FAll (FImp (FWr (EOp Add (EVar 0) (ELit 0))) (FWr (EVar 0)))))),
       Some (App (App (Con (Num 40)) (Lam (App (Con (Num 25)) gt7))) (Lam (App (App (Con (Num 38)) gt7) (Lam (App (App (Con (Num 38)) gt6) (Lam (App (App (App (Con (Num 35)) gt5) (App (Con (Num 21)) (Var 0))) (Lam (App (App (App (App (App (Con (Num 43)) (Lam (App (Con (Num 21)) (Var 0)))) gt8) (Var 1)) (App (App (App (App gt9 (Var 1)) (Var 1)) gt10) (App (App (App (App gt9 gt8) (Var 1)) (App (Con (Num 48)) (Var 1))) (App (Con (Num 42)) gt8)))) (Var 0)))))))))),
     ) ∷
-    -- G2 ff
+    -- absurdity: ff
     (
       (FAllm (FAll (FAll (FImp FFalse (FRd (EVar 0)))))),
       Some (App (App (Con (Num 40)) (Lam (App (Con (Num 25)) gt12))) (Lam (App (App (Con (Num 38)) gt12) (Lam (App (App (Con (Num 38)) gt11) (Lam (App (App (App (Con (Num 35)) (Con (Num 14))) (App (Con (Num 20)) (Var 0))) (Lam (App (App (Con (Num 28)) (App (Con (Num 20)) (Var 1))) (Var 0)))))))))),
     ) ∷
-    -- G2 imp F ff with F
+    -- absurdity: imp F ff with F
     (
       (FAllm (FAll (FAll (FAll (FImp (FAnd (FImp (FRd (EVar 1)) FFalse) (FRd (EVar 1))) (FWr (EVar 0))))))),
       Some (App (App (Con (Num 40)) (Lam (App (Con (Num 25)) gt17))) (Lam (App (App (Con (Num 38)) gt17) (Lam (App (App (Con (Num 38)) gt16) (Lam (App (App (Con (Num 38)) gt15) (Lam (App (App (App (Con (Num 35)) gt14) (App (Con (Num 21)) (Var 0))) (Lam (App (App (Con (Num 28)) (App (Con (Num 21)) (Var 1))) (App (App (App gt18 (Con (Num 14))) (App (App (App (Con (Num 30)) gt20) (App (Con (Num 20)) (Var 2))) (Var 0))) (App (App (App (Con (Num 31)) gt20) (App (Con (Num 20)) (Var 2))) (Var 0)))))))))))))),
     ) ∷
-    -- G2 conclusion not ff
+    -- absurdity: conclusion not ff
     (
       (FAllm (FAll (FAll (FAll (FImp (FAnd (FImp (FRd (EVar 1)) (FRd (EVar 0))) (FRd (EVar 1))) (FRd (EVar 0))))))),
       Some (App (App (Con (Num 40)) (Lam (App (Con (Num 25)) gt24))) (Lam (App (App (Con (Num 38)) gt24) (Lam (App (App (Con (Num 38)) gt23) (Lam (App (App (Con (Num 38)) gt22) (Lam (App (App (App (Con (Num 35)) gt21) (App (Con (Num 20)) (Var 0))) (Lam (App (App (App (App (App (Con (Num 43)) (Lam (App (Con (Num 20)) (Var 0)))) (Var 1)) (Var 1)) (App (App (App (App (App (Con (Num 43)) (Lam (App (App (Con (Num 15)) (Var 2)) (Var 0)))) (Var 1)) (Var 1)) gt10) (App (Con (Num 42)) (Var 1)))) (App (App (App gt18 (App (Con (Num 20)) (Var 1))) (App (App (App (Con (Num 30)) gt25) (App (Con (Num 20)) (Var 2))) (Var 0))) (App (App (App (Con (Num 31)) gt25) (App (Con (Num 20)) (Var 2))) (Var 0)))))))))))))),
     ) ∷
-    -- G3 tt
+    -- connective: tt
     (
       (FAllm (FAll (FImp FTrue FTrue))),
       Some (App (App (Con (Num 40)) (Lam (App (Con (Num 25)) gt26))) (Lam (App (App (Con (Num 38)) gt26) (Lam (App (App (App (Con (Num 35)) (Con (Num 13))) (Con (Num 13))) (Lam (Var 0))))))),
     ) ∷
-    -- G3 and
+    -- connective: and
     (
       (FAllm (FAll (FAll (FAll (FImp (FAnd (FRd (EVar 1)) (FWr (EVar 0))) (FAnd (FWr (EVar 0)) (FRd (EVar 1)))))))),
       Some (App (App (Con (Num 40)) (Lam (App (Con (Num 25)) gt33))) (Lam (App (App (Con (Num 38)) gt33) (Lam (App (App (Con (Num 38)) gt32) (Lam (App (App (Con (Num 38)) gt31) (Lam (App (App gt34 gt30) (Lam (App (App (App (App (Con (Num 29)) (App (Con (Num 21)) (Var 1))) (App (Con (Num 20)) (Var 2))) (App (App (App (Con (Num 31)) (App (Con (Num 20)) (Var 2))) (App (Con (Num 21)) (Var 1))) (Var 0))) gt35))))))))))),
     ) ∷
-    -- G3 or left
+    -- connective: or left
     (
       (FAllm (FAll (FAll (FAll (FImp (FRd (EVar 1)) (FOr (FRd (EVar 1)) (FWr (EVar 0)))))))),
       Some (App (App (Con (Num 40)) (Lam (App (Con (Num 25)) gt39))) (Lam (App (App (Con (Num 38)) gt39) (Lam (App (App (Con (Num 38)) gt38) (Lam (App (App (Con (Num 38)) gt37) (Lam (App (App gt40 gt36) (Lam (App gt41 (Var 0)))))))))))),
     ) ∷
-    -- G3 or right
+    -- connective: or right
     (
       (FAllm (FAll (FAll (FAll (FImp (FWr (EVar 0)) (FOr (FRd (EVar 1)) (FWr (EVar 0)))))))),
       Some (App (App (Con (Num 40)) (Lam (App (Con (Num 25)) gt44))) (Lam (App (App (Con (Num 38)) gt44) (Lam (App (App (Con (Num 38)) gt43) (Lam (App (App (Con (Num 38)) gt42) (Lam (App (App (App (Con (Num 35)) (App (Con (Num 21)) (Var 0))) gt36) (Lam (App (App (App (Con (Num 33)) (App (Con (Num 20)) (Var 2))) (App (Con (Num 21)) (Var 1))) (Var 0)))))))))))),
     ) ∷
-    -- G3 or both: left
+    -- connective: or both: left
     (
       (FAllm (FAll (FAll (FAll (FImp (FAnd (FRd (EVar 1)) (FWr (EVar 0))) (FOr (FRd (EVar 1)) (FWr (EVar 0)))))))),
       Some (App (App (Con (Num 40)) (Lam (App (Con (Num 25)) gt47))) (Lam (App (App (Con (Num 38)) gt47) (Lam (App (App (Con (Num 38)) gt46) (Lam (App (App (Con (Num 38)) gt45) (Lam (App (App gt34 gt36) (Lam (App gt41 gt35))))))))))),
     ) ∷
-    -- G3 or under hypothesis or: none
+    -- connective: or under hypothesis or: none
     ((FAllm (FAll (FAll (FAll (FImp (FOr (FRd (EVar 1)) (FWr (EVar 0))) (FOr (FWr (EVar 0)) (FRd (EVar 1)))))))), None) ∷
-    -- G3 imp
+    -- connective: imp
     (
       (FAllm (FAll (FAll (FImp FTrue (FImp (FRd (EVar 0)) (FRd (EVar 0))))))),
       Some (App (App (Con (Num 40)) (Lam (App (Con (Num 25)) gt49))) (Lam (App (App (Con (Num 38)) gt49) (Lam (App (App (Con (Num 38)) gt48) (Lam (App (App (App (Con (Num 35)) (Con (Num 13))) gt1) (Lam (App (App gt40 (App (Con (Num 20)) (Var 1))) (Lam (Var 0))))))))))),
     ) ∷
-    -- G3 imp splits
+    -- connective: imp splits
     (
       (FAllm (FAll (FAll (FAll (FImp FTrue (FImp (FAnd (FRd (EVar 1)) (FWr (EVar 0))) (FWr (EVar 0)))))))),
       Some (App (App (Con (Num 40)) (Lam (App (Con (Num 25)) gt53))) (Lam (App (App (Con (Num 38)) gt53) (Lam (App (App (Con (Num 38)) gt52) (Lam (App (App (Con (Num 38)) gt51) (Lam (App (App (App (Con (Num 35)) (Con (Num 13))) gt50) (Lam (App (App (App (Con (Num 35)) (App gt54 (App (Con (Num 21)) (Var 1)))) (App (Con (Num 21)) (Var 1))) (Lam (App (App (App (Con (Num 31)) (App (Con (Num 20)) (Var 3))) (App (Con (Num 21)) (Var 2))) (Var 0)))))))))))))),
     ) ∷
-    -- G3 allm
+    -- connective: allm
     (
       (FAllm (FAll (FAll (FImp FTrue (FAllm (FRel Eq (ESel (MVar 0) (EVar 1)) (ESel (MVar 0) (EVar 1)))))))),
       Some (App (App (Con (Num 40)) (Lam (App (Con (Num 25)) gt58))) (Lam (App (App (Con (Num 38)) gt58) (Lam (App (App (Con (Num 38)) gt57) (Lam (App (App (App (Con (Num 35)) (Con (Num 13))) gt56) (Lam (App (App (Con (Num 40)) (Lam (App (App (Con (Num 15)) gt59) gt59))) (Lam (App (App (App (App (App (Con (Num 43)) (Lam (App (App (Con (Num 15)) gt60) (Var 0)))) gt59) gt59) (App (App (App (App (App (Con (Num 43)) (Lam (App (App (Con (Num 15)) (Var 0)) gt60))) gt59) gt59) gt61) gt61)) gt61))))))))))),
     ) ∷
-    -- G3 all shifts hypotheses
+    -- connective: all shifts hypotheses
     (
       (FAllm (FAll (FAll (FImp (FRd (EVar 0)) (FAll (FImp (FRd (EVar 0)) (FAnd (FRd (EVar 1)) (FRd (EVar 0))))))))),
       Some (App (App (Con (Num 40)) (Lam (App (Con (Num 25)) gt64))) (Lam (App (App (Con (Num 38)) gt64) (Lam (App (App (Con (Num 38)) gt63) (Lam (App (App gt4 gt62) (Lam (App (App (Con (Num 38)) (Lam (App gt0 gt65))) (Lam (App (App gt4 gt65) (Lam (App (App (App (App (Con (Num 29)) (App (Con (Num 20)) (Var 3))) (App (Con (Num 20)) (Var 1))) (Var 2)) (Var 0)))))))))))))),
     ) ∷
-    -- G3 hypothesis all not instantiated but for rd: none
+    -- connective: hypothesis all not instantiated but for rd: none
     ((FAllm (FAll (FAll (FAll (FImp (FAll (FRel Eq (EVar 0) (EVar 2))) (FRel Eq (EVar 0) (EVar 1))))))), None) ∷
-    -- G4 literal not aligned: none
+    -- multiple of 8: literal not aligned: none
     ((FAllm (FAll (FImp FTrue (FRel Eq (EOp Band (ELit 20) (ELit 7)) (ELit 0))))), None) ∷
-    -- G4 sum
+    -- multiple of 8: sum
     (
       (FAllm (FAll (FAll (FImp (FRel Eq (EOp Band (EVar 0) (ELit 7)) (ELit 0)) (FRel Eq (EOp Band (EOp Add (EVar 0) (ELit 8)) (ELit 7)) (ELit 0)))))),
       Some (App (App (Con (Num 40)) (Lam (App (Con (Num 25)) gt70))) (Lam (App (App (Con (Num 38)) gt70) (Lam (App (App (Con (Num 38)) gt69) (Lam (App (App gt71 gt68) (Lam (App (App (App (App (Con (Num 57)) (Var 1)) (Con (Lit 8))) (Var 0)) (Con (Calc 2 8 7))))))))))),
     ) ∷
-    -- G4 sum of sums
+    -- multiple of 8: sum of sums
     (
       (FAllm (FAll (FAll (FImp (FRel Eq (EOp Band (EVar 0) (ELit 7)) (ELit 0)) (FRel Eq (EOp Band (EOp Add (EOp Add (EVar 0) (EVar 0)) (EOp Add (ELit 8) (EVar 0))) (ELit 7)) (ELit 0)))))),
       Some (App (App (Con (Num 40)) (Lam (App (Con (Num 25)) gt74))) (Lam (App (App (Con (Num 38)) gt74) (Lam (App (App (Con (Num 38)) gt73) (Lam (App (App gt71 gt72) (Lam (App (App (App (App (Con (Num 57)) (App (App (Con (Num 0)) (Var 1)) (Var 1))) (App (App (Con (Num 0)) (Con (Lit 8))) (Var 1))) (App (App (App (App (Con (Num 57)) (Var 1)) (Var 1)) (Var 0)) (Var 0))) (App (App (App (App (Con (Num 57)) (Con (Lit 8))) (Var 1)) (Con (Calc 2 8 7))) (Var 0))))))))))),
     ) ∷
-    -- G4 sll 3
+    -- multiple of 8: sll 3
     (
       (FAllm (FAll (FAll (FImp FTrue (FRel Eq (EOp Band (EOp Sll (EVar 0) (ELit 3)) (ELit 7)) (ELit 0)))))),
       Some (App (App (Con (Num 40)) (Lam (App (Con (Num 25)) gt77))) (Lam (App (App (Con (Num 38)) gt77) (Lam (App (App (Con (Num 38)) gt76) (Lam (App (App (App (Con (Num 35)) (Con (Num 13))) gt75) (Lam (App (Con (Num 58)) (Var 1)))))))))),
     ) ∷
-    -- G4 sll 4: none
+    -- multiple of 8: sll 4: none
     ((FAllm (FAll (FAll (FImp FTrue (FRel Eq (EOp Band (EOp Sll (EVar 0) (ELit 4)) (ELit 7)) (ELit 0)))))), None) ∷
-    -- G4 band w
+    -- multiple of 8: band w
     (
       (FAllm (FAll (FAll (FImp FTrue (FRel Eq (EOp Band (EOp Band (EVar 0) (ELit 24)) (ELit 7)) (ELit 0)))))),
       Some (App (App (Con (Num 40)) (Lam (App (Con (Num 25)) gt80))) (Lam (App (App (Con (Num 38)) gt80) (Lam (App (App (Con (Num 38)) gt79) (Lam (App (App (App (Con (Num 35)) (Con (Num 13))) gt78) (Lam (App (App (App (App gt82 gt83) (Con (Lit 0))) (App (Con (Num 53)) (Var 1))) (App (App (App (App (App (Con (Num 43)) (Lam (App gt81 gt84))) gt85) (Con (Lit 0))) (Con (Calc 2 24 7))) (App (App (App (App gt82 gt86) (App (App (Con (Num 2)) (Var 1)) gt85)) (App (App (App (Con (Num 52)) (Var 1)) (Con (Lit 24))) (Con (Lit 7)))) (App (Con (Num 42)) gt86)))))))))))),
     ) ∷
-    -- G4 w band: none
+    -- multiple of 8: w band: none
     ((FAllm (FAll (FAll (FImp FTrue (FRel Eq (EOp Band (EOp Band (ELit 24) (EVar 0)) (ELit 7)) (ELit 0)))))), None) ∷
-    -- G4 band MAX-7
+    -- multiple of 8: band 2^64 - 8
     (
       (FAllm (FAll (FAll (FImp FTrue (FRel Eq (EOp Band (EOp Band (EVar 0) (ELit 18446744073709551608)) (ELit 7)) (ELit 0)))))),
       Some (App (App (Con (Num 40)) (Lam (App (Con (Num 25)) gt89))) (Lam (App (App (Con (Num 38)) gt89) (Lam (App (App (Con (Num 38)) gt88) (Lam (App (App (App (Con (Num 35)) (Con (Num 13))) gt87) (Lam (App (App (App (App gt91 gt83) (Con (Lit 0))) (App (Con (Num 53)) (Var 1))) (App (App (App (App (App (Con (Num 43)) (Lam (App gt90 gt84))) gt92) (Con (Lit 0))) (Con (Calc 2 18446744073709551608 7))) (App (App (App (App gt91 gt93) (App (App (Con (Num 2)) (Var 1)) gt92)) (App (App (App (Con (Num 52)) (Var 1)) (Con (Lit 18446744073709551608))) (Con (Lit 7)))) (App (Con (Num 42)) gt93)))))))))))),
     ) ∷
-    -- G4 difference: none
+    -- multiple of 8: difference: none
     ((FAllm (FAll (FAll (FImp (FRel Eq (EOp Band (EVar 0) (ELit 7)) (ELit 0)) (FRel Eq (EOp Band (EOp Sub (EVar 0) (ELit 8)) (ELit 7)) (ELit 0)))))), None) ∷
     []
