@@ -13,8 +13,8 @@ use Rattle.lf_rules.proofs.Typed.{bounded}
 use Rattle.lf_rules.proofs.Use.{rule_checks}
 use Rattle.lf_rules.specs.declared.sequent.Sequent.{Sequent}
 use Rattle.lf_rules.specs.Sequents.{trees_of, IsSequent, AreSequents}
-use Rattle.lf_rules.specs.Answers.{AreTyped, Binds, FitsPremise, FitPremises, taken, proofs_taken, HasForm, Concludes}
-use Rattle.lf_rules.specs.Inside.Room.{AreShallow, terms_of, HasRoom}
+use Rattle.lf_rules.specs.Answers.{AreTyped, Binds, FitsPremise, FitPremises, proof_taken, proofs_taken, HasForm, Concludes}
+use Rattle.lf_rules.specs.Inside.Room.{AreShallow, terms_of, HasVarRoom}
 use Rattle.lf_rules.proofs.Grown.{known-more}
 use Rattle.lf_rules.proofs.Fitting.{ctx-same}
 
@@ -43,7 +43,7 @@ module _ (t : TableView) (hyps : List ℕ) (d : ℕ) (few : length (ctx_of t hyp
       under_ready (ctx_of t hyps) d few type (pf goal) (tree_at t s.term)
       (subst (λ (z : Type 0). z) (λ i. Checks declared ((ap (ctx_of t) b.all ∙ ctx-push t hyps b.last ∙ ap (λ z. z ∷ ctx_of t hyps) b.is) i) (tree_at t s.term) (pf (e i))) k.proves) low
 
-  premise_ready : (q : Premise) (s : Sequent) → IsSequent t s → FitsPremise t hyps args q s → binder_depth (tree_at t s.term) ≤ d → IsProof (ctx_of t hyps) d (premise_with q args) (taken q (tree_at t s.term))
+  premise_ready : (q : Premise) (s : Sequent) → IsSequent t s → FitsPremise t hyps args q s → binder_depth (tree_at t s.term) ≤ d → IsProof (ctx_of t hyps) d (premise_with q args) (proof_taken q (tree_at t s.term))
   premise_ready (Plain p) s k h low =
       let proves : Checks declared (ctx_of t hyps) (tree_at t s.term) (pf (form_with p args)) = subst (λ (z : Type 0). z) (λ i. Checks declared (ctx_of t (h.0 i)) (tree_at t s.term) (pf (h.1 i))) k.proves in
       record { checks = proves; room = omega (arith, bounded proves, low, few) }
@@ -58,7 +58,7 @@ module _ (t : TableView) (hyps : List ℕ) (d : ℕ) (few : length (ctx_of t hyp
   proofs_ready (q ∷ qs) [] k h low = elim h [ ]
 
 -- the rule's constant at the parameters and the premises' proofs proves the conclusion
-pub proves_conclusion : (t : TableView) (hyps params : List ℕ) (n : ℕ) (r : Rule) (l : List Sequent) → rule_at n ≡ Some r → AreSequents t l → HasRoom t hyps params l → HasForm t hyps params r l →
+pub proves_conclusion : (t : TableView) (hyps params : List ℕ) (n : ℕ) (r : Rule) (l : List Sequent) → rule_at n ≡ Some r → AreSequents t l → HasVarRoom t hyps params l → HasForm t hyps params r l →
     Checks declared (ctx_of t hyps) (by_rule n (trees_of t params) (proofs_taken t r.premises l)) (pf (form_with r.conclusion (nth_arg (trees_of t params))))
 proves_conclusion t hyps params n r l e k room form =
     let few : length (ctx_of t hyps) + (room.depth + (room.depth + room.depth)) + 32 ≤ 2 ^ 32 = omega (arith, ctx-length t hyps, room.few) in
@@ -66,7 +66,7 @@ proves_conclusion t hyps params n r l e k room form =
     (arguments_ready (ctx_of t hyps) room.depth few r.parameters (trees_of t params) form.typed room.parameters)
     (proofs_ready t hyps room.depth few (nth_arg (trees_of t params)) r.premises l k form.fit room.proofs)
 
-pub concluded : (t u : TableView) (hyps params : List ℕ) (n : ℕ) (r : Rule) (l : List Sequent) (s : Sequent) → rule_at n ≡ Some r → AllKnown t hyps → AreSequents t l → HasRoom t hyps params l → HasForm t hyps params r l →
+pub concluded : (t u : TableView) (hyps params : List ℕ) (n : ℕ) (r : Rule) (l : List Sequent) (s : Sequent) → rule_at n ≡ Some r → AllKnown t hyps → AreSequents t l → HasVarRoom t hyps params l → HasForm t hyps params r l →
     Extends t u → s.hyps.items ≡ hyps → IsKnown u s.goal → tree_at u s.goal ≡ form_with r.conclusion (nth_arg (trees_of t params)) → IsKnown u s.term → tree_at u s.term ≡ by_rule n (trees_of t params) (proofs_taken t r.premises l) → Concludes t u hyps params n r l s
 concluded t u hyps params n r l s e known k room form x same goal-known goal term-known term =
     let ctx : ctx_of t hyps ≡ ctx_of u s.hyps.items = sym (ap (ctx_of u) same ∙ ctx-same t u hyps known x) in

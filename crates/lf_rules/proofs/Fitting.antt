@@ -11,7 +11,7 @@ use Rattle.lf_signature.specs.Laws.Decided.{synth_unique}
 use Rattle.lf_rules.specs.Instance.{form_with}
 use Rattle.lf_rules.specs.declared.sequent.Sequent.{Sequent}
 use Rattle.lf_rules.specs.Sequents.{IsSequent, AreSequents}
-use Rattle.lf_rules.specs.Answers.{AreTyped, Binds, FitsPremise, FitPremises, taken, proofs_taken}
+use Rattle.lf_rules.specs.Answers.{AreTyped, Binds, FitsPremise, FitPremises, proof_taken, proofs_taken}
 use Rattle.lf_rules.proofs.Grown.{known-more}
 
 -- a context stays as the table grows
@@ -58,7 +58,7 @@ sequents-more t u (s ∷ l) h x = (sequent-more t u s h.0 x, sequents-more t u l
 pub proofs-same : (t u : TableView) (qs : List Premise) (l : List Sequent) → AreSequents t l → Extends t u → proofs_taken u qs l ≡ proofs_taken t qs l
 proofs-same t u [] l h x = refl
 proofs-same t u (q ∷ qs) [] h x = refl
-proofs-same t u (q ∷ qs) (s ∷ l) h x = λ i. taken q (x.same s.term h.0.term i) ∷ proofs-same t u qs l h.1 x i
+proofs-same t u (q ∷ qs) (s ∷ l) h x = λ i. proof_taken q (x.same s.term h.0.term i) ∷ proofs-same t u qs l h.1 x i
 
 -- no parameters, no terms
 pub typed-none : (ctx : List Tree) (ss : List Sort) (l : List Tree) (b : Bool) → length ss < 1 → b ≡ (length l == 0) → IsTrue b ↔ AreTyped ctx ss l

@@ -37,15 +37,15 @@ FitPremises t hyps args (q ∷ qs) (s ∷ l) = FitsPremise t hyps args q s × Fi
 FitPremises t hyps args _ _ = ⊥
 
 -- a premise's proof as the rule's constant takes it: under Lam where the premise binds
-abbrev pub taken : Premise → Tree → Tree
-taken (Plain p) a = a
-taken (Under p q) a = Lam a
-taken (ForExp p) a = Lam a
-taken (ForMem p) a = Lam a
+abbrev pub proof_taken : Premise → Tree → Tree
+proof_taken (Plain p) a = a
+proof_taken (Under p q) a = Lam a
+proof_taken (ForExp p) a = Lam a
+proof_taken (ForMem p) a = Lam a
 
 -- the premises' proofs
 abbrev pub proofs_taken : TableView → List Premise → List Sequent → List Tree
-proofs_taken t (q ∷ qs) (s ∷ l) = taken q (tree_at t s.term) ∷ proofs_taken t qs l
+proofs_taken t (q ∷ qs) (s ∷ l) = proof_taken q (tree_at t s.term) ∷ proofs_taken t qs l
 proofs_taken t _ _ = []
 
 -- parameters and premises have the rule's form
@@ -67,5 +67,5 @@ IsRowAnswer before after hyps params n (Some r) premises None = HasForm before h
 IsRowAnswer before after hyps params n (Some r) premises (Some s) = HasForm before hyps params r premises × Concludes before after hyps params n r premises s
 
 -- the answer of rule n: the conclusion's sequent exactly where parameters and premises have the rule's form
-abbrev pub IsAnswer : ℕ → TableView → TableView → List ℕ → List ℕ → List Sequent → Option Sequent → Type 0
-IsAnswer n before after hyps params premises o = IsRowAnswer before after hyps params n (rule_at n) premises o
+abbrev pub IsRuleAnswer : ℕ → TableView → TableView → List ℕ → List ℕ → List Sequent → Option Sequent → Type 0
+IsRuleAnswer n before after hyps params premises o = IsRowAnswer before after hyps params n (rule_at n) premises o

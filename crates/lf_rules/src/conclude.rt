@@ -8,8 +8,8 @@ ghost use Rattle.lf_signature.specs.Nodes.{IsIdOf};
 ghost use Rattle.lf_signature.specs.Sigma1.{declared};
 ghost use Rattle.lf_check.specs.Inside.Kept.{AreKept};
 ghost use Rattle.lf_rules.specs.Sequents.{trees_of, AreSequents};
-ghost use Rattle.lf_rules.specs.Answers.{taken, proofs_taken, IsAnswer};
-ghost use Rattle.lf_rules.specs.Inside.Room.{sequents_of, terms_of, AreShallow, HasRoom};
+ghost use Rattle.lf_rules.specs.Answers.{proof_taken, proofs_taken, IsRuleAnswer};
+ghost use Rattle.lf_rules.specs.Inside.Room.{sequents_of, terms_of, AreShallow, HasVarRoom};
 
 use crate::instance::form_id;
 use crate::premises::{are_typed, do_fit};
@@ -51,7 +51,7 @@ fn has_room(table: &Table, hyps: &[Id], params: &[Id], premises: &[&Sequent]) ->
     requires params { AllKnown table.now params.now }
     requires premises { AreSequents table.now (sequents_of premises.now) }
     ensures { IsTrue result
-        → HasRoom table.now hyps.now params.now (sequents_of premises.now) }
+        → HasVarRoom table.now hyps.now params.now (sequents_of premises.now) }
 {
     let height = u64::from(highest_proof(table, premises, highest(table, params, 0)));
     hyps.len() as u64 <= 4_294_967_264 && 3 * height <= 4_294_967_264 - hyps.len() as u64
@@ -78,7 +78,7 @@ fn applied(table: &mut Table, head: Id, args: &[Id]) -> Result<Id, AllocError>
 fn taken(table: &mut Table, premise: &Premise, term: Id) -> Result<Id, AllocError>
     requires { IsKnown table.old term }
     ensures id { IfOk result
-        (IsIdOf table.new (taken (premise_of premise.now) (tree_at table.old term))) }
+        (IsIdOf table.new (proof_taken (premise_of premise.now) (tree_at table.old term))) }
     ensures extends { Extends table.old table.new }
 {
     match premise {
@@ -139,7 +139,7 @@ pub fn by_rule(
     requires params { AllKnown table.old params.now }
     requires premises { AreSequents table.old (sequents_of premises.now) }
     requires kept { AreKept declared table.old kept.old }
-    ensures answer { IfOk result (IsAnswer number table.old table.new hyps.now params.now
+    ensures answer { IfOk result (IsRuleAnswer number table.old table.new hyps.now params.now
         (sequents_of premises.now)) }
     ensures extends { Extends table.old table.new }
     ensures kept { AreKept declared table.new kept.new }

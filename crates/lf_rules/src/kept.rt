@@ -68,7 +68,8 @@ pub fn beta_id(
     requires f { IsKnown table.old f }
     requires arg { IsKnown table.old arg }
     requires kept { AreKept declared table.old kept.old }
-    ensures id { IfOk result (IsIdOf table.new (beta (tree_at table.old f) (tree_at table.old arg))) }
+    ensures id { IfOk result
+        (IsIdOf table.new (beta (tree_at table.old f) (tree_at table.old arg))) }
     ensures extends { Extends table.old table.new }
     ensures kept { AreKept declared table.new kept.new }
 {

@@ -13,7 +13,7 @@ ghost use Rattle.lf_rules.specs.Instance.{nth_arg, form_with, by_rule, AreArgume
 ghost use Rattle.lf_rules.specs.declared.sequent.Sequent.{Sequent};
 ghost use Rattle.lf_rules.specs.Sequents.{trees_of, IsSequent, AreSequents};
 ghost use Rattle.lf_rules.specs.Answers.{HasForm, proofs_taken};
-ghost use Rattle.lf_rules.specs.Inside.Room.{HasRoom};
+ghost use Rattle.lf_rules.specs.Inside.Room.{HasVarRoom};
 
 /// Laws of sequents: one of a table is one of each later table; without hypotheses its term checks at
 /// the proofs of its goal in the empty context, also in a later table; and a term proves one formula
@@ -32,7 +32,7 @@ pub fn sequent_laws()
 /// them proves the conclusion.
 pub fn conclusion_laws()
     ensures { (t : TableView) (hyps params : List ℕ) (n : ℕ) (r : Rule) (premises : List Sequent)
-        → rule_at n ≡ Some r → AreSequents t premises → HasRoom t hyps params premises
+        → rule_at n ≡ Some r → AreSequents t premises → HasVarRoom t hyps params premises
         → HasForm t hyps params r premises
         → Checks declared (ctx_of t hyps)
         (by_rule n (trees_of t params) (proofs_taken t r.premises premises))

@@ -8,7 +8,7 @@ ghost use Rattle.term_table.specs.Table.{AllKnown, Extends};
 ghost use Rattle.lf_signature.specs.Sigma1.{declared};
 ghost use Rattle.lf_check.specs.Inside.Kept.{AreKept};
 ghost use Rattle.lf_rules.specs.Sequents.{AreSequents};
-ghost use Rattle.lf_rules.specs.Answers.{IsAnswer};
+ghost use Rattle.lf_rules.specs.Answers.{IsRuleAnswer};
 ghost use Rattle.proof_kit.specs.declared.numbers.TheConstants.{ADD_AL, ADD_ASSOC, ADD_COMM, ADD_ZERO, AND_ASSOC, AND_COMM, AND_LE, AND_ZERO, BIS_ZERO, BIS_ZERO_L, SLL_AL, SUB_ADD, SUB_NEG};
 
 use crate::numbers::{
@@ -34,7 +34,7 @@ pub fn add_comm(
     requires hyps { AllKnown table.old hyps.now }
     requires params { AllKnown table.old (a ∷ b ∷ []) }
     requires kept { AreKept declared table.old kept.old }
-    ensures exact { IfOk result (IsAnswer ADD_COMM table.old table.new hyps.now
+    ensures exact { IfOk result (IsRuleAnswer ADD_COMM table.old table.new hyps.now
         (a ∷ b ∷ []) []) }
     ensures extends { Extends table.old table.new }
     ensures kept { AreKept declared table.new kept.new }
@@ -57,7 +57,7 @@ pub fn add_assoc(
     requires hyps { AllKnown table.old hyps.now }
     requires params { AllKnown table.old (a ∷ b ∷ c ∷ []) }
     requires kept { AreKept declared table.old kept.old }
-    ensures exact { IfOk result (IsAnswer ADD_ASSOC table.old table.new hyps.now
+    ensures exact { IfOk result (IsRuleAnswer ADD_ASSOC table.old table.new hyps.now
         (a ∷ b ∷ c ∷ []) []) }
     ensures extends { Extends table.old table.new }
     ensures kept { AreKept declared table.new kept.new }
@@ -78,7 +78,7 @@ pub fn add_zero(
     requires hyps { AllKnown table.old hyps.now }
     requires params { AllKnown table.old (a ∷ []) }
     requires kept { AreKept declared table.old kept.old }
-    ensures exact { IfOk result (IsAnswer ADD_ZERO table.old table.new hyps.now
+    ensures exact { IfOk result (IsRuleAnswer ADD_ZERO table.old table.new hyps.now
         (a ∷ []) []) }
     ensures extends { Extends table.old table.new }
     ensures kept { AreKept declared table.new kept.new }
@@ -100,7 +100,7 @@ pub fn sub_add(
     requires hyps { AllKnown table.old hyps.now }
     requires params { AllKnown table.old (a ∷ b ∷ []) }
     requires kept { AreKept declared table.old kept.old }
-    ensures exact { IfOk result (IsAnswer SUB_ADD table.old table.new hyps.now
+    ensures exact { IfOk result (IsRuleAnswer SUB_ADD table.old table.new hyps.now
         (a ∷ b ∷ []) []) }
     ensures extends { Extends table.old table.new }
     ensures kept { AreKept declared table.new kept.new }
@@ -122,7 +122,7 @@ pub fn sub_neg(
     requires hyps { AllKnown table.old hyps.now }
     requires params { AllKnown table.old (a ∷ b ∷ []) }
     requires kept { AreKept declared table.old kept.old }
-    ensures exact { IfOk result (IsAnswer SUB_NEG table.old table.new hyps.now
+    ensures exact { IfOk result (IsRuleAnswer SUB_NEG table.old table.new hyps.now
         (a ∷ b ∷ []) []) }
     ensures extends { Extends table.old table.new }
     ensures kept { AreKept declared table.new kept.new }
@@ -144,7 +144,7 @@ pub fn and_comm(
     requires hyps { AllKnown table.old hyps.now }
     requires params { AllKnown table.old (a ∷ b ∷ []) }
     requires kept { AreKept declared table.old kept.old }
-    ensures exact { IfOk result (IsAnswer AND_COMM table.old table.new hyps.now
+    ensures exact { IfOk result (IsRuleAnswer AND_COMM table.old table.new hyps.now
         (a ∷ b ∷ []) []) }
     ensures extends { Extends table.old table.new }
     ensures kept { AreKept declared table.new kept.new }
@@ -167,7 +167,7 @@ pub fn and_assoc(
     requires hyps { AllKnown table.old hyps.now }
     requires params { AllKnown table.old (a ∷ b ∷ c ∷ []) }
     requires kept { AreKept declared table.old kept.old }
-    ensures exact { IfOk result (IsAnswer AND_ASSOC table.old table.new hyps.now
+    ensures exact { IfOk result (IsRuleAnswer AND_ASSOC table.old table.new hyps.now
         (a ∷ b ∷ c ∷ []) []) }
     ensures extends { Extends table.old table.new }
     ensures kept { AreKept declared table.new kept.new }
@@ -188,7 +188,7 @@ pub fn and_zero(
     requires hyps { AllKnown table.old hyps.now }
     requires params { AllKnown table.old (a ∷ []) }
     requires kept { AreKept declared table.old kept.old }
-    ensures exact { IfOk result (IsAnswer AND_ZERO table.old table.new hyps.now
+    ensures exact { IfOk result (IsRuleAnswer AND_ZERO table.old table.new hyps.now
         (a ∷ []) []) }
     ensures extends { Extends table.old table.new }
     ensures kept { AreKept declared table.new kept.new }
@@ -210,7 +210,7 @@ pub fn and_le(
     requires hyps { AllKnown table.old hyps.now }
     requires params { AllKnown table.old (a ∷ b ∷ []) }
     requires kept { AreKept declared table.old kept.old }
-    ensures exact { IfOk result (IsAnswer AND_LE table.old table.new hyps.now
+    ensures exact { IfOk result (IsRuleAnswer AND_LE table.old table.new hyps.now
         (a ∷ b ∷ []) []) }
     ensures extends { Extends table.old table.new }
     ensures kept { AreKept declared table.new kept.new }
@@ -231,7 +231,7 @@ pub fn bis_zero(
     requires hyps { AllKnown table.old hyps.now }
     requires params { AllKnown table.old (a ∷ []) }
     requires kept { AreKept declared table.old kept.old }
-    ensures exact { IfOk result (IsAnswer BIS_ZERO table.old table.new hyps.now
+    ensures exact { IfOk result (IsRuleAnswer BIS_ZERO table.old table.new hyps.now
         (a ∷ []) []) }
     ensures extends { Extends table.old table.new }
     ensures kept { AreKept declared table.new kept.new }
@@ -252,7 +252,7 @@ pub fn bis_zero_l(
     requires hyps { AllKnown table.old hyps.now }
     requires params { AllKnown table.old (a ∷ []) }
     requires kept { AreKept declared table.old kept.old }
-    ensures exact { IfOk result (IsAnswer BIS_ZERO_L table.old table.new hyps.now
+    ensures exact { IfOk result (IsRuleAnswer BIS_ZERO_L table.old table.new hyps.now
         (a ∷ []) []) }
     ensures extends { Extends table.old table.new }
     ensures kept { AreKept declared table.new kept.new }
@@ -277,7 +277,7 @@ pub fn add_al(
     requires params { AllKnown table.old (a ∷ b ∷ []) }
     requires premises { AreSequents table.old (p.now ∷ q.now ∷ []) }
     requires kept { AreKept declared table.old kept.old }
-    ensures exact { IfOk result (IsAnswer ADD_AL table.old table.new hyps.now
+    ensures exact { IfOk result (IsRuleAnswer ADD_AL table.old table.new hyps.now
         (a ∷ b ∷ []) (p.now ∷ q.now ∷ [])) }
     ensures extends { Extends table.old table.new }
     ensures kept { AreKept declared table.new kept.new }
@@ -298,7 +298,7 @@ pub fn sll_al(
     requires hyps { AllKnown table.old hyps.now }
     requires params { AllKnown table.old (a ∷ []) }
     requires kept { AreKept declared table.old kept.old }
-    ensures exact { IfOk result (IsAnswer SLL_AL table.old table.new hyps.now
+    ensures exact { IfOk result (IsRuleAnswer SLL_AL table.old table.new hyps.now
         (a ∷ []) []) }
     ensures extends { Extends table.old table.new }
     ensures kept { AreKept declared table.new kept.new }

@@ -8,7 +8,7 @@ ghost use Rattle.term_table.specs.Table.{AllKnown, Extends};
 ghost use Rattle.lf_signature.specs.Sigma1.{declared};
 ghost use Rattle.lf_check.specs.Inside.Kept.{AreKept};
 ghost use Rattle.lf_rules.specs.Sequents.{AreSequents};
-ghost use Rattle.lf_rules.specs.Answers.{IsAnswer};
+ghost use Rattle.lf_rules.specs.Answers.{IsRuleAnswer};
 ghost use Rattle.proof_kit.specs.declared.numbers.TheConstants.{AND_I, AND_L, AND_R, EM, FF_E, IMP_E, IMP_I, OR_E, OR_L, OR_R, TT_I};
 
 use crate::numbers::{AND_I, AND_L, AND_R, EM, FF_E, IMP_E, IMP_I, OR_E, OR_L, OR_R, TT_I};
@@ -28,7 +28,7 @@ pub fn tt_i(
 ) -> Result<Option<Sequent>, AllocError>
     requires hyps { AllKnown table.old hyps.now }
     requires kept { AreKept declared table.old kept.old }
-    ensures exact { IfOk result (IsAnswer TT_I table.old table.new hyps.now
+    ensures exact { IfOk result (IsRuleAnswer TT_I table.old table.new hyps.now
         [] []) }
     ensures extends { Extends table.old table.new }
     ensures kept { AreKept declared table.new kept.new }
@@ -51,7 +51,7 @@ pub fn ff_e(
     requires params { AllKnown table.old (a ∷ []) }
     requires premises { AreSequents table.old (p.now ∷ []) }
     requires kept { AreKept declared table.old kept.old }
-    ensures exact { IfOk result (IsAnswer FF_E table.old table.new hyps.now
+    ensures exact { IfOk result (IsRuleAnswer FF_E table.old table.new hyps.now
         (a ∷ []) (p.now ∷ [])) }
     ensures extends { Extends table.old table.new }
     ensures kept { AreKept declared table.new kept.new }
@@ -76,7 +76,7 @@ pub fn and_i(
     requires params { AllKnown table.old (a ∷ b ∷ []) }
     requires premises { AreSequents table.old (p.now ∷ q.now ∷ []) }
     requires kept { AreKept declared table.old kept.old }
-    ensures exact { IfOk result (IsAnswer AND_I table.old table.new hyps.now
+    ensures exact { IfOk result (IsRuleAnswer AND_I table.old table.new hyps.now
         (a ∷ b ∷ []) (p.now ∷ q.now ∷ [])) }
     ensures extends { Extends table.old table.new }
     ensures kept { AreKept declared table.new kept.new }
@@ -100,7 +100,7 @@ pub fn and_l(
     requires params { AllKnown table.old (a ∷ b ∷ []) }
     requires premises { AreSequents table.old (p.now ∷ []) }
     requires kept { AreKept declared table.old kept.old }
-    ensures exact { IfOk result (IsAnswer AND_L table.old table.new hyps.now
+    ensures exact { IfOk result (IsRuleAnswer AND_L table.old table.new hyps.now
         (a ∷ b ∷ []) (p.now ∷ [])) }
     ensures extends { Extends table.old table.new }
     ensures kept { AreKept declared table.new kept.new }
@@ -124,7 +124,7 @@ pub fn and_r(
     requires params { AllKnown table.old (a ∷ b ∷ []) }
     requires premises { AreSequents table.old (p.now ∷ []) }
     requires kept { AreKept declared table.old kept.old }
-    ensures exact { IfOk result (IsAnswer AND_R table.old table.new hyps.now
+    ensures exact { IfOk result (IsRuleAnswer AND_R table.old table.new hyps.now
         (a ∷ b ∷ []) (p.now ∷ [])) }
     ensures extends { Extends table.old table.new }
     ensures kept { AreKept declared table.new kept.new }
@@ -148,7 +148,7 @@ pub fn or_l(
     requires params { AllKnown table.old (a ∷ b ∷ []) }
     requires premises { AreSequents table.old (p.now ∷ []) }
     requires kept { AreKept declared table.old kept.old }
-    ensures exact { IfOk result (IsAnswer OR_L table.old table.new hyps.now
+    ensures exact { IfOk result (IsRuleAnswer OR_L table.old table.new hyps.now
         (a ∷ b ∷ []) (p.now ∷ [])) }
     ensures extends { Extends table.old table.new }
     ensures kept { AreKept declared table.new kept.new }
@@ -172,7 +172,7 @@ pub fn or_r(
     requires params { AllKnown table.old (a ∷ b ∷ []) }
     requires premises { AreSequents table.old (p.now ∷ []) }
     requires kept { AreKept declared table.old kept.old }
-    ensures exact { IfOk result (IsAnswer OR_R table.old table.new hyps.now
+    ensures exact { IfOk result (IsRuleAnswer OR_R table.old table.new hyps.now
         (a ∷ b ∷ []) (p.now ∷ [])) }
     ensures extends { Extends table.old table.new }
     ensures kept { AreKept declared table.new kept.new }
@@ -199,7 +199,7 @@ pub fn or_e(
     requires params { AllKnown table.old (a ∷ b ∷ c ∷ []) }
     requires premises { AreSequents table.old (p.now ∷ q.now ∷ r.now ∷ []) }
     requires kept { AreKept declared table.old kept.old }
-    ensures exact { IfOk result (IsAnswer OR_E table.old table.new hyps.now
+    ensures exact { IfOk result (IsRuleAnswer OR_E table.old table.new hyps.now
         (a ∷ b ∷ c ∷ []) (p.now ∷ q.now ∷ r.now ∷ [])) }
     ensures extends { Extends table.old table.new }
     ensures kept { AreKept declared table.new kept.new }
@@ -223,7 +223,7 @@ pub fn imp_i(
     requires params { AllKnown table.old (a ∷ b ∷ []) }
     requires premises { AreSequents table.old (p.now ∷ []) }
     requires kept { AreKept declared table.old kept.old }
-    ensures exact { IfOk result (IsAnswer IMP_I table.old table.new hyps.now
+    ensures exact { IfOk result (IsRuleAnswer IMP_I table.old table.new hyps.now
         (a ∷ b ∷ []) (p.now ∷ [])) }
     ensures extends { Extends table.old table.new }
     ensures kept { AreKept declared table.new kept.new }
@@ -248,7 +248,7 @@ pub fn imp_e(
     requires params { AllKnown table.old (a ∷ b ∷ []) }
     requires premises { AreSequents table.old (p.now ∷ q.now ∷ []) }
     requires kept { AreKept declared table.old kept.old }
-    ensures exact { IfOk result (IsAnswer IMP_E table.old table.new hyps.now
+    ensures exact { IfOk result (IsRuleAnswer IMP_E table.old table.new hyps.now
         (a ∷ b ∷ []) (p.now ∷ q.now ∷ [])) }
     ensures extends { Extends table.old table.new }
     ensures kept { AreKept declared table.new kept.new }
@@ -269,7 +269,7 @@ pub fn em(
     requires hyps { AllKnown table.old hyps.now }
     requires params { AllKnown table.old (a ∷ []) }
     requires kept { AreKept declared table.old kept.old }
-    ensures exact { IfOk result (IsAnswer EM table.old table.new hyps.now
+    ensures exact { IfOk result (IsRuleAnswer EM table.old table.new hyps.now
         (a ∷ []) []) }
     ensures extends { Extends table.old table.new }
     ensures kept { AreKept declared table.new kept.new }

@@ -8,7 +8,7 @@ ghost use Rattle.term_table.specs.Table.{AllKnown, Extends};
 ghost use Rattle.lf_signature.specs.Sigma1.{declared};
 ghost use Rattle.lf_check.specs.Inside.Kept.{AreKept};
 ghost use Rattle.lf_rules.specs.Sequents.{AreSequents};
-ghost use Rattle.lf_rules.specs.Answers.{IsAnswer};
+ghost use Rattle.lf_rules.specs.Answers.{IsRuleAnswer};
 ghost use Rattle.proof_kit.specs.declared.numbers.TheConstants.{EQ_REFL, EQ_SUB, SEL_OTHER, SEL_SAME};
 
 use crate::numbers::{EQ_REFL, EQ_SUB, SEL_OTHER, SEL_SAME};
@@ -30,7 +30,7 @@ pub fn eq_refl(
     requires hyps { AllKnown table.old hyps.now }
     requires params { AllKnown table.old (a ∷ []) }
     requires kept { AreKept declared table.old kept.old }
-    ensures exact { IfOk result (IsAnswer EQ_REFL table.old table.new hyps.now
+    ensures exact { IfOk result (IsRuleAnswer EQ_REFL table.old table.new hyps.now
         (a ∷ []) []) }
     ensures extends { Extends table.old table.new }
     ensures kept { AreKept declared table.new kept.new }
@@ -56,7 +56,7 @@ pub fn eq_sub(
     requires params { AllKnown table.old (f ∷ a ∷ b ∷ []) }
     requires premises { AreSequents table.old (p.now ∷ q.now ∷ []) }
     requires kept { AreKept declared table.old kept.old }
-    ensures exact { IfOk result (IsAnswer EQ_SUB table.old table.new hyps.now
+    ensures exact { IfOk result (IsRuleAnswer EQ_SUB table.old table.new hyps.now
         (f ∷ a ∷ b ∷ []) (p.now ∷ q.now ∷ [])) }
     ensures extends { Extends table.old table.new }
     ensures kept { AreKept declared table.new kept.new }
@@ -79,7 +79,7 @@ pub fn sel_same(
     requires hyps { AllKnown table.old hyps.now }
     requires params { AllKnown table.old (m ∷ a ∷ v ∷ []) }
     requires kept { AreKept declared table.old kept.old }
-    ensures exact { IfOk result (IsAnswer SEL_SAME table.old table.new hyps.now
+    ensures exact { IfOk result (IsRuleAnswer SEL_SAME table.old table.new hyps.now
         (m ∷ a ∷ v ∷ []) []) }
     ensures extends { Extends table.old table.new }
     ensures kept { AreKept declared table.new kept.new }
@@ -105,7 +105,7 @@ pub fn sel_other(
     requires params { AllKnown table.old (m ∷ a ∷ b ∷ v ∷ []) }
     requires premises { AreSequents table.old (p.now ∷ []) }
     requires kept { AreKept declared table.old kept.old }
-    ensures exact { IfOk result (IsAnswer SEL_OTHER table.old table.new hyps.now
+    ensures exact { IfOk result (IsRuleAnswer SEL_OTHER table.old table.new hyps.now
         (m ∷ a ∷ b ∷ v ∷ []) (p.now ∷ [])) }
     ensures extends { Extends table.old table.new }
     ensures kept { AreKept declared table.new kept.new }

@@ -8,7 +8,7 @@ ghost use Rattle.term_table.specs.Table.{AllKnown, Extends};
 ghost use Rattle.lf_signature.specs.Sigma1.{declared};
 ghost use Rattle.lf_check.specs.Inside.Kept.{AreKept};
 ghost use Rattle.lf_rules.specs.Sequents.{AreSequents};
-ghost use Rattle.lf_rules.specs.Answers.{IsAnswer};
+ghost use Rattle.lf_rules.specs.Answers.{IsRuleAnswer};
 ghost use Rattle.proof_kit.specs.declared.numbers.TheConstants.{ADD_LE, LE_ANTI, LE_LT, LT_IRR, LT_LE, LT_PRED, MAX_LE, NOT_LT, SLL_MONO, SRL_MONO, ULE_REFL, ULE_TRANS, ULT_ULE, ZERO_LE};
 
 use crate::numbers::{
@@ -37,7 +37,7 @@ pub fn srl_mono(
     requires params { AllKnown table.old (a ∷ b ∷ c ∷ []) }
     requires premises { AreSequents table.old (p.now ∷ []) }
     requires kept { AreKept declared table.old kept.old }
-    ensures exact { IfOk result (IsAnswer SRL_MONO table.old table.new hyps.now
+    ensures exact { IfOk result (IsRuleAnswer SRL_MONO table.old table.new hyps.now
         (a ∷ b ∷ c ∷ []) (p.now ∷ [])) }
     ensures extends { Extends table.old table.new }
     ensures kept { AreKept declared table.new kept.new }
@@ -63,7 +63,7 @@ pub fn sll_mono(
     requires params { AllKnown table.old (a ∷ b ∷ c ∷ []) }
     requires premises { AreSequents table.old (p.now ∷ q.now ∷ []) }
     requires kept { AreKept declared table.old kept.old }
-    ensures exact { IfOk result (IsAnswer SLL_MONO table.old table.new hyps.now
+    ensures exact { IfOk result (IsRuleAnswer SLL_MONO table.old table.new hyps.now
         (a ∷ b ∷ c ∷ []) (p.now ∷ q.now ∷ [])) }
     ensures extends { Extends table.old table.new }
     ensures kept { AreKept declared table.new kept.new }
@@ -84,7 +84,7 @@ pub fn zero_le(
     requires hyps { AllKnown table.old hyps.now }
     requires params { AllKnown table.old (a ∷ []) }
     requires kept { AreKept declared table.old kept.old }
-    ensures exact { IfOk result (IsAnswer ZERO_LE table.old table.new hyps.now
+    ensures exact { IfOk result (IsRuleAnswer ZERO_LE table.old table.new hyps.now
         (a ∷ []) []) }
     ensures extends { Extends table.old table.new }
     ensures kept { AreKept declared table.new kept.new }
@@ -105,7 +105,7 @@ pub fn max_le(
     requires hyps { AllKnown table.old hyps.now }
     requires params { AllKnown table.old (a ∷ []) }
     requires kept { AreKept declared table.old kept.old }
-    ensures exact { IfOk result (IsAnswer MAX_LE table.old table.new hyps.now
+    ensures exact { IfOk result (IsRuleAnswer MAX_LE table.old table.new hyps.now
         (a ∷ []) []) }
     ensures extends { Extends table.old table.new }
     ensures kept { AreKept declared table.new kept.new }
@@ -126,7 +126,7 @@ pub fn ule_refl(
     requires hyps { AllKnown table.old hyps.now }
     requires params { AllKnown table.old (a ∷ []) }
     requires kept { AreKept declared table.old kept.old }
-    ensures exact { IfOk result (IsAnswer ULE_REFL table.old table.new hyps.now
+    ensures exact { IfOk result (IsRuleAnswer ULE_REFL table.old table.new hyps.now
         (a ∷ []) []) }
     ensures extends { Extends table.old table.new }
     ensures kept { AreKept declared table.new kept.new }
@@ -152,7 +152,7 @@ pub fn ule_trans(
     requires params { AllKnown table.old (a ∷ b ∷ c ∷ []) }
     requires premises { AreSequents table.old (p.now ∷ q.now ∷ []) }
     requires kept { AreKept declared table.old kept.old }
-    ensures exact { IfOk result (IsAnswer ULE_TRANS table.old table.new hyps.now
+    ensures exact { IfOk result (IsRuleAnswer ULE_TRANS table.old table.new hyps.now
         (a ∷ b ∷ c ∷ []) (p.now ∷ q.now ∷ [])) }
     ensures extends { Extends table.old table.new }
     ensures kept { AreKept declared table.new kept.new }
@@ -176,7 +176,7 @@ pub fn ult_ule(
     requires params { AllKnown table.old (a ∷ b ∷ []) }
     requires premises { AreSequents table.old (p.now ∷ []) }
     requires kept { AreKept declared table.old kept.old }
-    ensures exact { IfOk result (IsAnswer ULT_ULE table.old table.new hyps.now
+    ensures exact { IfOk result (IsRuleAnswer ULT_ULE table.old table.new hyps.now
         (a ∷ b ∷ []) (p.now ∷ [])) }
     ensures extends { Extends table.old table.new }
     ensures kept { AreKept declared table.new kept.new }
@@ -202,7 +202,7 @@ pub fn lt_le(
     requires params { AllKnown table.old (a ∷ b ∷ c ∷ []) }
     requires premises { AreSequents table.old (p.now ∷ q.now ∷ []) }
     requires kept { AreKept declared table.old kept.old }
-    ensures exact { IfOk result (IsAnswer LT_LE table.old table.new hyps.now
+    ensures exact { IfOk result (IsRuleAnswer LT_LE table.old table.new hyps.now
         (a ∷ b ∷ c ∷ []) (p.now ∷ q.now ∷ [])) }
     ensures extends { Extends table.old table.new }
     ensures kept { AreKept declared table.new kept.new }
@@ -228,7 +228,7 @@ pub fn le_lt(
     requires params { AllKnown table.old (a ∷ b ∷ c ∷ []) }
     requires premises { AreSequents table.old (p.now ∷ q.now ∷ []) }
     requires kept { AreKept declared table.old kept.old }
-    ensures exact { IfOk result (IsAnswer LE_LT table.old table.new hyps.now
+    ensures exact { IfOk result (IsRuleAnswer LE_LT table.old table.new hyps.now
         (a ∷ b ∷ c ∷ []) (p.now ∷ q.now ∷ [])) }
     ensures extends { Extends table.old table.new }
     ensures kept { AreKept declared table.new kept.new }
@@ -252,7 +252,7 @@ pub fn lt_pred(
     requires params { AllKnown table.old (a ∷ b ∷ []) }
     requires premises { AreSequents table.old (p.now ∷ []) }
     requires kept { AreKept declared table.old kept.old }
-    ensures exact { IfOk result (IsAnswer LT_PRED table.old table.new hyps.now
+    ensures exact { IfOk result (IsRuleAnswer LT_PRED table.old table.new hyps.now
         (a ∷ b ∷ []) (p.now ∷ [])) }
     ensures extends { Extends table.old table.new }
     ensures kept { AreKept declared table.new kept.new }
@@ -277,7 +277,7 @@ pub fn le_anti(
     requires params { AllKnown table.old (a ∷ b ∷ []) }
     requires premises { AreSequents table.old (p.now ∷ q.now ∷ []) }
     requires kept { AreKept declared table.old kept.old }
-    ensures exact { IfOk result (IsAnswer LE_ANTI table.old table.new hyps.now
+    ensures exact { IfOk result (IsRuleAnswer LE_ANTI table.old table.new hyps.now
         (a ∷ b ∷ []) (p.now ∷ q.now ∷ [])) }
     ensures extends { Extends table.old table.new }
     ensures kept { AreKept declared table.new kept.new }
@@ -301,7 +301,7 @@ pub fn not_lt(
     requires params { AllKnown table.old (a ∷ b ∷ []) }
     requires premises { AreSequents table.old (p.now ∷ []) }
     requires kept { AreKept declared table.old kept.old }
-    ensures exact { IfOk result (IsAnswer NOT_LT table.old table.new hyps.now
+    ensures exact { IfOk result (IsRuleAnswer NOT_LT table.old table.new hyps.now
         (a ∷ b ∷ []) (p.now ∷ [])) }
     ensures extends { Extends table.old table.new }
     ensures kept { AreKept declared table.new kept.new }
@@ -324,7 +324,7 @@ pub fn lt_irr(
     requires params { AllKnown table.old (a ∷ []) }
     requires premises { AreSequents table.old (p.now ∷ []) }
     requires kept { AreKept declared table.old kept.old }
-    ensures exact { IfOk result (IsAnswer LT_IRR table.old table.new hyps.now
+    ensures exact { IfOk result (IsRuleAnswer LT_IRR table.old table.new hyps.now
         (a ∷ []) (p.now ∷ [])) }
     ensures extends { Extends table.old table.new }
     ensures kept { AreKept declared table.new kept.new }
@@ -352,7 +352,7 @@ pub fn add_le(
     requires params { AllKnown table.old (a ∷ b ∷ c ∷ d ∷ []) }
     requires premises { AreSequents table.old (p.now ∷ q.now ∷ r.now ∷ []) }
     requires kept { AreKept declared table.old kept.old }
-    ensures exact { IfOk result (IsAnswer ADD_LE table.old table.new hyps.now
+    ensures exact { IfOk result (IsRuleAnswer ADD_LE table.old table.new hyps.now
         (a ∷ b ∷ c ∷ d ∷ []) (p.now ∷ q.now ∷ r.now ∷ [])) }
     ensures extends { Extends table.old table.new }
     ensures kept { AreKept declared table.new kept.new }

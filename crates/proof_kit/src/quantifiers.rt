@@ -8,7 +8,7 @@ ghost use Rattle.term_table.specs.Table.{AllKnown, Extends};
 ghost use Rattle.lf_signature.specs.Sigma1.{declared};
 ghost use Rattle.lf_check.specs.Inside.Kept.{AreKept};
 ghost use Rattle.lf_rules.specs.Sequents.{AreSequents};
-ghost use Rattle.lf_rules.specs.Answers.{IsAnswer};
+ghost use Rattle.lf_rules.specs.Answers.{IsRuleAnswer};
 ghost use Rattle.proof_kit.specs.declared.numbers.TheConstants.{ALLM_E, ALLM_I, ALL_E, ALL_I};
 
 use crate::numbers::{ALL_E, ALL_I, ALLM_E, ALLM_I};
@@ -32,7 +32,7 @@ pub fn all_i(
     requires params { AllKnown table.old (f ∷ []) }
     requires premises { AreSequents table.old (p.now ∷ []) }
     requires kept { AreKept declared table.old kept.old }
-    ensures exact { IfOk result (IsAnswer ALL_I table.old table.new hyps.now
+    ensures exact { IfOk result (IsRuleAnswer ALL_I table.old table.new hyps.now
         (f ∷ []) (p.now ∷ [])) }
     ensures extends { Extends table.old table.new }
     ensures kept { AreKept declared table.new kept.new }
@@ -56,7 +56,7 @@ pub fn all_e(
     requires params { AllKnown table.old (f ∷ a ∷ []) }
     requires premises { AreSequents table.old (p.now ∷ []) }
     requires kept { AreKept declared table.old kept.old }
-    ensures exact { IfOk result (IsAnswer ALL_E table.old table.new hyps.now
+    ensures exact { IfOk result (IsRuleAnswer ALL_E table.old table.new hyps.now
         (f ∷ a ∷ []) (p.now ∷ [])) }
     ensures extends { Extends table.old table.new }
     ensures kept { AreKept declared table.new kept.new }
@@ -79,7 +79,7 @@ pub fn allm_i(
     requires params { AllKnown table.old (g ∷ []) }
     requires premises { AreSequents table.old (p.now ∷ []) }
     requires kept { AreKept declared table.old kept.old }
-    ensures exact { IfOk result (IsAnswer ALLM_I table.old table.new hyps.now
+    ensures exact { IfOk result (IsRuleAnswer ALLM_I table.old table.new hyps.now
         (g ∷ []) (p.now ∷ [])) }
     ensures extends { Extends table.old table.new }
     ensures kept { AreKept declared table.new kept.new }
@@ -103,7 +103,7 @@ pub fn allm_e(
     requires params { AllKnown table.old (g ∷ m ∷ []) }
     requires premises { AreSequents table.old (p.now ∷ []) }
     requires kept { AreKept declared table.old kept.old }
-    ensures exact { IfOk result (IsAnswer ALLM_E table.old table.new hyps.now
+    ensures exact { IfOk result (IsRuleAnswer ALLM_E table.old table.new hyps.now
         (g ∷ m ∷ []) (p.now ∷ [])) }
     ensures extends { Extends table.old table.new }
     ensures kept { AreKept declared table.new kept.new }

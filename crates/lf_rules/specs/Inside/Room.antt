@@ -26,7 +26,7 @@ AreShallow d [] = Unit {0}
 AreShallow d (a ∷ l) = (binder_depth a ≤ d) × AreShallow d l
 
 -- the hypotheses, and the binders of parameters and proofs, are so few that no variable of the rule's typing reaches 2 ^ 32
-pub record HasRoom (t : TableView) (hyps params : List ℕ) (premises : List Sequent) : Type 0 where
+pub record HasVarRoom (t : TableView) (hyps params : List ℕ) (premises : List Sequent) : Type 0 where
   pub depth : ℕ
   pub few : length hyps + (depth + (depth + depth)) + 32 ≤ 2 ^ 32
   pub parameters : AreShallow depth (trees_of t params)

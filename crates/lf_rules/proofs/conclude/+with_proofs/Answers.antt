@@ -4,7 +4,7 @@ use Rattle.term_table.specs.Table.{tree_at, Extends}
 use Rattle.lf_signature.specs.Schemas.{premise_of}
 use Rattle.lf_signature.specs.Nodes.{IsIdOf}
 use Rattle.lf_rules.specs.Sequents.{AreSequents}
-use Rattle.lf_rules.specs.Answers.{taken, proofs_taken}
+use Rattle.lf_rules.specs.Answers.{proof_taken, proofs_taken}
 use Rattle.lf_rules.specs.Inside.Room.{sequents_of}
 use Rattle.lf_rules.proofs.Grown.{extends_trans}
 use Rattle.lf_rules.proofs.Fitting.{sequents-more, proofs-same}
@@ -35,7 +35,7 @@ returns-in_ok-next-in-len1-up-premises-clause-id t c =
     let x : Extends t₀ t₁ = c.in_ok-proof-in-len1-up-premises.ensures.extends in
     let grown : Extends t₀ t₂ = extends_trans t₀ t₁ t₂ x c.in_ok-next-in-len1-up-premises.ensures.extends in
     let proof = c.in_ok-proof-in-len1-up-premises.ensures.id.is in
-    let next : tree_at t₂ c.in_ok-next-in-len1-up-premises.next ≡ App (tree_at t₀ c.args.head) (taken (premise_of c.row-item.result) (tree_at t₀ c.premise-item.result.now.term)) =
+    let next : tree_at t₂ c.in_ok-next-in-len1-up-premises.next ≡ App (tree_at t₀ c.args.head) (proof_taken (premise_of c.row-item.result) (tree_at t₀ c.premise-item.result.now.term)) =
     c.in_ok-next-in-len1-up-premises.ensures.id.1 ∙ (λ i. App (x.same c.args.head c.requires.head i) (proof i)) in
     let whole : apps (tree_at t₂ c.in_ok-next-in-len1-up-premises.next) (proofs_taken t₂ (map premise_of rows-rest) (sequents_of rest)) ≡ apps (tree_at t₀ c.args.head) (proofs_taken t₀ (map premise_of c.args.rows.now) (sequents_of c.args.premises.now)) =
     (λ i. apps (next i) (proofs-same t₀ t₂ (map premise_of rows-rest) (sequents_of rest) known.1 grown i))

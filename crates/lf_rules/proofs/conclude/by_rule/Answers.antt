@@ -7,7 +7,7 @@ use Rattle.lf_rules.specs.Instance.{nth_arg, form_with, by_rule}
 use Rattle.lf_rules.proofs.Shifts.{shift-none}
 use Rattle.lf_rules.specs.Sequents.{trees_of}
 use Rattle.lf_rules.specs.Answers.{FitPremises, HasForm, IsRowAnswer, proofs_taken}
-use Rattle.lf_rules.specs.Inside.Room.{sequents_of, HasRoom}
+use Rattle.lf_rules.specs.Inside.Room.{sequents_of, HasVarRoom}
 use Rattle.lf_rules.proofs.Grown.{known-more, kept-last, trees-same, extends_trans}
 use Rattle.lf_rules.proofs.Fitting.{sequents-more, fit-more, fit-back, proofs-same}
 use Rattle.lf_rules.proofs.Concluding.{concluded}
@@ -73,7 +73,7 @@ returns-clause-answer c =
     let x₄ : Extends t₀ t₄ = extends_trans t₀ t₃ t₄ x₃ c.in_ok-head.ensures.extends in
     let x₅ : Extends t₀ t₅ = extends_trans t₀ t₄ t₅ x₄ c.in_ok-term.ensures.extends in
     let later : Extends t₃ t₅ = extends_trans t₃ t₄ t₅ c.in_ok-head.ensures.extends c.in_ok-term.ensures.extends in
-    let room : HasRoom t₀ hyps params l = c.has_room.ensures c.if-not-has_room.false in
+    let room : HasVarRoom t₀ hyps params l = c.has_room.ensures c.if-not-has_room.false in
     let fit : FitPremises t₀ hyps args r.premises l =
     fit-back t₀ t₁ hyps args r.premises l c.requires.premises x₁
     (subst (λ z. FitPremises t₁ hyps (nth_arg z) r.premises l) (trees-same t₀ t₁ params c.requires.params x₁) (c.in_ok-do_fit.ensures.answer.0 c.if-not-branch-2.false)) in
