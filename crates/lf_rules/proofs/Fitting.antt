@@ -2,7 +2,7 @@
 use Rattle.std.specs.Prelude.{Result, Ok, Err}
 use Rattle.std.proofs.Common.{◌≡◌, ◌↔◌, ◌==◌, ◌<◌, Bool, IfOk, IsTrue, ℕ, suc, ◌++◌, List, [], ◌∷◌, refl, sym, ◌∙◌, ap, subst, length, eqb-true, arith}
 use Rattle.term_table.specs.Tree.{Tree}
-use Rattle.term_table.specs.Table.{TableView, IsKnown, AllKnown, tree_at, put_last, ctx_of, Extends, AreDifferent}
+use Rattle.term_table.specs.Table.{TableView, IsKnown, AllKnown, tree_at, put_last, ctx_of, Extends}
 use Rattle.lf_signature.specs.Terms.{exp, mem, pf}
 use Rattle.lf_signature.specs.Rules.{Sort, sort_type, Premise, Plain, Under, ForExp, ForMem}
 use Rattle.lf_signature.specs.Typing.{Checks, atom_checks}
@@ -35,13 +35,6 @@ binds-back t u hyps ids type x k b =
 pub binds-more : (t u : TableView) (hyps ids : List ℕ) (type : Tree) → Extends t u → Binds t hyps type ids → Binds u hyps type ids
 binds-more t u hyps ids type x b = record { last = b.last; known = omega (arith, b.known, x.longer); is = x.same b.last b.known ∙ b.is; all = b.all }
 
--- the id of the type is the one that is bound, since ids of one tree are one
-pub binds_one : (t : TableView) (hyps ids : List ℕ) (kind : ℕ) → AreDifferent t.trees → IsKnown t kind → Binds t hyps (tree_at t kind) ids → ids ≡ hyps ++ kind ∷ []
-binds_one t hyps ids kind d k b = b.all ∙ ap (λ z. hyps ++ z ∷ []) (d b.last kind b.known k b.is)
-
-pub one_binds : (t : TableView) (hyps ids : List ℕ) (kind : ℕ) → IsKnown t kind → ids ≡ hyps ++ kind ∷ [] → Binds t hyps (tree_at t kind) ids
-one_binds t hyps ids kind k e = record { last = kind; known = k; is = refl; all = e }
-
 pub sequent-more : (t u : TableView) (s : Sequent) → IsSequent t s → Extends t u → IsSequent u s
 sequent-more t u s h x =
     record {
@@ -69,12 +62,6 @@ typed-none ctx (s ∷ ss) l b h e = absurd (omega (arith, h))
 -- a parameter and more
 pub typed-next : (ctx : List Tree) (s : Sort) (ss : List Sort) (a : Tree) (l : List Tree) (b : Bool) → Checks declared ctx a (sort_type s) → IsTrue b ↔ AreTyped ctx ss l → IsTrue b ↔ AreTyped ctx (s ∷ ss) (a ∷ l)
 typed-next ctx s ss a l b h e = (λ q. (h, e.0 q), λ w. e.1 w.1)
-
--- no premises, no sequents
-pub fit-none : (t : TableView) (hyps : List ℕ) (args : ℕ → Tree) (qs : List Premise) (l : List Sequent) (b : Bool) → length qs < 1 → b ≡ (length l == 0) → IsTrue b ↔ FitPremises t hyps args qs l
-fit-none t hyps args [] [] b h e = (λ q. tt, λ w. e)
-fit-none t hyps args [] (a ∷ l) b h e = (λ q. let no : suc (length l) ≡ 0 = eqb-true (suc (length l)) 0 (sym e ∙ q) in absurd (omega (arith, no)), λ w. elim w [ ])
-fit-none t hyps args (q ∷ qs) l b h e = absurd (omega (arith, h))
 
 pub if_ok_iff : {B : Type 0} (r : Result Bool B) (P Q : Type 0) → ((b : Bool) → IsTrue b ↔ P → IsTrue b ↔ Q) → IfOk r (λ b. IsTrue b ↔ P) → IfOk r (λ b. IsTrue b ↔ Q)
 if_ok_iff (Ok b) P Q f h = f b h
