@@ -20,13 +20,22 @@ use Rattle.easy_class.proofs.Scope.{OverExp, Over, nesting}
 use Rattle.easy_class.proofs.Encoded.{shift-form_encoding, over_wider, wider_one}
 use Rattle.easy_class.proofs.Typed.{form_bound}
 use Rattle.easy_class.specs.ProofTerms.{AExp, AForm, and_l, and_r, word_rule}
-use Rattle.easy_class.specs.Hypotheses.{Hyps, same_form, find_hyp, raised_hyps, compared, rel_hyps, not_hyps, zero_of, one_of, zero_hyps, one_hyps, imp_hyps, split_hyps}
+use Rattle.easy_class.specs.Hypotheses.{Hyps, same_form, find_hyp, raised_hyps, compared, rel_hyps, not_hyps, zero_of, one_of, zero_hyps, one_hyps, imp_hyps, split_hyps, added, with_new}
 use Rattle.easy_class.proofs.Proved.{Proves, Stays, IsHyp, AreHyps}
 use Rattle.easy_class.proofs.Uses.{rule_stays, stays_now, nesting-shift}
 
 pub append_are : (bound d k : ℕ) (ctx : List Tree) (l m : Hyps) → AreHyps bound d k ctx l → AreHyps bound d k ctx m → AreHyps bound d k ctx (l ++ m)
 append_are bound d k ctx [] m h g = g
 append_are bound d k ctx (x ∷ l) m h g = (h.0, append_are bound d k ctx l m h.1 g)
+
+added_are : (bound d k : ℕ) (ctx : List Tree) (o : Option Tree) (l : Hyps) (h : Form × Tree) → AreHyps bound d k ctx l → AreHyps bound d k ctx (h ∷ []) → AreHyps bound d k ctx (added o l h)
+added_are bound d k ctx (Some p) l h a b = a
+added_are bound d k ctx None l h a b = append_are bound d k ctx l (h ∷ []) a b
+
+pub with_new_are : (bound d k : ℕ) (ctx : List Tree) (l m : Hyps) → AreHyps bound d k ctx l → AreHyps bound d k ctx m → AreHyps bound d k ctx (with_new l m)
+with_new_are bound d k ctx l [] a b = a
+with_new_are bound d k ctx l (h ∷ m) a b =
+    with_new_are bound d k ctx (added (find_hyp l h.0) l h) m (added_are bound d k ctx (find_hyp l h.0) l h a (b.0, tt)) b.1
 
 -- under one more binder
 pub raised_are : (bound d k : ℕ) (ctx : List Tree) (t : Tree) (l : Hyps) → AreHyps bound d (suc k) ctx l → AreHyps bound d k (t ∷ ctx) (raised_hyps l)

@@ -10,12 +10,12 @@ use Rattle.lf_encode.specs.Encoding.{form_encoding}
 use Rattle.easy_class.proofs.Scope.{Over, nesting}
 use Rattle.easy_class.proofs.Encoded.{over_wider, wider_one}
 use Rattle.easy_class.specs.ProofTerms.{AForm, tt_i, ff_e, and_i, or_l, or_r, imp_i, imp_e, all_i, allm_i}
-use Rattle.easy_class.specs.Hypotheses.{Hyps, find_hyp, raised_hyps, split_hyps}
+use Rattle.easy_class.specs.Hypotheses.{Hyps, find_hyp, raised_hyps, split_hyps, with_new}
 use Rattle.easy_class.specs.Goals.{first_of, refute, refuted, absurdity, Prover, by_shape, goal_proof}
 use Rattle.easy_class.proofs.Proved.{Proves, IsHyp, AreHyps}
 use Rattle.easy_class.proofs.Uses.{rule_proves, stays_now, nesting-shift}
 use Rattle.easy_class.proofs.Named.{imp_i_proves, all_i_proves, allm_i_proves}
-use Rattle.easy_class.proofs.Hypotheses.{append_are, raised_are, find_proves, first_hyp, split_are}
+use Rattle.easy_class.proofs.Hypotheses.{with_new_are, raised_are, find_proves, first_hyp, split_are}
 
 pub else_some : (a b : Option Tree) (p : Tree) → first_of a b ≡ Some p → (a ≡ Some p) ⊎ (b ≡ Some p)
 else_some (Some q) b p e = inl e
@@ -91,14 +91,14 @@ module _ (e d : ℕ) (room : e + (d + d + d) + 16 ≤ 2 ^ 32) (some : 0 < d) (s 
             (sa k out ctx Γ B a.0 w g o.1 (omega (arith, n)) (omega (arith, m)) a.1, tt))
 
     imp_says : (k out : ℕ) (ctx : List Tree) (Γ : Hyps) (A B : Form) (p : Tree) → length ctx + suc k ≤ e → AreHyps (e + d) d (suc k) ctx Γ → Over (FImp A B) ctx → nesting (FImp A B) + s ≤ suc k → nesting (FImp A B) ≤ d →
-        option_map (imp_i A B) (again (suc out) (raised_hyps Γ ++ split_hyps (shift_form 1 0 A) (Var 0)) (shift_form 1 0 B)) ≡ Some p → Says ctx (FImp A B) p
+        option_map (imp_i A B) (again (suc out) (with_new (raised_hyps Γ) (split_hyps (shift_form 1 0 A) (Var 0))) (shift_form 1 0 B)) ≡ Some p → Says ctx (FImp A B) p
     imp_says k out ctx Γ A B p w g o n m q =
         let under = pf (form_encoding A) ∷ ctx in
-        let Γ' = raised_hyps Γ ++ split_hyps (shift_form 1 0 A) (Var 0) in
+        let Γ' = with_new (raised_hyps Γ) (split_hyps (shift_form 1 0 A) (Var 0)) in
         let a = map_some (again (suc out) Γ' (shift_form 1 0 B)) (imp_i A B) p q in
         let w' : length under + k ≤ e = omega (arith, w) in
         let h : AreHyps (e + d) d k under Γ' =
-        append_are (e + d) d k under (raised_hyps Γ) (split_hyps (shift_form 1 0 A) (Var 0)) (raised_are (e + d) d k ctx (pf (form_encoding A)) Γ g)
+        with_new_are (e + d) d k under (raised_hyps Γ) (split_hyps (shift_form 1 0 A) (Var 0)) (raised_are (e + d) d k ctx (pf (form_encoding A)) Γ g)
         (split_are e d room some k under w' (shift_form 1 0 A) (Var 0) (first_hyp e d room some k ctx w A o.0 (omega (arith, m)))) in
         let b : Says under (shift_form 1 0 B) a.0 =
         sa k (suc out) under Γ' (shift_form 1 0 B) a.0 w' h (over_wider B 0 ctx under (wider_one ctx (pf (form_encoding A))) o.1) (omega (arith, n, nesting-shift B 1 0)) (omega (arith, m, nesting-shift B 1 0)) a.1 in

@@ -1,5 +1,5 @@
 -- Which formulas are easy under hypotheses, and their proofs.
-use Rattle.std.specs.Prelude.{ℕ, zero, suc, ◌%◌, if◌then◌else◌, nat_lt, nat_le, ◌==◌, Option, Some, None, [], ◌∷◌, ◌++◌}
+use Rattle.std.specs.Prelude.{ℕ, zero, suc, ◌%◌, if◌then◌else◌, nat_lt, nat_le, ◌==◌, Option, Some, None, [], ◌∷◌}
 use Rattle.std.specs.Option.{option_map}
 use Rattle.term_table.specs.Tree.{Tree, Var}
 use Rattle.term_table.specs.Subst.{bind}
@@ -7,7 +7,7 @@ use Rattle.word_ops.specs.declared.Op.TheVariants.{Add, Band, Sll}
 use Rattle.word_ops.specs.declared.Rel.TheVariants.{Eq, Ult, Ule}
 use Rattle.formula_tree.specs.Formulas.{Exp, EVar, ELit, EOp, Form, FTrue, FFalse, FRel, FAnd, FOr, FImp, FAll, FAllm, shift_form}
 use Rattle.easy_class.specs.ProofTerms.{tt_i, ff_e, and_i, or_l, or_r, imp_i, imp_e, all_i, allm_i, word_rule, eq_refl, move, up, calc, fact}
-use Rattle.easy_class.specs.Hypotheses.{Hyps, find_hyp, raised_hyps, split_hyps}
+use Rattle.easy_class.specs.Hypotheses.{Hyps, find_hyp, raised_hyps, split_hyps, with_new}
 use Rattle.easy_class.specs.Bounds.{WordBound, upper_bound, lower_bound}
 use Rattle.easy_class.specs.NormalForms.{normal_form, held_of_words, equal_forms}
 
@@ -39,7 +39,7 @@ abbrev pub by_shape : Prover → Prover → Prover
 by_shape again leaf out Γ FTrue = Some tt_i
 by_shape again leaf out Γ (FAnd A B) = bind (again out Γ A) (λ p. option_map (and_i A B p) (again out Γ B))
 by_shape again leaf out Γ (FOr A B) = first_of (option_map (or_l A B) (again out Γ A)) (option_map (or_r A B) (again out Γ B))
-by_shape again leaf out Γ (FImp A B) = option_map (imp_i A B) (again (suc out) (raised_hyps Γ ++ split_hyps (shift_form 1 0 A) (Var 0)) (shift_form 1 0 B))
+by_shape again leaf out Γ (FImp A B) = option_map (imp_i A B) (again (suc out) (with_new (raised_hyps Γ) (split_hyps (shift_form 1 0 A) (Var 0))) (shift_form 1 0 B))
 by_shape again leaf out Γ (FAll A) = option_map (all_i A) (again (suc out) (raised_hyps Γ) A)
 by_shape again leaf out Γ (FAllm A) = option_map (allm_i A) (again (suc out) (raised_hyps Γ) A)
 by_shape again leaf out Γ A = leaf out Γ A

@@ -103,3 +103,13 @@ split_hyps (FWr a) h = (FWr a, h) ∷ []
 split_hyps (FOr A B) h = (FOr A B, h) ∷ []
 split_hyps (FAll A) h = (FAll A, h) ∷ []
 split_hyps (FAllm A) h = (FAllm A, h) ∷ []
+
+-- one more at the end, unless its formula was found
+abbrev pub added : Option Tree → Hyps → Form × Tree → Hyps
+added (Some p) Γ h = Γ
+added None Γ h = Γ ++ h ∷ []
+
+-- with the others at the end, but none whose formula is a hypothesis already
+abbrev pub with_new : Hyps → Hyps → Hyps
+with_new Γ [] = Γ
+with_new Γ (h ∷ l) = with_new (added (find_hyp Γ h.0) Γ h) l

@@ -114,15 +114,18 @@ fn with_proofs(
     }
 }
 
-/// The rule's constant at its parameters.
-pub fn head_of(table: &mut Table, number: u32, params: &[Id]) -> Result<Id, AllocError>
-    requires { AllKnown table.old params.now }
+/// The rule's constant of this number at terms, the first first: its parameters and then proofs of its
+/// premises, or the first of these. What they are isn't asked.
+///
+/// Errors: want of memory alone; each id keeps its tree.
+pub fn rule_term(table: &mut Table, number: u32, args: &[Id]) -> Result<Id, AllocError>
+    requires { AllKnown table.old args.now }
     ensures id { IfOk result
-        (IsIdOf table.new (apps (Con (Num number)) (trees_of table.old params.now))) }
+        (IsIdOf table.new (apps (Con (Num number)) (trees_of table.old args.now))) }
     ensures extends { Extends table.old table.new }
 {
     let head = table.intern(Node::Const(number))?;
-    applied(table, head, params)
+    applied(table, head, args)
 }
 
 /// The sequent of the conclusion of the rule of this number, at these parameters and premises.
@@ -157,7 +160,7 @@ pub fn by_rule(
         return Ok(None);
     }
     let goal = form_id(table, kept, params, 0, &rule.conclusion)?;
-    let head = head_of(table, number, params)?;
+    let head = rule_term(table, number, params)?;
     let term = with_proofs(table, head, rule.premises, premises)?;
     let hyps = hyps.to_vec(alloc)?;
     Ok(Some(Sequent { hyps, goal, term }))

@@ -22,6 +22,6 @@ mod premises;
 mod sequent;
 mod theorems;
 
-pub use conclude::by_rule;
+pub use conclude::{by_rule, rule_term};
 pub use sequent::Sequent;
 pub use theorems::{conclusion_laws, plain_laws, rule_laws, sequent_laws};

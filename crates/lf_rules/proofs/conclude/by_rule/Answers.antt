@@ -38,8 +38,8 @@ returns-then-not-branch-2-clause-answer c =
 pub form_id-requires-clause-known : goal.form_id-requires-clause-known
 form_id-requires-clause-known c = search (rules, known-more)
 
-pub head_of-requires : goal.head_of-requires
-head_of-requires c = search (rules, known-more)
+pub rule_term-requires : goal.head_of-requires
+rule_term-requires c = search (rules, known-more)
 
 pub returns-in_err-head-clause-kept : goal.returns-in_err-head-clause-kept
 returns-in_err-head-clause-kept c = search (rules, kept-last)
@@ -59,7 +59,7 @@ returns-clause-answer c =
     let t₁ = c.are_typed.new.table in
     let t₂ = c.do_fit.new.table in
     let t₃ = c.form_id.new.table in
-    let t₄ = c.head_of.new.table in
+    let t₄ = c.rule_term.new.table in
     let t₅ = c.with_proofs.new.table in
     let hyps = c.args.hyps.now in
     let params = c.args.params.now in

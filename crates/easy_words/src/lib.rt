@@ -1,0 +1,12 @@
+//! Upper and lower bounds and normal forms of expressions, with their proofs, on ids of a table.
+//!
+//! The layer above uses that `upper_bound`, `lower_bound` and `normal_form` answer what the easy
+//! class's definitions give (`easy_class`, `specs/Bounds` and `specs/NormalForms`): the value or the
+//! expression, and the proof as a term, of which the ids stand. No shared expression is gone through
+//! twice: what was found is kept by the expression's id. The steps that all proofs are made of stand
+//! here too (`steps`). Source: Necula, Proof-Carrying Code, POPL 1997 (the rules of arithmetic).
+#![tactic(auto)]
+
+mod steps;
+
+pub use steps::{calc, fact, moved, oper, reflexive, relation, swapped};

@@ -1,0 +1,37 @@
+//! Hypotheses with their proofs, as ids.
+
+ghost use Rattle.std.specs.Prelude.{◌≤◌, ◌^◌, IfOk};
+ghost use Rattle.term_table.specs.Tree.{shift};
+ghost use Rattle.term_table.specs.Table.{IsKnown, tree_at, Extends};
+ghost use Rattle.hereditary_subst.specs.Inside.Kept.{IsMemo};
+ghost use Rattle.lf_signature.specs.Nodes.{IsIdOf};
+
+use hereditary_subst::{Memo, weaken_with};
+use std::alloc::AllocError;
+use term_table::{Id, Table};
+
+/// A hypothesis and a proof of it.
+#[derive(Clone, Copy)]
+pub struct Hypothesis {
+    /// The formula.
+    pub form: Id,
+    /// The proof.
+    pub proof: Id,
+}
+
+/// The tree under one more binder, with the shifts that `memo` keeps of earlier calls on the table.
+///
+/// Errors: want of memory alone, which a variable that would reach 2^32 and more results than the
+/// memo may keep are too; each id keeps its tree.
+pub fn raised(table: &mut Table, memo: &mut Memo, id: Id) -> Result<Id, AllocError>
+    requires known { IsKnown table.old id }
+    requires memo { IsMemo table.old memo.old }
+    ensures id { IfOk result (IsIdOf table.new (shift 1 0 (tree_at table.old id))) }
+    ensures extends { Extends table.old table.new }
+    ensures memo { IsMemo table.new memo.new }
+{
+    match weaken_with(table, memo, id, 1)? {
+        Some(raised) => Ok(raised),
+        None => Err(AllocError),
+    }
+}

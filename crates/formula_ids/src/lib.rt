@@ -1,0 +1,15 @@
+//! Formulas and expressions as ids of a table, read one node at a time.
+//!
+//! The layers above use that `form_node` and `exp_node` say of the id of a formula's or an
+//! expression's encoding what stands at its head, and give the ids of its parts (`specs/Nodes`); a
+//! part's id is lower. So a shared part is one id, and equal formulas are equal ids. Source: Harper,
+//! Honsell and Plotkin, A Framework for Defining Logics, JACM 1993 (adequacy of encodings).
+#![tactic(auto)]
+
+mod forms;
+mod hypotheses;
+mod nodes;
+
+pub use forms::{FormNode, form_node};
+pub use hypotheses::{Hypothesis, raised};
+pub use nodes::{ExpNode, MemNode, exp_node, mem_node};
