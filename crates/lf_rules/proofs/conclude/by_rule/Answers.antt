@@ -38,7 +38,7 @@ returns-then-not-branch-2-clause-answer c =
 pub form_id-requires-clause-known : goal.form_id-requires-clause-known
 form_id-requires-clause-known c = search (rules, known-more)
 
-pub rule_term-requires : goal.head_of-requires
+pub rule_term-requires : goal.rule_term-requires
 rule_term-requires c = search (rules, known-more)
 
 pub returns-in_err-head-clause-kept : goal.returns-in_err-head-clause-kept
