@@ -97,6 +97,7 @@ pub fn moved(
 }
 
 /// The proof that `b` equals `a`, by a proof that `a` equals `b`.
+#[tactic(auto, using(crate::proofs::Growing::rows))]
 pub fn swapped(
     table: &mut Table,
     memo: &mut Memo,
