@@ -1,0 +1,2 @@
+-- Words of the private functions and of the invariant of the hypotheses.
+pub mod Places
