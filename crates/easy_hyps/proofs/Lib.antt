@@ -1,2 +1,7 @@
 pub mod Index
 pub mod Known
+pub mod Growing
+mod Raised
+mod Compared
+mod Splits
+mod Refuted

@@ -7,7 +7,14 @@
 #![tactic(auto)]
 
 mod collection;
+mod comparing;
 mod finding;
+mod raising;
+mod refuting;
+mod splitting;
 
 pub use collection::Hypotheses;
 pub use finding::find_hyp;
+pub use raising::raised_hyps;
+pub use refuting::absurdity;
+pub use splitting::add_split;
