@@ -1,12 +1,12 @@
 -- What a comparison is split into: itself, and others.
-use Rattle.std.proofs.Common.{◌≡◌, ℕ, zero, suc, Bool, true, false, not, Option, Some, None, ◌∷◌, refl}
+use Rattle.std.proofs.Common.{◌≡◌, ℕ, zero, suc, Bool, true, false, not, Some, ◌∷◌, refl}
 use Rattle.term_table.specs.Tree.{Tree}
 use Rattle.word_ops.specs.declared.Op.{Op}
 use Rattle.word_ops.specs.declared.Rel.{Rel}
 use Rattle.word_ops.specs.declared.Rel.TheVariants.{Eq, Ult, Ule, Slt, Sle}
 use Rattle.formula_tree.specs.Formulas.{Exp, EReg, ELeft, EVar, ELit, EOp, ESel}
 use Rattle.easy_class.specs.ProofTerms.{word_rule}
-use Rattle.easy_class.specs.Hypotheses.{compared, zero_of, one_of, zero_hyps, one_hyps}
+use Rattle.easy_class.specs.Hypotheses.{compared}
 use Rattle.easy_hyps.specs.Inside.Comparisons.{comparison, comparison_hyps, tested_hyps, other_hyps, test_rule}
 use Rattle.std.proofs.Common.{[], ◌+◌}
 

@@ -1,5 +1,5 @@
 -- Refutations, found one hypothesis after another.
-use Rattle.std.proofs.Common.{◌≡◌, ◌<◌, ◌≤◌, ◌+◌, ℕ, zero, suc, Option, Some, None, List, [], ◌∷◌, length, get_or, drop, refl, sym, ◌∙◌, ap, subst, arith}
+use Rattle.std.proofs.Common.{◌≡◌, ◌<◌, ◌≤◌, ◌+◌, ℕ, zero, suc, Option, None, List, [], ◌∷◌, length, get_or, drop, refl, ◌∙◌, ap, subst, arith}
 use Rattle.std.proofs.Math.Seq.{drop-cons}
 use Rattle.std.proofs.lemmas.List.{drop_all}
 use Rattle.term_table.specs.Tree.{Tree, Var}
@@ -35,8 +35,7 @@ pub refuted-at : (t : TableView) (l : List Hypothesis) (Γ : Hyps) (i : ℕ) (d 
     (o : Option Tree) × StandsRefuted t o r × (refuted Γ (drop i Γ) ≡ first_of o (refuted Γ (drop (i + 1) Γ)))
 refuted-at t l Γ i d e r h n f =
     let x = get_or Γ i no_hyp in
-    let next : suc i ≡ i + 1 = omega arith in
-    (
+    let next : suc i ≡ i + 1 = omega arith in (
       refute Γ x.0 x.1,
       subst (λ p. StandsRefuted t (refute Γ x.0 p) r) (hyps-at t l Γ i e h n).1 (f x.0 (hyps-at t l Γ i d h n).0),
       ap (refuted Γ) (drop-cons Γ i no_hyp (omega (arith, n, hyps-length t l Γ h))) ∙ ap (λ k. first_of (refute Γ x.0 x.1) (refuted Γ (drop k Γ))) next,

@@ -1,10 +1,8 @@
 -- Hypotheses with others that aren't among them, and what was gone through.
-use Rattle.std.proofs.Common.{◌≡◌, ◌<◌, ℕ, zero, suc, ◌==◌, ◌+◌, Bool, true, false, cond, is_some, Option, Some, None, OnOk, Result, List, [], ◌∷◌, ◌++◌, refl, sym, ◌∙◌, ap, subst, arith, eqb-true}
+use Rattle.std.proofs.Common.{◌≡◌, ℕ, zero, suc, ◌==◌, ◌+◌, Bool, true, false, cond, is_some, Option, Some, None, OnOk, Result, List, [], ◌∷◌, ◌++◌, refl, sym, ◌∙◌, ap, subst, arith, eqb-true}
 use Rattle.std.proofs.lemmas.Result.{on_ok_weaker}
 use Rattle.std.specs.BTreeSet.{BTreeSet, contains}
-use Rattle.std.specs.Ordering.{eq_by_cmp}
 use Rattle.term_table.specs.Tree.{Tree}
-use Rattle.term_table.specs.Equality.{tree_eq}
 use Rattle.term_table.specs.Table.{TableView, IsKnown, tree_at, Extends}
 use Rattle.term_table.proofs.Equality.{tree_eq_refl}
 use Rattle.word_ops.specs.declared.Rel.{Rel}

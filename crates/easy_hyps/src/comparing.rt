@@ -15,24 +15,17 @@ ghost use Rattle.easy_hyps.specs.Inside.Comparisons.{comparison, comparison_hyps
 
 use crate::collection::Hypotheses;
 use crate::finding::add;
-use easy_words::relation;
 use formula_ids::{ExpNode, exp_node};
 use lf_rules::rule_term;
 use lf_signature::app2;
-use lf_signature::numbers::{FF, IMP};
+use lf_signature::numbers::{FF, IMP, rel_constant};
 use proof_kit::numbers::{CMP_NO, CMP_YES, NOT_LT};
 use std::alloc::AllocError;
 use term_table::{Id, Node, Table};
 use word_ops::{Op, Rel};
 
 /// The relation of two expressions, or that it leads to falsity.
-fn comparison(
-    table: &mut Table,
-    holds: bool,
-    rel: Rel,
-    a: Id,
-    b: Id,
-) -> Result<Id, AllocError>
+fn comparison(table: &mut Table, holds: bool, rel: Rel, a: Id, b: Id) -> Result<Id, AllocError>
     requires a { IsKnown table.old a }
     requires b { IsKnown table.old b }
     ensures known { IfOk result (IsKnown table.new) }
@@ -41,7 +34,7 @@ fn comparison(
         → IfOk result (IsIdOf table.new (form_encoding (comparison holds rel x y))) }
     ensures extends { Extends table.old table.new }
 {
-    let form = relation(table, rel, a, b)?;
+    let form = app2(table, rel_constant(rel), a, b)?;
     if holds {
         return Ok(form);
     }
@@ -118,7 +111,7 @@ fn add_reversed(
         (with_new Γ (reversed_hyps x y (tree_at table.old proof)))) }
     ensures extends { Extends table.old table.new }
 {
-    let form = relation(table, Rel::Ule, b, a)?;
+    let form = app2(table, rel_constant(Rel::Ule), b, a)?;
     let reversed = rule_term(table, NOT_LT, &[a, b, proof])?;
     add(table, hyps, form, reversed)
 }

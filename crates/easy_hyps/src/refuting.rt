@@ -71,11 +71,7 @@ fn first_refutation(table: &Table, hyps: &Hypotheses) -> Option<Refutation>
 }
 
 /// The proof of falsity by a refutation.
-fn contradiction(
-    table: &mut Table,
-    falsity: Id,
-    refutation: Refutation,
-) -> Result<Id, AllocError>
+fn contradiction(table: &mut Table, falsity: Id, refutation: Refutation) -> Result<Id, AllocError>
     requires falsity { IsKnown table.old falsity }
     requires refutation { IsKnownRefutation table.old refutation }
     ensures known { IfOk result (IsKnown table.new) }
@@ -85,7 +81,16 @@ fn contradiction(
         (tree_at table.old refutation.proof))) }
     ensures extends { Extends table.old table.new }
 {
-    rule_term(table, IMP_E, &[refutation.form, falsity, refutation.denial, refutation.proof])
+    rule_term(
+        table,
+        IMP_E,
+        &[
+            refutation.form,
+            falsity,
+            refutation.denial,
+            refutation.proof,
+        ],
+    )
 }
 
 /// A proof of falsity: a hypothesis, or the first refutation.

@@ -1,8 +1,8 @@
 -- What a comparison, or its denial, is split into.
-use Rattle.std.specs.Prelude.{ℕ, zero, Bool, true, false, List, [], ◌∷◌}
+use Rattle.std.specs.Prelude.{ℕ, zero, Bool, true, false, [], ◌∷◌}
 use Rattle.term_table.specs.Tree.{Tree}
 use Rattle.word_ops.specs.declared.Rel.{Rel}
-use Rattle.word_ops.specs.declared.Rel.TheVariants.{Eq, Ult, Ule, Slt, Sle}
+use Rattle.word_ops.specs.declared.Rel.TheVariants.{Eq, Ult, Ule}
 use Rattle.formula_tree.specs.Formulas.{Exp, ELit, Form, FFalse, FRel, FImp}
 use Rattle.easy_class.specs.ProofTerms.{word_rule}
 use Rattle.easy_class.specs.Hypotheses.{Hyps, rel_hyps, not_hyps, zero_hyps, one_hyps}

@@ -1,14 +1,14 @@
 -- What it means that conjunctions were gone through.
-use Rattle.std.specs.Prelude.{◌≡◌, ℕ, Bool, true, is_some, Option, Some, None, List, [], ◌∷◌}
+use Rattle.std.specs.Prelude.{◌≡◌, true, is_some, Option, Some, None, List, [], ◌∷◌}
 use Rattle.std.specs.BTreeSet.{BTreeSet, contains}
 use Rattle.term_table.specs.Tree.{Tree}
 use Rattle.term_table.specs.Table.{TableView, IsKnown, tree_at}
-use Rattle.formula_tree.specs.Formulas.{Exp, Form, FFalse, FRel, FImp}
+use Rattle.formula_tree.specs.Formulas.{Form, FFalse, FImp}
 use Rattle.lf_encode.specs.Encoding.{form_encoding}
 use Rattle.formula_ids.specs.Nodes.{IsRelation}
 use Rattle.formula_ids.specs.declared.hypotheses.Hypothesis.{Hypothesis}
 use Rattle.formula_ids.specs.Hypotheses.{AreHyps}
-use Rattle.easy_class.specs.Hypotheses.{Hyps, find_hyp, imp_hyps, split_hyps, with_new}
+use Rattle.easy_class.specs.Hypotheses.{Hyps, find_hyp, imp_hyps, split_hyps}
 use Rattle.easy_hyps.specs.declared.collection.Key.{Key}
 use Rattle.easy_hyps.specs.declared.splitting.Relation.{Relation}
 use Rattle.easy_hyps.specs.contracts.collection.KeyOrd.TheImpl as key_block

@@ -1,8 +1,6 @@
 use Rattle.std.proofs.Common.{◌≡◌, [], ◌∷◌, OnOk, not, sym, ◌∙◌, subst, arith, Some}
 use Rattle.term_table.specs.Table.{IsKnown, tree_at}
-use Rattle.lf_encode.specs.Encoding.{form_encoding}
 use Rattle.formula_ids.specs.Hypotheses.{AreHyps}
-use Rattle.easy_class.specs.ProofTerms.{word_rule}
 use Rattle.easy_class.specs.Hypotheses.{compared, with_new}
 use Rattle.easy_hyps.specs.Inside.Comparisons.{comparison, comparison_hyps, tested_hyps, other_hyps}
 use Rattle.easy_hyps.proofs.Known.{hyps-more}

@@ -1,6 +1,5 @@
-use Rattle.std.proofs.Common.{◌≡◌, [], ◌∷◌, ◌++◌, get_or, sym, ◌∙◌, ap, subst, arith}
+use Rattle.std.proofs.Common.{[], ◌∷◌, ◌++◌, get_or, sym, ◌∙◌, subst, arith}
 use Rattle.term_table.specs.Tree.{shift}
-use Rattle.term_table.specs.Table.{IsKnown, tree_at}
 use Rattle.formula_tree.specs.Formulas.{shift_form}
 use Rattle.formula_ids.specs.Hypotheses.{AreKnownHyps, AreHyps}
 use Rattle.easy_class.specs.Hypotheses.{raised_hyps}
@@ -42,6 +41,6 @@ loop-i-preserved c =
       extends = grows_more s t u st done.extends;
       memo = done.memo;
       exact = raised-step s u l i d e more c.loop-i-test.true
-      (λ Γ A a q. subst (λ p. AreHyps u more (raised_hyps Γ ++ (shift_form 1 0 A, shift 1 0 p) ∷ [])) (st.same (get_or l i e).proof proof)
-      (done.exact (raised_hyps Γ) A (c.loop-i.invariant.exact Γ a) (st.same (get_or l i d).form form ∙ q)));
+          (λ Γ A a q. subst (λ p. AreHyps u more (raised_hyps Γ ++ (shift_form 1 0 A, shift 1 0 p) ∷ [])) (st.same (get_or l i e).proof proof)
+          (done.exact (raised_hyps Γ) A (c.loop-i.invariant.exact Γ a) (st.same (get_or l i d).form form ∙ q)));
     }

@@ -1,4 +1,4 @@
-use Rattle.std.proofs.Common.{◌≡◌, Some, sym, ◌∙◌, ap}
+use Rattle.std.proofs.Common.{Some, sym, ◌∙◌, ap}
 use Rattle.formula_tree.specs.Formulas.{FFalse}
 use Rattle.easy_class.specs.Goals.{first_of, refuted}
 use Rattle.easy_hyps.proofs.Known.{hyps-more}

@@ -1,6 +1,4 @@
-use Rattle.std.proofs.Common.{◌≡◌, ◌≤◌, ◌+◌, Some, None, drop, length, sym, ◌∙◌, ap, subst, arith}
-use Rattle.term_table.specs.Tree.{Tree}
-use Rattle.formula_ids.specs.declared.hypotheses.Hypothesis.{Hypothesis}
+use Rattle.std.proofs.Common.{◌≤◌, ◌+◌, Some, None, drop, length, sym, ◌∙◌, ap, subst, arith}
 use Rattle.formula_ids.specs.Hypotheses.{AreKnownHyps, AreHyps}
 use Rattle.easy_class.specs.Goals.{first_of, refuted}
 use Rattle.easy_hyps.specs.Inside.Refutations.{IsRefutation}

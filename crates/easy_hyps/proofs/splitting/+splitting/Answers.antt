@@ -1,4 +1,4 @@
-use Rattle.std.proofs.Common.{rules, ◌≡◌, ◌==◌, [], ◌∷◌, ◌++◌, true, cond, OnOk, refl, sym, ◌∙◌, ap, subst, arith}
+use Rattle.std.proofs.Common.{rules, ◌≡◌, ◌==◌, [], ◌++◌, true, OnOk, refl, sym, ◌∙◌, ap, subst, arith}
 use Rattle.std.specs.BTreeSet.{contains}
 use Rattle.std.specs.Ordering.{eq_by_cmp}
 use Rattle.term_table.specs.Table.{IsKnown, tree_at, Extends}
@@ -11,7 +11,7 @@ use Rattle.easy_class.specs.Hypotheses.{split_hyps, with_new}
 use Rattle.easy_hyps.specs.declared.collection.Key.{Key}
 use Rattle.easy_hyps.specs.contracts.collection.KeyOrd.TheImpl as block
 use Rattle.easy_hyps.specs.contracts.collection.KeyPartialEq.TheImpl as equality
-use Rattle.easy_hyps.specs.Inside.Splits.{forms_of, AreFound, AreSeen, AreSplit}
+use Rattle.easy_hyps.specs.Inside.Splits.{forms_of, AreFound, AreSplit}
 use Rattle.easy_hyps.proofs.Known.{hyps-more}
 use Rattle.easy_hyps.proofs.Splits.{with_new-append, with_new-own, with_new-found, seen-more, seen-insert, kept-split, other-split}
 use Rattle.easy_hyps.proofs.splitting.+splitting.Goals as goal
@@ -65,7 +65,7 @@ add_both-returns-clause-exact g c = λ Γ A B h s f a b.
     record {
       hyps = both.hyps;
       seen = seen-insert x (with_new Γ (L ++ R)) c.add_parts-2.new.seen c.insert.new.self (eq_by_cmp block.ghosts.cmp key) key (FAnd A B) p (λ k. sym (agrees key k) ∙ equal key k) known form
-      (with_new-own Γ (L ++ R)) both.seen c.in_ok-insert.ensures.updates.0;
+          (with_new-own Γ (L ++ R)) both.seen c.in_ok-insert.ensures.updates.0;
     }
 
 pub add_parts-returns-in-Relation-clause-exact : goal.add_parts-returns-in-Relation-clause-exact
@@ -94,7 +94,7 @@ add_parts-returns-in_default g c =
     record {
       known = c.add.ensures.known;
       exact = λ Γ A h s q.
-        kept-split c.add.result t t c.add.new.hyps Γ (split_hyps A p) c.args.seen.now tt_ s
-        (subst (λ L. OnOk c.add.result (AreHyps t c.add.new.hyps (with_new Γ L))) (sym (other-split t A c.form_node.result p (c.form_node.ensures.is A q) c.in_default.not-And c.in_default.not-Relation c.in_default.not-Imp)) (c.add.ensures.exact Γ A h q));
+          kept-split c.add.result t t c.add.new.hyps Γ (split_hyps A p) c.args.seen.now tt_ s
+          (subst (λ L. OnOk c.add.result (AreHyps t c.add.new.hyps (with_new Γ L))) (sym (other-split t A c.form_node.result p (c.form_node.ensures.is A q) c.in_default.not-And c.in_default.not-Relation c.in_default.not-Imp)) (c.add.ensures.exact Γ A h q));
       extends = tt_;
     }

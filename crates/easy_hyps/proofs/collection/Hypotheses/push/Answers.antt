@@ -1,4 +1,4 @@
-use Rattle.std.proofs.Common.{rules, ◌≡◌, ℕ, ◌==◌, ◌++◌, ◌∷◌, [], sym, ◌∙◌, ap, subst, cond, Some, None}
+use Rattle.std.proofs.Common.{rules, ◌≡◌, ◌==◌, ◌++◌, ◌∷◌, [], sym, ◌∙◌, ap, cond, Some, None}
 use Rattle.std.specs.BTreeMap.{get}
 use Rattle.std.specs.Ordering.{eq_by_cmp}
 use Rattle.easy_hyps.specs.declared.collection.Key.{Key}
