@@ -74,10 +74,6 @@ with_new-found Γ (x ∷ L) e = go (find_hyp Γ x.0) e.0 (with_new-found Γ L e.
     go (Some p) s f = f
     go None s f = cc
 
-found-append : (Γ : Hyps) (l m : List Form) → AreFound Γ l → AreFound Γ m → AreFound Γ (l ++ m)
-found-append Γ [] m e f = f
-found-append Γ (B ∷ l) m e f = (e.0, found-append Γ l m e.1 f)
-
 forms-append : (L M : Hyps) → forms_of (L ++ M) ≡ forms_of L ++ forms_of M
 forms-append [] M = refl
 forms-append (x ∷ L) M = ap (λ z. x.0 ∷ z) (forms-append L M)

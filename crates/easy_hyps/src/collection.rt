@@ -44,7 +44,8 @@ impl Model for Hypotheses {
 
     ghost view = { λ h. h.list.items };
 
-    ghost invariant = { λ h. (k : Key) → get key_block.ghosts.cmp h.proofs k ≡ first_proof h.list.items k.form };
+    ghost invariant = { λ h. (k : Key) →
+        get key_block.ghosts.cmp h.proofs k ≡ first_proof h.list.items k.form };
 }
 
 impl Hypotheses {

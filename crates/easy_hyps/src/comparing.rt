@@ -1,7 +1,7 @@
 //! What a comparison, or its denial, is split into.
 //!
 //! A test of two expressions gives 1 or 0, so that its comparison with 0 says whether its relation
-//! holds. Where the first of these expressions is a test and the second is 0 again, the same goes on.
+//! holds. Where its first expression is a test and its second is 0 again, the same goes on.
 
 ghost use Rattle.std.specs.Prelude.{◌≡◌, ◌+◌, ◌≤◌, [], ◌∷◌, IfOk, IfSome, OnOk, not, IsTrue, ◌↔◌};
 ghost use Rattle.term_table.specs.Table.{IsKnown, tree_at, Extends};
@@ -11,7 +11,8 @@ ghost use Rattle.lf_encode.specs.Encoding.{exp_encoding, form_encoding};
 ghost use Rattle.formula_ids.specs.Hypotheses.{AreKnownHyps, AreHyps};
 ghost use Rattle.easy_class.specs.ProofTerms.{word_rule};
 ghost use Rattle.easy_class.specs.Hypotheses.{Hyps, compared, with_new};
-ghost use Rattle.easy_hyps.specs.Inside.Comparisons.{comparison, comparison_hyps, tested_hyps, other_hyps, test_rule, reversed_hyps};
+ghost use Rattle.easy_hyps.specs.Inside.Comparisons.{comparison, comparison_hyps, other_hyps};
+ghost use Rattle.easy_hyps.specs.Inside.Comparisons.{reversed_hyps, test_rule, tested_hyps};
 
 use crate::collection::Hypotheses;
 use crate::finding::add;

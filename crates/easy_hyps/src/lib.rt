@@ -1,8 +1,8 @@
 //! Hypotheses with their proofs, on ids of a table.
 //!
-//! The layer above uses that each function answers what the easy class's definition of its name gives
-//! (`easy_class`, `specs/Hypotheses` and `specs/Goals`) for the formulas and proofs that the ids stand
-//! for. The first hypothesis with a given formula is found without a search, and what a shared
+//! The layer above uses that each function answers what the easy class's definition of its name
+//! gives (`easy_class`, `specs/Hypotheses` and `specs/Goals`) for the formulas and proofs that the ids
+//! stand for. The first hypothesis with a given formula is found without a search, and what a shared
 //! conjunction is split into is gone through once.
 #![tactic(auto)]
 
@@ -12,6 +12,8 @@ mod finding;
 mod raising;
 mod refuting;
 mod splitting;
+#[cfg(test)]
+mod tests;
 
 pub use collection::Hypotheses;
 pub use finding::find_hyp;

@@ -42,8 +42,8 @@ fn push_raised(
 
 /// The hypotheses under one more binder.
 ///
-/// Errors: want of memory alone, which more results than the memo may keep are too; each id keeps its
-/// tree.
+/// Errors: want of memory alone, which a variable that would reach 2^32 and more results than the memo
+/// may keep are too; each id keeps its tree.
 pub fn raised_hyps(
     table: &mut Table,
     memo: &mut Memo,

@@ -102,7 +102,7 @@ fn add_implication(
     }
 }
 
-/// Adds what the formula is split into. What the conjunctions in `seen` are split into are hypotheses
+/// Adds what the formula is split into. What the conjunctions in `seen` are split into is there
 /// already.
 #[cycle(splitting)]
 #[tactic(auto, using(crate::proofs::Growing::rows))]
@@ -169,7 +169,8 @@ fn add_both(
     Ok(())
 }
 
-/// Adds what the formula, proved by `proof`, is split into, without those that are hypotheses already.
+/// Adds what the formula, which `proof` proves, is split into, at the end and in order, without what
+/// is a hypothesis already.
 ///
 /// Errors: want of memory alone; each id keeps its tree.
 pub fn add_split(
