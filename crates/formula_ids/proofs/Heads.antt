@@ -1,8 +1,6 @@
 -- What a node's tree says of the formula or expression of which it is the encoding.
-use Rattle.std.proofs.Common.{◌≡◌, ◌<◌, ◌≤◌, ℕ, Option, Some, None, ◌⊎◌, inl, inr, refl, sym, ◌∙◌, ap, subst, arith}
+use Rattle.std.proofs.Common.{◌≡◌, ℕ, Option, Some, None, ◌⊎◌, inl, inr, refl, sym, ◌∙◌, ap, subst, arith}
 use Rattle.word_ops.specs.declared.Op.{Op}
-use Rattle.word_ops.specs.declared.Rel.{Rel}
-use Rattle.word_ops.specs.declared.Rel.TheVariants.{Eq, Ult, Ule, Slt, Sle}
 use Rattle.term_table.specs.Tree.{Tree, Var, Con, App, Lam, Num, Lit}
 use Rattle.term_table.specs.Table.{TableView, tree_at}
 use Rattle.lf_signature.specs.Numbers.{op_of_constant, rel_of_constant, op_constant, rel_constant}

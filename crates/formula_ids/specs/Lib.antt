@@ -1,3 +1,4 @@
 pub mod Nodes
 pub mod Hypotheses
+pub mod Puts
 pub mod Inside

@@ -9,7 +9,11 @@
 mod forms;
 mod hypotheses;
 mod nodes;
+mod put_forms;
+mod puts;
 
 pub use forms::{FormNode, form_node};
 pub use hypotheses::{Hypothesis, raised};
 pub use nodes::{ExpNode, MemNode, exp_node, mem_node};
+pub use put_forms::{put_word, put_word_exp};
+pub use puts::Puts;

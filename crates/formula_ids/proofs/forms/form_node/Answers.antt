@@ -1,4 +1,4 @@
-use Rattle.std.proofs.Common.{rules, ◌≡◌, ◌∙◌, sym, ap, subst, arith}
+use Rattle.std.proofs.Common.{◌≡◌, ◌∙◌, sym, ap, subst}
 use Rattle.term_table.specs.Tree.{App, Con, Num}
 use Rattle.term_table.specs.Table.{tree_at, node_tree_in}
 use Rattle.lf_encode.specs.Encoding.{form_encoding}
@@ -32,26 +32,26 @@ returns-in-Const-node-2-clause-is c =
 pub returns-in_default-node-2 : goal.returns-in_default-node-2
 returns-in_default-node-2 c = record {
   is = λ A q.
-    let t = c.args.table.now in
-    let whole : App (App (node_tree_in t.trees c.node-in-App-node.result) (tree_at t c.in-App-node.a)) (tree_at t c.in-App.b) ≡ form_encoding A =
-    ap (λ z. App (App z (tree_at t c.in-App-node.a)) (tree_at t c.in-App.b)) c.node-in-App-node.ensures.tree ∙ ap (λ z. App z (tree_at t c.in-App.b)) c.in-App-node.ensures.tree ∙ c.in-App.ensures.tree ∙ q in
-    absurd (no_form A (subst IsNoForm whole (no_form_head t.trees c.node-in-App-node.result _ _ c.in_default-node-2.not-Const)));
+      let t = c.args.table.now in
+      let whole : App (App (node_tree_in t.trees c.node-in-App-node.result) (tree_at t c.in-App-node.a)) (tree_at t c.in-App.b) ≡ form_encoding A =
+      ap (λ z. App (App z (tree_at t c.in-App-node.a)) (tree_at t c.in-App.b)) c.node-in-App-node.ensures.tree ∙ ap (λ z. App z (tree_at t c.in-App.b)) c.in-App-node.ensures.tree ∙ c.in-App.ensures.tree ∙ q in
+      absurd (no_form A (subst IsNoForm whole (no_form_head t.trees c.node-in-App-node.result _ _ c.in_default-node-2.not-Const)));
   below = tt;
 }
 
 pub returns-in_default-node : goal.returns-in_default-node
 returns-in_default-node c = record {
   is = λ A q.
-    let t = c.args.table.now in
-    let whole : App (node_tree_in t.trees c.node-in-App.result) (tree_at t c.in-App.b) ≡ form_encoding A =
-    ap (λ z. App z (tree_at t c.in-App.b)) c.node-in-App.ensures.tree ∙ c.in-App.ensures.tree ∙ q in
-    absurd (no_form A (subst IsNoForm whole (no_form_function t.trees c.node-in-App.result _ c.in_default-node.not-Const c.in_default-node.not-App)));
+      let t = c.args.table.now in
+      let whole : App (node_tree_in t.trees c.node-in-App.result) (tree_at t c.in-App.b) ≡ form_encoding A =
+      ap (λ z. App z (tree_at t c.in-App.b)) c.node-in-App.ensures.tree ∙ c.in-App.ensures.tree ∙ q in
+      absurd (no_form A (subst IsNoForm whole (no_form_function t.trees c.node-in-App.result _ c.in_default-node.not-Const c.in_default-node.not-App)));
   below = tt;
 }
 
 pub returns-in_default : goal.returns-in_default
 returns-in_default c = record {
   is = λ A q.
-    absurd (no_form A (subst IsNoForm (c.node.ensures.tree ∙ q) (no_form_node c.args.table.now.trees c.node.result c.in_default.not-Const c.in_default.not-App)));
+      absurd (no_form A (subst IsNoForm (c.node.ensures.tree ∙ q) (no_form_node c.args.table.now.trees c.node.result c.in_default.not-Const c.in_default.not-App)));
   below = tt;
 }

@@ -19,26 +19,26 @@ returns-in-App-node-2-clause-is c =
 pub returns-in_default-node-2 : goal.returns-in_default-node-2
 returns-in_default-node-2 c = record {
   is = λ m q.
-    let t = c.args.table.now in
-    let whole : App (App (node_tree_in t.trees c.node-in-App-node.result) (tree_at t c.in-App-node.a)) (tree_at t c.in-App.v) ≡ mem_encoding m =
-    ap (λ z. App (App z (tree_at t c.in-App-node.a)) (tree_at t c.in-App.v)) c.node-in-App-node.ensures.tree ∙ ap (λ z. App z (tree_at t c.in-App.v)) c.in-App-node.ensures.tree ∙ c.in-App.ensures.tree ∙ q in
-    unbound_mem_is m (subst IsOtherMem whole (other_mem_head t.trees c.node-in-App-node.result _ _ c.in_default-node-2.not-App));
+      let t = c.args.table.now in
+      let whole : App (App (node_tree_in t.trees c.node-in-App-node.result) (tree_at t c.in-App-node.a)) (tree_at t c.in-App.v) ≡ mem_encoding m =
+      ap (λ z. App (App z (tree_at t c.in-App-node.a)) (tree_at t c.in-App.v)) c.node-in-App-node.ensures.tree ∙ ap (λ z. App z (tree_at t c.in-App.v)) c.in-App-node.ensures.tree ∙ c.in-App.ensures.tree ∙ q in
+      unbound_mem_is m (subst IsOtherMem whole (other_mem_head t.trees c.node-in-App-node.result _ _ c.in_default-node-2.not-App));
   below = tt;
 }
 
 pub returns-in_default-node : goal.returns-in_default-node
 returns-in_default-node c = record {
   is = λ m q.
-    let t = c.args.table.now in
-    let whole : App (node_tree_in t.trees c.node-in-App.result) (tree_at t c.in-App.v) ≡ mem_encoding m =
-    ap (λ z. App z (tree_at t c.in-App.v)) c.node-in-App.ensures.tree ∙ c.in-App.ensures.tree ∙ q in
-    unbound_mem_is m (subst IsOtherMem whole (other_mem_function t.trees c.node-in-App.result _ c.in_default-node.not-App));
+      let t = c.args.table.now in
+      let whole : App (node_tree_in t.trees c.node-in-App.result) (tree_at t c.in-App.v) ≡ mem_encoding m =
+      ap (λ z. App z (tree_at t c.in-App.v)) c.node-in-App.ensures.tree ∙ c.in-App.ensures.tree ∙ q in
+      unbound_mem_is m (subst IsOtherMem whole (other_mem_function t.trees c.node-in-App.result _ c.in_default-node.not-App));
   below = tt;
 }
 
 pub returns-in_default : goal.returns-in_default
 returns-in_default c = record {
   is = λ m q.
-    unbound_mem_is m (subst IsOtherMem (c.node.ensures.tree ∙ q) (other_mem_node c.args.table.now.trees c.node.result c.in_default.not-Var c.in_default.not-App));
+      unbound_mem_is m (subst IsOtherMem (c.node.ensures.tree ∙ q) (other_mem_node c.args.table.now.trees c.node.result c.in_default.not-Var c.in_default.not-App));
   below = tt;
 }

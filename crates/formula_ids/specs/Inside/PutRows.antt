@@ -1,0 +1,36 @@
+-- What kept results of substitutions say of a table's trees.
+use Rattle.std.specs.Prelude.{◌≡◌, ℕ, suc, Some}
+use Rattle.std.specs.BTreeMap.{get}
+use Rattle.term_table.specs.Tree.{Lam}
+use Rattle.term_table.specs.Table.{TableView, IsKnown, tree_at}
+use Rattle.lf_signature.specs.Terms.{app1, app2}
+use Rattle.formula_tree.specs.Formulas.{Exp, Form}
+use Rattle.formula_tree.specs.Variables.{PExp, subst_var, shift_part}
+use Rattle.lf_encode.specs.Encoding.{exp_encoding, form_encoding}
+use Rattle.formula_ids.specs.Puts.{IsExpPut, IsMemPut, IsFormPut}
+use Rattle.formula_ids.specs.declared.puts.Question.{Question}
+use Rattle.formula_ids.specs.declared.puts.Question.TheVariants as Q
+use Rattle.formula_ids.specs.declared.puts.Puts.{Puts}
+use Rattle.formula_ids.specs.contracts.puts.QuestionOrd.TheImpl as block
+
+-- the answer is right of the question
+abbrev pub IsPutAt : TableView → Question → ℕ → Type 0
+IsPutAt t (Q.Exp id x arg) r = IsKnown t id × IsKnown t arg × IsExpPut t t id x arg r
+IsPutAt t (Q.Mem id x arg) r = IsKnown t id × IsKnown t arg × IsMemPut t t id x arg r
+IsPutAt t (Q.Form id x arg) r = IsKnown t id × IsKnown t arg × IsFormPut t t id x arg r
+
+-- each kept result is right
+pub record ArePuts (t : TableView) (kept : Puts) : Type 0 where
+  pub each : (q : Question) (r : ℕ) → get block.ghosts.cmp kept.rows q ≡ Some r → IsPutAt t q r
+
+-- the connective of both formulas with what is put
+pub record IsJoinPut (t u : TableView) (connective a b x arg r : ℕ) : Type 0 where
+  pub known : IsKnown u r
+  pub is : (A B : Form) (o : Exp) → tree_at t a ≡ form_encoding A → tree_at t b ≡ form_encoding B → tree_at t arg ≡ exp_encoding o →
+      tree_at u r ≡ app2 connective (form_encoding (subst_var A x (PExp o))) (form_encoding (subst_var B x (PExp o)))
+
+-- the quantifier over the formula with what is put
+pub record IsUnderPut (t u : TableView) (quantifier body x arg r : ℕ) : Type 0 where
+  pub known : IsKnown u r
+  pub is : (A : Form) (o : Exp) → tree_at t body ≡ form_encoding A → tree_at t arg ≡ exp_encoding o →
+      tree_at u r ≡ app1 quantifier (Lam (form_encoding (subst_var A (suc x) (shift_part 1 (PExp o)))))
