@@ -1,4 +1,5 @@
 pub mod Nodes
+pub mod Operands
 pub mod Hypotheses
 pub mod Puts
 pub mod Inside

@@ -14,6 +14,6 @@ mod puts;
 
 pub use forms::{FormNode, form_node};
 pub use hypotheses::{Hypothesis, raised};
-pub use nodes::{ExpNode, MemNode, exp_node, mem_node};
+pub use nodes::{ExpNode, MemNode, Sides, exp_node, literal, mem_node, operands};
 pub use put_forms::{put_word, put_word_exp};
 pub use puts::Puts;

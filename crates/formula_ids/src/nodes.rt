@@ -1,10 +1,11 @@
 //! What stands at the head of an expression or a memory.
 
-ghost use Rattle.std.specs.Prelude.{◌≡◌};
+ghost use Rattle.std.specs.Prelude.{◌≡◌, ◌<◌, IfSome};
 ghost use Rattle.term_table.specs.Table.{IsKnown, tree_at};
 ghost use Rattle.formula_tree.specs.Formulas.{Exp, MemExp};
 ghost use Rattle.lf_encode.specs.Encoding.{exp_encoding, mem_encoding};
 ghost use Rattle.formula_ids.specs.Nodes.{IsExpNode, AreExpPartsBelow, IsMemNode, AreMemPartsBelow};
+ghost use Rattle.formula_ids.specs.Operands.{AreOperands, IsLiteral};
 ghost use Rattle.formula_ids.specs.Inside.Heads.{applied_node};
 
 use lf_signature::op_of_constant;
@@ -85,5 +86,45 @@ pub fn mem_node(table: &Table, id: Id) -> MemNode
             _ => MemNode::Unbound,
         },
         _ => MemNode::Unbound,
+    }
+}
+
+/// The two expressions of an operator.
+#[derive(Clone, Copy)]
+pub struct Sides {
+    /// The first.
+    pub left: Id,
+    /// The second.
+    pub right: Id,
+}
+
+/// The two expressions where the expression that `id` encodes is the operator `op` at them, else none.
+/// Of an id that encodes none it says nothing, but that the parts' ids are lower.
+pub fn operands(table: &Table, op: Op, id: Id) -> Option<Sides>
+    requires { IsKnown table.now id }
+    ensures is { (e : Exp) → tree_at table.now id ≡ exp_encoding e
+        → AreOperands table.now e op result }
+    ensures below { IfSome result (λ p. (p.left < id) × (p.right < id)) }
+{
+    match exp_node(table, id) {
+        ExpNode::Apply(other, left, right) => {
+            if other == op {
+                Some(Sides { left, right })
+            } else {
+                None
+            }
+        }
+        _ => None,
+    }
+}
+
+/// The word where the expression that `id` encodes is one, else none.
+pub fn literal(table: &Table, id: Id) -> Option<u64>
+    requires { IsKnown table.now id }
+    ensures { (e : Exp) → tree_at table.now id ≡ exp_encoding e → IsLiteral e result }
+{
+    match exp_node(table, id) {
+        ExpNode::Word(word) => Some(word),
+        _ => None,
     }
 }
