@@ -1,1 +1,3 @@
 mod Occurring
+mod Rounds
+mod Summing

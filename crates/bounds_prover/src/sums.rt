@@ -1,15 +1,15 @@
 //! Normal forms as sums: their summands, their literal, and what is left of one without another.
 
-ghost use Rattle.std.specs.Prelude.{◌≡◌, ◌↔◌, List, IfOk, IfSome, IsTrue};
+ghost use Rattle.std.specs.Prelude.{◌≡◌, List, ◌∷◌, [], IfOk, IfSome};
 ghost use Rattle.term_table.specs.Table.{IsKnown, AllKnown, tree_at, Extends};
 ghost use Rattle.lf_signature.specs.Nodes.{IsIdOf};
-ghost use Rattle.formula_tree.specs.Formulas.{Exp, ELit};
+ghost use Rattle.formula_tree.specs.Formulas.{Exp};
 ghost use Rattle.lf_encode.specs.Encoding.{exp_encoding};
 ghost use Rattle.easy_class.specs.Access.{without, all_without, sum_with, rest_of, eighth};
 ghost use Rattle.bounds_prover.specs.Inside.Sums.{AreExps, IsSum, IsPlace, IsWithout, IsExpOption};
 
 use easy_words::oper;
-use formula_ids::{ExpNode, exp_node};
+use formula_ids::{literal, operands};
 use std::alloc::AllocError;
 use term_table::{Id, Node, Table};
 use word_ops::{Op, apply};
@@ -23,17 +23,15 @@ fn add_summands(table: &Table, e: Id, list: &mut Vec<u64>) -> Result<u64, AllocE
         → tree_at table.now e ≡ exp_encoding x
         → IfOk result (IsSum table.now list.new.items before x) }
 {
-    match exp_node(table, e) {
-        ExpNode::Word(word) => Ok(word),
-        ExpNode::Apply(Op::Add, a, b) => {
-            list.push(a.index() as u64)?;
-            add_summands(table, b, list)
-        }
-        _ => {
-            list.push(e.index() as u64)?;
-            Ok(0)
-        }
+    if let Some(word) = literal(table, e) {
+        return Ok(word);
     }
+    if let Some(sides) = operands(table, Op::Add, e) {
+        list.push(sides.left.index() as u64)?;
+        return add_summands(table, sides.right, list);
+    }
+    list.push(e.index() as u64)?;
+    Ok(0)
 }
 
 /// Where the number stands first, from the place on.
@@ -83,6 +81,21 @@ fn take_all_away(table: &Table, list: &mut Vec<u64>, others: &[u64]) -> bool
     }
 }
 
+/// The sum of an expression and a literal that isn't 0; of 0 the expression.
+fn with_literal(table: &mut Table, summand: Id, literal: u64) -> Result<Id, AllocError>
+    requires { IsKnown table.old summand }
+    ensures known { IfOk result (IsKnown table.new) }
+    ensures exact { (x : Exp) → tree_at table.old summand ≡ exp_encoding x
+        → IfOk result (IsIdOf table.new (exp_encoding (sum_with (x ∷ []) literal))) }
+    ensures extends { Extends table.old table.new }
+{
+    if literal == 0 {
+        return Ok(summand);
+    }
+    let word = table.intern(Node::Lit(literal))?;
+    oper(table, Op::Add, summand, word)
+}
+
 /// The sum of the summands and the literal.
 fn sum_id(table: &mut Table, summands: &[u64], literal: u64) -> Result<Id, AllocError>
     requires { AllKnown table.old summands.now }
@@ -93,16 +106,11 @@ fn sum_id(table: &mut Table, summands: &[u64], literal: u64) -> Result<Id, Alloc
 {
     match summands {
         [] => table.intern(Node::Lit(literal)),
-        [only] => {
-            let summand = table.id(*only);
-            if literal == 0 {
-                return Ok(summand);
-            }
-            let word = table.intern(Node::Lit(literal))?;
-            oper(table, Op::Add, summand, word)
-        }
         [first, rest @ ..] => {
             let summand = table.id(*first);
+            if rest.is_empty() {
+                return with_literal(table, summand, literal);
+            }
             let others = sum_id(table, rest, literal)?;
             oper(table, Op::Add, summand, others)
         }
@@ -130,17 +138,6 @@ pub(crate) fn rest_of(table: &mut Table, a: Id, b: Id) -> Result<Option<Id>, All
     Ok(Some(sum_id(table, left.as_slice(), apply(Op::Sub, of_a, of_b))?))
 }
 
-/// Whether the expression is the word 3.
-fn is_three(table: &Table, e: Id) -> bool
-    requires { IsKnown table.now e }
-    ensures { (x : Exp) → tree_at table.now e ≡ exp_encoding x → IsTrue result ↔ (x ≡ ELit 3) }
-{
-    match exp_node(table, e) {
-        ExpNode::Word(word) => word == 3,
-        _ => false,
-    }
-}
-
 /// t where the rest is t shifted left by 3; a literal shifted right by 3; none of any other rest.
 pub(crate) fn eighth(table: &mut Table, rest: Id) -> Result<Option<Id>, AllocError>
     requires { IsKnown table.old rest }
@@ -149,15 +146,14 @@ pub(crate) fn eighth(table: &mut Table, rest: Id) -> Result<Option<Id>, AllocErr
         → IfOk result (IsExpOption table.new (eighth x)) }
     ensures extends { Extends table.old table.new }
 {
-    match exp_node(table, rest) {
-        ExpNode::Word(word) => Ok(Some(table.intern(Node::Lit(apply(Op::Srl, word, 3)))?)),
-        ExpNode::Apply(Op::Sll, t, count) => {
-            if is_three(table, count) {
-                Ok(Some(t))
-            } else {
-                Ok(None)
-            }
-        }
+    if let Some(word) = literal(table, rest) {
+        return Ok(Some(table.intern(Node::Lit(apply(Op::Srl, word, 3)))?));
+    }
+    let Some(sides) = operands(table, Op::Sll, rest) else {
+        return Ok(None);
+    };
+    match literal(table, sides.right) {
+        Some(3) => Ok(Some(sides.left)),
         _ => Ok(None),
     }
 }
