@@ -1,13 +1,17 @@
 -- What a node's tree says of the formula or expression of which it is the encoding.
-use Rattle.std.proofs.Common.{◌≡◌, ℕ, Option, Some, None, ◌⊎◌, inl, inr, refl, sym, ◌∙◌, ap, subst, arith}
+use Rattle.std.proofs.Common.{◌≡◌, ℕ, ◌<◌, ◌==◌, Bool, true, false, cond, Option, Some, None, ◌⊎◌, inl, inr, refl, sym, ◌∙◌, ap, subst, arith}
 use Rattle.word_ops.specs.declared.Op.{Op}
+use Rattle.word_ops.specs.declared.Rel.{Rel}
 use Rattle.term_table.specs.Tree.{Tree, Var, Con, App, Lam, Num, Lit}
 use Rattle.term_table.specs.Table.{TableView, tree_at}
 use Rattle.lf_signature.specs.Numbers.{op_of_constant, rel_of_constant, op_constant, rel_constant}
 use Rattle.lf_signature.specs.Laws.Numbered.{op_of_constant-op_constant, rel_of_constant-rel_constant}
 use Rattle.formula_tree.specs.Formulas.{Exp, EReg, ELeft, EVar, ELit, EOp, ESel, MemExp, MMem, MVar, MUpd, Form, FTrue, FFalse, FRel, FRd, FWr, FAnd, FOr, FImp, FAll, FAllm}
 use Rattle.lf_encode.specs.Encoding.{exp_encoding, mem_encoding, form_encoding}
-use Rattle.formula_ids.specs.Nodes.{IsExpNode, IsUpd, IsFormNode}
+use Rattle.term_table.specs.Measures.{height_of}
+use Rattle.formula_ids.specs.declared.forms.FormNode.{FormNode}
+use Rattle.formula_ids.specs.declared.forms.FormNode.TheVariants as F
+use Rattle.formula_ids.specs.Nodes.{AreFormPartsLower, IsExpNode, IsUpd, IsFormNode}
 use Rattle.formula_ids.specs.Inside.Heads.{word_node, applied_node, quantified_node, unary_node, joined_node, binary_node, IsBody}
 
 pub var_is : (e : Exp) (n : ℕ) → Var n ≡ exp_encoding e → e ≡ EVar n
@@ -172,3 +176,32 @@ no_form (FOr A B) h = h
 no_form (FImp A B) h = h
 no_form (FAll A) h = h
 no_form (FAllm A) h = h
+
+-- ---- parts are lower
+
+quantified_lower : (t : TableView) (n a : ℕ) (x : Bool) (o : Option ℕ) → IsBody t a o → height_of (tree_at t a) < height_of (tree_at t n) → (c : ℕ) → (c == 25) ≡ x → AreFormPartsLower t n (quantified_node c o)
+quantified_lower t n a x None h l c e = tt
+quantified_lower t n a true (Some b) h l c e = subst (λ z. AreFormPartsLower t n (cond z (F.All b) (F.AllMem b))) (sym e) (omega (arith, ap height_of h.1, l))
+quantified_lower t n a false (Some b) h l c e = subst (λ z. AreFormPartsLower t n (cond z (F.All b) (F.AllMem b))) (sym e) (omega (arith, ap height_of h.1, l))
+
+either_lower : (t : TableView) (n : ℕ) (x : Bool) (f g : FormNode) → AreFormPartsLower t n f → AreFormPartsLower t n g → AreFormPartsLower t n (cond x f g)
+either_lower t n true f g h k = h
+either_lower t n false f g h k = k
+
+pub unary_lower : (t : TableView) (n c a : ℕ) (o : Option ℕ) → IsBody t a o → App (Con (Num c)) (tree_at t a) ≡ tree_at t n → AreFormPartsLower t n (unary_node c a o)
+unary_lower t n c a o h q =
+    let less : height_of (tree_at t a) < height_of (tree_at t n) = omega (arith, ap height_of q) in
+    either_lower t n (c == 20) (F.Load a) _ tt (either_lower t n (c == 21) (F.Store a) (quantified_node c o) tt (quantified_lower t n a (c == 25) o h less c refl))
+
+pub binary_lower : (t : TableView) (n c a b : ℕ) → App (App (Con (Num c)) (tree_at t a)) (tree_at t b) ≡ tree_at t n → AreFormPartsLower t n (binary_node c a b)
+binary_lower t n c a b q = go (rel_of_constant c)
+  where
+    left : height_of (tree_at t a) < height_of (tree_at t n)
+    left = omega (arith, ap height_of q)
+
+    right : height_of (tree_at t b) < height_of (tree_at t n)
+    right = omega (arith, ap height_of q)
+
+    go : (r : Option Rel) → AreFormPartsLower t n (joined_node r c a b)
+    go (Some r) = tt
+    go None = either_lower t n (c == 22) (F.And a b) _ (left, right) (either_lower t n (c == 23) (F.Or a b) (F.Imp a b) (left, right) (left, right))

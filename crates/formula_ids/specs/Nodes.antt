@@ -3,6 +3,7 @@ use Rattle.std.specs.Prelude.{◌≡◌, ◌⊎◌, ℕ, ◌<◌}
 use Rattle.word_ops.specs.declared.Op.{Op}
 use Rattle.word_ops.specs.declared.Rel.{Rel}
 use Rattle.term_table.specs.Table.{TableView, tree_at}
+use Rattle.term_table.specs.Measures.{height_of}
 use Rattle.formula_tree.specs.Formulas.{Exp, EReg, ELeft, EVar, ELit, EOp, ESel, MemExp, MMem, MVar, MUpd, Form, FTrue, FFalse, FRel, FRd, FWr, FAnd, FOr, FImp, FAll, FAllm}
 use Rattle.lf_encode.specs.Encoding.{exp_encoding, mem_encoding, form_encoding}
 use Rattle.formula_ids.specs.declared.nodes.ExpNode.{ExpNode}
@@ -119,3 +120,20 @@ AreFormPartsBelow n (F.Or a b) = (a < n) × (b < n)
 AreFormPartsBelow n (F.Imp a b) = (a < n) × (b < n)
 AreFormPartsBelow n (F.All b) = b < n
 AreFormPartsBelow n (F.AllMem b) = b < n
+
+-- the tree of the first id is lower than that of the second
+abbrev pub IsLower : TableView → ℕ → ℕ → Type 0
+IsLower t a n = height_of (tree_at t a) < height_of (tree_at t n)
+
+-- what a connective or a quantifier stands over is lower
+abbrev pub AreFormPartsLower : TableView → ℕ → FormNode → Type 0
+AreFormPartsLower t n (F.And a b) = IsLower t a n × IsLower t b n
+AreFormPartsLower t n (F.Or a b) = IsLower t a n × IsLower t b n
+AreFormPartsLower t n (F.Imp a b) = IsLower t a n × IsLower t b n
+AreFormPartsLower t n (F.All b) = IsLower t b n
+AreFormPartsLower t n (F.AllMem b) = IsLower t b n
+AreFormPartsLower t n F.True = Unit {0}
+AreFormPartsLower t n F.False = Unit {0}
+AreFormPartsLower t n (F.Relation r a b) = Unit {0}
+AreFormPartsLower t n (F.Load a) = Unit {0}
+AreFormPartsLower t n (F.Store a) = Unit {0}

@@ -4,7 +4,7 @@ ghost use Rattle.std.specs.Prelude.{◌≡◌};
 ghost use Rattle.term_table.specs.Table.{IsKnown, tree_at};
 ghost use Rattle.formula_tree.specs.Formulas.{Form};
 ghost use Rattle.lf_encode.specs.Encoding.{form_encoding};
-ghost use Rattle.formula_ids.specs.Nodes.{IsFormNode, AreFormPartsBelow};
+ghost use Rattle.formula_ids.specs.Nodes.{IsFormNode, AreFormPartsBelow, AreFormPartsLower};
 ghost use Rattle.formula_ids.specs.Inside.Heads.{unary_node, binary_node, IsBody};
 
 use lf_signature::numbers::{ALL, AND, OR, RD, TT, WR};
@@ -89,12 +89,13 @@ fn body_of(table: &Table, id: Id) -> Option<Id>
 }
 
 /// What stands at the head of the formula that `id` encodes. Of an id that encodes none it says
-/// nothing, but that the parts' ids are lower.
+/// nothing, but that the parts' ids and heights are lower.
 pub fn form_node(table: &Table, id: Id) -> FormNode
     requires { IsKnown table.now id }
     ensures is { (A : Form) → tree_at table.now id ≡ form_encoding A
         → IsFormNode table.now A result }
     ensures below { AreFormPartsBelow id result }
+    ensures lower { AreFormPartsLower table.now id result }
 {
     match table.node(id) {
         Node::Const(constant) => {

@@ -2,8 +2,8 @@ use Rattle.std.proofs.Common.{◌≡◌, ◌∙◌, sym, ap, subst}
 use Rattle.term_table.specs.Tree.{App, Con, Num}
 use Rattle.term_table.specs.Table.{tree_at, node_tree_in}
 use Rattle.lf_encode.specs.Encoding.{form_encoding}
-use Rattle.formula_ids.specs.Nodes.{IsFormNode}
-use Rattle.formula_ids.proofs.Heads.{IsNoForm, truth_is, falsity_is, unary_is, binary_is, no_form}
+use Rattle.formula_ids.specs.Nodes.{IsFormNode, AreFormPartsLower}
+use Rattle.formula_ids.proofs.Heads.{IsNoForm, truth_is, falsity_is, unary_is, binary_is, no_form, unary_lower, binary_lower}
 use Rattle.formula_ids.proofs.Others.{no_form_node, no_form_function, no_form_head}
 use Rattle.formula_ids.proofs.forms.form_node.Goals as goal
 
@@ -37,6 +37,7 @@ returns-in_default-node-2 c = record {
       ap (λ z. App (App z (tree_at t c.in-App-node.a)) (tree_at t c.in-App.b)) c.node-in-App-node.ensures.tree ∙ ap (λ z. App z (tree_at t c.in-App.b)) c.in-App-node.ensures.tree ∙ c.in-App.ensures.tree ∙ q in
       absurd (no_form A (subst IsNoForm whole (no_form_head t.trees c.node-in-App-node.result _ _ c.in_default-node-2.not-Const)));
   below = tt;
+  lower = tt;
 }
 
 pub returns-in_default-node : goal.returns-in_default-node
@@ -47,6 +48,7 @@ returns-in_default-node c = record {
       ap (λ z. App z (tree_at t c.in-App.b)) c.node-in-App.ensures.tree ∙ c.in-App.ensures.tree ∙ q in
       absurd (no_form A (subst IsNoForm whole (no_form_function t.trees c.node-in-App.result _ c.in_default-node.not-Const c.in_default-node.not-App)));
   below = tt;
+  lower = tt;
 }
 
 pub returns-in_default : goal.returns-in_default
@@ -54,4 +56,18 @@ returns-in_default c = record {
   is = λ A q.
       absurd (no_form A (subst IsNoForm (c.node.ensures.tree ∙ q) (no_form_node c.args.table.now.trees c.node.result c.in_default.not-Const c.in_default.not-App)));
   below = tt;
+  lower = tt;
 }
+
+pub returns-in-Const-node-clause-lower : goal.returns-in-Const-node-clause-lower
+returns-in-Const-node-clause-lower c =
+    let t = c.args.table.now in
+    subst (λ z. AreFormPartsLower t c.args.id z) (sym c.unary.ensures)
+    (unary_lower t c.args.id c.in-Const-node.constant c.in-App.b c.body_of.result c.body_of.ensures (ap (λ z. App z (tree_at t c.in-App.b)) c.in-Const-node.ensures.tree ∙ c.in-App.ensures.tree))
+
+pub returns-in-Const-node-2-clause-lower : goal.returns-in-Const-node-2-clause-lower
+returns-in-Const-node-2-clause-lower c =
+    let t = c.args.table.now in
+    subst (λ z. AreFormPartsLower t c.args.id z) (sym c.binary.ensures)
+    (binary_lower t c.args.id c.in-Const-node-2.constant c.in-App-node.a c.in-App.b
+    (ap (λ z. App (App z (tree_at t c.in-App-node.a)) (tree_at t c.in-App.b)) c.in-Const-node-2.ensures.tree ∙ ap (λ z. App z (tree_at t c.in-App.b)) c.in-App-node.ensures.tree ∙ c.in-App.ensures.tree))
