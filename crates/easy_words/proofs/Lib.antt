@@ -1,2 +1,4 @@
 pub mod Growing
 mod Moving
+mod Rewrites
+mod Rules

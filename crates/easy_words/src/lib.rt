@@ -7,6 +7,9 @@
 //! here too (`steps`). Source: Necula, Proof-Carrying Code, POPL 1997 (the rules of arithmetic).
 #![tactic(auto)]
 
+mod normal_forms;
+mod rewriting;
 mod steps;
 
+pub use normal_forms::{NormalForms, Rewritten, normal_form};
 pub use steps::{calc, fact, moved, oper, reflexive, relation, swapped};
