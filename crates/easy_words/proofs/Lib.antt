@@ -1,4 +1,5 @@
 pub mod Growing
 mod Moving
 mod Rewrites
+mod Rounds
 mod Rules

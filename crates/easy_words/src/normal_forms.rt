@@ -15,7 +15,7 @@ ghost use Rattle.easy_class.specs.NormalForms.{Rewriting, leaves, redex, after_s
 ghost use Rattle.easy_class.specs.Goals.{first_of};
 ghost use Rattle.easy_words.specs.Inside.Rewrites.{IsKnownRewrite, IsRewrite, AreKnownRewrites, AreRewrites};
 ghost use Rattle.easy_words.specs.Inside.Rounds.{after_step, IsRound, word_in, second_moved, first_moved};
-ghost use Rattle.easy_words.specs.NormalForms.{RewrittenExp, IsKnownRewritten, IsRewritten, IsNormalForm, row_ids, AreNormalForms};
+ghost use Rattle.easy_words.specs.NormalForms.{RewrittenExp, IsKnownRewritten, IsRewritten, IsNormalForm, pair_of, row_ids, AreNormalForms};
 
 use crate::rewriting::{Rewrite, Rewrites, is_some, redex};
 use crate::steps::{fact, moved, reflexive, relation, swapped};
@@ -74,11 +74,12 @@ fn ids_of(table: &Table, row: Row) -> Rewritten
 }
 
 /// The ids as a row.
-fn row_of(ids: Rewritten) -> Row
-    ensures { row_ids result ≡ ids }
+fn row_of(now: Id, proof: Id) -> Row
+    ensures now { result.now ≡ now }
+    ensures proof { result.proof ≡ proof }
 {
-    let now = number(ids.now);
-    let proof = number(ids.proof);
+    let now = number(now);
+    let proof = number(proof);
     Row { now, proof }
 }
 
@@ -118,17 +119,18 @@ impl NormalForms {
         memo: &mut Memo,
         table: &Table,
         place: Place,
-        found: Rewritten,
+        now: Id,
+        proof: Id,
     ) -> Result<(), AllocError>
         requires memo { IsMemo table.now memo.old }
         requires kept { AreNormalForms table.now self.old }
-        requires found { IsNormalForm table.now place found }
+        requires found { IsNormalForm table.now place (pair_of now proof) }
         ensures memo { IsMemo table.now memo.new }
         ensures kept { AreNormalForms table.now self.new }
     {
         let _ = table; // only the clauses speak of it
         memo.spend()?;
-        let row = row_of(found);
+        let row = row_of(now, proof);
         self.rows.insert(place, row)?;
         Ok(())
     }
@@ -257,14 +259,18 @@ fn normalized(
     ensures extends { Extends table.old table.new }
     ensures memo { IsMemo table.new memo.new }
 {
-    let mut here = start;
+    let mut now = start.now;
+    let mut proof = start.proof;
     for round in 0..rounds {
-        match next(table, memo, outside, above, here)? {
-            None => return Ok(here),
-            Some(next) => here = next,
+        match next(table, memo, outside, above, Rewritten { now, proof })? {
+            None => return Ok(Rewritten { now, proof }),
+            Some(next) => {
+                now = next.now;
+                proof = next.proof;
+            }
         }
     }
-    Ok(here)
+    Ok(Rewritten { now, proof })
 }
 
 /// The normal form, where none is kept.
@@ -297,7 +303,7 @@ fn fresh_normal_form(
 /// `e` equals it.
 ///
 /// Errors: want of memory alone, which more results than the memo may keep are too.
-#[tactic(auto, using(crate::proofs::Growing::rows))]
+#[tactic(auto, using(crate::proofs::Growing::forms))]
 pub fn normal_form(
     table: &mut Table,
     memo: &mut Memo,
@@ -323,6 +329,6 @@ pub fn normal_form(
         return Ok(found);
     }
     let found = fresh_normal_form(table, memo, outside, e)?;
-    kept.keep(memo, table, place, found)?;
+    kept.keep(memo, table, place, found.now, found.proof)?;
     Ok(found)
 }

@@ -6,13 +6,13 @@ use Rattle.lf_encode.specs.Encoding.{exp_encoding}
 use Rattle.easy_class.specs.ProofTerms.{up}
 use Rattle.easy_class.specs.NormalForms.{normalized}
 use Rattle.easy_words.specs.Inside.Rounds.{IsUnderWay}
-use Rattle.easy_words.specs.NormalForms.{RewrittenExp, IsKnownRewritten, IsRewritten}
+use Rattle.easy_words.specs.NormalForms.{pair_of, RewrittenExp, IsKnownRewritten, IsRewritten}
 use Rattle.easy_words.proofs.normal_forms.normalized.Given as goal
 
 abbrev pub invariant-loop-round : goal.invariant-loop-round
 invariant-loop-round l = record {
   extends : Extends l.fn.table l.table;
   memo : IsMemo l.table l.memo;
-  known : IsKnownRewritten l.table l.here;
-  leads : (x : Exp) (r : RewrittenExp) → tree_at l.fn.table l.above ≡ exp_encoding (up x) → IsRewritten l.fn.table l.start r → IsUnderWay l.table l.outside (l.rounds - l.round) x (normalized l.outside l.rounds x r) l.here
+  known : IsKnownRewritten l.table (pair_of l.now l.proof);
+  leads : (x : Exp) (r : RewrittenExp) → tree_at l.fn.table l.above ≡ exp_encoding (up x) → IsRewritten l.fn.table l.start r → IsUnderWay l.table l.outside (l.rounds - l.round) x (normalized l.outside l.rounds x r) (pair_of l.now l.proof)
 }
