@@ -1,6 +1,7 @@
 -- Rounds of rewriting, and what is kept of normal forms.
-use Rattle.std.proofs.Common.{◌≡◌, ℕ, zero, suc, ◌+◌, ◌-◌, ◌<◌, ◌≤◌, Bool, true, false, cond, Option, Some, None, List, [], ◌∷◌, Result, IfOk, refl, sym, ◌∙◌, ap, subst, arith}
+use Rattle.std.proofs.Common.{◌≡◌, ℕ, zero, suc, ◌+◌, ◌-◌, ◌<◌, ◌≤◌, Bool, true, false, cond, nat_lt, min, lt-ltb, Option, Some, None, List, [], ◌∷◌, Result, IfOk, refl, sym, ◌∙◌, ap, subst, arith}
 use Rattle.std.specs.Bool.{Decides}
+use Rattle.std.proofs.lemmas.Bool.{le-ltb}
 use Rattle.term_table.specs.Tree.{Tree}
 use Rattle.term_table.specs.Table.{TableView, IsKnown, tree_at, Extends}
 use Rattle.term_table.proofs.Options.{some_injective}
@@ -126,3 +127,10 @@ under_way_ends t out rounds i x goal here over w =
     let none : rounds - i ≡ 0 = omega (arith, over) in
     let led : w.here ≡ goal = sym (normalized-none out x w.here) ∙ subst (λ k. normalized out k x w.here ≡ goal) none w.leads in
     subst (IsRewritten t here) led w.stands
+
+-- few leaves: the rounds
+pub few_leaves : (n m : ℕ) → m ≤ 64 → m ≡ min n 65 → nat_lt 64 n ≡ false
+few_leaves n m h q = le-ltb 64 n (omega (arith, h, q))
+
+pub many_leaves : (n m : ℕ) → 64 < m → m ≡ min n 65 → nat_lt 64 n ≡ true
+many_leaves n m h q = lt-ltb 64 n (omega (arith, h, q))

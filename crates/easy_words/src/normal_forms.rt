@@ -4,27 +4,24 @@
 //! tree.
 
 ghost use Rattle.std.specs.Prelude.{◌≡◌, ◌≤◌, ℕ, min, IfOk, IfSome, OnOk, List};
-ghost use Rattle.term_table.specs.Tree.{Tree};
-ghost use Rattle.term_table.specs.Table.{TableView, IsKnown, tree_at, Extends, Stands};
-ghost use Rattle.hereditary_subst.specs.Inside.Kept.{IsMemo, IfKnown};
-ghost use Rattle.lf_signature.specs.Nodes.{IsIdOf};
-ghost use Rattle.formula_tree.specs.Formulas.{Exp, ELit};
+ghost use Rattle.term_table.specs.Table.{TableView, IsKnown, tree_at, Extends};
+ghost use Rattle.hereditary_subst.specs.Inside.Kept.{IsMemo};
+ghost use Rattle.formula_tree.specs.Formulas.{Exp};
 ghost use Rattle.lf_encode.specs.Encoding.{exp_encoding};
 ghost use Rattle.easy_class.specs.ProofTerms.{up};
-ghost use Rattle.easy_class.specs.NormalForms.{Rewriting, leaves, redex, after_steps, normalized, normal_form, equal_proof, words_proof, held_of_words, equal_forms};
-ghost use Rattle.easy_class.specs.Goals.{first_of};
+ghost use Rattle.easy_class.specs.NormalForms.{Rewriting, leaves, redex, after_steps, normalized, normal_form};
 ghost use Rattle.easy_words.specs.Inside.Rewrites.{IsKnownRewrite, IsRewrite, AreKnownRewrites, AreRewrites};
-ghost use Rattle.easy_words.specs.Inside.Rounds.{after_step, IsRound, word_in, second_moved, first_moved};
+ghost use Rattle.easy_words.specs.Inside.Rounds.{after_step, IsRound};
 ghost use Rattle.easy_words.specs.NormalForms.{RewrittenExp, IsKnownRewritten, IsRewritten, IsNormalForm, pair_of, row_ids, AreNormalForms};
 
 use crate::rewriting::{Rewrite, Rewrites, is_some, redex};
-use crate::steps::{fact, moved, reflexive, relation, swapped};
+use crate::steps::{moved, reflexive, relation};
 use formula_ids::{ExpNode, exp_node, raised};
 use hereditary_subst::Memo;
 use std::alloc::{AllocError, Global};
 use std::collections::BTreeMap;
-use term_table::{Id, Node, Table};
-use word_ops::{Rel, holds};
+use term_table::{Id, Table};
+use word_ops::Rel;
 
 /// An expression and the id of a proof that the given one equals it.
 #[derive(Clone, Copy)]
@@ -57,7 +54,7 @@ pub struct NormalForms {
 }
 
 /// The id as a number.
-fn number(id: Id) -> u64
+pub(crate) fn number(id: Id) -> u64
     ensures { result ≡ id }
 {
     id.index() as u64
@@ -289,14 +286,12 @@ fn fresh_normal_form(
     ensures extends { Extends table.old table.new }
     ensures memo { IsMemo table.new memo.new }
 {
-    let many = 64 < leaves_up_to(table, e, 65);
     let proof = reflexive(table, e)?;
-    let start = Rewritten { now: e, proof };
-    if many {
-        return Ok(start);
+    if 64 < leaves_up_to(table, e, 65) {
+        return Ok(Rewritten { now: e, proof });
     }
     let above = raised(table, memo, e)?;
-    normalized(table, memo, outside, 65_536, above, start)
+    normalized(table, memo, outside, 65_536, above, Rewritten { now: e, proof })
 }
 
 /// The normal form of the expression `e`, where `outside` binders stand outside, with the proof that

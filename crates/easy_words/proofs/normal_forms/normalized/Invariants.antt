@@ -14,5 +14,5 @@ invariant-loop-round l = record {
   extends : Extends l.fn.table l.table;
   memo : IsMemo l.table l.memo;
   known : IsKnownRewritten l.table (pair_of l.now l.proof);
-  leads : (x : Exp) (r : RewrittenExp) → tree_at l.fn.table l.above ≡ exp_encoding (up x) → IsRewritten l.fn.table l.start r → IsUnderWay l.table l.outside (l.rounds - l.round) x (normalized l.outside l.rounds x r) (pair_of l.now l.proof)
+  leads : (x : Exp) (r : RewrittenExp) → tree_at l.fn.table l.above ≡ exp_encoding (up x) → IsRewritten l.fn.table l.fn.start r → IsUnderWay l.table l.outside (l.rounds - l.round) x (normalized l.outside l.rounds x r) (pair_of l.now l.proof)
 }
