@@ -1,4 +1,5 @@
 pub mod Growing
+mod Equations
 mod Moving
 mod Rewrites
 mod Rounds

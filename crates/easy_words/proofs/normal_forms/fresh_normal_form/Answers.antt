@@ -13,7 +13,7 @@ returns-clause-exact c =
     let u = c.reflexive.new.table in
     let v = c.raised.new.table in
     let in_u = c.in_ok-proof.ensures.extends.same c.args.e c.requires.e ∙ q in
-    let few = few_leaves (leaves x) c.leaves_up_to.result c.if-leaves_up_to.false (c.leaves_up_to.ensures.exact x in_u) in
+    let few = few_leaves (leaves x) c.leaves_up_to.result c.if-leaves_up_to-gt64.false (c.leaves_up_to.ensures.exact x in_u) in
     let start = rewritten x (eq_refl x) in
     let above = above_is u v c.args.e c.in_ok-above.above x c.in_ok-above.ensures.id in_u in
     let stands : IsRewritten u (pair_of c.args.e c.in_ok-proof.proof) start = record { now = in_u; proof = (c.in_ok-proof.ensures.is x q).is } in
