@@ -1,21 +1,20 @@
 -- Proofs of relations by normal forms, put together of ids.
-use Rattle.std.proofs.Common.{◌≡◌, ℕ, Bool, true, false, cond, Option, Some, None, Result, IfOk, refl, sym, ◌∙◌, ap, subst, arith}
+use Rattle.std.proofs.Common.{◌≡◌, ℕ, Bool, true, false, cond, Some, None, Result, IfOk, refl, ◌∙◌, ap, subst}
 use Rattle.word_ops.specs.declared.Rel.{Rel}
 use Rattle.word_ops.specs.declared.Rel.TheVariants.{Eq}
-use Rattle.word_ops.specs.Words.{test_of}
-use Rattle.term_table.specs.Tree.{Tree, Var, shift}
+use Rattle.term_table.specs.Tree.{Var, shift}
 use Rattle.term_table.specs.Table.{TableView, IsKnown, tree_at, Extends}
 use Rattle.term_table.specs.Equality.{tree_eq}
 use Rattle.term_table.proofs.Equality.{tree_eq_refl, tree_eq-true}
 use Rattle.lf_signature.specs.Nodes.{IsIdOf}
 use Rattle.lf_signature.specs.Terms.{rel_term}
 use Rattle.hereditary_subst.proofs.Rows.{grows_more}
-use Rattle.formula_tree.specs.Formulas.{Exp, EReg, ELeft, EVar, ELit, EOp, ESel, Form, FRel}
+use Rattle.formula_tree.specs.Formulas.{Exp, EVar, ELit, Form, FRel}
 use Rattle.lf_encode.specs.Encoding.{exp_encoding, form_encoding}
 use Rattle.easy_class.specs.ProofTerms.{up, move, swap, fact}
-use Rattle.easy_class.specs.NormalForms.{equal_proof, words_proof, held_of_words, equal_forms}
+use Rattle.easy_class.specs.NormalForms.{equal_proof, equal_forms}
 use Rattle.easy_words.specs.declared.normal_forms.Rewritten.{Rewritten}
-use Rattle.easy_words.specs.Inside.Rounds.{word_in, second_moved, first_moved}
+use Rattle.easy_words.specs.Inside.Rounds.{second_moved, first_moved}
 use Rattle.easy_words.specs.NormalForms.{RewrittenExp, IsKnownRewritten, IsRewritten}
 use Rattle.easy_words.proofs.Rewrites.{above_is}
 

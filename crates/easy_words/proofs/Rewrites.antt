@@ -1,6 +1,6 @@
 -- Rewritings as ids: in parts of an expression, one after another, as the table grows.
 use Rattle.std.proofs.Common.{◌≡◌, ℕ, true, false, List, [], ◌∷◌, map, Result, IfOk, refl, sym, ◌∙◌, ap, subst, arith}
-use Rattle.term_table.specs.Tree.{Tree, Con, Num, shift, apps}
+use Rattle.term_table.specs.Tree.{Con, Num, shift, apps}
 use Rattle.term_table.specs.Table.{TableView, IsKnown, tree_at, Extends}
 use Rattle.hereditary_subst.proofs.Rows.{grows_more}
 use Rattle.lf_signature.specs.Nodes.{IsIdOf}
@@ -18,7 +18,7 @@ use Rattle.easy_class.specs.NormalForms.{Rewriting, in_left, in_right, first_non
 use Rattle.easy_words.specs.declared.rewriting.Rewrite.{Rewrite}
 use Rattle.easy_words.specs.declared.rewriting.Rewrites.{Rewrites}
 use Rattle.easy_words.specs.declared.rewriting.Rewrites.TheVariants as R
-use Rattle.easy_words.specs.Inside.Rewrites.{IsKnownRewrite, IsRewrite, AreKnownRewrites, AreRewrites, whole_of, commuted_of, regrouped_of, ungrouped_of, left_of, right_of, is_some}
+use Rattle.easy_words.specs.Inside.Rewrites.{IsKnownRewrite, IsRewrite, AreKnownRewrites, AreRewrites, whole_of, commuted_of, regrouped_of, ungrouped_of, left_of, right_of, has_rewrites}
 use Rattle.std.proofs.lemmas.Bool.{false≢true}
 
 -- what is raised has nothing to put in
@@ -168,20 +168,20 @@ pub one_step : (w : TableView) (step : Rewrite) (l : List Rewriting) (r : Rewrit
 one_step w step l r q h = subst (AreRewrites w (R.One step)) (sym q) h
 
 -- where there is something to rewrite in the left part
-pub first_of_left : (t : TableView) (steps : Rewrites) (l m : List Rewriting) (o : Op) (y : Exp) → is_some steps ≡ true → AreRewrites t steps l → first_nonempty (in_left o y l) m ≡ in_left o y l
+pub first_of_left : (t : TableView) (steps : Rewrites) (l m : List Rewriting) (o : Op) (y : Exp) → has_rewrites steps ≡ true → AreRewrites t steps l → first_nonempty (in_left o y l) m ≡ in_left o y l
 first_of_left t R.Nothing [] m o y q h = absurd (false≢true q)
 first_of_left t (R.One s) [] m o y q h = absurd h
 first_of_left t (R.Three s u v) [] m o y q h = absurd h
 first_of_left t steps (s ∷ l) m o y q h = refl
 
-pub first_of_right : (t : TableView) (steps : Rewrites) (l m : List Rewriting) (o : Op) (y : Exp) → is_some steps ≡ true → AreRewrites t steps l → first_nonempty (in_right o y l) m ≡ in_right o y l
+pub first_of_right : (t : TableView) (steps : Rewrites) (l m : List Rewriting) (o : Op) (y : Exp) → has_rewrites steps ≡ true → AreRewrites t steps l → first_nonempty (in_right o y l) m ≡ in_right o y l
 first_of_right t R.Nothing [] m o y q h = absurd (false≢true q)
 first_of_right t (R.One s) [] m o y q h = absurd h
 first_of_right t (R.Three s u v) [] m o y q h = absurd h
 first_of_right t steps (s ∷ l) m o y q h = refl
 
 -- there is nothing
-pub none_is : (t : TableView) (steps : Rewrites) (l : List Rewriting) → is_some steps ≡ false → AreRewrites t steps l → l ≡ []
+pub none_is : (t : TableView) (steps : Rewrites) (l : List Rewriting) → has_rewrites steps ≡ false → AreRewrites t steps l → l ≡ []
 none_is t R.Nothing [] q h = refl
 none_is t R.Nothing (s ∷ l) q h = absurd h
 none_is t (R.One s) l q h = absurd (false≢true (sym q))

@@ -1,8 +1,7 @@
 -- Rounds of rewriting, and what is kept of normal forms.
-use Rattle.std.proofs.Common.{◌≡◌, ℕ, zero, suc, ◌+◌, ◌-◌, ◌<◌, ◌≤◌, Bool, true, false, cond, nat_lt, min, lt-ltb, Option, Some, None, List, [], ◌∷◌, Result, IfOk, refl, sym, ◌∙◌, ap, subst, arith}
+use Rattle.std.proofs.Common.{◌≡◌, ℕ, suc, ◌+◌, ◌-◌, ◌<◌, ◌≤◌, Bool, true, false, cond, nat_lt, min, lt-ltb, Option, Some, List, [], ◌∷◌, Result, IfOk, refl, sym, ◌∙◌, ap, subst, arith}
 use Rattle.std.specs.Bool.{Decides}
 use Rattle.std.proofs.lemmas.Bool.{le-ltb}
-use Rattle.term_table.specs.Tree.{Tree}
 use Rattle.term_table.specs.Table.{TableView, IsKnown, tree_at, Extends}
 use Rattle.term_table.proofs.Options.{some_injective}
 use Rattle.word_ops.specs.declared.Rel.TheVariants.{Eq}
@@ -21,7 +20,7 @@ use Rattle.easy_words.specs.declared.normal_forms.Row.{Row}
 use Rattle.easy_words.specs.declared.normal_forms.Rewritten.{Rewritten}
 use Rattle.easy_words.specs.declared.normal_forms.NormalForms.{NormalForms}
 use Rattle.easy_words.specs.Inside.Rewrites.{IsKnownRewrite, IsRewrite, AreKnownRewrites, AreRewrites}
-use Rattle.easy_words.specs.Inside.Rounds.{after_step, IsNext, IsRound, IsUnderWay}
+use Rattle.easy_words.specs.Inside.Rounds.{after_step, IsNext, LeadsTo}
 use Rattle.easy_words.specs.NormalForms.{RewrittenExp, pair_of, row_ids, IsKnownRewritten, IsRewritten, IsNormalForm, AreNormalForms}
 use Rattle.easy_words.proofs.Rewrites.{rewrite-more}
 
@@ -101,9 +100,9 @@ normalized-none out e r = refl
 continue_some : (again : RewrittenExp → RewrittenExp) (e : Exp) (r : RewrittenExp) (l : List Rewriting) (s : Rewriting) (m : List Rewriting) → l ≡ s ∷ m → continue_with again e r l ≡ again (after_steps e l r)
 continue_some again e r l s m q = ap (continue_with again e r) q ∙ ap (λ k. again (after_steps e k r)) (sym q)
 
-pub under_way_next : (t u : TableView) (out rounds i : ℕ) (x : Exp) (goal : RewrittenExp) (here next : Rewritten) → i < rounds → IsUnderWay t out (rounds - i) x goal here →
-    ((r : RewrittenExp) → IsRewritten t here r → IsNext u x (redex out r.now) r next) → IsUnderWay u out (rounds - (i + 1)) x goal next
-under_way_next t u out rounds i x goal here next less w go =
+pub leads_next : (t u : TableView) (out rounds i : ℕ) (x : Exp) (goal : RewrittenExp) (here next : Rewritten) → i < rounds → LeadsTo t out (rounds - i) x goal here →
+    ((r : RewrittenExp) → IsRewritten t here r → IsNext u x (redex out r.now) r next) → LeadsTo u out (rounds - (i + 1)) x goal next
+leads_next t u out rounds i x goal here next less w go =
     let n = go w.here w.stands in
     let count : rounds - i ≡ suc (rounds - (i + 1)) = omega (arith, less) in
     let led : normalized out (suc (rounds - (i + 1))) x w.here ≡ goal = subst (λ k. normalized out k x w.here ≡ goal) count w.leads in record {
@@ -113,17 +112,17 @@ under_way_next t u out rounds i x goal here next less w go =
     }
 
 -- there is nothing more to rewrite
-pub under_way_stops : (t u : TableView) (out rounds i : ℕ) (x : Exp) (goal : RewrittenExp) (here : Rewritten) → i < rounds → IsKnownRewritten t here → Extends t u → IsUnderWay t out (rounds - i) x goal here →
+pub leads_stop : (t u : TableView) (out rounds i : ℕ) (x : Exp) (goal : RewrittenExp) (here : Rewritten) → i < rounds → IsKnownRewritten t here → Extends t u → LeadsTo t out (rounds - i) x goal here →
     ((r : RewrittenExp) → IsRewritten t here r → redex out r.now ≡ []) → IsRewritten u here goal
-under_way_stops t u out rounds i x goal here less k e w go =
+leads_stop t u out rounds i x goal here less k e w go =
     let count : rounds - i ≡ suc (rounds - (i + 1)) = omega (arith, less) in
     let led : normalized out (suc (rounds - (i + 1))) x w.here ≡ goal = subst (λ k. normalized out k x w.here ≡ goal) count w.leads in
     let same : w.here ≡ goal = sym (normalized-next out (rounds - (i + 1)) x w.here ∙ ap (continue_with (normalized out (rounds - (i + 1)) x) x w.here) (go w.here w.stands)) ∙ led in
     subst (IsRewritten u here) same (rewritten-more t u here w.here k e w.stands)
 
 -- the rounds are over
-pub under_way_ends : (t : TableView) (out rounds i : ℕ) (x : Exp) (goal : RewrittenExp) (here : Rewritten) → rounds ≤ i → IsUnderWay t out (rounds - i) x goal here → IsRewritten t here goal
-under_way_ends t out rounds i x goal here over w =
+pub leads_end : (t : TableView) (out rounds i : ℕ) (x : Exp) (goal : RewrittenExp) (here : Rewritten) → rounds ≤ i → LeadsTo t out (rounds - i) x goal here → IsRewritten t here goal
+leads_end t out rounds i x goal here over w =
     let none : rounds - i ≡ 0 = omega (arith, over) in
     let led : w.here ≡ goal = sym (normalized-none out x w.here) ∙ subst (λ k. normalized out k x w.here ≡ goal) none w.leads in
     subst (IsRewritten t here) led w.stands

@@ -10,7 +10,7 @@ use Rattle.easy_class.specs.NormalForms.{whole_step, summand_key, swapped, turne
 use Rattle.easy_words.specs.declared.rewriting.Summand.{Summand}
 use Rattle.easy_words.specs.declared.rewriting.Summand.TheVariants as S
 use Rattle.easy_words.specs.declared.rewriting.Rule.TheVariants as L
-use Rattle.easy_words.specs.Inside.Rewrites.{IsOther, IsSum, IsSummand, rule_at_word, rule_of_sum, rule_before, IsRule}
+use Rattle.easy_words.specs.Inside.Rewrites.{IsOther, IsSummand, rule_at_word, rule_of_sum, rule_before, IsRule}
 
 swapped_rule : (t : TableView) (out : ℕ) (x y : Exp) (comes : Bool) → comes ≡ nat_lt (summand_key out y) (summand_key out x) → rewrite_at out Add x y ≡ swapped out x y → IsRule t out Add x y (cond comes L.Swapped L.Nothing)
 swapped_rule t out x y true e q = q ∙ ap (λ b. cond b (whole_step (EOp Add x y) (EOp Add y x) (word_rule 46 (x ∷ y ∷ []) [])) []) (sym e)

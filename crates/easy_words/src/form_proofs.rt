@@ -1,9 +1,9 @@
 //! Proofs of relations by the normal forms of their expressions.
 //!
-//! Errors: want of memory alone, which more shifts than the memo may keep are too; each id keeps its
-//! tree.
+//! Errors: want of memory alone, which more shifts than the memo may keep are too; each id keeps
+//! its tree.
 
-ghost use Rattle.std.specs.Prelude.{◌≡◌, ℕ, IfOk};
+ghost use Rattle.std.specs.Prelude.{◌≡◌, IfOk};
 ghost use Rattle.term_table.specs.Table.{IsKnown, tree_at, Extends, Stands};
 ghost use Rattle.hereditary_subst.specs.Inside.Kept.{IsMemo, IfKnown};
 ghost use Rattle.lf_signature.specs.Nodes.{IsIdOf};
@@ -234,8 +234,8 @@ fn equal_forms(
     }
 }
 
-/// The proof of the relation of `a` and `b` by their normal forms `p` and `q`: where these are words of
-/// which it holds, or where they are one and it is equality.
+/// The proof of the relation of `a` and `b` by their normal forms `p` and `q`: if these are words of
+/// which it holds, or if they are one and it is equality.
 ///
 /// Errors: want of memory alone, which more shifts than the memo may keep are too.
 #[tactic(auto, using(crate::proofs::Growing::rows))]
@@ -262,6 +262,7 @@ pub fn proof_by_forms(
     ensures extends { Extends table.old table.new }
     ensures memo { IsMemo table.new memo.new }
 {
+    // Copies, which the borrow checker doesn't see in a struct with ids.
     let first = Rewritten {
         now: p.now,
         proof: p.proof,

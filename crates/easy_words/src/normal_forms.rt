@@ -1,9 +1,9 @@
 //! Normal forms of expressions, with the proofs that the expressions equal them.
 //!
-//! Errors: want of memory alone, which more results than the memo may keep are too; each id keeps its
-//! tree.
+//! Errors: want of memory alone, which more results than the memo may keep are too; each id keeps
+//! its tree.
 
-ghost use Rattle.std.specs.Prelude.{◌≡◌, ◌≤◌, ℕ, min, IfOk, IfSome, OnOk, List};
+ghost use Rattle.std.specs.Prelude.{◌≡◌, ◌≤◌, min, IfOk, IfSome, OnOk, List};
 ghost use Rattle.term_table.specs.Table.{TableView, IsKnown, tree_at, Extends};
 ghost use Rattle.hereditary_subst.specs.Inside.Kept.{IsMemo};
 ghost use Rattle.formula_tree.specs.Formulas.{Exp};
@@ -14,7 +14,7 @@ ghost use Rattle.easy_words.specs.Inside.Rewrites.{IsKnownRewrite, IsRewrite, Ar
 ghost use Rattle.easy_words.specs.Inside.Rounds.{after_step, IsRound};
 ghost use Rattle.easy_words.specs.NormalForms.{RewrittenExp, IsKnownRewritten, IsRewritten, IsNormalForm, pair_of, row_ids, AreNormalForms};
 
-use crate::rewriting::{Rewrite, Rewrites, is_some, redex};
+use crate::rewriting::{Rewrite, Rewrites, has_rewrites, redex};
 use crate::steps::{moved, reflexive, relation};
 use formula_ids::{ExpNode, exp_node, raised};
 use hereditary_subst::Memo;
@@ -46,8 +46,8 @@ struct Row {
     proof: u64,
 }
 
-/// Normal forms that were found, by expression and number of binders outside. They count in the limit
-/// of the `Memo` that keeps the shifts.
+/// Normal forms that were found, by expression and number of binders outside. They count in the
+/// limit of the `Memo` that keeps the shifts.
 #[derive(Drop)]
 pub struct NormalForms {
     rows: BTreeMap<Place, Row>,
@@ -229,7 +229,7 @@ fn next(
     ensures memo { IsMemo table.new memo.new }
 {
     let steps = redex(table, memo, outside, here.now)?;
-    if !is_some(&steps) {
+    if !has_rewrites(&steps) {
         return Ok(None);
     }
     let next = after_steps(table, above, steps, here)?;
@@ -291,11 +291,18 @@ fn fresh_normal_form(
         return Ok(Rewritten { now: e, proof });
     }
     let above = raised(table, memo, e)?;
-    normalized(table, memo, outside, 65_536, above, Rewritten { now: e, proof })
+    normalized(
+        table,
+        memo,
+        outside,
+        65_536,
+        above,
+        Rewritten { now: e, proof },
+    )
 }
 
-/// The normal form of the expression `e`, where `outside` binders stand outside, with the proof that
-/// `e` equals it.
+/// The normal form of the expression `e`, where `outside` binders stand outside, with the proof of
+/// their equation.
 ///
 /// Errors: want of memory alone, which more results than the memo may keep are too.
 #[tactic(auto, using(crate::proofs::Growing::forms))]

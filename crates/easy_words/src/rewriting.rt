@@ -7,11 +7,11 @@ ghost use Rattle.term_table.specs.Table.{IsKnown, tree_at, Extends};
 ghost use Rattle.hereditary_subst.specs.Inside.Kept.{IsMemo};
 ghost use Rattle.word_ops.specs.Words.{word_of};
 ghost use Rattle.word_ops.specs.declared.Op.TheVariants.{Add};
-ghost use Rattle.formula_tree.specs.Formulas.{Exp, EVar, ELit, EOp};
+ghost use Rattle.formula_tree.specs.Formulas.{Exp, ELit, EOp};
 ghost use Rattle.lf_encode.specs.Encoding.{exp_encoding};
 ghost use Rattle.easy_class.specs.ProofTerms.{up, calc};
-ghost use Rattle.easy_class.specs.NormalForms.{Rewriting, rewriting, whole_step, summand_key, turned, rewrite_at, in_left, in_right, redex};
-ghost use Rattle.easy_words.specs.Inside.Rewrites.{IsKnownRewrite, IsRewrite, AreKnownRewrites, AreRewrites, IsSummand, IsKnownSummand, IsRule, IsKnownRule, sum_of, rule_at_word, rule_before, whole_of, negated_of, operand_of, regrouped_of, commuted_of, ungrouped_of, left_of, right_of, is_some};
+ghost use Rattle.easy_class.specs.NormalForms.{Rewriting, summand_key, turned, rewrite_at, in_left, in_right, redex};
+ghost use Rattle.easy_words.specs.Inside.Rewrites.{IsKnownRewrite, IsRewrite, AreKnownRewrites, AreRewrites, IsSummand, IsKnownSummand, IsRule, IsKnownRule, applied_summand, rule_at_word, rule_before, whole_of, negated_of, operand_of, regrouped_of, commuted_of, ungrouped_of, left_of, right_of, has_rewrites};
 
 use crate::steps::{calc, oper, swapped};
 use formula_ids::{ExpNode, exp_node, raised};
@@ -22,8 +22,8 @@ use std::alloc::AllocError;
 use term_table::{Id, Node, Table};
 use word_ops::{Op, apply};
 
-/// One rewriting: `into` is the expression with variable 0 in the place of what is rewritten, `from`
-/// becomes `to` there by the proof, and `after` is the whole expression then.
+/// One rewriting: `into` is the expression with variable 0 in the place of what is rewritten, where
+/// `from` becomes `to` by the proof; `after` is the whole expression then.
 #[derive(Clone, Copy)]
 pub(crate) struct Rewrite {
     pub(crate) into: Id,
@@ -97,8 +97,8 @@ fn summand_key(table: &Table, outside: u32, e: Id) -> u32
 }
 
 /// What the operator at two operands is as an operand.
-fn sum_of(op: Op, a: Id, b: Id) -> Summand
-    ensures { result ≡ sum_of op a b }
+fn applied_summand(op: Op, a: Id, b: Id) -> Summand
+    ensures { result ≡ applied_summand op a b }
 {
     match op {
         Op::Add => Summand::Sum(a, b),
@@ -114,7 +114,7 @@ fn operand(table: &Table, e: Id) -> Summand
 {
     match exp_node(table, e) {
         ExpNode::Word(w) => Summand::Word(w),
-        ExpNode::Apply(op, a, b) => sum_of(op, a, b),
+        ExpNode::Apply(op, a, b) => applied_summand(op, a, b),
         ExpNode::Var(_) => Summand::Other,
         ExpNode::Sel(_, _) => Summand::Other,
         ExpNode::Unbound => Summand::Other,
@@ -144,8 +144,8 @@ fn rule_at_word(op: Op, first: Summand, w: u64, comes: bool) -> Rule
     }
 }
 
-/// The rule of an operator whose second operand is no word. `part` is the first of its parts and the
-/// second, where it is a sum whose first comes before the first operand.
+/// The rule of an operator whose second operand is no word. `turn` has the parts of the second, if it
+/// is a sum whose first part comes before the first operand.
 fn rule_before(op: Op, first: Summand, turn: Option<(Id, Id)>, comes: bool) -> Rule
     ensures { result ≡ rule_before op first turn comes }
 {
@@ -166,7 +166,7 @@ fn rule_before(op: Op, first: Summand, turn: Option<(Id, Id)>, comes: bool) -> R
     }
 }
 
-/// The rule by which the operator at the operands is rewritten, where `outside` binders stand outside.
+/// The rule by which the operator at the operands is rewritten, `outside` binders standing outside.
 fn rule_at(table: &Table, outside: u32, op: Op, a: Id, b: Id) -> Rule
     requires a { IsKnown table.now a }
     requires b { IsKnown table.now b }
@@ -216,7 +216,8 @@ fn to_value(table: &mut Table, e: Id, op: Op, v: u64, w: u64) -> Result<Rewrite,
     requires { IsKnown table.old e }
     ensures known { IfOk result (IsKnownRewrite table.new) }
     ensures exact { (f : Exp) → tree_at table.old e ≡ exp_encoding f
-        → IfOk result (λ s. IsRewrite table.new s (whole_of f (ELit (word_of op v w)) (calc op v w))) }
+        → IfOk result (λ s.
+        IsRewrite table.new s (whole_of f (ELit (word_of op v w)) (calc op v w))) }
     ensures extends { Extends table.old table.new }
 {
     let value = table.intern(Node::Lit(apply(op, v, w)))?;
@@ -483,7 +484,7 @@ fn all_under_right(
 
 /// What the operator `op` at `a` and `b`, which is `e`, is rewritten to by the rule.
 #[tactic(auto, using(crate::proofs::Growing::rows))]
-fn by_rule(
+fn rewrites_by(
     table: &mut Table,
     memo: &mut Memo,
     rule: Rule,
@@ -564,20 +565,20 @@ fn redex_of_parts(
     ensures memo { IsMemo table.new memo.new }
 {
     let left = redex(table, memo, outside, a)?;
-    if is_some(&left) {
+    if has_rewrites(&left) {
         return all_under_left(table, memo, op, b, left);
     }
     let right = redex(table, memo, outside, b)?;
-    if is_some(&right) {
+    if has_rewrites(&right) {
         return all_under_right(table, memo, op, a, right);
     }
     let rule = rule_at(table, outside, op, a, b);
-    by_rule(table, memo, rule, op, e, a, b)
+    rewrites_by(table, memo, rule, op, e, a, b)
 }
 
 /// Whether there is something to rewrite.
-pub(crate) fn is_some(steps: &Rewrites) -> bool
-    ensures { result ≡ is_some steps.now }
+pub(crate) fn has_rewrites(steps: &Rewrites) -> bool
+    ensures { result ≡ has_rewrites steps.now }
 {
     match steps {
         Rewrites::Nothing => false,

@@ -62,9 +62,9 @@ IsOther (EOp Add a b) = ⊥
 IsOther _ = Unit {0}
 
 -- what an operator at two ids is as an operand
-abbrev pub sum_of : Op → ℕ → ℕ → Summand
-sum_of Add a b = S.Sum a b
-sum_of o a b = S.Other
+abbrev pub applied_summand : Op → ℕ → ℕ → Summand
+applied_summand Add a b = S.Sum a b
+applied_summand o a b = S.Other
 
 -- what an operand is
 abbrev pub IsSummand : TableView → Exp → Summand → Type 0
@@ -169,7 +169,7 @@ abbrev pub right_of : Op → Exp → Rewriting → Rewriting
 right_of o y s = rewriting (EOp o (up y) s.into) s.from s.to s.proof
 
 -- whether there is something to rewrite
-abbrev pub is_some : Rewrites → Bool
-is_some R.Nothing = false
-is_some (R.One s) = true
-is_some (R.Three s u v) = true
+abbrev pub has_rewrites : Rewrites → Bool
+has_rewrites R.Nothing = false
+has_rewrites (R.One s) = true
+has_rewrites (R.Three s u v) = true

@@ -1,13 +1,13 @@
 -- Rounds of rewriting on ids.
 use Rattle.std.specs.Prelude.{◌≡◌, ℕ, Option, Some, None, List, [], ◌∷◌}
 use Rattle.term_table.specs.Tree.{Tree}
-use Rattle.term_table.specs.Table.{TableView, tree_at}
+use Rattle.term_table.specs.Table.{TableView}
 use Rattle.word_ops.specs.declared.Rel.{Rel}
 use Rattle.word_ops.specs.declared.Rel.TheVariants.{Eq}
 use Rattle.formula_tree.specs.Formulas.{Exp, EReg, ELeft, EVar, ELit, EOp, ESel, FRel}
 use Rattle.formula_tree.specs.Variables.{PExp, subst_var_exp}
 use Rattle.easy_class.specs.ProofTerms.{up, move, swap, fact}
-use Rattle.easy_class.specs.NormalForms.{Rewriting, rewritten, after_steps, redex, normalized}
+use Rattle.easy_class.specs.NormalForms.{Rewriting, rewritten, after_steps, normalized}
 use Rattle.easy_words.specs.declared.normal_forms.Rewritten.{Rewritten}
 use Rattle.easy_words.specs.NormalForms.{RewrittenExp, IsRewritten}
 
@@ -28,7 +28,7 @@ IsRound t e l here None = l ≡ []
 IsRound t e l here (Some r) = IsNext t e l here r
 
 -- with at most n rounds to go the ids lead to the goal
-pub record IsUnderWay (t : TableView) (outside n : ℕ) (e : Exp) (goal : RewrittenExp) (r : Rewritten) : Type 0 where
+pub record LeadsTo (t : TableView) (outside n : ℕ) (e : Exp) (goal : RewrittenExp) (r : Rewritten) : Type 0 where
   pub here : RewrittenExp
   pub stands : IsRewritten t r here
   pub leads : normalized outside n e here ≡ goal

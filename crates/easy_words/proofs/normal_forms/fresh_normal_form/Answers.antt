@@ -1,4 +1,4 @@
-use Rattle.std.proofs.Common.{◌≡◌, true, false, cond, IfOk, sym, ◌∙◌, subst, arith}
+use Rattle.std.proofs.Common.{cond, IfOk, sym, ◌∙◌, subst, arith}
 use Rattle.easy_class.specs.ProofTerms.{eq_refl}
 use Rattle.easy_class.specs.NormalForms.{rewritten, normalized, leaves}
 use Rattle.easy_words.specs.NormalForms.{IsRewritten, IsKnownRewritten, pair_of}

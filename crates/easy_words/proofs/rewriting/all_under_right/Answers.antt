@@ -1,9 +1,7 @@
 use Rattle.std.proofs.Common.{◌≡◌, ◌∙◌}
-use Rattle.formula_tree.specs.Formulas.{Exp}
 use Rattle.term_table.specs.Table.{tree_at}
 use Rattle.hereditary_subst.proofs.Rows.{grows_more}
 use Rattle.lf_encode.specs.Encoding.{exp_encoding}
-use Rattle.easy_class.specs.ProofTerms.{up}
 use Rattle.easy_class.specs.NormalForms.{in_right}
 use Rattle.easy_words.specs.Inside.Rewrites.{right_of}
 use Rattle.easy_words.proofs.Rewrites.{in_right-map, above_is, one_mapped_is, three_mapped_is}

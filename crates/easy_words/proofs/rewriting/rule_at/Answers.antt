@@ -1,11 +1,10 @@
-use Rattle.std.proofs.Common.{◌≡◌, ℕ, true, false, nat_lt, lt-ltb, sym, ◌∙◌, ap, subst}
+use Rattle.std.proofs.Common.{◌≡◌, true, false, nat_lt, lt-ltb, sym, ◌∙◌, ap, subst}
 use Rattle.std.proofs.lemmas.Bool.{le-ltb}
-use Rattle.formula_tree.specs.Formulas.{Exp, ELit, EOp}
-use Rattle.word_ops.specs.declared.Op.TheVariants.{Add}
+use Rattle.formula_tree.specs.Formulas.{ELit}
 use Rattle.std.proofs.Common.{Some, None}
 use Rattle.easy_class.specs.NormalForms.{summand_key}
 use Rattle.easy_words.specs.Inside.Rewrites.{IsRule, IsSum, IsSummand, IsOther, rule_at_word, rule_before}
-use Rattle.easy_words.proofs.Rules.{at_word_is, before_other_is, before_sum_is, turn_of}
+use Rattle.easy_words.proofs.Rules.{at_word_is, before_other_is, before_sum_is}
 use Rattle.easy_words.proofs.rewriting.rule_at.Goals as goal
 
 pub returns-in-Word-clause-is : goal.returns-in-Word-clause-is

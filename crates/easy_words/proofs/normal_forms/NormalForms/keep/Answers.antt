@@ -1,8 +1,7 @@
-use Rattle.std.proofs.Common.{rules, ◌≡◌, ℕ, sym, ◌∙◌, ap, subst}
+use Rattle.std.proofs.Common.{rules, ◌≡◌, sym, subst}
 use Rattle.std.specs.Bool.{Decides}
-use Rattle.std.specs.BTreeMap.{get, is_at}
+use Rattle.std.specs.BTreeMap.{get}
 use Rattle.std.specs.Ordering.{eq_by_cmp}
-use Rattle.std.specs.Map.{lookup}
 use Rattle.easy_words.specs.declared.normal_forms.Place.{Place}
 use Rattle.easy_words.specs.contracts.normal_forms.PlaceOrd.TheImpl as block
 use Rattle.easy_words.specs.contracts.normal_forms.PlacePartialEq.TheImpl as equality

@@ -1,9 +1,9 @@
-use Rattle.std.proofs.Common.{◌≡◌, IfOk, sym, ◌∙◌, ap, subst}
+use Rattle.std.proofs.Common.{IfOk, sym, ◌∙◌, ap, subst}
 use Rattle.formula_tree.specs.Formulas.{EOp}
 use Rattle.lf_encode.specs.Encoding.{exp_encoding}
 use Rattle.easy_words.specs.Inside.Rewrites.{IsRule, AreRewrites}
 use Rattle.easy_words.proofs.Rewrites.{one_step}
-use Rattle.easy_words.proofs.rewriting.by_rule.Goals as goal
+use Rattle.easy_words.proofs.rewriting.rewrites_by.Goals as goal
 
 pub returns-in-Turned-clause-exact : goal.returns-in-Turned-clause-exact
 returns-in-Turned-clause-exact c =
