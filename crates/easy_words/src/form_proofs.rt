@@ -234,8 +234,8 @@ fn equal_forms(
     }
 }
 
-/// The proof of the relation of `a` and `b` by their normal forms `p` and `q`: if these are words of
-/// which it holds, or if they are one and it is equality.
+/// The proof of the relation of `a` and `b` by their normal forms `p` and `q`: if these are words
+/// of which it holds, or if they are one and it is equality.
 ///
 /// Errors: want of memory alone, which more shifts than the memo may keep are too.
 #[tactic(auto, using(crate::proofs::Growing::rows))]

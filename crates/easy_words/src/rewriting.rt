@@ -144,8 +144,8 @@ fn rule_at_word(op: Op, first: Summand, w: u64, comes: bool) -> Rule
     }
 }
 
-/// The rule of an operator whose second operand is no word. `turn` has the parts of the second, if it
-/// is a sum whose first part comes before the first operand.
+/// The rule of an operator whose second operand is no word. `turn` has the parts of the second, if
+/// it is a sum whose first part comes before the first operand.
 fn rule_before(op: Op, first: Summand, turn: Option<(Id, Id)>, comes: bool) -> Rule
     ensures { result ≡ rule_before op first turn comes }
 {
