@@ -2,5 +2,5 @@ pub mod Growing
 mod Equations
 mod Moving
 mod Rewrites
-mod Rounds
+pub mod Rounds
 mod Rules
