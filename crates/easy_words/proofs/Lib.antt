@@ -1,2 +1,6 @@
 pub mod Growing
+mod Equations
 mod Moving
+mod Rewrites
+pub mod Rounds
+mod Rules

@@ -7,6 +7,11 @@
 //! here too (`steps`). Source: Necula, Proof-Carrying Code, POPL 1997 (the rules of arithmetic).
 #![tactic(auto)]
 
+mod form_proofs;
+mod normal_forms;
+mod rewriting;
 mod steps;
 
+pub use form_proofs::{equal_proof, proof_by_forms};
+pub use normal_forms::{NormalForms, Rewritten, normal_form};
 pub use steps::{calc, fact, moved, oper, reflexive, relation, swapped};
