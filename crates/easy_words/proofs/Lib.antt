@@ -4,3 +4,5 @@ mod Moving
 mod Rewrites
 pub mod Rounds
 mod Rules
+mod Summing
+mod Occurring

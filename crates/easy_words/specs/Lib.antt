@@ -1,2 +1,3 @@
-pub mod Inside
 pub mod NormalForms
+pub mod Sums
+pub mod Inside

@@ -1,17 +1,21 @@
-//! Upper and lower bounds and normal forms of expressions, with their proofs, on ids of a table.
+//! Bounds, normal forms and sums of expressions, with their proofs, on ids of a table.
 //!
-//! The layer above uses that `upper_bound`, `lower_bound` and `normal_form` answer what the easy
-//! class's definitions give (`easy_class`, `specs/Bounds` and `specs/NormalForms`): the value or the
-//! expression, and the proof as a term, of which the ids stand. No shared expression is gone through
-//! twice: what was found is kept by the expression's id. The steps that all proofs are made of stand
-//! here too (`steps`). Source: Necula, Proof-Carrying Code, POPL 1997 (the rules of arithmetic).
+//! The layer above uses that `upper_bound`, `lower_bound`, `normal_form`, `rest_of`, `eighth` and
+//! `occurs` answer what the easy class's definitions give (`easy_class`, `specs/Bounds`,
+//! `specs/NormalForms` and `specs/Access`): the value or the expression, and the proof as a term, for
+//! which the ids stand. No shared expression is gone through twice: what was found is kept by the
+//! expression's id. The steps that all proofs are made of stand here too (`steps`). Source: Necula, Proof-Carrying Code, POPL 1997 (the rules of arithmetic).
 #![tactic(auto)]
 
 mod form_proofs;
 mod normal_forms;
+mod occurrences;
 mod rewriting;
 mod steps;
+mod sums;
 
 pub use form_proofs::{equal_proof, proof_by_forms};
 pub use normal_forms::{NormalForms, Rewritten, normal_form};
+pub use occurrences::{Occurrences, occurs};
 pub use steps::{calc, fact, moved, oper, reflexive, relation, swapped};
+pub use sums::{eighth, rest_of};

@@ -1,3 +1,0 @@
-mod Occurring
-mod Rounds
-mod Summing
