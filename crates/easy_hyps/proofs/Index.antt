@@ -1,7 +1,7 @@
 -- The first proof of a formula in a list that has one more hypothesis at its end.
 use Rattle.std.proofs.Common.{◌≡◌, ℕ, ◌==◌, Bool, true, false, cond, Option, Some, None, List, [], ◌∷◌, ◌++◌, refl, sym, ◌∙◌, ap, subst, eqb-true}
 use Rattle.formula_ids.specs.declared.hypotheses.Hypothesis.{Hypothesis}
-use Rattle.easy_hyps.specs.Inside.Places.{first_proof}
+use Rattle.easy_hyps.specs.Places.{first_proof}
 
 -- the first of two, if there is one
 abbrev or_last : Option ℕ → Option ℕ → Option ℕ

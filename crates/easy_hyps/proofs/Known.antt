@@ -9,7 +9,7 @@ use Rattle.lf_encode.specs.Encoding.{form_encoding}
 use Rattle.formula_ids.specs.declared.hypotheses.Hypothesis.{Hypothesis}
 use Rattle.formula_ids.specs.Hypotheses.{AreKnownHyps, AreHyps}
 use Rattle.easy_class.specs.Hypotheses.{Hyps, same_form, find_hyp, added}
-use Rattle.easy_hyps.specs.Inside.Places.{first_proof}
+use Rattle.easy_hyps.specs.Places.{first_proof}
 
 -- a later table knows the ids
 pub known-more : (t u : TableView) (l : List Hypothesis) → AreKnownHyps t l → Extends t u → AreKnownHyps u l

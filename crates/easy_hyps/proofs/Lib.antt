@@ -1,4 +1,4 @@
-pub mod Index
+mod Index
 pub mod Known
 pub mod Growing
 mod Raised

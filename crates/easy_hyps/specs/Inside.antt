@@ -1,5 +1,4 @@
--- Words of the private functions and of the invariant of the hypotheses.
-pub mod Places
+-- Words of the private functions.
 pub mod Comparisons
 pub mod Splits
 pub mod Refutations

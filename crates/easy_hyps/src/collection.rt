@@ -1,7 +1,7 @@
 //! Hypotheses in order, with an index by their formulas.
 
 ghost use Rattle.std.specs.Prelude.{◌≡◌, [], ◌∷◌, ◌++◌, OnOk};
-ghost use Rattle.easy_hyps.specs.Inside.Places.{first_proof};
+ghost use Rattle.easy_hyps.specs.Places.{first_proof};
 
 use formula_ids::Hypothesis;
 use std::alloc::{AllocError, Global};
@@ -38,7 +38,7 @@ impl Model for Hypotheses {
     ghost use Rattle.formula_ids.specs.declared.hypotheses.Hypothesis.{Hypothesis};
     ghost use Rattle.easy_hyps.specs.declared.collection.Key.{Key};
     ghost use Rattle.easy_hyps.specs.contracts.collection.KeyOrd.TheImpl as key_block;
-    ghost use Rattle.easy_hyps.specs.Inside.Places.{first_proof};
+    ghost use Rattle.easy_hyps.specs.Places.{first_proof};
 
     ghost Value = { List Hypothesis };
 

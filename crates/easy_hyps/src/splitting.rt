@@ -172,7 +172,8 @@ fn add_both(
 /// Adds what the formula, which `proof` proves, is split into, at the end and in order, without what
 /// is a hypothesis already.
 ///
-/// Errors: want of memory alone; each id keeps its tree.
+/// Errors: want of memory alone, after which the hypotheses may have some of the members; each id
+/// keeps its tree.
 pub fn add_split(
     table: &mut Table,
     hyps: &mut Hypotheses,

@@ -4,7 +4,7 @@ use Rattle.std.specs.Ordering.{eq_by_cmp}
 use Rattle.easy_hyps.specs.declared.collection.Key.{Key}
 use Rattle.easy_hyps.specs.contracts.collection.KeyOrd.TheImpl as block
 use Rattle.easy_hyps.specs.contracts.collection.KeyPartialEq.TheImpl as equality
-use Rattle.easy_hyps.specs.Inside.Places.{first_proof}
+use Rattle.easy_hyps.specs.Places.{first_proof}
 use Rattle.easy_hyps.proofs.Index.{first-old, first-new}
 use Rattle.easy_hyps.proofs.collection.Hypotheses.push.Goals as goal
 
