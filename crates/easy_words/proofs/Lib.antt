@@ -1,2 +1,3 @@
 pub mod Growing
 mod Moving
+pub mod Standing

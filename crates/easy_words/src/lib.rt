@@ -7,6 +7,8 @@
 //! here too (`steps`). Source: Necula, Proof-Carrying Code, POPL 1997 (the rules of arithmetic).
 #![tactic(auto)]
 
+mod bounds;
 mod steps;
 
+pub use bounds::Bound;
 pub use steps::{calc, fact, moved, oper, reflexive, relation, swapped};
