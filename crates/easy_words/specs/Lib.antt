@@ -1,1 +1,2 @@
 pub mod BoundIds
+pub mod Inside

@@ -8,6 +8,7 @@
 #![tactic(auto)]
 
 mod bounds;
+mod op_bounds;
 mod steps;
 
 pub use bounds::Bound;
