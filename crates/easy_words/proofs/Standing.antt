@@ -1,5 +1,5 @@
 -- What ids stand for as the table grows, and the steps of proofs on them.
-use Rattle.std.proofs.Common.{◌≡◌, ◌<◌, ℕ, List, Some, None, length, refl, sym, ◌∙◌, ap, subst, arith}
+use Rattle.std.proofs.Common.{◌≡◌, ℕ, List, Some, refl, ◌∙◌, ap, subst, arith}
 use Rattle.term_table.specs.Tree.{Tree, Con, Num, apps}
 use Rattle.hereditary_subst.proofs.Rows.{grows_more}
 use Rattle.term_table.specs.Table.{TableView, IsKnown, tree_at, Extends}

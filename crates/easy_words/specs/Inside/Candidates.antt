@@ -1,5 +1,5 @@
 -- Bounds that are candidates for the least or the greatest, one kind each.
-use Rattle.std.specs.Prelude.{ℕ, Option, Some, None, List, [], ◌∷◌}
+use Rattle.std.specs.Prelude.{ℕ, Option, Some, None, [], ◌∷◌}
 use Rattle.term_table.specs.Tree.{Tree}
 use Rattle.word_ops.specs.declared.Op.TheVariants.{Add, Sub, Band, Sll, Srl}
 use Rattle.word_ops.specs.declared.Rel.TheVariants.{Ule}

@@ -1,18 +1,21 @@
-use Rattle.std.proofs.Common.{◌≡◌, ℕ, List, [], ◌∷◌, IfOk, refl, sym, ◌∙◌, ap, subst}
-use Rattle.word_ops.specs.declared.Op.TheVariants.{Add, Sub, Band, Sll, Srl}
-use Rattle.word_ops.specs.declared.Rel.TheVariants.{Ule}
-use Rattle.term_table.specs.Tree.{Tree, Con, Num, apps}
-use Rattle.term_table.specs.Table.{tree_at}
-use Rattle.lf_signature.specs.Nodes.{IsIdOf}
-use Rattle.lf_signature.specs.Terms.{op_term}
-use Rattle.formula_tree.specs.Formulas.{Exp, EVar, ELit, EOp, FRel}
-use Rattle.lf_encode.specs.Encoding.{exp_encoding}
-use Rattle.easy_class.specs.ProofTerms.{up, word_rule}
-use Rattle.easy_class.specs.Bounds.{least_bound, op_bounds}
+use Rattle.std.specs.Option.{SomeIff, is_some}
+use Rattle.std.proofs.Common.{Option, Some, None, Bool, true, if◌then◌else◌, nat_lt, ◌+◌, ◌^◌, lt-ltb, ◌≡◌, ℕ, [], ◌∷◌, sym, subst}
+use Rattle.easy_class.specs.Bounds.{least_bound}
 use Rattle.easy_words.specs.Inside.Candidates.{by_sum}
 use Rattle.easy_words.specs.BoundIds.{IsBound, bound_at}
 use Rattle.easy_words.proofs.Standing.{kept_bound}
 use Rattle.easy_words.proofs.op_bounds.added.Goals as goal
 
+fits : (o : Option ℕ) (P : Type 0) (n : ℕ) → SomeIff o P n → is_some o ≡ true → P
+fits None P n h e = cc
+fits (Some m) P n h e = h.0
+
 pub returns-clause-is : goal.returns-clause-is
-returns-clause-is c = let a = c.checked_add.ensures in let b = c.is_none.ensures in let d = c.if-is_none.false in let g = c.if-is_none.ensures in ?
+returns-clause-is c = λ x y qe qa qb.
+    let t = c.args.table.now in
+    let v = bound_at t c.args.v in
+    let w = bound_at t c.args.w in
+    let low : nat_lt (v.value + w.value) (2 ^ 64) ≡ true = lt-ltb _ _ (fits c.checked_add.result _ _ c.checked_add.ensures c.if-is_none.ensures) in
+    let l = kept_bound c.args.last c.requires.last c.in_ok-bound.ensures.extends in
+    let h = c.lesser.ensures.is c.by_sum.new.table (by_sum x y v w) (bound_at t c.args.last) (c.in_ok-bound.ensures.is x y qe qa qb) l in
+    subst (λ (z : Bool). IsBound c.by_sum.new.table (least_bound (if z then by_sum x y v w ∷ [] else []) (bound_at t c.args.last)) c.lesser.result) (sym low) h

@@ -1,16 +1,11 @@
-use Rattle.std.proofs.Common.{◌≡◌, ℕ, List, [], ◌∷◌, IfOk, refl, sym, ◌∙◌, ap, subst}
-use Rattle.word_ops.specs.declared.Op.TheVariants.{Add, Sub, Band, Sll, Srl}
-use Rattle.word_ops.specs.declared.Rel.TheVariants.{Ule}
-use Rattle.term_table.specs.Tree.{Tree, Con, Num, apps}
-use Rattle.term_table.specs.Table.{tree_at}
+use Rattle.std.proofs.Common.{[], ◌∷◌, IfOk, subst}
+use Rattle.word_ops.specs.declared.Op.TheVariants.{Sll}
 use Rattle.lf_signature.specs.Nodes.{IsIdOf}
-use Rattle.lf_signature.specs.Terms.{op_term}
-use Rattle.formula_tree.specs.Formulas.{Exp, EVar, ELit, EOp, FRel}
+use Rattle.formula_tree.specs.Formulas.{ELit, EOp}
 use Rattle.lf_encode.specs.Encoding.{exp_encoding}
-use Rattle.easy_class.specs.ProofTerms.{up, word_rule}
-use Rattle.easy_class.specs.Bounds.{WordBound, folded, max_word, fit_proof}
-use Rattle.easy_words.specs.BoundIds.{IsBound, bound_at}
-use Rattle.easy_words.proofs.Standing.{own, stands, more, twice, ruled, moved_to}
+use Rattle.easy_class.specs.Bounds.{folded}
+use Rattle.easy_words.specs.BoundIds.{IsBound}
+use Rattle.easy_words.proofs.Standing.{own, stands, more, twice, ruled}
 use Rattle.easy_words.proofs.op_bounds.by_left_shift.Goals as goal
 
 pub returns-clause-is : goal.returns-clause-is
