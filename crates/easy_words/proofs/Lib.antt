@@ -1,3 +1,4 @@
 pub mod Growing
+pub mod KeptRows
 mod Moving
 pub mod Standing

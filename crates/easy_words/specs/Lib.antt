@@ -1,2 +1,3 @@
 pub mod BoundIds
+pub mod KeptBounds
 pub mod Inside

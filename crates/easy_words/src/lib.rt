@@ -8,8 +8,11 @@
 #![tactic(auto)]
 
 mod bounds;
+mod kept;
 mod op_bounds;
+mod upper_bounds;
 mod steps;
 
 pub use bounds::Bound;
+pub use kept::UpperBounds;
 pub use steps::{calc, fact, moved, oper, reflexive, relation, swapped};

@@ -65,3 +65,11 @@ by_equal_below e w h = word_bound w (move (FRel Ule (EVar 0) (up e)) e (ELit w) 
 -- a word is its own bound
 abbrev pub by_word : ℕ → WordBound
 by_word w = word_bound w (word_rule 63 (ELit w ∷ []) [])
+
+-- no word is more than the greatest
+abbrev pub by_most : Exp → WordBound
+by_most e = word_bound max_word (word_rule 62 (e ∷ []) [])
+
+-- no word is less than 0
+abbrev pub by_least : Exp → WordBound
+by_least e = word_bound 0 (word_rule 61 (e ∷ []) [])
