@@ -1,3 +1,4 @@
+pub mod Candidates
 pub mod Growing
 pub mod KeptRows
 mod Moving

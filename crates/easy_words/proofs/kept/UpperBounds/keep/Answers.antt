@@ -1,8 +1,7 @@
-use Rattle.std.proofs.Common.{rules, ◌≡◌, ℕ, sym, ◌∙◌, ap, subst}
+use Rattle.std.proofs.Common.{rules, ◌≡◌, subst}
 use Rattle.std.specs.Bool.{Decides}
 use Rattle.std.specs.BTreeMap.{get}
 use Rattle.std.specs.Ordering.{eq_by_cmp}
-use Rattle.term_table.specs.Table.{IsKnown, tree_at}
 use Rattle.easy_words.specs.declared.kept.Subject.{Subject}
 use Rattle.easy_words.specs.contracts.kept.SubjectOrd.TheImpl as block
 use Rattle.easy_words.specs.contracts.kept.SubjectPartialEq.TheImpl as equality

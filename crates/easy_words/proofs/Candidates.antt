@@ -1,0 +1,51 @@
+-- What a hypothesis that says nothing of an expression gives.
+use Rattle.std.proofs.Common.{◌≡◌, zero, suc, Bool, true, false, List, [], if◌then◌else◌, refl, ◌∙◌, ap}
+use Rattle.term_table.specs.Tree.{Tree}
+use Rattle.term_table.specs.Equality.{tree_eq}
+use Rattle.term_table.proofs.Equality.{tree_eq_refl, tree_eq-true}
+use Rattle.word_ops.specs.declared.Rel.{Rel}
+use Rattle.word_ops.specs.declared.Rel.TheVariants.{Eq, Ult, Ule, Slt, Sle}
+use Rattle.formula_tree.specs.Formulas.{Exp, EReg, ELeft, EVar, ELit, EOp, ESel, FRel}
+use Rattle.lf_encode.specs.Encoding.{exp_encoding}
+use Rattle.easy_class.specs.Hypotheses.{same_exp}
+use Rattle.easy_class.specs.Bounds.{WordBound, upper_of}
+
+-- the test of expressions, where their encodings are the same
+pub same_true : (y x : Exp) → exp_encoding y ≡ exp_encoding x → same_exp y x ≡ true
+same_true y x e = ap (λ z. tree_eq z (exp_encoding x)) e ∙ tree_eq_refl (exp_encoding x)
+
+-- the same where they aren't
+pub same_false : (y x : Exp) → (exp_encoding y ≡ exp_encoding x → ⊥) → same_exp y x ≡ false
+same_false y x n = go (same_exp y x) refl
+  where
+    go : (b : Bool) → same_exp y x ≡ b → same_exp y x ≡ false
+    go true e = absurd (n (tree_eq-true (exp_encoding y) (exp_encoding x) e))
+    go false e = e
+
+none_if : (b : Bool) (l : List WordBound) → b ≡ false → (if b then l else []) ≡ []
+none_if false l e = refl
+none_if true l e = cc
+
+-- of another expression
+pub upper_not_same : (rel : Rel) (x y z : Exp) (h : Tree) → same_exp y x ≡ false → upper_of x (FRel rel y z) h ≡ []
+upper_not_same Ule x y (ELit w) h e = none_if (same_exp y x) _ e
+upper_not_same Eq x y (ELit w) h e = none_if (same_exp y x) _ e
+upper_not_same Ult x y (ELit (suc w)) h e = none_if (same_exp y x) _ e
+upper_not_same Ult x y (ELit zero) h e = refl
+upper_not_same Slt x y z h e = refl
+upper_not_same Sle x y z h e = refl
+upper_not_same Ule x y (EReg r) h e = refl
+upper_not_same Ule x y ELeft h e = refl
+upper_not_same Ule x y (EVar n) h e = refl
+upper_not_same Ule x y (EOp o a b) h e = refl
+upper_not_same Ule x y (ESel m a) h e = refl
+upper_not_same Eq x y (EReg r) h e = refl
+upper_not_same Eq x y ELeft h e = refl
+upper_not_same Eq x y (EVar n) h e = refl
+upper_not_same Eq x y (EOp o a b) h e = refl
+upper_not_same Eq x y (ESel m a) h e = refl
+upper_not_same Ult x y (EReg r) h e = refl
+upper_not_same Ult x y ELeft h e = refl
+upper_not_same Ult x y (EVar n) h e = refl
+upper_not_same Ult x y (EOp o a b) h e = refl
+upper_not_same Ult x y (ESel m a) h e = refl
