@@ -2,4 +2,5 @@ pub mod Candidates
 pub mod Growing
 pub mod KeptRows
 mod Moving
+pub mod Scans
 pub mod Standing

@@ -225,3 +225,86 @@ fn upper_by_hyp(
         FormNode::AllMem(_) => Ok(last),
     }
 }
+
+/// What the hypotheses say of the expression from above, and the last. From the last hypothesis to the
+/// first, so that of equal bounds the first hypothesis' stays.
+#[tactic(auto, using(crate::proofs::KeptRows::rows))]
+fn upper_by_hyps(
+    table: &mut Table,
+    memo: &mut Memo,
+    hyps: &[Hypothesis],
+    e: Id,
+    last: Bound,
+) -> Result<Bound, AllocError>
+    requires hyps { AreKnownHyps table.old hyps.now }
+    requires e { IsKnown table.old e }
+    requires last { IsKnown table.old last.proof }
+    requires memo { IsMemo table.old memo.old }
+    ensures known { IfOk result (λ b. IsKnown table.new b.proof) }
+    ensures is { (Γ : Hyps) (x : Exp) → AreHyps table.old hyps.now Γ
+        → tree_at table.old e ≡ exp_encoding x → IfOk result (IsBound table.new
+        (least_bound (uppers x Γ) (bound_at table.old last))) }
+    ensures extends { Extends table.old table.new }
+    ensures memo { IsMemo table.new memo.new }
+{
+    let count = hyps.len();
+    let mut best = last;
+    for i in 0..count {
+        let hyp = hyps[count - 1 - i];
+        best = upper_by_hyp(table, memo, hyp.form, hyp.proof, e, best)?;
+    }
+    Ok(best)
+}
+
+/// No word is more than the greatest.
+fn by_most(table: &mut Table, e: Id) -> Result<Bound, AllocError>
+    requires { IsKnown table.old e }
+    ensures known { IfOk result (λ b. IsKnown table.new b.proof) }
+    ensures is { (x : Exp) → tree_at table.old e ≡ exp_encoding x
+        → IfOk result (IsBound table.new (by_most x)) }
+    ensures extends { Extends table.old table.new }
+{
+    let proof = rule_term(table, MAX_LE, &[e])?;
+    Ok(Bound {
+        value: u64::MAX,
+        proof,
+    })
+}
+
+/// A word is its own bound.
+pub(crate) fn by_word(table: &mut Table, e: Id, w: u64) -> Result<Bound, AllocError>
+    requires { IsKnown table.old e }
+    ensures known { IfOk result (λ b. IsKnown table.new b.proof) }
+    ensures is { tree_at table.old e ≡ exp_encoding (ELit w)
+        → IfOk result (IsBound table.new (by_word w)) }
+    ensures extends { Extends table.old table.new }
+{
+    let proof = rule_term(table, ULE_REFL, &[e])?;
+    Ok(Bound { value: w, proof })
+}
+
+/// The upper bound of a word.
+#[tactic(auto, using(crate::proofs::KeptRows::rows))]
+fn upper_of_word(
+    table: &mut Table,
+    memo: &mut Memo,
+    hyps: &[Hypothesis],
+    e: Id,
+    w: u64,
+    last: Bound,
+) -> Result<Bound, AllocError>
+    requires hyps { AreKnownHyps table.old hyps.now }
+    requires e { IsKnown table.old e }
+    requires last { IsKnown table.old last.proof }
+    requires memo { IsMemo table.old memo.old }
+    ensures known { IfOk result (λ b. IsKnown table.new b.proof) }
+    ensures is { (Γ : Hyps) → AreHyps table.old hyps.now Γ
+        → tree_at table.old e ≡ exp_encoding (ELit w) → IfOk result (IsBound table.new
+        (lesser (by_word w) (least_bound (uppers (ELit w) Γ) (bound_at table.old last)))) }
+    ensures extends { Extends table.old table.new }
+    ensures memo { IsMemo table.new memo.new }
+{
+    let best = upper_by_hyps(table, memo, hyps, e, last)?;
+    let itself = by_word(table, e, w)?;
+    Ok(lesser(itself, best))
+}
