@@ -1,5 +1,5 @@
 -- What a hypothesis that says nothing of an expression gives.
-use Rattle.std.proofs.Common.{◌≡◌, zero, suc, Bool, true, false, List, [], if◌then◌else◌, refl, ◌∙◌, ap}
+use Rattle.std.proofs.Common.{◌≡◌, ◌++◌, ◌∷◌, zero, suc, Bool, true, false, List, [], if◌then◌else◌, refl, ◌∙◌, ap}
 use Rattle.term_table.specs.Tree.{Tree}
 use Rattle.term_table.specs.Equality.{tree_eq}
 use Rattle.term_table.proofs.Equality.{tree_eq_refl, tree_eq-true}
@@ -8,7 +8,7 @@ use Rattle.word_ops.specs.declared.Rel.TheVariants.{Eq, Ult, Ule, Slt, Sle}
 use Rattle.formula_tree.specs.Formulas.{Exp, EReg, ELeft, EVar, ELit, EOp, ESel, FRel}
 use Rattle.lf_encode.specs.Encoding.{exp_encoding}
 use Rattle.easy_class.specs.Hypotheses.{same_exp}
-use Rattle.easy_class.specs.Bounds.{WordBound, upper_of}
+use Rattle.easy_class.specs.Bounds.{WordBound, lesser, least_bound, upper_of}
 
 -- the test of expressions, where their encodings are the same
 pub same_true : (y x : Exp) → exp_encoding y ≡ exp_encoding x → same_exp y x ≡ true
@@ -49,3 +49,8 @@ upper_not_same Ult x y ELeft h e = refl
 upper_not_same Ult x y (EVar n) h e = refl
 upper_not_same Ult x y (EOp o a b) h e = refl
 upper_not_same Ult x y (ESel m a) h e = refl
+
+-- the least of two lists and the last
+pub least-append : (a b : List WordBound) (last : WordBound) → least_bound (a ++ b) last ≡ least_bound a (least_bound b last)
+least-append [] b last = refl
+least-append (x ∷ a) b last = ap (lesser x) (least-append a b last)

@@ -15,4 +15,5 @@ mod steps;
 
 pub use bounds::Bound;
 pub use kept::UpperBounds;
+pub use upper_bounds::upper_bound;
 pub use steps::{calc, fact, moved, oper, reflexive, relation, swapped};

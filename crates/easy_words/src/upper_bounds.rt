@@ -308,3 +308,77 @@ fn upper_of_word(
     let itself = by_word(table, e, w)?;
     Ok(lesser(itself, best))
 }
+
+/// The least upper bound of the expression that is found by the hypotheses and by its operators, with
+/// a proof: what the definition gives of the formulas and the expression that the ids stand for.
+/// `kept` has what was found under the same hypotheses.
+///
+/// Errors: want of memory alone, which more results than `memo` may keep are too; each id keeps its
+/// tree, and nothing is promised of `kept`.
+#[cycle(bounding)]
+#[tactic(auto, using(crate::proofs::KeptRows::rows))]
+pub fn upper_bound(
+    table: &mut Table,
+    memo: &mut Memo,
+    kept: &mut UpperBounds,
+    hyps: &[Hypothesis],
+    e: Id,
+) -> Result<Bound, AllocError>
+    requires hyps { AreKnownHyps table.old hyps.now }
+    requires e { IsKnown table.old e }
+    requires memo { IsMemo table.old memo.old }
+    requires kept { AreUppers table.old hyps.now kept.old }
+    ensures known { IfOk result (λ b. IsKnown table.new b.proof) }
+    ensures exact { (Γ : Hyps) (x : Exp) → AreHyps table.old hyps.now Γ
+        → tree_at table.old e ≡ exp_encoding x
+        → IfOk result (IsBound table.new (upper_bound Γ x)) }
+    ensures extends { Extends table.old table.new }
+    ensures memo { IsMemo table.new memo.new }
+    ensures kept { IfOk result (λ _. AreUppers table.new hyps.now kept.new) }
+{
+    if let Some(bound) = kept.find(table, hyps, e) {
+        return Ok(bound);
+    }
+    let bound = upper_by_node(table, memo, kept, hyps, e)?;
+    let value = bound.value;
+    let proof = bound.proof;
+    kept.keep(memo, table, hyps, e, bound)?;
+    Ok(Bound { value, proof })
+}
+
+/// The same, by what stands at the expression's head.
+#[cycle(bounding)]
+#[tactic(auto, using(crate::proofs::KeptRows::rows))]
+fn upper_by_node(
+    table: &mut Table,
+    memo: &mut Memo,
+    kept: &mut UpperBounds,
+    hyps: &[Hypothesis],
+    e: Id,
+) -> Result<Bound, AllocError>
+    requires hyps { AreKnownHyps table.old hyps.now }
+    requires e { IsKnown table.old e }
+    requires memo { IsMemo table.old memo.old }
+    requires kept { AreUppers table.old hyps.now kept.old }
+    ensures known { IfOk result (λ b. IsKnown table.new b.proof) }
+    ensures exact { (Γ : Hyps) (x : Exp) → AreHyps table.old hyps.now Γ
+        → tree_at table.old e ≡ exp_encoding x
+        → IfOk result (IsBound table.new (upper_bound Γ x)) }
+    ensures extends { Extends table.old table.new }
+    ensures memo { IsMemo table.new memo.new }
+    ensures kept { IfOk result (λ _. AreUppers table.new hyps.now kept.new) }
+{
+    let last = by_most(table, e)?;
+    match exp_node(table, e) {
+        ExpNode::Apply(op, a, b) => {
+            let v = upper_bound(table, memo, kept, hyps, a)?;
+            let w = upper_bound(table, memo, kept, hyps, b)?;
+            let best = upper_by_parts(table, memo, op, e, a, b, v, w, last)?;
+            upper_by_hyps(table, memo, hyps, e, best)
+        }
+        ExpNode::Word(w) => upper_of_word(table, memo, hyps, e, w, last),
+        ExpNode::Var(_) => upper_by_hyps(table, memo, hyps, e, last),
+        ExpNode::Sel(_, _) => upper_by_hyps(table, memo, hyps, e, last),
+        ExpNode::Unbound => upper_by_hyps(table, memo, hyps, e, last),
+    }
+}
