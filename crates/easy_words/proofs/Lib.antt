@@ -4,3 +4,4 @@ pub mod KeptRows
 mod Moving
 pub mod Scans
 pub mod Standing
+pub mod Uppers

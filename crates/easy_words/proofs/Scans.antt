@@ -47,7 +47,7 @@ hyp_known t [] j d k low = absurd (omega (arith, low))
 hyp_known t (x ∷ l) zero d k low = (k.0, k.1)
 hyp_known t (x ∷ l) (suc j) d k low = hyp_known t l j d k.2 (omega (arith, low))
 
-bound_is : {u : TableView} {w : WordBound} {b : Bound} → IsBound u w b → bound_at u b ≡ w
+pub bound_is : {u : TableView} {w : WordBound} {b : Bound} → IsBound u w b → bound_at u b ≡ w
 bound_is h = λ i. record { value = h.value i; proof = h.is i }
 
 extends_refl : (t : TableView) → Extends t t

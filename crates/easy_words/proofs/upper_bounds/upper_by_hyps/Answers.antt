@@ -1,9 +1,6 @@
-use Rattle.std.proofs.Common.{◌≡◌, ◌<◌, ◌-◌, ◌+◌, ℕ, length, drop, get_or, refl, sym, ◌∙◌, ap, subst, arith}
-use Rattle.term_table.specs.Tree.{Tree}
+use Rattle.std.proofs.Common.{◌≡◌, ◌-◌, ◌+◌, ℕ, length, drop, get_or, refl, sym, subst, arith}
 use Rattle.term_table.specs.Table.{IsKnown}
-use Rattle.formula_tree.specs.Formulas.{Exp, Form}
-use Rattle.easy_class.specs.Hypotheses.{Hyps}
-use Rattle.easy_class.specs.Bounds.{WordBound, least_bound, uppers, upper_of}
+use Rattle.easy_class.specs.Bounds.{least_bound, uppers, upper_of}
 use Rattle.formula_ids.specs.declared.hypotheses.Hypothesis.{Hypothesis}
 use Rattle.easy_words.specs.BoundIds.{IsBound, bound_at}
 use Rattle.easy_words.proofs.Candidates.{least-append}
