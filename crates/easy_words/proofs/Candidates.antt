@@ -8,7 +8,7 @@ use Rattle.word_ops.specs.declared.Rel.TheVariants.{Eq, Ult, Ule, Slt, Sle}
 use Rattle.formula_tree.specs.Formulas.{Exp, EReg, ELeft, EVar, ELit, EOp, ESel, FRel}
 use Rattle.lf_encode.specs.Encoding.{exp_encoding}
 use Rattle.easy_class.specs.Hypotheses.{same_exp}
-use Rattle.easy_class.specs.Bounds.{WordBound, lesser, least_bound, upper_of}
+use Rattle.easy_class.specs.Bounds.{WordBound, greater, greatest_bound, lower_of, lesser, least_bound, upper_of}
 
 -- the test of expressions, where their encodings are the same
 pub same_true : (y x : Exp) → exp_encoding y ≡ exp_encoding x → same_exp y x ≡ true
@@ -54,3 +54,33 @@ upper_not_same Ult x y (ESel m a) h e = refl
 pub least-append : (a b : List WordBound) (last : WordBound) → least_bound (a ++ b) last ≡ least_bound a (least_bound b last)
 least-append [] b last = refl
 least-append (x ∷ a) b last = ap (lesser x) (least-append a b last)
+
+-- the greatest of two lists and the last
+pub greatest-append : (a b : List WordBound) (last : WordBound) → greatest_bound (a ++ b) last ≡ greatest_bound a (greatest_bound b last)
+greatest-append [] b last = refl
+greatest-append (x ∷ a) b last = ap (greater x) (greatest-append a b last)
+
+-- from below, of another expression
+pub lower_eq_other : (x y z : Exp) (h : Tree) → same_exp y x ≡ false → lower_of x (FRel Eq y z) h ≡ []
+lower_eq_other x y (ELit w) h e = none_if (same_exp y x) _ e
+lower_eq_other x y (EReg r) h e = refl
+lower_eq_other x y ELeft h e = refl
+lower_eq_other x y (EVar n) h e = refl
+lower_eq_other x y (EOp o a b) h e = refl
+lower_eq_other x y (ESel m a) h e = refl
+
+pub lower_ule_other : (x y z : Exp) (h : Tree) → same_exp z x ≡ false → lower_of x (FRel Ule y z) h ≡ []
+lower_ule_other x (ELit w) z h e = none_if (same_exp z x) _ e
+lower_ule_other x (EReg r) z h e = refl
+lower_ule_other x ELeft z h e = refl
+lower_ule_other x (EVar n) z h e = refl
+lower_ule_other x (EOp o a b) z h e = refl
+lower_ule_other x (ESel m a) z h e = refl
+
+pub lower_ult_other : (x y z : Exp) (h : Tree) → same_exp z x ≡ false → lower_of x (FRel Ult y z) h ≡ []
+lower_ult_other x (ELit w) z h e = none_if (same_exp z x) _ e
+lower_ult_other x (EReg r) z h e = refl
+lower_ult_other x ELeft z h e = refl
+lower_ult_other x (EVar n) z h e = refl
+lower_ult_other x (EOp o a b) z h e = refl
+lower_ult_other x (ESel m a) z h e = refl

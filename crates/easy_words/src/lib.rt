@@ -9,11 +9,13 @@
 
 mod bounds;
 mod kept;
+mod lower_bounds;
 mod op_bounds;
 mod upper_bounds;
 mod steps;
 
 pub use bounds::Bound;
 pub use kept::UpperBounds;
+pub use lower_bounds::lower_bound;
 pub use upper_bounds::upper_bound;
 pub use steps::{calc, fact, moved, oper, reflexive, relation, swapped};
