@@ -1,5 +1,5 @@
 -- What a hypothesis that says nothing of an expression gives.
-use Rattle.std.proofs.Common.{◌≡◌, ◌++◌, ◌∷◌, zero, suc, Bool, true, false, List, [], if◌then◌else◌, refl, ◌∙◌, ap}
+use Rattle.std.proofs.Common.{◌≡◌, ℕ, None, sym, subst, ◌++◌, ◌∷◌, zero, suc, Bool, true, false, List, [], if◌then◌else◌, refl, ◌∙◌, ap}
 use Rattle.term_table.specs.Tree.{Tree}
 use Rattle.term_table.specs.Equality.{tree_eq}
 use Rattle.term_table.proofs.Equality.{tree_eq_refl, tree_eq-true}
@@ -7,8 +7,9 @@ use Rattle.word_ops.specs.declared.Rel.{Rel}
 use Rattle.word_ops.specs.declared.Rel.TheVariants.{Eq, Ult, Ule, Slt, Sle}
 use Rattle.formula_tree.specs.Formulas.{Exp, EReg, ELeft, EVar, ELit, EOp, ESel, FRel}
 use Rattle.lf_encode.specs.Encoding.{exp_encoding}
-use Rattle.easy_class.specs.Hypotheses.{same_exp}
-use Rattle.easy_class.specs.Bounds.{WordBound, greater, greatest_bound, lower_of, lesser, least_bound, upper_of}
+use Rattle.easy_class.specs.Hypotheses.{Hyps, same_exp}
+use Rattle.easy_words.specs.Inside.Candidates.{literal_of, by_word, by_least}
+use Rattle.easy_class.specs.Bounds.{WordBound, greater, greatest_bound, lower_of, lowers, lower_bound, lesser, least_bound, upper_of}
 
 -- the test of expressions, where their encodings are the same
 pub same_true : (y x : Exp) → exp_encoding y ≡ exp_encoding x → same_exp y x ≡ true
@@ -84,3 +85,16 @@ lower_ult_other x ELeft z h e = refl
 lower_ult_other x (EVar n) z h e = refl
 lower_ult_other x (EOp o a b) z h e = refl
 lower_ult_other x (ESel m a) z h e = refl
+
+-- the lower bound of what isn't a word
+pub lower_none : (Γ : Hyps) (x : Exp) → None ≡ literal_of x → lower_bound Γ x ≡ greatest_bound (lowers x Γ) (by_least x)
+lower_none Γ (ELit w) e = cc
+lower_none Γ (EReg r) e = refl
+lower_none Γ ELeft e = refl
+lower_none Γ (EVar n) e = refl
+lower_none Γ (EOp o a b) e = refl
+lower_none Γ (ESel m a) e = refl
+
+-- and of a word
+pub lower_word : (Γ : Hyps) (x : Exp) (n : ℕ) → x ≡ ELit n → greater (by_word n) (greatest_bound (lowers x Γ) (by_least x)) ≡ lower_bound Γ x
+lower_word Γ x n s = subst (λ z. greater (by_word n) (greatest_bound (lowers z Γ) (by_least z)) ≡ lower_bound Γ z) (sym s) refl
