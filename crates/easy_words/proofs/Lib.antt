@@ -1,6 +1,6 @@
 pub mod Candidates
 pub mod Growing
-pub mod KeptRows
+pub mod UpperRows
 mod Moving
 pub mod Scans
 pub mod Standing

@@ -35,7 +35,7 @@ pub op-whole : (s t u : TableView) (Γ : Hyps) (x : Exp) (o : Op) (a b : Exp) (v
     IsBound t (least_bound (op_bounds o a b (bound_at s v) (bound_at s w)) (bound_at s last)) best → IfOk r (IsBound u (least_bound (uppers x Γ) (bound_at t best))) → IfOk r (IsBound u (upper_bound Γ x))
 op-whole s t u Γ x o a b v w last best r e hv hw hl hb k =
     let parts : bound_at t best ≡ least_bound (op_bounds o a b (upper_bound Γ a) (upper_bound Γ b)) (by_most x) =
-        bound_is hb ∙ (λ i. least_bound (op_bounds o a b (bound_is hv i) (bound_is hw i)) (bound_is hl i)) in
+    bound_is hb ∙ (λ i. least_bound (op_bounds o a b (bound_is hv i) (bound_is hw i)) (bound_is hl i)) in
     let whole : upper_bound Γ x ≡ least_bound (uppers x Γ) (least_bound (op_bounds o a b (upper_bound Γ a) (upper_bound Γ b)) (by_most x)) =
-        subst (λ z. upper_bound Γ z ≡ least_bound (uppers z Γ) (least_bound (op_bounds o a b (upper_bound Γ a) (upper_bound Γ b)) (by_most z))) (sym e) (least-append (uppers (EOp o a b) Γ) (op_bounds o a b (upper_bound Γ a) (upper_bound Γ b)) (by_most (EOp o a b))) in
+    subst (λ z. upper_bound Γ z ≡ least_bound (uppers z Γ) (least_bound (op_bounds o a b (upper_bound Γ a) (upper_bound Γ b)) (by_most z))) (sym e) (least-append (uppers (EOp o a b) Γ) (op_bounds o a b (upper_bound Γ a) (upper_bound Γ b)) (by_most (EOp o a b))) in
     subst (λ z. IfOk r (IsBound u z)) (ap (least_bound (uppers x Γ)) parts ∙ sym whole) k

@@ -10,10 +10,10 @@ use Rattle.easy_class.specs.Hypotheses.{Hyps}
 use Rattle.easy_class.specs.Bounds.{upper_bound}
 use Rattle.easy_words.specs.BoundIds.{IsBound}
 use Rattle.easy_words.specs.declared.bounds.Bound.{Bound}
-use Rattle.easy_words.specs.declared.kept.Row.{Row}
-use Rattle.easy_words.specs.declared.kept.Subject.{Subject}
-use Rattle.easy_words.specs.declared.kept.UpperBounds.{UpperBounds}
-use Rattle.easy_words.specs.contracts.kept.SubjectOrd.TheImpl as block
+use Rattle.easy_words.specs.declared.kept_bounds.Row.{Row}
+use Rattle.easy_words.specs.declared.kept_bounds.Subject.{Subject}
+use Rattle.easy_words.specs.declared.kept_bounds.UpperBounds.{UpperBounds}
+use Rattle.easy_words.specs.contracts.kept_bounds.SubjectOrd.TheImpl as block
 
 -- a kept row as a bound
 abbrev pub bound_of : Row → Bound

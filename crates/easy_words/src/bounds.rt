@@ -3,12 +3,10 @@
 //! Errors: want of memory alone; each id keeps its tree.
 
 ghost use Rattle.std.specs.Prelude.{◌≡◌, IfOk};
-ghost use Rattle.term_table.specs.Tree.{Tree};
 ghost use Rattle.term_table.specs.Table.{TableView, IsKnown, tree_at, Extends};
 ghost use Rattle.hereditary_subst.specs.Inside.Kept.{IsMemo};
 ghost use Rattle.lf_signature.specs.Nodes.{IsIdOf};
 ghost use Rattle.word_ops.specs.declared.Rel.TheVariants.{Ule};
-ghost use Rattle.word_ops.specs.Words.{word_of};
 ghost use Rattle.formula_tree.specs.Formulas.{Exp, EVar, ELit, EOp, FRel};
 ghost use Rattle.lf_encode.specs.Encoding.{exp_encoding, form_encoding};
 ghost use Rattle.easy_class.specs.ProofTerms.{up};
@@ -53,11 +51,7 @@ pub(crate) fn greater(b: Bound, c: Bound) -> Bound
 
 /// That the expression is at most a word, which is the variable 0 under a binder.
 #[tactic(auto, using(crate::proofs::Growing::rows))]
-pub(crate) fn below_place(
-    table: &mut Table,
-    memo: &mut Memo,
-    e: Id,
-) -> Result<Id, AllocError>
+pub(crate) fn below_place(table: &mut Table, memo: &mut Memo, e: Id) -> Result<Id, AllocError>
     requires e { IsKnown table.old e }
     requires memo { IsMemo table.old memo.old }
     ensures known { IfOk result (IsKnown table.new) }
@@ -73,11 +67,7 @@ pub(crate) fn below_place(
 
 /// That a word, which is the variable 0 under a binder, is at most the expression.
 #[tactic(auto, using(crate::proofs::Growing::rows))]
-pub(crate) fn above_place(
-    table: &mut Table,
-    memo: &mut Memo,
-    e: Id,
-) -> Result<Id, AllocError>
+pub(crate) fn above_place(table: &mut Table, memo: &mut Memo, e: Id) -> Result<Id, AllocError>
     requires e { IsKnown table.old e }
     requires memo { IsMemo table.old memo.old }
     ensures known { IfOk result (IsKnown table.new) }
@@ -119,8 +109,8 @@ fn word_below_place(table: &mut Table, w: u64) -> Result<Id, AllocError>
     relation(table, Rel::Ule, left, place)
 }
 
-/// The bound that an operator gives at two words, by a proof that what it stands between is a bound:
-/// from (ule e (o v w)) to (ule e value).
+/// The word that an operator gives at two words as a bound, by a proof that the operator at them is
+/// one: from (ule e (o v w)) to (ule e value).
 #[tactic(auto, using(crate::proofs::Growing::rows))]
 pub(crate) fn folded(
     table: &mut Table,

@@ -8,14 +8,14 @@
 #![tactic(auto)]
 
 mod bounds;
-mod kept;
+mod kept_bounds;
 mod lower_bounds;
 mod op_bounds;
-mod upper_bounds;
 mod steps;
+mod upper_bounds;
 
 pub use bounds::Bound;
-pub use kept::UpperBounds;
+pub use kept_bounds::UpperBounds;
 pub use lower_bounds::lower_bound;
-pub use upper_bounds::upper_bound;
 pub use steps::{calc, fact, moved, oper, reflexive, relation, swapped};
+pub use upper_bounds::upper_bound;

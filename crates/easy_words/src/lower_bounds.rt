@@ -27,13 +27,7 @@ use term_table::{Id, Table};
 use word_ops::Rel;
 
 /// What is more than a word is at least it.
-fn by_more(
-    table: &mut Table,
-    e: Id,
-    w: u64,
-    word: Id,
-    proof: Id,
-) -> Result<Bound, AllocError>
+fn by_more(table: &mut Table, e: Id, w: u64, word: Id, proof: Id) -> Result<Bound, AllocError>
     requires e { IsKnown table.old e }
     requires word { IsKnown table.old word }
     requires proof { IsKnown table.old proof }
@@ -254,9 +248,9 @@ fn lower_by_hyp(
     }
 }
 
-/// What the hypotheses say of the expression from below, and the last. From the last hypothesis to the
-/// first, so that of equal bounds the first hypothesis' stays.
-#[tactic(auto, using(crate::proofs::KeptRows::rows))]
+/// What the hypotheses say of the expression from below, and the last. They are taken from the last to
+/// the first, so that of equal bounds the first hypothesis' stays.
+#[tactic(auto, using(crate::proofs::UpperRows::rows))]
 fn lower_by_hyps(
     table: &mut Table,
     memo: &mut Memo,
@@ -296,12 +290,12 @@ fn by_least(table: &mut Table, e: Id) -> Result<Bound, AllocError>
     Ok(Bound { value: 0, proof })
 }
 
-/// The greatest lower bound of the expression that is found by the hypotheses, with a proof: what the
-/// definition gives of the formulas and the expression that the ids stand for.
+/// The greatest lower bound of the expression that is found by the hypotheses, with a proof: what
+/// the definition gives of the formulas and the expression that the ids stand for.
 ///
 /// Errors: want of memory alone, which more results than `memo` may keep are too; each id keeps its
 /// tree.
-#[tactic(auto, using(crate::proofs::KeptRows::rows))]
+#[tactic(auto, using(crate::proofs::UpperRows::rows))]
 pub fn lower_bound(
     table: &mut Table,
     memo: &mut Memo,

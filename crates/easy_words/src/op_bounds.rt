@@ -2,9 +2,8 @@
 //!
 //! Errors: want of memory alone; each id keeps its tree.
 
-ghost use Rattle.std.specs.Prelude.{◌≡◌, IfOk, if◌then◌else◌, nat_lt, nat_le, ◌+◌, ◌^◌, List, []};
-ghost use Rattle.term_table.specs.Tree.{Tree};
-ghost use Rattle.term_table.specs.Table.{TableView, IsKnown, tree_at, Extends};
+ghost use Rattle.std.specs.Prelude.{◌≡◌, IfOk};
+ghost use Rattle.term_table.specs.Table.{IsKnown, tree_at, Extends};
 ghost use Rattle.hereditary_subst.specs.Inside.Kept.{IsMemo};
 ghost use Rattle.word_ops.specs.declared.Op.TheVariants.{Add, Band, Sll, Srl};
 ghost use Rattle.formula_tree.specs.Formulas.{Exp, ELit, EOp};
@@ -344,7 +343,7 @@ fn added(
     Ok(lesser(bound, last))
 }
 
-/// What the operator's parts `a` and `b`, bounded by `v` and `w`, say of it from above, and the last.
+/// What the operator's parts, bounded by `v` and `w`, say of it from above, and the last.
 #[tactic(auto, using(crate::proofs::Growing::rows))]
 pub(crate) fn upper_by_parts(
     table: &mut Table,
@@ -383,7 +382,6 @@ pub(crate) fn upper_by_parts(
         Op::Cmple => by_comparison(table, CMP_LE1 + 2, a, b, last),
         Op::Cmpult => by_comparison(table, CMP_LE1 + 3, a, b, last),
         Op::Cmpule => by_comparison(table, CMP_LE1 + 4, a, b, last),
-        Op::Sub => Ok(last),
-        Op::Bis => Ok(last),
+        Op::Sub | Op::Bis => Ok(last),
     }
 }

@@ -3,14 +3,12 @@
 //! Errors: want of memory alone; each id keeps its tree.
 
 ghost use Rattle.std.specs.Prelude.{◌≡◌, IfOk, true};
-ghost use Rattle.term_table.specs.Tree.{Tree};
-ghost use Rattle.term_table.specs.Table.{TableView, IsKnown, tree_at, Extends};
+ghost use Rattle.term_table.specs.Table.{IsKnown, tree_at, Extends};
 ghost use Rattle.hereditary_subst.specs.Inside.Kept.{IsMemo};
 ghost use Rattle.word_ops.specs.declared.Rel.TheVariants.{Ult};
 ghost use Rattle.formula_tree.specs.Formulas.{Exp, ELit, Form, FRel};
 ghost use Rattle.lf_encode.specs.Encoding.{exp_encoding, form_encoding};
 ghost use Rattle.formula_ids.specs.Hypotheses.{AreKnownHyps, AreHyps};
-ghost use Rattle.easy_class.specs.ProofTerms.{word_rule};
 ghost use Rattle.easy_class.specs.Hypotheses.{Hyps, same_exp};
 ghost use Rattle.easy_class.specs.Bounds.{lesser, least_bound, upper_of, uppers, upper_bound};
 ghost use Rattle.easy_words.specs.BoundIds.{IsBound, bound_at};
@@ -18,7 +16,7 @@ ghost use Rattle.easy_words.specs.KeptBounds.{AreUppers};
 ghost use Rattle.easy_words.specs.Inside.Candidates.{by_less, by_equal, by_most, by_word};
 
 use crate::bounds::{Bound, below_place, folded, lesser};
-use crate::kept::UpperBounds;
+use crate::kept_bounds::UpperBounds;
 use crate::moved;
 use crate::op_bounds::{literal, upper_by_parts};
 use formula_ids::{ExpNode, FormNode, Hypothesis, exp_node, form_node};
@@ -226,9 +224,9 @@ fn upper_by_hyp(
     }
 }
 
-/// What the hypotheses say of the expression from above, and the last. From the last hypothesis to the
-/// first, so that of equal bounds the first hypothesis' stays.
-#[tactic(auto, using(crate::proofs::KeptRows::rows))]
+/// What the hypotheses say of the expression from above, and the last. They are taken from the last to
+/// the first, so that of equal bounds the first hypothesis' stays.
+#[tactic(auto, using(crate::proofs::UpperRows::rows))]
 fn upper_by_hyps(
     table: &mut Table,
     memo: &mut Memo,
@@ -284,7 +282,7 @@ pub(crate) fn by_word(table: &mut Table, e: Id, w: u64) -> Result<Bound, AllocEr
 }
 
 /// The upper bound of a word.
-#[tactic(auto, using(crate::proofs::KeptRows::rows))]
+#[tactic(auto, using(crate::proofs::UpperRows::rows))]
 fn upper_of_word(
     table: &mut Table,
     memo: &mut Memo,
@@ -309,14 +307,14 @@ fn upper_of_word(
     Ok(lesser(itself, best))
 }
 
-/// The least upper bound of the expression that is found by the hypotheses and by its operators, with
-/// a proof: what the definition gives of the formulas and the expression that the ids stand for.
-/// `kept` has what was found under the same hypotheses.
+/// The least upper bound of the expression that is found by the hypotheses and by its operators,
+/// with a proof: what the definition gives of the formulas and the expression that the ids stand
+/// for. `kept` has what was found under the same hypotheses.
 ///
 /// Errors: want of memory alone, which more results than `memo` may keep are too; each id keeps its
 /// tree, and nothing is promised of `kept`.
 #[cycle(bounding)]
-#[tactic(auto, using(crate::proofs::KeptRows::rows))]
+#[tactic(auto, using(crate::proofs::UpperRows::rows))]
 pub fn upper_bound(
     table: &mut Table,
     memo: &mut Memo,
@@ -348,7 +346,7 @@ pub fn upper_bound(
 
 /// The same, by what stands at the expression's head.
 #[cycle(bounding)]
-#[tactic(auto, using(crate::proofs::KeptRows::rows))]
+#[tactic(auto, using(crate::proofs::UpperRows::rows))]
 fn upper_by_node(
     table: &mut Table,
     memo: &mut Memo,

@@ -1,15 +1,12 @@
-use Rattle.std.proofs.Common.{◌≡◌, ℕ, List, [], ◌∷◌, Some, None, Bool, true, false, if◌then◌else◌, IfOk, refl, sym, ◌∙◌, ap, subst}
-use Rattle.word_ops.specs.declared.Rel.TheVariants.{Eq, Ule, Ult}
-use Rattle.term_table.specs.Table.{tree_at}
-use Rattle.formula_tree.specs.Formulas.{Exp, ELit, FRel}
+use Rattle.std.proofs.Common.{◌≡◌, None, sym, ◌∙◌, ap, subst}
+use Rattle.formula_tree.specs.Formulas.{ELit}
 use Rattle.lf_encode.specs.Encoding.{exp_encoding}
-use Rattle.easy_class.specs.Hypotheses.{same_exp}
-use Rattle.easy_class.specs.Bounds.{WordBound, word_bound, greater, greatest_bound, lower_of, lowers, lower_bound}
+use Rattle.easy_class.specs.Bounds.{greater, greatest_bound, lowers}
 use Rattle.easy_words.specs.BoundIds.{IsBound, bound_at}
-use Rattle.easy_words.specs.Inside.Candidates.{literal_of, by_more, by_equal_below, by_least, by_word}
-use Rattle.easy_words.proofs.Standing.{stands, more, twice, kept_bound, word_is}
-use Rattle.easy_words.proofs.Candidates.{same_false, same_true, lower_eq_other, lower_ule_other, lower_ult_other, lower_none, lower_word}
-use Rattle.easy_words.proofs.KeptRows.{hyps-after, bound-more}
+use Rattle.easy_words.specs.Inside.Candidates.{literal_of, by_word}
+use Rattle.easy_words.proofs.Standing.{stands, more, twice, word_is}
+use Rattle.easy_words.proofs.Candidates.{lower_none, lower_word}
+use Rattle.easy_words.proofs.UpperRows.{hyps-after, bound-more}
 use Rattle.easy_words.proofs.Scans.{bound_is}
 use Rattle.easy_words.proofs.lower_bounds.lower_bound.Goals as goal
 

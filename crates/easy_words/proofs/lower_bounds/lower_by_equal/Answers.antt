@@ -1,16 +1,14 @@
-use Rattle.std.proofs.Common.{◌≡◌, ℕ, List, [], ◌∷◌, Some, None, Bool, true, false, if◌then◌else◌, IfOk, refl, sym, ◌∙◌, ap, subst}
-use Rattle.word_ops.specs.declared.Rel.TheVariants.{Eq, Ule, Ult}
+use Rattle.std.proofs.Common.{◌≡◌, List, [], ◌∷◌, Bool, true, false, if◌then◌else◌, refl, sym, ◌∙◌, ap, subst}
+use Rattle.word_ops.specs.declared.Rel.TheVariants.{Eq}
 use Rattle.term_table.specs.Table.{tree_at}
 use Rattle.formula_tree.specs.Formulas.{Exp, ELit, FRel}
 use Rattle.lf_encode.specs.Encoding.{exp_encoding}
 use Rattle.easy_class.specs.Hypotheses.{same_exp}
-use Rattle.easy_class.specs.Bounds.{WordBound, word_bound, greatest_bound, lower_of, lowers, lower_bound}
+use Rattle.easy_class.specs.Bounds.{WordBound, greatest_bound, lower_of}
 use Rattle.easy_words.specs.BoundIds.{IsBound, bound_at}
-use Rattle.easy_words.specs.Inside.Candidates.{by_more, by_equal_below, by_least, by_word}
-use Rattle.easy_words.proofs.Standing.{stands, more, twice, kept_bound, word_is}
-use Rattle.easy_words.proofs.Candidates.{same_false, same_true, lower_eq_other, lower_ule_other, lower_ult_other, lower_none, lower_word}
-use Rattle.easy_words.proofs.KeptRows.{hyps-after, bound-more}
-use Rattle.easy_words.proofs.Scans.{bound_is}
+use Rattle.easy_words.specs.Inside.Candidates.{by_equal_below}
+use Rattle.easy_words.proofs.Standing.{kept_bound, word_is}
+use Rattle.easy_words.proofs.Candidates.{same_false, same_true, lower_eq_other}
 use Rattle.easy_words.proofs.lower_bounds.lower_by_equal.Goals as goal
 
 pub returns-then-not-same-clause-is : goal.returns-then-not-same-clause-is
@@ -18,9 +16,9 @@ returns-then-not-same-clause-is c = λ x y z qe qa qb.
     let a = c.args in
     let t = a.table.now in
     let other : exp_encoding y ≡ exp_encoding x → ⊥ = λ q.
-        let yes : c.same.result ≡ true = c.same.ensures.1 (qa ∙ q ∙ sym qe) in
-        let no : c.same.result ≡ false = c.if-not-same.true in
-        cc in
+    let yes : c.same.result ≡ true = c.same.ensures.1 (qa ∙ q ∙ sym qe) in
+    let no : c.same.result ≡ false = c.if-not-same.true in
+    cc in
     subst (λ (l : List WordBound). IsBound t (greatest_bound l (bound_at t a.last)) a.last) (sym (lower_eq_other x y z (tree_at t a.proof) (same_false y x other)))
     (record { known = c.requires.last; value = refl; is = refl })
 

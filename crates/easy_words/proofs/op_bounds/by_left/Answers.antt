@@ -30,6 +30,6 @@ returns-clause-is c = λ x y qe qa qb.
     let least = ruled (λ z. IsIdOf c.rule_term-2.new.table z c.in_ok-least.least) 54 (λ i. (more b x3).is i ∷ (more a x3).is i ∷ []) c.in_ok-least.ensures.id in
     let back = moved_to (λ z. IsIdOf c.moved.new.table z c.in_ok-back.back) c.in_ok-back.ensures.is (FRel Ule (EVar 0) (up x)) (EOp Band y x) (EOp Band x y) form turned (more e x4) equal least in
     let p =
-        ruled (λ z. IsIdOf c.rule_term-3.new.table z c.in_ok-proof.proof) 64
-        (λ i. (more e x6).is i ∷ (more a x6).is i ∷ c.in_ok-value.ensures.known.is i ∷ (more back e6).is i ∷ (more v x6).is i ∷ []) c.in_ok-proof.ensures.id in
+    ruled (λ z. IsIdOf c.rule_term-3.new.table z c.in_ok-proof.proof) 64
+    (λ i. (more e x6).is i ∷ (more a x6).is i ∷ c.in_ok-value.ensures.known.is i ∷ (more back e6).is i ∷ (more v x6).is i ∷ []) c.in_ok-proof.ensures.id in
     record { known = p.known; value = refl; is = p.is }

@@ -19,6 +19,6 @@ returns-clause-is c = λ x qe qa qb.
     let e = stands t (exp_encoding (EOp Sll x (ELit c.args.count))) c.args.e c.requires.e qe in
     let v = own t c.args.v.proof c.requires.v in
     let p =
-        ruled (λ z. IsIdOf c.rule_term.new.table z c.in_ok-proof.proof) 60
-        (λ i. (more a x2).is i ∷ c.in_ok-value.ensures.known.is i ∷ (more b x2).is i ∷ (more v x2).is i ∷ (more c.in_ok-fits.ensures.id e2).is i ∷ []) c.in_ok-proof.ensures.id in
+    ruled (λ z. IsIdOf c.rule_term.new.table z c.in_ok-proof.proof) 60
+    (λ i. (more a x2).is i ∷ c.in_ok-value.ensures.known.is i ∷ (more b x2).is i ∷ (more v x2).is i ∷ (more c.in_ok-fits.ensures.id e2).is i ∷ []) c.in_ok-proof.ensures.id in
     subst (λ z. IfOk c.folded.result (IsBound c.folded.new.table (folded (EOp Sll x (ELit c.args.count)) Sll c.args.v.value c.args.count z))) p.is (c.folded.ensures.is (EOp Sll x (ELit c.args.count)) (more e x3).is)

@@ -18,6 +18,6 @@ returns-clause-is c = λ x qe qa qb.
     let e = stands t (exp_encoding (EOp Srl x (ELit c.args.count))) c.args.e c.requires.e qe in
     let v = own t c.args.v.proof c.requires.v in
     let p =
-        ruled (λ z. IsIdOf c.rule_term.new.table z c.in_ok-proof.proof) 59
-        (λ i. (more a x1).is i ∷ c.in_ok-value.ensures.known.is i ∷ (more b x1).is i ∷ (more v x1).is i ∷ []) c.in_ok-proof.ensures.id in
+    ruled (λ z. IsIdOf c.rule_term.new.table z c.in_ok-proof.proof) 59
+    (λ i. (more a x1).is i ∷ c.in_ok-value.ensures.known.is i ∷ (more b x1).is i ∷ (more v x1).is i ∷ []) c.in_ok-proof.ensures.id in
     subst (λ z. IfOk c.folded.result (IsBound c.folded.new.table (folded (EOp Srl x (ELit c.args.count)) Srl c.args.v.value c.args.count z))) p.is (c.folded.ensures.is (EOp Srl x (ELit c.args.count)) (more e x2).is)

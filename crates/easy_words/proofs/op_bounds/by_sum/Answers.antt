@@ -21,6 +21,6 @@ returns-clause-is c = λ x y qe qa qb.
     let v = own t c.args.v.proof c.requires.v in
     let w = own t c.args.w.proof c.requires.w in
     let p =
-        ruled (λ z. IsIdOf c.rule_term.new.table z c.in_ok-proof.proof) 72
-        (λ i. (more a x3).is i ∷ (more b x3).is i ∷ (more c.in_ok-left.ensures.known e3).is i ∷ c.in_ok-right.ensures.known.is i ∷ (more v x3).is i ∷ (more w x3).is i ∷ (more c.in_ok-fits.ensures.id (twice e2 e3)).is i ∷ []) c.in_ok-proof.ensures.id in
+    ruled (λ z. IsIdOf c.rule_term.new.table z c.in_ok-proof.proof) 72
+    (λ i. (more a x3).is i ∷ (more b x3).is i ∷ (more c.in_ok-left.ensures.known e3).is i ∷ c.in_ok-right.ensures.known.is i ∷ (more v x3).is i ∷ (more w x3).is i ∷ (more c.in_ok-fits.ensures.id (twice e2 e3)).is i ∷ []) c.in_ok-proof.ensures.id in
     subst (λ z. IfOk c.folded.result (IsBound c.folded.new.table (folded (EOp Add x y) Add c.args.v.value c.args.w.value z))) p.is (c.folded.ensures.is (EOp Add x y) (more e x4).is)

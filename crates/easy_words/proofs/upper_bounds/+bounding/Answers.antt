@@ -4,7 +4,7 @@ use Rattle.formula_tree.specs.Formulas.{EOp}
 use Rattle.lf_encode.specs.Encoding.{exp_encoding}
 use Rattle.easy_class.specs.Bounds.{uppers, upper_bound}
 use Rattle.easy_words.specs.Inside.Candidates.{by_most}
-use Rattle.easy_words.proofs.KeptRows.{hyps-before, hyps-after, bound-more}
+use Rattle.easy_words.proofs.UpperRows.{hyps-before, hyps-after, bound-more}
 use Rattle.easy_words.proofs.Standing.{stands, more, twice}
 use Rattle.easy_words.proofs.Uppers.{var-whole, sel-whole, unbound-whole, by_hyps, word-whole, op-whole}
 use Rattle.easy_words.proofs.upper_bounds.+bounding.Goals as goal

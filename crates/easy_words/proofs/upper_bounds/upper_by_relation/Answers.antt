@@ -13,9 +13,9 @@ returns-then-not-same-clause-is c = λ x y z qe qa qb.
     let a = c.args in
     let t = a.table.now in
     let other : exp_encoding y ≡ exp_encoding x → ⊥ = λ q.
-        let yes : c.same.result ≡ true = c.same.ensures.1 (qa ∙ q ∙ sym qe) in
-        let no : c.same.result ≡ false = c.if-not-same.true in
-        cc in
+    let yes : c.same.result ≡ true = c.same.ensures.1 (qa ∙ q ∙ sym qe) in
+    let no : c.same.result ≡ false = c.if-not-same.true in
+    cc in
     subst (λ (l : List WordBound). IsBound t (least_bound l (bound_at t a.last)) a.last) (sym (upper_not_same a.rel x y z (tree_at t a.proof) (same_false y x other)))
     (record { known = c.requires.last; value = refl; is = refl })
 

@@ -3,7 +3,7 @@ use Rattle.formula_tree.specs.Formulas.{ELit}
 use Rattle.easy_class.specs.Bounds.{least_bound, uppers}
 use Rattle.easy_words.specs.BoundIds.{bound_at}
 use Rattle.easy_words.specs.Inside.Candidates.{by_word}
-use Rattle.easy_words.proofs.KeptRows.{bound-more}
+use Rattle.easy_words.proofs.UpperRows.{bound-more}
 use Rattle.easy_words.proofs.upper_bounds.upper_of_word.Goals as goal
 
 pub returns-clause-is : goal.returns-clause-is

@@ -2,11 +2,11 @@ use Rattle.std.proofs.Common.{rules, ◌≡◌, subst}
 use Rattle.std.specs.Bool.{Decides}
 use Rattle.std.specs.BTreeMap.{get}
 use Rattle.std.specs.Ordering.{eq_by_cmp}
-use Rattle.easy_words.specs.declared.kept.Subject.{Subject}
-use Rattle.easy_words.specs.contracts.kept.SubjectOrd.TheImpl as block
-use Rattle.easy_words.specs.contracts.kept.SubjectPartialEq.TheImpl as equality
-use Rattle.easy_words.proofs.KeptRows.{upper-row, uppers-keep}
-use Rattle.easy_words.proofs.kept.UpperBounds.keep.Goals as goal
+use Rattle.easy_words.specs.declared.kept_bounds.Subject.{Subject}
+use Rattle.easy_words.specs.contracts.kept_bounds.SubjectOrd.TheImpl as block
+use Rattle.easy_words.specs.contracts.kept_bounds.SubjectPartialEq.TheImpl as equality
+use Rattle.easy_words.proofs.UpperRows.{upper-row, uppers-keep}
+use Rattle.easy_words.proofs.kept_bounds.UpperBounds.keep.Goals as goal
 
 decides_eq : (a b : Subject) → Decides (equality.ghosts.eq a b) (a ≡ b)
 decides_eq a b = search rules

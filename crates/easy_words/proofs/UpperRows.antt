@@ -13,9 +13,9 @@ use Rattle.easy_class.specs.Bounds.{WordBound, upper_bound}
 use Rattle.easy_words.specs.BoundIds.{IsBound}
 use Rattle.easy_words.specs.KeptBounds.{IsUpper, AreUppers}
 use Rattle.easy_words.specs.declared.bounds.Bound.{Bound}
-use Rattle.easy_words.specs.declared.kept.Row.{Row}
-use Rattle.easy_words.specs.declared.kept.Subject.{Subject}
-use Rattle.easy_words.specs.declared.kept.UpperBounds.{UpperBounds}
+use Rattle.easy_words.specs.declared.kept_bounds.Row.{Row}
+use Rattle.easy_words.specs.declared.kept_bounds.Subject.{Subject}
+use Rattle.easy_words.specs.declared.kept_bounds.UpperBounds.{UpperBounds}
 
 -- hypotheses' ids stay known
 pub known_hyps-more : (t u : TableView) (l : List Hypothesis) → AreKnownHyps t l → Extends t u → AreKnownHyps u l

@@ -1,4 +1,5 @@
-//! Upper bounds that are kept, so that an expression that stands in many places is gone through once.
+//! Upper bounds that are kept, so that an expression that stands in many places is gone through
+//! once.
 
 ghost use Rattle.std.specs.Prelude.{◌≡◌, IfOk, IfSome, List};
 ghost use Rattle.term_table.specs.Table.{TableView, IsKnown, tree_at};
@@ -32,8 +33,8 @@ struct Row {
     proof: u64,
 }
 
-/// Upper bounds that were found, of expressions under one list of hypotheses. They count in the limit
-/// of the `Memo` that keeps the shifts.
+/// Upper bounds that were found, of expressions under one list of hypotheses. They count in the
+/// limit of the `Memo` that keeps the shifts.
 #[derive(Drop)]
 pub struct UpperBounds {
     rows: BTreeMap<Subject, Row>,
