@@ -12,6 +12,8 @@ mod kept_bounds;
 mod lower_bounds;
 mod op_bounds;
 mod steps;
+#[cfg(test)]
+mod tests;
 mod upper_bounds;
 
 pub use bounds::Bound;
