@@ -1,7 +1,7 @@
 -- The step from one side of an equation to the other, put together of ids.
-use Rattle.std.proofs.Common.{◌≡◌, ◌<◌, ℕ, Result, IfOk, length, sym, ◌∙◌, ap, subst, arith}
+use Rattle.std.proofs.Common.{◌≡◌, ℕ, Result, IfOk, ◌∙◌, ap, subst, arith}
 use Rattle.word_ops.specs.declared.Rel.TheVariants.{Eq}
-use Rattle.term_table.specs.Tree.{Tree, Var, shift}
+use Rattle.term_table.specs.Tree.{Var, shift}
 use Rattle.term_table.specs.Table.{TableView, IsKnown, tree_at, Extends}
 use Rattle.lf_signature.specs.Nodes.{IsIdOf}
 use Rattle.lf_signature.specs.Terms.{rel_term}

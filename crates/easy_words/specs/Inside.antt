@@ -1,4 +1,5 @@
 -- Words of the private functions and of what is kept.
+pub mod Candidates
 pub mod Rewrites
 pub mod Rounds
 pub mod Sums

@@ -1,3 +1,5 @@
+pub mod BoundIds
+pub mod KeptBounds
 pub mod NormalForms
 pub mod Sums
 pub mod Inside
