@@ -1,5 +1,6 @@
 pub mod Growing
 pub mod UpperRows
+pub mod Candidates
 mod Equations
 mod Moving
 mod Rewrites

@@ -1,9 +1,12 @@
-//! Bounds of a small expression, and of a sum of the greatest height.
+//! Bounds, normal forms and sums of small expressions, and of high ones.
 
 ghost use Rattle.std.specs.Prelude.{OnOk};
 ghost use Rattle.term_table.specs.Table.{IsKnown};
 
-use crate::{UpperBounds, lower_bound, oper, relation, upper_bound};
+use crate::{
+    NormalForms, Occurrences, UpperBounds, eighth, lower_bound, normal_form, occurs, oper,
+    relation, rest_of, upper_bound,
+};
 use formula_ids::Hypothesis;
 use hereditary_subst::{MOST_RESULTS, Memo};
 use std::alloc::{AllocError, Global};
@@ -98,5 +101,99 @@ fn bounds_by_a_hypothesis(rt: HostRuntime) -> Result<(), Fail> {
 #[test]
 fn bounds_of_a_high_sum(rt: HostRuntime) -> Result<(), Fail> {
     assert!(rt; at(&rt, Rel::Ule, true, 5, 6_000)? == (0, 6_005));
+    Ok(())
+}
+
+/// The operator at two expressions.
+fn at_two(table: &mut Table, op: Op, a: Id, b: Id) -> Made<Id> {
+    known(table, a)?;
+    known(table, b)?;
+    made(oper(table, op, a, b))
+}
+
+fn var(table: &mut Table, n: u32) -> Made<Id> {
+    made(table.intern(Node::Var(n)))
+}
+
+fn lit(table: &mut Table, word: u64) -> Made<Id> {
+    made(table.intern(Node::Lit(word)))
+}
+
+/// The normal form where 33 binders stand outside, so that variable 31 is r0 and variable 30 r1.
+fn normal(table: &mut Table, e: Id) -> Made<Id> {
+    known(table, e)?;
+    let alloc = table.allocator();
+    let mut memo = Memo::new(alloc, MOST_RESULTS);
+    let mut kept = NormalForms::new(alloc);
+    let form = made(normal_form(table, &mut memo, &mut kept, 33, e))?;
+    Ok(form.now)
+}
+
+/// (add (add r1 3) (sub r0 5)) is r0 + (r1 + (-2)).
+#[test]
+fn a_sum_in_order(rt: HostRuntime) -> Result<(), Fail> {
+    let mut table = Table::new(rt.alloc(), Places::sigma1());
+    let r0 = var(&mut table, 31)?;
+    let r1 = var(&mut table, 30)?;
+    let left = oper_by(&mut table, Op::Add, r1, 3)?;
+    let right = oper_by(&mut table, Op::Sub, r0, 5)?;
+    let sum = at_two(&mut table, Op::Add, left, right)?;
+    let inner = oper_by(&mut table, Op::Add, r1, 18_446_744_073_709_551_614)?;
+    let wanted = at_two(&mut table, Op::Add, r0, inner)?;
+    assert!(rt; normal(&mut table, sum)? == wanted);
+    let many = self::sum(&mut table, 100)?;
+    assert!(rt; normal(&mut table, many)? == many);
+    Ok(())
+}
+
+fn rest(table: &mut Table, a: Id, b: Id) -> Made<Option<Id>> {
+    known(table, a)?;
+    known(table, b)?;
+    made(rest_of(table, a, b))
+}
+
+fn part(table: &mut Table, rest: Id) -> Made<Option<Id>> {
+    known(table, rest)?;
+    made(eighth(table, rest))
+}
+
+/// r0 + (r1 + 10) without r1 + 4 is r0 + 6; without r2 it has none.
+#[test]
+fn what_is_left_of_a_sum(rt: HostRuntime) -> Result<(), Fail> {
+    let mut table = Table::new(rt.alloc(), Places::sigma1());
+    let r0 = var(&mut table, 31)?;
+    let r1 = var(&mut table, 30)?;
+    let r2 = var(&mut table, 29)?;
+    let inner = oper_by(&mut table, Op::Add, r1, 10)?;
+    let sum = at_two(&mut table, Op::Add, r0, inner)?;
+    let away = oper_by(&mut table, Op::Add, r1, 4)?;
+    let wanted = oper_by(&mut table, Op::Add, r0, 6)?;
+    assert!(rt; rest(&mut table, sum, away)? == Some(wanted));
+    assert!(rt; rest(&mut table, sum, r2)?.is_none());
+    let shifted = oper_by(&mut table, Op::Sll, r0, 3)?;
+    let word = lit(&mut table, 40)?;
+    let five = lit(&mut table, 5)?;
+    assert!(rt; part(&mut table, shifted)? == Some(r0));
+    assert!(rt; part(&mut table, word)? == Some(five));
+    assert!(rt; part(&mut table, sum)?.is_none());
+    Ok(())
+}
+
+fn has_place(table: &Table, e: Id) -> Made<bool> {
+    known(table, e)?;
+    let alloc = table.allocator();
+    let mut memo = Memo::new(alloc, MOST_RESULTS);
+    let mut kept = Occurrences::new(alloc);
+    made(occurs(table, &mut memo, &mut kept, e))
+}
+
+#[test]
+fn where_variable_0_stands(rt: HostRuntime) -> Result<(), Fail> {
+    let mut table = Table::new(rt.alloc(), Places::sigma1());
+    let high = sum(&mut table, 6_000)?;
+    let other = var(&mut table, 1)?;
+    let word = oper_by(&mut table, Op::Add, other, 3)?;
+    assert!(rt; has_place(&table, high)?);
+    assert!(rt; !has_place(&table, word)?);
     Ok(())
 }
