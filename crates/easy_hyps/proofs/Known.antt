@@ -9,7 +9,7 @@ use Rattle.lf_encode.specs.Encoding.{form_encoding}
 use Rattle.formula_ids.specs.declared.hypotheses.Hypothesis.{Hypothesis}
 use Rattle.formula_ids.specs.Hypotheses.{AreKnownHyps, AreHyps}
 use Rattle.easy_class.specs.Hypotheses.{Hyps, same_form, find_hyp, added}
-use Rattle.easy_hyps.specs.Places.{first_proof}
+use Rattle.easy_hyps.specs.Places.{first_hyp_proof}
 
 -- a later table knows the ids
 pub known-more : (t u : TableView) (l : List Hypothesis) → AreKnownHyps t l → Extends t u → AreKnownHyps u l
@@ -57,22 +57,22 @@ same-ids t i j A B d k l a b = go (i == j) refl (same_form A B) refl
         sym (eq-eqb i j s) ∙ e
 
 -- the first proof by the id is the first by the formula
-pub found : (t : TableView) (l : List Hypothesis) (Γ : Hyps) (A : Form) (i : ℕ) → AreDifferent t.trees → AreKnownHyps t l → IsKnown t i → AreHyps t l Γ → tree_at t i ≡ form_encoding A → Stands t (find_hyp Γ A) (first_proof l i)
+pub found : (t : TableView) (l : List Hypothesis) (Γ : Hyps) (A : Form) (i : ℕ) → AreDifferent t.trees → AreKnownHyps t l → IsKnown t i → AreHyps t l Γ → tree_at t i ≡ form_encoding A → Stands t (find_hyp Γ A) (first_hyp_proof l i)
 found t [] [] A i d k n h a = refl
 found t [] (x ∷ Γ) A i d k n h a = absurd h
 found t (y ∷ l) [] A i d k n h a = absurd h
 found t (y ∷ l) (x ∷ Γ) A i d k n h a =
-    subst (λ b. Stands t (cond b (Some x.1) (find_hyp Γ A)) (first_proof (y ∷ l) i)) (sym (same-ids t y.form i x.0 A d k.0 n h.0 a)) (go (y.form == i) (found t l Γ A i d k.2 n h.2 a))
+    subst (λ b. Stands t (cond b (Some x.1) (find_hyp Γ A)) (first_hyp_proof (y ∷ l) i)) (sym (same-ids t y.form i x.0 A d k.0 n h.0 a)) (go (y.form == i) (found t l Γ A i d k.2 n h.2 a))
   where
-    go : (b : Bool) → Stands t (find_hyp Γ A) (first_proof l i) → Stands t (cond b (Some x.1) (find_hyp Γ A)) (cond b (Some y.proof) (first_proof l i))
+    go : (b : Bool) → Stands t (find_hyp Γ A) (first_hyp_proof l i) → Stands t (cond b (Some x.1) (find_hyp Γ A)) (cond b (Some y.proof) (first_hyp_proof l i))
     go true s = (k.1, ap Some (sym h.1))
     go false s = s
 
-pub found-known : (t : TableView) (l : List Hypothesis) (i : ℕ) → AreKnownHyps t l → IfSome (first_proof l i) (IsKnown t)
+pub found-known : (t : TableView) (l : List Hypothesis) (i : ℕ) → AreKnownHyps t l → IfSome (first_hyp_proof l i) (IsKnown t)
 found-known t [] i k = tt
 found-known t (y ∷ l) i k = go (y.form == i) (found-known t l i k.2)
   where
-    go : (b : Bool) → IfSome (first_proof l i) (IsKnown t) → IfSome (cond b (Some y.proof) (first_proof l i)) (IsKnown t)
+    go : (b : Bool) → IfSome (first_hyp_proof l i) (IsKnown t) → IfSome (cond b (Some y.proof) (first_hyp_proof l i)) (IsKnown t)
     go true s = k.1
     go false s = s
 

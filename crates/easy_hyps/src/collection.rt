@@ -1,7 +1,7 @@
 //! Hypotheses in order, with an index by their formulas.
 
 ghost use Rattle.std.specs.Prelude.{◌≡◌, [], ◌∷◌, ◌++◌, OnOk};
-ghost use Rattle.easy_hyps.specs.Places.{first_proof};
+ghost use Rattle.easy_hyps.specs.Places.{first_hyp_proof};
 
 use formula_ids::Hypothesis;
 use std::alloc::{AllocError, Global};
@@ -38,14 +38,14 @@ impl Model for Hypotheses {
     ghost use Rattle.formula_ids.specs.declared.hypotheses.Hypothesis.{Hypothesis};
     ghost use Rattle.easy_hyps.specs.declared.collection.Key.{Key};
     ghost use Rattle.easy_hyps.specs.contracts.collection.KeyOrd.TheImpl as key_block;
-    ghost use Rattle.easy_hyps.specs.Places.{first_proof};
+    ghost use Rattle.easy_hyps.specs.Places.{first_hyp_proof};
 
     ghost Value = { List Hypothesis };
 
     ghost view = { λ h. h.list.items };
 
     ghost invariant = { λ h. (k : Key) →
-        get key_block.ghosts.cmp h.proofs k ≡ first_proof h.list.items k.form };
+        get key_block.ghosts.cmp h.proofs k ≡ first_hyp_proof h.list.items k.form };
 }
 
 impl Hypotheses {
@@ -73,7 +73,7 @@ impl Hypotheses {
 
     /// The proof of the first hypothesis with this id as its formula.
     pub fn find(&self, form: Id) -> Option<Id>
-        ensures { result ≡ first_proof self.now form }
+        ensures { result ≡ first_hyp_proof self.now form }
     {
         self.proofs.get(&key_of(form)).copied()
     }

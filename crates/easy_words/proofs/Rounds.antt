@@ -1,5 +1,5 @@
 -- Rounds of rewriting, and what is kept of normal forms.
-use Rattle.std.proofs.Common.{◌≡◌, ℕ, suc, ◌+◌, ◌-◌, ◌<◌, ◌≤◌, Bool, true, false, cond, nat_lt, min, lt-ltb, Option, Some, List, [], ◌∷◌, Result, IfOk, refl, sym, ◌∙◌, ap, subst, arith}
+use Rattle.std.proofs.Common.{◌≡◌, ℕ, suc, ◌+◌, ◌-◌, ◌<◌, ◌≤◌, Bool, true, false, cond, nat_lt, min, Option, Some, List, [], ◌∷◌, Result, IfOk, refl, sym, ◌∙◌, ap, subst, arith}
 use Rattle.std.specs.Bool.{Decides}
 use Rattle.std.proofs.lemmas.Bool.{le-ltb}
 use Rattle.term_table.specs.Table.{TableView, IsKnown, tree_at, Extends}
@@ -130,6 +130,3 @@ leads_end t out rounds i x goal here over w =
 -- few leaves: the rounds
 pub few_leaves : (n m : ℕ) → m ≤ 64 → m ≡ min n 65 → nat_lt 64 n ≡ false
 few_leaves n m h q = le-ltb 64 n (omega (arith, h, q))
-
-pub many_leaves : (n m : ℕ) → 64 < m → m ≡ min n 65 → nat_lt 64 n ≡ true
-many_leaves n m h q = lt-ltb 64 n (omega (arith, h, q))

@@ -11,7 +11,7 @@ use Rattle.formula_ids.specs.Hypotheses.{AreKnownHyps, AreHyps}
 use Rattle.formula_ids.specs.declared.hypotheses.Hypothesis.{Hypothesis}
 use Rattle.easy_class.specs.Hypotheses.{Hyps}
 use Rattle.easy_class.specs.Bounds.{WordBound}
-use Rattle.easy_words.specs.BoundIds.{IsBound, bound_at}
+use Rattle.easy_words.specs.BoundIds.{IsBoundOf, bound_by_ids}
 use Rattle.easy_words.specs.declared.bounds.Bound.{Bound}
 
 -- the best so far is what the aim gives of the hypotheses from the number k on
@@ -19,7 +19,7 @@ pub record IsScan (aim : Exp → Hyps → WordBound) (t u : TableView) (m : Memo
   pub extends : Extends t u
   pub memo : IsMemo u m
   pub known : IsKnown u best.proof
-  pub is : (Γ : Hyps) (x : Exp) → AreHyps t hyps Γ → tree_at t e ≡ exp_encoding x → IsBound u (aim x (drop k Γ)) best
+  pub is : (Γ : Hyps) (x : Exp) → AreHyps t hyps Γ → tree_at t e ≡ exp_encoding x → IsBoundOf u (aim x (drop k Γ)) best
 
 -- a hypothesis, and what it stands for
 pub record IsHypAt (t : TableView) (Γ : Hyps) (j : ℕ) (h : Hypothesis) : Type 0 where
@@ -47,7 +47,7 @@ hyp_known t [] j d k low = absurd (omega (arith, low))
 hyp_known t (x ∷ l) zero d k low = (k.0, k.1)
 hyp_known t (x ∷ l) (suc j) d k low = hyp_known t l j d k.2 (omega (arith, low))
 
-pub bound_is : {u : TableView} {w : WordBound} {b : Bound} → IsBound u w b → bound_at u b ≡ w
+pub bound_is : {u : TableView} {w : WordBound} {b : Bound} → IsBoundOf u w b → bound_by_ids u b ≡ w
 bound_is h = λ i. record { value = h.value i; proof = h.is i }
 
 extends_refl : (t : TableView) → Extends t t
@@ -55,21 +55,21 @@ extends_refl t = record { longer = omega arith; same = λ id k. refl; places = r
 
 -- before the walk
 pub scan-start : (aim : Exp → Hyps → WordBound) (t : TableView) (m : Memo) (hyps : List Hypothesis) (e : ℕ) (last : Bound) (k : ℕ) → k ≡ length hyps → IsMemo t m → IsKnown t last.proof →
-    ((x : Exp) → aim x [] ≡ bound_at t last) → IsScan aim t t m hyps e last k
+    ((x : Exp) → aim x [] ≡ bound_by_ids t last) → IsScan aim t t m hyps e last k
 scan-start aim t m hyps e last k count memo known none = record {
   extends = extends_refl t;
   memo = memo;
   known = known;
   is = λ Γ x g q.
-      let at : aim x (drop k Γ) ≡ bound_at t last = ap (λ (n : ℕ). aim x (drop n Γ)) count ∙ ap (aim x) (dropped t hyps Γ g) ∙ none x in
-      subst (λ w. IsBound t w last) (sym at) (record { known = known; value = refl; is = refl });
+      let at : aim x (drop k Γ) ≡ bound_by_ids t last = ap (λ (n : ℕ). aim x (drop n Γ)) count ∙ ap (aim x) (dropped t hyps Γ g) ∙ none x in
+      subst (λ w. IsBoundOf t w last) (sym at) (record { known = known; value = refl; is = refl });
 }
 
 -- one hypothesis more
 pub scan-step : (aim : Exp → Hyps → WordBound) (step : Exp → Form → Tree → WordBound → WordBound) (t u v : TableView) (m n : Memo) (hyps : List Hypothesis) (e : ℕ) (best next : Bound) (k j : ℕ) (h : Hypothesis) →
     ((x : Exp) (y : Form × Tree) (Γ : Hyps) → aim x (y ∷ Γ) ≡ step x y.0 y.1 (aim x Γ)) → IsScan aim t u m hyps e best k → AreKnownHyps t hyps → IsKnown t e → k ≡ suc j → j < length hyps → get_or hyps j h ≡ h →
     Extends u v → IsMemo v n → IsKnown v next.proof →
-    ((x : Exp) (A : Form) → tree_at u e ≡ exp_encoding x → tree_at u h.form ≡ form_encoding A → IsBound v (step x A (tree_at u h.proof) (bound_at u best)) next) → IsScan aim t v n hyps e next j
+    ((x : Exp) (A : Form) → tree_at u e ≡ exp_encoding x → tree_at u h.form ≡ form_encoding A → IsBoundOf v (step x A (tree_at u h.proof) (bound_by_ids u best)) next) → IsScan aim t v n hyps e next j
 scan-step aim step t u v m n hyps e best next k j h parts s known ke count low at grows memo kn told = record {
   extends = grows_more t u v s.extends grows;
   memo = memo;
@@ -77,9 +77,9 @@ scan-step aim step t u v m n hyps e best next k j h parts s known ke count low a
   is = λ Γ x g q.
       let i : IsHypAt t Γ j h = subst (λ (z : Hypothesis). IsHypAt t Γ j z) at (hyp_at t hyps Γ j h g low) in
       let ids : IsKnown t h.form × IsKnown t h.proof = subst (λ (z : Hypothesis). IsKnown t z.form × IsKnown t z.proof) at (hyp_known t hyps j h known low) in
-      let before : bound_at u best ≡ aim x (drop (suc j) Γ) = bound_is (subst (λ (z : ℕ). IsBound u (aim x (drop z Γ)) best) count (s.is Γ x g q)) in
+      let before : bound_by_ids u best ≡ aim x (drop (suc j) Γ) = bound_is (subst (λ (z : ℕ). IsBoundOf u (aim x (drop z Γ)) best) count (s.is Γ x g q)) in
       let proof : tree_at u h.proof ≡ i.now.1 = s.extends.same h.proof ids.1 ∙ i.proof in
       let says = told x i.now.0 (s.extends.same e ke ∙ q) (s.extends.same h.form ids.0 ∙ i.form) in
-      let whole : step x i.now.0 (tree_at u h.proof) (bound_at u best) ≡ aim x (drop j Γ) = (λ l. step x i.now.0 (proof l) (before l)) ∙ sym (parts x i.now (drop (suc j) Γ)) ∙ ap (aim x) (sym i.rest) in
-      subst (λ w. IsBound v w next) whole says;
+      let whole : step x i.now.0 (tree_at u h.proof) (bound_by_ids u best) ≡ aim x (drop j Γ) = (λ l. step x i.now.0 (proof l) (before l)) ∙ sym (parts x i.now (drop (suc j) Γ)) ∙ ap (aim x) (sym i.rest) in
+      subst (λ w. IsBoundOf v w next) whole says;
 }

@@ -7,7 +7,7 @@ use Rattle.lf_signature.specs.Nodes.{IsIdOf}
 use Rattle.formula_tree.specs.Formulas.{Exp, EReg, ELeft, EVar, ELit, EOp, ESel, Form}
 use Rattle.lf_encode.specs.Encoding.{exp_encoding, form_encoding}
 use Rattle.easy_class.specs.ProofTerms.{move}
-use Rattle.easy_words.specs.BoundIds.{IsBound, bound_at}
+use Rattle.easy_words.specs.BoundIds.{IsBoundOf, bound_by_ids}
 use Rattle.easy_words.specs.declared.bounds.Bound.{Bound}
 use Rattle.easy_words.specs.Inside.Candidates.{literal_of}
 
@@ -38,7 +38,7 @@ pub moved_to : (P : Tree → Type 0) {w : TableView} {form a b equal proof : ℕ
 moved_to P h A x z f a b p q = subst P (λ i. move A x z (p.is i) (q.is i)) (h A x z f.is a.is b.is)
 
 -- a bound keeps its proof
-pub kept_bound : {t u : TableView} (b : Bound) → IsKnown t b.proof → Extends t u → IsBound u (bound_at t b) b
+pub kept_bound : {t u : TableView} (b : Bound) → IsKnown t b.proof → Extends t u → IsBoundOf u (bound_by_ids t b) b
 kept_bound b k e = record { known = omega (arith, k, e.longer); value = refl; is = e.same _ k }
 
 -- what is a word is a literal

@@ -16,7 +16,7 @@ use Rattle.formula_tree.specs.Formulas.{Exp, EReg, ELeft, EVar, ELit, EOp, ESel}
 use Rattle.lf_encode.specs.Encoding.{exp_encoding}
 use Rattle.easy_class.specs.Hypotheses.{same_exp}
 use Rattle.easy_class.specs.Access.{summands, literal, without, all_without, sum_with, rest_of}
-use Rattle.easy_words.specs.Inside.Sums.{AreExps, IsSum, IsPlace, IsWithout}
+use Rattle.easy_words.specs.Inside.Sums.{AreExps, IsSumOf, IsFirstPlace, IsWithout}
 use Rattle.easy_words.specs.Sums.{IsExpOption}
 
 pub known-end : (t : TableView) (l : List ℕ) (a : ℕ) → AllKnown t l → IsKnown t a → AllKnown t (l ++ a ∷ [])
@@ -30,7 +30,7 @@ exps-end t [] (y ∷ l) a x e h = absurd e
 exps-end t (i ∷ ids) [] a x e h = absurd e
 
 -- the first summand, and then those of the rest
-pub sum_next : (t : TableView) (ids : List ℕ) (before : List Exp) (a b : Exp) (w : ℕ) → IsSum t ids (before ++ a ∷ []) b w → IsSum t ids before (EOp Add a b) w
+pub sum_next : (t : TableView) (ids : List ℕ) (before : List Exp) (a b : Exp) (w : ℕ) → IsSumOf t ids (before ++ a ∷ []) b w → IsSumOf t ids before (EOp Add a b) w
 sum_next t ids before a b w s = (subst (AreExps t ids) (append_assoc before (a ∷ []) (summands b)) s.0, s.1)
 
 -- what is neither a word nor a sum is its own summand
@@ -52,17 +52,10 @@ lone (EOp Cmpult a b) h g = (refl, refl)
 lone (EOp Cmpule a b) h g = (refl, refl)
 lone (ESel m a) h g = (refl, refl)
 
-pub sum_end : (t : TableView) (ids : List ℕ) (before : List Exp) (a : ℕ) (x : Exp) → AreExps t ids before → tree_at t a ≡ exp_encoding x → ((w : ℕ) → x ≡ ELit w → ⊥) → ((y z : Exp) → x ≡ EOp Add y z → ⊥) → IsSum t (ids ++ a ∷ []) before x 0
+pub sum_end : (t : TableView) (ids : List ℕ) (before : List Exp) (a : ℕ) (x : Exp) → AreExps t ids before → tree_at t a ≡ exp_encoding x → ((w : ℕ) → x ≡ ELit w → ⊥) → ((y z : Exp) → x ≡ EOp Add y z → ⊥) → IsSumOf t (ids ++ a ∷ []) before x 0
 sum_end t ids before a x e q h g =
     let l = lone x h g in
     (subst (λ s. AreExps t (ids ++ a ∷ []) (before ++ s)) (sym l.0) (exps-end t ids before a x e q), sym l.1)
-
-pub sum_word : (t : TableView) (ids : List ℕ) (before : List Exp) (x : Exp) (w : ℕ) → AreExps t ids before → x ≡ ELit w → IsSum t ids before x w
-sum_word t ids before x w e q = subst (λ z. IsSum t ids before z w) (sym q) (subst (AreExps t ids) (sym (none before)) e, refl)
-  where
-    none : (l : List Exp) → l ++ [] ≡ l
-    none [] = refl
-    none (y ∷ l) = ap (λ z. y ∷ z) (none l)
 
 -- ---- one taken away
 
@@ -106,26 +99,7 @@ one_away t (i ∷ ids) (y ∷ l) a x (suc n) d k h e q m g f = go (same_exp x y)
     go true s rest = absurd (f 0 (omega arith) (same_id t i a x y d k.0 h e.0 q s))
     go false s rest = subst (λ b. IsWithout t true (i ∷ remove ids n) (cond b (Some l) (option_map (λ m. y ∷ m) (without x l)))) (sym s) (later (without x l) rest)
 
--- ---- several taken away
-
-pub away_none : (t : TableView) (ids : List ℕ) (x : Exp) (away before : List Exp) (b : Bool) → b ≡ false → IsWithout t b ids (without x before) → IsWithout t false ids (all_without (x ∷ away) before)
-away_none t ids x away before b e w = ap (λ o. bind o (all_without away)) (subst (λ z. IsWithout t z ids (without x before)) e w)
-
-pub away_some : (t : TableView) (ids then : List ℕ) (x : Exp) (away before : List Exp) (b : Bool) → IsWithout t true ids (without x before) → ((l : List Exp) → AreExps t ids l → IsWithout t b then (all_without away l)) →
-    IsWithout t b then (all_without (x ∷ away) before)
-away_some t ids then x away before b w f = go (without x before) w
-  where
-    go : (o : Option (List Exp)) → IsWithout t true ids o → IsWithout t b then (bind o (all_without away))
-    go None w = absurd w
-    go (Some l) w = f l w
-
 -- ---- the sum of what is left
-
-pub exps-known : (t u : TableView) (ids : List ℕ) (l : List Exp) → AllKnown t ids → Extends t u → AreExps t ids l → AreExps u ids l
-exps-known t u [] [] k x e = tt
-exps-known t u (i ∷ ids) (y ∷ l) k x e = (x.same i k.0 ∙ e.0, exps-known t u ids l k.1 x e.1)
-exps-known t u [] (y ∷ l) k x e = absurd e
-exps-known t u (i ∷ ids) [] k x e = absurd e
 
 -- a sum of more than one summand
 pub sum_more : (t u v : TableView) (a : ℕ) (rest : List ℕ) (others w : ℕ) {E : Type 0} (r : Result ℕ E) → IsKnown t a → Extends t u → 0 < length rest → ((l : List Exp) → AreExps t rest l → IsIdOf u (exp_encoding (sum_with l w)) others) →
@@ -137,14 +111,6 @@ sum_more t u v a (i ∷ rest) others w r k x some f s (y ∷ (z ∷ l)) e =
     let left : tree_at u a ≡ exp_encoding y = x.same a k ∙ e.0 in
     let right : tree_at u others ≡ exp_encoding (sum_with (z ∷ l) w) = (f (z ∷ l) e.1).is in
     subst (λ q. IfOk r (IsIdOf v q)) (λ i. op_term Add (left i) (right i)) s
-
--- a sum of one summand
-pub sum_one : (t u : TableView) (a : ℕ) (rest : List ℕ) (w : ℕ) {E : Type 0} (r : Result ℕ E) → length rest ≡ 0 → ((x : Exp) → tree_at t a ≡ exp_encoding x → IfOk r (IsIdOf u (exp_encoding (sum_with (x ∷ []) w)))) →
-    (l : List Exp) → AreExps t (a ∷ rest) l → IfOk r (IsIdOf u (exp_encoding (sum_with l w)))
-sum_one t u a rest w r none f [] e = absurd e
-sum_one t u a (i ∷ rest) w r none f (y ∷ l) e = absurd (omega (arith, none))
-sum_one t u a [] w r none f (y ∷ []) e = f y e.0
-sum_one t u a [] w r none f (y ∷ (z ∷ l)) e = absurd e.1
 
 -- nothing is left where a summand is missing
 pub rest_none : (t : TableView) (ids : List ℕ) (x y : Exp) → IsWithout t false ids (all_without (summands y) (summands x)) → rest_of x y ≡ None

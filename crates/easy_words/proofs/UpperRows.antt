@@ -10,7 +10,7 @@ use Rattle.formula_ids.specs.Hypotheses.{AreKnownHyps, AreHyps}
 use Rattle.formula_ids.specs.declared.hypotheses.Hypothesis.{Hypothesis}
 use Rattle.easy_class.specs.Hypotheses.{Hyps}
 use Rattle.easy_class.specs.Bounds.{WordBound, upper_bound}
-use Rattle.easy_words.specs.BoundIds.{IsBound}
+use Rattle.easy_words.specs.BoundIds.{IsBoundOf}
 use Rattle.easy_words.specs.KeptBounds.{IsUpper, AreUppers}
 use Rattle.easy_words.specs.declared.bounds.Bound.{Bound}
 use Rattle.easy_words.specs.declared.kept_bounds.Row.{Row}
@@ -37,7 +37,7 @@ hyps-after t u [] (y ∷ Γ) k e h = absurd h
 hyps-after t u (x ∷ l) [] k e h = absurd h
 
 -- a bound stays one
-pub bound-more : {t u : TableView} {w : WordBound} {b : Bound} → IsBound t w b → Extends t u → IsBound u w b
+pub bound-more : {t u : TableView} {w : WordBound} {b : Bound} → IsBoundOf t w b → Extends t u → IsBoundOf u w b
 bound-more h e = record { known = omega (arith, h.known, e.longer); value = h.value; is = e.same _ h.known ∙ h.is }
 
 upper-more : (t u : TableView) (l : List Hypothesis) (s : Subject) (r : Row) → AreKnownHyps t l → Extends t u → IsUpper t l s r → IsUpper u l s r
@@ -53,7 +53,7 @@ uppers-more kept t u l h k e = record { each = λ s r i. upper-more t u l s r k 
 
 -- the row of a bound
 pub upper-row : (t : TableView) (l : List Hypothesis) (s e p : ℕ) (b : Bound) → s ≡ e → p ≡ b.proof → IsKnown t e → IsKnown t b.proof →
-    ((Γ : Hyps) (x : Exp) → AreHyps t l Γ → tree_at t e ≡ exp_encoding x → IsBound t (upper_bound Γ x) b) → IsUpper t l (record { exp = s }) (record { value = b.value; proof = p })
+    ((Γ : Hyps) (x : Exp) → AreHyps t l Γ → tree_at t e ≡ exp_encoding x → IsBoundOf t (upper_bound Γ x) b) → IsUpper t l (record { exp = s }) (record { value = b.value; proof = p })
 upper-row t l s e p b se pb ke kb h = record {
   of = omega (arith, se, ke);
   known = omega (arith, pb, kb);

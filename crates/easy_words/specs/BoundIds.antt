@@ -5,11 +5,11 @@ use Rattle.easy_class.specs.Bounds.{WordBound, word_bound}
 use Rattle.easy_words.specs.declared.bounds.Bound.{Bound}
 
 -- the word is the bound's, and the id stands for its proof
-pub record IsBound (t : TableView) (w : WordBound) (b : Bound) : Type 0 where
+pub record IsBoundOf (t : TableView) (w : WordBound) (b : Bound) : Type 0 where
   pub known : IsKnown t b.proof
   pub value : b.value ≡ w.value
   pub is : tree_at t b.proof ≡ w.proof
 
 -- the bound that a word and the id of a proof are
-abbrev pub bound_at : TableView → Bound → WordBound
-bound_at t b = word_bound b.value (tree_at t b.proof)
+abbrev pub bound_by_ids : TableView → Bound → WordBound
+bound_by_ids t b = word_bound b.value (tree_at t b.proof)

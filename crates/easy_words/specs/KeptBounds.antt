@@ -8,7 +8,7 @@ use Rattle.formula_ids.specs.Hypotheses.{AreHyps}
 use Rattle.formula_ids.specs.declared.hypotheses.Hypothesis.{Hypothesis}
 use Rattle.easy_class.specs.Hypotheses.{Hyps}
 use Rattle.easy_class.specs.Bounds.{upper_bound}
-use Rattle.easy_words.specs.BoundIds.{IsBound}
+use Rattle.easy_words.specs.BoundIds.{IsBoundOf}
 use Rattle.easy_words.specs.declared.bounds.Bound.{Bound}
 use Rattle.easy_words.specs.declared.kept_bounds.Row.{Row}
 use Rattle.easy_words.specs.declared.kept_bounds.Subject.{Subject}
@@ -23,7 +23,7 @@ bound_of r = record { value = r.value; proof = r.proof }
 pub record IsUpper (t : TableView) (hyps : List Hypothesis) (subject : Subject) (r : Row) : Type 0 where
   pub of : IsKnown t subject.exp
   pub known : IsKnown t r.proof
-  pub is : (Γ : Hyps) (x : Exp) → AreHyps t hyps Γ → tree_at t subject.exp ≡ exp_encoding x → IsBound t (upper_bound Γ x) (bound_of r)
+  pub is : (Γ : Hyps) (x : Exp) → AreHyps t hyps Γ → tree_at t subject.exp ≡ exp_encoding x → IsBoundOf t (upper_bound Γ x) (bound_of r)
 
 -- each kept row is right
 pub record AreUppers (t : TableView) (hyps : List Hypothesis) (kept : UpperBounds) : Type 0 where

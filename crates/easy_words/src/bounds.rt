@@ -11,7 +11,7 @@ ghost use Rattle.formula_tree.specs.Formulas.{Exp, EVar, ELit, EOp, FRel};
 ghost use Rattle.lf_encode.specs.Encoding.{exp_encoding, form_encoding};
 ghost use Rattle.easy_class.specs.ProofTerms.{up};
 ghost use Rattle.easy_class.specs.Bounds.{WordBound, lesser, greater, folded, fit_proof};
-ghost use Rattle.easy_words.specs.BoundIds.{IsBound};
+ghost use Rattle.easy_words.specs.BoundIds.{IsBoundOf};
 
 use crate::{calc, fact, moved, oper, relation, swapped};
 use formula_ids::raised;
@@ -33,8 +33,8 @@ pub struct Bound {
 pub(crate) fn lesser(b: Bound, c: Bound) -> Bound
     ensures known { (t : TableView) → IsKnown t b.proof → IsKnown t c.proof
         → IsKnown t result.proof }
-    ensures is { (t : TableView) (v w : WordBound) → IsBound t v b → IsBound t w c
-        → IsBound t (lesser v w) result }
+    ensures is { (t : TableView) (v w : WordBound) → IsBoundOf t v b → IsBoundOf t w c
+        → IsBoundOf t (lesser v w) result }
 {
     if c.value < b.value { c } else { b }
 }
@@ -43,8 +43,8 @@ pub(crate) fn lesser(b: Bound, c: Bound) -> Bound
 pub(crate) fn greater(b: Bound, c: Bound) -> Bound
     ensures known { (t : TableView) → IsKnown t b.proof → IsKnown t c.proof
         → IsKnown t result.proof }
-    ensures is { (t : TableView) (v w : WordBound) → IsBound t v b → IsBound t w c
-        → IsBound t (greater v w) result }
+    ensures is { (t : TableView) (v w : WordBound) → IsBoundOf t v b → IsBoundOf t w c
+        → IsBoundOf t (greater v w) result }
 {
     if b.value < c.value { c } else { b }
 }
@@ -126,7 +126,7 @@ pub(crate) fn folded(
     requires memo { IsMemo table.old memo.old }
     ensures known { IfOk result (λ b. IsKnown table.new b.proof) }
     ensures is { (x : Exp) → tree_at table.old e ≡ exp_encoding x
-        → IfOk result (IsBound table.new (folded x op v w (tree_at table.old proof))) }
+        → IfOk result (IsBoundOf table.new (folded x op v w (tree_at table.old proof))) }
     ensures extends { Extends table.old table.new }
     ensures memo { IsMemo table.new memo.new }
 {

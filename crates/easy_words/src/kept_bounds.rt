@@ -10,7 +10,7 @@ ghost use Rattle.formula_ids.specs.declared.hypotheses.Hypothesis.{Hypothesis as
 ghost use Rattle.formula_ids.specs.Hypotheses.{AreHyps};
 ghost use Rattle.easy_class.specs.Hypotheses.{Hyps};
 ghost use Rattle.easy_class.specs.Bounds.{upper_bound};
-ghost use Rattle.easy_words.specs.BoundIds.{IsBound};
+ghost use Rattle.easy_words.specs.BoundIds.{IsBoundOf};
 ghost use Rattle.easy_words.specs.KeptBounds.{IsUpper, AreUppers};
 
 use crate::bounds::Bound;
@@ -74,7 +74,7 @@ impl UpperBounds {
         ensures known { IfSome result (λ b. IsKnown table.now b.proof) }
         ensures is { (Γ : Hyps) (x : Exp) → AreHyps table.now hyps.now Γ
             → tree_at table.now e ≡ exp_encoding x
-            → IfSome result (IsBound table.now (upper_bound Γ x)) }
+            → IfSome result (IsBoundOf table.now (upper_bound Γ x)) }
     {
         let subject = Subject { exp: number(e) };
         match self.row(table, hyps, &subject) {
@@ -103,7 +103,7 @@ impl UpperBounds {
         requires e { IsKnown table.now e }
         requires known { IsKnown table.now bound.proof }
         requires is { (Γ : Hyps) (x : Exp) → AreHyps table.now hyps.now Γ
-            → tree_at table.now e ≡ exp_encoding x → IsBound table.now (upper_bound Γ x) bound }
+            → tree_at table.now e ≡ exp_encoding x → IsBoundOf table.now (upper_bound Γ x) bound }
         ensures memo { IsMemo table.now memo.new }
         ensures kept { IfOk result (λ _. AreUppers table.now hyps.now self.new) }
     {

@@ -11,7 +11,7 @@ ghost use Rattle.lf_encode.specs.Encoding.{exp_encoding, form_encoding};
 ghost use Rattle.formula_ids.specs.Hypotheses.{AreKnownHyps, AreHyps};
 ghost use Rattle.easy_class.specs.Hypotheses.{Hyps};
 ghost use Rattle.easy_class.specs.Bounds.{greatest_bound, lower_of, lowers, lower_bound};
-ghost use Rattle.easy_words.specs.BoundIds.{IsBound, bound_at};
+ghost use Rattle.easy_words.specs.BoundIds.{IsBoundOf, bound_by_ids};
 ghost use Rattle.easy_words.specs.Inside.Candidates.{by_more, by_equal_below, by_least};
 
 use crate::bounds::{Bound, above_place, greater};
@@ -34,7 +34,7 @@ fn by_more(table: &mut Table, e: Id, w: u64, word: Id, proof: Id) -> Result<Boun
     ensures known { IfOk result (λ b. IsKnown table.new b.proof) }
     ensures is { (x : Exp) → tree_at table.old e ≡ exp_encoding x
         → tree_at table.old word ≡ exp_encoding (ELit w)
-        → IfOk result (IsBound table.new (by_more x w (tree_at table.old proof))) }
+        → IfOk result (IsBoundOf table.new (by_more x w (tree_at table.old proof))) }
     ensures extends { Extends table.old table.new }
 {
     let bound = rule_term(table, ULT_ULE, &[word, e, proof])?;
@@ -61,7 +61,7 @@ fn by_equal_below(
     ensures known { IfOk result (λ b. IsKnown table.new b.proof) }
     ensures is { (x : Exp) → tree_at table.old e ≡ exp_encoding x
         → tree_at table.old word ≡ exp_encoding (ELit w)
-        → IfOk result (IsBound table.new (by_equal_below x w (tree_at table.old proof))) }
+        → IfOk result (IsBoundOf table.new (by_equal_below x w (tree_at table.old proof))) }
     ensures extends { Extends table.old table.new }
     ensures memo { IsMemo table.new memo.new }
 {
@@ -94,8 +94,8 @@ fn lower_by_equal(
     ensures known { IfOk result (λ b. IsKnown table.new b.proof) }
     ensures is { (x y z : Exp) → tree_at table.old e ≡ exp_encoding x
         → tree_at table.old a ≡ exp_encoding y → tree_at table.old b ≡ exp_encoding z
-        → IfOk result (IsBound table.new (greatest_bound
-        (lower_of x (FRel Eq y z) (tree_at table.old proof)) (bound_at table.old last))) }
+        → IfOk result (IsBoundOf table.new (greatest_bound
+        (lower_of x (FRel Eq y z) (tree_at table.old proof)) (bound_by_ids table.old last))) }
     ensures extends { Extends table.old table.new }
     ensures memo { IsMemo table.new memo.new }
 {
@@ -128,8 +128,8 @@ fn lower_by_at_most(
     ensures known { IfOk result (λ b. IsKnown table.new b.proof) }
     ensures is { (x y z : Exp) → tree_at table.old e ≡ exp_encoding x
         → tree_at table.old a ≡ exp_encoding y → tree_at table.old b ≡ exp_encoding z
-        → IfOk result (IsBound table.new (greatest_bound
-        (lower_of x (FRel Ule y z) (tree_at table.old proof)) (bound_at table.old last))) }
+        → IfOk result (IsBoundOf table.new (greatest_bound
+        (lower_of x (FRel Ule y z) (tree_at table.old proof)) (bound_by_ids table.old last))) }
     ensures extends { Extends table.old table.new }
 {
     if !table.same(b, e) {
@@ -158,8 +158,8 @@ fn lower_by_less(
     ensures known { IfOk result (λ b. IsKnown table.new b.proof) }
     ensures is { (x y z : Exp) → tree_at table.old e ≡ exp_encoding x
         → tree_at table.old a ≡ exp_encoding y → tree_at table.old b ≡ exp_encoding z
-        → IfOk result (IsBound table.new (greatest_bound
-        (lower_of x (FRel Ult y z) (tree_at table.old proof)) (bound_at table.old last))) }
+        → IfOk result (IsBoundOf table.new (greatest_bound
+        (lower_of x (FRel Ult y z) (tree_at table.old proof)) (bound_by_ids table.old last))) }
     ensures extends { Extends table.old table.new }
 {
     if !table.same(b, e) {
@@ -195,8 +195,8 @@ fn lower_by_relation(
     ensures known { IfOk result (λ b. IsKnown table.new b.proof) }
     ensures is { (x y z : Exp) → tree_at table.old e ≡ exp_encoding x
         → tree_at table.old a ≡ exp_encoding y → tree_at table.old b ≡ exp_encoding z
-        → IfOk result (IsBound table.new (greatest_bound
-        (lower_of x (FRel rel y z) (tree_at table.old proof)) (bound_at table.old last))) }
+        → IfOk result (IsBoundOf table.new (greatest_bound
+        (lower_of x (FRel rel y z) (tree_at table.old proof)) (bound_by_ids table.old last))) }
     ensures extends { Extends table.old table.new }
     ensures memo { IsMemo table.new memo.new }
 {
@@ -227,8 +227,8 @@ fn lower_by_hyp(
     ensures known { IfOk result (λ b. IsKnown table.new b.proof) }
     ensures is { (x : Exp) (A : Form) → tree_at table.old e ≡ exp_encoding x
         → tree_at table.old form ≡ form_encoding A
-        → IfOk result (IsBound table.new (greatest_bound
-        (lower_of x A (tree_at table.old proof)) (bound_at table.old last))) }
+        → IfOk result (IsBoundOf table.new (greatest_bound
+        (lower_of x A (tree_at table.old proof)) (bound_by_ids table.old last))) }
     ensures extends { Extends table.old table.new }
     ensures memo { IsMemo table.new memo.new }
 {
@@ -264,8 +264,8 @@ fn lower_by_hyps(
     requires memo { IsMemo table.old memo.old }
     ensures known { IfOk result (λ b. IsKnown table.new b.proof) }
     ensures is { (Γ : Hyps) (x : Exp) → AreHyps table.old hyps.now Γ
-        → tree_at table.old e ≡ exp_encoding x → IfOk result (IsBound table.new
-        (greatest_bound (lowers x Γ) (bound_at table.old last))) }
+        → tree_at table.old e ≡ exp_encoding x → IfOk result (IsBoundOf table.new
+        (greatest_bound (lowers x Γ) (bound_by_ids table.old last))) }
     ensures extends { Extends table.old table.new }
     ensures memo { IsMemo table.new memo.new }
 {
@@ -283,7 +283,7 @@ fn by_least(table: &mut Table, e: Id) -> Result<Bound, AllocError>
     requires { IsKnown table.old e }
     ensures known { IfOk result (λ b. IsKnown table.new b.proof) }
     ensures is { (x : Exp) → tree_at table.old e ≡ exp_encoding x
-        → IfOk result (IsBound table.new (by_least x)) }
+        → IfOk result (IsBoundOf table.new (by_least x)) }
     ensures extends { Extends table.old table.new }
 {
     let proof = rule_term(table, ZERO_LE, &[e])?;
@@ -308,7 +308,7 @@ pub fn lower_bound(
     ensures known { IfOk result (λ b. IsKnown table.new b.proof) }
     ensures exact { (Γ : Hyps) (x : Exp) → AreHyps table.old hyps.now Γ
         → tree_at table.old e ≡ exp_encoding x
-        → IfOk result (IsBound table.new (lower_bound Γ x)) }
+        → IfOk result (IsBoundOf table.new (lower_bound Γ x)) }
     ensures extends { Extends table.old table.new }
     ensures memo { IsMemo table.new memo.new }
 {

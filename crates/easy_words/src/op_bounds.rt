@@ -9,7 +9,7 @@ ghost use Rattle.word_ops.specs.declared.Op.TheVariants.{Add, Band, Sll, Srl};
 ghost use Rattle.formula_tree.specs.Formulas.{Exp, ELit, EOp};
 ghost use Rattle.lf_encode.specs.Encoding.{exp_encoding};
 ghost use Rattle.easy_class.specs.Bounds.{WordBound, lesser, least_bound, op_bounds};
-ghost use Rattle.easy_words.specs.BoundIds.{IsBound, bound_at};
+ghost use Rattle.easy_words.specs.BoundIds.{IsBoundOf, bound_by_ids};
 ghost use Rattle.easy_words.specs.Inside.Candidates.{literal_of, by_comparison, by_right, by_left, by_right_shift, by_left_shift, by_sum};
 
 use crate::bounds::{Bound, above_place, fit_proof, folded, lesser, word};
@@ -50,7 +50,7 @@ fn by_comparison(
     ensures known { IfOk result (λ b. IsKnown table.new b.proof) }
     ensures is { (x y : Exp) → tree_at table.old a ≡ exp_encoding x
         → tree_at table.old b ≡ exp_encoding y → IfOk result
-        (IsBound table.new (lesser (by_comparison number x y) (bound_at table.old last))) }
+        (IsBoundOf table.new (lesser (by_comparison number x y) (bound_by_ids table.old last))) }
     ensures extends { Extends table.old table.new }
 {
     let proof = rule_term(table, number, &[a, b])?;
@@ -66,7 +66,7 @@ fn by_right(table: &mut Table, e: Id, a: Id, b: Id, w: Bound) -> Result<Bound, A
     ensures known { IfOk result (λ b. IsKnown table.new b.proof) }
     ensures is { (x y : Exp) → tree_at table.old e ≡ exp_encoding (EOp Band x y)
         → tree_at table.old a ≡ exp_encoding x → tree_at table.old b ≡ exp_encoding y
-        → IfOk result (IsBound table.new (by_right x y (bound_at table.old w))) }
+        → IfOk result (IsBoundOf table.new (by_right x y (bound_by_ids table.old w))) }
     ensures extends { Extends table.old table.new }
 {
     let least = rule_term(table, AND_LE, &[a, b])?;
@@ -96,7 +96,7 @@ fn by_left(
     ensures known { IfOk result (λ b. IsKnown table.new b.proof) }
     ensures is { (x y : Exp) → tree_at table.old e ≡ exp_encoding (EOp Band x y)
         → tree_at table.old a ≡ exp_encoding x → tree_at table.old b ≡ exp_encoding y
-        → IfOk result (IsBound table.new (by_left x y (bound_at table.old v))) }
+        → IfOk result (IsBoundOf table.new (by_left x y (bound_by_ids table.old v))) }
     ensures extends { Extends table.old table.new }
     ensures memo { IsMemo table.new memo.new }
 {
@@ -135,9 +135,9 @@ fn by_sides(
     ensures known { IfOk result (λ b. IsKnown table.new b.proof) }
     ensures is { (x y : Exp) → tree_at table.old e ≡ exp_encoding (EOp Band x y)
         → tree_at table.old a ≡ exp_encoding x → tree_at table.old b ≡ exp_encoding y
-        → IfOk result (IsBound table.new (least_bound
-        (op_bounds Band x y (bound_at table.old v) (bound_at table.old w))
-        (bound_at table.old last))) }
+        → IfOk result (IsBoundOf table.new (least_bound
+        (op_bounds Band x y (bound_by_ids table.old v) (bound_by_ids table.old w))
+        (bound_by_ids table.old last))) }
     ensures extends { Extends table.old table.new }
     ensures memo { IsMemo table.new memo.new }
 {
@@ -166,7 +166,7 @@ fn by_right_shift(
     ensures known { IfOk result (λ b. IsKnown table.new b.proof) }
     ensures is { (x : Exp) → tree_at table.old e ≡ exp_encoding (EOp Srl x (ELit count))
         → tree_at table.old a ≡ exp_encoding x → tree_at table.old b ≡ exp_encoding (ELit count)
-        → IfOk result (IsBound table.new (by_right_shift x count (bound_at table.old v))) }
+        → IfOk result (IsBoundOf table.new (by_right_shift x count (bound_by_ids table.old v))) }
     ensures extends { Extends table.old table.new }
     ensures memo { IsMemo table.new memo.new }
 {
@@ -194,7 +194,7 @@ fn by_left_shift(
     ensures known { IfOk result (λ b. IsKnown table.new b.proof) }
     ensures is { (x : Exp) → tree_at table.old e ≡ exp_encoding (EOp Sll x (ELit count))
         → tree_at table.old a ≡ exp_encoding x → tree_at table.old b ≡ exp_encoding (ELit count)
-        → IfOk result (IsBound table.new (by_left_shift x count (bound_at table.old v))) }
+        → IfOk result (IsBoundOf table.new (by_left_shift x count (bound_by_ids table.old v))) }
     ensures extends { Extends table.old table.new }
     ensures memo { IsMemo table.new memo.new }
 {
@@ -224,8 +224,8 @@ fn by_sum(
     ensures known { IfOk result (λ b. IsKnown table.new b.proof) }
     ensures is { (x y : Exp) → tree_at table.old e ≡ exp_encoding (EOp Add x y)
         → tree_at table.old a ≡ exp_encoding x → tree_at table.old b ≡ exp_encoding y
-        → IfOk result (IsBound table.new
-        (by_sum x y (bound_at table.old v) (bound_at table.old w))) }
+        → IfOk result (IsBoundOf table.new
+        (by_sum x y (bound_by_ids table.old v) (bound_by_ids table.old w))) }
     ensures extends { Extends table.old table.new }
     ensures memo { IsMemo table.new memo.new }
 {
@@ -256,8 +256,8 @@ fn shifted_right(
     ensures known { IfOk result (λ b. IsKnown table.new b.proof) }
     ensures is { (x y : Exp) (w : WordBound) → tree_at table.old e ≡ exp_encoding (EOp Srl x y)
         → tree_at table.old a ≡ exp_encoding x → tree_at table.old b ≡ exp_encoding y
-        → IfOk result (IsBound table.new (least_bound
-        (op_bounds Srl x y (bound_at table.old v) w) (bound_at table.old last))) }
+        → IfOk result (IsBoundOf table.new (least_bound
+        (op_bounds Srl x y (bound_by_ids table.old v) w) (bound_by_ids table.old last))) }
     ensures extends { Extends table.old table.new }
     ensures memo { IsMemo table.new memo.new }
 {
@@ -290,8 +290,8 @@ fn shifted_left(
     ensures known { IfOk result (λ b. IsKnown table.new b.proof) }
     ensures is { (x y : Exp) (w : WordBound) → tree_at table.old e ≡ exp_encoding (EOp Sll x y)
         → tree_at table.old a ≡ exp_encoding x → tree_at table.old b ≡ exp_encoding y
-        → IfOk result (IsBound table.new (least_bound
-        (op_bounds Sll x y (bound_at table.old v) w) (bound_at table.old last))) }
+        → IfOk result (IsBoundOf table.new (least_bound
+        (op_bounds Sll x y (bound_by_ids table.old v) w) (bound_by_ids table.old last))) }
     ensures extends { Extends table.old table.new }
     ensures memo { IsMemo table.new memo.new }
 {
@@ -330,9 +330,9 @@ fn added(
     ensures known { IfOk result (λ b. IsKnown table.new b.proof) }
     ensures is { (x y : Exp) → tree_at table.old e ≡ exp_encoding (EOp Add x y)
         → tree_at table.old a ≡ exp_encoding x → tree_at table.old b ≡ exp_encoding y
-        → IfOk result (IsBound table.new (least_bound
-        (op_bounds Add x y (bound_at table.old v) (bound_at table.old w))
-        (bound_at table.old last))) }
+        → IfOk result (IsBoundOf table.new (least_bound
+        (op_bounds Add x y (bound_by_ids table.old v) (bound_by_ids table.old w))
+        (bound_by_ids table.old last))) }
     ensures extends { Extends table.old table.new }
     ensures memo { IsMemo table.new memo.new }
 {
@@ -366,9 +366,9 @@ pub(crate) fn upper_by_parts(
     ensures known { IfOk result (λ b. IsKnown table.new b.proof) }
     ensures is { (x y : Exp) → tree_at table.old e ≡ exp_encoding (EOp op x y)
         → tree_at table.old a ≡ exp_encoding x → tree_at table.old b ≡ exp_encoding y
-        → IfOk result (IsBound table.new (least_bound
-        (op_bounds op x y (bound_at table.old v) (bound_at table.old w))
-        (bound_at table.old last))) }
+        → IfOk result (IsBoundOf table.new (least_bound
+        (op_bounds op x y (bound_by_ids table.old v) (bound_by_ids table.old w))
+        (bound_by_ids table.old last))) }
     ensures extends { Extends table.old table.new }
     ensures memo { IsMemo table.new memo.new }
 {

@@ -7,7 +7,7 @@ ghost use Rattle.formula_tree.specs.Formulas.{Exp};
 ghost use Rattle.lf_encode.specs.Encoding.{exp_encoding};
 ghost use Rattle.easy_class.specs.Access.{without, all_without, sum_with, rest_of, eighth};
 ghost use Rattle.easy_words.specs.Sums.{IsExpOption};
-ghost use Rattle.easy_words.specs.Inside.Sums.{AreExps, IsSum, IsPlace, IsWithout};
+ghost use Rattle.easy_words.specs.Inside.Sums.{AreExps, IsSumOf, IsFirstPlace, IsWithout};
 
 use crate::steps::oper;
 use formula_ids::{literal, operands};
@@ -22,7 +22,7 @@ fn add_summands(table: &Table, e: Id, list: &mut Vec<u64>) -> Result<u64, AllocE
     ensures known { IfOk result (λ w. AllKnown table.now list.new.items) }
     ensures exact { (before : List Exp) (x : Exp) → AreExps table.now list.old.items before
         → tree_at table.now e ≡ exp_encoding x
-        → IfOk result (IsSum table.now list.new.items before x) }
+        → IfOk result (IsSumOf table.now list.new.items before x) }
 {
     if let Some(word) = literal(table, e) {
         return Ok(word);
@@ -37,7 +37,7 @@ fn add_summands(table: &Table, e: Id, list: &mut Vec<u64>) -> Result<u64, AllocE
 
 /// Where the number stands first, from the place on.
 fn place_of(list: &[u64], a: u64, from: usize) -> Option<usize>
-    ensures { IsPlace list.now a from result }
+    ensures { IsFirstPlace list.now a from result }
 {
     if from >= list.len() {
         return None;

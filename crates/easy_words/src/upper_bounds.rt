@@ -11,7 +11,7 @@ ghost use Rattle.lf_encode.specs.Encoding.{exp_encoding, form_encoding};
 ghost use Rattle.formula_ids.specs.Hypotheses.{AreKnownHyps, AreHyps};
 ghost use Rattle.easy_class.specs.Hypotheses.{Hyps, same_exp};
 ghost use Rattle.easy_class.specs.Bounds.{lesser, least_bound, upper_of, uppers, upper_bound};
-ghost use Rattle.easy_words.specs.BoundIds.{IsBound, bound_at};
+ghost use Rattle.easy_words.specs.BoundIds.{IsBoundOf, bound_by_ids};
 ghost use Rattle.easy_words.specs.KeptBounds.{AreUppers};
 ghost use Rattle.easy_words.specs.Inside.Candidates.{by_less, by_equal, by_most, by_word};
 
@@ -44,7 +44,7 @@ fn by_less(
     ensures known { IfOk result (λ b. IsKnown table.new b.proof) }
     ensures is { (x : Exp) → tree_at table.old e ≡ exp_encoding x
         → tree_at table.old word ≡ exp_encoding (ELit w)
-        → IfOk result (IsBound table.new (by_less x w (tree_at table.old proof))) }
+        → IfOk result (IsBoundOf table.new (by_less x w (tree_at table.old proof))) }
     ensures extends { Extends table.old table.new }
     ensures memo { IsMemo table.new memo.new }
 {
@@ -69,7 +69,7 @@ fn by_equal(
     ensures known { IfOk result (λ b. IsKnown table.new b.proof) }
     ensures is { (x : Exp) → tree_at table.old e ≡ exp_encoding x
         → tree_at table.old word ≡ exp_encoding (ELit w)
-        → IfOk result (IsBound table.new (by_equal x w (tree_at table.old proof))) }
+        → IfOk result (IsBoundOf table.new (by_equal x w (tree_at table.old proof))) }
     ensures extends { Extends table.old table.new }
     ensures memo { IsMemo table.new memo.new }
 {
@@ -101,8 +101,8 @@ fn below_word(
     ensures known { IfOk result (λ b. IsKnown table.new b.proof) }
     ensures is { (x y : Exp) → same_exp y x ≡ true → tree_at table.old e ≡ exp_encoding x
         → tree_at table.old word ≡ exp_encoding (ELit w) → IfOk result
-        (IsBound table.new (least_bound (upper_of x (FRel Ult y (ELit w)) (tree_at table.old proof))
-        (bound_at table.old last))) }
+        (IsBoundOf table.new (least_bound (upper_of x (FRel Ult y (ELit w)) (tree_at table.old proof))
+        (bound_by_ids table.old last))) }
     ensures extends { Extends table.old table.new }
     ensures memo { IsMemo table.new memo.new }
 {
@@ -133,8 +133,8 @@ fn upper_by_word(
     ensures known { IfOk result (λ b. IsKnown table.new b.proof) }
     ensures is { (x y : Exp) → same_exp y x ≡ true → tree_at table.old e ≡ exp_encoding x
         → tree_at table.old word ≡ exp_encoding (ELit w) → IfOk result
-        (IsBound table.new (least_bound (upper_of x (FRel rel y (ELit w)) (tree_at table.old proof))
-        (bound_at table.old last))) }
+        (IsBoundOf table.new (least_bound (upper_of x (FRel rel y (ELit w)) (tree_at table.old proof))
+        (bound_by_ids table.old last))) }
     ensures extends { Extends table.old table.new }
     ensures memo { IsMemo table.new memo.new }
 {
@@ -171,8 +171,8 @@ fn upper_by_relation(
     ensures known { IfOk result (λ b. IsKnown table.new b.proof) }
     ensures is { (x y z : Exp) → tree_at table.old e ≡ exp_encoding x
         → tree_at table.old a ≡ exp_encoding y → tree_at table.old b ≡ exp_encoding z
-        → IfOk result (IsBound table.new (least_bound
-        (upper_of x (FRel rel y z) (tree_at table.old proof)) (bound_at table.old last))) }
+        → IfOk result (IsBoundOf table.new (least_bound
+        (upper_of x (FRel rel y z) (tree_at table.old proof)) (bound_by_ids table.old last))) }
     ensures extends { Extends table.old table.new }
     ensures memo { IsMemo table.new memo.new }
 {
@@ -203,8 +203,8 @@ fn upper_by_hyp(
     ensures known { IfOk result (λ b. IsKnown table.new b.proof) }
     ensures is { (x : Exp) (A : Form) → tree_at table.old e ≡ exp_encoding x
         → tree_at table.old form ≡ form_encoding A
-        → IfOk result (IsBound table.new (least_bound
-        (upper_of x A (tree_at table.old proof)) (bound_at table.old last))) }
+        → IfOk result (IsBoundOf table.new (least_bound
+        (upper_of x A (tree_at table.old proof)) (bound_by_ids table.old last))) }
     ensures extends { Extends table.old table.new }
     ensures memo { IsMemo table.new memo.new }
 {
@@ -240,8 +240,8 @@ fn upper_by_hyps(
     requires memo { IsMemo table.old memo.old }
     ensures known { IfOk result (λ b. IsKnown table.new b.proof) }
     ensures is { (Γ : Hyps) (x : Exp) → AreHyps table.old hyps.now Γ
-        → tree_at table.old e ≡ exp_encoding x → IfOk result (IsBound table.new
-        (least_bound (uppers x Γ) (bound_at table.old last))) }
+        → tree_at table.old e ≡ exp_encoding x → IfOk result (IsBoundOf table.new
+        (least_bound (uppers x Γ) (bound_by_ids table.old last))) }
     ensures extends { Extends table.old table.new }
     ensures memo { IsMemo table.new memo.new }
 {
@@ -259,7 +259,7 @@ fn by_most(table: &mut Table, e: Id) -> Result<Bound, AllocError>
     requires { IsKnown table.old e }
     ensures known { IfOk result (λ b. IsKnown table.new b.proof) }
     ensures is { (x : Exp) → tree_at table.old e ≡ exp_encoding x
-        → IfOk result (IsBound table.new (by_most x)) }
+        → IfOk result (IsBoundOf table.new (by_most x)) }
     ensures extends { Extends table.old table.new }
 {
     let proof = rule_term(table, MAX_LE, &[e])?;
@@ -274,7 +274,7 @@ pub(crate) fn by_word(table: &mut Table, e: Id, w: u64) -> Result<Bound, AllocEr
     requires { IsKnown table.old e }
     ensures known { IfOk result (λ b. IsKnown table.new b.proof) }
     ensures is { tree_at table.old e ≡ exp_encoding (ELit w)
-        → IfOk result (IsBound table.new (by_word w)) }
+        → IfOk result (IsBoundOf table.new (by_word w)) }
     ensures extends { Extends table.old table.new }
 {
     let proof = rule_term(table, ULE_REFL, &[e])?;
@@ -297,8 +297,8 @@ fn upper_of_word(
     requires memo { IsMemo table.old memo.old }
     ensures known { IfOk result (λ b. IsKnown table.new b.proof) }
     ensures is { (Γ : Hyps) → AreHyps table.old hyps.now Γ
-        → tree_at table.old e ≡ exp_encoding (ELit w) → IfOk result (IsBound table.new
-        (lesser (by_word w) (least_bound (uppers (ELit w) Γ) (bound_at table.old last)))) }
+        → tree_at table.old e ≡ exp_encoding (ELit w) → IfOk result (IsBoundOf table.new
+        (lesser (by_word w) (least_bound (uppers (ELit w) Γ) (bound_by_ids table.old last)))) }
     ensures extends { Extends table.old table.new }
     ensures memo { IsMemo table.new memo.new }
 {
@@ -329,7 +329,7 @@ pub fn upper_bound(
     ensures known { IfOk result (λ b. IsKnown table.new b.proof) }
     ensures exact { (Γ : Hyps) (x : Exp) → AreHyps table.old hyps.now Γ
         → tree_at table.old e ≡ exp_encoding x
-        → IfOk result (IsBound table.new (upper_bound Γ x)) }
+        → IfOk result (IsBoundOf table.new (upper_bound Γ x)) }
     ensures extends { Extends table.old table.new }
     ensures memo { IsMemo table.new memo.new }
     ensures kept { IfOk result (λ _. AreUppers table.new hyps.now kept.new) }
@@ -361,7 +361,7 @@ fn upper_by_node(
     ensures known { IfOk result (λ b. IsKnown table.new b.proof) }
     ensures exact { (Γ : Hyps) (x : Exp) → AreHyps table.old hyps.now Γ
         → tree_at table.old e ≡ exp_encoding x
-        → IfOk result (IsBound table.new (upper_bound Γ x)) }
+        → IfOk result (IsBoundOf table.new (upper_bound Γ x)) }
     ensures extends { Extends table.old table.new }
     ensures memo { IsMemo table.new memo.new }
     ensures kept { IfOk result (λ _. AreUppers table.new hyps.now kept.new) }

@@ -12,9 +12,9 @@ AreExps t (id ∷ ids) (x ∷ l) = (tree_at t id ≡ exp_encoding x) × AreExps 
 AreExps t _ _ = ⊥
 
 -- the first place of a number in a list, not before another place
-abbrev pub IsPlace : List ℕ → ℕ → ℕ → Option ℕ → Type 0
-IsPlace l a from None = (i : ℕ) → from ≤ i → i < length l → get_or l i 0 ≡ a → ⊥
-IsPlace l a from (Some n) = (from ≤ n) × (n < length l) × (get_or l n 0 ≡ a) × ((i : ℕ) → from ≤ i → i < n → get_or l i 0 ≡ a → ⊥)
+abbrev pub IsFirstPlace : List ℕ → ℕ → ℕ → Option ℕ → Type 0
+IsFirstPlace l a from None = (i : ℕ) → from ≤ i → i < length l → get_or l i 0 ≡ a → ⊥
+IsFirstPlace l a from (Some n) = (from ≤ n) × (n < length l) × (get_or l n 0 ≡ a) × ((i : ℕ) → from ≤ i → i < n → get_or l i 0 ≡ a → ⊥)
 
 -- what is left after one was taken away, or that it wasn't there
 abbrev pub IsWithout : TableView → Bool → List ℕ → Option (List Exp) → Type 0
@@ -23,5 +23,5 @@ IsWithout t true ids None = ⊥
 IsWithout t true ids (Some l) = AreExps t ids l
 
 -- the list has the summands after what it had, and the word is the literal
-abbrev pub IsSum : TableView → List ℕ → List Exp → Exp → ℕ → Type 0
-IsSum t ids before x w = AreExps t ids (before ++ summands x) × (w ≡ literal x)
+abbrev pub IsSumOf : TableView → List ℕ → List Exp → Exp → ℕ → Type 0
+IsSumOf t ids before x w = AreExps t ids (before ++ summands x) × (w ≡ literal x)

@@ -2,7 +2,7 @@ use Rattle.std.proofs.Common.{◌≡◌, None, sym, ◌∙◌, ap, subst}
 use Rattle.formula_tree.specs.Formulas.{ELit}
 use Rattle.lf_encode.specs.Encoding.{exp_encoding}
 use Rattle.easy_class.specs.Bounds.{greater, greatest_bound, lowers}
-use Rattle.easy_words.specs.BoundIds.{IsBound, bound_at}
+use Rattle.easy_words.specs.BoundIds.{IsBoundOf, bound_by_ids}
 use Rattle.easy_words.specs.Inside.Candidates.{literal_of, by_word}
 use Rattle.easy_words.proofs.Standing.{stands, more, twice, word_is}
 use Rattle.easy_words.proofs.Candidates.{lower_none, lower_word}
@@ -18,7 +18,7 @@ returns-in-None-clause-exact c = λ Γ x g q.
     let e = stands t (exp_encoding x) a.e c.requires.e q in
     let no : None ≡ literal_of x = sym c.in-None.is ∙ c.literal.ensures x (more e (twice e1 c.in_ok-best.ensures.extends)).is in
     let best = c.in_ok-best.ensures.is Γ x (hyps-after t c.by_least.new.table a.hyps.now Γ c.requires.hyps e1 g) (more e e1).is in
-    subst (λ w. IsBound c.lower_by_hyps.new.table w c.in_ok-best.best) (ap (greatest_bound (lowers x Γ)) (bound_is (c.in_ok-last.ensures.is x q)) ∙ sym (lower_none Γ x no)) best
+    subst (λ w. IsBoundOf c.lower_by_hyps.new.table w c.in_ok-best.best) (ap (greatest_bound (lowers x Γ)) (bound_is (c.in_ok-last.ensures.is x q)) ∙ sym (lower_none Γ x no)) best
 
 pub returns-in_ok-itself-in-Some-clause-exact : goal.returns-in_ok-itself-in-Some-clause-exact
 returns-in_ok-itself-in-Some-clause-exact c = λ Γ x g q.
@@ -31,5 +31,5 @@ returns-in_ok-itself-in-Some-clause-exact c = λ Γ x g q.
     let at = more e (twice e1 c.in_ok-best.ensures.extends) in
     let s : x ≡ ELit n = word_is x n (sym c.in-Some.is ∙ c.literal.ensures x at.is) in
     let best = bound-more (c.in_ok-best.ensures.is Γ x (hyps-after t c.by_least.new.table a.hyps.now Γ c.requires.hyps e1 g) (more e e1).is) e3 in
-    let h = c.greater.ensures.is c.by_word.new.table (by_word n) (greatest_bound (lowers x Γ) (bound_at c.by_least.new.table c.in_ok-last.last)) (c.in_ok-itself-in-Some.ensures.is (at.is ∙ ap exp_encoding s)) best in
-    subst (λ w. IsBound c.by_word.new.table w c.greater.result) (ap (λ b. greater (by_word n) (greatest_bound (lowers x Γ) b)) (bound_is (c.in_ok-last.ensures.is x q)) ∙ lower_word Γ x n s) h
+    let h = c.greater.ensures.is c.by_word.new.table (by_word n) (greatest_bound (lowers x Γ) (bound_by_ids c.by_least.new.table c.in_ok-last.last)) (c.in_ok-itself-in-Some.ensures.is (at.is ∙ ap exp_encoding s)) best in
+    subst (λ w. IsBoundOf c.by_word.new.table w c.greater.result) (ap (λ b. greater (by_word n) (greatest_bound (lowers x Γ) b)) (bound_is (c.in_ok-last.ensures.is x q)) ∙ lower_word Γ x n s) h

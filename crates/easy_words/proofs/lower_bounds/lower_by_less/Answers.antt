@@ -5,7 +5,7 @@ use Rattle.formula_tree.specs.Formulas.{Exp, ELit, FRel}
 use Rattle.lf_encode.specs.Encoding.{exp_encoding}
 use Rattle.easy_class.specs.Hypotheses.{same_exp}
 use Rattle.easy_class.specs.Bounds.{WordBound, greatest_bound, lower_of}
-use Rattle.easy_words.specs.BoundIds.{IsBound, bound_at}
+use Rattle.easy_words.specs.BoundIds.{IsBoundOf, bound_by_ids}
 use Rattle.easy_words.specs.Inside.Candidates.{by_more}
 use Rattle.easy_words.proofs.Standing.{kept_bound, word_is}
 use Rattle.easy_words.proofs.Candidates.{same_false, same_true, lower_ult_other}
@@ -19,7 +19,7 @@ returns-then-not-same-clause-is c = λ x y z qe qa qb.
     let yes : c.same.result ≡ true = c.same.ensures.1 (qb ∙ q ∙ sym qe) in
     let no : c.same.result ≡ false = c.if-not-same.true in
     cc in
-    subst (λ (l : List WordBound). IsBound t (greatest_bound l (bound_at t a.last)) a.last) (sym (lower_ult_other x y z (tree_at t a.proof) (same_false z x other)))
+    subst (λ (l : List WordBound). IsBoundOf t (greatest_bound l (bound_by_ids t a.last)) a.last) (sym (lower_ult_other x y z (tree_at t a.proof) (same_false z x other)))
     (record { known = c.requires.last; value = refl; is = refl })
 
 pub returns-in_ok-bound-in-Some-clause-is : goal.returns-in_ok-bound-in-Some-clause-is
@@ -30,6 +30,6 @@ returns-in_ok-bound-in-Some-clause-is c = λ x y z qe qa qb.
     let n = c.in-Some.w in
     let s : y ≡ ELit n = word_is y n (sym c.in-Some.is ∙ c.literal.ensures y qa) in
     let same : same_exp z x ≡ true = same_true z x (sym qb ∙ c.same.ensures.0 c.if-not-same.false ∙ qe) in
-    let h = c.greater.ensures.is c.by_more.new.table (by_more x n p) (bound_at t a.last) (c.in_ok-bound-in-Some.ensures.is x qe (qa ∙ ap exp_encoding s)) (kept_bound a.last c.requires.last c.in_ok-bound-in-Some.ensures.extends) in
-    subst (λ (k : Exp). IsBound c.by_more.new.table (greatest_bound (lower_of x (FRel Ult k z) p) (bound_at t a.last)) c.greater.result) (sym s)
-    (subst (λ (b : Bool). IsBound c.by_more.new.table (greatest_bound (if b then by_more x n p ∷ [] else []) (bound_at t a.last)) c.greater.result) (sym same) h)
+    let h = c.greater.ensures.is c.by_more.new.table (by_more x n p) (bound_by_ids t a.last) (c.in_ok-bound-in-Some.ensures.is x qe (qa ∙ ap exp_encoding s)) (kept_bound a.last c.requires.last c.in_ok-bound-in-Some.ensures.extends) in
+    subst (λ (k : Exp). IsBoundOf c.by_more.new.table (greatest_bound (lower_of x (FRel Ult k z) p) (bound_by_ids t a.last)) c.greater.result) (sym s)
+    (subst (λ (b : Bool). IsBoundOf c.by_more.new.table (greatest_bound (if b then by_more x n p ∷ [] else []) (bound_by_ids t a.last)) c.greater.result) (sym same) h)

@@ -4,7 +4,7 @@ use Rattle.lf_signature.specs.Nodes.{IsIdOf}
 use Rattle.formula_tree.specs.Formulas.{ELit, EOp}
 use Rattle.lf_encode.specs.Encoding.{exp_encoding}
 use Rattle.easy_class.specs.Bounds.{folded}
-use Rattle.easy_words.specs.BoundIds.{IsBound}
+use Rattle.easy_words.specs.BoundIds.{IsBoundOf}
 use Rattle.easy_words.proofs.Standing.{own, stands, more, twice, ruled}
 use Rattle.easy_words.proofs.op_bounds.by_right_shift.Goals as goal
 
@@ -20,4 +20,4 @@ returns-clause-is c = λ x qe qa qb.
     let p =
     ruled (λ z. IsIdOf c.rule_term.new.table z c.in_ok-proof.proof) 59
     (λ i. (more a x1).is i ∷ c.in_ok-value.ensures.known.is i ∷ (more b x1).is i ∷ (more v x1).is i ∷ []) c.in_ok-proof.ensures.id in
-    subst (λ z. IfOk c.folded.result (IsBound c.folded.new.table (folded (EOp Srl x (ELit c.args.count)) Srl c.args.v.value c.args.count z))) p.is (c.folded.ensures.is (EOp Srl x (ELit c.args.count)) (more e x2).is)
+    subst (λ z. IfOk c.folded.result (IsBoundOf c.folded.new.table (folded (EOp Srl x (ELit c.args.count)) Srl c.args.v.value c.args.count z))) p.is (c.folded.ensures.is (EOp Srl x (ELit c.args.count)) (more e x2).is)

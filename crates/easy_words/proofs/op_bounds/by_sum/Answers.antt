@@ -4,7 +4,7 @@ use Rattle.lf_signature.specs.Nodes.{IsIdOf}
 use Rattle.formula_tree.specs.Formulas.{EOp}
 use Rattle.lf_encode.specs.Encoding.{exp_encoding}
 use Rattle.easy_class.specs.Bounds.{folded}
-use Rattle.easy_words.specs.BoundIds.{IsBound}
+use Rattle.easy_words.specs.BoundIds.{IsBoundOf}
 use Rattle.easy_words.proofs.Standing.{own, stands, more, twice, ruled}
 use Rattle.easy_words.proofs.op_bounds.by_sum.Goals as goal
 
@@ -23,4 +23,4 @@ returns-clause-is c = λ x y qe qa qb.
     let p =
     ruled (λ z. IsIdOf c.rule_term.new.table z c.in_ok-proof.proof) 72
     (λ i. (more a x3).is i ∷ (more b x3).is i ∷ (more c.in_ok-left.ensures.known e3).is i ∷ c.in_ok-right.ensures.known.is i ∷ (more v x3).is i ∷ (more w x3).is i ∷ (more c.in_ok-fits.ensures.id (twice e2 e3)).is i ∷ []) c.in_ok-proof.ensures.id in
-    subst (λ z. IfOk c.folded.result (IsBound c.folded.new.table (folded (EOp Add x y) Add c.args.v.value c.args.w.value z))) p.is (c.folded.ensures.is (EOp Add x y) (more e x4).is)
+    subst (λ z. IfOk c.folded.result (IsBoundOf c.folded.new.table (folded (EOp Add x y) Add c.args.v.value c.args.w.value z))) p.is (c.folded.ensures.is (EOp Add x y) (more e x4).is)

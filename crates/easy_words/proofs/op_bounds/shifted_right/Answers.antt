@@ -4,7 +4,7 @@ use Rattle.formula_tree.specs.Formulas.{Exp, ELit, EOp}
 use Rattle.lf_encode.specs.Encoding.{exp_encoding}
 use Rattle.easy_class.specs.Bounds.{least_bound, op_bounds}
 use Rattle.easy_words.specs.Inside.Candidates.{by_right_shift}
-use Rattle.easy_words.specs.BoundIds.{IsBound, bound_at}
+use Rattle.easy_words.specs.BoundIds.{IsBoundOf, bound_by_ids}
 use Rattle.easy_words.proofs.Standing.{kept_bound, word_is}
 use Rattle.easy_words.proofs.op_bounds.shifted_right.Goals as goal
 
@@ -15,5 +15,5 @@ returns-in_ok-bound-in-Some-clause-is c = λ x y w qe qa qb.
     let s : y ≡ ELit n = word_is y n (sym c.in-Some.is ∙ c.literal.ensures y qb) in
     let h = c.in_ok-bound-in-Some.ensures.is x (qe ∙ ap (λ z. exp_encoding (EOp Srl x z)) s) qa (qb ∙ ap exp_encoding s) in
     let l = kept_bound c.args.last c.requires.last c.in_ok-bound-in-Some.ensures.extends in
-    subst (λ (z : Exp). IsBound c.by_right_shift.new.table (least_bound (op_bounds Srl x z (bound_at t c.args.v) w) (bound_at t c.args.last)) c.lesser.result) (sym s)
-    (c.lesser.ensures.is c.by_right_shift.new.table (by_right_shift x n (bound_at t c.args.v)) (bound_at t c.args.last) h l)
+    subst (λ (z : Exp). IsBoundOf c.by_right_shift.new.table (least_bound (op_bounds Srl x z (bound_by_ids t c.args.v) w) (bound_by_ids t c.args.last)) c.lesser.result) (sym s)
+    (c.lesser.ensures.is c.by_right_shift.new.table (by_right_shift x n (bound_by_ids t c.args.v)) (bound_by_ids t c.args.last) h l)

@@ -1,7 +1,7 @@
 use Rattle.std.proofs.Common.{◌≡◌, ◌++◌, ◌∷◌, [], ap, ◌∙◌, subst, arith}
 use Rattle.std.proofs.lemmas.Result.{IfOk-weaker}
 use Rattle.term_table.specs.Table.{IsKnown, AllKnown, tree_at}
-use Rattle.easy_words.specs.Inside.Sums.{AreExps, IsSum}
+use Rattle.easy_words.specs.Inside.Sums.{AreExps, IsSumOf}
 use Rattle.easy_words.proofs.Summing.{known-end, exps-end, sum_next, sum_end}
 use Rattle.easy_words.proofs.sums.+add_summands.Goals as goal
 
@@ -21,7 +21,7 @@ returns-in-Some-operands-clause-exact t c =
     let sum = c.in-Some-operands.ensures.is x q in
     let left : tree_at u c.index.result ≡ _ = ap (tree_at u) c.index.ensures ∙ sum.left_is in
     let list : AreExps u c.push.new.self.items (before ++ sum.left ∷ []) = rw c.in_ok-push.ensures.items (exps-end u c.args.list.now.items before c.index.result sum.left e left) in
-    IfOk-weaker c.add_summands.result (IsSum u c.add_summands.new.list.items (before ++ sum.left ∷ []) sum.right) (IsSum u c.add_summands.new.list.items before x)
+    IfOk-weaker c.add_summands.result (IsSumOf u c.add_summands.new.list.items (before ++ sum.left ∷ []) sum.right) (IsSumOf u c.add_summands.new.list.items before x)
     (λ w s. rw sum.is (sum_next u c.add_summands.new.list.items before sum.left sum.right w s)) (c.add_summands.ensures.exact (before ++ sum.left ∷ []) sum.right list sum.right_is)
 
 pub returns-clause-known : goal.returns-clause-known

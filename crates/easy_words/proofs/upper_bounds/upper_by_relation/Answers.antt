@@ -3,7 +3,7 @@ use Rattle.term_table.specs.Table.{tree_at}
 use Rattle.formula_tree.specs.Formulas.{Exp, ELit, FRel}
 use Rattle.lf_encode.specs.Encoding.{exp_encoding}
 use Rattle.easy_class.specs.Bounds.{WordBound, least_bound, upper_of}
-use Rattle.easy_words.specs.BoundIds.{IsBound, bound_at}
+use Rattle.easy_words.specs.BoundIds.{IsBoundOf, bound_by_ids}
 use Rattle.easy_words.proofs.Standing.{word_is}
 use Rattle.easy_words.proofs.Candidates.{same_false, same_true, upper_not_same}
 use Rattle.easy_words.proofs.upper_bounds.upper_by_relation.Goals as goal
@@ -16,7 +16,7 @@ returns-then-not-same-clause-is c = λ x y z qe qa qb.
     let yes : c.same.result ≡ true = c.same.ensures.1 (qa ∙ q ∙ sym qe) in
     let no : c.same.result ≡ false = c.if-not-same.true in
     cc in
-    subst (λ (l : List WordBound). IsBound t (least_bound l (bound_at t a.last)) a.last) (sym (upper_not_same a.rel x y z (tree_at t a.proof) (same_false y x other)))
+    subst (λ (l : List WordBound). IsBoundOf t (least_bound l (bound_by_ids t a.last)) a.last) (sym (upper_not_same a.rel x y z (tree_at t a.proof) (same_false y x other)))
     (record { known = c.requires.last; value = refl; is = refl })
 
 pub returns-in-Some-clause-is : goal.returns-in-Some-clause-is
@@ -26,5 +26,5 @@ returns-in-Some-clause-is c = λ x y z qe qa qb.
     let n = c.in-Some.w in
     let s : z ≡ ELit n = word_is z n (sym c.in-Some.is ∙ c.literal.ensures z qb) in
     let same : exp_encoding y ≡ exp_encoding x = sym qa ∙ c.same.ensures.0 c.if-not-same.false ∙ qe in
-    subst (λ (k : Exp). IfOk c.upper_by_word.result (IsBound c.upper_by_word.new.table (least_bound (upper_of x (FRel a.rel y k) (tree_at t a.proof)) (bound_at t a.last)))) (sym s)
+    subst (λ (k : Exp). IfOk c.upper_by_word.result (IsBoundOf c.upper_by_word.new.table (least_bound (upper_of x (FRel a.rel y k) (tree_at t a.proof)) (bound_by_ids t a.last)))) (sym s)
     (c.upper_by_word.ensures.is x y (same_true y x same) qe (qb ∙ ap exp_encoding s))

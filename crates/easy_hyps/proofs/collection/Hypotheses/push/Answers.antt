@@ -4,7 +4,7 @@ use Rattle.std.specs.Ordering.{eq_by_cmp}
 use Rattle.easy_hyps.specs.declared.collection.Key.{Key}
 use Rattle.easy_hyps.specs.contracts.collection.KeyOrd.TheImpl as block
 use Rattle.easy_hyps.specs.contracts.collection.KeyPartialEq.TheImpl as equality
-use Rattle.easy_hyps.specs.Places.{first_proof}
+use Rattle.easy_hyps.specs.Places.{first_hyp_proof}
 use Rattle.easy_hyps.proofs.Index.{first-old, first-new}
 use Rattle.easy_hyps.proofs.collection.Hypotheses.push.Goals as goal
 
@@ -20,8 +20,8 @@ invariant_of-self-in-Some c = λ k.
     let h = c.args.hypothesis in
     let key = c.key_of-key.result in
     let more : c.push.new.self.items ≡ items ++ h ∷ [] = search rules in
-    let is : first_proof items key.form ≡ Some c.in-Some.field-0 = sym (c.self.invariant key) ∙ sym c.get.ensures.value ∙ sym c.copied.ensures ∙ c.in-Some.is in
-    c.self.invariant k ∙ first-old items h key.form c.in-Some.field-0 c.key_of-key.ensures is k.form ∙ ap (λ l. first_proof l k.form) (sym more)
+    let is : first_hyp_proof items key.form ≡ Some c.in-Some.field-0 = sym (c.self.invariant key) ∙ sym c.get.ensures.value ∙ sym c.copied.ensures ∙ c.in-Some.is in
+    c.self.invariant k ∙ first-old items h key.form c.in-Some.field-0 c.key_of-key.ensures is k.form ∙ ap (λ l. first_hyp_proof l k.form) (sym more)
 
 pub invariant_of-self-2 : goal.invariant_of-self-2
 invariant_of-self-2 c = λ k.
@@ -29,7 +29,7 @@ invariant_of-self-2 c = λ k.
     let h = c.args.hypothesis in
     let key = c.key_of-key.result in
     let more : c.push-2.new.self.items ≡ items ++ h ∷ [] = search rules in
-    let none : first_proof items key.form ≡ None = sym (c.self.invariant key) ∙ sym c.get.ensures.value ∙ sym c.copied.ensures ∙ c.in_default.is in
+    let none : first_hyp_proof items key.form ≡ None = sym (c.self.invariant key) ∙ sym c.get.ensures.value ∙ sym c.copied.ensures ∙ c.in_default.is in
     let put : get block.ghosts.cmp c.insert.new.self k ≡ cond (eq_by_cmp block.ghosts.cmp key k) (Some h.proof) (get block.ghosts.cmp c.self.inside.proofs k) = c.in_ok-insert.ensures.updates.0 k in
     let same : eq_by_cmp block.ghosts.cmp key k ≡ (key.form == k.form) = sym (agrees key k) ∙ equal key k in
-    put ∙ (λ i. cond (same i) (Some h.proof) (c.self.invariant k i)) ∙ first-new items h key.form c.key_of-key.ensures none k.form ∙ ap (λ l. first_proof l k.form) (sym more)
+    put ∙ (λ i. cond (same i) (Some h.proof) (c.self.invariant k i)) ∙ first-new items h key.form c.key_of-key.ensures none k.form ∙ ap (λ l. first_hyp_proof l k.form) (sym more)
