@@ -73,7 +73,9 @@ fn proved(table: &mut Table, hyp: Id, goal: Id) -> Made<Option<Id>> {
     known(table, proof)?;
     known(table, hyp)?;
     let mut hyps = Hypotheses::new(alloc);
-    made(add_split(table, &mut hyps, hyp, proof))?;
+    if add_split(table, &mut hyps, hyp, proof).is_err() {
+        return Err("no memory");
+    }
     known(table, goal)?;
     let mut search = Search::new(alloc, MOST_RESULTS);
     let mut context = Context::new(alloc, 33, hyps);
