@@ -1,3 +1,4 @@
 pub mod Kept
 pub mod AlignmentRows
 pub mod WordRows
+mod Rounds

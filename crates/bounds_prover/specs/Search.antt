@@ -7,7 +7,8 @@ use Rattle.lf_encode.specs.Encoding.{form_encoding}
 use Rattle.formula_ids.specs.declared.hypotheses.Hypothesis.{Hypothesis}
 use Rattle.formula_ids.specs.Hypotheses.{AreKnownHyps, AreHyps}
 use Rattle.easy_class.specs.Hypotheses.{Hyps}
-use Rattle.easy_class.specs.Goals.{Prover}
+use Rattle.easy_class.specs.Goals.{Prover, goal_proof}
+use Rattle.easy_class.specs.Parts.{levels}
 use Rattle.easy_words.specs.KeptBounds.{AreUppers}
 use Rattle.easy_words.specs.NormalForms.{AreNormalForms}
 use Rattle.bounds_prover.specs.declared.search.Search.{Search}
@@ -33,3 +34,7 @@ pub record IsAfter (t : TableView) (s : Search) (before after : Context) : Type 
   pub context : IsContext t after
   pub hyps : after.hyps ≡ before.hyps
   pub outside : after.outside ≡ before.outside
+
+-- a goal's proof in as many rounds as it has levels
+abbrev pub whole_proof : Prover → Prover
+whole_proof leaf out Γ A = goal_proof leaf (levels A) out Γ A

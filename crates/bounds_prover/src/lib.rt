@@ -9,7 +9,9 @@ mod alignments;
 mod search;
 #[cfg(test)]
 mod tests;
+mod theorems;
 mod words;
 
 pub use search::{Context, Search};
+pub use theorems::round_laws;
 pub use words::proof_by_words;
