@@ -32,10 +32,11 @@ pub record IsNormalForm (t : TableView) (place : Place) (r : Rewritten) : Type 0
   pub known : IsKnownRewritten t r
   pub is : (x : Exp) → tree_at t place.id ≡ exp_encoding x → IsRewritten t r (normal_form place.outside x)
 
--- the ids of an expression and of a proof, as one, and those of a row
+-- the ids of an expression and of a proof, as one
 abbrev pub pair_of : ℕ → ℕ → Rewritten
 pair_of now proof = record { now = now; proof = proof }
 
+-- the ids of a row
 abbrev pub row_ids : Row → Rewritten
 row_ids row = pair_of row.now row.proof
 

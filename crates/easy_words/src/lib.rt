@@ -3,8 +3,9 @@
 //! The layer above uses that `upper_bound`, `lower_bound`, `normal_form`, `rest_of`, `eighth` and
 //! `occurs` answer what the easy class's definitions give (`easy_class`, `specs/Bounds`,
 //! `specs/NormalForms` and `specs/Access`): the value or the expression, and the proof as a term, for
-//! which the ids stand. No shared expression is gone through twice: what was found is kept by the
-//! expression's id. The steps that all proofs are made of stand here too (`steps`). Source: Necula,
+//! which the ids stand. Bounds, normal forms and occurrences that were found are kept by the
+//! expression's id, so a shared expression has each found once; only expressions of at most 64 leaves
+//! are rewritten. The steps that all proofs are made of stand here too (`steps`). Source: Necula,
 //! Proof-Carrying Code, POPL 1997 (the rules of arithmetic).
 #![tactic(auto)]
 

@@ -41,6 +41,7 @@ AreKnownRewrites t R.Nothing = Unit {0}
 AreKnownRewrites t (R.One s) = IsKnownRewrite t s
 AreKnownRewrites t (R.Three s u v) = IsKnownRewrite t s × IsKnownRewrite t u × IsKnownRewrite t v
 
+-- the ids stand for the rewritings, one after another
 abbrev pub AreRewrites : TableView → Rewrites → List Rewriting → Type 0
 AreRewrites t R.Nothing [] = Unit {0}
 AreRewrites t (R.One s) (r ∷ []) = IsRewrite t s r
@@ -141,30 +142,36 @@ IsKnownRule t (L.First n) = Unit {0}
 IsKnownRule t (L.Second n) = Unit {0}
 IsKnownRule t L.Swapped = Unit {0}
 
--- The rewritings of a whole expression: by a proof, of a difference, to an operand, of a sum of a sum, and of a sum.
+-- a whole expression, by a proof
 abbrev pub whole_of : Exp → Exp → Tree → Rewriting
 whole_of f t p = rewriting (EVar 0) f t p
 
+-- a difference to a sum
 abbrev pub negated_of : Exp → Exp → Exp → Rewriting
 negated_of f x y = whole_of f (EOp Add x (EOp Sub (ELit 0) y)) (word_rule SUB_NEG (x ∷ y ∷ []) [])
 
+-- an operator to one of its operands
 abbrev pub operand_of : ℕ → Exp → Exp → Rewriting
 operand_of n f x = whole_of f x (word_rule n (x ∷ []) [])
 
+-- a sum of a sum and another, grouped to the right
 abbrev pub regrouped_of : Exp → Exp → Exp → Exp → Rewriting
 regrouped_of f x y z = whole_of f (EOp Add x (EOp Add y z)) (word_rule ADD_ASSOC (x ∷ y ∷ z ∷ []) [])
 
+-- a sum with its sides exchanged
 abbrev pub commuted_of : Exp → Exp → Exp → Rewriting
 commuted_of f x y = whole_of f (EOp Add y x) (word_rule ADD_COMM (x ∷ y ∷ []) [])
 
+-- a sum of an expression and a sum, grouped to the left
 abbrev pub ungrouped_of : Exp → Exp → Exp → Rewriting
 ungrouped_of x y z =
     whole_of (EOp Add x (EOp Add y z)) (EOp Add (EOp Add x y) z) (swap (EOp Add (EOp Add x y) z) (EOp Add x (EOp Add y z)) (word_rule ADD_ASSOC (x ∷ y ∷ z ∷ []) []))
 
--- the same in the left part, and in the right part
+-- a rewriting in the left part
 abbrev pub left_of : Op → Exp → Rewriting → Rewriting
 left_of o y s = rewriting (EOp o s.into (up y)) s.from s.to s.proof
 
+-- a rewriting in the right part
 abbrev pub right_of : Op → Exp → Rewriting → Rewriting
 right_of o y s = rewriting (EOp o (up y) s.into) s.from s.to s.proof
 
