@@ -1,7 +1,7 @@
 mod Index
 pub mod Known
 pub mod Growing
-mod Raised
+pub mod Raised
 mod Compared
 mod Splits
 mod Refuted

@@ -23,7 +23,7 @@ use Rattle.vcgen.proofs.Encodings.{encoded-annotates, encoding-unique, policy-sa
 use Rattle.pcc_gate.specs.Accepted.{Accepts}
 
 -- the formulas of invariants are over m and r0 to r30
-formulas-over : (ps : List (ℕ × Tree)) (qs : List (ℕ × Form)) → AreEncodings ps qs → All (λ (q : ℕ × Form). IsOver 31 q.1 []) qs
+pub formulas-over : (ps : List (ℕ × Tree)) (qs : List (ℕ × Form)) → AreEncodings ps qs → All (λ (q : ℕ × Form). IsOver 31 q.1 []) qs
 formulas-over [] [] f = All-nil (λ (q : ℕ × Form). IsOver 31 q.1 [])
 formulas-over [] (q ∷ qs) f = absurd f
 formulas-over (p ∷ ps) [] f = absurd f

@@ -1,5 +1,5 @@
 -- What passes the stages passes the clauses.
-use Rattle.std.proofs.Common.{◌≡◌, ◌≤◌, ℕ, ◌++◌, ◌∷◌, Bool, true, false, List, [], map, length, cond, eqb, ltb, le-ltb, eq-eqb, Option, Some, None, Result, Ok, Err, refl, sym, ◌∙◌, ap, subst}
+use Rattle.std.proofs.Common.{◌≡◌, ◌≤◌, ℕ, ◌++◌, ◌∷◌, Bool, true, false, List, [], map, length, cond, eqb, ltb, le-ltb, eq-eqb, Option, Some, None, Result, Ok, Err, IfOk, refl, sym, ◌∙◌, ap, subst}
 use Rattle.alpha_words.specs.declared.insn.Insn.{Insn}
 use Rattle.alpha_cfg.specs.CodeDecoding.{decoded_code}
 use Rattle.alpha_cfg.specs.Cuts.{CutView, AreFlags, IsCut, unfolded_of}
@@ -36,7 +36,7 @@ use Rattle.pcc_gate.specs.declared.refusal.Refusal.{Refusal}
 use Rattle.pcc_gate.specs.declared.refusal.Refusal.TheVariants as refusal
 use Rattle.pcc_gate.specs.First.{marks_of, vc_of, proves, first_proof, first_code, first_shape, first_read, first_front, front_refusal, first_refusal}
 use Rattle.pcc_gate.specs.declared.fault.GateFault.TheVariants as fault
-use Rattle.pcc_gate.specs.Answers.{IsFrontAnswer, IsGateAnswer}
+use Rattle.pcc_gate.specs.Answers.{IsHeld, IsFrontAnswer, IsGateAnswer}
 use Rattle.pcc_gate.specs.Passing.{AreLow, Passes}
 use Rattle.pcc_gate.specs.Inside.Stages.{Refuses, IsRead}
 use Rattle.pcc_gate.specs.Inside.Passed.{IsRest, IsRestAnswer, IsPassedAnswer}
@@ -77,6 +77,11 @@ module _ (policy : PolicyKind) (bytes : List ℕ) where
 -- clause 4 passes
 pub code-refuses : (c : Contents) (code : List Insn) → decoded_code c.code ≡ Ok code → (e : GateFault) → Refuses (first_shape c code) e → Refuses (first_code c (decoded_code c.code)) e
 code-refuses c code h e k = refuses-into (first_code c (decoded_code c.code)) (first_shape c code) (λ next. next code) (λ next. ap (λ r. first_code c r next) h) e k
+
+-- the container that passed
+pub front-held : (policy : PolicyKind) (bytes : List ℕ) (a : Result Passed GateFault) → IsPassedAnswer policy bytes a → IfOk a (λ p. IsHeld p.container)
+front-held policy bytes (Ok p) k = k.1
+front-held policy bytes (Err e) k = tt
 
 -- the front's refusal
 pub front-answer : (policy : PolicyKind) (bytes : List ℕ) (a : Result Passed GateFault) → IsPassedAnswer policy bytes a → IsFrontAnswer policy bytes a

@@ -1,8 +1,10 @@
 -- What the gate answers.
 use Rattle.std.specs.Prelude.{◌≡◌, ℕ, List, None, Some, Result, Ok, Err}
 use Rattle.policy_set.specs.declared.kind.PolicyKind.{PolicyKind}
-use Rattle.proof_container.specs.Views.{contents_of, inv_trees}
+use Rattle.term_table.specs.Measures.{sigma1_places}
+use Rattle.proof_container.specs.Views.{AreKnown, contents_of, inv_trees}
 use Rattle.proof_container.specs.Contents.{Contents}
+use Rattle.proof_container.specs.declared.container.Container.{Container}
 use Rattle.pcc_gate.specs.declared.fault.GateFault.{GateFault}
 use Rattle.pcc_gate.specs.declared.fault.GateFault.TheVariants.{Refused, Memory}
 use Rattle.pcc_gate.specs.declared.passing.Passed.{Passed}
@@ -10,6 +12,11 @@ use Rattle.pcc_gate.specs.Passing.{Passes}
 use Rattle.pcc_gate.specs.First.{front_refusal, first_refusal}
 use Rattle.pcc_gate.specs.Accepted.{Accepts}
 use Rattle.pcc_gate.specs.Views.{AcceptedView}
+
+-- the container's terms are the table's, whose weights go by the rules' parameters
+pub record IsHeld (c : Container) : Type 0 where
+  pub known : AreKnown c.table c.invs.items c.proof
+  pub places : c.table.places ≡ sigma1_places
 
 -- Clauses 1 to 8 hold of what is passed on; a refusal is the first of them that fails; want of memory says nothing.
 abbrev pub IsFrontAnswer : PolicyKind → List ℕ → Result Passed GateFault → Type 0

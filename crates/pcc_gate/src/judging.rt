@@ -4,9 +4,8 @@ ghost use Rattle.proof_container.specs.Views.{contents_of};
 ghost use Rattle.term_table.specs.Table.{TableView};
 ghost use Rattle.lf_signature.specs.Sigma1.{declared};
 ghost use Rattle.lf_check.specs.Inside.Kept.{AreKept};
-ghost use Rattle.pcc_gate.specs.Answers.{IsGateAnswer};
+ghost use Rattle.pcc_gate.specs.Answers.{IsHeld, IsGateAnswer};
 ghost use Rattle.pcc_gate.specs.Passing.{Passes};
-ghost use Rattle.pcc_gate.specs.Inside.Stages.{IsHeld};
 
 use crate::acceptance::Accepted;
 use crate::fault::GateFault;

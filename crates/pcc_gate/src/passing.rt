@@ -9,8 +9,8 @@ ghost use Rattle.lf_check.specs.Inside.Kept.{AreKept};
 ghost use Rattle.proof_container.specs.Views.{AreKnown, contents_of, inv_trees};
 ghost use Rattle.proof_container.specs.Encoding.{IsContents};
 ghost use Rattle.proof_container.specs.declared.limits.TheConstants.{MAX_INVS};
-ghost use Rattle.pcc_gate.specs.Answers.{IsFrontAnswer};
-ghost use Rattle.pcc_gate.specs.Inside.Stages.{IsHeld, with_roots, AreFormed, IsShapeAnswer};
+ghost use Rattle.pcc_gate.specs.Answers.{IsHeld, IsFrontAnswer};
+ghost use Rattle.pcc_gate.specs.Inside.Stages.{with_roots, AreFormed, IsShapeAnswer};
 ghost use Rattle.pcc_gate.specs.Inside.Passed.{IsRestAnswer, IsPassedAnswer};
 
 use crate::clauses::{
@@ -123,13 +123,14 @@ pub(crate) fn pass<'b>(
 /// The container in `bytes`, and its code with its annotated indices, where the clauses before the
 /// proof hold: the bytes are a container for `policy`, its code bytes are code, no term is too high,
 /// each invariant is a formula, the annotated indices cut the code, and its unfolded length is
-/// within the limit.
+/// within the limit. The container's terms are its table's, whose weights go by the rules' parameters.
 ///
 /// Errors: `Refused` names the first of these clauses that fails (`specs/First`), exactly where one
 /// does; `Memory` says nothing of `bytes`. One memory of at most `MOST_RESULTS` results and
 /// judgements serves all invariants; past that the answer is `Memory`.
 pub fn front<'b>(alloc: Global, policy: &Policy, bytes: &'b [u8]) -> Result<Passed<'b>, GateFault>
     ensures exact { IsFrontAnswer policy.now bytes.now result }
+    ensures held { IfOk result (λ p. IsHeld p.container) }
 {
     let mut kept = Kept::new(alloc, MOST_RESULTS);
     pass(alloc, &mut kept, policy, bytes)

@@ -10,7 +10,8 @@ use Rattle.pcc_gate.specs.declared.fault.GateFault.{GateFault}
 use Rattle.pcc_gate.specs.declared.passing.Passed.{Passed}
 use Rattle.pcc_gate.specs.First.{first_code, first_front}
 use Rattle.pcc_gate.specs.Passing.{Passes}
-use Rattle.pcc_gate.specs.Inside.Stages.{Refuses, IsHeld, IsShaped}
+use Rattle.pcc_gate.specs.Answers.{IsHeld}
+use Rattle.pcc_gate.specs.Inside.Stages.{Refuses, IsShaped}
 
 -- what passed clauses 4 to 8 of the contents
 pub record IsRest (c : Contents) (p : Passed) : Type 0 where

@@ -11,10 +11,9 @@ use Rattle.policy_set.specs.declared.kind.PolicyKind.{PolicyKind}
 use Rattle.policy_set.specs.Names.{policy_number}
 use Rattle.term_table.specs.Tree.{Tree}
 use Rattle.term_table.specs.Table.{TableView, tree_at}
-use Rattle.term_table.specs.Measures.{sigma1_places}
 use Rattle.proof_container.specs.Contents.{Contents, roots, one_or_none}
 use Rattle.proof_container.specs.Encoding.{EncodesContents}
-use Rattle.proof_container.specs.Views.{AreKnown, contents_of, inv_trees}
+use Rattle.proof_container.specs.Views.{contents_of, inv_trees}
 use Rattle.proof_container.specs.declared.container.Container.{Container}
 use Rattle.proof_container.specs.declared.limits.TheConstants.{MAX_BYTES}
 use Rattle.pcc_gate.specs.declared.fault.GateFault.{GateFault}
@@ -22,6 +21,7 @@ use Rattle.pcc_gate.specs.declared.fault.GateFault.TheVariants as fault
 use Rattle.pcc_gate.specs.declared.refusal.Refusal.{Refusal}
 use Rattle.pcc_gate.specs.declared.refusal.Refusal.TheVariants as refusal
 use Rattle.vcgen.specs.declared.condition.TheConstants.{MAX_UNFOLDED}
+use Rattle.pcc_gate.specs.Answers.{IsHeld}
 use Rattle.pcc_gate.specs.First.{too_high, formless, first_code, first_front, first_long, first_shape, refused_by}
 
 -- the trees of the roots, by their ids
@@ -32,11 +32,6 @@ measured_trees t invs proof = map (λ p. p.1) (inv_trees t invs) ++ one_or_none 
 abbrev pub Refuses : {N : Type 0} → (N → Option Refusal) → GateFault → Type 0
 Refuses {N} first (fault.Refused r) = (next : N) → first next ≡ Option.Some r
 Refuses first fault.Memory = Unit {0}
-
--- the container's terms are the table's, and its weights go by the rules' parameters
-pub record IsHeld (c : Container) : Type 0 where
-  pub known : AreKnown c.table c.invs.items c.proof
-  pub places : c.table.places ≡ sigma1_places
 
 -- the contents pass clauses 1 to 3
 pub record IsRead (policy : PolicyKind) (bytes : List ℕ) (c : Contents) : Type 0 where

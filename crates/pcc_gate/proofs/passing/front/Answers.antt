@@ -1,8 +1,11 @@
-use Rattle.pcc_gate.proofs.Stages.{front-answer}
+use Rattle.pcc_gate.proofs.Stages.{front-answer, front-held}
 use Rattle.pcc_gate.proofs.passing.front.Goals as goal
 
 pub pass-requires : goal.pass-requires
 pass-requires c = record { kept = λ t. c.new-kept.ensures _ t }
 
 pub returns : goal.returns
-returns c = record { exact = front-answer c.args.policy.now c.args.bytes.now c.pass.result c.pass.ensures.answer }
+returns c = record {
+  exact = front-answer c.args.policy.now c.args.bytes.now c.pass.result c.pass.ensures.answer;
+  held = front-held c.args.policy.now c.args.bytes.now c.pass.result c.pass.ensures.answer;
+}
