@@ -7,7 +7,7 @@ use Rattle.easy_class.specs.ProofTerms.{ff_e, and_i, or_l, or_r, imp_i, all_i, a
 use Rattle.easy_class.specs.Hypotheses.{Hyps, find_hyp, raised_hyps, split_hyps, with_new}
 use Rattle.easy_class.specs.Goals.{first_of, absurdity, Prover, by_shape, goal_proof}
 use Rattle.easy_class.specs.Parts.{levels}
-use Rattle.bounds_prover.specs.Search.{whole_proof}
+use Rattle.bounds_prover.specs.Provers.{whole_proof}
 
 pub levels-shift : (A : Form) (k c : ℕ) → levels (shift_form k c A) ≡ levels A
 levels-shift FTrue k c = refl

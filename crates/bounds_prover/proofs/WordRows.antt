@@ -35,18 +35,19 @@ if_ok_by (Ok a) f p = f p
 if_ok_by (Err e) f p = tt
 
 -- with another memo, other normal forms, other bounds
-pub with_memo : (t u : TableView) (s : Search) (m : Memo) → IsSearch t s → Extends t u → IsMemo u m → IsSearch u (record { memo = m; forms = s.forms })
+pub with_memo : (t u : TableView) (s : Search) (m : Memo) → IsSearch t s → Extends t u → IsMemo u m → IsSearch u (record { memo = m; forms = s.forms; puts = s.puts; occurrences = s.occurrences })
 with_memo t u s m h x k =
     let g = search-more s t u h x in
-    record { memo = k; forms = g.forms }
+    record { memo = k; forms = g.forms; puts = g.puts; occurrences = g.occurrences }
 
-pub with_forms : (t u : TableView) (s : Search) (m : Memo) (f : NormalForms) → IsSearch t s → Extends t u → IsMemo u m → AreNormalForms u f → IsSearch u (record { memo = m; forms = f })
+pub with_forms : (t u : TableView) (s : Search) (m : Memo) (f : NormalForms) → IsSearch t s → Extends t u → IsMemo u m → AreNormalForms u f → IsSearch u (record { memo = m; forms = f; puts = s.puts; occurrences = s.occurrences })
 with_forms t u s m f h x k l =
-    record { memo = k; forms = l }
+    let g = search-more s t u h x in
+    record { memo = k; forms = l; puts = g.puts; occurrences = g.occurrences }
 
-pub with_bounds : (t u : TableView) (c : Context) (b : UpperBounds) → IsContext t c → Extends t u → AreUppers u c.hyps b → IsContext u (record { outside = c.outside; hyps = c.hyps; bounds = b })
+pub with_bounds : (t u : TableView) (c : Context) (b : UpperBounds) → IsContext t c → Extends t u → AreUppers u c.hyps b → IsContext u (record { outside = c.outside; hyps = c.hyps; bounds = b; absurd = c.absurd; answers = c.answers })
 with_bounds t u c b h x k =
     let g = context-more c t u h x in
-    record { hyps = g.hyps; bounds = k }
+    record { hyps = g.hyps; bounds = k; absurd = g.absurd; answers = g.answers }
 
 pub ruleset rows = (search-more, context-more, memo-more)

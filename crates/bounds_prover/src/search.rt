@@ -1,20 +1,26 @@
 //! What is kept while a proof is looked for.
 
-ghost use Rattle.std.specs.Prelude.{◌≡◌};
-ghost use Rattle.term_table.specs.Table.{TableView};
+ghost use Rattle.std.specs.Prelude.{◌≡◌, IfOk, IfSome, OnOk};
+ghost use Rattle.term_table.specs.Table.{TableView, IsKnown, Extends};
 ghost use Rattle.formula_ids.specs.Hypotheses.{AreKnownHyps};
-ghost use Rattle.bounds_prover.specs.Search.{IsSearch, IsContext};
+ghost use Rattle.bounds_prover.specs.Answers.{IsFoundProof};
+ghost use Rattle.bounds_prover.specs.Search.{IsSearch, IsContext, IsAfter};
 
-use easy_hyps::Hypotheses;
-use easy_words::{NormalForms, UpperBounds};
+use crate::answers::{Answers, Means};
+use easy_hyps::{Hypotheses, absurdity};
+use easy_words::{NormalForms, Occurrences, UpperBounds};
+use formula_ids::Puts;
 use hereditary_subst::Memo;
-use std::alloc::Global;
+use std::alloc::{AllocError, Global};
+use term_table::{Id, Table};
 
 /// What is kept of all contexts, on one table. All that is kept counts in the limit of the memo.
 #[derive(Drop)]
 pub struct Search {
     pub(crate) memo: Memo,
     pub(crate) forms: NormalForms,
+    pub(crate) puts: Puts,
+    pub(crate) occurrences: Occurrences,
 }
 
 impl Search {
@@ -26,6 +32,8 @@ impl Search {
         Search {
             memo: Memo::new(alloc, most),
             forms: NormalForms::new(alloc),
+            puts: Puts::new(alloc),
+            occurrences: Occurrences::new(alloc),
         }
     }
 }
@@ -36,19 +44,87 @@ pub struct Context {
     pub(crate) outside: u32,
     pub(crate) hyps: Hypotheses,
     pub(crate) bounds: UpperBounds,
+    // a proof of falsity, where the hypotheses are absurd
+    pub(crate) absurd: Option<Id>,
+    pub(crate) answers: Answers,
 }
 
 impl Context {
     /// The hypotheses `hyps`, where `outside` binders stand outside and nothing was asked yet.
-    pub fn new(alloc: Global, outside: u32, hyps: Hypotheses) -> Context
-        ensures context { (t : TableView) → AreKnownHyps t hyps → IsContext t result }
-        ensures hyps { result.hyps ≡ hyps }
-        ensures outside { result.outside ≡ outside }
+    ///
+    /// Errors: want of memory alone; each id keeps its tree.
+    #[tactic(auto, using(crate::proofs::Kept::rows))]
+    pub fn new(table: &mut Table, outside: u32, hyps: Hypotheses) -> Result<Context, AllocError>
+        requires { AreKnownHyps table.old hyps }
+        ensures context { IfOk result (IsContext table.new) }
+        ensures hyps { IfOk result (λ c. c.hyps ≡ hyps) }
+        ensures outside { IfOk result (λ c. c.outside ≡ outside) }
+        ensures extends { Extends table.old table.new }
     {
-        Context {
+        let absurd = absurdity(table, &hyps)?;
+        let alloc = table.allocator();
+        Ok(Context {
             outside,
             hyps,
             bounds: UpperBounds::new(alloc),
+            absurd,
+            answers: Answers::new(alloc),
+        })
+    }
+
+    /// What is kept of the goal, searched for by these means.
+    pub(crate) fn found(&self, table: &Table, means: Means, goal: Id) -> Option<Option<Id>>
+        requires { IsContext table.now self.now }
+        ensures { let c = self.now in
+            IfSome result (IsFoundProof table.now c.hyps c.outside means goal) }
+    {
+        self.answers
+            .find(table, &self.hyps, self.outside, means, goal)
+    }
+}
+
+/// Keeps what was found of the goal, and answers it. Fails past the limit of what is kept, and where
+/// memory does.
+pub(crate) fn keep_answer(
+    table: &Table,
+    search: &mut Search,
+    context: &mut Context,
+    means: Means,
+    goal: Id,
+    proof: Option<Id>,
+) -> Result<Option<Id>, AllocError>
+    requires search { IsSearch table.now search.old }
+    requires context { IsContext table.now context.old }
+    requires proof { let c = context.old in
+        IsFoundProof table.now c.hyps c.outside means goal proof }
+    ensures same { IfOk result (λ o. o ≡ proof) }
+    ensures after { OnOk result (IsAfter table.now search.new context.old context.new) }
+{
+    let outside = context.outside;
+    match proof {
+        None => {
+            context.answers.keep(
+                &mut search.memo,
+                table,
+                &context.hyps,
+                outside,
+                means,
+                goal,
+                None,
+            )?;
+            Ok(None)
+        }
+        Some(id) => {
+            context.answers.keep(
+                &mut search.memo,
+                table,
+                &context.hyps,
+                outside,
+                means,
+                goal,
+                Some(id),
+            )?;
+            Ok(Some(id))
         }
     }
 }

@@ -3,8 +3,8 @@
 ghost use Rattle.std.specs.Prelude.{OnOk};
 ghost use Rattle.term_table.specs.Table.{IsKnown};
 
-use crate::{Context, Search, proof_by_words};
-use easy_hyps::{Hypotheses, add_split};
+use crate::access_tests::context_of;
+use crate::{Search, proof_by_words};
 use easy_words::{oper, relation};
 use hereditary_subst::MOST_RESULTS;
 use lf_rules::rule_term;
@@ -69,16 +69,9 @@ fn aligned(table: &mut Table, e: Id) -> Made<Id> {
 /// The proof of the goal under the hypothesis, which variable 0 proves.
 fn proved(table: &mut Table, hyp: Id, goal: Id) -> Made<Option<Id>> {
     let alloc = table.allocator();
-    let proof = var(table, 0)?;
-    known(table, proof)?;
-    known(table, hyp)?;
-    let mut hyps = Hypotheses::new(alloc);
-    if add_split(table, &mut hyps, hyp, proof).is_err() {
-        return Err("no memory");
-    }
-    known(table, goal)?;
+    let mut context = context_of(table, hyp)?;
     let mut search = Search::new(alloc, MOST_RESULTS);
-    let mut context = Context::new(alloc, 33, hyps);
+    known(table, goal)?;
     made(proof_by_words(table, &mut search, &mut context, goal))
 }
 

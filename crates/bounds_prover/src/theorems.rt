@@ -1,4 +1,4 @@
-//! What the search by connectives stands on.
+//! What holds of the search by connectives, and of the containers that are made, with nothing to run.
 
 ghost use Rattle.std.specs.Prelude.{◌≡◌, ◌≤◌, ℕ, Some, None};
 ghost use Rattle.term_table.specs.Tree.{Tree};
@@ -7,7 +7,10 @@ ghost use Rattle.easy_class.specs.ProofTerms.{ff_e};
 ghost use Rattle.easy_class.specs.Hypotheses.{Hyps, find_hyp};
 ghost use Rattle.easy_class.specs.Goals.{Prover, absurdity, by_shape, goal_proof};
 ghost use Rattle.easy_class.specs.Parts.{levels};
-ghost use Rattle.bounds_prover.specs.Search.{whole_proof};
+ghost use Rattle.bounds_prover.specs.Provers.{whole_proof};
+ghost use Rattle.bounds_prover.specs.ProvedLaws.{ProvedAccepted};
+
+use easy_class::class_laws;
 
 /// The class's search in rounds: what it gives a goal doesn't go by how many rounds are left, where
 /// they are at least its levels. A goal that is a hypothesis has that hypothesis' proof; else where the
@@ -25,3 +28,10 @@ pub fn round_laws()
         → find_hyp Γ A ≡ None → absurdity Γ ≡ None
         → whole_proof leaf out Γ A ≡ by_shape (whole_proof leaf) leaf out Γ A }
 {}
+
+/// What `prove` makes of bytes is accepted by the gate.
+pub fn prove_laws()
+    ensures accepted { ProvedAccepted }
+{
+    class_laws();
+}

@@ -16,7 +16,8 @@ ghost use Rattle.easy_class.specs.NormalForms.{normal_form};
 ghost use Rattle.easy_class.specs.Goals.{ule_by, ult_by, by_aligned, by_bounds, by_normal, by_words_alone};
 ghost use Rattle.easy_words.specs.BoundIds.{IsBoundOf, bound_by_ids};
 ghost use Rattle.easy_words.specs.NormalForms.{IsKnownRewritten, IsRewritten};
-ghost use Rattle.bounds_prover.specs.Search.{IsSearch, IsContext, IsAfter, IsProofBy};
+ghost use Rattle.bounds_prover.specs.Provers.{IsProofBy};
+ghost use Rattle.bounds_prover.specs.Search.{IsSearch, IsContext, IsAfter};
 ghost use Rattle.bounds_prover.specs.Inside.Words.{at_most_tree, less_tree, IsRelationProof, IsBoundsProof, IsAlignedPart};
 
 use crate::alignments::{Alignments, alignment_proof};
@@ -297,7 +298,7 @@ fn by_bounds(
 
 /// The normal form of the expression, where so many binders stand outside.
 #[tactic(auto, using(crate::proofs::Kept::rows))]
-fn normal(
+pub(crate) fn normal(
     table: &mut Table,
     search: &mut Search,
     outside: u32,

@@ -1,0 +1,218 @@
+-- The container that is made: what it holds, that its proof is one, and that it is accepted.
+use Rattle.std.proofs.Common.{◌≡◌, ℕ, ◌≤◌, ◌^◌, Bool, List, [], ◌∷◌, ◌++◌, map, length, Option, Some, None, Result, Ok, Err, refl, sym, ◌∙◌, ap, subst, arith}
+use Rattle.std.proofs.lemmas.List.Elements.{All-nil, All-cons, All-head, All-tail}
+use Rattle.alpha_words.specs.declared.insn.Insn.{Insn}
+use Rattle.alpha_cfg.proofs.Readings.{decoded_code-ok}
+use Rattle.formula_tree.specs.Formulas.{Form, FAnd}
+use Rattle.formula_tree.specs.Scope.{IsOver}
+use Rattle.formula_tree.specs.Sizes.{form_height}
+use Rattle.policy_set.specs.declared.kind.PolicyKind.{PolicyKind}
+use Rattle.term_table.specs.Tree.{Tree, IsTerm}
+use Rattle.term_table.specs.Table.{IsSmall}
+use Rattle.term_table.specs.Measures.{height_of}
+use Rattle.lf_signature.specs.Sigma1.{declared}
+use Rattle.lf_signature.specs.Terms.{pf}
+use Rattle.lf_signature.specs.Typing.{Checks}
+use Rattle.lf_encode.specs.Encoding.{form_encoding}
+use Rattle.lf_rules.proofs.Typed.{is_term}
+use Rattle.proof_container.specs.Contents.{Contents, one_or_none, roots}
+use Rattle.proof_container.specs.Postorder.{entries}
+use Rattle.proof_container.specs.Encoding.{AreTerms, IsBytes, IsContents, encoding_of}
+use Rattle.proof_container.specs.declared.limits.TheConstants.{MAX_ENTRIES}
+use Rattle.proof_container.specs.Decoding.{decoded_container}
+use Rattle.proof_container.proofs.Whole.{container_again}
+use Rattle.vcgen.specs.Conditions.{AnnotatedCode, entry_part, inv_part, inv_parts, condition}
+use Rattle.vcgen.specs.Encoded.{annotated, AreForms, EncodesCondition}
+use Rattle.vcgen.specs.declared.condition.TheConstants.{MAX_HEIGHT}
+use Rattle.vcgen.proofs.Scopes.{condition-closed}
+use Rattle.vcgen.proofs.Encodings.{encoded-annotates}
+use Rattle.pcc_gate.specs.Passing.{AreLow, Passes}
+use Rattle.pcc_gate.specs.Accepted.{Accepts, IsAccepted}
+use Rattle.pcc_gate.specs.First.{formulas, vc_of, front_refusal}
+use Rattle.pcc_gate.specs.declared.refusal.Refusal.{Refusal}
+use Rattle.pcc_gate.proofs.First.{formulas-encoded, vc_of-encodes, condition-one}
+use Rattle.pcc_gate.proofs.FirstFront.{none-passed}
+use Rattle.pcc_gate.proofs.Safe.{formulas-over}
+use Rattle.easy_class.specs.Parts.{conjoined, condition_proof, first_not_easy}
+use Rattle.easy_class.specs.Access.{by_all_means}
+use Rattle.bounds_prover.specs.declared.fault.ProveFault.{ProveFault}
+use Rattle.bounds_prover.specs.declared.fault.ProveFault.TheVariants.{Refused, NotEasy, TooBig, Memory}
+use Rattle.bounds_prover.specs.Proving.{condition_parts, with_proof, excess, encoded_unless, with_parts_proof, proved_contents, proved_code, proved_read, made_unless, proved_container, IsAnswer}
+use Rattle.bounds_prover.proofs.Measures.{IsSmallEnough, small-enough}
+use Rattle.bounds_prover.proofs.Heights.{parts-low}
+use Rattle.bounds_prover.proofs.SmallTerms.{checks-small}
+
+-- ---- the condition is its parts
+
+conjoined-parts : (c : AnnotatedCode) (ps : List (ℕ × Form)) → inv_parts c ps ≡ conjoined (map (inv_part c) ps)
+conjoined-parts c [] = refl
+conjoined-parts c (p ∷ ps) = ap (FAnd (inv_part c p)) (conjoined-parts c ps)
+
+pub condition-parts : (policy : PolicyKind) (code : List Insn) (invs : List (ℕ × Tree)) → condition (annotated policy code (formulas invs)) ≡ conjoined (condition_parts policy code invs)
+unfolding condition_parts
+condition-parts policy code invs =
+    let c = annotated policy code (formulas invs) in
+    ap (FAnd (entry_part c)) (conjoined-parts c c.invs)
+
+-- the encoding of a condition is that of its parts
+pub encodes-parts : (policy : PolicyKind) (code : List Insn) (invs : List (ℕ × Tree)) (vc : Tree) → AreForms invs → EncodesCondition policy code invs vc → vc ≡ form_encoding (conjoined (condition_parts policy code invs))
+encodes-parts policy code invs vc forms e = condition-one policy code invs vc forms e ∙ ap form_encoding (condition-parts policy code invs)
+
+-- ---- contents with another proof
+
+terms_with : (ts more : List Tree) (p : Tree) → AreTerms (ts ++ more) → IsTerm p → IsSmall p → AreTerms (ts ++ p ∷ [])
+terms_with [] more p h t s = (t, s, tt)
+terms_with (t ∷ ts) more p h i s = (h.0, h.1, terms_with ts more p h.2 i s)
+
+abbrev IsLow : Tree → Type 0
+IsLow t = height_of t ≤ MAX_HEIGHT
+
+low_with : (ts more : List Tree) (p : Tree) → AreLow (ts ++ more) → height_of p ≤ MAX_HEIGHT → AreLow (ts ++ p ∷ [])
+low_with [] more p h l = All-cons IsLow p [] l (All-nil IsLow)
+low_with (t ∷ ts) more p h l = All-cons IsLow t (ts ++ p ∷ []) (All-head IsLow t (ts ++ more) h) (low_with ts more p (All-tail IsLow t (ts ++ more) h) l)
+
+-- the same invariants, in a table that grew
+pub same_invs : (c : Contents) (l : List (ℕ × Tree)) (p : Tree) → l ≡ c.invs → record { policy = c.policy; code = c.code; invs = l; proof = Some p } ≡ with_proof c p
+same_invs c l p e = λ i. record { policy = c.policy; code = c.code; invs = e i; proof = Some p }
+
+-- ---- the proof of a condition that passed
+
+-- what the class gives a closed condition is a proof
+abbrev pub IsSoundClass : Type 0
+IsSoundClass =
+    (parts : List Form) (p : Tree) → IsOver 0 (conjoined parts) [] → form_height (conjoined parts) ≤ 2 ^ 29 → condition_proof by_all_means parts ≡ Some p → Checks declared [] p (pf (form_encoding (conjoined parts)))
+
+module _ (sound : IsSoundClass) (policy : PolicyKind) (bytes : List ℕ) (c : Contents) (code : List Insn) (marks : List Bool) (passes : Passes policy bytes c code marks) where
+  parts-closed : IsOver 0 (conjoined (condition_parts policy code c.invs)) []
+  parts-closed =
+      let a = annotated policy code (formulas c.invs) in
+      let encoded = formulas-encoded c.invs passes.forms in
+      let is = encoded-annotates policy code c.invs (formulas c.invs) marks encoded passes.code passes.annotated passes.cut in
+      subst (λ F. IsOver 0 F []) (condition-parts policy code c.invs) (condition-closed a is refl (formulas-over c.invs (formulas c.invs) encoded))
+
+  module _ (p : Tree) (given : condition_proof by_all_means (condition_parts policy code c.invs) ≡ Some p) (low : height_of p ≤ MAX_HEIGHT) where
+    proof-checks : Checks declared [] p (pf (form_encoding (conjoined (condition_parts policy code c.invs))))
+    proof-checks =
+        let parts = condition_parts policy code c.invs in
+        sound parts p parts-closed (parts-low by_all_means parts p given low) given
+
+    pub made-contents : length (entries (roots (with_proof c p))) ≤ MAX_ENTRIES → IsContents (with_proof c p)
+    made-contents few =
+        let h = passes.container.contents in
+        let small : IsSmall p = checks-small proof-checks (omega (arith, low)) in
+        record {
+          policy = h.policy;
+          bytes = h.bytes;
+          whole = h.whole;
+          some = h.some;
+          short = h.short;
+          terms = terms_with (map (λ p. p.1) c.invs) (one_or_none c.proof) p h.terms (is_term proof-checks) small;
+          entries = few;
+          invs = h.invs;
+          rising = h.rising;
+        }
+
+  made-accepts : (p : Tree) → condition_proof by_all_means (condition_parts policy code c.invs) ≡ Some p → IsSmallEnough (with_proof c p) p → Accepts policy (encoding_of (with_proof c p)) (with_proof c p) code marks
+  made-accepts p given s =
+      let checks = proof-checks p given s.height in
+      record {
+        passes = record {
+          size = s.bytes;
+          container = record { contents = made-contents p given s.height s.entries; encoded = refl };
+          number = passes.number;
+          encoded = passes.encoded;
+          code = passes.code;
+          heights = low_with (map (λ p. p.1) c.invs) (one_or_none c.proof) p passes.heights s.height;
+          forms = passes.forms;
+          annotated = passes.annotated;
+          cut = passes.cut;
+          unfolded = passes.unfolded;
+        };
+        proof = p;
+        vc = vc_of policy code c.invs;
+        given = refl;
+        weight = s.weight;
+        condition = vc_of-encodes policy code c.invs passes.forms;
+        proved = subst (λ F. Checks declared [] p (pf (form_encoding F))) (sym (condition-parts policy code c.invs)) checks;
+      }
+
+-- ---- what is made of parts
+
+module _ (c : Contents) (parts : List Form) where
+  pub not_easy-made : (k : ℕ) → first_not_easy by_all_means 0 parts ≡ Some k → proved_contents c parts ≡ Err (NotEasy k)
+  unfolding proved_contents
+  not_easy-made k e = ap (λ o. with_parts_proof c o (condition_proof by_all_means parts)) e
+
+  pub proof-made : (p : Tree) → first_not_easy by_all_means 0 parts ≡ None → condition_proof by_all_means parts ≡ Some p → proved_contents c parts ≡ encoded_unless (excess (with_proof c p) p) (with_proof c p)
+  unfolding proved_contents
+  proof-made p e f = λ i. with_parts_proof c (e i) (f i)
+
+  -- the proof in contents that are made
+  record IsMade (out : List ℕ) : Type 0 where
+    proof : Tree
+    given : condition_proof by_all_means parts ≡ Some proof
+    small : excess (with_proof c proof) proof ≡ None
+    out_is : out ≡ encoding_of (with_proof c proof)
+
+  encoded-none : (o : Option ProveFault) (d : Contents) (out : List ℕ) → encoded_unless o d ≡ Ok out → (o ≡ None) × (out ≡ encoding_of d)
+  encoded-none None d out e = (refl, cc)
+  encoded-none (Some fault) d out e = absurd cc
+
+  made-is : (out : List ℕ) → proved_contents c parts ≡ Ok out → IsMade out
+  unfolding proved_contents
+  made-is out e = go (first_not_easy by_all_means 0 parts) (condition_proof by_all_means parts) refl e
+    where
+      go : (k : Option ℕ) (o : Option Tree) → condition_proof by_all_means parts ≡ o → with_parts_proof c k o ≡ Ok out → IsMade out
+      go (Some k) o q e = absurd cc
+      go None None q e = absurd cc
+      go None (Some p) q e =
+          let n = encoded-none (excess (with_proof c p) p) (with_proof c p) out e in
+          record { proof = p; given = q; small = n.0; out_is = n.1 }
+
+-- ---- what is made of bytes
+
+-- where no clause before the proof fails, it is made of their contents
+pub contents-made : (policy : PolicyKind) (bytes : List ℕ) (c : Contents) (code : List Insn) (marks : List Bool) → Passes policy bytes c code marks → front_refusal policy bytes ≡ None →
+    proved_container policy bytes ≡ proved_contents c (condition_parts policy code c.invs)
+unfolding proved_container
+contents-made policy bytes c code marks passes none =
+    (λ i. made_unless (none i) (proved_read policy (container_again bytes c passes.container i)))
+    ∙ ap (proved_code policy c) (sym (decoded_code-ok c.code code passes.encoded passes.code))
+
+-- else it is refused
+pub refused-made : (policy : PolicyKind) (bytes : List ℕ) (r : Refusal) → front_refusal policy bytes ≡ Some r → proved_container policy bytes ≡ Err (Refused r)
+unfolding proved_container
+refused-made policy bytes r e = ap (λ o. made_unless o (proved_read policy (decoded_container bytes))) e
+
+-- where something is made, none fails
+none-refused : (policy : PolicyKind) (bytes out : List ℕ) → proved_container policy bytes ≡ Ok out → front_refusal policy bytes ≡ None
+unfolding proved_container
+none-refused policy bytes out e = go (front_refusal policy bytes) e
+  where
+    go : (o : Option Refusal) → made_unless o (proved_read policy (decoded_container bytes)) ≡ Ok out → o ≡ None
+    go None e = refl
+    go (Some r) e = absurd cc
+
+pub made-accepted : IsSoundClass → (policy : PolicyKind) (bytes out : List ℕ) → IsBytes bytes → proved_container policy bytes ≡ Ok out → IsAccepted policy out
+made-accepted sound policy bytes out fits e =
+    let none = none-refused policy bytes out e in
+    let h = none-passed policy bytes fits none in
+    let parts = condition_parts policy h.code h.contents.invs in
+    let m = made-is h.contents parts out (sym (contents-made policy bytes h.contents h.code h.marks h.passes none) ∙ e) in
+    let c = with_proof h.contents m.proof in
+    record {
+      contents = c;
+      code = h.code;
+      marks = h.marks;
+      accepts = subst (λ b. Accepts policy b c h.code h.marks) (sym m.out_is)
+          (made-accepts sound policy bytes h.contents h.code h.marks h.passes m.proof m.given (small-enough c m.proof m.small));
+    }
+
+-- ---- answers
+
+-- a fault is the answer, unless it is want of memory
+pub fault-answers : (made : Result (List ℕ) ProveFault) (e : ProveFault) → made ≡ Err e → IsAnswer made (Err e)
+fault-answers made (Refused r) h = h
+fault-answers made (NotEasy k) h = h
+fault-answers made (TooBig m n) h = h
+fault-answers made Memory h = tt

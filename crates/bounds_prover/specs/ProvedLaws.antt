@@ -1,0 +1,10 @@
+-- What holds of the containers that are made.
+use Rattle.std.specs.Prelude.{◌≡◌, ℕ, List, Ok}
+use Rattle.policy_set.specs.declared.kind.PolicyKind.{PolicyKind}
+use Rattle.proof_container.specs.Encoding.{IsBytes}
+use Rattle.pcc_gate.specs.Accepted.{IsAccepted}
+use Rattle.bounds_prover.specs.Proving.{proved_container}
+
+-- what is made of bytes is accepted
+abbrev pub ProvedAccepted : Type 0
+ProvedAccepted = (policy : PolicyKind) (bytes out : List ℕ) → IsBytes bytes → proved_container policy bytes ≡ Ok out → IsAccepted policy out

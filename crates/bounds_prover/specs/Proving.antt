@@ -1,0 +1,101 @@
+-- The container that `prove` makes of bytes, or why it makes none.
+use Rattle.std.specs.Prelude.{◌≡◌, ℕ, ◌^◌, ◌-◌, List, ◌∷◌, map, length, min, nat_lt, if◌then◌else◌, Option, Some, None, Result, Ok, Err, Vec}
+use Rattle.std.specs.Global.{Global}
+use Rattle.alpha_words.specs.declared.insn.Insn.{Insn}
+use Rattle.alpha_cfg.specs.declared.fault.CodeFlaw.{CodeFlaw}
+use Rattle.alpha_cfg.specs.CodeDecoding.{decoded_code}
+use Rattle.term_table.specs.Tree.{Tree}
+use Rattle.term_table.specs.Measures.{height_of, weight_of, sigma1_places, capped}
+use Rattle.formula_tree.specs.Formulas.{Form}
+use Rattle.policy_set.specs.declared.kind.PolicyKind.{PolicyKind}
+use Rattle.proof_container.specs.Contents.{Contents, roots}
+use Rattle.proof_container.specs.Postorder.{entries}
+use Rattle.proof_container.specs.Encoding.{encoding_of}
+use Rattle.proof_container.specs.Decoding.{Fault, decoded_container}
+use Rattle.proof_container.specs.declared.limits.TheConstants.{MAX_BYTES, MAX_ENTRIES}
+use Rattle.vcgen.specs.Conditions.{entry_part, inv_part}
+use Rattle.vcgen.specs.Encoded.{annotated}
+use Rattle.vcgen.specs.declared.condition.TheConstants.{MAX_HEIGHT}
+use Rattle.pcc_gate.specs.First.{formulas, front_refusal}
+use Rattle.pcc_gate.specs.declared.limits.TheConstants.{MAX_WEIGHT}
+use Rattle.pcc_gate.specs.declared.refusal.Refusal.{Refusal}
+use Rattle.pcc_gate.specs.declared.refusal.Refusal.TheVariants as refusal
+use Rattle.easy_class.specs.Parts.{condition_proof, first_not_easy}
+use Rattle.easy_class.specs.Access.{by_all_means}
+use Rattle.bounds_prover.specs.declared.fault.Measure.{Measure}
+use Rattle.bounds_prover.specs.declared.fault.Measure.TheVariants.{Weight, Height, Entries, Bytes}
+use Rattle.bounds_prover.specs.declared.fault.ProveFault.{ProveFault}
+use Rattle.bounds_prover.specs.declared.fault.ProveFault.TheVariants.{Refused, NotEasy, TooBig, Memory}
+
+-- the parts of the verification condition: the entry's, then each invariant's
+unfoldable pub condition_parts : PolicyKind → List Insn → List (ℕ × Tree) → List Form
+condition_parts policy code invs =
+    let c = annotated policy code (formulas invs) in
+    entry_part c ∷ map (inv_part c) c.invs
+
+-- the contents with this proof in place of theirs
+abbrev pub with_proof : Contents → Tree → Contents
+with_proof c p = record { policy = c.policy; code = c.code; invs = c.invs; proof = Some p }
+
+-- ---- limits
+
+-- the fault of a number past its limit, which is shown as that, else what comes after
+abbrev pub within : Measure → ℕ → ℕ → ℕ → Option ProveFault → Option ProveFault
+within measure limit n shown next = if nat_lt limit n then Some (TooBig measure shown) else next
+
+-- the first measure of the proof, or of the contents that have it, that is past its limit
+unfoldable pub excess : Contents → Tree → Option ProveFault
+excess c p =
+    within Weight MAX_WEIGHT (weight_of sigma1_places p) (capped (weight_of sigma1_places p))
+    (within Height MAX_HEIGHT (height_of p) (capped (height_of p))
+    (within Entries MAX_ENTRIES (length (entries (roots c))) (length (entries (roots c)))
+    (within Bytes MAX_BYTES (length (encoding_of c)) (min (length (encoding_of c)) (2 ^ 64 - 1)) None)))
+
+-- ---- what is made
+
+-- the encoding of the contents, unless there is a fault
+abbrev pub encoded_unless : Option ProveFault → Contents → Result (List ℕ) ProveFault
+encoded_unless None c = Ok (encoding_of c)
+encoded_unless (Some fault) c = Err fault
+
+-- the contents with the proof of all parts, where none is the first that isn't easy (then there is a proof: `class_laws`)
+abbrev pub with_parts_proof : Contents → Option ℕ → Option Tree → Result (List ℕ) ProveFault
+with_parts_proof c (Some k) proof = Err (NotEasy k)
+with_parts_proof c None (Some p) = encoded_unless (excess (with_proof c p) p) (with_proof c p)
+with_parts_proof c None None = Err (NotEasy 0)
+
+-- the contents with the class's proof of these parts
+unfoldable pub proved_contents : Contents → List Form → Result (List ℕ) ProveFault
+proved_contents c parts = with_parts_proof c (first_not_easy by_all_means 0 parts) (condition_proof by_all_means parts)
+
+-- the same, where the code bytes are code
+abbrev pub proved_code : PolicyKind → Contents → Result (List Insn) CodeFlaw → Result (List ℕ) ProveFault
+proved_code policy c (Ok code) = proved_contents c (condition_parts policy code c.invs)
+proved_code policy c (Err flaw) = Err (Refused (refusal.BadCode flaw))
+
+-- the same, where the bytes are a container
+abbrev pub proved_read : PolicyKind → Result Contents Fault → Result (List ℕ) ProveFault
+proved_read policy (Ok c) = proved_code policy c (decoded_code c.code)
+proved_read policy (Err fault) = Err (Refused (refusal.Malformed fault.0 fault.1))
+
+-- what is made, unless there is a refusal
+abbrev pub made_unless : Option Refusal → Result (List ℕ) ProveFault → Result (List ℕ) ProveFault
+made_unless None made = made
+made_unless (Some r) made = Err (Refused r)
+
+-- The bytes of the container with a proof in place of its own, where clauses 1 to 8 hold, each part of the condition is easy, and
+-- the class's proof is within the limits; else the first of these that fails.
+unfoldable pub proved_container : PolicyKind → List ℕ → Result (List ℕ) ProveFault
+proved_container policy bytes = made_unless (front_refusal policy bytes) (proved_read policy (decoded_container bytes))
+
+-- ---- answers
+
+-- the answer is what is made, or the fault why not; want of memory says nothing
+abbrev pub IsAnswer : Result (List ℕ) ProveFault → Result (Vec ℕ Global) ProveFault → Type 0
+IsAnswer made (Ok out) = made ≡ Ok out.items
+IsAnswer made (Err Memory) = Unit {0}
+IsAnswer made (Err fault) = made ≡ Err fault
+
+-- what `prove` answers
+abbrev pub IsProveAnswer : PolicyKind → List ℕ → Result (Vec ℕ Global) ProveFault → Type 0
+IsProveAnswer policy bytes result = IsAnswer (proved_container policy bytes) result

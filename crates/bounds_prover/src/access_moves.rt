@@ -1,0 +1,165 @@
+//! Addresses with one normal form, and the step from access to one to access to the other.
+//!
+//! Errors: want of memory alone, which more results than the search may keep are too; each id keeps
+//! its tree.
+
+ghost use Rattle.std.specs.Prelude.{◌≡◌, IfOk, IfSome, OnOk};
+ghost use Rattle.term_table.specs.Table.{IsKnown, tree_at, Extends, Stands};
+ghost use Rattle.lf_signature.specs.Nodes.{IsIdOf};
+ghost use Rattle.formula_tree.specs.Formulas.{Exp, EVar};
+ghost use Rattle.lf_encode.specs.Encoding.{exp_encoding, form_encoding};
+ghost use Rattle.formula_ids.specs.Puts.{IsExpPut, IsFormPut};
+ghost use Rattle.easy_class.specs.Access.{access_form, moved};
+ghost use Rattle.bounds_prover.specs.Search.{IsSearch};
+ghost use Rattle.bounds_prover.specs.Inside.Access.{same_address, access_move};
+ghost use Rattle.bounds_prover.specs.Inside.AccessIds.{access_of};
+
+use crate::search::Search;
+use crate::words::normal;
+use easy_words::{equal_proof, moved};
+use formula_ids::{put_word, put_word_exp};
+use lf_signature::app1;
+use lf_signature::numbers::{RD, WR};
+use std::alloc::AllocError;
+use term_table::{Id, Node, Table};
+
+/// What is asked for at an address.
+#[derive(Clone, Copy)]
+pub(crate) enum Access {
+    /// To load from it.
+    Load,
+    /// To store there.
+    Store,
+}
+
+/// The expression with `arg` for variable 0.
+#[tactic(auto, using(crate::proofs::Kept::rows))]
+pub(crate) fn exp_with(
+    table: &mut Table,
+    search: &mut Search,
+    exp: Id,
+    arg: Id,
+) -> Result<Id, AllocError>
+    requires exp { IsKnown table.old exp }
+    requires arg { IsKnown table.old arg }
+    requires search { IsSearch table.old search.old }
+    ensures put { IfOk result (IsExpPut table.old table.new exp 0 arg) }
+    ensures extends { Extends table.old table.new }
+    ensures search { OnOk result (IsSearch table.new search.new) }
+{
+    put_word_exp(table, &mut search.memo, &mut search.puts, exp, arg)
+}
+
+/// The formula with `arg` for variable 0.
+#[tactic(auto, using(crate::proofs::Kept::rows))]
+pub(crate) fn form_with(
+    table: &mut Table,
+    search: &mut Search,
+    form: Id,
+    arg: Id,
+) -> Result<Id, AllocError>
+    requires form { IsKnown table.old form }
+    requires arg { IsKnown table.old arg }
+    requires search { IsSearch table.old search.old }
+    ensures put { IfOk result (IsFormPut table.old table.new form 0 arg) }
+    ensures extends { Extends table.old table.new }
+    ensures search { OnOk result (IsSearch table.new search.new) }
+{
+    put_word(table, &mut search.memo, &mut search.puts, form, arg)
+}
+
+/// Whether two addresses have one normal form.
+#[tactic(auto, using(crate::proofs::Kept::rows))]
+pub(crate) fn same_address(
+    table: &mut Table,
+    search: &mut Search,
+    outside: u32,
+    z: Id,
+    a: Id,
+) -> Result<bool, AllocError>
+    requires z { IsKnown table.old z }
+    requires a { IsKnown table.old a }
+    requires search { IsSearch table.old search.old }
+    ensures exact { (x y : Exp) → tree_at table.old z ≡ exp_encoding x
+        → tree_at table.old a ≡ exp_encoding y
+        → IfOk result (λ b. b ≡ same_address outside x y) }
+    ensures extends { Extends table.old table.new }
+    ensures search { OnOk result (IsSearch table.new search.new) }
+{
+    let first = normal(table, search, outside, z)?;
+    let second = normal(table, search, outside, a)?;
+    Ok(table.same(first.now, second.now))
+}
+
+/// The right to the access at variable 0.
+fn place_form(table: &mut Table, access: Access) -> Result<Id, AllocError>
+    ensures id { IfOk result
+        (IsIdOf table.new (form_encoding (access_form (access_of access) (EVar 0)))) }
+    ensures extends { Extends table.old table.new }
+{
+    let place = table.intern(Node::Var(0))?;
+    match access {
+        Access::Load => app1(table, RD, place),
+        Access::Store => app1(table, WR, place),
+    }
+}
+
+/// The proof of access to `a`, by that of access to `z`, which has its normal form.
+#[tactic(auto, using(crate::proofs::Kept::rows))]
+pub(crate) fn access_move(
+    table: &mut Table,
+    search: &mut Search,
+    outside: u32,
+    access: Access,
+    z: Id,
+    a: Id,
+    proof: Id,
+) -> Result<Id, AllocError>
+    requires z { IsKnown table.old z }
+    requires a { IsKnown table.old a }
+    requires proof { IsKnown table.old proof }
+    requires search { IsSearch table.old search.old }
+    ensures known { IfOk result (IsKnown table.new) }
+    ensures exact { (x y : Exp) → tree_at table.old z ≡ exp_encoding x
+        → tree_at table.old a ≡ exp_encoding y → IfOk result (IsIdOf table.new
+        (access_move outside (access_of access) x y (tree_at table.old proof))) }
+    ensures extends { Extends table.old table.new }
+    ensures search { OnOk result (IsSearch table.new search.new) }
+{
+    let form = place_form(table, access)?;
+    let p = normal(table, search, outside, z)?;
+    let q = normal(table, search, outside, a)?;
+    let equal = equal_proof(table, &mut search.memo, z, a, p, q)?;
+    let moved = moved(table, form, z, a, equal, proof)?;
+    Ok(moved)
+}
+
+/// The same where the normal forms are one, else none.
+#[tactic(auto, using(crate::proofs::Kept::rows))]
+pub(crate) fn moved_access(
+    table: &mut Table,
+    search: &mut Search,
+    outside: u32,
+    access: Access,
+    z: Id,
+    a: Id,
+    proof: Id,
+) -> Result<Option<Id>, AllocError>
+    requires z { IsKnown table.old z }
+    requires a { IsKnown table.old a }
+    requires proof { IsKnown table.old proof }
+    requires search { IsSearch table.old search.old }
+    ensures known { IfOk result (λ o. IfSome o (IsKnown table.new)) }
+    ensures exact { (x y : Exp) → tree_at table.old z ≡ exp_encoding x
+        → tree_at table.old a ≡ exp_encoding y → IfOk result (Stands table.new
+        (moved outside (access_of access) y x (tree_at table.old proof))) }
+    ensures extends { Extends table.old table.new }
+    ensures search { OnOk result (IsSearch table.new search.new) }
+{
+    if same_address(table, search, outside, z, a)? {
+        let moved = access_move(table, search, outside, access, z, a, proof)?;
+        Ok(Some(moved))
+    } else {
+        Ok(None)
+    }
+}

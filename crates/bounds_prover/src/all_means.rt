@@ -1,0 +1,88 @@
+//! Proofs of goals by all means: words, and access to memory by hypotheses.
+//!
+//! Errors: want of memory alone, which more results than the search may keep are too; each id keeps
+//! its tree.
+
+ghost use Rattle.std.specs.Prelude.{◌≡◌, IfOk, IfSome, OnOk};
+ghost use Rattle.term_table.specs.Table.{IsKnown, Extends};
+ghost use Rattle.easy_class.specs.Access.{by_all_means};
+ghost use Rattle.bounds_prover.specs.Provers.{IsProofBy, whole_proof, prover_of};
+ghost use Rattle.bounds_prover.specs.Search.{IsSearch, IsContext, IsAfter};
+
+use crate::access::proof_by_access;
+use crate::answers::Means;
+use crate::connectives::goal_proof;
+use crate::leaf::Leaf;
+use crate::search::{Context, Search};
+use crate::words::proof_by_words;
+use std::alloc::AllocError;
+use term_table::{Id, Table};
+
+/// Words, and access to memory by hypotheses.
+#[derive(Clone, Copy)]
+pub(crate) struct ByAllMeans;
+
+impl Leaf for ByAllMeans {
+    ghost use Rattle.bounds_prover.specs.declared.answers.Means.TheVariants.{WordsAndAccess};
+
+    ghost by = { λ _. WordsAndAccess };
+
+    fn means(&self) -> Means {
+        Means::WordsAndAccess
+    }
+
+    fn leaf_proof(
+        &self,
+        table: &mut Table,
+        search: &mut Search,
+        context: &mut Context,
+        goal: Id,
+    ) -> Result<Option<Id>, AllocError> {
+        by_all_means(table, search, context, goal)
+    }
+}
+
+/// The proof of a goal that has no connective, by words or else by access.
+#[tactic(auto, using(crate::proofs::WordRows::rows))]
+fn by_all_means(
+    table: &mut Table,
+    search: &mut Search,
+    context: &mut Context,
+    goal: Id,
+) -> Result<Option<Id>, AllocError>
+    requires goal { IsKnown table.old goal }
+    requires search { IsSearch table.old search.old }
+    requires context { IsContext table.old context.old }
+    ensures known { IfOk result (λ o. IfSome o (IsKnown table.new)) }
+    ensures exact { let c = context.old in
+        IfOk result (IsProofBy by_all_means table.old table.new c.hyps c.outside goal) }
+    ensures extends { Extends table.old table.new }
+    ensures after { OnOk result (IsAfter table.new search.new context.old context.new) }
+{
+    match proof_by_words(table, search, context, goal)? {
+        Some(proof) => Ok(Some(proof)),
+        None => {
+            let proof = proof_by_access(table, search, context, goal)?;
+            Ok(proof)
+        }
+    }
+}
+
+/// The proof of the goal by connectives and by all means.
+pub(crate) fn proof_by_all_means(
+    table: &mut Table,
+    search: &mut Search,
+    context: &mut Context,
+    goal: Id,
+) -> Result<Option<Id>, AllocError>
+    requires goal { IsKnown table.old goal }
+    requires search { IsSearch table.old search.old }
+    requires context { IsContext table.old context.old }
+    ensures known { IfOk result (λ o. IfSome o (IsKnown table.new)) }
+    ensures exact { let c = context.old in IfOk result
+        (IsProofBy (whole_proof by_all_means) table.old table.new c.hyps c.outside goal) }
+    ensures extends { Extends table.old table.new }
+    ensures after { OnOk result (IsAfter table.new search.new context.old context.new) }
+{
+    goal_proof(table, &ByAllMeans, search, context, goal)
+}

@@ -1,0 +1,56 @@
+//! Why a container gets no proof.
+
+ghost use Rattle.std.specs.Prelude.{◌≡◌, ◌≤◌, length};
+ghost use Rattle.bounds_prover.specs.Names.{measure_name};
+
+use pcc_gate::Refusal;
+use thiserror::Error;
+
+/// What of a proof, or of the container that has it, has a limit; in this order they are tried.
+#[derive(Clone, Copy, Debug, PartialEq, Eq)]
+pub enum Measure {
+    /// The proof's weight.
+    Weight,
+    /// The proof's height.
+    Height,
+    /// How many entries the container has.
+    Entries,
+    /// How many bytes the container has.
+    Bytes,
+}
+
+/// The most bytes that the name of a measure has.
+pub const MAX_KIND: usize = 7;
+
+impl Measure {
+    /// The measure's name, of at most `MAX_KIND` bytes, as the line of the fault shows it.
+    pub fn name(self) -> &'static str
+        ensures exact { result.now ≡ measure_name self }
+        ensures short { length result.now ≤ MAX_KIND }
+    {
+        match self {
+            Measure::Weight => "weight",
+            Measure::Height => "height",
+            Measure::Entries => "entries",
+            Measure::Bytes => "bytes",
+        }
+    }
+}
+
+/// Why a container gets no proof.
+#[derive(Clone, Copy, Debug, PartialEq, Eq, Error)]
+pub enum ProveFault {
+    /// A clause before the proof fails: the first.
+    #[error("refused: {0}")]
+    Refused(Refusal),
+    /// The first part of the condition that isn't easy: 0 is the entry's, k + 1 that of invariant k.
+    #[error("part {0} of the condition isn't easy")]
+    NotEasy(u32),
+    /// The proof, or the container that has it, is past a limit: the first measure that is, and its
+    /// number. A weight or a height past 4,294,967,295 is shown as that.
+    #[error("too big: {0:?} {1}")]
+    TooBig(Measure, u64),
+    /// There was no memory; that says nothing of the container.
+    #[error("out of memory")]
+    Memory,
+}

@@ -1,0 +1,199 @@
+//! Containers with a proof of their condition.
+
+ghost use Rattle.std.specs.Prelude.{◌≡◌, ◌≤◌, map, length, IfOk};
+ghost use Rattle.alpha_cfg.specs.Cuts.{AreFlags, unfolded_of};
+ghost use Rattle.term_table.specs.Table.{IsKnown, tree_at, Extends};
+ghost use Rattle.term_table.specs.Measures.{height_of, sigma1_places};
+ghost use Rattle.lf_signature.specs.Nodes.{IsIdOf};
+ghost use Rattle.lf_encode.specs.Encoding.{form_encoding};
+ghost use Rattle.proof_container.specs.Contents.{roots};
+ghost use Rattle.proof_container.specs.Postorder.{entries};
+ghost use Rattle.proof_container.specs.Encoding.{IsContents};
+ghost use Rattle.proof_container.specs.Views.{AreKnown, view_contents, contents_of};
+ghost use Rattle.proof_container.specs.declared.limits.TheConstants.{MAX_ENTRIES};
+ghost use Rattle.vcgen.specs.Answers.{AreLowInvs};
+ghost use Rattle.vcgen.specs.Encoded.{AreForms, inv_trees};
+ghost use Rattle.vcgen.specs.declared.condition.TheConstants.{MAX_HEIGHT, MAX_UNFOLDED};
+ghost use Rattle.pcc_gate.specs.Passing.{Passes};
+ghost use Rattle.pcc_gate.specs.Accepted.{IsAccepted};
+ghost use Rattle.pcc_gate.specs.Answers.{IsHeld};
+ghost use Rattle.easy_class.specs.Parts.{conjoined};
+ghost use Rattle.bounds_prover.specs.Proving.{condition_parts, excess, encoded_unless};
+ghost use Rattle.bounds_prover.specs.Proving.{proved_contents, IsAnswer, IsProveAnswer};
+ghost use Rattle.bounds_prover.specs.Inside.Parts.{IsKnownAnswer, IsPartsAnswer};
+
+use crate::fault::{Measure, ProveFault};
+use crate::parts::{Parts, proof_of_parts};
+use crate::search::Search;
+use crate::theorems::prove_laws;
+use alpha_cfg::Cut;
+use easy_class::class_laws;
+use hereditary_subst::MOST_RESULTS;
+use pcc_gate::{GateFault, MAX_WEIGHT, Passed, front};
+use policy_set::Policy;
+use proof_container::{MAX_BYTES, MAX_ENTRIES, View, extent, write};
+use std::alloc::{AllocError, Global};
+use term_table::{Id, Table};
+use vcgen::{MAX_HEIGHT, VcFault, vc};
+
+/// The encoding of the verification condition, its unfolded length being within its limit.
+fn condition_in(
+    table: &mut Table,
+    policy: &Policy,
+    cut: &Cut,
+    invs: &[(u32, Id)],
+) -> Result<Id, AllocError>
+    requires invs { AreLowInvs table.old invs.now }
+    requires forms { AreForms (inv_trees table.old invs.now) }
+    requires marks { AreFlags (map (λ p. p.0) invs.now) (length cut.now.code) cut.now.marks }
+    requires short { unfolded_of cut.now.code cut.now.marks ≤ MAX_UNFOLDED }
+    ensures id { let invs = inv_trees table.old invs.now in
+        let parts = condition_parts policy.now cut.now.code invs in
+        IfOk result (IsIdOf table.new (form_encoding (conjoined parts))) }
+    ensures extends { Extends table.old table.new }
+{
+    match vc(table, cut, policy, invs) {
+        Ok(condition) => Ok(condition),
+        Err(VcFault::Memory) => Err(AllocError),
+        Err(VcFault::UnfoldLimit(_)) => unreachable!(),
+    }
+}
+
+/// The proof of the verification condition, or its first part that isn't easy.
+fn parts_in(
+    table: &mut Table,
+    policy: &Policy,
+    cut: &Cut,
+    invs: &[(u32, Id)],
+) -> Result<Parts, AllocError>
+    requires invs { AreLowInvs table.old invs.now }
+    requires forms { AreForms (inv_trees table.old invs.now) }
+    requires marks { AreFlags (map (λ p. p.0) invs.now) (length cut.now.code) cut.now.marks }
+    requires short { unfolded_of cut.now.code cut.now.marks ≤ MAX_UNFOLDED }
+    ensures known { IfOk result (IsKnownAnswer table.new) }
+    ensures exact { let invs = inv_trees table.old invs.now in
+        IfOk result (IsPartsAnswer table.new 0 (condition_parts policy.now cut.now.code invs)) }
+    ensures extends { Extends table.old table.new }
+{
+    let condition = condition_in(table, policy, cut, invs)?;
+    let mut search = Search::new(table.allocator(), MOST_RESULTS);
+    let parts = proof_of_parts(table, &mut search, condition, 0)?;
+    Ok(parts)
+}
+
+/// The first measure of the proof, or of the contents that the view shows, that is past its limit.
+fn excess(alloc: Global, view: &View<'_>, proof: Id) -> Result<Option<ProveFault>, AllocError>
+    requires roots { AreKnown view.now.table.now view.now.invs.now view.now.proof }
+    requires proof { IsKnown view.now.table.now proof }
+    requires places { view.now.table.now.places ≡ sigma1_places }
+    ensures { let p = tree_at view.now.table.now proof in
+        IfOk result (λ o. o ≡ excess (view_contents view.now) p) }
+{
+    let weight = view.table.weight(proof);
+    if weight > MAX_WEIGHT {
+        return Ok(Some(ProveFault::TooBig(Measure::Weight, u64::from(weight))));
+    }
+    let height = view.table.height(proof);
+    if height > MAX_HEIGHT {
+        return Ok(Some(ProveFault::TooBig(Measure::Height, u64::from(height))));
+    }
+    let (entries, bytes) = extent(alloc, view)?;
+    if entries > u64::from(MAX_ENTRIES) {
+        return Ok(Some(ProveFault::TooBig(Measure::Entries, entries)));
+    }
+    if bytes > u64::from(MAX_BYTES) {
+        return Ok(Some(ProveFault::TooBig(Measure::Bytes, bytes)));
+    }
+    Ok(None)
+}
+
+/// The encoding of what the view shows, where nothing is past its limit.
+fn written(alloc: Global, view: &View<'_>, proof: Id) -> Result<Vec<u8>, ProveFault>
+    requires roots { AreKnown view.now.table.now view.now.invs.now view.now.proof }
+    requires proof { IsKnown view.now.table.now proof }
+    requires places { view.now.table.now.places ≡ sigma1_places }
+    requires contents { height_of (tree_at view.now.table.now proof) ≤ MAX_HEIGHT
+        → length (entries (roots (view_contents view.now))) ≤ MAX_ENTRIES
+        → IsContents (view_contents view.now) }
+    ensures { let c = view_contents view.now in
+        IsAnswer (encoded_unless (excess c (tree_at view.now.table.now proof)) c) result }
+{
+    match excess(alloc, view, proof) {
+        Err(_) => Err(ProveFault::Memory),
+        Ok(Some(fault)) => Err(fault),
+        Ok(None) => match write(alloc, view) {
+            Ok(bytes) => Ok(bytes),
+            Err(_) => Err(ProveFault::Memory),
+        },
+    }
+}
+
+/// What passed the clauses before the proof, with a proof.
+fn proved(
+    alloc: Global,
+    policy: &Policy,
+    bytes: &[u8],
+    passed: Passed<'_>,
+) -> Result<Vec<u8>, ProveFault>
+    requires passes { let contents = contents_of passed.container in
+        Passes policy.now bytes.now contents passed.cut.code passed.cut.marks }
+    requires held { IsHeld passed.container }
+    ensures { let c = contents_of passed.entry.container in
+        let parts = condition_parts policy.now passed.entry.cut.code c.invs in
+        IsAnswer (proved_contents c parts) result }
+{
+    let _ = bytes; // only the clauses speak of it
+    class_laws();
+    let container = passed.container;
+    let cut = passed.cut;
+    let number = container.policy;
+    let code = container.code;
+    let mut table = container.table;
+    let invs = container.invs;
+    let parts = match parts_in(&mut table, policy, &cut, &invs) {
+        Ok(parts) => parts,
+        Err(_) => return Err(ProveFault::Memory),
+    };
+    match parts {
+        Parts::NotEasy(part) => Err(ProveFault::NotEasy(part)),
+        Parts::Proved(proof) => {
+            let view = View {
+                policy: number,
+                code,
+                table: &table,
+                invs: &invs,
+                proof: Some(proof),
+            };
+            written(alloc, &view, proof)
+        }
+    }
+}
+
+/// What `prove` answers.
+fn made(alloc: Global, policy: &Policy, bytes: &[u8]) -> Result<Vec<u8>, ProveFault>
+    ensures { IsProveAnswer policy.now bytes.now result }
+{
+    match front(alloc, policy, bytes) {
+        Err(GateFault::Refused(refusal)) => Err(ProveFault::Refused(refusal)),
+        Err(GateFault::Memory) => Err(ProveFault::Memory),
+        Ok(passed) => proved(alloc, policy, bytes, passed),
+    }
+}
+
+/// Encodes the container in `bytes` with a proof of its verification condition under `policy` in place
+/// of its own proof, where the class of easy conditions gives one (`easy_class`). What is answered is
+/// accepted by the gate.
+///
+/// Errors, in their order: `Refused` names the first clause before the proof that fails
+/// (`pcc_gate::front`); `NotEasy` the first part of the condition that has no proof in the class: 0 is
+/// the entry's, k + 1 that of invariant k; `TooBig` the first measure that is past its limit: the
+/// proof's weight (`pcc_gate::MAX_WEIGHT`) and height (`vcgen::MAX_HEIGHT`), the container's entries
+/// and bytes (`proof_container::MAX_ENTRIES`, `MAX_BYTES`), with its number. `Memory` says nothing of
+/// `bytes`; the search keeps at most `MOST_RESULTS` results, past which the answer is `Memory` too.
+pub fn prove(alloc: Global, policy: &Policy, bytes: &[u8]) -> Result<Vec<u8>, ProveFault>
+    ensures exact { IsProveAnswer policy.now bytes.now result }
+    ensures accepted { IfOk result (λ out. IsAccepted policy.now out.items) }
+{
+    prove_laws();
+    made(alloc, policy, bytes)
+}
