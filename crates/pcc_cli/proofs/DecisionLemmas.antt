@@ -7,10 +7,12 @@ use Rattle.packet_store.specs.declared.fault.PacketFault.TheVariants as packet
 use Rattle.pcc_words.specs.Invocations.{Invocation}
 use Rattle.pcc_lines.specs.Fixed.{unknown_policy_line}
 use Rattle.pcc_lines.specs.PacketFaults.{packet_fault_line}
+use Rattle.pcc_lines.specs.Proving.{not_easy_line, too_big_line}
 use Rattle.pcc_lines.specs.Refusals.{refusal_line}
 use Rattle.pcc_lines.specs.Sources.{source_fault_line, written_line}
 use Rattle.asm_text.specs.Names.{line_flaw_name}
 use Rattle.pcc_asm.specs.Names.{asm_flaw_line, asm_flaw_name}
+use Rattle.bounds_prover.specs.Names.{measure_name}
 use Rattle.pcc_gate.specs.declared.refusal.Refusal.{Refusal}
 use Rattle.pcc_gate.specs.declared.refusal.Refusal.TheVariants as refusal
 use Rattle.pcc_exit.specs.Exits.{Exit}
@@ -54,6 +56,14 @@ source_fault-first : (number : ℕ) (kind : List ℕ) → get_or (source_fault_l
 unfolding source_fault_line
 source_fault-first number kind = refl
 
+not_easy-first : (part : ℕ) → get_or (not_easy_line part) 0 0 ≡ 110
+unfolding not_easy_line
+not_easy-first part = refl
+
+too_big-first : (name : List ℕ) (number : ℕ) → get_or (too_big_line name number) 0 0 ≡ 116
+unfolding too_big_line
+too_big-first name number = refl
+
 -- an exit that the arguments alone never bring
 abbrev IsLate : Exit → Type 0
 IsLate exit = (exit.status ≢ 2) × (exit ≢ unknown_policy_exit texts)
@@ -94,6 +104,12 @@ module _ (invocation : Invocation) (old new : FilesState) (known : standing_of i
       let first : get_or (refusal_line r) 0 0 ≡ 114 = refusal-first r in
       refused_late _ (omega arith) (omega arith) (late_text (stop_exit (stop.Refused r)) refl (omega arith)) h
   decides_command (Err stop.ContainerTooLong) h = refused_late _ (omega arith) (omega arith) (late_text (stop_exit stop.ContainerTooLong) refl (omega arith)) h
+  decides_command (Err (stop.NotEasy part)) h =
+      let first : get_or (not_easy_line part) 0 0 ≡ 110 = not_easy-first part in
+      refused_late _ (omega arith) (omega arith) (late_text (stop_exit (stop.NotEasy part)) refl (omega arith)) h
+  decides_command (Err (stop.TooBig measure number)) h =
+      let first : get_or (too_big_line (measure_name measure) number) 0 0 ≡ 116 = too_big-first (measure_name measure) number in
+      refused_late _ (omega arith) (omega arith) (late_text (stop_exit (stop.TooBig measure number)) refl (omega arith)) h
   decides_command (Err stop.SourceTooLong) h = refused_late _ (omega arith) (omega arith) (late_text (stop_exit stop.SourceTooLong) refl (omega arith)) h
   decides_command (Err (stop.BadLine line flaw)) h =
       let first : get_or (source_fault_line line (line_flaw_name flaw)) 0 0 ≡ 108 = source_fault-first line (line_flaw_name flaw) in
@@ -139,6 +155,8 @@ module _ (invocation : Invocation) (old new : FilesState) (known : standing_of i
   decides_written name bytes mid comes (Err stop.UnknownPolicy) h = absurd h
   decides_written name bytes mid comes (Err (stop.Refused refusal)) h = absurd h
   decides_written name bytes mid comes (Err stop.ContainerTooLong) h = absurd h
+  decides_written name bytes mid comes (Err (stop.NotEasy part)) h = absurd h
+  decides_written name bytes mid comes (Err (stop.TooBig measure number)) h = absurd h
   decides_written name bytes mid comes (Err stop.SourceTooLong) h = absurd h
   decides_written name bytes mid comes (Err (stop.BadLine line flaw)) h = absurd h
   decides_written name bytes mid comes (Err (stop.BadSource flaw)) h = absurd h

@@ -29,6 +29,8 @@ module _ (request : Request) (f g : FilesState) (s t : SinkState) (status : ℕ)
   ends_of_decision (Err stop.UnknownPolicy) d p = decision_printed _ d p.put p.puts p.after
   ends_of_decision (Err (stop.Refused refusal)) d p = decision_printed _ d p.put p.puts p.after
   ends_of_decision (Err stop.ContainerTooLong) d p = decision_printed _ d p.put p.puts p.after
+  ends_of_decision (Err (stop.NotEasy part)) d p = decision_printed _ d p.put p.puts p.after
+  ends_of_decision (Err (stop.TooBig measure number)) d p = decision_printed _ d p.put p.puts p.after
   ends_of_decision (Err stop.SourceTooLong) d p = decision_printed _ d p.put p.puts p.after
   ends_of_decision (Err (stop.BadLine line flaw)) d p = decision_printed _ d p.put p.puts p.after
   ends_of_decision (Err (stop.BadSource flaw)) d p = decision_printed _ d p.put p.puts p.after

@@ -1,7 +1,8 @@
--- What `check` and `run` come to, by the policy and the file that are named.
+-- What `check`, `run` and `prove` come to, by the policy and the file that are named.
 use Rattle.std.proofs.Common.{◌≡◌, ℕ, ◌≤◌, Bool, true, false, List, [], ◌∷◌, length, Option, Some, None, Result, Ok, Err, nat_lt, le-ltb, if◌then◌else◌, refl, sym, ap, ◌∙◌}
 use Rattle.std.specs.FinMap as map
 use Rattle.file_port.specs.Files.{FileMap}
+use Rattle.file_port.proofs.FileMaps.{get-insert_same}
 use Rattle.alpha_words.specs.declared.insn.Insn.{Insn}
 use Rattle.alpha_cfg.specs.Machine.{IsState}
 use Rattle.policy_set.specs.declared.kind.PolicyKind.{PolicyKind}
@@ -18,15 +19,19 @@ use Rattle.pcc_gate.specs.Accepted.{IsAccepted}
 use Rattle.pcc_gate.specs.First.{first_refusal}
 use Rattle.pcc_gate.specs.Laws.{AcceptedFirst}
 use Rattle.pcc_gate.specs.Safe.{AcceptedSafe}
-use Rattle.pcc_words.specs.Invocations.{Invocation, asm, check, run, ref}
+use Rattle.pcc_gate.proofs.First.{accepted-none}
+use Rattle.bounds_prover.specs.declared.fault.ProveFault.{ProveFault}
+use Rattle.bounds_prover.specs.Proving.{proved_container}
+use Rattle.pcc_words.specs.Invocations.{Invocation, asm, prove, check, run, ref}
 use Rattle.pcc_lines.specs.Fixed.{accepted_line, unknown_policy_line, container_too_long_line}
 use Rattle.pcc_lines.specs.Refusals.{refusal_line}
 use Rattle.pcc_exit.specs.Exits.{Exit}
 use Rattle.pcc_cli.specs.declared.stages.TheConstants.{MAX_FILE}
-use Rattle.pcc_cli.specs.Stages.{Staged, Effect, ◌>>=◌, go_on, pure, refused, missing, policy_found, bytes_found, code_in, unless_refused, accepted_in, accepted_code_in, accepted_of, accepted_code_of, printing}
+use Rattle.pcc_cli.specs.Stages.{Staged, Effect, ◌>>=◌, go_on, pure, refused, missing, policy_found, bytes_found, code_in, unless_refused, accepted_in, accepted_code_in, container_proved, proved_in, accepted_of, accepted_code_of, proved_of, printing, writing}
 use Rattle.pcc_cli.specs.Commands.Check.{check_command}
+use Rattle.pcc_cli.specs.Commands.Prove.{prove_command}
 use Rattle.pcc_cli.specs.Commands.Running.{run_command}
-use Rattle.pcc_cli.specs.Headline.{HoldBytes, IsAcceptedFile, accepted_effect, CheckAccepts, lines_of_packets, RunAccepts, RunsSafely, Accepts, IsSafeToRun}
+use Rattle.pcc_cli.specs.Headline.{HoldBytes, IsAcceptedFile, accepted_effect, CheckAccepts, lines_of_packets, RunAccepts, WritesAccepted, ProveAccepts, RunsSafely, Accepts, IsSafeToRun}
 use Rattle.pcc_cli.proofs.StageLemmas.{go_on-ok}
 use Rattle.pcc_cli.proofs.RunLemmas.{accepted_code_of_bytes}
 
@@ -115,6 +120,15 @@ module _ (policy file : List ℕ) (files : FileMap) where
       ∙ ap (λ (f : Option (List ℕ)). judged_bytes file (Some a.kind) f) a.there
       ∙ ap (fitting a.kind a.bytes) (le-ltb MAX_FILE (length a.bytes) a.accepted.accepts.passes.size)
 
+  -- of an accepted file `check` prints `accepted`
+  to_accepted : IsAcceptedFile policy file files → (check_command policy file files).result ≡ Ok accepted_effect
+  unfolding accepted_in
+  to_accepted a =
+      check-by
+      ∙ ap (by_bytes file (λ kind bytes. accepted_in kind bytes) (λ kind accepted. printing accepted_line)) (judged-accepted a)
+      ∙ checked-is (first_refusal a.kind a.bytes)
+      ∙ ap checked (accepted-none a.kind a.bytes a.accepted)
+
   module _ (accepted_first : AcceptedFirst) (bytes_held : HoldBytes files) where
     -- where the answer is `accepted`, no clause fails
     none-refused : (r : Option Refusal) → checked r ≡ Ok accepted_effect → r ≡ None
@@ -128,14 +142,6 @@ module _ (policy file : List ℕ) (files : FileMap) where
         let j : IsJudged kind bytes = judged-ok (policy_of policy) (map.get files file) refl refl kind bytes is in
         let none : first_refusal kind bytes ≡ None = none-refused (first_refusal kind bytes) (sym (checked-is (first_refusal kind bytes)) ∙ e) in
         record { kind = kind; bytes = bytes; named = j.named; there = j.there; accepted = (accepted_first kind bytes (bytes_held file bytes j.there)).1 none }
-
-    to_accepted : IsAcceptedFile policy file files → (check_command policy file files).result ≡ Ok accepted_effect
-    unfolding accepted_in
-    to_accepted a =
-        check-by
-        ∙ ap (by_bytes file (λ kind bytes. accepted_in kind bytes) (λ kind accepted. printing accepted_line)) (judged-accepted a)
-        ∙ checked-is (first_refusal a.kind a.bytes)
-        ∙ ap checked ((accepted_first a.kind a.bytes (bytes_held file a.bytes a.there)).0 a.accepted)
 
     pub check_accepts : CheckAccepts policy file files
     check_accepts = ((λ e. from_judged judged refl (sym check-by ∙ e)), to_accepted)
@@ -168,6 +174,48 @@ module _ (policy file : List ℕ) (files : FileMap) where
           ∙ go_on-ok (accepted_code_in a.kind a.bytes).reads (λ code. after a.kind code) (accepted_code_in a.kind a.bytes).result a.accepted.code (accepted_code_of_bytes a.kind a.bytes a.accepted.contents a.accepted.code a.accepted.marks a.accepted.accepts.passes ((accepted_first a.kind a.bytes (bytes_held file a.bytes a.there)).0 a.accepted));
     }
 
+-- ---- prove
+
+-- what the prover makes of bytes is accepted
+abbrev pub ProvedAccepted : Type 0
+ProvedAccepted = (kind : PolicyKind) (bytes out : List ℕ) → IsBytes bytes → proved_container kind bytes ≡ Ok out → IsAccepted kind out
+
+module _ (policy input output : List ℕ) (files : FileMap) where
+  -- what `prove` comes to, by the prover's answer
+  abbrev made : Result (List ℕ) ProveFault → Result Effect Exit
+  made r = (pure (container_proved r) >>= λ bytes. writing output bytes).result
+
+  prove-by : (prove_command policy input output files).result ≡ by_bytes input (λ kind bytes. proved_in kind bytes) (λ kind bytes. writing output bytes) (judged policy input files)
+  unfolding prove_command proved_of
+  prove-by = whole input (λ kind bytes. proved_in kind bytes) (λ kind bytes. writing output bytes) (policy_of policy) (map.get files input)
+
+  one_effect : (x y : Effect) (r : Result Effect Exit) → r ≡ Ok x → r ≡ Ok y → y ≡ x
+  one_effect x y r e f = cc
+
+  module _ (proved_accepted : ProvedAccepted) (bytes_held : HoldBytes files) where
+    -- what is written is accepted
+    writes : (kind : PolicyKind) (bytes : List ℕ) → IsBytes bytes → policy_of policy ≡ Some kind → (r : Result (List ℕ) ProveFault) → proved_container kind bytes ≡ r → (effect : Effect) → made r ≡ Ok effect → WritesAccepted policy output files effect
+    writes kind bytes held named (Err fault) is effect e = absurd (cc)
+    writes kind bytes held named (Ok out) is effect e =
+        let there : map.get (map.insert files output out) output ≡ Some out = get-insert_same files output out in
+        let accepted : IsAcceptedFile policy output (map.insert files output out) = record { kind = kind; bytes = out; named = named; there = there; accepted = proved_accepted kind bytes out held is } in
+        record {
+          bytes = out;
+          is = one_effect _ effect (made (Ok out)) refl e;
+          accepted = accepted;
+          checked = to_accepted policy output (map.insert files output out) accepted;
+        }
+
+    from_proved : (j : Result (PolicyKind × List ℕ) Exit) → judged policy input files ≡ j → (effect : Effect) → by_bytes input (λ kind bytes. proved_in kind bytes) (λ kind bytes. writing output bytes) j ≡ Ok effect → WritesAccepted policy output files effect
+    unfolding proved_in
+    from_proved (Err exit) is effect e = absurd (cc)
+    from_proved (Ok (kind, bytes)) is effect e =
+        let j : IsJudged policy input files kind bytes = judged-ok policy input files (policy_of policy) (map.get files input) refl refl kind bytes is in
+        writes kind bytes (bytes_held input bytes j.there) j.named (proved_container kind bytes) refl effect e
+
+    pub prove_accepts : ProveAccepts policy input output files
+    prove_accepts effect e = from_proved (judged policy input files) refl effect (sym prove-by ∙ e)
+
 -- ---- what is accepted is safe
 
 -- a policy's start on a packet of bytes is a state, and meets the precondition
@@ -185,14 +233,16 @@ module _ (accepted_safe : AcceptedSafe) (state : StartsState) (meets : StartsMee
   pub safe_to_run : (o : Option Invocation) (files : FileMap) → IsSafeToRun o files
   safe_to_run None files = tt
   safe_to_run (Some (asm policy input output)) files = tt
+  safe_to_run (Some (prove policy input output)) files = λ bytes a. runs_safely a.kind a.bytes a.accepted
   safe_to_run (Some (check policy file)) files = λ a. runs_safely a.kind a.bytes a.accepted
   safe_to_run (Some (run policy file packets steps)) files = λ a. runs_safely a.kind a.bytes a.accepted
   safe_to_run (Some (ref policy file packets steps)) files = tt
 
 -- what the commands accept
-pub accepts : AcceptedFirst → (o : Option Invocation) (files : FileMap) → HoldBytes files → Accepts o files
-accepts first None files held = tt
-accepts first (Some (asm policy input output)) files held = tt
-accepts first (Some (check policy file)) files held = check_accepts policy file files first held
-accepts first (Some (run policy file packets steps)) files held = (check_accepts policy file files first held, run_accepts policy file files packets steps first held)
-accepts first (Some (ref policy file packets steps)) files held = tt
+pub accepts : AcceptedFirst → ProvedAccepted → (o : Option Invocation) (files : FileMap) → HoldBytes files → Accepts o files
+accepts first proved None files held = tt
+accepts first proved (Some (asm policy input output)) files held = tt
+accepts first proved (Some (prove policy input output)) files held = prove_accepts policy input output files proved held
+accepts first proved (Some (check policy file)) files held = check_accepts policy file files first held
+accepts first proved (Some (run policy file packets steps)) files held = (check_accepts policy file files first held, run_accepts policy file files packets steps first held)
+accepts first proved (Some (ref policy file packets steps)) files held = tt

@@ -1,7 +1,9 @@
 pub mod StageLemmas
 pub mod DecisionLemmas
 pub mod PolicyLemmas
+pub mod CopyLemmas
 pub mod AsmLemmas
+pub mod ProveLemmas
 pub mod CheckLemmas
 pub mod PacketLemmas
 pub mod RefLemmas

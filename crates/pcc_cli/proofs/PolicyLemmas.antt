@@ -33,6 +33,8 @@ module _ (invocation : Invocation) (next : PolicyKind → FileMap → Staged Eff
   no_policy_at state stop.UnknownPolicy h = unknown state h
   no_policy_at state (stop.Refused refusal) h = absurd h
   no_policy_at state stop.ContainerTooLong h = absurd h
+  no_policy_at state (stop.NotEasy part) h = absurd h
+  no_policy_at state (stop.TooBig measure number) h = absurd h
   no_policy_at state stop.SourceTooLong h = absurd h
   no_policy_at state (stop.BadLine line flaw) h = absurd h
   no_policy_at state (stop.BadSource flaw) h = absurd h

@@ -43,6 +43,8 @@ module _ {A B : Type 0} (stage : Staged A) (next : A → Staged B) where
   pure_first stop.UnknownPolicy h = absurd h
   pure_first (stop.Refused refusal) h = go_on-err stage.reads next stage.result _ h
   pure_first stop.ContainerTooLong h = go_on-err stage.reads next stage.result _ h
+  pure_first (stop.NotEasy part) h = go_on-err stage.reads next stage.result _ h
+  pure_first (stop.TooBig measure number) h = go_on-err stage.reads next stage.result _ h
   pure_first stop.SourceTooLong h = go_on-err stage.reads next stage.result _ h
   pure_first (stop.BadLine line flaw) h = go_on-err stage.reads next stage.result _ h
   pure_first (stop.BadSource flaw) h = go_on-err stage.reads next stage.result _ h
@@ -61,6 +63,8 @@ module _ {A B : Type 0} (stage : Staged A) (next : A → Staged B) where
   stops_pure_later x is stop.UnknownPolicy h = absurd h
   stops_pure_later x is (stop.Refused refusal) h = pure_later x is _ h
   stops_pure_later x is stop.ContainerTooLong h = pure_later x is _ h
+  stops_pure_later x is (stop.NotEasy part) h = pure_later x is _ h
+  stops_pure_later x is (stop.TooBig measure number) h = pure_later x is _ h
   stops_pure_later x is stop.SourceTooLong h = pure_later x is _ h
   stops_pure_later x is (stop.BadLine line flaw) h = pure_later x is _ h
   stops_pure_later x is (stop.BadSource flaw) h = pure_later x is _ h
@@ -89,6 +93,8 @@ lifted view names stage state (Err e) h = stopped e h
     stopped stop.UnknownPolicy h = absurd h
     stopped (stop.Refused refusal) h = comes _ h
     stopped stop.ContainerTooLong h = comes _ h
+    stopped (stop.NotEasy part) h = comes _ h
+    stopped (stop.TooBig measure number) h = comes _ h
     stopped stop.SourceTooLong h = comes _ h
     stopped (stop.BadLine line flaw) h = comes _ h
     stopped (stop.BadSource flaw) h = comes _ h
@@ -114,6 +120,8 @@ module _ {A B : Type 0} (stage : FileMap → Staged A) (next : A → FileMap →
   stops_first old new stop.UnknownPolicy h = absurd h
   stops_first old new (stop.Refused refusal) h = comes_first old new _ h
   stops_first old new stop.ContainerTooLong h = comes_first old new _ h
+  stops_first old new (stop.NotEasy part) h = comes_first old new _ h
+  stops_first old new (stop.TooBig measure number) h = comes_first old new _ h
   stops_first old new stop.SourceTooLong h = comes_first old new _ h
   stops_first old new (stop.BadLine line flaw) h = comes_first old new _ h
   stops_first old new (stop.BadSource flaw) h = comes_first old new _ h
@@ -140,6 +148,8 @@ module _ {A B : Type 0} (stage : FileMap → Staged A) (next : A → FileMap →
     stops_later stop.UnknownPolicy h = absurd h
     stops_later (stop.Refused refusal) h = comes_later _ h
     stops_later stop.ContainerTooLong h = comes_later _ h
+    stops_later (stop.NotEasy part) h = comes_later _ h
+    stops_later (stop.TooBig measure number) h = comes_later _ h
     stops_later stop.SourceTooLong h = comes_later _ h
     stops_later (stop.BadLine line flaw) h = comes_later _ h
     stops_later (stop.BadSource flaw) h = comes_later _ h

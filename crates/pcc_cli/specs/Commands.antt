@@ -1,4 +1,5 @@
 pub mod Assemble
 pub mod Check
+pub mod Prove
 pub mod Reference
 pub mod Running

@@ -1,4 +1,4 @@
--- What `check` and `run` accept, and what that is worth.
+-- What `check` and `run` accept, that what `prove` writes is accepted, and what that is worth.
 use Rattle.std.specs.Prelude.{◌≡◌, ℕ, ◌≤◌, ◌↔◌, List, length, Option, None, Some, Ok, Err}
 use Rattle.std.specs.FinMap as map
 use Rattle.file_port.specs.Files.{FileMap}
@@ -15,12 +15,14 @@ use Rattle.packet_store.specs.Results.{packet_result}
 use Rattle.proof_container.specs.Encoding.{IsBytes}
 use Rattle.vcgen.specs.Safety.{IsGoodEnd}
 use Rattle.pcc_gate.specs.Accepted.{IsAccepted}
-use Rattle.pcc_words.specs.Invocations.{Invocation, asm, check, run, ref}
+use Rattle.pcc_words.specs.Invocations.{Invocation, asm, prove, check, run, ref}
 use Rattle.pcc_lines.specs.Fixed.{accepted_line}
 use Rattle.pcc_lines.specs.Results.{result_lines}
+use Rattle.pcc_lines.specs.Sources.{written_line}
 use Rattle.pcc_exit.specs.Exits.{Exit}
 use Rattle.pcc_cli.specs.Stages.{Staged, Effect, ◌>>=◌, packets_of, printing}
 use Rattle.pcc_cli.specs.Commands.Check.{check_command}
+use Rattle.pcc_cli.specs.Commands.Prove.{prove_command}
 use Rattle.pcc_cli.specs.Commands.Running.{run_command}
 
 -- what files hold are bytes
@@ -52,6 +54,17 @@ pub record RunAccepts (policy file packets : List ℕ) (steps : ℕ) (files : Fi
   pub refused : (exit : Exit) → (check_command policy file files).result ≡ Err exit → (run_command policy file packets steps files).result ≡ Err exit
   pub accepted : (a : IsAcceptedFile policy file files) → (run_command policy file packets steps files).result ≡ (lines_of_packets a.kind a.accepted.code steps packets files).result
 
+-- What `prove` writes where it isn't refused: the file of the name OUT, which then is accepted under the policy, so that `check` of it prints `accepted`.
+pub record WritesAccepted (policy output : List ℕ) (files : FileMap) (effect : Effect) : Type 0 where
+  pub bytes : List ℕ
+  pub is : effect ≡ record { text = written_line (length bytes); change = Some (output, bytes) }
+  pub accepted : IsAcceptedFile policy output (map.insert files output bytes)
+  pub checked : (check_command policy output (map.insert files output bytes)).result ≡ Ok accepted_effect
+
+-- `prove` is refused, or writes what is accepted
+abbrev pub ProveAccepts : List ℕ → List ℕ → List ℕ → FileMap → Type 0
+ProveAccepts policy input output files = (effect : Effect) → (prove_command policy input output files).result ≡ Ok effect → WritesAccepted policy output files effect
+
 -- From each start of the policy no run of the code is blocked, whatever the budget, and a return satisfies the postcondition.
 abbrev pub RunsSafely : PolicyKind → List Insn → Type 0
 RunsSafely policy code = (packet : List ℕ) (setup : StartView) (budget : ℕ) → IsBytes packet → length packet ≤ MAX_PACKET → start_of policy packet ≡ Some setup → IsGoodEnd (post_of policy) (run_of code budget (start_state ARENA setup))
@@ -62,6 +75,7 @@ RunsSafely policy code = (packet : List ℕ) (setup : StartView) (budget : ℕ) 
 abbrev pub Accepts : Option Invocation → FileMap → Type 0
 Accepts None files = Unit {0}
 Accepts (Some (asm policy input output)) files = Unit {0}
+Accepts (Some (prove policy input output)) files = ProveAccepts policy input output files
 Accepts (Some (check policy file)) files = CheckAccepts policy file files
 Accepts (Some (run policy file packets steps)) files = CheckAccepts policy file files × RunAccepts policy file packets steps files
 Accepts (Some (ref policy file packets steps)) files = Unit {0}
@@ -74,6 +88,7 @@ AcceptedRunsSafely policy file files = (a : IsAcceptedFile policy file files) �
 abbrev pub IsSafeToRun : Option Invocation → FileMap → Type 0
 IsSafeToRun None files = Unit {0}
 IsSafeToRun (Some (asm policy input output)) files = Unit {0}
+IsSafeToRun (Some (prove policy input output)) files = (bytes : List ℕ) → AcceptedRunsSafely policy output (map.insert files output bytes)
 IsSafeToRun (Some (check policy file)) files = AcceptedRunsSafely policy file files
 IsSafeToRun (Some (run policy file packets steps)) files = AcceptedRunsSafely policy file files
 IsSafeToRun (Some (ref policy file packets steps)) files = Unit {0}

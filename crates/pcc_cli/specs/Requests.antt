@@ -3,7 +3,7 @@ use Rattle.std.specs.Prelude.{ℕ, List, [], ◌∷◌, Option, Some, None, Resu
 use Rattle.file_port.specs.Files.{FileMap}
 use Rattle.policy_set.specs.declared.kind.PolicyKind.{PolicyKind}
 use Rattle.policy_set.specs.Names.{policy_of}
-use Rattle.pcc_words.specs.Invocations.{Invocation, asm, check, run, ref, command_of}
+use Rattle.pcc_words.specs.Invocations.{Invocation, asm, prove, check, run, ref, command_of}
 use Rattle.pcc_lines.specs.Fixed.{usage_line, unknown_policy_line}
 use Rattle.pcc_lines.specs.Named.{read_fault_line, write_fault_line}
 use Rattle.pcc_exit.specs.Exits.{Exit, Answer}
@@ -11,6 +11,7 @@ use Rattle.pcc_exit.specs.Requests.{Request, Standing, Texts, no_command, unknow
 use Rattle.pcc_cli.specs.Stages.{Staged, Effect}
 use Rattle.pcc_cli.specs.Commands.Assemble.{asm_command}
 use Rattle.pcc_cli.specs.Commands.Check.{check_command}
+use Rattle.pcc_cli.specs.Commands.Prove.{prove_command}
 use Rattle.pcc_cli.specs.Commands.Reference.{ref_command}
 use Rattle.pcc_cli.specs.Commands.Running.{run_command}
 
@@ -28,6 +29,7 @@ texts = record {
 -- what a command comes to over files
 abbrev pub stages_of : Invocation → FileMap → Staged Effect
 stages_of (asm policy input output) files = asm_command policy input output files
+stages_of (prove policy input output) files = prove_command policy input output files
 stages_of (check policy file) files = check_command policy file files
 stages_of (run policy file packets steps) files = run_command policy file packets steps files
 stages_of (ref policy file packets steps) files = ref_command policy file packets steps files
@@ -35,6 +37,7 @@ stages_of (ref policy file packets steps) files = ref_command policy file packet
 -- the files that a command reads, whatever they hold
 abbrev pub names_of : Invocation → List (List ℕ)
 names_of (asm policy input output) = input ∷ []
+names_of (prove policy input output) = input ∷ []
 names_of (check policy file) = file ∷ []
 names_of (run policy file packets steps) = file ∷ packets ∷ []
 names_of (ref policy file packets steps) = file ∷ packets ∷ []
@@ -47,6 +50,7 @@ standing_on (Some policy) = command
 -- the policy that a command names
 abbrev pub policy_name_of : Invocation → List ℕ
 policy_name_of (asm policy input output) = policy
+policy_name_of (prove policy input output) = policy
 policy_name_of (check policy file) = policy
 policy_name_of (run policy file packets steps) = policy
 policy_name_of (ref policy file packets steps) = policy

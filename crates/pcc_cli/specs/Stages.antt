@@ -25,10 +25,15 @@ use Rattle.pcc_lines.specs.Fixed.{unknown_policy_line, container_too_long_line, 
 use Rattle.pcc_lines.specs.Sources.{source_fault_line, written_line}
 use Rattle.pcc_lines.specs.Named.{missing_line}
 use Rattle.pcc_lines.specs.PacketFaults.{packet_fault_line}
+use Rattle.pcc_lines.specs.Proving.{not_easy_line, too_big_line}
 use Rattle.pcc_lines.specs.Refusals.{refusal_line}
 use Rattle.pcc_gate.specs.declared.refusal.Refusal.{Refusal}
 use Rattle.pcc_gate.specs.declared.refusal.Refusal.TheVariants as refusal
 use Rattle.pcc_gate.specs.First.{first_refusal}
+use Rattle.bounds_prover.specs.declared.fault.ProveFault.{ProveFault}
+use Rattle.bounds_prover.specs.declared.fault.ProveFault.TheVariants as fault
+use Rattle.bounds_prover.specs.Names.{measure_name}
+use Rattle.bounds_prover.specs.Proving.{proved_container}
 use Rattle.pcc_exit.specs.Exits.{Exit, Change}
 use Rattle.pcc_cli.specs.declared.stages.TheConstants.{MAX_FILE}
 
@@ -65,6 +70,17 @@ refused text = record { status = 1; text = text }
 -- there is no file of the name
 abbrev pub missing : List ℕ → Exit
 missing name = record { status = 3; text = missing_line name }
+
+-- there was no memory
+abbrev pub no_memory : Exit
+no_memory = record { status = 5; text = [] }
+
+-- the prover makes no container, and why
+abbrev pub no_container : ProveFault → Exit
+no_container (fault.Refused refusal) = refused (refusal_line refusal)
+no_container (fault.NotEasy part) = refused (not_easy_line part)
+no_container (fault.TooBig measure number) = refused (too_big_line (measure_name measure) number)
+no_container fault.Memory = no_memory
 
 -- ---- stages that read no file
 
@@ -111,6 +127,15 @@ unfoldable pub accepted_code_in : PolicyKind → List ℕ → Staged (List Insn)
 accepted_code_in policy bytes = do
   accepted ← accepted_in policy bytes
   code_in policy bytes
+
+-- what the prover makes
+abbrev pub container_proved : Result (List ℕ) ProveFault → Result (List ℕ) Exit
+container_proved (Ok bytes) = Ok bytes
+container_proved (Err fault) = Err (no_container fault)
+
+-- the bytes of the container with a proof of its condition under the policy, or why there is none
+unfoldable pub proved_in : PolicyKind → List ℕ → Staged (List ℕ)
+proved_in policy bytes = pure (container_proved (proved_container policy bytes))
 
 -- what was read as a source
 abbrev pub source_found : Result Source (ℕ × LineFlaw) → Result Source Exit
@@ -171,6 +196,12 @@ unfoldable pub accepted_of : PolicyKind → List ℕ → FileMap → Staged (Uni
 accepted_of policy name files = do
   bytes ← container_bytes_of name files
   accepted_in policy bytes
+
+-- the same of the container in the file of the name
+unfoldable pub proved_of : PolicyKind → List ℕ → FileMap → Staged (List ℕ)
+proved_of policy name files = do
+  bytes ← container_bytes_of name files
+  proved_in policy bytes
 
 -- the packets in the file of the name
 unfoldable pub packets_of : List ℕ → FileMap → Staged (List (List ℕ))

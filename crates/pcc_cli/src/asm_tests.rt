@@ -1,6 +1,6 @@
 //! Sources that `asm` assembles, over files and output in memory.
 
-use crate::test_files::{ends_so, file};
+use crate::test_files::{SUM, ends_so, file};
 use file_port::MemFiles;
 use std::alloc::{AllocError, Global};
 use std::test::Fail;
@@ -54,21 +54,6 @@ fn written_and_run(rt: HostRuntime) -> Result<(), Fail> {
     assert!(rt; files.get("S") == Some(&ONE));
     Ok(())
 }
-
-/// A table's quadwords, added up.
-const SUM: &str = "      lda r0,0(r31)
-      lda r4,0(r31)
-      .inv (all i (imp (ult i r17) (and (rd (add r16 (sll i 3))) (wr (add r16 (sll i 3))))))
-loop: cmpult r4,r17,r5
-      beq r5,done
-      sll r4,3,r6
-      addq r16,r6,r6
-      ldq r7,0(r6)
-      addq r0,r7,r0
-      addq r4,1,r4
-      br loop
-done: ret
-";
 
 #[test]
 fn a_loop_with_its_invariant(rt: HostRuntime) -> Result<(), Fail> {

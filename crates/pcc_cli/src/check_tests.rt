@@ -1,7 +1,8 @@
 //! Containers that `check` judges, over files and output in memory.
 
 use crate::test_files::{
-    BARE, LDA, LOOP, PROOF, RETURN, add_fields, container, ends_on, file, with_field,
+    BARE, LDA, LOOP, PROOF, RETURN, abstractions, add_fields, container, doubling, ends_on, file,
+    looping, with_field,
 };
 use std::alloc::{AllocError, Global};
 use std::test::Fail;
@@ -136,23 +137,10 @@ fn unfolded_lengths(rt: HostRuntime) -> Result<(), Fail> {
         (2, "refused 9 NoProof\n"),
         (3, "refused 8 UnfoldLimit 65537\n"),
     ] {
-        let mut code = Vec::new(a);
-        for _ in 0..front {
-            code.push(0x47ff_041f)?;
-        }
-        for _ in 0..14 {
-            code.extend_from_slice(&[0xe420_0001, 0x47ff_041f])?;
-        }
-        code.extend_from_slice(&[LDA, RETURN])?;
-        let bytes = container(a, 1, &code, &BARE)?;
+        let bytes = container(a, 1, &doubling(a, front)?, &BARE)?;
         assert!(rt; is_refused(a, bytes, output)?, "{output}");
     }
     Ok(())
-}
-
-/// `loop: br loop`, with these words behind the code.
-fn looping(alloc: Global, behind: &[u32]) -> Result<Vec<u8>, AllocError> {
-    container(alloc, 1, &[0xc3ff_ffff], behind)
 }
 
 #[test]
@@ -218,17 +206,6 @@ fn other_terms(rt: HostRuntime) -> Result<(), Fail> {
         assert!(rt; is_refused(a, looping(a, behind)?, output)?, "{output}");
     }
     Ok(())
-}
-
-/// A variable under so many abstractions, as an invariant of the loop.
-fn abstractions(alloc: Global, count: u32) -> Result<Vec<u8>, AllocError> {
-    let mut behind = Vec::new(alloc);
-    behind.extend_from_slice(&[count.saturating_add(1), 0, 0])?;
-    for below in 0..count {
-        behind.extend_from_slice(&[7, below])?;
-    }
-    behind.extend_from_slice(&[1, 0, count, 0])?;
-    looping(alloc, &behind)
 }
 
 /// The greatest height and one more, and terms whose trees are far larger than their entries.

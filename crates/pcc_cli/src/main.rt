@@ -1,4 +1,4 @@
-//! `pcc`: assembles, judges and runs Alpha code that carries its proof.
+//! `pcc`: assembles, proves, judges and runs Alpha code that carries its proof.
 //!
 //! The top call is `pcc`; `main` makes the real files and output and calls it. What arguments ask
 //! for stands in `specs/Requests`, over the stages in `specs/Stages` and a file a command in
@@ -11,7 +11,11 @@ mod asm_tests;
 #[cfg(test)]
 mod check_tests;
 mod commands;
+#[cfg(test)]
+mod goal_tests;
 mod pcc;
+#[cfg(test)]
+mod prove_tests;
 mod report;
 #[cfg(test)]
 mod run_tests;

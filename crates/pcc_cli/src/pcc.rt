@@ -9,7 +9,7 @@ ghost use Rattle.pcc_cli.specs.Requests.{request_of};
 ghost use Rattle.pcc_cli.specs.Headline.{HoldBytes, Accepts, IsSafeToRun};
 ghost use Rattle.pcc_cli.specs.Inside.Decisions.{Decides, Prints, exit_of, status_after};
 
-use crate::commands::{asm_command, check_command, ref_command, run_command};
+use crate::commands::{asm_command, check_command, prove_command, ref_command, run_command};
 use crate::report::Report;
 use crate::stop::Stop;
 use file_port::{Files, Put, Sink};
@@ -27,6 +27,7 @@ fn decide<'a, F: Files>(
 {
     match read_arguments(alloc, words) {
         Ok(Some(Command::Asm(args))) => asm_command(alloc, args, files),
+        Ok(Some(Command::Prove(args))) => prove_command(alloc, args, files),
         Ok(Some(Command::Check(args))) => check_command(alloc, args, files),
         Ok(Some(Command::Run(args))) => run_command(alloc, args, files),
         Ok(Some(Command::Ref(args))) => ref_command(alloc, args, files),
@@ -63,9 +64,10 @@ fn print<S: Sink>(decision: Result<Report, Stop<'_>>, out: &mut S) -> u8
 /// Reads and refuses first, and prints then; nothing is printed before all files were read.
 ///
 /// By `accepts`, `check` answers `accepted` exactly where the file is accepted under the policy,
-/// and `run` refuses what `check` refuses, and else answers what the machine that tests every
-/// access makes of the code. By `safe`, no run of accepted code from a start of the policy is
-/// blocked, whatever the budget, and what it returns satisfies the postcondition.
+/// `run` refuses what `check` refuses, and else answers what the machine that tests every access
+/// makes of the code, and what `prove` writes is accepted. By `safe`, no run of accepted code from a
+/// start of the policy is blocked, whatever the budget, and what it returns satisfies the
+/// postcondition.
 pub fn pcc<F: Files, S: Sink>(alloc: Global, words: Vec<String>, files: &mut F, out: &mut S) -> u8
     ensures ends { Ends (request_of (map string_bytes words.items))
         (F.state files.old) (F.state files.new) (S.state out.old) (S.state out.new) result }
@@ -77,6 +79,7 @@ pub fn pcc<F: Files, S: Sink>(alloc: Global, words: Vec<String>, files: &mut F, 
 {
     pcc_gate::laws();
     packet_store::laws();
+    bounds_prover::prove_laws();
     let decision = decide(alloc, words.as_slice(), files);
     print(decision, out)
 }

@@ -16,6 +16,7 @@ use crate::report::Report;
 use crate::stop::Stop;
 use alpha_cfg::{Code, CodeFault};
 use asm_text::{LineFault, MAX_SOURCE, Source, read_source};
+use bounds_prover::{ProveFault, prove};
 use file_port::{Files, Got, Put};
 use packet_store::PacketFile;
 use pcc_asm::{AsmFault, assemble};
@@ -116,6 +117,19 @@ fn accepted_in<'a>(alloc: Global, policy: &Policy, bytes: &[u8]) -> Result<Accep
     judged(alloc, policy, bytes)
 }
 
+/// The bytes of the container with a proof of its condition under the policy, or why there is none.
+fn proved_in<'a>(alloc: Global, policy: &Policy, bytes: &[u8]) -> Result<Vec<u8>, Stop<'a>>
+    ensures { GivesPure (λ bytes. bytes.items) (stages.proved_in policy.now bytes.now) result }
+{
+    match prove(alloc, policy, bytes) {
+        Ok(container) => Ok(container),
+        Err(ProveFault::Refused(refusal)) => Err(Stop::Refused(refusal)),
+        Err(ProveFault::NotEasy(part)) => Err(Stop::NotEasy(part)),
+        Err(ProveFault::TooBig(measure, number)) => Err(Stop::TooBig(measure, number)),
+        Err(ProveFault::Memory) => Err(Stop::Memory),
+    }
+}
+
 /// The source that the text spells.
 #[tactic(auto, unfolding(crate::specs::Stages::source_in))]
 fn source_in<'a>(alloc: Global, text: &[u8]) -> Result<Source, Stop<'a>>
@@ -211,6 +225,21 @@ pub fn accepted_of<'a, F: Files>(
 {
     let bytes = container_bytes_of(alloc, name, files)?;
     accepted_in(alloc, policy, &bytes)
+}
+
+/// The same of the container in the file of the name.
+pub fn proved_of<'a, F: Files>(
+    alloc: Global,
+    policy: &Policy,
+    name: &'a str,
+    files: &mut F,
+) -> Result<Vec<u8>, Stop<'a>>
+    ensures { Gives (λ bytes. bytes.items) (name.entry.now ∷ [])
+        (stages.proved_of policy.now name.entry.now)
+        (F.state files.old) (F.state files.new) result }
+{
+    let bytes = container_bytes_of(alloc, name, files)?;
+    proved_in(alloc, policy, &bytes)
 }
 
 /// The packets in the file of the name.

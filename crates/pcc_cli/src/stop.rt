@@ -5,14 +5,15 @@ ghost use Rattle.file_port.specs.Sink.{Puts};
 ghost use Rattle.pcc_cli.specs.Inside.Decisions.{stop_exit};
 
 use asm_text::LineFlaw;
+use bounds_prover::Measure;
 use file_port::{Put, Sink};
 use packet_store::PacketFault;
 use pcc_asm::AsmFlaw;
 use pcc_gate::Refusal;
 use pcc_lines::{
-    print_container_too_long, print_missing, print_packet_fault, print_packets_too_long,
-    print_read_fault, print_refusal, print_source_fault, print_source_too_long,
-    print_unknown_policy, print_usage, print_write_fault,
+    print_container_too_long, print_missing, print_not_easy, print_packet_fault,
+    print_packets_too_long, print_read_fault, print_refusal, print_source_fault,
+    print_source_too_long, print_too_big, print_unknown_policy, print_usage, print_write_fault,
 };
 
 /// What ends a command before it is done.
@@ -26,6 +27,11 @@ pub enum Stop<'a> {
     Refused(Refusal),
     /// The container's file is longer than a file may be.
     ContainerTooLong,
+    /// The first part of the container's condition that isn't easy: 0 is the start's, k + 1 that of
+    /// invariant k.
+    NotEasy(u32),
+    /// The proof, or the container with it, is past a limit: the first, and its measure.
+    TooBig(Measure, u64),
     /// The source's file is longer than a source may be.
     SourceTooLong,
     /// The line of this number, from 1, is the first that is wrong; 0 where there is no instruction.
@@ -55,6 +61,8 @@ impl Stop<'_> {
             Stop::UnknownPolicy
             | Stop::Refused(_)
             | Stop::ContainerTooLong
+            | Stop::NotEasy(_)
+            | Stop::TooBig(_, _)
             | Stop::SourceTooLong
             | Stop::BadLine(_, _)
             | Stop::BadSource(_)
@@ -76,6 +84,8 @@ impl Stop<'_> {
             Stop::UnknownPolicy => print_unknown_policy(out),
             Stop::Refused(refusal) => print_refusal(*refusal, out),
             Stop::ContainerTooLong => print_container_too_long(out),
+            Stop::NotEasy(part) => print_not_easy(*part, out),
+            Stop::TooBig(measure, number) => print_too_big(measure.name(), *number, out),
             Stop::SourceTooLong => print_source_too_long(out),
             Stop::BadLine(line, flaw) => print_source_fault(*line, flaw.name(), out),
             Stop::BadSource(flaw) => print_source_fault(flaw.line(), flaw.name(), out),

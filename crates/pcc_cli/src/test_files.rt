@@ -1,8 +1,9 @@
-//! Containers that the tests of several commands use, as words of 32 bits, and how the program ends
-//! on files in memory.
+//! Sources and containers, as words of 32 bits, that the tests of several commands use, and how the
+//! program ends on files in memory.
 
 use crate::pcc::pcc;
 use file_port::{MemFiles, MemSink};
+use sha2::{Digest, Sha256};
 use std::alloc::{AllocError, Global};
 
 /// `lda r0,1(r31)`.
@@ -146,6 +147,21 @@ pub(crate) const KEEPING: [u32; 5] = [
     0x6bfa_8001,
 ];
 
+/// A table's quadwords, added up.
+pub(crate) const SUM: &str = "      lda r0,0(r31)
+      lda r4,0(r31)
+      .inv (all i (imp (ult i r17) (and (rd (add r16 (sll i 3))) (wr (add r16 (sll i 3))))))
+loop: cmpult r4,r17,r5
+      beq r5,done
+      sll r4,3,r6
+      addq r16,r6,r6
+      ldq r7,0(r6)
+      addq r0,r7,r0
+      addq r4,1,r4
+      br loop
+done: ret
+";
+
 pub(crate) fn add_fields(bytes: &mut Vec<u8>, fields: &[u32]) -> Result<(), AllocError> {
     for field in fields {
         bytes.extend_from_slice(&field.to_le_bytes())?;
@@ -169,6 +185,35 @@ pub(crate) fn container(
     add_fields(&mut bytes, code)?;
     add_fields(&mut bytes, behind)?;
     Ok(bytes)
+}
+
+/// `loop: br loop`, with these words behind the code.
+pub(crate) fn looping(alloc: Global, behind: &[u32]) -> Result<Vec<u8>, AllocError> {
+    container(alloc, 1, &[0xc3ff_ffff], behind)
+}
+
+/// A variable under so many abstractions, as an invariant of the loop.
+pub(crate) fn abstractions(alloc: Global, count: u32) -> Result<Vec<u8>, AllocError> {
+    let mut behind = Vec::new(alloc);
+    behind.extend_from_slice(&[count.saturating_add(1), 0, 0])?;
+    for below in 0..count {
+        behind.extend_from_slice(&[7, below])?;
+    }
+    behind.extend_from_slice(&[1, 0, count, 0])?;
+    looping(alloc, &behind)
+}
+
+/// Code that begins with so many `nop` and then branches fourteen times to the same place either way.
+pub(crate) fn doubling(alloc: Global, front: u32) -> Result<Vec<u32>, AllocError> {
+    let mut code = Vec::new(alloc);
+    for _ in 0..front {
+        code.push(0x47ff_041f)?;
+    }
+    for _ in 0..14 {
+        code.extend_from_slice(&[0xe420_0001, 0x47ff_041f])?;
+    }
+    code.extend_from_slice(&[LDA, RETURN])?;
+    Ok(code)
 }
 
 /// The words of a command line, parted by blanks.
@@ -236,4 +281,23 @@ pub(crate) fn ends_on(
 ) -> Result<bool, AllocError> {
     let mut files = MemFiles::new(alloc, files, 0, Vec::from_slice(alloc, failing.0)?)?;
     ends_so(alloc, &mut files, words, failing.1, ends)
+}
+
+/// The status of the program on these files.
+pub(crate) fn status_on(
+    alloc: Global,
+    files: &mut MemFiles,
+    words: &str,
+) -> Result<u8, AllocError> {
+    let mut out = MemSink::new(alloc, 200, Vec::new(alloc))?;
+    Ok(pcc(alloc, words_of(alloc, words)?, files, &mut out))
+}
+
+/// The SHA-256 of bytes, in hexadecimal.
+pub(crate) fn digest_of(alloc: Global, bytes: &[u8]) -> Result<String, AllocError> {
+    let mut text = String::new(alloc);
+    for byte in Sha256::digest(bytes).iter() {
+        text.push_str(format!(in alloc; "{byte:02x}")?.as_str())?;
+    }
+    Ok(text)
 }

@@ -4,14 +4,16 @@
 //! a put fails, is put. A line is made in a fixed buffer and put as one piece; a line with a name
 //! is three pieces. No call takes memory. A file of `src/` has its definitions in the file of
 //! `specs/` with the same name: lines that are always the same (`Fixed`), lines with a name
-//! (`Named`), faults of packet files (`PacketFaults`), refusals (`Refusals`), result lines
-//! (`Results`), and what is said of a source (`Sources`). The names of the kinds of faults come from the crates that have the kinds.
+//! (`Named`), faults of packet files (`PacketFaults`), why there is no proof (`Proving`), refusals
+//! (`Refusals`), result lines (`Results`), and what is said of a source (`Sources`). The names of the
+//! kinds of faults, and of measures, come from the crates that have them.
 #![tactic(auto)]
 
 mod fixed;
 mod line;
 mod named;
 mod packet_faults;
+mod proving;
 mod refusals;
 mod results;
 mod sources;
@@ -24,6 +26,7 @@ pub use fixed::{
 };
 pub use named::{print_missing, print_read_fault, print_write_fault};
 pub use packet_faults::print_packet_fault;
+pub use proving::{MAX_MEASURE, print_not_easy, print_too_big};
 pub use refusals::print_refusal;
 pub use results::print_results;
 pub use sources::{MAX_SOURCE_KIND, print_source_fault, print_written};

@@ -1,9 +1,10 @@
 //! Lines over output in memory.
 
 use crate::{
-    print_accepted, print_container_too_long, print_missing, print_packets_too_long,
-    print_read_fault, print_refusal, print_source_fault, print_source_too_long,
-    print_unknown_policy, print_usage, print_write_fault, print_written,
+    print_accepted, print_container_too_long, print_missing, print_not_easy,
+    print_packets_too_long, print_read_fault, print_refusal, print_source_fault,
+    print_source_too_long, print_too_big, print_unknown_policy, print_usage, print_write_fault,
+    print_written,
 };
 use alpha_cfg::CodeFlaw;
 use alpha_words::BadWord;
@@ -23,6 +24,9 @@ refused 1 TooLong
 source TooLong
 line 7 DoubleInvariant
 written 36
+not easy 0
+too big entries 461283
+too big bytes 18446744073709551615
 ";
 
 #[test]
@@ -39,6 +43,9 @@ fn lines_in_order(rt: HostRuntime) -> Result<(), Fail> {
     print_source_too_long(&mut out);
     print_source_fault(7, "DoubleInvariant", &mut out);
     print_written(36, &mut out);
+    print_not_easy(0, &mut out);
+    print_too_big("entries", 461_283, &mut out);
+    print_too_big("bytes", 18_446_744_073_709_551_615, &mut out);
     assert!(rt; out.bytes() == LINES.as_bytes());
     Ok(())
 }

@@ -1,12 +1,13 @@
 -- Commands without where their values lie in memory.
 use Rattle.std.specs.Prelude.{◌≤◌}
-use Rattle.pcc_words.specs.Invocations.{Invocation, asm, check, run, ref}
+use Rattle.pcc_words.specs.Invocations.{Invocation, asm, prove, check, run, ref}
 use Rattle.pcc_words.specs.declared.commands.Command.{Command}
 use Rattle.pcc_words.specs.declared.commands.Command.TheVariants as command
 
 -- the command with its values
 abbrev pub invocation_of : Command → Invocation
 invocation_of (command.Asm args) = asm args.policy.now args.input.now args.output.now
+invocation_of (command.Prove args) = prove args.policy.now args.input.now args.output.now
 invocation_of (command.Check args) = check args.policy.now args.file.now
 invocation_of (command.Run args) = run args.policy.now args.file.now args.packets.now args.steps
 invocation_of (command.Ref args) = ref args.policy.now args.file.now args.packets.now args.steps
@@ -14,6 +15,7 @@ invocation_of (command.Ref args) = ref args.policy.now args.file.now args.packet
 -- The numbers of a command are in their ranges.
 abbrev pub IsInRange : Command → Type 0
 IsInRange (command.Asm args) = Unit {0}
+IsInRange (command.Prove args) = Unit {0}
 IsInRange (command.Check args) = Unit {0}
 IsInRange (command.Run args) = (1 ≤ args.steps) × (args.steps ≤ 1000000000)
 IsInRange (command.Ref args) = (1 ≤ args.steps) × (args.steps ≤ 1000000000)

@@ -40,7 +40,9 @@ bare_app = on_top (λ top. record top { no_binary_name = true }) (new_app (codes
 
 -- the program with the commands that run no code
 abbrev pub file_commands_app : App
-file_commands_app = with_subcommand (with_subcommand bare_app (copy_app (codes "asm")).top) (file_app (codes "check")).top
+file_commands_app =
+    with_subcommand (with_subcommand (with_subcommand bare_app (copy_app (codes "asm")).top) (copy_app (codes "prove")).top)
+    (file_app (codes "check")).top
 
 -- the program
 abbrev pub pcc_app : App
@@ -52,6 +54,8 @@ pcc_app = with_subcommand (with_subcommand file_commands_app (run_app (codes "ru
 pub data Invocation : Type 0 where
   -- `asm POLICY IN OUT`
   asm : Text → Text → Text → Invocation
+  -- `prove POLICY IN OUT`
+  prove : Text → Text → Text → Invocation
   -- `check POLICY FILE`
   check : Text → Text → Invocation
   -- `run POLICY FILE PACKETS`, and the steps for a packet
@@ -101,6 +105,7 @@ file_invocation command rows = command (value_of (codes "POLICY") rows) (value_o
 abbrev pub invocation_at : Text → List Row → Option Invocation
 invocation_at name rows =
     if bytes_eq name (codes "asm") then Some (copy_invocation asm rows) else
+    if bytes_eq name (codes "prove") then Some (copy_invocation prove rows) else
     if bytes_eq name (codes "check") then Some (file_invocation check rows) else
     if bytes_eq name (codes "run") then run_invocation run rows else
     if bytes_eq name (codes "ref") then run_invocation ref rows else

@@ -66,6 +66,7 @@ fn file_commands<'a>(alloc: Global) -> Result<Command<'a>, AllocError>
     Command::new(alloc, "pcc")
         .no_binary_name(true)
         .subcommand(copy_command(alloc, "asm")?)?
+        .subcommand(copy_command(alloc, "prove")?)?
         .subcommand(file_command(alloc, "check")?)
 }
 

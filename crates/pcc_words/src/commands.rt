@@ -38,6 +38,8 @@ pub struct RunArgs<'a> {
 pub enum Command<'a> {
     /// Assembles a source into a container without a proof.
     Asm(CopyArgs<'a>),
+    /// Makes of a container one with a proof.
+    Prove(CopyArgs<'a>),
     /// Judges a container.
     Check(FileArgs<'a>),
     /// Runs accepted code on packets, by the host that tests no access.

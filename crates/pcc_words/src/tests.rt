@@ -49,6 +49,11 @@ fn arguments_of_others(rt: HostRuntime) -> Result<(), Fail> {
         input: "S1",
         output: "C1",
     });
+    let proving = Command::Prove(CopyArgs {
+        policy: "tag",
+        input: "C1",
+        output: "C2",
+    });
     let checking = Command::Check(FileArgs {
         policy: "filter",
         file: "C1",
@@ -65,6 +70,9 @@ fn arguments_of_others(rt: HostRuntime) -> Result<(), Fail> {
         ("asm filter S1 C1", Some(assembling)),
         ("asm filter S1", None),
         ("asm filter S1 C1 more", None),
+        ("prove tag C1 C2", Some(proving)),
+        ("prove tag C1", None),
+        ("prove tag C1 C2 more", None),
         ("check filter C1", Some(checking)),
         ("check filter", None),
         ("check filter C1 more", None),

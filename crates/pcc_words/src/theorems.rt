@@ -1,11 +1,13 @@
 //! What the definition of the command line says of some arguments, with nothing to run.
 ghost use Rattle.std.specs.Prelude.{◌≡◌, Some, None, [], ◌∷◌, codes};
-ghost use Rattle.pcc_words.specs.Invocations.{command_of, asm, check, run, ref};
+ghost use Rattle.pcc_words.specs.Invocations.{command_of, asm, prove, check, run, ref};
 
 /// Arguments that are a command.
 pub fn worked_commands()
     ensures asm { command_of (codes "asm" ∷ codes "filter" ∷ codes "S1" ∷ codes "C1" ∷ [])
         ≡ Some (asm (codes "filter") (codes "S1") (codes "C1")) }
+    ensures prove { command_of (codes "prove" ∷ codes "tag" ∷ codes "C1" ∷ codes "C2" ∷ [])
+        ≡ Some (prove (codes "tag") (codes "C1") (codes "C2")) }
     ensures check { command_of (codes "check" ∷ codes "filter" ∷ codes "C1" ∷ [])
         ≡ Some (check (codes "filter") (codes "C1")) }
     ensures run { command_of (codes "run" ∷ codes "filter" ∷ codes "P1" ∷ codes "Z64" ∷ [])
@@ -60,6 +62,11 @@ pub fn worked_faults()
     ensures asm_too_few { command_of (codes "asm" ∷ codes "filter" ∷ codes "S1" ∷ []) ≡ None }
     ensures asm_too_many { command_of (codes "asm" ∷ codes "filter" ∷ codes "S1" ∷ codes "C1"
         ∷ codes "more" ∷ []) ≡ None }
+    ensures prove_too_few { command_of (codes "prove" ∷ codes "tag" ∷ codes "C1" ∷ []) ≡ None }
+    ensures prove_too_many { command_of (codes "prove" ∷ codes "tag" ∷ codes "C1" ∷ codes "C2"
+        ∷ codes "more" ∷ []) ≡ None }
+    ensures prove_has_no_steps { command_of (codes "prove" ∷ codes "tag" ∷ codes "C1"
+        ∷ codes "C2" ∷ codes "--steps=1" ∷ []) ≡ None }
     ensures check_too_few { command_of (codes "check" ∷ codes "filter" ∷ []) ≡ None }
     ensures check_too_many { command_of (codes "check" ∷ codes "filter" ∷ codes "C1"
         ∷ codes "more" ∷ []) ≡ None }
@@ -68,8 +75,7 @@ pub fn worked_faults()
     ensures run_too_few { command_of (codes "run" ∷ codes "filter" ∷ codes "P1" ∷ []) ≡ None }
     ensures run_zero { command_of (codes "run" ∷ codes "filter" ∷ codes "P1" ∷ codes "Z64"
         ∷ codes "--steps=0" ∷ []) ≡ None }
-    ensures other { command_of (codes "prove" ∷ codes "filter" ∷ codes "C1" ∷ codes "P1" ∷ [])
-        ≡ None }
+    ensures other { command_of (codes "demo" ∷ codes "3" ∷ []) ≡ None }
     ensures help { command_of (codes "help" ∷ []) ≡ None }
     ensures help_flag { command_of (codes "--help" ∷ []) ≡ None }
     ensures help_of_ref { command_of (codes "ref" ∷ codes "--help" ∷ []) ≡ None }

@@ -94,6 +94,7 @@ fn command_given<'a>(name: &str, matches: &ArgMatches<'a>) -> Option<Command<'a>
 {
     match name {
         "asm" => Some(Command::Asm(copy_args_given(matches))),
+        "prove" => Some(Command::Prove(copy_args_given(matches))),
         "check" => Some(Command::Check(file_args_given(matches))),
         "run" => Some(Command::Run(with_steps_in_range(run_args_given(matches))?)),
         "ref" => Some(Command::Ref(with_steps_in_range(run_args_given(matches))?)),

@@ -7,16 +7,18 @@ use Rattle.file_port.specs.declared.Put.TheVariants as put
 use Rattle.packet_store.specs.Runners.{testing_results}
 use Rattle.pcc_lines.specs.Fixed.{accepted_line, container_too_long_line, packets_too_long_line, source_too_long_line}
 use Rattle.pcc_lines.specs.PacketFaults.{packet_fault_line}
+use Rattle.pcc_lines.specs.Proving.{not_easy_line, too_big_line}
 use Rattle.asm_text.specs.Names.{line_flaw_name}
 use Rattle.pcc_asm.specs.Names.{asm_flaw_line, asm_flaw_name}
 use Rattle.pcc_lines.specs.Refusals.{refusal_line}
 use Rattle.pcc_lines.specs.Sources.{source_fault_line, written_line}
+use Rattle.bounds_prover.specs.Names.{measure_name}
 use Rattle.safe_host.specs.Runners.{host_results}
 use Rattle.pcc_lines.specs.Results.{result_lines}
 use Rattle.pcc_exit.specs.Exits.{Exit}
 use Rattle.pcc_exit.specs.Requests.{Request, usage_exit, unknown_policy_exit, read_fault_exit, write_fault_exit}
 use Rattle.pcc_exit.specs.Ends.{IsDecision}
-use Rattle.pcc_cli.specs.Stages.{Effect, refused, missing}
+use Rattle.pcc_cli.specs.Stages.{Effect, refused, missing, no_memory}
 use Rattle.pcc_cli.specs.Requests.{texts}
 use Rattle.pcc_cli.specs.declared.stop.Stop.{Stop}
 use Rattle.pcc_cli.specs.declared.stop.Stop.TheVariants as stop
@@ -29,6 +31,8 @@ stop_exit stop.Usage = usage_exit texts
 stop_exit stop.UnknownPolicy = unknown_policy_exit texts
 stop_exit (stop.Refused refusal) = refused (refusal_line refusal)
 stop_exit stop.ContainerTooLong = refused container_too_long_line
+stop_exit (stop.NotEasy part) = refused (not_easy_line part)
+stop_exit (stop.TooBig measure number) = refused (too_big_line (measure_name measure) number)
 stop_exit stop.SourceTooLong = refused source_too_long_line
 stop_exit (stop.BadLine line flaw) = refused (source_fault_line line (line_flaw_name flaw))
 stop_exit (stop.BadSource flaw) = refused (source_fault_line (asm_flaw_line flaw) (asm_flaw_name flaw))
@@ -37,7 +41,7 @@ stop_exit (stop.BadPackets fault) = refused (packet_fault_line fault)
 stop_exit (stop.Missing name) = missing name.now
 stop_exit (stop.ReadFault name) = read_fault_exit texts name.now
 stop_exit (stop.WriteFault name) = write_fault_exit texts name.now
-stop_exit stop.Memory = record { status = 5; text = [] }
+stop_exit stop.Memory = no_memory
 
 -- the lines of a report
 abbrev pub report_text : Report → List ℕ

@@ -13,7 +13,7 @@ returns g c =
     rw (← c.as_slice.ensures.value) (ends_of_decision _ _ _ _ _ c.print.result c.decide-decision.result c.decide-decision.ensures c.print.ensures) in
     record {
       ends = ends;
-      accepts = λ files held. accepts c.laws.ensures.accepted (command_of (map string_bytes c.args.words.items)) files held;
+      accepts = λ files held. accepts c.laws.ensures.accepted c.prove_laws.ensures.accepted (command_of (map string_bytes c.args.words.items)) files held;
       safe = λ files. safe_to_run c.laws.ensures.safe c.laws-2.ensures.state c.laws-2.ensures.meets (command_of (map string_bytes c.args.words.items)) files;
       accounts = accounts_of_ends _ _ _ _ _ _ ends;
     }

@@ -7,6 +7,7 @@ pub returns : goal.returns
 unfolding clap_on_literals command_of
 returns c = record {
   asm = refl;
+  prove = refl;
   check = refl;
   run = refl;
   run_steps = refl;
