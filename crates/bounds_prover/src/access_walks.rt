@@ -253,7 +253,8 @@ fn opening_at(
     }
 }
 
-/// The same, with the way from the address to itself.
+/// The same, with the way from the address to itself. Kept out of the walk's frames.
+#[inline(never)]
 #[tactic(auto, using(crate::proofs::WordRows::rows))]
 fn found_at(
     table: &mut Table,
@@ -286,7 +287,8 @@ fn found_at(
     }
 }
 
-/// What was found, one conjunction further out.
+/// What was found, one conjunction further out. Kept out of the walk's frames.
+#[inline(never)]
 fn from_side(found: Found, side: Side) -> Result<Option<Found>, AllocError>
     ensures known { (t : TableView) → IsKnownFound t found
         → IfOk result (λ o. IfSome o (IsKnownFound t)) }
