@@ -12,8 +12,6 @@ mod access;
 mod access_grants;
 mod access_instances;
 mod access_moves;
-#[cfg(test)]
-mod access_tests;
 mod access_walks;
 mod alignments;
 mod all_means;

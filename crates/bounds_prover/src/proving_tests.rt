@@ -177,13 +177,6 @@ const LOOP_INVARIANT: [u32; 71] = [
     19, 21, 6, 7, 22, 7, 23, 6, 0, 24, 1, 2, 25, 0,
 ];
 
-#[test]
-fn a_loop_over_a_table(rt: HostRuntime) -> Result<(), Fail> {
-    let found = outcome_of(rt.alloc(), PolicyKind::Table, 3, &LOOP, &LOOP_INVARIANT)?;
-    assert_eq!(rt; found, Outcome::Made(5_904, 0x7c9e_3967_3838_f016));
-    Ok(())
-}
-
 /// The sum of a register with itself, sixty times over.
 #[test]
 fn doublings(rt: HostRuntime) -> Result<(), Fail> {
@@ -195,53 +188,6 @@ fn doublings(rt: HostRuntime) -> Result<(), Fail> {
     words.extend_from_slice(&[0x4420_3000, 0x6bfa_8001])?;
     let found = outcome_of(alloc, PolicyKind::Filter, 1, &words, &BARE)?;
     assert_eq!(rt; found, Outcome::Made(6_284, 0x19a6_d65a_5e06_e2d7));
-    Ok(())
-}
-
-/// One store more than the limit of height allows.
-#[test]
-fn a_proof_that_is_too_high(rt: HostRuntime) -> Result<(), Fail> {
-    let alloc = rt.alloc();
-    let mut words = Vec::new(alloc);
-    for _ in 0..1_004 {
-        words.push(0xb432_0000)?;
-    }
-    words.extend_from_slice(&[0xa432_0000, 0x4420_3000, 0x6bfa_8001])?;
-    let found = outcome_of(alloc, PolicyKind::Filter, 1, &words, &BARE)?;
-    let fault = ProveFault::TooBig(Measure::Height, 4_100);
-    assert_eq!(rt; found, Outcome::Not(fault));
-    Ok(())
-}
-
-/// Sixty additions, and twelve branches that each use the sum twice.
-#[test]
-fn a_proof_that_is_too_heavy(rt: HostRuntime) -> Result<(), Fail> {
-    let alloc = rt.alloc();
-    let mut words = Vec::new(alloc);
-    words.push(0x205f_0001)?;
-    for _ in 0..60 {
-        words.push(0x4040_3402)?;
-    }
-    for branch in [
-        0xe460_0001,
-        0xe480_0001,
-        0xe4a0_0001,
-        0xe4c0_0001,
-        0xe4e0_0001,
-        0xe500_0001,
-        0xe520_0001,
-        0xe540_0001,
-        0xe560_0001,
-        0xe580_0001,
-        0xe5a0_0001,
-        0xe5c0_0001,
-    ] {
-        words.extend_from_slice(&[branch, 0x47ff_041f])?;
-    }
-    words.extend_from_slice(&[0x405f_05a0, 0x6bfa_8001])?;
-    let found = outcome_of(alloc, PolicyKind::Filter, 1, &words, &BARE)?;
-    let fault = ProveFault::TooBig(Measure::Weight, 1_417_309);
-    assert_eq!(rt; found, Outcome::Not(fault));
     Ok(())
 }
 

@@ -1,14 +1,16 @@
-//! Small goals that words alone prove, some that just miss it, and a high one.
+//! High and shared hypotheses and goals; small ones go through `pcc`.
 
-ghost use Rattle.std.specs.Prelude.{OnOk};
+ghost use Rattle.std.specs.Prelude.{IfOk, OnOk};
 ghost use Rattle.term_table.specs.Table.{IsKnown};
+ghost use Rattle.bounds_prover.specs.Search.{IsContext};
 
-use crate::access_tests::context_of;
-use crate::{Search, proof_by_words};
+use crate::access::proof_by_access;
+use crate::{Context, Search, proof_by_words};
+use easy_hyps::{Hypotheses, add_split};
 use easy_words::{oper, relation};
 use hereditary_subst::MOST_RESULTS;
-use lf_rules::rule_term;
-use proof_kit::numbers::SLL_AL;
+use lf_signature::numbers::{AND, IMP, RD, TT, WR};
+use lf_signature::{app1, app2};
 use std::alloc::AllocError;
 use std::test::Fail;
 use term_table::{Id, Node, Places, Table};
@@ -41,97 +43,126 @@ fn lit(table: &mut Table, word: u64) -> Made<Id> {
     made(table.intern(Node::Lit(word)))
 }
 
+fn constant(table: &mut Table, number: u32) -> Made<Id> {
+    made(table.intern(Node::Const(number)))
+}
+
 fn op(table: &mut Table, op: Op, a: Id, b: Id) -> Made<Id> {
     known(table, a)?;
     known(table, b)?;
     made(oper(table, op, a, b))
 }
 
-fn rel(table: &mut Table, rel: Rel, a: Id, b: Id) -> Made<Id> {
+/// A right.
+fn at(table: &mut Table, number: u32, a: Id) -> Made<Id> {
+    known(table, a)?;
+    made(app1(table, number, a))
+}
+
+/// A connective.
+fn join(table: &mut Table, number: u32, a: Id, b: Id) -> Made<Id> {
     known(table, a)?;
     known(table, b)?;
-    made(relation(table, rel, a, b))
+    made(app2(table, number, a, b))
 }
 
-fn rule(table: &mut Table, number: u32, a: Id) -> Made<Id> {
-    known(table, a)?;
-    made(rule_term(table, number, &[a]))
+/// The right of that number to `(add v1 word)`.
+fn right_at(table: &mut Table, right: u32, word: u64) -> Made<Id> {
+    let x = var(table, 1)?;
+    let w = lit(table, word)?;
+    let address = op(table, Op::Add, x, w)?;
+    at(table, right, address)
 }
 
-/// (eq (band e 7) 0)
-fn aligned(table: &mut Table, e: Id) -> Made<Id> {
-    let seven = lit(table, 7)?;
-    let zero = lit(table, 0)?;
-    let low = op(table, Op::Band, e, seven)?;
-    rel(table, Rel::Eq, low, zero)
+/// The context of one hypothesis, which variable 0 proves.
+fn context_of(table: &mut Table, hyp: Id) -> Made<Context>
+    ensures { IfOk result (IsContext table.new) }
+{
+    let alloc = table.allocator();
+    let proof = var(table, 0)?;
+    known(table, proof)?;
+    known(table, hyp)?;
+    let mut hyps = Hypotheses::new(alloc);
+    if add_split(table, &mut hyps, hyp, proof).is_err() {
+        return Err("no memory");
+    }
+    match Context::new(table, 40, hyps) {
+        Ok(context) => Ok(context),
+        Err(_) => Err("no memory"),
+    }
 }
 
-/// The proof of the goal under the hypothesis, which variable 0 proves.
-fn proved(table: &mut Table, hyp: Id, goal: Id) -> Made<Option<Id>> {
+/// Whether the hypothesis gives the access that the goal asks for.
+fn is_given(table: &mut Table, hyp: Id, goal: Id) -> Made<bool> {
     let alloc = table.allocator();
     let mut context = context_of(table, hyp)?;
     let mut search = Search::new(alloc, MOST_RESULTS);
     known(table, goal)?;
-    made(proof_by_words(table, &mut search, &mut context, goal))
+    let found = made(proof_by_access(table, &mut search, &mut context, goal))?;
+    Ok(found.is_some())
 }
 
+/// A conclusion of 2^60 addresses, which are one, is gone through once.
 #[test]
-fn a_shifted_word_is_a_multiple_of_8(rt: HostRuntime) -> Result<(), Fail> {
+fn a_shared_conclusion(rt: HostRuntime) -> Result<(), Fail> {
     let mut table = Table::new(rt.alloc(), Places::sigma1());
-    let truth = made(table.intern(Node::Const(13)))?;
-    let x = var(&mut table, 1)?;
-    let three = lit(&mut table, 3)?;
-    let two = lit(&mut table, 2)?;
-    let shifted = op(&mut table, Op::Sll, x, three)?;
-    let less = op(&mut table, Op::Sll, x, two)?;
-    let goal = aligned(&mut table, shifted)?;
-    let miss = aligned(&mut table, less)?;
-    let wanted = rule(&mut table, SLL_AL, x)?;
-    assert!(rt; proved(&mut table, truth, goal)? == Some(wanted));
-    assert!(rt; proved(&mut table, truth, miss)?.is_none());
+    let truth = constant(&mut table, TT)?;
+    let given = right_at(&mut table, RD, 8)?;
+    let miss = right_at(&mut table, RD, 16)?;
+    let mut rights = given;
+    for _ in 0..60 {
+        rights = join(&mut table, AND, rights, rights)?;
+    }
+    let hyp = join(&mut table, IMP, truth, rights)?;
+    assert!(rt; is_given(&mut table, hyp, given)?);
+    assert!(rt; !is_given(&mut table, hyp, miss)?);
     Ok(())
 }
 
-/// Under (ult v1 5): (ult v1 9) and (ule v1 4), not (ult v1 4).
+/// A conclusion and a premise that are each 4,000 conjunctions high.
 #[test]
-fn comparisons_by_a_bound(rt: HostRuntime) -> Result<(), Fail> {
+fn a_high_hypothesis(rt: HostRuntime) -> Result<(), Fail> {
     let mut table = Table::new(rt.alloc(), Places::sigma1());
-    let x = var(&mut table, 1)?;
-    let four = lit(&mut table, 4)?;
-    let five = lit(&mut table, 5)?;
-    let nine = lit(&mut table, 9)?;
-    let hyp = rel(&mut table, Rel::Ult, x, five)?;
-    let below = rel(&mut table, Rel::Ult, x, nine)?;
-    let at_most = rel(&mut table, Rel::Ule, x, four)?;
-    let miss = rel(&mut table, Rel::Ult, x, four)?;
-    assert!(rt; proved(&mut table, hyp, below)?.is_some());
-    assert!(rt; proved(&mut table, hyp, at_most)?.is_some());
-    assert!(rt; proved(&mut table, hyp, miss)?.is_none());
+    let truth = constant(&mut table, TT)?;
+    let store = right_at(&mut table, WR, 8)?;
+    let given = right_at(&mut table, RD, 8)?;
+    let miss = right_at(&mut table, RD, 16)?;
+    let mut premise = truth;
+    let mut rights = given;
+    for _ in 0..4_000 {
+        premise = join(&mut table, AND, truth, premise)?;
+        rights = join(&mut table, AND, store, rights)?;
+    }
+    let hyp = join(&mut table, IMP, premise, rights)?;
+    assert!(rt; is_given(&mut table, hyp, given)?);
+    assert!(rt; !is_given(&mut table, hyp, miss)?);
     Ok(())
 }
 
-/// (eq (add v1 3) (add 3 v1)), and not (eq v1 3).
-#[test]
-fn equations_by_normal_forms(rt: HostRuntime) -> Result<(), Fail> {
-    let mut table = Table::new(rt.alloc(), Places::sigma1());
-    let truth = made(table.intern(Node::Const(13)))?;
-    let x = var(&mut table, 1)?;
-    let three = lit(&mut table, 3)?;
-    let left = op(&mut table, Op::Add, x, three)?;
-    let right = op(&mut table, Op::Add, three, x)?;
-    let goal = rel(&mut table, Rel::Eq, left, right)?;
-    let miss = rel(&mut table, Rel::Eq, x, three)?;
-    assert!(rt; proved(&mut table, truth, goal)?.is_some());
-    assert!(rt; proved(&mut table, truth, miss)?.is_none());
-    assert!(rt; proved(&mut table, truth, truth)?.is_none());
-    Ok(())
+/// `(eq (band e 7) 0)`
+fn aligned(table: &mut Table, e: Id) -> Made<Id> {
+    let seven = lit(table, 7)?;
+    let zero = lit(table, 0)?;
+    let low = op(table, Op::Band, e, seven)?;
+    known(table, low)?;
+    known(table, zero)?;
+    made(relation(table, Rel::Eq, low, zero))
+}
+
+/// Whether words alone prove the goal where nothing is assumed.
+fn is_aligned(table: &mut Table, goal: Id) -> Made<bool> {
+    let alloc = table.allocator();
+    let truth = constant(table, TT)?;
+    let mut context = context_of(table, truth)?;
+    let mut search = Search::new(alloc, MOST_RESULTS);
+    known(table, goal)?;
+    Ok(made(proof_by_words(table, &mut search, &mut context, goal))?.is_some())
 }
 
 /// A sum of multiples of 8, 6,000 high, with each part once.
 #[test]
 fn a_high_sum_of_multiples_of_8(rt: HostRuntime) -> Result<(), Fail> {
     let mut table = Table::new(rt.alloc(), Places::sigma1());
-    let truth = made(table.intern(Node::Const(13)))?;
     let x = var(&mut table, 1)?;
     let three = lit(&mut table, 3)?;
     let shifted = op(&mut table, Op::Sll, x, three)?;
@@ -140,12 +171,12 @@ fn a_high_sum_of_multiples_of_8(rt: HostRuntime) -> Result<(), Fail> {
         sum = op(&mut table, Op::Add, sum, shifted)?;
     }
     let goal = aligned(&mut table, sum)?;
-    assert!(rt; proved(&mut table, truth, goal)?.is_some());
+    assert!(rt; is_aligned(&mut table, goal)?);
     let mut shared = shifted;
     for _ in 0..60 {
         shared = op(&mut table, Op::Add, shared, shared)?;
     }
     let goal = aligned(&mut table, shared)?;
-    assert!(rt; proved(&mut table, truth, goal)?.is_some());
+    assert!(rt; is_aligned(&mut table, goal)?);
     Ok(())
 }

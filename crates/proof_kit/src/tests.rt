@@ -1,4 +1,4 @@
-//! Each rule's function where it answers a sequent and where it answers None, and proofs made of them.
+//! Each rule's function where it answers a sequent and where it answers None.
 //!
 //! Each helper tests at run time what the functions ask of ids and sequents, so that the tests carry
 //! no facts.
@@ -19,9 +19,7 @@ use crate::{
 use hereditary_subst::{erase, subst_type};
 use lf_check::{Kept, check_term};
 use lf_rules::{Sequent, by_rule};
-use lf_signature::numbers::{
-    ADD, ALL, ALLM, AND, EQ, EXP, FF, IMP, MEM, OR, RD, SEL, TT, ULE, UPD, WR,
-};
+use lf_signature::numbers::{ADD, ALL, ALLM, EQ, EXP, IMP, MEM, OR, SEL, TT, ULE, UPD};
 use lf_signature::schema::Sort;
 use lf_signature::{Sigma1, declared, rule_at};
 use std::alloc::{AllocError, Global};
@@ -533,13 +531,6 @@ fn proved(answer: Option<Sequent>) -> Made<Sequent> {
     }
 }
 
-/// The hypotheses and one more.
-fn extended(alloc: Global, hyps: &[Id], last: Id) -> Made<Vec<Id>> {
-    let mut ids = made(hyps.to_vec(alloc))?;
-    made(ids.push(last))?;
-    Ok(ids)
-}
-
 /// Rules whose premises bind a hypothesis.
 #[test]
 fn premises_that_bind_a_proof(rt: HostRuntime) -> Result<(), Fail> {
@@ -730,138 +721,4 @@ fn add_le_row(alloc: Global, table: &mut Table) -> Made<()> {
     } else {
         Err("another answer of add_le")
     }
-}
-
-/// What stands behind the code of a return in a container for the policy tag: the entries, no
-/// invariants, and the proof, as an independent prover wrote it. The gate accepts it (pcc_gate).
-const RETURN_OF_A_TAG: [u32; 544] = [
-    208, 1, 29, 1, 26, 1, 25, 1, 24, 1, 22, 1, 20, 1, 0, 0, 14, 6, 6, 7, 2, 0, 0, 6, 8, 9, 6, 5,
-    10, 6, 4, 11, 2, 8, 0, 6, 8, 13, 6, 5, 14, 6, 4, 15, 1, 15, 1, 11, 0, 31, 6, 18, 19, 6, 20, 10,
-    6, 17, 21, 6, 22, 9, 6, 3, 23, 1, 14, 6, 24, 25, 6, 3, 26, 1, 21, 6, 28, 14, 6, 27, 29, 6, 16,
-    30, 6, 12, 31, 6, 3, 32, 1, 13, 6, 33, 34, 7, 35, 6, 2, 36, 7, 37, 6, 2, 38, 7, 39, 6, 2, 40,
-    7, 41, 6, 2, 42, 7, 43, 6, 2, 44, 7, 45, 6, 2, 46, 7, 47, 6, 2, 48, 7, 49, 6, 2, 50, 7, 51, 6,
-    2, 52, 7, 53, 6, 2, 54, 7, 55, 6, 2, 56, 7, 57, 6, 2, 58, 7, 59, 6, 2, 60, 7, 61, 6, 2, 62, 7,
-    63, 6, 2, 64, 7, 65, 6, 2, 66, 7, 67, 6, 2, 68, 7, 69, 6, 2, 70, 7, 71, 6, 2, 72, 7, 73, 6, 2,
-    74, 7, 75, 6, 2, 76, 7, 77, 6, 2, 78, 7, 79, 6, 2, 80, 7, 81, 6, 2, 82, 7, 83, 6, 2, 84, 7, 85,
-    6, 2, 86, 7, 87, 6, 2, 88, 7, 89, 6, 2, 90, 7, 91, 6, 2, 92, 7, 93, 6, 2, 94, 7, 95, 6, 2, 96,
-    7, 97, 6, 1, 98, 6, 0, 99, 6, 100, 34, 1, 40, 6, 102, 98, 1, 38, 6, 104, 96, 6, 104, 94, 6,
-    104, 92, 6, 104, 90, 6, 104, 88, 6, 104, 86, 6, 104, 84, 6, 104, 82, 6, 104, 80, 6, 104, 78, 6,
-    104, 76, 6, 104, 74, 6, 104, 72, 6, 104, 70, 6, 104, 68, 6, 104, 66, 6, 104, 64, 6, 104, 62, 6,
-    104, 60, 6, 104, 58, 6, 104, 56, 6, 104, 54, 6, 104, 52, 6, 104, 50, 6, 104, 48, 6, 104, 46, 6,
-    104, 44, 6, 104, 42, 6, 104, 40, 6, 104, 38, 6, 104, 36, 1, 35, 6, 136, 32, 6, 137, 34, 1, 27,
-    7, 139, 6, 138, 140, 7, 141, 6, 135, 142, 7, 143, 6, 134, 144, 7, 145, 6, 133, 146, 7, 147, 6,
-    132, 148, 7, 149, 6, 131, 150, 7, 151, 6, 130, 152, 7, 153, 6, 129, 154, 7, 155, 6, 128, 156,
-    7, 157, 6, 127, 158, 7, 159, 6, 126, 160, 7, 161, 6, 125, 162, 7, 163, 6, 124, 164, 7, 165, 6,
-    123, 166, 7, 167, 6, 122, 168, 7, 169, 6, 121, 170, 7, 171, 6, 120, 172, 7, 173, 6, 119, 174,
-    7, 175, 6, 118, 176, 7, 177, 6, 117, 178, 7, 179, 6, 116, 180, 7, 181, 6, 115, 182, 7, 183, 6,
-    114, 184, 7, 185, 6, 113, 186, 7, 187, 6, 112, 188, 7, 189, 6, 111, 190, 7, 191, 6, 110, 192,
-    7, 193, 6, 109, 194, 7, 195, 6, 108, 196, 7, 197, 6, 107, 198, 7, 199, 6, 106, 200, 7, 201, 6,
-    105, 202, 7, 203, 6, 103, 204, 6, 101, 205, 6, 206, 139, 0, 208,
-];
-
-/// The field at a place.
-fn field(at: usize) -> u32 {
-    RETURN_OF_A_TAG.get(at).copied().unwrap_or(0)
-}
-
-/// An entry that was read before.
-fn part(ids: &[Id], number: u32) -> Made<Id> {
-    match ids.get(number as usize) {
-        Some(id) => Ok(*id),
-        None => Err("no entry"),
-    }
-}
-
-/// The last entry of the container.
-fn last_entry(alloc: Global, table: &mut Table) -> Made<Id> {
-    let mut ids = Vec::new(alloc);
-    let mut at = 1usize;
-    for _ in 0..field(0) {
-        let first = field(at.saturating_add(1));
-        let (id, count) = match field(at) {
-            0 => (leaf(table, Node::Var(first))?, 2),
-            1 => (leaf(table, Node::Const(first))?, 2),
-            2 => (leaf(table, Node::Lit(u64::from(first)))?, 3),
-            6 => {
-                let f = part(ids.as_slice(), first)?;
-                let argument = part(ids.as_slice(), field(at.saturating_add(2)))?;
-                known(table, f)?;
-                known(table, argument)?;
-                (made(table.intern(Node::App(f, argument)))?, 3)
-            }
-            _ => (lam(table, part(ids.as_slice(), first)?)?, 2),
-        };
-        made(ids.push(id))?;
-        at = at.saturating_add(count);
-    }
-    part(ids.as_slice(), field(0).saturating_sub(1))
-}
-
-/// The precondition of the policy tag, r16 being variable 14 and the memory variable 31.
-fn tag_precondition(table: &mut Table) -> Made<Id> {
-    let r16 = leaf(table, Node::Var(14))?;
-    let m = leaf(table, Node::Var(31))?;
-    let zero = leaf(table, Node::Lit(0))?;
-    let eight = leaf(table, Node::Lit(8))?;
-    let falsity = leaf(table, Node::Const(FF))?;
-    let first = con(table, ADD, &[r16, zero])?;
-    let second = con(table, ADD, &[r16, eight])?;
-    let loads_first = con(table, RD, &[first])?;
-    let loads_second = con(table, RD, &[second])?;
-    let word = con(table, SEL, &[m, first])?;
-    let is_zero = con(table, EQ, &[word, zero])?;
-    let is_other = con(table, IMP, &[is_zero, falsity])?;
-    let stores_second = con(table, WR, &[second])?;
-    let where_other = con(table, IMP, &[is_other, stores_second])?;
-    let last = con(table, AND, &[loads_second, where_other])?;
-    con(table, AND, &[loads_first, last])
-}
-
-/// The proof of the condition of a return under the policy tag, by the rules' functions: it checks in
-/// the empty context, and is the independent prover's term.
-#[test]
-fn the_return_of_a_tag(rt: HostRuntime) -> Result<(), Fail> {
-    let al = rt.alloc();
-    let mut table = Table::new(al, Places::sigma1());
-    let table = &mut table;
-    let exp = leaf(table, Node::Fam(EXP))?;
-    let mem = leaf(table, Node::Fam(MEM))?;
-    let truth = leaf(table, Node::Const(TT))?;
-    let proof = leaf(table, Node::Const(27))?;
-    let pre = tag_precondition(table)?;
-    let mut hyps = extended(al, &[], mem)?;
-    for _ in 0..31 {
-        made(hyps.push(exp))?;
-    }
-    let inner = extended(al, hyps.as_slice(), pf(table, pre)?)?;
-    let inner = sequent(al, inner.as_slice(), truth, proof)?;
-    let ids = [pre, truth, truth, truth];
-    let mut whole = proved(answer(
-        al,
-        table,
-        hyps.as_slice(),
-        35,
-        ids,
-        (&inner, &inner, &inner),
-    )?)?;
-    for k in 0..32 {
-        hyps.pop();
-        let rule = if k < 31 { 38 } else { 40 };
-        let f = lam(table, whole.goal)?;
-        let next = answer(
-            al,
-            table,
-            hyps.as_slice(),
-            rule,
-            [f; 4],
-            (&whole, &whole, &whole),
-        )?;
-        whole = proved(next)?;
-    }
-    let end = proved(answer(al, table, &[], 27, [truth; 4], (&whole, &whole, &whole))?)?;
-    let ids = [whole.goal, truth, truth, truth];
-    let found = proved(answer(al, table, &[], 29, ids, (&whole, &end, &end))?)?;
-    tested(al, table, &found)?;
-    assert!(rt; found.term == last_entry(al, table)?);
-    Ok(())
 }
