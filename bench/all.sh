@@ -1,0 +1,255 @@
+#!/usr/bin/env bash
+# Prints one table of the program's speed, each row median of five beside a ratio: start-up; asm, prove
+# and check on examples and at limits; packets and steps a second of ref and run, beside the same filters
+# as native loops (bench/native.c, where there is a C compiler), and beside libpcap, tcpdump and
+# qemu-alpha where they are installed. What is missing is told.
+#
+# PCC is the program that is measured; without it ./pcc builds the proved one and takes that. CC is the
+# C compiler, cc without it; an empty CC leaves the native rows out. A line that isn't the one expected
+# ends the run with status 1.
+set -eu
+top=$(cd "$(dirname "${BASH_SOURCE[0]}")/.." && pwd)
+work=$(mktemp -d)
+trap 'rm -rf "$work"' EXIT
+if [ -z "${PCC-}" ]; then
+  "$top/pcc" check tag "$top/examples/tag/container" > /dev/null
+  PCC=$top/crates/pcc_cli/out/pcc_cli
+fi
+cd "$top"
+python3 - "$top/bench" "$PCC" "$work" "${CC-cc}" <<'PY'
+import os, shutil, statistics, struct, subprocess, sys, time
+sys.path.insert(0, sys.argv[1])
+from terms import *
+
+bench, binary, work, compiler = sys.argv[1:]
+failed = False
+
+def once(words):
+    """What is printed, the status, and seconds of processor time and of the clock."""
+    start = time.monotonic()
+    process = subprocess.Popen([str(w) for w in words], stdout=subprocess.PIPE, stderr=subprocess.DEVNULL)
+    text = process.stdout.read()
+    _, status, used = os.wait4(process.pid, 0)
+    process.returncode = os.waitstatus_to_exitcode(status)
+    return text, process.returncode, used.ru_utime + used.ru_stime, time.monotonic() - start
+
+def line(name, value, unit, ratio="", note=""):
+    print(("%-58s %12s %-12s %-28s %s" % (name, value, unit, ratio, note)).rstrip(), flush=True)
+
+def head(title):
+    print("\n" + title, flush=True)
+
+def median(words, wanted=None, times=5):
+    """The medians of processor time and clock, and what is printed; the first line has to be the one wanted."""
+    global failed
+    runs = [once(words) for _ in range(times)]
+    got = runs[0][0].decode("utf-8", "replace").split("\n")[0] or "status %d" % runs[0][1]
+    if wanted is not None and got != wanted:
+        failed = True
+        line("EXPECTED " + wanted, got, "")
+    return statistics.median(r[2] for r in runs), statistics.median(r[3] for r in runs), runs[0][0]
+
+def write(name, data):
+    with open(work + "/" + name, "wb") as out:
+        out.write(data)
+    return work + "/" + name
+
+def read(path):
+    with open(path, "rb") as file:
+        return file.read()
+
+def ratio(value, other, text):
+    return "%.2f x %s" % (value / other, text) if other else ""
+
+# ---- start-up
+
+head("start-up, of the clock")
+_, true_clock, _ = median(["/bin/true"], times=15)
+line("/bin/true", "%.2f" % (true_clock * 1e3), "ms")
+_, start_clock, _ = median([binary], "usage: pcc asm|prove|check|run|ref|demo", 15)
+line("pcc without words", "%.2f" % (start_clock * 1e3), "ms", ratio(start_clock, true_clock, "/bin/true"))
+
+# ---- asm, prove, check
+
+head("asm, prove and check, of the clock (start-up is in it)")
+for name, policy in [("ip", "filter"), ("port", "filter"), ("checksum", "filter"), ("sort", "table")]:
+    source, plain, proved = "examples/%s/source.s" % name, work + "/plain", work + "/proved"
+    times = []
+    for words, wanted in [(("asm", policy, source, plain), None), (("prove", policy, plain, proved), None), (("check", policy, proved), "accepted")]:
+        clock = median([binary, *words], wanted)[1]
+        times.append(clock)
+        size = {"asm": plain, "prove": proved}.get(words[0])
+        line("%s %s" % (words[0], name), "%.2f" % (clock * 1e3), "ms", ratio(clock, start_clock, "start-up"),
+             "%d bytes" % os.path.getsize(size) if size else "")
+
+NOP, LOAD, STORE = 0x47FF041F, 0xA4320000, 0xB4320000
+insns = "\n".join(["addq $%d,%d,$%d" % (k % 8, k % 256, (k + 1) % 8) for k in range(1023)] + ["ret"]) + "\n"
+t = Terms()
+facts = returning_container(t, instead(t, *conjunction(t, [reflexive(t, t.lit(k)) for k in range(26170)])))
+stores = container(Terms(), FILTER, [STORE] * 1003 + [LOAD, 0x44203000, RETURN])
+head("at limits, processor time, median of three")
+before = 0
+for name, words, wanted in [
+    ("asm of 1,024 instructions", ("asm", "filter", write("limit.s", insns.encode()), work + "/out"), "written 4124"),
+    ("prove of 1,003 stores", ("prove", "filter", write("stores", stores), work + "/stores.proved"), "written 141624"),
+    ("check of that", ("check", "filter", work + "/stores.proved"), "accepted"),
+    ("check of 26,170 facts, 261,909 entries", ("check", "tag", write("facts", facts)), "accepted"),
+]:
+    seconds = median([binary, *words], wanted, 3)[0]
+    line(name, "%.3f" % seconds, "s", ratio(seconds, before, "that of prove") if name == "check of that" else "")
+    before = seconds
+
+# ---- packets
+
+def packets_of(data):
+    at = 0
+    while at < len(data):
+        length = struct.unpack_from("<I", data, at)[0]
+        yield data[at + 4:at + 4 + length]
+        at += 4 + length
+
+def file_of(packets):
+    return b"".join(struct.pack("<I", len(p)) + p for p in packets)
+
+frames = [p for p in packets_of(read("examples/frames/packets")) if len(p) >= 64]
+small = (frames * 6000)[:4194304 // (max(map(len, frames)) + 4)]
+small_file, none = write("small", file_of(small)), write("none", b"")
+
+def icmp(size):
+    """An ICMP message of so many bytes of frame whose one's complement sum is right."""
+    packet = bytearray((k * 7 + 1) % 256 for k in range(size))
+    packet[12:24] = bytes([8, 0, 0x45, 0, 0xFF, 0xF1, 0, 0, 0, 0, 64, 1])
+    packet[24:26] = b"\0\0"
+    data = bytes(packet[14:]) + b"\0" * (size % 2)
+    total = sum(struct.unpack(">%dH" % (len(data) // 2), data))
+    while total >> 16:
+        total = (total & 0xFFFF) + (total >> 16)
+    packet[24:26] = struct.pack(">H", 0xFFFF - total)
+    return bytes(packet)
+
+large = [icmp(65535)] * 63
+large_file = write("large", file_of(large))
+proved = {}
+for name in ("port", "checksum"):
+    proved[name] = "examples/%s/container" % name
+
+def steps_of(name, packet):
+    """How many steps a packet takes, by halving."""
+    path, low, high = write("one", file_of([packet])), 0, 1000000
+    while high - low > 1:
+        middle = (low + high) // 2
+        text = once([binary, "ref", "filter", proved[name], path, "--steps", middle])[0]
+        low, high = (middle, high) if text == b"0: out of steps\n" else (low, middle)
+    return high
+
+counted = {}
+for name in ("port", "checksum"):
+    by_packet = {packet: steps_of(name, packet) for packet in (set(frames) if name == "port" else set(large))}
+    counted[name] = sum(by_packet[p] for p in (small if name == "port" else large))
+
+native = {}
+if compiler and shutil.which(compiler):
+    words = [compiler, "-O2", "-o", work + "/native", bench + "/native.c"]
+    with_pcap = subprocess.run(words + ["-DWITH_PCAP", "-lpcap"], stdout=subprocess.DEVNULL, stderr=subprocess.DEVNULL).returncode == 0
+    if with_pcap or subprocess.run(words).returncode == 0:
+        for kind, path, times in [("port", small_file, 50), ("checksum", large_file, 50)]:
+            for text in once([work + "/native", path, times])[0].decode().splitlines():
+                name, seconds, taken = text.split()
+                if name == kind or name == "libpcap" and kind == "port":
+                    native[name] = float(seconds), int(taken)
+else:
+    with_pcap = False
+
+def passes(title, name, path, count, unit_count, scale, unit, times):
+    """A row for ref, for run and for the native loop, in so many units a second; run's seconds."""
+    global failed
+    seconds = {}
+    for command in ("ref", "run"):
+        base = median([binary, command, "filter", proved[name], none], times=times)[0]
+        whole, _, text = median([binary, command, "filter", proved[name], path], times=times)
+        seconds[command], lines = max(whole - base, 1e-4), text.decode().split("\n")[:-1]
+        taken = sum(text.endswith(": 1") for text in lines)
+        assert len(lines) == count, (len(lines), count)
+        if name in native and native[name][1] != taken:
+            failed = True
+            line("EXPECTED %d taken" % native[name][1], taken, "")
+        line("%s, %s" % (command, title), "%.1f" % (unit_count / seconds[command] / scale), unit,
+             ratio(seconds["ref"], seconds["run"], "ref's speed") if command == "run" else "", "%.3f s, %d taken" % (seconds[command], taken))
+    if name in native:
+        line("native loop, the same", "%.1f" % (unit_count / native[name][0] / scale), unit,
+             ratio(seconds["run"], native[name][0], "run's speed"), "%.4f s" % native[name][0])
+    return seconds["run"]
+
+head("steps a second, processor time without start-up and gate (the checksum of %d packets of 65,535 bytes, %d steps)" % (len(large), counted["checksum"]))
+passes("checksum", "checksum", large_file, len(large), counted["checksum"], 1e6, "M steps/s", 11)
+head("packets a second, likewise (%d frames of 64 to 98 bytes, TCP to port 80, %d steps; each line is put by itself)" % (len(small), counted["port"]))
+run_seconds = passes("port", "port", small_file, len(small), len(small), 1e3, "k packets/s", 5)
+if "libpcap" in native:
+    seconds, taken = native["libpcap"]
+    line("libpcap's filter `tcp dst port 80` on them", "%.1f" % (len(small) / seconds / 1e3), "k packets/s", ratio(run_seconds, seconds, "run's speed"), "%d taken" % taken)
+if not native:
+    line("native loops: %s" % ("CC is empty" if not compiler else compiler + " isn't there, or failed"), "missing", "")
+elif not with_pcap:
+    line("libpcap: its headers aren't installed", "missing", "")
+
+if shutil.which("tcpdump"):
+    capture = struct.pack("<IHHiIII", 0xA1B2C3D4, 2, 4, 0, 0, 65535, 1)
+    capture += b"".join(struct.pack("<IIII", 0, 0, len(p), len(p)) + p for p in small)
+    path, empty = write("capture", capture), write("capture.none", capture[:24])
+    base = median(["tcpdump", "-n", "-r", empty, "-w", work + "/taken", "tcp dst port 80"])[0]
+    seconds = max(median(["tcpdump", "-n", "-r", path, "-w", work + "/taken", "tcp dst port 80"])[0] - base, 1e-4)
+    line("tcpdump -r, the same filter, frames written", "%.1f" % (len(small) / seconds / 1e3), "k packets/s", ratio(run_seconds, seconds, "run's speed"))
+else:
+    line("tcpdump: it isn't installed", "missing", "")
+
+# ---- the same code words under qemu-alpha
+
+def alpha_program(code, packet, times):
+    """An ELF file that calls the code so many times on the packet, and exits with r0."""
+    base, entry = 0x120000000, 0x78
+    at = entry + 4 * 64  # the code; then scratch and the packet at a multiple of 8
+    data = (at + len(code) + 15) & ~7
+    def low(value):  # what lda adds, and what ldah has to add before it
+        l = (value & 0xFFFF) - (value & 0x8000) * 2
+        return l, (value - l) >> 16
+    def load(register, value):  # into a register by way of r25; value below 2^47 in two parts of 32 bits
+        words, (l, h) = [], low(value & 0x7FFFFFFF)
+        words.append(0x24000000 | register << 21 | 31 << 16 | h & 0xFFFF)  # ldah
+        words.append(0x20000000 | register << 21 | register << 16 | l & 0xFFFF)  # lda
+        if value >> 31:
+            words.append(0x20000000 | 25 << 21 | 31 << 16 | value >> 31)  # lda r25
+            words.append(0x48000000 | 25 << 21 | 31 << 13 | 1 << 12 | 0x39 << 5 | 25)  # sll r25,31
+            words.append(0x40000000 | register << 21 | 25 << 16 | 0x20 << 5 | register)  # addq
+        return words
+    words = load(9, times)
+    loop = len(words)
+    words += load(16, base + data + 16) + load(17, len(packet)) + load(18, base + data)
+    words.append(0xD0000000 | 26 << 21 | ((at - entry) // 4 - len(words) - 1))  # bsr r26
+    words.append(0x40000000 | 9 << 21 | 1 << 13 | 1 << 12 | 0x29 << 5 | 9)  # subq r9,1
+    words.append(0xF4000000 | 9 << 21 | (loop - len(words) - 1) & 0x1FFFFF)  # bne r9
+    words += [0x47E00410, 0x201F0001, 0x00000083]  # bis r31,r0,r16; lda r0,1(r31); callsys: exit
+    image = struct.pack("<64I", *words, *[NOP] * (64 - len(words))) + code
+    image = image.ljust(data - entry, b"\0") + bytes(16) + packet + bytes(16)
+    size = entry + len(image)
+    header = b"\x7fELF\2\1\1" + bytes(9) + struct.pack("<HHIQQQIHHHHHH", 2, 0x9026, 1, base + entry, 64, 0, 0, 64, 56, 1, 0, 0, 0)
+    return header + struct.pack("<IIQQQQQQ", 1, 7, 0, base, base, size, size, 0x10000) + image
+
+emulator = next((name for name in ("qemu-alpha", "qemu-alpha-static") if shutil.which(name)), None)
+if emulator is None:
+    line("qemu-alpha: it isn't installed", "missing", "")
+else:
+    bytes_of = read(proved["checksum"])
+    code = bytes_of[16:16 + 4 * struct.unpack_from("<I", bytes_of, 12)[0]]
+    results = {}
+    for times in (1, 1 + len(large)):
+        path = write("alpha", alpha_program(code, large[0], times))
+        os.chmod(path, 0o755)
+        runs = [once([emulator, path]) for _ in range(5)]
+        results[times] = statistics.median(r[2] for r in runs), runs[0][1]
+    if results[1][1] != 1:
+        line("qemu-alpha: it ended with status %d, expected 1" % results[1][1], "failed", "")
+    else:
+        seconds = max(results[1 + len(large)][0] - results[1][0], 1e-4)
+        line("qemu-alpha, the checksum's code words", "%.1f" % (counted["checksum"] / seconds / 1e6), "M steps/s")
+sys.exit(1 if failed else 0)
+PY

@@ -1,0 +1,94 @@
+/* The filters of examples/checksum and examples/port as native loops, for bench/all.sh.
+
+   usage: native PACKETS TIMES       prints, of TIMES passes over the packets: seconds a pass of each
+                                     filter, and how many packets each takes
+   With -DWITH_PCAP -lpcap it also has libpcap's filter `tcp dst port 80` go over the same packets. */
+#include <stdint.h>
+#include <stdio.h>
+#include <stdlib.h>
+#include <string.h>
+#include <time.h>
+#ifdef WITH_PCAP
+#include <pcap/pcap.h>
+#endif
+
+struct packet { const unsigned char *bytes; uint32_t length; };
+
+static uint64_t quadword(const unsigned char *bytes) {
+    uint64_t word;
+    memcpy(&word, bytes, 8); /* little-endian machines, as the format is */
+    return word;
+}
+
+/* Packets are copied to multiples of 8 with zeros behind them, so the last quadword may be read. */
+static int checksum(const struct packet *p) {
+    uint64_t sum, at;
+    if (p->length < 64 || p->bytes[12] != 8 || p->bytes[13] != 0 || p->bytes[23] != 1) return 0;
+    sum = quadword(p->bytes + 8) >> 48;
+    for (at = 16; at < p->length; at += 8) {
+        uint64_t word = quadword(p->bytes + at);
+        sum += (word >> 32) + (word & 0xFFFFFFFF);
+    }
+    sum = (sum & 0xFFFFFFFF) + (sum >> 32);
+    while (sum >> 16) sum = (sum & 0xFFFF) + (sum >> 16);
+    return sum == 0xFFFF;
+}
+
+static int port(const struct packet *p) {
+    const unsigned char *b = p->bytes;
+    unsigned words, at;
+    if (p->length < 64 || b[12] != 8 || b[13] != 0 || b[14] >> 4 != 4 || b[23] != 6 || (b[20] & 31) || b[21]) return 0;
+    words = b[14] & 15;
+    at = 16 + 4 * words;
+    if (words < 5 || (at & ~7u) >= p->length) return 0;
+    return b[at] == 0 && b[at + 1] == 80;
+}
+
+static double now(void) {
+    struct timespec t;
+    clock_gettime(CLOCK_MONOTONIC, &t);
+    return t.tv_sec + t.tv_nsec / 1e9;
+}
+
+static void pass(const char *name, int (*taken)(const struct packet *), const struct packet *packets, size_t count, long times) {
+    volatile long sum = 0;
+    double start = now();
+    for (long k = 0; k < times; k++)
+        for (size_t i = 0; i < count; i++) sum += taken(packets + i);
+    printf("%s %.9f %ld\n", name, (now() - start) / times, sum / times);
+}
+
+#ifdef WITH_PCAP
+static struct bpf_program program;
+
+static int libpcap(const struct packet *p) {
+    struct pcap_pkthdr header;
+    memset(&header, 0, sizeof header);
+    header.caplen = header.len = p->length;
+    return p->length >= 64 && pcap_offline_filter(&program, &header, p->bytes) != 0;
+}
+#endif
+
+int main(int argc, char **argv) {
+    FILE *file = argc == 3 ? fopen(argv[1], "rb") : NULL;
+    long times = argc == 3 ? atol(argv[2]) : 0;
+    struct packet *packets = calloc(1 << 20, sizeof *packets);
+    size_t count = 0;
+    unsigned char field[4];
+    if (file == NULL || times < 1 || packets == NULL) return 1;
+    while (count < 1 << 20 && fread(field, 1, 4, file) == 4) {
+        uint32_t length = field[0] | field[1] << 8 | field[2] << 16 | (uint32_t)field[3] << 24;
+        unsigned char *bytes = length > 65535 ? NULL : calloc(1, length + 64);
+        if (bytes == NULL || fread(bytes, 1, length, file) != length) return 1;
+        packets[count].bytes = bytes;
+        packets[count++].length = length;
+    }
+    pass("checksum", checksum, packets, count, times);
+    pass("port", port, packets, count, times);
+#ifdef WITH_PCAP
+    pcap_t *dead = pcap_open_dead(DLT_EN10MB, 65535);
+    if (dead == NULL || pcap_compile(dead, &program, "tcp dst port 80", 1, PCAP_NETMASK_UNKNOWN) != 0) return 1;
+    pass("libpcap", libpcap, packets, count, times);
+#endif
+    return 0;
+}
