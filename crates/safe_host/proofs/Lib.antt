@@ -1,3 +1,4 @@
 pub mod Unblocked
+pub mod Counting
 pub mod Running
 pub mod Packets

@@ -1,4 +1,5 @@
 pub mod Hosts
 pub mod Runs
 pub mod Runners
+pub mod Counts
 pub mod Inside

@@ -6,9 +6,10 @@ ghost use Rattle.reference_machine.specs.Arena.{sum_of, map_of};
 ghost use Rattle.packet_store.specs.declared.reader.TheConstants.{MAX_PACKET};
 ghost use Rattle.packet_store.specs.PolicyStarts.{start_of};
 ghost use Rattle.safe_host.specs.Hosts.{HasRights};
+ghost use Rattle.safe_host.specs.Counts.{MakesSteps};
 ghost use Rattle.safe_host.specs.Runs.{Loads, IsRun, goes_on_after};
 
-use crate::ended::Ended;
+use crate::ended::{Counted, Ended};
 use crate::stepping::run_steps;
 use packet_store::start;
 use pcc_gate::Accepted;
@@ -114,6 +115,30 @@ impl Host {
         );
         self.live = ended.goes_on();
         ended
+    }
+
+    /// Runs as `run` does, one step after the other, and counts them, a return among them.
+    pub fn run_counted(&mut self, budget: u64) -> Counted
+        requires { self.old.live ≡ true }
+        ensures under { IsRun self.old budget result.ended self.new }
+        ensures steps { MakesSteps self.old budget result.steps }
+        ensures few { result.steps ≤ budget }
+        ensures accepted { self.new.accepted ≡ self.old.accepted }
+        ensures region { self.new.region ≡ self.old.region }
+        ensures live { self.new.live ≡ goes_on_after result.ended }
+    {
+        let mut steps: u64 = 0;
+        while steps < budget {
+            let ended = self.run(1);
+            steps += 1;
+            if !ended.goes_on() {
+                return Counted { ended, steps };
+            }
+        }
+        Counted {
+            ended: Ended::OutOfSteps,
+            steps,
+        }
     }
 
     /// The sum of the region's quadwords, modulo 2^64; the region is at the arena's front. Takes no

@@ -3,7 +3,7 @@
 //! A `Host` keeps accepted code and an arena, and no rights. The layers above use that `load` begins
 //! at the policy's start, whose rights then fit the host; that under all rights that fit, `run` is
 //! the run of the machine that tests each access; and that `HostRunner` makes of packets what that
-//! machine makes of them. What a host holds and which rights fit it stands in `specs/Hosts`, loading
+//! machine makes of them; `run_counted` counts the steps (`specs/Counts`). What a host holds and which rights fit it stands in `specs/Hosts`, loading
 //! and running in `specs/Runs`, packets in `specs/Runners`. Source: Necula and Lee, Safe Kernel
 //! Extensions Without Run-Time Checking, OSDI 1996.
 #![tactic(auto)]
@@ -15,6 +15,6 @@ mod stepping;
 #[cfg(test)]
 mod tests;
 
-pub use ended::Ended;
+pub use ended::{Counted, Ended};
 pub use host::Host;
 pub use runner::HostRunner;

@@ -1,6 +1,6 @@
 //! Accepted code on packets.
 
-use crate::{Ended, Host, HostRunner};
+use crate::{Counted, Ended, Host, HostRunner};
 use packet_store::{PacketResult, PacketRunner};
 use pcc_gate::{Accepted, gate};
 use policy_set::{Policy, PolicyKind};
@@ -93,18 +93,28 @@ fn ran(host: &mut Host, packet: &[u8; 16], budget: u64) -> Option<(Ended, u64)> 
     Some((ended, host.sum()))
 }
 
+/// The same run, with its steps counted; None where the packet is short.
+fn counted(host: &mut Host, packet: &[u8; 16], budget: u64) -> Option<Counted> {
+    if !host.load(packet) {
+        return None;
+    }
+    Some(host.run_counted(budget))
+}
+
 #[test]
 fn accepted_code_runs(rt: HostRuntime) -> Result<(), Fail> {
     let mut host = Host::new(rt.alloc(), accepted(rt.alloc())?)?;
     assert!(rt; host.accepted().policy().kind() == PolicyKind::Tag);
     let rows = [
-        (FIVE_SEVEN, 1_000, Ended::Returned(0), 12),
-        (FIVE_SEVEN, 1, Ended::Returned(0), 12),
-        (FIVE_SEVEN, 0, Ended::OutOfSteps, 12),
-        (NINE_ONE, 1, Ended::Returned(0), 10),
+        (FIVE_SEVEN, 1_000, Ended::Returned(0), 12, 1),
+        (FIVE_SEVEN, 1, Ended::Returned(0), 12, 1),
+        (FIVE_SEVEN, 0, Ended::OutOfSteps, 12, 0),
+        (NINE_ONE, 1, Ended::Returned(0), 10, 1),
     ];
-    for (packet, budget, ended, sum) in rows {
+    for (packet, budget, ended, sum, steps) in rows {
         assert_eq!(rt; ran(&mut host, &packet, budget), Some((ended, sum)));
+        let same = Some(Counted { ended, steps });
+        assert_eq!(rt; counted(&mut host, &packet, budget), same);
     }
     Ok(())
 }
