@@ -143,6 +143,7 @@ module _ (invocation : Invocation) (old new : FilesState) (known : standing_of i
   decides_written name bytes mid comes (Ok report.Accepted) h = absurd h
   decides_written name bytes mid comes (Ok (report.Results job)) h = absurd h
   decides_written name bytes mid comes (Ok (report.Hosted job)) h = absurd h
+  decides_written name bytes mid comes (Ok (report.Demo summary)) h = absurd h
   decides_written name bytes mid comes (Err (stop.WriteFault other)) h = not_written (record {
     name = name;
     bytes = bytes;

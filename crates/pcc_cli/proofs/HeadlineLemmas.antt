@@ -22,7 +22,7 @@ use Rattle.pcc_gate.specs.Safe.{AcceptedSafe}
 use Rattle.pcc_gate.proofs.First.{accepted-none}
 use Rattle.bounds_prover.specs.declared.fault.ProveFault.{ProveFault}
 use Rattle.bounds_prover.specs.Proving.{proved_container}
-use Rattle.pcc_words.specs.Invocations.{Invocation, asm, prove, check, run, ref}
+use Rattle.pcc_words.specs.Invocations.{Invocation, asm, prove, check, run, ref, demo}
 use Rattle.pcc_lines.specs.Fixed.{accepted_line, unknown_policy_line, container_too_long_line}
 use Rattle.pcc_lines.specs.Refusals.{refusal_line}
 use Rattle.pcc_exit.specs.Exits.{Exit}
@@ -237,6 +237,7 @@ module _ (accepted_safe : AcceptedSafe) (state : StartsState) (meets : StartsMee
   safe_to_run (Some (check policy file)) files = λ a. runs_safely a.kind a.bytes a.accepted
   safe_to_run (Some (run policy file packets steps)) files = λ a. runs_safely a.kind a.bytes a.accepted
   safe_to_run (Some (ref policy file packets steps)) files = tt
+  safe_to_run (Some (demo n)) files = tt
 
 -- what the commands accept
 pub accepts : AcceptedFirst → ProvedAccepted → (o : Option Invocation) (files : FileMap) → HoldBytes files → Accepts o files
@@ -246,3 +247,4 @@ accepts first proved (Some (prove policy input output)) files held = prove_accep
 accepts first proved (Some (check policy file)) files held = check_accepts policy file files first held
 accepts first proved (Some (run policy file packets steps)) files held = (check_accepts policy file files first held, run_accepts policy file files packets steps first held)
 accepts first proved (Some (ref policy file packets steps)) files held = tt
+accepts first proved (Some (demo n)) files held = tt

@@ -5,6 +5,8 @@ pub mod CopyLemmas
 pub mod AsmLemmas
 pub mod ProveLemmas
 pub mod CheckLemmas
+pub mod DemoLemmas
+pub mod CountLemmas
 pub mod PacketLemmas
 pub mod RefLemmas
 pub mod RunLemmas

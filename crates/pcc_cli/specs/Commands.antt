@@ -1,5 +1,6 @@
 pub mod Assemble
 pub mod Check
+pub mod Demo
 pub mod Prove
 pub mod Reference
 pub mod Running

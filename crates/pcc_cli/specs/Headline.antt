@@ -15,7 +15,7 @@ use Rattle.packet_store.specs.Results.{packet_result}
 use Rattle.proof_container.specs.Encoding.{IsBytes}
 use Rattle.vcgen.specs.Safety.{IsGoodEnd}
 use Rattle.pcc_gate.specs.Accepted.{IsAccepted}
-use Rattle.pcc_words.specs.Invocations.{Invocation, asm, prove, check, run, ref}
+use Rattle.pcc_words.specs.Invocations.{Invocation, asm, prove, check, run, ref, demo}
 use Rattle.pcc_lines.specs.Fixed.{accepted_line}
 use Rattle.pcc_lines.specs.Results.{result_lines}
 use Rattle.pcc_lines.specs.Sources.{written_line}
@@ -79,6 +79,7 @@ Accepts (Some (prove policy input output)) files = ProveAccepts policy input out
 Accepts (Some (check policy file)) files = CheckAccepts policy file files
 Accepts (Some (run policy file packets steps)) files = CheckAccepts policy file files × RunAccepts policy file packets steps files
 Accepts (Some (ref policy file packets steps)) files = Unit {0}
+Accepts (Some (demo n)) files = Unit {0}
 
 -- the code of what is accepted runs safely
 abbrev pub AcceptedRunsSafely : List ℕ → List ℕ → FileMap → Type 0
@@ -92,3 +93,4 @@ IsSafeToRun (Some (prove policy input output)) files = (bytes : List ℕ) → Ac
 IsSafeToRun (Some (check policy file)) files = AcceptedRunsSafely policy file files
 IsSafeToRun (Some (run policy file packets steps)) files = AcceptedRunsSafely policy file files
 IsSafeToRun (Some (ref policy file packets steps)) files = Unit {0}
+IsSafeToRun (Some (demo n)) files = Unit {0}

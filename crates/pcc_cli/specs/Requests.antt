@@ -3,7 +3,7 @@ use Rattle.std.specs.Prelude.{ℕ, List, [], ◌∷◌, Option, Some, None, Resu
 use Rattle.file_port.specs.Files.{FileMap}
 use Rattle.policy_set.specs.declared.kind.PolicyKind.{PolicyKind}
 use Rattle.policy_set.specs.Names.{policy_of}
-use Rattle.pcc_words.specs.Invocations.{Invocation, asm, prove, check, run, ref, command_of}
+use Rattle.pcc_words.specs.Invocations.{Invocation, asm, prove, check, run, ref, demo, command_of}
 use Rattle.pcc_lines.specs.Fixed.{usage_line, unknown_policy_line}
 use Rattle.pcc_lines.specs.Named.{read_fault_line, write_fault_line}
 use Rattle.pcc_exit.specs.Exits.{Exit, Answer}
@@ -13,6 +13,7 @@ use Rattle.pcc_cli.specs.Commands.Assemble.{asm_command}
 use Rattle.pcc_cli.specs.Commands.Check.{check_command}
 use Rattle.pcc_cli.specs.Commands.Prove.{prove_command}
 use Rattle.pcc_cli.specs.Commands.Reference.{ref_command}
+use Rattle.pcc_cli.specs.Commands.Demo.{demo_policy, demo_command}
 use Rattle.pcc_cli.specs.Commands.Running.{run_command}
 
 -- the lines that don't come from what the files hold
@@ -33,6 +34,7 @@ stages_of (prove policy input output) files = prove_command policy input output 
 stages_of (check policy file) files = check_command policy file files
 stages_of (run policy file packets steps) files = run_command policy file packets steps files
 stages_of (ref policy file packets steps) files = ref_command policy file packets steps files
+stages_of (demo n) files = demo_command n files
 
 -- the files that a command reads, whatever they hold
 abbrev pub names_of : Invocation → List (List ℕ)
@@ -41,19 +43,21 @@ names_of (prove policy input output) = input ∷ []
 names_of (check policy file) = file ∷ []
 names_of (run policy file packets steps) = file ∷ packets ∷ []
 names_of (ref policy file packets steps) = file ∷ packets ∷ []
+names_of (demo n) = []
 
 -- what a command on this policy is
 abbrev pub standing_on : Option PolicyKind → Standing
 standing_on None = unknown_policy
 standing_on (Some policy) = command
 
--- the policy that a command names
+-- the policy that a command names, or is always under
 abbrev pub policy_name_of : Invocation → List ℕ
 policy_name_of (asm policy input output) = policy
 policy_name_of (prove policy input output) = policy
 policy_name_of (check policy file) = policy
 policy_name_of (run policy file packets steps) = policy
 policy_name_of (ref policy file packets steps) = policy
+policy_name_of (demo n) = demo_policy
 
 -- what a command is
 abbrev pub standing_of : Invocation → Standing

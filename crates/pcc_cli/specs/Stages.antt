@@ -128,6 +128,19 @@ accepted_code_in policy bytes = do
   accepted ← accepted_in policy bytes
   code_in policy bytes
 
+-- code, and how many invariants it has
+pub record Shown : Type 0 where
+  pub code : List Insn
+  pub invariants : ℕ
+
+-- what the container that the bytes are shows, where it is accepted under the policy
+unfoldable pub shown_in : PolicyKind → List ℕ → Staged Shown
+shown_in policy bytes = do
+  accepted ← accepted_in policy bytes
+  container ← container_in policy bytes
+  code ← code_in policy bytes
+  pure (Ok (record { code = code; invariants = length container.invs }))
+
 -- what the prover makes
 abbrev pub container_proved : Result (List ℕ) ProveFault → Result (List ℕ) Exit
 container_proved (Ok bytes) = Ok bytes

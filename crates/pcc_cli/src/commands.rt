@@ -2,12 +2,14 @@
 
 mod assemble;
 mod check;
+mod demo;
 mod prove;
 mod reference;
 mod running;
 
 pub use assemble::asm_command;
 pub use check::check_command;
+pub use demo::demo_command;
 pub use prove::prove_command;
 pub use reference::ref_command;
 pub use running::run_command;

@@ -12,6 +12,8 @@ mod asm_tests;
 mod check_tests;
 mod commands;
 #[cfg(test)]
+mod demo_tests;
+#[cfg(test)]
 mod goal_tests;
 mod pcc;
 #[cfg(test)]

@@ -9,7 +9,9 @@ ghost use Rattle.pcc_cli.specs.Requests.{request_of};
 ghost use Rattle.pcc_cli.specs.Headline.{HoldBytes, Accepts, IsSafeToRun};
 ghost use Rattle.pcc_cli.specs.Inside.Decisions.{Decides, Prints, exit_of, status_after};
 
-use crate::commands::{asm_command, check_command, prove_command, ref_command, run_command};
+use crate::commands::{
+    asm_command, check_command, demo_command, prove_command, ref_command, run_command,
+};
 use crate::report::Report;
 use crate::stop::Stop;
 use file_port::{Files, Put, Sink};
@@ -31,6 +33,7 @@ fn decide<'a, F: Files>(
         Ok(Some(Command::Check(args))) => check_command(alloc, args, files),
         Ok(Some(Command::Run(args))) => run_command(alloc, args, files),
         Ok(Some(Command::Ref(args))) => ref_command(alloc, args, files),
+        Ok(Some(Command::Demo(n))) => demo_command(alloc, n, files),
         Ok(None) => Err(Stop::Usage),
         Err(_) => Err(Stop::Memory),
     }

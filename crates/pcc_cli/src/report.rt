@@ -6,7 +6,7 @@ ghost use Rattle.pcc_cli.specs.Inside.Decisions.{report_text};
 
 use file_port::{Put, Sink};
 use packet_store::{PacketFile, PacketRunner, TestingRunner};
-use pcc_lines::{print_accepted, print_results, print_written};
+use pcc_lines::{DemoSummary, print_accepted, print_demo, print_results, print_written};
 use policy_set::PolicyKind;
 use safe_host::HostRunner;
 
@@ -45,6 +45,8 @@ pub enum Report {
     Results(Job<TestingRunner>),
     /// The result line of each packet, by the host that tests none.
     Hosted(Job<HostRunner>),
+    /// What the runs of `demo` came to.
+    Demo(DemoSummary),
 }
 
 impl Report {
@@ -57,6 +59,7 @@ impl Report {
             Report::Written(count) => print_written(count, out),
             Report::Results(job) => job.print(out),
             Report::Hosted(job) => job.print(out),
+            Report::Demo(summary) => print_demo(summary, out),
         }
     }
 }

@@ -11,6 +11,7 @@ ghost use Rattle.pcc_gate.specs.Answers.{IsAcceptedBy};
 ghost use Rattle.pcc_cli.specs.Stages as stages;
 ghost use Rattle.pcc_cli.specs.Inside.Gives.{Gives, GivesPure, IsTooLong, HasWholeCode, GivesPolicy, Wrote};
 ghost use Rattle.pcc_cli.specs.Inside.Decisions.{stop_exit};
+ghost use Rattle.pcc_cli.specs.Inside.Shows.{shown_by};
 
 use crate::report::Report;
 use crate::stop::Stop;
@@ -109,16 +110,17 @@ fn judged<'a>(alloc: Global, policy: &Policy, bytes: &[u8]) -> Result<Accepted, 
 }
 
 /// What the bytes hold, where they are accepted under the policy.
-fn accepted_in<'a>(alloc: Global, policy: &Policy, bytes: &[u8]) -> Result<Accepted, Stop<'a>>
+pub fn accepted_in<'a>(alloc: Global, policy: &Policy, bytes: &[u8]) -> Result<Accepted, Stop<'a>>
     ensures exact { GivesPure (λ a. tt) (stages.accepted_in policy.now bytes.now) result }
     ensures code { GivesPure (λ a. a.code) (stages.accepted_code_in policy.now bytes.now) result }
+    ensures shown { GivesPure shown_by (stages.shown_in policy.now bytes.now) result }
     ensures policy { IfOk result (λ a. a.policy ≡ policy.now) }
 {
     judged(alloc, policy, bytes)
 }
 
 /// The bytes of the container with a proof of its condition under the policy, or why there is none.
-fn proved_in<'a>(alloc: Global, policy: &Policy, bytes: &[u8]) -> Result<Vec<u8>, Stop<'a>>
+pub fn proved_in<'a>(alloc: Global, policy: &Policy, bytes: &[u8]) -> Result<Vec<u8>, Stop<'a>>
     ensures { GivesPure (λ bytes. bytes.items) (stages.proved_in policy.now bytes.now) result }
 {
     match prove(alloc, policy, bytes) {
@@ -161,7 +163,7 @@ fn assembled_as<'a>(alloc: Global, policy: &Policy, source: &Source) -> Result<V
 }
 
 /// The same of the source that the text spells.
-fn assembled_in<'a>(alloc: Global, policy: &Policy, text: &[u8]) -> Result<Vec<u8>, Stop<'a>>
+pub fn assembled_in<'a>(alloc: Global, policy: &Policy, text: &[u8]) -> Result<Vec<u8>, Stop<'a>>
     requires short { length text.now ≤ MAX_SOURCE }
     ensures { GivesPure (λ bytes. bytes.items) (stages.assembled_in policy.now text.now) result }
 {

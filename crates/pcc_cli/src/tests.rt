@@ -236,7 +236,7 @@ fn words_are_read_by_clap(rt: HostRuntime) -> Result<(), Fail> {
         words_row("ref --help", z64, 2, USAGE),
         words_row("ref filter C P more", z64, 2, USAGE),
         words_row("ref filter", z64, 2, USAGE),
-        words_row("demo 3", z64, 2, USAGE),
+        words_row("demo 401", z64, 2, USAGE),
         words_row("ref filter none P", z64, 3, "missing none\n"),
         words_row("ref filter C none", z64, 3, "missing none\n"),
         words_row("ref nosuch none P", z64, 1, "unknown policy\n"),

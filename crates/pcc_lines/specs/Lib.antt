@@ -6,3 +6,4 @@ pub mod Proving
 pub mod Refusals
 pub mod Results
 pub mod Sources
+pub mod Demo

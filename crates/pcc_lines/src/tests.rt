@@ -1,8 +1,8 @@
 //! Lines over output in memory.
 
 use crate::{
-    print_accepted, print_container_too_long, print_missing, print_not_easy,
-    print_packets_too_long, print_read_fault, print_refusal, print_source_fault,
+    DemoSummary, print_accepted, print_container_too_long, print_demo, print_missing,
+    print_not_easy, print_packets_too_long, print_read_fault, print_refusal, print_source_fault,
     print_source_too_long, print_too_big, print_unknown_policy, print_usage, print_write_fault,
     print_written,
 };
@@ -27,6 +27,9 @@ written 36
 not easy 0
 too big entries 461283
 too big bytes 18446744073709551615
+code 17 invariants 1 accepted
+packets 16 steps 1452
+ones 4
 ";
 
 #[test]
@@ -46,6 +49,14 @@ fn lines_in_order(rt: HostRuntime) -> Result<(), Fail> {
     print_not_easy(0, &mut out);
     print_too_big("entries", 461_283, &mut out);
     print_too_big("bytes", 18_446_744_073_709_551_615, &mut out);
+    let summary = DemoSummary {
+        words: 17,
+        invariants: 1,
+        packets: 16,
+        steps: 1_452,
+        ones: 4,
+    };
+    print_demo(summary, &mut out);
     assert!(rt; out.bytes() == LINES.as_bytes());
     Ok(())
 }

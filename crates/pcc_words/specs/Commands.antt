@@ -1,6 +1,6 @@
 -- Commands without where their values lie in memory.
 use Rattle.std.specs.Prelude.{◌≤◌}
-use Rattle.pcc_words.specs.Invocations.{Invocation, asm, prove, check, run, ref}
+use Rattle.pcc_words.specs.Invocations.{Invocation, asm, prove, check, run, ref, demo}
 use Rattle.pcc_words.specs.declared.commands.Command.{Command}
 use Rattle.pcc_words.specs.declared.commands.Command.TheVariants as command
 
@@ -11,6 +11,7 @@ invocation_of (command.Prove args) = prove args.policy.now args.input.now args.o
 invocation_of (command.Check args) = check args.policy.now args.file.now
 invocation_of (command.Run args) = run args.policy.now args.file.now args.packets.now args.steps
 invocation_of (command.Ref args) = ref args.policy.now args.file.now args.packets.now args.steps
+invocation_of (command.Demo n) = demo n
 
 -- The numbers of a command are in their ranges.
 abbrev pub IsInRange : Command → Type 0
@@ -19,3 +20,4 @@ IsInRange (command.Prove args) = Unit {0}
 IsInRange (command.Check args) = Unit {0}
 IsInRange (command.Run args) = (1 ≤ args.steps) × (args.steps ≤ 1000000000)
 IsInRange (command.Ref args) = (1 ≤ args.steps) × (args.steps ≤ 1000000000)
+IsInRange (command.Demo n) = (1 ≤ n) × (n ≤ 400)

@@ -22,6 +22,10 @@ steps_rule = record (new_rule (codes "steps")) {
   defaults = codes "1000000" ∷ [];
 }
 
+-- `NAME N`, N from 1 to 400
+abbrev pub number_app : Text → App
+number_app name = with_rule (new_app name) (record (positional (codes "N")) { parser = Some (parser.Unsigned 1 400) })
+
 -- `NAME POLICY FILE`
 abbrev pub file_app : Text → App
 file_app name = with_rule (with_rule (new_app name) (positional (codes "POLICY"))) (positional (codes "FILE"))
@@ -44,9 +48,13 @@ file_commands_app =
     with_subcommand (with_subcommand (with_subcommand bare_app (copy_app (codes "asm")).top) (copy_app (codes "prove")).top)
     (file_app (codes "check")).top
 
+-- the program with the commands over files
+abbrev pub named_files_app : App
+named_files_app = with_subcommand (with_subcommand file_commands_app (run_app (codes "run")).top) (run_app (codes "ref")).top
+
 -- the program
 abbrev pub pcc_app : App
-pcc_app = with_subcommand (with_subcommand file_commands_app (run_app (codes "run")).top) (run_app (codes "ref")).top
+pcc_app = with_subcommand named_files_app (number_app (codes "demo")).top
 
 -- ---- the values
 
@@ -62,6 +70,8 @@ pub data Invocation : Type 0 where
   run : Text → Text → Text → ℕ → Invocation
   -- `ref POLICY FILE PACKETS`, and the steps for a packet
   ref : Text → Text → Text → ℕ → Invocation
+  -- `demo N`
+  demo : ℕ → Invocation
 
 -- the value of a required argument
 abbrev pub value_of : Text → List Row → Text
@@ -93,6 +103,14 @@ run_invocation command rows =
     then Some (command (value_of (codes "POLICY") rows) (value_of (codes "FILE") rows) (value_of (codes "PACKETS") rows) steps)
     else None
 
+-- from 1 to 400
+abbrev pub is_demo_size : ℕ → Bool
+is_demo_size n = nat_le 1 n && nat_le n 400
+
+-- `demo` of these rows. The parse takes no other numbers, so the test refuses none of them.
+abbrev pub demo_invocation : List Row → Option Invocation
+demo_invocation rows = let n = number_at (codes "N") rows in if is_demo_size n then Some (demo n) else None
+
 -- a command that makes a file of another, of these rows
 abbrev pub copy_invocation : (Text → Text → Text → Invocation) → List Row → Invocation
 copy_invocation command rows = command (value_of (codes "POLICY") rows) (value_of (codes "IN") rows) (value_of (codes "OUT") rows)
@@ -109,6 +127,7 @@ invocation_at name rows =
     if bytes_eq name (codes "check") then Some (file_invocation check rows) else
     if bytes_eq name (codes "run") then run_invocation run rows else
     if bytes_eq name (codes "ref") then run_invocation ref rows else
+    if bytes_eq name (codes "demo") then demo_invocation rows else
     None
 
 -- the same of a name with its rows

@@ -3,7 +3,7 @@ ghost use Rattle.std.specs.Prelude.{◌≡◌, IfOk, false};
 ghost use Rattle.clap.specs.Words.{app_of, rule_of};
 ghost use Rattle.clap.specs.declared.Command.TheViews.{out-Command as fields_of};
 ghost use Rattle.pcc_words.specs.Invocations.{copy_app, file_app, run_app, file_commands_app};
-ghost use Rattle.pcc_words.specs.Invocations.{pcc_app, steps_rule};
+ghost use Rattle.pcc_words.specs.Invocations.{named_files_app, number_app, pcc_app, steps_rule};
 ghost use Rattle.pcc_words.specs.Invocations.{positional as positional_rule};
 
 use clap::{Arg, Command, value_parser};
@@ -26,6 +26,15 @@ fn steps<'a>(alloc: Global) -> Arg<'a>
         .long("steps")
         .value_parser(value_parser!(u64).range(1..=1_000_000_000))
         .default_value("1000000")
+}
+
+/// `NAME N`
+fn number_command<'a>(alloc: Global, name: &'a str) -> Result<Command<'a>, AllocError>
+    ensures app { IfOk result (λ c. app_of c ≡ number_app name.entry.now) }
+    ensures local { IfOk result (λ c. (fields_of c).has_globals ≡ false) }
+{
+    let number = positional(alloc, "N").value_parser(value_parser!(u64).range(1..=400));
+    Command::new(alloc, name).arg(number)
 }
 
 /// `NAME POLICY FILE`
@@ -70,11 +79,18 @@ fn file_commands<'a>(alloc: Global) -> Result<Command<'a>, AllocError>
         .subcommand(file_command(alloc, "check")?)
 }
 
-/// The whole command line.
-pub fn pcc_command<'a>(alloc: Global) -> Result<Command<'a>, AllocError>
-    ensures app { IfOk result (λ c. app_of c ≡ pcc_app) }
+/// The command line with the commands over files.
+fn named_files_command<'a>(alloc: Global) -> Result<Command<'a>, AllocError>
+    ensures app { IfOk result (λ c. app_of c ≡ named_files_app) }
 {
     file_commands(alloc)?
         .subcommand(run_command(alloc, "run")?)?
         .subcommand(run_command(alloc, "ref")?)
+}
+
+/// The whole command line.
+pub fn pcc_command<'a>(alloc: Global) -> Result<Command<'a>, AllocError>
+    ensures app { IfOk result (λ c. app_of c ≡ pcc_app) }
+{
+    named_files_command(alloc)?.subcommand(number_command(alloc, "demo")?)
 }

@@ -46,4 +46,6 @@ pub enum Command<'a> {
     Run(RunArgs<'a>),
     /// Runs the testing machine on packets.
     Ref(RunArgs<'a>),
+    /// Makes a source of so many loads, proves it, judges it and runs it.
+    Demo(u64),
 }

@@ -22,7 +22,7 @@ fn arguments_of_ref(rt: HostRuntime) -> Result<(), Fail> {
         ("ref filter C1 Z64 --steps 0", None),
         ("ref filter C1 Z64 --steps 1000000001", None),
         ("ref filter C1", None),
-        ("demo 3", None),
+        ("demo 401", None),
         ("--help", None),
     ];
     for (line, steps) in rows {
@@ -77,6 +77,11 @@ fn arguments_of_others(rt: HostRuntime) -> Result<(), Fail> {
         ("check filter", None),
         ("check filter C1 more", None),
         ("check filter C1 --steps 1", None),
+        ("demo 3", Some(Command::Demo(3))),
+        ("demo 400", Some(Command::Demo(400))),
+        ("demo 0", None),
+        ("demo", None),
+        ("demo 3 3", None),
     ];
     for (line, want) in rows {
         let words = words_in(rt.alloc(), line)?;

@@ -1,6 +1,6 @@
 //! What the definition of the command line says of some arguments, with nothing to run.
 ghost use Rattle.std.specs.Prelude.{◌≡◌, Some, None, [], ◌∷◌, codes};
-ghost use Rattle.pcc_words.specs.Invocations.{command_of, asm, prove, check, run, ref};
+ghost use Rattle.pcc_words.specs.Invocations.{command_of, asm, prove, check, run, ref, demo};
 
 /// Arguments that are a command.
 pub fn worked_commands()
@@ -34,6 +34,9 @@ pub fn worked_commands()
         ∷ codes "Z64" ∷ []) ≡ Some (ref (codes "-x") (codes "--steps") (codes "Z64") 1000000) }
     ensures dash { command_of (codes "ref" ∷ codes "filter" ∷ codes "-" ∷ codes "Z64" ∷ [])
         ≡ Some (ref (codes "filter") (codes "-") (codes "Z64") 1000000) }
+    ensures demo_three { command_of (codes "demo" ∷ codes "3" ∷ []) ≡ Some (demo 3) }
+    ensures demo_most { command_of (codes "demo" ∷ codes "400" ∷ []) ≡ Some (demo 400) }
+    ensures demo_plus { command_of (codes "demo" ∷ codes "+007" ∷ []) ≡ Some (demo 7) }
 {}
 
 /// Arguments that are no command.
@@ -75,7 +78,12 @@ pub fn worked_faults()
     ensures run_too_few { command_of (codes "run" ∷ codes "filter" ∷ codes "P1" ∷ []) ≡ None }
     ensures run_zero { command_of (codes "run" ∷ codes "filter" ∷ codes "P1" ∷ codes "Z64"
         ∷ codes "--steps=0" ∷ []) ≡ None }
-    ensures other { command_of (codes "demo" ∷ codes "3" ∷ []) ≡ None }
+    ensures demo_none { command_of (codes "demo" ∷ codes "0" ∷ []) ≡ None }
+    ensures demo_above { command_of (codes "demo" ∷ codes "401" ∷ []) ≡ None }
+    ensures demo_letters { command_of (codes "demo" ∷ codes "x" ∷ []) ≡ None }
+    ensures demo_too_few { command_of (codes "demo" ∷ []) ≡ None }
+    ensures demo_too_many { command_of (codes "demo" ∷ codes "3" ∷ codes "3" ∷ []) ≡ None }
+    ensures other { command_of (codes "upgrade" ∷ codes "C1" ∷ codes "C2" ∷ []) ≡ None }
     ensures help { command_of (codes "help" ∷ []) ≡ None }
     ensures help_flag { command_of (codes "--help" ∷ []) ≡ None }
     ensures help_of_ref { command_of (codes "ref" ∷ codes "--help" ∷ []) ≡ None }

@@ -1,7 +1,8 @@
 //! The values of a command, from the matches of a parse.
 ghost use Rattle.std.specs.Prelude.{◌≡◌, IfSome, Some, None, codes, if◌then◌else◌, option_and_then, option_map};
 ghost use Rattle.clap.specs.Words.{found_of, rows_of, subcommand_rows_of};
-ghost use Rattle.pcc_words.specs.Invocations.{is_step_count, number_at, value_of, invocation_at, invocation_of_subcommand};
+ghost use Rattle.pcc_words.specs.Invocations.{is_step_count, is_demo_size, number_at, value_of};
+ghost use Rattle.pcc_words.specs.Invocations.{invocation_at, invocation_of_subcommand};
 ghost use Rattle.pcc_words.specs.Commands.{invocation_of, IsInRange};
 
 use crate::commands::{Command, CopyArgs, FileArgs, RunArgs};
@@ -9,6 +10,9 @@ use clap::ArgMatches;
 
 /// The most steps for a packet that may be asked for.
 const MAX_STEPS: u64 = 1_000_000_000;
+
+/// The most loads of `demo`.
+const MAX_DEMO: u64 = 400;
 
 /// The number of an optional argument, or 0 where it says none.
 fn number_given(matches: &ArgMatches<'_>, id: &str) -> u64
@@ -86,6 +90,19 @@ fn with_steps_in_range<'a>(args: RunArgs<'a>) -> Option<RunArgs<'a>>
     }
 }
 
+/// The number of `demo`, where it is in its range; as for the steps, clap took no other.
+fn demo_size_given(matches: &ArgMatches<'_>) -> Option<u64>
+    ensures { let n = number_at (codes "N") (rows_of (found_of matches.now)) in
+        result ≡ (if is_demo_size n then Some n else None) }
+{
+    let n = number_given(matches, "N");
+    if 1 <= n && n <= MAX_DEMO {
+        Some(n)
+    } else {
+        None
+    }
+}
+
 /// The command of a subcommand's name, if it is one.
 fn command_given<'a>(name: &str, matches: &ArgMatches<'a>) -> Option<Command<'a>>
     ensures exact { option_map invocation_of result
@@ -98,6 +115,7 @@ fn command_given<'a>(name: &str, matches: &ArgMatches<'a>) -> Option<Command<'a>
         "check" => Some(Command::Check(file_args_given(matches))),
         "run" => Some(Command::Run(with_steps_in_range(run_args_given(matches))?)),
         "ref" => Some(Command::Ref(with_steps_in_range(run_args_given(matches))?)),
+        "demo" => Some(Command::Demo(demo_size_given(matches)?)),
         _ => None,
     }
 }

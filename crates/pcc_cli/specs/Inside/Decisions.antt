@@ -15,6 +15,7 @@ use Rattle.pcc_lines.specs.Sources.{source_fault_line, written_line}
 use Rattle.bounds_prover.specs.Names.{measure_name}
 use Rattle.safe_host.specs.Runners.{host_results}
 use Rattle.pcc_lines.specs.Results.{result_lines}
+use Rattle.pcc_lines.specs.Demo.{demo_lines}
 use Rattle.pcc_exit.specs.Exits.{Exit}
 use Rattle.pcc_exit.specs.Requests.{Request, usage_exit, unknown_policy_exit, read_fault_exit, write_fault_exit}
 use Rattle.pcc_exit.specs.Ends.{IsDecision}
@@ -49,6 +50,7 @@ report_text report.Accepted = accepted_line
 report_text (report.Written count) = written_line count
 report_text (report.Results job) = result_lines job.policy (testing_results job.runner) 0 job.packets
 report_text (report.Hosted job) = result_lines job.policy (host_results job.runner) 0 job.packets
+report_text (report.Demo summary) = demo_lines summary
 
 -- what a command does that ends with a report, and writes nothing
 abbrev pub effect_of : Report → Effect

@@ -1,4 +1,4 @@
-use Rattle.std.proofs.Common.{◌++◌, ap, sym, ◌∙◌, append_assoc, decimal, codes}
+use Rattle.std.proofs.Common.{◌++◌, ap, sym, ◌∙◌, append_assoc, codes}
 use Rattle.pcc_gate.specs.declared.refusal.Refusal.{Refusal}
 use Rattle.pcc_lines.specs.Refusals.{refusal_text, malformed_text, code_flaw_text}
 use Rattle.pcc_lines.proofs.refusals.push_refusal.Goals as goal

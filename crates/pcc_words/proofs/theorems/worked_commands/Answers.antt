@@ -19,4 +19,7 @@ returns c = record {
   zeros = refl;
   behind_dashes = refl;
   dash = refl;
+  demo_three = refl;
+  demo_most = refl;
+  demo_plus = refl;
 }
