@@ -5,7 +5,7 @@ set -eu
 top=$(cd "$(dirname "${BASH_SOURCE[0]}")/.." && pwd)
 work=$(mktemp -d)
 trap 'rm -rf "$work"' EXIT
-"$top/pcc" asm filter "$top/examples/sum/source" "$work/out" > /dev/null || true
+"$top/pcc" asm filter "$top/examples/sum/source.s" "$work/out" > /dev/null || true
 python3 - "$top/crates/pcc_cli/out/pcc_cli" "$work" <<'PY'
 import os, shutil, statistics, subprocess, sys
 
