@@ -36,7 +36,7 @@ def digest():
     with open(target, "rb") as out:
         return hashlib.sha256(out.read()).hexdigest()
 
-def row(name, code, wanted, wanted_digest=None, judged="accepted"):
+def row(name, code, wanted, wanted_digest=None):
     global failed
     with open(source, "wb") as out:
         out.write(container(Terms(), FILTER, code))
@@ -50,7 +50,7 @@ def row(name, code, wanted, wanted_digest=None, judged="accepted"):
         note = "  ANOTHER DIGEST %s" % found
     elif found is not None:
         line_of_check, seconds, megabytes = once("check", "filter", target)
-        note = "" if line_of_check == judged else "  OF CHECK %s EXPECTED %s" % (line_of_check, judged)
+        note = "" if line_of_check == "accepted" else "  OF CHECK %s" % line_of_check
         line += "; check: %s, %.2f s, %.0f MB" % (line_of_check, seconds, megabytes)
     failed = failed or note != ""
     print("%-52s %7.2f s %6.0f MB  %5d code words  %s%s" % (name, statistics.median(r[1] for r in runs),
@@ -76,7 +76,7 @@ row("one more", [STORE] * 1004 + stores, "too big height 4100")
 heavy = [0x205F0001] + [0x40403402] * 60 + [word for k in range(3, 15) for word in (0xE4000001 | k << 21, NOP)]
 row("2^12 ways to the same sum of 2^60 leaves", heavy + [0x405F05A0, RETURN], "too big weight 1417309")
 row("2^12 ways to different sums", ways(12) + SUMMED + [TEST_0, RETURN], "written 2710904",
-    "29a0f4ae466dbca97258e2c03639c2f284ec1518ba6dc6bbdd3eae73559d4fb2", "status 5")
+    "29a0f4ae466dbca97258e2c03639c2f284ec1518ba6dc6bbdd3eae73559d4fb2")
 row("2^11 ways to sums of 2^17 leaves and more", ways(11) + SUMMED[:10] + [SAME] * 17 + [TEST_0, RETURN],
     "too big entries 461283")
 sys.exit(1 if failed else 0)

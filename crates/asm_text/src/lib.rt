@@ -20,8 +20,6 @@ mod reading;
 mod registers;
 mod sources;
 mod statements;
-#[cfg(test)]
-mod tests;
 mod theorems;
 
 pub use fault::{LineFault, LineFlaw, MAX_KIND};

@@ -27,12 +27,6 @@ use Rattle.bounds_prover.proofs.Rounds.{by_found, by_absurdity, by_round}
 
 -- ---- answers of calls
 
--- what the answer is, for each hypotheses and goal, where it is Ok
-pub each_goal : {E : Type 0} (p : Prover) (t u : TableView) (l : List Hypothesis) (n goal : ℕ) (r : Result (Option ℕ) E) →
-    ((Γ : Hyps) (A : Form) → AreHyps t l Γ → tree_at t goal ≡ form_encoding A → IfOk r (Stands u (p n Γ A))) → IfOk r (IsProofBy p t u l n goal)
-each_goal p t u l n goal (Ok o) h = h
-each_goal p t u l n goal (Err e) h = tt
-
 each_join : {E : Type 0} (p : Prover) (t u : TableView) (l : List Hypothesis) (n : ℕ) (connective : Form → Form → Form) (a b : ℕ) (r : Result (Option ℕ) E) →
     ((Γ : Hyps) (A B : Form) → AreHyps t l Γ → tree_at t a ≡ form_encoding A → tree_at t b ≡ form_encoding B → IfOk r (Stands u (shape_proof p n Γ (connective A B)))) → IfOk r (IsJoinProof p t u l n connective a b)
 each_join p t u l n connective a b (Ok o) h = h
@@ -69,14 +63,6 @@ shape_is p t u l n goal o (Ok k) empty h none made = λ Γ A g q.
 
 -- ---- by the shape
 
--- a goal that a connective stands at the head of
-pub by_join : {E : Type 0} (p : Prover) (t u : TableView) (l : List Hypothesis) (n goal : ℕ) (connective : Form → Form → Form) (a b : ℕ) (r : Result (Option ℕ) E) → ((A : Form) → tree_at t goal ≡ form_encoding A → IsJoin t A connective a b) →
-    IfOk r (IsJoinProof p t u l n connective a b) → IfOk r (IsProofBy (shape_proof p) t u l n goal)
-by_join p t u l n goal connective a b (Err e) is h = tt
-by_join p t u l n goal connective a b (Ok o) is h = λ Γ A g q.
-    let j = is A q in
-    subst (λ z. Stands u (shape_proof p n Γ z) o) (sym j.is) (h Γ j.left j.right g j.left_is j.right_is)
-
 -- a quantifier over words
 pub by_all : {E : Type 0} (p : Prover) (t u : TableView) (l : List Hypothesis) (n goal b : ℕ) (r : Result (Option ℕ) E) → ((A : Form) → tree_at t goal ≡ form_encoding A → IsQuantified t A FAll b) →
     IfOk r (IsOverProof p t u l n 38 b) → IfOk r (IsProofBy (shape_proof p) t u l n goal)
@@ -93,19 +79,7 @@ by_all_memories p t u l n goal b (Ok o) is h = λ Γ A g q.
     let j = is A q in
     subst (λ z. Stands u (shape_proof p n Γ z) o) (sym j.is) (h Γ j.body g j.body_is)
 
--- any other
-pub by_leaf : {E : Type 0} (p : Prover) (t u : TableView) (l : List Hypothesis) (n goal : ℕ) (r : Result (Option ℕ) E) → ((A : Form) → tree_at t goal ≡ form_encoding A → (B : Form) × (A ≡ B) × ((Γ : Hyps) → shape_proof p n Γ B ≡ p n Γ B)) →
-    IfOk r (IsProofBy p t u l n goal) → IfOk r (IsProofBy (shape_proof p) t u l n goal)
-by_leaf p t u l n goal (Err e) is h = tt
-by_leaf p t u l n goal (Ok o) is h = λ Γ A g q.
-    let j = is A q in
-    subst (λ z. Stands u z o) (sym (ap (shape_proof p n Γ) j.1 ∙ j.2 Γ ∙ ap (p n Γ) (sym j.1))) (h Γ A g q)
-
 -- ---- connectives
-
--- a conjunction whose left has no proof
-pub both_none : (p : Prover) (t u : TableView) (l : List Hypothesis) (n a b : ℕ) → IsProofBy (whole_proof p) t u l n a None → IsJoinProof p t u l n FAnd a b None
-both_none p t u l n a b h = λ Γ A B g qa qb. ap (λ (z : Option Tree). bind z (λ q. option_map (and_i A B q) (whole_proof p n Γ B))) (h Γ A g qa)
 
 -- what a later call answers under the same hypotheses
 under_same : (p : Prover) (t u v : TableView) (s : Search) (c d : Context) (b : ℕ) (o : Option ℕ) (Γ : Hyps) (B : Form) → AreKnownHyps t c.hyps → IsKnown t b → Extends t u → IsAfter u s c d → IsProofBy p u v d.hyps d.outside b o → AreHyps t c.hyps Γ → tree_at t b ≡ form_encoding B → Stands v (p c.outside Γ B) o
@@ -125,15 +99,6 @@ both_some p t u v w s c d a b left right r k ka kb x y after h i made = each_joi
     let lb : tree_at v b ≡ form_encoding B = y.same b (omega (arith, kb, x.longer)) ∙ x.same b kb ∙ qb in
     let is : whole_proof p c.outside Γ A ≡ Some (tree_at v left) = first.1 ∙ ap Some (sym (y.same left first.0)) in
     subst (λ (z : Option Tree). IfOk r (Stands w (bind z (λ q. option_map (and_i A B q) (whole_proof p c.outside Γ B))))) (sym is) (made A B (whole_proof p c.outside Γ B) la lb second))
-
--- a disjunction whose left has a proof
-pub either_left : {E : Type 0} (p : Prover) (t u w : TableView) (l : List Hypothesis) (n a b left : ℕ) (o : Option ℕ) (r : Result (Option ℕ) E) → IsKnown t a → IsKnown t b → Extends t u → o ≡ Some left → IsProofBy (whole_proof p) t u l n a o →
-    ((A B : Form) (z : Option Tree) → tree_at u a ≡ form_encoding A → tree_at u b ≡ form_encoding B → Stands u z (Some left) → IfOk r (Stands w (option_map (join_tree 32 A B) z))) →
-    IfOk r (IsJoinProof p t w l n FOr a b)
-either_left p t u w l n a b left o r ka kb x e h made = each_join p t w l n FOr a b r (λ Γ A B g qa qb.
-    let first = subst (λ (k : Option ℕ). Stands u (whole_proof p n Γ A) k) e (h Γ A g qa) in
-    let m = made A B (Some (tree_at u left)) (x.same a ka ∙ qa) (x.same b kb ∙ qb) (first.0, refl) in
-    subst (λ (z : Option Tree). IfOk r (Stands w (first_of (option_map (join_tree 32 A B) z) (option_map (join_tree 33 A B) (whole_proof p n Γ B))))) (sym first.1) m)
 
 -- one whose left has none
 pub either_right : {E : Type 0} (p : Prover) (t u v w : TableView) (s : Search) (c d : Context) (a b : ℕ) (left right : Option ℕ) (r : Result (Option ℕ) E) → AreKnownHyps t c.hyps → IsKnown t a → IsKnown t b → Extends t u → Extends u v → IsAfter u s c d → left ≡ None →

@@ -207,12 +207,3 @@ made-accepted sound policy bytes out fits e =
       accepts = subst (λ b. Accepts policy b c h.code h.marks) (sym m.out_is)
           (made-accepts sound policy bytes h.contents h.code h.marks h.passes m.proof m.given (small-enough c m.proof m.small));
     }
-
--- ---- answers
-
--- a fault is the answer, unless it is want of memory
-pub fault-answers : (made : Result (List ℕ) ProveFault) (e : ProveFault) → made ≡ Err e → IsAnswer made (Err e)
-fault-answers made (Refused r) h = h
-fault-answers made (NotEasy k) h = h
-fault-answers made (TooBig m n) h = h
-fault-answers made Memory h = tt

@@ -228,7 +228,7 @@ fn by_hyps(
 
 /// The proof of a goal that asks to load or to store, by the hypotheses of the context; none of any
 /// other goal.
-pub(crate) fn proof_by_access(
+pub fn proof_by_access(
     table: &mut Table,
     search: &mut Search,
     context: &mut Context,

@@ -23,14 +23,11 @@ mod introductions;
 mod leaf;
 mod parts;
 mod proving;
-#[cfg(test)]
-mod proving_tests;
 mod search;
-#[cfg(test)]
-mod tests;
 mod theorems;
 mod words;
 
+pub use access::proof_by_access;
 pub use answers::Means;
 pub use fault::{Measure, ProveFault};
 pub use proving::prove;

@@ -6,8 +6,6 @@
 
 mod packets;
 mod sources;
-#[cfg(test)]
-mod tests;
 
 pub use packets::{PACKETS, demo_packet};
 pub use sources::{MAX_DEMO, MAX_DEMO_SOURCE, demo_source};

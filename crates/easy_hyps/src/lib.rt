@@ -12,8 +12,6 @@ mod finding;
 mod raising;
 mod refuting;
 mod splitting;
-#[cfg(test)]
-mod tests;
 
 pub use collection::Hypotheses;
 pub use finding::find_hyp;

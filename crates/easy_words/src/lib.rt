@@ -19,8 +19,6 @@ mod op_bounds;
 mod rewriting;
 mod steps;
 mod sums;
-#[cfg(test)]
-mod tests;
 mod upper_bounds;
 
 pub use bounds::Bound;

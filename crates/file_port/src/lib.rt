@@ -17,8 +17,6 @@ mod port;
 mod spare;
 mod std_sink;
 mod streams;
-#[cfg(test)]
-mod tests;
 mod theorems;
 
 pub use disk_files::DiskFiles;

@@ -11,8 +11,6 @@ mod hypotheses;
 mod nodes;
 mod put_forms;
 mod puts;
-#[cfg(test)]
-mod tests;
 
 pub use forms::{FormNode, form_node};
 pub use hypotheses::{Hypothesis, raised};

@@ -13,8 +13,6 @@ mod names;
 mod parsing;
 mod parts;
 mod printing;
-#[cfg(test)]
-mod tests;
 mod theorems;
 
 pub use fault::{MAX_KIND, TextFault, TextFlaw};

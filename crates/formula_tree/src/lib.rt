@@ -11,8 +11,6 @@
 
 mod exp;
 mod form;
-#[cfg(test)]
-mod tests;
 mod theorems;
 
 pub use exp::{Exp, MemExp};

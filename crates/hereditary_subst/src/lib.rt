@@ -13,8 +13,6 @@
 mod kept;
 mod shifts;
 mod substitute;
-#[cfg(test)]
-mod tests;
 
 ghost use Rattle.std.specs.Prelude.{◌≡◌, ◌<◌, ◌≤◌, ◌+◌, ◌^◌, IfOk};
 ghost use Rattle.hereditary_subst.specs.Inside.Kept.{IsMemo};

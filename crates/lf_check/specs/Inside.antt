@@ -2,3 +2,4 @@
 pub mod Families
 pub mod Lists
 pub mod Kept
+pub mod Introductions

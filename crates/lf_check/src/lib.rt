@@ -15,10 +15,9 @@
 
 mod contexts;
 mod formed;
+mod introductions;
 mod judgements;
 mod steps;
-#[cfg(test)]
-mod tests;
 mod walk;
 
 ghost use Rattle.std.specs.Prelude.{◌≡◌, ◌↔◌, IfOk, IsTrue};

@@ -5,10 +5,12 @@ ghost use Rattle.std.specs.Prelude.{◌≡◌, true, false, ◌<◌, ◌≤◌, 
 ghost use Rattle.term_table.specs.Tree.{at, App, Lam, Pi};
 ghost use Rattle.term_table.specs.Table.{IsKnown, AllKnown, tree_at, Extends, Stands};
 ghost use Rattle.lf_signature.specs.Decide.{is_atomic, var_rule};
+ghost use Rattle.lf_check.specs.Inside.Introductions.{IsIntroduction};
 ghost use Rattle.lf_check.specs.Inside.Lists.{types_of};
 ghost use Rattle.lf_check.specs.Inside.Kept.{AreKept, synth_in, checks_in};
 
 use crate::contexts::{part_at, type_at};
+use crate::introductions::{Introduction, introduction_on};
 use crate::judgements::{Kept, Question, number};
 use crate::steps::{declared_on, intern_on, subst_on, weaken_on};
 use lf_signature::Signature;
@@ -147,7 +149,7 @@ pub(crate) fn synth_at<S: Signature>(
             if let Some(p) = kept.find(table, sig, &question) {
                 return Ok(Some(p));
             }
-            let Some(p) = applied_at(table, kept, sig, part, r, f, m)? else {
+            let Some(p) = application_at(table, kept, sig, part, r, f, m)? else {
                 return Ok(None);
             };
             kept.keep(table, sig, question, p)?;
@@ -161,6 +163,34 @@ pub(crate) fn synth_at<S: Signature>(
 }
 
 /// The type that the application r of f to m synthesises.
+#[cycle(check)]
+fn application_at<S: Signature>(
+    table: &mut Table,
+    kept: &mut Kept,
+    sig: &S,
+    c: Id,
+    r: Id,
+    f: Id,
+    m: Id,
+) -> Result<Option<Id>, AllocError>
+    requires holds { S.holds sig.now table.old }
+    requires c { IsKnown table.old c }
+    requires r { IsKnown table.old r }
+    requires parts { (f < r) × (m < r) }
+    requires is { App (tree_at table.old f) (tree_at table.old m) ≡ tree_at table.old r }
+    requires kept { AreKept (S.declares sig.now table.old) table.old kept.old }
+    ensures tree { IfOk result
+        (Stands table.new (synth_in (S.declares sig.now table.old) table.old c r)) }
+    ensures extends { Extends table.old table.new }
+    ensures kept { AreKept (S.declares sig.now table.new) table.new kept.new }
+{
+    match introduction_on(table, kept, sig, f, m)? {
+        Some(i) => introduced_at(table, kept, sig, c, r, f, m, &i),
+        None => applied_at(table, kept, sig, c, r, f, m),
+    }
+}
+
+/// The same by the type that f synthesises.
 #[cycle(check)]
 fn applied_at<S: Signature>(
     table: &mut Table,
@@ -192,4 +222,37 @@ fn applied_at<S: Signature>(
         return Ok(None);
     }
     subst_on(table, kept, sig, to, m, from)
+}
+
+/// The same where f is a rule that introduces a quantifier.
+#[cycle(check)]
+fn introduced_at<S: Signature>(
+    table: &mut Table,
+    kept: &mut Kept,
+    sig: &S,
+    c: Id,
+    r: Id,
+    f: Id,
+    m: Id,
+    i: &Introduction,
+) -> Result<Option<Id>, AllocError>
+    requires holds { S.holds sig.now table.old }
+    requires c { IsKnown table.old c }
+    requires r { IsKnown table.old r }
+    requires parts { (f < r) × (m < r) }
+    requires is { App (tree_at table.old f) (tree_at table.old m) ≡ tree_at table.old r }
+    requires introduces { IsIntroduction (S.declares sig.now table.old) table.old f m i.now }
+    requires kept { AreKept (S.declares sig.now table.old) table.old kept.old }
+    ensures tree { IfOk result
+        (Stands table.new (synth_in (S.declares sig.now table.old) table.old c r)) }
+    ensures extends { Extends table.old table.new }
+    ensures kept { AreKept (S.declares sig.now table.new) table.new kept.new }
+{
+    if !check_at(table, kept, sig, c, i.predicate, i.domain)? {
+        return Ok(None);
+    }
+    if !check_at(table, kept, sig, c, m, i.premise)? {
+        return Ok(None);
+    }
+    Ok(Some(i.conclusion))
 }

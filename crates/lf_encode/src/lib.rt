@@ -12,8 +12,6 @@ mod contexts;
 mod decode;
 mod encode;
 mod puts;
-#[cfg(test)]
-mod tests;
 mod theorems;
 
 pub use contexts::{Sort, machine_context};

@@ -16,8 +16,6 @@ pub mod numbers;
 pub mod schema;
 mod tables;
 mod terms;
-#[cfg(test)]
-mod tests;
 mod theorems;
 
 ghost use Rattle.std.specs.Prelude.{◌≡◌, Option, IfOk, refl};

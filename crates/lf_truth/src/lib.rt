@@ -8,8 +8,6 @@
 #![tactic(auto)]
 
 mod proving;
-#[cfg(test)]
-mod tests;
 mod theorems;
 
 pub use proving::{prove_true, prove_true_with};

@@ -13,8 +13,6 @@ mod reader;
 mod results;
 mod starting;
 mod testing;
-#[cfg(test)]
-mod tests;
 mod theorems;
 
 pub use fault::{MAX_KIND, PacketFault};

@@ -14,8 +14,6 @@ mod fault;
 mod invariants;
 mod labels;
 mod resolving;
-#[cfg(test)]
-mod tests;
 mod theorems;
 mod words;
 

@@ -1,8 +1,10 @@
 //! Containers whose code `run` and `ref` run, over files and output in memory.
 
 use crate::test_files::{
-    BARE, KEEPING, LDA, LOAD, LOADING, PROOF, RETURN, SCRATCH, container, ends_on, file, zeros,
+    BARE, KEEPING, LDA, LOAD, LOADING, PROOF, RETURN, SCRATCH, container, ends_on, ends_so, file,
+    zeros,
 };
+use file_port::MemFiles;
 use std::alloc::{AllocError, Global};
 use std::test::Fail;
 
@@ -128,5 +130,24 @@ fn failing_runs(rt: HostRuntime) -> Result<(), Fail> {
         let ends = runs_so(a, words, (reads, puts), (status, output))?;
         assert!(rt; ends, "{words} {output}");
     }
+    Ok(())
+}
+
+/// Code that returns 1 is proved, and run on two packets; a put fails behind the first line.
+#[test]
+fn the_second_line_fails(rt: HostRuntime) -> Result<(), Fail> {
+    let a = rt.alloc();
+    let bare = container(a, 1, &[LDA, RETURN], &BARE)?;
+    let z = zeros(a, 64)?;
+    let zz = joined(a, zeros(a, 64)?, &z)?;
+    let mut files = Vec::new(a);
+    files.push(file(a, "F", bare)?)?;
+    files.push(file(a, "ZZ", zz)?)?;
+    let mut files = MemFiles::new(a, files, 1, Vec::new(a))?;
+    let written = (0, "written 3344\n");
+    assert!(rt; ends_so(a, &mut files, "prove filter F P1", &[], written)?);
+    let run = "run filter P1 ZZ";
+    assert!(rt; ends_so(a, &mut files, run, &[], (0, "0: 1\n1: 1\n"))?);
+    assert!(rt; ends_so(a, &mut files, run, &[1], (4, "0: 1\n1:"))?);
     Ok(())
 }

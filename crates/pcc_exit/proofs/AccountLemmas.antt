@@ -1,5 +1,6 @@
 -- What the ways in which a run ends say of its status and of the counts.
 use Rattle.std.proofs.Common.{◌≡◌, ◌≢◌, ℕ, ◌<◌, ◌≤◌, ◌⊎◌, inl, inr, List, [], ◌++◌, take, Option, None, Some, IfSome, refl, sym, ap, ◌∙◌, subst, arith}
+use Rattle.std.proofs.lemmas.Bool.{cases_eq}
 use Rattle.std.proofs.lemmas.List.{append_cancel_left}
 use Rattle.file_port.specs.Counts.{Rose, IsQuiet}
 use Rattle.file_port.specs.Files.{FileMap, FilesState}
@@ -38,6 +39,18 @@ module _ (request : Request) (f g : FilesState) (s t : SinkState) (status : ℕ)
   answered_from (printed exit (not_written w) e status_is) qf qs ne = absurd (omega arith)
   answered_from (put_failed exit is fails status_is) qf qs ne = absurd (omega arith)
   answered_from (out_of_memory same quiet status_is) qf qs ne = absurd (ne status_is)
+
+  -- an answer that a command is done, and a status that is the answer's or 5
+  done_or_memory : (contents : Option FileMap) → (status ≢ 5 → IfSome contents (λ files. let a = request.answer files in HasExit a.exit s t status × (g ≡ changed a.change f)))
+      → IfSome contents (λ files. let a = request.answer files in a.exit.status ≡ 0 → (status ≡ 5) ⊎ ((status ≡ 0) × (t ≡ with_piece a.exit.text s) × (g ≡ changed a.change f)))
+  done_or_memory None is = tt
+  done_or_memory (Some files) is = λ done. elim (cases_eq status 5) [
+    | inl five ↦ inl five
+    | inr ne ↦ let all = is ne in inr (all.0.0 ∙ done, all.0.1, all.1)
+  ]
+
+  complete_from : Ends request f g s t status → FilesAreQuiet f g → IsQuiet s.faults t.faults → IfSome f.contents (λ files. let a = request.answer files in a.exit.status ≡ 0 → (status ≡ 5) ⊎ ((status ≡ 0) × (t ≡ with_piece a.exit.text s) × (g ≡ changed a.change f)))
+  complete_from e qf qs = done_or_memory f.contents (answered_from e qf qs)
 
   -- whole pieces leave the count
   same_faults : (text : List ℕ) → t ≡ with_piece text s → t.faults ≡ s.faults
@@ -197,6 +210,7 @@ module _ (request : Request) (f g : FilesState) (s t : SinkState) (status : ℕ)
   pub accounts_of_ends : Ends request f g s t status → Accounts request f g s t status
   accounts_of_ends e = record {
     answered = answered_from e;
+    complete = complete_from e;
     put_failed = put_failed_from e;
     read_failed = read_failed_from e;
     write_failed = write_failed_from e;

@@ -27,6 +27,11 @@ pub record Accounts (request : Request) (f g : FilesState) (s t : SinkState) (st
   pub answered : FilesAreQuiet f g → IsQuiet s.faults t.faults → status ≢ 5
       → IfSome f.contents (λ files. let a = request.answer files in
       HasExit a.exit s t status × (g ≡ changed a.change f))
+  -- Where the answer is that a command is done, and nothing failed, the status is 0 or 5. At 0 text and files are the answer.
+  pub complete : FilesAreQuiet f g → IsQuiet s.faults t.faults
+      → IfSome f.contents (λ files. let a = request.answer files in
+      a.exit.status ≡ 0 → (status ≡ 5)
+      ⊎ ((status ≡ 0) × (t ≡ with_piece a.exit.text s) × (g ≡ changed a.change f)))
   -- Where a put failed, the status is 4, and a part of what was decided is printed.
   pub put_failed : s.faults < t.faults
       → (status ≡ 4) × (exit : Exit) × IsDecision request f g exit × PutFails exit.text s t

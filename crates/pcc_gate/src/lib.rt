@@ -15,8 +15,6 @@ mod limits;
 mod passing;
 mod proving;
 mod refusal;
-#[cfg(test)]
-mod tests;
 mod theorems;
 
 pub use acceptance::Accepted;

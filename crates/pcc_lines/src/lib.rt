@@ -18,8 +18,6 @@ mod proving;
 mod refusals;
 mod results;
 mod sources;
-#[cfg(test)]
-mod tests;
 
 pub use demo::{DemoSummary, print_demo};
 pub use fixed::{

@@ -9,8 +9,6 @@
 
 mod builders;
 mod commands;
-#[cfg(test)]
-mod tests;
 mod theorems;
 mod values;
 

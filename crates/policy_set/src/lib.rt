@@ -8,8 +8,6 @@
 mod formulas;
 mod kind;
 mod policy;
-#[cfg(test)]
-mod tests;
 mod theorems;
 
 pub use kind::PolicyKind;

@@ -13,8 +13,6 @@ mod fault;
 mod fields;
 mod limits;
 mod reading;
-#[cfg(test)]
-mod tests;
 mod theorems;
 mod walk;
 mod writing;

@@ -16,8 +16,6 @@ mod equality;
 pub mod numbers;
 mod order;
 mod quantifiers;
-#[cfg(test)]
-mod tests;
 
 pub use arithmetic::{
     add_al, add_assoc, add_comm, add_zero, and_assoc, and_comm, and_le, and_zero, bis_zero,

@@ -12,8 +12,6 @@ mod layout;
 mod loading;
 mod parts;
 mod start;
-#[cfg(test)]
-mod tests;
 mod theorems;
 
 pub use agent::Agent;

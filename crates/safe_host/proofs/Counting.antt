@@ -79,9 +79,6 @@ pub record HasMade (old : HostView) (count : ℕ) (now : HostView) : Type 0 wher
   pub region : now.region ≡ old.region
   pub live : now.live ≡ true
 
-pub has-made-none : (h : HostView) → h.live ≡ true → HasMade h 0 h
-has-made-none h live = record { run = λ r f. record { same = refl; fits = λ out. f }; accepted = refl; region = refl; live = live }
-
 module _ (old : HostView) (count : ℕ) (now : HostView) (made : HasMade old count now) where
   code-is : now.accepted.code ≡ old.accepted.code
   code-is = ap (λ a. a.code) made.accepted

@@ -12,8 +12,6 @@ mod ended;
 mod host;
 mod runner;
 mod stepping;
-#[cfg(test)]
-mod tests;
 
 pub use ended::{Counted, Ended};
 pub use host::Host;

@@ -8,8 +8,6 @@
 //! for Defining Logics, JACM 1993, in its canonical presentation.
 #![tactic(auto)]
 
-#[cfg(test)]
-mod tests;
 mod theorems;
 
 ghost use Rattle.std.specs.Prelude.{◌≡◌, ℕ, List, Option, ◌<◌, ◌≤◌, ◌+◌, ◌^◌, ◌↔◌, length, [], get_or, max, ◌-◌, if◌then◌else◌, nat_lt, ◌&&◌, not, IfOk, OnErr, IsTrue};

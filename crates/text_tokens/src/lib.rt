@@ -11,8 +11,6 @@
 mod numbers;
 mod parens;
 mod registers;
-#[cfg(test)]
-mod tests;
 mod tokens;
 
 pub use numbers::{Number, begins_with_digit, is_digit, read_decimal, read_number};

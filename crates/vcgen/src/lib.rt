@@ -12,8 +12,6 @@ mod condition;
 mod effects;
 mod fault;
 mod symbols;
-#[cfg(test)]
-mod tests;
 mod theorems;
 mod walk;
 

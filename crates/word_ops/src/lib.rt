@@ -8,8 +8,6 @@
 
 #![tactic(auto)]
 
-#[cfg(test)]
-mod tests;
 mod theorems;
 
 ghost use Rattle.std.specs.Prelude.{◌≡◌};

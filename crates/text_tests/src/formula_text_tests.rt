@@ -1,0 +1,237 @@
+//! Texts that are read and texts that aren't, and the highest formulas of a text.
+
+use formula_text::{TextFault, TextFlaw, laws, print_form, read_form};
+use formula_tree::{Exp, Form};
+use std::alloc::{AllocError, Global};
+use std::process::Abort;
+use std::test::Fail;
+use word_ops::Rel;
+
+/// Texts with what is printed of their formulas.
+static READ: [(&str, &str); 14] = [
+    ("tt", "tt"),
+    ("\t ff ", "ff"),
+    ("(eq r31 0)", "(eq r31 0)"),
+    ("  ( ult\t$17   007 )  ", "(ult r17 7)"),
+    ("(or(rd v0)(wr ra))", "(or (rd r0) (wr r26))"),
+    ("(sle zero 0xFf)", "(sle r31 255)"),
+    (
+        "(slt 0x00 18446744073709551615)",
+        "(slt 0 18446744073709551615)",
+    ),
+    (
+        "(all x (all y (imp (eq x y) (all x (eq x y)))))",
+        "(all x0 (all x1 (imp (eq x0 x1) (all x2 (eq x2 x1)))))",
+    ),
+    (
+        "(all a (and (all b (rd b)) (all c (wr a))))",
+        "(all x0 (and (all x1 (rd x1)) (all x1 (wr x0))))",
+    ),
+    (
+        "(allm mem (eq (sel (upd mem a0 1) sp) (sel m gp)))",
+        "(allm x0 (eq (sel (upd x0 r16 1) r30) (sel m r29)))",
+    ),
+    (
+        "(all xor (all left (all x0 (ule xor left))))",
+        "(all x0 (all x1 (all x2 (ule x0 x1))))",
+    ),
+    (
+        "(eq (add (sub 1 2) (band 3 4)) (bis (sll 5 6) (srl 7 8)))",
+        "(eq (add (sub 1 2) (band 3 4)) (bis (sll 5 6) (srl 7 8)))",
+    ),
+    (
+        "(eq (cmpeq 1 2) (cmplt (cmple 3 4) (cmpult 5 (cmpule 6 7))))",
+        "(eq (cmpeq 1 2) (cmplt (cmple 3 4) (cmpult 5 (cmpule 6 7))))",
+    ),
+    (
+        "(all i (imp (ult i r17) (and (rd (add r16 (sll i 3))) (wr (add r16 (sll i 3))))))",
+        "(all x0 (imp (ult x0 r17) (and (rd (add r16 (sll x0 3))) (wr (add r16 (sll x0 3))))))",
+    ),
+];
+
+/// The formulas that policies ask for, as text, printed with the names of printing.
+static POLICIES: [(&str, &str); 5] = [
+    ("(ule 64 r17)", "(ule 64 r17)"),
+    (
+        "(all i (imp (and (ult i r17) (eq (band i 7) 0)) (rd (add r16 i))))",
+        "(all x0 (imp (and (ult x0 r17) (eq (band x0 7) 0)) (rd (add r16 x0))))",
+    ),
+    (
+        "(all j (imp (and (ult j 16) (eq (band j 7) 0)) (and (rd (add r18 j)) (wr (add r18 j)))))",
+        "(all x0 (imp (and (ult x0 16) (eq (band x0 7) 0)) (and (rd (add r18 x0)) (wr (add r18 x0)))))",
+    ),
+    (
+        "(all i (all j (imp (and (and (ult i r17) (eq (band i 7) 0)) (and (ult j 16) (eq (band j 7) 0)))\t(imp (eq (add r16 i) (add r18 j)) ff))))",
+        "(all x0 (all x1 (imp (and (and (ult x0 r17) (eq (band x0 7) 0)) (and (ult x1 16) (eq (band x1 7) 0))) (imp (eq (add r16 x0) (add r18 x1)) ff))))",
+    ),
+    (
+        "(imp (imp (eq (sel m (add r16 0)) 0) ff) (wr (add r16 8)))",
+        "(imp (imp (eq (sel m (add r16 0)) 0) ff) (wr (add r16 8)))",
+    ),
+];
+
+/// Texts with their first fault, by its position.
+static SHAPE: [(&str, usize); 18] = [
+    ("", 0),
+    (" \t ", 3),
+    (")", 0),
+    ("(", 1),
+    ("()", 1),
+    ("((", 1),
+    ("foo", 0),
+    ("r1", 0),
+    ("(foo r1 r2)", 1),
+    ("(xor r1 r2)", 1),
+    ("(add r1 r2)", 1),
+    ("(rd (foo r1))", 5),
+    ("(rd (eq 0 0))", 5),
+    ("(rd (sel (add 0 0) 0))", 10),
+    ("(eq r1)", 6),
+    ("(eq 0 0 0)", 8),
+    ("(all (x) tt)", 5),
+    ("(and tt ff", 10),
+];
+
+static NAME: [(&str, usize); 21] = [
+    ("(eq q 0)", 4),
+    ("(eq r07 0)", 4),
+    ("(eq $32 0)", 4),
+    ("(eq R1 0)", 4),
+    ("(eq -1 0)", 4),
+    ("(eq m 0)", 4),
+    ("(eq left 0)", 4),
+    ("(rd tt)", 4),
+    ("(rd (sel 5 0))", 9),
+    ("(rd (sel r1 0))", 9),
+    ("(all 5 tt)", 5),
+    ("(all r1 tt)", 5),
+    ("(all sp tt)", 5),
+    ("(all and tt)", 5),
+    ("(all cmpule tt)", 5),
+    ("(all tt tt)", 5),
+    ("(allm m tt)", 6),
+    ("(all X tt)", 5),
+    ("(all x_ tt)", 5),
+    ("(all x (rd (sel x 0)))", 16),
+    ("(and (all x tt) (allm y (rd y)))", 28),
+];
+
+static NUMBER: [(&str, usize); 7] = [
+    ("(rd 5x)", 4),
+    ("(rd 0x)", 4),
+    ("(rd 0X1)", 4),
+    ("(rd 0xg)", 4),
+    ("(rd 1,000)", 4),
+    ("(rd 18446744073709551616)", 4),
+    ("(rd 0x10000000000000000)", 4),
+];
+
+static TRAILING: [(&str, usize); 5] = [
+    ("tt tt", 3),
+    ("tt(", 2),
+    ("ff )", 3),
+    ("(and tt ff))", 11),
+    ("(rd 0) 18446744073709551616", 7),
+];
+
+/// Reads the text and prints its formula.
+fn printed(alloc: Global, text: &str) -> Result<Vec<u8>, TextFault> {
+    let form = read_form(alloc, text.as_bytes())?;
+    match print_form(alloc, &form) {
+        Ok(out) => Ok(out),
+        Err(_) => Err(TextFault::Memory),
+    }
+}
+
+fn test_read(rt: &impl Abort, alloc: Global, text: &str, want: &str) {
+    match printed(alloc, text) {
+        Ok(out) => assert!(rt; out.as_slice() == want.as_bytes(), "{text}"),
+        Err(fault) => assert!(rt; false, "{text}: {fault}"),
+    }
+}
+
+#[test]
+fn what_is_read_is_printed(rt: HostRuntime) {
+    laws();
+    for (text, want) in READ {
+        test_read(&rt, rt.alloc(), text, want);
+        test_read(&rt, rt.alloc(), want, want);
+    }
+    for (text, want) in POLICIES {
+        test_read(&rt, rt.alloc(), text, want);
+    }
+}
+
+fn test_fault(rt: &impl Abort, alloc: Global, text: &str, at: usize, flaw: TextFlaw) {
+    let got = read_form(alloc, text.as_bytes());
+    assert!(rt; got == Err(TextFault::At(at, flaw)), "{text}");
+}
+
+#[test]
+fn the_first_fault_is_named(rt: HostRuntime) {
+    for (text, at) in SHAPE {
+        test_fault(&rt, rt.alloc(), text, at, TextFlaw::Shape);
+    }
+    for (text, at) in NAME {
+        test_fault(&rt, rt.alloc(), text, at, TextFlaw::Name);
+    }
+    for (text, at) in NUMBER {
+        test_fault(&rt, rt.alloc(), text, at, TextFlaw::Number);
+    }
+    for (text, at) in TRAILING {
+        test_fault(&rt, rt.alloc(), text, at, TextFlaw::Trailing);
+    }
+    assert!(rt; TextFlaw::Trailing.name() == "Trailing");
+}
+
+#[test]
+fn the_tree_of_a_text(rt: HostRuntime) {
+    match read_form(rt.alloc(), b"(eq r31 0)") {
+        Ok(form) => assert!(rt; form == Form::Rel(Rel::Eq, Exp::Reg(31), Exp::Lit(0))),
+        Err(fault) => assert!(rt; false, "{fault}"),
+    }
+}
+
+/// `front` so often, `inner`, and `back` as often.
+fn nested(
+    alloc: Global,
+    count: u32,
+    front: &[u8],
+    inner: &[u8],
+    back: &[u8],
+) -> Result<Vec<u8>, AllocError> {
+    let mut text = Vec::new(alloc);
+    for _ in 0..count {
+        text.extend_from_slice(front)?;
+    }
+    text.extend_from_slice(inner)?;
+    for _ in 0..count {
+        text.extend_from_slice(back)?;
+    }
+    Ok(text)
+}
+
+/// The text is as long as it can be, and its formula is printed and read back.
+fn test_nested(rt: &impl Abort, alloc: Global, text: &[u8], most: usize) -> Result<(), TextFault> {
+    assert!(rt; text.len() <= most);
+    assert!(rt; most - text.len() < 8);
+    let form = read_form(alloc, text)?;
+    match print_form(alloc, &form) {
+        Ok(again) => assert!(rt; read_form(alloc, &again)? == form),
+        Err(_) => assert!(rt; false),
+    }
+    Ok(())
+}
+
+/// The deepest nestings of texts of 2,048 and of 4,096 bytes.
+#[test]
+fn deepest_nestings(rt: HostRuntime) -> Result<(), Fail> {
+    let alloc = rt.alloc();
+    for (most, deep, bound) in [(2_048, 339, 292), (4_096, 681, 584)] {
+        let either = nested(alloc, deep, b"(or", b"(or tt tt)", b"tt)")?;
+        assert!(rt; test_nested(&rt, alloc, &either, most).is_ok());
+        let each = nested(alloc, bound, b"(all x", b" tt", b")")?;
+        assert!(rt; test_nested(&rt, alloc, &each, most).is_ok());
+    }
+    Ok(())
+}
