@@ -9,14 +9,17 @@ lines_of() {
   { find "$1" -type f -name "$2" -exec cat {} + 2> /dev/null || true; } | wc -l
 }
 
-# The lines of the files of tests, and of what several of them use.
+# The lines of the files of tests, and of what several of them use; of a crate of tests, all lines.
 test_lines_of() {
-  echo $(($(lines_of "$1" '*tests.rt') + $(lines_of "$1" 'test_*.rt')))
+  case $1 in
+    *_tests/src) lines_of "$1" '*.rt' ;;
+    *) echo $(($(lines_of "$1" '*tests.rt') + $(lines_of "$1" 'test_*.rt'))) ;;
+  esac
 }
 
 # How many lines of the crate's code match, its test files included or not.
 count_of() {
-  { find "$1/src" -type f -name '*.rt' ! -name "${3-}" ! -name "${4-}" -exec cat {} + || true; } |
+  { find "$1/src" -type f -name '*.rt' ! -path "${3-}" ! -path "${4-}" -exec cat {} + || true; } |
     grep -cE "$2" || true
 }
 
@@ -31,8 +34,8 @@ sed 's/#.*//; s/:.*//' ../crates.txt | grep . | while read -r crate _; do
     "$(($(lines_of "$crate/src" '*.rt') - $(test_lines_of "$crate/src")))" \
     "$(test_lines_of "$crate/src")" \
     "$(lines_of "$crate/specs" '*.antt')" "$(lines_of "$crate/proofs" '*.antt')" \
-    "$(count_of "$crate" '^ *(pub )?fn ' '*tests.rt' 'test_*.rt')" \
-    "$(count_of "$crate" '^ *ensures' '*tests.rt' 'test_*.rt')" \
+    "$(count_of "$crate" '^ *(pub )?fn ' '*tests*' '*/test_*')" \
+    "$(count_of "$crate" '^ *ensures' '*tests*' '*/test_*')" \
     "$(count_of "$crate" '#\[test\]')" "$(edits_of "$crate")"
 done | awk '{
   printf "| %s |", $1

@@ -101,7 +101,8 @@ fn below_word(
     ensures known { IfOk result (λ b. IsKnown table.new b.proof) }
     ensures is { (x y : Exp) → same_exp y x ≡ true → tree_at table.old e ≡ exp_encoding x
         → tree_at table.old word ≡ exp_encoding (ELit w) → IfOk result
-        (IsBoundOf table.new (least_bound (upper_of x (FRel Ult y (ELit w)) (tree_at table.old proof))
+        (IsBoundOf table.new (least_bound
+        (upper_of x (FRel Ult y (ELit w)) (tree_at table.old proof))
         (bound_by_ids table.old last))) }
     ensures extends { Extends table.old table.new }
     ensures memo { IsMemo table.new memo.new }
@@ -133,7 +134,8 @@ fn upper_by_word(
     ensures known { IfOk result (λ b. IsKnown table.new b.proof) }
     ensures is { (x y : Exp) → same_exp y x ≡ true → tree_at table.old e ≡ exp_encoding x
         → tree_at table.old word ≡ exp_encoding (ELit w) → IfOk result
-        (IsBoundOf table.new (least_bound (upper_of x (FRel rel y (ELit w)) (tree_at table.old proof))
+        (IsBoundOf table.new (least_bound
+        (upper_of x (FRel rel y (ELit w)) (tree_at table.old proof))
         (bound_by_ids table.old last))) }
     ensures extends { Extends table.old table.new }
     ensures memo { IsMemo table.new memo.new }

@@ -73,7 +73,8 @@ pub fn exp_node(table: &Table, id: Id) -> ExpNode
 /// nothing, but that the parts' ids are lower.
 pub fn mem_node(table: &Table, id: Id) -> MemNode
     requires { IsKnown table.now id }
-    ensures is { (m : MemExp) → tree_at table.now id ≡ mem_encoding m → IsMemNode table.now m result }
+    ensures is { (m : MemExp) → tree_at table.now id ≡ mem_encoding m
+        → IsMemNode table.now m result }
     ensures below { AreMemPartsBelow id result }
 {
     match table.node(id) {

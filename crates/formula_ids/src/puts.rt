@@ -103,7 +103,8 @@ fn put_word_variable(table: &mut Table, id: Id, n: u32, x: u64, arg: Id) -> Resu
     requires id { IsKnown table.old id }
     requires arg { IsKnown table.old arg }
     ensures known { IfOk result (IsKnown table.new) }
-    ensures exact { (o : Exp) → tree_at table.old id ≡ Var n → tree_at table.old arg ≡ exp_encoding o
+    ensures exact { (o : Exp) → tree_at table.old id ≡ Var n
+        → tree_at table.old arg ≡ exp_encoding o
         → IfOk result (IsIdOf table.new (exp_encoding (exp_at (PExp o) (spot x n)))) }
     ensures extends { Extends table.old table.new }
 {

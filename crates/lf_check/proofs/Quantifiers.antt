@@ -8,7 +8,7 @@ use Rattle.hereditary_subst.specs.Inside.Spare.{CanRaise, IsLowerable}
 use Rattle.hereditary_subst.proofs.Spare.{cancel_term}
 use Rattle.lf_signature.specs.Decide.{synth_of, checks_of, app_rule, atom_rule, var_rule}
 use Rattle.term_table.specs.Table.{TableView, IsKnown, tree_at, Extends}
-use Rattle.lf_check.specs.Inside.Introductions.{is_family, is_constant, is_on_family, premise_type, conclusion_type, IsReady, IsRuleApplied, IsFitted, IsIntroduction, where_it_holds}
+use Rattle.lf_check.specs.Inside.Introductions.{is_family, is_constant, is_on_family, premise_type, conclusion_type, IsRaisable, IsRuleApplied, IsFitted, IsIntroduction, where_it_holds}
 use Rattle.lf_check.specs.declared.introductions.Rule.{Rule}
 use Rattle.lf_check.specs.declared.introductions.Introduction.{Introduction}
 
@@ -183,7 +183,7 @@ raised_twice (suc (suc n)) m l h = (h.0, (h.1.0, tt))
 twice_raised : (b : Tree) → IsLowerable (Lam b) (Lam b) → CanRaise 2 (Lam b)
 twice_raised b l = raised_twice (1 + height_of b) (Lam b) (let q = height-some b in omega arith) l.raises
 
-module _ (sig : Const → Option Tree) (c : Const) (b m : Tree) (ready : IsReady m (Lam b)) where
+module _ (sig : Const → Option Tree) (c : Const) (b m : Tree) (ready : IsRaisable m (Lam b)) where
   on_families : (g v p r : ℕ) (y : Tree) (q : Const) → sig c ≡ Some (Pi (Pi (Fam g) y) (Pi (premise_type (Fam v) (Fam p)) (conclusion_type (Fam r) (Con q)))) → (ctx : List Tree) →
       synth_of sig (App (App (Con c) (Lam b)) m) ctx ≡ where_it_holds (checks_of sig (Lam b) ctx (Pi (Fam g) y) && checks_of sig m ctx (Pi (Fam v) (TApp (Fam p) b))) (TApp (Fam r) (App (Con q) (Lam b)))
   on_families g v p r y q d ctx =
@@ -236,7 +236,7 @@ both : (a b : Bool) → (a && b) ≡ true → (a ≡ true) × (b ≡ true)
 both true b q = (refl, q)
 both false b q = cc
 
-pub introduced : (sig : Const → Option Tree) (c : Const) (b m d v p r q : Tree) → IsReady m (Lam b) → is_on_family d ≡ true → (is_family v && (is_family p && is_family r)) ≡ true → is_constant q ≡ true →
+pub introduced : (sig : Const → Option Tree) (c : Const) (b m d v p r q : Tree) → IsRaisable m (Lam b) → is_on_family d ≡ true → (is_family v && (is_family p && is_family r)) ≡ true → is_constant q ≡ true →
     sig c ≡ Some (Pi d (Pi (premise_type v p) (conclusion_type r q))) → (ctx : List Tree) →
     synth_of sig (App (App (Con c) (Lam b)) m) ctx ≡ where_it_holds (checks_of sig (Lam b) ctx d && checks_of sig m ctx (Pi v (TApp p b))) (TApp r (App q (Lam b)))
 introduced sig c b m d v p r q ready hd hf hq h ctx =
@@ -262,13 +262,13 @@ introduced sig c b m d v p r q ready hd hf hq h ctx =
     ∙ ap (λ z. where_it_holds (checks_of sig (Lam b) ctx d && checks_of sig m ctx (Pi v (TApp p b))) (TApp r (App z (Lam b)))) (sym q'.1)
 
 -- The same of ids.
-pub introduction : (sig : Const → Option Tree) (t u : TableView) (f m predicate body : ℕ) (r : Rule) (i : Introduction) → IsRuleApplied sig t f r predicate body → IsReady (tree_at t m) (tree_at t predicate) →
+pub introduction : (sig : Const → Option Tree) (t u : TableView) (f m predicate body : ℕ) (r : Rule) (i : Introduction) → IsRuleApplied sig t f r predicate body → IsRaisable (tree_at t m) (tree_at t predicate) →
     IsKnown t f → IsKnown t m → Extends t u → IsFitted t u r predicate body i → IsIntroduction sig u f m i
 introduction sig t u f m predicate body r i h ready kf km x fit =
     let b = tree_at t body in
     let kp : IsKnown u predicate = omega (arith, h.predicate_known, x.longer) in
     let kd : IsKnown u r.domain = omega (arith, h.rule.domain, x.longer) in
-    let ready' : IsReady (tree_at t m) (Lam b) = subst (IsReady (tree_at t m)) h.lam ready in
+    let ready' : IsRaisable (tree_at t m) (Lam b) = subst (IsRaisable (tree_at t m)) h.lam ready in
     let sf : tree_at u f ≡ App (Con h.constant) (Lam b) = x.same f kf ∙ h.is ∙ ap (App (Con h.constant)) h.lam in
     let sm : tree_at u m ≡ tree_at t m = x.same m km in
     let sp : tree_at u i.predicate ≡ Lam b = ap (tree_at u) fit.same_predicate ∙ x.same predicate h.predicate_known ∙ h.lam in

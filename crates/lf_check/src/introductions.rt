@@ -14,8 +14,8 @@ ghost use Rattle.lf_check.specs.Inside.Introductions.{
   is_on_family,
   premise_type,
   conclusion_type,
-  IsRule,
-  IsReady,
+  IsIntroductionRule,
+  IsRaisable,
   IsRuleApplied,
   IsFitted,
   IsIntroduction,
@@ -95,8 +95,8 @@ fn is_var(table: &Table, id: Id, n: u32) -> bool
 /// The type of the values, and the family of the proofs.
 fn premise_of(table: &Table, id: Id) -> Option<(Id, Id)>
     requires { IsKnown table.now id }
-    ensures { IfSome result (λ r. IsKnown table.now r.0 × IsKnown table.now r.1
-        × (tree_at table.now id ≡ premise_type (tree_at table.now r.0) (tree_at table.now r.1))) }
+    ensures { IfSome result (λ r. let t = table.now in IsKnown t r.0 × IsKnown t r.1
+        × (tree_at t id ≡ premise_type (tree_at t r.0) (tree_at t r.1))) }
 {
     let Node::Pi(values, proofs) = table.node(id) else {
         return None;
@@ -116,8 +116,8 @@ fn premise_of(table: &Table, id: Id) -> Option<(Id, Id)>
 /// The family of the proofs, and the quantifier.
 fn conclusion_of(table: &Table, id: Id) -> Option<(Id, Id)>
     requires { IsKnown table.now id }
-    ensures { IfSome result (λ r. IsKnown table.now r.0 × IsKnown table.now r.1
-        × (tree_at table.now id ≡ conclusion_type (tree_at table.now r.0) (tree_at table.now r.1))) }
+    ensures { IfSome result (λ r. let t = table.now in IsKnown t r.0 × IsKnown t r.1
+        × (tree_at t id ≡ conclusion_type (tree_at t r.0) (tree_at t r.1))) }
 {
     let Node::TApp(family, formula) = table.node(id) else {
         return None;
@@ -140,7 +140,7 @@ fn conclusion_of(table: &Table, id: Id) -> Option<(Id, Id)>
 /// The parts of the type, where it is that of a rule that introduces a quantifier.
 fn rule_of(table: &Table, declared: Id) -> Option<Rule>
     requires { IsKnown table.now declared }
-    ensures { IfSome result (IsRule table.now (tree_at table.now declared)) }
+    ensures { IfSome result (IsIntroductionRule table.now (tree_at table.now declared)) }
 {
     let Node::Pi(domain, rest) = table.node(declared) else {
         return None;
@@ -169,7 +169,7 @@ fn rule_of(table: &Table, declared: Id) -> Option<Rule>
 fn is_ready(table: &Table, m: Id, predicate: Id) -> bool
     requires m { IsKnown table.now m }
     requires predicate { IsKnown table.now predicate }
-    ensures { IsTrue result → IsReady (tree_at table.now m) (tree_at table.now predicate) }
+    ensures { IsTrue result → IsRaisable (tree_at table.now m) (tree_at table.now predicate) }
 {
     let reach = table.reach(predicate);
     let high = table.height(predicate);

@@ -88,7 +88,8 @@ fn memory_variable(n: u32, depth: u64) -> MemExp
 #[cycle(decoding)]
 fn decode_exp(alloc: Global, table: &Table, id: Id, depth: u64) -> Result<Exp, AllocError>
     requires { IsKnown table.now id }
-    ensures exact { IfOk result (λ e. exp_view e ≡ unnamed_exp depth (exp_of (tree_at table.now id))) }
+    ensures exact { IfOk result
+        (λ e. exp_view e ≡ unnamed_exp depth (exp_of (tree_at table.now id))) }
 {
     match table.node(id) {
         Node::Var(n) => Ok(word_variable(n, depth)),
@@ -128,7 +129,8 @@ fn decode_applied(alloc: Global, table: &Table, f: Id, b: Id, depth: u64) -> Res
 #[cycle(decoding)]
 fn decode_mem(alloc: Global, table: &Table, id: Id, depth: u64) -> Result<MemExp, AllocError>
     requires { IsKnown table.now id }
-    ensures exact { IfOk result (λ m. mem_exp_view m ≡ unnamed_mem depth (mem_of (tree_at table.now id))) }
+    ensures exact { IfOk result
+        (λ m. mem_exp_view m ≡ unnamed_mem depth (mem_of (tree_at table.now id))) }
 {
     match table.node(id) {
         Node::Var(n) => Ok(memory_variable(n, depth)),
@@ -168,7 +170,8 @@ fn decode_store(
 fn decode_form(alloc: Global, table: &Table, id: Id, depth: u64) -> Result<Form, AllocError>
     requires known { IsKnown table.now id }
     requires room { depth + id < 2 ^ 64 }
-    ensures exact { IfOk result (λ f. form_view f ≡ unnamed_form depth (form_of (tree_at table.now id))) }
+    ensures exact { IfOk result
+        (λ f. form_view f ≡ unnamed_form depth (form_of (tree_at table.now id))) }
 {
     match table.node(id) {
         Node::Const(constant) => Ok(if constant == TT {
@@ -240,7 +243,8 @@ fn decode_unary(
 fn decode_body(alloc: Global, table: &Table, t: Id, depth: u64) -> Result<Form, AllocError>
     requires t { IsKnown table.now t }
     requires room { depth + t < 2 ^ 64 }
-    ensures exact { IfOk result (λ f. form_view f ≡ unnamed_form (suc depth) (body_of (tree_at table.now t))) }
+    ensures exact { IfOk result
+        (λ f. form_view f ≡ unnamed_form (suc depth) (body_of (tree_at table.now t))) }
 {
     match table.node(t) {
         Node::Lam(b) => decode_form(alloc, table, b, depth + 1),
@@ -263,7 +267,8 @@ fn decode_joined(
     requires room { depth + max s t < 2 ^ 64 }
     ensures exact { let first = tree_at table.now s in
         let second = tree_at table.now t in
-        let both = connected constant (form_of first) (form_of second) (exp_of first) (exp_of second) in
+        let both =
+        connected constant (form_of first) (form_of second) (exp_of first) (exp_of second) in
         IfOk result (λ f. form_view f ≡ unnamed_form depth both) }
 {
     if let Some(rel) = rel_of_constant(constant) {

@@ -38,7 +38,8 @@ fn encode_register(table: &mut Table, number: u8, depth: u32) -> Result<Id, Allo
 #[cycle(encoding)]
 fn encode_exp(table: &mut Table, exp: &Exp, depth: u32) -> Result<Id, AllocError>
     requires room { depth + 31 < 2 ^ 32 }
-    ensures id { IfOk result (IsIdOf table.new (exp_encoding (named_exp depth (exp_view exp.now)))) }
+    ensures id { IfOk result
+        (IsIdOf table.new (exp_encoding (named_exp depth (exp_view exp.now)))) }
     ensures extends { Extends table.old table.new }
 {
     match exp {

@@ -76,7 +76,8 @@ pub fn pcc<F: Files, S: Sink>(alloc: Global, words: Vec<String>, files: &mut F, 
         (F.state files.old) (F.state files.new) (S.state out.old) (S.state out.new) result }
     ensures accepts { (files : FileMap) → HoldBytes files
         → Accepts (command_of (map string_bytes words.items)) files }
-    ensures safe { (files : FileMap) → IsSafeToRun (command_of (map string_bytes words.items)) files }
+    ensures safe { (files : FileMap)
+        → IsSafeToRun (command_of (map string_bytes words.items)) files }
     ensures accounts { Accounts (request_of (map string_bytes words.items))
         (F.state files.old) (F.state files.new) (S.state out.old) (S.state out.new) result }
 {

@@ -19,7 +19,8 @@ fn offset_from(alloc: Global, register: u8, offset: Exp) -> Result<Exp, AllocErr
 
 /// The variable is below the bound and a multiple of 8.
 fn aligned_below(alloc: Global, variable: u32, bound: Exp) -> Result<Form, AllocError>
-    ensures { IfOk result (λ f. form_view f ≡ parts.aligned_below (EVar variable) (exp_view bound)) }
+    ensures { IfOk result
+        (λ f. form_view f ≡ parts.aligned_below (EVar variable) (exp_view bound)) }
 {
     let low = Exp::oper(alloc, Op::Band, Exp::Var(variable), Exp::Lit(7))?;
     let below = Form::Rel(Rel::Ult, Exp::Var(variable), bound);

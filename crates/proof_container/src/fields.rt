@@ -84,7 +84,8 @@ impl<'b> Fields<'b> {
 
     /// The next field, which has to lie between these numbers.
     pub fn count(&mut self, low: u32, high: u32) -> Result<u32, Malformed>
-        ensures read { Decodes (λ n. n) (count_at self.old.bytes.now self.old.read low high) result }
+        ensures read { Decodes (λ n. n) (count_at self.old.bytes.now self.old.read low high)
+            result }
         ensures moves { OnOk result (IsPast self.old self.new 1) }
         ensures low { IfOk result (λ n. low ≤ n) }
         ensures high { IfOk result (λ n. n ≤ high) }

@@ -16,6 +16,7 @@ abbrev pub word_node : Option Op → ℕ → ℕ → ExpNode
 word_node (Some o) a b = E.Apply o a b
 word_node None a b = E.Sel a b
 
+-- what the constant c at two parts is
 abbrev pub applied_node : ℕ → ℕ → ℕ → ExpNode
 applied_node c a b = word_node (op_of_constant c) a b
 
@@ -24,6 +25,7 @@ abbrev pub quantified_node : ℕ → Option ℕ → FormNode
 quantified_node c None = F.True
 quantified_node c (Some b) = if c == ALL then F.All b else F.AllMem b
 
+-- the formula of the constant c at one part, which has that body where it is an abstraction
 abbrev pub unary_node : ℕ → ℕ → Option ℕ → FormNode
 unary_node c a body = if c == RD then F.Load a else if c == WR then F.Store a else quantified_node c body
 
@@ -32,6 +34,7 @@ abbrev pub joined_node : Option Rel → ℕ → ℕ → ℕ → FormNode
 joined_node (Some r) c a b = F.Relation r a b
 joined_node None c a b = if c == AND then F.And a b else if c == OR then F.Or a b else F.Imp a b
 
+-- the formula of the constant c at two parts
 abbrev pub binary_node : ℕ → ℕ → ℕ → FormNode
 binary_node c a b = joined_node (rel_of_constant c) c a b
 

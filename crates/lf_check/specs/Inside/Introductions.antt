@@ -8,15 +8,17 @@ use Rattle.lf_signature.specs.Decide.{synth_of, checks_of}
 use Rattle.lf_check.specs.declared.introductions.Rule.{Rule}
 use Rattle.lf_check.specs.declared.introductions.Introduction.{Introduction}
 
--- whether the tree is a family, a constant, or the type of functions on a family
+-- whether the tree is a family
 abbrev pub is_family : Tree → Bool
 is_family (Fam a) = true
 is_family _ = false
 
+-- whether it is a constant
 abbrev pub is_constant : Tree → Bool
 is_constant (Con c) = true
 is_constant _ = false
 
+-- whether it is the type of functions on a family
 abbrev pub is_on_family : Tree → Bool
 is_on_family (Pi a b) = is_family a
 is_on_family _ = false
@@ -30,7 +32,7 @@ abbrev pub conclusion_type : Tree → Tree → Tree
 conclusion_type p q = TApp p (App q (Lam (App (Var 2) (Var 0))))
 
 -- the type is that of a rule that introduces a quantifier, and r has its parts
-pub record IsRule (t : TableView) (declared : Tree) (r : Rule) : Type 0 where
+pub record IsIntroductionRule (t : TableView) (declared : Tree) (r : Rule) : Type 0 where
   pub domain : IsKnown t r.domain
   pub values : IsKnown t r.values
   pub taken : IsKnown t r.taken
@@ -42,7 +44,7 @@ pub record IsRule (t : TableView) (declared : Tree) (r : Rule) : Type 0 where
   pub is_constant : is_constant (tree_at t r.quantifier) ≡ true
 
 -- the predicate is canonical, m and it can be raised as often as it is high, and its height is a number below 2 ^ 32
-pub record IsReady (m predicate : Tree) : Type 0 where
+pub record IsRaisable (m predicate : Tree) : Type 0 where
   pub lowers : IsLowerable m predicate
   pub raises : IsLowerable predicate predicate
   pub low : height_of predicate < 4294967295
@@ -52,7 +54,7 @@ pub record IsRuleApplied (sig : Const → Option Tree) (t : TableView) (f : ℕ)
   pub constant : Const
   pub declared : Tree
   pub type : sig constant ≡ Some declared
-  pub rule : IsRule t declared r
+  pub rule : IsIntroductionRule t declared r
   pub predicate_known : IsKnown t predicate
   pub body_known : IsKnown t body
   pub less : predicate < f
