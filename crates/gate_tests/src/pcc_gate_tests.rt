@@ -1,8 +1,8 @@
 //! Refusals in words, and containers that each clause refuses.
 
 use crate::containers::{PROOF, RETURN, container};
-use pcc_gate::{GateFault, MAX_WEIGHT, Refusal, front, gate, laws};
 use alpha_cfg::CodeFlaw;
+use pcc_gate::{GateFault, MAX_WEIGHT, Refusal, front, gate, laws};
 use policy_set::{Policy, PolicyKind};
 use proof_container::Flaw;
 use std::alloc::{AllocError, Global};

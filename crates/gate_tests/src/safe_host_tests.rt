@@ -1,11 +1,11 @@
 //! Accepted code on packets.
 
 use crate::containers::{PROOF, RETURN, container};
-use safe_host::{Counted, Ended, Host, HostRunner};
 use packet_store::{PacketResult, PacketRunner};
 use pcc_gate::{Accepted, gate};
 use policy_set::{Policy, PolicyKind};
 use reference_machine::Outcome;
+use safe_host::{Counted, Ended, Host, HostRunner};
 use std::alloc::{AllocError, Global};
 use std::test::Fail;
 
