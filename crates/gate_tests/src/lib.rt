@@ -1,14 +1,10 @@
-//! Tests of containers, conditions, the gate and the host, by public calls.
+//! Tests of conditions, the gate and the host, by public calls.
 //!
 //! They stand in a crate of their own, since the gate proves all of a crate once more with its tests.
 #![tactic(auto)]
 
 #[cfg(test)]
-mod containers;
-#[cfg(test)]
 mod pcc_gate_tests;
-#[cfg(test)]
-mod proof_container_tests;
 #[cfg(test)]
 mod safe_host_tests;
 #[cfg(test)]

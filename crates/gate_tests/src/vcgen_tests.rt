@@ -3,7 +3,6 @@
 ghost use Rattle.std.specs.Prelude.{[], IfOk, length};
 ghost use Rattle.alpha_cfg.specs.Cuts.{AreFlags};
 
-use crate::containers::{RETURN, bytes_of};
 use alpha_cfg::{Code, Cut};
 use hereditary_subst::Memo;
 use lf_encode::{encode_form, form_of, is_form, machine_context};
@@ -12,6 +11,7 @@ use std::alloc::{AllocError, Global};
 use std::process::Abort;
 use std::test::Fail;
 use term_table::{Node, Places, Table};
+use test_inputs::containers::{RETURN, bytes_of};
 use vcgen::{VcFault, condition_laws, encoding_laws, vc, vc_with, worked_conditions};
 
 const NOP: u32 = 0x47ff_041f;

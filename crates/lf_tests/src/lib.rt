@@ -1,21 +1,9 @@
-//! Tests of terms, the signature, substitution, the checker and encoded formulas, by public calls.
+//! Tests of the checker and of the truth of what it checks, by public calls.
 //!
 //! They stand in a crate of their own, since the gate proves all of a crate once more with its tests.
 #![tactic(auto)]
 
 #[cfg(test)]
-mod formula_ids_tests;
-#[cfg(test)]
-mod hereditary_subst_tests;
-#[cfg(test)]
 mod lf_check_tests;
 #[cfg(test)]
-mod lf_encode_tests;
-#[cfg(test)]
-mod lf_signature_tests;
-#[cfg(test)]
 mod lf_truth_tests;
-#[cfg(test)]
-mod term_table_tests;
-#[cfg(test)]
-mod terms;

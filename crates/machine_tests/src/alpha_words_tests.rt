@@ -201,3 +201,12 @@ fn instructions_are_written(rt: HostRuntime) {
     };
     assert_eq!(rt; lawful(kept), Err(BadWord::KeptRegister));
 }
+
+/// The caller's registers are kept: r9 to r15, r26, r29 and r30.
+#[test]
+fn kept_registers(rt: HostRuntime) {
+    for number in 0..32 {
+        let is_kept = matches!(number, 9..=15 | 26 | 29 | 30);
+        assert!(rt; Reg::new(number).is_kept() == is_kept, "{number}");
+    }
+}

@@ -3,7 +3,9 @@
 use crate::codes::{NOP, RETURN, code_of};
 use alpha_cfg::Kind::{self, Load, Store};
 use alpha_cfg::{CodeFault, Outcome};
-use packet_store::{PacketFault, PacketResult, PacketRunner, TestingRunner, packets, start};
+use packet_store::{
+    PacketFault, PacketFile, PacketResult, PacketRunner, TestingRunner, packets, start,
+};
 use policy_set::Policy;
 use policy_set::PolicyKind::{self, Filter, Table, Tag};
 use std::alloc::Global;
@@ -267,5 +269,17 @@ fn a_load_takes_the_old_address(rt: HostRuntime) -> Result<(), Fail> {
     };
     let found = ran(&rt, a, Filter, &unaligned, &[0; 64])?;
     assert_eq!(rt; found, PacketResult::Ran(blocked, 0));
+    Ok(())
+}
+
+/// Packets of no byte and of one, and a file that is cut short.
+#[test]
+fn a_packet_file(rt: HostRuntime) -> Result<(), Fail> {
+    let bytes = Vec::from_slice(rt.alloc(), &[0, 0, 0, 0, 1, 0, 0, 0, 7])?;
+    let file = PacketFile::new(bytes)?;
+    let mut packets = file.packets();
+    assert!(rt; packets.next() == Some([].as_slice()));
+    assert!(rt; packets.next() == Some([7].as_slice()));
+    assert!(rt; packets.next().is_none());
     Ok(())
 }

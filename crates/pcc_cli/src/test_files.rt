@@ -138,6 +138,9 @@ pub(crate) const SCRATCH: [u32; 1306] = [
     469, 470, 0, 472,
 ];
 
+/// What is printed where the words are no command.
+pub(crate) const USAGE: &str = "usage: pcc asm|prove|check|run|ref|demo\n";
+
 /// Reads scratch, writes 1 there, and returns what it read.
 pub(crate) const KEEPING: [u32; 5] = [
     0xa432_0000,

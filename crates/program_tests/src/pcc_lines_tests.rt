@@ -1,16 +1,20 @@
 //! Lines over output in memory.
 
-use alpha_cfg::CodeFlaw;
+use alpha_cfg::{Code, CodeFlaw};
 use alpha_words::BadWord;
 use file_port::MemSink;
+use packet_store::{PacketFault, PacketFile, TestingRunner};
 use pcc_gate::Refusal;
 use pcc_lines::{
     DemoSummary, print_accepted, print_container_too_long, print_demo, print_missing,
-    print_not_easy, print_packets_too_long, print_read_fault, print_refusal, print_source_fault,
-    print_source_too_long, print_too_big, print_unknown_policy, print_usage, print_write_fault,
-    print_written,
+    print_not_easy, print_packet_fault, print_packets_too_long, print_read_fault, print_refusal,
+    print_results, print_source_fault, print_source_too_long, print_too_big, print_unknown_policy,
+    print_usage, print_write_fault, print_written,
 };
+use policy_set::{Policy, PolicyKind};
 use proof_container::Flaw;
+use std::alloc::Global;
+use std::process::Abort;
 use std::test::Fail;
 
 const LINES: &str = "usage: pcc asm|prove|check|run|ref|demo
@@ -103,5 +107,38 @@ fn lines_of_refusals(rt: HostRuntime) -> Result<(), Fail> {
         print_refusal(refusal, &mut out);
         assert!(rt; out.bytes() == line.as_bytes(), "{line}");
     }
+    Ok(())
+}
+
+#[test]
+fn lines_of_packet_faults(rt: HostRuntime) -> Result<(), Fail> {
+    let mut out = MemSink::new(rt.alloc(), 100, Vec::new(rt.alloc()))?;
+    print_packet_fault(PacketFault::Cut(68), &mut out);
+    print_packet_fault(PacketFault::TooLong(0), &mut out);
+    assert!(rt; out.bytes() == b"packets CutPacket 68\npackets PacketTooLong 0\n".as_slice());
+    Ok(())
+}
+
+/// A filter that returns 1.
+fn accepting(rt: &impl Abort, alloc: Global) -> Result<TestingRunner, Fail> {
+    let bytes = Vec::from_slice(alloc, &[0x01, 0x00, 0x1f, 0x20, 0x01, 0x80, 0xfa, 0x6b])?;
+    assert!(rt; bytes.len() == 8);
+    let code = Code::of(alloc, &bytes)?;
+    Ok(TestingRunner::new(alloc, Policy::of(alloc, PolicyKind::Filter)?, code, 1_000)?)
+}
+
+/// A line a packet, an empty one and one of 64 bytes.
+#[test]
+fn lines_of_results(rt: HostRuntime) -> Result<(), Fail> {
+    let mut bytes = vec![in rt.alloc(); 0; 8]?;
+    bytes[4] = 64;
+    for _ in 0..64 {
+        bytes.push(0)?;
+    }
+    let packets = PacketFile::new(bytes)?;
+    let mut runner = accepting(&rt, rt.alloc())?;
+    let mut out = MemSink::new(rt.alloc(), 100, Vec::new(rt.alloc()))?;
+    print_results(PolicyKind::Filter, &mut runner, packets.packets(), &mut out);
+    assert!(rt; out.bytes() == b"0: short\n1: 1\n".as_slice());
     Ok(())
 }

@@ -3,7 +3,7 @@
 ghost use Rattle.std.specs.Prelude.{IfOk};
 ghost use Rattle.bounds_prover.specs.Search.{IsContext};
 
-use crate::terms::{Made, known, leaf, made, oper_at};
+use crate::terms::oper_at;
 use bounds_prover::{Context, Search, proof_by_access, proof_by_words};
 use easy_hyps::{Hypotheses, add_split};
 use easy_words::relation;
@@ -12,6 +12,7 @@ use lf_signature::numbers::{AND, IMP, RD, TT, WR};
 use lf_signature::{app1, app2};
 use std::test::Fail;
 use term_table::{Id, Node, Places, Table};
+use test_inputs::terms::{Made, known, leaf, made};
 use word_ops::{Op, Rel};
 
 /// A right.

@@ -1,4 +1,4 @@
-//! Tests of proofs by rules, and the prover, by public calls.
+//! Tests of bounds, and of the prover, by public calls.
 //!
 //! They stand in a crate of their own, since the gate proves all of a crate once more with its tests.
 #![tactic(auto)]
@@ -6,11 +6,7 @@
 #[cfg(test)]
 mod bounds_prover_tests;
 #[cfg(test)]
-mod easy_hyps_tests;
-#[cfg(test)]
 mod easy_words_tests;
-#[cfg(test)]
-mod proof_kit_tests;
 #[cfg(test)]
 mod proving;
 #[cfg(test)]

@@ -5,32 +5,13 @@ use pcc_gate::Refusal;
 use policy_set::{Policy, PolicyKind};
 use std::alloc::{AllocError, Global};
 use std::test::Fail;
+use test_inputs::containers::container;
 
 /// What comes of a container: its length and digest with a proof, or why it gets none.
 #[derive(Clone, Copy, Debug, PartialEq, Eq)]
 enum Outcome {
     Made(u64, u64),
     Not(ProveFault),
-}
-
-/// A container for the policy of this number: these words of code, and what stands behind them.
-fn container(
-    alloc: Global,
-    number: u32,
-    words: &[u32],
-    behind: &[u32],
-) -> Result<Vec<u8>, AllocError> {
-    let mut bytes = Vec::new(alloc);
-    for field in [0x4143_4350, 1, number, words.len().min(1_024) as u32] {
-        bytes.extend_from_slice(&field.to_le_bytes())?;
-    }
-    for field in words {
-        bytes.extend_from_slice(&field.to_le_bytes())?;
-    }
-    for field in behind {
-        bytes.extend_from_slice(&field.to_le_bytes())?;
-    }
-    Ok(bytes)
 }
 
 /// FNV-1a of 64 bits.

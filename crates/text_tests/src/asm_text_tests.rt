@@ -74,7 +74,7 @@ fn test_fault(rt: &impl Abort, alloc: Global, text: &[u8], line: u32, flaw: Line
 #[test]
 fn the_first_fault_is_named(rt: HostRuntime) {
     laws();
-    for (text, line, flaw) in FAULTS {
+    for &(text, line, flaw) in FAULTS.iter() {
         test_fault(&rt, rt.alloc(), text.as_bytes(), line, flaw);
     }
 }
@@ -110,7 +110,7 @@ static MEMORY: [(&str, u32, u32, i16); 7] = [
 
 #[test]
 fn memory_instructions(rt: HostRuntime) {
-    for (text, ra, rb, disp) in MEMORY {
+    for &(text, ra, rb, disp) in MEMORY.iter() {
         let ra = reg(&rt, ra);
         let rb = reg(&rt, rb);
         test_insn(&rt, rt.alloc(), text, Insn::Lda { ra, rb, disp });
@@ -180,7 +180,7 @@ fn is_oper(source: Result<Source, LineFault>, op: Op, ra: Reg, rhs: Rhs, rc: Reg
 
 #[test]
 fn operate_instructions(rt: HostRuntime) -> Result<(), Fail> {
-    for (name, op) in OPERATE {
+    for &(name, op) in OPERATE.iter() {
         test_operate(&rt, rt.alloc(), name, op)?;
     }
     Ok(())
@@ -212,18 +212,29 @@ static BRANCHES: [(&str, Cond); 8] = [
     ("r1: bgt r1,r1", Cond::Positive),
 ];
 
+/// Whether it is this branch on register 1 to the label `r1`.
+fn is_branch(insn: &SrcInsn, want: Cond) -> bool {
+    match insn {
+        SrcInsn::Branch { cond, ra, label } => {
+            *cond == want && ra.number() == 1 && label.text.as_slice() == b"r1".as_slice()
+        }
+        _ => false,
+    }
+}
+
+/// Whether the first instruction is this branch.
+fn begins_with_branch(source: &Source, want: Cond) -> bool {
+    match source.insns.first() {
+        Some((_, insn)) => is_branch(insn, want),
+        None => false,
+    }
+}
+
 fn test_branch(rt: &impl Abort, alloc: Global, text: &str, want: Cond) {
     match source_of(rt, alloc, text.as_bytes()) {
         Ok(source) => {
             assert!(rt; source.labels.len() == 1, "{text}");
-            match source.insns.first() {
-                Some((_, SrcInsn::Branch { cond, ra, label })) => {
-                    assert!(rt; *cond == want, "{text}");
-                    assert!(rt; ra.number() == 1, "{text}");
-                    assert!(rt; label.text.as_slice() == b"r1".as_slice(), "{text}");
-                }
-                _ => assert!(rt; false, "{text}"),
-            }
+            assert!(rt; begins_with_branch(&source, want), "{text}");
         }
         Err(fault) => assert!(rt; false, "{text}: {fault}"),
     }
@@ -232,20 +243,34 @@ fn test_branch(rt: &impl Abort, alloc: Global, text: &str, want: Cond) {
 /// Names of registers and mnemonics may be labels.
 #[test]
 fn branches(rt: HostRuntime) {
-    for (text, cond) in BRANCHES {
+    for &(text, cond) in BRANCHES.iter() {
         test_branch(&rt, rt.alloc(), text, cond);
     }
-    for text in ["br ret", "br $31,ret", "br zero , ret"] {
-        match source_of(&rt, rt.alloc(), text.as_bytes()) {
-            Ok(source) => match source.insns.first() {
-                Some((_, SrcInsn::Br { label })) => {
-                    assert!(rt; label.text.as_slice() == b"ret".as_slice(), "{text}")
-                }
-                _ => assert!(rt; false, "{text}"),
-            },
-            Err(fault) => assert!(rt; false, "{text}: {fault}"),
-        }
+}
+
+/// Whether it is a branch without a condition to the label `ret`.
+fn is_jump(insn: &SrcInsn) -> bool {
+    match insn {
+        SrcInsn::Br { label } => label.text.as_slice() == b"ret".as_slice(),
+        _ => false,
     }
+}
+
+fn test_jump(rt: &impl Abort, alloc: Global, text: &str) {
+    match source_of(rt, alloc, text.as_bytes()) {
+        Ok(source) => match source.insns.first() {
+            Some((_, insn)) => assert!(rt; is_jump(insn), "{text}"),
+            None => assert!(rt; false, "{text}"),
+        },
+        Err(fault) => assert!(rt; false, "{text}: {fault}"),
+    }
+}
+
+#[test]
+fn branches_without_a_condition(rt: HostRuntime) {
+    test_jump(&rt, rt.alloc(), "br ret");
+    test_jump(&rt, rt.alloc(), "br $31,ret");
+    test_jump(&rt, rt.alloc(), "br zero , ret");
 }
 
 /// A loop over the quadwords of a table.
@@ -263,19 +288,22 @@ loop: cmpult r4,r17,r5
 done: ret
 ";
 
+/// The table's instructions, labels and invariants, by their counts and places.
+fn test_places(rt: &impl Abort, source: &Source) {
+    assert!(rt; source.insns.len() == 11);
+    assert!(rt; source.insns.as_slice()[2].0 == 4);
+    assert!(rt; source.insns.as_slice()[10].0 == 12);
+    assert!(rt; source.labels.len() == 2);
+    assert!(rt; source.labels.as_slice()[0].1 == 2);
+    assert!(rt; source.labels.as_slice()[1].1 == 10);
+    assert!(rt; source.invs.len() == 1);
+    assert!(rt; source.invs.as_slice()[0].0 == 2);
+}
+
 #[test]
 fn lines_labels_and_invariants(rt: HostRuntime) {
     match source_of(&rt, rt.alloc(), TABLE.as_bytes()) {
-        Ok(source) => {
-            assert!(rt; source.insns.len() == 11);
-            assert!(rt; source.insns.as_slice()[2].0 == 4);
-            assert!(rt; source.insns.as_slice()[10].0 == 12);
-            assert!(rt; source.labels.len() == 2);
-            assert!(rt; source.labels.as_slice()[0].1 == 2);
-            assert!(rt; source.labels.as_slice()[1].1 == 10);
-            assert!(rt; source.invs.len() == 1);
-            assert!(rt; source.invs.as_slice()[0].0 == 2);
-        }
+        Ok(source) => test_places(&rt, &source),
         Err(fault) => assert!(rt; false, "{fault}"),
     }
 }
@@ -290,42 +318,62 @@ fn repeated(alloc: Global, line: &[u8], count: usize, last: &[u8]) -> Result<Vec
     Ok(text)
 }
 
+/// Whether the line so often, and then the last, are read.
+fn is_read(
+    rt: &impl Abort,
+    alloc: Global,
+    line: &[u8],
+    count: usize,
+    last: &[u8],
+) -> Result<bool, AllocError> {
+    let text = repeated(alloc, line, count, last)?;
+    Ok(source_of(rt, alloc, &text).is_ok())
+}
+
+/// At each limit.
 #[test]
 fn limits(rt: HostRuntime) -> Result<(), Fail> {
     let alloc = rt.alloc();
-    let text = repeated(alloc, b"nop\n", MAX_INSNS - 1, b"ret")?;
-    assert!(rt; source_of(&rt, alloc, &text).is_ok());
+    assert!(rt; is_read(&rt, alloc, b"nop\n", MAX_INSNS - 1, b"ret")?);
+    assert!(rt; is_read(&rt, alloc, b".inv tt\nnop\n", MAX_INVS, b"ret")?);
+    assert!(rt; is_read(&rt, alloc, b"#", MAX_LINE, b"\r\nret")?);
+    Ok(())
+}
+
+/// One more than each limit.
+#[test]
+fn beyond_limits(rt: HostRuntime) -> Result<(), Fail> {
+    let alloc = rt.alloc();
     let text = repeated(alloc, b"nop\n", MAX_INSNS, b"ret")?;
     test_fault(&rt, alloc, &text, 1_025, LineFlaw::Length);
-    let text = repeated(alloc, b".inv tt\nnop\n", MAX_INVS, b"ret")?;
-    assert!(rt; source_of(&rt, alloc, &text).is_ok());
     let text = repeated(alloc, b".inv tt\nnop\n", MAX_INVS, b".inv tt\nret")?;
     test_fault(&rt, alloc, &text, 513, LineFlaw::Length);
-    let text = repeated(alloc, b"#", MAX_LINE, b"\r\nret")?;
-    assert!(rt; source_of(&rt, alloc, &text).is_ok());
     let text = repeated(alloc, b"#", MAX_LINE + 1, b"\r\nret")?;
     test_fault(&rt, alloc, &text, 1, LineFlaw::Length);
-    let text = repeated(alloc, b"#\n", 524_286, b"ret\n")?;
+    Ok(())
+}
+
+#[test]
+fn longest_source(rt: HostRuntime) -> Result<(), Fail> {
+    let text = repeated(rt.alloc(), b"#\n", 524_286, b"ret\n")?;
     assert!(rt; text.len() == MAX_SOURCE);
-    assert!(rt; source_of(&rt, alloc, &text).is_ok());
+    assert!(rt; source_of(&rt, rt.alloc(), &text).is_ok());
     Ok(())
 }
 
 /// An invariant of the deepest nesting that a line holds.
+fn deepest(alloc: Global) -> Result<Vec<u8>, AllocError> {
+    let mut text = Vec::from_slice(alloc, b".inv(or(or")?;
+    text.extend_from_slice(&repeated(alloc, b"(or", 336, b"(or tt tt)")?)?;
+    text.extend_from_slice(&repeated(alloc, b"tt)", 336, b"tt)tt)")?)?;
+    Ok(text)
+}
+
 #[test]
 fn deepest_invariant(rt: HostRuntime) -> Result<(), Fail> {
-    let alloc = rt.alloc();
-    let mut text = Vec::from_slice(alloc, b".inv(or(or")?;
-    for _ in 0..336 {
-        text.extend_from_slice(b"(or")?;
-    }
-    text.extend_from_slice(b"(or tt tt)")?;
-    for _ in 0..336 {
-        text.extend_from_slice(b"tt)")?;
-    }
-    text.extend_from_slice(b"tt)tt)")?;
+    let mut text = deepest(rt.alloc())?;
     assert!(rt; text.len() <= MAX_LINE);
     text.extend_from_slice(b"\nret")?;
-    assert!(rt; source_of(&rt, alloc, &text).is_ok());
+    assert!(rt; source_of(&rt, rt.alloc(), &text).is_ok());
     Ok(())
 }

@@ -135,8 +135,8 @@ static TRAILING: [(&str, usize); 5] = [
 ];
 
 /// Reads the text and prints its formula.
-fn printed(alloc: Global, text: &str) -> Result<Vec<u8>, TextFault> {
-    let form = read_form(alloc, text.as_bytes())?;
+fn printed(alloc: Global, text: &[u8]) -> Result<Vec<u8>, TextFault> {
+    let form = read_form(alloc, text)?;
     match print_form(alloc, &form) {
         Ok(out) => Ok(out),
         Err(_) => Err(TextFault::Memory),
@@ -144,7 +144,7 @@ fn printed(alloc: Global, text: &str) -> Result<Vec<u8>, TextFault> {
 }
 
 fn test_read(rt: &impl Abort, alloc: Global, text: &str, want: &str) {
-    match printed(alloc, text) {
+    match printed(alloc, text.as_bytes()) {
         Ok(out) => assert!(rt; out.as_slice() == want.as_bytes(), "{text}"),
         Err(fault) => assert!(rt; false, "{text}: {fault}"),
     }
@@ -153,34 +153,39 @@ fn test_read(rt: &impl Abort, alloc: Global, text: &str, want: &str) {
 #[test]
 fn what_is_read_is_printed(rt: HostRuntime) {
     laws();
-    for (text, want) in READ {
+    for &(text, want) in READ.iter() {
         test_read(&rt, rt.alloc(), text, want);
         test_read(&rt, rt.alloc(), want, want);
     }
-    for (text, want) in POLICIES {
+}
+
+#[test]
+fn formulas_of_policies(rt: HostRuntime) {
+    for &(text, want) in POLICIES.iter() {
         test_read(&rt, rt.alloc(), text, want);
     }
 }
 
-fn test_fault(rt: &impl Abort, alloc: Global, text: &str, at: usize, flaw: TextFlaw) {
-    let got = read_form(alloc, text.as_bytes());
-    assert!(rt; got == Err(TextFault::At(at, flaw)), "{text}");
+/// Whether the text is refused by this flaw at this position.
+fn is_refused(alloc: Global, text: &str, at: usize, flaw: TextFlaw) -> bool {
+    match read_form(alloc, text.as_bytes()) {
+        Err(fault) => fault == TextFault::At(at, flaw),
+        Ok(_) => false,
+    }
+}
+
+fn test_faults(rt: &impl Abort, alloc: Global, rows: &[(&str, usize)], flaw: TextFlaw) {
+    for &(text, at) in rows.iter() {
+        assert!(rt; is_refused(alloc, text, at, flaw), "{text}");
+    }
 }
 
 #[test]
 fn the_first_fault_is_named(rt: HostRuntime) {
-    for (text, at) in SHAPE {
-        test_fault(&rt, rt.alloc(), text, at, TextFlaw::Shape);
-    }
-    for (text, at) in NAME {
-        test_fault(&rt, rt.alloc(), text, at, TextFlaw::Name);
-    }
-    for (text, at) in NUMBER {
-        test_fault(&rt, rt.alloc(), text, at, TextFlaw::Number);
-    }
-    for (text, at) in TRAILING {
-        test_fault(&rt, rt.alloc(), text, at, TextFlaw::Trailing);
-    }
+    test_faults(&rt, rt.alloc(), &SHAPE, TextFlaw::Shape);
+    test_faults(&rt, rt.alloc(), &NAME, TextFlaw::Name);
+    test_faults(&rt, rt.alloc(), &NUMBER, TextFlaw::Number);
+    test_faults(&rt, rt.alloc(), &TRAILING, TextFlaw::Trailing);
     assert!(rt; TextFlaw::Trailing.name() == "Trailing");
 }
 
@@ -211,16 +216,18 @@ fn nested(
     Ok(text)
 }
 
+/// Whether what is printed of the text's formula is read as that formula.
+fn is_read_back(alloc: Global, text: &[u8]) -> Result<bool, TextFault> {
+    let again = printed(alloc, text)?;
+    let form = read_form(alloc, text)?;
+    Ok(read_form(alloc, &again)? == form)
+}
+
 /// The text is as long as it can be, and its formula is printed and read back.
-fn test_nested(rt: &impl Abort, alloc: Global, text: &[u8], most: usize) -> Result<(), TextFault> {
+fn test_nested(rt: &impl Abort, alloc: Global, text: &[u8], most: usize) {
     assert!(rt; text.len() <= most);
     assert!(rt; most - text.len() < 8);
-    let form = read_form(alloc, text)?;
-    match print_form(alloc, &form) {
-        Ok(again) => assert!(rt; read_form(alloc, &again)? == form),
-        Err(_) => assert!(rt; false),
-    }
-    Ok(())
+    assert!(rt; matches!(is_read_back(alloc, text), Ok(true)));
 }
 
 /// The deepest nestings of texts of 2,048 and of 4,096 bytes.
@@ -229,9 +236,9 @@ fn deepest_nestings(rt: HostRuntime) -> Result<(), Fail> {
     let alloc = rt.alloc();
     for (most, deep, bound) in [(2_048, 339, 292), (4_096, 681, 584)] {
         let either = nested(alloc, deep, b"(or", b"(or tt tt)", b"tt)")?;
-        assert!(rt; test_nested(&rt, alloc, &either, most).is_ok());
+        test_nested(&rt, alloc, &either, most);
         let each = nested(alloc, bound, b"(all x", b" tt", b")")?;
-        assert!(rt; test_nested(&rt, alloc, &each, most).is_ok());
+        test_nested(&rt, alloc, &each, most);
     }
     Ok(())
 }

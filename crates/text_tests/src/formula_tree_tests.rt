@@ -41,37 +41,81 @@ fn equals_each(alloc: Global, a: Exp) -> Result<Form, AllocError>
     Form::all(alloc, Form::Rel(Rel::Eq, a, Exp::Var(0)))
 }
 
+/// `(all i (eq r1 i))` with the expression for r1.
+fn equals_each_with(alloc: Global, put: Exp) -> Result<Form, AllocError>
+    requires { HasRoomExp 1 0 (exp_view put) }
+{
+    let form = equals_each(alloc, Exp::Reg(1))?;
+    with_r1(alloc, &form, put)
+}
+
+/// Whether the expression `put` for r1 makes `(all i (eq want i))`.
+fn becomes(alloc: Global, put: Exp, want: Exp) -> Result<bool, AllocError>
+    requires { HasRoomExp 1 0 (exp_view put) }
+{
+    let form = equals_each_with(alloc, put)?;
+    Ok(form == equals_each(alloc, want)?)
+}
+
 /// For r1 a sum of r1, and the variable of a quantifier outside.
 #[test]
 fn nothing_is_captured(rt: HostRuntime) -> Result<(), Fail> {
     let alloc = rt.alloc();
-    let form = equals_each(alloc, Exp::Reg(1))?;
-    let summed = with_r1(alloc, &form, sum(alloc)?)?;
-    assert!(rt; summed == equals_each(alloc, sum(alloc)?)?);
-    let outer = with_r1(alloc, &form, Exp::Var(0))?;
-    assert!(rt; outer == equals_each(alloc, Exp::Var(1))?);
+    assert!(rt; becomes(alloc, sum(alloc)?, sum(alloc)?)?);
+    assert!(rt; becomes(alloc, Exp::Var(0), Exp::Var(1))?);
     Ok(())
 }
 
-/// Quantifiers over an equation, implications, and a relation of sums.
+/// Quantifiers over an equation, as high as a formula may be.
+fn quantified(alloc: Global) -> Result<Form, AllocError> {
+    let mut form = Form::Rel(Rel::Eq, Exp::Reg(1), Exp::Var(0));
+    for _ in 2..HIGHEST {
+        form = Form::all(alloc, form)?;
+    }
+    Ok(form)
+}
+
+/// Implications to the left, as high as a formula may be.
+fn implied(alloc: Global) -> Result<Form, AllocError> {
+    let mut form = Form::Rel(Rel::Eq, Exp::Reg(1), Exp::Lit(0));
+    for _ in 2..HIGHEST {
+        form = Form::imp(alloc, form, Form::True)?;
+    }
+    Ok(form)
+}
+
+/// A relation of sums, as high as a formula may be.
+fn compared(alloc: Global) -> Result<Form, AllocError> {
+    let mut sum = Exp::Reg(1);
+    for _ in 2..HIGHEST {
+        sum = Exp::oper(alloc, Op::Add, sum, Exp::Lit(1))?;
+    }
+    Ok(Form::Rel(Rel::Ult, sum, Exp::Lit(0)))
+}
+
+/// The height of a copy.
+fn height_of_copy(alloc: Global, form: &Form) -> Result<u32, AllocError> {
+    Ok(form.copy(alloc)?.height())
+}
+
+/// The height with an operation for r1.
+fn raised_height(alloc: Global, form: &Form) -> Result<u32, AllocError> {
+    let put = Exp::oper(alloc, Op::Sub, Exp::Reg(2), Exp::Lit(1))?;
+    Ok(with_r1(alloc, form, put)?.height())
+}
+
+/// Whether the formula and its copy are the highest, and one higher with an operation for r1.
+fn is_highest(alloc: Global, form: &Form) -> Result<bool, AllocError> {
+    let copied = height_of_copy(alloc, form)?;
+    let raised = raised_height(alloc, form)?;
+    Ok(form.height() == HIGHEST && copied == HIGHEST && raised == HIGHEST + 1)
+}
+
 #[test]
 fn highest_formulas(rt: HostRuntime) -> Result<(), Fail> {
     laws();
-    let alloc = rt.alloc();
-    let mut quantified = Form::Rel(Rel::Eq, Exp::Reg(1), Exp::Var(0));
-    let mut implied = Form::Rel(Rel::Eq, Exp::Reg(1), Exp::Lit(0));
-    let mut sum = Exp::Reg(1);
-    for _ in 2..HIGHEST {
-        quantified = Form::all(alloc, quantified)?;
-        implied = Form::imp(alloc, implied, Form::True)?;
-        sum = Exp::oper(alloc, Op::Add, sum, Exp::Lit(1))?;
-    }
-    let compared = Form::Rel(Rel::Ult, sum, Exp::Lit(0));
-    for form in [&quantified, &implied, &compared] {
-        assert_eq!(rt; form.height(), HIGHEST);
-        assert_eq!(rt; form.copy(alloc)?.height(), HIGHEST);
-        let put = Exp::oper(alloc, Op::Sub, Exp::Reg(2), Exp::Lit(1))?;
-        assert_eq!(rt; with_r1(alloc, form, put)?.height(), HIGHEST + 1);
-    }
+    assert!(rt; is_highest(rt.alloc(), &quantified(rt.alloc())?)?);
+    assert!(rt; is_highest(rt.alloc(), &implied(rt.alloc())?)?);
+    assert!(rt; is_highest(rt.alloc(), &compared(rt.alloc())?)?);
     Ok(())
 }

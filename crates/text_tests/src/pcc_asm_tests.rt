@@ -1,31 +1,44 @@
 //! Sources that are assembled, and sources that aren't code.
 
+ghost use Rattle.asm_text.specs.Views.{source_view};
+ghost use Rattle.pcc_asm.specs.Views.{IsSpelled};
+
 use crate::sources::source_of;
 use alpha_words::BadWord;
-use pcc_asm::{AsmFault, AsmFlaw, assemble, laws};
+use asm_text::Source;
+use pcc_asm::{AsmFault, AsmFlaw, Assembled, assemble, laws};
 use policy_set::{Policy, PolicyKind};
-use proof_container::{read, write};
+use proof_container::{Container, read, write};
 use std::alloc::{AllocError, Global};
 use std::process::Abort;
 use std::test::Fail;
 
 /// The container of a source, or its flaw.
-fn container(
-    rt: &impl Abort,
-    alloc: Global,
-    kind: PolicyKind,
-    text: &str,
-) -> Result<Result<Vec<u8>, AsmFlaw>, AllocError> {
+type Written = Result<Result<Vec<u8>, AsmFlaw>, AllocError>;
+
+/// What is written of an assembled source.
+fn written(alloc: Global, assembled: Result<Assembled, AsmFault>) -> Written {
+    match assembled {
+        Ok(assembled) => {
+            let bytes = write(alloc, &assembled.view())?;
+            Ok(Ok(bytes))
+        }
+        Err(AsmFault::At(flaw)) => Ok(Err(flaw)),
+        Err(AsmFault::Memory) => Err(AllocError),
+    }
+}
+
+/// Assembles a source that was read.
+fn assembled(alloc: Global, source: &Source, kind: PolicyKind) -> Written
+    requires { IsSpelled (source_view source.now) }
+{
     let policy = Policy::of(alloc, kind)?;
+    written(alloc, assemble(alloc, source, &policy))
+}
+
+fn container(rt: &impl Abort, alloc: Global, kind: PolicyKind, text: &str) -> Written {
     match source_of(rt, alloc, text.as_bytes()) {
-        Ok(source) => match assemble(alloc, &source, &policy) {
-            Ok(assembled) => {
-                let bytes = write(alloc, &assembled.view())?;
-                Ok(Ok(bytes))
-            }
-            Err(AsmFault::At(flaw)) => Ok(Err(flaw)),
-            Err(AsmFault::Memory) => Err(AllocError),
-        },
+        Ok(source) => assembled(alloc, &source, kind),
         Err(_) => {
             assert!(rt; false, "{text}");
             Err(AllocError)
@@ -90,7 +103,7 @@ fn test_flaw(
 
 #[test]
 fn the_first_flaw_is_named(rt: HostRuntime) -> Result<(), Fail> {
-    for (text, flaw) in FLAWS {
+    for &(text, flaw) in FLAWS.iter() {
         test_flaw(&rt, rt.alloc(), text, flaw)?;
     }
     Ok(())
@@ -127,16 +140,15 @@ fn test_name(
     name: &str,
     words: &str,
 ) -> Result<(), Fail> {
-    assert!(rt; flaw.line() == 7);
-    assert!(rt; flaw.name() == name);
     let fault = AsmFault::At(flaw);
-    assert_eq!(rt; format!(in alloc; "{fault}")?.as_str(), words);
+    assert!(rt; flaw.line() == 7 && flaw.name() == name, "{name}");
+    assert!(rt; format!(in alloc; "{fault}")?.as_str() == words, "{name}");
     Ok(())
 }
 
 #[test]
 fn flaws_in_words(rt: HostRuntime) -> Result<(), Fail> {
-    for (flaw, name, words) in NAMES {
+    for &(flaw, name, words) in NAMES.iter() {
         test_name(&rt, rt.alloc(), flaw, name, words)?;
     }
     Ok(())
@@ -186,15 +198,17 @@ fn text_of(alloc: Global, rows: &[(&str, u32)]) -> Result<String, AllocError> {
     Ok(text)
 }
 
+/// The container's words are the rows'.
+fn test_each_word(rt: &impl Abort, bytes: &[u8], rows: &[(&str, u32)]) {
+    for (i, &(line, word)) in rows.iter().enumerate() {
+        assert!(rt; word_at(bytes, i) == word, "{line}");
+    }
+}
+
 fn test_words(rt: &impl Abort, alloc: Global, rows: &[(&str, u32)]) -> Result<(), AllocError> {
     let text = text_of(alloc, rows)?;
     match container(rt, alloc, PolicyKind::Table, &text)? {
-        Ok(bytes) => {
-            for i in 0..rows.len() {
-                let (line, word) = rows[i];
-                assert!(rt; word_at(&bytes, i) == word, "{line}");
-            }
-        }
+        Ok(bytes) => test_each_word(rt, &bytes, rows),
         Err(flaw) => assert!(rt; false, "{flaw}"),
     }
     Ok(())
@@ -233,21 +247,28 @@ loop: subq r1,1,r1
       ret
 ";
 
+/// The container of the loop has its code, its invariants and no proof.
+fn test_parts(rt: &impl Abort, container: &Container<'_>) {
+    assert!(rt; container.policy == 3);
+    assert!(rt; container.code.len() == 16);
+    assert!(rt; container.proof.is_none());
+    assert!(rt; container.invs.len() == 2);
+    assert!(rt; container.invs.as_slice()[0].0 == 0);
+    assert!(rt; container.invs.as_slice()[1].0 == 1);
+}
+
+/// The container of the loop is read.
+fn test_read_back(rt: &impl Abort, alloc: Global, bytes: &[u8]) {
+    match read(alloc, bytes) {
+        Ok(container) => test_parts(rt, &container),
+        Err(fault) => assert!(rt; false, "{fault}"),
+    }
+}
+
 #[test]
 fn invariants_are_read_back(rt: HostRuntime) -> Result<(), Fail> {
-    let alloc = rt.alloc();
-    match container(&rt, alloc, PolicyKind::Table, LOOPING)? {
-        Ok(bytes) => match read(alloc, &bytes) {
-            Ok(container) => {
-                assert!(rt; container.policy == 3);
-                assert!(rt; container.code.len() == 16);
-                assert!(rt; container.proof.is_none());
-                assert!(rt; container.invs.len() == 2);
-                assert!(rt; container.invs.as_slice()[0].0 == 0);
-                assert!(rt; container.invs.as_slice()[1].0 == 1);
-            }
-            Err(fault) => assert!(rt; false, "{fault}"),
-        },
+    match container(&rt, rt.alloc(), PolicyKind::Table, LOOPING)? {
+        Ok(bytes) => test_read_back(&rt, rt.alloc(), &bytes),
         Err(flaw) => assert!(rt; false, "{flaw}"),
     }
     Ok(())

@@ -1,7 +1,10 @@
 //! The names of registers, and lexemes and tokens.
 
 use std::process::Abort;
-use text_tokens::{Number, Paren, Token, next_token, read_decimal, read_number, register};
+use text_tokens::{
+    Number, Paren, Token, begins_with_digit, is_digit, next_token, read_decimal, read_number,
+    register,
+};
 
 /// The names of each register, from register 0 on.
 static REGISTERS: [(&str, &str, &str); 32] = [
@@ -39,33 +42,45 @@ static REGISTERS: [(&str, &str, &str); 32] = [
     ("$31", "r31", "zero"),
 ];
 
-fn test_register(rt: &impl Abort, names: (&str, &str, &str), number: u8) {
-    let (dollar, letter, other) = names;
-    assert!(rt; register(dollar.as_bytes()) == Some(number), "{dollar}");
-    assert!(rt; register(letter.as_bytes()) == Some(number), "{letter}");
-    assert!(rt; register(other.as_bytes()) == Some(number), "{other}");
+/// Names of no register.
+static OTHERS: [&str; 11] = [
+    "", "$", "r", "$32", "r32", "$00", "r07", "$ 1", "R1", "T0", "x0",
+];
+
+fn test_register(rt: &impl Abort, name: &str, number: u8) {
+    assert!(rt; register(name.as_bytes()) == Some(number), "{name}");
+}
+
+fn test_names(rt: &impl Abort, names: (&str, &str, &str), number: u8) {
+    test_register(rt, names.0, number);
+    test_register(rt, names.1, number);
+    test_register(rt, names.2, number);
 }
 
 #[test]
 fn names_of_registers(rt: HostRuntime) {
-    let mut number = 0u8;
-    for names in REGISTERS {
-        test_register(&rt, names, number);
-        number = number.saturating_add(1);
+    for (number, names) in REGISTERS.iter().enumerate() {
+        test_names(&rt, *names, number as u8);
     }
-    for name in [
-        "", "$", "r", "$32", "r32", "$00", "r07", "$ 1", "R1", "T0", "x0",
-    ] {
+}
+
+#[test]
+fn names_of_no_register(rt: HostRuntime) {
+    for name in OTHERS.iter() {
         assert!(rt; register(name.as_bytes()).is_none(), "{name}");
     }
 }
 
 #[test]
-fn lexemes(rt: HostRuntime) {
+fn numbers(rt: HostRuntime) {
     assert!(rt; read_number(b"0x1F") == Number::Word(31));
     assert!(rt; read_number(b"") == Number::NoNumber);
     assert!(rt; read_decimal(b"007") == Number::Word(7));
     assert!(rt; read_decimal(b"0x7") == Number::NoNumber);
+}
+
+#[test]
+fn lexemes(rt: HostRuntime) {
     match next_token::<Paren>(b" \tab(", 0) {
         Some(placed) => {
             assert!(rt; placed.at == 2);
@@ -74,4 +89,14 @@ fn lexemes(rt: HostRuntime) {
         }
         None => assert!(rt; false),
     }
+}
+
+#[test]
+fn digits(rt: HostRuntime) {
+    for (byte, want) in [(b'/', false), (b'0', true), (b'9', true), (b':', false)] {
+        assert!(rt; is_digit(byte) == want, "{byte}");
+    }
+    assert!(rt; begins_with_digit(b"7x"));
+    assert!(rt; !begins_with_digit(b"x7"));
+    assert!(rt; !begins_with_digit(b""));
 }
