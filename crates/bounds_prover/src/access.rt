@@ -217,6 +217,7 @@ fn by_hyps(
     ensures after { OnOk result (IsAfter table.new search.new context.old context.new) }
 {
     let count = context.hyps.as_slice().len();
+    search.spend_steps(count as u64)?;
     for i in 0..count {
         let hyp = hyp_at(table, context, i);
         if let Some(proof) = by_hyp(table, search, context, asked, hyp.form, hyp.proof)? {

@@ -128,6 +128,9 @@ fn rest_at(
     let start = exp_with(table, search, base, zero)?;
     let of_a = normal(table, search, outside, a)?;
     let of_base = normal(table, search, outside, start)?;
+    // a sum has no more summands than it is high
+    let most = u64::from(table.height(of_a.now)) * u64::from(table.height(of_base.now));
+    search.spend_steps(most)?;
     let rest = rest_of(table, of_a.now, of_base.now)?;
     Ok(rest)
 }

@@ -334,6 +334,7 @@ pub(crate) fn walk(
     match walk_parts(table, search, context, asked, grant, misses, form)? {
         Some(found) => Ok(Some(found)),
         None => {
+            search.memo.spend()?;
             misses.insert(part)?;
             Ok(None)
         }

@@ -36,6 +36,13 @@ impl Search {
             occurrences: Occurrences::new(alloc),
         }
     }
+
+    /// Counts steps that keep nothing in the limit of the memo. Fails past it.
+    pub(crate) fn spend_steps(&mut self, steps: u64) -> Result<(), AllocError>
+        ensures { (t : TableView) → IsSearch t self.old → IsSearch t self.new }
+    {
+        self.memo.spend_steps(steps)
+    }
 }
 
 /// Hypotheses, so many binders outside, and what is kept under them.

@@ -15,7 +15,8 @@ use hereditary_subst::Memo;
 use std::alloc::AllocError;
 use term_table::{Id, Table};
 
-/// Puts a hypothesis at the end, under one more binder.
+/// Puts a hypothesis at the end, under one more binder. It counts as a result, also where its parts
+/// were raised before.
 #[tactic(auto, using(crate::proofs::Growing::rows))]
 fn push_raised(
     table: &mut Table,
@@ -35,6 +36,7 @@ fn push_raised(
     ensures extends { Extends table.old table.new }
     ensures memo { IsMemo table.new memo.new }
 {
+    memo.spend()?;
     let form = raised(table, memo, form)?;
     let proof = raised(table, memo, proof)?;
     under.push(Hypothesis { form, proof })
@@ -43,7 +45,7 @@ fn push_raised(
 /// The hypotheses under one more binder.
 ///
 /// Errors: want of memory alone, which a variable that would reach 2^32 and more results than the memo
-/// may keep are too; each id keeps its tree.
+/// may keep, with one for each hypothesis, are too; each id keeps its tree.
 pub fn raised_hyps(
     table: &mut Table,
     memo: &mut Memo,

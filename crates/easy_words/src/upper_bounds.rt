@@ -248,6 +248,7 @@ fn upper_by_hyps(
     ensures memo { IsMemo table.new memo.new }
 {
     let count = hyps.len();
+    memo.spend_steps(count as u64)?;
     let mut best = last;
     for i in 0..count {
         let hyp = hyps[count - 1 - i];

@@ -12,6 +12,9 @@ use std::alloc::{AllocError, Global};
 use std::collections::BTreeMap;
 use term_table::{Id, Table};
 
+/// So many steps that keep nothing count as one result.
+const STEPS_A_RESULT: u64 = 16;
+
 /// What is asked of a tree, by ids and counts.
 #[derive(Clone, Copy, PartialEq, Eq, PartialOrd, Ord)]
 pub(crate) enum Question {
@@ -115,6 +118,19 @@ impl Memo {
             return Err(AllocError);
         }
         self.left -= 1;
+        Ok(())
+    }
+
+    /// Counts steps that keep nothing: each call as a result, and each 16 steps as another. Fails past
+    /// the limit.
+    pub fn spend_steps(&mut self, steps: u64) -> Result<(), AllocError>
+        ensures { (t : TableView) → IsMemo t self.old → IsMemo t self.new }
+    {
+        let results = steps / STEPS_A_RESULT + 1;
+        if (self.left as u64) < results {
+            return Err(AllocError);
+        }
+        self.left -= results as usize;
         Ok(())
     }
 

@@ -11,7 +11,7 @@ pub loop-i-init : goal.loop-i-init
 loop-i-init c =
     let a = c.args in
     let t = a.table.now in
-    scan-start (λ x Γ. least_bound (uppers x Γ) (bound_by_ids t a.last)) t a.memo.now a.hyps.now a.e a.last (length a.hyps.now - 0) (omega arith) c.requires.memo c.requires.last (λ x. refl)
+    scan-start (λ x Γ. least_bound (uppers x Γ) (bound_by_ids t a.last)) t c.spend_steps.new.self a.hyps.now a.e a.last (length a.hyps.now - 0) (omega arith) (c.spend_steps.ensures t c.requires.memo) c.requires.last (λ x. refl)
 
 pub upper_by_hyp-requires-clause-form : goal.upper_by_hyp-requires-clause-form
 upper_by_hyp-requires-clause-form c =
