@@ -52,14 +52,6 @@ pub made_after : (u : TableView) (s : Search) (c d : Context) (means : Means) (g
 made_after u s c d means goal o h a =
     subst (λ (n : ℕ). IsFoundProof u d.hyps n means goal o) (sym a.outside) (subst (λ (l : List Hypothesis). IsFoundProof u l c.outside means goal o) (sym a.hyps) h)
 
--- one call after another
-pub after_then : (u v : TableView) (r s : Search) (a b c : Context) → IsAfter u r a b → IsAfter v s b c → IsAfter v s a c
-after_then u v r s a b c h k = record { search = k.search; context = k.context; hyps = k.hyps ∙ h.hyps; outside = k.outside ∙ h.outside }
-
--- in a later table
-pub after-more : (t u : TableView) (s : Search) (a b : Context) → IsAfter t s a b → Extends t u → IsAfter u s a b
-after-more t u s a b h x = record { search = search-more s t u h.search x; context = context-more b t u h.context x; hyps = h.hyps; outside = h.outside }
-
 -- ---- contexts
 
 -- a context that was made of hypotheses
@@ -70,16 +62,6 @@ context_made t u c l k x same bounds known absurd answers = record {
   bounds = bounds;
   absurd = record { known = known; is = λ Γ g. absurd Γ (hyps-before t u l Γ k x (subst (λ (m : List Hypothesis). AreHyps u m Γ) same g)) };
   answers = answers;
-}
-
--- another memory of results and other answers, under the same hypotheses
-pub with_answers : (t : TableView) (s : Search) (c : Context) (m : Memo) (a : Answers) → IsSearch t s → IsContext t c → IsMemo t m → AreAnswers t c.hyps c.outside a →
-    IsAfter t (record { memo = m; forms = s.forms; puts = s.puts; occurrences = s.occurrences }) c (record { outside = c.outside; hyps = c.hyps; bounds = c.bounds; absurd = c.absurd; answers = a })
-with_answers t s c m a h k i j = record {
-  search = record { memo = i; forms = h.forms; puts = h.puts; occurrences = h.occurrences };
-  context = record { hyps = k.hyps; bounds = k.bounds; absurd = k.absurd; answers = j };
-  hyps = refl;
-  outside = refl;
 }
 
 -- the context under a binder

@@ -66,11 +66,6 @@ impl Hypotheses {
         self.list.as_slice()
     }
 
-    /// The allocator that the memory comes from.
-    pub fn allocator(&self) -> Global {
-        *self.list.allocator()
-    }
-
     /// The proof of the first hypothesis with this id as its formula.
     pub fn find(&self, form: Id) -> Option<Id>
         ensures { result ≡ first_hyp_proof self.now form }

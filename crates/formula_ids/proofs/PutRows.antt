@@ -93,27 +93,6 @@ spot-past (suc x) (suc (suc n)) h = later-other (spot x (suc n)) (suc n - 1) (sp
 
 -- ---- a result by those of the parts
 
--- what is answered where the id stands for such an expression
-pub exp_variable-put : (t u : TableView) (id x arg n : ℕ) {E : Type 0} (r : Result ℕ E) → ((e : Exp) → tree_at t id ≡ exp_encoding e → e ≡ EVar n) → IfOk r (IsKnown u) →
-    ((o : Exp) → tree_at t id ≡ Var n → tree_at t arg ≡ exp_encoding o → IfOk r (IsIdOf u (exp_encoding (exp_at (PExp o) (spot x n))))) → IfOk r (IsExpPut t u id x arg)
-exp_variable-put t u id x arg n (Err y) node k f = tt
-exp_variable-put t u id x arg n (Ok v) node k f = record {
-  known = k;
-  is = λ e o q w.
-      let is : e ≡ EVar n = node e q in
-      (f o (q ∙ ap exp_encoding is) w).is ∙ ap (λ z. exp_encoding (subst_var_exp z x (PExp o))) (sym is);
-}
-
-pub mem_variable-put : (t u : TableView) (id x arg n : ℕ) {E : Type 0} (r : Result ℕ E) → ((m : MemExp) → tree_at t id ≡ mem_encoding m → m ≡ MVar n) → IfOk r (IsKnown u) →
-    ((o : Exp) → tree_at t id ≡ Var n → IfOk r (IsIdOf u (mem_encoding (mem_at (PExp o) (spot x n))))) → IfOk r (IsMemPut t u id x arg)
-mem_variable-put t u id x arg n (Err y) node k f = tt
-mem_variable-put t u id x arg n (Ok v) node k f = record {
-  known = k;
-  is = λ m o q w.
-      let is : m ≡ MVar n = node m q in
-      (f o (q ∙ ap mem_encoding is)).is ∙ ap (λ z. mem_encoding (subst_var_mem z x (PExp o))) (sym is);
-}
-
 -- a variable past the one that is put for
 pub put_variable : (u : TableView) (encoding : Spot → Tree) (x n m : ℕ) {E : Type 0} (r : Result ℕ E) → x < n → m ≡ n - 1 → ((k : ℕ) → encoding (Other k) ≡ Var k) → IfOk r (λ id. IsKnown u id × (tree_at u id ≡ Var m)) →
     IfOk r (IsIdOf u (encoding (spot x n)))

@@ -1,5 +1,4 @@
 pub mod Known
-pub mod Rows
 pub mod Stacks
 pub mod Running
 pub mod Reached

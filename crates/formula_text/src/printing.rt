@@ -8,7 +8,7 @@ ghost use Rattle.formula_tree.specs.Views.{exp_view, mem_exp_view, form_view};
 ghost use Rattle.formula_text.specs.Keywords.{keyword_text};
 ghost use Rattle.formula_text.specs.Grammar.{Spells};
 ghost use Rattle.formula_text.specs.Parsing.{parsed_form};
-ghost use Rattle.formula_text.specs.Printing.{name_of, exp_text, mem_text, form_text};
+ghost use Rattle.formula_text.specs.Printing.{name_of, group_text, exp_text, mem_text, form_text};
 
 use crate::keywords::{Keyword, keyword_text};
 use formula_tree::{Exp, Form, MemExp};
@@ -148,6 +148,65 @@ fn push_form_part(out: &mut Vec<u8>, depth: u64, form: &Form) -> Result<(), Allo
     push_form(out, depth, form)
 }
 
+/// Prints what an address is used for.
+fn push_access(
+    out: &mut Vec<u8>,
+    depth: u64,
+    keyword: Keyword,
+    address: &Exp,
+) -> Result<(), AllocError>
+    ensures { OnOk result (out.new.items
+        ≡ out.old.items ++ group_text keyword (exp_text depth (exp_view address.now) ∷ [])) }
+{
+    push_keyword(out, keyword)?;
+    push_exp_part(out, depth, address)?;
+    push_end(out)
+}
+
+/// Prints a connective and the first formula under it.
+#[cycle(formulas)]
+fn push_first(
+    out: &mut Vec<u8>,
+    depth: u64,
+    keyword: Keyword,
+    form: &Form,
+) -> Result<(), AllocError>
+    ensures text { OnOk result (out.new.items ≡ out.old.items
+        ++ (40 ∷ (keyword_text keyword ++ (32 ∷ form_text depth (form_view form.now))))) }
+    ensures few { OnOk result (depth + binders (form_view form.now) < 2 ^ 64) }
+{
+    push_keyword(out, keyword)?;
+    push_form_part(out, depth, form)
+}
+
+/// Prints the last formula under a connective or a quantifier.
+#[cycle(formulas)]
+fn push_last_form(out: &mut Vec<u8>, depth: u64, form: &Form) -> Result<(), AllocError>
+    ensures text { OnOk result (out.new.items
+        ≡ ((out.old.items ++ (32 ∷ [])) ++ form_text depth (form_view form.now)) ++ (41 ∷ [])) }
+    ensures few { OnOk result (depth + binders (form_view form.now) < 2 ^ 64) }
+{
+    push_form_part(out, depth, form)?;
+    push_end(out)
+}
+
+/// Prints a quantifier over a formula.
+#[cycle(formulas)]
+fn push_bound(
+    out: &mut Vec<u8>,
+    depth: u64,
+    keyword: Keyword,
+    body: &Form,
+) -> Result<(), AllocError>
+    ensures text { OnOk result (out.new.items ≡ out.old.items ++ group_text keyword
+        (name_of depth ∷ form_text (suc depth) (form_view body.now) ∷ [])) }
+    ensures few { OnOk result (suc depth + binders (form_view body.now) < 2 ^ 64) }
+{
+    let under = deeper(depth)?;
+    push_binding(out, depth, keyword)?;
+    push_last_form(out, under, body)
+}
+
 /// Prints a formula under so many binders.
 #[cycle(formulas)]
 fn push_form(out: &mut Vec<u8>, depth: u64, form: &Form) -> Result<(), AllocError>
@@ -164,46 +223,22 @@ fn push_form(out: &mut Vec<u8>, depth: u64, form: &Form) -> Result<(), AllocErro
             push_exp_part(out, depth, b)?;
             push_end(out)
         }
-        Form::Rd(a) => {
-            push_keyword(out, Keyword::Rd)?;
-            push_exp_part(out, depth, a)?;
-            push_end(out)
-        }
-        Form::Wr(a) => {
-            push_keyword(out, Keyword::Wr)?;
-            push_exp_part(out, depth, a)?;
-            push_end(out)
-        }
+        Form::Rd(a) => push_access(out, depth, Keyword::Rd, a),
+        Form::Wr(a) => push_access(out, depth, Keyword::Wr, a),
         Form::And(a, b) => {
-            push_keyword(out, Keyword::And)?;
-            push_form_part(out, depth, a)?;
-            push_form_part(out, depth, b)?;
-            push_end(out)
+            push_first(out, depth, Keyword::And, a)?;
+            push_last_form(out, depth, b)
         }
         Form::Or(a, b) => {
-            push_keyword(out, Keyword::Or)?;
-            push_form_part(out, depth, a)?;
-            push_form_part(out, depth, b)?;
-            push_end(out)
+            push_first(out, depth, Keyword::Or, a)?;
+            push_last_form(out, depth, b)
         }
         Form::Imp(a, b) => {
-            push_keyword(out, Keyword::Imp)?;
-            push_form_part(out, depth, a)?;
-            push_form_part(out, depth, b)?;
-            push_end(out)
+            push_first(out, depth, Keyword::Imp, a)?;
+            push_last_form(out, depth, b)
         }
-        Form::All(a) => {
-            let under = deeper(depth)?;
-            push_binding(out, depth, Keyword::All)?;
-            push_form_part(out, under, a)?;
-            push_end(out)
-        }
-        Form::Allm(a) => {
-            let under = deeper(depth)?;
-            push_binding(out, depth, Keyword::Allm)?;
-            push_form_part(out, under, a)?;
-            push_end(out)
-        }
+        Form::All(a) => push_bound(out, depth, Keyword::All, a),
+        Form::Allm(a) => push_bound(out, depth, Keyword::Allm, a),
     }
 }
 

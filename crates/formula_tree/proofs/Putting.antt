@@ -13,11 +13,6 @@ reg_some [] r d e lt h = absurd (omega (arith, lt))
 reg_some (x ∷ regs) zero d e lt h = ap (λ y. shift_exp d 0 (exp_view y)) (sym h)
 reg_some (x ∷ regs) (suc r) d e lt h = reg_some regs r d e (omega (arith, lt)) h
 
-pub reg_none : (regs : List rust.Exp) (r d : ℕ) → length regs ≤ r → get_or (map (shift_exp d 0) (map exp_view regs)) r (ELit 0) ≡ ELit 0
-reg_none [] r d h = refl
-reg_none (x ∷ regs) zero d h = absurd (omega (arith, h))
-reg_none (x ∷ regs) (suc r) d h = reg_none regs r d (omega (arith, h))
-
 pub reg_room : (regs : List rust.Exp) (r d : ℕ) (e : rust.Exp) → r < length regs → e ≡ get_or regs r e → HaveRoom d 0 (map exp_view regs) → HasRoomExp d 0 (exp_view e)
 reg_room [] r d e lt h o = absurd (omega (arith, lt))
 reg_room (x ∷ regs) zero d e lt h o = subst (λ y. HasRoomExp d 0 (exp_view y)) (sym h) o.0

@@ -59,13 +59,6 @@ impl Accepted {
         &self.cut
     }
 
-    /// The table that has the terms of the invariants.
-    pub fn table(&self) -> &Table
-        ensures { result.now ≡ self.now.table }
-    {
-        &self.table
-    }
-
     /// The annotated indices, each with its invariant.
     pub fn invs(&self) -> &[(u32, Id)]
         ensures { result.now ≡ self.now.invs }

@@ -19,7 +19,7 @@ const BAD_WORD: usize = 42;
 /// The most bytes of what is said of a container that is malformed.
 const MALFORMED: usize = 32;
 
-/// The most bytes of a refusal's text.
+/// Room for a refusal's text, in bytes.
 const REFUSAL: usize = 62;
 
 /// Adds a word that is no instruction: its index, the kind of fault, and the word.

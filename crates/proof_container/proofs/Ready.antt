@@ -60,10 +60,6 @@ ready v w writable is =
 
 -- ---- what the view holds
 
-terms_of_ids : (t : TableView) (ids : List ℕ) → AllByRecursion (IsKnown t) ids → AreSmall t.trees → AllTerms (map (tree_at t) ids) → AreTerms (map (tree_at t) ids)
-terms_of_ids t [] known small terms = tt
-terms_of_ids t (id ∷ ids) known small terms = (terms.0, small id known.0, terms_of_ids t ids known.1 small terms.1)
-
 root_terms : (t : TableView) (invs : List (ℕ × ℕ)) (proof : Option ℕ) → AreKnown t invs proof → AreSmall t.trees → AllTerms (root_trees t invs proof) → AreTerms (root_trees t invs proof)
 root_terms t [] None known small terms = tt
 root_terms t [] (Some id) known small terms = (terms.0, small id known.1, tt)

@@ -33,9 +33,6 @@ rows_past rows i w h = ap (λ l. register_in (rows_view l) i w) (drop_all i rows
 pub digits_more : (radix : ℕ) (ds : List ℕ) (i : ℕ) → i < length ds → digit_value (get_or ds i 0) < radix → are_digits radix (drop (i + 1) ds) ≡ are_digits radix (drop i ds)
 digits_more radix ds i h e = sym (ap (are_digits radix) (drop_more ds i 0 h) ∙ ap (λ t. t && are_digits radix (drop (i + 1) ds)) (lt-ltb _ radix e))
 
-pub digits_end : (radix : ℕ) (ds : List ℕ) (i : ℕ) → i < length ds → radix ≤ digit_value (get_or ds i 0) → are_digits radix (drop i ds) ≡ false
-digits_end radix ds i h e = ap (are_digits radix) (drop_more ds i 0 h) ∙ ap (λ t. t && are_digits radix (drop (i + 1) ds)) (le-ltb _ radix e)
-
 pub digits_past : (radix : ℕ) (ds : List ℕ) (i : ℕ) → length ds ≤ i → are_digits radix (drop i ds) ≡ true
 digits_past radix ds i h = ap (are_digits radix) (drop_all i ds h)
 

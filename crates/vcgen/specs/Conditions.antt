@@ -109,7 +109,7 @@ or_else None F = F
 or_else (Some I) F = I
 
 -- The invariant of an annotated index, else what has to hold before its instruction, so many indices being followed. Where the
--- annotated indices cut the code, as many as it has instructions are enough (`wp_laws`).
+-- annotated indices cut the code, as many as it has instructions are enough (`condition_laws`, clause `wp`).
 abbrev pub wp_within : AnnotatedCode → ℕ → ℕ → Form
 wp_within c zero i = or_else (invariant_at c.invs i) FFalse
 wp_within c (suc n) i = or_else (invariant_at c.invs i) (condition_at c.bound (wp_within c n) c.post i (slice_get c.code i))
