@@ -1,6 +1,6 @@
 #!/usr/bin/env bash
 # Times substitution in formulas and the making of verification conditions: 5 put for each of the
-# machine's variables in chains that share and in a balanced tree of some 64,000, 128,000 and 256,000
+# machine's variables in chains that share and in a balanced tree of 49,215 to 336,170
 # entries, and conditions of straight code and of branches that double the unfolded length (median of
 # five; processor time and peak memory, making included, and of making alone).
 set -eu
