@@ -15,14 +15,14 @@ use Rattle.formula_ids.specs.Hypotheses.{AreHyps}
 use Rattle.easy_class.specs.Hypotheses.{Hyps}
 use Rattle.easy_class.specs.Access as class
 use Rattle.easy_class.specs.Goals.{first_of}
-use Rattle.lf_encode.specs.Encoding.{exp_encoding, form_encoding}
+use Rattle.formula_terms.specs.Encoding.{exp_encoding, form_encoding}
 use Rattle.lf_signature.specs.Nodes.{IsIdOf}
-use Rattle.easy_words.specs.Sums.{IsExpOption}
-use Rattle.easy_words.proofs.Scans.{IsHypAt, hyp_at}
-use Rattle.easy_words.proofs.UpperRows.{hyps-before, hyps-after}
-use Rattle.bounds_prover.specs.Search.{IsSearch, IsContext, IsAfter}
-use Rattle.bounds_prover.specs.declared.search.Search.{Search}
-use Rattle.bounds_prover.specs.declared.search.Context.{Context}
+use Rattle.easy_forms.specs.Sums.{IsExpOption}
+use Rattle.easy_bounds.proofs.Scans.{IsHypAt, hyp_at}
+use Rattle.formula_ids.proofs.HypRows.{hyps-before, hyps-after}
+use Rattle.easy_goals.specs.Search.{IsSearch, IsContext, IsAfter}
+use Rattle.easy_goals.specs.declared.search.Search.{Search}
+use Rattle.easy_goals.specs.declared.search.Context.{Context}
 use Rattle.bounds_prover.specs.Inside.Access.{Opened, opened_at, from_side, first_way, first_opened}
 use Rattle.bounds_prover.specs.Inside.AccessIds.{access_of, side_of, way_back, IsKnownGrant, IsOpening, IfFound, AreMeant, IsWalk, AreMisses}
 use Rattle.bounds_prover.specs.declared.access_walks.Asked.{Asked}
@@ -32,7 +32,7 @@ use Rattle.bounds_prover.specs.declared.access_walks.Side.{Side}
 use Rattle.bounds_prover.specs.declared.access_walks.Found.{Found}
 use Rattle.bounds_prover.specs.declared.access_walks.Part.{Part}
 use Rattle.bounds_prover.specs.contracts.access_walks.PartOrd.TheImpl as block
-use Rattle.bounds_prover.proofs.Kept.{search-more}
+use Rattle.easy_goals.proofs.Kept.{search-more}
 
 -- ---- what is kept
 

@@ -5,9 +5,9 @@ use Rattle.term_table.specs.Measures.{height_of}
 use Rattle.term_table.proofs.Options.{bind_some, map_some}
 use Rattle.formula_tree.specs.Formulas.{Exp, EReg, ELeft, EVar, ELit, EOp, ESel, MemExp, MMem, MVar, MUpd, Form, FTrue, FFalse, FRel, FRd, FWr, FAnd, FOr, FImp, FAll, FAllm}
 use Rattle.formula_tree.specs.Sizes.{exp_height, mem_height, form_height}
-use Rattle.lf_encode.specs.Encoding.{exp_encoding, mem_encoding, form_encoding}
+use Rattle.formula_terms.specs.Encoding.{exp_encoding, mem_encoding, form_encoding}
 use Rattle.vcgen.specs.declared.condition.TheConstants.{MAX_HEIGHT}
-use Rattle.easy_class.specs.ProofTerms.{and_i}
+use Rattle.formula_terms.specs.ProofTerms.{and_i}
 use Rattle.easy_class.specs.Goals.{Prover}
 use Rattle.easy_class.specs.Parts.{conjoined, part_proof, condition_proof}
 

@@ -13,7 +13,7 @@ use Rattle.term_table.specs.Measures.{height_of}
 use Rattle.lf_signature.specs.Sigma1.{declared}
 use Rattle.lf_signature.specs.Terms.{pf}
 use Rattle.lf_signature.specs.Typing.{Checks}
-use Rattle.lf_encode.specs.Encoding.{form_encoding}
+use Rattle.formula_terms.specs.Encoding.{form_encoding}
 use Rattle.lf_rules.proofs.Typed.{is_term}
 use Rattle.proof_container.specs.Contents.{Contents, one_or_none, roots}
 use Rattle.proof_container.specs.Postorder.{entries}
@@ -37,7 +37,7 @@ use Rattle.easy_class.specs.Parts.{conjoined, condition_proof, first_not_easy}
 use Rattle.easy_class.specs.Access.{by_all_means}
 use Rattle.bounds_prover.specs.declared.fault.ProveFault.{ProveFault}
 use Rattle.bounds_prover.specs.declared.fault.ProveFault.TheVariants.{Refused, NotEasy, TooBig, Memory}
-use Rattle.bounds_prover.specs.Proving.{condition_parts, with_proof, excess, encoded_unless, with_parts_proof, proved_contents, proved_code, proved_read, made_unless, proved_container, IsAnswer}
+use Rattle.bounds_prover.specs.Proving.{condition_parts, with_proof, excess, encoded_unless, with_parts_proof, proved_contents, proved_code, proved_read, made_unless, proved_container, IsMadeAnswer}
 use Rattle.bounds_prover.proofs.Measures.{IsSmallEnough, small-enough}
 use Rattle.bounds_prover.proofs.Heights.{parts-low}
 use Rattle.bounds_prover.proofs.SmallTerms.{checks-small}

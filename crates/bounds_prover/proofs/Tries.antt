@@ -5,11 +5,11 @@ use Rattle.term_table.specs.Subst.{bind}
 use Rattle.word_ops.specs.declared.Op.TheVariants.{Add, Sll}
 use Rattle.formula_tree.specs.Formulas.{Exp, EVar, ELit, EOp, Form, FRd, FWr, FAnd, FImp, FAll}
 use Rattle.formula_tree.specs.Variables.{PExp, subst_var_exp, subst_var}
-use Rattle.easy_class.specs.ProofTerms.{all_e, imp_e}
+use Rattle.formula_terms.specs.ProofTerms.{all_e, imp_e}
 use Rattle.easy_class.specs.Hypotheses.{Hyps}
 use Rattle.easy_class.specs.Goals.{Prover, first_of}
 use Rattle.easy_class.specs.Access.{Access, Load, Store, Side, Left, Right, beside, reached, down, by_imp, imp_tries, instance_of, by_all, all_tries, by_hyp}
-use Rattle.bounds_prover.specs.Inside.Access.{same_address, access_move, index_of, Opened, opened, opened_by, opened_with, opened_at, from_side, first_way, no_way, first_opened, granted, granted_by, by_grant}
+use Rattle.bounds_prover.specs.Inside.Access.{same_address, access_move, variable_index, Opened, opening_of, opened_by, opened_with, opened_at, from_side, first_way, no_way, first_opened, granted, granted_by, by_grant}
 
 -- the first of the tries at addresses with their ways
 abbrev tries : (List Side → Exp → Option Tree) → List (List Side × Exp) → Option Tree
@@ -60,7 +60,7 @@ try_is prove out Γ k a P Q h way z o = go (same_address out z a) (prove out Γ 
   where
     go : (b : Bool) (u : Option Tree) →
         bind u (λ p. cond b (Some (access_move out k z a (down Q way (imp_e P Q h p)))) None)
-        ≡ option_map (λ (x : Opened). access_move out k x.address a (down Q way (imp_e P Q h x.proof))) (cond b (option_map (opened z o) u) None)
+        ≡ option_map (λ (x : Opened). access_move out k x.address a (down Q way (imp_e P Q h x.proof))) (cond b (option_map (opening_of z o) u) None)
     go true None = refl
     go true (Some p) = refl
     go false None = refl
@@ -87,8 +87,8 @@ instance_is prove out Γ k a P Q h way z (Some o) =
     try_is prove out Γ k a R S g way y o ∙ go (same_address out y a) (prove out Γ R)
   where
     go : (b : Bool) (u : Option Tree) →
-        option_map (λ (x : Opened). access_move out k x.address a (down (subst_var Q 0 (PExp o)) way (imp_e (subst_var P 0 (PExp o)) (subst_var Q 0 (PExp o)) (all_e (FImp P Q) o h) x.proof))) (cond b (option_map (opened (subst_var_exp z 0 (PExp o)) o) u) None)
-        ≡ option_map (λ (x : Opened). granted_by true out k a P Q h (way, x)) (cond b (option_map (opened (subst_var_exp z 0 (PExp o)) o) u) None)
+        option_map (λ (x : Opened). access_move out k x.address a (down (subst_var Q 0 (PExp o)) way (imp_e (subst_var P 0 (PExp o)) (subst_var Q 0 (PExp o)) (all_e (FImp P Q) o h) x.proof))) (cond b (option_map (opening_of (subst_var_exp z 0 (PExp o)) o) u) None)
+        ≡ option_map (λ (x : Opened). granted_by true out k a P Q h (way, x)) (cond b (option_map (opening_of (subst_var_exp z 0 (PExp o)) o) u) None)
     go true None = refl
     go true (Some p) = refl
     go false u = refl
@@ -112,7 +112,7 @@ hyp-all prove out Γ Load a P Q h = all_tries-first prove out Γ Load a P Q h
 hyp-all prove out Γ Store a P Q h = all_tries-first prove out Γ Store a P Q h
 
 -- no other address has an instance
-pub instance-other : (out : ℕ) (a z : Exp) → ((b : Exp) (scaled : Bool) → z ≡ EOp Add b (index_of scaled) → ⊥) → instance_of out a z ≡ None
+pub instance-other : (out : ℕ) (a z : Exp) → ((b : Exp) (scaled : Bool) → z ≡ EOp Add b (variable_index scaled) → ⊥) → instance_of out a z ≡ None
 instance-other out a (EOp Add b (EVar zero)) other = absurd (other b false refl)
 instance-other out a (EOp Add b (EOp Sll (EVar zero) (ELit (suc (suc (suc zero)))))) other = absurd (other b true refl)
 instance-other out a _ other = refl

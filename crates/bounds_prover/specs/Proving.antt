@@ -91,11 +91,11 @@ proved_container policy bytes = made_unless (front_refusal policy bytes) (proved
 -- ---- answers
 
 -- the answer is what is made, or the fault why not; want of memory says nothing
-abbrev pub IsAnswer : Result (List ℕ) ProveFault → Result (Vec ℕ Global) ProveFault → Type 0
-IsAnswer made (Ok out) = made ≡ Ok out.items
-IsAnswer made (Err Memory) = Unit {0}
-IsAnswer made (Err fault) = made ≡ Err fault
+abbrev pub IsMadeAnswer : Result (List ℕ) ProveFault → Result (Vec ℕ Global) ProveFault → Type 0
+IsMadeAnswer made (Ok out) = made ≡ Ok out.items
+IsMadeAnswer made (Err Memory) = Unit {0}
+IsMadeAnswer made (Err fault) = made ≡ Err fault
 
 -- what `prove` answers
 abbrev pub IsProveAnswer : PolicyKind → List ℕ → Result (Vec ℕ Global) ProveFault → Type 0
-IsProveAnswer policy bytes result = IsAnswer (proved_container policy bytes) result
+IsProveAnswer policy bytes result = IsMadeAnswer (proved_container policy bytes) result

@@ -6,18 +6,18 @@
 ghost use Rattle.std.specs.Prelude.{◌≡◌, ◌<◌, length, get_or, IfOk, IfSome, OnOk};
 ghost use Rattle.term_table.specs.Table.{IsKnown, tree_at, Extends, Stands};
 ghost use Rattle.formula_tree.specs.Formulas.{Exp};
-ghost use Rattle.lf_encode.specs.Encoding.{exp_encoding};
+ghost use Rattle.formula_terms.specs.Encoding.{exp_encoding};
 ghost use Rattle.formula_ids.specs.Hypotheses.{AreKnownHyps, AreHyps};
 ghost use Rattle.easy_class.specs.Hypotheses.{Hyps};
 ghost use Rattle.easy_class.specs.Access.{access_form, without_access, by_hyp, by_hyps, by_access};
-ghost use Rattle.bounds_prover.specs.Provers.{IsProofBy};
-ghost use Rattle.bounds_prover.specs.Search.{IsSearch, IsContext, IsAfter};
+ghost use Rattle.easy_goals.specs.Provers.{IsProofBy};
+ghost use Rattle.easy_goals.specs.Search.{IsSearch, IsContext, IsAfter};
 ghost use Rattle.bounds_prover.specs.Inside.AccessIds.{access_of, IsHypProof, IsImplicationProof, IsBodyProof};
 
 use crate::access_grants::by_grant;
 use crate::access_moves::{Access, moved_access};
 use crate::access_walks::{Asked, Grant};
-use crate::search::{Context, Search};
+use easy_goals::{Context, Search};
 use formula_ids::{FormNode, Hypothesis, form_node};
 use std::alloc::AllocError;
 use term_table::{Id, Table};
@@ -98,7 +98,7 @@ fn by_implication(
 }
 
 /// Access by a hypothesis that gives it at the address `z`.
-#[tactic(auto, using(crate::proofs::WordRows::rows))]
+#[tactic(auto, using(easy_goals::proofs::WordRows::rows))]
 fn by_address(
     table: &mut Table,
     search: &mut Search,
@@ -141,7 +141,7 @@ fn by_address(
 }
 
 /// Access by one hypothesis: as it stands, from an implication, or from an instance.
-#[tactic(auto, using(crate::proofs::WordRows::rows))]
+#[tactic(auto, using(easy_goals::proofs::WordRows::rows))]
 fn by_hyp(
     table: &mut Table,
     search: &mut Search,

@@ -8,17 +8,16 @@ ghost use Rattle.std.specs.Prelude.{◌≡◌, true, Option, Some, IfOk, IfSome,
 ghost use Rattle.std.specs.Bool.{Decides};
 ghost use Rattle.term_table.specs.Table.{IsKnown, tree_at, Extends};
 ghost use Rattle.formula_tree.specs.Formulas.{Exp, EVar};
-ghost use Rattle.lf_encode.specs.Encoding.{exp_encoding};
-ghost use Rattle.easy_words.specs.Sums.{IsExpOption, OccursInExp};
+ghost use Rattle.formula_terms.specs.Encoding.{exp_encoding};
+ghost use Rattle.easy_forms.specs.Sums.{IsExpOption, OccursInExp};
 ghost use Rattle.easy_class.specs.Access.{instance_of};
-ghost use Rattle.bounds_prover.specs.Search.{IsSearch};
-ghost use Rattle.bounds_prover.specs.Inside.Access.{index_of, rest_at, scaled_rest, index_at};
+ghost use Rattle.easy_goals.specs.Search.{IsSearch};
+ghost use Rattle.bounds_prover.specs.Inside.Access.{variable_index, rest_at, scaled_rest, index_at};
 ghost use Rattle.bounds_prover.specs.Inside.AccessIds.{IfIndexed};
 
 use crate::access_moves::exp_with;
-use crate::search::Search;
-use crate::words::normal;
-use easy_words::{eighth, occurs, rest_of};
+use easy_forms::{eighth, occurs, rest_of};
+use easy_goals::{Search, normal};
 use formula_ids::{ExpNode, exp_node, literal, operands};
 use std::alloc::AllocError;
 use term_table::{Id, Node, Table};
@@ -59,7 +58,7 @@ fn is_three(word: Option<u64>) -> bool
 fn is_scaled(table: &Table, e: Id) -> bool
     requires { IsKnown table.now e }
     ensures { (x : Exp) → tree_at table.now e ≡ exp_encoding x
-        → Decides result (x ≡ index_of true) }
+        → Decides result (x ≡ variable_index true) }
 {
     match operands(table, Op::Sll, e) {
         None => false,
@@ -95,7 +94,7 @@ fn split_address(table: &Table, z: Id) -> Option<Indexed>
 }
 
 /// Whether variable 0 stands in the expression.
-#[tactic(auto, using(crate::proofs::Kept::rows))]
+#[tactic(auto, using(easy_goals::proofs::Kept::rows))]
 fn has_variable(table: &Table, search: &mut Search, e: Id) -> Result<bool, AllocError>
     requires e { IsKnown table.now e }
     requires search { IsSearch table.now search.old }
@@ -106,7 +105,7 @@ fn has_variable(table: &Table, search: &mut Search, e: Id) -> Result<bool, Alloc
 }
 
 /// What is left of the address `a` without the base, where 0 is put for the variable.
-#[tactic(auto, using(crate::proofs::Kept::rows))]
+#[tactic(auto, using(easy_goals::proofs::Kept::rows))]
 fn rest_at(
     table: &mut Table,
     search: &mut Search,
@@ -157,7 +156,7 @@ fn scaled_rest(table: &mut Table, scaled: bool, rest: Option<Id>) -> Result<Opti
 }
 
 /// What is put for the variable of an address with this base.
-#[tactic(auto, using(crate::proofs::Kept::rows))]
+#[tactic(auto, using(easy_goals::proofs::Kept::rows))]
 fn index_at(
     table: &mut Table,
     search: &mut Search,
@@ -186,7 +185,7 @@ fn index_at(
 
 /// What is put for variable 0 of the address `z`, so that it means the address `a`. None where `z`
 /// is no base and variable 0, plain or times 8, or where `a` hasn't all summands of the base.
-#[tactic(auto, using(crate::proofs::Kept::rows))]
+#[tactic(auto, using(easy_goals::proofs::Kept::rows))]
 pub(crate) fn instance_of(
     table: &mut Table,
     search: &mut Search,

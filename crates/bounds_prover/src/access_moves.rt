@@ -7,17 +7,16 @@ ghost use Rattle.std.specs.Prelude.{◌≡◌, IfOk, IfSome, OnOk};
 ghost use Rattle.term_table.specs.Table.{IsKnown, tree_at, Extends, Stands};
 ghost use Rattle.lf_signature.specs.Nodes.{IsIdOf};
 ghost use Rattle.formula_tree.specs.Formulas.{Exp, EVar};
-ghost use Rattle.lf_encode.specs.Encoding.{exp_encoding, form_encoding};
+ghost use Rattle.formula_terms.specs.Encoding.{exp_encoding, form_encoding};
 ghost use Rattle.formula_ids.specs.Puts.{IsExpPut, IsFormPut};
 ghost use Rattle.easy_class.specs.Access.{access_form, moved};
-ghost use Rattle.bounds_prover.specs.Search.{IsSearch};
+ghost use Rattle.easy_goals.specs.Search.{IsSearch};
 ghost use Rattle.bounds_prover.specs.Inside.Access.{same_address, access_move};
 ghost use Rattle.bounds_prover.specs.Inside.AccessIds.{access_of};
 
-use crate::search::Search;
-use crate::words::normal;
-use easy_words::{equal_proof, moved};
-use formula_ids::{put_word, put_word_exp};
+use easy_forms::equal_proof;
+use easy_goals::{Search, normal};
+use formula_ids::{moved, put_word, put_word_exp};
 use lf_signature::app1;
 use lf_signature::numbers::{RD, WR};
 use std::alloc::AllocError;
@@ -33,7 +32,7 @@ pub(crate) enum Access {
 }
 
 /// The expression with `arg` for variable 0.
-#[tactic(auto, using(crate::proofs::Kept::rows))]
+#[tactic(auto, using(easy_goals::proofs::Kept::rows))]
 pub(crate) fn exp_with(
     table: &mut Table,
     search: &mut Search,
@@ -51,7 +50,7 @@ pub(crate) fn exp_with(
 }
 
 /// The formula with `arg` for variable 0.
-#[tactic(auto, using(crate::proofs::Kept::rows))]
+#[tactic(auto, using(easy_goals::proofs::Kept::rows))]
 pub(crate) fn form_with(
     table: &mut Table,
     search: &mut Search,
@@ -69,7 +68,7 @@ pub(crate) fn form_with(
 }
 
 /// Whether two addresses have one normal form.
-#[tactic(auto, using(crate::proofs::Kept::rows))]
+#[tactic(auto, using(easy_goals::proofs::Kept::rows))]
 pub(crate) fn same_address(
     table: &mut Table,
     search: &mut Search,
@@ -105,7 +104,7 @@ fn place_form(table: &mut Table, access: Access) -> Result<Id, AllocError>
 }
 
 /// The proof of access to `a`, by that of access to `z`, which has its normal form.
-#[tactic(auto, using(crate::proofs::Kept::rows))]
+#[tactic(auto, using(easy_goals::proofs::Kept::rows))]
 pub(crate) fn access_move(
     table: &mut Table,
     search: &mut Search,
@@ -135,7 +134,7 @@ pub(crate) fn access_move(
 }
 
 /// The same where the normal forms are one, else none.
-#[tactic(auto, using(crate::proofs::Kept::rows))]
+#[tactic(auto, using(easy_goals::proofs::Kept::rows))]
 pub(crate) fn moved_access(
     table: &mut Table,
     search: &mut Search,

@@ -6,15 +6,11 @@
 ghost use Rattle.std.specs.Prelude.{◌≡◌, IfOk, IfSome, OnOk};
 ghost use Rattle.term_table.specs.Table.{IsKnown, Extends};
 ghost use Rattle.easy_class.specs.Access.{by_all_means};
-ghost use Rattle.bounds_prover.specs.Provers.{IsProofBy, whole_proof, prover_of};
-ghost use Rattle.bounds_prover.specs.Search.{IsSearch, IsContext, IsAfter};
+ghost use Rattle.easy_goals.specs.Provers.{IsProofBy, whole_proof, prover_of};
+ghost use Rattle.easy_goals.specs.Search.{IsSearch, IsContext, IsAfter};
 
 use crate::access::proof_by_access;
-use crate::answers::Means;
-use crate::connectives::goal_proof;
-use crate::leaf::Leaf;
-use crate::search::{Context, Search};
-use crate::words::proof_by_words;
+use easy_goals::{Context, Leaf, Means, Search, goal_proof, proof_by_words};
 use std::alloc::AllocError;
 use term_table::{Id, Table};
 
@@ -23,7 +19,7 @@ use term_table::{Id, Table};
 pub(crate) struct ByAllMeans;
 
 impl Leaf for ByAllMeans {
-    ghost use Rattle.bounds_prover.specs.declared.answers.Means.TheVariants.{WordsAndAccess};
+    ghost use Rattle.easy_goals.specs.declared.answers.Means.TheVariants.{WordsAndAccess};
 
     ghost by = { λ _. WordsAndAccess };
 
@@ -43,7 +39,7 @@ impl Leaf for ByAllMeans {
 }
 
 /// The proof of a goal that has no connective, by words or else by access.
-#[tactic(auto, using(crate::proofs::WordRows::rows))]
+#[tactic(auto, using(easy_goals::proofs::WordRows::rows))]
 fn by_all_means(
     table: &mut Table,
     search: &mut Search,

@@ -5,7 +5,7 @@ ghost use Rattle.alpha_cfg.specs.Cuts.{AreFlags, unfolded_of};
 ghost use Rattle.term_table.specs.Table.{IsKnown, tree_at, Extends};
 ghost use Rattle.term_table.specs.Measures.{height_of, sigma1_places};
 ghost use Rattle.lf_signature.specs.Nodes.{IsIdOf};
-ghost use Rattle.lf_encode.specs.Encoding.{form_encoding};
+ghost use Rattle.formula_terms.specs.Encoding.{form_encoding};
 ghost use Rattle.proof_container.specs.Contents.{roots};
 ghost use Rattle.proof_container.specs.Postorder.{entries};
 ghost use Rattle.proof_container.specs.Encoding.{IsContents};
@@ -19,15 +19,15 @@ ghost use Rattle.pcc_gate.specs.Accepted.{IsAccepted};
 ghost use Rattle.pcc_gate.specs.Answers.{IsHeld};
 ghost use Rattle.easy_class.specs.Parts.{conjoined};
 ghost use Rattle.bounds_prover.specs.Proving.{condition_parts, excess, encoded_unless};
-ghost use Rattle.bounds_prover.specs.Proving.{proved_contents, IsAnswer, IsProveAnswer};
+ghost use Rattle.bounds_prover.specs.Proving.{proved_contents, IsMadeAnswer, IsProveAnswer};
 ghost use Rattle.bounds_prover.specs.Inside.Parts.{IsKnownAnswer, IsPartsAnswer};
 
 use crate::fault::{Measure, ProveFault};
 use crate::parts::{Parts, proof_of_parts};
-use crate::search::Search;
 use crate::theorems::prove_laws;
 use alpha_cfg::Cut;
 use easy_class::class_laws;
+use easy_goals::Search;
 use hereditary_subst::MOST_RESULTS;
 use pcc_gate::{GateFault, MAX_WEIGHT, Passed, front};
 use policy_set::Policy;
@@ -116,7 +116,7 @@ fn written(alloc: Global, view: &View<'_>, proof: Id) -> Result<Vec<u8>, ProveFa
         → length (entries (roots (view_contents view.now))) ≤ MAX_ENTRIES
         → IsContents (view_contents view.now) }
     ensures { let c = view_contents view.now in
-        IsAnswer (encoded_unless (excess c (tree_at view.now.table.now proof)) c) result }
+        IsMadeAnswer (encoded_unless (excess c (tree_at view.now.table.now proof)) c) result }
 {
     match excess(alloc, view, proof) {
         Err(_) => Err(ProveFault::Memory),
@@ -140,7 +140,7 @@ fn proved(
     requires held { IsHeld passed.container }
     ensures { let c = contents_of passed.entry.container in
         let parts = condition_parts policy.now passed.entry.cut.code c.invs in
-        IsAnswer (proved_contents c parts) result }
+        IsMadeAnswer (proved_contents c parts) result }
 {
     let _ = bytes; // only the clauses speak of it
     class_laws();

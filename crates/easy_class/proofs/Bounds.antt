@@ -12,9 +12,9 @@ use Rattle.word_ops.proofs.Bounds.{word_of-below}
 use Rattle.lf_signature.specs.Terms.{exp, pf, lit, rel_term}
 use Rattle.lf_signature.specs.Sigma1.{the_rules}
 use Rattle.formula_tree.specs.Formulas.{Exp, EVar, ELit, EOp, ESel, Form, FRel, EReg, ELeft}
-use Rattle.lf_encode.specs.Encoding.{exp_encoding, form_encoding}
+use Rattle.formula_terms.specs.Encoding.{exp_encoding, form_encoding}
 use Rattle.easy_class.proofs.Scope.{OverExp}
-use Rattle.easy_class.specs.ProofTerms.{AExp, word_rule, move, swap, up, calc, fact}
+use Rattle.formula_terms.specs.ProofTerms.{AExp, word_rule, move, swap, up, calc, fact}
 use Rattle.easy_class.specs.Hypotheses.{Hyps, same_exp}
 use Rattle.easy_class.specs.Bounds.{WordBound, word_bound, least_bound, greatest_bound, max_word, folded, fit_proof, upper_of, uppers, op_bounds, own_bounds, upper_bound, lower_of, lowers, lower_bound}
 use Rattle.easy_class.proofs.Proved.{Proves, IsHyp, AreHyps}

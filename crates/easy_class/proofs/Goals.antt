@@ -8,9 +8,9 @@ use Rattle.word_ops.specs.declared.Rel.TheVariants.{Eq, Ult, Ule}
 use Rattle.lf_signature.specs.Terms.{exp, pf, lit, rel_term, op_term}
 use Rattle.lf_signature.specs.Sigma1.{the_rules}
 use Rattle.formula_tree.specs.Formulas.{Exp, EVar, ELit, EOp, Form, FRel}
-use Rattle.lf_encode.specs.Encoding.{exp_encoding, form_encoding}
+use Rattle.formula_terms.specs.Encoding.{exp_encoding, form_encoding}
 use Rattle.easy_class.proofs.Scope.{OverExp, Over}
-use Rattle.easy_class.specs.ProofTerms.{AExp, word_rule, move, up, calc, fact, eq_refl}
+use Rattle.formula_terms.specs.ProofTerms.{AExp, word_rule, move, up, calc, fact, eq_refl}
 use Rattle.easy_class.specs.Hypotheses.{Hyps, find_hyp}
 use Rattle.easy_class.specs.Bounds.{WordBound, upper_bound, lower_bound}
 use Rattle.easy_class.specs.Goals.{first_of, aligned_form, masked, alignment_proof, by_aligned, ule_by, ult_by, by_bounds}

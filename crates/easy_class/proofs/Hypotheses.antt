@@ -15,11 +15,11 @@ use Rattle.lf_rules.specs.Plain.{var_bound}
 use Rattle.lf_rules.proofs.Room.{fits_shift, var_bound_shift}
 use Rattle.lf_rules.proofs.Shifts.{shift-more}
 use Rattle.formula_tree.specs.Formulas.{Exp, EVar, ELit, EOp, ESel, Form, FTrue, FFalse, FRel, FRd, FWr, FAnd, FOr, FImp, FAll, FAllm, shift_form, EReg, ELeft}
-use Rattle.lf_encode.specs.Encoding.{form_encoding}
+use Rattle.formula_terms.specs.Encoding.{form_encoding}
 use Rattle.easy_class.proofs.Scope.{OverExp, Over, nesting}
 use Rattle.easy_class.proofs.Encoded.{shift-form_encoding, over_wider, wider_one}
 use Rattle.easy_class.proofs.Typed.{form_bound}
-use Rattle.easy_class.specs.ProofTerms.{AExp, AForm, and_l, and_r, word_rule}
+use Rattle.formula_terms.specs.ProofTerms.{AExp, AForm, and_l, and_r, word_rule}
 use Rattle.easy_class.specs.Hypotheses.{Hyps, same_form, find_hyp, raised_hyps, compared, rel_hyps, not_hyps, zero_of, one_of, zero_hyps, one_hyps, imp_hyps, split_hyps, added, with_new}
 use Rattle.easy_class.proofs.Proved.{Proves, Stays, IsHyp, AreHyps}
 use Rattle.easy_class.proofs.Uses.{rule_stays, stays_now, nesting-shift}

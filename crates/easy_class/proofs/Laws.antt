@@ -9,9 +9,9 @@ use Rattle.lf_signature.specs.Sigma1.{declared}
 use Rattle.formula_tree.specs.Formulas.{Exp, EReg, ELeft, EVar, ELit, EOp, ESel, MemExp, MMem, MVar, MUpd, Form, FTrue, FFalse, FRel, FRd, FWr, FAnd, FOr, FImp, FAll, FAllm}
 use Rattle.formula_tree.specs.Scope.{VarSort, OfWord, OfMem, IsOverExp, IsOverMem, IsOver}
 use Rattle.formula_tree.specs.Sizes.{form_height}
-use Rattle.lf_encode.specs.Encoding.{form_encoding, var_types}
-use Rattle.lf_encode.proofs.Encoded.{at-word, at-mem}
-use Rattle.easy_class.specs.ProofTerms.{tt_i, and_i}
+use Rattle.formula_terms.specs.Encoding.{form_encoding, var_types}
+use Rattle.formula_terms.proofs.Encoded.{at-word, at-mem}
+use Rattle.formula_terms.specs.ProofTerms.{tt_i, and_i}
 use Rattle.easy_class.specs.Goals.{Prover}
 use Rattle.easy_class.specs.Parts.{conjoined, part_proof, condition_proof, refused_at, first_not_easy}
 use Rattle.easy_class.specs.Access.{by_all_means}

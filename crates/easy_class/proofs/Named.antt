@@ -17,11 +17,11 @@ use Rattle.lf_rules.specs.Plain.{plain_subst, plain_spot}
 use Rattle.lf_rules.proofs.Shifts.{spot-own, spot-under, spot-over, raise-under}
 use Rattle.formula_tree.specs.Formulas.{Exp, EVar, Form, FRel, FImp, FAll, FAllm, shift_form}
 use Rattle.formula_tree.specs.Variables.{PExp, subst_var}
-use Rattle.lf_encode.specs.Encoding.{exp_encoding, form_encoding}
+use Rattle.formula_terms.specs.Encoding.{exp_encoding, form_encoding}
 use Rattle.easy_class.proofs.Scope.{OverExp, Over, nesting}
-use Rattle.lf_encode.proofs.Encoded.{shift-exp_encoding}
+use Rattle.formula_terms.proofs.Encoded.{shift-exp_encoding}
 use Rattle.easy_class.proofs.Encoded.{shift-form_encoding, plain_subst-shift, over_exp_wider, wider_one, subst-form_encoding, splits_first}
-use Rattle.easy_class.specs.ProofTerms.{AExp, AForm, AAll, AAllm, imp_i, all_i, all_e, allm_i, eq_refl, move, up, swap, calc, fact}
+use Rattle.formula_terms.specs.ProofTerms.{AExp, AForm, AAll, AAllm, imp_i, all_i, all_e, allm_i, eq_refl, move, up, swap, calc, fact}
 use Rattle.easy_class.proofs.Proved.{Proves}
 use Rattle.easy_class.proofs.Uses.{rule_proves}
 

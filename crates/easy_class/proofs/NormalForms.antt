@@ -13,10 +13,10 @@ use Rattle.lf_signature.specs.Sigma1.{the_rules}
 use Rattle.lf_rules.proofs.Shifts.{spot-raise}
 use Rattle.formula_tree.specs.Formulas.{Exp, EVar, ELit, EOp, ESel, MemExp, MVar, MUpd, Form, FRel, shift_exp, shift_mem, EReg, ELeft, MMem}
 use Rattle.formula_tree.specs.Variables.{PExp, exp_at, mem_at, subst_var_exp, subst_var_mem}
-use Rattle.lf_encode.specs.Encoding.{exp_encoding, form_encoding}
+use Rattle.formula_terms.specs.Encoding.{exp_encoding, form_encoding}
 use Rattle.easy_class.proofs.Scope.{OverExp, Over}
 use Rattle.easy_class.proofs.Encoded.{subst-exp_encoding, splits_first, over_put_exp}
-use Rattle.easy_class.specs.ProofTerms.{AExp, word_rule, move, swap, up, calc, fact, eq_refl}
+use Rattle.formula_terms.specs.ProofTerms.{AExp, word_rule, move, swap, up, calc, fact, eq_refl}
 use Rattle.easy_class.specs.Hypotheses.{Hyps, same_exp}
 use Rattle.easy_class.specs.NormalForms.{Rewriting, whole_step, summand_key, swapped, turned, rewrite_at, in_left, in_right, first_nonempty, redex, Rewritten, rewritten, after_steps, continue_with, normalized, leaves, normal_form, equal_proof, words_proof, held_of_words, equal_forms}
 use Rattle.easy_class.specs.Goals.{by_normal}

@@ -6,9 +6,9 @@ use Rattle.lf_signature.specs.Terms.{pf}
 use Rattle.lf_signature.specs.Typing.{Checks}
 use Rattle.lf_signature.specs.Sigma1.{declared, the_rules}
 use Rattle.formula_tree.specs.Formulas.{Form, FTrue}
-use Rattle.lf_encode.specs.Encoding.{form_encoding}
+use Rattle.formula_terms.specs.Encoding.{form_encoding}
 use Rattle.easy_class.proofs.Scope.{Over, nesting}
-use Rattle.easy_class.specs.ProofTerms.{AForm, and_i}
+use Rattle.formula_terms.specs.ProofTerms.{AForm, and_i}
 use Rattle.easy_class.specs.Goals.{first_of, Prover, by_aligned, by_normal, by_bounds, by_words_alone}
 use Rattle.easy_class.specs.Parts.{conjoined, levels, part_proof, condition_proof}
 use Rattle.easy_class.proofs.Proved.{Proves}

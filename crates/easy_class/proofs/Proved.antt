@@ -8,7 +8,7 @@ use Rattle.lf_signature.specs.Rules.{Premise}
 use Rattle.lf_rules.specs.Plain.{var_bound}
 use Rattle.lf_rules.specs.Instance.{premise_with}
 use Rattle.formula_tree.specs.Formulas.{Form}
-use Rattle.lf_encode.specs.Encoding.{form_encoding}
+use Rattle.formula_terms.specs.Encoding.{form_encoding}
 use Rattle.easy_class.proofs.Scope.{Over, nesting}
 use Rattle.easy_class.specs.Hypotheses.{Hyps}
 

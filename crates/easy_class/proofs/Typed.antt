@@ -13,7 +13,7 @@ use Rattle.lf_rules.specs.Plain.{var_bound, binder_depth}
 use Rattle.lf_rules.specs.Instance.{IsArgument}
 use Rattle.lf_rules.proofs.Room.{fits_shift, var_bound_shift}
 use Rattle.formula_tree.specs.Formulas.{Exp, EVar, ELit, EOp, ESel, MemExp, MVar, MUpd, Form, FTrue, FFalse, FRel, FRd, FWr, FAnd, FOr, FImp, FAll, FAllm, EReg, ELeft, MMem}
-use Rattle.lf_encode.specs.Encoding.{exp_encoding, mem_encoding, form_encoding}
+use Rattle.formula_terms.specs.Encoding.{exp_encoding, mem_encoding, form_encoding}
 use Rattle.easy_class.proofs.Scope.{OverExp, OverMem, Over, nesting}
 
 at_below : (ctx : List Tree) (n : ℕ) (t : Tree) → at ctx n ≡ Some t → n < length ctx

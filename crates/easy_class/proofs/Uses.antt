@@ -10,10 +10,10 @@ use Rattle.lf_rules.specs.Instance.{nth_arg, exp_with, mem_with, form_with, IsAr
 use Rattle.lf_rules.proofs.Use.{rule_checks}
 use Rattle.formula_tree.specs.Formulas.{Form, shift_exp, shift_mem, shift_form}
 use Rattle.easy_class.proofs.Scope.{nesting, Serves, AllServe}
-use Rattle.lf_encode.proofs.Encoded.{shift-exp_encoding, shift-mem_encoding}
+use Rattle.formula_terms.proofs.Encoded.{shift-exp_encoding, shift-mem_encoding}
 use Rattle.easy_class.proofs.Encoded.{shift-form_encoding, over_wider, over_exp_wider, over_mem_wider, wider_one}
 use Rattle.easy_class.proofs.Typed.{exp_argument, mem_argument, form_argument, all_argument, allm_argument, exp_bound, mem_bound, form_bound}
-use Rattle.easy_class.specs.ProofTerms.{Argument, AExp, AMem, AForm, AAll, AAllm, arg_encoding, args_encoding, rule_proof}
+use Rattle.formula_terms.specs.ProofTerms.{Argument, AExp, AMem, AForm, AAll, AAllm, arg_encoding, args_encoding, rule_proof}
 use Rattle.easy_class.proofs.Proved.{Proves, AllProve, Stays}
 
 -- contexts have at most e entries, and terms at most d binders in one another

@@ -7,8 +7,8 @@ use Rattle.word_ops.specs.declared.Op.TheVariants.{Add, Sub, Band, Bis, Sll, Srl
 use Rattle.word_ops.specs.declared.Rel.{Rel}
 use Rattle.word_ops.specs.declared.Rel.TheVariants.{Eq, Ult, Ule, Slt, Sle}
 use Rattle.formula_tree.specs.Formulas.{Exp, EReg, ELeft, EVar, ELit, EOp, ESel, Form, FTrue, FFalse, FRel, FRd, FWr, FAnd, FOr, FImp, FAll, FAllm, shift_form}
-use Rattle.lf_encode.specs.Encoding.{form_encoding, exp_encoding}
-use Rattle.easy_class.specs.ProofTerms.{and_l, and_r, word_rule}
+use Rattle.formula_terms.specs.Encoding.{form_encoding, exp_encoding}
+use Rattle.formula_terms.specs.ProofTerms.{and_l, and_r, word_rule}
 
 -- hypotheses, each with its proof
 abbrev pub Hyps : Type 0

@@ -1,4 +1,4 @@
-pub mod ProofTerms
+pub use Rattle.formula_terms.specs.ProofTerms
 pub mod Hypotheses
 pub mod Bounds
 pub mod NormalForms

@@ -4,7 +4,7 @@ use Rattle.std.specs.Option.{option_map}
 use Rattle.term_table.specs.Tree.{Tree}
 use Rattle.term_table.specs.Subst.{bind}
 use Rattle.formula_tree.specs.Formulas.{Form, FTrue, FFalse, FRel, FRd, FWr, FAnd, FOr, FImp, FAll, FAllm}
-use Rattle.easy_class.specs.ProofTerms.{tt_i, and_i}
+use Rattle.formula_terms.specs.ProofTerms.{tt_i, and_i}
 use Rattle.easy_class.specs.Goals.{Prover, goal_proof}
 
 -- the parts, one after another, ended by truth

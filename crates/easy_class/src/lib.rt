@@ -6,7 +6,7 @@
 //! has none, as a multiple of 8, by normal forms (`specs/NormalForms`), by bounds (`specs/Bounds`),
 //! or, where it is the right to load or store, by a hypothesis that gives it (`specs/Access`).
 //! Hypotheses are split as they come (`specs/Hypotheses`). All are functions on formulas, which give
-//! the proof as a term (`specs/ProofTerms`); they are this project's own. That it is a proof is
+//! the proof as a term (`formula_terms`); they are this project's own. That it is a proof is
 //! `class_laws`; that it is the one that another implementation gives was compared (`worked_rows`).
 #![tactic(auto)]
 

@@ -8,7 +8,7 @@ ghost use Rattle.lf_signature.specs.Sigma1.{declared};
 ghost use Rattle.formula_tree.specs.Formulas.{Form};
 ghost use Rattle.formula_tree.specs.Scope.{IsOver};
 ghost use Rattle.formula_tree.specs.Sizes.{form_height};
-ghost use Rattle.lf_encode.specs.Encoding.{form_encoding};
+ghost use Rattle.formula_terms.specs.Encoding.{form_encoding};
 ghost use Rattle.easy_class.specs.Parts.{conjoined, condition_proof, first_not_easy};
 ghost use Rattle.easy_class.specs.Access.{by_all_means};
 ghost use Rattle.easy_class.specs.Worked.{AreWorked, small_rows};

@@ -5,7 +5,7 @@ use Rattle.word_ops.specs.declared.Op.{Op}
 use Rattle.word_ops.specs.declared.Rel.{Rel}
 use Rattle.word_ops.specs.declared.Rel.TheVariants.{Eq, Ult, Ule, Slt, Sle}
 use Rattle.formula_tree.specs.Formulas.{Exp, EReg, ELeft, EVar, ELit, EOp, ESel}
-use Rattle.easy_class.specs.ProofTerms.{word_rule}
+use Rattle.formula_terms.specs.ProofTerms.{word_rule}
 use Rattle.easy_class.specs.Hypotheses.{compared}
 use Rattle.easy_hyps.specs.Inside.Comparisons.{comparison, comparison_hyps, tested_hyps, other_hyps, test_rule}
 use Rattle.std.proofs.Common.{[], ◌+◌}

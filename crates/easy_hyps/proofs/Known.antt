@@ -5,23 +5,11 @@ use Rattle.term_table.specs.Equality.{tree_eq}
 use Rattle.term_table.specs.Table.{TableView, IsKnown, tree_at, AreDifferent, Extends, Stands}
 use Rattle.term_table.proofs.Equality.{tree_eq_refl, tree_eq-true}
 use Rattle.formula_tree.specs.Formulas.{Form}
-use Rattle.lf_encode.specs.Encoding.{form_encoding}
+use Rattle.formula_terms.specs.Encoding.{form_encoding}
 use Rattle.formula_ids.specs.declared.hypotheses.Hypothesis.{Hypothesis}
 use Rattle.formula_ids.specs.Hypotheses.{AreKnownHyps, AreHyps}
 use Rattle.easy_class.specs.Hypotheses.{Hyps, same_form, find_hyp, added}
 use Rattle.easy_hyps.specs.Places.{first_hyp_proof}
-
--- a later table knows the ids
-pub known-more : (t u : TableView) (l : List Hypothesis) → AreKnownHyps t l → Extends t u → AreKnownHyps u l
-known-more t u [] k e = tt
-known-more t u (h ∷ l) k e = (omega (arith, k.0, e.longer), omega (arith, k.1, e.longer), known-more t u l k.2 e)
-
--- and they stand for what they stood for
-pub hyps-more : (t u : TableView) (l : List Hypothesis) (Γ : Hyps) → AreKnownHyps t l → Extends t u → AreHyps t l Γ → AreHyps u l Γ
-hyps-more t u [] [] k e h = tt
-hyps-more t u [] (x ∷ Γ) k e h = absurd h
-hyps-more t u (y ∷ l) [] k e h = absurd h
-hyps-more t u (y ∷ l) (x ∷ Γ) k e h = (e.same y.form k.0 ∙ h.0, e.same y.proof k.1 ∙ h.1, hyps-more t u l Γ k.2 e h.2)
 
 known-append : (t : TableView) (l m : List Hypothesis) → AreKnownHyps t l → AreKnownHyps t m → AreKnownHyps t (l ++ m)
 known-append t [] m k n = n

@@ -5,3 +5,4 @@ pub mod Raised
 mod Compared
 mod Splits
 mod Refuted
+pub mod AlignmentRows

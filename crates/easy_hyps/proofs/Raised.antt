@@ -6,8 +6,8 @@ use Rattle.term_table.specs.Table.{TableView, IsKnown, tree_at}
 use Rattle.lf_signature.specs.Numbers.{rel_constant}
 use Rattle.lf_signature.specs.Terms.{app1, app2}
 use Rattle.formula_tree.specs.Formulas.{Form, FTrue, FFalse, FRel, FRd, FWr, FAnd, FOr, FImp, FAll, FAllm, shift_form}
-use Rattle.lf_encode.specs.Encoding.{form_encoding}
-use Rattle.lf_encode.proofs.Encoded.{shift-exp_encoding}
+use Rattle.formula_terms.specs.Encoding.{form_encoding}
+use Rattle.formula_terms.proofs.Encoded.{shift-exp_encoding}
 use Rattle.formula_ids.specs.declared.hypotheses.Hypothesis.{Hypothesis}
 use Rattle.formula_ids.specs.Hypotheses.{AreKnownHyps, AreHyps}
 use Rattle.easy_class.specs.Hypotheses.{Hyps, raised_hyps}

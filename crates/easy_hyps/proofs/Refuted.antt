@@ -5,7 +5,7 @@ use Rattle.std.proofs.lemmas.List.{drop_all}
 use Rattle.term_table.specs.Tree.{Tree, Var}
 use Rattle.term_table.specs.Table.{TableView, tree_at}
 use Rattle.formula_tree.specs.Formulas.{Form, FTrue}
-use Rattle.lf_encode.specs.Encoding.{form_encoding}
+use Rattle.formula_terms.specs.Encoding.{form_encoding}
 use Rattle.formula_ids.specs.declared.hypotheses.Hypothesis.{Hypothesis}
 use Rattle.formula_ids.specs.Hypotheses.{AreHyps}
 use Rattle.easy_class.specs.Hypotheses.{Hyps}

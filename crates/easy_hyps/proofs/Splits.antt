@@ -8,14 +8,14 @@ use Rattle.term_table.proofs.Equality.{tree_eq_refl}
 use Rattle.word_ops.specs.declared.Rel.{Rel}
 use Rattle.word_ops.specs.declared.Rel.TheVariants.{Eq, Ult, Ule, Slt, Sle}
 use Rattle.formula_tree.specs.Formulas.{Exp, EReg, ELeft, EVar, ELit, EOp, ESel, Form, FTrue, FFalse, FRel, FRd, FWr, FAnd, FOr, FImp, FAll, FAllm}
-use Rattle.lf_encode.specs.Encoding.{form_encoding}
-use Rattle.lf_encode.proofs.Encoded.{form_encoding-injective}
+use Rattle.formula_terms.specs.Encoding.{form_encoding}
+use Rattle.formula_terms.proofs.Encoded.{form_encoding-injective}
 use Rattle.formula_ids.specs.Nodes.{IsFormNode}
 use Rattle.formula_ids.specs.declared.forms.FormNode.{FormNode}
 use Rattle.formula_ids.specs.declared.forms.FormNode.TheVariants as F
 use Rattle.formula_ids.specs.declared.hypotheses.Hypothesis.{Hypothesis}
 use Rattle.formula_ids.specs.Hypotheses.{AreHyps}
-use Rattle.easy_class.specs.ProofTerms.{and_l, and_r, word_rule}
+use Rattle.formula_terms.specs.ProofTerms.{and_l, and_r, word_rule}
 use Rattle.easy_class.specs.Hypotheses.{Hyps, same_form, find_hyp, compared, rel_hyps, not_hyps, zero_of, one_of, zero_hyps, one_hyps, imp_hyps, split_hyps, added, with_new}
 use Rattle.easy_hyps.specs.declared.collection.Key.{Key}
 use Rattle.easy_hyps.specs.contracts.collection.KeyOrd.TheImpl as key_block

@@ -2,3 +2,4 @@
 pub mod Comparisons
 pub mod Splits
 pub mod Refutations
+pub mod Alignments

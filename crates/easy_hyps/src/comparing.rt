@@ -7,9 +7,9 @@ ghost use Rattle.std.specs.Prelude.{◌≡◌, ◌+◌, ◌≤◌, [], ◌∷◌
 ghost use Rattle.term_table.specs.Table.{IsKnown, tree_at, Extends};
 ghost use Rattle.lf_signature.specs.Nodes.{IsIdOf};
 ghost use Rattle.formula_tree.specs.Formulas.{Exp, ELit};
-ghost use Rattle.lf_encode.specs.Encoding.{exp_encoding, form_encoding};
+ghost use Rattle.formula_terms.specs.Encoding.{exp_encoding, form_encoding};
 ghost use Rattle.formula_ids.specs.Hypotheses.{AreKnownHyps, AreHyps};
-ghost use Rattle.easy_class.specs.ProofTerms.{word_rule};
+ghost use Rattle.formula_terms.specs.ProofTerms.{word_rule};
 ghost use Rattle.easy_class.specs.Hypotheses.{Hyps, compared, with_new};
 ghost use Rattle.easy_hyps.specs.Inside.Comparisons.{comparison, comparison_hyps, other_hyps};
 ghost use Rattle.easy_hyps.specs.Inside.Comparisons.{reversed_hyps, test_rule, tested_hyps};
@@ -17,10 +17,10 @@ ghost use Rattle.easy_hyps.specs.Inside.Comparisons.{reversed_hyps, test_rule, t
 use crate::collection::Hypotheses;
 use crate::finding::add;
 use formula_ids::{ExpNode, exp_node};
+use lf_rules::numbers::{CMP_NO, CMP_YES, NOT_LT};
 use lf_rules::rule_term;
 use lf_signature::app2;
 use lf_signature::numbers::{FF, IMP, rel_constant};
-use proof_kit::numbers::{CMP_NO, CMP_YES, NOT_LT};
 use std::alloc::AllocError;
 use term_table::{Id, Node, Table};
 use word_ops::{Op, Rel};

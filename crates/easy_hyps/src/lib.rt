@@ -3,9 +3,11 @@
 //! The layer above uses that each function answers what the easy class's definition of its name
 //! gives (`easy_class`, `specs/Hypotheses` and `specs/Goals`) for the formulas and proofs that the ids
 //! stand for. The first hypothesis with a given formula is found without a search, and what a shared
-//! conjunction is split into is gone through once.
+//! conjunction is split into is gone through once. That an expression is a multiple of 8, its parts
+//! also by hypotheses, is found once for each (`alignment_proof`).
 #![tactic(auto)]
 
+mod alignments;
 mod collection;
 mod comparing;
 mod finding;
@@ -13,6 +15,7 @@ mod raising;
 mod refuting;
 mod splitting;
 
+pub use alignments::{Alignments, alignment_proof};
 pub use collection::Hypotheses;
 pub use finding::find_hyp;
 pub use raising::raised_hyps;

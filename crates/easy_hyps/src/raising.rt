@@ -5,7 +5,7 @@ ghost use Rattle.term_table.specs.Tree.{shift};
 ghost use Rattle.term_table.specs.Table.{IsKnown, tree_at, Extends};
 ghost use Rattle.hereditary_subst.specs.Inside.Kept.{IsMemo};
 ghost use Rattle.formula_tree.specs.Formulas.{Form, shift_form};
-ghost use Rattle.lf_encode.specs.Encoding.{form_encoding};
+ghost use Rattle.formula_terms.specs.Encoding.{form_encoding};
 ghost use Rattle.formula_ids.specs.Hypotheses.{AreKnownHyps, AreHyps};
 ghost use Rattle.easy_class.specs.Hypotheses.{Hyps, raised_hyps};
 

@@ -4,9 +4,9 @@ ghost use Rattle.std.specs.Prelude.{◌≡◌, [], ◌∷◌, IfOk, IfSome};
 ghost use Rattle.term_table.specs.Table.{IsKnown, tree_at, Extends, Stands};
 ghost use Rattle.lf_signature.specs.Nodes.{IsIdOf};
 ghost use Rattle.formula_tree.specs.Formulas.{Form, FFalse};
-ghost use Rattle.lf_encode.specs.Encoding.{form_encoding};
+ghost use Rattle.formula_terms.specs.Encoding.{form_encoding};
 ghost use Rattle.formula_ids.specs.Hypotheses.{AreKnownHyps, AreHyps};
-ghost use Rattle.easy_class.specs.ProofTerms.{imp_e};
+ghost use Rattle.formula_terms.specs.ProofTerms.{imp_e};
 ghost use Rattle.easy_class.specs.Hypotheses.{Hyps};
 ghost use Rattle.easy_class.specs.Goals.{refute, refuted, absurdity};
 ghost use Rattle.easy_hyps.specs.Inside.Refutations.{IsKnownRefutation, StandsRefuted};
@@ -14,9 +14,9 @@ ghost use Rattle.easy_hyps.specs.Inside.Refutations.{IsKnownRefutation, StandsRe
 use crate::collection::Hypotheses;
 use crate::finding::find_hyp;
 use formula_ids::{FormNode, form_node};
+use lf_rules::numbers::IMP_E;
 use lf_rules::rule_term;
 use lf_signature::numbers::FF;
-use proof_kit::numbers::IMP_E;
 use std::alloc::AllocError;
 use term_table::{Id, Node, Table};
 

@@ -4,9 +4,9 @@ ghost use Rattle.std.specs.Prelude.{◌≡◌, ◌<◌, [], ◌∷◌, IfOk, IfS
 ghost use Rattle.term_table.specs.Table.{IsKnown, tree_at, Extends};
 ghost use Rattle.lf_signature.specs.Nodes.{IsIdOf};
 ghost use Rattle.formula_tree.specs.Formulas.{Form, FAnd, FImp};
-ghost use Rattle.lf_encode.specs.Encoding.{form_encoding};
+ghost use Rattle.formula_terms.specs.Encoding.{form_encoding};
 ghost use Rattle.formula_ids.specs.Hypotheses.{AreKnownHyps, AreHyps};
-ghost use Rattle.easy_class.specs.ProofTerms.{and_l, and_r};
+ghost use Rattle.formula_terms.specs.ProofTerms.{and_l, and_r};
 ghost use Rattle.easy_class.specs.Hypotheses.{Hyps, imp_hyps, split_hyps, with_new};
 ghost use Rattle.easy_hyps.specs.Inside.Splits.{AreSeen, AreSplit, IsNegated};
 
@@ -14,8 +14,8 @@ use crate::collection::{Hypotheses, Key, key_of};
 use crate::comparing::add_comparison;
 use crate::finding::add;
 use formula_ids::{FormNode, form_node};
+use lf_rules::numbers::{AND_L, AND_R};
 use lf_rules::rule_term;
-use proof_kit::numbers::{AND_L, AND_R};
 use std::alloc::AllocError;
 use std::collections::BTreeSet;
 use term_table::{Id, Table};

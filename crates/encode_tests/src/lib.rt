@@ -7,3 +7,5 @@
 mod formula_ids_tests;
 #[cfg(test)]
 mod lf_encode_tests;
+#[cfg(test)]
+mod steps_tests;

@@ -7,7 +7,7 @@ use Rattle.term_table.specs.Table.{TableView, tree_at}
 use Rattle.lf_signature.specs.Numbers.{op_of_constant, rel_of_constant, op_constant, rel_constant}
 use Rattle.lf_signature.specs.Laws.Numbered.{op_of_constant-op_constant, rel_of_constant-rel_constant}
 use Rattle.formula_tree.specs.Formulas.{Exp, EReg, ELeft, EVar, ELit, EOp, ESel, MemExp, MMem, MVar, MUpd, Form, FTrue, FFalse, FRel, FRd, FWr, FAnd, FOr, FImp, FAll, FAllm}
-use Rattle.lf_encode.specs.Encoding.{exp_encoding, mem_encoding, form_encoding}
+use Rattle.formula_terms.specs.Encoding.{exp_encoding, mem_encoding, form_encoding}
 use Rattle.term_table.specs.Measures.{height_of}
 use Rattle.formula_ids.specs.declared.forms.FormNode.{FormNode}
 use Rattle.formula_ids.specs.declared.forms.FormNode.TheVariants as F

@@ -8,8 +8,8 @@ use Rattle.lf_signature.specs.Nodes.{IsIdOf}
 use Rattle.lf_signature.specs.Terms.{app1}
 use Rattle.formula_tree.specs.Formulas.{Exp, EVar, MemExp, MVar, shift_exp}
 use Rattle.formula_tree.specs.Variables.{PExp, exp_at, mem_at, subst_var_exp, subst_var_mem, subst_var}
-use Rattle.lf_encode.specs.Encoding.{exp_encoding, mem_encoding, form_encoding}
-use Rattle.lf_encode.proofs.Encoded.{shift-exp_encoding}
+use Rattle.formula_terms.specs.Encoding.{exp_encoding, mem_encoding, form_encoding}
+use Rattle.formula_terms.proofs.Encoded.{shift-exp_encoding}
 use Rattle.hereditary_subst.proofs.Rows.{memo-more}
 use Rattle.formula_ids.specs.Puts.{IsExpPut, IsMemPut, IsFormPut}
 use Rattle.formula_ids.specs.Inside.PutRows.{IsPutAt, ArePuts, IsUnderPut}

@@ -3,7 +3,7 @@ use Rattle.std.specs.Prelude.{◌≡◌, List, [], ◌∷◌}
 use Rattle.term_table.specs.Tree.{Tree}
 use Rattle.term_table.specs.Table.{TableView, IsKnown, tree_at}
 use Rattle.formula_tree.specs.Formulas.{Form}
-use Rattle.lf_encode.specs.Encoding.{form_encoding}
+use Rattle.formula_terms.specs.Encoding.{form_encoding}
 use Rattle.formula_ids.specs.declared.hypotheses.Hypothesis.{Hypothesis}
 
 -- both ids of each are the table's

@@ -5,7 +5,7 @@ use Rattle.word_ops.specs.declared.Rel.{Rel}
 use Rattle.term_table.specs.Table.{TableView, tree_at}
 use Rattle.term_table.specs.Measures.{height_of}
 use Rattle.formula_tree.specs.Formulas.{Exp, EReg, ELeft, EVar, ELit, EOp, ESel, MemExp, MMem, MVar, MUpd, Form, FTrue, FFalse, FRel, FRd, FWr, FAnd, FOr, FImp, FAll, FAllm}
-use Rattle.lf_encode.specs.Encoding.{exp_encoding, mem_encoding, form_encoding}
+use Rattle.formula_terms.specs.Encoding.{exp_encoding, mem_encoding, form_encoding}
 use Rattle.formula_ids.specs.declared.nodes.ExpNode.{ExpNode}
 use Rattle.formula_ids.specs.declared.nodes.ExpNode.TheVariants as E
 use Rattle.formula_ids.specs.declared.nodes.MemNode.{MemNode}

@@ -3,7 +3,7 @@ use Rattle.std.specs.Prelude.{◌≡◌, ℕ}
 use Rattle.term_table.specs.Table.{TableView, IsKnown, tree_at}
 use Rattle.formula_tree.specs.Formulas.{Exp, MemExp, Form}
 use Rattle.formula_tree.specs.Variables.{PExp, subst_var_exp, subst_var_mem, subst_var}
-use Rattle.lf_encode.specs.Encoding.{exp_encoding, mem_encoding, form_encoding}
+use Rattle.formula_terms.specs.Encoding.{exp_encoding, mem_encoding, form_encoding}
 
 -- in the later table r stands for the expression of id with that of arg for the variable x, whatever they are in the earlier one
 pub record IsExpPut (t u : TableView) (id x arg r : ℕ) : Type 0 where

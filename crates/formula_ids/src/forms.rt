@@ -3,7 +3,7 @@
 ghost use Rattle.std.specs.Prelude.{◌≡◌};
 ghost use Rattle.term_table.specs.Table.{IsKnown, tree_at};
 ghost use Rattle.formula_tree.specs.Formulas.{Form};
-ghost use Rattle.lf_encode.specs.Encoding.{form_encoding};
+ghost use Rattle.formula_terms.specs.Encoding.{form_encoding};
 ghost use Rattle.formula_ids.specs.Nodes.{IsFormNode, AreFormPartsBelow, AreFormPartsLower};
 ghost use Rattle.formula_ids.specs.Inside.Heads.{unary_node, binary_node, IsBody};
 

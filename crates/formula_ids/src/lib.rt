@@ -2,8 +2,9 @@
 //!
 //! The layers above use that `form_node` and `exp_node` say of the id of a formula's or an
 //! expression's encoding what stands at its head, and give the ids of its parts (`specs/Nodes`); a
-//! part's id is lower. So a shared part is one id, and equal formulas are equal ids. Source: Harper,
-//! Honsell and Plotkin, A Framework for Defining Logics, JACM 1993 (adequacy of encodings).
+//! part's id is lower. So a shared part is one id, and equal formulas are equal ids. The steps that all
+//! proofs are made of stand here too (`steps`). Sources: Harper, Honsell and Plotkin, A Framework for
+//! Defining Logics, JACM 1993 (adequacy of encodings); Necula, Proof-Carrying Code, POPL 1997 (rules).
 #![tactic(auto)]
 
 mod forms;
@@ -11,9 +12,11 @@ mod hypotheses;
 mod nodes;
 mod put_forms;
 mod puts;
+mod steps;
 
 pub use forms::{FormNode, form_node};
 pub use hypotheses::{Hypothesis, raised};
 pub use nodes::{ExpNode, MemNode, Sides, exp_node, literal, mem_node, operands};
 pub use put_forms::{put_word, put_word_exp};
 pub use puts::Puts;
+pub use steps::{calc, fact, moved, oper, reflexive, relation, swapped};

@@ -3,7 +3,7 @@
 ghost use Rattle.std.specs.Prelude.{◌≡◌, ◌<◌, IfSome};
 ghost use Rattle.term_table.specs.Table.{IsKnown, tree_at};
 ghost use Rattle.formula_tree.specs.Formulas.{Exp, MemExp};
-ghost use Rattle.lf_encode.specs.Encoding.{exp_encoding, mem_encoding};
+ghost use Rattle.formula_terms.specs.Encoding.{exp_encoding, mem_encoding};
 ghost use Rattle.formula_ids.specs.Nodes.{IsExpNode, AreExpPartsBelow, IsMemNode, AreMemPartsBelow};
 ghost use Rattle.formula_ids.specs.Operands.{AreOperands, IsLiteral};
 ghost use Rattle.formula_ids.specs.Inside.Heads.{applied_node};

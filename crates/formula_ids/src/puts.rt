@@ -10,7 +10,7 @@ ghost use Rattle.hereditary_subst.specs.Inside.Kept.{IsMemo};
 ghost use Rattle.lf_signature.specs.Nodes.{IsIdOf};
 ghost use Rattle.formula_tree.specs.Formulas.{Exp};
 ghost use Rattle.formula_tree.specs.Variables.{PExp, exp_at, mem_at};
-ghost use Rattle.lf_encode.specs.Encoding.{exp_encoding, mem_encoding};
+ghost use Rattle.formula_terms.specs.Encoding.{exp_encoding, mem_encoding};
 ghost use Rattle.formula_ids.specs.Puts.{IsExpPut, IsMemPut};
 ghost use Rattle.formula_ids.specs.Inside.PutRows.{IsPutAt, ArePuts};
 

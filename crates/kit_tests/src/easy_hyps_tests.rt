@@ -3,14 +3,17 @@
 ghost use Rattle.std.specs.Prelude.{◌≡◌, IfOk};
 ghost use Rattle.term_table.specs.Table.{IsKnown, Extends};
 
-use easy_hyps::{Hypotheses, absurdity, add_split, find_hyp, raised_hyps};
+use easy_hyps::{
+    Alignments, Hypotheses, absurdity, add_split, alignment_proof, find_hyp, raised_hyps,
+};
 use formula_ids::Hypothesis;
 use hereditary_subst::Memo;
 use lf_signature::app2;
-use lf_signature::numbers::{AND, CMPEQ, EQ, FF, IMP, TT};
+use lf_signature::numbers::{AND, CMPEQ, EQ, FF, IMP, SLL, TT};
 use std::alloc::AllocError;
 use std::test::Fail;
 use term_table::{Id, Node, Places, Table};
+use test_inputs::terms::{Made, con, known, leaf, made};
 
 /// A constant at a term and another, so many times.
 fn nested(
@@ -139,5 +142,33 @@ fn raised_hypotheses_count(rt: HostRuntime) -> Result<(), Fail> {
     add_split(&mut table, &mut hyps, falsity, truth)?;
     let mut memo = Memo::new(alloc, 1);
     assert!(rt; raised_hyps(&mut table, &mut memo, &hyps).is_err());
+    Ok(())
+}
+
+/// The rule that a word shifted left by 3 is a multiple of 8.
+const SLL_AL: u32 = 58;
+
+/// What proves that the term is a multiple of 8, where nothing is assumed.
+fn alignment_of(table: &mut Table, e: Id) -> Made<Option<Id>> {
+    let alloc = table.allocator();
+    let mut memo = Memo::new(alloc, 100);
+    let mut kept = Alignments::new(alloc);
+    let hyps = Hypotheses::new(alloc);
+    known(table, e)?;
+    made(alignment_proof(table, &mut memo, &mut kept, &hyps, e))
+}
+
+/// v1 shifted left by 3 is a multiple of 8 by the rule's constant, and v1 by nothing.
+#[test]
+fn a_shift_is_a_multiple_of_8(rt: HostRuntime) -> Result<(), Fail> {
+    let mut table = Table::new(rt.alloc(), Places::sigma1());
+    let x = leaf(&mut table, Node::Var(1))?;
+    let three = leaf(&mut table, Node::Lit(3))?;
+    let shifted = con(&mut table, SLL, &[x, three])?;
+    let wanted = con(&mut table, SLL_AL, &[x])?;
+    let found = alignment_of(&mut table, shifted)?;
+    assert!(rt; found == Some(wanted));
+    let found = alignment_of(&mut table, x)?;
+    assert!(rt; found.is_none());
     Ok(())
 }

@@ -7,11 +7,12 @@ ghost use Rattle.std.specs.Prelude.{[], ◌∷◌, OnOk};
 ghost use Rattle.term_table.specs.Table.{AllKnown, Extends};
 ghost use Rattle.lf_signature.specs.Sigma1.{declared};
 ghost use Rattle.lf_check.specs.Inside.Kept.{AreKept};
-ghost use Rattle.lf_rules.specs.Sequents.{IsSequent, AreSequents};
+ghost use Rattle.lf_sequents.specs.Sequents.{IsSequent, AreSequents};
 
 use hereditary_subst::{erase, subst_type};
 use lf_check::{Kept, check_term};
-use lf_rules::{Sequent, by_rule, rule_term};
+use lf_rules::rule_term;
+use lf_sequents::{Sequent, by_rule};
 use lf_signature::numbers::{ADD, ALL, ALLM, EQ, EXP, IMP, MEM, OR, SEL, TT, ULE, UPD};
 use lf_signature::schema::Sort;
 use lf_signature::{Sigma1, declared, rule_at};

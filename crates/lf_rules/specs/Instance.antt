@@ -2,12 +2,18 @@
 -- Rules as constants of a signature: Harper, Honsell and Plotkin, A Framework for Defining Logics, JACM 1993.
 use Rattle.std.specs.Prelude.{ℕ, zero, suc, ◌+◌, ◌≤◌, ◌^◌, List, [], ◌∷◌}
 use Rattle.term_table.specs.Tree.{Tree, Var, Con, Pi, Num, shift, apps}
+use Rattle.term_table.specs.Table.{TableView, tree_at}
 use Rattle.lf_signature.specs.Terms.{exp, mem, pf, lit, op_term, sel, upd, truth, falsity, rel_term, and_term, or_term, imp_term, app1}
 use Rattle.lf_signature.specs.declared.numbers.TheConstants.{ALL, ALLM}
 use Rattle.lf_signature.specs.Rules.{Sort, sort_type, SExp, SPar, SOwn, SLit, SOp, SSel, SMem, MPar, MOwn, SUpd, SForm, STrue, SFalse, FPar, FOf, FOfMem, SRel, SAnd, SOr, SImp, SAll, SAllm, Premise, Plain, Under, ForExp, ForMem}
 use Rattle.lf_signature.specs.Typing.{Checks}
 use Rattle.lf_signature.specs.Sigma1.{declared}
 use Rattle.lf_rules.specs.Plain.{beta, var_bound, binder_depth}
+
+-- the trees that ids stand for
+abbrev pub trees_of : TableView → List ℕ → List Tree
+trees_of t [] = []
+trees_of t (id ∷ ids) = tree_at t id ∷ trees_of t ids
 
 -- the argument of a parameter; past the last one a closed tree
 abbrev pub nth_arg : List Tree → ℕ → Tree

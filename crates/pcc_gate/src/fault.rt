@@ -3,7 +3,7 @@
 ghost use Rattle.std.specs.Prelude.{◌≡◌};
 
 use crate::refusal::Refusal;
-use std::alloc::{AllocError, AllocFailed};
+use std::alloc::AllocError;
 use thiserror::Error;
 
 /// Why bytes aren't passed on.
@@ -17,32 +17,12 @@ pub enum GateFault {
     Memory,
 }
 
-impl From<Refusal> for GateFault {
-    ghost use Rattle.pcc_gate.specs.declared.fault.GateFault.TheVariants.{Refused};
-
-    ghost from_gives = { λ refusal e. e ≡ Refused refusal };
-
-    fn from(refusal: Refusal) -> GateFault {
-        GateFault::Refused(refusal)
-    }
-}
-
 impl From<AllocError> for GateFault {
     ghost use Rattle.pcc_gate.specs.declared.fault.GateFault.TheVariants.{Memory};
 
     ghost from_gives = { λ _ e. e ≡ Memory };
 
     fn from(_fault: AllocError) -> GateFault {
-        GateFault::Memory
-    }
-}
-
-impl<T: Drop> From<AllocFailed<T>> for GateFault {
-    ghost use Rattle.pcc_gate.specs.declared.fault.GateFault.TheVariants.{Memory};
-
-    ghost from_gives = { λ _ e. e ≡ Memory };
-
-    fn from(_fault: AllocFailed<T>) -> GateFault {
         GateFault::Memory
     }
 }

@@ -4,8 +4,8 @@ use Rattle.term_table.specs.Tree.{Con, Const, Num, Lit, Calc, Fact, Deny}
 use Rattle.term_table.specs.Table.{TableView, tree_at}
 use Rattle.lf_signature.specs.Terms.{pf}
 use Rattle.lf_signature.specs.Sigma1.{declared}
-use Rattle.lf_rules.specs.declared.sequent.Sequent.{Sequent}
-use Rattle.lf_rules.specs.Sequents.{IsSequent}
+use Rattle.lf_sequents.specs.declared.sequent.Sequent.{Sequent}
+use Rattle.lf_sequents.specs.Sequents.{IsSequent}
 
 -- the sequent of a constant that is a proof, under any hypotheses, exactly where the constant has a type
 abbrev pub IsConstantAnswer : Const → TableView → List ℕ → Option Sequent → Type 0

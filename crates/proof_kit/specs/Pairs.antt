@@ -1,8 +1,8 @@
 -- The rules that stand for each of five pairs of operator and relation.
 use Rattle.std.specs.Prelude.{◌≡◌, ℕ, ◌+◌, nat_lt, if◌then◌else◌, List, Option, Some, None}
 use Rattle.term_table.specs.Table.{TableView}
-use Rattle.lf_rules.specs.declared.sequent.Sequent.{Sequent}
-use Rattle.lf_rules.specs.Answers.{IsRuleAnswer}
+use Rattle.lf_sequents.specs.declared.sequent.Sequent.{Sequent}
+use Rattle.lf_sequents.specs.Answers.{IsRuleAnswer}
 
 -- the rule of a pair of operator and relation, the first pair's being given; there are five
 abbrev pub of_pair : ℕ → ℕ → Option ℕ

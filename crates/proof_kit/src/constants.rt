@@ -10,7 +10,7 @@ ghost use Rattle.term_table.specs.Table.{IsKnown, AllKnown, tree_at, Extends, St
 ghost use Rattle.lf_signature.specs.Sigma1.{declared};
 ghost use Rattle.proof_kit.specs.Constants.{IsConstantAnswer, IsEvaluation};
 
-use lf_rules::Sequent;
+use lf_sequents::Sequent;
 use lf_signature::declared;
 use std::alloc::{AllocError, Global};
 use term_table::{Id, Node, Table};

@@ -7,13 +7,13 @@ ghost use Rattle.std.specs.Prelude.{◌≡◌, [], ◌∷◌, IfOk};
 ghost use Rattle.term_table.specs.Table.{AllKnown, Extends};
 ghost use Rattle.lf_signature.specs.Sigma1.{declared};
 ghost use Rattle.lf_check.specs.Inside.Kept.{AreKept};
-ghost use Rattle.lf_rules.specs.Sequents.{AreSequents};
-ghost use Rattle.lf_rules.specs.Answers.{IsRuleAnswer};
-ghost use Rattle.proof_kit.specs.declared.numbers.TheConstants.{EQ_REFL, EQ_SUB, SEL_OTHER, SEL_SAME};
+ghost use Rattle.lf_sequents.specs.Sequents.{AreSequents};
+ghost use Rattle.lf_sequents.specs.Answers.{IsRuleAnswer};
+ghost use Rattle.lf_rules.specs.declared.numbers.TheConstants.{EQ_REFL, EQ_SUB, SEL_OTHER, SEL_SAME};
 
-use crate::numbers::{EQ_REFL, EQ_SUB, SEL_OTHER, SEL_SAME};
 use lf_check::Kept;
-use lf_rules::{Sequent, by_rule};
+use lf_rules::numbers::{EQ_REFL, EQ_SUB, SEL_OTHER, SEL_SAME};
+use lf_sequents::{Sequent, by_rule};
 use std::alloc::{AllocError, Global};
 use term_table::{Id, Table};
 

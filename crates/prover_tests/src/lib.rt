@@ -6,7 +6,11 @@
 #[cfg(test)]
 mod bounds_prover_tests;
 #[cfg(test)]
-mod easy_words_tests;
+mod easy_bounds_tests;
+#[cfg(test)]
+mod easy_forms_tests;
+#[cfg(test)]
+mod easy_goals_tests;
 #[cfg(test)]
 mod proving;
 #[cfg(test)]

@@ -6,7 +6,7 @@ use Rattle.term_table.specs.Subst.{bind}
 use Rattle.word_ops.specs.declared.Op.TheVariants.{Sll}
 use Rattle.formula_tree.specs.Formulas.{Exp, EVar, ELit, EOp, Form, FRd, FWr, FAnd, FImp}
 use Rattle.formula_tree.specs.Variables.{PExp, subst_var_exp, subst_var}
-use Rattle.easy_class.specs.ProofTerms.{imp_e, all_e, move}
+use Rattle.formula_terms.specs.ProofTerms.{imp_e, all_e, move}
 use Rattle.easy_class.specs.Hypotheses.{Hyps, same_exp}
 use Rattle.easy_class.specs.NormalForms.{normal_form, equal_proof}
 use Rattle.easy_class.specs.Goals.{Prover}
@@ -23,9 +23,9 @@ abbrev pub access_move : ℕ → Access → Exp → Exp → Tree → Tree
 access_move out k z a h = move (access_form k (EVar 0)) z a (equal_proof z a (normal_form out z) (normal_form out a)) h
 
 -- variable 0, or 8 times it where scaled
-abbrev pub index_of : Bool → Exp
-index_of true = EOp Sll (EVar 0) (ELit 3)
-index_of false = EVar 0
+abbrev pub variable_index : Bool → Exp
+variable_index true = EOp Sll (EVar 0) (ELit 3)
+variable_index false = EVar 0
 
 -- what is left of a without b, where 0 is put for variable 0 of b
 abbrev pub rest_at : ℕ → Exp → Exp → Option Exp
@@ -49,12 +49,12 @@ pub record Opened : Type 0 where
   pub proof : Tree
 
 -- z, for which o was put, by p
-abbrev pub opened : Exp → Exp → Tree → Opened
-opened z o p = record { address = z; put = o; proof = p }
+abbrev pub opening_of : Exp → Exp → Tree → Opened
+opening_of z o p = record { address = z; put = o; proof = p }
 
 -- z, for which o was put, where its normal form is a's and P is proved
 abbrev pub opened_by : Prover → ℕ → Hyps → Exp → Form → Exp → Exp → Option Opened
-opened_by prove out Γ a P z o = if same_address out z a then option_map (opened z o) (prove out Γ P) else None
+opened_by prove out Γ a P z o = if same_address out z a then option_map (opening_of z o) (prove out Γ P) else None
 
 -- the same where o is still to be put for variable 0
 abbrev pub opened_with : Prover → ℕ → Hyps → Exp → Form → Exp → Exp → Option Opened

@@ -4,12 +4,12 @@ use Rattle.std.specs.BTreeSet.{BTreeSet, contains}
 use Rattle.word_ops.specs.declared.Op.TheVariants.{Add}
 use Rattle.term_table.specs.Table.{TableView, IsKnown, tree_at, Stands}
 use Rattle.formula_tree.specs.Formulas.{Exp, EOp, Form, FAnd, FImp, FAll}
-use Rattle.lf_encode.specs.Encoding.{exp_encoding, form_encoding}
+use Rattle.formula_terms.specs.Encoding.{exp_encoding, form_encoding}
 use Rattle.formula_ids.specs.Hypotheses.{AreHyps}
 use Rattle.formula_ids.specs.declared.hypotheses.Hypothesis.{Hypothesis}
 use Rattle.easy_class.specs.Hypotheses.{Hyps}
 use Rattle.easy_class.specs.Access as class
-use Rattle.bounds_prover.specs.Inside.Access.{index_of, Opened, opened_at, no_way, first_opened, by_grant}
+use Rattle.bounds_prover.specs.Inside.Access.{variable_index, Opened, opened_at, no_way, first_opened, by_grant}
 use Rattle.bounds_prover.specs.declared.access_moves.Access.{Access}
 use Rattle.bounds_prover.specs.declared.access_moves.Access.TheVariants.{Load, Store}
 use Rattle.bounds_prover.specs.declared.access_instances.Indexed.{Indexed}
@@ -42,12 +42,12 @@ way_back (s ∷ ids) l = way_back ids (side_of s ∷ l)
 -- the address is a base and variable 0, or 8 times that; the id stands for the base
 pub record IsIndexed (t : TableView) (z : Exp) (i : Indexed) : Type 0 where
   pub base : Exp
-  pub is : z ≡ EOp Add base (index_of i.scaled)
+  pub is : z ≡ EOp Add base (variable_index i.scaled)
   pub base_is : tree_at t i.base ≡ exp_encoding base
 
 -- the same, or no address of these forms
 abbrev pub IfIndexed : TableView → Exp → Option Indexed → Type 0
-IfIndexed t z None = (b : Exp) (scaled : Bool) → z ≡ EOp Add b (index_of scaled) → ⊥
+IfIndexed t z None = (b : Exp) (scaled : Bool) → z ≡ EOp Add b (variable_index scaled) → ⊥
 IfIndexed t z (Some i) = IsIndexed t z i
 
 -- ---- what an address gives

@@ -2,7 +2,7 @@
 use Rattle.std.specs.Prelude.{◌≡◌, ℕ, List, [], ◌∷◌, Option, Some, None}
 use Rattle.term_table.specs.Table.{TableView, IsKnown, tree_at}
 use Rattle.formula_tree.specs.Formulas.{Form}
-use Rattle.lf_encode.specs.Encoding.{form_encoding}
+use Rattle.formula_terms.specs.Encoding.{form_encoding}
 use Rattle.easy_class.specs.Parts.{conjoined, condition_proof, first_not_easy}
 use Rattle.easy_class.specs.Access.{by_all_means}
 use Rattle.bounds_prover.specs.declared.parts.Conjunction.{Conjunction}

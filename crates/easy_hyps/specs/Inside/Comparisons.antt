@@ -4,7 +4,7 @@ use Rattle.term_table.specs.Tree.{Tree}
 use Rattle.word_ops.specs.declared.Rel.{Rel}
 use Rattle.word_ops.specs.declared.Rel.TheVariants.{Eq, Ult, Ule}
 use Rattle.formula_tree.specs.Formulas.{Exp, ELit, Form, FFalse, FRel, FImp}
-use Rattle.easy_class.specs.ProofTerms.{word_rule}
+use Rattle.formula_terms.specs.ProofTerms.{word_rule}
 use Rattle.easy_class.specs.Hypotheses.{Hyps, rel_hyps, not_hyps, zero_hyps, one_hyps}
 
 -- the relation of two expressions, or that it leads to falsity

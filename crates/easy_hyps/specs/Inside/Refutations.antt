@@ -3,8 +3,8 @@ use Rattle.std.specs.Prelude.{◌≡◌, Option, Some, None}
 use Rattle.term_table.specs.Tree.{Tree}
 use Rattle.term_table.specs.Table.{TableView, IsKnown, tree_at}
 use Rattle.formula_tree.specs.Formulas.{Form, FFalse}
-use Rattle.lf_encode.specs.Encoding.{form_encoding}
-use Rattle.easy_class.specs.ProofTerms.{imp_e}
+use Rattle.formula_terms.specs.Encoding.{form_encoding}
+use Rattle.formula_terms.specs.ProofTerms.{imp_e}
 use Rattle.easy_hyps.specs.declared.refuting.Refutation.{Refutation}
 
 -- the ids of a refutation

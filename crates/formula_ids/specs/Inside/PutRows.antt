@@ -6,7 +6,7 @@ use Rattle.term_table.specs.Table.{TableView, IsKnown, tree_at}
 use Rattle.lf_signature.specs.Terms.{app1, app2}
 use Rattle.formula_tree.specs.Formulas.{Exp, Form}
 use Rattle.formula_tree.specs.Variables.{PExp, subst_var, shift_part}
-use Rattle.lf_encode.specs.Encoding.{exp_encoding, form_encoding}
+use Rattle.formula_terms.specs.Encoding.{exp_encoding, form_encoding}
 use Rattle.formula_ids.specs.Puts.{IsExpPut, IsMemPut, IsFormPut}
 use Rattle.formula_ids.specs.declared.puts.Question.{Question}
 use Rattle.formula_ids.specs.declared.puts.Question.TheVariants as Q

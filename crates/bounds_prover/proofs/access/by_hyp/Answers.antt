@@ -3,8 +3,8 @@ use Rattle.term_table.specs.Table.{tree_at, Stands}
 use Rattle.formula_tree.specs.Formulas.{Form}
 use Rattle.easy_class.specs.Access.{without_access, by_hyp}
 use Rattle.bounds_prover.specs.Inside.AccessIds.{access_of}
-use Rattle.bounds_prover.proofs.Kept.{context-more}
-use Rattle.bounds_prover.proofs.WordRows.{after_now}
+use Rattle.easy_goals.proofs.Kept.{context-more}
+use Rattle.easy_goals.proofs.WordRows.{after_now}
 use Rattle.bounds_prover.proofs.access.by_hyp.Goals as goal
 
 pub returns-in_ok-moved-in-Load-clause-exact : goal.returns-in_ok-moved-in-Load-clause-exact

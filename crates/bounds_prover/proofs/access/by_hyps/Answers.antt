@@ -3,7 +3,7 @@ use Rattle.term_table.specs.Tree.{Tree}
 use Rattle.term_table.specs.Table.{Stands}
 use Rattle.easy_class.specs.Goals.{first_of}
 use Rattle.easy_class.specs.Access.{without_access, by_hyps}
-use Rattle.easy_words.proofs.Standing.{twice}
+use Rattle.formula_ids.proofs.Standing.{twice}
 use Rattle.bounds_prover.specs.Inside.AccessIds.{access_of}
 use Rattle.bounds_prover.proofs.AccessRows.{after_twice, hyps_then, hyps_step, hyps_end}
 use Rattle.bounds_prover.proofs.access.by_hyps.Goals as goal

@@ -1,11 +1,11 @@
 use Rattle.std.proofs.Common.{◌≡◌, drop}
 use Rattle.term_table.specs.Table.{tree_at, Extends}
 use Rattle.formula_tree.specs.Formulas.{Exp}
-use Rattle.lf_encode.specs.Encoding.{exp_encoding}
+use Rattle.formula_terms.specs.Encoding.{exp_encoding}
 use Rattle.formula_ids.specs.Hypotheses.{AreHyps}
 use Rattle.easy_class.specs.Hypotheses.{Hyps}
 use Rattle.easy_class.specs.Access.{without_access, by_hyps}
-use Rattle.bounds_prover.specs.Search.{IsAfter}
+use Rattle.easy_goals.specs.Search.{IsAfter}
 use Rattle.bounds_prover.specs.Inside.AccessIds.{access_of}
 use Rattle.bounds_prover.proofs.access.by_hyps.Given as goal
 

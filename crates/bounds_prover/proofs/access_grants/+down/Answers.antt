@@ -4,9 +4,9 @@ use Rattle.term_table.specs.Table.{IsKnown, tree_at}
 use Rattle.formula_tree.specs.Formulas.{Form}
 use Rattle.lf_signature.specs.Nodes.{IsIdOf}
 use Rattle.lf_rules.proofs.Slices.{ended}
-use Rattle.easy_class.specs.ProofTerms.{and_l, and_r}
+use Rattle.formula_terms.specs.ProofTerms.{and_l, and_r}
 use Rattle.easy_class.specs.Access as class
-use Rattle.easy_words.proofs.Standing.{own, ruled}
+use Rattle.formula_ids.proofs.Standing.{own, ruled}
 use Rattle.bounds_prover.specs.Inside.AccessIds.{way_back}
 use Rattle.bounds_prover.specs.declared.access_walks.Side.TheVariants.{Left, Right}
 use Rattle.bounds_prover.proofs.AccessRows.{down-here, empty_is, way_back-push}

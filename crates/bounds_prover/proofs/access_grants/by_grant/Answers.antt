@@ -1,4 +1,4 @@
-use Rattle.bounds_prover.proofs.WordRows.{after_search}
+use Rattle.easy_goals.proofs.WordRows.{after_search}
 use Rattle.bounds_prover.proofs.access_grants.by_grant.Goals as goal
 
 pub returns-clause-after : goal.returns-clause-after

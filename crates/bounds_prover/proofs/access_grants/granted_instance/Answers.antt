@@ -1,4 +1,4 @@
-use Rattle.bounds_prover.proofs.Kept.{search-more}
+use Rattle.easy_goals.proofs.Kept.{search-more}
 use Rattle.bounds_prover.proofs.access_grants.granted_instance.Goals as goal
 
 pub granted-requires-clause-search : goal.granted-requires-clause-search

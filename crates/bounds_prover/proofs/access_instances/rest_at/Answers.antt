@@ -1,4 +1,4 @@
-use Rattle.bounds_prover.proofs.Kept.{search-more}
+use Rattle.easy_goals.proofs.Kept.{search-more}
 use Rattle.bounds_prover.proofs.access_instances.rest_at.Goals as goal
 
 pub exp_with-requires-clause-search : goal.exp_with-requires-clause-search

@@ -1,5 +1,5 @@
-use Rattle.bounds_prover.proofs.Kept.{search-more}
-use Rattle.bounds_prover.proofs.WordRows.{with_memo}
+use Rattle.easy_goals.proofs.Kept.{search-more}
+use Rattle.easy_goals.proofs.WordRows.{with_memo}
 use Rattle.bounds_prover.proofs.access_moves.access_move.Goals as goal
 
 pub normal-requires-clause-search : goal.normal-requires-clause-search

@@ -1,4 +1,4 @@
-use Rattle.bounds_prover.proofs.WordRows.{on_ok}
+use Rattle.easy_goals.proofs.WordRows.{on_ok}
 use Rattle.bounds_prover.proofs.AccessRows.{with_puts}
 use Rattle.bounds_prover.proofs.access_moves.form_with.Goals as goal
 

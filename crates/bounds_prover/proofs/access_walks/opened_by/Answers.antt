@@ -1,10 +1,10 @@
 use Rattle.std.proofs.Common.{◌≡◌, Bool, true, None, cond, option_map, sym, ◌∙◌, subst}
 use Rattle.easy_class.specs.Access.{without_access}
-use Rattle.easy_words.proofs.UpperRows.{hyps-after}
-use Rattle.bounds_prover.specs.Inside.Access.{same_address, opened}
+use Rattle.formula_ids.proofs.HypRows.{hyps-after}
+use Rattle.bounds_prover.specs.Inside.Access.{same_address, opening_of}
 use Rattle.bounds_prover.specs.Inside.AccessIds.{IfOpened}
-use Rattle.bounds_prover.proofs.Kept.{context-more}
-use Rattle.bounds_prover.proofs.WordRows.{after_now}
+use Rattle.easy_goals.proofs.Kept.{context-more}
+use Rattle.easy_goals.proofs.WordRows.{after_now}
 use Rattle.bounds_prover.proofs.access_walks.opened_by.Goals as goal
 
 pub returns-then-not-branch-clause-after : goal.returns-then-not-branch-clause-after
@@ -23,4 +23,4 @@ returns-clause-exact c = λ Γ w P x g qa qp qx.
     let same : same_address n.outside x w ≡ true = sym (c.in_ok-same_address.ensures.exact x w qx qa) ∙ c.if-not-branch.false in
     let z = e.same c.args.address c.requires.address ∙ qx in
     let made = c.in_ok-opening.ensures.exact Γ P x x (hyps-after c.args.table.now c.same_address.new.table n.hyps Γ c.requires.context.hyps e g) (e.same c.args.premise c.requires.premise ∙ qp) z z in
-    subst (λ (b : Bool). IfOpened c.opened.new.table (cond b (option_map (opened x x) (without_access n.outside Γ P)) None) c.in_ok-opening.opening) (sym same) made
+    subst (λ (b : Bool). IfOpened c.opened.new.table (cond b (option_map (opening_of x x) (without_access n.outside Γ P)) None) c.in_ok-opening.opening) (sym same) made

@@ -2,12 +2,12 @@ use Rattle.std.proofs.Common.{Option, Some, sym, ◌∙◌, subst}
 use Rattle.term_table.specs.Subst.{bind}
 use Rattle.formula_tree.specs.Formulas.{Exp}
 use Rattle.easy_class.specs.Access.{without_access, instance_of}
-use Rattle.easy_words.proofs.UpperRows.{hyps-after}
-use Rattle.easy_words.specs.Sums.{IsExpOption}
+use Rattle.formula_ids.proofs.HypRows.{hyps-after}
+use Rattle.easy_forms.specs.Sums.{IsExpOption}
 use Rattle.bounds_prover.specs.Inside.Access.{opened_with}
 use Rattle.bounds_prover.specs.Inside.AccessIds.{IfOpened}
-use Rattle.bounds_prover.proofs.Kept.{context-more}
-use Rattle.bounds_prover.proofs.WordRows.{after_now}
+use Rattle.easy_goals.proofs.Kept.{context-more}
+use Rattle.easy_goals.proofs.WordRows.{after_now}
 use Rattle.bounds_prover.proofs.AccessRows.{option_some}
 use Rattle.bounds_prover.proofs.access_walks.opened_instance.Goals as goal
 

@@ -1,14 +1,14 @@
 use Rattle.std.proofs.Common.{◌≡◌, Bool, true, None, cond, option_map, sym, ◌∙◌, subst}
 use Rattle.term_table.specs.Table.{IsKnown, tree_at}
 use Rattle.formula_tree.specs.Variables.{PExp, subst_var_exp, subst_var}
-use Rattle.lf_encode.specs.Encoding.{exp_encoding, form_encoding}
+use Rattle.formula_terms.specs.Encoding.{exp_encoding, form_encoding}
 use Rattle.easy_class.specs.Access.{without_access}
-use Rattle.easy_words.proofs.Standing.{twice}
-use Rattle.easy_words.proofs.UpperRows.{hyps-after}
-use Rattle.bounds_prover.specs.Inside.Access.{same_address, opened}
+use Rattle.formula_ids.proofs.Standing.{twice}
+use Rattle.formula_ids.proofs.HypRows.{hyps-after}
+use Rattle.bounds_prover.specs.Inside.Access.{same_address, opening_of}
 use Rattle.bounds_prover.specs.Inside.AccessIds.{IfOpened}
-use Rattle.bounds_prover.proofs.Kept.{context-more}
-use Rattle.bounds_prover.proofs.WordRows.{after_now}
+use Rattle.easy_goals.proofs.Kept.{context-more}
+use Rattle.easy_goals.proofs.WordRows.{after_now}
 use Rattle.bounds_prover.proofs.access_walks.opened_with.Goals as goal
 
 pub returns-then-not-branch-clause-after : goal.returns-then-not-branch-clause-after
@@ -43,4 +43,4 @@ returns-clause-exact c = λ Γ w P x y g qa qp qx qy.
     let wanted : tree_at t3 c.in_ok-wanted.wanted ≡ form_encoding R = c.in_ok-wanted.ensures.put.is P y (x2.same c.args.premise c.requires.premise ∙ qp) (x2.same c.args.put c.requires.put ∙ qy) in
     let later : tree_at t3 c.in_ok-there.there ≡ exp_encoding z = (twice e2 e3).same c.in_ok-there.there known ∙ there in
     let made = c.in_ok-opening.ensures.exact Γ R z y (hyps-after t t3 n.hyps Γ c.requires.context.hyps x3 g) wanted later (x3.same c.args.put c.requires.put ∙ qy) in
-    subst (λ (b : Bool). IfOpened c.opened.new.table (cond b (option_map (opened z y) (without_access n.outside Γ R)) None) c.in_ok-opening.opening) (sym same) made
+    subst (λ (b : Bool). IfOpened c.opened.new.table (cond b (option_map (opening_of z y) (without_access n.outside Γ R)) None) c.in_ok-opening.opening) (sym same) made

@@ -3,7 +3,7 @@ use Rattle.term_table.specs.Tree.{Tree}
 use Rattle.term_table.specs.Table.{Stands}
 use Rattle.easy_class.specs.Goals.{first_of, by_words_alone}
 use Rattle.easy_class.specs.Access.{without_access, by_access}
-use Rattle.bounds_prover.proofs.AlignmentRows.{stands_at}
+use Rattle.easy_hyps.proofs.AlignmentRows.{stands_at}
 use Rattle.bounds_prover.proofs.AccessRows.{hyps_then}
 use Rattle.bounds_prover.proofs.all_means.by_all_means.Goals as goal
 

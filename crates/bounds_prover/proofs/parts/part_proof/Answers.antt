@@ -1,4 +1,4 @@
-use Rattle.bounds_prover.proofs.Kept.{search-more}
+use Rattle.easy_goals.proofs.Kept.{search-more}
 use Rattle.bounds_prover.proofs.parts.part_proof.Goals as goal
 
 pub proof_by_all_means-requires-clause-search : goal.proof_by_all_means-requires-clause-search

@@ -2,7 +2,7 @@ use Rattle.std.proofs.Common.{Err, sym, ◌∙◌, ap, subst}
 use Rattle.proof_container.specs.Views.{contents_of}
 use Rattle.pcc_gate.specs.Answers.{IsFrontAnswer}
 use Rattle.bounds_prover.specs.declared.fault.ProveFault.TheVariants.{Refused}
-use Rattle.bounds_prover.specs.Proving.{IsAnswer}
+use Rattle.bounds_prover.specs.Proving.{IsMadeAnswer}
 use Rattle.bounds_prover.proofs.Making.{contents-made, refused-made}
 use Rattle.bounds_prover.proofs.proving.made.Goals as goal
 
@@ -17,4 +17,4 @@ pub returns-in-Ok : goal.returns-in-Ok
 returns-in-Ok c =
     let p = c.in-Ok.passed in
     let passes = c.in-Ok.ensures.exact in
-    subst (λ m. IsAnswer m c.proved.result) (sym (contents-made c.args.policy.now c.args.bytes.now (contents_of p.container) p.cut.code p.cut.marks passes.0 passes.1)) c.proved.ensures
+    subst (λ m. IsMadeAnswer m c.proved.result) (sym (contents-made c.args.policy.now c.args.bytes.now (contents_of p.container) p.cut.code p.cut.marks passes.0 passes.1)) c.proved.ensures

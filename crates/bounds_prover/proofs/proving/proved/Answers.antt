@@ -13,7 +13,7 @@ use Rattle.pcc_gate.proofs.Refusing.{keys}
 use Rattle.pcc_gate.proofs.Stages.{low-invs}
 use Rattle.easy_class.specs.Parts.{condition_proof, first_not_easy}
 use Rattle.easy_class.specs.Access.{by_all_means}
-use Rattle.bounds_prover.specs.Proving.{condition_parts, excess, encoded_unless, IsAnswer}
+use Rattle.bounds_prover.specs.Proving.{condition_parts, excess, encoded_unless, IsMadeAnswer}
 use Rattle.bounds_prover.specs.Inside.Parts.{IsKnownAnswer, IsPartsAnswer}
 use Rattle.bounds_prover.proofs.Making.{same_invs, made-contents, not_easy-made, proof-made}
 use Rattle.bounds_prover.proofs.proving.proved.Goals as goal
@@ -71,4 +71,4 @@ returns c =
     let given = subst (λ l. condition_proof by_all_means (parts l) ≡ Some p) c.deref.ensures.value answer in
     let same = same_invs (contents_of k) (inv_trees u c.deref-in-Proved.result.now) p (ap (inv_trees u) c.deref-in-Proved.ensures.value ∙ sym (trees-same t u ps c.in-Ok.ensures.extends c.requires.held.known.0)) in
     let none = (c.class_laws.ensures.exact (parts ps) 0).1 (p, given) in
-    subst (λ m. IsAnswer m c.written.result) (sym (proof-made (contents_of k) (parts ps) p none given)) (subst (λ d. IsAnswer (encoded_unless (excess d p) d) c.written.result) same c.written.ensures)
+    subst (λ m. IsMadeAnswer m c.written.result) (sym (proof-made (contents_of k) (parts ps) p none given)) (subst (λ d. IsMadeAnswer (encoded_unless (excess d p) d) c.written.result) same c.written.ensures)

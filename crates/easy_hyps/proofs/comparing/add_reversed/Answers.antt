@@ -4,12 +4,12 @@ use Rattle.term_table.specs.Tree.{App, Con, Num}
 use Rattle.term_table.specs.Table.{tree_at}
 use Rattle.lf_signature.specs.Terms.{app2}
 use Rattle.formula_tree.specs.Formulas.{FRel}
-use Rattle.lf_encode.specs.Encoding.{form_encoding}
+use Rattle.formula_terms.specs.Encoding.{form_encoding}
 use Rattle.formula_ids.specs.Hypotheses.{AreHyps}
-use Rattle.easy_class.specs.ProofTerms.{word_rule}
+use Rattle.formula_terms.specs.ProofTerms.{word_rule}
 use Rattle.easy_class.specs.Hypotheses.{with_new}
 use Rattle.hereditary_subst.proofs.Rows.{grows_more}
-use Rattle.easy_hyps.proofs.Known.{hyps-more}
+use Rattle.formula_ids.proofs.HypRows.{hyps-after}
 use Rattle.easy_hyps.proofs.comparing.add_reversed.Goals as goal
 
 pub returns-clause-exact : goal.returns-clause-exact
@@ -23,4 +23,4 @@ returns-clause-exact c = λ Γ x y h a b.
     let g : tree_at v c.in_ok-reversed.reversed ≡ word_rule 70 (x ∷ y ∷ []) (tree_at t c.args.proof ∷ []) =
     c.in_ok-reversed.ensures.id.is ∙ (λ i. App (App (App (Con (Num 70)) ((tu.same c.args.a c.requires.a ∙ a) i)) ((tu.same c.args.b c.requires.b ∙ b) i)) (tu.same c.args.proof c.requires.proof i)) in
     subst (λ z. OnOk c.add.result (AreHyps v c.add.new.hyps (with_new Γ ((FRel Ule y x, z) ∷ [])))) g
-    (c.add.ensures.exact Γ (FRel Ule y x) (hyps-more t v c.args.hyps.now Γ c.requires.hyps (grows_more t u v tu uv) h) f)
+    (c.add.ensures.exact Γ (FRel Ule y x) (hyps-after t v c.args.hyps.now Γ c.requires.hyps (grows_more t u v tu uv) h) f)

@@ -3,11 +3,12 @@ use Rattle.std.proofs.lemmas.Result.{on_ok_weaker}
 use Rattle.term_table.specs.Tree.{shift}
 use Rattle.term_table.specs.Table.{IsKnown, tree_at}
 use Rattle.formula_tree.specs.Formulas.{shift_form}
-use Rattle.lf_encode.specs.Encoding.{form_encoding}
+use Rattle.formula_terms.specs.Encoding.{form_encoding}
 use Rattle.formula_ids.specs.Hypotheses.{AreHyps}
 use Rattle.hereditary_subst.proofs.Rows.{grows_more}
 use Rattle.easy_hyps.proofs.Raised.{shift-form_encoding}
-use Rattle.easy_hyps.proofs.Known.{known-more, hyps-more, known-push, hyps-push}
+use Rattle.formula_ids.proofs.HypRows.{known_hyps-more, hyps-after}
+use Rattle.easy_hyps.proofs.Known.{known-push, hyps-push}
 use Rattle.easy_hyps.proofs.raising.push_raised.Goals as goal
 
 pub returns-clause-known : goal.returns-clause-known
@@ -18,7 +19,7 @@ returns-clause-known c =
     let tu = c.in_ok-form.ensures.extends in
     let uv = c.in_ok-proof.ensures.extends in
     let f : IsKnown v c.in_ok-form.form = omega (arith, c.in_ok-form.ensures.id.known, uv.longer) in
-    on_ok_weaker c.push.result (known-push v c.args.under.now c.push.new.self (record { form = c.in_ok-form.form; proof = c.in_ok-proof.proof }) (known-more t v c.args.under.now c.requires.under (grows_more t u v tu uv)) f c.in_ok-proof.ensures.id.known) c.push.ensures
+    on_ok_weaker c.push.result (known-push v c.args.under.now c.push.new.self (record { form = c.in_ok-form.form; proof = c.in_ok-proof.proof }) (known_hyps-more t v c.args.under.now c.requires.under (grows_more t u v tu uv)) f c.in_ok-proof.ensures.id.known) c.push.ensures
 
 pub returns-clause-exact : goal.returns-clause-exact
 returns-clause-exact c = λ Γ A h a.
@@ -30,4 +31,4 @@ returns-clause-exact c = λ Γ A h a.
     let f : tree_at v c.in_ok-form.form ≡ form_encoding (shift_form 1 0 A) = uv.same c.in_ok-form.form c.in_ok-form.ensures.id.known ∙ c.in_ok-form.ensures.id.is ∙ ap (shift 1 0) a ∙ shift-form_encoding A 1 0 in
     let p : tree_at v c.in_ok-proof.proof ≡ shift 1 0 (tree_at t c.args.proof) = c.in_ok-proof.ensures.id.is ∙ ap (shift 1 0) (tu.same c.args.proof c.requires.proof) in
     subst (λ z. OnOk c.push.result (AreHyps v c.push.new.self (Γ ++ (shift_form 1 0 A, z) ∷ []))) p
-    (on_ok_weaker c.push.result (hyps-push v c.args.under.now c.push.new.self (record { form = c.in_ok-form.form; proof = c.in_ok-proof.proof }) Γ (shift_form 1 0 A) (hyps-more t v c.args.under.now Γ c.requires.under (grows_more t u v tu uv) h) f) c.push.ensures)
+    (on_ok_weaker c.push.result (hyps-push v c.args.under.now c.push.new.self (record { form = c.in_ok-form.form; proof = c.in_ok-proof.proof }) Γ (shift_form 1 0 A) (hyps-after t v c.args.under.now Γ c.requires.under (grows_more t u v tu uv) h) f) c.push.ensures)

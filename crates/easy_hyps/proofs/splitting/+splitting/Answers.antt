@@ -3,16 +3,16 @@ use Rattle.std.specs.BTreeSet.{contains}
 use Rattle.std.specs.Ordering.{eq_by_cmp}
 use Rattle.term_table.specs.Table.{IsKnown, tree_at, Extends}
 use Rattle.formula_tree.specs.Formulas.{FAnd}
-use Rattle.lf_encode.specs.Encoding.{form_encoding}
+use Rattle.formula_terms.specs.Encoding.{form_encoding}
 use Rattle.formula_ids.specs.Hypotheses.{AreHyps}
 use Rattle.hereditary_subst.proofs.Rows.{grows_more}
-use Rattle.easy_class.specs.ProofTerms.{and_l, and_r}
+use Rattle.formula_terms.specs.ProofTerms.{and_l, and_r}
 use Rattle.easy_class.specs.Hypotheses.{split_hyps, with_new}
 use Rattle.easy_hyps.specs.declared.collection.Key.{Key}
 use Rattle.easy_hyps.specs.contracts.collection.KeyOrd.TheImpl as block
 use Rattle.easy_hyps.specs.contracts.collection.KeyPartialEq.TheImpl as equality
 use Rattle.easy_hyps.specs.Inside.Splits.{forms_of, AreFound, AreSplit}
-use Rattle.easy_hyps.proofs.Known.{hyps-more}
+use Rattle.formula_ids.proofs.HypRows.{hyps-after}
 use Rattle.easy_hyps.proofs.Splits.{with_new-append, with_new-own, with_new-found, seen-more, seen-insert, kept-split, other-split}
 use Rattle.easy_hyps.proofs.splitting.+splitting.Goals as goal
 
@@ -50,13 +50,13 @@ add_both-returns-clause-exact g c = λ Γ A B h s f a b.
     let left = (c.in_ok-left.ensures.exact A B a b).is in
     let one : AreSplit v c.add_parts.new.hyps c.add_parts.new.seen (with_new Γ L) =
     subst (λ z. AreSplit v c.add_parts.new.hyps c.add_parts.new.seen (with_new Γ (split_hyps A z))) left
-    (c.in_ok-add_parts.ensures.exact Γ A (hyps-more t u c.args.hyps.now Γ c.requires.hyps tu h) (seen-more t u Γ [] c.args.seen.now tu s) (tu.same c.args.a c.requires.a ∙ a)) in
+    (c.in_ok-add_parts.ensures.exact Γ A (hyps-after t u c.args.hyps.now Γ c.requires.hyps tu h) (seen-more t u Γ [] c.args.seen.now tu s) (tu.same c.args.a c.requires.a ∙ a)) in
     let Δ = with_new Γ L in
     let proof : tree_at v c.args.proof ≡ p = tv.same c.args.proof c.requires.proof in
     let right = (c.in_ok-right.ensures.exact A B (tv.same c.args.a c.requires.a ∙ a) (tv.same c.args.b c.requires.b ∙ b)).is ∙ ap (and_r A B) proof in
     let two : AreSplit x c.add_parts-2.new.hyps c.add_parts-2.new.seen (with_new Δ R) =
     subst (λ z. AreSplit x c.add_parts-2.new.hyps c.add_parts-2.new.seen (with_new Δ (split_hyps B z))) right
-    (c.in_ok-add_parts-2.ensures.exact Δ B (hyps-more v w c.add_parts.new.hyps Δ c.in_ok-add_parts.ensures.known vw one.hyps) (seen-more v w Δ [] c.add_parts.new.seen vw one.seen) (tw.same c.args.b c.requires.b ∙ b)) in
+    (c.in_ok-add_parts-2.ensures.exact Δ B (hyps-after v w c.add_parts.new.hyps Δ c.in_ok-add_parts.ensures.known vw one.hyps) (seen-more v w Δ [] c.add_parts.new.seen vw one.seen) (tw.same c.args.b c.requires.b ∙ b)) in
     let whole : with_new Δ R ≡ with_new Γ (L ++ R) = sym (with_new-append Γ L R) in
     let both : AreSplit x c.add_parts-2.new.hyps c.add_parts-2.new.seen (with_new Γ (L ++ R)) = subst (AreSplit x c.add_parts-2.new.hyps c.add_parts-2.new.seen) whole two in
     let key = c.key_of-key.result in

@@ -1,7 +1,7 @@
 use Rattle.std.proofs.Common.{◌≡◌, ◌∙◌, sym, ap, subst}
 use Rattle.term_table.specs.Tree.{App, Con, Num}
 use Rattle.term_table.specs.Table.{tree_at, node_tree_in}
-use Rattle.lf_encode.specs.Encoding.{form_encoding}
+use Rattle.formula_terms.specs.Encoding.{form_encoding}
 use Rattle.formula_ids.specs.Nodes.{IsFormNode, AreFormPartsLower}
 use Rattle.formula_ids.proofs.Heads.{IsNoForm, truth_is, falsity_is, unary_is, binary_is, no_form, unary_lower, binary_lower}
 use Rattle.formula_ids.proofs.Others.{no_form_node, no_form_function, no_form_head}

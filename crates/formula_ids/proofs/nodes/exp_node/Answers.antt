@@ -1,7 +1,7 @@
 use Rattle.std.proofs.Common.{◌≡◌, sym, ◌∙◌, ap, subst}
 use Rattle.term_table.specs.Tree.{App, Con, Num}
 use Rattle.term_table.specs.Table.{tree_at, node_tree_in}
-use Rattle.lf_encode.specs.Encoding.{exp_encoding}
+use Rattle.formula_terms.specs.Encoding.{exp_encoding}
 use Rattle.formula_ids.specs.Nodes.{IsExpNode}
 use Rattle.formula_ids.proofs.Heads.{IsOther, var_is, lit_is, applied_is, unbound_is}
 use Rattle.formula_ids.proofs.Others.{other_node, other_function, other_head}

@@ -1,7 +1,7 @@
 use Rattle.std.proofs.Common.{◌≡◌, ◌∙◌, ap, subst}
 use Rattle.term_table.specs.Tree.{App}
 use Rattle.term_table.specs.Table.{tree_at, node_tree_in}
-use Rattle.lf_encode.specs.Encoding.{mem_encoding}
+use Rattle.formula_terms.specs.Encoding.{mem_encoding}
 use Rattle.formula_ids.proofs.Heads.{IsOtherMem, mem_var_is, upd_is, unbound_mem_is}
 use Rattle.formula_ids.proofs.Others.{other_mem_node, other_mem_function, other_mem_head}
 use Rattle.formula_ids.proofs.nodes.mem_node.Goals as goal

@@ -1,6 +1,6 @@
 use Rattle.std.proofs.Common.{◌<◌, refl, sym, ◌∙◌, ap, arith}
 use Rattle.formula_tree.specs.Variables.{PExp, mem_at}
-use Rattle.lf_encode.specs.Encoding.{mem_encoding}
+use Rattle.formula_terms.specs.Encoding.{mem_encoding}
 use Rattle.formula_ids.proofs.PutRows.{spot-near, put_memory, put_variable}
 use Rattle.formula_ids.proofs.puts.put_memory_variable.Goals as goal
 

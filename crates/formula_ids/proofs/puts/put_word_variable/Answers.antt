@@ -1,6 +1,6 @@
 use Rattle.std.proofs.Common.{◌<◌, refl, sym, ◌∙◌, ap, arith}
 use Rattle.formula_tree.specs.Variables.{PExp, exp_at}
-use Rattle.lf_encode.specs.Encoding.{exp_encoding}
+use Rattle.formula_terms.specs.Encoding.{exp_encoding}
 use Rattle.formula_ids.proofs.PutRows.{spot-here, spot-near, put_variable}
 use Rattle.formula_ids.proofs.puts.put_word_variable.Goals as goal
 

@@ -1,6 +1,6 @@
 use Rattle.lf_signature.specs.Sigma1.{declared}
 use Rattle.lf_rules.proofs.Grown.{extends_trans}
-use Rattle.lf_rules.proofs.Fitting.{sequent-more}
+use Rattle.lf_sequents.proofs.Fitting.{sequent-more}
 use Rattle.kit_tests.proofs.proof_kit_tests.answer.Goals as goal
 
 pub by_number-requires-clause-premises : goal.by_number-requires-clause-premises

@@ -3,7 +3,7 @@ use Rattle.term_table.specs.Table.{IsKnown, AllKnown, tree_at, ctx_of, Extends}
 use Rattle.lf_signature.specs.Terms.{pf}
 use Rattle.lf_signature.specs.Typing.{Checks}
 use Rattle.lf_signature.specs.Sigma1.{declared}
-use Rattle.lf_rules.proofs.Fitting.{sequent-more}
+use Rattle.lf_sequents.proofs.Fitting.{sequent-more}
 use Rattle.kit_tests.proofs.proof_kit_tests.tested.Goals as goal
 
 pub returns-in-Ok-true-clause-sequent : goal.returns-in-Ok-true-clause-sequent

@@ -1,0 +1,34 @@
+use Rattle.std.proofs.Common.{◌≡◌, List, [], ◌∷◌, Bool, true, false, if◌then◌else◌, refl, sym, ◌∙◌, subst}
+use Rattle.word_ops.specs.declared.Rel.TheVariants.{Ule}
+use Rattle.term_table.specs.Table.{tree_at}
+use Rattle.formula_tree.specs.Formulas.{Exp, ELit, FRel}
+use Rattle.formula_terms.specs.Encoding.{exp_encoding}
+use Rattle.easy_class.specs.Hypotheses.{same_exp}
+use Rattle.easy_class.specs.Bounds.{WordBound, word_bound, greatest_bound, lower_of}
+use Rattle.easy_bounds.specs.BoundIds.{IsBoundOf, bound_by_ids}
+use Rattle.easy_bounds.proofs.BoundRows.{word_is}
+use Rattle.easy_bounds.proofs.Candidates.{same_false, same_true, lower_ule_other}
+use Rattle.easy_bounds.proofs.lower_bounds.lower_by_at_most.Goals as goal
+
+pub returns-then-not-same-clause-is : goal.returns-then-not-same-clause-is
+returns-then-not-same-clause-is c = λ x y z qe qa qb.
+    let a = c.args in
+    let t = a.table.now in
+    let other : exp_encoding z ≡ exp_encoding x → ⊥ = λ q.
+    let yes : c.same.result ≡ true = c.same.ensures.1 (qb ∙ q ∙ sym qe) in
+    let no : c.same.result ≡ false = c.if-not-same.true in
+    cc in
+    subst (λ (l : List WordBound). IsBoundOf t (greatest_bound l (bound_by_ids t a.last)) a.last) (sym (lower_ule_other x y z (tree_at t a.proof) (same_false z x other)))
+    (record { known = c.requires.last; value = refl; is = refl })
+
+pub returns-in-Some-clause-is : goal.returns-in-Some-clause-is
+returns-in-Some-clause-is c = λ x y z qe qa qb.
+    let a = c.args in
+    let t = a.table.now in
+    let p = tree_at t a.proof in
+    let n = c.in-Some.w in
+    let s : y ≡ ELit n = word_is y n (sym c.in-Some.is ∙ c.literal.ensures y qa) in
+    let same : same_exp z x ≡ true = same_true z x (sym qb ∙ c.same.ensures.0 c.if-not-same.false ∙ qe) in
+    let h = c.greater.ensures.is t (word_bound n p) (bound_by_ids t a.last) (record { known = c.requires.proof; value = refl; is = refl }) (record { known = c.requires.last; value = refl; is = refl }) in
+    subst (λ (k : Exp). IsBoundOf t (greatest_bound (lower_of x (FRel Ule k z) p) (bound_by_ids t a.last)) c.greater.result) (sym s)
+    (subst (λ (b : Bool). IsBoundOf t (greatest_bound (if b then word_bound n p ∷ [] else []) (bound_by_ids t a.last)) c.greater.result) (sym same) h)

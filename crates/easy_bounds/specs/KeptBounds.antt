@@ -1,0 +1,30 @@
+-- What is kept of upper bounds says what the definition gives.
+use Rattle.std.specs.Prelude.{◌≡◌, List, Some}
+use Rattle.std.specs.BTreeMap.{get}
+use Rattle.term_table.specs.Table.{TableView, IsKnown, tree_at}
+use Rattle.formula_tree.specs.Formulas.{Exp}
+use Rattle.formula_terms.specs.Encoding.{exp_encoding}
+use Rattle.formula_ids.specs.Hypotheses.{AreHyps}
+use Rattle.formula_ids.specs.declared.hypotheses.Hypothesis.{Hypothesis}
+use Rattle.easy_class.specs.Hypotheses.{Hyps}
+use Rattle.easy_class.specs.Bounds.{upper_bound}
+use Rattle.easy_bounds.specs.BoundIds.{IsBoundOf}
+use Rattle.easy_bounds.specs.declared.bounds.Bound.{Bound}
+use Rattle.easy_bounds.specs.declared.kept_bounds.Row.{Row}
+use Rattle.easy_bounds.specs.declared.kept_bounds.Subject.{Subject}
+use Rattle.easy_bounds.specs.declared.kept_bounds.UpperBounds.{UpperBounds}
+use Rattle.easy_bounds.specs.contracts.kept_bounds.SubjectOrd.TheImpl as block
+
+-- a kept row as a bound
+abbrev pub bound_of : Row → Bound
+bound_of r = record { value = r.value; proof = r.proof }
+
+-- the row has the upper bound of the expression under any hypotheses that the ids stand for
+pub record IsUpper (t : TableView) (hyps : List Hypothesis) (subject : Subject) (r : Row) : Type 0 where
+  pub of : IsKnown t subject.exp
+  pub known : IsKnown t r.proof
+  pub is : (Γ : Hyps) (x : Exp) → AreHyps t hyps Γ → tree_at t subject.exp ≡ exp_encoding x → IsBoundOf t (upper_bound Γ x) (bound_of r)
+
+-- each kept row is right
+pub record AreUppers (t : TableView) (hyps : List Hypothesis) (kept : UpperBounds) : Type 0 where
+  pub each : (subject : Subject) (r : Row) → get block.ghosts.cmp kept.rows subject ≡ Some r → IsUpper t hyps subject r

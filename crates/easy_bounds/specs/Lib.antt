@@ -1,0 +1,3 @@
+pub mod BoundIds
+pub mod KeptBounds
+pub mod Inside

@@ -1,0 +1,164 @@
+//! Bounds of expressions, and the proofs that they are made of.
+//!
+//! Errors: want of memory alone; each id keeps its tree.
+
+ghost use Rattle.std.specs.Prelude.{◌≡◌, IfOk};
+ghost use Rattle.term_table.specs.Table.{TableView, IsKnown, tree_at, Extends};
+ghost use Rattle.hereditary_subst.specs.Inside.Kept.{IsMemo};
+ghost use Rattle.lf_signature.specs.Nodes.{IsIdOf};
+ghost use Rattle.word_ops.specs.declared.Rel.TheVariants.{Ule};
+ghost use Rattle.formula_tree.specs.Formulas.{Exp, EVar, ELit, EOp, FRel};
+ghost use Rattle.formula_terms.specs.Encoding.{exp_encoding, form_encoding};
+ghost use Rattle.formula_terms.specs.ProofTerms.{up};
+ghost use Rattle.easy_class.specs.Bounds.{WordBound, lesser, greater, folded, fit_proof};
+ghost use Rattle.easy_bounds.specs.BoundIds.{IsBoundOf};
+
+use formula_ids::{calc, fact, moved, oper, raised, relation, swapped};
+use hereditary_subst::Memo;
+use std::alloc::AllocError;
+use term_table::{Id, Node, Table};
+use word_ops::{Op, Rel, apply};
+
+/// A word and the id of a proof that it is a bound.
+#[derive(Clone, Copy)]
+pub struct Bound {
+    /// The word.
+    pub value: u64,
+    /// The proof.
+    pub proof: Id,
+}
+
+/// The second where it is less; of equal ones the first.
+pub(crate) fn lesser(b: Bound, c: Bound) -> Bound
+    ensures known { (t : TableView) → IsKnown t b.proof → IsKnown t c.proof
+        → IsKnown t result.proof }
+    ensures is { (t : TableView) (v w : WordBound) → IsBoundOf t v b → IsBoundOf t w c
+        → IsBoundOf t (lesser v w) result }
+{
+    if c.value < b.value { c } else { b }
+}
+
+/// The second where it is greater; of equal ones the first.
+pub(crate) fn greater(b: Bound, c: Bound) -> Bound
+    ensures known { (t : TableView) → IsKnown t b.proof → IsKnown t c.proof
+        → IsKnown t result.proof }
+    ensures is { (t : TableView) (v w : WordBound) → IsBoundOf t v b → IsBoundOf t w c
+        → IsBoundOf t (greater v w) result }
+{
+    if b.value < c.value { c } else { b }
+}
+
+/// That the expression is at most a word, which is the variable 0 under a binder.
+#[tactic(auto, using(hereditary_subst::proofs::Rows::rows))]
+pub(crate) fn below_place(table: &mut Table, memo: &mut Memo, e: Id) -> Result<Id, AllocError>
+    requires e { IsKnown table.old e }
+    requires memo { IsMemo table.old memo.old }
+    ensures known { IfOk result (IsKnown table.new) }
+    ensures is { (x : Exp) → tree_at table.old e ≡ exp_encoding x
+        → IfOk result (IsIdOf table.new (form_encoding (FRel Ule (up x) (EVar 0)))) }
+    ensures extends { Extends table.old table.new }
+    ensures memo { IsMemo table.new memo.new }
+{
+    let under = raised(table, memo, e)?;
+    let place = table.intern(Node::Var(0))?;
+    relation(table, Rel::Ule, under, place)
+}
+
+/// That a word, which is the variable 0 under a binder, is at most the expression.
+#[tactic(auto, using(hereditary_subst::proofs::Rows::rows))]
+pub(crate) fn above_place(table: &mut Table, memo: &mut Memo, e: Id) -> Result<Id, AllocError>
+    requires e { IsKnown table.old e }
+    requires memo { IsMemo table.old memo.old }
+    ensures known { IfOk result (IsKnown table.new) }
+    ensures is { (x : Exp) → tree_at table.old e ≡ exp_encoding x
+        → IfOk result (IsIdOf table.new (form_encoding (FRel Ule (EVar 0) (up x)))) }
+    ensures extends { Extends table.old table.new }
+    ensures memo { IsMemo table.new memo.new }
+{
+    let under = raised(table, memo, e)?;
+    let place = table.intern(Node::Var(0))?;
+    relation(table, Rel::Ule, place, under)
+}
+
+/// A word.
+pub(crate) fn word(table: &mut Table, w: u64) -> Result<Id, AllocError>
+    ensures known { IfOk result (IsIdOf table.new (exp_encoding (ELit w))) }
+    ensures extends { Extends table.old table.new }
+{
+    table.intern(Node::Lit(w))
+}
+
+/// The operator at two words.
+fn oper_of_words(table: &mut Table, op: Op, v: u64, w: u64) -> Result<Id, AllocError>
+    ensures id { IfOk result (IsIdOf table.new (exp_encoding (EOp op (ELit v) (ELit w)))) }
+    ensures extends { Extends table.old table.new }
+{
+    let left = word(table, v)?;
+    let right = word(table, w)?;
+    oper(table, op, left, right)
+}
+
+/// That a word is at most the variable 0 under a binder.
+fn word_below_place(table: &mut Table, w: u64) -> Result<Id, AllocError>
+    ensures id { IfOk result (IsIdOf table.new (form_encoding (FRel Ule (ELit w) (EVar 0)))) }
+    ensures extends { Extends table.old table.new }
+{
+    let left = word(table, w)?;
+    let place = table.intern(Node::Var(0))?;
+    relation(table, Rel::Ule, left, place)
+}
+
+/// The word that an operator gives at two words as a bound, by a proof that the operator at them is
+/// one: from (ule e (o v w)) to (ule e value).
+#[tactic(auto, using(hereditary_subst::proofs::Rows::rows))]
+pub(crate) fn folded(
+    table: &mut Table,
+    memo: &mut Memo,
+    e: Id,
+    op: Op,
+    v: u64,
+    w: u64,
+    proof: Id,
+) -> Result<Bound, AllocError>
+    requires e { IsKnown table.old e }
+    requires proof { IsKnown table.old proof }
+    requires memo { IsMemo table.old memo.old }
+    ensures known { IfOk result (λ b. IsKnown table.new b.proof) }
+    ensures is { (x : Exp) → tree_at table.old e ≡ exp_encoding x
+        → IfOk result (IsBoundOf table.new (folded x op v w (tree_at table.old proof))) }
+    ensures extends { Extends table.old table.new }
+    ensures memo { IsMemo table.new memo.new }
+{
+    let value = apply(op, v, w);
+    let form = below_place(table, memo, e)?;
+    let from = oper_of_words(table, op, v, w)?;
+    let to = word(table, value)?;
+    let equal = calc(table, op, v, w)?;
+    let proof = moved(table, form, from, to, equal, proof)?;
+    Ok(Bound { value, proof })
+}
+
+/// The proof that a word is at most what an operator gives at two words, where it is.
+#[tactic(auto, using(hereditary_subst::proofs::Rows::rows))]
+pub(crate) fn fit_proof(
+    table: &mut Table,
+    memo: &mut Memo,
+    v: u64,
+    op: Op,
+    a: u64,
+    b: u64,
+) -> Result<Id, AllocError>
+    requires memo { IsMemo table.old memo.old }
+    ensures id { IfOk result (IsIdOf table.new (fit_proof v op a b)) }
+    ensures extends { Extends table.old table.new }
+    ensures memo { IsMemo table.new memo.new }
+{
+    let value = apply(op, a, b);
+    let from = word(table, value)?;
+    let to = oper_of_words(table, op, a, b)?;
+    let equal = calc(table, op, a, b)?;
+    let back = swapped(table, memo, to, from, equal)?;
+    let form = word_below_place(table, v)?;
+    let fits = fact(table, Rel::Ule, v, value)?;
+    moved(table, form, from, to, back, fits)
+}

@@ -1,0 +1,7 @@
+pub mod Growing
+mod Equations
+mod Rewrites
+pub mod Rounds
+mod Rules
+mod Summing
+mod Occurring

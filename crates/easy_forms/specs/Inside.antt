@@ -1,0 +1,5 @@
+-- Words of the private functions and of what is kept.
+pub mod Rewrites
+pub mod Rounds
+pub mod Sums
+pub mod Occurrences

@@ -1,0 +1,3 @@
+pub mod NormalForms
+pub mod Sums
+pub mod Inside

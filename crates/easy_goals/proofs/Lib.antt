@@ -1,0 +1,5 @@
+pub mod Kept
+pub mod AnswerRows
+pub mod WordRows
+mod Rounds
+pub mod Connecting

@@ -1,0 +1,4 @@
+pub mod Provers
+pub mod Answers
+pub mod Search
+pub mod Inside

@@ -1,0 +1,143 @@
+//! What is kept while a proof is looked for.
+
+ghost use Rattle.std.specs.Prelude.{◌≡◌, IfOk, IfSome, OnOk};
+ghost use Rattle.term_table.specs.Table.{TableView, IsKnown, Extends};
+ghost use Rattle.formula_ids.specs.Hypotheses.{AreKnownHyps};
+ghost use Rattle.easy_goals.specs.Answers.{IsFoundProof};
+ghost use Rattle.easy_goals.specs.Search.{IsSearch, IsContext, IsAfter};
+
+use crate::answers::{Answers, Means};
+use easy_bounds::UpperBounds;
+use easy_forms::{NormalForms, Occurrences};
+use easy_hyps::{Hypotheses, absurdity};
+use formula_ids::Puts;
+use hereditary_subst::Memo;
+use std::alloc::{AllocError, Global};
+use term_table::{Id, Table};
+
+/// What is kept of all contexts, on one table. All that is kept counts in the limit of the memo.
+#[derive(Drop)]
+pub struct Search {
+    /// Results of shifts, and the limit.
+    pub memo: Memo,
+    pub(crate) forms: NormalForms,
+    /// What words put into formulas give.
+    pub puts: Puts,
+    /// Where variable 0 stands.
+    pub occurrences: Occurrences,
+}
+
+impl Search {
+    /// Nothing yet, which takes no memory. A call that would keep more than `most` results answers
+    /// want of memory.
+    pub fn new(alloc: Global, most: usize) -> Search
+        ensures { (t : TableView) → IsSearch t result }
+    {
+        Search {
+            memo: Memo::new(alloc, most),
+            forms: NormalForms::new(alloc),
+            puts: Puts::new(alloc),
+            occurrences: Occurrences::new(alloc),
+        }
+    }
+
+    /// Counts steps that keep nothing in the limit of the memo. Fails past it.
+    pub fn spend_steps(&mut self, steps: u64) -> Result<(), AllocError>
+        ensures { (t : TableView) → IsSearch t self.old → IsSearch t self.new }
+    {
+        self.memo.spend_steps(steps)
+    }
+}
+
+/// Hypotheses, so many binders outside, and what is kept under them.
+#[derive(Drop)]
+pub struct Context {
+    /// How many binders stand outside.
+    pub outside: u32,
+    /// The hypotheses.
+    pub hyps: Hypotheses,
+    pub(crate) bounds: UpperBounds,
+    // a proof of falsity, where the hypotheses are absurd
+    pub(crate) absurd: Option<Id>,
+    pub(crate) answers: Answers,
+}
+
+impl Context {
+    /// The hypotheses `hyps`, where `outside` binders stand outside and nothing was asked yet.
+    ///
+    /// Errors: want of memory alone; each id keeps its tree.
+    #[tactic(auto, using(crate::proofs::Kept::rows))]
+    pub fn new(table: &mut Table, outside: u32, hyps: Hypotheses) -> Result<Context, AllocError>
+        requires { AreKnownHyps table.old hyps }
+        ensures context { IfOk result (IsContext table.new) }
+        ensures hyps { IfOk result (λ c. c.hyps ≡ hyps) }
+        ensures outside { IfOk result (λ c. c.outside ≡ outside) }
+        ensures extends { Extends table.old table.new }
+    {
+        let absurd = absurdity(table, &hyps)?;
+        let alloc = table.allocator();
+        Ok(Context {
+            outside,
+            hyps,
+            bounds: UpperBounds::new(alloc),
+            absurd,
+            answers: Answers::new(alloc),
+        })
+    }
+
+    /// What is kept of the goal, searched for by these means.
+    pub(crate) fn found(&self, table: &Table, means: Means, goal: Id) -> Option<Option<Id>>
+        requires { IsContext table.now self.now }
+        ensures { let c = self.now in
+            IfSome result (IsFoundProof table.now c.hyps c.outside means goal) }
+    {
+        self.answers
+            .find(table, &self.hyps, self.outside, means, goal)
+    }
+}
+
+/// Keeps what was found of the goal, and answers it. Fails past the limit of what is kept, and where
+/// memory does.
+pub(crate) fn keep_answer(
+    table: &Table,
+    search: &mut Search,
+    context: &mut Context,
+    means: Means,
+    goal: Id,
+    proof: Option<Id>,
+) -> Result<Option<Id>, AllocError>
+    requires search { IsSearch table.now search.old }
+    requires context { IsContext table.now context.old }
+    requires proof { let c = context.old in
+        IsFoundProof table.now c.hyps c.outside means goal proof }
+    ensures same { IfOk result (λ o. o ≡ proof) }
+    ensures after { OnOk result (IsAfter table.now search.new context.old context.new) }
+{
+    let outside = context.outside;
+    match proof {
+        None => {
+            context.answers.keep(
+                &mut search.memo,
+                table,
+                &context.hyps,
+                outside,
+                means,
+                goal,
+                None,
+            )?;
+            Ok(None)
+        }
+        Some(id) => {
+            context.answers.keep(
+                &mut search.memo,
+                table,
+                &context.hyps,
+                outside,
+                means,
+                goal,
+                Some(id),
+            )?;
+            Ok(Some(id))
+        }
+    }
+}

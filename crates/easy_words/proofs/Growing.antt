@@ -1,7 +1,0 @@
--- What is kept, as the table grows.
-use Rattle.hereditary_subst.proofs.Rows.{memo-more}
-use Rattle.easy_words.proofs.Rounds.{forms-more}
-
-pub ruleset rows = (memo-more)
-
-pub ruleset forms = (memo-more, forms-more)

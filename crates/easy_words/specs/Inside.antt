@@ -1,6 +1,0 @@
--- Words of the private functions and of what is kept.
-pub mod Candidates
-pub mod Rewrites
-pub mod Rounds
-pub mod Sums
-pub mod Occurrences

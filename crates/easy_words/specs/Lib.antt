@@ -1,5 +1,0 @@
-pub mod BoundIds
-pub mod KeptBounds
-pub mod NormalForms
-pub mod Sums
-pub mod Inside

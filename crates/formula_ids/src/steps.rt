@@ -1,0 +1,124 @@
+//! Expressions, relations and the steps of proofs, made in a table.
+//!
+//! Errors: want of memory alone; each id keeps its tree.
+
+ghost use Rattle.std.specs.Prelude.{◌≡◌, IfOk};
+ghost use Rattle.term_table.specs.Table.{IsKnown, tree_at, Extends};
+ghost use Rattle.hereditary_subst.specs.Inside.Kept.{IsMemo};
+ghost use Rattle.lf_signature.specs.Nodes.{IsIdOf};
+ghost use Rattle.lf_signature.specs.Terms.{op_term, rel_term};
+ghost use Rattle.formula_tree.specs.Formulas.{Exp, Form};
+ghost use Rattle.formula_terms.specs.Encoding.{exp_encoding, form_encoding};
+ghost use Rattle.formula_terms.specs.ProofTerms.{eq_refl, move, swap, calc, fact};
+
+use crate::hypotheses::raised;
+use hereditary_subst::Memo;
+use lf_rules::numbers::{EQ_REFL, EQ_SUB};
+use lf_rules::rule_term;
+use lf_signature::app2;
+use lf_signature::numbers::{op_constant, op_number, rel_constant, rel_number};
+use std::alloc::AllocError;
+use term_table::{Id, Node, Table};
+use word_ops::{Op, Rel};
+
+/// The operator at two expressions.
+pub fn oper(table: &mut Table, op: Op, a: Id, b: Id) -> Result<Id, AllocError>
+    requires a { IsKnown table.old a }
+    requires b { IsKnown table.old b }
+    ensures id { IfOk result
+        (IsIdOf table.new (op_term op (tree_at table.old a) (tree_at table.old b))) }
+    ensures extends { Extends table.old table.new }
+{
+    app2(table, op_constant(op), a, b)
+}
+
+/// The relation of two expressions.
+pub fn relation(table: &mut Table, rel: Rel, a: Id, b: Id) -> Result<Id, AllocError>
+    requires a { IsKnown table.old a }
+    requires b { IsKnown table.old b }
+    ensures id { IfOk result
+        (IsIdOf table.new (rel_term rel (tree_at table.old a) (tree_at table.old b))) }
+    ensures extends { Extends table.old table.new }
+{
+    app2(table, rel_constant(rel), a, b)
+}
+
+/// The proof that the operator gives what it gives at two words.
+pub fn calc(table: &mut Table, op: Op, v: u64, w: u64) -> Result<Id, AllocError>
+    ensures id { IfOk result (IsIdOf table.new (calc op v w)) }
+    ensures extends { Extends table.old table.new }
+{
+    table.intern(Node::Calc(op_number(op), v, w))
+}
+
+/// The proof that the relation holds of two words, where it does.
+pub fn fact(table: &mut Table, rel: Rel, v: u64, w: u64) -> Result<Id, AllocError>
+    ensures id { IfOk result (IsIdOf table.new (fact rel v w)) }
+    ensures extends { Extends table.old table.new }
+{
+    table.intern(Node::Fact(rel_number(rel), v, w))
+}
+
+/// The proof that an expression equals itself.
+pub fn reflexive(table: &mut Table, a: Id) -> Result<Id, AllocError>
+    requires { IsKnown table.old a }
+    ensures known { IfOk result (IsKnown table.new) }
+    ensures is { (x : Exp) → tree_at table.old a ≡ exp_encoding x
+        → IfOk result (IsIdOf table.new (eq_refl x)) }
+    ensures extends { Extends table.old table.new }
+{
+    rule_term(table, EQ_REFL, &[a])
+}
+
+/// From `a` to `b`, by the proof `equal` that they are, in the formula `form`, whose variable 0 is the
+/// place: the proof of the formula at `b`, by the proof `proof` of it at `a`.
+pub fn moved(
+    table: &mut Table,
+    form: Id,
+    a: Id,
+    b: Id,
+    equal: Id,
+    proof: Id,
+) -> Result<Id, AllocError>
+    requires form { IsKnown table.old form }
+    requires a { IsKnown table.old a }
+    requires b { IsKnown table.old b }
+    requires equal { IsKnown table.old equal }
+    requires proof { IsKnown table.old proof }
+    ensures known { IfOk result (IsKnown table.new) }
+    ensures is { (A : Form) (x y : Exp) → tree_at table.old form ≡ form_encoding A
+        → tree_at table.old a ≡ exp_encoding x → tree_at table.old b ≡ exp_encoding y
+        → IfOk result (IsIdOf table.new
+        (move A x y (tree_at table.old equal) (tree_at table.old proof))) }
+    ensures extends { Extends table.old table.new }
+{
+    let function = table.intern(Node::Lam(form))?;
+    rule_term(table, EQ_SUB, &[function, a, b, equal, proof])
+}
+
+/// The proof that `b` equals `a`, by a proof that `a` equals `b`.
+#[tactic(auto, using(hereditary_subst::proofs::Rows::rows))]
+pub fn swapped(
+    table: &mut Table,
+    memo: &mut Memo,
+    a: Id,
+    b: Id,
+    equal: Id,
+) -> Result<Id, AllocError>
+    requires a { IsKnown table.old a }
+    requires b { IsKnown table.old b }
+    requires equal { IsKnown table.old equal }
+    requires memo { IsMemo table.old memo.old }
+    ensures known { IfOk result (IsKnown table.new) }
+    ensures is { (x y : Exp) → tree_at table.old a ≡ exp_encoding x
+        → tree_at table.old b ≡ exp_encoding y
+        → IfOk result (IsIdOf table.new (swap x y (tree_at table.old equal))) }
+    ensures extends { Extends table.old table.new }
+    ensures memo { IsMemo table.new memo.new }
+{
+    let place = table.intern(Node::Var(0))?;
+    let under = raised(table, memo, a)?;
+    let form = relation(table, Rel::Eq, place, under)?;
+    let itself = reflexive(table, a)?;
+    moved(table, form, a, b, equal, itself)
+}

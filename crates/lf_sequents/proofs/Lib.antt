@@ -1,0 +1,5 @@
+pub mod Shallow
+pub mod Lasting
+pub mod Sizes
+pub mod Fitting
+pub mod Concluding

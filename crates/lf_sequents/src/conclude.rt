@@ -1,0 +1,138 @@
+//! The sequent of a rule's conclusion.
+
+ghost use Rattle.std.specs.Prelude.{◌≡◌, ◌≤◌, ◌<◌, ◌+◌, ◌^◌, IfOk, IsTrue, map, length};
+ghost use Rattle.term_table.specs.Tree.{apps};
+ghost use Rattle.term_table.specs.Table.{IsKnown, AllKnown, tree_at, Extends};
+ghost use Rattle.lf_signature.specs.Schemas.{premise_of};
+ghost use Rattle.lf_signature.specs.Nodes.{IsIdOf};
+ghost use Rattle.lf_signature.specs.Sigma1.{declared};
+ghost use Rattle.lf_check.specs.Inside.Kept.{AreKept};
+ghost use Rattle.lf_rules.specs.Instance.{trees_of};
+ghost use Rattle.lf_sequents.specs.Sequents.{AreSequents};
+ghost use Rattle.lf_sequents.specs.Answers.{proof_taken, proofs_taken, IsRuleAnswer};
+ghost use Rattle.lf_sequents.specs.Inside.Room.{sequents_of, terms_of, AreShallow, HasVarRoom};
+
+use crate::instance::form_id;
+use crate::premises::{are_typed, do_fit};
+use crate::sequent::Sequent;
+use lf_check::Kept;
+use lf_rules::rule_term;
+use lf_signature::rule_at;
+use lf_signature::schema::Premise;
+use std::alloc::{AllocError, Global};
+use term_table::{Id, Node, Table};
+
+/// A height that none of the terms passes, from one that others have.
+fn highest(table: &Table, ids: &[Id], least: u32) -> u32
+    requires { AllKnown table.now ids.now }
+    ensures least { least ≤ result }
+    ensures shallow { result < 4294967295 → AreShallow result (trees_of table.now ids.now) }
+{
+    match ids {
+        [] => least,
+        [first, rest @ ..] => highest(table, rest, least.max(table.height(*first))),
+    }
+}
+
+/// The same of the proofs of sequents.
+fn highest_proof(table: &Table, premises: &[&Sequent], least: u32) -> u32
+    requires { AreSequents table.now (sequents_of premises.now) }
+    ensures least { least ≤ result }
+    ensures shallow { result < 4294967295
+        → AreShallow result (terms_of table.now (sequents_of premises.now)) }
+{
+    match premises {
+        [] => least,
+        [first, rest @ ..] => highest_proof(table, rest, least.max(table.height(first.term))),
+    }
+}
+
+/// Whether the hypotheses are so few, and the terms so low, that no variable of the typing of the
+/// rule at them reaches 2^32.
+fn has_room(table: &Table, hyps: &[Id], params: &[Id], premises: &[&Sequent]) -> bool
+    requires params { AllKnown table.now params.now }
+    requires premises { AreSequents table.now (sequents_of premises.now) }
+    ensures { IsTrue result
+        → HasVarRoom table.now hyps.now params.now (sequents_of premises.now) }
+{
+    let height = u64::from(highest_proof(table, premises, highest(table, params, 0)));
+    hyps.len() as u64 <= 4_294_967_264 && 3 * height <= 4_294_967_264 - hyps.len() as u64
+}
+
+/// A premise's proof as the rule's constant takes it.
+fn taken(table: &mut Table, premise: &Premise, term: Id) -> Result<Id, AllocError>
+    requires { IsKnown table.old term }
+    ensures id { IfOk result
+        (IsIdOf table.new (proof_taken (premise_of premise.now) (tree_at table.old term))) }
+    ensures extends { Extends table.old table.new }
+{
+    match premise {
+        Premise::Plain(_) => Ok(term),
+        _ => table.intern(Node::Lam(term)),
+    }
+}
+
+/// A term applied to the proofs of premises, the first first.
+fn with_proofs(
+    table: &mut Table,
+    head: Id,
+    rows: &[Premise],
+    premises: &[&Sequent],
+) -> Result<Id, AllocError>
+    requires head { IsKnown table.old head }
+    requires premises { AreSequents table.old (sequents_of premises.now) }
+    ensures id { let proofs =
+        proofs_taken table.old (map premise_of rows.now) (sequents_of premises.now) in
+        IfOk result (IsIdOf table.new (apps (tree_at table.old head) proofs)) }
+    ensures extends { Extends table.old table.new }
+{
+    match rows {
+        [] => Ok(head),
+        [row, rows @ ..] => match premises {
+            [] => Ok(head),
+            [premise, premises @ ..] => {
+                let proof = taken(table, row, premise.term)?;
+                let next = table.intern(Node::App(head, proof))?;
+                with_proofs(table, next, rows, premises)
+            }
+        },
+    }
+}
+
+/// The sequent of the conclusion of the rule of this number, at these parameters and premises.
+pub fn by_rule(
+    alloc: Global,
+    table: &mut Table,
+    kept: &mut Kept,
+    hyps: &[Id],
+    number: u32,
+    params: &[Id],
+    premises: &[&Sequent],
+) -> Result<Option<Sequent>, AllocError>
+    requires hyps { AllKnown table.old hyps.now }
+    requires params { AllKnown table.old params.now }
+    requires premises { AreSequents table.old (sequents_of premises.now) }
+    requires kept { AreKept declared table.old kept.old }
+    ensures answer { IfOk result (IsRuleAnswer number table.old table.new hyps.now params.now
+        (sequents_of premises.now)) }
+    ensures extends { Extends table.old table.new }
+    ensures kept { AreKept declared table.new kept.new }
+{
+    let Some(rule) = rule_at(number) else {
+        return Ok(None);
+    };
+    if !has_room(table, hyps, params, premises) {
+        return Err(AllocError);
+    }
+    if !are_typed(table, kept, hyps, rule.parameters, params)? {
+        return Ok(None);
+    }
+    if !do_fit(table, kept, hyps, params, rule.premises, premises)? {
+        return Ok(None);
+    }
+    let goal = form_id(table, kept, params, 0, &rule.conclusion)?;
+    let head = rule_term(table, number, params)?;
+    let term = with_proofs(table, head, rule.premises, premises)?;
+    let hyps = hyps.to_vec(alloc)?;
+    Ok(Some(Sequent { hyps, goal, term }))
+}

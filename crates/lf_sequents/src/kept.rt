@@ -1,0 +1,86 @@
+//! Shifts and plain substitution on ids, with results that are kept.
+
+ghost use Rattle.std.specs.Prelude.{◌≡◌, ◌≤◌, ◌^◌, Some, IfOk};
+ghost use Rattle.term_table.specs.Tree.{shift};
+ghost use Rattle.term_table.specs.Subst.{erase, hsub_type};
+ghost use Rattle.term_table.specs.Table.{IsKnown, tree_at, Extends};
+ghost use Rattle.lf_signature.specs.Nodes.{IsIdOf};
+ghost use Rattle.lf_signature.specs.Sigma1.{declared};
+ghost use Rattle.lf_check.specs.Inside.Kept.{AreKept};
+ghost use Rattle.lf_rules.specs.Plain.{beta};
+
+use hereditary_subst::{subst_type_with, weaken_with};
+use lf_check::Kept;
+use lf_signature::pf;
+use std::alloc::AllocError;
+use term_table::{Id, Node, Table};
+
+/// The tree under so many more binders. Where a variable would reach 2^32, want of memory.
+pub fn raised(table: &mut Table, kept: &mut Kept, id: Id, by: u64) -> Result<Id, AllocError>
+    requires small { by ≤ 2 ^ 32 }
+    requires known { IsKnown table.old id }
+    requires kept { AreKept declared table.old kept.old }
+    ensures id { IfOk result (IsIdOf table.new (shift by 0 (tree_at table.old id))) }
+    ensures extends { Extends table.old table.new }
+    ensures kept { AreKept declared table.new kept.new }
+{
+    match weaken_with(table, &mut kept.memo, id, by)? {
+        Some(raised) => Ok(raised),
+        None => Err(AllocError),
+    }
+}
+
+/// The type of proofs with a term of this family for the nearest variable. Where substitution has no
+/// result, want of memory.
+fn put(
+    table: &mut Table,
+    kept: &mut Kept,
+    proofs: Id,
+    arg: Id,
+    family: Id,
+) -> Result<Id, AllocError>
+    requires proofs { IsKnown table.old proofs }
+    requires arg { IsKnown table.old arg }
+    requires family { IsKnown table.old family }
+    requires kept { AreKept declared table.old kept.old }
+    ensures known { IfOk result (IsKnown table.new) }
+    ensures is { IfOk result (λ r. hsub_type (erase (tree_at table.old family))
+        (tree_at table.old arg) 0 (tree_at table.old proofs) ≡ Some (tree_at table.new r)) }
+    ensures extends { Extends table.old table.new }
+    ensures kept { AreKept declared table.new kept.new }
+{
+    match subst_type_with(table, &mut kept.memo, proofs, arg, family)? {
+        Some(put) => Ok(put),
+        None => Err(AllocError),
+    }
+}
+
+/// The body of a formula over a word or memory, with a term of this family put in; what is no
+/// abstraction stays. Where substitution has no result, want of memory.
+#[tactic(auto, using(lf_rules::proofs::Grown::grown))]
+pub fn beta_id(
+    table: &mut Table,
+    kept: &mut Kept,
+    f: Id,
+    arg: Id,
+    family: u32,
+) -> Result<Id, AllocError>
+    requires f { IsKnown table.old f }
+    requires arg { IsKnown table.old arg }
+    requires kept { AreKept declared table.old kept.old }
+    ensures id { IfOk result
+        (IsIdOf table.new (beta (tree_at table.old f) (tree_at table.old arg))) }
+    ensures extends { Extends table.old table.new }
+    ensures kept { AreKept declared table.new kept.new }
+{
+    let Node::Lam(body) = table.node(f) else {
+        return Ok(f);
+    };
+    let ty = table.intern(Node::Fam(family))?;
+    let proofs = pf(table, body)?;
+    let put = put(table, kept, proofs, arg, ty)?;
+    match table.node(put) {
+        Node::TApp(_, formula) => Ok(formula),
+        _ => Err(AllocError),
+    }
+}
