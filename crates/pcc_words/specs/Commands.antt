@@ -2,6 +2,7 @@
 use Rattle.std.specs.Prelude.{◌≤◌}
 use Rattle.pcc_words.specs.Invocations.{Invocation, asm, prove, check, run, ref, demo}
 use Rattle.pcc_words.specs.declared.commands.Command.{Command}
+use Rattle.pcc_words.specs.declared.limits.TheConstants.{MAX_DEMO, MAX_STEPS}
 use Rattle.pcc_words.specs.declared.commands.Command.TheVariants as command
 
 -- the command with its values
@@ -18,6 +19,6 @@ abbrev pub IsInRange : Command → Type 0
 IsInRange (command.Asm args) = Unit {0}
 IsInRange (command.Prove args) = Unit {0}
 IsInRange (command.Check args) = Unit {0}
-IsInRange (command.Run args) = (1 ≤ args.steps) × (args.steps ≤ 1000000000)
-IsInRange (command.Ref args) = (1 ≤ args.steps) × (args.steps ≤ 1000000000)
-IsInRange (command.Demo n) = (1 ≤ n) × (n ≤ 400)
+IsInRange (command.Run args) = (1 ≤ args.steps) × (args.steps ≤ MAX_STEPS)
+IsInRange (command.Ref args) = (1 ≤ args.steps) × (args.steps ≤ MAX_STEPS)
+IsInRange (command.Demo n) = (1 ≤ n) × (n ≤ MAX_DEMO)

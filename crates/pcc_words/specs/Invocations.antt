@@ -7,6 +7,7 @@ use Rattle.std.specs.Str.Parse.{digits_value, without_leading_plus}
 use Rattle.clap.specs.Words.{App, Kinds, Row, Rule, Text, fault_of, first_of, new_app, new_rule, one_of, subcommand_of, with_rule, with_subcommand}
 use Rattle.clap.specs.Simple.{on_top}
 use Rattle.clap.specs.declared.builder.value_parser.ValueParser.TheVariants as parser
+use Rattle.pcc_words.specs.declared.limits.TheConstants.{MAX_DEMO, MAX_STEPS}
 
 -- ---- the command line
 
@@ -18,13 +19,13 @@ positional id = record (new_rule id) { required = true }
 abbrev pub steps_rule : Rule
 steps_rule = record (new_rule (codes "steps")) {
   long = Some (codes "steps");
-  parser = Some (parser.Unsigned 1 1000000000);
+  parser = Some (parser.Unsigned 1 MAX_STEPS);
   defaults = codes "1000000" ∷ [];
 }
 
 -- `NAME N`, N from 1 to 400
 abbrev pub number_app : Text → App
-number_app name = with_rule (new_app name) (record (positional (codes "N")) { parser = Some (parser.Unsigned 1 400) })
+number_app name = with_rule (new_app name) (record (positional (codes "N")) { parser = Some (parser.Unsigned 1 MAX_DEMO) })
 
 -- `NAME POLICY FILE`
 abbrev pub file_app : Text → App
@@ -93,7 +94,7 @@ number_at id rows = number_of (unwrap_or (one_of id rows) [])
 
 -- from 1 to 1,000,000,000
 abbrev pub is_step_count : ℕ → Bool
-is_step_count steps = nat_le 1 steps && nat_le steps 1000000000
+is_step_count steps = nat_le 1 steps && nat_le steps MAX_STEPS
 
 -- a command that runs packets, of these rows. The parse takes no other numbers of steps, so the test refuses none of them.
 abbrev pub run_invocation : (Text → Text → Text → ℕ → Invocation) → List Row → Option Invocation
@@ -105,7 +106,7 @@ run_invocation command rows =
 
 -- from 1 to 400
 abbrev pub is_demo_size : ℕ → Bool
-is_demo_size n = nat_le 1 n && nat_le n 400
+is_demo_size n = nat_le 1 n && nat_le n MAX_DEMO
 
 -- `demo` of these rows. The parse takes no other numbers, so the test refuses none of them.
 abbrev pub demo_invocation : List Row → Option Invocation

@@ -6,6 +6,7 @@ ghost use Rattle.pcc_words.specs.Invocations.{copy_app, file_app, run_app, file_
 ghost use Rattle.pcc_words.specs.Invocations.{named_files_app, number_app, pcc_app, steps_rule};
 ghost use Rattle.pcc_words.specs.Invocations.{positional as positional_rule};
 
+use crate::limits::{MAX_DEMO, MAX_STEPS};
 use clap::{Arg, Command, value_parser};
 use std::alloc::{AllocError, Global};
 
@@ -24,7 +25,7 @@ fn steps<'a>(alloc: Global) -> Arg<'a>
 {
     Arg::new(alloc, "steps")
         .long("steps")
-        .value_parser(value_parser!(u64).range(1..=1_000_000_000))
+        .value_parser(value_parser!(u64).range(1..=MAX_STEPS as i64))
         .default_value("1000000")
 }
 
@@ -33,7 +34,7 @@ fn number_command<'a>(alloc: Global, name: &'a str) -> Result<Command<'a>, Alloc
     ensures app { IfOk result (λ c. app_of c ≡ number_app name.entry.now) }
     ensures local { IfOk result (λ c. (fields_of c).has_globals ≡ false) }
 {
-    let number = positional(alloc, "N").value_parser(value_parser!(u64).range(1..=400));
+    let number = positional(alloc, "N").value_parser(value_parser!(u64).range(1..=MAX_DEMO as i64));
     Command::new(alloc, name).arg(number)
 }
 

@@ -9,6 +9,7 @@
 
 mod builders;
 mod commands;
+mod limits;
 mod theorems;
 mod values;
 
@@ -19,6 +20,7 @@ ghost use Rattle.pcc_words.specs.Commands.{invocation_of, IsInRange};
 use builders::pcc_command;
 use clap::error::ErrorKind;
 pub use commands::{Command, CopyArgs, FileArgs, RunArgs};
+pub use limits::{MAX_DEMO, MAX_STEPS};
 use std::alloc::{AllocError, Global};
 pub use theorems::{worked_commands, worked_faults};
 use values::command_found;

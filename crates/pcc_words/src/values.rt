@@ -6,13 +6,8 @@ ghost use Rattle.pcc_words.specs.Invocations.{invocation_at, invocation_of_subco
 ghost use Rattle.pcc_words.specs.Commands.{invocation_of, IsInRange};
 
 use crate::commands::{Command, CopyArgs, FileArgs, RunArgs};
+use crate::limits::{MAX_DEMO, MAX_STEPS};
 use clap::ArgMatches;
-
-/// The most steps for a packet that may be asked for.
-const MAX_STEPS: u64 = 1_000_000_000;
-
-/// The most loads of `demo`.
-const MAX_DEMO: u64 = 400;
 
 /// The number of an optional argument, or 0 where it says none.
 fn number_given(matches: &ArgMatches<'_>, id: &str) -> u64
