@@ -30,7 +30,9 @@ fn unfolded(rt: &impl Abort, alloc: Global, words: &[u32], marks: &[u32]) -> Res
     };
     assert!(rt; is_rising(marks));
     assert!(rt; marks.iter().all(|mark| *mark < code.count()));
-    Ok(code.cut(alloc, marks)?.unfolded())
+    let cut = code.cut(alloc, marks)?;
+    assert_eq!(rt; cut.code().count() as usize, words.len());
+    Ok(cut.unfolded())
 }
 
 #[test]
