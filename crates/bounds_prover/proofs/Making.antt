@@ -36,7 +36,7 @@ use Rattle.pcc_gate.proofs.Safe.{formulas-over}
 use Rattle.easy_class.specs.Parts.{conjoined, condition_proof, first_not_easy}
 use Rattle.easy_class.specs.Access.{by_all_means}
 use Rattle.bounds_prover.specs.declared.fault.ProveFault.{ProveFault}
-use Rattle.bounds_prover.specs.declared.fault.ProveFault.TheVariants.{Refused, NotEasy, TooBig, Memory}
+use Rattle.bounds_prover.specs.declared.fault.ProveFault.TheVariants.{Refused, NotEasy, TooBig, Memory, Results}
 use Rattle.bounds_prover.specs.Proving.{condition_parts, with_proof, excess, encoded_unless, with_parts_proof, proved_contents, proved_code, proved_read, made_unless, proved_container, IsMadeAnswer}
 use Rattle.bounds_prover.proofs.Measures.{IsSmallEnough, small-enough}
 use Rattle.bounds_prover.proofs.Heights.{parts-low}

@@ -25,7 +25,7 @@ use Rattle.easy_class.specs.Access.{by_all_means}
 use Rattle.bounds_prover.specs.declared.fault.Measure.{Measure}
 use Rattle.bounds_prover.specs.declared.fault.Measure.TheVariants.{Weight, Height, Entries, Bytes}
 use Rattle.bounds_prover.specs.declared.fault.ProveFault.{ProveFault}
-use Rattle.bounds_prover.specs.declared.fault.ProveFault.TheVariants.{Refused, NotEasy, TooBig, Memory}
+use Rattle.bounds_prover.specs.declared.fault.ProveFault.TheVariants.{Refused, NotEasy, TooBig, Memory, Results}
 
 -- the parts of the verification condition: the entry's, then each invariant's
 unfoldable pub condition_parts : PolicyKind → List Insn → List (ℕ × Tree) → List Form
@@ -94,6 +94,7 @@ proved_container policy bytes = made_unless (front_refusal policy bytes) (proved
 abbrev pub IsMadeAnswer : Result (List ℕ) ProveFault → Result (Vec ℕ Global) ProveFault → Type 0
 IsMadeAnswer made (Ok out) = made ≡ Ok out.items
 IsMadeAnswer made (Err Memory) = Unit {0}
+IsMadeAnswer made (Err Results) = Unit {0}
 IsMadeAnswer made (Err fault) = made ≡ Err fault
 
 -- what `prove` answers

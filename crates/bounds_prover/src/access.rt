@@ -19,7 +19,7 @@ use crate::access_moves::{Access, moved_access};
 use crate::access_walks::{Asked, Grant};
 use easy_goals::{Context, Search};
 use formula_ids::{FormNode, Hypothesis, form_node};
-use std::alloc::AllocError;
+use hereditary_subst::Exhausted;
 use term_table::{Id, Table};
 
 /// Access by a quantified hypothesis over `body`.
@@ -30,7 +30,7 @@ fn by_quantified(
     asked: &Asked,
     body: Id,
     proof: Id,
-) -> Result<Option<Id>, AllocError>
+) -> Result<Option<Id>, Exhausted>
     requires asked { IsKnown table.old asked.now.address }
     requires body { IsKnown table.old body }
     requires proof { IsKnown table.old proof }
@@ -74,7 +74,7 @@ fn by_implication(
     premise: Id,
     conclusion: Id,
     proof: Id,
-) -> Result<Option<Id>, AllocError>
+) -> Result<Option<Id>, Exhausted>
     requires asked { IsKnown table.old asked.now.address }
     requires premise { IsKnown table.old premise }
     requires conclusion { IsKnown table.old conclusion }
@@ -107,7 +107,7 @@ fn by_address(
     given: Access,
     z: Id,
     proof: Id,
-) -> Result<Option<Id>, AllocError>
+) -> Result<Option<Id>, Exhausted>
     requires asked { IsKnown table.old asked.now.address }
     requires z { IsKnown table.old z }
     requires proof { IsKnown table.old proof }
@@ -149,7 +149,7 @@ fn by_hyp(
     asked: &Asked,
     form: Id,
     proof: Id,
-) -> Result<Option<Id>, AllocError>
+) -> Result<Option<Id>, Exhausted>
     requires asked { IsKnown table.old asked.now.address }
     requires form { IsKnown table.old form }
     requires proof { IsKnown table.old proof }
@@ -205,7 +205,7 @@ fn by_hyps(
     search: &mut Search,
     context: &mut Context,
     asked: &Asked,
-) -> Result<Option<Id>, AllocError>
+) -> Result<Option<Id>, Exhausted>
     requires asked { IsKnown table.old asked.now.address }
     requires search { IsSearch table.old search.old }
     requires context { IsContext table.old context.old }
@@ -234,7 +234,7 @@ pub fn proof_by_access(
     search: &mut Search,
     context: &mut Context,
     goal: Id,
-) -> Result<Option<Id>, AllocError>
+) -> Result<Option<Id>, Exhausted>
     requires goal { IsKnown table.old goal }
     requires search { IsSearch table.old search.old }
     requires context { IsContext table.old context.old }

@@ -19,6 +19,7 @@ use crate::access_moves::{access_move, form_with};
 use crate::access_walks::{Asked, Found, Grant, Side, walk};
 use easy_goals::{Context, Search};
 use formula_ids::{FormNode, form_node};
+use hereditary_subst::Exhausted;
 use lf_rules::numbers::{ALL_E, AND_L, AND_R, IMP_E};
 use lf_rules::rule_term;
 use lf_signature::app2;
@@ -67,7 +68,7 @@ fn granted(
     conclusion: Id,
     proof: Id,
     found: &Found,
-) -> Result<Id, AllocError>
+) -> Result<Id, Exhausted>
     requires asked { IsKnown table.old asked.now.address }
     requires premise { IsKnown table.old premise }
     requires conclusion { IsKnown table.old conclusion }
@@ -125,7 +126,7 @@ fn granted_instance(
     asked: &Asked,
     grant: &Grant,
     found: &Found,
-) -> Result<Id, AllocError>
+) -> Result<Id, Exhausted>
     requires asked { IsKnown table.old asked.now.address }
     requires grant { IsKnownGrant table.old grant.now }
     requires found { IsKnownFound table.old found.now }
@@ -160,7 +161,7 @@ fn granted_by(
     asked: &Asked,
     grant: &Grant,
     found: &Found,
-) -> Result<Id, AllocError>
+) -> Result<Id, Exhausted>
     requires asked { IsKnown table.old asked.now.address }
     requires grant { IsKnownGrant table.old grant.now }
     requires found { IsKnownFound table.old found.now }
@@ -195,7 +196,7 @@ pub(crate) fn by_grant(
     context: &mut Context,
     asked: &Asked,
     grant: &Grant,
-) -> Result<Option<Id>, AllocError>
+) -> Result<Option<Id>, Exhausted>
     requires asked { IsKnown table.old asked.now.address }
     requires grant { IsKnownGrant table.old grant.now }
     requires search { IsSearch table.old search.old }

@@ -16,9 +16,10 @@ ghost use Rattle.bounds_prover.specs.Inside.Access.{variable_index, rest_at, sca
 ghost use Rattle.bounds_prover.specs.Inside.AccessIds.{IfIndexed};
 
 use crate::access_moves::exp_with;
-use easy_forms::{eighth, occurs, rest_of};
+use easy_forms::{eighth, occurs, rest_of, summand_count};
 use easy_goals::{Search, normal};
 use formula_ids::{ExpNode, exp_node, literal, operands};
+use hereditary_subst::Exhausted;
 use std::alloc::AllocError;
 use term_table::{Id, Node, Table};
 use word_ops::Op;
@@ -95,7 +96,7 @@ fn split_address(table: &Table, z: Id) -> Option<Indexed>
 
 /// Whether variable 0 stands in the expression.
 #[tactic(auto, using(easy_goals::proofs::Kept::rows))]
-fn has_variable(table: &Table, search: &mut Search, e: Id) -> Result<bool, AllocError>
+fn has_variable(table: &Table, search: &mut Search, e: Id) -> Result<bool, Exhausted>
     requires e { IsKnown table.now e }
     requires search { IsSearch table.now search.old }
     ensures exact { IfOk result (OccursInExp table.now e) }
@@ -112,7 +113,7 @@ fn rest_at(
     outside: u32,
     a: Id,
     base: Id,
-) -> Result<Option<Id>, AllocError>
+) -> Result<Option<Id>, Exhausted>
     requires a { IsKnown table.old a }
     requires base { IsKnown table.old base }
     requires search { IsSearch table.old search.old }
@@ -127,9 +128,8 @@ fn rest_at(
     let start = exp_with(table, search, base, zero)?;
     let of_a = normal(table, search, outside, a)?;
     let of_base = normal(table, search, outside, start)?;
-    // a sum has no more summands than it is high
-    let most = u64::from(table.height(of_a.now)) * u64::from(table.height(of_base.now));
-    search.spend_steps(most)?;
+    let pairs = summand_count(table, of_a.now).saturating_mul(summand_count(table, of_base.now));
+    search.spend_steps(pairs)?;
     let rest = rest_of(table, of_a.now, of_base.now)?;
     Ok(rest)
 }
@@ -164,7 +164,7 @@ fn index_at(
     a: Id,
     base: Id,
     scaled: bool,
-) -> Result<Option<Id>, AllocError>
+) -> Result<Option<Id>, Exhausted>
     requires a { IsKnown table.old a }
     requires base { IsKnown table.old base }
     requires search { IsSearch table.old search.old }
@@ -192,7 +192,7 @@ pub(crate) fn instance_of(
     outside: u32,
     a: Id,
     z: Id,
-) -> Result<Option<Id>, AllocError>
+) -> Result<Option<Id>, Exhausted>
     requires a { IsKnown table.old a }
     requires z { IsKnown table.old z }
     requires search { IsSearch table.old search.old }

@@ -17,6 +17,7 @@ ghost use Rattle.bounds_prover.specs.Inside.AccessIds.{access_of};
 use easy_forms::equal_proof;
 use easy_goals::{Search, normal};
 use formula_ids::{moved, put_word, put_word_exp};
+use hereditary_subst::Exhausted;
 use lf_signature::app1;
 use lf_signature::numbers::{RD, WR};
 use std::alloc::AllocError;
@@ -38,7 +39,7 @@ pub(crate) fn exp_with(
     search: &mut Search,
     exp: Id,
     arg: Id,
-) -> Result<Id, AllocError>
+) -> Result<Id, Exhausted>
     requires exp { IsKnown table.old exp }
     requires arg { IsKnown table.old arg }
     requires search { IsSearch table.old search.old }
@@ -56,7 +57,7 @@ pub(crate) fn form_with(
     search: &mut Search,
     form: Id,
     arg: Id,
-) -> Result<Id, AllocError>
+) -> Result<Id, Exhausted>
     requires form { IsKnown table.old form }
     requires arg { IsKnown table.old arg }
     requires search { IsSearch table.old search.old }
@@ -75,7 +76,7 @@ pub(crate) fn same_address(
     outside: u32,
     z: Id,
     a: Id,
-) -> Result<bool, AllocError>
+) -> Result<bool, Exhausted>
     requires z { IsKnown table.old z }
     requires a { IsKnown table.old a }
     requires search { IsSearch table.old search.old }
@@ -113,7 +114,7 @@ pub(crate) fn access_move(
     z: Id,
     a: Id,
     proof: Id,
-) -> Result<Id, AllocError>
+) -> Result<Id, Exhausted>
     requires z { IsKnown table.old z }
     requires a { IsKnown table.old a }
     requires proof { IsKnown table.old proof }
@@ -143,7 +144,7 @@ pub(crate) fn moved_access(
     z: Id,
     a: Id,
     proof: Id,
-) -> Result<Option<Id>, AllocError>
+) -> Result<Option<Id>, Exhausted>
     requires z { IsKnown table.old z }
     requires a { IsKnown table.old a }
     requires proof { IsKnown table.old proof }

@@ -21,6 +21,7 @@ use crate::access_instances::instance_of;
 use crate::access_moves::{Access, exp_with, form_with, same_address};
 use easy_goals::{Context, Search, proof_without_access};
 use formula_ids::{FormNode, form_node};
+use hereditary_subst::Exhausted;
 use std::alloc::AllocError;
 use std::collections::BTreeSet;
 use term_table::{Id, Table};
@@ -92,7 +93,7 @@ fn opened(
     premise: Id,
     address: Id,
     put: Id,
-) -> Result<Option<Opening>, AllocError>
+) -> Result<Option<Opening>, Exhausted>
     requires premise { IsKnown table.old premise }
     requires address { IsKnown table.old address }
     requires put { IsKnown table.old put }
@@ -126,7 +127,7 @@ fn opened_by(
     a: Id,
     premise: Id,
     address: Id,
-) -> Result<Option<Opening>, AllocError>
+) -> Result<Option<Opening>, Exhausted>
     requires a { IsKnown table.old a }
     requires premise { IsKnown table.old premise }
     requires address { IsKnown table.old address }
@@ -159,7 +160,7 @@ fn opened_with(
     premise: Id,
     address: Id,
     put: Id,
-) -> Result<Option<Opening>, AllocError>
+) -> Result<Option<Opening>, Exhausted>
     requires a { IsKnown table.old a }
     requires premise { IsKnown table.old premise }
     requires address { IsKnown table.old address }
@@ -195,7 +196,7 @@ fn opened_instance(
     a: Id,
     premise: Id,
     address: Id,
-) -> Result<Option<Opening>, AllocError>
+) -> Result<Option<Opening>, Exhausted>
     requires a { IsKnown table.old a }
     requires premise { IsKnown table.old premise }
     requires address { IsKnown table.old address }
@@ -229,7 +230,7 @@ fn opening_at(
     asked: &Asked,
     grant: &Grant,
     address: Id,
-) -> Result<Option<Opening>, AllocError>
+) -> Result<Option<Opening>, Exhausted>
     requires asked { IsKnown table.old asked.now.address }
     requires grant { IsKnownGrant table.old grant.now }
     requires address { IsKnown table.old address }
@@ -262,7 +263,7 @@ fn found_at(
     asked: &Asked,
     grant: &Grant,
     address: Id,
-) -> Result<Option<Found>, AllocError>
+) -> Result<Option<Found>, Exhausted>
     requires asked { IsKnown table.old asked.now.address }
     requires grant { IsKnownGrant table.old grant.now }
     requires address { IsKnown table.old address }
@@ -310,7 +311,7 @@ pub(crate) fn walk(
     grant: &Grant,
     misses: &mut BTreeSet<Part>,
     form: Id,
-) -> Result<Option<Found>, AllocError>
+) -> Result<Option<Found>, Exhausted>
     requires asked { IsKnown table.old asked.now.address }
     requires grant { IsKnownGrant table.old grant.now }
     requires form { IsKnown table.old form }
@@ -351,7 +352,7 @@ fn walk_parts(
     grant: &Grant,
     misses: &mut BTreeSet<Part>,
     form: Id,
-) -> Result<Option<Found>, AllocError>
+) -> Result<Option<Found>, Exhausted>
     requires asked { IsKnown table.old asked.now.address }
     requires grant { IsKnownGrant table.old grant.now }
     requires form { IsKnown table.old form }
@@ -409,7 +410,7 @@ fn walk_both(
     form: Id,
     a: Id,
     b: Id,
-) -> Result<Option<Found>, AllocError>
+) -> Result<Option<Found>, Exhausted>
     requires asked { IsKnown table.old asked.now.address }
     requires grant { IsKnownGrant table.old grant.now }
     requires form { IsKnown table.old form }

@@ -11,7 +11,7 @@ ghost use Rattle.easy_goals.specs.Search.{IsSearch, IsContext, IsAfter};
 
 use crate::access::proof_by_access;
 use easy_goals::{Context, Leaf, Means, Search, goal_proof, proof_by_words};
-use std::alloc::AllocError;
+use hereditary_subst::Exhausted;
 use term_table::{Id, Table};
 
 /// Words, and access to memory by hypotheses.
@@ -33,7 +33,7 @@ impl Leaf for ByAllMeans {
         search: &mut Search,
         context: &mut Context,
         goal: Id,
-    ) -> Result<Option<Id>, AllocError> {
+    ) -> Result<Option<Id>, Exhausted> {
         by_all_means(table, search, context, goal)
     }
 }
@@ -45,7 +45,7 @@ fn by_all_means(
     search: &mut Search,
     context: &mut Context,
     goal: Id,
-) -> Result<Option<Id>, AllocError>
+) -> Result<Option<Id>, Exhausted>
     requires goal { IsKnown table.old goal }
     requires search { IsSearch table.old search.old }
     requires context { IsContext table.old context.old }
@@ -70,7 +70,7 @@ pub(crate) fn proof_by_all_means(
     search: &mut Search,
     context: &mut Context,
     goal: Id,
-) -> Result<Option<Id>, AllocError>
+) -> Result<Option<Id>, Exhausted>
     requires goal { IsKnown table.old goal }
     requires search { IsSearch table.old search.old }
     requires context { IsContext table.old context.old }

@@ -53,4 +53,7 @@ pub enum ProveFault {
     /// There was no memory; that says nothing of the container.
     #[error("out of memory")]
     Memory,
+    /// More results would have been kept than the limit allows; that says nothing of the container.
+    #[error("too many results")]
+    Results,
 }

@@ -16,9 +16,9 @@ use crate::all_means::proof_by_all_means;
 use easy_goals::{Context, Search};
 use easy_hyps::Hypotheses;
 use formula_ids::{FormNode, form_node};
+use hereditary_subst::Exhausted;
 use lf_rules::numbers::{AND_I, TT_I};
 use lf_rules::rule_term;
-use std::alloc::AllocError;
 use term_table::{Id, Table};
 
 /// What is found of the parts of a condition.
@@ -53,7 +53,7 @@ fn first_and_rest(table: &Table, condition: Id) -> Option<Conjunction>
 
 /// The proof of a part from no hypotheses.
 #[tactic(auto, using(easy_goals::proofs::Kept::rows))]
-fn part_proof(table: &mut Table, search: &mut Search, part: Id) -> Result<Option<Id>, AllocError>
+fn part_proof(table: &mut Table, search: &mut Search, part: Id) -> Result<Option<Id>, Exhausted>
     requires part { IsKnown table.old part }
     requires search { IsSearch table.old search.old }
     ensures known { IfOk result (λ o. IfSome o (IsKnown table.new)) }
@@ -77,7 +77,7 @@ pub(crate) fn proof_of_parts(
     search: &mut Search,
     condition: Id,
     number: u32,
-) -> Result<Parts, AllocError>
+) -> Result<Parts, Exhausted>
     requires condition { IsKnown table.old condition }
     requires search { IsSearch table.old search.old }
     ensures known { IfOk result (IsKnownAnswer table.new) }
@@ -94,7 +94,7 @@ pub(crate) fn proof_of_parts(
         return Ok(Parts::NotEasy(number));
     };
     let Some(next) = number.checked_add(1) else {
-        return Err(AllocError);
+        return Err(Exhausted::Memory);
     };
     match proof_of_parts(table, search, parts.rest, next)? {
         Parts::NotEasy(refused) => Ok(Parts::NotEasy(refused)),

@@ -28,7 +28,7 @@ use crate::theorems::prove_laws;
 use alpha_cfg::Cut;
 use easy_class::class_laws;
 use easy_goals::Search;
-use hereditary_subst::MOST_RESULTS;
+use hereditary_subst::{Exhausted, MOST_RESULTS};
 use pcc_gate::{GateFault, MAX_WEIGHT, Passed, front};
 use policy_set::Policy;
 use proof_container::{MAX_BYTES, MAX_ENTRIES, View, extent, write};
@@ -42,7 +42,7 @@ fn condition_in(
     policy: &Policy,
     cut: &Cut,
     invs: &[(u32, Id)],
-) -> Result<Id, AllocError>
+) -> Result<Id, Exhausted>
     requires invs { AreLowInvs table.old invs.now }
     requires forms { AreForms (inv_trees table.old invs.now) }
     requires marks { AreFlags (map (λ p. p.0) invs.now) (length cut.now.code) cut.now.marks }
@@ -54,7 +54,8 @@ fn condition_in(
 {
     match vc(table, cut, policy, invs) {
         Ok(condition) => Ok(condition),
-        Err(VcFault::Memory) => Err(AllocError),
+        Err(VcFault::Memory) => Err(Exhausted::Memory),
+        Err(VcFault::Results) => Err(Exhausted::Results),
         Err(VcFault::UnfoldLimit(_)) => unreachable!(),
     }
 }
@@ -65,7 +66,7 @@ fn parts_in(
     policy: &Policy,
     cut: &Cut,
     invs: &[(u32, Id)],
-) -> Result<Parts, AllocError>
+) -> Result<Parts, Exhausted>
     requires invs { AreLowInvs table.old invs.now }
     requires forms { AreForms (inv_trees table.old invs.now) }
     requires marks { AreFlags (map (λ p. p.0) invs.now) (length cut.now.code) cut.now.marks }
@@ -152,7 +153,8 @@ fn proved(
     let invs = container.invs;
     let parts = match parts_in(&mut table, policy, &cut, &invs) {
         Ok(parts) => parts,
-        Err(_) => return Err(ProveFault::Memory),
+        Err(Exhausted::Memory) => return Err(ProveFault::Memory),
+        Err(Exhausted::Results) => return Err(ProveFault::Results),
     };
     match parts {
         Parts::NotEasy(part) => Err(ProveFault::NotEasy(part)),
@@ -176,6 +178,7 @@ fn made(alloc: Global, policy: &Policy, bytes: &[u8]) -> Result<Vec<u8>, ProveFa
     match front(alloc, policy, bytes) {
         Err(GateFault::Refused(refusal)) => Err(ProveFault::Refused(refusal)),
         Err(GateFault::Memory) => Err(ProveFault::Memory),
+        Err(GateFault::Results) => Err(ProveFault::Results),
         Ok(passed) => proved(alloc, policy, bytes, passed),
     }
 }

@@ -14,7 +14,7 @@ ghost use Rattle.easy_class.specs.Bounds.{WordBound, lesser, greater, folded, fi
 ghost use Rattle.easy_bounds.specs.BoundIds.{IsBoundOf};
 
 use formula_ids::{calc, fact, moved, oper, raised, relation, swapped};
-use hereditary_subst::Memo;
+use hereditary_subst::{Exhausted, Memo};
 use std::alloc::AllocError;
 use term_table::{Id, Node, Table};
 use word_ops::{Op, Rel, apply};
@@ -50,7 +50,7 @@ pub(crate) fn greater(b: Bound, c: Bound) -> Bound
 
 /// That the expression is at most a word, which is the variable 0 under a binder.
 #[tactic(auto, using(hereditary_subst::proofs::Rows::rows))]
-pub(crate) fn below_place(table: &mut Table, memo: &mut Memo, e: Id) -> Result<Id, AllocError>
+pub(crate) fn below_place(table: &mut Table, memo: &mut Memo, e: Id) -> Result<Id, Exhausted>
     requires e { IsKnown table.old e }
     requires memo { IsMemo table.old memo.old }
     ensures known { IfOk result (IsKnown table.new) }
@@ -61,12 +61,13 @@ pub(crate) fn below_place(table: &mut Table, memo: &mut Memo, e: Id) -> Result<I
 {
     let under = raised(table, memo, e)?;
     let place = table.intern(Node::Var(0))?;
-    relation(table, Rel::Ule, under, place)
+    let form = relation(table, Rel::Ule, under, place)?;
+    Ok(form)
 }
 
 /// That a word, which is the variable 0 under a binder, is at most the expression.
 #[tactic(auto, using(hereditary_subst::proofs::Rows::rows))]
-pub(crate) fn above_place(table: &mut Table, memo: &mut Memo, e: Id) -> Result<Id, AllocError>
+pub(crate) fn above_place(table: &mut Table, memo: &mut Memo, e: Id) -> Result<Id, Exhausted>
     requires e { IsKnown table.old e }
     requires memo { IsMemo table.old memo.old }
     ensures known { IfOk result (IsKnown table.new) }
@@ -77,7 +78,8 @@ pub(crate) fn above_place(table: &mut Table, memo: &mut Memo, e: Id) -> Result<I
 {
     let under = raised(table, memo, e)?;
     let place = table.intern(Node::Var(0))?;
-    relation(table, Rel::Ule, place, under)
+    let form = relation(table, Rel::Ule, place, under)?;
+    Ok(form)
 }
 
 /// A word.
@@ -119,7 +121,7 @@ pub(crate) fn folded(
     v: u64,
     w: u64,
     proof: Id,
-) -> Result<Bound, AllocError>
+) -> Result<Bound, Exhausted>
     requires e { IsKnown table.old e }
     requires proof { IsKnown table.old proof }
     requires memo { IsMemo table.old memo.old }
@@ -147,7 +149,7 @@ pub(crate) fn fit_proof(
     op: Op,
     a: u64,
     b: u64,
-) -> Result<Id, AllocError>
+) -> Result<Id, Exhausted>
     requires memo { IsMemo table.old memo.old }
     ensures id { IfOk result (IsIdOf table.new (fit_proof v op a b)) }
     ensures extends { Extends table.old table.new }
@@ -160,5 +162,6 @@ pub(crate) fn fit_proof(
     let back = swapped(table, memo, to, from, equal)?;
     let form = word_below_place(table, v)?;
     let fits = fact(table, Rel::Ule, v, value)?;
-    moved(table, form, from, to, back, fits)
+    let proof = moved(table, form, from, to, back, fits)?;
+    Ok(proof)
 }

@@ -15,8 +15,8 @@ ghost use Rattle.easy_bounds.specs.KeptBounds.{IsUpper, AreUppers};
 
 use crate::bounds::Bound;
 use formula_ids::Hypothesis;
-use hereditary_subst::Memo;
-use std::alloc::{AllocError, Global};
+use hereditary_subst::{Exhausted, Memo};
+use std::alloc::Global;
 use std::collections::BTreeMap;
 use term_table::{Id, Table};
 
@@ -97,7 +97,7 @@ impl UpperBounds {
         hyps: &[Hypothesis],
         e: Id,
         bound: Bound,
-    ) -> Result<(), AllocError>
+    ) -> Result<(), Exhausted>
         requires memo { IsMemo table.now memo.old }
         requires kept { AreUppers table.now hyps.now self.old }
         requires e { IsKnown table.now e }

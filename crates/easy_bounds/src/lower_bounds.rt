@@ -18,7 +18,7 @@ use crate::bounds::{Bound, above_place, greater};
 use crate::op_bounds::literal;
 use crate::upper_bounds::by_word;
 use formula_ids::{FormNode, Hypothesis, form_node, moved};
-use hereditary_subst::Memo;
+use hereditary_subst::{Exhausted, Memo};
 use lf_rules::numbers::{ULE_REFL, ULT_ULE, ZERO_LE};
 use lf_rules::rule_term;
 use std::alloc::AllocError;
@@ -52,7 +52,7 @@ fn by_equal_below(
     w: u64,
     word: Id,
     proof: Id,
-) -> Result<Bound, AllocError>
+) -> Result<Bound, Exhausted>
     requires e { IsKnown table.old e }
     requires word { IsKnown table.old word }
     requires proof { IsKnown table.old proof }
@@ -83,7 +83,7 @@ fn lower_by_equal(
     proof: Id,
     e: Id,
     last: Bound,
-) -> Result<Bound, AllocError>
+) -> Result<Bound, Exhausted>
     requires a { IsKnown table.old a }
     requires b { IsKnown table.old b }
     requires proof { IsKnown table.old proof }
@@ -118,7 +118,7 @@ fn lower_by_at_most(
     proof: Id,
     e: Id,
     last: Bound,
-) -> Result<Bound, AllocError>
+) -> Result<Bound, Exhausted>
     requires a { IsKnown table.old a }
     requires b { IsKnown table.old b }
     requires proof { IsKnown table.old proof }
@@ -148,7 +148,7 @@ fn lower_by_less(
     proof: Id,
     e: Id,
     last: Bound,
-) -> Result<Bound, AllocError>
+) -> Result<Bound, Exhausted>
     requires a { IsKnown table.old a }
     requires b { IsKnown table.old b }
     requires proof { IsKnown table.old proof }
@@ -184,7 +184,7 @@ fn lower_by_relation(
     proof: Id,
     e: Id,
     last: Bound,
-) -> Result<Bound, AllocError>
+) -> Result<Bound, Exhausted>
     requires a { IsKnown table.old a }
     requires b { IsKnown table.old b }
     requires proof { IsKnown table.old proof }
@@ -217,7 +217,7 @@ fn lower_by_hyp(
     proof: Id,
     e: Id,
     last: Bound,
-) -> Result<Bound, AllocError>
+) -> Result<Bound, Exhausted>
     requires form { IsKnown table.old form }
     requires proof { IsKnown table.old proof }
     requires e { IsKnown table.old e }
@@ -256,7 +256,7 @@ fn lower_by_hyps(
     hyps: &[Hypothesis],
     e: Id,
     last: Bound,
-) -> Result<Bound, AllocError>
+) -> Result<Bound, Exhausted>
     requires hyps { AreKnownHyps table.old hyps.now }
     requires e { IsKnown table.old e }
     requires last { IsKnown table.old last.proof }
@@ -301,7 +301,7 @@ pub fn lower_bound(
     memo: &mut Memo,
     hyps: &[Hypothesis],
     e: Id,
-) -> Result<Bound, AllocError>
+) -> Result<Bound, Exhausted>
     requires hyps { AreKnownHyps table.old hyps.now }
     requires e { IsKnown table.old e }
     requires memo { IsMemo table.old memo.old }

@@ -14,7 +14,7 @@ ghost use Rattle.easy_bounds.specs.Inside.Candidates.{literal_of, by_comparison,
 
 use crate::bounds::{Bound, above_place, fit_proof, folded, lesser, word};
 use formula_ids::{ExpNode, exp_node, moved, oper};
-use hereditary_subst::Memo;
+use hereditary_subst::{Exhausted, Memo};
 use lf_rules::numbers::{ADD_LE, AND_COMM, AND_LE, CMP_LE1, SLL_MONO, SRL_MONO, ULE_TRANS};
 use lf_rules::rule_term;
 use std::alloc::AllocError;
@@ -42,7 +42,7 @@ fn by_comparison(
     a: Id,
     b: Id,
     last: Bound,
-) -> Result<Bound, AllocError>
+) -> Result<Bound, Exhausted>
     requires a { IsKnown table.old a }
     requires b { IsKnown table.old b }
     requires last { IsKnown table.old last.proof }
@@ -86,7 +86,7 @@ fn by_left(
     a: Id,
     b: Id,
     v: Bound,
-) -> Result<Bound, AllocError>
+) -> Result<Bound, Exhausted>
     requires e { IsKnown table.old e }
     requires a { IsKnown table.old a }
     requires b { IsKnown table.old b }
@@ -123,7 +123,7 @@ fn by_sides(
     v: Bound,
     w: Bound,
     last: Bound,
-) -> Result<Bound, AllocError>
+) -> Result<Bound, Exhausted>
     requires e { IsKnown table.old e }
     requires a { IsKnown table.old a }
     requires b { IsKnown table.old b }
@@ -156,7 +156,7 @@ fn by_right_shift(
     b: Id,
     count: u64,
     v: Bound,
-) -> Result<Bound, AllocError>
+) -> Result<Bound, Exhausted>
     requires e { IsKnown table.old e }
     requires a { IsKnown table.old a }
     requires b { IsKnown table.old b }
@@ -184,7 +184,7 @@ fn by_left_shift(
     b: Id,
     count: u64,
     v: Bound,
-) -> Result<Bound, AllocError>
+) -> Result<Bound, Exhausted>
     requires e { IsKnown table.old e }
     requires a { IsKnown table.old a }
     requires b { IsKnown table.old b }
@@ -213,7 +213,7 @@ fn by_sum(
     b: Id,
     v: Bound,
     w: Bound,
-) -> Result<Bound, AllocError>
+) -> Result<Bound, Exhausted>
     requires e { IsKnown table.old e }
     requires a { IsKnown table.old a }
     requires b { IsKnown table.old b }
@@ -245,7 +245,7 @@ fn shifted_right(
     b: Id,
     v: Bound,
     last: Bound,
-) -> Result<Bound, AllocError>
+) -> Result<Bound, Exhausted>
     requires e { IsKnown table.old e }
     requires a { IsKnown table.old a }
     requires b { IsKnown table.old b }
@@ -279,7 +279,7 @@ fn shifted_left(
     b: Id,
     v: Bound,
     last: Bound,
-) -> Result<Bound, AllocError>
+) -> Result<Bound, Exhausted>
     requires e { IsKnown table.old e }
     requires a { IsKnown table.old a }
     requires b { IsKnown table.old b }
@@ -318,7 +318,7 @@ fn added(
     v: Bound,
     w: Bound,
     last: Bound,
-) -> Result<Bound, AllocError>
+) -> Result<Bound, Exhausted>
     requires e { IsKnown table.old e }
     requires a { IsKnown table.old a }
     requires b { IsKnown table.old b }
@@ -354,7 +354,7 @@ pub(crate) fn upper_by_parts(
     v: Bound,
     w: Bound,
     last: Bound,
-) -> Result<Bound, AllocError>
+) -> Result<Bound, Exhausted>
     requires e { IsKnown table.old e }
     requires a { IsKnown table.old a }
     requires b { IsKnown table.old b }

@@ -19,7 +19,7 @@ use crate::bounds::{Bound, below_place, folded, lesser};
 use crate::kept_bounds::UpperBounds;
 use crate::op_bounds::{literal, upper_by_parts};
 use formula_ids::{ExpNode, FormNode, Hypothesis, exp_node, form_node, moved};
-use hereditary_subst::Memo;
+use hereditary_subst::{Exhausted, Memo};
 use lf_rules::numbers::{LT_PRED, MAX_LE, ULE_REFL};
 use lf_rules::rule_term;
 use std::alloc::AllocError;
@@ -35,7 +35,7 @@ fn by_less(
     w: u64,
     word: Id,
     proof: Id,
-) -> Result<Bound, AllocError>
+) -> Result<Bound, Exhausted>
     requires e { IsKnown table.old e }
     requires word { IsKnown table.old word }
     requires proof { IsKnown table.old proof }
@@ -60,7 +60,7 @@ fn by_equal(
     w: u64,
     word: Id,
     proof: Id,
-) -> Result<Bound, AllocError>
+) -> Result<Bound, Exhausted>
     requires e { IsKnown table.old e }
     requires word { IsKnown table.old word }
     requires proof { IsKnown table.old proof }
@@ -91,7 +91,7 @@ fn below_word(
     word: Id,
     proof: Id,
     last: Bound,
-) -> Result<Bound, AllocError>
+) -> Result<Bound, Exhausted>
     requires e { IsKnown table.old e }
     requires word { IsKnown table.old word }
     requires proof { IsKnown table.old proof }
@@ -124,7 +124,7 @@ fn upper_by_word(
     word: Id,
     proof: Id,
     last: Bound,
-) -> Result<Bound, AllocError>
+) -> Result<Bound, Exhausted>
     requires e { IsKnown table.old e }
     requires word { IsKnown table.old word }
     requires proof { IsKnown table.old proof }
@@ -162,7 +162,7 @@ fn upper_by_relation(
     proof: Id,
     e: Id,
     last: Bound,
-) -> Result<Bound, AllocError>
+) -> Result<Bound, Exhausted>
     requires a { IsKnown table.old a }
     requires b { IsKnown table.old b }
     requires proof { IsKnown table.old proof }
@@ -195,7 +195,7 @@ fn upper_by_hyp(
     proof: Id,
     e: Id,
     last: Bound,
-) -> Result<Bound, AllocError>
+) -> Result<Bound, Exhausted>
     requires form { IsKnown table.old form }
     requires proof { IsKnown table.old proof }
     requires e { IsKnown table.old e }
@@ -234,7 +234,7 @@ fn upper_by_hyps(
     hyps: &[Hypothesis],
     e: Id,
     last: Bound,
-) -> Result<Bound, AllocError>
+) -> Result<Bound, Exhausted>
     requires hyps { AreKnownHyps table.old hyps.now }
     requires e { IsKnown table.old e }
     requires last { IsKnown table.old last.proof }
@@ -292,7 +292,7 @@ fn upper_of_word(
     e: Id,
     w: u64,
     last: Bound,
-) -> Result<Bound, AllocError>
+) -> Result<Bound, Exhausted>
     requires hyps { AreKnownHyps table.old hyps.now }
     requires e { IsKnown table.old e }
     requires last { IsKnown table.old last.proof }
@@ -323,7 +323,7 @@ pub fn upper_bound(
     kept: &mut UpperBounds,
     hyps: &[Hypothesis],
     e: Id,
-) -> Result<Bound, AllocError>
+) -> Result<Bound, Exhausted>
     requires hyps { AreKnownHyps table.old hyps.now }
     requires e { IsKnown table.old e }
     requires memo { IsMemo table.old memo.old }
@@ -355,7 +355,7 @@ fn upper_by_node(
     kept: &mut UpperBounds,
     hyps: &[Hypothesis],
     e: Id,
-) -> Result<Bound, AllocError>
+) -> Result<Bound, Exhausted>
     requires hyps { AreKnownHyps table.old hyps.now }
     requires e { IsKnown table.old e }
     requires memo { IsMemo table.old memo.old }

@@ -16,8 +16,7 @@ ghost use Rattle.easy_forms.specs.NormalForms.{RewrittenExp, IsKnownRewritten, I
 
 use crate::normal_forms::{Rewritten, number};
 use formula_ids::{ExpNode, exp_node, fact, moved, raised, relation, swapped};
-use hereditary_subst::Memo;
-use std::alloc::AllocError;
+use hereditary_subst::{Exhausted, Memo};
 use term_table::{Id, Node, Table};
 use word_ops::{Rel, holds};
 
@@ -31,7 +30,7 @@ fn second_moved(
     b: Id,
     other: Rewritten,
     proof: Id,
-) -> Result<Id, AllocError>
+) -> Result<Id, Exhausted>
     requires a { IsKnown table.old a }
     requires b { IsKnown table.old b }
     requires other { IsKnownRewritten table.old other }
@@ -48,7 +47,8 @@ fn second_moved(
     let place = table.intern(Node::Var(0))?;
     let form = relation(table, rel, under, place)?;
     let back = swapped(table, memo, b, other.now, other.proof)?;
-    moved(table, form, other.now, b, back, proof)
+    let moved = moved(table, form, other.now, b, back, proof)?;
+    Ok(moved)
 }
 
 /// The proof of the relation of `a` and the word `w`, where `a` equals the word `v`.
@@ -62,7 +62,7 @@ fn first_moved(
     w: u64,
     here: Rewritten,
     word: Id,
-) -> Result<Id, AllocError>
+) -> Result<Id, Exhausted>
     requires a { IsKnown table.old a }
     requires here { IsKnownRewritten table.old here }
     requires word { IsKnown table.old word }
@@ -79,7 +79,8 @@ fn first_moved(
     let form = relation(table, rel, place, word)?;
     let back = swapped(table, memo, a, here.now, here.proof)?;
     let held = fact(table, rel, v, w)?;
-    moved(table, form, here.now, a, back, held)
+    let moved = moved(table, form, here.now, a, back, held)?;
+    Ok(moved)
 }
 
 /// The proof that `a` equals `b`, whose normal forms `p` and `q` are one.
@@ -91,7 +92,7 @@ pub fn equal_proof(
     b: Id,
     p: Rewritten,
     q: Rewritten,
-) -> Result<Id, AllocError>
+) -> Result<Id, Exhausted>
     requires a { IsKnown table.old a }
     requires b { IsKnown table.old b }
     requires p { IsKnownRewritten table.old p }
@@ -133,7 +134,7 @@ fn words_proof(
     w: u64,
     p: Rewritten,
     q: Rewritten,
-) -> Result<Id, AllocError>
+) -> Result<Id, Exhausted>
     requires a { IsKnown table.old a }
     requires b { IsKnown table.old b }
     requires p { IsKnownRewritten table.old p }
@@ -162,7 +163,7 @@ fn held_of_words(
     b: Id,
     p: Rewritten,
     q: Rewritten,
-) -> Result<Option<Id>, AllocError>
+) -> Result<Option<Id>, Exhausted>
     requires a { IsKnown table.old a }
     requires b { IsKnown table.old b }
     requires p { IsKnownRewritten table.old p }
@@ -202,7 +203,7 @@ fn equal_forms(
     b: Id,
     p: Rewritten,
     q: Rewritten,
-) -> Result<Option<Id>, AllocError>
+) -> Result<Option<Id>, Exhausted>
     requires a { IsKnown table.old a }
     requires b { IsKnown table.old b }
     requires p { IsKnownRewritten table.old p }
@@ -246,7 +247,7 @@ pub fn proof_by_forms(
     b: Id,
     p: Rewritten,
     q: Rewritten,
-) -> Result<Option<Id>, AllocError>
+) -> Result<Option<Id>, Exhausted>
     requires a { IsKnown table.old a }
     requires b { IsKnown table.old b }
     requires p { IsKnownRewritten table.old p }

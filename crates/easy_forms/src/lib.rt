@@ -17,4 +17,4 @@ mod sums;
 pub use form_proofs::{equal_proof, proof_by_forms};
 pub use normal_forms::{NormalForms, Rewritten, normal_form};
 pub use occurrences::{Occurrences, occurs};
-pub use sums::{eighth, rest_of};
+pub use sums::{eighth, rest_of, summand_count};

@@ -16,7 +16,7 @@ ghost use Rattle.easy_forms.specs.NormalForms.{RewrittenExp, IsKnownRewritten, I
 
 use crate::rewriting::{Rewrite, Rewrites, has_rewrites, redex};
 use formula_ids::{ExpNode, exp_node, moved, raised, reflexive, relation};
-use hereditary_subst::Memo;
+use hereditary_subst::{Exhausted, Memo};
 use std::alloc::{AllocError, Global};
 use std::collections::BTreeMap;
 use term_table::{Id, Table};
@@ -117,7 +117,7 @@ impl NormalForms {
         place: Place,
         now: Id,
         proof: Id,
-    ) -> Result<(), AllocError>
+    ) -> Result<(), Exhausted>
         requires memo { IsMemo table.now memo.old }
         requires kept { AreNormalForms table.now self.old }
         requires found { IsNormalForm table.now place (pair_of now proof) }
@@ -216,7 +216,7 @@ fn next(
     outside: u32,
     above: Id,
     here: Rewritten,
-) -> Result<Option<Rewritten>, AllocError>
+) -> Result<Option<Rewritten>, Exhausted>
     requires above { IsKnown table.old above }
     requires here { IsKnownRewritten table.old here }
     requires memo { IsMemo table.old memo.old }
@@ -244,7 +244,7 @@ fn normalized(
     rounds: u32,
     above: Id,
     start: Rewritten,
-) -> Result<Rewritten, AllocError>
+) -> Result<Rewritten, Exhausted>
     requires above { IsKnown table.old above }
     requires start { IsKnownRewritten table.old start }
     requires memo { IsMemo table.old memo.old }
@@ -276,7 +276,7 @@ fn fresh_normal_form(
     memo: &mut Memo,
     outside: u32,
     e: Id,
-) -> Result<Rewritten, AllocError>
+) -> Result<Rewritten, Exhausted>
     requires e { IsKnown table.old e }
     requires memo { IsMemo table.old memo.old }
     ensures known { IfOk result (IsKnownRewritten table.new) }
@@ -311,7 +311,7 @@ pub fn normal_form(
     kept: &mut NormalForms,
     outside: u32,
     e: Id,
-) -> Result<Rewritten, AllocError>
+) -> Result<Rewritten, Exhausted>
     requires e { IsKnown table.old e }
     requires memo { IsMemo table.old memo.old }
     requires kept { AreNormalForms table.old kept.old }

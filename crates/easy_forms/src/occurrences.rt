@@ -7,8 +7,8 @@ ghost use Rattle.easy_forms.specs.Sums.{OccursInExp, OccursInMem};
 ghost use Rattle.easy_forms.specs.Inside.Occurrences.{AreOccurrences, IsOccurrence};
 
 use formula_ids::{ExpNode, MemNode, exp_node, mem_node};
-use hereditary_subst::Memo;
-use std::alloc::{AllocError, Global};
+use hereditary_subst::{Exhausted, Memo};
+use std::alloc::Global;
 use std::collections::BTreeMap;
 use term_table::{Id, Table};
 
@@ -53,7 +53,7 @@ impl Occurrences {
         table: &Table,
         question: Question,
         occurs: bool,
-    ) -> Result<(), AllocError>
+    ) -> Result<(), Exhausted>
         requires memo { IsMemo table.now memo.old }
         requires kept { AreOccurrences table.now self.old }
         requires occurs { IsOccurrence table.now question occurs }
@@ -76,7 +76,7 @@ pub fn occurs(
     memo: &mut Memo,
     kept: &mut Occurrences,
     e: Id,
-) -> Result<bool, AllocError>
+) -> Result<bool, Exhausted>
     requires e { IsKnown table.now e }
     requires memo { IsMemo table.now memo.old }
     requires kept { AreOccurrences table.now kept.old }
@@ -100,7 +100,7 @@ fn occurs_in_parts(
     memo: &mut Memo,
     kept: &mut Occurrences,
     e: Id,
-) -> Result<bool, AllocError>
+) -> Result<bool, Exhausted>
     requires e { IsKnown table.now e }
     requires memo { IsMemo table.now memo.old }
     requires kept { AreOccurrences table.now kept.old }
@@ -131,7 +131,7 @@ fn occurs_in_mem(
     memo: &mut Memo,
     kept: &mut Occurrences,
     m: Id,
-) -> Result<bool, AllocError>
+) -> Result<bool, Exhausted>
     requires m { IsKnown table.now m }
     requires memo { IsMemo table.now memo.old }
     requires kept { AreOccurrences table.now kept.old }
@@ -155,7 +155,7 @@ fn occurs_in_mem_parts(
     memo: &mut Memo,
     kept: &mut Occurrences,
     m: Id,
-) -> Result<bool, AllocError>
+) -> Result<bool, Exhausted>
     requires m { IsKnown table.now m }
     requires memo { IsMemo table.now memo.old }
     requires kept { AreOccurrences table.now kept.old }

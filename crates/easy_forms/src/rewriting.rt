@@ -14,10 +14,9 @@ ghost use Rattle.easy_class.specs.NormalForms.{Rewriting, summand_key, turned, r
 ghost use Rattle.easy_forms.specs.Inside.Rewrites.{IsKnownRewrite, IsRewrite, AreKnownRewrites, AreRewrites, IsSummand, IsKnownSummand, IsRule, IsKnownRule, applied_summand, rule_at_word, rule_before, whole_of, negated_of, operand_of, regrouped_of, commuted_of, ungrouped_of, left_of, right_of, has_rewrites};
 
 use formula_ids::{ExpNode, calc, exp_node, oper, raised, swapped};
-use hereditary_subst::Memo;
+use hereditary_subst::{Exhausted, Memo};
 use lf_rules::numbers::{ADD_ASSOC, ADD_COMM, ADD_ZERO, BIS_ZERO, BIS_ZERO_L, SUB_NEG};
 use lf_rules::rule_term;
-use std::alloc::AllocError;
 use term_table::{Id, Node, Table};
 use word_ops::{Op, apply};
 
@@ -190,7 +189,7 @@ fn rule_at(table: &Table, outside: u32, op: Op, a: Id, b: Id) -> Rule
 }
 
 /// The rewriting of the whole expression.
-fn whole(table: &mut Table, from: Id, to: Id, proof: Id) -> Result<Rewrite, AllocError>
+fn whole(table: &mut Table, from: Id, to: Id, proof: Id) -> Result<Rewrite, Exhausted>
     requires from { IsKnown table.old from }
     requires to { IsKnown table.old to }
     requires proof { IsKnown table.old proof }
@@ -211,7 +210,7 @@ fn whole(table: &mut Table, from: Id, to: Id, proof: Id) -> Result<Rewrite, Allo
 }
 
 /// To what the operator gives of two words.
-fn to_value(table: &mut Table, e: Id, op: Op, v: u64, w: u64) -> Result<Rewrite, AllocError>
+fn to_value(table: &mut Table, e: Id, op: Op, v: u64, w: u64) -> Result<Rewrite, Exhausted>
     requires { IsKnown table.old e }
     ensures known { IfOk result (IsKnownRewrite table.new) }
     ensures exact { (f : Exp) → tree_at table.old e ≡ exp_encoding f
@@ -225,7 +224,7 @@ fn to_value(table: &mut Table, e: Id, op: Op, v: u64, w: u64) -> Result<Rewrite,
 }
 
 /// From a difference to the sum with what is negative.
-fn to_sum(table: &mut Table, e: Id, a: Id, b: Id) -> Result<Rewrite, AllocError>
+fn to_sum(table: &mut Table, e: Id, a: Id, b: Id) -> Result<Rewrite, Exhausted>
     requires e { IsKnown table.old e }
     requires a { IsKnown table.old a }
     requires b { IsKnown table.old b }
@@ -243,7 +242,7 @@ fn to_sum(table: &mut Table, e: Id, a: Id, b: Id) -> Result<Rewrite, AllocError>
 }
 
 /// To an operand, by the rule of this number.
-fn to_operand(table: &mut Table, e: Id, a: Id, number: u32) -> Result<Rewrite, AllocError>
+fn to_operand(table: &mut Table, e: Id, a: Id, number: u32) -> Result<Rewrite, Exhausted>
     requires e { IsKnown table.old e }
     requires a { IsKnown table.old a }
     ensures known { IfOk result (IsKnownRewrite table.new) }
@@ -257,7 +256,7 @@ fn to_operand(table: &mut Table, e: Id, a: Id, number: u32) -> Result<Rewrite, A
 }
 
 /// From the sum of a sum of `a` and `b` with `c` to that of `a` with a sum.
-fn regrouped(table: &mut Table, e: Id, a: Id, b: Id, c: Id) -> Result<Rewrite, AllocError>
+fn regrouped(table: &mut Table, e: Id, a: Id, b: Id, c: Id) -> Result<Rewrite, Exhausted>
     requires e { IsKnown table.old e }
     requires a { IsKnown table.old a }
     requires b { IsKnown table.old b }
@@ -276,7 +275,7 @@ fn regrouped(table: &mut Table, e: Id, a: Id, b: Id, c: Id) -> Result<Rewrite, A
 }
 
 /// From a sum to that of its parts in the other order.
-fn commuted(table: &mut Table, e: Id, a: Id, b: Id) -> Result<Rewrite, AllocError>
+fn commuted(table: &mut Table, e: Id, a: Id, b: Id) -> Result<Rewrite, Exhausted>
     requires e { IsKnown table.old e }
     requires a { IsKnown table.old a }
     requires b { IsKnown table.old b }
@@ -300,7 +299,7 @@ fn turned(
     a: Id,
     b: Id,
     c: Id,
-) -> Result<Rewrites, AllocError>
+) -> Result<Rewrites, Exhausted>
     requires e { IsKnown table.old e }
     requires a { IsKnown table.old a }
     requires b { IsKnown table.old b }
@@ -333,7 +332,7 @@ fn ungrouped(
     a: Id,
     b: Id,
     c: Id,
-) -> Result<Rewrite, AllocError>
+) -> Result<Rewrite, Exhausted>
     requires e { IsKnown table.old e }
     requires a { IsKnown table.old a }
     requires b { IsKnown table.old b }
@@ -362,7 +361,7 @@ fn under_left(
     right: Id,
     above: Id,
     step: Rewrite,
-) -> Result<Rewrite, AllocError>
+) -> Result<Rewrite, Exhausted>
     requires right { IsKnown table.old right }
     requires above { IsKnown table.old above }
     requires step { IsKnownRewrite table.old step }
@@ -390,7 +389,7 @@ fn under_right(
     left: Id,
     above: Id,
     step: Rewrite,
-) -> Result<Rewrite, AllocError>
+) -> Result<Rewrite, Exhausted>
     requires left { IsKnown table.old left }
     requires above { IsKnown table.old above }
     requires step { IsKnownRewrite table.old step }
@@ -419,7 +418,7 @@ fn all_under_left(
     op: Op,
     right: Id,
     steps: Rewrites,
-) -> Result<Rewrites, AllocError>
+) -> Result<Rewrites, Exhausted>
     requires right { IsKnown table.old right }
     requires steps { AreKnownRewrites table.old steps }
     requires memo { IsMemo table.old memo.old }
@@ -454,7 +453,7 @@ fn all_under_right(
     op: Op,
     left: Id,
     steps: Rewrites,
-) -> Result<Rewrites, AllocError>
+) -> Result<Rewrites, Exhausted>
     requires left { IsKnown table.old left }
     requires steps { AreKnownRewrites table.old steps }
     requires memo { IsMemo table.old memo.old }
@@ -491,7 +490,7 @@ fn rewrites_by(
     e: Id,
     a: Id,
     b: Id,
-) -> Result<Rewrites, AllocError>
+) -> Result<Rewrites, Exhausted>
     requires rule { IsKnownRule table.old rule }
     requires e { IsKnown table.old e }
     requires a { IsKnown table.old a }
@@ -525,7 +524,7 @@ pub(crate) fn redex(
     memo: &mut Memo,
     outside: u32,
     e: Id,
-) -> Result<Rewrites, AllocError>
+) -> Result<Rewrites, Exhausted>
     requires e { IsKnown table.old e }
     requires memo { IsMemo table.old memo.old }
     ensures known { IfOk result (AreKnownRewrites table.new) }
@@ -551,7 +550,7 @@ fn redex_of_parts(
     e: Id,
     a: Id,
     b: Id,
-) -> Result<Rewrites, AllocError>
+) -> Result<Rewrites, Exhausted>
     requires e { IsKnown table.old e }
     requires a { a < e }
     requires b { b < e }

@@ -34,6 +34,16 @@ fn add_summands(table: &Table, e: Id, list: &mut Vec<u64>) -> Result<u64, AllocE
     Ok(0)
 }
 
+/// How many summands the sum has that the id encodes, its last part among them; what is no sum has one.
+pub fn summand_count(table: &Table, e: Id) -> u64
+    requires { IsKnown table.now e }
+{
+    match operands(table, Op::Add, e) {
+        Some(sides) => summand_count(table, sides.right).saturating_add(1),
+        None => 1,
+    }
+}
+
 /// Where the number stands first, from the place on.
 fn place_of(list: &[u64], a: u64, from: usize) -> Option<usize>
     ensures { IsFirstPlace list.now a from result }

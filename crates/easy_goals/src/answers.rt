@@ -7,8 +7,8 @@ ghost use Rattle.formula_ids.specs.declared.hypotheses.Hypothesis.{Hypothesis};
 ghost use Rattle.easy_goals.specs.Answers.{IsFoundProof, IsAnswerRow, AreAnswers};
 
 use easy_hyps::Hypotheses;
-use hereditary_subst::Memo;
-use std::alloc::{AllocError, Global};
+use hereditary_subst::{Exhausted, Memo};
+use std::alloc::Global;
 use std::collections::BTreeMap;
 use term_table::{Id, Table};
 
@@ -124,7 +124,7 @@ impl Answers {
         means: Means,
         goal: Id,
         answer: Option<Id>,
-    ) -> Result<(), AllocError>
+    ) -> Result<(), Exhausted>
         requires memo { IsMemo table.now memo.old }
         requires kept { AreAnswers table.now hyps.now outside self.old }
         requires answer { IsFoundProof table.now hyps.now outside means goal answer }

@@ -18,9 +18,9 @@ use crate::leaf::{Leaf, WordsAlone};
 use crate::search::{Context, Search, keep_answer};
 use easy_hyps::find_hyp;
 use formula_ids::{FormNode, form_node, raised};
+use hereditary_subst::Exhausted;
 use lf_rules::numbers::{ALL_I, ALLM_I, FF_E, OR_L, OR_R};
 use lf_rules::rule_term;
-use std::alloc::AllocError;
 use term_table::{Id, Table};
 
 /// The proof of `goal` under the hypotheses of `context` that the class's search by connectives gives
@@ -37,7 +37,7 @@ pub fn goal_proof<L: Leaf>(
     search: &mut Search,
     context: &mut Context,
     goal: Id,
-) -> Result<Option<Id>, AllocError>
+) -> Result<Option<Id>, Exhausted>
     requires goal { IsKnown table.old goal }
     requires search { IsSearch table.old search.old }
     requires context { IsContext table.old context.old }
@@ -64,7 +64,7 @@ fn unkept_proof<L: Leaf>(
     search: &mut Search,
     context: &mut Context,
     goal: Id,
-) -> Result<Option<Id>, AllocError>
+) -> Result<Option<Id>, Exhausted>
     requires goal { IsKnown table.old goal }
     requires search { IsSearch table.old search.old }
     requires context { IsContext table.old context.old }
@@ -93,7 +93,7 @@ fn proof_by_shape<L: Leaf>(
     search: &mut Search,
     context: &mut Context,
     goal: Id,
-) -> Result<Option<Id>, AllocError>
+) -> Result<Option<Id>, Exhausted>
     requires goal { IsKnown table.old goal }
     requires search { IsSearch table.old search.old }
     requires context { IsContext table.old context.old }
@@ -128,7 +128,7 @@ fn proof_of_both<L: Leaf>(
     whole: Id,
     a: Id,
     b: Id,
-) -> Result<Option<Id>, AllocError>
+) -> Result<Option<Id>, Exhausted>
     requires a { IsKnown table.old a }
     requires b { IsKnown table.old b }
     requires lower { IsLower table.old a whole × IsLower table.old b whole }
@@ -160,7 +160,7 @@ fn proof_of_either<L: Leaf>(
     whole: Id,
     a: Id,
     b: Id,
-) -> Result<Option<Id>, AllocError>
+) -> Result<Option<Id>, Exhausted>
     requires a { IsKnown table.old a }
     requires b { IsKnown table.old b }
     requires lower { IsLower table.old a whole × IsLower table.old b whole }
@@ -191,7 +191,7 @@ fn proof_of_implication<L: Leaf>(
     whole: Id,
     a: Id,
     b: Id,
-) -> Result<Option<Id>, AllocError>
+) -> Result<Option<Id>, Exhausted>
     requires a { IsKnown table.old a }
     requires b { IsKnown table.old b }
     requires lower { IsLower table.old b whole }
@@ -220,7 +220,7 @@ fn proof_for_all<L: Leaf>(
     whole: Id,
     rule: u32,
     b: Id,
-) -> Result<Option<Id>, AllocError>
+) -> Result<Option<Id>, Exhausted>
     requires b { IsKnown table.old b }
     requires lower { IsLower table.old b whole }
     requires search { IsSearch table.old search.old }
@@ -246,7 +246,7 @@ pub fn proof_without_access(
     search: &mut Search,
     context: &mut Context,
     goal: Id,
-) -> Result<Option<Id>, AllocError>
+) -> Result<Option<Id>, Exhausted>
     requires goal { IsKnown table.old goal }
     requires search { IsSearch table.old search.old }
     requires context { IsContext table.old context.old }

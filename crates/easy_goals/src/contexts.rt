@@ -8,7 +8,7 @@ ghost use Rattle.easy_goals.specs.Inside.Connectives.{IsUnderBinder, IsUnderHypo
 use crate::search::{Context, Search};
 use easy_hyps::{add_split, raised_hyps};
 use formula_ids::raised;
-use std::alloc::AllocError;
+use hereditary_subst::Exhausted;
 use term_table::{Id, Node, Table};
 
 /// The context under the binder of a quantifier. Fails where the binders outside would be 2^32, and
@@ -18,7 +18,7 @@ pub(crate) fn under_binder(
     table: &mut Table,
     search: &mut Search,
     context: &Context,
-) -> Result<Context, AllocError>
+) -> Result<Context, Exhausted>
     requires search { IsSearch table.old search.old }
     requires context { IsContext table.old context.now }
     ensures under { let c = context.now in
@@ -27,7 +27,7 @@ pub(crate) fn under_binder(
     ensures search { OnOk result (IsSearch table.new search.new) }
 {
     if context.outside == u32::MAX {
-        return Err(AllocError);
+        return Err(Exhausted::Memory);
     }
     let hyps = raised_hyps(table, &mut search.memo, &context.hyps)?;
     Context::new(table, context.outside + 1, hyps)
@@ -41,7 +41,7 @@ pub(crate) fn under_hypothesis(
     search: &mut Search,
     context: &Context,
     a: Id,
-) -> Result<Context, AllocError>
+) -> Result<Context, Exhausted>
     requires search { IsSearch table.old search.old }
     requires context { IsContext table.old context.now }
     requires a { IsKnown table.old a }
@@ -51,7 +51,7 @@ pub(crate) fn under_hypothesis(
     ensures search { OnOk result (IsSearch table.new search.new) }
 {
     if context.outside == u32::MAX {
-        return Err(AllocError);
+        return Err(Exhausted::Memory);
     }
     let mut hyps = raised_hyps(table, &mut search.memo, &context.hyps)?;
     let form = raised(table, &mut search.memo, a)?;

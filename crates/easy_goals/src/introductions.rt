@@ -11,13 +11,13 @@ ghost use Rattle.formula_terms.specs.Encoding.{form_encoding};
 ghost use Rattle.formula_terms.specs.ProofTerms.{AForm, rule_proof, tt_i, and_i, imp_i};
 ghost use Rattle.easy_goals.specs.Inside.Connectives.{join_tree, over_tree};
 
+use hereditary_subst::Exhausted;
 use lf_rules::numbers::{AND_I, IMP_I, TT_I};
 use lf_rules::rule_term;
-use std::alloc::AllocError;
 use term_table::{Id, Node, Table};
 
 /// The proof of truth.
-pub(crate) fn truth(table: &mut Table) -> Result<Option<Id>, AllocError>
+pub(crate) fn truth(table: &mut Table) -> Result<Option<Id>, Exhausted>
     ensures known { IfOk result (λ o. IfSome o (IsKnown table.new)) }
     ensures exact { IfOk result (Stands table.new (Some tt_i)) }
     ensures extends { Extends table.old table.new }
@@ -33,7 +33,7 @@ pub(crate) fn both(
     b: Id,
     p: Id,
     right: Option<Id>,
-) -> Result<Option<Id>, AllocError>
+) -> Result<Option<Id>, Exhausted>
     requires a { IsKnown table.old a }
     requires b { IsKnown table.old b }
     requires p { IsKnown table.old p }
@@ -61,7 +61,7 @@ pub(crate) fn joined(
     a: Id,
     b: Id,
     side: Option<Id>,
-) -> Result<Option<Id>, AllocError>
+) -> Result<Option<Id>, Exhausted>
     requires a { IsKnown table.old a }
     requires b { IsKnown table.old b }
     requires side { IfSome side (IsKnown table.old) }
@@ -86,7 +86,7 @@ pub(crate) fn implied(
     a: Id,
     b: Id,
     second: Option<Id>,
-) -> Result<Option<Id>, AllocError>
+) -> Result<Option<Id>, Exhausted>
     requires a { IsKnown table.old a }
     requires b { IsKnown table.old b }
     requires second { IfSome second (IsKnown table.old) }
@@ -112,7 +112,7 @@ pub(crate) fn generalized(
     rule: u32,
     b: Id,
     body: Option<Id>,
-) -> Result<Option<Id>, AllocError>
+) -> Result<Option<Id>, Exhausted>
     requires b { IsKnown table.old b }
     requires body { IfSome body (IsKnown table.old) }
     ensures known { IfOk result (λ o. IfSome o (IsKnown table.new)) }

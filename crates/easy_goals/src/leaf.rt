@@ -8,7 +8,7 @@ ghost use Rattle.easy_goals.specs.Search.{IsSearch, IsContext, IsAfter};
 use crate::answers::Means;
 use crate::search::{Context, Search};
 use crate::words::proof_by_words;
-use std::alloc::AllocError;
+use hereditary_subst::Exhausted;
 use term_table::{Id, Table};
 
 /// What proves goals that have no connective. The search by connectives is the same for each.
@@ -37,7 +37,7 @@ pub trait Leaf {
         search: &mut Search,
         context: &mut Context,
         goal: Id,
-    ) -> Result<Option<Id>, AllocError>
+    ) -> Result<Option<Id>, Exhausted>
         requires goal { IsKnown table.old goal }
         requires search { IsSearch table.old search.old }
         requires context { IsContext table.old context.old }
@@ -67,7 +67,7 @@ impl Leaf for WordsAlone {
         search: &mut Search,
         context: &mut Context,
         goal: Id,
-    ) -> Result<Option<Id>, AllocError> {
+    ) -> Result<Option<Id>, Exhausted> {
         proof_by_words(table, search, context, goal)
     }
 }

@@ -11,8 +11,8 @@ use easy_bounds::UpperBounds;
 use easy_forms::{NormalForms, Occurrences};
 use easy_hyps::{Hypotheses, absurdity};
 use formula_ids::Puts;
-use hereditary_subst::Memo;
-use std::alloc::{AllocError, Global};
+use hereditary_subst::{Exhausted, Memo};
+use std::alloc::Global;
 use term_table::{Id, Table};
 
 /// What is kept of all contexts, on one table. All that is kept counts in the limit of the memo.
@@ -29,7 +29,7 @@ pub struct Search {
 
 impl Search {
     /// Nothing yet, which takes no memory. A call that would keep more than `most` results answers
-    /// want of memory.
+    /// `Results`.
     pub fn new(alloc: Global, most: usize) -> Search
         ensures { (t : TableView) → IsSearch t result }
     {
@@ -42,7 +42,7 @@ impl Search {
     }
 
     /// Counts steps that keep nothing in the limit of the memo. Fails past it.
-    pub fn spend_steps(&mut self, steps: u64) -> Result<(), AllocError>
+    pub fn spend_steps(&mut self, steps: u64) -> Result<(), Exhausted>
         ensures { (t : TableView) → IsSearch t self.old → IsSearch t self.new }
     {
         self.memo.spend_steps(steps)
@@ -67,7 +67,7 @@ impl Context {
     ///
     /// Errors: want of memory alone; each id keeps its tree.
     #[tactic(auto, using(crate::proofs::Kept::rows))]
-    pub fn new(table: &mut Table, outside: u32, hyps: Hypotheses) -> Result<Context, AllocError>
+    pub fn new(table: &mut Table, outside: u32, hyps: Hypotheses) -> Result<Context, Exhausted>
         requires { AreKnownHyps table.old hyps }
         ensures context { IfOk result (IsContext table.new) }
         ensures hyps { IfOk result (λ c. c.hyps ≡ hyps) }
@@ -105,7 +105,7 @@ pub(crate) fn keep_answer(
     means: Means,
     goal: Id,
     proof: Option<Id>,
-) -> Result<Option<Id>, AllocError>
+) -> Result<Option<Id>, Exhausted>
     requires search { IsSearch table.now search.old }
     requires context { IsContext table.now context.old }
     requires proof { let c = context.old in

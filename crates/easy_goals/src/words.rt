@@ -25,6 +25,7 @@ use easy_bounds::{Bound, lower_bound, upper_bound};
 use easy_forms::{Rewritten, normal_form, proof_by_forms};
 use easy_hyps::{Alignments, alignment_proof, find_hyp};
 use formula_ids::{FormNode, fact, form_node, literal, operands, relation};
+use hereditary_subst::Exhausted;
 use lf_rules::numbers::{LE_LT, LT_LE, ULE_TRANS, ULT_ULE};
 use lf_rules::rule_term;
 use std::alloc::AllocError;
@@ -71,7 +72,7 @@ fn less_tree(table: &mut Table, a: Id, b: Id, v: Bound, w: Bound) -> Result<Id, 
 }
 
 /// The same proof, where the one bound is at most the other.
-fn ule_by(table: &mut Table, a: Id, b: Id, v: Bound, w: Bound) -> Result<Option<Id>, AllocError>
+fn ule_by(table: &mut Table, a: Id, b: Id, v: Bound, w: Bound) -> Result<Option<Id>, Exhausted>
     requires a { IsKnown table.old a }
     requires b { IsKnown table.old b }
     requires v { IsKnown table.old v.proof }
@@ -91,7 +92,7 @@ fn ule_by(table: &mut Table, a: Id, b: Id, v: Bound, w: Bound) -> Result<Option<
 }
 
 /// The same proof, where the one bound is less than the other.
-fn ult_by(table: &mut Table, a: Id, b: Id, v: Bound, w: Bound) -> Result<Option<Id>, AllocError>
+fn ult_by(table: &mut Table, a: Id, b: Id, v: Bound, w: Bound) -> Result<Option<Id>, Exhausted>
     requires a { IsKnown table.old a }
     requires b { IsKnown table.old b }
     requires v { IsKnown table.old v.proof }
@@ -117,7 +118,7 @@ fn upper(
     search: &mut Search,
     context: &mut Context,
     e: Id,
-) -> Result<Bound, AllocError>
+) -> Result<Bound, Exhausted>
     requires e { IsKnown table.old e }
     requires search { IsSearch table.old search.old }
     requires context { IsContext table.old context.old }
@@ -139,7 +140,7 @@ fn lower(
     search: &mut Search,
     context: &Context,
     e: Id,
-) -> Result<Bound, AllocError>
+) -> Result<Bound, Exhausted>
     requires e { IsKnown table.old e }
     requires search { IsSearch table.old search.old }
     requires context { IsContext table.old context.now }
@@ -168,7 +169,7 @@ fn bounds_of(
     context: &mut Context,
     a: Id,
     b: Id,
-) -> Result<Bounds, AllocError>
+) -> Result<Bounds, Exhausted>
     requires a { IsKnown table.old a }
     requires b { IsKnown table.old b }
     requires search { IsSearch table.old search.old }
@@ -195,7 +196,7 @@ fn at_most_by_bounds(
     context: &mut Context,
     a: Id,
     b: Id,
-) -> Result<Option<Id>, AllocError>
+) -> Result<Option<Id>, Exhausted>
     requires a { IsKnown table.old a }
     requires b { IsKnown table.old b }
     requires search { IsSearch table.old search.old }
@@ -218,7 +219,7 @@ fn at_most(
     context: &mut Context,
     a: Id,
     b: Id,
-) -> Result<Option<Id>, AllocError>
+) -> Result<Option<Id>, Exhausted>
     requires a { IsKnown table.old a }
     requires b { IsKnown table.old b }
     requires search { IsSearch table.old search.old }
@@ -250,7 +251,7 @@ fn less(
     context: &mut Context,
     a: Id,
     b: Id,
-) -> Result<Option<Id>, AllocError>
+) -> Result<Option<Id>, Exhausted>
     requires a { IsKnown table.old a }
     requires b { IsKnown table.old b }
     requires search { IsSearch table.old search.old }
@@ -274,7 +275,7 @@ fn by_bounds(
     rel: Rel,
     a: Id,
     b: Id,
-) -> Result<Option<Id>, AllocError>
+) -> Result<Option<Id>, Exhausted>
     requires a { IsKnown table.old a }
     requires b { IsKnown table.old b }
     requires search { IsSearch table.old search.old }
@@ -304,7 +305,7 @@ pub fn normal(
     search: &mut Search,
     outside: u32,
     e: Id,
-) -> Result<Rewritten, AllocError>
+) -> Result<Rewritten, Exhausted>
     requires e { IsKnown table.old e }
     requires search { IsSearch table.old search.old }
     ensures known { IfOk result (IsKnownRewritten table.new) }
@@ -325,7 +326,7 @@ fn by_normal(
     rel: Rel,
     a: Id,
     b: Id,
-) -> Result<Option<Id>, AllocError>
+) -> Result<Option<Id>, Exhausted>
     requires a { IsKnown table.old a }
     requires b { IsKnown table.old b }
     requires search { IsSearch table.old search.old }
@@ -377,7 +378,7 @@ fn by_aligned(
     rel: Rel,
     a: Id,
     b: Id,
-) -> Result<Option<Id>, AllocError>
+) -> Result<Option<Id>, Exhausted>
     requires a { IsKnown table.old a }
     requires b { IsKnown table.old b }
     requires search { IsSearch table.old search.old }
@@ -407,7 +408,7 @@ fn relation_by_words(
     rel: Rel,
     a: Id,
     b: Id,
-) -> Result<Option<Id>, AllocError>
+) -> Result<Option<Id>, Exhausted>
     requires a { IsKnown table.old a }
     requires b { IsKnown table.old b }
     requires search { IsSearch table.old search.old }
@@ -441,7 +442,7 @@ pub fn proof_by_words(
     search: &mut Search,
     context: &mut Context,
     goal: Id,
-) -> Result<Option<Id>, AllocError>
+) -> Result<Option<Id>, Exhausted>
     requires goal { IsKnown table.old goal }
     requires search { IsSearch table.old search.old }
     requires context { IsContext table.old context.old }

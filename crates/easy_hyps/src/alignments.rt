@@ -22,7 +22,7 @@ ghost use Rattle.easy_hyps.specs.Inside.Alignments.{masked_first, masked_second,
 use crate::collection::Hypotheses;
 use crate::finding::find_hyp;
 use formula_ids::{ExpNode, calc, exp_node, literal, moved, oper, raised, reflexive, relation};
-use hereditary_subst::Memo;
+use hereditary_subst::{Exhausted, Memo};
 use lf_rules::numbers::{ADD_AL, AND_ASSOC, AND_ZERO, SLL_AL};
 use lf_rules::rule_term;
 use std::alloc::{AllocError, Global};
@@ -115,7 +115,7 @@ impl Alignments {
         hyps: &Hypotheses,
         e: Id,
         answer: Option<Id>,
-    ) -> Result<(), AllocError>
+    ) -> Result<(), Exhausted>
         requires memo { IsMemo table.now memo.old }
         requires kept { AreAlignments table.now hyps.now self.old }
         requires answer { IsFoundAlignment table.now hyps.now e answer }
@@ -148,7 +148,7 @@ fn aligned_form(table: &mut Table, e: Id) -> Result<Id, AllocError>
 
 /// That the expression equals a word, which is the variable 0 under a binder.
 #[tactic(auto, using(hereditary_subst::proofs::Rows::rows))]
-fn equal_place(table: &mut Table, memo: &mut Memo, e: Id) -> Result<Id, AllocError>
+fn equal_place(table: &mut Table, memo: &mut Memo, e: Id) -> Result<Id, Exhausted>
     requires e { IsKnown table.old e }
     requires memo { IsMemo table.old memo.old }
     ensures known { IfOk result (IsKnown table.new) }
@@ -159,7 +159,8 @@ fn equal_place(table: &mut Table, memo: &mut Memo, e: Id) -> Result<Id, AllocErr
 {
     let under = raised(table, memo, e)?;
     let place = table.intern(Node::Var(0))?;
-    relation(table, Rel::Eq, under, place)
+    let form = relation(table, Rel::Eq, under, place)?;
+    Ok(form)
 }
 
 /// From (eq e e) to (eq e (band a inner)), where e is `whole`: (band (band a word) 7).
@@ -172,7 +173,7 @@ fn masked_first(
     seven: Id,
     inner: Id,
     whole: Id,
-) -> Result<Id, AllocError>
+) -> Result<Id, Exhausted>
     requires a { IsKnown table.old a }
     requires word { IsKnown table.old word }
     requires seven { IsKnown table.old seven }
@@ -191,7 +192,8 @@ fn masked_first(
     let equal = rule_term(table, AND_ASSOC, &[a, word, seven])?;
     let itself = reflexive(table, whole)?;
     let form = equal_place(table, memo, whole)?;
-    moved(table, form, whole, to, equal, itself)
+    let proof = moved(table, form, whole, to, equal, itself)?;
+    Ok(proof)
 }
 
 /// From there to (eq e (band a 0)).
@@ -205,7 +207,7 @@ fn masked_second(
     zero: Id,
     w: u64,
     first: Id,
-) -> Result<Id, AllocError>
+) -> Result<Id, Exhausted>
     requires a { IsKnown table.old a }
     requires inner { IsKnown table.old inner }
     requires whole { IsKnown table.old whole }
@@ -226,7 +228,8 @@ fn masked_second(
     let place = table.intern(Node::Var(0))?;
     let right = oper(table, Op::Band, under, place)?;
     let form = relation(table, Rel::Eq, left, right)?;
-    moved(table, form, inner, zero, equal, first)
+    let proof = moved(table, form, inner, zero, equal, first)?;
+    Ok(proof)
 }
 
 /// From there to (eq e 0).
@@ -238,7 +241,7 @@ fn masked_third(
     whole: Id,
     zero: Id,
     second: Id,
-) -> Result<Id, AllocError>
+) -> Result<Id, Exhausted>
     requires a { IsKnown table.old a }
     requires whole { IsKnown table.old whole }
     requires zero { IsKnown table.old zero }
@@ -254,12 +257,12 @@ fn masked_third(
     let from = oper(table, Op::Band, a, zero)?;
     let equal = rule_term(table, AND_ZERO, &[a])?;
     let form = equal_place(table, memo, whole)?;
-    moved(table, form, from, zero, equal, second)
+    Ok(moved(table, form, from, zero, equal, second)?)
 }
 
 /// The proof that `band a w` is a multiple of 8, `word` being the word `w`, which is one.
 #[tactic(auto, using(hereditary_subst::proofs::Rows::rows))]
-fn masked(table: &mut Table, memo: &mut Memo, a: Id, word: Id, w: u64) -> Result<Id, AllocError>
+fn masked(table: &mut Table, memo: &mut Memo, a: Id, word: Id, w: u64) -> Result<Id, Exhausted>
     requires a { IsKnown table.old a }
     requires word { IsKnown table.old word }
     requires memo { IsMemo table.old memo.old }
@@ -324,7 +327,7 @@ fn alignment_of_mask(
     memo: &mut Memo,
     a: Id,
     b: Id,
-) -> Result<Option<Id>, AllocError>
+) -> Result<Option<Id>, Exhausted>
     requires a { IsKnown table.old a }
     requires b { IsKnown table.old b }
     requires memo { IsMemo table.old memo.old }
@@ -361,7 +364,7 @@ pub fn alignment_proof(
     kept: &mut Alignments,
     hyps: &Hypotheses,
     e: Id,
-) -> Result<Option<Id>, AllocError>
+) -> Result<Option<Id>, Exhausted>
     requires hyps { AreKnownHyps table.old hyps.now }
     requires e { IsKnown table.old e }
     requires memo { IsMemo table.old memo.old }
@@ -396,7 +399,7 @@ fn unkept_alignment(
     kept: &mut Alignments,
     hyps: &Hypotheses,
     e: Id,
-) -> Result<Option<Id>, AllocError>
+) -> Result<Option<Id>, Exhausted>
     requires hyps { AreKnownHyps table.old hyps.now }
     requires e { IsKnown table.old e }
     requires memo { IsMemo table.old memo.old }
@@ -449,7 +452,7 @@ fn part_alignment(
     kept: &mut Alignments,
     hyps: &Hypotheses,
     e: Id,
-) -> Result<Option<Id>, AllocError>
+) -> Result<Option<Id>, Exhausted>
     requires hyps { AreKnownHyps table.old hyps.now }
     requires e { IsKnown table.old e }
     requires memo { IsMemo table.old memo.old }

@@ -11,8 +11,7 @@ ghost use Rattle.easy_class.specs.Hypotheses.{Hyps, raised_hyps};
 
 use crate::collection::Hypotheses;
 use formula_ids::{Hypothesis, raised};
-use hereditary_subst::Memo;
-use std::alloc::AllocError;
+use hereditary_subst::{Exhausted, Memo};
 use term_table::{Id, Table};
 
 /// Puts a hypothesis at the end, under one more binder. It counts as a result, also where its parts
@@ -24,7 +23,7 @@ fn push_raised(
     under: &mut Hypotheses,
     form: Id,
     proof: Id,
-) -> Result<(), AllocError>
+) -> Result<(), Exhausted>
     requires under { AreKnownHyps table.old under.old }
     requires form { IsKnown table.old form }
     requires proof { IsKnown table.old proof }
@@ -39,7 +38,7 @@ fn push_raised(
     memo.spend()?;
     let form = raised(table, memo, form)?;
     let proof = raised(table, memo, proof)?;
-    under.push(Hypothesis { form, proof })
+    Ok(under.push(Hypothesis { form, proof })?)
 }
 
 /// The hypotheses under one more binder.
@@ -50,7 +49,7 @@ pub fn raised_hyps(
     table: &mut Table,
     memo: &mut Memo,
     hyps: &Hypotheses,
-) -> Result<Hypotheses, AllocError>
+) -> Result<Hypotheses, Exhausted>
     requires hyps { AreKnownHyps table.old hyps.now }
     requires memo { IsMemo table.old memo.old }
     ensures known { IfOk result (AreKnownHyps table.new) }

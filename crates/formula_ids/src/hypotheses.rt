@@ -6,8 +6,7 @@ ghost use Rattle.term_table.specs.Table.{IsKnown, tree_at, Extends};
 ghost use Rattle.hereditary_subst.specs.Inside.Kept.{IsMemo};
 ghost use Rattle.lf_signature.specs.Nodes.{IsIdOf};
 
-use hereditary_subst::{Memo, weaken_with};
-use std::alloc::AllocError;
+use hereditary_subst::{Exhausted, Memo, weaken_with};
 use term_table::{Id, Table};
 
 /// A hypothesis and a proof of it.
@@ -23,7 +22,7 @@ pub struct Hypothesis {
 ///
 /// Errors: want of memory alone, which a variable that would reach 2^32 and more results than the
 /// memo may keep are too; each id keeps its tree.
-pub fn raised(table: &mut Table, memo: &mut Memo, id: Id) -> Result<Id, AllocError>
+pub fn raised(table: &mut Table, memo: &mut Memo, id: Id) -> Result<Id, Exhausted>
     requires known { IsKnown table.old id }
     requires memo { IsMemo table.old memo.old }
     ensures id { IfOk result (IsIdOf table.new (shift 1 0 (tree_at table.old id))) }
@@ -32,6 +31,6 @@ pub fn raised(table: &mut Table, memo: &mut Memo, id: Id) -> Result<Id, AllocErr
 {
     match weaken_with(table, memo, id, 1)? {
         Some(raised) => Ok(raised),
-        None => Err(AllocError),
+        None => Err(Exhausted::Memory),
     }
 }

@@ -9,10 +9,9 @@ ghost use Rattle.formula_ids.specs.Inside.PutRows.{ArePuts, IsJoinPut, IsUnderPu
 use crate::forms::{FormNode, form_node};
 use crate::hypotheses::raised;
 use crate::puts::{Puts, Question, number, put_exp};
-use hereditary_subst::Memo;
+use hereditary_subst::{Exhausted, Memo};
 use lf_signature::numbers::{ALL, ALLM, AND, IMP, OR, RD, WR, rel_constant};
 use lf_signature::{app1, app2};
-use std::alloc::AllocError;
 use term_table::{Id, Node, Table};
 
 /// The formula with `arg` for the variable `x`.
@@ -25,7 +24,7 @@ pub(crate) fn put_form(
     id: Id,
     x: u64,
     arg: Id,
-) -> Result<Id, AllocError>
+) -> Result<Id, Exhausted>
     requires id { IsKnown table.old id }
     requires arg { IsKnown table.old arg }
     requires room { x + id < 2 ^ 64 }
@@ -55,7 +54,7 @@ fn put_form_parts(
     id: Id,
     x: u64,
     arg: Id,
-) -> Result<Id, AllocError>
+) -> Result<Id, Exhausted>
     requires id { IsKnown table.old id }
     requires arg { IsKnown table.old arg }
     requires room { x + id < 2 ^ 64 }
@@ -70,15 +69,15 @@ fn put_form_parts(
         FormNode::Relation(rel, a, b) => {
             let left = put_exp(table, memo, kept, a, x, arg)?;
             let right = put_exp(table, memo, kept, b, x, arg)?;
-            app2(table, rel_constant(rel), left, right)
+            Ok(app2(table, rel_constant(rel), left, right)?)
         }
         FormNode::Load(a) => {
             let address = put_exp(table, memo, kept, a, x, arg)?;
-            app1(table, RD, address)
+            Ok(app1(table, RD, address)?)
         }
         FormNode::Store(a) => {
             let address = put_exp(table, memo, kept, a, x, arg)?;
-            app1(table, WR, address)
+            Ok(app1(table, WR, address)?)
         }
         FormNode::And(a, b) => put_joined(table, memo, kept, AND, a, b, x, arg),
         FormNode::Or(a, b) => put_joined(table, memo, kept, OR, a, b, x, arg),
@@ -101,7 +100,7 @@ fn put_joined(
     b: Id,
     x: u64,
     arg: Id,
-) -> Result<Id, AllocError>
+) -> Result<Id, Exhausted>
     requires a { IsKnown table.old a }
     requires b { IsKnown table.old b }
     requires arg { IsKnown table.old arg }
@@ -116,7 +115,7 @@ fn put_joined(
 {
     let left = put_form(table, memo, kept, a, x, arg)?;
     let right = put_form(table, memo, kept, b, x, arg)?;
-    app2(table, connective, left, right)
+    Ok(app2(table, connective, left, right)?)
 }
 
 /// The quantifier over the formula with `arg` for the variable `x`, which is one further out there.
@@ -130,7 +129,7 @@ fn put_under(
     body: Id,
     x: u64,
     arg: Id,
-) -> Result<Id, AllocError>
+) -> Result<Id, Exhausted>
     requires body { IsKnown table.old body }
     requires arg { IsKnown table.old arg }
     requires room { x + 1 + body < 2 ^ 64 }
@@ -144,7 +143,7 @@ fn put_under(
     let under = raised(table, memo, arg)?;
     let put = put_form(table, memo, kept, body, x + 1, under)?;
     let function = table.intern(Node::Lam(put))?;
-    app1(table, quantifier, function)
+    Ok(app1(table, quantifier, function)?)
 }
 
 /// The formula with the expression `arg` for variable 0; the other variables are one less.
@@ -157,7 +156,7 @@ pub fn put_word(
     kept: &mut Puts,
     form: Id,
     arg: Id,
-) -> Result<Id, AllocError>
+) -> Result<Id, Exhausted>
     requires form { IsKnown table.old form }
     requires arg { IsKnown table.old arg }
     requires memo { IsMemo table.old memo.old }
@@ -178,7 +177,7 @@ pub fn put_word_exp(
     kept: &mut Puts,
     exp: Id,
     arg: Id,
-) -> Result<Id, AllocError>
+) -> Result<Id, Exhausted>
     requires exp { IsKnown table.old exp }
     requires arg { IsKnown table.old arg }
     requires memo { IsMemo table.old memo.old }

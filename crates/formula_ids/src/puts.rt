@@ -15,7 +15,7 @@ ghost use Rattle.formula_ids.specs.Puts.{IsExpPut, IsMemPut};
 ghost use Rattle.formula_ids.specs.Inside.PutRows.{IsPutAt, ArePuts};
 
 use crate::nodes::{ExpNode, MemNode, exp_node, mem_node};
-use hereditary_subst::Memo;
+use hereditary_subst::{Exhausted, Memo};
 use lf_signature::numbers::{SEL, UPD, op_constant};
 use lf_signature::{app2, app3};
 use std::alloc::{AllocError, Global};
@@ -83,7 +83,7 @@ impl Puts {
         table: &Table,
         question: Question,
         put: Id,
-    ) -> Result<(), AllocError>
+    ) -> Result<(), Exhausted>
         requires memo { IsMemo table.now memo.old }
         requires kept { ArePuts table.now self.old }
         requires put { IsPutAt table.now question put }
@@ -145,7 +145,7 @@ pub(crate) fn put_exp(
     id: Id,
     x: u64,
     arg: Id,
-) -> Result<Id, AllocError>
+) -> Result<Id, Exhausted>
     requires id { IsKnown table.old id }
     requires arg { IsKnown table.old arg }
     requires memo { IsMemo table.old memo.old }
@@ -174,7 +174,7 @@ fn put_exp_parts(
     id: Id,
     x: u64,
     arg: Id,
-) -> Result<Id, AllocError>
+) -> Result<Id, Exhausted>
     requires id { IsKnown table.old id }
     requires arg { IsKnown table.old arg }
     requires memo { IsMemo table.old memo.old }
@@ -185,16 +185,16 @@ fn put_exp_parts(
     ensures kept { ArePuts table.new kept.new }
 {
     match exp_node(table, id) {
-        ExpNode::Var(n) => put_word_variable(table, id, n, x, arg),
+        ExpNode::Var(n) => Ok(put_word_variable(table, id, n, x, arg)?),
         ExpNode::Apply(op, a, b) => {
             let left = put_exp(table, memo, kept, a, x, arg)?;
             let right = put_exp(table, memo, kept, b, x, arg)?;
-            app2(table, op_constant(op), left, right)
+            Ok(app2(table, op_constant(op), left, right)?)
         }
         ExpNode::Sel(m, a) => {
             let memory = put_mem(table, memo, kept, m, x, arg)?;
             let address = put_exp(table, memo, kept, a, x, arg)?;
-            app2(table, SEL, memory, address)
+            Ok(app2(table, SEL, memory, address)?)
         }
         _ => Ok(id),
     }
@@ -210,7 +210,7 @@ fn put_mem(
     id: Id,
     x: u64,
     arg: Id,
-) -> Result<Id, AllocError>
+) -> Result<Id, Exhausted>
     requires id { IsKnown table.old id }
     requires arg { IsKnown table.old arg }
     requires memo { IsMemo table.old memo.old }
@@ -239,7 +239,7 @@ fn put_mem_parts(
     id: Id,
     x: u64,
     arg: Id,
-) -> Result<Id, AllocError>
+) -> Result<Id, Exhausted>
     requires id { IsKnown table.old id }
     requires arg { IsKnown table.old arg }
     requires memo { IsMemo table.old memo.old }
@@ -250,12 +250,12 @@ fn put_mem_parts(
     ensures kept { ArePuts table.new kept.new }
 {
     match mem_node(table, id) {
-        MemNode::Var(n) => put_memory_variable(table, id, n, x),
+        MemNode::Var(n) => Ok(put_memory_variable(table, id, n, x)?),
         MemNode::Upd(m, a, v) => {
             let before = put_mem(table, memo, kept, m, x, arg)?;
             let address = put_exp(table, memo, kept, a, x, arg)?;
             let word = put_exp(table, memo, kept, v, x, arg)?;
-            app3(table, UPD, before, address, word)
+            Ok(app3(table, UPD, before, address, word)?)
         }
         MemNode::Unbound => Ok(id),
     }

@@ -12,7 +12,7 @@ ghost use Rattle.formula_terms.specs.Encoding.{exp_encoding, form_encoding};
 ghost use Rattle.formula_terms.specs.ProofTerms.{eq_refl, move, swap, calc, fact};
 
 use crate::hypotheses::raised;
-use hereditary_subst::Memo;
+use hereditary_subst::{Exhausted, Memo};
 use lf_rules::numbers::{EQ_REFL, EQ_SUB};
 use lf_rules::rule_term;
 use lf_signature::app2;
@@ -98,13 +98,7 @@ pub fn moved(
 
 /// The proof that `b` equals `a`, by a proof that `a` equals `b`.
 #[tactic(auto, using(hereditary_subst::proofs::Rows::rows))]
-pub fn swapped(
-    table: &mut Table,
-    memo: &mut Memo,
-    a: Id,
-    b: Id,
-    equal: Id,
-) -> Result<Id, AllocError>
+pub fn swapped(table: &mut Table, memo: &mut Memo, a: Id, b: Id, equal: Id) -> Result<Id, Exhausted>
     requires a { IsKnown table.old a }
     requires b { IsKnown table.old b }
     requires equal { IsKnown table.old equal }
@@ -120,5 +114,5 @@ pub fn swapped(
     let under = raised(table, memo, a)?;
     let form = relation(table, Rel::Eq, place, under)?;
     let itself = reflexive(table, a)?;
-    moved(table, form, a, b, equal, itself)
+    Ok(moved(table, form, a, b, equal, itself)?)
 }

@@ -8,7 +8,8 @@ ghost use Rattle.std.specs.Prelude.{◌≡◌, IfSome};
 ghost use Rattle.term_table.specs.Table.{TableView, IsKnown};
 ghost use Rattle.hereditary_subst.specs.Inside.Kept.{IsMemo, Says, AreKnownIds};
 
-use std::alloc::{AllocError, Global};
+use crate::exhausted::Exhausted;
+use std::alloc::Global;
 use std::collections::BTreeMap;
 use term_table::{Id, Table};
 
@@ -100,7 +101,7 @@ fn row_of(term: Id, met: Option<Id>) -> Row
 
 impl Memo {
     /// A memo without results, which takes no memory yet. A call that would keep more than `left`
-    /// results, with those that `spend` counts, answers want of memory.
+    /// results, with those that `spend` counts, answers `Results`.
     pub fn new(alloc: Global, left: usize) -> Memo
         ensures { (t : TableView) → IsMemo t result }
     {
@@ -110,25 +111,25 @@ impl Memo {
         }
     }
 
-    /// Counts a result that is kept elsewhere. Fails past the limit.
-    pub fn spend(&mut self) -> Result<(), AllocError>
+    /// Counts a result that is kept elsewhere. Fails past the limit, by `Results`.
+    pub fn spend(&mut self) -> Result<(), Exhausted>
         ensures { (t : TableView) → IsMemo t self.old → IsMemo t self.new }
     {
         if self.left == 0 {
-            return Err(AllocError);
+            return Err(Exhausted::Results);
         }
         self.left -= 1;
         Ok(())
     }
 
     /// Counts steps that keep nothing: each call as a result, and each 16 steps as another. Fails past
-    /// the limit.
-    pub fn spend_steps(&mut self, steps: u64) -> Result<(), AllocError>
+    /// the limit, by `Results`.
+    pub fn spend_steps(&mut self, steps: u64) -> Result<(), Exhausted>
         ensures { (t : TableView) → IsMemo t self.old → IsMemo t self.new }
     {
         let results = steps / STEPS_A_RESULT + 1;
         if (self.left as u64) < results {
-            return Err(AllocError);
+            return Err(Exhausted::Results);
         }
         self.left -= results as usize;
         Ok(())
@@ -161,7 +162,7 @@ impl Memo {
         question: Question,
         term: Id,
         met: Option<Id>,
-    ) -> Result<(), AllocError>
+    ) -> Result<(), Exhausted>
         requires memo { IsMemo table.now self.old }
         requires says { Says table.now question term met }
         ensures { IsMemo table.now self.new }

@@ -10,6 +10,7 @@
 //! in a Logical Framework, JFP 2007, section 2.
 #![tactic(auto)]
 
+mod exhausted;
 mod kept;
 mod shifts;
 mod substitute;
@@ -21,6 +22,7 @@ ghost use Rattle.term_table.specs.Subst.{HSub, HSubType, hsub, hsub_type, erase}
 ghost use Rattle.term_table.specs.Table.{IsKnown, tree_at, Extends, Stands};
 ghost use Rattle.hereditary_subst.specs.Simples.{simple_of, IsResult};
 
+pub use exhausted::Exhausted;
 pub use kept::Memo;
 use shifts::shift_at;
 use std::alloc::{AllocError, Global};
@@ -49,7 +51,8 @@ pub fn shift(table: &mut Table, id: Id, by: u32, from: u32) -> Result<Option<Id>
 {
     table.laws();
     let mut memo = Memo::new(table.allocator(), MOST_RESULTS);
-    shift_at(table, &mut memo, id, u64::from(by), u64::from(from))
+    let shifted = shift_at(table, &mut memo, id, u64::from(by), u64::from(from))?;
+    Ok(shifted)
 }
 
 /// `shift` from the nearest binder on, by up to 2^32.
@@ -60,7 +63,8 @@ pub fn weaken(table: &mut Table, id: Id, by: u64) -> Result<Option<Id>, AllocErr
     ensures extends { Extends table.old table.new }
 {
     let mut memo = Memo::new(table.allocator(), MOST_RESULTS);
-    weaken_with(table, &mut memo, id, by)
+    let weakened = weaken_with(table, &mut memo, id, by)?;
+    Ok(weakened)
 }
 
 /// `weaken`, with the results that `memo` keeps of earlier calls on the table. The same clauses.
@@ -69,7 +73,7 @@ pub fn weaken_with(
     memo: &mut Memo,
     id: Id,
     by: u64,
-) -> Result<Option<Id>, AllocError>
+) -> Result<Option<Id>, Exhausted>
     requires small { by ≤ 2 ^ 32 }
     requires known { IsKnown table.old id }
     requires memo { IsMemo table.old memo.old }
@@ -115,7 +119,8 @@ pub fn subst(table: &mut Table, body: Id, arg: Id, s: &Simple) -> Result<Option<
     let ty = type_of_simple(table, s)?;
     let mut memo = Memo::new(table.allocator(), MOST_RESULTS);
     table.laws();
-    subst_at(table, &mut memo, body, arg, 0, ty)
+    let put = subst_at(table, &mut memo, body, arg, 0, ty)?;
+    Ok(put)
 }
 
 /// The same in a type.
@@ -139,7 +144,8 @@ pub fn subst_type(
     let ty = type_of_simple(table, s)?;
     let mut memo = Memo::new(table.allocator(), MOST_RESULTS);
     table.laws();
-    subst_type_at(table, &mut memo, body, arg, 0, ty)
+    let put = subst_type_at(table, &mut memo, body, arg, 0, ty)?;
+    Ok(put)
 }
 
 /// `subst_type` at the simple type of the type `ty`, with the results that `memo` keeps of earlier
@@ -150,7 +156,7 @@ pub fn subst_type_with(
     body: Id,
     arg: Id,
     ty: Id,
-) -> Result<Option<Id>, AllocError>
+) -> Result<Option<Id>, Exhausted>
     requires body { IsKnown table.old body }
     requires arg { IsKnown table.old arg }
     requires ty { IsKnown table.old ty }

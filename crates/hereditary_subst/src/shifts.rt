@@ -6,8 +6,8 @@ ghost use Rattle.term_table.specs.Scope.{is_scoped, is_term_shape};
 ghost use Rattle.term_table.specs.Table.{IsKnown, tree_at, Extends, Stands};
 ghost use Rattle.hereditary_subst.specs.Inside.Kept.{IsMemo, Lowers};
 
+use crate::exhausted::Exhausted;
 use crate::kept::{Memo, Question, number};
-use std::alloc::AllocError;
 use term_table::{Id, Node, Table};
 
 /// Whether each of the tree's variables is bound, or among the n next outside: where the table knows.
@@ -39,7 +39,7 @@ pub(crate) fn shift_at(
     id: Id,
     by: u64,
     from: u64,
-) -> Result<Option<Id>, AllocError>
+) -> Result<Option<Id>, Exhausted>
     requires small { by ≤ 2 ^ 32 }
     requires known { IsKnown table.old id }
     requires room { from + id < 2 ^ 64 }
@@ -75,7 +75,7 @@ fn shift_parts(
     id: Id,
     by: u64,
     from: u64,
-) -> Result<Option<Id>, AllocError>
+) -> Result<Option<Id>, Exhausted>
     requires small { by ≤ 2 ^ 32 }
     requires known { IsKnown table.old id }
     requires room { from + id < 2 ^ 64 }
@@ -113,7 +113,7 @@ fn shift_variable(
     n: u32,
     by: u64,
     from: u64,
-) -> Result<Option<Id>, AllocError>
+) -> Result<Option<Id>, Exhausted>
     requires small { by ≤ 2 ^ 32 }
     requires known { IsKnown table.old id }
     requires is { Var n ≡ tree_at table.old id }
@@ -138,7 +138,7 @@ fn shift_type_parts(
     id: Id,
     by: u64,
     from: u64,
-) -> Result<Option<Id>, AllocError>
+) -> Result<Option<Id>, Exhausted>
     requires small { by ≤ 2 ^ 32 }
     requires known { IsKnown table.old id }
     requires shape { is_term_shape (tree_at table.old id) ≡ false }
@@ -180,7 +180,7 @@ pub(crate) fn lower_at(
     memo: &mut Memo,
     id: Id,
     x: u64,
-) -> Result<Option<Id>, AllocError>
+) -> Result<Option<Id>, Exhausted>
     requires known { IsKnown table.old id }
     requires room { x + id < 2 ^ 64 }
     requires memo { IsMemo table.old memo.old }
@@ -212,7 +212,7 @@ pub(crate) fn lower_at(
 /// The same, by its parts.
 #[cycle(lowering)]
 #[tactic(auto, using(crate::proofs::Rows::rows))]
-fn lower_parts(table: &mut Table, memo: &mut Memo, id: Id, x: u64) -> Result<Option<Id>, AllocError>
+fn lower_parts(table: &mut Table, memo: &mut Memo, id: Id, x: u64) -> Result<Option<Id>, Exhausted>
     requires known { IsKnown table.old id }
     requires room { x + id < 2 ^ 64 }
     requires memo { IsMemo table.old memo.old }
@@ -243,7 +243,7 @@ fn lower_parts(table: &mut Table, memo: &mut Memo, id: Id, x: u64) -> Result<Opt
 }
 
 /// The same for the variable n.
-fn lower_variable(table: &mut Table, id: Id, n: u32, x: u64) -> Result<Option<Id>, AllocError>
+fn lower_variable(table: &mut Table, id: Id, n: u32, x: u64) -> Result<Option<Id>, Exhausted>
     requires known { IsKnown table.old id }
     requires is { Var n ≡ tree_at table.old id }
     ensures tree { IfOk result (Lowers table.new x (tree_at table.old id)) }
@@ -266,7 +266,7 @@ fn lower_type_parts(
     memo: &mut Memo,
     id: Id,
     x: u64,
-) -> Result<Option<Id>, AllocError>
+) -> Result<Option<Id>, Exhausted>
     requires known { IsKnown table.old id }
     requires room { x + id < 2 ^ 64 }
     requires memo { IsMemo table.old memo.old }

@@ -10,9 +10,9 @@ ghost use Rattle.hereditary_subst.specs.Inside.Heads.{put_of, put_type_of, HeadP
 ghost use Rattle.hereditary_subst.specs.Inside.Kept.{IsMemo};
 ghost use Rattle.hereditary_subst.specs.Inside.Spare.{IsLowerable, Spares};
 
+use crate::exhausted::Exhausted;
 use crate::kept::{Atom, Memo, Question, number};
 use crate::shifts::{lower_at, shift_at};
-use std::alloc::AllocError;
 use term_table::{Id, Node, Table};
 
 /// Whether r is canonical and m can be raised under all its binders: where the table knows.
@@ -42,7 +42,7 @@ fn spare_at(
     id: Id,
     m: Id,
     x: u64,
-) -> Result<Option<Id>, AllocError>
+) -> Result<Option<Id>, Exhausted>
     requires known { IsKnown table.old id }
     requires room { x + id < 2 ^ 64 }
     requires known_m { IsKnown table.old m }
@@ -70,7 +70,7 @@ pub(crate) fn subst_at(
     m: Id,
     x: u64,
     ty: Id,
-) -> Result<Option<Id>, AllocError>
+) -> Result<Option<Id>, Exhausted>
     requires known { IsKnown table.old id }
     requires room { x + id < 2 ^ 64 }
     requires known_m { IsKnown table.old m }
@@ -101,7 +101,7 @@ fn subst_under(
     m: Id,
     x: u64,
     ty: Id,
-) -> Result<Option<Id>, AllocError>
+) -> Result<Option<Id>, Exhausted>
     requires known { IsKnown table.old id }
     requires b { b < id }
     requires is { Lam (tree_at table.old b) ≡ tree_at table.old id }
@@ -141,7 +141,7 @@ fn head_at(
     m: Id,
     x: u64,
     ty: Id,
-) -> Result<Option<Atom>, AllocError>
+) -> Result<Option<Atom>, Exhausted>
     requires known { IsKnown table.old id }
     requires room { x + id < 2 ^ 64 }
     requires known_m { IsKnown table.old m }
@@ -170,7 +170,7 @@ fn head_variable(
     m: Id,
     x: u64,
     ty: Id,
-) -> Result<Option<Atom>, AllocError>
+) -> Result<Option<Atom>, Exhausted>
     requires known { IsKnown table.old id }
     requires is { Var n ≡ tree_at table.old id }
     requires known_m { IsKnown table.old m }
@@ -206,7 +206,7 @@ fn head_kept(
     m: Id,
     x: u64,
     ty: Id,
-) -> Result<Option<Atom>, AllocError>
+) -> Result<Option<Atom>, Exhausted>
     requires parts { (f < id) × (a < id) }
     requires known { IsKnown table.old id }
     requires is { App (tree_at table.old f) (tree_at table.old a) ≡ tree_at table.old id }
@@ -247,7 +247,7 @@ fn head_parts(
     m: Id,
     x: u64,
     ty: Id,
-) -> Result<Option<Atom>, AllocError>
+) -> Result<Option<Atom>, Exhausted>
     requires parts { (f < id) × (a < id) }
     requires known { IsKnown table.old id }
     requires is { App (tree_at table.old f) (tree_at table.old a) ≡ tree_at table.old id }
@@ -282,7 +282,7 @@ fn reduce_at(
     g: Id,
     b: Id,
     u: Id,
-) -> Result<Option<Atom>, AllocError>
+) -> Result<Option<Atom>, Exhausted>
     requires known { IsKnown table.old g }
     requires known_b { IsKnown table.old b }
     requires known_u { IsKnown table.old u }
@@ -329,7 +329,7 @@ pub(crate) fn subst_type_at(
     m: Id,
     x: u64,
     ty: Id,
-) -> Result<Option<Id>, AllocError>
+) -> Result<Option<Id>, Exhausted>
     requires known { IsKnown table.old id }
     requires room { x + id < 2 ^ 64 }
     requires known_m { IsKnown table.old m }
@@ -366,7 +366,7 @@ fn subst_type_parts(
     m: Id,
     x: u64,
     ty: Id,
-) -> Result<Option<Id>, AllocError>
+) -> Result<Option<Id>, Exhausted>
     requires known { IsKnown table.old id }
     requires room { x + id < 2 ^ 64 }
     requires known_m { IsKnown table.old m }
@@ -404,7 +404,7 @@ fn subst_product(
     m: Id,
     x: u64,
     ty: Id,
-) -> Result<Option<Id>, AllocError>
+) -> Result<Option<Id>, Exhausted>
     requires parts { (a < id) × (b < id) }
     requires known { IsKnown table.old id }
     requires is { Pi (tree_at table.old a) (tree_at table.old b) ≡ tree_at table.old id }

@@ -8,6 +8,7 @@ ghost use Rattle.lf_check.specs.Inside.Kept.{AreKept};
 
 use crate::judgements::{Kept, Question, number};
 use crate::steps::intern_on;
+use hereditary_subst::Exhausted;
 use lf_signature::Signature;
 use std::alloc::AllocError;
 use term_table::{Id, Node, Table};
@@ -44,19 +45,29 @@ pub(crate) fn context_on<S: Signature>(
     context_at(table, ctx)
 }
 
-/// The type of the variable n.
-pub(crate) fn type_at(table: &Table, c: Id, n: u64) -> Option<Id>
-    requires { IsKnown table.now c }
-    ensures { Stands table.now (at (types_of (tree_at table.now c)) n) result }
+/// The type of the variable n. Each step along the context is counted, so that the charge is for what
+/// is walked, whatever number a variable has.
+pub(crate) fn type_at<S: Signature>(
+    table: &Table,
+    kept: &mut Kept,
+    sig: &S,
+    c: Id,
+    n: u64,
+) -> Result<Option<Id>, Exhausted>
+    requires known { IsKnown table.now c }
+    requires kept { AreKept (S.declares sig.now table.now) table.now kept.old }
+    ensures tree { IfOk result (Stands table.now (at (types_of (tree_at table.now c)) n)) }
+    ensures kept { AreKept (S.declares sig.now table.now) table.now kept.new }
 {
     match table.node(c) {
         Node::TApp(p, a) => {
             if n == 0 {
-                return Some(a);
+                return Ok(Some(a));
             }
-            type_at(table, p, n - 1)
+            kept.step(table, sig)?;
+            type_at(table, kept, sig, p, n - 1)
         }
-        _ => None,
+        _ => Ok(None),
     }
 }
 
@@ -67,7 +78,7 @@ fn cut_at<S: Signature>(
     sig: &S,
     c: Id,
     n: u64,
-) -> Result<Id, AllocError>
+) -> Result<Id, Exhausted>
     requires holds { S.holds sig.now table.old }
     requires known { IsKnown table.old c }
     requires kept { AreKept (S.declares sig.now table.old) table.old kept.old }
@@ -78,7 +89,7 @@ fn cut_at<S: Signature>(
     match table.node(c) {
         Node::TApp(p, a) => {
             if n == 0 {
-                return intern_on(table, kept, sig, Node::Fam(0));
+                return Ok(intern_on(table, kept, sig, Node::Fam(0))?);
             }
             let question = Question::Cut(number(c), n);
             if let Some(r) = kept.find(table, sig, &question) {
@@ -100,7 +111,7 @@ pub(crate) fn part_at<S: Signature>(
     sig: &S,
     c: Id,
     m: Id,
-) -> Result<Id, AllocError>
+) -> Result<Id, Exhausted>
     requires holds { S.holds sig.now table.old }
     requires c { IsKnown table.old c }
     requires m { IsKnown table.old m }

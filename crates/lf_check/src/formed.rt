@@ -10,8 +10,8 @@ use crate::contexts::part_at;
 use crate::judgements::{Kept, Question, number};
 use crate::steps::intern_on;
 use crate::walk::check_at;
+use hereditary_subst::Exhausted;
 use lf_signature::Signature;
-use std::alloc::AllocError;
 use term_table::{Id, Node, Table};
 
 /// The family of formulas.
@@ -39,7 +39,7 @@ pub(crate) fn is_type_at<S: Signature>(
     sig: &S,
     c: Id,
     a: Id,
-) -> Result<bool, AllocError>
+) -> Result<bool, Exhausted>
     requires holds { S.holds sig.now table.old }
     requires c { IsKnown table.old c }
     requires a { IsKnown table.old a }
@@ -73,7 +73,7 @@ fn product_at<S: Signature>(
     a: Id,
     from: Id,
     to: Id,
-) -> Result<bool, AllocError>
+) -> Result<bool, Exhausted>
     requires holds { S.holds sig.now table.old }
     requires c { IsKnown table.old c }
     requires a { IsKnown table.old a }

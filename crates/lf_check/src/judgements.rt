@@ -10,9 +10,9 @@ ghost use Rattle.term_table.specs.Tree.{Tree, Const};
 ghost use Rattle.term_table.specs.Table.{TableView};
 ghost use Rattle.lf_check.specs.Inside.Kept.{AreKept, IsJudgement};
 
-use hereditary_subst::Memo;
+use hereditary_subst::{Exhausted, Memo};
 use lf_signature::Signature;
-use std::alloc::{AllocError, Global};
+use std::alloc::Global;
 use std::collections::BTreeMap;
 use term_table::{Id, Table};
 
@@ -52,7 +52,7 @@ pub(crate) fn number(id: Id) -> u64
 
 impl Kept {
     /// Nothing kept yet, which takes no memory. A call that would keep more than `limit` results of
-    /// shifts and substitutions and judgements, counted together, answers want of memory.
+    /// shifts and substitutions and judgements, counted together, answers `Results`.
     pub fn new(alloc: Global, limit: usize) -> Kept
         ensures { (sig : Const → Option Tree) (t : TableView) → AreKept sig t result }
     {
@@ -64,21 +64,16 @@ impl Kept {
         }
     }
 
-    /// Counts steps along a context, which keep nothing. Fails past their limit.
-    pub(crate) fn step<S: Signature>(
-        &mut self,
-        table: &Table,
-        sig: &S,
-        steps: u64,
-    ) -> Result<(), AllocError>
+    /// Counts a step along a context, which keeps nothing. Fails past the limit of steps, by `Results`.
+    pub(crate) fn step<S: Signature>(&mut self, table: &Table, sig: &S) -> Result<(), Exhausted>
         requires { AreKept (S.declares sig.now table.now) table.now self.old }
         ensures { AreKept (S.declares sig.now table.now) table.now self.new }
     {
         let _ = table; // only the clauses speak of it
         let _ = sig; // only the clauses speak of it
-        self.steps = self.steps.saturating_add(steps);
+        self.steps = self.steps.saturating_add(1);
         if self.steps / STEPS_A_JUDGEMENT > self.limit as u64 {
-            return Err(AllocError);
+            return Err(Exhausted::Results);
         }
         Ok(())
     }
@@ -118,7 +113,7 @@ impl Kept {
         sig: &S,
         question: Question,
         id: Id,
-    ) -> Result<(), AllocError>
+    ) -> Result<(), Exhausted>
         requires kept { AreKept (S.declares sig.now table.now) table.now self.old }
         requires judges { IsJudgement (S.declares sig.now table.now) table.now question id }
         ensures { AreKept (S.declares sig.now table.now) table.now self.new }

@@ -8,8 +8,8 @@
 //!
 //! No shared term is judged twice in the part of a context that it can speak of: `Kept` has the
 //! judgements, and can be handed from call to call on one table and signature. It has one limit for
-//! all that it keeps, past which a call answers want of memory; its `memo` can be lent to other calls
-//! on the table. Source: Harper and Licata, Mechanizing Metatheory in a Logical Framework, JFP 2007,
+//! all that it keeps, past which a call answers `Exhausted::Results`; its `memo` can be lent to other
+//! calls on the table. Source: Harper and Licata, Mechanizing Metatheory in a Logical Framework, JFP 2007,
 //! section 2.
 #![tactic(auto)]
 
@@ -28,7 +28,7 @@ ghost use Rattle.lf_check.specs.Inside.Kept.{AreKept};
 
 use contexts::context_on;
 use formed::is_type_at;
-pub use hereditary_subst::MOST_RESULTS;
+pub use hereditary_subst::{Exhausted, MOST_RESULTS};
 pub use judgements::Kept;
 use lf_signature::{Signature, typing_laws};
 use std::alloc::{AllocError, Global};
@@ -57,7 +57,7 @@ pub fn check_term<S: Signature>(
     ensures extends { Extends table.old table.new }
 {
     let mut kept = Kept::new(alloc, MOST_RESULTS);
-    check_term_with(table, &mut kept, sig, ctx, m, a)
+    Ok(check_term_with(table, &mut kept, sig, ctx, m, a)?)
 }
 
 /// `check_term`, with what `kept` has of earlier calls on the table and signature.
@@ -68,7 +68,7 @@ pub fn check_term_with<S: Signature>(
     ctx: &[Id],
     m: Id,
     a: Id,
-) -> Result<bool, AllocError>
+) -> Result<bool, Exhausted>
     requires holds { S.holds sig.now table.old }
     requires ctx { AllKnown table.old ctx.now }
     requires m { IsKnown table.old m }
@@ -105,7 +105,7 @@ pub fn synth<S: Signature>(
     ensures extends { Extends table.old table.new }
 {
     let mut kept = Kept::new(alloc, MOST_RESULTS);
-    synth_with(table, &mut kept, sig, ctx, r)
+    Ok(synth_with(table, &mut kept, sig, ctx, r)?)
 }
 
 /// `synth`, with what `kept` has of earlier calls on the table and signature.
@@ -115,7 +115,7 @@ pub fn synth_with<S: Signature>(
     sig: &S,
     ctx: &[Id],
     r: Id,
-) -> Result<Option<Id>, AllocError>
+) -> Result<Option<Id>, Exhausted>
     requires holds { S.holds sig.now table.old }
     requires ctx { AllKnown table.old ctx.now }
     requires r { IsKnown table.old r }
@@ -150,7 +150,7 @@ pub fn check_type<S: Signature>(
     ensures extends { Extends table.old table.new }
 {
     let mut kept = Kept::new(alloc, MOST_RESULTS);
-    check_type_with(table, &mut kept, sig, ctx, a)
+    Ok(check_type_with(table, &mut kept, sig, ctx, a)?)
 }
 
 /// `check_type`, with what `kept` has of earlier calls on the table and signature.
@@ -160,7 +160,7 @@ pub fn check_type_with<S: Signature>(
     sig: &S,
     ctx: &[Id],
     a: Id,
-) -> Result<bool, AllocError>
+) -> Result<bool, Exhausted>
     requires holds { S.holds sig.now table.old }
     requires ctx { AllKnown table.old ctx.now }
     requires a { IsKnown table.old a }

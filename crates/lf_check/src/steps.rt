@@ -8,7 +8,7 @@ ghost use Rattle.lf_signature.specs.Nodes.{type_at};
 ghost use Rattle.lf_check.specs.Inside.Kept.{AreKept};
 
 use crate::judgements::Kept;
-use hereditary_subst::{subst_type_with, weaken_with};
+use hereditary_subst::{Exhausted, subst_type_with, weaken_with};
 use lf_signature::Signature;
 use std::alloc::AllocError;
 use term_table::{Id, Node, Table};
@@ -40,7 +40,7 @@ pub(crate) fn weaken_on<S: Signature>(
     sig: &S,
     id: Id,
     by: u64,
-) -> Result<Option<Id>, AllocError>
+) -> Result<Option<Id>, Exhausted>
     requires holds { S.holds sig.now table.old }
     requires small { by ≤ 2 ^ 32 }
     requires known { IsKnown table.old id }
@@ -61,7 +61,7 @@ pub(crate) fn subst_on<S: Signature>(
     body: Id,
     arg: Id,
     ty: Id,
-) -> Result<Option<Id>, AllocError>
+) -> Result<Option<Id>, Exhausted>
     requires holds { S.holds sig.now table.old }
     requires body { IsKnown table.old body }
     requires arg { IsKnown table.old arg }
@@ -81,7 +81,7 @@ pub(crate) fn declared_on<S: Signature>(
     kept: &Kept,
     sig: &S,
     constant: Node,
-) -> Result<Option<Id>, AllocError>
+) -> Result<Option<Id>, Exhausted>
     requires holds { S.holds sig.now table.old }
     requires kept { AreKept (S.declares sig.now table.old) table.old kept.now }
     ensures tree { IfOk result
@@ -90,5 +90,5 @@ pub(crate) fn declared_on<S: Signature>(
     ensures kept { AreKept (S.declares sig.now table.new) table.new kept.now }
 {
     let _ = kept; // only the clauses speak of it
-    sig.type_of(table, constant)
+    Ok(sig.type_of(table, constant)?)
 }

@@ -13,8 +13,8 @@ use crate::contexts::{part_at, type_at};
 use crate::introductions::{Introduction, introduction_on};
 use crate::judgements::{Kept, Question, number};
 use crate::steps::{declared_on, intern_on, subst_on, weaken_on};
+use hereditary_subst::Exhausted;
 use lf_signature::Signature;
-use std::alloc::AllocError;
 use term_table::{Id, Node, Table};
 
 /// Whether a type is a family with arguments.
@@ -36,7 +36,7 @@ fn var_type<S: Signature>(
     sig: &S,
     c: Id,
     n: u32,
-) -> Result<Option<Id>, AllocError>
+) -> Result<Option<Id>, Exhausted>
     requires holds { S.holds sig.now table.old }
     requires known { IsKnown table.old c }
     requires kept { AreKept (S.declares sig.now table.old) table.old kept.old }
@@ -45,8 +45,7 @@ fn var_type<S: Signature>(
     ensures extends { Extends table.old table.new }
     ensures kept { AreKept (S.declares sig.now table.new) table.new kept.new }
 {
-    kept.step(table, sig, u64::from(n))?;
-    match type_at(table, c, u64::from(n)) {
+    match type_at(table, kept, sig, c, u64::from(n))? {
         None => Ok(None),
         Some(a) => weaken_on(table, kept, sig, a, u64::from(n) + 1),
     }
@@ -61,7 +60,7 @@ pub(crate) fn check_at<S: Signature>(
     c: Id,
     m: Id,
     a: Id,
-) -> Result<bool, AllocError>
+) -> Result<bool, Exhausted>
     requires holds { S.holds sig.now table.old }
     requires c { IsKnown table.old c }
     requires m { IsKnown table.old m }
@@ -96,7 +95,7 @@ fn under_at<S: Signature>(
     body: Id,
     from: Id,
     to: Id,
-) -> Result<bool, AllocError>
+) -> Result<bool, Exhausted>
     requires holds { S.holds sig.now table.old }
     requires c { IsKnown table.old c }
     requires m { IsKnown table.old m }
@@ -131,7 +130,7 @@ pub(crate) fn synth_at<S: Signature>(
     sig: &S,
     c: Id,
     r: Id,
-) -> Result<Option<Id>, AllocError>
+) -> Result<Option<Id>, Exhausted>
     requires holds { S.holds sig.now table.old }
     requires c { IsKnown table.old c }
     requires r { IsKnown table.old r }
@@ -172,7 +171,7 @@ fn application_at<S: Signature>(
     r: Id,
     f: Id,
     m: Id,
-) -> Result<Option<Id>, AllocError>
+) -> Result<Option<Id>, Exhausted>
     requires holds { S.holds sig.now table.old }
     requires c { IsKnown table.old c }
     requires r { IsKnown table.old r }
@@ -200,7 +199,7 @@ fn applied_at<S: Signature>(
     r: Id,
     f: Id,
     m: Id,
-) -> Result<Option<Id>, AllocError>
+) -> Result<Option<Id>, Exhausted>
     requires holds { S.holds sig.now table.old }
     requires c { IsKnown table.old c }
     requires r { IsKnown table.old r }
@@ -235,7 +234,7 @@ fn introduced_at<S: Signature>(
     f: Id,
     m: Id,
     i: &Introduction,
-) -> Result<Option<Id>, AllocError>
+) -> Result<Option<Id>, Exhausted>
     requires holds { S.holds sig.now table.old }
     requires c { IsKnown table.old c }
     requires r { IsKnown table.old r }

@@ -57,7 +57,7 @@ fn is_typed(
     ensures kept { AreKept declared table.new kept.new }
 {
     let kind = sort_id(table, *sort)?;
-    check_term_with(table, kept, &Sigma1, hyps, param, kind)
+    Ok(check_term_with(table, kept, &Sigma1, hyps, param, kind)?)
 }
 
 /// Whether each term checks at its parameter's type.

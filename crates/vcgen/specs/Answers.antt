@@ -7,7 +7,9 @@ use Rattle.term_table.specs.Tree.{Tree}
 use Rattle.term_table.specs.Measures.{height_of}
 use Rattle.term_table.specs.Table.{TableView, IsKnown, tree_at}
 use Rattle.vcgen.specs.declared.fault.VcFault.{VcFault}
-use Rattle.vcgen.specs.declared.fault.VcFault.TheVariants.{UnfoldLimit, Memory}
+use Rattle.vcgen.specs.declared.fault.VcFault.TheVariants.{UnfoldLimit, Memory, Results}
+use Rattle.hereditary_subst.specs.declared.exhausted.Exhausted.{Exhausted}
+use Rattle.hereditary_subst.specs.declared.exhausted.Exhausted.TheVariants as exhausted
 use Rattle.vcgen.specs.declared.condition.TheConstants.{MAX_UNFOLDED, MAX_HEIGHT}
 use Rattle.vcgen.specs.Encoded.{EncodesCondition}
 
@@ -16,8 +18,14 @@ abbrev pub AreLowInvs : TableView → List (ℕ × ℕ) → Type 0
 AreLowInvs t [] = Unit {0}
 AreLowInvs t (p ∷ ps) = IsKnown t p.1 × (height_of (tree_at t p.1) ≤ MAX_HEIGHT) × AreLowInvs t ps
 
+-- what ran out, as a fault of `vc`
+abbrev pub shortage_of : Exhausted → VcFault
+shortage_of exhausted.Memory = Memory
+shortage_of exhausted.Results = Results
+
 -- The condition's encoding where the unfolded length is within its limit, which is tested before any memory is taken; else that length.
 abbrev pub IsVcAnswer : PolicyKind → CutView → List (ℕ × Tree) → TableView → Result ℕ VcFault → Type 0
 IsVcAnswer policy cut invs t (Ok id) = (unfolded_of cut.code cut.marks ≤ MAX_UNFOLDED) × IsKnown t id × EncodesCondition policy cut.code invs (tree_at t id)
 IsVcAnswer policy cut invs t (Err (UnfoldLimit n)) = (MAX_UNFOLDED < unfolded_of cut.code cut.marks) × (n ≡ capped (unfolded_of cut.code cut.marks))
 IsVcAnswer policy cut invs t (Err Memory) = unfolded_of cut.code cut.marks ≤ MAX_UNFOLDED
+IsVcAnswer policy cut invs t (Err Results) = unfolded_of cut.code cut.marks ≤ MAX_UNFOLDED

@@ -19,7 +19,7 @@ use crate::fault::VcFault;
 use crate::symbols::Symbols;
 use crate::walk::{Program, walk, walk_from};
 use alpha_cfg::{Code, Cut};
-use hereditary_subst::{MOST_RESULTS, Memo};
+use hereditary_subst::{Exhausted, MOST_RESULTS, Memo};
 use lf_encode::{PutMemo, encode_form, machine_context, quantified};
 use lf_signature::app2;
 use lf_signature::numbers::{ALL, ALLM, AND, IMP, TT};
@@ -68,7 +68,7 @@ fn inv_parts(
     program: &Program,
     start: &Symbols,
     from: usize,
-) -> Result<Id, AllocError>
+) -> Result<Id, Exhausted>
     requires walking { Walks table.old program.now start.now shifts.old kept.old }
     requires inside { All (λ p. p.0 < length program.now.code.now) program.now.invs.now }
     requires from { from ≤ length program.now.invs.now }
@@ -82,7 +82,7 @@ fn inv_parts(
     ensures shifts { IsMemo table.new shifts.new }
 {
     if from == program.invs.len() {
-        return table.intern(Node::Const(TT));
+        return Ok(table.intern(Node::Const(TT))?);
     }
     let pair = program.invs[from];
     let (index, inv) = pair;
@@ -90,7 +90,7 @@ fn inv_parts(
     let walked = walk_from(table, shifts, kept, program, count, index, start)?;
     let here = part(table, inv, walked)?;
     let rest = inv_parts(table, shifts, kept, program, start, from + 1)?;
-    app2(table, AND, here, rest)
+    Ok(app2(table, AND, here, rest)?)
 }
 
 /// The condition, from the terms of what holds at the start and of the program.
@@ -100,7 +100,7 @@ fn condition_of(
     shifts: &mut Memo,
     program: &Program,
     pre: Id,
-) -> Result<Id, AllocError>
+) -> Result<Id, Exhausted>
     requires program { let p = program.now in
         IsProgram table.old p.code.now p.invs.now p.post }
     requires inside { All (λ p. p.0 < length program.now.code.now) program.now.invs.now }
@@ -119,7 +119,7 @@ fn condition_of(
     let walked = walk(table, shifts, &mut kept, program, count, 0, &start)?;
     let entry = part(table, pre, walked)?;
     let rest = inv_parts(table, shifts, &mut kept, program, &start, 0)?;
-    app2(table, AND, entry, rest)
+    Ok(app2(table, AND, entry, rest)?)
 }
 
 /// The encoding of the condition of code, its unfolded length being within its limit.
@@ -130,7 +130,7 @@ fn encoded_condition(
     code: &Code,
     policy: &Policy,
     invs: &[(u32, Id)],
-) -> Result<Id, AllocError>
+) -> Result<Id, Exhausted>
     requires invs { AreLowInvs table.old invs.now }
     requires inside { All (λ p. p.0 < length code.now) invs.now }
     requires shifts { IsMemo table.old shifts.old }
@@ -155,8 +155,8 @@ fn encoded_condition(
 /// context m, r0 to r30, at most `MAX_HEIGHT` high, in rising order of indices.
 ///
 /// Errors: `UnfoldLimit` names the unfolded length exactly where it exceeds `MAX_UNFOLDED`, which is
-/// tested first; `Memory` says nothing of the condition, and more than `MOST_RESULTS` results of
-/// substitution are want of memory too. Each id keeps its tree.
+/// tested first; `Memory` says nothing of the condition, nor does `Results`, which more than
+/// `MOST_RESULTS` results of substitution are. Each id keeps its tree.
 pub fn vc(table: &mut Table, cut: &Cut, policy: &Policy, invs: &[(u32, Id)]) -> Result<Id, VcFault>
     requires invs { AreLowInvs table.old invs.now }
     requires forms { AreForms (inv_trees table.old invs.now) }
@@ -169,7 +169,7 @@ pub fn vc(table: &mut Table, cut: &Cut, policy: &Policy, invs: &[(u32, Id)]) -> 
 }
 
 /// `vc`, with the results that `memo` keeps of earlier calls on the table. What is kept here counts
-/// in its limit, past which the answer is `Memory`. The same clauses.
+/// in its limit, past which the answer is `Results`. The same clauses.
 pub fn vc_with(
     table: &mut Table,
     memo: &mut Memo,

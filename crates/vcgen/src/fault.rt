@@ -2,6 +2,7 @@
 
 ghost use Rattle.std.specs.Prelude.{◌≡◌};
 
+use hereditary_subst::Exhausted;
 use std::alloc::AllocError;
 use thiserror::Error;
 
@@ -14,6 +15,9 @@ pub enum VcFault {
     /// There was no memory for the condition.
     #[error("out of memory")]
     Memory,
+    /// More results of substitution would have been kept than the limit allows.
+    #[error("too many results")]
+    Results,
 }
 
 impl From<AllocError> for VcFault {
@@ -23,5 +27,18 @@ impl From<AllocError> for VcFault {
 
     fn from(_fault: AllocError) -> VcFault {
         VcFault::Memory
+    }
+}
+
+impl From<Exhausted> for VcFault {
+    ghost use Rattle.vcgen.specs.Answers.{shortage_of};
+
+    ghost from_gives = { λ what e. e ≡ shortage_of what };
+
+    fn from(what: Exhausted) -> VcFault {
+        match what {
+            Exhausted::Memory => VcFault::Memory,
+            Exhausted::Results => VcFault::Results,
+        }
     }
 }

@@ -17,11 +17,10 @@ ghost use Rattle.vcgen.specs.Inside.Symbols.{inv_id, Walks};
 use crate::effects::{Effect, effect_at};
 use crate::symbols::Symbols;
 use alpha_cfg::Code;
-use hereditary_subst::Memo;
+use hereditary_subst::{Exhausted, Memo};
 use lf_encode::{PutMemo, put_with};
 use lf_signature::app2;
 use lf_signature::numbers::{AND, FF, IMP};
-use std::alloc::AllocError;
 use term_table::{Id, Node, Table};
 
 /// What a walk goes by: the code, its invariants by their indices, and what has to hold at its end.
@@ -50,7 +49,7 @@ pub(crate) fn walk(
     fuel: u32,
     index: u32,
     symbols: &Symbols,
-) -> Result<Id, AllocError>
+) -> Result<Id, Exhausted>
     requires walking { Walks table.old program.now symbols.now shifts.old kept.old }
     requires within { index < length program.now.code.now }
     ensures id { let t = table.old in
@@ -65,7 +64,7 @@ pub(crate) fn walk(
         Some(inv) => put_with(table, shifts, kept, inv, &symbols.regs, symbols.memory),
         None => {
             if fuel == 0 {
-                return table.intern(Node::Const(FF));
+                return Ok(table.intern(Node::Const(FF))?);
             }
             walk_from(table, shifts, kept, program, fuel - 1, index, symbols)
         }
@@ -84,7 +83,7 @@ fn walk_with(
     index: u32,
     symbols: &Symbols,
     after: &Symbols,
-) -> Result<Id, AllocError>
+) -> Result<Id, Exhausted>
     requires walking { Walks table.old program.now symbols.now shifts.old kept.old }
     requires within { index < length program.now.code.now }
     requires after { AreMachineTerms table.old after.now.regs after.now.memory }
@@ -114,7 +113,7 @@ fn walk_both(
     symbols: &Symbols,
     taken: (Id, u32),
     passed: (Id, u32),
-) -> Result<Id, AllocError>
+) -> Result<Id, Exhausted>
     requires walking { Walks table.old program.now symbols.now shifts.old kept.old }
     requires target { taken.1 < length program.now.code.now }
     requires next { passed.1 < length program.now.code.now }
@@ -134,7 +133,7 @@ fn walk_both(
     let onward = walk(table, shifts, kept, program, fuel, passed.1, symbols)?;
     let first = app2(table, IMP, taken.0, there)?;
     let second = app2(table, IMP, passed.0, onward)?;
-    app2(table, AND, first, second)
+    Ok(app2(table, AND, first, second)?)
 }
 
 /// That the formula `allowed` holds, and the walk from `index` with the terms of `after`.
@@ -149,7 +148,7 @@ fn walk_behind(
     symbols: &Symbols,
     allowed: Id,
     after: &Symbols,
-) -> Result<Id, AllocError>
+) -> Result<Id, Exhausted>
     requires walking { Walks table.old program.now symbols.now shifts.old kept.old }
     requires within { index < length program.now.code.now }
     requires allowed { IsKnown table.old allowed }
@@ -163,7 +162,7 @@ fn walk_behind(
     ensures walking { Walks table.new program.now symbols.now shifts.new kept.new }
 {
     let rest = walk_with(table, shifts, kept, program, fuel, index, symbols, after)?;
-    app2(table, AND, allowed, rest)
+    Ok(app2(table, AND, allowed, rest)?)
 }
 
 /// The term of the walk from the instruction at `index`, whether that is annotated or not.
@@ -176,7 +175,7 @@ pub(crate) fn walk_from(
     fuel: u32,
     index: u32,
     symbols: &Symbols,
-) -> Result<Id, AllocError>
+) -> Result<Id, Exhausted>
     requires walking { Walks table.old program.now symbols.now shifts.old kept.old }
     requires within { index < length program.now.code.now }
     ensures id { let t = table.old in

@@ -14,4 +14,4 @@ pub returns-clause-is : goal.returns-clause-is
 returns-clause-is c = λ x q.
     let under : tree_at c.intern.new.self c.in_ok-under.under ≡ exp_encoding (up x) =
     (more c.in_ok-under.ensures.id c.in_ok-place.ensures.extends).is ∙ ap (shift 1 0) q ∙ shift-exp_encoding x 1 0 in
-    subst (λ (z : Tree). IfOk c.relation.result (IsIdOf c.relation.new.table z)) (λ i. rel_term Ule (c.in_ok-place.ensures.id.1 i) (under i)) c.relation.ensures.id
+    subst (λ (z : Tree). IsIdOf c.relation.new.table z c.in_ok-form.form) (λ i. rel_term Ule (c.in_ok-place.ensures.id.1 i) (under i)) c.in_ok-form.ensures.id

@@ -24,5 +24,5 @@ returns-clause-id c =
     let back0 = c.in_ok-back.ensures.is (EOp a.op (ELit a.a) (ELit a.b)) (ELit value) to.is from.is in
     let back = subst (λ z. IsIdOf c.swapped.new.table (swap (EOp a.op (ELit a.a) (ELit a.b)) (ELit value) z) c.in_ok-back.back) equal.is back0 in
     let fits = subst (λ (n : ℕ). IsIdOf c.fact.new.table (fact Ule a.v n) c.in_ok-fits.fits) c.apply-value.ensures c.in_ok-fits.ensures.id in
-    moved_to (λ z. IfOk c.moved.result (IsIdOf c.moved.new.table z)) c.moved.ensures.is (FRel Ule (ELit a.v) (EVar 0)) (ELit value) (EOp a.op (ELit a.a) (ELit a.b))
+    moved_to (λ z. IsIdOf c.moved.new.table z c.in_ok-proof.proof) c.in_ok-proof.ensures.is (FRel Ule (ELit a.v) (EVar 0)) (ELit value) (EOp a.op (ELit a.a) (ELit a.b))
     (more c.in_ok-form.ensures.id e6) (more (more (more from e4) e5) e6) (more (more (more to e4) e5) e6) (more (more back e5) e6) fits

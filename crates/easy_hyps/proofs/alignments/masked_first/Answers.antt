@@ -5,7 +5,6 @@ use Rattle.lf_signature.specs.Nodes.{IsIdOf}
 use Rattle.lf_signature.specs.Terms.{op_term}
 use Rattle.formula_tree.specs.Formulas.{EVar, EOp, FRel}
 use Rattle.term_table.specs.Tree.{Tree}
-use Rattle.std.proofs.Common.{IfOk}
 use Rattle.formula_terms.specs.Encoding.{exp_encoding}
 use Rattle.formula_terms.specs.ProofTerms.{up}
 use Rattle.formula_ids.proofs.Standing.{stands, more, twice, ruled, moved_to}
@@ -29,4 +28,4 @@ returns-clause-is c = λ x y s i e qx qy qs qi qe.
     let equal = more (ruled (λ z. IsIdOf c.rule_term.new.table z c.in_ok-equal.equal) 52 (λ j. (more a e1).is j ∷ (more word e1).is j ∷ (more seven e1).is j ∷ []) c.in_ok-equal.ensures.id) (twice e3 e4) in
     let itself = more (c.in_ok-itself.ensures.is e (more whole x2).is) e4 in
     let form = c.in_ok-form.ensures.is e (more whole x3).is in
-    moved_to (λ (z : Tree). IfOk c.moved.result (IsIdOf c.moved.new.table z)) c.moved.ensures.is (FRel Eq (up e) (EVar 0)) e (EOp Band x i) form (more whole (twice x3 e4)) to equal itself
+    moved_to (λ (z : Tree). IsIdOf c.moved.new.table z c.in_ok-proof.proof) c.in_ok-proof.ensures.is (FRel Eq (up e) (EVar 0)) e (EOp Band x i) form (more whole (twice x3 e4)) to equal itself

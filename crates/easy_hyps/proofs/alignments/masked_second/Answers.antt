@@ -36,4 +36,4 @@ returns-clause-is c = λ x i e z qx qi qe qz.
     let right = subst (λ k. IsIdOf c.oper.new.table k c.in_ok-right.right) (λ j. op_term Band (under.is j) (c.in_ok-place.ensures.id.1 j)) c.in_ok-right.ensures.id in
     let form = subst (λ k. IsIdOf c.relation.new.table k c.in_ok-form.form) (λ j. rel_term Eq (left.is j) (right.is j)) c.in_ok-form.ensures.id in
     let equal = more c.in_ok-equal.ensures.id (twice e2 (twice y4 y6)) in
-    moved_to (λ (k : Tree). IfOk c.moved.result (IsIdOf c.moved.new.table k)) c.moved.ensures.is (FRel Eq (up e) (EOp Band (up x) (EVar 0))) i z form (more inner x6) (more zero x6) equal (more first x6)
+    moved_to (λ (k : Tree). IsIdOf c.moved.new.table k c.in_ok-proof.proof) c.in_ok-proof.ensures.is (FRel Eq (up e) (EOp Band (up x) (EVar 0))) i z form (more inner x6) (more zero x6) equal (more first x6)

@@ -26,4 +26,4 @@ returns-clause-is c = λ x e z qx qe qz.
     let from = more from0 (twice e2 e3) in
     let equal = more (ruled (λ k. IsIdOf c.rule_term.new.table k c.in_ok-equal.equal) 53 (λ j. (more a e1).is j ∷ []) c.in_ok-equal.ensures.id) e3 in
     let form = c.in_ok-form.ensures.is e (more whole x2).is in
-    moved_to (λ (k : Tree). IfOk c.moved.result (IsIdOf c.moved.new.table k)) c.moved.ensures.is (FRel Eq (up e) (EVar 0)) (EOp Band x z) z form from (more zero x3) equal (more second x3)
+    moved_to (λ (k : Tree). IsIdOf c.moved.new.table k c.in_ok-moved.field-0) c.in_ok-moved.ensures.is (FRel Eq (up e) (EVar 0)) (EOp Band x z) z form from (more zero x3) equal (more second x3)

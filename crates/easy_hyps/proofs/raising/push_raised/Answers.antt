@@ -19,7 +19,7 @@ returns-clause-known c =
     let tu = c.in_ok-form.ensures.extends in
     let uv = c.in_ok-proof.ensures.extends in
     let f : IsKnown v c.in_ok-form.form = omega (arith, c.in_ok-form.ensures.id.known, uv.longer) in
-    on_ok_weaker c.push.result (known-push v c.args.under.now c.push.new.self (record { form = c.in_ok-form.form; proof = c.in_ok-proof.proof }) (known_hyps-more t v c.args.under.now c.requires.under (grows_more t u v tu uv)) f c.in_ok-proof.ensures.id.known) c.push.ensures
+    known-push v c.args.under.now c.push.new.self (record { form = c.in_ok-form.form; proof = c.in_ok-proof.proof }) (known_hyps-more t v c.args.under.now c.requires.under (grows_more t u v tu uv)) f c.in_ok-proof.ensures.id.known c.in_ok-push.ensures
 
 pub returns-clause-exact : goal.returns-clause-exact
 returns-clause-exact c = λ Γ A h a.
@@ -30,5 +30,5 @@ returns-clause-exact c = λ Γ A h a.
     let uv = c.in_ok-proof.ensures.extends in
     let f : tree_at v c.in_ok-form.form ≡ form_encoding (shift_form 1 0 A) = uv.same c.in_ok-form.form c.in_ok-form.ensures.id.known ∙ c.in_ok-form.ensures.id.is ∙ ap (shift 1 0) a ∙ shift-form_encoding A 1 0 in
     let p : tree_at v c.in_ok-proof.proof ≡ shift 1 0 (tree_at t c.args.proof) = c.in_ok-proof.ensures.id.is ∙ ap (shift 1 0) (tu.same c.args.proof c.requires.proof) in
-    subst (λ z. OnOk c.push.result (AreHyps v c.push.new.self (Γ ++ (shift_form 1 0 A, z) ∷ []))) p
-    (on_ok_weaker c.push.result (hyps-push v c.args.under.now c.push.new.self (record { form = c.in_ok-form.form; proof = c.in_ok-proof.proof }) Γ (shift_form 1 0 A) (hyps-after t v c.args.under.now Γ c.requires.under (grows_more t u v tu uv) h) f) c.push.ensures)
+    subst (λ z. AreHyps v c.push.new.self (Γ ++ (shift_form 1 0 A, z) ∷ [])) p
+    (hyps-push v c.args.under.now c.push.new.self (record { form = c.in_ok-form.form; proof = c.in_ok-proof.proof }) Γ (shift_form 1 0 A) (hyps-after t v c.args.under.now Γ c.requires.under (grows_more t u v tu uv) h) f c.in_ok-push.ensures)

@@ -1,4 +1,4 @@
-use Rattle.std.proofs.Common.{◌≡◌, subst, IfOk, IsTrue, ◌↔◌}
+use Rattle.std.proofs.Common.{◌≡◌, subst, IsTrue, ◌↔◌}
 use Rattle.term_table.specs.Table.{tree_at, ctx_of}
 use Rattle.lf_signature.specs.Typing.{Checks}
 use Rattle.lf_signature.specs.Sigma1.{declared}
@@ -23,4 +23,4 @@ returns-clause-answer c =
     let ctx : ctx_of u c.args.hyps.now ≡ ctx_of t c.args.hyps.now = ctx-same t u c.args.hyps.now c.requires.hyps c.sort_id.ensures.extends in
     let param : tree_at u c.args.param ≡ tree_at t c.args.param = c.sort_id.ensures.extends.same c.args.param c.requires.param in
     let kind = c.in_ok-kind.ensures.id.is in
-    subst (λ (z : Type 0). IfOk c.check_term_with.result (λ b. IsTrue b ↔ z)) (λ i. Checks declared (ctx i) (param i) (kind i)) c.check_term_with.ensures.answer
+    subst (λ (z : Type 0). IsTrue c.in_ok-check_term_with.field-0 ↔ z) (λ i. Checks declared (ctx i) (param i) (kind i)) c.in_ok-check_term_with.ensures.answer

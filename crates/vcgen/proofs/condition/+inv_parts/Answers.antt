@@ -55,5 +55,5 @@ returns-clause-id t c =
     let end = grown.same p.post c.requires.walking.program.post in
     c.in_ok-rest.ensures.id.is ∙ (λ i. part_terms p.code.now (all i) (end i) (few i)) in
     let split = drop_more p.invs.now c.args.from d (omega arith) in
-    subst (λ z. IfOk c.app2.result (IsIdOf c.app2.new.table (part_terms p.code.now (inv_trees o p.invs.now) post (inv_trees o z)))) (sym split)
-    (subst (λ z. IfOk c.app2.result (IsIdOf c.app2.new.table z)) (λ i. and_term (here i) (rest i)) c.app2.ensures.id)
+    subst (λ z. IsIdOf c.app2.new.table (part_terms p.code.now (inv_trees o p.invs.now) post (inv_trees o z)) c.in_ok-app2.field-0) (sym split)
+    (subst (λ z. IsIdOf c.app2.new.table z c.in_ok-app2.field-0) (λ i. and_term (here i) (rest i)) c.in_ok-app2.ensures.id)

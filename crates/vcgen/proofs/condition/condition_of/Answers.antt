@@ -52,4 +52,4 @@ returns-clause-id c =
     let all = invs-same o p it.invs.now c.requires.program.invs grown in
     let end = grown.same it.post c.requires.program.post in
     c.in_ok-rest.ensures.id.is ∙ (λ i. part_terms it.code.now (all i) (end i) (all i)) in
-    subst (λ z. IfOk c.app2.result (IsIdOf c.app2.new.table z)) (λ i. and_term (entry i) (rest i)) c.app2.ensures.id
+    subst (λ z. IsIdOf c.app2.new.table z c.in_ok-app2.field-0) (λ i. and_term (entry i) (rest i)) c.in_ok-app2.ensures.id

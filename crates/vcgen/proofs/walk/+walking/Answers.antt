@@ -29,7 +29,8 @@ walk-returns-then-fuel-eq0-clause-id t c =
     let post = tree_at o c.args.program.now.post in
     let tree = walked c.args.program.now.code.now (inv_trees o c.args.program.now.invs.now) post c.args.fuel c.args.index terms in
     let spent = walk-spent o c.args.program.now.code.now c.args.program.now.invs.now post c.args.index terms c.args.fuel c.invariant.result c.if-fuel-eq0.true c.invariant.ensures c.in-None.is in
-    IfOk-weaker c.intern.result (λ r. IsKnown u r × (tree_at u r ≡ falsity)) (IsIdOf u tree) (λ r s. record { known = s.0; is = s.1 ∙ sym spent }) c.intern.ensures.id
+    let s = c.in_ok-intern-in-None.ensures.id in
+    record { known = s.0; is = s.1 ∙ sym spent }
 
 pub walk-returns-then-fuel-eq0-clause-walking : goal.walk-returns-then-fuel-eq0-clause-walking
 walk-returns-then-fuel-eq0-clause-walking t c = walking-more _ _ _ _ _ _ _ _ _ c.requires.walking c.intern.ensures.extends
@@ -77,6 +78,9 @@ walk_with-returns-clause-walking t c =
 pub walk_behind-returns-clause-walking : goal.walk_behind-returns-clause-walking
 walk_behind-returns-clause-walking t c = walking-more _ _ _ _ _ _ _ _ _ c.in_ok-rest.ensures.walking c.app2.ensures.extends
 
+pub walk_behind-returns-in_err-app2-clause-walking : goal.walk_behind-returns-in_err-app2-clause-walking
+walk_behind-returns-in_err-app2-clause-walking t c = walking-more _ _ _ _ _ _ _ _ _ c.in_ok-rest.ensures.walking c.app2.ensures.extends
+
 pub walk_both-returns-in_err-first-clause-walking : goal.walk_both-returns-in_err-first-clause-walking
 walk_both-returns-in_err-first-clause-walking t c = walking-more _ _ _ _ _ _ _ _ _ c.in_ok-onward.ensures.walking c.in_err-first.ensures.extends
 
@@ -87,6 +91,13 @@ walk_both-returns-in_err-second-clause-walking t c =
 
 pub walk_both-returns-clause-walking : goal.walk_both-returns-clause-walking
 walk_both-returns-clause-walking t c =
+    let u = c.walk-2.new.table in
+    let v = c.app2-2.new.table in
+    let grown = grows_more u v c.app2-3.new.table (grows_more u c.app2.new.table v c.in_ok-first.ensures.extends c.in_ok-second.ensures.extends) c.app2-3.ensures.extends in
+    walking-more _ _ _ _ _ _ _ _ _ c.in_ok-onward.ensures.walking grown
+
+pub walk_both-returns-in_err-app2-clause-walking : goal.walk_both-returns-in_err-app2-clause-walking
+walk_both-returns-in_err-app2-clause-walking t c =
     let u = c.walk-2.new.table in
     let v = c.app2-2.new.table in
     let grown = grows_more u v c.app2-3.new.table (grows_more u c.app2.new.table v c.in_ok-first.ensures.extends c.in_ok-second.ensures.extends) c.app2-3.ensures.extends in
@@ -115,7 +126,7 @@ walk_both-returns-clause-id t c =
     let grown : Extends o w = grows_more o v w (grows_more o u v c.in_ok-there.ensures.extends c.in_ok-onward.ensures.extends) c.in_ok-first.ensures.extends in
     let passed = grown.same c.args.passed.0 c.requires.passed in
     c.in_ok-second.ensures.id.is ∙ (λ i. imp_term (passed i) (onward i)) in
-    subst (λ z. IfOk c.app2-3.result (IsIdOf c.app2-3.new.table z)) (λ i. and_term (first i) (second i)) c.app2-3.ensures.id
+    subst (λ z. IsIdOf c.app2-3.new.table z c.in_ok-app2.field-0) (λ i. and_term (first i) (second i)) c.in_ok-app2.ensures.id
 
 -- ---- the walk from an instruction
 

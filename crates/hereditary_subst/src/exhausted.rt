@@ -1,0 +1,41 @@
+//! What ran out.
+
+ghost use Rattle.std.specs.Prelude.{◌≡◌};
+
+use std::alloc::{AllocError, AllocFailed};
+
+/// What ran out in a call that keeps results: nothing of it says anything of the arguments.
+#[derive(Clone, Copy, Debug, PartialEq, Eq)]
+pub enum Exhausted {
+    /// There was no memory.
+    Memory,
+    /// More results would have been kept than the memo's limit allows.
+    Results,
+}
+
+impl From<AllocError> for Exhausted {
+    ghost use Rattle.hereditary_subst.specs.declared.exhausted.Exhausted.TheVariants.{Memory};
+
+    ghost from_gives = { λ _ e. e ≡ Memory };
+
+    fn from(_fault: AllocError) -> Exhausted {
+        Exhausted::Memory
+    }
+}
+
+impl<T: Drop> From<AllocFailed<T>> for Exhausted {
+    ghost use Rattle.hereditary_subst.specs.declared.exhausted.Exhausted.TheVariants.{Memory};
+
+    ghost from_gives = { λ _ e. e ≡ Memory };
+
+    fn from(_fault: AllocFailed<T>) -> Exhausted {
+        Exhausted::Memory
+    }
+}
+
+/// A call whose one fault is want of memory answers that where its own limit is passed, too.
+impl From<Exhausted> for AllocError {
+    fn from(_what: Exhausted) -> AllocError {
+        AllocError
+    }
+}
