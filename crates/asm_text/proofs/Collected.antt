@@ -14,29 +14,30 @@ use Rattle.asm_text.specs.Lines.{lines_of}
 use Rattle.asm_text.specs.Statements.{Statement, NoStatement, AnInsn, AnInv, Content}
 use Rattle.asm_text.specs.Sources.{Source, AreSpelled, insn_count, add_insn, add_label, add_inv, insns_from, labels_from, invs_from, AreDistinct, HaveInsns, IsSource, SpellsSource}
 use Rattle.asm_text.specs.SourceParsing.{Progress, is_known, take_label, take_inv, take_statement, take_line, at_line, source_end, take_lines, no_progress, parsed_source}
+use Rattle.asm_text.specs.Faults.{IsBegun}
 use Rattle.asm_text.proofs.Operands.{bind_ok, bind_of, same_Ok, if_ok}
 use Rattle.asm_text.proofs.Endings.{lines_are, are_lines}
 use Rattle.asm_text.proofs.Said.{takes, line_takes, line_said}
 
 -- ---- what a content does
 
-abbrev labelled : Option (List ℕ) → Progress → Progress
+abbrev pub labelled : Option (List ℕ) → Progress → Progress
 labelled None p = p
 labelled (Some l) p = record { source = record { insns = p.source.insns; labels = p.source.labels ++ ((l, length p.source.insns) ∷ []); invs = p.source.invs }; waiting = p.waiting }
 
-abbrev stated : ℕ → Statement → Progress → Progress
+abbrev pub stated : ℕ → Statement → Progress → Progress
 stated n NoStatement p = p
 stated n (AnInsn i) p = record { source = record { insns = p.source.insns ++ ((n, i) ∷ []); labels = p.source.labels; invs = p.source.invs }; waiting = None }
 stated n (AnInv F) p = record { source = record { insns = p.source.insns; labels = p.source.labels; invs = p.source.invs ++ ((length p.source.insns, F) ∷ []) }; waiting = Some n }
 
-abbrev after : ℕ → Content → Progress → Progress
+abbrev pub after : ℕ → Content → Progress → Progress
 after n c p = stated n c.statement (labelled c.label p)
 
-abbrev IsNew : Option (List ℕ) → Progress → Type 0
+abbrev pub IsNew : Option (List ℕ) → Progress → Type 0
 IsNew None p = Unit {0}
 IsNew (Some l) p = is_known p.source.labels l ≡ false
 
-abbrev Fits : Statement → Progress → Type 0
+abbrev pub Fits : Statement → Progress → Type 0
 Fits NoStatement p = Unit {0}
 Fits (AnInsn i) p = length p.source.insns < MAX_INSNS
 Fits (AnInv F) p = (p.waiting ≡ None) × (length p.source.invs < MAX_INVS)
@@ -45,11 +46,11 @@ else_ok : {A E : Type 0} (t : Bool) (x y : A) (k : E) → cond t (Err k) (Ok x) 
 else_ok true x y k e = cc
 else_ok false x y k e = (refl, same_Ok x y e)
 
-label_taken : (o : Option (List ℕ)) (p q : Progress) → take_label o p ≡ Ok q → IsNew o p × (labelled o p ≡ q)
+pub label_taken : (o : Option (List ℕ)) (p q : Progress) → take_label o p ≡ Ok q → IsNew o p × (labelled o p ≡ q)
 label_taken None p q e = (tt, same_Ok p q e)
 label_taken (Some l) p q e = else_ok (is_known p.source.labels l) _ q L.DoubleLabel e
 
-label_takes : (o : Option (List ℕ)) (p : Progress) → IsNew o p → take_label o p ≡ Ok (labelled o p)
+pub label_takes : (o : Option (List ℕ)) (p : Progress) → IsNew o p → take_label o p ≡ Ok (labelled o p)
 label_takes None p h = refl
 label_takes (Some l) p h = cond-false (is_known p.source.labels l) _ _ h
 
@@ -67,41 +68,41 @@ statement_takes n NoStatement p h = refl
 statement_takes n (AnInsn i) p h = cond-true (nat_lt (length p.source.insns) MAX_INSNS) _ _ (lt-ltb (length p.source.insns) MAX_INSNS h)
 statement_takes n (AnInv F) p h = ap (take_inv n F p) h.0 ∙ cond-true (nat_lt (length p.source.invs) MAX_INVS) _ _ (lt-ltb (length p.source.invs) MAX_INVS h.1)
 
-taken : (n : ℕ) (c : Content) (p q : Progress) → takes n c p ≡ Ok q → IsNew c.label p × Fits c.statement (labelled c.label p) × (after n c p ≡ q)
+pub taken : (n : ℕ) (c : Content) (p q : Progress) → takes n c p ≡ Ok q → IsNew c.label p × Fits c.statement (labelled c.label p) × (after n c p ≡ q)
 taken n c p q e =
     let a = bind_ok (take_label c.label p) _ q e in
     let f = label_taken c.label p a.0 a.1 in
     let g = statement_taken n c.statement a.0 q a.2 in
     (f.0, subst (λ x. Fits c.statement x) (sym f.1) g.0, ap (stated n c.statement) f.1 ∙ g.1)
 
-takes_after : (n : ℕ) (c : Content) (p : Progress) → IsNew c.label p → Fits c.statement (labelled c.label p) → takes n c p ≡ Ok (after n c p)
+pub takes_after : (n : ℕ) (c : Content) (p : Progress) → IsNew c.label p → Fits c.statement (labelled c.label p) → takes n c p ≡ Ok (after n c p)
 takes_after n c p h g = bind_of (take_label c.label p) _ (labelled c.label p) (Ok (after n c p)) (label_takes c.label p h) (statement_takes n c.statement (labelled c.label p) g)
 
 -- ---- what has been read with what is to come
 
-source_same : (a b : Source) → a.insns ≡ b.insns → a.labels ≡ b.labels → a.invs ≡ b.invs → a ≡ b
+pub source_same : (a b : Source) → a.insns ≡ b.insns → a.labels ≡ b.labels → a.invs ≡ b.invs → a ≡ b
 source_same a b e f g =
     let first : a ≡ record { insns = b.insns; labels = a.labels; invs = a.invs } = ap (λ x. record { insns = x; labels = a.labels; invs = a.invs }) e in
     let second : record { insns = b.insns; labels = a.labels; invs = a.invs } ≡ record { insns = b.insns; labels = b.labels; invs = a.invs } = ap (λ x. record { insns = b.insns; labels = x; invs = a.invs }) f in
     let third : record { insns = b.insns; labels = b.labels; invs = a.invs } ≡ b = ap (λ x. record { insns = b.insns; labels = b.labels; invs = x }) g in
     first ∙ second ∙ third
 
-abbrev total : ℕ → List Content → Progress → Source
+abbrev pub total : ℕ → List Content → Progress → Source
 total n cs p = record {
   insns = p.source.insns ++ insns_from n cs;
   labels = p.source.labels ++ labels_from (length p.source.insns) cs;
   invs = p.source.invs ++ invs_from (length p.source.insns) cs;
 }
 
-labelled_insns : (o : Option (List ℕ)) (p : Progress) → (labelled o p).source.insns ≡ p.source.insns
+pub labelled_insns : (o : Option (List ℕ)) (p : Progress) → (labelled o p).source.insns ≡ p.source.insns
 labelled_insns None p = refl
 labelled_insns (Some l) p = refl
 
-labelled_invs : (o : Option (List ℕ)) (p : Progress) → (labelled o p).source.invs ≡ p.source.invs
+pub labelled_invs : (o : Option (List ℕ)) (p : Progress) → (labelled o p).source.invs ≡ p.source.invs
 labelled_invs None p = refl
 labelled_invs (Some l) p = refl
 
-labelled_waiting : (o : Option (List ℕ)) (p : Progress) → (labelled o p).waiting ≡ p.waiting
+pub labelled_waiting : (o : Option (List ℕ)) (p : Progress) → (labelled o p).waiting ≡ p.waiting
 labelled_waiting None p = refl
 labelled_waiting (Some l) p = refl
 
@@ -154,17 +155,17 @@ total_none n p = source_same (total n [] p) p.source (append-nil p.source.insns)
 
 -- ---- contents in turn
 
-abbrev Runs : ℕ → List Content → Progress → Progress → Type 0
+abbrev pub Runs : ℕ → List Content → Progress → Progress → Type 0
 Runs n [] p r = p ≡ r
 Runs n (c ∷ cs) p r = (q : Progress) × (takes n c p ≡ Ok q) × Runs (suc n) cs q r
 
-runs_total : (n : ℕ) (cs : List Content) (p r : Progress) → Runs n cs p r → total n cs p ≡ r.source
+pub runs_total : (n : ℕ) (cs : List Content) (p r : Progress) → Runs n cs p r → total n cs p ≡ r.source
 runs_total n [] p r h = total_none n p ∙ ap (λ x. x.source) h
 runs_total n (c ∷ cs) p r h =
     let t = taken n c p h.0 h.1 in
     sym (total_after n c cs p) ∙ ap (total (suc n) cs) t.2 ∙ runs_total (suc n) cs h.0 r h.2
 
-at_line_ok : {A : Type 0} (n : ℕ) (r : Result A LineFlaw) (x : A) → at_line n r ≡ Ok x → r ≡ Ok x
+pub at_line_ok : {A : Type 0} (n : ℕ) (r : Result A LineFlaw) (x : A) → at_line n r ≡ Ok x → r ≡ Ok x
 at_line_ok n (Ok y) x e = ap Ok (same_Ok y x e)
 at_line_ok n (Err k) x e = cc
 
@@ -177,25 +178,35 @@ lines_run n (l ∷ ls) p s e =
     let f = lines_run (suc n) ls a.0 s a.2 in
     (c.0 ∷ f.0, f.1, (c.1, f.2), (a.0, c.2, f.3), f.4)
 
-run_lines : (n : ℕ) (ls : List (List ℕ)) (cs : List Content) (p r : Progress) (s : Source) → AreSpelled ls cs → Runs n cs p r → source_end r r.waiting ≡ Ok s → take_lines n ls p ≡ Ok s
+-- lines that spell contents are taken on with them
+pub lines_taken : (n : ℕ) (ls more : List (List ℕ)) (cs : List Content) (p r : Progress) → AreSpelled ls cs → Runs n cs p r →
+    take_lines n (ls ++ more) p ≡ take_lines (n + length ls) more r
 unfolding take_lines
-run_lines n [] [] p r s a h e = ap (λ x. source_end x x.waiting) h ∙ e
-run_lines n [] (c ∷ cs) p r s a h e = absurd a
-run_lines n (l ∷ ls) [] p r s a h e = absurd a
-run_lines n (l ∷ ls) (c ∷ cs) p r s a h e =
-    bind_of (at_line n (take_line n l p)) (λ q. take_lines (suc n) ls q) h.0 (Ok s) (ap (at_line n) (line_takes n l c p a.0 ∙ h.1)) (run_lines (suc n) ls cs h.0 r s a.1 h.2 e)
+lines_taken n [] more [] p r a h = let z : n ≡ n + 0 = omega arith in ap (take_lines n more) h ∙ ap (λ j. take_lines j more r) z
+lines_taken n [] more (c ∷ cs) p r a h = absurd a
+lines_taken n (l ∷ ls) more [] p r a h = absurd a
+lines_taken n (l ∷ ls) more (c ∷ cs) p r a h =
+    let z : suc n + length ls ≡ n + length (l ∷ ls) = omega arith in
+    bind_of (at_line n (take_line n l p)) (λ q. take_lines (suc n) (ls ++ more) q) h.0 (take_lines (suc n + length ls) more r)
+    (ap (at_line n) (line_takes n l c p a.0 ∙ h.1)) (lines_taken (suc n) ls more cs h.0 r a.1 h.2)
+    ∙ ap (λ j. take_lines j more r) z
+
+pub lines_end : (n : ℕ) (ls : List (List ℕ)) (cs : List Content) (p r : Progress) → AreSpelled ls cs → Runs n cs p r →
+    take_lines n ls p ≡ source_end r r.waiting
+unfolding take_lines
+lines_end n ls cs p r a h = ap (λ l. take_lines n l p) (sym (append-nil ls)) ∙ lines_taken n ls [] cs p r a h
 
 -- ---- what holds of the source on the way
 
-abbrev waiting_count : Option ℕ → ℕ
+abbrev pub waiting_count : Option ℕ → ℕ
 waiting_count None = 0
 waiting_count (Some n) = 1
 
-record IsGood (p : Progress) : Type 0 where
-  insns : length p.source.insns ≤ MAX_INSNS
-  invs : length p.source.invs ≤ MAX_INVS
-  labels : AreDistinct p.source.labels
-  belong : HaveInsns 0 (length p.source.insns + waiting_count p.waiting) p.source.invs
+pub record IsGood (p : Progress) : Type 0 where
+  pub insns : length p.source.insns ≤ MAX_INSNS
+  pub invs : length p.source.invs ≤ MAX_INVS
+  pub labels : AreDistinct p.source.labels
+  pub belong : HaveInsns 0 (length p.source.insns + waiting_count p.waiting) p.source.invs
 
 all_more : {A : Type 0} (P : A → Type 0) (xs : List A) (y : A) → AllByRecursion P xs → P y → AllByRecursion P (xs ++ (y ∷ []))
 all_more P [] y h g = (g, tt)
@@ -207,7 +218,7 @@ different_more (x ∷ xs) l i h e =
     let p = or_parts (bytes_eq x.0 l) (is_known xs l) e in
     (all_more (λ k. bytes_eq x.0 k.0 ≡ false) xs (l, i) h.0 p.0, different_more xs l i h.1 p.1)
 
-have_up : (low a b : ℕ) (vs : List (ℕ × Form)) → a ≤ b → HaveInsns low a vs → HaveInsns low b vs
+pub have_up : (low a b : ℕ) (vs : List (ℕ × Form)) → a ≤ b → HaveInsns low a vs → HaveInsns low b vs
 have_up low a b [] l h = tt
 have_up low a b (v ∷ vs) l h = let s = h.1 in (h.0, omega arith, have_up (suc v.0) a b vs l h.2)
 
@@ -215,7 +226,7 @@ have_more : (low count : ℕ) (vs : List (ℕ × Form)) (F : Form) → low ≤ c
 have_more low count [] F l h = (l, omega arith, tt)
 have_more low count (v ∷ vs) F l h = let s = h.1 in (h.0, omega arith, have_more (suc v.0) count vs F (omega arith) h.2)
 
-waiting_small : (w : Option ℕ) → waiting_count w ≤ 1
+pub waiting_small : (w : Option ℕ) → waiting_count w ≤ 1
 waiting_small None = omega arith
 waiting_small (Some n) = omega arith
 
@@ -244,13 +255,13 @@ good_stated n (AnInv F) p h g =
       belong = have_more 0 (length p.source.insns) p.source.invs F (omega arith) (subst (λ k. HaveInsns 0 k p.source.invs) none g.belong);
     }
 
-good_runs : (n : ℕ) (cs : List Content) (p r : Progress) → Runs n cs p r → IsGood p → IsGood r
+pub good_runs : (n : ℕ) (cs : List Content) (p r : Progress) → Runs n cs p r → IsGood p → IsGood r
 good_runs n [] p r h g = subst (λ x. IsGood x) h g
 good_runs n (c ∷ cs) p r h g =
     let t = taken n c p h.0 h.1 in
     good_runs (suc n) cs h.0 r h.2 (subst (λ x. IsGood x) t.2 (good_stated n c.statement (labelled c.label p) t.1 (good_labelled c.label p t.0 g)))
 
-good_start : IsGood no_progress
+pub good_start : IsGood no_progress
 good_start = record { insns = omega arith; invs = omega arith; labels = tt; belong = tt }
 
 some_by : (n : ℕ) → (n == 0) ≡ false → 0 < n
@@ -292,7 +303,7 @@ new_by : (o : Option (List ℕ)) (p : Progress) (rest : List (List ℕ × ℕ)) 
 new_by None p rest h = tt
 new_by (Some l) p rest h = known_before p.source.labels l (length p.source.insns) rest h
 
-have_last : (low count : ℕ) (vs ws : List (ℕ × Form)) (a : ℕ × Form) → HaveInsns low count (vs ++ (a ∷ ws)) → a.0 < count
+pub have_last : (low count : ℕ) (vs ws : List (ℕ × Form)) (a : ℕ × Form) → HaveInsns low count (vs ++ (a ∷ ws)) → a.0 < count
 have_last low count [] ws a h = h.1
 have_last low count (v ∷ vs) ws a h = have_last (suc v.0) count vs ws a h.2
 
@@ -301,7 +312,7 @@ have_next low count [] ws a b h = let s = h.2.0 in omega arith
 have_next low count (v ∷ vs) ws a b h = have_next (suc v.0) count vs ws a b h.2
 
 -- where an invariant waits, it is the last one, and has the index of the next instruction
-abbrev IsLast : Option ℕ → Progress → Type 0
+abbrev pub IsLast : Option ℕ → Progress → Type 0
 IsLast None p = Unit {0}
 IsLast (Some m) p = (vs : List (ℕ × Form)) × (F : Form) × (p.source.invs ≡ vs ++ ((length p.source.insns, F) ∷ []))
 
@@ -330,11 +341,11 @@ last_by : (w : Option ℕ) (p q : Progress) → q.source.insns ≡ p.source.insn
 last_by None p q e f k = tt
 last_by (Some m) p q e f k = (k.0, k.1, f ∙ k.2 ∙ ap (λ l. k.0 ++ ((length l, k.1) ∷ [])) (sym e))
 
-last_labelled : (o : Option (List ℕ)) (p : Progress) → IsLast p.waiting p → IsLast (labelled o p).waiting (labelled o p)
+pub last_labelled : (o : Option (List ℕ)) (p : Progress) → IsLast p.waiting p → IsLast (labelled o p).waiting (labelled o p)
 last_labelled None p k = k
 last_labelled (Some l) p k = last_by p.waiting p (labelled (Some l) p) refl refl k
 
-last_stated : (n : ℕ) (s : Statement) (p : Progress) → IsLast p.waiting p → IsLast (stated n s p).waiting (stated n s p)
+pub last_stated : (n : ℕ) (s : Statement) (p : Progress) → IsLast p.waiting p → IsLast (stated n s p).waiting (stated n s p)
 last_stated n NoStatement p k = k
 last_stated n (AnInsn i) p k = tt
 last_stated n (AnInv F) p k = (p.source.invs, F, refl)
@@ -348,18 +359,26 @@ fits_labelled : (n : ℕ) (o : Option (List ℕ)) (s : Statement) (p : Progress)
     HaveInsns 0 count (p.source.invs ++ add_inv (length p.source.insns) s invs) → Fits s (labelled o p)
 fits_labelled n o s p insns invs count k a b h = fits_same s p (labelled o p) (labelled_insns o p) (labelled_invs o p) (labelled_waiting o p) (fits_by n s p insns invs count k a b h)
 
-can_run : (n : ℕ) (cs : List Content) (p : Progress) → IsSource (total n cs p) → IsLast p.waiting p → (r : Progress) × Runs n cs p r × (r.waiting ≡ None)
-can_run n [] p h k =
-    let g : IsSource p.source = subst (λ x. IsSource x) (total_none n p) h in
-    (p, refl, none_waits p.waiting p k g.belong)
-can_run n (c ∷ cs) p h k =
+-- contents that begin a source are taken on one by one
+pub begun_runs : (n : ℕ) (cs : List Content) (p : Progress) → IsBegun (total n cs p) → IsLast p.waiting p → (r : Progress) × Runs n cs p r × IsLast r.waiting r
+begun_runs n [] p h k = (p, refl, k)
+begun_runs n (c ∷ cs) p h k =
     let o = c.label in
     let s = c.statement in
     let q = labelled o p in
     let fresh = new_by o p (labels_from (length p.source.insns + insn_count s) cs) h.labels in
-    let room : Fits s q = fits_labelled n o s p (insns_from (suc n) cs) (invs_from (length p.source.insns + insn_count s) cs) (length (total n (c ∷ cs) p).insns) k h.insns h.invs h.belong in
-    let f = can_run (suc n) cs (after n c p) (subst (λ x. IsSource x) (sym (total_after n c cs p)) h) (last_stated n s q (last_labelled o p k)) in
+    let more = invs_from (length p.source.insns + insn_count s) cs in
+    let room : Fits s q = fits_labelled n o s p (insns_from (suc n) cs) more (suc (length (total n (c ∷ cs) p).insns)) k h.insns h.invs h.belong in
+    let f = begun_runs (suc n) cs (after n c p) (subst (λ x. IsBegun x) (sym (total_after n c cs p)) h) (last_stated n s q (last_labelled o p k)) in
     (f.0, (after n c p, takes_after n c p fresh room, f.1), f.2)
+
+source_begun : (s : Source) → IsSource s → IsBegun s
+source_begun s h = record {
+  insns = h.insns;
+  invs = h.invs;
+  labels = h.labels;
+  belong = have_up 0 (length s.insns) (suc (length s.insns)) s.invs (omega arith) h.belong;
+}
 
 source_ends : (r : Progress) → r.waiting ≡ None → 0 < length r.source.insns → source_end r r.waiting ≡ Ok r.source
 source_ends r e h = ap (source_end r) e ∙ cond-false (length r.source.insns == 0) _ _ (false_from_ne_true (length r.source.insns == 0) (λ f. let z = eqb-true (length r.source.insns) 0 f in absurd (omega arith)))
@@ -368,8 +387,9 @@ pub spelled_parsed : (text : List ℕ) (s : Source) → SpellsSource text s → 
 unfolding parsed_source
 spelled_parsed text s h =
     let all : total 1 h.contents no_progress ≡ s = sym h.collected in
-    let f = can_run 1 h.contents no_progress (subst (λ x. IsSource x) h.collected h.sound) tt in
+    let f = begun_runs 1 h.contents no_progress (subst (λ x. IsBegun x) h.collected (source_begun s h.sound)) tt in
     let same : f.0.source ≡ s = sym (runs_total 1 h.contents no_progress f.0 f.1) ∙ all in
+    let none = none_waits f.0.waiting f.0 f.2 (subst (λ x. HaveInsns 0 (length x.insns) x.invs) (sym same) h.sound.belong) in
     let some : 0 < length f.0.source.insns = subst (λ x. 0 < length x.insns) (sym same) h.sound.some in
     ap (λ ls. take_lines 1 ls no_progress) (lines_are text h.lines h.are_lines)
-    ∙ run_lines 1 h.lines h.contents no_progress f.0 s h.spelled f.1 (source_ends f.0 f.2 some ∙ ap Ok same)
+    ∙ lines_end 1 h.lines h.contents no_progress f.0 h.spelled f.1 ∙ (source_ends f.0 none some ∙ ap Ok same)

@@ -4,5 +4,8 @@ pub mod Splitting
 pub mod Said
 pub mod Collected
 pub mod Found
+pub mod Refusing
+pub mod Failing
+pub mod Stopping
 pub mod Taking
 pub mod Cutting

@@ -46,7 +46,7 @@ pub if_ok : {A E : Type 0} (t : Bool) (x y : A) (k : E) → cond t (Ok x) (Err k
 if_ok true x y k e = (refl, same_Ok x y e)
 if_ok false x y k e = cc
 
-lexeme_ok : (ts : List (Token Punct)) (p : List ℕ × List (Token Punct)) → next_lexeme ts ≡ Ok p → ts ≡ Lexeme p.0 ∷ p.1
+pub lexeme_ok : (ts : List (Token Punct)) (p : List ℕ × List (Token Punct)) → next_lexeme ts ≡ Ok p → ts ≡ Lexeme p.0 ∷ p.1
 lexeme_ok [] p e = cc
 lexeme_ok (Mark m ∷ ts) p e = cc
 lexeme_ok (Lexeme w ∷ ts) p e = let s : (w, ts) ≡ p = same_Ok _ _ e in ap (λ q. Lexeme q.0 ∷ q.1) s
@@ -69,7 +69,7 @@ marks_same M.Colon M.Open e = cc
 marks_same M.Colon M.Close e = cc
 marks_same M.Colon M.Colon e = refl
 
-behind_ok : (m : Punct) (ts us : List (Token Punct)) → behind m ts ≡ Ok us → ts ≡ Mark m ∷ us
+pub behind_ok : (m : Punct) (ts us : List (Token Punct)) → behind m ts ≡ Ok us → ts ≡ Mark m ∷ us
 behind_ok m [] us e = cc
 behind_ok m (Lexeme w ∷ ts) us e = cc
 behind_ok m (Mark k ∷ ts) us e = let f = if_ok (same_mark k m) ts us L.Operand e in let s = marks_same k m f.0 in let t = f.1 in cc
@@ -82,10 +82,10 @@ some_ok : (w : List ℕ) (r : ℕ) (o : Option ℕ) → register_of w ≡ o → 
 some_ok w r None f e = cc
 some_ok w r (Some k) f e = subst (λ n. IsRegister n w) (same_Ok k r e) (register_is w k f)
 
-register_ok : (w : List ℕ) (r : ℕ) → register_at w ≡ Ok r → IsRegister r w
+pub register_ok : (w : List ℕ) (r : ℕ) → register_at w ≡ Ok r → IsRegister r w
 register_ok w r e = some_ok w r (register_of w) refl e
 
-register_is_at : (w : List ℕ) (r : ℕ) → IsRegister r w → register_at w ≡ Ok r
+pub register_is_at : (w : List ℕ) (r : ℕ) → IsRegister r w → register_at w ≡ Ok r
 register_is_at w r h = ap some_register (register_found w r h).0
 
 -- ---- integers
@@ -121,7 +121,7 @@ integer_is : (w : List ℕ) (z : Integer) → lexeme_integer w ≡ Some z → Is
 integer_is [] z e = cc
 integer_is (b ∷ bs) z e = integer_by b bs z (b == 45) refl e
 
-integer_found : (w : List ℕ) (z : Integer) → IsInteger w z → lexeme_integer w ≡ Some z
+pub integer_found : (w : List ℕ) (z : Integer) → IsInteger w z → lexeme_integer w ≡ Some z
 integer_found w z h = ⊎_elim (λ g. plain_integer w z g.0 g.1) (λ g. ap lexeme_integer g.1 ∙ ap (option_map (λ n. (true, n))) (is_numeral 10 z.1 g.0 g.2 g.4) ∙ (let s : (true, z.1) ≡ z = ap (λ t. (t, z.1)) (sym g.3) in ap Some s)) h
 
 found_integer : (w : List ℕ) (z : Integer) → IsInteger w z → is_integer w ≡ true
@@ -141,17 +141,17 @@ displacement_is false n e = inr (refl, ltb-true n 32768 e)
 is_displacement_of : (t : Bool) (n : ℕ) → ((t ≡ true) × (n ≤ 32768)) ⊎ ((t ≡ false) × (n < 32768)) → cond t (leb n 32768) (ltb n 32768) ≡ true
 is_displacement_of t n h = ⊎_elim (λ p. ap (λ b. cond b (leb n 32768) (ltb n 32768)) p.0 ∙ le-leb n 32768 p.1) (λ p. ap (λ b. cond b (leb n 32768) (ltb n 32768)) p.0 ∙ lt-ltb n 32768 p.1) h
 
-abbrev IsDisplacementOf : List ℕ → ℤ → Type 0
+abbrev pub IsDisplacementOf : List ℕ → ℤ → Type 0
 IsDisplacementOf w d = (z : Integer) × IsInteger w z × IsDisplacement z × (d ≡ integer_value z)
 
-in_displacement_ok : (w : List ℕ) (o : Option Integer) (d : ℤ) → lexeme_integer w ≡ o → in_displacement o ≡ Ok d → IsDisplacementOf w d
+pub in_displacement_ok : (w : List ℕ) (o : Option Integer) (d : ℤ) → lexeme_integer w ≡ o → in_displacement o ≡ Ok d → IsDisplacementOf w d
 in_displacement_ok w None d f e = cc
 in_displacement_ok w (Some z) d f e = let g = if_ok (is_displacement z) (integer_value z) d L.Range e in (z, integer_is w z f, displacement_is z.0 z.1 g.0, sym g.1)
 
-in_displacement_of : (w : List ℕ) (d : ℤ) → IsDisplacementOf w d → displacement_of (Some w) ≡ Ok d
+pub in_displacement_of : (w : List ℕ) (d : ℤ) → IsDisplacementOf w d → displacement_of (Some w) ≡ Ok d
 in_displacement_of w d h = ap in_displacement (integer_found w h.0 h.1) ∙ cond-true (is_displacement h.0) (Ok (integer_value h.0)) (Err L.Range) (is_displacement_of h.0.0 h.0.1 h.2) ∙ ap Ok (sym h.3)
 
-memory_form_ok : (ts : List (Token Punct)) (f : List ℕ × Option (List ℕ) × List ℕ) → memory_form ts ≡ Ok f →
+pub memory_form_ok : (ts : List (Token Punct)) (f : List ℕ × Option (List ℕ) × List ℕ) → memory_form ts ≡ Ok f →
     ((f.1 ≡ None) × (ts ≡ Lexeme f.0 ∷ Mark M.Comma ∷ Mark M.Open ∷ Lexeme f.2 ∷ Mark M.Close ∷ [])) ⊎ ((d : List ℕ) × (f.1 ≡ Some d) × (ts ≡ Lexeme f.0 ∷ Mark M.Comma ∷ Lexeme d ∷ Mark M.Open ∷ Lexeme f.2 ∷ Mark M.Close ∷ []))
 unfolding memory_form
 memory_form_ok ts f e =
@@ -173,11 +173,11 @@ memory_form_ok ts f e =
     ⊎_elim (λ p. inl (sym z ∙ p.0, front ∙ ap (λ l. Lexeme f.0 ∷ Mark M.Comma ∷ l) (p.1 ∙ tail)))
     (λ p. inr (p.0, sym z ∙ p.1, front ∙ ap (λ l. Lexeme f.0 ∷ Mark M.Comma ∷ l) (p.2 ∙ ap (λ l. Lexeme p.0 ∷ l) tail))) (displacement_ok b.0 c.0 c.1)
 
-memory_form_short : (x y : List ℕ) → memory_form (Lexeme x ∷ Mark M.Comma ∷ Mark M.Open ∷ Lexeme y ∷ Mark M.Close ∷ []) ≡ Ok (x, None, y)
+pub memory_form_short : (x y : List ℕ) → memory_form (Lexeme x ∷ Mark M.Comma ∷ Mark M.Open ∷ Lexeme y ∷ Mark M.Close ∷ []) ≡ Ok (x, None, y)
 unfolding memory_form
 memory_form_short x y = refl
 
-memory_form_long : (x y d : List ℕ) → is_integer d ≡ true → memory_form (Lexeme x ∷ Mark M.Comma ∷ Lexeme d ∷ Mark M.Open ∷ Lexeme y ∷ Mark M.Close ∷ []) ≡ Ok (x, Some d, y)
+pub memory_form_long : (x y d : List ℕ) → is_integer d ≡ true → memory_form (Lexeme x ∷ Mark M.Comma ∷ Lexeme d ∷ Mark M.Open ∷ Lexeme y ∷ Mark M.Close ∷ []) ≡ Ok (x, Some d, y)
 unfolding memory_form
 memory_form_long x y d e = rw e refl
 
@@ -226,14 +226,14 @@ small_count : (limit : ℕ) (t : Bool) (m n : ℕ) → (t ≡ false) ⊎ (m ≡ 
 small_count limit true m n p e l = ⊎_elim (λ f. absurd (false≢true (sym f))) (λ f. cond-true (leb m 0) (Ok 0) (Err L.Range) (le-leb m 0 (omega arith)) ∙ (let z : 0 ≡ n = omega arith in ap Ok z)) p
 small_count limit false m n p e l = cond-true (ltb m limit) (Ok m) (Err L.Range) (lt-ltb m limit (omega arith)) ∙ ap Ok e
 
-in_count_of : (limit : ℕ) (z : Integer) (n : ℕ) → IsCount limit z n → in_count limit z ≡ Ok n
+pub in_count_of : (limit : ℕ) (z : Integer) (n : ℕ) → IsCount limit z n → in_count limit z ≡ Ok n
 in_count_of limit z n h = small_count limit z.0 z.1 n h.0 h.1 h.2
 
-count_ok : (limit : ℕ) (w : List ℕ) (o : Option Integer) (n : ℕ) → 0 < limit → lexeme_integer w ≡ o → count_of limit o ≡ Ok n → (z : Integer) × IsInteger w z × IsCount limit z n
+pub count_ok : (limit : ℕ) (w : List ℕ) (o : Option Integer) (n : ℕ) → 0 < limit → lexeme_integer w ≡ o → count_of limit o ≡ Ok n → (z : Integer) × IsInteger w z × IsCount limit z n
 count_ok limit w None n l f e = cc
 count_ok limit w (Some z) n l f e = (z, integer_is w z f, in_count_ok limit z n l e)
 
-rhs_ok : (y : List ℕ) (rhs : Rhs) (o : Option Integer) → lexeme_integer y ≡ o → rhs_by y o ≡ Ok rhs → SpellsRhs rhs y
+pub rhs_ok : (y : List ℕ) (rhs : Rhs) (o : Option Integer) → lexeme_integer y ≡ o → rhs_by y o ≡ Ok rhs → SpellsRhs rhs y
 rhs_ok y rhs None e h =
     let a = bind_ok (register_at y) _ rhs h in
     subst (λ q. SpellsRhs q y) (same_Ok _ _ a.2) (register_ok y a.0 a.1)
@@ -276,11 +276,11 @@ no_integer (b ∷ bs) e f = cond-false (b == 45) (option_map (λ n. (true, n)) (
 register_no_integer : (y : List ℕ) (r : ℕ) → IsRegister r y → lexeme_integer y ≡ None
 register_no_integer y r h = no_integer y (register_found y r h).1 (first_letter y r h)
 
-rhs_of : (y : List ℕ) (rhs : Rhs) → SpellsRhs rhs y → rhs_by y (lexeme_integer y) ≡ Ok rhs
+pub rhs_of : (y : List ℕ) (rhs : Rhs) → SpellsRhs rhs y → rhs_by y (lexeme_integer y) ≡ Ok rhs
 rhs_of y (R.Reg r) h = ap (rhs_by y) (register_no_integer y r h) ∙ ap (λ q. q >>= λ n. Ok (R.Reg n)) (register_is_at y r h)
 rhs_of y (R.Lit n) h = ap (rhs_by y) (integer_found y h.0 h.1) ∙ ap (λ q. q >>= λ m. Ok (R.Lit m)) (in_count_of 256 h.0 n h.2)
 
-operate_form_ok : (ts : List (Token Punct)) (f : List ℕ × List ℕ × List ℕ) → operate_form ts ≡ Ok f → ts ≡ Lexeme f.0 ∷ Mark M.Comma ∷ Lexeme f.1 ∷ Mark M.Comma ∷ Lexeme f.2 ∷ []
+pub operate_form_ok : (ts : List (Token Punct)) (f : List ℕ × List ℕ × List ℕ) → operate_form ts ≡ Ok f → ts ≡ Lexeme f.0 ∷ Mark M.Comma ∷ Lexeme f.1 ∷ Mark M.Comma ∷ Lexeme f.2 ∷ []
 unfolding operate_form
 operate_form_ok ts f e =
     let a = bind_ok (next_lexeme ts) _ f e in
@@ -292,7 +292,7 @@ operate_form_ok ts f e =
     lexeme_ok ts a.0 a.1 ∙ ap (λ l. Lexeme a.0.0 ∷ l) (behind_ok M.Comma a.0.1 b.0 b.1 ∙ ap (λ l. Mark M.Comma ∷ l) (lexeme_ok b.0 c.0 c.1 ∙ ap (λ l. Lexeme c.0.0 ∷ l) (behind_ok M.Comma c.0.1 d.0 d.1 ∙ ap (λ l. Mark M.Comma ∷ l) (lexeme_ok d.0 g.0 g.1 ∙ ap (λ l. Lexeme g.0.0 ∷ l) i.0))))
     ∙ ap (λ q. Lexeme q.0 ∷ Mark M.Comma ∷ Lexeme q.1 ∷ Mark M.Comma ∷ Lexeme q.2 ∷ []) i.1
 
-operate_form_of : (x y z : List ℕ) → operate_form (Lexeme x ∷ Mark M.Comma ∷ Lexeme y ∷ Mark M.Comma ∷ Lexeme z ∷ []) ≡ Ok (x, y, z)
+pub operate_form_of : (x y z : List ℕ) → operate_form (Lexeme x ∷ Mark M.Comma ∷ Lexeme y ∷ Mark M.Comma ∷ Lexeme z ∷ []) ≡ Ok (x, y, z)
 unfolding operate_form
 operate_form_of x y z = refl
 
@@ -320,7 +320,7 @@ same_cond : {A : Type 0} (b : Bool) (x y z : A) → cond b x y ≡ z → (P : Ty
 same_cond true x y z e P f g = f refl e
 same_cond false x y z e P f g = g refl e
 
-label_ok : (l : List ℕ × List (Token Punct)) (x : List ℕ) → last_label l ≡ Ok x → (is_label x ≡ true) × (l ≡ (x, []))
+pub label_ok : (l : List ℕ × List (Token Punct)) (x : List ℕ) → last_label l ≡ Ok x → (is_label x ≡ true) × (l ≡ (x, []))
 label_ok l x e = same_cond (is_label l.0) _ _ _ e ((is_label x ≡ true) × (l ≡ (x, [])))
     (λ t f. let g = end_ok l.0 x l.1 f in (subst (λ y. is_label y ≡ true) g.1 t, ap (λ y. (y, l.1)) g.1 ∙ ap (λ t. (x, t)) g.0))
     (λ t f. cc)
@@ -356,16 +356,16 @@ unfolding parsed_branch branch_form
 branch_of j ts ra l h =
     ap (parsed_branch j) h.3 ∙ rw (h.2, register_is_at h.0 ra h.1) refl
 
-fixed_ok : (k : ℕ) (w : List ℕ) (r : ℕ) → fixed_register k w ≡ Ok r → IsRegister k w
+pub fixed_ok : (k : ℕ) (w : List ℕ) (r : ℕ) → fixed_register k w ≡ Ok r → IsRegister k w
 fixed_ok k w r e =
     let a = bind_ok (register_at w) _ r e in
     let f = if_ok (a.0 == k) a.0 r L.Register a.2 in
     subst (λ n. IsRegister n w) (eqb-true a.0 k f.0) (register_ok w a.0 a.1)
 
-fixed_of : (k : ℕ) (w : List ℕ) → IsRegister k w → fixed_register k w ≡ Ok k
+pub fixed_of : (k : ℕ) (w : List ℕ) → IsRegister k w → fixed_register k w ≡ Ok k
 fixed_of k w h = bind_of (register_at w) _ k (Ok k) (register_is_at w k h) (cond-true (k == k) (Ok k) (Err L.Register) (eq-eqb k k refl))
 
-label_form_ok : (ts : List (Token Punct)) (l : List ℕ) → label_form ts ≡ Ok l → (is_label l ≡ true) × (ts ≡ Mark M.Comma ∷ Lexeme l ∷ [])
+pub label_form_ok : (ts : List (Token Punct)) (l : List ℕ) → label_form ts ≡ Ok l → (is_label l ≡ true) × (ts ≡ Mark M.Comma ∷ Lexeme l ∷ [])
 unfolding label_form
 label_form_ok ts l e =
     let a = bind_ok (behind M.Comma ts) _ l e in
@@ -373,7 +373,7 @@ label_form_ok ts l e =
     let c = label_ok b.0 l b.2 in
     (c.0, behind_ok M.Comma ts a.0 a.1 ∙ ap (λ y. Mark M.Comma ∷ y) (lexeme_ok a.0 b.0 b.1 ∙ ap (λ y. Lexeme y.0 ∷ y.1) c.1))
 
-label_form_of : (l : List ℕ) → is_label l ≡ true → label_form (Mark M.Comma ∷ Lexeme l ∷ []) ≡ Ok l
+pub label_form_of : (l : List ℕ) → is_label l ≡ true → label_form (Mark M.Comma ∷ Lexeme l ∷ []) ≡ Ok l
 unfolding label_form
 label_form_of l e = label_at_end l e
 
@@ -404,10 +404,10 @@ br_of l ts h =
 
 -- ---- returns
 
-integer_ok : (w y : List ℕ) → integer_or_flaw w ≡ Ok y → (is_integer w ≡ true) × (w ≡ y)
+pub integer_ok : (w y : List ℕ) → integer_or_flaw w ≡ Ok y → (is_integer w ≡ true) × (w ≡ y)
 integer_ok w y e = if_ok (is_integer w) w y L.Operand e
 
-return_form_ok : (ts : List (Token Punct)) (f : List ℕ × List ℕ × List ℕ) → return_form ts ≡ Ok f → ts ≡ Lexeme f.0 ∷ Mark M.Comma ∷ Mark M.Open ∷ Lexeme f.1 ∷ Mark M.Close ∷ Mark M.Comma ∷ Lexeme f.2 ∷ []
+pub return_form_ok : (ts : List (Token Punct)) (f : List ℕ × List ℕ × List ℕ) → return_form ts ≡ Ok f → ts ≡ Lexeme f.0 ∷ Mark M.Comma ∷ Mark M.Open ∷ Lexeme f.1 ∷ Mark M.Close ∷ Mark M.Comma ∷ Lexeme f.2 ∷ []
 unfolding return_form
 return_form_ok ts f e =
     let a = bind_ok (next_lexeme ts) _ f e in
@@ -422,7 +422,7 @@ return_form_ok ts f e =
     lexeme_ok ts a.0 a.1 ∙ ap (λ l. Lexeme a.0.0 ∷ l) (behind_ok M.Comma a.0.1 b.0 b.1 ∙ ap (λ l. Mark M.Comma ∷ l) (behind_ok M.Open b.0 c.0 c.1 ∙ ap (λ l. Mark M.Open ∷ l) (lexeme_ok c.0 d.0 d.1 ∙ ap (λ l. Lexeme d.0.0 ∷ l) (behind_ok M.Close d.0.1 g.0 g.1 ∙ ap (λ l. Mark M.Close ∷ l) (behind_ok M.Comma g.0 h.0 h.1 ∙ ap (λ l. Mark M.Comma ∷ l) (lexeme_ok h.0 n.0 n.1 ∙ ap (λ y. Lexeme y ∷ n.0.1) (integer_ok n.0.0 z.0 z.1).1 ∙ ap (λ l. Lexeme z.0 ∷ l) i.0))))))
     ∙ ap (λ q. Lexeme q.0 ∷ Mark M.Comma ∷ Mark M.Open ∷ Lexeme q.1 ∷ Mark M.Close ∷ Mark M.Comma ∷ Lexeme q.2 ∷ []) i.1
 
-return_form_of : (x y d : List ℕ) → is_integer d ≡ true → return_form (Lexeme x ∷ Mark M.Comma ∷ Mark M.Open ∷ Lexeme y ∷ Mark M.Close ∷ Mark M.Comma ∷ Lexeme d ∷ []) ≡ Ok (x, y, d)
+pub return_form_of : (x y d : List ℕ) → is_integer d ≡ true → return_form (Lexeme x ∷ Mark M.Comma ∷ Mark M.Open ∷ Lexeme y ∷ Mark M.Close ∷ Mark M.Comma ∷ Lexeme d ∷ []) ≡ Ok (x, y, d)
 unfolding return_form
 return_form_of x y d e = rw e refl
 
@@ -452,7 +452,7 @@ return_of ts h = ⊎_elim (λ e. ap parsed_return e) (λ g. return_long ts g.0 g
 
 -- ---- mnemonics
 
-mnemonic_found : (m : Mnemonic) → mnemonic_of (mnemonic_text m) ≡ Some m
+pub mnemonic_found : (m : Mnemonic) → mnemonic_of (mnemonic_text m) ≡ Some m
 unfolding mnemonic_of mnemonics
 mnemonic_found N.Lda = refl
 mnemonic_found N.Ldq = refl
@@ -488,7 +488,7 @@ mnemonic_in_is : (ms : List Mnemonic) (w : List ℕ) (m : Mnemonic) → mnemonic
 mnemonic_in_is [] w m e = cc
 mnemonic_in_is (k ∷ ms) w m e = mnemonic_by m k ms w (bytes_eq w (mnemonic_text k)) refl e (λ f. mnemonic_in_is ms w m f)
 
-mnemonic_is : (w : List ℕ) (m : Mnemonic) → mnemonic_of w ≡ Some m → w ≡ mnemonic_text m
+pub mnemonic_is : (w : List ℕ) (m : Mnemonic) → mnemonic_of w ≡ Some m → w ≡ mnemonic_text m
 unfolding mnemonic_of
 mnemonic_is w m e = mnemonic_in_is mnemonics w m e
 

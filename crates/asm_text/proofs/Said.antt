@@ -22,7 +22,7 @@ use Rattle.asm_text.specs.Labels.{is_label}
 use Rattle.asm_text.specs.Mnemonics.{operator_mnemonic, branch_mnemonic, mnemonic_of, mnemonics}
 use Rattle.asm_text.specs.Insns.{SourceInsn, Plain, BranchTo, BrTo, SpellsMemory, SpellsInsn}
 use Rattle.asm_text.specs.InsnParsing.{by_mnemonic, parsed_insn}
-use Rattle.asm_text.specs.Statements.{Statement, NoStatement, AnInsn, AnInv, Content, SpellsStatement, SpellsBody, before_comment, are_printable, SpellsLine}
+use Rattle.asm_text.specs.Statements.{Statement, NoStatement, AnInsn, AnInv, Content, HasInv, SpellsStatement, HasLabel, SpellsBody, before_comment, are_printable, SpellsLine}
 use Rattle.asm_text.specs.SourceParsing.{colon_by, label_by, label_split, label_of, behind_label, inv_or_flaw, insn_statement, statement_by, parsed_statement, Progress, take_label, take_statement, take_body, take_line}
 use Rattle.asm_text.proofs.Operands.{bind_ok, bind_of, same_Ok, marks_same, parsed_spelled, spelled_parsed}
 use Rattle.asm_text.proofs.Splitting.{label_lexeme, colon_is, colon_class, inv_lexeme, Begins, front_is, front_of, none_at_front, no_front, first_token, tokens_behind}
@@ -30,19 +30,15 @@ use Rattle.asm_text.proofs.Splitting.{label_lexeme, colon_is, colon_class, inv_l
 some_same : {A : Type 0} (x y : A) → Some x ≡ Some y → x ≡ y
 some_same x y e = cc
 
-chosen : {A : Type 0} (t : Bool) (x y z : A) → cond t x y ≡ z → (P : Type 0) → (t ≡ true → x ≡ z → P) → (t ≡ false → y ≡ z → P) → P
+pub chosen : {A : Type 0} (t : Bool) (x y z : A) → cond t x y ≡ z → (P : Type 0) → (t ≡ true → x ≡ z → P) → (t ≡ false → y ≡ z → P) → P
 chosen true x y z e P f g = f refl e
 chosen false x y z e P f g = g refl e
 
-not_false : (t : Bool) → not t ≡ false → t ≡ true
+pub not_false : (t : Bool) → not t ≡ false → t ≡ true
 not_false true e = refl
 not_false false e = cc
 
 -- ---- labels
-
--- the text begins with the label and its colon, and goes on so
-abbrev HasLabel : List ℕ → List ℕ → List ℕ → Type 0
-HasLabel text l rest = (bs cs : List ℕ) × AreBlanks bs × AreBlanks cs × (is_label l ≡ true) × (text ≡ bs ++ (l ++ (cs ++ (58 ∷ rest))))
 
 label_parts : (text l front : List ℕ) (p : List ℕ × List ℕ) (o : Option (Token Punct × List ℕ)) → Begins text (Lexeme l) front → front_token source_class front ≡ o → colon_by l o ≡ Some p → HasLabel text p.0 p.1
 label_parts text l front p None b e h = cc
@@ -65,7 +61,7 @@ label_found_by text p None e h = cc
 label_found_by text p (Some (Mark m, r)) e h = cc
 label_found_by text p (Some (Lexeme l, r)) e h = label_parts text l r p (front_token source_class r) (front_is text (Lexeme l) r e) refl h
 
-label_found : (text : List ℕ) (p : List ℕ × List ℕ) → label_split text ≡ Some p → HasLabel text p.0 p.1
+pub label_found : (text : List ℕ) (p : List ℕ × List ℕ) → label_split text ≡ Some p → HasLabel text p.0 p.1
 unfolding label_split
 label_found text p e = label_found_by text p (front_token source_class text) refl e
 
@@ -76,7 +72,7 @@ colon_stops (b ∷ cs) rest h = ap is_ordinary h.0
 colon_first : (l rest : List ℕ) → is_label l ≡ true → colon_by l (Some (Mark M.Colon, rest)) ≡ Some (l, rest)
 colon_first l rest e = cond-true (is_label l) (Some (l, rest)) None e
 
-found_label : (text l rest : List ℕ) → HasLabel text l rest → label_split text ≡ Some (l, rest)
+pub found_label : (text l rest : List ℕ) → HasLabel text l rest → label_split text ≡ Some (l, rest)
 unfolding label_split
 found_label text l rest h =
     let behind = h.1 ++ (58 ∷ rest) in
@@ -90,11 +86,13 @@ inv_is_ok : (s : Statement) (rest : List ℕ) (r : Result Form (ℕ × TextFlaw)
 inv_is_ok s rest (Ok F) e h = (F, sym (same_Ok _ _ h), form.parsed_spelled rest F e)
 inv_is_ok s rest (Err x) e h = cc
 
+pub inv_word : (text w rest : List ℕ) → Begins text (Lexeme w) rest → bytes_eq w (codes ".inv") ≡ true → HasInv text rest
+inv_word text w rest b t = (b.0, b.2, b.3.2, b.4 ∙ ap (λ y. b.0 ++ (y ++ rest)) (b.3.0 ∙ same_bytes w (codes ".inv") t))
+
 inv_spelled : (text w rest : List ℕ) (s : Statement) → Begins text (Lexeme w) rest → bytes_eq w (codes ".inv") ≡ true → inv_or_flaw (parsed_form rest) ≡ Ok s → SpellsStatement s text
 inv_spelled text w rest s b t e =
     let f = inv_is_ok s rest (parsed_form rest) refl e in
-    subst (λ y. SpellsStatement y text) (sym f.1)
-    (b.0, rest, b.2, b.3.2, b.4 ∙ ap (λ y. b.0 ++ (y ++ rest)) (b.3.0 ∙ same_bytes w (codes ".inv") t), f.2)
+    subst (λ y. SpellsStatement y text) (sym f.1) (rest, inv_word text w rest b t, f.2)
 
 insn_spelled : (text : List ℕ) (s : Statement) → insn_statement text ≡ Ok s → SpellsStatement s text
 insn_spelled text s e =
@@ -136,7 +134,7 @@ insn_plain (Plain I.Ret) ts h = (codes "ret", h.0, h.2, ⊎_elim (λ e. ap colon
 insn_plain (BranchTo j ra l) ts h = (branch_mnemonic j, h.0, h.2, ap colon_next h.1.3)
 insn_plain (BrTo l) ts h = (codes "br", h.0, h.2, ⊎_elim (λ e. ap colon_next e) (λ g. ap colon_next g.2) h.1.1)
 
-no_inv_mnemonic : mnemonic_of (codes ".inv") ≡ None
+pub no_inv_mnemonic : mnemonic_of (codes ".inv") ≡ None
 unfolding mnemonic_of mnemonics
 no_inv_mnemonic = refl
 
@@ -159,16 +157,16 @@ insn_statement_of text i h =
     ap (statement_by text) f.1
     ∙ insn_by text p.0 f.0 p.1 i (bytes_eq p.0 (codes ".inv")) refl (ap parsed_insn (sym p.2) ∙ spelled_parsed h.0 i h.2) all
 
-inv_begins : (F : Form) (text : List ℕ) (h : SpellsStatement (AnInv F) text) → Begins text (Lexeme (codes ".inv")) h.1
-inv_begins F text h = (h.0, codes ".inv", h.2, (refl, inv_lexeme, h.3), h.4)
+pub inv_begins : (text rest : List ℕ) → HasInv text rest → Begins text (Lexeme (codes ".inv")) rest
+inv_begins text rest h = (h.0, codes ".inv", h.1, (refl, inv_lexeme, h.2), h.3)
 
 statement_of : (text : List ℕ) (s : Statement) → SpellsStatement s text → parsed_statement text ≡ Ok s
 unfolding parsed_statement
 statement_of text NoStatement h = ap (statement_by text) (none_at_front text h)
 statement_of text (AnInsn i) h = insn_statement_of text i h
 statement_of text (AnInv F) h =
-    ap (statement_by text) (front_of text (Lexeme (codes ".inv")) h.1 (inv_begins F text h))
-    ∙ ap inv_or_flaw (form.spelled_parsed h.1 F h.5)
+    ap (statement_by text) (front_of text (Lexeme (codes ".inv")) h.0 (inv_begins text h.0 h.1))
+    ∙ ap inv_or_flaw (form.spelled_parsed h.0 F h.2)
 
 -- ---- a statement has no label before it
 
@@ -203,28 +201,27 @@ no_label : (text : List ℕ) (s : Statement) → SpellsStatement s text → labe
 unfolding label_split
 no_label text NoStatement h = ap label_by (none_at_front text h)
 no_label text (AnInsn i) h = insn_no_label text i h
-no_label text (AnInv F) h = ap label_by (front_of text (Lexeme (codes ".inv")) h.1 (inv_begins F text h)) ∙ inv_no_colon (front_token source_class h.1)
+no_label text (AnInv F) h = ap label_by (front_of text (Lexeme (codes ".inv")) h.0 (inv_begins text h.0 h.1)) ∙ inv_no_colon (front_token source_class h.0)
 
 -- ---- bodies
 
 -- what stands before the comment says this content
-abbrev SaysBody : List ℕ → Content → Type 0
+abbrev pub SaysBody : List ℕ → Content → Type 0
 SaysBody text c = (label_of (label_split text) ≡ c.label) × (parsed_statement (behind_label text (label_split text)) ≡ Ok c.statement)
 
 body_by : (text : List ℕ) (c : Content) (o : Option (List ℕ × List ℕ)) → label_split text ≡ o → label_of o ≡ c.label → parsed_statement (behind_label text o) ≡ Ok c.statement → SpellsBody c.label c.statement text
 body_by text c None e f g = subst (λ y. SpellsBody y c.statement text) f (statement_ok text c.statement g)
 body_by text c (Some p) e f g =
-    let h = label_found text p e in
-    subst (λ y. SpellsBody y c.statement text) f (h.0, h.1, p.1, h.2, h.3, h.4, h.5, statement_ok p.1 c.statement g)
+    subst (λ y. SpellsBody y c.statement text) f (p.1, label_found text p e, statement_ok p.1 c.statement g)
 
-body_spelled : (text : List ℕ) (c : Content) → SaysBody text c → SpellsBody c.label c.statement text
+pub body_spelled : (text : List ℕ) (c : Content) → SaysBody text c → SpellsBody c.label c.statement text
 body_spelled text c h = body_by text c (label_split text) refl h.0 h.1
 
 spelled_body_by : (text : List ℕ) (o : Option (List ℕ)) (s : Statement) → SpellsBody o s text → SaysBody text (record { label = o; statement = s })
 spelled_body_by text None s h = let e = no_label text s h in (ap label_of e, ap (λ y. parsed_statement (behind_label text y)) e ∙ statement_of text s h)
 spelled_body_by text (Some l) s h =
-    let e = found_label text l h.2 (h.0, h.1, h.3, h.4, h.5, h.6) in
-    (ap label_of e, ap (λ y. parsed_statement (behind_label text y)) e ∙ statement_of h.2 s h.7)
+    let e = found_label text l h.0 h.1 in
+    (ap label_of e, ap (λ y. parsed_statement (behind_label text y)) e ∙ statement_of h.0 s h.2)
 
 spelled_body : (text : List ℕ) (c : Content) → SpellsBody c.label c.statement text → SaysBody text c
 spelled_body text c h = spelled_body_by text c.label c.statement h

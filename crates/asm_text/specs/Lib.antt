@@ -4,10 +4,12 @@ pub mod Integers
 pub mod Mnemonics
 pub mod Insns
 pub mod InsnParsing
+pub mod Operands
 pub mod Lines
 pub mod Statements
 pub mod Sources
 pub mod SourceParsing
+pub mod Faults
 pub mod Names
 pub mod Views
 pub mod Inside

@@ -20,16 +20,24 @@ pub record Content : Type 0 where
   pub label : Option (List ℕ)
   pub statement : Statement
 
+-- the text begins with `.inv`, and goes on so
+abbrev pub HasInv : List ℕ → List ℕ → Type 0
+HasInv text rest = (bs : List ℕ) × AreBlanks bs × (goes_on source_class rest ≡ false) × (text ≡ bs ++ (codes ".inv" ++ rest))
+
 -- the text spells the statement; an invariant is `.inv` and a formula to the end of the line
 abbrev pub SpellsStatement : Statement → List ℕ → Type 0
 SpellsStatement NoStatement text = Consists source_class text []
 SpellsStatement (AnInsn i) text = (ts : List (Token Punct)) × Consists source_class text ts × SpellsInsn i ts
-SpellsStatement (AnInv F) text = (bs rest : List ℕ) × AreBlanks bs × (goes_on source_class rest ≡ false) × (text ≡ bs ++ (codes ".inv" ++ rest)) × Spells rest F
+SpellsStatement (AnInv F) text = (rest : List ℕ) × HasInv text rest × Spells rest F
+
+-- the text begins with the label and its colon, and goes on so
+abbrev pub HasLabel : List ℕ → List ℕ → List ℕ → Type 0
+HasLabel text l rest = (bs cs : List ℕ) × AreBlanks bs × AreBlanks cs × (is_label l ≡ true) × (text ≡ bs ++ (l ++ (cs ++ (58 ∷ rest))))
 
 -- the text spells a label with its colon, if there is one, and the statement
 abbrev pub SpellsBody : Option (List ℕ) → Statement → List ℕ → Type 0
 SpellsBody None s text = SpellsStatement s text
-SpellsBody (Some l) s text = (bs cs rest : List ℕ) × AreBlanks bs × AreBlanks cs × (is_label l ≡ true) × (text ≡ bs ++ (l ++ (cs ++ (58 ∷ rest)))) × SpellsStatement s rest
+SpellsBody (Some l) s text = (rest : List ℕ) × HasLabel text l rest × SpellsStatement s rest
 
 -- what stands before `#`
 abbrev pub before_comment : List ℕ → List ℕ

@@ -3,7 +3,8 @@
 //! The layer above uses that `read_source` gives the instructions, labels and invariants of the
 //! source that a text spells, or else the first line that is wrong. The grammar stands in
 //! `specs/Sources` (a whole source), `specs/Statements` (a line), `specs/Insns` (an instruction)
-//! and `specs/Lines`, the tests in their order in `specs/SourceParsing` and `specs/InsnParsing`.
+//! and `specs/Lines`, what a fault means in `specs/Faults` and `specs/Operands`, the tests in their
+//! order in `specs/SourceParsing` and `specs/InsnParsing`.
 //! The format is this project's own; the mnemonics are those of the Alpha Architecture Handbook.
 #![tactic(auto)]
 

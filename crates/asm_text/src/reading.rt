@@ -34,8 +34,8 @@ fn parse(alloc: Global, text: &[u8]) -> Result<Source, LineFault>
 
 /// Parses `text` as a source: its instructions, labels and invariants.
 ///
-/// Errors: the first line that is wrong, with its number and the first test that it fails; `Memory`
-/// says nothing of `text`. The grammar is this project's own (`specs/Sources`, `specs/Statements`,
+/// Errors: the first line that is wrong, with its number and why (`specs/Faults`); `Memory` says
+/// nothing of `text`. The grammar is this project's own (`specs/Sources`, `specs/Statements`,
 /// `specs/Insns`).
 ///
 /// Asks that `text` has at most `MAX_SOURCE` bytes.

@@ -13,3 +13,6 @@ mod Access
 mod Parts
 mod Laws
 mod Rows
+mod Repeats
+mod RepeatedBounds
+mod RepeatedSearch

@@ -5,6 +5,7 @@ pub mod NormalForms
 pub mod Goals
 pub mod Parts
 pub mod Access
+pub mod Repeats
 pub mod Worked
 pub mod WorkedReturns
 pub mod WorkedLoads

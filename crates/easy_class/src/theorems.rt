@@ -9,8 +9,10 @@ ghost use Rattle.formula_tree.specs.Formulas.{Form};
 ghost use Rattle.formula_tree.specs.Scope.{IsOver};
 ghost use Rattle.formula_tree.specs.Sizes.{form_height};
 ghost use Rattle.formula_terms.specs.Encoding.{form_encoding};
-ghost use Rattle.easy_class.specs.Parts.{conjoined, condition_proof, first_not_easy};
+ghost use Rattle.easy_class.specs.Parts.{conjoined, part_proof, condition_proof, first_not_easy};
+ghost use Rattle.easy_class.specs.Hypotheses.{with_new};
 ghost use Rattle.easy_class.specs.Access.{by_all_means};
+ghost use Rattle.easy_class.specs.Repeats.{part_proof_adding, with_repeats};
 ghost use Rattle.easy_class.specs.Worked.{AreWorked, small_rows};
 ghost use Rattle.easy_class.specs.WorkedReturns.{return_rows};
 ghost use Rattle.easy_class.specs.WorkedLoads.{load_rows};
@@ -30,6 +32,16 @@ pub fn class_laws()
     ensures exact { (parts : List Form) (n : ℕ) →
         (first_not_easy by_all_means n parts ≡ None)
         ↔ ((p : Tree) × (condition_proof by_all_means parts ≡ Some p)) }
+{}
+
+/// Repeats change no proof: where an implication adds all its hypotheses, also those whose formula is
+/// one already, and all else is alike, a part of a condition has the same proof, or none. Both are one
+/// search with its way of adding as a parameter; with the class's way it is the class's.
+pub fn repeat_laws()
+    ensures unchanged { (part : Form) →
+        part_proof_adding with_new part ≡ part_proof by_all_means part }
+    ensures repeats { (part : Form) →
+        part_proof_adding with_repeats part ≡ part_proof by_all_means part }
 {}
 
 /// What a second implementation gives goals and parts of conditions, the class gives them: that proof,

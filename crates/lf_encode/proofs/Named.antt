@@ -1,16 +1,18 @@
 -- Encodings over a context of word and memory variables, the machine's among them.
-use Rattle.std.proofs.Common.{◌≡◌, ℕ, zero, suc, ◌+◌, ◌^◌, ◌<◌, ◌≤◌, max, Bool, true, false, cond, List, [], ◌∷◌, ◌++◌, length, drop, refl, sym, ◌∙◌, ap, subst, arith, append_assoc}
+use Rattle.std.proofs.Common.{◌≡◌, ℕ, zero, suc, ◌+◌, ◌^◌, ◌<◌, ◌≤◌, max, Bool, true, false, cond, Some}
+use Rattle.std.proofs.Common.{List, [], ◌∷◌, ◌++◌, length, drop, refl, sym, ◌∙◌, ap, subst, arith, append_assoc}
 use Rattle.term_table.specs.Tree.{Tree, Fam}
 use Rattle.lf_signature.specs.Sigma1.{declared}
 use Rattle.lf_signature.specs.Typing.{Checks}
 use Rattle.formula_tree.specs.Formulas.{Exp, MemExp, Form, FTrue, FFalse, FRel, FRd, FWr, FAnd, FOr, FImp, FAll, FAllm}
-use Rattle.formula_tree.specs.Scope.{VarSort, OfWord, OfMem, IsOverExp, IsOverMem, IsOver}
+use Rattle.formula_tree.specs.Scope.{VarSort, OfWord, OfMem, sort_at, IsOverExp, IsOverMem, IsOver}
 use Rattle.formula_tree.specs.Sizes.{binders, form_height}
 use Rattle.lf_encode.specs.declared.contexts.Sort as sort
 use Rattle.lf_encode.specs.declared.contexts.Sort.TheVariants as S
 use Rattle.formula_terms.specs.Encoding.{exp_encoding, mem_encoding, form_encoding}
 use Rattle.lf_encode.specs.Contexts.{var_sort, put_nearest, sorts_of, sort_types, has_words, has_machine, bound_sorts, registers_in, IsExpIn, IsMemIn, IsFormIn, encoding_in, exp_encoding_in, mem_encoding_in, EncodesForm, EncodesExp, EncodesMem}
 use Rattle.lf_encode.specs.Inside.Naming.{words, named_exp, named_mem, named_form, unnamed_exp, unnamed_mem, unnamed_form}
+use Rattle.lf_encode.proofs.Naming.{near-at}
 use Rattle.lf_encode.proofs.Naming.{named_exp-is, named_mem-is, named_form-is, named_exp-over, named_mem-over, named_form-over, named_exp-none, named_mem-none, named_form-none, unnamed_exp-over, unnamed_mem-over, unnamed_form-over, back_exp, back_mem, back_form}
 use Rattle.formula_terms.proofs.Encoded.{exp_encoding-injective, mem_encoding-injective, form_encoding-injective}
 use Rattle.lf_encode.proofs.Typed.{exp_checks, mem_checks, form_checks}
@@ -18,7 +20,7 @@ use Rattle.lf_encode.proofs.Adequate.{checked_form, checked_mem, checked_exp}
 
 -- ---- the machine's variables are the furthest
 
-put_nearest-append : (ctx : List sort.Sort) (G : List VarSort) → put_nearest ctx G ≡ sorts_of ctx ++ G
+pub put_nearest-append : (ctx : List sort.Sort) (G : List VarSort) → put_nearest ctx G ≡ sorts_of ctx ++ G
 put_nearest-append [] G = refl
 put_nearest-append (s ∷ ctx) G =
     put_nearest-append ctx (var_sort s ∷ G) ∙ sym (append_assoc (sorts_of ctx) (var_sort s ∷ []) G) ∙ ap (λ l. l ++ G) (sym (put_nearest-append ctx (var_sort s ∷ [])))
@@ -69,9 +71,17 @@ split ctx false h = record {
   sorts = refl;
 }
 
+-- a bound variable is one of the context
+pub bound-at : (ctx : List sort.Sort) (x : ℕ) (s : VarSort) → sort_at (bound_sorts ctx) x ≡ Some s → sort_at (sorts_of ctx) x ≡ Some s
+bound-at ctx x s q = go (has_machine ctx) refl
+  where
+    go : (b : Bool) → has_machine ctx ≡ b → sort_at (sorts_of ctx) x ≡ Some s
+    go true e = let p = split ctx true e in ap (λ l. sort_at l x) p.sorts ∙ near-at p.near machine x s (sym (ap (λ l. sort_at l x) p.bound) ∙ q)
+    go false e = let p = split ctx false e in ap (λ l. sort_at l x) p.sorts ∙ sym (ap (λ l. sort_at l x) p.bound) ∙ q
+
 -- ---- what is over a context is, once named, over its variables
 
-abbrev count : List sort.Sort → ℕ
+abbrev pub count : List sort.Sort → ℕ
 count ctx = length (bound_sorts ctx)
 
 pub exp_in-over : (ctx : List sort.Sort) (r : ℕ) (e : Exp) → IsExpIn ctx r e → IsOverExp 0 (named_exp (count ctx) e) (sorts_of ctx)
@@ -189,7 +199,7 @@ mem_same ctx t F G f g =
 
 -- ---- the other way, within bounds
 
-binders-named : (F : Form) (d : ℕ) → binders (named_form d F) ≡ binders F
+pub binders-named : (F : Form) (d : ℕ) → binders (named_form d F) ≡ binders F
 binders-named FTrue d = refl
 binders-named FFalse d = refl
 binders-named (FRel p a b) d = refl

@@ -1,6 +1,6 @@
 //! What holds of encodings, with nothing to run.
 
-ghost use Rattle.std.specs.Prelude.{◌≡◌, ◌<◌, ◌^◌, ℕ, Some, List, length};
+ghost use Rattle.std.specs.Prelude.{◌≡◌, ◌<◌, ◌^◌, ℕ, suc, Some, List, length, ◌++◌, take, drop};
 ghost use Rattle.term_table.specs.Tree.{Tree};
 ghost use Rattle.term_table.specs.Subst.{Base, hsub};
 ghost use Rattle.lf_signature.specs.Sigma1.{declared};
@@ -10,12 +10,15 @@ ghost use Rattle.formula_tree.specs.Formulas.{Exp, MemExp, Form};
 ghost use Rattle.formula_tree.specs.Scope.{VarSort, sort_at, part_sort};
 ghost use Rattle.formula_tree.specs.Scope.{IsOverExp, IsOverMem, IsOver, IsOverPart};
 ghost use Rattle.formula_tree.specs.Sizes.{form_height};
-ghost use Rattle.formula_tree.specs.Substitution.{Substitution, shift_substitution, subst_form};
+ghost use Rattle.formula_tree.specs.Substitution.{Substitution, shift_substitution};
+ghost use Rattle.formula_tree.specs.Substitution.{subst_exp, subst_mem, subst_form};
 ghost use Rattle.formula_tree.specs.Variables.{Part, subst_var_exp, subst_var_mem, subst_var};
 ghost use Rattle.lf_encode.specs.declared.contexts.Sort.{Sort};
 ghost use Rattle.formula_terms.specs.Encoding.{exp_encoding, mem_encoding, form_encoding};
 ghost use Rattle.formula_terms.specs.Encoding.{part_encoding, part_family};
-ghost use Rattle.lf_encode.specs.Contexts.{sort_types, IsExpIn, IsMemIn, IsFormIn};
+ghost use Rattle.lf_encode.specs.Contexts.{has_machine, sorts_of, bound_sorts, without_var};
+ghost use Rattle.lf_encode.specs.Contexts.{IsExpIn, IsMemIn, IsFormIn, IsPartIn};
+ghost use Rattle.lf_encode.specs.Contexts.{sort_types, names_in, part_encoding_in};
 ghost use Rattle.lf_encode.specs.Contexts.{exp_encoding_in, mem_encoding_in, encoding_in};
 ghost use Rattle.lf_encode.specs.Contexts.{EncodesForm, EncodesExp, EncodesMem, machine_names};
 ghost use Rattle.lf_encode.specs.PutTree.{machine_terms_of, put_tree};
@@ -66,6 +69,68 @@ pub fn substitution_on_encodings()
         form_height F < 2 ^ 31 → length H < 2 ^ 31 →
         hsub (Base (part_family p)) (part_encoding p) x (form_encoding F)
         ≡ Some (form_encoding (subst_var F x p)) }
+{}
+
+/// Hereditary substitution on encodings over a context, which may have the machine's variables, is
+/// substitution of an expression or a memory for one variable: at expressions and memories always,
+/// at formulas where the height and the contexts' lengths are below 2^31. For any variable, one of
+/// the machine's too, what is put is over variables alone, and the result is the encoding of what
+/// comes of it after variables were put for registers and m; the others are numbered as in the
+/// context without that one. For a bound variable, one that isn't the machine's, what is put may
+/// name registers and m itself, and the result is the encoding over the context without it.
+pub fn substitution_in_contexts()
+    ensures exps_in { (ctx : List Sort) (e : Exp) (x : ℕ) (p : Part) →
+        IsExpIn ctx 32 e → sort_at (sorts_of ctx) x ≡ Some (part_sort p) →
+        hsub (Base (part_family p)) (part_encoding p) x (exp_encoding_in ctx e)
+        ≡ Some (exp_encoding (subst_var_exp (subst_exp e (names_in ctx)) x p)) }
+    ensures mems_in { (ctx : List Sort) (m : MemExp) (x : ℕ) (p : Part) →
+        IsMemIn ctx 32 m → sort_at (sorts_of ctx) x ≡ Some (part_sort p) →
+        hsub (Base (part_family p)) (part_encoding p) x (mem_encoding_in ctx m)
+        ≡ Some (mem_encoding (subst_var_mem (subst_mem m (names_in ctx)) x p)) }
+    ensures forms_in { (ctx : List Sort) (F : Form) (H : List VarSort) (x : ℕ) (p : Part) →
+        IsFormIn ctx 32 F → sort_at (sorts_of ctx) x ≡ Some (part_sort p) → IsOverPart 0 p H →
+        form_height F < 2 ^ 31 → length H < 2 ^ 31 →
+        hsub (Base (part_family p)) (part_encoding p) x (encoding_in ctx F)
+        ≡ Some (form_encoding (subst_var (subst_form F (names_in ctx)) x p)) }
+    ensures exps_bound { (ctx : List Sort) (e : Exp) (x : ℕ) (p : Part) →
+        let rest : List Sort = without_var x ctx in
+        IsExpIn ctx 32 e → sort_at (bound_sorts ctx) x ≡ Some (part_sort p) →
+        hsub (Base (part_family p)) (part_encoding_in rest p) x (exp_encoding_in ctx e)
+        ≡ Some (exp_encoding_in rest (subst_var_exp e x p)) }
+    ensures mems_bound { (ctx : List Sort) (m : MemExp) (x : ℕ) (p : Part) →
+        let rest : List Sort = without_var x ctx in
+        IsMemIn ctx 32 m → sort_at (bound_sorts ctx) x ≡ Some (part_sort p) →
+        hsub (Base (part_family p)) (part_encoding_in rest p) x (mem_encoding_in ctx m)
+        ≡ Some (mem_encoding_in rest (subst_var_mem m x p)) }
+    ensures forms_bound { (ctx : List Sort) (F : Form) (x : ℕ) (p : Part) →
+        let rest : List Sort = without_var x ctx in
+        IsFormIn ctx 32 F → sort_at (bound_sorts ctx) x ≡ Some (part_sort p) →
+        IsPartIn rest 32 p → form_height F < 2 ^ 31 → length ctx < 2 ^ 31 →
+        hsub (Base (part_family p)) (part_encoding_in rest p) x (encoding_in ctx F)
+        ≡ Some (encoding_in rest (subst_var F x p)) }
+{}
+
+/// The sorts of a context without one variable are the context's without that variable's; and what
+/// comes of a substitution for a bound variable is over that context where what is put is over it,
+/// and both contexts have the machine's variables or neither has them.
+pub fn scope_laws()
+    ensures sorts { (ctx : List Sort) (x : ℕ) →
+        sorts_of (without_var x ctx) ≡ take x (sorts_of ctx) ++ drop (suc x) (sorts_of ctx) }
+    ensures exps { (ctx : List Sort) (r : ℕ) (e : Exp) (x : ℕ) (p : Part) →
+        let rest : List Sort = without_var x ctx in
+        IsExpIn ctx r e → sort_at (bound_sorts ctx) x ≡ Some (part_sort p) →
+        IsPartIn rest r p → has_machine rest ≡ has_machine ctx →
+        IsExpIn rest r (subst_var_exp e x p) }
+    ensures mems { (ctx : List Sort) (r : ℕ) (m : MemExp) (x : ℕ) (p : Part) →
+        let rest : List Sort = without_var x ctx in
+        IsMemIn ctx r m → sort_at (bound_sorts ctx) x ≡ Some (part_sort p) →
+        IsPartIn rest r p → has_machine rest ≡ has_machine ctx →
+        IsMemIn rest r (subst_var_mem m x p) }
+    ensures forms { (ctx : List Sort) (r : ℕ) (F : Form) (x : ℕ) (p : Part) →
+        let rest : List Sort = without_var x ctx in
+        IsFormIn ctx r F → sort_at (bound_sorts ctx) x ≡ Some (part_sort p) →
+        IsPartIn rest r p → has_machine rest ≡ has_machine ctx →
+        IsFormIn rest r (subst_var F x p) }
 {}
 
 /// Terms put for the machine's variables in the encoding of a formula, where `B` are the nearer

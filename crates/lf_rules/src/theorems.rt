@@ -9,6 +9,7 @@ ghost use Rattle.lf_signature.specs.Rules.{Rule};
 ghost use Rattle.lf_signature.specs.Typing.{Checks};
 ghost use Rattle.lf_signature.specs.Sigma1.{declared, rule_at};
 ghost use Rattle.lf_rules.specs.Plain.{IsUnapplied, plain_subst, var_bound, binder_depth};
+ghost use Rattle.lf_rules.specs.Named.{AreNamed};
 ghost use Rattle.lf_rules.specs.Instance.{nth_arg, form_with, by_rule, AreArguments, AreProofs};
 
 /// Laws of the rules: at arguments and at proofs of its premises a rule's constant is a proof of its
@@ -21,6 +22,11 @@ pub fn rule_laws()
         → Checks declared ctx (by_rule n args proofs) (pf (form_with r.conclusion (nth_arg args))) }
     ensures bounded { (ctx : List Tree) (t a : Tree) → Checks declared ctx t a
         → var_bound t ≤ length ctx + binder_depth t }
+{}
+
+/// The rules' names: the rule at each named number is the one that its name stands for.
+pub fn name_laws()
+    ensures { AreNamed }
 {}
 
 /// Laws of plain substitution: at a base type hereditary substitution is plain where the variable is

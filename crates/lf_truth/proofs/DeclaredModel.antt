@@ -25,14 +25,15 @@ use Rattle.lf_signature.specs.Laws.WellFormed.{declared_formed}
 use Rattle.lf_signature.proofs.Lookup.{declared-constant, declared-from, rule_at-from}
 use Rattle.lf_encode.specs.Encoding.{form_encoding}
 use Rattle.lf_truth.specs.Validity.{IsSoundSignature, IsTrueType}
-use Rattle.lf_truth.specs.RuleTruth.{IsTrueRule, IsTrueRuleType}
+use Rattle.lf_truth.specs.RuleTruth.{IsTrueRule}
 use Rattle.lf_truth.proofs.Values.{default, AnyValue}
 use Rattle.lf_truth.proofs.TypeMeaning.{Stable, word_value, memory_value, word_means, Means}
 use Rattle.lf_truth.proofs.Soundness.{Has, IsModel, proved_true}
 use Rattle.lf_truth.proofs.WordValues.{of_op, of_rel, values, of_type, value_in, value_in-past, meaning}
 use Rattle.lf_truth.proofs.FormMeaning.{closed_means}
 use Rattle.lf_truth.proofs.WordRules.{RuleHolds, AllHold, none, ◌⊕◌, all_rules}
-use Rattle.lf_truth.proofs.RuleMeaning.{is_sorted, rule_is_true}
+use Rattle.lf_truth.specs.RuleSorts.{is_sorted}
+use Rattle.lf_truth.proofs.RuleMeaning.{rule_is_true}
 
 -- ---- soundness, for any signature that has a model
 
@@ -222,19 +223,14 @@ all_sorted : every (λ n r. is_sorted r) the_rules ≡ true
 unfolding the_rules
 all_sorted = refl
 
-rule_sorted : (n : ℕ) (r : Rule) → rule_at n ≡ Some r → is_sorted r ≡ true
+pub rule_sorted : (n : ℕ) (r : Rule) → rule_at n ≡ Some r → is_sorted r ≡ true
 rule_sorted n r q = elim (cases_lt n 27) [
   | inl low ↦ cc (ap (λ b. cond b None (at the_rules (n - 27))) (lt-ltb n 27 low), q)
   | inr from ↦ every-at (λ n r. is_sorted r) the_rules (n - 27) r all_sorted (sym (rule_at-from n from) ∙ q)
 ]
 
-rules_true : (n : ℕ) (r : Rule) → rule_at n ≡ Some r → IsTrueRule r
+pub rules_true : (n : ℕ) (r : Rule) → rule_at n ≡ Some r → IsTrueRule r
 rules_true n r q R v ρ = rule_is_true R declared v ρ r (rule_sorted n r q) (rule_holds R declared n r q [])
-
-pub declared_rules : (n : ℕ) (A : Tree) → 27 ≤ n → declared (Num n) ≡ Some A → IsTrueRuleType A
-declared_rules n A from q =
-    let found = map_some (rule_at n) rule_type A (sym (declared-from n from) ∙ q) in
-    record { rule = found.0; is = found.2; holds = rules_true n found.0 found.1 }
 
 -- ---- falsity has no proof
 

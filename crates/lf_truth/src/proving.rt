@@ -11,7 +11,7 @@ ghost use Rattle.formula_tree.specs.Truth.{IsValid};
 ghost use Rattle.lf_truth.specs.Validity.{EncodesClosed};
 
 use crate::theorems::truth_laws;
-use lf_check::{Kept, MOST_RESULTS, check_term_with};
+use lf_check::{Exhausted, Kept, MOST_RESULTS, check_term_with};
 use lf_signature::{Sigma1, pf};
 use std::alloc::AllocError;
 use term_table::{Id, Table};
@@ -32,7 +32,7 @@ pub fn prove_true(table: &mut Table, proof: Id, goal: Id) -> Result<bool, AllocE
     ensures extends { Extends table.old table.new }
 {
     let mut kept = Kept::new(table.allocator(), MOST_RESULTS);
-    prove_true_with(table, &mut kept, proof, goal)
+    Ok(prove_true_with(table, &mut kept, proof, goal)?)
 }
 
 /// `prove_true`, with what `kept` has of earlier calls on the table over the signature of word
@@ -42,7 +42,7 @@ pub fn prove_true_with(
     kept: &mut Kept,
     proof: Id,
     goal: Id,
-) -> Result<bool, AllocError>
+) -> Result<bool, Exhausted>
     requires proof { IsKnown table.old proof }
     requires goal { IsKnown table.old goal }
     requires kept { AreKept declared table.old kept.old }

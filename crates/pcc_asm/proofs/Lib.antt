@@ -2,6 +2,7 @@ pub mod Resolved
 pub mod Shaped
 pub mod Ranges
 pub mod Assembly
+pub mod Faulted
 pub mod Labelled
 pub mod Walking
 pub mod Written

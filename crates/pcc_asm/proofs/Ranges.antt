@@ -93,10 +93,11 @@ Says s n = (text : List ℕ) × (length text ≤ n) × SpellsStatement s text
 behind_label : (l : Option (List ℕ)) (s : Statement) (text : List ℕ) → SpellsBody l s text → Says s (length text)
 behind_label None s text h = (text, omega arith, h)
 behind_label (Some l) s text h =
-    let a = ap length h.6 ∙ length-append h.0 (l ++ (h.1 ++ (58 ∷ h.2))) in
-    let b = length-append l (h.1 ++ (58 ∷ h.2)) in
-    let d = length-append h.1 (58 ∷ h.2) in
-    (h.2, omega (arith, a, b, d), h.7)
+    let p = h.1 in
+    let a = ap length p.5 ∙ length-append p.0 (l ++ (p.1 ++ (58 ∷ h.0))) in
+    let b = length-append l (p.1 ++ (58 ∷ h.0)) in
+    let d = length-append p.1 (58 ∷ h.0) in
+    (h.0, omega (arith, a, b, d), h.2)
 
 line_says : (line : List ℕ) (c : Content) → SpellsLine line c → Says c.statement MAX_LINE
 line_says line c h =
@@ -118,9 +119,10 @@ fits NoStatement h = tt
 fits (AnInsn i) h = insn_range i h.2.0 h.2.2
 fits (AnInv F) h =
     let t = h.2 in
-    let a = ap length t.4 ∙ length-append t.0 (codes ".inv" ++ t.1) in
-    let b = length-append (codes ".inv") t.1 in
-    (t.1, omega (arith, a, b, h.1), t.5)
+    let p = t.1 in
+    let a = ap length p.3 ∙ length-append p.0 (codes ".inv" ++ t.0) in
+    let b = length-append (codes ".inv") t.0 in
+    (t.0, omega (arith, a, b, h.1), t.2)
 
 abbrev AllFit : List Content → Type 0
 AllFit cs = AllByRecursion (λ c. Fits c.statement) cs

@@ -38,12 +38,12 @@ br_is labels i l insn (Some t) f e =
     let s : I.Br (pos t -ℤ pos (i + 1)) ≡ insn = some_same _ _ e in
     (t, pos t -ℤ pos (i + 1), f, sym s, ap (target_of i) (sym s) ∙ ap Some (there t (i + 1)))
 
-resolved-is : (labels : List (List ℕ × ℕ)) (i : ℕ) (x : SourceInsn) (insn : Insn) → resolved_insn labels i x ≡ Some insn → IsResolved labels i x insn
+pub resolved-is : (labels : List (List ℕ × ℕ)) (i : ℕ) (x : SourceInsn) (insn : Insn) → resolved_insn labels i x ≡ Some insn → IsResolved labels i x insn
 resolved-is labels i (Plain p) insn e = sym (some_same _ _ e)
 resolved-is labels i (BranchTo c ra l) insn e = branch_is labels i ra c l insn (label_index labels l) refl e
 resolved-is labels i (BrTo l) insn e = br_is labels i l insn (label_index labels l) refl e
 
-is-resolved : (labels : List (List ℕ × ℕ)) (i : ℕ) (x : SourceInsn) (insn : Insn) → IsResolved labels i x insn → resolved_insn labels i x ≡ Some insn
+pub is-resolved : (labels : List (List ℕ × ℕ)) (i : ℕ) (x : SourceInsn) (insn : Insn) → IsResolved labels i x insn → resolved_insn labels i x ≡ Some insn
 is-resolved labels i (Plain p) insn h = ap Some (sym h)
 is-resolved labels i (BranchTo c ra l) insn h =
     let e : pos (i + 1) +ℤ h.1 ≡ pos h.0 = some_same _ _ (ap (target_of i) (sym h.3) ∙ h.4) in

@@ -36,12 +36,12 @@ none-unlawful (x ∷ xs) (insn ∷ code) h = ap (λ o. word_flaw x.0 o (first_un
 
 -- ---- where branches lead
 
-inside_by : (n : ℕ) (o : Option ℤ) → is_inside n o ≡ true → InsideOf n o
+pub inside_by : (n : ℕ) (o : Option ℤ) → is_inside n o ≡ true → InsideOf n o
 inside_by n None e = tt
 inside_by n (Some (pos k)) e = ltb-true k n e
 inside_by n (Some (negsuc k)) e = cc
 
-by_inside : (n : ℕ) (o : Option ℤ) → InsideOf n o → is_inside n o ≡ true
+pub by_inside : (n : ℕ) (o : Option ℤ) → InsideOf n o → is_inside n o ≡ true
 by_inside n None h = refl
 by_inside n (Some (pos k)) h = lt-ltb k n h
 by_inside n (Some (negsuc k)) h = absurd h

@@ -1,5 +1,6 @@
 pub mod Words
 pub mod Assembling
+pub mod Faults
 pub mod Names
 pub mod Views
 pub mod Limits

@@ -2,9 +2,9 @@
 //!
 //! The layer above uses that `assemble` gives what a container of the source for a policy holds, or
 //! else the first line that is wrong. What that is stands in `specs/Assembling` (as a relation and
-//! as the tests in their order), which words are written in `specs/Words`, what answers say in
-//! `specs/Views`, the limits that all that is assembled keeps to in `specs/Limits`, and the names of
-//! the kinds of faults in `specs/Names`.
+//! as the tests in their order), what a fault means in `specs/Faults`, which words are written in
+//! `specs/Words`, what answers say in `specs/Views`, the limits that all that is assembled keeps to
+//! in `specs/Limits`, and the names of the kinds of faults in `specs/Names`.
 #![tactic(auto)]
 
 mod assembled;

@@ -1,5 +1,7 @@
--- Bytes are accepted exactly where no clause is the first that fails.
-use Rattle.std.proofs.Common.{◌≡◌, ℕ, ◌≤◌, Bool, true, false, cond, ltb, ltb-false, le-ltb, List, [], ◌∷◌, length, Option, Some, None, refl, sym, ◌∙◌, ap, subst}
+-- The eleven clauses hold, or a refusal is the first: the tests find which.
+use Rattle.std.proofs.Common.{◌≡◌, ℕ, ◌⊎◌, inl, inr, ◌↔◌, Bool, true, false, cond, List, [], ◌∷◌, length, Option, Some, None, refl, sym, ◌∙◌, ap, subst}
+use Rattle.std.proofs.lemmas.Bool.{cases_Bool, cases_lt, cond-true, cond-false, false≢true}
+use Rattle.std.proofs.lemmas.Option.{same_Some, none-some}
 use Rattle.alpha_words.specs.declared.insn.Insn.{Insn}
 use Rattle.policy_set.specs.declared.kind.PolicyKind.{PolicyKind}
 use Rattle.term_table.specs.Tree.{Tree}
@@ -15,14 +17,19 @@ use Rattle.lf_encode.specs.Inside.Reading.{form_of}
 use Rattle.lf_encode.proofs.Named.{form_encoded}
 use Rattle.lf_encode.proofs.Decoded.{form_of-encoding}
 use Rattle.lf_encode.proofs.MachineContext.{bound_sorts-machine}
+use Rattle.proof_container.specs.Contents.{Contents}
 use Rattle.proof_container.specs.Encoding.{IsBytes}
 use Rattle.vcgen.specs.Encoded.{AreForms, AreEncodings, EncodesCondition}
 use Rattle.vcgen.proofs.Encodings.{encoding-unique}
 use Rattle.pcc_gate.specs.declared.limits.TheConstants.{MAX_WEIGHT}
+use Rattle.pcc_gate.specs.declared.refusal.Refusal.{Refusal}
 use Rattle.pcc_gate.specs.declared.refusal.Refusal.TheVariants as refusal
-use Rattle.pcc_gate.specs.Accepted.{IsAccepted}
-use Rattle.pcc_gate.specs.First.{formula_of, formulas, vc_of, proves, marks_of, first_proof, first_refusal}
-use Rattle.pcc_gate.proofs.FirstFront.{passes, passing, holds, holding, IsFront, front-none, none-front}
+use Rattle.pcc_gate.specs.Passing.{Passes}
+use Rattle.pcc_gate.specs.Accepted.{Accepts, IsAccepted}
+use Rattle.pcc_gate.specs.First.{formula_of, formulas, vc_of, proves, first_front, first_proof, first_refusal}
+use Rattle.pcc_gate.specs.Refusals.{HasProof, HasLightProof, IsPastWeight, IsNoProof, IsFirstRefusal}
+use Rattle.pcc_gate.proofs.Searches.{past, within}
+use Rattle.pcc_gate.proofs.FirstFront.{told, after_all, front_finds, front_decided}
 
 -- ---- the condition's term
 
@@ -38,60 +45,7 @@ formulas-encoded (p ∷ ps) h =
 pub vc_of-encodes : (policy : PolicyKind) (code : List Insn) (ps : List (ℕ × Tree)) → AreForms ps → EncodesCondition policy code ps (vc_of policy code ps)
 vc_of-encodes policy code ps h = record { formulas = formulas ps; encoded = formulas-encoded ps h; is = refl }
 
--- ---- the proof
-
--- a proof that isn't too heavy, of the condition
-record IsProof (vc : Tree) (given : Option Tree) : Type 0 where
-  proof : Tree
-  is : given ≡ Some proof
-  weight : weight_of sigma1_places proof ≤ MAX_WEIGHT
-  proved : Checks declared [] proof (pf vc)
-
-proof-none : (vc : Tree) (given : Option Tree) → IsProof vc given → first_proof vc given ≡ None
-proof-none vc given p =
-    let w : ℕ = weight_of sigma1_places p.proof in
-    let last : cond (proves p.proof vc) None (Some refusal.NotProof) ≡ None = holding (proves p.proof vc) refusal.NotProof None (checks_is declared p.proved) refl in
-    ap (first_proof vc) p.is ∙ passing (ltb MAX_WEIGHT w) (refusal.ProofWeight (capped w)) (cond (proves p.proof vc) None (Some refusal.NotProof)) (le-ltb MAX_WEIGHT w p.weight) last
-
-none-proof : (vc : Tree) (given : Option Tree) → first_proof vc given ≡ None → IsProof vc given
-none-proof vc None e = absurd (cc)
-none-proof vc (Some p) e =
-    let w : ℕ = weight_of sigma1_places p in
-    let a = passes (ltb MAX_WEIGHT w) (refusal.ProofWeight (capped w)) (cond (proves p vc) None (Some refusal.NotProof)) e in
-    let b = holds (proves p vc) refusal.NotProof None a.1 in
-    record { proof = p; is = refl; weight = ltb-false MAX_WEIGHT w a.0; proved = checks_follows declared p [] (pf vc) b.0 }
-
--- ---- the law
-
-pub accepted-none : (policy : PolicyKind) (bytes : List ℕ) → IsAccepted policy bytes → first_refusal policy bytes ≡ None
-unfolding first_refusal
-accepted-none policy bytes h =
-    let a = h.accepts in
-    let invs : List (ℕ × Tree) = h.contents.invs in
-    let vc : a.vc ≡ vc_of policy h.code invs = encoding-unique policy h.code invs a.vc (vc_of policy h.code invs) a.condition (vc_of-encodes policy h.code invs a.passes.forms) in
-    let p : IsProof (vc_of policy h.code invs) h.contents.proof = record { proof = a.proof; is = a.given; weight = a.weight; proved = subst (λ t. Checks declared [] a.proof (pf t)) vc a.proved } in
-    front-none policy bytes (λ c code. first_proof (vc_of policy code c.invs) c.proof) h.contents h.code h.marks a.passes (proof-none (vc_of policy h.code invs) h.contents.proof p)
-
-pub none-accepted : (policy : PolicyKind) (bytes : List ℕ) → IsBytes bytes → first_refusal policy bytes ≡ None → IsAccepted policy bytes
-unfolding first_refusal
-none-accepted policy bytes fits e =
-    let f : IsFront policy bytes (λ c code. first_proof (vc_of policy code c.invs) c.proof) = none-front policy bytes (λ c code. first_proof (vc_of policy code c.invs) c.proof) fits e in
-    let invs : List (ℕ × Tree) = f.contents.invs in
-    let p : IsProof (vc_of policy f.code invs) f.contents.proof = none-proof (vc_of policy f.code invs) f.contents.proof f.rest in
-    record {
-      contents = f.contents;
-      code = f.code;
-      marks = marks_of f.contents f.code;
-      accepts = record {
-        passes = f.passes;
-        proof = p.proof;
-        vc = vc_of policy f.code invs;
-        given = p.is;
-        weight = p.weight;
-        condition = vc_of-encodes policy f.code invs f.passes.forms;
-        proved = p.proved;
-      };
-    }
+-- ---- whether it is proved
 
 -- a condition's term is that of the first refusal
 pub condition-one : (policy : PolicyKind) (code : List Insn) (ps : List (ℕ × Tree)) (vc : Tree) → AreForms ps → EncodesCondition policy code ps vc → vc ≡ vc_of policy code ps
@@ -114,3 +68,126 @@ module _ (policy : PolicyKind) (code : List Insn) (ps : List (ℕ × Tree)) (pro
 
   pub judged-false : (Checks declared [] proof (pf vc) → ⊥) → proves proof (vc_of policy code ps) ≡ false
   judged-false k = subst (λ x. proves proof x ≡ false) (condition-one policy code ps vc h e) (proves-false proof vc k)
+
+-- ---- clauses 9 to 11
+
+abbrev at_proof : PolicyKind → Contents → List Insn → Option Refusal
+at_proof policy c code = first_proof (vc_of policy code c.invs) c.proof
+
+module _ (policy : PolicyKind) (bytes : List ℕ) (c : Contents) (code : List Insn) (flags : List Bool) (proof : Tree) where
+  -- a proof that isn't too heavy is tried
+  light_tried : HasLightProof policy bytes c code flags proof →
+      first_front policy bytes (at_proof policy) ≡ cond (proves proof (vc_of policy code c.invs)) None (told refusal.NotProof)
+  light_tried h =
+      let vc : Tree = vc_of policy code c.invs in
+      let w : ℕ = weight_of sigma1_places proof in
+      after_all policy bytes (at_proof policy) c code flags h.before.passes ∙ ap (first_proof vc) h.before.given
+      ∙ within MAX_WEIGHT w (told (refusal.ProofWeight (capped w))) (cond (proves proof vc) None (told refusal.NotProof)) h.weight
+
+  heavy_found : (n : ℕ) → HasProof policy bytes c code flags proof → IsPastWeight proof n →
+      first_front policy bytes (at_proof policy) ≡ Some (refusal.ProofWeight n)
+  heavy_found n h p =
+      let vc : Tree = vc_of policy code c.invs in
+      let w : ℕ = weight_of sigma1_places proof in
+      after_all policy bytes (at_proof policy) c code flags h.passes ∙ ap (first_proof vc) h.given
+      ∙ past MAX_WEIGHT w (told (refusal.ProofWeight (capped w))) (cond (proves proof vc) None (told refusal.NotProof)) p.heavy
+      ∙ ap (λ k. told (refusal.ProofWeight k)) (sym p.is)
+
+  unproved_found : HasLightProof policy bytes c code flags proof → IsNoProof policy code c.invs proof →
+      first_front policy bytes (at_proof policy) ≡ Some refusal.NotProof
+  unproved_found h p =
+      let vc : Tree = vc_of policy code c.invs in
+      light_tried h
+      ∙ cond-false (proves proof vc) None (told refusal.NotProof) (judged-false policy code c.invs proof p.vc h.before.passes.forms p.condition p.unproved)
+
+whole_finds : (policy : PolicyKind) (bytes : List ℕ) (r : Refusal) → IsFirstRefusal policy bytes r → first_front policy bytes (at_proof policy) ≡ Some r
+whole_finds policy bytes (refusal.TooLong n) h = front_finds policy bytes (at_proof policy) (refusal.TooLong n) h tt
+whole_finds policy bytes (refusal.Malformed at flaw) h = front_finds policy bytes (at_proof policy) (refusal.Malformed at flaw) h tt
+whole_finds policy bytes (refusal.OtherPolicy n) h = front_finds policy bytes (at_proof policy) (refusal.OtherPolicy n) h tt
+whole_finds policy bytes (refusal.BadCode flaw) h = front_finds policy bytes (at_proof policy) (refusal.BadCode flaw) h tt
+whole_finds policy bytes (refusal.Height x) h = front_finds policy bytes (at_proof policy) (refusal.Height x) h tt
+whole_finds policy bytes (refusal.InvNotForm k) h = front_finds policy bytes (at_proof policy) (refusal.InvNotForm k) h tt
+whole_finds policy bytes (refusal.Uncut i) h = front_finds policy bytes (at_proof policy) (refusal.Uncut i) h tt
+whole_finds policy bytes (refusal.UnfoldLimit n) h = front_finds policy bytes (at_proof policy) (refusal.UnfoldLimit n) h tt
+whole_finds policy bytes refusal.NoProof h = after_all policy bytes (at_proof policy) h.0 h.1 h.2 h.3 ∙ ap (first_proof (vc_of policy h.1 h.0.invs)) h.4
+whole_finds policy bytes (refusal.ProofWeight n) h = heavy_found policy bytes h.0 h.1 h.2 h.3 n h.4 h.5
+whole_finds policy bytes refusal.NotProof h = unproved_found policy bytes h.0 h.1 h.2 h.3 h.4 h.5
+
+-- ---- they hold, or one is the first that fails
+
+abbrev Outcome : PolicyKind → List ℕ → Type 0
+Outcome policy bytes = IsAccepted policy bytes ⊎ ((r : Refusal) × IsFirstRefusal policy bytes r)
+
+module _ (policy : PolicyKind) (bytes : List ℕ) where
+  module _ (c : Contents) (code : List Insn) (flags : List Bool) where
+    from_eleventh : (proof : Tree) → HasLightProof policy bytes c code flags proof → Outcome policy bytes
+    from_eleventh proof h =
+        let vc : Tree = vc_of policy code c.invs in
+        let given : HasProof policy bytes c code flags proof = h.before in
+        let encodes : EncodesCondition policy code c.invs vc = vc_of-encodes policy code c.invs given.passes.forms in
+        elim (cases_Bool (proves proof vc)) [
+          | inl right ↦
+              let proved : Checks declared [] proof (pf vc) = checks_follows declared proof [] (pf vc) right in
+              let accepts : Accepts policy bytes c code flags = record {
+                passes = given.passes;
+                proof = proof;
+                vc = vc;
+                given = given.given;
+                weight = h.weight;
+                condition = encodes;
+                proved = proved;
+              } in
+              inl (record { contents = c; code = code; marks = flags; accepts = accepts })
+          | inr wrong ↦
+              let unproved : Checks declared [] proof (pf vc) → ⊥ = λ k. false≢true (sym wrong ∙ proves-true proof vc k) in
+              inr (refusal.NotProof, (c, code, flags, proof, h, record { vc = vc; condition = encodes; unproved = unproved }))
+        ]
+
+    from_ninth : Passes policy bytes c code flags → (given : Option Tree) → c.proof ≡ given → Outcome policy bytes
+    from_ninth p None e = inr (refusal.NoProof, (c, code, flags, p, e))
+    from_ninth p (Some proof) e =
+        let h : HasProof policy bytes c code flags proof = record { passes = p; given = e } in
+        let w : ℕ = weight_of sigma1_places proof in
+        elim (cases_lt MAX_WEIGHT w) [
+          | inl heavy ↦ inr (refusal.ProofWeight (capped w), (c, code, flags, proof, h, record { heavy = heavy; is = refl }))
+          | inr light ↦ from_eleventh proof (record { before = h; weight = light })
+        ]
+
+  whole_decided : IsBytes bytes → Outcome policy bytes
+  whole_decided fits =
+      elim (front_decided policy bytes fits) [
+        | inl h ↦ from_ninth h.contents h.code h.marks h.passes h.contents.proof refl
+        | inr k ↦ inr (k.why, k.first)
+      ]
+
+-- ---- the eleven clauses
+
+pub accepted-none : (policy : PolicyKind) (bytes : List ℕ) → IsAccepted policy bytes → first_refusal policy bytes ≡ None
+unfolding first_refusal
+accepted-none policy bytes h =
+    let a : Accepts policy bytes h.contents h.code h.marks = h.accepts in
+    let invs : List (ℕ × Tree) = h.contents.invs in
+    let given : HasProof policy bytes h.contents h.code h.marks a.proof = record { passes = a.passes; given = a.given } in
+    let b : Bool = proves a.proof (vc_of policy h.code invs) in
+    let right : b ≡ true = judged-true policy h.code invs a.proof a.vc a.passes.forms a.condition a.proved in
+    light_tried policy bytes h.contents h.code h.marks a.proof (record { before = given; weight = a.weight }) ∙ cond-true b None (told refusal.NotProof) right
+
+refusal-some : (policy : PolicyKind) (bytes : List ℕ) (r : Refusal) → IsFirstRefusal policy bytes r → first_refusal policy bytes ≡ Some r
+unfolding first_refusal
+refusal-some policy bytes r h = whole_finds policy bytes r h
+
+pub none-accepted : (policy : PolicyKind) (bytes : List ℕ) → IsBytes bytes → first_refusal policy bytes ≡ None → IsAccepted policy bytes
+none-accepted policy bytes fits e = elim (whole_decided policy bytes fits) [
+  | inl a ↦ a
+  | inr k ↦ absurd (none-some k.0 (sym e ∙ refusal-some policy bytes k.0 k.1))
+]
+
+-- the refusal is the first by the relation
+pub refusal-is : (policy : PolicyKind) (bytes : List ℕ) (r : Refusal) → IsBytes bytes → (first_refusal policy bytes ≡ Some r) ↔ IsFirstRefusal policy bytes r
+refusal-is policy bytes r fits = (only, refusal-some policy bytes r)
+  where
+    only : first_refusal policy bytes ≡ Some r → IsFirstRefusal policy bytes r
+    only e = elim (whole_decided policy bytes fits) [
+      | inl a ↦ absurd (none-some r (sym (accepted-none policy bytes a) ∙ e))
+      | inr k ↦ subst (IsFirstRefusal policy bytes) (same_Some k.0 r (sym (refusal-some policy bytes k.0 k.1) ∙ e)) k.1
+    ]

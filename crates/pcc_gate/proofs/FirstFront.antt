@@ -1,99 +1,60 @@
--- Clauses 1 to 8 hold exactly where none of them is the first that fails.
-use Rattle.std.proofs.Common.{◌≡◌, ℕ, zero, suc, ◌+◌, ◌/◌, ◌<◌, ◌≤◌, Bool, true, false, cond, eqb, ltb, ltb-false, le-ltb, eqb-true, eq-eqb, List, [], ◌∷◌, map, length, get_or, slice_index, Option, Some, None, Result, Ok, Err, refl, sym, ◌∙◌, ap, subst, arith}
-use Rattle.std.proofs.lemmas.List.Elements.{All-nil, All-cons, All-head, All-tail}
+-- Clauses 1 to 8 hold, or the refusal by one of them is the first: the tests find which.
+use Rattle.std.proofs.Common.{◌≡◌, ℕ, zero, suc, ◌+◌, ◌/◌, ◌<◌, ◌≤◌, ◌⊎◌, inl, inr, ◌↔◌, Bool, true, eqb, eq-eqb, ne_eqb, List, [], ◌∷◌, map, length, get_or}
+use Rattle.std.proofs.Common.{slice_index, Option, Some, None, Result, Ok, Err, refl, sym, ◌∙◌, ap, subst, arith}
+use Rattle.std.proofs.lemmas.Bool.{cases_lt, cases_eq, cond-true, cond-false}
+use Rattle.std.proofs.lemmas.Option.{same_Some, none-some}
 use Rattle.alpha_words.specs.declared.insn.Insn.{Insn}
-use Rattle.alpha_cfg.specs.declared.fault.CodeFlaw.{CodeFlaw}
+use Rattle.alpha_cfg.specs.declared.fault.CodeFault.TheVariants as fault
 use Rattle.alpha_cfg.specs.CodeBytes.{EncodesCode}
-use Rattle.alpha_cfg.specs.CodeDecoding.{decoded_code, IsReadCode}
-use Rattle.alpha_cfg.specs.Flow.{IsCode}
-use Rattle.alpha_cfg.specs.Cuts.{AreFlags, IsCut, unfolded_of}
+use Rattle.alpha_cfg.specs.CodeDecoding.{decoded_code}
+use Rattle.alpha_cfg.specs.Cuts.{AreFlags, unfolded_of}
 use Rattle.alpha_cfg.specs.Deciding.{flags_of, uncut_of}
-use Rattle.alpha_cfg.proofs.Readings.{decoded_code-ok}
-use Rattle.alpha_cfg.proofs.CodeRead.{decoded_code-code}
-use Rattle.alpha_cfg.proofs.Deciding.{flags_are, flags_only, uncut_none, cut_none}
+use Rattle.alpha_cfg.proofs.Readings.{decoded_code-ok, IsDecoded-IsCodeAnswer}
+use Rattle.alpha_cfg.proofs.Deciding.{flags_are, flags_only, uncut_some, uncut_none, cut_none, uncut_is}
 use Rattle.policy_set.specs.declared.kind.PolicyKind.{PolicyKind}
 use Rattle.policy_set.specs.Names.{policy_number}
 use Rattle.term_table.specs.Tree.{Tree}
-use Rattle.term_table.specs.Measures.{height_of, capped}
-use Rattle.lf_signature.specs.Sigma1.{declared}
-use Rattle.lf_signature.specs.Terms.{form}
-use Rattle.lf_signature.specs.Laws.Decided.{checks_is, checks_follows}
-use Rattle.lf_encode.specs.Contexts.{machine_context, sort_types}
+use Rattle.term_table.specs.Measures.{capped}
 use Rattle.proof_container.specs.Contents.{Contents, roots}
 use Rattle.proof_container.specs.Decoding.{Fault, decoded_container}
-use Rattle.proof_container.specs.Encoding.{IsBytes, IsContents, AreRising, EncodesContents}
+use Rattle.proof_container.specs.Encoding.{IsBytes, IsContents, AreRising}
 use Rattle.proof_container.specs.declared.limits.TheConstants.{MAX_BYTES}
-use Rattle.proof_container.proofs.Whole.{container_takes, container_again, one_content}
-use Rattle.vcgen.specs.declared.condition.TheConstants.{MAX_HEIGHT, MAX_UNFOLDED}
-use Rattle.vcgen.specs.Encoded.{AreForms}
+use Rattle.proof_container.proofs.Whole.{container_takes, container_again, none_spelled, one_content}
+use Rattle.vcgen.specs.declared.condition.TheConstants.{MAX_UNFOLDED}
 use Rattle.pcc_gate.specs.declared.refusal.Refusal.{Refusal}
 use Rattle.pcc_gate.specs.declared.refusal.Refusal.TheVariants as refusal
-use Rattle.pcc_gate.specs.Passing.{AreLow, Passes}
-use Rattle.pcc_gate.specs.First.{has_form, marks_of, too_high, formless, refused_by, first_long, first_shape, first_code, first_read, first_front, front_refusal}
+use Rattle.pcc_gate.specs.Passing.{Passes}
+use Rattle.pcc_gate.specs.First.{marks_of, formless, refused_by, first_long, first_shape, first_code, first_read, first_front, front_refusal}
+use Rattle.pcc_gate.specs.Refusals.{HasContents, IsForPolicy, HasCode, HasLowRoots, HasForms, HasFlags, HasCut, IsFirstRefusal, IsBeforeProof}
 use Rattle.pcc_gate.specs.Laws.{HasPassed}
-use Rattle.pcc_gate.proofs.CodeBytes.{code-encoded, code-one}
+use Rattle.pcc_gate.proofs.CodeBytes.{code_decided, code-one}
+use Rattle.pcc_gate.proofs.Searches.{past, within, low_none, first_high, low_decided, forms_none, first_no_form, forms_decided}
 
--- ---- tests that pass
+-- ---- clauses 1 to 8 by the clauses up to each
 
--- a test that refuses where it is true
-pub passes : (b : Bool) (r : Refusal) (next : Option Refusal) → cond b (Some r) next ≡ None → (b ≡ false) × (next ≡ None)
-passes true r next e = absurd (cc)
-passes false r next e = (refl, e)
+module _ (policy : PolicyKind) (bytes : List ℕ) (c : Contents) (code : List Insn) (flags : List Bool) where
+  pub passes-cut : Passes policy bytes c code flags → HasCut policy bytes c code flags
+  passes-cut p =
+      let third : IsForPolicy policy bytes c = record { held = record { size = p.size; container = p.container }; number = p.number } in
+      let fourth : HasCode policy bytes c code = record { before = third; encoded = p.encoded; code = p.code } in
+      let sixth : HasForms policy bytes c code = record { before = record { before = fourth; heights = p.heights }; forms = p.forms } in
+      record { before = record { before = sixth; annotated = p.annotated }; cut = p.cut }
 
-pub passing : (b : Bool) (r : Refusal) (next : Option Refusal) → b ≡ false → next ≡ None → cond b (Some r) next ≡ None
-passing true r next p e = absurd (cc)
-passing false r next p e = e
-
--- a test that refuses where it is false
-pub holds : (b : Bool) (r : Refusal) (next : Option Refusal) → cond b next (Some r) ≡ None → (b ≡ true) × (next ≡ None)
-holds true r next e = (refl, e)
-holds false r next e = absurd (cc)
-
-pub holding : (b : Bool) (r : Refusal) (next : Option Refusal) → b ≡ true → next ≡ None → cond b next (Some r) ≡ None
-holding true r next p e = e
-holding false r next p e = absurd (cc)
-
-none_by : {A : Type 0} (r : A → Refusal) (o : Option A) (next : Option Refusal) → refused_by r o next ≡ None → (o ≡ None) × (next ≡ None)
-none_by r None next e = (refl, e)
-none_by r (Some x) next e = absurd (cc)
-
-by_none : {A : Type 0} (r : A → Refusal) (o : Option A) (next : Option Refusal) → o ≡ None → next ≡ None → refused_by r o next ≡ None
-by_none r None next p e = e
-by_none r (Some x) next p e = absurd (cc)
-
--- a search that ends where the test is true, or where it is false
-found_none : (b : Bool) (n : ℕ) (next : Option ℕ) → cond b (Some n) next ≡ None → (b ≡ false) × (next ≡ None)
-found_none true n next e = absurd (cc)
-found_none false n next e = (refl, e)
-
-missed_none : (b : Bool) (n : ℕ) (next : Option ℕ) → cond b next (Some n) ≡ None → (b ≡ true) × (next ≡ None)
-missed_none true n next e = (refl, e)
-missed_none false n next e = absurd (cc)
-
--- ---- heights and forms
-
-abbrev IsLow : Tree → Type 0
-IsLow t = height_of t ≤ MAX_HEIGHT
-
-pub low_none : (ts : List Tree) → AreLow ts → too_high ts ≡ None
-low_none [] h = refl
-low_none (t ∷ ts) h = ap (λ b. cond b (Some (height_of t)) (too_high ts)) (le-ltb MAX_HEIGHT (height_of t) (All-head IsLow t ts h)) ∙ low_none ts (All-tail IsLow t ts h)
-
-pub none_low : (ts : List Tree) → too_high ts ≡ None → AreLow ts
-none_low [] e = All-nil IsLow
-none_low (t ∷ ts) e =
-    let a = found_none (ltb MAX_HEIGHT (height_of t)) (height_of t) (too_high ts) e in
-    All-cons IsLow t ts (ltb-false MAX_HEIGHT (height_of t) a.0) (none_low ts a.1)
-
-pub forms_none : (ps : List (ℕ × Tree)) (k : ℕ) → AreForms ps → formless k ps ≡ None
-forms_none [] k h = refl
-forms_none (p ∷ ps) k h = ap (λ b. cond b (formless (suc k) ps) (Some k)) (checks_is declared h.0) ∙ forms_none ps (suc k) h.1
-
-pub none_forms : (ps : List (ℕ × Tree)) (k : ℕ) → formless k ps ≡ None → AreForms ps
-none_forms [] k e = tt
-none_forms (p ∷ ps) k e =
-    let a = missed_none (has_form p.1) k (formless (suc k) ps) e in
-    (checks_follows declared p.1 (sort_types machine_context) form a.0, none_forms ps (suc k) a.1)
+  pub cut-passes : HasCut policy bytes c code flags → unfolded_of code flags ≤ MAX_UNFOLDED → Passes policy bytes c code flags
+  cut-passes h short =
+      let fourth : HasCode policy bytes c code = h.before.before.before.before in
+      record {
+        size = fourth.before.held.size;
+        container = fourth.before.held.container;
+        number = fourth.before.number;
+        encoded = fourth.encoded;
+        code = fourth.code;
+        heights = h.before.before.before.heights;
+        forms = h.before.before.forms;
+        annotated = h.before.annotated;
+        cut = h.cut;
+        unfolded = short;
+      }
 
 -- ---- flags
 
@@ -111,98 +72,206 @@ key_rises (p ∷ q ∷ ps) low words (suc k) r h =
     let keys : List ℕ = map (λ (z : ℕ × Tree). z.0) (p ∷ q ∷ ps) in
     subst (λ j. slice_index keys (suc k) < slice_index keys j) (sym one) (key_rises (q ∷ ps) (suc p.0) words k r.2 (omega (arith, h)))
 
--- what holds of contents whose code bytes read as code
-record IsHeld (c : Contents) (code : List Insn) : Type 0 where
-  encoded : EncodesCode c.code code
-  is : IsCode code
-  flags : AreFlags (map (λ p. p.0) c.invs) (length code) (marks_of c code)
+-- the annotated indices lie in the code
+annotated_flags : (c : Contents) (code : List Insn) → IsContents c → EncodesCode c.code code → AreFlags (map (λ p. p.0) c.invs) (length code) (marks_of c code)
+annotated_flags c code s encoded =
+    let words : ℕ = length c.code / 4 in
+    let count : words ≡ length code = omega (arith, encoded.whole) in
+    flags_are (map (λ p. p.0) c.invs) (length code)
+    (λ j has. subst (λ k. j < k) count (subst (λ k. k < words) has.2 (key_below c.invs 0 words has.0 j s.rising has.1)))
 
-held : (c : Contents) (code : List Insn) → IsContents c → decoded_code c.code ≡ Ok code → IsHeld c code
-held c code s read =
-    let r : IsReadCode c.code code = decoded_code-code c.code code (omega (arith, s.whole, s.some)) s.short read in
-    record {
-      encoded = code-encoded c.code code s.whole read;
-      is = r.code;
-      flags = flags_are (map (λ p. p.0) c.invs) (length code) (λ j has. subst (λ k. j < k) (sym r.count) (subst (λ k. k < length c.code / 4) has.2 (key_below c.invs 0 (length c.code / 4) has.0 j s.rising has.1)));
-    }
+-- ---- where clauses hold, the next one is tried
 
--- ---- the clauses, and what comes after
+abbrev pub told : Refusal → Option Refusal
+told r = Some r
 
--- clauses 1 to 8 hold, and nothing refuses after them
-pub record IsFront (policy : PolicyKind) (bytes : List ℕ) (next : Contents → List Insn → Option Refusal) : Type 0 where
-  pub contents : Contents
-  pub code : List Insn
-  pub passes : Passes policy bytes contents code (marks_of contents code)
-  pub rest : next contents code ≡ None
+-- what comes after clause 6, and after clause 5
+abbrev from_cut : List Insn → List Bool → Option Refusal → Option Refusal
+from_cut code flags next = refused_by refusal.Uncut (uncut_of code flags) (first_long code flags next)
+
+abbrev from_forms : Contents → List Insn → Option Refusal → Option Refusal
+from_forms c code next = refused_by refusal.InvNotForm (formless 0 c.invs) (from_cut code (marks_of c code) next)
 
 module _ (policy : PolicyKind) (bytes : List ℕ) (next : Contents → List Insn → Option Refusal) where
-  pub front-none : (c : Contents) (code : List Insn) (marks : List Bool) → Passes policy bytes c code marks → next c code ≡ None → first_front policy bytes next ≡ None
-  front-none c code marks p rest =
-      let same : marks ≡ marks_of c code = flags_only (map (λ p. p.0) c.invs) (length code) marks p.annotated in
-      let cut : uncut_of code (marks_of c code) ≡ None = cut_none code (marks_of c code) p.code (subst (IsCut code) same p.cut) in
-      let long : unfolded_of code (marks_of c code) ≤ MAX_UNFOLDED = subst (λ m. unfolded_of code m ≤ MAX_UNFOLDED) same p.unfolded in
-      let u : ℕ = unfolded_of code (marks_of c code) in
-      let eighth : first_long code (marks_of c code) (next c code) ≡ None = passing (ltb MAX_UNFOLDED u) (refusal.UnfoldLimit (capped u)) (next c code) (le-ltb MAX_UNFOLDED u long) rest in
-      let fifth : first_shape c code (next c code) ≡ None =
-      by_none (λ h. refusal.Height (capped h)) (too_high (roots c)) _ (low_none (roots c) p.heights)
-      (by_none refusal.InvNotForm (formless 0 c.invs) _ (forms_none c.invs 0 p.forms)
-      (by_none refusal.Uncut (uncut_of code (marks_of c code)) _ cut eighth)) in
-      let fourth : first_code c (decoded_code c.code) (next c) ≡ None = ap (λ r. first_code c r (next c)) (sym (decoded_code-ok c.code code p.encoded p.code)) ∙ fifth in
-      let third : first_read policy (Ok c) next ≡ None = holding (eqb c.policy (policy_number policy)) (refusal.OtherPolicy c.policy) (first_code c (decoded_code c.code) (next c)) (eq-eqb c.policy (policy_number policy) p.number) fourth in
-      passing (ltb MAX_BYTES (length bytes)) (refusal.TooLong (length bytes)) (first_read policy (decoded_container bytes) next) (le-ltb MAX_BYTES (length bytes) p.size)
-      (ap (λ r. first_read policy r next) (container_again bytes c p.container) ∙ third)
+  after_size : length bytes ≤ MAX_BYTES → first_front policy bytes next ≡ first_read policy (decoded_container bytes) next
+  after_size h = within MAX_BYTES (length bytes) (told (refusal.TooLong (length bytes))) (first_read policy (decoded_container bytes) next) h
 
-  from_code : (c : Contents) → length bytes ≤ MAX_BYTES → EncodesContents bytes c → c.policy ≡ policy_number policy → (r : Result (List Insn) CodeFlaw) → decoded_code c.code ≡ r → first_code c r (next c) ≡ None → IsFront policy bytes next
-  from_code c size encoded number (Err fault) read e = absurd (cc)
-  from_code c size encoded number (Ok code) read e =
-      let h : IsHeld c code = held c code encoded.contents read in
-      let u : ℕ = unfolded_of code (marks_of c code) in
-      let long : Option Refusal = first_long code (marks_of c code) (next c code) in
-      let uncut : Option Refusal = refused_by refusal.Uncut (uncut_of code (marks_of c code)) long in
-      let a = none_by (λ h. refusal.Height (capped h)) (too_high (roots c)) (refused_by refusal.InvNotForm (formless 0 c.invs) uncut) e in
-      let b = none_by refusal.InvNotForm (formless 0 c.invs) uncut a.1 in
-      let d = none_by refusal.Uncut (uncut_of code (marks_of c code)) long b.1 in
-      let l = passes (ltb MAX_UNFOLDED u) (refusal.UnfoldLimit (capped u)) (next c code) d.1 in
-      record {
-        contents = c;
-        code = code;
-        passes = record {
-          size = size;
-          container = encoded;
-          number = number;
-          encoded = h.encoded;
-          code = h.is;
-          heights = none_low (roots c) a.0;
-          forms = none_forms c.invs 0 b.0;
-          annotated = h.flags;
-          cut = uncut_none code (marks_of c code) h.is d.0;
-          unfolded = ltb-false MAX_UNFOLDED u l.0;
-        };
-        rest = l.1;
-      }
+  after_contents : (c : Contents) → HasContents bytes c → first_front policy bytes next ≡ first_read policy (Ok c) next
+  after_contents c h = after_size h.size ∙ ap (λ r. first_read policy r next) (container_again bytes c h.container)
 
-  from_read : IsBytes bytes → length bytes ≤ MAX_BYTES → (r : Result Contents Fault) → decoded_container bytes ≡ r → first_read policy r next ≡ None → IsFront policy bytes next
-  from_read fits size (Err fault) read e = absurd (cc)
-  from_read fits size (Ok c) read e =
-      let n = holds (eqb c.policy (policy_number policy)) (refusal.OtherPolicy c.policy) (first_code c (decoded_code c.code) (next c)) e in
-      from_code c size (container_takes bytes c fits read) (eqb-true c.policy (policy_number policy) n.0) (decoded_code c.code) refl n.1
+  pub after_policy : (c : Contents) → IsForPolicy policy bytes c → first_front policy bytes next ≡ first_code c (decoded_code c.code) (next c)
+  after_policy c h =
+      let number : ℕ = policy_number policy in
+      let same : eqb c.policy number ≡ true = eq-eqb c.policy number h.number in
+      after_contents c h.held ∙ cond-true (eqb c.policy number) (first_code c (decoded_code c.code) (next c)) (told (refusal.OtherPolicy c.policy)) same
 
-  pub none-front : IsBytes bytes → first_front policy bytes next ≡ None → IsFront policy bytes next
-  none-front fits e =
-      let s = passes (ltb MAX_BYTES (length bytes)) (refusal.TooLong (length bytes)) (first_read policy (decoded_container bytes) next) e in
-      from_read fits (ltb-false MAX_BYTES (length bytes) s.0) (decoded_container bytes) refl s.1
+  module _ (c : Contents) (code : List Insn) where
+    after_code : HasCode policy bytes c code → first_front policy bytes next ≡ first_shape c code (next c code)
+    after_code h = after_policy c h.before ∙ ap (λ r. first_code c r (next c)) (sym (decoded_code-ok c.code code h.encoded h.code))
+
+    after_roots : HasLowRoots policy bytes c code → first_front policy bytes next ≡ from_forms c code (next c code)
+    after_roots h =
+        let rest : Option Refusal = from_forms c code (next c code) in
+        after_code h.before ∙ ap (λ o. refused_by (λ n. refusal.Height (capped n)) o rest) (low_none (roots c) h.heights)
+
+    after_forms : HasForms policy bytes c code → first_front policy bytes next ≡ from_cut code (marks_of c code) (next c code)
+    after_forms h =
+        let rest : Option Refusal = from_cut code (marks_of c code) (next c code) in
+        after_roots h.before ∙ ap (λ o. refused_by refusal.InvNotForm o rest) (forms_none c.invs 0 h.forms)
+
+    after_flags : (flags : List Bool) → HasFlags policy bytes c code flags → first_front policy bytes next ≡ from_cut code flags (next c code)
+    after_flags flags h =
+        let same : flags ≡ marks_of c code = flags_only (map (λ p. p.0) c.invs) (length code) flags h.annotated in
+        after_forms h.before ∙ ap (λ m. from_cut code m (next c code)) (sym same)
+
+    after_cut : (flags : List Bool) → HasCut policy bytes c code flags → first_front policy bytes next ≡ first_long code flags (next c code)
+    after_cut flags h =
+        let cut : uncut_of code flags ≡ None = cut_none code flags h.before.before.before.before.code h.cut in
+        after_flags flags h.before ∙ ap (λ o. refused_by refusal.Uncut o (first_long code flags (next c code))) cut
+
+    pub after_all : (flags : List Bool) → Passes policy bytes c code flags → first_front policy bytes next ≡ next c code
+    after_all flags p =
+        let u : ℕ = unfolded_of code flags in
+        after_cut flags (passes-cut policy bytes c code flags p) ∙ within MAX_UNFOLDED u (told (refusal.UnfoldLimit (capped u))) (next c code) p.unfolded
+
+  pub front-none : (c : Contents) (code : List Insn) (flags : List Bool) → Passes policy bytes c code flags → next c code ≡ None →
+      first_front policy bytes next ≡ None
+  front-none c code flags p rest = after_all c code flags p ∙ rest
+
+  pub front_finds : (r : Refusal) → IsFirstRefusal policy bytes r → IsBeforeProof r → first_front policy bytes next ≡ Some r
+  front_finds (refusal.TooLong n) h b =
+      let size : ℕ = length bytes in
+      past MAX_BYTES size (told (refusal.TooLong size)) (first_read policy (decoded_container bytes) next) h.0 ∙ ap (λ k. told (refusal.TooLong k)) (sym h.1)
+  front_finds (refusal.Malformed at flaw) h b = after_size h.size ∙ ap (λ r. first_read policy r next) h.fault
+  front_finds (refusal.OtherPolicy n) h b =
+      let c : Contents = h.0 in
+      let number : ℕ = policy_number policy in
+      after_contents c h.1
+      ∙ cond-false (eqb c.policy number) (first_code c (decoded_code c.code) (next c)) (told (refusal.OtherPolicy c.policy)) (ne_eqb c.policy number h.2)
+      ∙ ap (λ k. told (refusal.OtherPolicy k)) (sym h.3)
+  front_finds (refusal.BadCode flaw) h b =
+      let c : Contents = h.0 in
+      after_policy c h.1 ∙ ap (λ r. first_code c r (next c)) (sym (IsDecoded-IsCodeAnswer c.code (Err (fault.At flaw)) h.2))
+  front_finds (refusal.Height x) h b =
+      let c : Contents = h.0 in
+      let rest : Option Refusal = from_forms c h.1 (next c h.1) in
+      after_code c h.1 h.2 ∙ ap (λ o. refused_by (λ n. refusal.Height (capped n)) o rest) (first_high (roots c) x h.3)
+      ∙ ap (λ k. told (refusal.Height k)) (sym h.3.is)
+  front_finds (refusal.InvNotForm k) h b =
+      let c : Contents = h.0 in
+      let rest : Option Refusal = from_cut h.1 (marks_of c h.1) (next c h.1) in
+      after_roots c h.1 h.2 ∙ ap (λ o. refused_by refusal.InvNotForm o rest) (first_no_form c.invs k h.3)
+  front_finds (refusal.Uncut i) h b =
+      let found : uncut_of h.1 h.2 ≡ Some i = uncut_is h.1 h.2 i h.3.before.before.before.code h.4 in
+      after_flags h.0 h.1 h.2 h.3 ∙ ap (λ o. refused_by refusal.Uncut o (first_long h.1 h.2 (next h.0 h.1))) found
+  front_finds (refusal.UnfoldLimit n) h b =
+      let u : ℕ = unfolded_of h.1 h.2 in
+      after_cut h.0 h.1 h.2 h.3 ∙ past MAX_UNFOLDED u (told (refusal.UnfoldLimit (capped u))) (next h.0 h.1) h.4.long
+      ∙ ap (λ k. told (refusal.UnfoldLimit k)) (sym h.4.is)
+  front_finds refusal.NoProof h b = absurd b
+  front_finds (refusal.ProofWeight n) h b = absurd b
+  front_finds refusal.NotProof h b = absurd b
+
+-- ---- they hold, or one is the first that fails
+
+-- the first clause that fails is one of 1 to 8
+pub record IsRefusedBefore (policy : PolicyKind) (bytes : List ℕ) : Type 0 where
+  pub why : Refusal
+  pub first : IsFirstRefusal policy bytes why
+  pub before : IsBeforeProof why
+
+abbrev Outcome : PolicyKind → List ℕ → Type 0
+Outcome policy bytes = HasPassed policy bytes ⊎ IsRefusedBefore policy bytes
+
+module _ (policy : PolicyKind) (bytes : List ℕ) where
+  module _ (c : Contents) (code : List Insn) where
+    from_eighth : (flags : List Bool) → HasCut policy bytes c code flags → Outcome policy bytes
+    from_eighth flags h =
+        let u : ℕ = unfolded_of code flags in
+        elim (cases_lt MAX_UNFOLDED u) [
+          | inl long ↦ inr (record { why = refusal.UnfoldLimit (capped u); first = (c, code, flags, h, record { long = long; is = refl }); before = tt })
+          | inr short ↦ inl (record { contents = c; code = code; marks = flags; passes = cut-passes policy bytes c code flags h short })
+        ]
+
+    from_seventh : (flags : List Bool) → HasFlags policy bytes c code flags → (o : Option ℕ) → uncut_of code flags ≡ o → Outcome policy bytes
+    from_seventh flags h None e = from_eighth flags (record { before = h; cut = uncut_none code flags h.before.before.before.code e })
+    from_seventh flags h (Some i) e =
+        inr (record { why = refusal.Uncut i; first = (c, code, flags, h, uncut_some code flags i h.before.before.before.code e); before = tt })
+
+    flagged : HasForms policy bytes c code → HasFlags policy bytes c code (marks_of c code)
+    flagged h =
+        let fourth : HasCode policy bytes c code = h.before.before in
+        record { before = h; annotated = annotated_flags c code fourth.before.held.container.contents fourth.encoded }
+
+    from_sixth : HasLowRoots policy bytes c code → Outcome policy bytes
+    from_sixth h =
+        elim (forms_decided c.invs) [
+          | inl forms ↦ from_seventh (marks_of c code) (flagged (record { before = h; forms = forms })) (uncut_of code (marks_of c code)) refl
+          | inr f ↦ inr (record { why = refusal.InvNotForm f.0; first = (c, code, h, f.1); before = tt })
+        ]
+
+    from_fifth : HasCode policy bytes c code → Outcome policy bytes
+    from_fifth h =
+        elim (low_decided (roots c)) [
+          | inl low ↦ from_sixth (record { before = h; heights = low })
+          | inr f ↦ inr (record { why = refusal.Height f.0; first = (c, code, h, f.1); before = tt })
+        ]
+
+  from_fourth : (c : Contents) → IsForPolicy policy bytes c → Outcome policy bytes
+  from_fourth c h =
+      let s : IsContents c = h.held.container.contents in
+      elim (code_decided c.code s.whole s.some s.short) [
+        | inl k ↦ from_fifth c k.insns (record { before = h; encoded = k.encoded; code = k.code })
+        | inr f ↦ inr (record { why = refusal.BadCode f.which; first = (c, h, f.is); before = tt })
+      ]
+
+  from_third : (c : Contents) → HasContents bytes c → Outcome policy bytes
+  from_third c h =
+      elim (cases_eq c.policy (policy_number policy)) [
+        | inl same ↦ from_fourth c (record { held = h; number = same })
+        | inr other ↦ inr (record { why = refusal.OtherPolicy c.policy; first = (c, h, other, refl); before = tt })
+      ]
+
+  from_second : IsBytes bytes → length bytes ≤ MAX_BYTES → (r : Result Contents Fault) → decoded_container bytes ≡ r → Outcome policy bytes
+  from_second fits size (Ok c) e = from_third c (record { size = size; container = container_takes bytes c fits e })
+  from_second fits size (Err f) e =
+      inr (record { why = refusal.Malformed f.0 f.1; first = record { size = size; nothing = none_spelled bytes f e; fault = e }; before = tt })
+
+  pub front_decided : IsBytes bytes → Outcome policy bytes
+  front_decided fits =
+      elim (cases_lt MAX_BYTES (length bytes)) [
+        | inl long ↦ inr (record { why = refusal.TooLong (length bytes); first = (long, refl); before = tt })
+        | inr size ↦ from_second fits size (decoded_container bytes) refl
+      ]
 
 -- ---- clauses 1 to 8
 
 pub passed-none : (policy : PolicyKind) (bytes : List ℕ) → HasPassed policy bytes → front_refusal policy bytes ≡ None
 unfolding front_refusal
-passed-none policy bytes h = front-none policy bytes (λ c code. None) h.contents h.code h.marks h.passes refl
+passed-none policy bytes h = after_all policy bytes (λ c code. None) h.contents h.code h.marks h.passes
+
+before-some : (policy : PolicyKind) (bytes : List ℕ) (r : Refusal) → IsFirstRefusal policy bytes r → IsBeforeProof r → front_refusal policy bytes ≡ Some r
+unfolding front_refusal
+before-some policy bytes r h b = front_finds policy bytes (λ c code. None) r h b
 
 pub none-passed : (policy : PolicyKind) (bytes : List ℕ) → IsBytes bytes → front_refusal policy bytes ≡ None → HasPassed policy bytes
-unfolding front_refusal
-none-passed policy bytes fits e =
-    let f : IsFront policy bytes (λ c code. None) = none-front policy bytes (λ c code. None) fits e in
-    record { contents = f.contents; code = f.code; marks = marks_of f.contents f.code; passes = f.passes }
+none-passed policy bytes fits e = elim (front_decided policy bytes fits) [
+  | inl h ↦ h
+  | inr k ↦ absurd (none-some k.why (sym e ∙ before-some policy bytes k.why k.first k.before))
+]
+
+-- the refusal by one of them is the first by the relation
+pub before-is : (policy : PolicyKind) (bytes : List ℕ) (r : Refusal) → IsBytes bytes →
+    (front_refusal policy bytes ≡ Some r) ↔ (IsFirstRefusal policy bytes r × IsBeforeProof r)
+before-is policy bytes r fits = (only, λ h. before-some policy bytes r h.0 h.1)
+  where
+    only : front_refusal policy bytes ≡ Some r → IsFirstRefusal policy bytes r × IsBeforeProof r
+    only e = elim (front_decided policy bytes fits) [
+      | inl h ↦ absurd (none-some r (sym (passed-none policy bytes h) ∙ e))
+      | inr k ↦
+          let same : k.why ≡ r = same_Some k.why r (sym (before-some policy bytes k.why k.first k.before) ∙ e) in
+          subst (λ x. IsFirstRefusal policy bytes x × IsBeforeProof x) same (k.first, k.before)
+    ]
 
 -- what bytes hold is one
 pub passed-one : (policy : PolicyKind) (bytes : List ℕ) (c d : Contents) (code other : List Insn) (marks flags : List Bool) → Passes policy bytes c code marks → Passes policy bytes d other flags → (c ≡ d) × (code ≡ other) × (marks ≡ flags)

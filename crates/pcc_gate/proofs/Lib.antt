@@ -1,5 +1,6 @@
 pub mod Safe
 pub mod CodeBytes
+pub mod Searches
 pub mod FirstFront
 pub mod First
 pub mod Kept

@@ -1,10 +1,8 @@
 -- What passes the stages passes the clauses.
-use Rattle.std.proofs.Common.{◌≡◌, ◌≤◌, ℕ, ◌++◌, ◌∷◌, Bool, true, false, List, [], map, length, cond, eqb, ltb, le-ltb, eq-eqb, Option, Some, None, Result, Ok, Err, IfOk, refl, sym, ◌∙◌, ap, subst}
+use Rattle.std.proofs.Common.{◌≡◌, ◌≤◌, ℕ, ◌++◌, ◌∷◌, Bool, true, List, [], map, length, cond, Option, Some, None, Result, Ok, Err, IfOk, refl, sym, ◌∙◌, ap, subst}
 use Rattle.alpha_words.specs.declared.insn.Insn.{Insn}
 use Rattle.alpha_cfg.specs.CodeDecoding.{decoded_code}
-use Rattle.alpha_cfg.specs.Cuts.{CutView, AreFlags, IsCut, unfolded_of}
-use Rattle.alpha_cfg.proofs.Readings.{decoded_code-ok}
-use Rattle.alpha_cfg.proofs.Deciding.{flags_only, cut_none}
+use Rattle.alpha_cfg.specs.Cuts.{CutView, AreFlags}
 use Rattle.std.proofs.lemmas.List.Elements.{All-head, All-tail}
 use Rattle.std.specs.List.{AllByRecursion}
 use Rattle.term_table.specs.Table.{TableView, IsKnown, Extends, tree_at}
@@ -18,43 +16,32 @@ use Rattle.term_table.specs.Measures.{height_of, weight_of, sigma1_places, cappe
 use Rattle.lf_signature.specs.Sigma1.{declared}
 use Rattle.lf_signature.specs.Terms.{pf}
 use Rattle.lf_signature.specs.Laws.Decided.{checks_follows}
-use Rattle.vcgen.specs.declared.condition.TheConstants.{MAX_HEIGHT, MAX_UNFOLDED}
+use Rattle.vcgen.specs.declared.condition.TheConstants.{MAX_HEIGHT}
 use Rattle.pcc_gate.specs.declared.limits.TheConstants.{MAX_WEIGHT}
 use Rattle.pcc_gate.specs.Accepted.{Accepts}
 use Rattle.pcc_gate.specs.Inside.Acceptance.{IsProofAnswer, IsProved}
 use Rattle.pcc_gate.proofs.First.{vc_of-encodes}
 use Rattle.policy_set.specs.declared.kind.PolicyKind.{PolicyKind}
-use Rattle.policy_set.specs.Names.{policy_number}
 use Rattle.proof_container.specs.Contents.{Contents, roots}
-use Rattle.proof_container.specs.Decoding.{decoded_container}
 use Rattle.proof_container.specs.Views.{contents_of, inv_trees}
-use Rattle.proof_container.specs.declared.limits.TheConstants.{MAX_BYTES}
-use Rattle.proof_container.proofs.Whole.{container_again}
 use Rattle.pcc_gate.specs.declared.fault.GateFault.{GateFault}
 use Rattle.pcc_gate.specs.declared.passing.Passed.{Passed}
 use Rattle.pcc_gate.specs.declared.refusal.Refusal.{Refusal}
 use Rattle.pcc_gate.specs.declared.refusal.Refusal.TheVariants as refusal
-use Rattle.pcc_gate.specs.First.{marks_of, vc_of, proves, first_proof, first_code, first_shape, first_read, first_front, front_refusal, first_refusal}
+use Rattle.pcc_gate.specs.First.{vc_of, proves, first_proof, first_code, first_shape, first_front, front_refusal, first_refusal}
 use Rattle.pcc_gate.specs.declared.fault.GateFault.TheVariants as fault
 use Rattle.pcc_gate.specs.Answers.{IsHeld, IsFrontAnswer, IsGateAnswer}
 use Rattle.pcc_gate.specs.Passing.{AreLow, Passes}
-use Rattle.pcc_gate.specs.Inside.Stages.{Refuses, IsRead}
+use Rattle.pcc_gate.specs.Inside.Stages.{Refuses, RefusesBytes, IsRead}
 use Rattle.pcc_gate.specs.Inside.Passed.{IsRest, IsRestAnswer, IsPassedAnswer}
-use Rattle.pcc_gate.proofs.FirstFront.{low_none, none_low, forms_none, none_forms, front-none}
-use Rattle.pcc_gate.proofs.Refusing.{refuses-into, shape-long}
-
-past : (b : Bool) (r : Refusal) (next : Option Refusal) → b ≡ false → cond b (Some r) next ≡ next
-past b r next e = ap (λ x. cond x (Some r) next) e
-
-onto : (b : Bool) (r : Refusal) (next : Option Refusal) → b ≡ true → cond b next (Some r) ≡ next
-onto b r next e = ap (λ x. cond x next (Some r)) e
+use Rattle.pcc_gate.proofs.Searches.{within, none_low, none_forms}
+use Rattle.pcc_gate.proofs.FirstFront.{front-none, after_policy, after_all}
+use Rattle.pcc_gate.proofs.Refusing.{refuses-into}
 
 module _ (policy : PolicyKind) (bytes : List ℕ) where
-  read-first : (c : Contents) → IsRead policy bytes c → (next : Contents → List Insn → Option Refusal) → first_front policy bytes next ≡ first_code c (decoded_code c.code) (next c)
-  read-first c r next =
-      past (ltb MAX_BYTES (length bytes)) (refusal.TooLong (length bytes)) (first_read policy (decoded_container bytes) next) (le-ltb MAX_BYTES (length bytes) r.size)
-      ∙ ap (λ k. first_read policy k next) (container_again bytes c r.encoded)
-      ∙ onto (eqb c.policy (policy_number policy)) (refusal.OtherPolicy c.policy) (first_code c (decoded_code c.code) (next c)) (eq-eqb c.policy (policy_number policy) r.number)
+  read-first : (c : Contents) → IsRead policy bytes c → (next : Contents → List Insn → Option Refusal) →
+      first_front policy bytes next ≡ first_code c (decoded_code c.code) (next c)
+  read-first c r next = after_policy policy bytes next c (record { held = record { size = r.size; container = r.encoded }; number = r.number })
 
   rest-passes : (c : Contents) → IsRead policy bytes c → (p : Passed) → IsRest c p → Passes policy bytes c p.cut.code p.cut.marks
   rest-passes c r p k = record {
@@ -72,7 +59,9 @@ module _ (policy : PolicyKind) (bytes : List ℕ) where
 
   pub rest-passed : (c : Contents) → IsRead policy bytes c → (a : Result Passed GateFault) → IsRestAnswer c a → IsPassedAnswer policy bytes a
   rest-passed c r (Ok p) k = (subst (λ x. Passes policy bytes x p.cut.code p.cut.marks) (sym k.contents) (rest-passes c r p k), k.held)
-  rest-passed c r (Err e) k = refuses-into (first_front policy bytes) (first_code c (decoded_code c.code)) (λ next. next c) (read-first c r) e k
+  rest-passed c r (Err (fault.Refused x)) k = λ next. read-first c r next ∙ k (next c)
+  rest-passed c r (Err fault.Memory) k = r.size
+  rest-passed c r (Err fault.Results) k = r.size
 
 -- clause 4 passes
 pub code-refuses : (c : Contents) (code : List Insn) → decoded_code c.code ≡ Ok code → (e : GateFault) → Refuses (first_shape c code) e → Refuses (first_code c (decoded_code c.code)) e
@@ -88,38 +77,33 @@ pub front-answer : (policy : PolicyKind) (bytes : List ℕ) (a : Result Passed G
 unfolding front_refusal
 front-answer policy bytes (Ok p) k = (k.0, front-none policy bytes (λ c code. None) (contents_of p.container) p.cut.code p.cut.marks k.0 refl)
 front-answer policy bytes (Err (fault.Refused r)) k = k (λ c code. None)
-front-answer policy bytes (Err fault.Memory) k = tt
+front-answer policy bytes (Err fault.Memory) k = k
+front-answer policy bytes (Err fault.Results) k = k
 
 module _ (policy : PolicyKind) (bytes : List ℕ) (c : Contents) (code : List Insn) (marks : List Bool) (p : Passes policy bytes c code marks) where
   -- what passes clauses 1 to 8 goes on
   front-next : (next : Contents → List Insn → Option Refusal) → first_front policy bytes next ≡ next c code
-  front-next next =
-      let r : IsRead policy bytes c = record { size = p.size; encoded = p.container; number = p.number } in
-      let same : marks ≡ marks_of c code = flags_only (map (λ p. p.0) c.invs) (length code) marks p.annotated in
-      let u : ℕ = unfolded_of code (marks_of c code) in
-      let long : u ≤ MAX_UNFOLDED = subst (λ m. unfolded_of code m ≤ MAX_UNFOLDED) same p.unfolded in
-      read-first policy bytes c r next
-      ∙ ap (λ r. first_code c r (next c)) (sym (decoded_code-ok c.code code p.encoded p.code))
-      ∙ shape-long c code (low_none (roots c) p.heights) (forms_none c.invs 0 p.forms) (cut_none code (marks_of c code) p.code (subst (IsCut code) same p.cut)) (next c code)
-      ∙ past (ltb MAX_UNFOLDED u) (refusal.UnfoldLimit (capped u)) (next c code) (le-ltb MAX_UNFOLDED u long)
+  front-next next = after_all policy bytes next c code marks p
 
   pub gate-refused : (e : GateFault) → Refuses (λ vc. first_proof vc c.proof) e → IsGateAnswer policy bytes (Err e)
   unfolding first_refusal
   gate-refused (fault.Refused r) h = front-next (λ c code. first_proof (vc_of policy code c.invs) c.proof) ∙ h (vc_of policy code c.invs)
-  gate-refused fault.Memory h = tt
+  gate-refused fault.Memory h = p.size
+  gate-refused fault.Results h = p.size
 
   module _ (proof : Tree) (given : c.proof ≡ Some proof) (weight : weight_of sigma1_places proof ≤ MAX_WEIGHT) where
     light : (vc : Tree) → first_proof vc c.proof ≡ cond (proves proof vc) None (Some refusal.NotProof)
     light vc =
         let w : ℕ = weight_of sigma1_places proof in
-        ap (first_proof vc) given ∙ past (ltb MAX_WEIGHT w) (refusal.ProofWeight (capped w)) (cond (proves proof vc) None (Some refusal.NotProof)) (le-ltb MAX_WEIGHT w weight)
+        ap (first_proof vc) given ∙ within MAX_WEIGHT w (Some (refusal.ProofWeight (capped w))) (cond (proves proof vc) None (Some refusal.NotProof)) weight
 
     pub gate-judged : (e : GateFault) → IsProofAnswer policy code c.invs proof (Err e) → IsGateAnswer policy bytes (Err e)
     unfolding first_refusal
     gate-judged (fault.Refused r) h =
         front-next (λ c code. first_proof (vc_of policy code c.invs) c.proof) ∙ light (vc_of policy code c.invs)
         ∙ ap (λ b. cond b None (Some refusal.NotProof)) h.0 ∙ ap Some (sym h.1)
-    gate-judged fault.Memory h = tt
+    gate-judged fault.Memory h = p.size
+    gate-judged fault.Results h = p.size
 
     pub gate-none : proves proof (vc_of policy code c.invs) ≡ true → first_refusal policy bytes ≡ None
     unfolding first_refusal
@@ -139,10 +123,11 @@ module _ (policy : PolicyKind) (bytes : List ℕ) (c : Contents) (code : List In
     }
 
 -- what is refused by clauses 1 to 8 is refused by the gate
-pub front-refused : (policy : PolicyKind) (bytes : List ℕ) (e : GateFault) → Refuses (first_front policy bytes) e → IsGateAnswer policy bytes (Err e)
+pub front-refused : (policy : PolicyKind) (bytes : List ℕ) (e : GateFault) → RefusesBytes policy bytes e → IsGateAnswer policy bytes (Err e)
 unfolding first_refusal
 front-refused policy bytes (fault.Refused r) h = h (λ c code. first_proof (vc_of policy code c.invs) c.proof)
-front-refused policy bytes fault.Memory h = tt
+front-refused policy bytes fault.Memory h = h
+front-refused policy bytes fault.Results h = h
 
 -- the invariants' terms are low
 pub low-invs : (t : TableView) (ps : List (ℕ × ℕ)) (more : List Tree) → AllByRecursion (λ (inv : ℕ × ℕ). IsKnown t inv.1) ps → AreLow (map (λ p. p.1) (inv_trees t ps) ++ more) → AreLowInvs t ps

@@ -1,12 +1,13 @@
 -- What the gate answers.
-use Rattle.std.specs.Prelude.{◌≡◌, ℕ, List, None, Some, Result, Ok, Err}
+use Rattle.std.specs.Prelude.{◌≡◌, ℕ, ◌≤◌, List, length, None, Some, Result, Ok, Err}
 use Rattle.policy_set.specs.declared.kind.PolicyKind.{PolicyKind}
 use Rattle.term_table.specs.Measures.{sigma1_places}
 use Rattle.proof_container.specs.Views.{AreKnown, contents_of, inv_trees}
 use Rattle.proof_container.specs.Contents.{Contents}
+use Rattle.proof_container.specs.declared.limits.TheConstants.{MAX_BYTES}
 use Rattle.proof_container.specs.declared.container.Container.{Container}
 use Rattle.pcc_gate.specs.declared.fault.GateFault.{GateFault}
-use Rattle.pcc_gate.specs.declared.fault.GateFault.TheVariants.{Refused, Memory}
+use Rattle.pcc_gate.specs.declared.fault.GateFault.TheVariants.{Refused, Memory, Results}
 use Rattle.pcc_gate.specs.declared.passing.Passed.{Passed}
 use Rattle.pcc_gate.specs.Passing.{Passes}
 use Rattle.pcc_gate.specs.First.{front_refusal, first_refusal}
@@ -18,11 +19,13 @@ pub record IsHeld (c : Container) : Type 0 where
   pub known : AreKnown c.table c.invs.items c.proof
   pub places : c.table.places ≡ sigma1_places
 
--- Clauses 1 to 8 hold of what is passed on; a refusal is the first of them that fails; want of memory says nothing.
+-- Clauses 1 to 8 hold of what is passed on; a refusal is the first of them that fails; where memory or the results that may be
+-- kept ran out, the bytes aren't too many.
 abbrev pub IsFrontAnswer : PolicyKind → List ℕ → Result Passed GateFault → Type 0
 IsFrontAnswer policy bytes (Ok p) = Passes policy bytes (contents_of p.container) p.cut.code p.cut.marks × (front_refusal policy bytes ≡ None)
 IsFrontAnswer policy bytes (Err (Refused r)) = front_refusal policy bytes ≡ Some r
-IsFrontAnswer policy bytes (Err Memory) = Unit {0}
+IsFrontAnswer policy bytes (Err Memory) = length bytes ≤ MAX_BYTES
+IsFrontAnswer policy bytes (Err Results) = length bytes ≤ MAX_BYTES
 
 -- What the gate shows of accepted bytes: the policy, the code with its flags, and the invariants of their contents.
 pub record IsAcceptedBy (policy : PolicyKind) (bytes : List ℕ) (a : AcceptedView) : Type 0 where
@@ -32,8 +35,10 @@ pub record IsAcceptedBy (policy : PolicyKind) (bytes : List ℕ) (a : AcceptedVi
   pub accepts : Accepts policy bytes contents a.code a.marks
   pub first : first_refusal policy bytes ≡ None
 
--- All clauses hold of what is accepted; a refusal is the first of them that fails; want of memory says nothing.
+-- All clauses hold of what is accepted; a refusal is the first of them that fails; where memory or the results that may be kept
+-- ran out, the bytes aren't too many.
 abbrev pub IsGateAnswer : PolicyKind → List ℕ → Result AcceptedView GateFault → Type 0
 IsGateAnswer policy bytes (Ok a) = IsAcceptedBy policy bytes a
 IsGateAnswer policy bytes (Err (Refused r)) = first_refusal policy bytes ≡ Some r
-IsGateAnswer policy bytes (Err Memory) = Unit {0}
+IsGateAnswer policy bytes (Err Memory) = length bytes ≤ MAX_BYTES
+IsGateAnswer policy bytes (Err Results) = length bytes ≤ MAX_BYTES

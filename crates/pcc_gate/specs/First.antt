@@ -1,5 +1,5 @@
 -- The first of the eleven clauses that fails, with the values that its line has. The tests stand in their order; `laws` joins
--- them to the clauses.
+-- them to the clauses, and each refusal to what it means.
 use Rattle.std.specs.Prelude.{ℕ, suc, Bool, List, [], ◌∷◌, map, length, nat_lt, ◌==◌, if◌then◌else◌, Option, Some, None, Result, Ok, Err}
 use Rattle.alpha_words.specs.declared.insn.Insn.{Insn}
 use Rattle.alpha_cfg.specs.CodeDecoding.{decoded_code}

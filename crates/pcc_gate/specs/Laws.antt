@@ -1,12 +1,16 @@
 -- What ties the clauses to the first that fails.
-use Rattle.std.specs.Prelude.{◌≡◌, ℕ, ◌↔◌, Bool, List, None}
+use Rattle.std.specs.Prelude.{◌≡◌, ℕ, ◌≤◌, ◌↔◌, Bool, List, None, Some}
 use Rattle.alpha_words.specs.declared.insn.Insn.{Insn}
+use Rattle.alpha_cfg.specs.Cuts.{unfolded_of}
 use Rattle.policy_set.specs.declared.kind.PolicyKind.{PolicyKind}
 use Rattle.proof_container.specs.Contents.{Contents}
 use Rattle.proof_container.specs.Encoding.{IsBytes}
+use Rattle.vcgen.specs.declared.condition.TheConstants.{MAX_UNFOLDED}
+use Rattle.pcc_gate.specs.declared.refusal.Refusal.{Refusal}
 use Rattle.pcc_gate.specs.Passing.{Passes}
 use Rattle.pcc_gate.specs.Accepted.{IsAccepted}
 use Rattle.pcc_gate.specs.First.{front_refusal, first_refusal}
+use Rattle.pcc_gate.specs.Refusals.{HasCut, IsFirstRefusal, IsBeforeProof}
 
 -- bytes are accepted exactly where no clause is the first that fails
 abbrev pub AcceptedFirst : Type 0
@@ -26,3 +30,18 @@ PassedFirst = (policy : PolicyKind) (bytes : List ℕ) → IsBytes bytes → Has
 -- what bytes hold is one
 abbrev pub PassedOne : Type 0
 PassedOne = (policy : PolicyKind) (bytes : List ℕ) (c d : Contents) (code other : List Insn) (marks flags : List Bool) → IsBytes bytes → Passes policy bytes c code marks → Passes policy bytes d other flags → (c ≡ d) × (code ≡ other) × (marks ≡ flags)
+
+-- clauses 1 to 8 are those up to 7, and the last of them
+abbrev pub PassedUpTo : Type 0
+PassedUpTo = (policy : PolicyKind) (bytes : List ℕ) (c : Contents) (code : List Insn) (marks : List Bool) →
+    Passes policy bytes c code marks ↔ (HasCut policy bytes c code marks × (unfolded_of code marks ≤ MAX_UNFOLDED))
+
+-- a refusal is the first exactly where the relation says so, by which no bytes have two
+abbrev pub RefusedFirst : Type 0
+RefusedFirst = (policy : PolicyKind) (bytes : List ℕ) (r : Refusal) → IsBytes bytes →
+    (first_refusal policy bytes ≡ Some r) ↔ IsFirstRefusal policy bytes r
+
+-- a refusal is the first of clauses 1 to 8 exactly where the relation says so, and it is by one of them
+abbrev pub RefusedBefore : Type 0
+RefusedBefore = (policy : PolicyKind) (bytes : List ℕ) (r : Refusal) → IsBytes bytes →
+    (front_refusal policy bytes ≡ Some r) ↔ (IsFirstRefusal policy bytes r × IsBeforeProof r)

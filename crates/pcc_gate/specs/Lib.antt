@@ -1,8 +1,10 @@
 pub mod Passing
 pub mod Accepted
 pub mod First
+pub mod Refusals
 pub mod Safe
 pub mod Laws
 pub mod Views
 pub mod Answers
+pub mod Shortages
 pub mod Inside

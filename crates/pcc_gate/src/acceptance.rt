@@ -1,6 +1,8 @@
 //! What is accepted.
 
 ghost use Rattle.std.specs.Prelude.{◌≡◌};
+ghost use Rattle.std.specs.List.{AllByRecursion};
+ghost use Rattle.term_table.specs.Table.{IsKnown};
 ghost use Rattle.policy_set.specs.Policies.{pre_of, post_of};
 ghost use Rattle.vcgen.specs.Encoded.{AreForms, inv_trees};
 ghost use Rattle.vcgen.specs.Safety.{IsSafe};
@@ -59,7 +61,15 @@ impl Accepted {
         &self.cut
     }
 
-    /// The annotated indices, each with its invariant.
+    /// The table of the invariants' terms.
+    pub fn table(&self) -> &Table
+        ensures value { result.now ≡ self.now.table }
+        ensures known { AllByRecursion (λ inv. IsKnown result.now inv.1) self.now.invs }
+    {
+        &self.table
+    }
+
+    /// The annotated indices, each with its invariant, an id of the table.
     pub fn invs(&self) -> &[(u32, Id)]
         ensures { result.now ≡ self.now.invs }
     {

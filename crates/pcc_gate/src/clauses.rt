@@ -21,7 +21,7 @@ ghost use Rattle.pcc_gate.specs.Inside.Stages.{IsCutMade, IsLengthAnswer};
 use crate::fault::GateFault;
 use crate::refusal::Refusal;
 use alpha_cfg::{Code, CodeFault, Cut, CutFault};
-use lf_check::{Kept, check_term_with};
+use lf_check::{Exhausted, Kept, check_term_with};
 use lf_signature::numbers::{EXP, MEM};
 use lf_signature::{Sigma1, typing_laws};
 use policy_set::Policy;
@@ -129,7 +129,7 @@ fn has_form(
     context: &[Id],
     form: Id,
     id: Id,
-) -> Result<bool, AllocError>
+) -> Result<bool, Exhausted>
     requires id { IsKnown table.old id }
     requires form { IsIdOf table.old (Fam 2) form }
     requires context { AllKnown table.old context.now }
@@ -151,7 +151,7 @@ pub(crate) fn first_formless(
     form: Id,
     invs: &[(u32, Id)],
     from: usize,
-) -> Result<Option<u32>, AllocError>
+) -> Result<Option<u32>, Exhausted>
     requires known { AllByRecursion (λ inv. IsKnown table.old inv.1) invs.now }
     requires few { length invs.now ≤ MAX_INVS }
     requires from { from ≤ length invs.now }

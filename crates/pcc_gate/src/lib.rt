@@ -3,8 +3,9 @@
 //! The layers above use that `gate` accepts bytes exactly where eleven clauses hold, and else names
 //! the first that fails; `front` does the same of the clauses before the proof; and that the code of
 //! what is accepted is safe (`Accepted::laws`, `laws`). The clauses stand in `specs/Passing` and
-//! `specs/Accepted`, the first that fails in `specs/First`, what the calls answer in `specs/Answers`,
-//! what is promised in `specs/Safe`. Source: Necula, Proof-Carrying Code, POPL 1997.
+//! `specs/Accepted`, what each refusal means in `specs/Refusals`, the first clause that fails as a
+//! function in `specs/First`, what the calls answer in `specs/Answers`, what is promised in
+//! `specs/Safe`. Source: Necula, Proof-Carrying Code, POPL 1997.
 #![tactic(auto)]
 
 mod acceptance;

@@ -61,6 +61,7 @@ pub(crate) fn proved(
     let goal = match vc_with(table, &mut kept.memo, cut, policy, invs) {
         Ok(goal) => goal,
         Err(VcFault::Memory) => return Err(GateFault::Memory),
+        Err(VcFault::Results) => return Err(GateFault::Results),
         Err(VcFault::UnfoldLimit(_)) => unreachable!(),
     };
     if !prove_true_with(table, kept, proof, goal)? {

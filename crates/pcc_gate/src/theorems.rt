@@ -2,15 +2,20 @@
 
 ghost use Rattle.pcc_gate.specs.Safe.{AcceptedSafe};
 ghost use Rattle.pcc_gate.specs.Laws.{AcceptedFirst, PassedFirst, PassedOne};
+ghost use Rattle.pcc_gate.specs.Laws.{RefusedFirst, RefusedBefore, PassedUpTo};
 
 use lf_truth::truth_laws;
 
 /// Bytes are accepted exactly where no clause is the first that fails; clauses 1 to 8 hold exactly
-/// where none of them is; what bytes hold is one; and the code of accepted bytes is safe for the
-/// policy.
+/// where none of them is; a refusal is the first exactly where the clauses before it hold and its
+/// own fails, with its value (`specs/Refusals`), also among clauses 1 to 8 alone; what bytes hold is
+/// one; and the code of accepted bytes is safe for the policy.
 pub fn laws()
     ensures accepted { AcceptedFirst }
     ensures passed { PassedFirst }
+    ensures refusals { RefusedFirst }
+    ensures before { RefusedBefore }
+    ensures up_to { PassedUpTo }
     ensures one { PassedOne }
     ensures safe { AcceptedSafe }
 {

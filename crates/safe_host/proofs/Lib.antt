@@ -2,3 +2,4 @@ pub mod Unblocked
 pub mod Counting
 pub mod Running
 pub mod Packets
+pub mod StepCounts

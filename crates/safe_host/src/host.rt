@@ -161,6 +161,23 @@ impl Host {
         &self.accepted
     }
 
+    /// What was accepted, the host being given up. All that a host has is named here: its code, the state
+    /// of a run, the region's count and whether a run may go on. So it keeps no rights, and no packet's
+    /// length, and a field for them would have to be written here first.
+    pub fn into_accepted(self) -> Accepted
+        ensures { result ≡ self.accepted }
+    {
+        let Host {
+            accepted,
+            index: _,
+            regs: _,
+            words: _,
+            region: _,
+            live: _,
+        } = self;
+        accepted
+    }
+
     /// What holds of every host, with nothing to run: while it is live, some rights fit it.
     pub fn laws(&self)
         ensures { self.now.live ≡ true → HasRights self.now }

@@ -3,8 +3,9 @@
 //! A `Host` keeps accepted code and an arena, and no rights. The layers above use that `load` begins
 //! at the policy's start, whose rights then fit the host; that under all rights that fit, `run` is
 //! the run of the machine that tests each access; and that `HostRunner` makes of packets what that
-//! machine makes of them; `run_counted` counts the steps (`specs/Counts`). What a host holds and which rights fit it stands in `specs/Hosts`, loading
-//! and running in `specs/Runs`, packets in `specs/Runners`. Source: Necula and Lee, Safe Kernel
+//! machine makes of them; `run_counted` counts the steps (`specs/Counts`; `count_laws` says what such a
+//! count is). What a host holds and which rights fit it stands in `specs/Hosts`, loading and running in
+//! `specs/Runs`, packets in `specs/Runners`. Source: Necula and Lee, Safe Kernel
 //! Extensions Without Run-Time Checking, OSDI 1996.
 #![tactic(auto)]
 
@@ -12,7 +13,9 @@ mod ended;
 mod host;
 mod runner;
 mod stepping;
+mod theorems;
 
 pub use ended::{Counted, Ended};
 pub use host::Host;
 pub use runner::HostRunner;
+pub use theorems::count_laws;

@@ -42,3 +42,4 @@ abbrev pub IsProofAnswer : PolicyKind → List Insn → List (ℕ × Tree) → T
 IsProofAnswer policy code invs proof (Ok _) = proves proof (vc_of policy code invs) ≡ true
 IsProofAnswer policy code invs proof (Err (fault.Refused r)) = (proves proof (vc_of policy code invs) ≡ false) × (r ≡ refusal.NotProof)
 IsProofAnswer policy code invs proof (Err fault.Memory) = Unit {0}
+IsProofAnswer policy code invs proof (Err fault.Results) = Unit {0}

@@ -8,10 +8,10 @@ use Rattle.proof_container.specs.Contents.{Contents}
 use Rattle.proof_container.specs.Views.{contents_of}
 use Rattle.pcc_gate.specs.declared.fault.GateFault.{GateFault}
 use Rattle.pcc_gate.specs.declared.passing.Passed.{Passed}
-use Rattle.pcc_gate.specs.First.{first_code, first_front}
+use Rattle.pcc_gate.specs.First.{first_code}
 use Rattle.pcc_gate.specs.Passing.{Passes}
 use Rattle.pcc_gate.specs.Answers.{IsHeld}
-use Rattle.pcc_gate.specs.Inside.Stages.{Refuses, IsShaped}
+use Rattle.pcc_gate.specs.Inside.Stages.{Refuses, RefusesBytes, IsShaped}
 
 -- what passed clauses 4 to 8 of the contents
 pub record IsRest (c : Contents) (p : Passed) : Type 0 where
@@ -29,4 +29,4 @@ IsRestAnswer c (Err e) = Refuses (first_code c (decoded_code c.code)) e
 -- clauses 1 to 8
 abbrev pub IsPassedAnswer : PolicyKind → List ℕ → Result Passed GateFault → Type 0
 IsPassedAnswer policy bytes (Ok p) = Passes policy bytes (contents_of p.container) p.cut.code p.cut.marks × IsHeld p.container
-IsPassedAnswer policy bytes (Err e) = Refuses (first_front policy bytes) e
+IsPassedAnswer policy bytes (Err e) = RefusesBytes policy bytes e

@@ -28,10 +28,17 @@ use Rattle.pcc_gate.specs.First.{too_high, formless, first_code, first_front, fi
 abbrev pub measured_trees : TableView → List (ℕ × ℕ) → Option ℕ → List Tree
 measured_trees t invs proof = map (λ p. p.1) (inv_trees t invs) ++ one_or_none (option_map (tree_at t) proof)
 
--- a refusal is the first whatever comes after the stage, for which next stands; want of memory says nothing
+-- a refusal is the first whatever comes after the stage, for which next stands; what ran out says nothing
 abbrev pub Refuses : {N : Type 0} → (N → Option Refusal) → GateFault → Type 0
 Refuses {N} first (fault.Refused r) = (next : N) → first next ≡ Option.Some r
 Refuses first fault.Memory = Unit {0}
+Refuses first fault.Results = Unit {0}
+
+-- a refusal of bytes, whatever comes after; what ran out says that they aren't too many
+abbrev pub RefusesBytes : PolicyKind → List ℕ → GateFault → Type 0
+RefusesBytes policy bytes (fault.Refused r) = (next : Contents → List Insn → Option Refusal) → first_front policy bytes next ≡ Option.Some r
+RefusesBytes policy bytes fault.Memory = length bytes ≤ MAX_BYTES
+RefusesBytes policy bytes fault.Results = length bytes ≤ MAX_BYTES
 
 -- the contents pass clauses 1 to 3
 pub record IsRead (policy : PolicyKind) (bytes : List ℕ) (c : Contents) : Type 0 where
@@ -42,7 +49,7 @@ pub record IsRead (policy : PolicyKind) (bytes : List ℕ) (c : Contents) : Type
 -- clauses 1 to 3
 abbrev pub IsContainerAnswer : PolicyKind → List ℕ → Result Container GateFault → Type 0
 IsContainerAnswer policy bytes (Ok c) = IsRead policy bytes (contents_of c) × IsHeld c
-IsContainerAnswer policy bytes (Err e) = Refuses (first_front policy bytes) e
+IsContainerAnswer policy bytes (Err e) = RefusesBytes policy bytes e
 
 -- clause 4
 abbrev pub IsCodeRead : List ℕ → Result (List Insn) GateFault → Type 0

@@ -3,6 +3,7 @@ use Rattle.asm_text.specs.Lines.{AreLines}
 use Rattle.asm_text.proofs.Operands as insn
 use Rattle.asm_text.proofs.Endings.{lines_are, are_lines}
 use Rattle.asm_text.proofs.Collected as source
+use Rattle.asm_text.proofs.Stopping.{fault_is, is_fault, none_begins}
 use Rattle.asm_text.proofs.theorems.laws.Goals as goal
 
 pub returns : goal.returns
@@ -10,4 +11,6 @@ returns c = record {
   insns = λ ts i. (insn.spelled_parsed ts i, insn.parsed_spelled ts i);
   lines = λ text ls. (lines_are text ls, λ e. subst (λ l. AreLines text l) e (are_lines text));
   sources = λ text s. (source.spelled_parsed text s, source.parsed_spelled text s);
+  faults = λ text n flaw. (fault_is text n flaw, is_fault text n flaw);
+  begins = λ text n flaw lines h a. none_begins text n flaw lines h a;
 }

@@ -1,5 +1,6 @@
 use Rattle.pcc_asm.proofs.Assembly.{law}
+use Rattle.pcc_asm.proofs.Faulted.{fault_is, is_fault}
 use Rattle.pcc_asm.proofs.theorems.laws.Goals as goal
 
 pub returns : goal.returns
-returns c = law
+returns c = record { assembled = law; faults = λ s flaw. (fault_is s flaw, is_fault s flaw) }

@@ -1,6 +1,6 @@
 use Rattle.pcc_gate.proofs.Safe.{accepted-safe}
-use Rattle.pcc_gate.proofs.FirstFront.{passed-none, none-passed, passed-one}
-use Rattle.pcc_gate.proofs.First.{accepted-none, none-accepted}
+use Rattle.pcc_gate.proofs.FirstFront.{passed-none, none-passed, passed-one, before-is, passes-cut, cut-passes}
+use Rattle.pcc_gate.proofs.First.{accepted-none, none-accepted, refusal-is}
 use Rattle.pcc_gate.proofs.theorems.laws.Goals as goal
 
 pub returns-clause-accepted : goal.returns-clause-accepted
@@ -14,3 +14,13 @@ returns-clause-one c policy bytes k d code other marks flags fits p q = passed-o
 
 pub returns-clause-safe : goal.returns-clause-safe
 returns-clause-safe c = accepted-safe c.truth_laws.ensures.sound
+
+pub returns-clause-refusals : goal.returns-clause-refusals
+returns-clause-refusals c policy bytes r fits = refusal-is policy bytes r fits
+
+pub returns-clause-before : goal.returns-clause-before
+returns-clause-before c policy bytes r fits = before-is policy bytes r fits
+
+pub returns-clause-up_to : goal.returns-clause-up_to
+returns-clause-up_to c policy bytes k code marks =
+    (λ p. (passes-cut policy bytes k code marks p, p.unfolded), λ h. cut-passes policy bytes k code marks h.0 h.1)

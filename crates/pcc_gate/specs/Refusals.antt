@@ -1,0 +1,155 @@
+-- What each refusal means: the clauses before it hold, its own fails, and its value is what that clause says of the bytes. The
+-- relations are those of the layers below, and nothing of the tests that find the refusal.
+use Rattle.std.specs.Prelude.{◌≡◌, ℕ, ◌<◌, ◌≤◌, Bool, List, [], ◌∷◌, ◌++◌, map, length, None, Some, Err}
+use Rattle.alpha_words.specs.declared.insn.Insn.{Insn}
+use Rattle.alpha_cfg.specs.Flow.{IsCode}
+use Rattle.alpha_cfg.specs.CodeBytes.{EncodesCode, IsFlaw}
+use Rattle.alpha_cfg.specs.Cuts.{AreFlags, IsCut, IsUncut, unfolded_of}
+use Rattle.policy_set.specs.declared.kind.PolicyKind.{PolicyKind}
+use Rattle.policy_set.specs.Names.{policy_number}
+use Rattle.term_table.specs.Tree.{Tree}
+use Rattle.term_table.specs.Measures.{height_of, weight_of, sigma1_places, capped}
+use Rattle.lf_signature.specs.Sigma1.{declared}
+use Rattle.lf_signature.specs.Terms.{form, pf}
+use Rattle.lf_signature.specs.Typing.{Checks}
+use Rattle.lf_encode.specs.Contexts.{machine_context, sort_types}
+use Rattle.proof_container.specs.Contents.{Contents, roots}
+use Rattle.proof_container.specs.Encoding.{EncodesContents}
+use Rattle.proof_container.specs.Decoding.{decoded_container}
+use Rattle.proof_container.specs.declared.fault.Flaw.{Flaw}
+use Rattle.proof_container.specs.declared.limits.TheConstants.{MAX_BYTES}
+use Rattle.vcgen.specs.declared.condition.TheConstants.{MAX_HEIGHT, MAX_UNFOLDED}
+use Rattle.vcgen.specs.Encoded.{AreForms, EncodesCondition}
+use Rattle.pcc_gate.specs.declared.limits.TheConstants.{MAX_WEIGHT}
+use Rattle.pcc_gate.specs.declared.refusal.Refusal.{Refusal}
+use Rattle.pcc_gate.specs.declared.refusal.Refusal.TheVariants as refusal
+use Rattle.pcc_gate.specs.Passing.{AreLow, Passes}
+
+-- ---- the clauses up to each, in their order
+
+-- clauses 1 and 2: the bytes aren't too many, and are the encoding of the contents
+pub record HasContents (bytes : List ℕ) (contents : Contents) : Type 0 where
+  pub size : length bytes ≤ MAX_BYTES
+  pub container : EncodesContents bytes contents
+
+-- clauses 1 to 3: the contents are for the policy
+pub record IsForPolicy (policy : PolicyKind) (bytes : List ℕ) (contents : Contents) : Type 0 where
+  pub held : HasContents bytes contents
+  pub number : contents.policy ≡ policy_number policy
+
+-- clauses 1 to 4: the code bytes encode code
+pub record HasCode (policy : PolicyKind) (bytes : List ℕ) (contents : Contents) (insns : List Insn) : Type 0 where
+  pub before : IsForPolicy policy bytes contents
+  pub encoded : EncodesCode contents.code insns
+  pub code : IsCode insns
+
+-- clauses 1 to 5: no root is too high
+pub record HasLowRoots (policy : PolicyKind) (bytes : List ℕ) (contents : Contents) (insns : List Insn) : Type 0 where
+  pub before : HasCode policy bytes contents insns
+  pub heights : AreLow (roots contents)
+
+-- clauses 1 to 6: each invariant is a formula over m and r0 to r30
+pub record HasForms (policy : PolicyKind) (bytes : List ℕ) (contents : Contents) (insns : List Insn) : Type 0 where
+  pub before : HasLowRoots policy bytes contents insns
+  pub forms : AreForms contents.invs
+
+-- clauses 1 to 6, and the flags of the annotated indices
+pub record HasFlags (policy : PolicyKind) (bytes : List ℕ) (contents : Contents) (insns : List Insn) (flags : List Bool) : Type 0 where
+  pub before : HasForms policy bytes contents insns
+  pub annotated : AreFlags (map (λ p. p.0) contents.invs) (length insns) flags
+
+-- clauses 1 to 7: the annotated indices cut the code
+pub record HasCut (policy : PolicyKind) (bytes : List ℕ) (contents : Contents) (insns : List Insn) (flags : List Bool) : Type 0 where
+  pub before : HasFlags policy bytes contents insns flags
+  pub cut : IsCut insns flags
+
+-- clauses 1 to 9: they pass, and there is a proof
+pub record HasProof (policy : PolicyKind) (bytes : List ℕ) (contents : Contents) (insns : List Insn) (flags : List Bool) (proof : Tree) : Type 0 where
+  pub passes : Passes policy bytes contents insns flags
+  pub given : contents.proof ≡ Some proof
+
+-- clauses 1 to 10: the proof isn't too heavy
+pub record HasLightProof (policy : PolicyKind) (bytes : List ℕ) (contents : Contents) (insns : List Insn) (flags : List Bool) (proof : Tree) : Type 0 where
+  pub before : HasProof policy bytes contents insns flags proof
+  pub weight : weight_of sigma1_places proof ≤ MAX_WEIGHT
+
+-- ---- what is wrong
+
+-- the bytes encode no contents, and this is the first fault in reading them
+pub record IsMalformed (bytes : List ℕ) (at : ℕ) (flaw : Flaw) : Type 0 where
+  pub size : length bytes ≤ MAX_BYTES
+  pub nothing : (contents : Contents) → EncodesContents bytes contents → ⊥
+  pub fault : decoded_container bytes ≡ Err (at, flaw)
+
+-- the first tree that is too high has this height
+pub record IsFirstHeight (trees : List Tree) (height : ℕ) : Type 0 where
+  pub front : List Tree
+  pub tree : Tree
+  pub rest : List Tree
+  pub split : trees ≡ front ++ tree ∷ rest
+  pub low : AreLow front
+  pub high : MAX_HEIGHT < height_of tree
+  pub is : height ≡ capped (height_of tree)
+
+-- the first invariant that is no formula over m and r0 to r30 stands behind so many
+pub record IsFirstNoForm (invs : List (ℕ × Tree)) (place : ℕ) : Type 0 where
+  pub front : List (ℕ × Tree)
+  pub inv : ℕ × Tree
+  pub rest : List (ℕ × Tree)
+  pub split : invs ≡ front ++ inv ∷ rest
+  pub forms : AreForms front
+  pub no_form : Checks declared (sort_types machine_context) inv.1 form → ⊥
+  pub is : place ≡ length front
+
+-- the unfolded length is past its limit
+pub record IsPastUnfolded (insns : List Insn) (flags : List Bool) (unfolded : ℕ) : Type 0 where
+  pub long : MAX_UNFOLDED < unfolded_of insns flags
+  pub is : unfolded ≡ capped (unfolded_of insns flags)
+
+-- the proof is heavier than the limit
+pub record IsPastWeight (proof : Tree) (weight : ℕ) : Type 0 where
+  pub heavy : MAX_WEIGHT < weight_of sigma1_places proof
+  pub is : weight ≡ capped (weight_of sigma1_places proof)
+
+-- the term isn't a proof of the verification condition
+pub record IsNoProof (policy : PolicyKind) (insns : List Insn) (invs : List (ℕ × Tree)) (proof : Tree) : Type 0 where
+  pub vc : Tree
+  pub condition : EncodesCondition policy insns invs vc
+  pub unproved : Checks declared [] proof (pf vc) → ⊥
+
+-- ---- the refusals
+
+-- The refusal is that of the first clause that fails, with the value that its line has.
+abbrev pub IsFirstRefusal : PolicyKind → List ℕ → Refusal → Type 0
+IsFirstRefusal policy bytes (refusal.TooLong n) = (MAX_BYTES < length bytes) × (n ≡ length bytes)
+IsFirstRefusal policy bytes (refusal.Malformed at flaw) = IsMalformed bytes at flaw
+IsFirstRefusal policy bytes (refusal.OtherPolicy n) = (c : Contents) × HasContents bytes c × (c.policy ≡ policy_number policy → ⊥) × (n ≡ c.policy)
+IsFirstRefusal policy bytes (refusal.BadCode flaw) = (c : Contents) × IsForPolicy policy bytes c × IsFlaw c.code flaw
+IsFirstRefusal policy bytes (refusal.Height h) = (c : Contents) × (code : List Insn) × HasCode policy bytes c code × IsFirstHeight (roots c) h
+IsFirstRefusal policy bytes (refusal.InvNotForm k) = (c : Contents) × (code : List Insn) × HasLowRoots policy bytes c code × IsFirstNoForm c.invs k
+IsFirstRefusal policy bytes (refusal.Uncut i) =
+    (c : Contents) × (code : List Insn) × (flags : List Bool) × HasFlags policy bytes c code flags × IsUncut code flags i
+IsFirstRefusal policy bytes (refusal.UnfoldLimit n) =
+    (c : Contents) × (code : List Insn) × (flags : List Bool) × HasCut policy bytes c code flags × IsPastUnfolded code flags n
+IsFirstRefusal policy bytes refusal.NoProof =
+    (c : Contents) × (code : List Insn) × (flags : List Bool) × Passes policy bytes c code flags × (c.proof ≡ None)
+IsFirstRefusal policy bytes (refusal.ProofWeight n) =
+    (c : Contents) × (code : List Insn) × (flags : List Bool) × (proof : Tree) ×
+    HasProof policy bytes c code flags proof × IsPastWeight proof n
+IsFirstRefusal policy bytes refusal.NotProof =
+    (c : Contents) × (code : List Insn) × (flags : List Bool) × (proof : Tree) ×
+    HasLightProof policy bytes c code flags proof × IsNoProof policy code c.invs proof
+
+-- a refusal by one of clauses 1 to 8
+abbrev pub IsBeforeProof : Refusal → Type 0
+IsBeforeProof (refusal.TooLong n) = Unit {0}
+IsBeforeProof (refusal.Malformed at flaw) = Unit {0}
+IsBeforeProof (refusal.OtherPolicy n) = Unit {0}
+IsBeforeProof (refusal.BadCode flaw) = Unit {0}
+IsBeforeProof (refusal.Height h) = Unit {0}
+IsBeforeProof (refusal.InvNotForm k) = Unit {0}
+IsBeforeProof (refusal.Uncut i) = Unit {0}
+IsBeforeProof (refusal.UnfoldLimit n) = Unit {0}
+IsBeforeProof refusal.NoProof = ⊥
+IsBeforeProof (refusal.ProofWeight n) = ⊥
+IsBeforeProof refusal.NotProof = ⊥

@@ -1,0 +1,10 @@
+-- What ran out, as a fault of the gate.
+use Rattle.hereditary_subst.specs.declared.exhausted.Exhausted.{Exhausted}
+use Rattle.hereditary_subst.specs.declared.exhausted.Exhausted.TheVariants as exhausted
+use Rattle.pcc_gate.specs.declared.fault.GateFault.{GateFault}
+use Rattle.pcc_gate.specs.declared.fault.GateFault.TheVariants.{Memory, Results}
+
+-- memory, or the results that may be kept
+abbrev pub shortage_of : Exhausted → GateFault
+shortage_of exhausted.Memory = Memory
+shortage_of exhausted.Results = Results
