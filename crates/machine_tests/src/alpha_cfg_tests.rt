@@ -4,7 +4,7 @@ ghost use Rattle.std.specs.Prelude.{◌+◌, ◌<◌, length, IsTrue};
 ghost use Rattle.std.specs.List.Sorted.{IsStrictlyIncreasing};
 
 use crate::codes::{NOP, RETURN, code_of};
-use alpha_cfg::{CodeFault, CodeFlaw, CutFault};
+use alpha_cfg::{CodeFault, CodeFlaw, Cut, CutFault};
 use alpha_words::{BadWord, Insn};
 use std::alloc::Global;
 use std::process::Abort;
@@ -24,13 +24,18 @@ fn is_rising(marks: &[u32]) -> bool
     true
 }
 
-fn unfolded(rt: &impl Abort, alloc: Global, words: &[u32], marks: &[u32]) -> Result<u32, CutFault> {
+/// The code of the words, cut at the indices.
+fn cut_of(rt: &impl Abort, alloc: Global, words: &[u32], marks: &[u32]) -> Result<Cut, CutFault> {
     let Ok(code) = code_of(rt, alloc, words) else {
         return Err(CutFault::Memory);
     };
     assert!(rt; is_rising(marks));
     assert!(rt; marks.iter().all(|mark| *mark < code.count()));
-    let cut = code.cut(alloc, marks)?;
+    code.cut(alloc, marks)
+}
+
+fn unfolded(rt: &impl Abort, alloc: Global, words: &[u32], marks: &[u32]) -> Result<u32, CutFault> {
+    let cut = cut_of(rt, alloc, words, marks)?;
     assert_eq!(rt; cut.code().count() as usize, words.len());
     Ok(cut.unfolded())
 }
@@ -79,6 +84,18 @@ fn marks_cut_cycles(rt: HostRuntime) {
         unfolded(&rt, a, &[0xc3ff_ffff], &[]),
         Err(CutFault::Uncut(0))
     );
+}
+
+#[test]
+fn annotated_indices_are_marked(rt: HostRuntime) -> Result<(), Fail> {
+    let turn = [0x203f_0000, 0x4020_3401, NOP, 0xc3ff_fffd];
+    let cut = cut_of(&rt, rt.alloc(), &turn, &[1, 3])?;
+    let rows = [false, true, false, true, false];
+    for (i, marked) in rows.iter().enumerate() {
+        assert_eq!(rt; cut.marked(i as u32), *marked);
+    }
+    assert!(rt; !cut.marked(u32::MAX));
+    Ok(())
 }
 
 #[test]

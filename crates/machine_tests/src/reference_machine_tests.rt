@@ -1,85 +1,10 @@
-//! When conditional branches are taken, at edge words, and the parts of a step.
+//! The parts of a step. When conditional branches are taken is in rows of `ref` (command_rows).
 
 use crate::codes::{RETURN, code_of};
 use alpha_cfg::Step;
-use alpha_words::{Cond, Reg, Rhs};
-use reference_machine::{
-    Agent, QUADWORDS, address_of, fill, is_allowed, read_reg, rhs_word, takes, write_reg,
-};
+use alpha_words::{Reg, Rhs};
+use reference_machine::{Agent, QUADWORDS, fill, is_allowed, read_reg, rhs_word, write_reg};
 use std::test::Fail;
-
-/// A condition, the word of the register, and whether qemu-alpha 7.2 took the branch.
-static RUN_BY_QEMU: [(Cond, u64, bool); 24] = [
-    (Cond::LowClear, 1, false),
-    (Cond::LowClear, 0xffff_ffff_ffff_fffe, true),
-    (Cond::LowClear, 0x8000_0000_0000_0001, false),
-    (Cond::LowSet, 0, false),
-    (Cond::LowSet, 1, true),
-    (Cond::LowSet, 3, true),
-    (Cond::Zero, 2, false),
-    (Cond::Zero, 0xffff_ffff_ffff_fffe, false),
-    (Cond::Zero, 0x1_0000_0000, false),
-    (Cond::NotZero, 1, true),
-    (Cond::NotZero, 0xffff_ffff_ffff_fffe, true),
-    (Cond::NotZero, 0x7fff_ffff_ffff_ffff, true),
-    (Cond::Negative, 0, false),
-    (Cond::Negative, 0x8000_0000_0000_0000, true),
-    (Cond::Negative, 0x7fff_ffff_ffff_ffff, false),
-    (Cond::NotPositive, 3, false),
-    (Cond::NotPositive, 0x7fff_ffff_ffff_ffff, false),
-    (Cond::NotPositive, 0x1_0000_0000, false),
-    (Cond::NotNegative, 0, true),
-    (Cond::NotNegative, 2, true),
-    (Cond::NotNegative, 0xffff_ffff_ffff_fffe, false),
-    (Cond::Positive, 0, false),
-    (Cond::Positive, 0xffff_ffff_ffff_ffff, false),
-    (Cond::Positive, 0xffff_ffff_ffff_fffe, false),
-];
-
-#[test]
-fn branches_are_taken_as_qemu_takes_them(rt: HostRuntime) {
-    for (cond, word, want) in RUN_BY_QEMU {
-        assert_eq!(rt; takes(cond, word), want, "{cond:?} of {word}");
-    }
-}
-
-/// Expected values from the Handbook's descriptions of the branches.
-#[test]
-fn branches_are_taken_at_zero(rt: HostRuntime) {
-    let rows = [
-        (Cond::Zero, 0, true),
-        (Cond::NotZero, 0, false),
-        (Cond::Negative, u64::MAX, true),
-        (Cond::NotPositive, 0, true),
-        (Cond::NotPositive, u64::MAX, true),
-        (Cond::NotNegative, u64::MAX, false),
-        (Cond::Positive, 1, true),
-    ];
-    for (cond, word, want) in rows {
-        assert_eq!(rt; takes(cond, word), want, "{cond:?} of {word}");
-    }
-}
-
-/// What qemu-alpha 7.2 left in r0 for `lda r0,disp(r1)`.
-#[test]
-fn addresses_are_sums(rt: HostRuntime) {
-    let rows = [
-        (0, 0, 0),
-        (0x8000_0000_0000_0000, 1, 0x8000_0000_0000_0001),
-        (0xffff_ffff_ffff_ffff, -1, 0xffff_ffff_ffff_fffe),
-        (0x7fff_ffff_ffff_ffff, 32_767, 0x8000_0000_0000_7ffe),
-        (0xffff_ffff_ffff_ffff, -32_768, 0xffff_ffff_ffff_7fff),
-    ];
-    for (word, disp, want) in rows {
-        let mut regs = [0; 31];
-        regs[1] = word;
-        assert_eq!(rt;
-            address_of(&regs, Reg::new(1), disp),
-            want,
-            "{word} and {disp}"
-        );
-    }
-}
 
 #[test]
 fn a_new_agent_holds_nothing(rt: HostRuntime) -> Result<(), Fail> {

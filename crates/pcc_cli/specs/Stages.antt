@@ -81,6 +81,7 @@ no_container (fault.Refused refusal) = refused (refusal_line refusal)
 no_container (fault.NotEasy part) = refused (not_easy_line part)
 no_container (fault.TooBig measure number) = refused (too_big_line (measure_name measure) number)
 no_container fault.Memory = no_memory
+no_container fault.Results = no_memory
 
 -- ---- stages that read no file
 

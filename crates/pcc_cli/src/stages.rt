@@ -105,7 +105,7 @@ fn judged<'a>(alloc: Global, policy: &Policy, bytes: &[u8]) -> Result<Accepted, 
     match gate(alloc, policy, bytes) {
         Ok(accepted) => Ok(accepted),
         Err(GateFault::Refused(refusal)) => Err(Stop::Refused(refusal)),
-        Err(GateFault::Memory) => Err(Stop::Memory),
+        Err(GateFault::Memory | GateFault::Results) => Err(Stop::Memory),
     }
 }
 
@@ -128,7 +128,7 @@ pub fn proved_in<'a>(alloc: Global, policy: &Policy, bytes: &[u8]) -> Result<Vec
         Err(ProveFault::Refused(refusal)) => Err(Stop::Refused(refusal)),
         Err(ProveFault::NotEasy(part)) => Err(Stop::NotEasy(part)),
         Err(ProveFault::TooBig(measure, number)) => Err(Stop::TooBig(measure, number)),
-        Err(ProveFault::Memory) => Err(Stop::Memory),
+        Err(ProveFault::Memory | ProveFault::Results) => Err(Stop::Memory),
     }
 }
 

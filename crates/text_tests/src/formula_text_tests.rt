@@ -186,6 +186,9 @@ fn the_first_fault_is_named(rt: HostRuntime) {
     test_faults(&rt, rt.alloc(), &NAME, TextFlaw::Name);
     test_faults(&rt, rt.alloc(), &NUMBER, TextFlaw::Number);
     test_faults(&rt, rt.alloc(), &TRAILING, TextFlaw::Trailing);
+    assert!(rt; TextFlaw::Shape.name() == "Shape");
+    assert!(rt; TextFlaw::Name.name() == "Name");
+    assert!(rt; TextFlaw::Number.name() == "Number");
     assert!(rt; TextFlaw::Trailing.name() == "Trailing");
 }
 

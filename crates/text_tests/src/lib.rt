@@ -4,14 +4,10 @@
 #![tactic(auto)]
 
 #[cfg(test)]
-mod asm_text_tests;
-#[cfg(test)]
 mod formula_text_tests;
 #[cfg(test)]
 mod formula_tree_tests;
 #[cfg(test)]
 mod pcc_asm_tests;
-#[cfg(test)]
-mod sources;
 #[cfg(test)]
 mod text_tokens_tests;

@@ -1,0 +1,53 @@
+//! Runs rows of `pcc` over files and output in memory.
+//!
+//! The arguments name files of the folder that it runs in: one that ends in `.rows` is run, and any
+//! other is hexadecimal text, whose bytes stand as a file of that name before every row behind it.
+#![tactic(auto)]
+
+use anyhow::Result;
+use file_port::{MemFiles, MemSink};
+use pcc_cli::pcc;
+use std::alloc::Global;
+use std::{env, fs};
+use test_rows::{Program, Scene, hex_bytes, run_rows};
+
+/// The program whose rows these are.
+struct Pcc;
+
+impl Program for Pcc {
+    fn call(
+        &self,
+        alloc: Global,
+        words: Vec<String>,
+        files: &mut MemFiles,
+        out: &mut MemSink,
+    ) -> u8 {
+        pcc(alloc, words, files, out)
+    }
+}
+
+/// Runs the rows of a file, or gives its bytes to those of later ones.
+fn take_file(rt: &HostRuntime, scene: &mut Scene, name: &str) -> Result<()> {
+    let text = fs::read_to_string(rt, name)?;
+    if name.ends_with(".rows") {
+        run_rows(&Pcc, scene, name, text.as_str())?;
+        return Ok(());
+    }
+    match hex_bytes(rt.alloc(), text.as_str())? {
+        Some(bytes) => scene.give(name, bytes)?,
+        None => scene.differs(0, "a data file that is no hexadecimal text")?,
+    }
+    Ok(())
+}
+
+/// Runs the rows of the files that the arguments name, and prints those that differ and their
+/// count.
+fn main(rt: HostRuntime) -> Result<()> {
+    let mut scene = Scene::new(rt.alloc());
+    for name in env::args(&rt)?.skip(1) {
+        take_file(&rt, &mut scene, name.as_str())?;
+    }
+    let report = scene.report()?;
+    println!(rt; "{report}")?;
+    Ok(())
+}

@@ -1,0 +1,51 @@
+//! Numbers and bytes that a text spells.
+
+use sha2::{Digest, Sha256};
+use std::alloc::{AllocError, Global};
+
+/// The number that the text is, in decimal, or in hexadecimal behind `0x`.
+pub fn number(text: &str) -> Option<u32> {
+    match text.strip_prefix("0x") {
+        Some(digits) => u32::from_str_radix(digits, 16).ok(),
+        None => text.parse::<u32>().ok(),
+    }
+}
+
+/// The number that the text is in repetition `k`: `A+B` is A there and B more in each later one.
+pub fn number_at(text: &str, k: u32) -> Option<u32> {
+    match text.split_once('+') {
+        None => number(text),
+        Some((start, step)) => Some(number(start)?.wrapping_add(number(step)?.wrapping_mul(k))),
+    }
+}
+
+/// The bytes that a text is in hexadecimal, with any blanks and ends of lines between bytes.
+pub fn hex_bytes(alloc: Global, text: &str) -> Result<Option<Vec<u8>>, AllocError> {
+    let mut bytes = Vec::new(alloc);
+    for group in text.split_whitespace() {
+        match hex::decode(alloc, group) {
+            Ok(part) => bytes.extend_from_slice(part.as_slice())?,
+            Err(_) => return Ok(None),
+        }
+    }
+    Ok(Some(bytes))
+}
+
+/// The numbers of a list, parted by blanks.
+pub fn numbers(alloc: Global, text: &str) -> Result<Option<Vec<u32>>, AllocError> {
+    let mut list = Vec::new(alloc);
+    for word in text.split_whitespace() {
+        match number(word) {
+            Some(n) => list.push(n)?,
+            None => return Ok(None),
+        }
+    }
+    Ok(Some(list))
+}
+
+/// The SHA-256 of bytes in hexadecimal, a blank and their count.
+pub fn digest(alloc: Global, bytes: &[u8]) -> Result<String, AllocError> {
+    let sum = hex::encode(alloc, Sha256::digest(bytes).as_slice())?;
+    let count = bytes.len();
+    format!(in alloc; "{sum} {count}")
+}

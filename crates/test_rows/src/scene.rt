@@ -1,0 +1,106 @@
+//! What stands as files of rows are read.
+
+use crate::files::placed;
+use crate::row::{Left, Row};
+use crate::tally::Tally;
+use std::alloc::{AllocError, Global};
+use std::mem;
+
+/// Where a piece goes.
+#[derive(Clone, Copy)]
+pub enum Target {
+    /// Nowhere.
+    Nothing,
+    /// To the file that was named last.
+    File,
+    /// To what the row's last file is to hold.
+    Left,
+}
+
+/// What stands as files of rows are read: files, the row that has begun, and the tally.
+#[derive(Drop)]
+pub struct Scene {
+    pub(crate) alloc: Global,
+    pub(crate) name: String,
+    pub(crate) files: Vec<(String, Vec<u8>)>,
+    pub(crate) given: usize,
+    pub(crate) at: String,
+    pub(crate) bytes: Vec<u8>,
+    pub(crate) row: Row,
+    pub(crate) target: Target,
+    pub(crate) tally: Tally,
+}
+
+impl Scene {
+    /// No files and no rows.
+    pub fn new(alloc: Global) -> Scene {
+        Scene {
+            alloc,
+            name: String::new(alloc),
+            files: Vec::new(alloc),
+            given: 0,
+            at: String::new(alloc),
+            bytes: Vec::new(alloc),
+            row: Row::new(alloc),
+            target: Target::Nothing,
+            tally: Tally::new(alloc),
+        }
+    }
+
+    /// Adds a file that stands before every row behind it, and takes away what rows in front of it
+    /// left.
+    pub fn give(&mut self, name: &str, bytes: Vec<u8>) -> Result<(), AllocError> {
+        self.clear();
+        placed(self.alloc, &mut self.files, name, bytes)?;
+        self.given = self.files.len();
+        Ok(())
+    }
+
+    /// Takes away all files but those that were given.
+    pub(crate) fn clear(&mut self) {
+        self.files.truncate(self.given);
+    }
+
+    /// Begins the bytes of a file of this name, that stands or is to be left.
+    pub(crate) fn aim(&mut self, target: Target, name: &str) -> Result<(), AllocError> {
+        self.at = String::from_str(self.alloc, name)?;
+        self.target = target;
+        Ok(())
+    }
+
+    /// Puts the bytes that were begun where they go.
+    pub(crate) fn settle(&mut self) -> Result<(), AllocError> {
+        let name = mem::replace(&mut self.at, String::new(self.alloc));
+        let bytes = mem::replace(&mut self.bytes, Vec::new(self.alloc));
+        match self.target {
+            Target::Nothing => {}
+            Target::File => placed(self.alloc, &mut self.files, name.as_str(), bytes)?,
+            Target::Left => self.row.left.push(Left {
+                name,
+                bytes,
+                digest: None,
+            })?,
+        }
+        self.target = Target::Nothing;
+        Ok(())
+    }
+
+    /// Begins a file of rows of this name.
+    pub(crate) fn open(&mut self, name: &str) -> Result<(), AllocError> {
+        self.clear();
+        self.name = String::from_str(self.alloc, name)?;
+        Ok(())
+    }
+
+    /// Counts that a line of the file of rows differs, and keeps why.
+    pub fn differs(&mut self, line: u32, why: &str) -> Result<(), AllocError> {
+        let name = self.name.as_str();
+        let text = format!(in self.alloc; "{name} {line}: {why}")?;
+        self.tally.differs(text.as_str())
+    }
+
+    /// The rows that differ, and the last line: `N rows, M differ`.
+    pub fn report(&self) -> Result<String, AllocError> {
+        self.tally.report(self.alloc)
+    }
+}
