@@ -14,7 +14,7 @@ ghost use Rattle.formula_tree.specs.Views.{form_view};
 use formula_tree::{Exp, Form, MemExp};
 use lf_encode::{
     adequacy_laws, encode_form, form_of, is_form, machine_context, put, put_laws, quantified,
-    substitution_on_encodings,
+    scope_laws, substitution_in_contexts, substitution_on_encodings,
 };
 use lf_signature::{app1, app2, app3};
 use std::alloc::{AllocError, Global};
@@ -50,6 +50,8 @@ fn small_term(table: &mut Table) -> Result<Id, AllocError>
 fn encodes_small_formulas(rt: HostRuntime) -> Result<(), Fail> {
     adequacy_laws();
     substitution_on_encodings();
+    substitution_in_contexts();
+    scope_laws();
     let mut table = Table::new(rt.alloc(), Places::sigma1());
     let form = small_form(rt.alloc())?;
     let id = encode_form(&mut table, &form, &[])?;

@@ -4,8 +4,4 @@
 #![tactic(auto)]
 
 #[cfg(test)]
-mod formula_ids_tests;
-#[cfg(test)]
 mod lf_encode_tests;
-#[cfg(test)]
-mod steps_tests;

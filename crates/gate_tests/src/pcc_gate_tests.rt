@@ -57,7 +57,7 @@ fn refusal_of<T: Drop>(answer: Result<T, GateFault>) -> Result<Option<Refusal>, 
     match answer {
         Ok(_) => Ok(None),
         Err(GateFault::Refused(refusal)) => Ok(Some(refusal)),
-        Err(GateFault::Memory) => Err(AllocError),
+        Err(GateFault::Memory | GateFault::Results) => Err(AllocError),
     }
 }
 

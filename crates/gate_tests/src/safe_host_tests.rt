@@ -34,6 +34,14 @@ fn is_new(host: &Host) -> bool {
     host.accepted().policy().kind() == PolicyKind::Tag && host.sum() == 0
 }
 
+/// What a host gives back: its fields are what was accepted and the state of a run, and no rights.
+#[test]
+fn host_fields(rt: HostRuntime) -> Result<(), Fail> {
+    let accepted = new_host(rt.alloc())?.into_accepted();
+    assert!(rt; accepted.policy().kind() == PolicyKind::Tag);
+    Ok(())
+}
+
 #[test]
 fn a_new_host(rt: HostRuntime) -> Result<(), Fail> {
     let host = new_host(rt.alloc())?;

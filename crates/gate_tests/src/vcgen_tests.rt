@@ -87,7 +87,7 @@ fn a_condition_that_shares(rt: HostRuntime) -> Result<(), Fail> {
     Ok(())
 }
 
-/// Past the limit of what is kept there is want of memory; within it a second call gives the same.
+/// Past the limit of what is kept that is the answer; within it a second call gives the same.
 #[test]
 fn a_limit(rt: HostRuntime) -> Result<(), Fail> {
     let alloc = rt.alloc();
@@ -95,7 +95,7 @@ fn a_limit(rt: HostRuntime) -> Result<(), Fail> {
     let mut table = Table::new(alloc, Places::sigma1());
     let cut = cut_of(&rt, alloc, &[ONE, RETURN])?;
     let mut memo = Memo::new(alloc, 1);
-    assert!(rt; vc_with(&mut table, &mut memo, &cut, &policy, &[]) == Err(VcFault::Memory));
+    assert!(rt; vc_with(&mut table, &mut memo, &cut, &policy, &[]) == Err(VcFault::Results));
     let mut memo = Memo::new(alloc, 1_000);
     let first = vc_with(&mut table, &mut memo, &cut, &policy, &[])?;
     let again = vc_with(&mut table, &mut memo, &cut, &policy, &[])?;

@@ -1,11 +1,14 @@
 //! Containers that get a proof, and why others get none; what is wanted is another implementation's.
 
 use bounds_prover::{Measure, ProveFault, prove};
-use pcc_gate::Refusal;
+use lf_signature::numbers::TT;
+use pcc_gate::{Accepted, Refusal, gate};
 use policy_set::{Policy, PolicyKind};
 use std::alloc::{AllocError, Global};
 use std::test::Fail;
+use term_table::Node;
 use test_inputs::containers::container;
+use test_inputs::terms::{Made, known, made};
 
 /// What comes of a container: its length and digest with a proof, or why it gets none.
 #[derive(Clone, Copy, Debug, PartialEq, Eq)]
@@ -171,4 +174,38 @@ fn faults_in_words(rt: HostRuntime) -> Result<(), Fail> {
         assert_eq!(rt; format!(in a; "{fault}")?.as_str(), words);
     }
     Ok(())
+}
+
+/// Whether there is one invariant, at index 0, and it is truth by the table.
+fn shows_truth(accepted: &Accepted) -> Made<bool> {
+    let table = accepted.table();
+    let Some(first) = accepted.invs().first() else {
+        return Ok(false);
+    };
+    let (index, inv) = *first;
+    known(table, inv)?;
+    Ok(accepted.invs().len() == 1 && index == 0 && table.node(inv) == Node::Const(TT))
+}
+
+/// What is accepted of the endless loop with a proof.
+fn accepted_loop(alloc: Global) -> Made<Accepted> {
+    let policy = made(Policy::of(alloc, PolicyKind::Filter))?;
+    let bytes = made(container(alloc, 1, &[0xc3ff_ffff], &TRUE_AT_0))?;
+    let proved = made(prove(alloc, &policy, &bytes))?;
+    made(gate(alloc, &policy, &proved))
+}
+
+#[test]
+fn invariants_are_the_tables(rt: HostRuntime) -> Result<(), Fail> {
+    let accepted = accepted_loop(rt.alloc())?;
+    assert!(rt; shows_truth(&accepted)?);
+    Ok(())
+}
+
+#[test]
+fn names_of_measures(rt: HostRuntime) {
+    assert_eq!(rt; Measure::Weight.name(), "weight");
+    assert_eq!(rt; Measure::Height.name(), "height");
+    assert_eq!(rt; Measure::Entries.name(), "entries");
+    assert_eq!(rt; Measure::Bytes.name(), "bytes");
 }

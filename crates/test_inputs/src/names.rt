@@ -1,0 +1,54 @@
+//! Names that rows give to trees.
+
+use crate::faults::{Read, RowFault};
+use std::alloc::Global;
+use term_table::Id;
+
+/// A name with its tree.
+#[derive(Drop)]
+struct Named {
+    name: Vec<u8>,
+    tree: Id,
+}
+
+/// Names with their trees, each name once.
+#[derive(Drop)]
+pub struct Names {
+    rows: Vec<Named>,
+}
+
+impl Names {
+    /// No names.
+    pub fn new(alloc: Global) -> Names {
+        Names {
+            rows: Vec::new(alloc),
+        }
+    }
+
+    /// The tree that the name stands for, if it is a name.
+    pub fn find(&self, name: &[u8]) -> Option<Id> {
+        for row in self.rows.as_slice() {
+            if row.name.as_slice() == name {
+                return Some(row.tree);
+            }
+        }
+        None
+    }
+
+    /// Lets the name stand for the tree from now on.
+    pub fn define(&mut self, name: &[u8], tree: Id) -> Read<()> {
+        for row in self.rows.iter_mut() {
+            if row.name.as_slice() == name {
+                row.tree = tree;
+                return Ok(());
+            }
+        }
+        let alloc = *self.rows.allocator();
+        let mut copy = Vec::new(alloc);
+        copy.extend_from_slice(name)?;
+        match self.rows.push(Named { name: copy, tree }) {
+            Ok(()) => Ok(()),
+            Err(_) => Err(RowFault::Memory),
+        }
+    }
+}

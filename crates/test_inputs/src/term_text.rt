@@ -1,0 +1,514 @@
+//! Terms and types as text.
+//!
+//! A word stands for a leaf of a tree or for what a row has named so; `(f a b)` applies, `[] b` is an
+//! abstraction over `b`, and `{A} B` the product of the types `A` and `B` (docs/PROOFS.md, "Terms as
+//! text"). There is no limit on how deeply brackets nest but memory.
+
+ghost use Rattle.std.specs.Prelude.{◌≡◌, IfOk, OnOk, not, true, false};
+ghost use Rattle.term_table.specs.Scope.{is_term_shape};
+ghost use Rattle.term_table.specs.Table.{AllKnown, Extends, IsKnown, tree_at};
+
+use crate::cursors::{Bracket, Cursor};
+use crate::faults::{Read, RowFault};
+use crate::names::Names;
+use term_table::{Id, Node, Table};
+use text_tokens::{Number, Token, begins_with_digit, read_number};
+
+/// The names of the constants, by their numbers.
+pub static CONSTANTS: [&str; 88] = [
+    "add",
+    "sub",
+    "band",
+    "bis",
+    "sll",
+    "srl",
+    "cmpeq",
+    "cmplt",
+    "cmple",
+    "cmpult",
+    "cmpule",
+    "sel",
+    "upd",
+    "tt",
+    "ff",
+    "eq",
+    "ult",
+    "ule",
+    "slt",
+    "sle",
+    "rd",
+    "wr",
+    "and",
+    "or",
+    "imp",
+    "all",
+    "allm",
+    "tt_i",
+    "ff_e",
+    "and_i",
+    "and_l",
+    "and_r",
+    "or_l",
+    "or_r",
+    "or_e",
+    "imp_i",
+    "imp_e",
+    "em",
+    "all_i",
+    "all_e",
+    "allm_i",
+    "allm_e",
+    "eq_refl",
+    "eq_sub",
+    "sel_same",
+    "sel_other",
+    "add_comm",
+    "add_assoc",
+    "add_zero",
+    "sub_add",
+    "sub_neg",
+    "and_comm",
+    "and_assoc",
+    "and_zero",
+    "and_le",
+    "bis_zero",
+    "bis_zero_l",
+    "add_al",
+    "sll_al",
+    "srl_mono",
+    "sll_mono",
+    "zero_le",
+    "max_le",
+    "ule_refl",
+    "ule_trans",
+    "ult_ule",
+    "lt_le",
+    "le_lt",
+    "lt_pred",
+    "le_anti",
+    "not_lt",
+    "lt_irr",
+    "add_le",
+    "cmp_yes0",
+    "cmp_yes1",
+    "cmp_yes2",
+    "cmp_yes3",
+    "cmp_yes4",
+    "cmp_no0",
+    "cmp_no1",
+    "cmp_no2",
+    "cmp_no3",
+    "cmp_no4",
+    "cmp_le1_0",
+    "cmp_le1_1",
+    "cmp_le1_2",
+    "cmp_le1_3",
+    "cmp_le1_4",
+];
+
+/// The names of the families, by their numbers.
+pub static FAMILIES: [&str; 4] = ["exp", "mem", "form", "pf"];
+
+/// The names of the operators, by their places in `Op`.
+static OPERATORS: [&str; 11] = [
+    "add", "sub", "band", "bis", "sll", "srl", "cmpeq", "cmplt", "cmple", "cmpult", "cmpule",
+];
+
+/// The names of the relations, by their places in `Rel`.
+static RELATIONS: [&str; 5] = ["eq", "ult", "ule", "slt", "sle"];
+
+/// What is open of a tree.
+#[derive(Clone, Copy)]
+enum Frame {
+    /// A parenthesis without a tree in it.
+    Head,
+    /// A parenthesis with this tree so far.
+    Applied(Id),
+    /// An abstraction without its body.
+    Body,
+    /// A curly bracket without a type in it.
+    Domain,
+    /// A curly bracket with this type in it.
+    Given(Id),
+    /// A product from this type.
+    Range(Id),
+}
+
+/// The place of a name in a list.
+fn place_in(names: &[&'static str], word: &[u8]) -> Option<u32> {
+    for k in 0..names.len() {
+        if names[k].as_bytes() == word {
+            return u32::try_from(k).ok();
+        }
+    }
+    None
+}
+
+/// The word that a numeral is.
+fn word_of(numeral: &[u8]) -> Read<u64> {
+    match read_number(numeral) {
+        Number::Word(word) => Ok(word),
+        Number::Large | Number::NoNumber => Err(RowFault::Number),
+    }
+}
+
+/// The number below 2^32 that a numeral is.
+pub fn small_of(numeral: &[u8]) -> Read<u32> {
+    let word = word_of(numeral)?;
+    match u32::try_from(word) {
+        Ok(small) => Ok(small),
+        Err(_) => Err(RowFault::Number),
+    }
+}
+
+/// The next word's place in a list of names, or the number that it is.
+fn named_number(cursor: &mut Cursor<'_>, names: &[&'static str]) -> Read<u32> {
+    let word = cursor.word()?;
+    match place_in(names, word) {
+        Some(place) => Ok(place),
+        None => small_of(word),
+    }
+}
+
+/// The number of up to 64 bits that the next word is.
+pub fn word_number(cursor: &mut Cursor<'_>) -> Read<u64> {
+    let word = cursor.word()?;
+    word_of(word)
+}
+
+/// The number of up to 32 bits that the next word is.
+pub fn small_number(cursor: &mut Cursor<'_>) -> Read<u32> {
+    let word = cursor.word()?;
+    small_of(word)
+}
+
+/// Tests that the id is one of the table.
+pub fn known(table: &Table, id: Id) -> Read<()>
+    ensures { OnOk result (IsKnown table.now id) }
+{
+    if (id.index() as u64) < table.count() {
+        Ok(())
+    } else {
+        Err(RowFault::Unknown)
+    }
+}
+
+/// Tests that each id is one of the table.
+pub fn all_known(table: &Table, ids: &[Id]) -> Read<()>
+    ensures { OnOk result (AllKnown table.now ids.now) }
+{
+    match ids {
+        [] => Ok(()),
+        [first, more @ ..] => {
+            known(table, *first)?;
+            all_known(table, more)
+        }
+    }
+}
+
+/// Whether the tree is a type.
+pub fn is_type(table: &Table, id: Id) -> bool
+    requires { IsKnown table.now id }
+    ensures { result ≡ not (is_term_shape (tree_at table.now id)) }
+{
+    match table.node(id) {
+        Node::Fam(_) | Node::TApp(_, _) | Node::Pi(_, _) => true,
+        _ => false,
+    }
+}
+
+/// Tests that the tree is one of the table, and a type or none as is asked for.
+fn sorted(table: &Table, id: Id, wants_type: bool) -> Read<()>
+    ensures known { OnOk result (IsKnown table.now id) }
+    ensures sort { OnOk result (wants_type ≡ not (is_term_shape (tree_at table.now id))) }
+{
+    known(table, id)?;
+    if is_type(table, id) == wants_type {
+        Ok(())
+    } else {
+        Err(RowFault::Sort)
+    }
+}
+
+/// A tree applied to a term: a term where it is one, else a type.
+fn applied(table: &mut Table, head: Id, argument: Id) -> Read<Id>
+    ensures extends { Extends table.old table.new }
+{
+    known(table, head)?;
+    sorted(table, argument, false)?;
+    let node = if is_type(table, head) {
+        Node::TApp(head, argument)
+    } else {
+        Node::App(head, argument)
+    };
+    Ok(table.intern(node)?)
+}
+
+/// An abstraction over a term.
+fn abstraction(table: &mut Table, body: Id) -> Read<Id>
+    ensures extends { Extends table.old table.new }
+{
+    sorted(table, body, false)?;
+    Ok(table.intern(Node::Lam(body))?)
+}
+
+/// The product of two types.
+fn product(table: &mut Table, from: Id, to: Id) -> Read<Id>
+    ensures extends { Extends table.old table.new }
+{
+    sorted(table, from, true)?;
+    sorted(table, to, true)?;
+    Ok(table.intern(Node::Pi(from, to))?)
+}
+
+/// Opens a frame.
+fn open(frames: &mut Vec<Frame>, frame: Frame) -> Read<Option<Id>> {
+    match frames.push(frame) {
+        Ok(()) => Ok(None),
+        Err(_) => Err(RowFault::Memory),
+    }
+}
+
+/// What a frame makes of a whole tree in it: a whole tree, or none where it stays open.
+fn within(table: &mut Table, frames: &mut Vec<Frame>, frame: Frame, tree: Id) -> Read<Option<Id>>
+    ensures extends { Extends table.old table.new }
+{
+    match frame {
+        Frame::Head => open(frames, Frame::Applied(tree)),
+        Frame::Applied(head) => {
+            let head = applied(table, head, tree)?;
+            open(frames, Frame::Applied(head))
+        }
+        Frame::Body => Ok(Some(abstraction(table, tree)?)),
+        Frame::Domain => open(frames, Frame::Given(tree)),
+        Frame::Given(_) => Err(RowFault::Bracket),
+        Frame::Range(from) => Ok(Some(product(table, from, tree)?)),
+    }
+}
+
+/// Puts a whole tree into the frames, and gives the tree that is whole then, if no frame is open.
+fn put(table: &mut Table, frames: &mut Vec<Frame>, tree: Id) -> Read<Option<Id>>
+    ensures extends { Extends table.old table.new }
+{
+    let mut whole = tree;
+    for _ in 0..u64::MAX {
+        let Some(frame) = frames.pop() else {
+            return Ok(Some(whole));
+        };
+        match within(table, frames, frame, whole)? {
+            None => return Ok(None),
+            Some(made) => whole = made,
+        }
+    }
+    Err(RowFault::Memory)
+}
+
+/// Opens an abstraction, whose other bracket stands next.
+fn bound(cursor: &mut Cursor<'_>, frames: &mut Vec<Frame>) -> Read<Option<Id>> {
+    match cursor.token()? {
+        Token::Mark(Bracket::CloseSquare) => open(frames, Frame::Body),
+        _ => Err(RowFault::Bracket),
+    }
+}
+
+/// Opens a product, whose first type is in the nearest frame.
+fn ranged(frames: &mut Vec<Frame>) -> Read<Option<Id>> {
+    let Some(frame) = frames.pop() else {
+        return Err(RowFault::Bracket);
+    };
+    match frame {
+        Frame::Given(from) => open(frames, Frame::Range(from)),
+        _ => Err(RowFault::Bracket),
+    }
+}
+
+/// Closes the nearest frame, which has to be a parenthesis with a tree in it.
+fn closed(table: &mut Table, frames: &mut Vec<Frame>) -> Read<Option<Id>>
+    ensures extends { Extends table.old table.new }
+{
+    let Some(frame) = frames.pop() else {
+        return Err(RowFault::Bracket);
+    };
+    match frame {
+        Frame::Applied(tree) => put(table, frames, tree),
+        _ => Err(RowFault::Bracket),
+    }
+}
+
+/// What a bracket makes of the open frames.
+fn bracket(
+    table: &mut Table,
+    cursor: &mut Cursor<'_>,
+    frames: &mut Vec<Frame>,
+    mark: Bracket,
+) -> Read<Option<Id>>
+    ensures extends { Extends table.old table.new }
+{
+    match mark {
+        Bracket::Open => open(frames, Frame::Head),
+        Bracket::Close => closed(table, frames),
+        Bracket::OpenSquare => bound(cursor, frames),
+        Bracket::CloseSquare => Err(RowFault::Bracket),
+        Bracket::OpenCurly => open(frames, Frame::Domain),
+        Bracket::CloseCurly => ranged(frames),
+    }
+}
+
+/// The leaf that a keyword begins, whose numbers stand behind it.
+fn numbered(cursor: &mut Cursor<'_>, keyword: &[u8]) -> Read<Option<Node>> {
+    if keyword == b"const".as_slice() {
+        return Ok(Some(Node::Const(named_number(cursor, &CONSTANTS)?)));
+    }
+    if keyword == b"fam".as_slice() {
+        return Ok(Some(Node::Fam(named_number(cursor, &FAMILIES)?)));
+    }
+    evaluated(cursor, keyword)
+}
+
+/// The evaluation, fact or denial that a keyword begins.
+fn evaluated(cursor: &mut Cursor<'_>, keyword: &[u8]) -> Read<Option<Node>> {
+    let calc = keyword == b"calc".as_slice();
+    let fact = keyword == b"fact".as_slice();
+    if !calc && !fact && keyword != b"deny".as_slice() {
+        return Ok(None);
+    }
+    let number = if calc {
+        named_number(cursor, &OPERATORS)?
+    } else {
+        named_number(cursor, &RELATIONS)?
+    };
+    let a = word_number(cursor)?;
+    let b = word_number(cursor)?;
+    if calc {
+        Ok(Some(Node::Calc(number, a, b)))
+    } else if fact {
+        Ok(Some(Node::Fact(number, a, b)))
+    } else {
+        Ok(Some(Node::Deny(number, a, b)))
+    }
+}
+
+/// The leaf that a word stands for by itself.
+fn leaf_of(word: &[u8]) -> Read<Option<Node>> {
+    if begins_with_digit(word) {
+        return Ok(Some(Node::Lit(word_of(word)?)));
+    }
+    if let [b'#', numeral @ ..] = word {
+        return Ok(Some(Node::Var(small_of(numeral)?)));
+    }
+    if let Some(family) = place_in(&FAMILIES, word) {
+        return Ok(Some(Node::Fam(family)));
+    }
+    match place_in(&CONSTANTS, word) {
+        Some(constant) => Ok(Some(Node::Const(constant))),
+        None => Ok(None),
+    }
+}
+
+/// The tree of a node without parts.
+fn leaf(table: &mut Table, node: Node) -> Read<Id>
+    ensures extends { Extends table.old table.new }
+{
+    match node {
+        Node::App(_, _) | Node::Lam(_) | Node::TApp(_, _) | Node::Pi(_, _) => Err(RowFault::Sort),
+        _ => Ok(table.intern(node)?),
+    }
+}
+
+/// The tree that a word stands for, with the numbers behind it where it is a keyword.
+fn word_tree(table: &mut Table, names: &Names, cursor: &mut Cursor<'_>, word: &[u8]) -> Read<Id>
+    ensures extends { Extends table.old table.new }
+{
+    if let Some(node) = leaf_of(word)? {
+        return leaf(table, node);
+    }
+    if let Some(node) = numbered(cursor, word)? {
+        return leaf(table, node);
+    }
+    match names.find(word) {
+        Some(tree) => Ok(tree),
+        None => Err(RowFault::Word),
+    }
+}
+
+/// What the next token makes of the open frames: the tree that is whole then, if no frame is open.
+fn step(
+    table: &mut Table,
+    names: &Names,
+    cursor: &mut Cursor<'_>,
+    frames: &mut Vec<Frame>,
+) -> Read<Option<Id>>
+    ensures extends { Extends table.old table.new }
+{
+    match cursor.token()? {
+        Token::Mark(mark) => bracket(table, cursor, frames, mark),
+        Token::Lexeme(word) => {
+            let tree = word_tree(table, names, cursor, word)?;
+            put(table, frames, tree)
+        }
+    }
+}
+
+/// The tree that the cursor's next tokens are, behind which it stands then.
+fn read_tree(table: &mut Table, names: &Names, cursor: &mut Cursor<'_>) -> Read<Id>
+    ensures extends { Extends table.old table.new }
+{
+    let mut frames = Vec::new(table.allocator());
+    for _ in 0..u64::MAX {
+        if let Some(tree) = step(table, names, cursor, &mut frames)? {
+            return Ok(tree);
+        }
+    }
+    Err(RowFault::Memory)
+}
+
+/// The term or type, as is asked for, that the cursor's next tokens are.
+fn read_sorted(
+    table: &mut Table,
+    names: &Names,
+    cursor: &mut Cursor<'_>,
+    wants_type: bool,
+) -> Read<Id>
+    ensures known { IfOk result (IsKnown table.new) }
+    ensures sort { IfOk result
+        (λ id. wants_type ≡ not (is_term_shape (tree_at table.new id))) }
+    ensures extends { Extends table.old table.new }
+{
+    let tree = read_tree(table, names, cursor)?;
+    sorted(table, tree, wants_type)?;
+    Ok(tree)
+}
+
+/// The term that the cursor's next tokens are, behind which it stands then.
+///
+/// Errors: the fault of a text that is no term; the table keeps what it had.
+pub fn read_term(table: &mut Table, names: &Names, cursor: &mut Cursor<'_>) -> Read<Id>
+    ensures known { IfOk result (IsKnown table.new) }
+    ensures term { IfOk result (λ id. is_term_shape (tree_at table.new id) ≡ true) }
+    ensures extends { Extends table.old table.new }
+{
+    read_sorted(table, names, cursor, false)
+}
+
+/// The type that the cursor's next tokens are, behind which it stands then.
+///
+/// Errors: the fault of a text that is no type; the table keeps what it had.
+pub fn read_type(table: &mut Table, names: &Names, cursor: &mut Cursor<'_>) -> Read<Id>
+    ensures known { IfOk result (IsKnown table.new) }
+    ensures family { IfOk result (λ id. is_term_shape (tree_at table.new id) ≡ false) }
+    ensures extends { Extends table.old table.new }
+{
+    read_sorted(table, names, cursor, true)
+}
+
+/// The term or type that the cursor's next tokens are, behind which it stands then.
+///
+/// Errors: the fault of a text that is neither; the table keeps what it had.
+pub fn read_either(table: &mut Table, names: &Names, cursor: &mut Cursor<'_>) -> Read<Id>
+    ensures known { IfOk result (IsKnown table.new) }
+    ensures extends { Extends table.old table.new }
+{
+    let tree = read_tree(table, names, cursor)?;
+    known(table, tree)?;
+    Ok(tree)
+}
