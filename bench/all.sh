@@ -13,7 +13,7 @@ work=$(mktemp -d)
 trap 'rm -rf "$work"' EXIT
 if [ -z "${PCC-}" ]; then
   "$top/pcc" check tag "$top/examples/tag/container" > /dev/null
-  PCC=$top/crates/pcc_cli/out/pcc_cli
+  PCC=$top/crates/pcc_main/out/pcc_main
 fi
 cd "$top"
 python3 - "$top/bench" "$PCC" "$work" "${CC-cc}" <<'PY'

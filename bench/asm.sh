@@ -6,7 +6,7 @@ top=$(cd "$(dirname "${BASH_SOURCE[0]}")/.." && pwd)
 work=$(mktemp -d)
 trap 'rm -rf "$work"' EXIT
 "$top/pcc" asm filter "$top/examples/sum/source.s" "$work/out" > /dev/null || true
-python3 - "$top/crates/pcc_cli/out/pcc_cli" "$work" <<'PY'
+python3 - "$top/crates/pcc_main/out/pcc_main" "$work" <<'PY'
 import os, shutil, statistics, subprocess, sys
 
 binary, work = sys.argv[1:]

@@ -66,7 +66,7 @@ with open(sys.argv[1] + "/packets", "wb") as out:
     out.write(struct.pack("<I", 64) + bytes(64))
 PY
 "$top/pcc" ref filter "$work/chain" "$work/packets"
-python3 - "$top/crates/pcc_cli/out/pcc_cli" "$work" <<'PY'
+python3 - "$top/crates/pcc_main/out/pcc_main" "$work" <<'PY'
 import os, statistics, subprocess, sys
 
 for name in ["chain", "tree", "rising", "random", "equal hashes"]:

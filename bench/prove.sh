@@ -8,7 +8,7 @@ top=$(cd "$(dirname "${BASH_SOURCE[0]}")/.." && pwd)
 work=$(mktemp -d)
 trap 'rm -rf "$work"' EXIT
 "$top/pcc" check tag "$top/examples/tag/container" > /dev/null
-python3 - "$top/bench" "$top/crates/pcc_cli/out/pcc_cli" "$work" <<'PY'
+python3 - "$top/bench" "$top/crates/pcc_main/out/pcc_main" "$work" <<'PY'
 import hashlib, os, statistics, subprocess, sys
 sys.path.insert(0, sys.argv[1])
 from terms import *

@@ -4,7 +4,7 @@
 set -eu
 top=$(cd "$(dirname "${BASH_SOURCE[0]}")/.." && pwd)
 "$top/pcc" check filter "$top/examples/endless/container" > /dev/null
-python3 - "$top/crates/pcc_cli/out/pcc_cli" "$top/examples" <<'PY'
+python3 - "$top/crates/pcc_main/out/pcc_main" "$top/examples" <<'PY'
 import os, statistics, subprocess, sys
 
 binary, examples = sys.argv[1:]
