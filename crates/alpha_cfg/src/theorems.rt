@@ -24,6 +24,15 @@ pub fn laws()
         ≡ s.rights }
 {}
 
+/// Whatever the code, a run changes no address that may not be stored to; its outcome, its
+/// registers and all that may be loaded depend on registers and on what may be loaded, and on
+/// nothing else; and where a run is out of steps, the run that follows is that of both budgets.
+pub fn isolation_laws()
+    ensures changes { (code : List Insn) (n : ℕ) (s : State) → ChangesWritable code n s }
+    ensures depends { (code : List Insn) (n : ℕ) (s : State) → DependsOnReadable code n s }
+    ensures joins { (code : List Insn) (n k : ℕ) (s t : State) → RunsJoin code n k s t }
+{}
+
 /// What decides by functions says what the relations say: what bytes read as is code; annotated
 /// indices have one list of flags; `uncut_of` gives none exactly where they cut code, and else
 /// exactly the least index on a cycle without one.

@@ -1,3 +1,4 @@
 pub mod FileMaps
+pub mod LogWalks
 pub mod PutLemmas
 pub mod StreamLemmas

@@ -1,13 +1,12 @@
 -- What a caller may know of files, and what a read and a write do.
-use Rattle.std.specs.Prelude.{◌≡◌, ℕ, ◌<◌, ◌≤◌, List, length, take, ◌⊎◌, Option, option_map, None, Some, IfSome, IsSomeAnd, ⊤}
+use Rattle.std.specs.Prelude.{◌≡◌, ℕ, ◌≤◌, List, length, take, ◌⊎◌, Option, option_map, IfSome, ⊤}
 use Rattle.std.specs.Ordering.{nat_cmp}
 use Rattle.std.specs.Cmp.Lexicographic.{slice_cmp}
 use Rattle.std.specs.FinMap as map
 use Rattle.file_port.specs.Counts.{Rose}
 use Rattle.file_port.specs.declared.port.Put.{Put}
 use Rattle.file_port.specs.declared.port.Put.TheVariants as put
-use Rattle.file_port.specs.declared.port.Got.{Got}
-use Rattle.file_port.specs.declared.port.Got.TheVariants as got
+use Rattle.file_port.specs.Events.{Given, whole, missing, too_long, failed, no_memory, given_by}
 
 -- from names to bytes
 abbrev pub FileMap : Type 0
@@ -30,29 +29,29 @@ pub record ReadFails (old new : FilesState) : Type 0 where
   pub write_faults : new.write_faults ≡ old.write_faults
   pub rose : Rose old.read_faults new.read_faults
 
--- what a read of at most max bytes may answer, where this is what the file has
-abbrev pub MayAnswer : ℕ → Option (List ℕ) → Got → Type 0
-MayAnswer max known (got.Bytes bytes) = (known ≡ Some bytes.items) × (length bytes.items ≤ max)
-MayAnswer max known got.Missing = known ≡ None
-MayAnswer max known got.TooLong = IsSomeAnd known (λ bytes. max < length bytes)
-MayAnswer max known got.Failed = ⊥
-MayAnswer max known got.Memory = ⊤
+-- what a read of at most max bytes may give that doesn't fail, where this is what the file has
+abbrev pub MayGive : ℕ → Option (List ℕ) → Given → Type 0
+MayGive max known failed = ⊥
+MayGive max known no_memory = ⊤
+MayGive max known (whole b) = whole b ≡ given_by max known
+MayGive max known missing = missing ≡ given_by max known
+MayGive max known too_long = too_long ≡ given_by max known
 
--- an answer has at most so many bytes
-abbrev pub IsWithin : ℕ → Got → Type 0
-IsWithin max (got.Bytes bytes) = length bytes.items ≤ max
+-- it gives at most so many bytes
+abbrev pub IsWithin : ℕ → Given → Type 0
+IsWithin max (whole b) = length b ≤ max
 IsWithin max _ = ⊤
 
--- An answer that is no fault leaves everything as it was, and is right where the file is known.
-pub record ReadAnswers (name : List ℕ) (max : ℕ) (old new : FilesState) (answer : Got) : Type 0 where
+-- A read that doesn't fail leaves everything as it was, and gives what is right where the file is known.
+pub record ReadAnswers (name : List ℕ) (max : ℕ) (old new : FilesState) (given : Given) : Type 0 where
   pub same : new ≡ old
-  pub within : IsWithin max answer
-  pub right : TellsOf old name (λ known. MayAnswer max known answer)
+  pub within : IsWithin max given
+  pub right : TellsOf old name (λ known. MayGive max known given)
 
 -- what a read of a name, of at most max bytes, does
-abbrev pub Reads : List ℕ → ℕ → FilesState → FilesState → Got → Type 0
-Reads name max old new got.Failed = ReadFails old new
-Reads name max old new answer = ReadAnswers name max old new answer
+abbrev pub Reads : List ℕ → ℕ → FilesState → FilesState → Given → Type 0
+Reads name max old new failed = ReadFails old new
+Reads name max old new given = ReadAnswers name max old new given
 
 -- the state with one file's bytes set
 abbrev pub with_file : List ℕ → List ℕ → FilesState → FilesState

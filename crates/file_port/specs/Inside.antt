@@ -1,3 +1,4 @@
 -- Words of private functions.
 pub mod Streams
 pub mod Calls
+pub mod Takes

@@ -1,4 +1,7 @@
 pub mod Counts
+pub mod Events
+pub mod Logs
+pub mod Stored
 pub mod Files
 pub mod Sink
 pub mod MemFiles

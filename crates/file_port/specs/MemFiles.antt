@@ -1,5 +1,5 @@
 -- Files in memory: what their contracts see, and what a read and a write make of it.
-use Rattle.std.specs.Prelude.{◌≡◌, ℕ, ◌-◌, Bool, ◌&&◌, nat_lt, nat_le, if◌then◌else◌, List, length, Option, Some, None, map, reverse, refl, string_bytes}
+use Rattle.std.specs.Prelude.{◌≡◌, ℕ, ◌-◌, Bool, ◌&&◌, nat_lt, nat_le, if◌then◌else◌, List, [], ◌∷◌, ◌++◌, length, Some, map, reverse, refl, string_bytes}
 use Rattle.std.specs.declared.string.String.{String}
 use Rattle.std.specs.declared.vec.Vec.{Vec}
 use Rattle.std.specs.declared.alloc.Global.{Global}
@@ -11,8 +11,8 @@ use Rattle.file_port.specs.Inside.Calls.{is_failing, first_half}
 use Rattle.file_port.specs.Files.{FileMap, FilesState}
 use Rattle.file_port.specs.declared.port.Put.{Put}
 use Rattle.file_port.specs.declared.port.Put.TheVariants as put
-use Rattle.file_port.specs.declared.port.Got.{Got}
-use Rattle.file_port.specs.declared.port.Got.TheVariants as got
+use Rattle.file_port.specs.Events.{Given, whole, missing, too_long, failed, no_memory, given_by, Event, was_read, was_written}
+use Rattle.file_port.specs.Stored.{events_code}
 
 -- what contracts see of files in memory
 pub record MemFilesView : Type 0 where
@@ -24,14 +24,25 @@ pub record MemFilesView : Type 0 where
   -- how many reads and writes were called, and the numbers of those that fail
   pub calls : ℕ
   pub failing : List ℕ
+  -- the calls, with their answers
+  pub log : List Event
 
 -- as nested pairs
 abbrev pub mem_files_code : Coded MemFilesView
 mem_files_code =
-    code_by (FileMap × (ℕ × (ℕ × (ℕ × (ℕ × List ℕ)))))
-    (coded× (finmap.code (coded_list coded_ℕ) (coded_list coded_ℕ)) (coded× coded_ℕ (coded× coded_ℕ (coded× coded_ℕ (coded× coded_ℕ (coded_list coded_ℕ))))))
-    (λ v. (v.files, (v.read_faults, (v.write_faults, (v.room, (v.calls, v.failing))))))
-    (λ p. record { files = p.0; read_faults = p.1.0; write_faults = p.1.1.0; room = p.1.1.1.0; calls = p.1.1.1.1.0; failing = p.1.1.1.1.1 }) (λ _. refl)
+    code_by (FileMap × (ℕ × (ℕ × (ℕ × (ℕ × (List ℕ × List Event))))))
+    (coded× (finmap.code (coded_list coded_ℕ) (coded_list coded_ℕ))
+    (coded× coded_ℕ (coded× coded_ℕ (coded× coded_ℕ (coded× coded_ℕ (coded× (coded_list coded_ℕ) events_code))))))
+    (λ v. (v.files, (v.read_faults, (v.write_faults, (v.room, (v.calls, (v.failing, v.log)))))))
+    (λ p. record {
+      files = p.0;
+      read_faults = p.1.0;
+      write_faults = p.1.1.0;
+      room = p.1.1.1.0;
+      calls = p.1.1.1.1.0;
+      failing = p.1.1.1.1.1.0;
+      log = p.1.1.1.1.1.1;
+    }) (λ _. refl)
 
 -- what is told of files in memory
 abbrev pub state_of_mem_files : MemFilesView → FilesState
@@ -49,39 +60,35 @@ log_map files = file_map (reverse files)
 abbrev pub files_fail_next : MemFilesView → Bool
 files_fail_next v = is_failing v.failing v.calls
 
+-- with one more event in the log
+abbrev pub with_event : Event → MemFilesView → MemFilesView
+with_event event v = record v { log = v.log ++ event ∷ [] }
+
 -- after one more call
 abbrev pub files_after_call : MemFilesView → MemFilesView
 files_after_call v = record v { calls = count_after v.calls }
 
 -- ---- a read
 
--- what a read comes to
-pub data ReadResult : Type 0 where
-  failed : ReadResult
-  missing : ReadResult
-  too_long : ReadResult
-  found : List ℕ → ReadResult
+-- what the next call gives, if it is a read of a name and of at most max bytes, and there is memory
+abbrev pub next_given : MemFilesView → List ℕ → ℕ → Given
+next_given v name max = if files_fail_next v then failed else given_by max (finmap.get v.files name)
 
--- what a read of at most max bytes comes to that does not fail, where this is what the file has
-abbrev pub read_result : ℕ → Option (List ℕ) → ReadResult
-read_result max None = missing
-read_result max (Some bytes) = if nat_lt max (length bytes) then too_long else found bytes
+-- A read gives that, or there was no memory for the bytes.
+abbrev pub IsGiven : Given → Given → Type 0
+IsGiven wanted no_memory = (b : List ℕ) × (wanted ≡ whole b)
+IsGiven wanted (whole b) = wanted ≡ whole b
+IsGiven wanted missing = wanted ≡ missing
+IsGiven wanted too_long = wanted ≡ too_long
+IsGiven wanted failed = wanted ≡ failed
 
--- what the next call comes to, if it is a read of a name and of at most max bytes
-abbrev pub next_read_result : MemFilesView → List ℕ → ℕ → ReadResult
-next_read_result v name max = if files_fail_next v then failed else read_result max (finmap.get v.files name)
+-- what a read leaves but for the log
+abbrev pub counted_read : MemFilesView → MemFilesView
+counted_read v = if files_fail_next v then record (files_after_call v) { read_faults = count_after v.read_faults } else files_after_call v
 
--- The answer is what the read came to, or there was no memory for the bytes that were found.
-abbrev pub IsReadAnswer : ReadResult → Got → Type 0
-IsReadAnswer reading (got.Bytes bytes) = reading ≡ found bytes.items
-IsReadAnswer reading got.Missing = reading ≡ missing
-IsReadAnswer reading got.TooLong = reading ≡ too_long
-IsReadAnswer reading got.Failed = reading ≡ failed
-IsReadAnswer reading got.Memory = (bytes : List ℕ) × (reading ≡ found bytes)
-
--- what a read leaves
-abbrev pub after_read : MemFilesView → MemFilesView
-after_read v = if files_fail_next v then record (files_after_call v) { read_faults = count_after v.read_faults } else files_after_call v
+-- what a read leaves that gives this
+abbrev pub after_read : MemFilesView → List ℕ → ℕ → Given → MemFilesView
+after_read v name max given = with_event (was_read name max given) (counted_read v)
 
 -- ---- a write
 
@@ -97,11 +104,18 @@ with_stored name bytes v = record v { files = finmap.insert v.files name bytes; 
 abbrev pub after_failed_write : MemFilesView → MemFilesView
 after_failed_write v = record v { write_faults = count_after v.write_faults }
 
--- What a write leaves, and what it answers. One past the room leaves the files, and one that is to fail the first half.
-abbrev pub after_write : MemFilesView → List ℕ → List ℕ → MemFilesView × Put
-after_write v name bytes =
+-- What a write leaves but for the log, and what it answers. One past the room leaves the files, and one that is to fail the
+-- first half.
+abbrev pub stored_write : MemFilesView → List ℕ → List ℕ → MemFilesView × Put
+stored_write v name bytes =
     if has_room v name bytes
     then (if files_fail_next v
     then (after_failed_write (with_stored name (first_half bytes) (files_after_call v)), put.Failed)
     else (with_stored name bytes (files_after_call v), put.Done))
     else (after_failed_write (files_after_call v), put.Failed)
+
+-- what a write leaves, and what it answers
+abbrev pub after_write : MemFilesView → List ℕ → List ℕ → MemFilesView × Put
+after_write v name bytes =
+    let stored = stored_write v name bytes in
+    (with_event (was_written name bytes stored.1) stored.0, stored.1)

@@ -1,14 +1,15 @@
 -- A writer as a sink: what is told of it, and its writer.
 use Rattle.std.specs.Prelude.{ℕ, List, take, Option, None}
 use Rattle.std.specs.Io.KnownBytes.{Appends}
+use Rattle.file_port.specs.Events.{put_bytes}
 use Rattle.file_port.specs.Sink.{SinkState}
 use Rattle.file_port.specs.declared.port.Put.{Put}
 use Rattle.file_port.specs.declared.port.Put.TheVariants as put
 use Rattle.file_port.specs.declared.std_sink.StdSink.{StdSink}
 
--- nothing is told of the bytes
+-- nothing is told of the bytes, but which were put
 abbrev pub state_of_std_sink : {W : Type 0} → StdSink W → SinkState
-state_of_std_sink sink = record { contents = None; faults = sink.faults }
+state_of_std_sink sink = record { contents = None; faults = sink.faults; asked = put_bytes sink.log.events }
 
 -- the writer that takes the pieces
 abbrev pub writer_of : {W : Type 0} → StdSink W → W

@@ -1,9 +1,11 @@
 //! The files of the system, of whose content nothing is told.
 
-ghost use Rattle.std.specs.Prelude.{◌≡◌, None};
+ghost use Rattle.std.specs.Prelude.{◌≡◌, [], None};
+ghost use Rattle.file_port.specs.Events.{given_of};
 ghost use Rattle.file_port.specs.Files.{IsWithin};
-ghost use Rattle.file_port.specs.DiskFiles.{state_of_disk_files};
+ghost use Rattle.file_port.specs.DiskFiles.{state_of_disk_files, log_of_disk_files};
 
+use crate::log::{Asked, Log};
 use crate::port::{Files, Got, Put};
 use crate::streams::{answer_to, read_to_end, write_whole};
 use std::alloc::Global;
@@ -26,28 +28,31 @@ pub struct DiskFiles<R> {
     rt: R,
     read_faults: u64,
     write_faults: u64,
+    log: Log,
 }
 
 impl<R: rt::Files> DiskFiles<R> {
-    /// The files of this runtime, and no fault so far.
+    /// The files of this runtime, and no call and no fault so far.
     pub fn new(rt: R) -> DiskFiles<R>
-        ensures { state_of_disk_files result ≡ record {
+        ensures state { state_of_disk_files result ≡ record {
           contents = None;
           read_faults = 0;
           write_faults = 0;
         } }
+        ensures logged { log_of_disk_files result ≡ [] }
     {
         DiskFiles {
             rt,
             read_faults: 0,
             write_faults: 0,
+            log: Log::new(),
         }
     }
 }
 
 /// Opens and reads a file.
 fn read_file<R: rt::Files>(rt: &R, alloc: Global, name: &str, max: u32) -> Got
-    ensures { IsWithin max result }
+    ensures { IsWithin max (given_of result) }
 {
     match File::open(rt, name) {
         Ok(mut file) => read_to_end(&mut file, alloc, max),
@@ -69,11 +74,14 @@ fn write_file<R: rt::Files>(rt: &R, name: &str, bytes: &[u8]) -> Put {
 impl<R: rt::Files> Files for DiskFiles<R> {
     ghost state = { state_of_disk_files };
 
+    ghost log = { log_of_disk_files };
+
     fn read(&mut self, alloc: Global, name: &str, max: u32) -> Got {
         let answer = read_file(&self.rt, alloc, name, max);
         if let Got::Failed = answer {
             self.read_faults = self.read_faults.saturating_add(1);
         }
+        self.log = self.log.then(&Asked::Read(name, max, &answer));
         answer
     }
 
@@ -82,6 +90,7 @@ impl<R: rt::Files> Files for DiskFiles<R> {
         if let Put::Failed = answer {
             self.write_faults = self.write_faults.saturating_add(1);
         }
+        self.log = self.log.then(&Asked::Write(name, bytes, answer));
         answer
     }
 

@@ -5,12 +5,14 @@
 //! `Writes` of `specs/Files`, `Puts` of `specs/Sink`. The counts, `Rose` and `IsQuiet` stand in
 //! `specs/Counts`. `MemFiles` and `MemSink` tell what they hold and have exact contracts
 //! (`specs/MemFiles`, `specs/MemSink`). `DiskFiles` and `StdSink` are the real ones, of whose
-//! content the traits tell nothing.
+//! content the traits tell nothing. What was asked of any of them, and what it answered, stands in
+//! its log (`specs/Events`), which only proofs read and which takes no memory.
 
 #![tactic(auto)]
 
 mod calls;
 mod disk_files;
+mod log;
 mod mem_files;
 mod mem_sink;
 mod port;
@@ -20,6 +22,7 @@ mod streams;
 mod theorems;
 
 pub use disk_files::DiskFiles;
+pub use log::{Asked, Log};
 pub use mem_files::MemFiles;
 pub use mem_sink::MemSink;
 pub use port::{Files, Got, Put, Sink};

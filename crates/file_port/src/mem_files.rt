@@ -1,13 +1,15 @@
 //! Files in memory, with a list of the calls that are to fail.
 
-ghost use Rattle.std.specs.Prelude.{◌≡◌, ◌↔◌, ◌≤◌, ◌<◌, ◌+◌, IfOk, true, false, option_map, string_bytes, length, find, reverse};
+ghost use Rattle.std.specs.Prelude.{◌≡◌, ◌↔◌, ◌≤◌, ◌<◌, ◌+◌, IfOk, true, false, option_map, string_bytes, [], ◌∷◌, ◌++◌, length, find, reverse};
 ghost use Rattle.std.specs.Str.{bytes_eq};
 ghost use Rattle.std.specs.FinMap as finmap;
 ghost use Rattle.file_port.specs.Files.{Reads, Writes};
 ghost use Rattle.file_port.specs.declared.spare.TheConstants.{MAX_NAME, MAX_BYTES};
-ghost use Rattle.file_port.specs.MemFiles.{state_of_mem_files, log_map, files_fail_next, next_read_result, read_result, IsReadAnswer, after_read, after_write};
+ghost use Rattle.file_port.specs.Events.{was_read, was_written, given_of, given_by};
+ghost use Rattle.file_port.specs.MemFiles.{state_of_mem_files, log_map, files_fail_next, next_given, IsGiven, counted_read, after_read, stored_write, after_write};
 
 use crate::calls::is_failing;
+use crate::log::{Asked, Log};
 use crate::port::{Files, Got, Put};
 use crate::spare::{MAX_BYTES, MAX_NAME, Spare};
 use std::alloc::{AllocError, Global};
@@ -29,6 +31,7 @@ pub struct MemFiles {
     write_faults: u64,
     calls: u64,
     failing: Vec<u32>,
+    log: Log,
 }
 
 impl Model for MemFiles {
@@ -46,6 +49,7 @@ impl Model for MemFiles {
       room = length a.spares.items;
       calls = a.calls;
       failing = a.failing.items;
+      log = a.log.events;
     } };
 
     ghost invariant = { λ a. length a.files.items + length a.spares.items ≤ vec_capacity a.files };
@@ -72,7 +76,7 @@ fn find_file<'a>(files: &'a [(String, Vec<u8>)], name: &str) -> Option<&'a [u8]>
 
 /// What a read answers that does not fail.
 fn copy_file(alloc: Global, file: Option<&[u8]>, max: u32) -> Got
-    ensures { IsReadAnswer (read_result max (option_map (λ b. b.now) file.entry)) result }
+    ensures { IsGiven (given_by max (option_map (λ b. b.now) file.entry)) (given_of result) }
 {
     let Some(bytes) = file else {
         return Got::Missing;
@@ -112,6 +116,7 @@ impl MemFiles {
           room = room;
           calls = 0;
           failing = failing.items;
+          log = [];
         }) }
     {
         let spares = make_spares(alloc, room)?;
@@ -123,6 +128,7 @@ impl MemFiles {
             write_faults: 0,
             calls: 0,
             failing,
+            log: Log::new(),
         })
     }
 
@@ -134,15 +140,14 @@ impl MemFiles {
     }
 }
 
-impl Files for MemFiles {
-    ghost state = { state_of_mem_files };
-
-    fn read(&mut self, alloc: Global, name: &str, max: u32) -> Got
+impl MemFiles {
+    /// Answers a read, and counts it.
+    fn answer(&mut self, alloc: Global, name: &str, max: u32) -> Got
         ensures meaning { Reads name.now max
-            (state_of_mem_files self.old) (state_of_mem_files self.new) result }
+            (state_of_mem_files self.old) (state_of_mem_files self.new) (given_of result) }
         ensures listed { (result ≡ Got.Failed) ↔ (files_fail_next self.old ≡ true) }
-        ensures answer { IsReadAnswer (next_read_result self.old name.now max) result }
-        ensures after { self.new ≡ after_read self.old }
+        ensures answer { IsGiven (next_given self.old name.now max) (given_of result) }
+        ensures after { self.new ≡ counted_read self.old }
     {
         let fails = is_failing(self.failing.as_slice(), self.calls);
         self.calls = self.calls.saturating_add(1);
@@ -153,12 +158,11 @@ impl Files for MemFiles {
         copy_file(alloc, find_file(self.files.as_slice(), name), max)
     }
 
-    fn write(&mut self, name: &str, bytes: &[u8]) -> Put
+    /// Stores the bytes, or a part of them, and counts the write.
+    fn store(&mut self, name: &str, bytes: &[u8]) -> Put
         ensures meaning { Writes name.now bytes.now
             (state_of_mem_files self.old) (state_of_mem_files self.new) result }
-        ensures exact { (self.new, result) ≡ after_write self.old name.now bytes.now }
-
-        // Only a listed write fails, and one past the room.
+        ensures exact { (self.new, result) ≡ stored_write self.old name.now bytes.now }
         ensures sure { files_fail_next self.old ≡ false → 0 < self.old.room →
             length name.now ≤ MAX_NAME
             → length bytes.now ≤ MAX_BYTES → result ≡ Put.Done }
@@ -181,6 +185,43 @@ impl Files for MemFiles {
             return Put::Failed;
         }
         Put::Done
+    }
+}
+
+impl Files for MemFiles {
+    ghost state = { state_of_mem_files };
+
+    ghost log = { λ files. files.log };
+
+    fn read(&mut self, alloc: Global, name: &str, max: u32) -> Got
+        ensures meaning { Reads name.now max
+            (state_of_mem_files self.old) (state_of_mem_files self.new) (given_of result) }
+        ensures logged { self.new.log
+            ≡ self.old.log ++ was_read name.now max (given_of result) ∷ [] }
+        ensures listed { (result ≡ Got.Failed) ↔ (files_fail_next self.old ≡ true) }
+        ensures answer { IsGiven (next_given self.old name.now max) (given_of result) }
+        ensures after { self.new ≡ after_read self.old name.now max (given_of result) }
+    {
+        let answer = self.answer(alloc, name, max);
+        self.log = self.log.then(&Asked::Read(name, max, &answer));
+        answer
+    }
+
+    fn write(&mut self, name: &str, bytes: &[u8]) -> Put
+        ensures meaning { Writes name.now bytes.now
+            (state_of_mem_files self.old) (state_of_mem_files self.new) result }
+        ensures logged { self.new.log
+            ≡ self.old.log ++ was_written name.now bytes.now result ∷ [] }
+        ensures exact { (self.new, result) ≡ after_write self.old name.now bytes.now }
+
+        // Only a listed write fails, and one past the room.
+        ensures sure { files_fail_next self.old ≡ false → 0 < self.old.room →
+            length name.now ≤ MAX_NAME
+            → length bytes.now ≤ MAX_BYTES → result ≡ Put.Done }
+    {
+        let answer = self.store(name, bytes);
+        self.log = self.log.then(&Asked::Write(name, bytes, answer));
+        answer
     }
 
     fn read_faults(&self) -> u64 {

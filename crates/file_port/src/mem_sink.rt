@@ -1,10 +1,12 @@
 //! Output in memory, with a list of the calls that are to fail.
 
 ghost use Rattle.std.specs.Prelude.{◌≡◌, ◌≤◌, ◌+◌, IfOk, false, length, []};
+ghost use Rattle.file_port.specs.Inside.Takes.{Takes};
 ghost use Rattle.file_port.specs.Sink.{Puts};
-ghost use Rattle.file_port.specs.MemSink.{state_of_mem_sink, sink_fails_next, after_put};
+ghost use Rattle.file_port.specs.MemSink.{state_of_mem_sink, sink_fails_next, taken_put, after_put};
 
 use crate::calls::is_failing;
+use crate::log::{Asked, Log};
 use crate::port::{Put, Sink};
 use std::alloc::{AllocError, Global};
 use std::marker::Model;
@@ -21,6 +23,7 @@ pub struct MemSink {
     faults: u64,
     calls: u64,
     failing: Vec<u32>,
+    log: Log,
 }
 
 impl Model for MemSink {
@@ -37,6 +40,7 @@ impl Model for MemSink {
       room = a.room;
       calls = a.calls;
       failing = a.failing.items;
+      log = a.log.events;
     } };
 
     ghost invariant = { λ a. a.room ≤ vec_capacity a.bytes };
@@ -51,6 +55,7 @@ impl MemSink {
           room = room;
           calls = 0;
           failing = failing.items;
+          log = [];
         }) }
     {
         Ok(MemSink {
@@ -59,6 +64,7 @@ impl MemSink {
             faults: 0,
             calls: 0,
             failing,
+            log: Log::new(),
         })
     }
 
@@ -70,17 +76,15 @@ impl MemSink {
     }
 }
 
-impl Sink for MemSink {
-    ghost state = { state_of_mem_sink };
-
-    fn put(&mut self, bytes: &[u8]) -> Put
-        ensures meaning { Puts bytes.now
+impl MemSink {
+    /// Takes the piece, or a part of it.
+    fn take(&mut self, bytes: &[u8]) -> Put
+        ensures meaning { Takes bytes.now
             (state_of_mem_sink self.old) (state_of_mem_sink self.new) result }
-        ensures exact { (self.new, result) ≡ after_put self.old bytes.now }
-
-        // Only a listed put fails, and one past the room.
+        ensures exact { (self.new, result) ≡ taken_put self.old bytes.now }
         ensures sure { sink_fails_next self.old ≡ false
             → length self.old.bytes + length bytes.now ≤ self.old.room → result ≡ Put.Done }
+        ensures same { self.new.log ≡ self.old.log }
     {
         let fails = is_failing(self.failing.as_slice(), self.calls);
         self.calls = self.calls.saturating_add(1);
@@ -99,6 +103,24 @@ impl Sink for MemSink {
             return Put::Failed;
         }
         Put::Done
+    }
+}
+
+impl Sink for MemSink {
+    ghost state = { state_of_mem_sink };
+
+    fn put(&mut self, bytes: &[u8]) -> Put
+        ensures meaning { Puts bytes.now
+            (state_of_mem_sink self.old) (state_of_mem_sink self.new) result }
+        ensures exact { (self.new, result) ≡ after_put self.old bytes.now }
+
+        // Only a listed put fails, and one past the room.
+        ensures sure { sink_fails_next self.old ≡ false
+            → length self.old.bytes + length bytes.now ≤ self.old.room → result ≡ Put.Done }
+    {
+        let answer = self.take(bytes);
+        self.log = self.log.then(&Asked::Put(bytes, answer));
+        answer
     }
 
     fn faults(&self) -> u64 {

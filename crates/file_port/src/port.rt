@@ -1,6 +1,7 @@
 //! The two traits of the outside, and what their calls answer.
 
-ghost use Rattle.std.specs.Prelude.{◌≡◌};
+ghost use Rattle.std.specs.Prelude.{◌≡◌, List, [], ◌∷◌, ◌++◌};
+ghost use Rattle.file_port.specs.Events.{Event, was_read, was_written, given_of};
 ghost use Rattle.file_port.specs.Files.{FilesState, Reads, Writes};
 ghost use Rattle.file_port.specs.Sink.{SinkState, Puts};
 
@@ -35,14 +36,22 @@ pub trait Files {
     /// The files, where they are known, and the faults so far.
     ghost state: { Self → FilesState };
 
+    /// The reads and writes so far, with their answers, in order.
+    ghost log: { Self → List Event };
+
     /// The bytes of the file of this name, if it has at most `max` of them. The files stay.
     fn read(&mut self, alloc: Global, name: &str, max: u32) -> Got
-        ensures { Reads name.now max (state self.old) (state self.new) result };
+        ensures meaning { Reads name.now max
+            (state self.old) (state self.new) (given_of result) }
+        ensures logged { log self.new
+            ≡ log self.old ++ was_read name.now max (given_of result) ∷ [] };
 
     /// Sets the bytes of the file of this name, which need not be there before.
     /// After a failure the file is as it was, or has a prefix of the bytes.
     fn write(&mut self, name: &str, bytes: &[u8]) -> Put
-        ensures { Writes name.now bytes.now (state self.old) (state self.new) result };
+        ensures meaning { Writes name.now bytes.now (state self.old) (state self.new) result }
+        ensures logged { log self.new
+            ≡ log self.old ++ was_written name.now bytes.now result ∷ [] };
 
     /// How many reads have failed. The count stays at the greatest u64.
     fn read_faults(&self) -> u64
@@ -55,7 +64,7 @@ pub trait Files {
 
 /// Output that only grows.
 pub trait Sink {
-    /// The bytes so far, where they are known, and the faults so far.
+    /// The bytes so far, where they are known, the faults, and what was put.
     ghost state: { Self → SinkState };
 
     /// Adds a piece at the end. An empty piece is always taken. After a failure the output has

@@ -1,9 +1,11 @@
 //! A writer as a sink.
 
-ghost use Rattle.std.specs.Prelude.{◌≡◌, None};
+ghost use Rattle.std.specs.Prelude.{◌≡◌, [], None};
+ghost use Rattle.file_port.specs.Inside.Takes.{Takes};
 ghost use Rattle.file_port.specs.Sink.{Puts};
 ghost use Rattle.file_port.specs.StdSink.{state_of_std_sink, writer_of, TakesUp};
 
+use crate::log::{Asked, Log};
 use crate::port::{Put, Sink};
 use crate::streams::write_through;
 use std::io::Write;
@@ -16,15 +18,41 @@ use std::io::Write;
 pub struct StdSink<W> {
     out: W,
     faults: u64,
+    log: Log,
 }
 
 impl<W: Write> StdSink<W> {
-    /// The writer, and no fault so far.
+    /// The writer, and no put and no fault so far.
     pub fn new(out: W) -> StdSink<W>
         ensures writer { writer_of result ≡ out }
-        ensures state { state_of_std_sink result ≡ record { contents = None; faults = 0 } }
+        ensures state { state_of_std_sink result ≡ record {
+          contents = None;
+          faults = 0;
+          asked = [];
+        } }
     {
-        StdSink { out, faults: 0 }
+        StdSink {
+            out,
+            faults: 0,
+            log: Log::new(),
+        }
+    }
+}
+
+impl<W: Write> StdSink<W> {
+    /// Takes the piece, or a part of it.
+    fn take(&mut self, bytes: &[u8]) -> Put
+        ensures meaning { Takes bytes.now
+            (state_of_std_sink self.old) (state_of_std_sink self.new) result }
+        ensures taken { TakesUp (W.contents (writer_of self.old))
+            (W.contents (writer_of self.new)) bytes.now result }
+        ensures same { self.new.log ≡ self.old.log }
+    {
+        let answer = write_through(&mut self.out, bytes);
+        if let Put::Failed = answer {
+            self.faults = self.faults.saturating_add(1);
+        }
+        answer
     }
 }
 
@@ -39,10 +67,8 @@ impl<W: Write> Sink for StdSink<W> {
         ensures taken { TakesUp (W.contents (writer_of self.old))
             (W.contents (writer_of self.new)) bytes.now result }
     {
-        let answer = write_through(&mut self.out, bytes);
-        if let Put::Failed = answer {
-            self.faults = self.faults.saturating_add(1);
-        }
+        let answer = self.take(bytes);
+        self.log = self.log.then(&Asked::Put(bytes, answer));
         answer
     }
 

@@ -3,8 +3,9 @@
 ghost use Rattle.std.specs.Prelude.{◌≡◌, ◌≢◌, ℕ, List, [], IfSome};
 ghost use Rattle.std.specs.IoError.{error_kind};
 ghost use Rattle.file_port.specs.declared.port.Put.{Put};
+ghost use Rattle.file_port.specs.Events.{given_of};
 ghost use Rattle.file_port.specs.Files.{IsWithin};
-ghost use Rattle.file_port.specs.Inside.Streams.{MayGive};
+ghost use Rattle.file_port.specs.Inside.Streams.{MayRead};
 ghost use Rattle.file_port.specs.StdSink.{TakesUp};
 
 use crate::port::{Got, Put};
@@ -16,8 +17,8 @@ const PIECE: usize = 4096;
 
 /// What a read answers to a fault of the system: `Memory` to want of memory, else `Failed`.
 pub fn answer_to(error: Error) -> Got
-    ensures within { (max : ℕ) → IsWithin max result }
-    ensures right { (max : ℕ) (bytes : List ℕ) → MayGive max bytes result }
+    ensures within { (max : ℕ) → IsWithin max (given_of result) }
+    ensures right { (max : ℕ) (bytes : List ℕ) → MayRead max bytes result }
     ensures memory { error_kind error ≡ ErrorKind.OutOfMemory → result ≡ Got.Memory }
     ensures failed { error_kind error ≢ ErrorKind.OutOfMemory → result ≡ Got.Failed }
 {
@@ -29,8 +30,8 @@ pub fn answer_to(error: Error) -> Got
 
 /// Reads to the end, to the first fault or to one byte more than `max`.
 pub fn read_to_end<S: Read>(source: &mut S, alloc: Global, max: u32) -> Got
-    ensures within { IsWithin max result }
-    ensures right { IfSome (S.remaining source.old) (λ bytes. MayGive max bytes result) }
+    ensures within { IsWithin max (given_of result) }
+    ensures right { IfSome (S.remaining source.old) (λ bytes. MayRead max bytes result) }
 {
     let mut bytes = Vec::new(alloc);
     let mut piece = [0u8; PIECE];

@@ -4,9 +4,9 @@ use Rattle.file_port.specs.declared.port.Got.{Got}
 use Rattle.file_port.specs.declared.port.Got.TheVariants as got
 
 -- what a read to the end may answer that takes at most max bytes, where these are the reader's
-abbrev pub MayGive : ℕ → List ℕ → Got → Type 0
-MayGive max bytes (got.Bytes given) = (given.items ≡ bytes) × (length bytes ≤ max)
-MayGive max bytes got.TooLong = max < length bytes
-MayGive max bytes got.Missing = ⊥
-MayGive max bytes got.Failed = ⊤
-MayGive max bytes got.Memory = ⊤
+abbrev pub MayRead : ℕ → List ℕ → Got → Type 0
+MayRead max bytes (got.Bytes given) = (given.items ≡ bytes) × (length bytes ≤ max)
+MayRead max bytes got.TooLong = max < length bytes
+MayRead max bytes got.Missing = ⊥
+MayRead max bytes got.Failed = ⊤
+MayRead max bytes got.Memory = ⊤
