@@ -1,5 +1,5 @@
 -- What the arguments of a program ask for.
-use Rattle.std.specs.Prelude.{◌≡◌, ◌≢◌, ℕ, List}
+use Rattle.std.specs.Prelude.{◌≡◌, ◌≢◌, ℕ, List, []}
 use Rattle.file_port.specs.Files.{FileMap}
 use Rattle.pcc_exit.specs.Exits.{Exit, Answer}
 
@@ -16,6 +16,7 @@ pub data Standing : Type 0 where
 pub record Texts : Type 0 where
   pub usage : List ℕ
   pub unknown_policy : List ℕ
+  pub missing : List ℕ → List ℕ
   pub read_fault : List ℕ → List ℕ
   pub write_fault : List ℕ → List ℕ
 
@@ -37,6 +38,14 @@ usage_exit texts = record { status = 2; text = texts.usage }
 -- no policy has the name
 abbrev pub unknown_policy_exit : Texts → Exit
 unknown_policy_exit texts = record { status = 1; text = texts.unknown_policy }
+
+-- there is no file of the name
+abbrev pub missing_exit : Texts → List ℕ → Exit
+missing_exit texts name = record { status = 3; text = texts.missing name }
+
+-- there was no memory
+abbrev pub no_memory_exit : Exit
+no_memory_exit = record { status = 5; text = [] }
 
 -- the read of the file of a name failed
 abbrev pub read_fault_exit : Texts → List ℕ → Exit

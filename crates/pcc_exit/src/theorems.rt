@@ -1,14 +1,23 @@
 //! What holds of the definitions, with nothing to run.
 
-ghost use Rattle.std.specs.Prelude.{ℕ};
+ghost use Rattle.std.specs.Prelude.{ℕ, List};
+ghost use Rattle.file_port.specs.Events.{Event};
 ghost use Rattle.file_port.specs.Files.{FilesState};
 ghost use Rattle.file_port.specs.Sink.{SinkState};
-ghost use Rattle.pcc_exit.specs.Requests.{Request};
+ghost use Rattle.pcc_exit.specs.Requests.{Request, Texts};
+ghost use Rattle.pcc_exit.specs.Runs.{Task, Runs, IsSuited, request_of_task};
 ghost use Rattle.pcc_exit.specs.Ends.{Ends};
 ghost use Rattle.pcc_exit.specs.Accounts.{Accounts};
 
-/// However a run ends, its status and the counts say what `Accounts` lists.
+/// A run that does what a suited task asks for ends with the answer where the files are known, and
+/// as `Ends` says where they aren't; and however a run ends, its status and the counts say what
+/// `Accounts` lists.
 pub fn laws()
-    ensures { (request : Request) (f g : FilesState) (s t : SinkState) (status : ℕ)
+    ensures ends { (texts : Texts) (task : Task) (e e' : List Event) (f g : FilesState)
+        (s t : SinkState) (status : ℕ)
+        → IsSuited texts task.standing task.names task.stage
+        → Runs texts task.stage e e' f g s t status
+        → Ends (request_of_task texts task) f g s t status }
+    ensures accounts { (request : Request) (f g : FilesState) (s t : SinkState) (status : ℕ)
         → Ends request f g s t status → Accounts request f g s t status }
 {}
