@@ -8,6 +8,7 @@ ghost use Rattle.alpha_cfg.specs.CodeDecoding.{decoded_code, IsReadCode};
 ghost use Rattle.alpha_cfg.specs.Cuts.{AreFlags, IsCut, IsUncut};
 ghost use Rattle.alpha_cfg.specs.Deciding.{flags_of, uncut_of};
 ghost use Rattle.alpha_cfg.specs.Machine.{State, IsState, step_of, run_of};
+ghost use Rattle.alpha_cfg.specs.Isolation.{ChangesWritable, DependsOnReadable, RunsJoin};
 
 /// Steps and runs of code keep a state one, its index inside the code, and its rights.
 pub fn laws()

@@ -1,222 +1,592 @@
--- What `check`, `run` and `prove` come to, by the policy and the file that are named.
-use Rattle.std.proofs.Common.{◌≡◌, ℕ, ◌≤◌, Bool, true, false, List, [], ◌∷◌, length, Option, Some, None, Result, Ok, Err, nat_lt, le-ltb, if◌then◌else◌, refl, sym, ap, ◌∙◌}
-use Rattle.std.specs.FinMap as map
-use Rattle.file_port.specs.Files.{FileMap}
-use Rattle.file_port.proofs.FileMaps.{get-insert_same}
+-- What a run means, by its events and its exit.
+use Rattle.std.proofs.Common.{◌≡◌, ℕ, ◌≤◌, ◌⊎◌, inl, inr, Bool, true, false, true≢false, List, [], ◌∷◌, ◌++◌, length, Option, Some, None, is_some, unwrap_or, Result, Ok, Err, refl, sym, ap, ◌∙◌, subst, arith}
+use Rattle.std.proofs.lemmas.List.{append-nil}
+use Rattle.file_port.specs.Events.{Given, whole, missing, too_long, failed, no_memory, Event, was_read, was_written, was_put}
+use Rattle.file_port.specs.Files.{FilesState}
+use Rattle.file_port.specs.Sink.{SinkState}
+use Rattle.file_port.specs.declared.Put.{Put}
 use Rattle.alpha_words.specs.declared.insn.Insn.{Insn}
-use Rattle.alpha_cfg.specs.Machine.{IsState}
+use Rattle.alpha_cfg.specs.Isolation.{ChangesWritable, DependsOnReadable}
+use Rattle.alpha_cfg.specs.Machine.{State, IsState}
 use Rattle.policy_set.specs.declared.kind.PolicyKind.{PolicyKind}
 use Rattle.policy_set.specs.Names.{policy_of}
 use Rattle.policy_set.specs.Policies.{pre_of}
 use Rattle.reference_machine.specs.declared.layout.TheConstants.{ARENA}
 use Rattle.reference_machine.specs.Starts.{StartView, start_state}
+use Rattle.packet_store.specs.declared.fault.PacketFault.{PacketFault}
 use Rattle.packet_store.specs.declared.reader.TheConstants.{MAX_PACKET}
+use Rattle.packet_store.specs.PacketDecoding.{decoded_packets}
 use Rattle.packet_store.specs.PolicyStarts.{start_of}
+use Rattle.packet_store.specs.Results.{packet_result}
 use Rattle.packet_store.specs.StartMeets.{StartMeets}
 use Rattle.proof_container.specs.Encoding.{IsBytes}
+use Rattle.asm_text.specs.declared.limits.TheConstants.{MAX_SOURCE}
 use Rattle.pcc_gate.specs.declared.refusal.Refusal.{Refusal}
 use Rattle.pcc_gate.specs.Accepted.{IsAccepted}
 use Rattle.pcc_gate.specs.First.{first_refusal}
 use Rattle.pcc_gate.specs.Laws.{AcceptedFirst}
 use Rattle.pcc_gate.specs.Safe.{AcceptedSafe}
-use Rattle.pcc_gate.proofs.First.{accepted-none}
 use Rattle.bounds_prover.specs.declared.fault.ProveFault.{ProveFault}
 use Rattle.bounds_prover.specs.Proving.{proved_container}
+use Rattle.bounds_prover.specs.ProvedLaws.{ProvedAccepted}
 use Rattle.pcc_words.specs.Invocations.{Invocation, asm, prove, check, run, ref, demo}
-use Rattle.pcc_lines.specs.Fixed.{accepted_line, unknown_policy_line, container_too_long_line}
+use Rattle.pcc_lines.specs.Fixed.{accepted_line, unknown_policy_line, container_too_long_line, packets_too_long_line, source_too_long_line}
 use Rattle.pcc_lines.specs.Refusals.{refusal_line}
-use Rattle.pcc_exit.specs.Exits.{Exit}
+use Rattle.pcc_lines.specs.Results.{result_lines}
+use Rattle.pcc_lines.specs.Sources.{written_line}
+use Rattle.pcc_exit.specs.Exits.{Exit, Change}
+use Rattle.pcc_exit.specs.Requests.{missing_exit, no_memory_exit}
+use Rattle.pcc_exit.specs.Stages.{Stage, stops, gives, reads, ◌>>=◌, went_on, Reads as Asks, Follows}
+use Rattle.pcc_exit.specs.Runs.{Effect, AreOctets, Happens, Comes, stopped, printed, wrote, done_exit, written_exit, Prints, IsRun, decided, out_of_memory as ran_out, Runs}
+use Rattle.pcc_exit.proofs.RunLemmas.{is_stop, is_read, exit_at}
 use Rattle.pcc_cli.specs.declared.stages.TheConstants.{MAX_FILE}
-use Rattle.pcc_cli.specs.Stages.{Staged, Effect, ◌>>=◌, go_on, pure, refused, missing, policy_found, bytes_found, code_in, unless_refused, accepted_in, accepted_code_in, container_proved, proved_in, accepted_of, accepted_code_of, proved_of, printing, writing}
+use Rattle.pcc_cli.specs.Texts.{texts}
+use Rattle.pcc_cli.specs.Stages.Common.{refused, policy_found, policy_named, printing, writing}
+use Rattle.pcc_cli.specs.Stages.Containers.{container_bytes_of, code_in, code_of}
+use Rattle.pcc_cli.specs.Stages.Judging.{unless_refused, accepted_in, accepted_code_in, accepted_of, accepted_code_of}
+use Rattle.pcc_cli.specs.Stages.Packets.{packets_found, packets_in, packets_of}
+use Rattle.pcc_cli.specs.Stages.Assembling.{source_found, source_in, container_made, assembled_as, assembled_in, assembled_of}
+use Rattle.pcc_cli.specs.Stages.Proving.{container_proved, proved_in, proved_of}
+use Rattle.pcc_cli.specs.Commands.Assemble.{asm_command}
 use Rattle.pcc_cli.specs.Commands.Check.{check_command}
 use Rattle.pcc_cli.specs.Commands.Prove.{prove_command}
+use Rattle.pcc_cli.specs.Commands.Reference.{ref_command}
 use Rattle.pcc_cli.specs.Commands.Running.{run_command}
-use Rattle.pcc_cli.specs.Headline.{HoldBytes, IsAcceptedFile, accepted_effect, CheckAccepts, lines_of_packets, RunAccepts, WritesAccepted, ProveAccepts, RunsSafely, Accepts, IsSafeToRun}
-use Rattle.pcc_cli.proofs.StageLemmas.{go_on-ok}
-use Rattle.pcc_cli.proofs.RunLemmas.{accepted_code_of_bytes}
+use Rattle.pcc_cli.specs.Commands.Demo.{demo_effect, demo_policy, demo_command}
+use Rattle.pcc_cli.specs.Tasks.{stage_of, policy_name_of, task_of_command}
+use Rattle.pcc_cli.specs.Headline.{IsVerdict, IsJudged, lines_exit, run_exit, Checks, RunsCode, not_accepted, accepted, Refs, no_code, ran, Makes, not_made, made, IsAssembled, IsProved, DoesUnder, Does, Means, came, out_of_memory, MeansIfCommand, IsSafeRun, RunsSafely, AcceptedRunsSafely}
+use Rattle.pcc_cli.proofs.RunLemmas.{code_given, accepted_code_of_bytes}
+use Rattle.pcc_cli.proofs.TaskLemmas.{code_in-ends, assembled_in-ends, proved_in-ends, demo_ends}
 
--- bytes that aren't more than a file may have
-abbrev fitting : PolicyKind → List ℕ → Bool → Result (PolicyKind × List ℕ) Exit
-fitting kind bytes true = Err (refused container_too_long_line)
-fitting kind bytes false = Ok (kind, bytes)
+-- ---- what follows a stage
 
--- the bytes that are judged, where there are any
-abbrev judged_bytes : List ℕ → Option PolicyKind → Option (List ℕ) → Result (PolicyKind × List ℕ) Exit
-judged_bytes file None f = Err (refused unknown_policy_line)
-judged_bytes file (Some kind) None = Err (missing file)
-judged_bytes file (Some kind) (Some bytes) = fitting kind bytes (nat_lt MAX_FILE (length bytes))
+-- a stage that asks for nothing
+no_read : {A : Type 0} (s : Stage A) → is_read s ≡ false → (events : List Event) (later : Stage A) → Follows texts events s later → (events ≡ []) × (later ≡ s)
+no_read s none [] later h = (refl, h)
+no_read s none (was_read name max given ∷ events) later h = absurd (true≢false (sym (ap is_read h.1.asks) ∙ none))
+no_read s none (was_written name bytes answer ∷ events) later h = absurd h
+no_read s none (was_put piece answer ∷ events) later h = absurd h
 
--- what is judged, where something is
-abbrev kind_judged : Result (PolicyKind × List ℕ) Exit → Option PolicyKind
-kind_judged (Ok p) = Some p.0
-kind_judged (Err exit) = None
+-- where a stage that reads goes on, and the event
+abbrev went_at : {A : Type 0} → Stage A → Given → Stage A
+went_at (stops exit) given = stops exit
+went_at (gives x) given = gives x
+went_at (reads name max more on) given = went_on texts name more on given
 
-abbrev bytes_judged : Result (PolicyKind × List ℕ) Exit → Option (List ℕ)
-bytes_judged (Ok p) = Some p.1
-bytes_judged (Err exit) = None
+abbrev event_at : {A : Type 0} → Stage A → Given → Event
+event_at (stops exit) given = was_read [] 0 given
+event_at (gives x) given = was_read [] 0 given
+event_at (reads name max more on) given = was_read name max given
 
--- reads before a stage don't change what it gives
-go_on-reads : {A B : Type 0} (reads others : List (List ℕ)) (r : Result A Exit) (next : A → Staged B) → (go_on reads r next).result ≡ (go_on others r next).result
-go_on-reads reads others (Ok x) next = refl
-go_on-reads reads others (Err exit) next = refl
+-- a stage that reads a file has read it, where it is at one that doesn't read
+record HasRead {A : Type 0} (name : List ℕ) (max : ℕ) (more : Exit) (on : List ℕ → Stage A) (events : List Event) (later : Stage A) : Type 0 where
+  given : Given
+  rest : List Event
+  is : events ≡ was_read name max given ∷ rest
+  follows : Follows texts rest (went_on texts name more on given) later
 
-module _ {A : Type 0} (file : List ℕ) (X : PolicyKind → List ℕ → Staged A) (next : PolicyKind → A → Staged Effect) where
-  -- the stages behind the policy, by what is found under the name
-  abbrev stages : Option (List ℕ) → PolicyKind → Staged Effect
-  stages f kind = (record { reads = file ∷ []; result = bytes_found MAX_FILE (refused container_too_long_line) file f } >>= λ bytes. X kind bytes) >>= λ x. next kind x
+first_read : {A : Type 0} (name : List ℕ) (max : ℕ) (more : Exit) (on : List ℕ → Stage A) (events : List Event) (later : Stage A) → is_read later ≡ false
+    → Follows texts events (reads name max more on) later → HasRead name max more on events later
+first_read name max more on [] later ended h = absurd (true≢false (sym (ap is_read h) ∙ ended))
+first_read {A = A} name max more on (was_read n m given ∷ events) later ended h =
+    let asks : Asks texts n m given (reads name max more on) h.0 = h.1 in
+    record {
+      given = given;
+      rest = events;
+      is = ap (λ (s : Stage A). event_at s given ∷ events) (sym asks.asks);
+      follows = subst (λ (s : Stage A). Follows texts events s later) (asks.goes ∙ ap (λ (s : Stage A). went_at s given) (sym asks.asks)) h.2;
+    }
+first_read name max more on (was_written n bytes answer ∷ events) later ended h = absurd h
+first_read name max more on (was_put piece answer ∷ events) later ended h = absurd h
 
-  -- what they come to, by the bytes that are judged
-  abbrev by_bytes : Result (PolicyKind × List ℕ) Exit → Result Effect Exit
-  by_bytes (Err exit) = Err exit
-  by_bytes (Ok p) = (X p.0 p.1 >>= λ x. next p.0 x).result
+-- one read, behind which nothing is asked
+record ReadOnce {A : Type 0} (name : List ℕ) (max : ℕ) (more : Exit) (on : List ℕ → Stage A) (events : List Event) (later : Stage A) : Type 0 where
+  given : Given
+  is : events ≡ was_read name max given ∷ []
+  goes : later ≡ went_on texts name more on given
 
-  sized : (kind : PolicyKind) (bytes : List ℕ) (b : Bool) → ((record { reads = file ∷ []; result = if b then Err (refused container_too_long_line) else Ok bytes } >>= λ bytes. X kind bytes) >>= λ x. next kind x).result ≡ by_bytes (fitting kind bytes b)
-  sized kind bytes true = refl
-  sized kind bytes false = go_on-reads (file ∷ (X kind bytes).reads) (X kind bytes).reads (X kind bytes).result (λ x. next kind x)
+went_on-ended : {A : Type 0} (name : List ℕ) (more : Exit) (on : List ℕ → Stage A) → ((b : List ℕ) → is_read (on b) ≡ false) → (given : Given) → is_read (went_on texts name more on given) ≡ false
+went_on-ended name more on each (whole b) = each b
+went_on-ended name more on each missing = refl
+went_on-ended name more on each too_long = refl
+went_on-ended name more on each failed = refl
+went_on-ended name more on each no_memory = refl
 
-  pub whole : (p : Option PolicyKind) (f : Option (List ℕ)) → (pure (policy_found p) >>= λ under. stages f under).result ≡ by_bytes (judged_bytes file p f)
-  whole None f = refl
-  whole (Some kind) None = refl
-  whole (Some kind) (Some bytes) = sized kind bytes (nat_lt MAX_FILE (length bytes))
+read_once : {A : Type 0} (name : List ℕ) (max : ℕ) (more : Exit) (on : List ℕ → Stage A) → ((b : List ℕ) → is_read (on b) ≡ false) → (events : List Event) (later : Stage A) → is_read later ≡ false
+    → Follows texts events (reads name max more on) later → ReadOnce name max more on events later
+read_once name max more on each events later ended h =
+    let r = first_read name max more on events later ended h in
+    let last = no_read (went_on texts name more on r.given) (went_on-ended name more on each r.given) r.rest later r.follows in
+    record { given = r.given; is = r.is ∙ ap (λ es. was_read name max r.given ∷ es) last.0; goes = last.1 }
+
+-- ---- how a command ends
+
+-- the exit of a stage that prints, and the change of one that gives an effect
+abbrev end_at : Stage Effect → Exit
+end_at (stops exit) = exit
+end_at (gives effect) = done_exit effect.text
+end_at (reads name max more on) = no_memory_exit
+
+abbrev change_at : Stage Effect → Change
+change_at (stops exit) = None
+change_at (gives effect) = effect.change
+change_at (reads name max more on) = None
+
+-- the reads of a command, where it ends, and what it then does
+record Ended (stage : Stage Effect) (events : List Event) (exit : Exit) : Type 0 where
+  asked : List Event
+  later : Stage Effect
+  follows : Follows texts asked stage later
+  ended : is_read later ≡ false
+  does : ((events ≡ asked) × (exit ≡ end_at later) × (change_at later ≡ None))
+      ⊎ ((text : List ℕ) × (name : List ℕ) × (bytes : List ℕ) × (answer : Put) × (later ≡ gives (record { text = text; change = Some (name, bytes) }))
+      × (events ≡ asked ++ was_written name bytes answer ∷ []) × (exit ≡ written_exit texts name text answer))
+
+ended_of : (stage : Stage Effect) (events : List Event) (exit : Exit) → Comes texts stage events exit → Ended stage events exit
+ended_of stage events exit (stopped follows) = record { asked = events; later = stops exit; follows = follows; ended = refl; does = inl (refl, refl, refl) }
+ended_of stage events exit (printed text follows is) =
+    record { asked = events; later = gives (record { text = text; change = None }); follows = follows; ended = refl; does = inl (refl, is, refl) }
+ended_of stage events exit (wrote asked text name bytes answer split follows is) = record {
+  asked = asked;
+  later = gives (record { text = text; change = Some (name, bytes) });
+  follows = follows;
+  ended = refl;
+  does = inr (text, name, bytes, answer, refl, split, is);
+}
+
+-- a command that ends at once
+ended_at_once : (exit' : Exit) (events : List Event) (exit : Exit) → Ended (stops exit') events exit → (events ≡ []) × (exit ≡ exit')
+ended_at_once exit' events exit e = by e.does
+  where
+    last : (e.asked ≡ []) × (e.later ≡ stops exit')
+    last = no_read (stops exit') refl e.asked e.later e.follows
+
+    by : ((events ≡ e.asked) × (exit ≡ end_at e.later) × (change_at e.later ≡ None))
+        ⊎ ((text : List ℕ) × (name : List ℕ) × (bytes : List ℕ) × (answer : Put) × (e.later ≡ gives (record { text = text; change = Some (name, bytes) }))
+        × (events ≡ e.asked ++ was_written name bytes answer ∷ []) × (exit ≡ written_exit texts name text answer)) → (events ≡ []) × (exit ≡ exit')
+    by (inl d) = (d.0 ∙ last.0, d.1 ∙ ap end_at last.1)
+    by (inr d) = absurd (true≢false (ap is_stop (sym last.1 ∙ d.4)))
+
+-- a command that reads once, and writes nothing
+module _ (name : List ℕ) (max : ℕ) (more : Exit) (on : List ℕ → Stage Effect) (each : (b : List ℕ) → is_read (on b) ≡ false) (silent : (b : List ℕ) → change_at (on b) ≡ None) where
+  went_on-silent : (given : Given) → change_at (went_on texts name more on given) ≡ None
+  went_on-silent (whole b) = silent b
+  went_on-silent missing = refl
+  went_on-silent too_long = refl
+  went_on-silent failed = refl
+  went_on-silent no_memory = refl
+
+  record EndedOnce (events : List Event) (exit : Exit) : Type 0 where
+    given : Given
+    is : events ≡ was_read name max given ∷ []
+    ends : exit ≡ end_at (went_on texts name more on given)
+
+  ended_once : (asked : List Event) (later : Stage Effect) (events : List Event) (exit : Exit) → Follows texts asked (reads name max more on) later → is_read later ≡ false
+      → ((events ≡ asked) × (exit ≡ end_at later) × (change_at later ≡ None))
+      ⊎ ((text : List ℕ) × (to : List ℕ) × (bytes : List ℕ) × (answer : Put) × (later ≡ gives (record { text = text; change = Some (to, bytes) }))
+      × (events ≡ asked ++ was_written to bytes answer ∷ []) × (exit ≡ written_exit texts to text answer)) → EndedOnce events exit
+  ended_once asked later events exit follows ended (inl d) =
+      let r = read_once name max more on each asked later ended follows in
+      record { given = r.given; is = d.0 ∙ r.is; ends = d.1 ∙ ap end_at r.goes }
+  ended_once asked later events exit follows ended (inr d) =
+      let r = read_once name max more on each asked later ended follows in
+      let none : None ≡ Some (d.1, d.2) = sym (went_on-silent r.given) ∙ ap change_at (sym r.goes) ∙ ap change_at d.4 in
+      absurd (true≢false (sym (ap is_some none)))
+
+-- a stage that reads nothing gives a value, or stops
+shape : {A : Type 0} (s : Stage A) → is_read s ≡ false → ((x : A) × (s ≡ gives x)) ⊎ ((exit : Exit) × (s ≡ stops exit))
+shape (stops exit) none = inr (exit, refl)
+shape (gives x) none = inl (x, refl)
+shape (reads name max more on) none = absurd (true≢false none)
+
+-- what the only read gave are bytes
+given_bytes : (name : List ℕ) (max : ℕ) (given : Given) (rest events : List Event) (f g : FilesState) → events ≡ was_read name max given ∷ rest → Happens events f g → AreOctets given
+given_bytes name max given rest events f g is h = let at : Happens (was_read name max given ∷ rest) f g = subst (λ es. Happens es f g) is h in at.2
 
 -- ---- check
 
--- what `check` comes to, by the gate's answer
-abbrev checked : Option Refusal → Result Effect Exit
-checked None = Ok accepted_effect
-checked (Some refusal) = Err (refused (refusal_line refusal))
+module _ (accepted_first : AcceptedFirst) (kind : PolicyKind) where
+  -- what `check` goes on with
+  abbrev judged_by : Option Refusal → Stage Effect
+  judged_by r = unless_refused r >>= λ accepted. printing accepted_line
 
-checked-is : (r : Option Refusal) → (pure (unless_refused r) >>= λ accepted. printing accepted_line).result ≡ checked r
-checked-is None = refl
-checked-is (Some refusal) = refl
+  judged_by-ended : (r : Option Refusal) → is_read (judged_by r) ≡ false
+  judged_by-ended None = refl
+  judged_by-ended (Some refusal) = refl
 
-module _ (policy file : List ℕ) (files : FileMap) where
-  -- what both commands judge
-  abbrev judged : Result (PolicyKind × List ℕ) Exit
-  judged = judged_bytes file (policy_of policy) (map.get files file)
+  judged_by-silent : (r : Option Refusal) → change_at (judged_by r) ≡ None
+  judged_by-silent None = refl
+  judged_by-silent (Some refusal) = refl
 
-  check-by : (check_command policy file files).result ≡ by_bytes file (λ kind bytes. accepted_in kind bytes) (λ kind accepted. printing accepted_line) judged
-  unfolding check_command accepted_of
-  check-by = whole file (λ kind bytes. accepted_in kind bytes) (λ kind accepted. printing accepted_line) (policy_of policy) (map.get files file)
+  verdict : (b : List ℕ) → IsBytes b → (r : Option Refusal) → first_refusal kind b ≡ r → IsVerdict kind b (end_at (judged_by r))
+  verdict b held None is =
+      let a : IsAccepted kind b = (accepted_first kind b held).1 is in
+      record { accepted = (λ e. a, λ a. refl); refused = λ r some. let none : None ≡ Some r = sym is ∙ some in absurd (cc); judged = inl a }
+  verdict b held (Some r) is = record {
+    accepted = (
+      λ e. let wrong : 1 ≡ 0 = ap (λ (x : Exit). x.status) e in absurd (omega arith),
+      λ a. let none : Some r ≡ None = sym is ∙ (accepted_first kind b held).0 a in absurd (cc),
+    );
+    refused = λ other some. ap (λ (x : Option Refusal). end_at (judged_by x)) (sym is ∙ some);
+    judged = inr (r, is);
+  }
 
-  -- what is judged is the file's bytes under the policy
-  pub record IsJudged (kind : PolicyKind) (bytes : List ℕ) : Type 0 where
-    named : policy_of policy ≡ Some kind
-    there : map.get files file ≡ Some bytes
+  judged_as : (file : List ℕ) (given : Given) → AreOctets given → IsJudged kind file given (end_at (went_on texts file (refused container_too_long_line) (λ b. judged_by (first_refusal kind b)) given))
+  judged_as file (whole b) held = verdict b held (first_refusal kind b) refl
+  judged_as file missing held = refl
+  judged_as file too_long held = refl
+  judged_as file failed held = refl
+  judged_as file no_memory held = refl
 
-  judged-ok : (p : Option PolicyKind) (f : Option (List ℕ)) → policy_of policy ≡ p → map.get files file ≡ f → (kind : PolicyKind) (bytes : List ℕ) → judged_bytes file p f ≡ Ok (kind, bytes) → IsJudged kind bytes
-  judged-ok None f named there kind bytes e = absurd (cc)
-  judged-ok (Some k) None named there kind bytes e = absurd (cc)
-  judged-ok (Some k) (Some bs) named there kind bytes e = fits (nat_lt MAX_FILE (length bs)) e
+  checks : (file : List ℕ) (events : List Event) (exit : Exit) (f g : FilesState) → Happens events f g
+      → Ended (reads file MAX_FILE (refused container_too_long_line) (λ b. judged_by (first_refusal kind b))) events exit → Checks kind file events exit
+  checks file events exit f g happened e =
+      let once = ended_once file MAX_FILE (refused container_too_long_line) (λ b. judged_by (first_refusal kind b)) (λ b. judged_by-ended (first_refusal kind b)) (λ b. judged_by-silent (first_refusal kind b))
+      e.asked e.later events exit e.follows e.ended e.does in
+      record {
+        given = once.given;
+        one_read = once.is;
+        judged = subst (IsJudged kind file once.given) (sym once.ends) (judged_as file once.given (given_bytes file MAX_FILE once.given [] events f g once.is happened));
+      }
+
+-- ---- run and ref
+
+-- what is run of code, behind its container
+abbrev after_code : PolicyKind → List Insn → ℕ → List ℕ → Stage Effect
+after_code kind code steps packets =
+    reads packets MAX_FILE (refused packets_too_long_line) (λ b. packets_in b >>= λ all. printing (result_lines kind (packet_result kind code steps) 0 all))
+
+module _ (kind : PolicyKind) (code : List Insn) (steps : ℕ) (packets : List ℕ) where
+  -- what is printed of what was read as packets
+  abbrev lines : Result (List (List ℕ)) PacketFault → Stage Effect
+  lines r = packets_found r >>= λ all. printing (result_lines kind (packet_result kind code steps) 0 all)
+
+  lines-ended : (r : Result (List (List ℕ)) PacketFault) → is_read (lines r) ≡ false
+  lines-ended (Ok all) = refl
+  lines-ended (Err fault) = refl
+
+  lines-silent : (r : Result (List (List ℕ)) PacketFault) → change_at (lines r) ≡ None
+  lines-silent (Ok all) = refl
+  lines-silent (Err fault) = refl
+
+  lines-exit : (r : Result (List (List ℕ)) PacketFault) → end_at (lines r) ≡ lines_exit kind code steps r
+  lines-exit (Ok all) = refl
+  lines-exit (Err fault) = refl
+
+  run-exit : (given : Given) → end_at (went_on texts packets (refused packets_too_long_line) (λ b. lines (decoded_packets b)) given) ≡ run_exit kind code steps packets given
+  run-exit (whole b) = lines-exit (decoded_packets b)
+  run-exit missing = refl
+  run-exit too_long = refl
+  run-exit failed = refl
+  run-exit no_memory = refl
+
+  -- the packets are read, and their lines printed
+  record RanPackets (events : List Event) (exit : Exit) : Type 0 where
+    given : Given
+    is : events ≡ was_read packets MAX_FILE given ∷ []
+    ends : exit ≡ run_exit kind code steps packets given
+
+  ran_packets : (asked : List Event) (later : Stage Effect) (events : List Event) (exit : Exit) → Follows texts asked (after_code kind code steps packets) later → is_read later ≡ false
+      → ((events ≡ asked) × (exit ≡ end_at later) × (change_at later ≡ None))
+      ⊎ ((text : List ℕ) × (to : List ℕ) × (bytes : List ℕ) × (answer : Put) × (later ≡ gives (record { text = text; change = Some (to, bytes) }))
+      × (events ≡ asked ++ was_written to bytes answer ∷ []) × (exit ≡ written_exit texts to text answer)) → RanPackets events exit
+  ran_packets asked later events exit follows ended does =
+      let once = ended_once packets MAX_FILE (refused packets_too_long_line) (λ b. lines (decoded_packets b)) (λ b. lines-ended (decoded_packets b)) (λ b. lines-silent (decoded_packets b))
+      asked later events exit follows ended does in
+      record { given = once.given; is = once.is; ends = once.ends ∙ run-exit once.given }
+
+-- where the command stops behind its first read
+stopped_there : (exit' : Exit) (rest : List Event) (later : Stage Effect) (first : Event) (events asked : List Event) (exit : Exit) → asked ≡ first ∷ rest
+    → (s : Stage Effect) → s ≡ stops exit' → Follows texts rest s later
+    → ((events ≡ asked) × (exit ≡ end_at later) × (change_at later ≡ None))
+    ⊎ ((text : List ℕ) × (to : List ℕ) × (bytes : List ℕ) × (answer : Put) × (later ≡ gives (record { text = text; change = Some (to, bytes) }))
+    × (events ≡ asked ++ was_written to bytes answer ∷ []) × (exit ≡ written_exit texts to text answer)) → (events ≡ first ∷ []) × (exit ≡ exit')
+stopped_there exit' rest later first events asked exit is s stop follows does = by does
+  where
+    last : (rest ≡ []) × (later ≡ s)
+    last = no_read s (ap is_read stop) rest later follows
+
+    by : ((events ≡ asked) × (exit ≡ end_at later) × (change_at later ≡ None))
+        ⊎ ((text : List ℕ) × (to : List ℕ) × (bytes : List ℕ) × (answer : Put) × (later ≡ gives (record { text = text; change = Some (to, bytes) }))
+        × (events ≡ asked ++ was_written to bytes answer ∷ []) × (exit ≡ written_exit texts to text answer)) → (events ≡ first ∷ []) × (exit ≡ exit')
+    by (inl d) = (d.0 ∙ is ∙ ap (λ es. first ∷ es) last.0, d.1 ∙ ap end_at (last.1 ∙ stop))
+    by (inr d) = absurd (true≢false (ap is_stop (sym (last.1 ∙ stop) ∙ d.4)))
+
+-- the packets are read behind the first read
+packets_there : (kind : PolicyKind) (code : List Insn) (steps : ℕ) (packets : List ℕ) (rest : List Event) (later : Stage Effect) (first : Event) (events asked : List Event) (exit : Exit)
+    → asked ≡ first ∷ rest → (s : Stage Effect) → s ≡ after_code kind code steps packets → Follows texts rest s later → is_read later ≡ false
+    → ((events ≡ asked) × (exit ≡ end_at later) × (change_at later ≡ None))
+    ⊎ ((text : List ℕ) × (to : List ℕ) × (bytes : List ℕ) × (answer : Put) × (later ≡ gives (record { text = text; change = Some (to, bytes) }))
+    × (events ≡ asked ++ was_written to bytes answer ∷ []) × (exit ≡ written_exit texts to text answer))
+    → (given : Given) × (events ≡ first ∷ was_read packets MAX_FILE given ∷ []) × (exit ≡ run_exit kind code steps packets given)
+packets_there kind code steps packets rest later first events asked exit is s at follows ended does = by does
+  where
+    follows_there : Follows texts rest (after_code kind code steps packets) later
+    follows_there = subst (λ x. Follows texts rest x later) at follows
+
+    by : ((events ≡ asked) × (exit ≡ end_at later) × (change_at later ≡ None))
+        ⊎ ((text : List ℕ) × (to : List ℕ) × (bytes : List ℕ) × (answer : Put) × (later ≡ gives (record { text = text; change = Some (to, bytes) }))
+        × (events ≡ asked ++ was_written to bytes answer ∷ []) × (exit ≡ written_exit texts to text answer))
+        → (given : Given) × (events ≡ first ∷ was_read packets MAX_FILE given ∷ []) × (exit ≡ run_exit kind code steps packets given)
+    by (inl d) =
+        let r = ran_packets kind code steps packets rest later rest exit follows_there ended (inl (refl, d.1, d.2)) in
+        (r.given, d.0 ∙ is ∙ ap (λ es. first ∷ es) r.is, r.ends)
+    by (inr d) =
+        let r = read_once packets MAX_FILE (refused packets_too_long_line) (λ b. lines kind code steps packets (decoded_packets b)) (λ b. lines-ended kind code steps packets (decoded_packets b)) rest later ended follows_there in
+        let none : None ≡ Some (d.1, d.2) =
+        sym (went_on-silent packets MAX_FILE (refused packets_too_long_line) (λ b. lines kind code steps packets (decoded_packets b)) (λ b. lines-ended kind code steps packets (decoded_packets b)) (λ b. lines-silent kind code steps packets (decoded_packets b)) r.given)
+        ∙ ap change_at (sym r.goes) ∙ ap change_at d.4 in
+        absurd (true≢false (sym (ap is_some none)))
+
+module _ (accepted_first : AcceptedFirst) (kind : PolicyKind) (file packets : List ℕ) (steps : ℕ) where
+  -- what `run` goes on with
+  abbrev run_by : List ℕ → Stage Effect
+  run_by b = accepted_code_in kind b >>= λ code. packets_of packets >>= λ all. printing (result_lines kind (packet_result kind code steps) 0 all)
+
+  run_by-accepted : (b : List ℕ) (a : IsAccepted kind b) → first_refusal kind b ≡ None → run_by b ≡ after_code kind a.code steps packets
+  unfolding packets_of
+  run_by-accepted b a none =
+      ap (λ c. c >>= λ code. packets_of packets >>= λ all. printing (result_lines kind (packet_result kind code steps) 0 all))
+      (accepted_code_of_bytes kind b a.contents a.code a.marks a.accepts.passes none)
+
+  run_by-refused : (b : List ℕ) (r : Refusal) → first_refusal kind b ≡ Some r → run_by b ≡ stops (refused (refusal_line r))
+  unfolding accepted_code_in accepted_in
+  run_by-refused b r some =
+      ap (λ x. (unless_refused x >>= λ accepted. code_in kind b) >>= λ code. packets_of packets >>= λ all. printing (result_lines kind (packet_result kind code steps) 0 all)) some
+
+  module _ (events : List Event) (exit : Exit) (f g : FilesState) (happened : Happens events f g) (e : Ended (reads file MAX_FILE (refused container_too_long_line) run_by) events exit) where
+    -- the file isn't there, or wasn't read
+    run_stopped : (given : Given) (exit' : Exit) (rest : List Event) → e.asked ≡ was_read file MAX_FILE given ∷ rest → went_on texts file (refused container_too_long_line) run_by given ≡ stops exit'
+        → Follows texts rest (went_on texts file (refused container_too_long_line) run_by given) e.later → IsJudged kind file given exit' → RunsCode kind file packets steps events exit
+    run_stopped given exit' rest is stop follows judged =
+        let there = stopped_there exit' rest e.later (was_read file MAX_FILE given) events e.asked exit is (went_on texts file (refused container_too_long_line) run_by given) stop follows e.does in
+        not_accepted given there.0 (subst (IsJudged kind file given) (sym there.1) judged)
+
+    run_judged : (b : List ℕ) (rest : List Event) (r : Option Refusal) → first_refusal kind b ≡ r → IsBytes b → e.asked ≡ was_read file MAX_FILE (whole b) ∷ rest → Follows texts rest (run_by b) e.later
+        → RunsCode kind file packets steps events exit
+    run_judged b rest (Some r) some held is follows =
+        run_stopped (whole b) (refused (refusal_line r)) rest is (run_by-refused b r some) follows (verdict accepted_first kind b held (Some r) some)
+    run_judged b rest None none held is follows =
+        let a : IsAccepted kind b = (accepted_first kind b held).1 none in
+        let there = packets_there kind a.code steps packets rest e.later (was_read file MAX_FILE (whole b)) events e.asked exit is (run_by b) (run_by-accepted b a none) follows e.ended e.does in
+        accepted b a there.0 there.1 there.2
+
+    -- the bytes that were read first
+    first_bytes : (b : List ℕ) (rest : List Event) → e.asked ≡ was_read file MAX_FILE (whole b) ∷ rest → IsBytes b
+    first_bytes b rest is = by e.does
+      where
+        at : (more : List Event) → events ≡ was_read file MAX_FILE (whole b) ∷ more → IsBytes b
+        at more split = given_bytes file MAX_FILE (whole b) more events f g split happened
+
+        by : ((events ≡ e.asked) × (exit ≡ end_at e.later) × (change_at e.later ≡ None))
+            ⊎ ((text : List ℕ) × (to : List ℕ) × (bytes : List ℕ) × (answer : Put) × (e.later ≡ gives (record { text = text; change = Some (to, bytes) }))
+            × (events ≡ e.asked ++ was_written to bytes answer ∷ []) × (exit ≡ written_exit texts to text answer)) → IsBytes b
+        by (inl d) = at rest (d.0 ∙ is)
+        by (inr d) = at (rest ++ was_written d.1 d.2 d.3 ∷ []) (d.5 ∙ ap (λ es. es ++ was_written d.1 d.2 d.3 ∷ []) is)
+
+    run_given : (given : Given) (rest : List Event) → e.asked ≡ was_read file MAX_FILE given ∷ rest → Follows texts rest (went_on texts file (refused container_too_long_line) run_by given) e.later
+        → RunsCode kind file packets steps events exit
+    run_given (whole b) rest is follows = run_judged b rest (first_refusal kind b) refl (first_bytes b rest is) is follows
+    run_given missing rest is follows = run_stopped missing (missing_exit texts file) rest is refl follows refl
+    run_given too_long rest is follows = run_stopped too_long _ rest is refl follows refl
+    run_given failed rest is follows = run_stopped failed _ rest is refl follows refl
+    run_given no_memory rest is follows = run_stopped no_memory _ rest is refl follows refl
+
+    runs_code : RunsCode kind file packets steps events exit
+    runs_code =
+        let r = first_read file MAX_FILE (refused container_too_long_line) run_by e.asked e.later e.ended e.follows in
+        run_given r.given r.rest r.is r.follows
+
+-- what a stage gives
+abbrev value_at : {A : Type 0} → Stage A → Option A
+value_at (stops exit) = None
+value_at (gives x) = Some x
+value_at (reads name max more on) = None
+
+module _ (kind : PolicyKind) (file packets : List ℕ) (steps : ℕ) where
+  -- what `ref` goes on with
+  abbrev ref_by : List ℕ → Stage Effect
+  ref_by b = code_in kind b >>= λ code. packets_of packets >>= λ all. printing (result_lines kind (packet_result kind code steps) 0 all)
+
+  ref_by-code : (b : List ℕ) (code : List Insn) → code_in kind b ≡ gives code → ref_by b ≡ after_code kind code steps packets
+  unfolding packets_of
+  ref_by-code b code is = ap (λ c. c >>= λ code. packets_of packets >>= λ all. printing (result_lines kind (packet_result kind code steps) 0 all)) is
+
+  ref_by-stop : (b : List ℕ) (exit' : Exit) → code_in kind b ≡ stops exit' → ref_by b ≡ stops exit'
+  ref_by-stop b exit' is = ap (λ c. c >>= λ code. packets_of packets >>= λ all. printing (result_lines kind (packet_result kind code steps) 0 all)) is
+
+  same_code : (b : List ℕ) (code : List Insn) → code_in kind b ≡ gives code → (a : IsAccepted kind b) → code ≡ a.code
+  same_code b code is a =
+      let both : Some code ≡ Some a.code = ap value_at (sym is ∙ code_given kind b a.contents a.code a.marks a.accepts.passes) in
+      cc
+
+  module _ (events : List Event) (exit : Exit) (e : Ended (reads file MAX_FILE (refused container_too_long_line) ref_by) events exit) where
+    ref_stopped : (given : Given) (exit' : Exit) (rest : List Event) → e.asked ≡ was_read file MAX_FILE given ∷ rest → went_on texts file (refused container_too_long_line) ref_by given ≡ stops exit'
+        → Follows texts rest (went_on texts file (refused container_too_long_line) ref_by given) e.later → Refs kind file packets steps events exit
+    ref_stopped given exit' rest is stop follows =
+        no_code given (stopped_there exit' rest e.later (was_read file MAX_FILE given) events e.asked exit is (went_on texts file (refused container_too_long_line) ref_by given) stop follows e.does).0
+
+    ref_code : (b : List ℕ) (rest : List Event) → ((code : List Insn) × (code_in kind b ≡ gives code)) ⊎ ((exit' : Exit) × (code_in kind b ≡ stops exit'))
+        → e.asked ≡ was_read file MAX_FILE (whole b) ∷ rest → Follows texts rest (ref_by b) e.later → Refs kind file packets steps events exit
+    ref_code b rest (inl (code, found)) is follows =
+        let there = packets_there kind code steps packets rest e.later (was_read file MAX_FILE (whole b)) events e.asked exit is (ref_by b) (ref_by-code b code found) follows e.ended e.does in
+        ran b code there.0 there.1 there.2 (same_code b code found)
+    ref_code b rest (inr (exit', stop)) is follows = ref_stopped (whole b) exit' rest is (ref_by-stop b exit' stop) follows
+
+    ref_given : (given : Given) (rest : List Event) → e.asked ≡ was_read file MAX_FILE given ∷ rest → Follows texts rest (went_on texts file (refused container_too_long_line) ref_by given) e.later
+        → Refs kind file packets steps events exit
+    ref_given (whole b) rest is follows = ref_code b rest (shape (code_in kind b) (code_in-ends kind b)) is follows
+    ref_given missing rest is follows = ref_stopped missing _ rest is refl follows
+    ref_given too_long rest is follows = ref_stopped too_long _ rest is refl follows
+    ref_given failed rest is follows = ref_stopped failed _ rest is refl follows
+    ref_given no_memory rest is follows = ref_stopped no_memory _ rest is refl follows
+
+    refs : Refs kind file packets steps events exit
+    refs =
+        let r = first_read file MAX_FILE (refused container_too_long_line) ref_by e.asked e.later e.ended e.follows in
+        ref_given r.given r.rest r.is r.follows
+
+-- ---- asm and prove
+
+module _ (input output : List ℕ) (max : ℕ) (more : Exit) (made_of : List ℕ → Stage (List ℕ)) (ends : (b : List ℕ) → is_read (made_of b) ≡ false) (IsMade : List ℕ → List ℕ → Type 0) where
+  -- what the command goes on with
+  abbrev copy_by : List ℕ → Stage Effect
+  copy_by b = made_of b >>= λ out. writing output out
+
+  module _ (events : List Event) (exit : Exit) (is_made : (b out : List ℕ) (rest : List Event) → events ≡ was_read input max (whole b) ∷ rest → made_of b ≡ gives out → IsMade b out)
+      (e : Ended (reads input max more copy_by) events exit) where
+    copy_stopped : (given : Given) (exit' : Exit) (rest : List Event) → e.asked ≡ was_read input max given ∷ rest → went_on texts input more copy_by given ≡ stops exit'
+        → Follows texts rest (went_on texts input more copy_by given) e.later → Makes input output max IsMade events exit
+    copy_stopped given exit' rest is stop follows =
+        not_made given (stopped_there exit' rest e.later (was_read input max given) events e.asked exit is (went_on texts input more copy_by given) stop follows e.does).0
+
+    -- the effect of what was made
+    abbrev made_effect : List ℕ → Effect
+    made_effect out = record { text = written_line (length out); change = Some (output, out) }
+
+    copied : (b out : List ℕ) (rest : List Event) → made_of b ≡ gives out → e.asked ≡ was_read input max (whole b) ∷ rest → Follows texts rest (copy_by b) e.later → Makes input output max IsMade events exit
+    copied b out rest is asked follows = by e.does
+      where
+        at : copy_by b ≡ gives (made_effect out)
+        at = ap (λ c. c >>= λ out. writing output out) is
+
+        last : (rest ≡ []) × (e.later ≡ copy_by b)
+        last = no_read (copy_by b) (ap is_read at) rest e.later follows
+
+        by : ((events ≡ e.asked) × (exit ≡ end_at e.later) × (change_at e.later ≡ None))
+            ⊎ ((text : List ℕ) × (to : List ℕ) × (bytes : List ℕ) × (answer : Put) × (e.later ≡ gives (record { text = text; change = Some (to, bytes) }))
+            × (events ≡ e.asked ++ was_written to bytes answer ∷ []) × (exit ≡ written_exit texts to text answer)) → Makes input output max IsMade events exit
+        by (inl d) = let none : Some (output, out) ≡ None = ap change_at (sym (last.1 ∙ at)) ∙ d.2 in absurd (true≢false (ap is_some none))
+        by (inr d) =
+            let same : Some (made_effect out) ≡ Some (record { text = d.0; change = Some (d.1, d.2) }) = ap value_at (sym (last.1 ∙ at) ∙ d.4) in
+            let effect : record { text = d.0; change = Some (d.1, d.2) } ≡ made_effect out = cc in
+            let text : d.0 ≡ written_line (length out) = ap (λ (x : Effect). x.text) effect in
+            let change : Some (d.1, d.2) ≡ Some (output, out) = ap (λ (x : Effect). x.change) effect in
+            let to : d.1 ≡ output = ap (λ (x : Change). (unwrap_or x (output, out)).0) change in
+            let bytes : d.2 ≡ out = ap (λ (x : Change). (unwrap_or x (output, out)).1) change in
+            let split : events ≡ was_read input max (whole b) ∷ was_written output out d.3 ∷ [] =
+            d.5 ∙ ap (λ es. es ++ was_written d.1 d.2 d.3 ∷ []) (asked ∙ ap (λ es. was_read input max (whole b) ∷ es) last.0)
+            ∙ ap (λ n. was_read input max (whole b) ∷ was_written n d.2 d.3 ∷ []) to ∙ ap (λ o. was_read input max (whole b) ∷ was_written output o d.3 ∷ []) bytes in
+            made b out d.3 split (is_made b out (was_written output out d.3 ∷ []) split is)
+            (d.6 ∙ ap (λ n. written_exit texts n d.0 d.3) to ∙ ap (λ x. written_exit texts output x d.3) text)
+
+    copy_made : (b : List ℕ) (rest : List Event) → ((out : List ℕ) × (made_of b ≡ gives out)) ⊎ ((exit' : Exit) × (made_of b ≡ stops exit'))
+        → e.asked ≡ was_read input max (whole b) ∷ rest → Follows texts rest (copy_by b) e.later → Makes input output max IsMade events exit
+    copy_made b rest (inl (out, is)) asked follows = copied b out rest is asked follows
+    copy_made b rest (inr (exit', is)) asked follows = copy_stopped (whole b) exit' rest asked (ap (λ c. c >>= λ out. writing output out) is) follows
+
+    copy_given : (given : Given) (rest : List Event) → e.asked ≡ was_read input max given ∷ rest → Follows texts rest (went_on texts input more copy_by given) e.later
+        → Makes input output max IsMade events exit
+    copy_given (whole b) rest is follows = copy_made b rest (shape (made_of b) (ends b)) is follows
+    copy_given missing rest is follows = copy_stopped missing _ rest is refl follows
+    copy_given too_long rest is follows = copy_stopped too_long _ rest is refl follows
+    copy_given failed rest is follows = copy_stopped failed _ rest is refl follows
+    copy_given no_memory rest is follows = copy_stopped no_memory _ rest is refl follows
+
+    makes : Makes input output max IsMade events exit
+    makes =
+        let r = first_read input max more copy_by e.asked e.later e.ended e.follows in
+        copy_given r.given r.rest r.is r.follows
+
+-- what the prover made is accepted
+proved_is : ProvedAccepted → (kind : PolicyKind) (b out : List ℕ) → IsBytes b → (r : Result (List ℕ) ProveFault) → proved_container kind b ≡ r → container_proved r ≡ gives out → IsProved kind b out
+proved_is proved_accepted kind b out held (Ok bytes) is e =
+    let same : Some bytes ≡ Some out = ap value_at e in
+    let at : proved_container kind b ≡ Ok out = is ∙ ap Ok (let found : bytes ≡ out = cc in found) in
+    record { proved = at; accepted = proved_accepted kind b out held at }
+proved_is proved_accepted kind b out held (Err fault) is e = absurd (true≢false (ap is_stop e))
+
+proved_of_stage : ProvedAccepted → (kind : PolicyKind) (b out : List ℕ) → IsBytes b → proved_in kind b ≡ gives out → IsProved kind b out
+unfolding proved_in
+proved_of_stage proved_accepted kind b out held e = proved_is proved_accepted kind b out held (proved_container kind b) refl e
+
+-- ---- demo
+
+demo-silent : {A : Type 0} (s : Stage A) (line : A → List ℕ) → change_at (s >>= λ x. printing (line x)) ≡ None
+demo-silent (stops exit) line = refl
+demo-silent (gives x) line = refl
+demo-silent (reads name max more on) line = refl
+
+-- a command that asks for nothing
+asks_nothing : (s : Stage Effect) → is_read s ≡ false → change_at s ≡ None → (events : List Event) (exit : Exit) → Ended s events exit → events ≡ []
+asks_nothing s none silent events exit e = by e.does
+  where
+    last : (e.asked ≡ []) × (e.later ≡ s)
+    last = no_read s none e.asked e.later e.follows
+
+    by : ((events ≡ e.asked) × (exit ≡ end_at e.later) × (change_at e.later ≡ None))
+        ⊎ ((text : List ℕ) × (to : List ℕ) × (bytes : List ℕ) × (answer : Put) × (e.later ≡ gives (record { text = text; change = Some (to, bytes) }))
+        × (events ≡ e.asked ++ was_written to bytes answer ∷ []) × (exit ≡ written_exit texts to text answer)) → events ≡ []
+    by (inl d) = d.0 ∙ last.0
+    by (inr d) = let none : None ≡ Some (d.1, d.2) = sym silent ∙ ap change_at (sym last.1 ∙ d.4) in absurd (true≢false (sym (ap is_some none)))
+
+-- ---- by what the arguments are
+
+module _ (accepted_first : AcceptedFirst) (proved_accepted : ProvedAccepted) where
+  -- a command whose policy was looked up
+  does_by : (invocation : Invocation) (next : PolicyKind → Stage Effect) (events : List Event) (exit : Exit)
+      → ((kind : PolicyKind) → Ended (next kind) events exit → DoesUnder kind invocation events exit)
+      → (p : Option PolicyKind) → Ended (policy_found p >>= next) events exit → Does p invocation events exit
+  does_by invocation next events exit each None e = ended_at_once (refused unknown_policy_line) events exit e
+  does_by invocation next events exit each (Some kind) e = each kind e
+
+  does : (invocation : Invocation) (events : List Event) (exit : Exit) (f g : FilesState) → Happens events f g → Ended (stage_of invocation) events exit
+      → Does (policy_of (policy_name_of invocation)) invocation events exit
+  unfolding asm_command prove_command check_command run_command ref_command demo_command assembled_of proved_of accepted_of accepted_code_of code_of accepted_in demo_effect
+  does (asm policy input output) events exit f g happened e =
+      does_by (asm policy input output) (λ kind. reads input MAX_SOURCE (refused source_too_long_line) (λ b. assembled_in kind b >>= λ out. writing output out)) events exit
+      (λ kind e. makes input output MAX_SOURCE (refused source_too_long_line) (assembled_in kind) (assembled_in-ends kind) (IsAssembled kind) events exit (λ b out rest split is. is) e) (policy_of policy) e
+  does (prove policy input output) events exit f g happened e =
+      does_by (prove policy input output) (λ kind. reads input MAX_FILE (refused container_too_long_line) (λ b. proved_in kind b >>= λ out. writing output out)) events exit
+      (λ kind e. makes input output MAX_FILE (refused container_too_long_line) (proved_in kind) (proved_in-ends kind) (IsProved kind) events exit
+      (λ b out rest split is. proved_of_stage proved_accepted kind b out (given_bytes input MAX_FILE (whole b) rest events f g split happened) is) e) (policy_of policy) e
+  does (check policy file) events exit f g happened e =
+      does_by (check policy file) (λ kind. reads file MAX_FILE (refused container_too_long_line) (λ b. accepted_in kind b >>= λ accepted. printing accepted_line)) events exit
+      (λ kind e. checks accepted_first kind file events exit f g happened e) (policy_of policy) e
+  does (run policy file packets steps) events exit f g happened e =
+      does_by (run policy file packets steps) (λ kind. reads file MAX_FILE (refused container_too_long_line) (run_by accepted_first kind file packets steps)) events exit
+      (λ kind e. runs_code accepted_first kind file packets steps events exit f g happened e) (policy_of policy) e
+  does (ref policy file packets steps) events exit f g happened e =
+      does_by (ref policy file packets steps) (λ kind. reads file MAX_FILE (refused container_too_long_line) (ref_by kind file packets steps)) events exit
+      (λ kind e. refs kind file packets steps events exit e) (policy_of policy) e
+  does (demo n) events exit f g happened e =
+      does_by (demo n) (λ kind. demo_effect kind n) events exit (λ kind e. asks_nothing (demo_effect kind n) (demo_ends kind n) (demo-silent _ _) events exit e) (policy_of demo_policy) e
+
+  pub means : (o : Option Invocation) (e e' : List Event) (f g : FilesState) (s t : SinkState) (status : ℕ) → Runs texts (task_of_command o).stage e e' f g s t status
+      → MeansIfCommand o e e' s t status
+  means (Some invocation) e e' f g s t status r = by r.ends
     where
-      fits : (b : Bool) → fitting k bs b ≡ Ok (kind, bytes) → IsJudged kind bytes
-      fits true e = absurd (cc)
-      fits false e = record { named = named ∙ ap kind_judged e; there = there ∙ ap bytes_judged e }
+      by : IsRun texts (stage_of invocation) r.events s t status → Means invocation e e' s t status
+      by (decided exit comes prints) =
+          came r.events exit r.logged (does invocation r.events exit f g r.happened (ended_of (stage_of invocation) r.events exit comes)) prints
+      by (ran_out later follows clean same status_is) = out_of_memory r.events r.logged clean same status_is
+  means None e e' f g s t status r = r.logged ∙ ap (λ es. e ++ es) (by r.ends) ∙ append-nil e
+    where
+      by : IsRun texts (task_of_command None).stage r.events s t status → r.events ≡ []
+      by (decided exit comes prints) = (ended_at_once _ r.events exit (ended_of (task_of_command None).stage r.events exit comes)).0
+      by (ran_out later follows clean same status_is) = (no_read (task_of_command None).stage refl r.events later follows).0
 
-  -- an accepted file is what is judged
-  judged-accepted : (a : IsAcceptedFile policy file files) → judged ≡ Ok (a.kind, a.bytes)
-  judged-accepted a =
-      ap (λ (p : Option PolicyKind). judged_bytes file p (map.get files file)) a.named
-      ∙ ap (λ (f : Option (List ℕ)). judged_bytes file (Some a.kind) f) a.there
-      ∙ ap (fitting a.kind a.bytes) (le-ltb MAX_FILE (length a.bytes) a.accepted.accepts.passes.size)
-
-  -- of an accepted file `check` prints `accepted`
-  to_accepted : IsAcceptedFile policy file files → (check_command policy file files).result ≡ Ok accepted_effect
-  unfolding accepted_in
-  to_accepted a =
-      check-by
-      ∙ ap (by_bytes file (λ kind bytes. accepted_in kind bytes) (λ kind accepted. printing accepted_line)) (judged-accepted a)
-      ∙ checked-is (first_refusal a.kind a.bytes)
-      ∙ ap checked (accepted-none a.kind a.bytes a.accepted)
-
-  module _ (accepted_first : AcceptedFirst) (bytes_held : HoldBytes files) where
-    -- where the answer is `accepted`, no clause fails
-    none-refused : (r : Option Refusal) → checked r ≡ Ok accepted_effect → r ≡ None
-    none-refused None e = refl
-    none-refused (Some refusal) e = absurd (cc)
-
-    from_judged : (j : Result (PolicyKind × List ℕ) Exit) → judged ≡ j → by_bytes file (λ kind bytes. accepted_in kind bytes) (λ kind accepted. printing accepted_line) j ≡ Ok accepted_effect → IsAcceptedFile policy file files
-    unfolding accepted_in
-    from_judged (Err exit) is e = absurd (cc)
-    from_judged (Ok (kind, bytes)) is e =
-        let j : IsJudged kind bytes = judged-ok (policy_of policy) (map.get files file) refl refl kind bytes is in
-        let none : first_refusal kind bytes ≡ None = none-refused (first_refusal kind bytes) (sym (checked-is (first_refusal kind bytes)) ∙ e) in
-        record { kind = kind; bytes = bytes; named = j.named; there = j.there; accepted = (accepted_first kind bytes (bytes_held file bytes j.there)).1 none }
-
-    pub check_accepts : CheckAccepts policy file files
-    check_accepts = ((λ e. from_judged judged refl (sym check-by ∙ e)), to_accepted)
-
-  -- ---- run
-
-  module _ (packets : List ℕ) (steps : ℕ) where
-    abbrev after : PolicyKind → List Insn → Staged Effect
-    after kind code = lines_of_packets kind code steps packets files
-
-    run-by : (run_command policy file packets steps files).result ≡ by_bytes file (λ kind bytes. accepted_code_in kind bytes) after judged
-    unfolding run_command accepted_code_of
-    run-by = whole file (λ kind bytes. accepted_code_in kind bytes) after (policy_of policy) (map.get files file)
-
-    -- what the gate refuses, both refuse
-    refused-both : (kind : PolicyKind) (bytes : List ℕ) (r : Option Refusal) (exit : Exit) → (pure (unless_refused r) >>= λ accepted. printing accepted_line).result ≡ Err exit → ((pure (unless_refused r) >>= λ accepted. code_in kind bytes) >>= λ code. after kind code).result ≡ Err exit
-    refused-both kind bytes None exit e = absurd (cc)
-    refused-both kind bytes (Some refusal) exit e = e
-
-    refused_by : (j : Result (PolicyKind × List ℕ) Exit) (exit : Exit) → by_bytes file (λ kind bytes. accepted_in kind bytes) (λ kind accepted. printing accepted_line) j ≡ Err exit → by_bytes file (λ kind bytes. accepted_code_in kind bytes) after j ≡ Err exit
-    unfolding accepted_in accepted_code_in
-    refused_by (Err other) exit e = e
-    refused_by (Ok (kind, bytes)) exit e = refused-both kind bytes (first_refusal kind bytes) exit e
-
-    pub run_accepts : AcceptedFirst → HoldBytes files → RunAccepts policy file packets steps files
-    run_accepts accepted_first bytes_held = record {
-      refused = λ exit e. run-by ∙ refused_by judged exit (sym check-by ∙ e);
-      accepted = λ a. run-by
-          ∙ ap (by_bytes file (λ kind bytes. accepted_code_in kind bytes) after) (judged-accepted a)
-          ∙ go_on-ok (accepted_code_in a.kind a.bytes).reads (λ code. after a.kind code) (accepted_code_in a.kind a.bytes).result a.accepted.code (accepted_code_of_bytes a.kind a.bytes a.accepted.contents a.accepted.code a.accepted.marks a.accepted.accepts.passes ((accepted_first a.kind a.bytes (bytes_held file a.bytes a.there)).0 a.accepted));
-    }
-
--- ---- prove
-
--- what the prover makes of bytes is accepted
-abbrev pub ProvedAccepted : Type 0
-ProvedAccepted = (kind : PolicyKind) (bytes out : List ℕ) → IsBytes bytes → proved_container kind bytes ≡ Ok out → IsAccepted kind out
-
-module _ (policy input output : List ℕ) (files : FileMap) where
-  -- what `prove` comes to, by the prover's answer
-  abbrev made : Result (List ℕ) ProveFault → Result Effect Exit
-  made r = (pure (container_proved r) >>= λ bytes. writing output bytes).result
-
-  prove-by : (prove_command policy input output files).result ≡ by_bytes input (λ kind bytes. proved_in kind bytes) (λ kind bytes. writing output bytes) (judged policy input files)
-  unfolding prove_command proved_of
-  prove-by = whole input (λ kind bytes. proved_in kind bytes) (λ kind bytes. writing output bytes) (policy_of policy) (map.get files input)
-
-  one_effect : (x y : Effect) (r : Result Effect Exit) → r ≡ Ok x → r ≡ Ok y → y ≡ x
-  one_effect x y r e f = cc
-
-  module _ (proved_accepted : ProvedAccepted) (bytes_held : HoldBytes files) where
-    -- what is written is accepted
-    writes : (kind : PolicyKind) (bytes : List ℕ) → IsBytes bytes → policy_of policy ≡ Some kind → (r : Result (List ℕ) ProveFault) → proved_container kind bytes ≡ r → (effect : Effect) → made r ≡ Ok effect → WritesAccepted policy output files effect
-    writes kind bytes held named (Err fault) is effect e = absurd (cc)
-    writes kind bytes held named (Ok out) is effect e =
-        let there : map.get (map.insert files output out) output ≡ Some out = get-insert_same files output out in
-        let accepted : IsAcceptedFile policy output (map.insert files output out) = record { kind = kind; bytes = out; named = named; there = there; accepted = proved_accepted kind bytes out held is } in
-        record {
-          bytes = out;
-          is = one_effect _ effect (made (Ok out)) refl e;
-          accepted = accepted;
-          checked = to_accepted policy output (map.insert files output out) accepted;
-        }
-
-    from_proved : (j : Result (PolicyKind × List ℕ) Exit) → judged policy input files ≡ j → (effect : Effect) → by_bytes input (λ kind bytes. proved_in kind bytes) (λ kind bytes. writing output bytes) j ≡ Ok effect → WritesAccepted policy output files effect
-    unfolding proved_in
-    from_proved (Err exit) is effect e = absurd (cc)
-    from_proved (Ok (kind, bytes)) is effect e =
-        let j : IsJudged policy input files kind bytes = judged-ok policy input files (policy_of policy) (map.get files input) refl refl kind bytes is in
-        writes kind bytes (bytes_held input bytes j.there) j.named (proved_container kind bytes) refl effect e
-
-    pub prove_accepts : ProveAccepts policy input output files
-    prove_accepts effect e = from_proved (judged policy input files) refl effect (sym prove-by ∙ e)
-
--- ---- what is accepted is safe
+-- ---- what accepted code is worth
 
 -- a policy's start on a packet of bytes is a state, and meets the precondition
 abbrev pub StartsState : Type 0
@@ -225,26 +595,10 @@ StartsState = (policy : PolicyKind) (packet : List ℕ) (setup : StartView) → 
 abbrev pub StartsMeet : Type 0
 StartsMeet = (policy : PolicyKind) (packet : List ℕ) (setup : StartView) → length packet ≤ MAX_PACKET → start_of policy packet ≡ Some setup → StartMeets setup (pre_of policy)
 
-module _ (accepted_safe : AcceptedSafe) (state : StartsState) (meets : StartsMeet) where
-  runs_safely : (kind : PolicyKind) (bytes : List ℕ) (a : IsAccepted kind bytes) → RunsSafely kind a.code
-  runs_safely kind bytes a packet setup budget held short is =
-      accepted_safe kind bytes a.contents a.code a.marks a.accepts (start_state ARENA setup) (state kind packet setup short held is) refl (meets kind packet setup short is) budget
-
-  pub safe_to_run : (o : Option Invocation) (files : FileMap) → IsSafeToRun o files
-  safe_to_run None files = tt
-  safe_to_run (Some (asm policy input output)) files = tt
-  safe_to_run (Some (prove policy input output)) files = λ bytes a. runs_safely a.kind a.bytes a.accepted
-  safe_to_run (Some (check policy file)) files = λ a. runs_safely a.kind a.bytes a.accepted
-  safe_to_run (Some (run policy file packets steps)) files = λ a. runs_safely a.kind a.bytes a.accepted
-  safe_to_run (Some (ref policy file packets steps)) files = tt
-  safe_to_run (Some (demo n)) files = tt
-
--- what the commands accept
-pub accepts : AcceptedFirst → ProvedAccepted → (o : Option Invocation) (files : FileMap) → HoldBytes files → Accepts o files
-accepts first proved None files held = tt
-accepts first proved (Some (asm policy input output)) files held = tt
-accepts first proved (Some (prove policy input output)) files held = prove_accepts policy input output files proved held
-accepts first proved (Some (check policy file)) files held = check_accepts policy file files first held
-accepts first proved (Some (run policy file packets steps)) files held = (check_accepts policy file files first held, run_accepts policy file files packets steps first held)
-accepts first proved (Some (ref policy file packets steps)) files held = tt
-accepts first proved (Some (demo n)) files held = tt
+pub runs_safely : AcceptedSafe → StartsState → StartsMeet → ((code : List Insn) (n : ℕ) (s : State) → ChangesWritable code n s) → ((code : List Insn) (n : ℕ) (s : State) → DependsOnReadable code n s)
+    → AcceptedRunsSafely
+runs_safely accepted_safe state meets changes depends kind bytes a packet setup budget held short is = record {
+  good = accepted_safe kind bytes a.contents a.code a.marks a.accepts (start_state ARENA setup) (state kind packet setup short held is) refl (meets kind packet setup short is) budget;
+  changes = changes a.code budget (start_state ARENA setup);
+  depends = depends a.code budget (start_state ARENA setup);
+}

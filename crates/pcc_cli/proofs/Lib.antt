@@ -1,14 +1,6 @@
 pub mod StageLemmas
 pub mod DecisionLemmas
-pub mod PolicyLemmas
-pub mod CopyLemmas
-pub mod AsmLemmas
-pub mod ProveLemmas
-pub mod CheckLemmas
-pub mod DemoLemmas
+pub mod TaskLemmas
 pub mod CountLemmas
-pub mod PacketLemmas
-pub mod RefLemmas
 pub mod RunLemmas
-pub mod EndLemmas
 pub mod HeadlineLemmas

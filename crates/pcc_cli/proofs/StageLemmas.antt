@@ -1,178 +1,175 @@
--- What stages come to, one behind another.
-use Rattle.std.proofs.Common.{◌≡◌, ℕ, List, Option, Some, None, Result, Ok, Err, IfSome, Contains, refl, sym, ap, ◌∙◌, subst}
-use Rattle.std.proofs.lemmas.List.Elements.{Contains-append_left, Contains-append_right}
-use Rattle.std.proofs.lemmas.Option.{IfSome_then}
+-- What the code of stages answers, one behind another.
+use Rattle.std.proofs.Common.{◌≡◌, ℕ, List, [], ◌∷◌, ◌++◌, Option, Some, None, Result, Ok, Err, refl, sym, ap, ◌∙◌, subst, append_assoc}
+use Rattle.std.proofs.lemmas.List.{append-nil}
 use Rattle.std.specs.Result.{IsErrAnd}
-use Rattle.file_port.specs.Files.{FileMap, FilesState}
+use Rattle.file_port.specs.Events.{Given, whole, missing, too_long, failed, no_memory, Event, was_read, was_written, was_put}
+use Rattle.file_port.specs.Files.{FilesState}
+use Rattle.file_port.specs.Files.{Reads}
 use Rattle.pcc_exit.specs.Exits.{Exit}
-use Rattle.pcc_cli.specs.Stages.{Staged, go_on, ◌>>=◌}
-use Rattle.pcc_cli.specs.Inside.Gives.{StopsPure, GivesPure, ComesTo, Stops, Gives}
+use Rattle.pcc_exit.specs.Stages.{Stage, stops, gives, reads, ◌>>=◌, went_on, Reads as Asks, Follows}
+use Rattle.pcc_exit.specs.Runs.{AreOctets, Happens, NoneFailed}
+use Rattle.pcc_cli.specs.Texts.{texts}
+use Rattle.pcc_cli.specs.Inside.Decisions.{end_of, stop_exit}
+use Rattle.pcc_cli.specs.Inside.Gives.{IsTooLong, StopsAs, GivesPure, IsClean, IsCleanFor, Gives}
 use Rattle.pcc_cli.specs.declared.stop.Stop.{Stop}
 use Rattle.pcc_cli.specs.declared.stop.Stop.TheVariants as stop
 
--- what holds of all files
-pub told_each : (contents : Option FileMap) (P : FileMap → Type 0) → ((files : FileMap) → P files) → IfSome contents P
-told_each None P each = tt
-told_each (Some files) P each = each files
+-- ---- events one behind another
 
--- two facts of the files
-told_both : (contents : Option FileMap) (P Q R : FileMap → Type 0) → ((files : FileMap) → P files → Q files → R files) → IfSome contents P → IfSome contents Q → IfSome contents R
-told_both None P Q R joined p q = tt
-told_both (Some files) P Q R joined p q = joined files p q
+pub follows-join : {A : Type 0} (first rest : List Event) (s m l : Stage A) → Follows texts first s m → Follows texts rest m l → Follows texts (first ++ rest) s l
+follows-join [] rest s m l is h = subst (λ x. Follows texts rest x l) is h
+follows-join (was_read name max given ∷ first) rest s m l f h = (f.0, f.1, follows-join first rest f.0 m l f.2 h)
+follows-join (was_written name bytes answer ∷ first) rest s m l f h = absurd f
+follows-join (was_put piece answer ∷ first) rest s m l f h = absurd f
 
-module _ {A B : Type 0} (reads : List (List ℕ)) (next : A → Staged B) where
-  -- behind a stop nothing comes
-  pub go_on-err : (r : Result A Exit) (exit : Exit) → r ≡ Err exit → (go_on reads r next).result ≡ Err exit
-  go_on-err r exit e = ap (λ (x : Result A Exit). (go_on reads x next).result) e
+pub happens-join : (first rest : List Event) (f m g : FilesState) → Happens first f m → Happens rest m g → Happens (first ++ rest) f g
+happens-join [] rest f m g is h = subst (λ x. Happens rest x g) is h
+happens-join (was_read name max given ∷ first) rest f m g p h = (p.0, p.1, p.2, happens-join first rest p.0 m g p.3 h)
+happens-join (was_written name bytes answer ∷ first) rest f m g p h = (p.0, p.1, happens-join first rest p.0 m g p.2 h)
+happens-join (was_put piece answer ∷ first) rest f m g p h = absurd p
 
-  pub go_on-ok : (r : Result A Exit) (x : A) → r ≡ Ok x → (go_on reads r next).result ≡ (next x).result
-  go_on-ok r x e = ap (λ (y : Result A Exit). (go_on reads y next).result) e
+pub none_failed-join : (first rest : List Event) → NoneFailed first → NoneFailed rest → NoneFailed (first ++ rest)
+none_failed-join [] rest p h = h
+none_failed-join (was_read name max (whole b) ∷ first) rest p h = none_failed-join first rest p h
+none_failed-join (was_read name max missing ∷ first) rest p h = none_failed-join first rest p h
+none_failed-join (was_read name max too_long ∷ first) rest p h = none_failed-join first rest p h
+none_failed-join (was_read name max failed ∷ first) rest p h = absurd p
+none_failed-join (was_read name max no_memory ∷ first) rest p h = none_failed-join first rest p h
+none_failed-join (was_written name bytes answer ∷ first) rest p h = absurd p
+none_failed-join (was_put piece answer ∷ first) rest p h = absurd p
 
-  reads_first : (r : Result A Exit) (name : List ℕ) → Contains reads name → Contains (go_on reads r next).reads name
-  reads_first (Ok x) name has = Contains-append_left reads (next x).reads name has
-  reads_first (Err exit) name has = has
+-- ---- a stage, and what comes after its value
 
-  reads_later : (r : Result A Exit) (x : A) (name : List ℕ) → r ≡ Ok x → Contains (next x).reads name → Contains (go_on reads r next).reads name
-  reads_later r x name e has = subst (λ (y : Result A Exit). Contains (go_on reads y next).reads name) (sym e) (Contains-append_right reads (next x).reads name has)
+module _ {A B : Type 0} (next : A → Stage B) where
+  went_on-bind : (name : List ℕ) (more : Exit) (on : List ℕ → Stage A) (given : Given)
+      → (went_on texts name more on given >>= next) ≡ went_on texts name more (λ b. on b >>= next) given
+  went_on-bind name more on (whole b) = refl
+  went_on-bind name more on missing = refl
+  went_on-bind name more on too_long = refl
+  went_on-bind name more on failed = refl
+  went_on-bind name more on no_memory = refl
 
--- ---- stages that read no file
+  pub follows-bind : (events : List Event) (s l : Stage A) → Follows texts events s l → Follows texts events (s >>= next) (l >>= next)
+  follows-bind [] s l is = ap (λ x. x >>= next) is
+  follows-bind (was_read name max given ∷ events) s l h =
+      let asks : Asks texts name max given s h.0 = h.1 in (
+        h.0 >>= next,
+        record {
+          more = asks.more;
+          on = λ b. asks.on b >>= next;
+          asks = ap (λ x. x >>= next) asks.asks;
+          goes = ap (λ x. x >>= next) asks.goes ∙ went_on-bind name asks.more asks.on given;
+        },
+        follows-bind events h.0 l h.2,
+      )
+  follows-bind (was_written name bytes answer ∷ events) s l h = absurd h
+  follows-bind (was_put piece answer ∷ events) s l h = absurd h
 
-module _ {A B : Type 0} (stage : Staged A) (next : A → Staged B) where
-  pub pure_first : (e : Stop) → StopsPure stage e → StopsPure (stage >>= next) e
-  pure_first stop.Usage h = absurd h
-  pure_first stop.UnknownPolicy h = absurd h
-  pure_first (stop.Refused refusal) h = go_on-err stage.reads next stage.result _ h
-  pure_first stop.ContainerTooLong h = go_on-err stage.reads next stage.result _ h
-  pure_first (stop.NotEasy part) h = go_on-err stage.reads next stage.result _ h
-  pure_first (stop.TooBig measure number) h = go_on-err stage.reads next stage.result _ h
-  pure_first stop.SourceTooLong h = go_on-err stage.reads next stage.result _ h
-  pure_first (stop.BadLine line flaw) h = go_on-err stage.reads next stage.result _ h
-  pure_first (stop.BadSource flaw) h = go_on-err stage.reads next stage.result _ h
-  pure_first stop.PacketsTooLong h = go_on-err stage.reads next stage.result _ h
-  pure_first (stop.BadPackets fault) h = go_on-err stage.reads next stage.result _ h
-  pure_first (stop.Missing name) h = go_on-err stage.reads next stage.result _ h
-  pure_first (stop.ReadFault name) h = absurd h
-  pure_first (stop.WriteFault name) h = absurd h
-  pure_first stop.Memory h = tt
+  stops-bind : (s : Stage A) (end : Option Exit) → StopsAs s end → StopsAs (s >>= next) end
+  stops-bind s (Some exit) is = ap (λ x. x >>= next) is
+  stops-bind s None is = tt
 
-  pub pure_later : (x : A) → stage.result ≡ Ok x → (r : Result B Exit) → (next x).result ≡ r → (stage >>= next).result ≡ r
-  pure_later x e r h = go_on-ok stage.reads next stage.result x e ∙ h
+  -- ---- stages that read no file
 
-  stops_pure_later : (x : A) → stage.result ≡ Ok x → (e : Stop) → StopsPure (next x) e → StopsPure (stage >>= next) e
-  stops_pure_later x is stop.Usage h = absurd h
-  stops_pure_later x is stop.UnknownPolicy h = absurd h
-  stops_pure_later x is (stop.Refused refusal) h = pure_later x is _ h
-  stops_pure_later x is stop.ContainerTooLong h = pure_later x is _ h
-  stops_pure_later x is (stop.NotEasy part) h = pure_later x is _ h
-  stops_pure_later x is (stop.TooBig measure number) h = pure_later x is _ h
-  stops_pure_later x is stop.SourceTooLong h = pure_later x is _ h
-  stops_pure_later x is (stop.BadLine line flaw) h = pure_later x is _ h
-  stops_pure_later x is (stop.BadSource flaw) h = pure_later x is _ h
-  stops_pure_later x is stop.PacketsTooLong h = pure_later x is _ h
-  stops_pure_later x is (stop.BadPackets fault) h = pure_later x is _ h
-  stops_pure_later x is (stop.Missing name) h = pure_later x is _ h
-  stops_pure_later x is (stop.ReadFault name) h = absurd h
-  stops_pure_later x is (stop.WriteFault name) h = absurd h
-  stops_pure_later x is stop.Memory h = tt
+  pub pure_stops : (s : Stage A) (why : Stop) → StopsAs s (end_of why) → StopsAs (s >>= next) (end_of why)
+  pure_stops s why h = stops-bind s (end_of why) h
 
-  -- behind a value comes what the next stage gives
-  pub pure_gives : {C : Type 0} (view : C → B) (x : A) → stage.result ≡ Ok x → (r : Result C Stop) → GivesPure view (next x) r → GivesPure view (stage >>= next) r
-  pure_gives view x is (Ok y) h = pure_later x is _ h
-  pure_gives view x is (Err why) h = stops_pure_later x is why h
+  pub pure_gives : {C : Type 0} (view : C → B) (s : Stage A) (x : A) → s ≡ gives x → (r : Result C Stop) → GivesPure view (next x) r → GivesPure view (s >>= next) r
+  pure_gives view s x is r h = subst (λ stage. GivesPure view stage r) (sym (ap (λ y. y >>= next) is)) h
 
--- a stage that reads no file, as one over files
-pub lifted : {A C : Type 0} (view : C → A) (names : List (List ℕ)) (stage : Staged A) (state : FilesState) (r : Result C Stop) → GivesPure view stage r → Gives view names (λ files. stage) state state r
-lifted view names stage state (Ok x) h = record { unchanged = refl; exact = told_each state.contents (λ files. stage.result ≡ Ok (view x)) (λ files. h) }
-lifted view names stage state (Err e) h = stopped e h
-  where
-    comes : (exit : Exit) → stage.result ≡ Err exit → ComesTo (λ files. stage) state state (Err exit)
-    comes exit e = record { unchanged = refl; exact = told_each state.contents (λ files. stage.result ≡ Err exit) (λ files. e) }
-
-    stopped : (e : Stop) → StopsPure stage e → Stops names (λ files. stage) state state e
-    stopped stop.Usage h = absurd h
-    stopped stop.UnknownPolicy h = absurd h
-    stopped (stop.Refused refusal) h = comes _ h
-    stopped stop.ContainerTooLong h = comes _ h
-    stopped (stop.NotEasy part) h = comes _ h
-    stopped (stop.TooBig measure number) h = comes _ h
-    stopped stop.SourceTooLong h = comes _ h
-    stopped (stop.BadLine line flaw) h = comes _ h
-    stopped (stop.BadSource flaw) h = comes _ h
-    stopped stop.PacketsTooLong h = comes _ h
-    stopped (stop.BadPackets fault) h = comes _ h
-    stopped (stop.Missing name) h = comes _ h
-    stopped (stop.ReadFault name) h = absurd h
-    stopped (stop.WriteFault name) h = absurd h
-    stopped stop.Memory h = refl
-
--- ---- stages over files
-
-module _ {A B : Type 0} (stage : FileMap → Staged A) (next : A → FileMap → Staged B) (names more : List (List ℕ)) (within : (name : List ℕ) → Contains names name → Contains more name) where
-  comes_first : (old new : FilesState) (exit : Exit) → ComesTo stage old new (Err exit) → ComesTo (λ files. stage files >>= λ x. next x files) old new (Err exit)
-  comes_first old new exit h = record {
-    unchanged = h.unchanged;
-    exact = IfSome_then old.contents {P = λ files. (stage files).result ≡ Err exit} {Q = λ files. (stage files >>= λ x. next x files).result ≡ Err exit} h.exact (λ files e. go_on-err (stage files).reads (λ x. next x files) (stage files).result exit e);
-  }
+  -- ---- stages over files
 
   -- where the first stage stops, so do both
-  pub stops_first : (old new : FilesState) (e : Stop) → Stops names stage old new e → Stops more (λ files. stage files >>= λ x. next x files) old new e
-  stops_first old new stop.Usage h = absurd h
-  stops_first old new stop.UnknownPolicy h = absurd h
-  stops_first old new (stop.Refused refusal) h = comes_first old new _ h
-  stops_first old new stop.ContainerTooLong h = comes_first old new _ h
-  stops_first old new (stop.NotEasy part) h = comes_first old new _ h
-  stops_first old new (stop.TooBig measure number) h = comes_first old new _ h
-  stops_first old new stop.SourceTooLong h = comes_first old new _ h
-  stops_first old new (stop.BadLine line flaw) h = comes_first old new _ h
-  stops_first old new (stop.BadSource flaw) h = comes_first old new _ h
-  stops_first old new stop.PacketsTooLong h = comes_first old new _ h
-  stops_first old new (stop.BadPackets fault) h = comes_first old new _ h
-  stops_first old new (stop.Missing name) h = comes_first old new _ h
-  stops_first old new (stop.ReadFault name) h = record {
-    fails = h.fails;
-    named = within name.now h.named;
-    asked = IfSome_then old.contents {P = λ files. Contains (stage files).reads name.now} {Q = λ files. Contains (stage files >>= λ x. next x files).reads name.now} h.asked (λ files has. reads_first (stage files).reads (λ x. next x files) (stage files).result name.now has);
+  pub stops_first : {C D : Type 0} (view : C → A) (later_view : D → B) (s : Stage A) (e e' : List Event) (f g : FilesState) (why : Stop) (r : Result D Stop)
+      → Gives view s e e' f g (Err why) → IsErrAnd r (λ y. y ≡ why) → Gives later_view (s >>= next) e e' f g r
+  stops_first view later_view s e e' f g why (Ok x) h is = absurd is
+  stops_first view later_view s e e' f g why (Err other) h is = record {
+    events = h.events;
+    later = h.later >>= next;
+    logged = h.logged;
+    happened = h.happened;
+    follows = follows-bind h.events s h.later h.follows;
+    is = subst (λ y. StopsAs (h.later >>= next) (end_of y)) (sym is) (stops-bind h.later (end_of why) h.is);
+    clean = subst (λ y. IsClean h.events (end_of y)) (sym is) h.clean;
   }
-  stops_first old new (stop.WriteFault name) h = absurd h
-  stops_first old new stop.Memory h = h
 
-  module _ (x : A) (old new : FilesState) (known : IfSome old.contents (λ files. (stage files).result ≡ Ok x)) where
-    comes_later : (r : Result B Exit) → ComesTo (next x) old new r → ComesTo (λ files. stage files >>= λ x. next x files) old new r
-    comes_later r h = record {
-      unchanged = h.unchanged;
-      exact = told_both old.contents (λ files. (stage files).result ≡ Ok x) (λ files. (next x files).result ≡ r) (λ files. (stage files >>= λ x. next x files).result ≡ r) (λ files e is. go_on-ok (stage files).reads (λ x. next x files) (stage files).result x e ∙ is) known h.exact;
-    }
+  clean-join : {D : Type 0} (first rest : List Event) (r : Result D Stop) → NoneFailed first → IsCleanFor rest r → IsCleanFor (first ++ rest) r
+  clean-join first rest (Ok x) p h = none_failed-join first rest p h
+  clean-join first rest (Err why) p h = ended (end_of why) h
+    where
+      ended : (end : Option Exit) → IsClean rest end → IsClean (first ++ rest) end
+      ended (Some exit) q = tt
+      ended None q = none_failed-join first rest p q
 
-    stops_later : (e : Stop) → Stops names (next x) old new e → Stops more (λ files. stage files >>= λ x. next x files) old new e
-    stops_later stop.Usage h = absurd h
-    stops_later stop.UnknownPolicy h = absurd h
-    stops_later (stop.Refused refusal) h = comes_later _ h
-    stops_later stop.ContainerTooLong h = comes_later _ h
-    stops_later (stop.NotEasy part) h = comes_later _ h
-    stops_later (stop.TooBig measure number) h = comes_later _ h
-    stops_later stop.SourceTooLong h = comes_later _ h
-    stops_later (stop.BadLine line flaw) h = comes_later _ h
-    stops_later (stop.BadSource flaw) h = comes_later _ h
-    stops_later stop.PacketsTooLong h = comes_later _ h
-    stops_later (stop.BadPackets fault) h = comes_later _ h
-    stops_later (stop.Missing name) h = comes_later _ h
-    stops_later (stop.ReadFault name) h = record {
-      fails = h.fails;
-      named = within name.now h.named;
-      asked = told_both old.contents (λ files. (stage files).result ≡ Ok x) (λ files. Contains (next x files).reads name.now) (λ files. Contains (stage files >>= λ x. next x files).reads name.now) (λ files e has. reads_later (stage files).reads (λ x. next x files) (stage files).result x name.now e has) known h.asked;
-    }
-    stops_later (stop.WriteFault name) h = absurd h
-    stops_later stop.Memory h = h
+  -- where it gives a value, the next has the answer
+  pub gives_then : {C D : Type 0} (view : C → A) (later_view : D → B) (s : Stage A) (e m e' : List Event) (f n g : FilesState) (x : C) (r : Result D Stop)
+      → Gives view s e m f n (Ok x) → Gives later_view (next (view x)) m e' n g r → Gives later_view (s >>= next) e e' f g r
+  gives_then view later_view s e m e' f n g x r h k = record {
+    events = h.events ++ k.events;
+    later = k.later;
+    logged = k.logged ∙ ap (λ l. l ++ k.events) h.logged ∙ append_assoc e h.events k.events;
+    happened = happens-join h.events k.events f n g h.happened k.happened;
+    follows = follows-join h.events k.events (s >>= next) (next (view x)) k.later
+        (subst (λ l. Follows texts h.events (s >>= next) l) (ap (λ y. y >>= next) h.is) (follows-bind h.events s h.later h.follows)) k.follows;
+    is = k.is;
+    clean = clean-join h.events k.events r h.clean k.clean;
+  }
 
-    here : {C : Type 0} (view : C → B) (r : Result C Stop) → Gives view names (next x) old new r → Gives view more (λ files. stage files >>= λ x. next x files) old new r
-    here view (Ok y) h = comes_later (Ok (view y)) h
-    here view (Err e) h = stops_later e h
+-- a stage that reads no file, as one over files
+pub lifted : {A C : Type 0} (view : C → A) (s : Stage A) (e : List Event) (f : FilesState) (r : Result C Stop) → GivesPure view s r → Gives view s e e f f r
+lifted view s e f r h = record {
+  events = [];
+  later = s;
+  logged = sym (append-nil e);
+  happened = refl;
+  follows = refl;
+  is = h;
+  clean = nothing r;
+}
+  where
+    nothing : {C : Type 0} (r : Result C Stop) → IsCleanFor [] r
+    nothing (Ok x) = tt
+    nothing (Err why) = ended (end_of why)
+      where
+        ended : (end : Option Exit) → IsClean [] end
+        ended (Some exit) = tt
+        ended None = tt
 
-  -- where the first stage gives its value, the second has the answer
-  pub gives_later : {C : Type 0} (view : C → B) (x : A) (old mid new : FilesState) → ComesTo stage old mid (Ok x) → (r : Result C Stop) → Gives view names (next x) mid new r → Gives view more (λ files. stage files >>= λ x. next x files) old new r
-  gives_later view x old mid new first r h = here x old new first.exact view r (subst (λ (s : FilesState). Gives view names (next x) s new r) first.unchanged h)
+-- one read
+pub read_gives : {A C : Type 0} (view : C → A) (name : List ℕ) (max : ℕ) (more : Exit) (on : List ℕ → Stage A) (given : Given) (e e' : List Event) (f g : FilesState) (r : Result C Stop)
+    → e' ≡ e ++ was_read name max given ∷ [] → Reads name max f g given → AreOctets given → GivesPure view (went_on texts name more on given) r
+    → IsCleanFor (was_read name max given ∷ []) r → Gives view (reads name max more on) e e' f g r
+read_gives view name max more on given e e' f g r logged read octets is clean = record {
+  events = was_read name max given ∷ [];
+  later = went_on texts name more on given;
+  logged = logged;
+  happened = (g, read, octets, refl);
+  follows = (went_on texts name more on given, record { more = more; on = on; asks = refl; goes = refl }, refl);
+  is = is;
+  clean = clean;
+}
 
--- the exit of a `?`
-pub refuses : {A C : Type 0} (view : C → A) (names : List (List ℕ)) (stage : FileMap → Staged A) (old new : FilesState) (e : Stop) (r : Result C Stop) → IsErrAnd r (λ y. y ≡ e) → Stops names stage old new e → Gives view names stage old new r
-refuses view names stage old new e (Ok x) is h = absurd is
-refuses view names stage old new e (Err y) is h = subst (λ (z : Stop). Stops names stage old new z) (sym is) h
+-- ---- a file that is too long
+
+too_long_ends : (s : Stop) → IsTooLong s → end_of s ≡ Some (stop_exit s)
+too_long_ends stop.Usage h = refl
+too_long_ends stop.UnknownPolicy h = refl
+too_long_ends (stop.Refused refusal) h = refl
+too_long_ends stop.ContainerTooLong h = refl
+too_long_ends (stop.NotEasy part) h = refl
+too_long_ends (stop.TooBig measure number) h = refl
+too_long_ends stop.SourceTooLong h = refl
+too_long_ends (stop.BadLine line flaw) h = refl
+too_long_ends (stop.BadSource flaw) h = refl
+too_long_ends stop.PacketsTooLong h = refl
+too_long_ends (stop.BadPackets fault) h = refl
+too_long_ends (stop.Missing name) h = refl
+too_long_ends (stop.ReadFault name) h = refl
+too_long_ends (stop.WriteFault name) h = refl
+too_long_ends stop.Memory h = absurd h
+
+pub too_long-stops : (A : Type 0) (s : Stop) → IsTooLong s → StopsAs {A = A} (stops (stop_exit s)) (end_of s)
+too_long-stops A s h = subst (λ end. StopsAs {A = A} (stops (stop_exit s)) end) (sym (too_long_ends s h)) refl
+
+pub too_long-clean : (s : Stop) → IsTooLong s → (events : List Event) → IsClean events (end_of s)
+too_long-clean s h events = subst (λ end. IsClean events end) (sym (too_long_ends s h)) tt

@@ -1,96 +1,157 @@
--- What `check` and `run` accept, that what `prove` writes is accepted, and what that is worth.
-use Rattle.std.specs.Prelude.{◌≡◌, ℕ, ◌≤◌, ◌↔◌, List, length, Option, None, Some, Ok, Err}
-use Rattle.std.specs.FinMap as map
-use Rattle.file_port.specs.Files.{FileMap}
+-- What a run of `check`, `run`, `ref`, `prove` and `asm` means, whatever the files hold, by what it read; and what accepted code is worth.
+use Rattle.std.specs.Prelude.{◌≡◌, ℕ, ◌≤◌, ◌↔◌, ◌⊎◌, List, [], ◌∷◌, ◌++◌, length, Option, None, Some, Result, Ok, Err}
+use Rattle.file_port.specs.Events.{Given, whole, missing, too_long, failed, no_memory, Event, was_read, was_written}
+use Rattle.file_port.specs.Sink.{SinkState}
+use Rattle.file_port.specs.declared.port.Put.{Put}
 use Rattle.alpha_words.specs.declared.insn.Insn.{Insn}
-use Rattle.alpha_cfg.specs.Machine.{run_of}
+use Rattle.alpha_cfg.specs.Isolation.{ChangesWritable, DependsOnReadable}
+use Rattle.alpha_cfg.specs.Machine.{State, run_of}
 use Rattle.policy_set.specs.declared.kind.PolicyKind.{PolicyKind}
 use Rattle.policy_set.specs.Names.{policy_of}
 use Rattle.policy_set.specs.Policies.{post_of}
 use Rattle.reference_machine.specs.declared.layout.TheConstants.{ARENA}
 use Rattle.reference_machine.specs.Starts.{StartView, start_state}
 use Rattle.packet_store.specs.declared.reader.TheConstants.{MAX_PACKET}
+use Rattle.packet_store.specs.declared.fault.PacketFault.{PacketFault}
+use Rattle.packet_store.specs.PacketDecoding.{decoded_packets}
 use Rattle.packet_store.specs.PolicyStarts.{start_of}
 use Rattle.packet_store.specs.Results.{packet_result}
 use Rattle.proof_container.specs.Encoding.{IsBytes}
 use Rattle.vcgen.specs.Safety.{IsGoodEnd}
+use Rattle.pcc_gate.specs.declared.refusal.Refusal.{Refusal}
 use Rattle.pcc_gate.specs.Accepted.{IsAccepted}
+use Rattle.pcc_gate.specs.First.{first_refusal}
 use Rattle.pcc_words.specs.Invocations.{Invocation, asm, prove, check, run, ref, demo}
-use Rattle.pcc_lines.specs.Fixed.{accepted_line}
+use Rattle.pcc_lines.specs.Fixed.{accepted_line, unknown_policy_line, container_too_long_line, packets_too_long_line}
+use Rattle.pcc_lines.specs.PacketFaults.{packet_fault_line}
+use Rattle.pcc_lines.specs.Refusals.{refusal_line}
 use Rattle.pcc_lines.specs.Results.{result_lines}
 use Rattle.pcc_lines.specs.Sources.{written_line}
 use Rattle.pcc_exit.specs.Exits.{Exit}
-use Rattle.pcc_cli.specs.Stages.{Staged, Effect, ◌>>=◌, packets_of, printing}
-use Rattle.pcc_cli.specs.Commands.Check.{check_command}
-use Rattle.pcc_cli.specs.Commands.Prove.{prove_command}
-use Rattle.pcc_cli.specs.Commands.Running.{run_command}
+use Rattle.pcc_exit.specs.Requests.{missing_exit, read_fault_exit, no_memory_exit}
+use Rattle.pcc_exit.specs.Runs.{done_exit, written_exit, Prints, NoneFailed}
+use Rattle.asm_text.specs.declared.limits.TheConstants.{MAX_SOURCE}
+use Rattle.bounds_prover.specs.Proving.{proved_container}
+use Rattle.pcc_exit.specs.Stages.{gives}
+use Rattle.pcc_cli.specs.Texts.{texts}
+use Rattle.pcc_cli.specs.Tasks.{policy_name_of}
+use Rattle.pcc_cli.specs.Stages.Assembling.{assembled_in}
+use Rattle.pcc_cli.specs.Stages.Common.{refused}
+use Rattle.pcc_cli.specs.declared.stages.TheConstants.{MAX_FILE}
 
--- what files hold are bytes
-abbrev pub HoldBytes : FileMap → Type 0
-HoldBytes files = (name bytes : List ℕ) → map.get files name ≡ Some bytes → IsBytes bytes
+-- ---- the verdict on what was read
 
--- The file of the name is there, and its bytes are accepted under the policy of the name, clause by clause.
-pub record IsAcceptedFile (policy file : List ℕ) (files : FileMap) : Type 0 where
-  pub kind : PolicyKind
-  pub bytes : List ℕ
-  pub named : policy_of policy ≡ Some kind
-  pub there : map.get files file ≡ Some bytes
-  pub accepted : IsAccepted kind bytes
+-- The bytes are accepted under the policy exactly where this is the exit of what is accepted; else it is the line of the first
+-- clause that fails.
+pub record IsVerdict (policy : PolicyKind) (bytes : List ℕ) (exit : Exit) : Type 0 where
+  pub accepted : (exit ≡ done_exit accepted_line) ↔ IsAccepted policy bytes
+  pub refused : (r : Refusal) → first_refusal policy bytes ≡ Some r → exit ≡ refused (refusal_line r)
+  pub judged : IsAccepted policy bytes ⊎ ((r : Refusal) × (first_refusal policy bytes ≡ Some r))
 
--- `accepted` is printed, and nothing is written
-abbrev pub accepted_effect : Effect
-accepted_effect = record { text = accepted_line; change = None }
+-- what `check` prints of what its read of FILE gave
+abbrev pub IsJudged : PolicyKind → List ℕ → Given → Exit → Type 0
+IsJudged policy file (whole bytes) exit = IsVerdict policy bytes exit
+IsJudged policy file missing exit = exit ≡ missing_exit texts file
+IsJudged policy file too_long exit = exit ≡ refused container_too_long_line
+IsJudged policy file failed exit = exit ≡ read_fault_exit texts file
+IsJudged policy file no_memory exit = exit ≡ no_memory_exit
 
--- `check` prints `accepted` exactly where the file is
-abbrev pub CheckAccepts : List ℕ → List ℕ → FileMap → Type 0
-CheckAccepts policy file files = ((check_command policy file files).result ≡ Ok accepted_effect) ↔ IsAcceptedFile policy file files
+-- what is printed of the packets that were read, by the machine that tests every access, or of a packet file that has none
+abbrev pub lines_exit : PolicyKind → List Insn → ℕ → Result (List (List ℕ)) PacketFault → Exit
+lines_exit policy code steps (Ok packets) = done_exit (result_lines policy (packet_result policy code steps) 0 packets)
+lines_exit policy code steps (Err fault) = refused (packet_fault_line fault)
 
--- what the machine that tests every access prints of the packets in the file of the name, or the packet file's own line
-abbrev pub lines_of_packets : PolicyKind → List Insn → ℕ → List ℕ → FileMap → Staged Effect
-lines_of_packets policy code steps packets files = packets_of packets files >>= λ all. printing (result_lines policy (packet_result policy code steps) 0 all)
+-- what is printed of code, by what the read of PACKETS gave
+abbrev pub run_exit : PolicyKind → List Insn → ℕ → List ℕ → Given → Exit
+run_exit policy code steps packets (whole bytes) = lines_exit policy code steps (decoded_packets bytes)
+run_exit policy code steps packets missing = missing_exit texts packets
+run_exit policy code steps packets too_long = refused packets_too_long_line
+run_exit policy code steps packets failed = read_fault_exit texts packets
+run_exit policy code steps packets no_memory = no_memory_exit
 
--- `run` refuses what `check` refuses, with the same line, and of an accepted file it gives what the machine that tests every access makes of its code
-pub record RunAccepts (policy file packets : List ℕ) (steps : ℕ) (files : FileMap) : Type 0 where
-  pub refused : (exit : Exit) → (check_command policy file files).result ≡ Err exit → (run_command policy file packets steps files).result ≡ Err exit
-  pub accepted : (a : IsAcceptedFile policy file files) → (run_command policy file packets steps files).result ≡ (lines_of_packets a.kind a.accepted.code steps packets files).result
+-- ---- what a run did, by its events and its exit
 
--- What `prove` writes where it isn't refused: the file of the name OUT, which then is accepted under the policy, so that `check` of it prints `accepted`.
-pub record WritesAccepted (policy output : List ℕ) (files : FileMap) (effect : Effect) : Type 0 where
-  pub bytes : List ℕ
-  pub is : effect ≡ record { text = written_line (length bytes); change = Some (output, bytes) }
-  pub accepted : IsAcceptedFile policy output (map.insert files output bytes)
-  pub checked : (check_command policy output (map.insert files output bytes)).result ≡ Ok accepted_effect
+-- `check`: one read, of FILE, and the verdict on what it gave.
+pub record Checks (policy : PolicyKind) (file : List ℕ) (events : List Event) (exit : Exit) : Type 0 where
+  pub given : Given
+  pub one_read : events ≡ was_read file MAX_FILE given ∷ []
+  pub judged : IsJudged policy file given exit
 
--- `prove` is refused, or writes what is accepted
-abbrev pub ProveAccepts : List ℕ → List ℕ → List ℕ → FileMap → Type 0
-ProveAccepts policy input output files = (effect : Effect) → (prove_command policy input output files).result ≡ Ok effect → WritesAccepted policy output files effect
+-- `run`: one read, of FILE, which is not accepted, and what `check` prints of it; or it is accepted, PACKETS is read behind it, and
+-- the lines are those of the machine that tests every access, of the code that was accepted.
+pub data RunsCode (policy : PolicyKind) (file packets : List ℕ) (steps : ℕ) (events : List Event) (exit : Exit) : Type 0 where
+  not_accepted : (given : Given) → events ≡ was_read file MAX_FILE given ∷ [] → IsJudged policy file given exit
+      → RunsCode policy file packets steps events exit
+  accepted : (bytes : List ℕ) (a : IsAccepted policy bytes) (given : Given)
+      → events ≡ was_read file MAX_FILE (whole bytes) ∷ was_read packets MAX_FILE given ∷ [] → exit ≡ run_exit policy a.code steps packets given
+      → RunsCode policy file packets steps events exit
 
--- From each start of the policy no run of the code is blocked, whatever the budget, and a return satisfies the postcondition.
-abbrev pub RunsSafely : PolicyKind → List Insn → Type 0
-RunsSafely policy code = (packet : List ℕ) (setup : StartView) (budget : ℕ) → IsBytes packet → length packet ≤ MAX_PACKET → start_of policy packet ≡ Some setup → IsGoodEnd (post_of policy) (run_of code budget (start_state ARENA setup))
+-- `ref`: one read, of FILE, and a refusal; or PACKETS is read behind it, and the lines are those of the machine that tests every
+-- access, which of accepted bytes are the lines of `run`.
+pub data Refs (policy : PolicyKind) (file packets : List ℕ) (steps : ℕ) (events : List Event) (exit : Exit) : Type 0 where
+  no_code : (given : Given) → events ≡ was_read file MAX_FILE given ∷ [] → Refs policy file packets steps events exit
+  ran : (bytes : List ℕ) (code : List Insn) (given : Given)
+      → events ≡ was_read file MAX_FILE (whole bytes) ∷ was_read packets MAX_FILE given ∷ [] → exit ≡ run_exit policy code steps packets given
+      → ((a : IsAccepted policy bytes) → code ≡ a.code) → Refs policy file packets steps events exit
+
+-- A command that makes a file of another: one read, of IN, and a refusal; or then one write to OUT, of what is made of the bytes.
+pub data Makes (input output : List ℕ) (max : ℕ) (IsMade : List ℕ → List ℕ → Type 0) (events : List Event) (exit : Exit) : Type 0 where
+  not_made : (given : Given) → events ≡ was_read input max given ∷ [] → Makes input output max IsMade events exit
+  made : (bytes out : List ℕ) (answer : Put) → events ≡ was_read input max (whole bytes) ∷ was_written output out answer ∷ []
+      → IsMade bytes out → exit ≡ written_exit texts output (written_line (length out)) answer → Makes input output max IsMade events exit
+
+-- `asm` makes of a source the container that it is assembled into
+abbrev pub IsAssembled : PolicyKind → List ℕ → List ℕ → Type 0
+IsAssembled policy text out = assembled_in policy text ≡ gives out
+
+-- `prove` makes of a container one that is accepted under the policy
+pub record IsProved (policy : PolicyKind) (bytes out : List ℕ) : Type 0 where
+  pub proved : proved_container policy bytes ≡ Ok out
+  pub accepted : IsAccepted policy out
 
 -- ---- by what the arguments are
 
--- what is accepted
-abbrev pub Accepts : Option Invocation → FileMap → Type 0
-Accepts None files = Unit {0}
-Accepts (Some (asm policy input output)) files = Unit {0}
-Accepts (Some (prove policy input output)) files = ProveAccepts policy input output files
-Accepts (Some (check policy file)) files = CheckAccepts policy file files
-Accepts (Some (run policy file packets steps)) files = CheckAccepts policy file files × RunAccepts policy file packets steps files
-Accepts (Some (ref policy file packets steps)) files = Unit {0}
-Accepts (Some (demo n)) files = Unit {0}
+-- what a command under a policy did that came to an exit
+abbrev pub DoesUnder : PolicyKind → Invocation → List Event → Exit → Type 0
+DoesUnder kind (asm policy input output) events exit = Makes input output MAX_SOURCE (IsAssembled kind) events exit
+DoesUnder kind (prove policy input output) events exit = Makes input output MAX_FILE (IsProved kind) events exit
+DoesUnder kind (check policy file) events exit = Checks kind file events exit
+DoesUnder kind (run policy file packets steps) events exit = RunsCode kind file packets steps events exit
+DoesUnder kind (ref policy file packets steps) events exit = Refs kind file packets steps events exit
+DoesUnder kind (demo n) events exit = events ≡ []
 
--- the code of what is accepted runs safely
-abbrev pub AcceptedRunsSafely : List ℕ → List ℕ → FileMap → Type 0
-AcceptedRunsSafely policy file files = (a : IsAcceptedFile policy file files) → RunsSafely a.kind a.accepted.code
+-- what a command did whose policy was found, or wasn't
+abbrev pub Does : Option PolicyKind → Invocation → List Event → Exit → Type 0
+Does (Some kind) invocation events exit = DoesUnder kind invocation events exit
+Does None invocation events exit = (events ≡ []) × (exit ≡ refused unknown_policy_line)
 
--- what is accepted is safe
-abbrev pub IsSafeToRun : Option Invocation → FileMap → Type 0
-IsSafeToRun None files = Unit {0}
-IsSafeToRun (Some (asm policy input output)) files = Unit {0}
-IsSafeToRun (Some (prove policy input output)) files = (bytes : List ℕ) → AcceptedRunsSafely policy output (map.insert files output bytes)
-IsSafeToRun (Some (check policy file)) files = AcceptedRunsSafely policy file files
-IsSafeToRun (Some (run policy file packets steps)) files = AcceptedRunsSafely policy file files
-IsSafeToRun (Some (ref policy file packets steps)) files = Unit {0}
-IsSafeToRun (Some (demo n)) files = Unit {0}
+-- A run of a command asked files for these events, behind a log e, and put what the exit says on the output s; or memory ran out
+-- after some reads, and nothing was put.
+pub data Means (invocation : Invocation) (e e' : List Event) (s t : SinkState) (status : ℕ) : Type 0 where
+  came : (events : List Event) (exit : Exit) → e' ≡ e ++ events → Does (policy_of (policy_name_of invocation)) invocation events exit
+      → Prints exit s t status → Means invocation e e' s t status
+  out_of_memory : (events : List Event) → e' ≡ e ++ events → NoneFailed events → t ≡ s → status ≡ 5 → Means invocation e e' s t status
+
+-- what a run meant, if the arguments are a command
+abbrev pub MeansIfCommand : Option Invocation → List Event → List Event → SinkState → SinkState → ℕ → Type 0
+MeansIfCommand None e e' s t status = e' ≡ e
+MeansIfCommand (Some invocation) e e' s t status = Means invocation e e' s t status
+
+-- ---- what accepted code is worth
+
+-- A run of the code from the state isn't blocked, and a return satisfies the postcondition; it changes nothing that may not be
+-- stored to, and depends on nothing but the registers and what may be loaded.
+pub record IsSafeRun (policy : PolicyKind) (code : List Insn) (budget : ℕ) (state : State) : Type 0 where
+  pub good : IsGoodEnd (post_of policy) (run_of code budget state)
+  pub changes : ChangesWritable code budget state
+  pub depends : DependsOnReadable code budget state
+
+-- so does every run from a start of the policy
+abbrev pub RunsSafely : PolicyKind → List Insn → Type 0
+RunsSafely policy code =
+    (packet : List ℕ) (setup : StartView) (budget : ℕ) → IsBytes packet → length packet ≤ MAX_PACKET → start_of policy packet ≡ Some setup
+    → IsSafeRun policy code budget (start_state ARENA setup)
+
+-- accepted code runs safely
+abbrev pub AcceptedRunsSafely : Type 0
+AcceptedRunsSafely = (policy : PolicyKind) (bytes : List ℕ) (a : IsAccepted policy bytes) → RunsSafely policy a.code

@@ -1,5 +1,6 @@
+pub mod Texts
 pub mod Stages
 pub mod Commands
-pub mod Requests
+pub mod Tasks
 pub mod Headline
 pub mod Inside

@@ -1,15 +1,20 @@
 //! The stages of commands: each gives its value, or what ends the command there. A stage stands in
 //! `specs/Stages` under the same name.
 
-ghost use Rattle.std.specs.Prelude.{◌≡◌, ◌≤◌, ◌∷◌, [], length, IfOk};
-ghost use Rattle.policy_set.specs.Names.{policy_of};
+ghost use Rattle.std.specs.Prelude.{◌≡◌, ◌≤◌, ◌<◌, ℕ, length, slice_index, IfOk};
 ghost use Rattle.proof_container.specs.Views.{contents_of};
 ghost use Rattle.asm_text.specs.declared.limits.TheConstants.{MAX_SOURCE};
 ghost use Rattle.asm_text.specs.Views.{source_view};
 ghost use Rattle.pcc_asm.specs.Views.{IsSpelled};
 ghost use Rattle.pcc_gate.specs.Answers.{IsAcceptedBy};
-ghost use Rattle.pcc_cli.specs.Stages as stages;
-ghost use Rattle.pcc_cli.specs.Inside.Gives.{Gives, GivesPure, IsTooLong, HasWholeCode, GivesPolicy, Wrote};
+ghost use Rattle.pcc_exit.specs.Stages.{reads, gives};
+ghost use Rattle.pcc_cli.specs.Stages.Common as common;
+ghost use Rattle.pcc_cli.specs.Stages.Containers as containers;
+ghost use Rattle.pcc_cli.specs.Stages.Judging as judging;
+ghost use Rattle.pcc_cli.specs.Stages.Packets as packets;
+ghost use Rattle.pcc_cli.specs.Stages.Assembling as assembling;
+ghost use Rattle.pcc_cli.specs.Stages.Proving as proving;
+ghost use Rattle.pcc_cli.specs.Inside.Gives.{Gives, GivesPure, IsTooLong, HasWholeCode, Wrote};
 ghost use Rattle.pcc_cli.specs.Inside.Decisions.{stop_exit};
 ghost use Rattle.pcc_cli.specs.Inside.Shows.{shown_by};
 
@@ -31,13 +36,20 @@ pub const MAX_FILE: u32 = 4_194_304;
 
 /// The policy of the name.
 pub fn policy_named<'a>(alloc: Global, name: &str) -> Result<Policy, Stop<'a>>
-    ensures { GivesPolicy (policy_of name.now) result }
+    ensures { GivesPure (λ policy. policy) (common.policy_named name.now) result }
 {
     match by_name(alloc, name) {
         Ok(Some(policy)) => Ok(policy),
         Ok(None) => Err(Stop::UnknownPolicy),
         Err(_) => Err(Stop::Memory),
     }
+}
+
+/// Opens the range of bytes for the prover.
+fn octets(bytes: &[u8])
+    ensures { (i : ℕ) → slice_index bytes.now i < 256 }
+{
+    let _ = bytes;
 }
 
 /// The bytes of the file of the name; `too_long` where it has more than `max`.
@@ -49,13 +61,16 @@ fn bytes_of<'a, F: Files>(
     files: &mut F,
 ) -> Result<Vec<u8>, Stop<'a>>
     requires { IsTooLong too_long }
-    ensures exact { Gives (λ bytes. bytes.items) (name.entry.now ∷ [])
-        (stages.bytes_of max (stop_exit too_long.entry) name.entry.now)
-        (F.state files.old) (F.state files.new) result }
+    ensures exact { Gives (λ bytes. bytes.items)
+        (reads name.entry.now max (stop_exit too_long.entry) gives)
+        (F.log files.old) (F.log files.new) (F.state files.old) (F.state files.new) result }
     ensures short { IfOk result (λ bytes. length bytes.items ≤ max) }
 {
     match files.read(alloc, name, max) {
-        Got::Bytes(bytes) => Ok(bytes),
+        Got::Bytes(bytes) => {
+            octets(&bytes);
+            Ok(bytes)
+        }
         Got::Missing => Err(Stop::Missing(name)),
         Got::TooLong => Err(too_long),
         Got::Failed => Err(Stop::ReadFault(name)),
@@ -64,13 +79,13 @@ fn bytes_of<'a, F: Files>(
 }
 
 /// The container that the bytes are, where it is for the policy.
-#[tactic(auto, unfolding(crate::specs::Stages::container_in))]
+#[tactic(auto, unfolding(crate::specs::Stages::Containers::container_in))]
 pub fn container_in<'a, 'b>(
     alloc: Global,
     policy: PolicyKind,
     bytes: &'b [u8],
 ) -> Result<Container<'b>, Stop<'a>>
-    ensures exact { GivesPure contents_of (stages.container_in policy bytes.entry.now) result }
+    ensures exact { GivesPure contents_of (containers.container_in policy bytes.entry.now) result }
     ensures code { IfOk result (λ container. HasWholeCode container.code.now) }
 {
     match read(alloc, bytes) {
@@ -83,7 +98,7 @@ pub fn container_in<'a, 'b>(
 
 /// The code of the container that the bytes are, where it is for the policy.
 fn code_in<'a>(alloc: Global, policy: PolicyKind, bytes: &[u8]) -> Result<Code, Stop<'a>>
-    ensures { GivesPure (λ code. code) (stages.code_in policy bytes.now) result }
+    ensures { GivesPure (λ code. code) (containers.code_in policy bytes.now) result }
 {
     let container = match container_in(alloc, policy, bytes) {
         Ok(container) => container,
@@ -97,9 +112,9 @@ fn code_in<'a>(alloc: Global, policy: PolicyKind, bytes: &[u8]) -> Result<Code, 
 }
 
 /// What the gate says of the bytes.
-#[tactic(auto, unfolding(crate::specs::Stages::accepted_in))]
+#[tactic(auto, unfolding(crate::specs::Stages::Judging::accepted_in))]
 fn judged<'a>(alloc: Global, policy: &Policy, bytes: &[u8]) -> Result<Accepted, Stop<'a>>
-    ensures exact { GivesPure (λ a. tt) (stages.accepted_in policy.now bytes.now) result }
+    ensures exact { GivesPure (λ a. tt) (judging.accepted_in policy.now bytes.now) result }
     ensures accepted { IfOk result (λ a. IsAcceptedBy policy.now bytes.now a) }
 {
     match gate(alloc, policy, bytes) {
@@ -111,9 +126,9 @@ fn judged<'a>(alloc: Global, policy: &Policy, bytes: &[u8]) -> Result<Accepted, 
 
 /// What the bytes hold, where they are accepted under the policy.
 pub fn accepted_in<'a>(alloc: Global, policy: &Policy, bytes: &[u8]) -> Result<Accepted, Stop<'a>>
-    ensures exact { GivesPure (λ a. tt) (stages.accepted_in policy.now bytes.now) result }
-    ensures code { GivesPure (λ a. a.code) (stages.accepted_code_in policy.now bytes.now) result }
-    ensures shown { GivesPure shown_by (stages.shown_in policy.now bytes.now) result }
+    ensures exact { GivesPure (λ a. tt) (judging.accepted_in policy.now bytes.now) result }
+    ensures code { GivesPure (λ a. a.code) (judging.accepted_code_in policy.now bytes.now) result }
+    ensures shown { GivesPure shown_by (judging.shown_in policy.now bytes.now) result }
     ensures policy { IfOk result (λ a. a.policy ≡ policy.now) }
 {
     judged(alloc, policy, bytes)
@@ -121,7 +136,7 @@ pub fn accepted_in<'a>(alloc: Global, policy: &Policy, bytes: &[u8]) -> Result<A
 
 /// The bytes of the container with a proof of its condition under the policy, or why there is none.
 pub fn proved_in<'a>(alloc: Global, policy: &Policy, bytes: &[u8]) -> Result<Vec<u8>, Stop<'a>>
-    ensures { GivesPure (λ bytes. bytes.items) (stages.proved_in policy.now bytes.now) result }
+    ensures { GivesPure (λ bytes. bytes.items) (proving.proved_in policy.now bytes.now) result }
 {
     match prove(alloc, policy, bytes) {
         Ok(container) => Ok(container),
@@ -133,10 +148,10 @@ pub fn proved_in<'a>(alloc: Global, policy: &Policy, bytes: &[u8]) -> Result<Vec
 }
 
 /// The source that the text spells.
-#[tactic(auto, unfolding(crate::specs::Stages::source_in))]
+#[tactic(auto, unfolding(crate::specs::Stages::Assembling::source_in))]
 fn source_in<'a>(alloc: Global, text: &[u8]) -> Result<Source, Stop<'a>>
     requires short { length text.now ≤ MAX_SOURCE }
-    ensures exact { GivesPure source_view (stages.source_in text.now) result }
+    ensures exact { GivesPure source_view (assembling.source_in text.now) result }
     ensures spelled { IfOk result (λ s. IsSpelled (source_view s)) }
 {
     match read_source(alloc, text) {
@@ -150,7 +165,7 @@ fn source_in<'a>(alloc: Global, text: &[u8]) -> Result<Source, Stop<'a>>
 fn assembled_as<'a>(alloc: Global, policy: &Policy, source: &Source) -> Result<Vec<u8>, Stop<'a>>
     requires spelled { IsSpelled (source_view source.now) }
     ensures { GivesPure (λ bytes. bytes.items)
-        (stages.assembled_as policy.now (source_view source.now)) result }
+        (assembling.assembled_as policy.now (source_view source.now)) result }
 {
     match assemble(alloc, source, policy) {
         Ok(assembled) => match write(alloc, &assembled.view()) {
@@ -165,7 +180,7 @@ fn assembled_as<'a>(alloc: Global, policy: &Policy, source: &Source) -> Result<V
 /// The same of the source that the text spells.
 pub fn assembled_in<'a>(alloc: Global, policy: &Policy, text: &[u8]) -> Result<Vec<u8>, Stop<'a>>
     requires short { length text.now ≤ MAX_SOURCE }
-    ensures { GivesPure (λ bytes. bytes.items) (stages.assembled_in policy.now text.now) result }
+    ensures { GivesPure (λ bytes. bytes.items) (assembling.assembled_in policy.now text.now) result }
 {
     let source = match source_in(alloc, text) {
         Ok(source) => source,
@@ -176,7 +191,7 @@ pub fn assembled_in<'a>(alloc: Global, policy: &Policy, text: &[u8]) -> Result<V
 
 /// The packets that the bytes are.
 fn packets_in<'a>(bytes: Vec<u8>) -> Result<PacketFile, Stop<'a>>
-    ensures { GivesPure (λ packets. packets) (stages.packets_in bytes.items) result }
+    ensures { GivesPure (λ packets. packets) (packets.packets_in bytes.items) result }
 {
     match PacketFile::new(bytes) {
         Ok(packets) => Ok(packets),
@@ -190,8 +205,8 @@ fn container_bytes_of<'a, F: Files>(
     name: &'a str,
     files: &mut F,
 ) -> Result<Vec<u8>, Stop<'a>>
-    ensures { Gives (λ bytes. bytes.items) (name.entry.now ∷ [])
-        (stages.container_bytes_of name.entry.now) (F.state files.old) (F.state files.new) result }
+    ensures { Gives (λ bytes. bytes.items) (containers.container_bytes_of name.entry.now)
+        (F.log files.old) (F.log files.new) (F.state files.old) (F.state files.new) result }
 {
     bytes_of(alloc, name, MAX_FILE, Stop::ContainerTooLong, files)
 }
@@ -203,8 +218,8 @@ pub fn code_of<'a, F: Files>(
     name: &'a str,
     files: &mut F,
 ) -> Result<Code, Stop<'a>>
-    ensures { Gives (λ code. code) (name.entry.now ∷ []) (stages.code_of policy name.entry.now)
-        (F.state files.old) (F.state files.new) result }
+    ensures { Gives (λ code. code) (containers.code_of policy name.entry.now)
+        (F.log files.old) (F.log files.new) (F.state files.old) (F.state files.new) result }
 {
     let bytes = container_bytes_of(alloc, name, files)?;
     code_in(alloc, policy, &bytes)
@@ -217,12 +232,10 @@ pub fn accepted_of<'a, F: Files>(
     name: &'a str,
     files: &mut F,
 ) -> Result<Accepted, Stop<'a>>
-    ensures exact { Gives (λ a. tt) (name.entry.now ∷ [])
-        (stages.accepted_of policy.now name.entry.now)
-        (F.state files.old) (F.state files.new) result }
-    ensures code { Gives (λ a. a.code) (name.entry.now ∷ [])
-        (stages.accepted_code_of policy.now name.entry.now)
-        (F.state files.old) (F.state files.new) result }
+    ensures exact { Gives (λ a. tt) (judging.accepted_of policy.now name.entry.now)
+        (F.log files.old) (F.log files.new) (F.state files.old) (F.state files.new) result }
+    ensures code { Gives (λ a. a.code) (judging.accepted_code_of policy.now name.entry.now)
+        (F.log files.old) (F.log files.new) (F.state files.old) (F.state files.new) result }
     ensures policy { IfOk result (λ a. a.policy ≡ policy.now) }
 {
     let bytes = container_bytes_of(alloc, name, files)?;
@@ -236,9 +249,8 @@ pub fn proved_of<'a, F: Files>(
     name: &'a str,
     files: &mut F,
 ) -> Result<Vec<u8>, Stop<'a>>
-    ensures { Gives (λ bytes. bytes.items) (name.entry.now ∷ [])
-        (stages.proved_of policy.now name.entry.now)
-        (F.state files.old) (F.state files.new) result }
+    ensures { Gives (λ bytes. bytes.items) (proving.proved_of policy.now name.entry.now)
+        (F.log files.old) (F.log files.new) (F.state files.old) (F.state files.new) result }
 {
     let bytes = container_bytes_of(alloc, name, files)?;
     proved_in(alloc, policy, &bytes)
@@ -250,8 +262,8 @@ pub fn packets_of<'a, F: Files>(
     name: &'a str,
     files: &mut F,
 ) -> Result<PacketFile, Stop<'a>>
-    ensures { Gives (λ packets. packets) (name.entry.now ∷ []) (stages.packets_of name.entry.now)
-        (F.state files.old) (F.state files.new) result }
+    ensures { Gives (λ packets. packets) (packets.packets_of name.entry.now)
+        (F.log files.old) (F.log files.new) (F.state files.old) (F.state files.new) result }
 {
     let bytes = bytes_of(alloc, name, MAX_FILE, Stop::PacketsTooLong, files)?;
     packets_in(bytes)
@@ -265,9 +277,8 @@ pub fn assembled_of<'a, F: Files>(
     name: &'a str,
     files: &mut F,
 ) -> Result<Vec<u8>, Stop<'a>>
-    ensures { Gives (λ bytes. bytes.items) (name.entry.now ∷ [])
-        (stages.assembled_of policy.now name.entry.now)
-        (F.state files.old) (F.state files.new) result }
+    ensures { Gives (λ bytes. bytes.items) (assembling.assembled_of policy.now name.entry.now)
+        (F.log files.old) (F.log files.new) (F.state files.old) (F.state files.new) result }
 {
     let text = bytes_of(alloc, name, MAX_SOURCE as u32, Stop::SourceTooLong, files)?;
     assembled_in(alloc, policy, &text)
@@ -279,7 +290,8 @@ pub fn write_to<'a, F: Files>(
     bytes: &[u8],
     files: &mut F,
 ) -> Result<Report, Stop<'a>>
-    ensures { Wrote name.entry.now bytes.now (F.state files.old) (F.state files.new) result }
+    ensures { Wrote name.entry.now bytes.now
+        (F.log files.old) (F.log files.new) (F.state files.old) (F.state files.new) result }
 {
     match files.write(name, bytes) {
         Put::Done => Ok(Report::Written(bytes.len() as u64)),

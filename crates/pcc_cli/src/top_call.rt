@@ -1,13 +1,17 @@
 //! The whole program, over any files and any output.
 
-ghost use Rattle.std.specs.Prelude.{◌≡◌, map, string_bytes};
+ghost use Rattle.std.specs.Prelude.{◌≡◌, ℕ, List, map, string_bytes};
+ghost use Rattle.file_port.specs.Events.{Event};
+ghost use Rattle.file_port.specs.Files.{FilesState};
+ghost use Rattle.file_port.specs.Sink.{SinkState};
+ghost use Rattle.pcc_words.specs.Invocations.{command_of};
+ghost use Rattle.pcc_exit.specs.Runs.{Runs, Prints, status_after};
 ghost use Rattle.pcc_exit.specs.Ends.{Ends};
 ghost use Rattle.pcc_exit.specs.Accounts.{Accounts};
-ghost use Rattle.file_port.specs.Files.{FileMap};
-ghost use Rattle.pcc_words.specs.Invocations.{command_of};
-ghost use Rattle.pcc_cli.specs.Requests.{request_of};
-ghost use Rattle.pcc_cli.specs.Headline.{HoldBytes, Accepts, IsSafeToRun};
-ghost use Rattle.pcc_cli.specs.Inside.Decisions.{Decides, Prints, exit_of, status_after};
+ghost use Rattle.pcc_cli.specs.Texts.{texts};
+ghost use Rattle.pcc_cli.specs.Tasks.{task_of, request_of};
+ghost use Rattle.pcc_cli.specs.Headline.{MeansIfCommand, AcceptedRunsSafely};
+ghost use Rattle.pcc_cli.specs.Inside.Decisions.{Decides, exit_of};
 
 use crate::commands::{
     asm_command, check_command, demo_command, prove_command, ref_command, run_command,
@@ -24,8 +28,8 @@ fn decide<'a, F: Files>(
     words: &'a [String],
     files: &mut F,
 ) -> Result<Report, Stop<'a>>
-    ensures { Decides (request_of (map string_bytes words.entry.now))
-        (F.state files.old) (F.state files.new) result }
+    ensures { Decides (task_of (map string_bytes words.entry.now)).stage
+        (F.log files.old) (F.log files.new) (F.state files.old) (F.state files.new) result }
 {
     match read_arguments(alloc, words) {
         Ok(Some(Command::Asm(args))) => asm_command(alloc, args, files),
@@ -66,24 +70,41 @@ fn print<S: Sink>(decision: Result<Report, Stop<'_>>, out: &mut S) -> u8
 ///
 /// Reads and refuses first, and prints then; nothing is printed before all files were read.
 ///
-/// By `accepts`, `check` answers `accepted` exactly where the file is accepted under the policy,
-/// `run` refuses what `check` refuses, and else answers what the machine that tests every access
-/// makes of the code, and what `prove` writes is accepted. By `safe`, no run of accepted code from a
-/// start of the policy is blocked, whatever the budget, and what it returns satisfies the
-/// postcondition.
+/// By `runs`, whatever the files hold, the log of the files grows by the reads and the write that
+/// the command asks for, in their order, and by no other; what is put on the output, and the
+/// status, go by what these reads gave. By `means`, that is for each command what its users want
+/// to know of it: `check` reads FILE once, and puts `accepted` exactly where the bytes that were
+/// read are accepted under the policy; `run` runs the code that was accepted of these bytes alone,
+/// and puts the lines of the machine that tests every access; what `prove` writes is accepted. By
+/// `safe`, no run of accepted code from a start of the policy is blocked, whatever the budget, what
+/// it returns satisfies the postcondition, and it neither changes nor depends on anything outside
+/// its rights.
 pub fn pcc<F: Files, S: Sink>(alloc: Global, words: Vec<String>, files: &mut F, out: &mut S) -> u8
-    ensures ends { Ends (request_of (map string_bytes words.items))
-        (F.state files.old) (F.state files.new) (S.state out.old) (S.state out.new) result }
-    ensures accepts { (files : FileMap) → HoldBytes files
-        → Accepts (command_of (map string_bytes words.items)) files }
-    ensures safe { (files : FileMap)
-        → IsSafeToRun (command_of (map string_bytes words.items)) files }
-    ensures accounts { Accounts (request_of (map string_bytes words.items))
-        (F.state files.old) (F.state files.new) (S.state out.old) (S.state out.new) result }
+    ensures runs { Runs texts (task_of (map string_bytes words.items)).stage
+        (F.log files.old) (F.log files.new) (F.state files.old) (F.state files.new)
+        (S.state out.old) (S.state out.new) result }
+    ensures means { MeansIfCommand (command_of (map string_bytes words.items))
+        (F.log files.old) (F.log files.new) (S.state out.old) (S.state out.new) result }
+    ensures safe { AcceptedRunsSafely }
 {
     pcc_gate::laws();
     packet_store::laws();
     bounds_prover::prove_laws();
+    alpha_cfg::isolation_laws();
     let decision = decide(alloc, words.as_slice(), files);
     print(decision, out)
+}
+
+/// Where the contents of the files are known, a run ends with the answer over them, or as a failed
+/// call or want of memory brings; where they aren't, less is known (`Ends`); and its status and the
+/// counts of faults say what `Accounts` lists. Both follow from what `pcc` says of a run.
+pub fn laws()
+    ensures ends { (args : List (List ℕ)) (e e' : List Event) (f g : FilesState) (s t : SinkState)
+        (status : ℕ) → Runs texts (task_of args).stage e e' f g s t status
+        → Ends (request_of args) f g s t status }
+    ensures accounts { (args : List (List ℕ)) (e e' : List Event) (f g : FilesState)
+        (s t : SinkState) (status : ℕ) → Runs texts (task_of args).stage e e' f g s t status
+        → Accounts (request_of args) f g s t status }
+{
+    pcc_exit::laws();
 }

@@ -28,28 +28,28 @@ told_both (Some files) P Q R joined p q = joined files p q
 
 -- ---- stages
 
-abbrev is_stop : {A : Type 0} → Stage A → Bool
+abbrev pub is_stop : {A : Type 0} → Stage A → Bool
 is_stop (stops exit) = true
 is_stop (gives x) = false
 is_stop (reads name max more on) = false
 
-abbrev is_read : {A : Type 0} → Stage A → Bool
+abbrev pub is_read : {A : Type 0} → Stage A → Bool
 is_read (stops exit) = false
 is_read (gives x) = false
 is_read (reads name max more on) = true
 
 -- the exit of a stage that stops
-abbrev exit_at : {A : Type 0} → Stage A → Exit
+abbrev pub exit_at : {A : Type 0} → Stage A → Exit
 exit_at (stops exit) = exit
 exit_at (gives x) = no_memory_exit
 exit_at (reads name max more on) = no_memory_exit
 
-no_stop : {A : Type 0} (x : A) (exit : Exit) → gives x ≡ stops exit → ⊥
+pub no_stop : {A : Type 0} (x : A) (exit : Exit) → gives x ≡ stops exit → ⊥
 no_stop x exit e = true≢false (sym (ap is_stop e))
 
 module _ (texts : Texts) {A : Type 0} where
   -- behind a stop nothing is read
-  follows_stop : (exit : Exit) (events : List Event) (later : Stage A) → Follows texts events (stops exit) later → (events ≡ []) × (later ≡ stops exit)
+  pub follows_stop : (exit : Exit) (events : List Event) (later : Stage A) → Follows texts events (stops exit) later → (events ≡ []) × (later ≡ stops exit)
   follows_stop exit [] later h = (refl, h)
   follows_stop exit (was_read name max given ∷ events) later h = absurd (true≢false (sym (ap is_read h.1.asks)))
   follows_stop exit (was_written name bytes answer ∷ events) later h = absurd h
@@ -138,7 +138,7 @@ module _ (texts : Texts) (standing : Standing) (names : List (List ℕ)) {A : Ty
     read_on too_long events next later o mid n goes read follows happens rest =
         let end = ended more events next later mid n goes follows happens in
         fine (end.0 ∙ read.same) (told_both o.contents _ _ _ (λ files e u. e ∙ ap (result_over texts files) (sym end.1)) (told_at too_long o read.right) (told_each o.contents (λ files. Unit {0}) (λ files. tt)))
-        (subst (IsSuited texts standing names) (sym end.1) suited.2)
+        (subst (IsSuited texts standing names) (sym end.1) (inl suited.2))
     read_on failed events next later o mid n goes read follows happens rest =
         let end = ended (read_fault_exit texts name) events next later mid n goes follows happens in
         fault name (told_each o.contents (λ files. Contains (names_over files (reads name max more on)) name) (λ files. (0, omega arith, refl))) suited.1 suited.0
@@ -205,7 +205,8 @@ module _ (texts : Texts) (task : Task) (suited : IsSuited texts task.standing ta
     memory_out : g ≡ f → exit ≡ no_memory_exit → Stopped exit
 
   of_stop : (exit : Exit) → Walked texts task.standing task.names task.stage (stops exit) f g → Stopped exit
-  of_stop exit (fine same told stop) =
+  of_stop exit (fine same told (inr is)) = memory_out same is
+  of_stop exit (fine same told (inl stop)) =
       decision (answer exit None same (told_result (Err exit) (stops exit) (λ files. refl) told) (omega (arith, stop.in_range)) (λ _. refl) stop.suits)
   of_stop exit (fault name asked named known fails is) =
       decision (not_read (record { name = name; asked = asked; named = named; command = known; fails = fails; line = ap exit_at is }))

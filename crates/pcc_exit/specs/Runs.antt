@@ -1,13 +1,13 @@
 -- What a run did, whatever the files hold: its reads and its write, in their order, are what the command asks for, and what it
 -- prints, and its status, go by what the reads gave.
-use Rattle.std.specs.Prelude.{◌≡◌, ◌≢◌, ℕ, ◌<◌, ◌≤◌, List, [], ◌∷◌, ◌++◌, slice_index, Contains, Option, Some, None, Result, Ok, Err}
+use Rattle.std.specs.Prelude.{◌≡◌, ◌⊎◌, ℕ, ◌<◌, ◌≤◌, List, [], ◌∷◌, ◌++◌, slice_index, Contains, Option, Some, None, Result, Ok, Err}
 use Rattle.file_port.specs.Files.{FileMap, FilesState, Reads, Writes}
 use Rattle.file_port.specs.Events.{Given, whole, missing, too_long, failed, no_memory, Event, was_read, was_written, was_put}
 use Rattle.file_port.specs.Sink.{SinkState, Puts}
 use Rattle.file_port.specs.declared.port.Put.{Put}
 use Rattle.file_port.specs.declared.port.Put.TheVariants as put
 use Rattle.pcc_exit.specs.Exits.{Exit, Change, Answer}
-use Rattle.pcc_exit.specs.Requests.{Request, Standing, Suits, Texts, command, write_fault_exit}
+use Rattle.pcc_exit.specs.Requests.{Request, Standing, Suits, Texts, command, write_fault_exit, no_memory_exit}
 use Rattle.pcc_exit.specs.Stages.{Stage, stops, gives, reads, Follows, result_over, names_over}
 
 -- what a command that isn't refused prints, and what it writes before
@@ -118,9 +118,9 @@ pub record IsStop (texts : Texts) (standing : Standing) (exit : Exit) : Type 0 w
   pub some : 0 < exit.status
   pub in_range : exit.status ≤ 2
 
--- Where the stage stops, that is a refusal; it reads the named files alone, and reads and gives only where the arguments are a command.
+-- Where the stage stops, that is a refusal, or there was no memory; it reads the named files alone, and reads and gives only where the arguments are a command.
 abbrev pub IsSuited : {A : Type 0} → Texts → Standing → List (List ℕ) → Stage A → Type 0
-IsSuited texts standing names (stops exit) = IsStop texts standing exit
+IsSuited texts standing names (stops exit) = IsStop texts standing exit ⊎ (exit ≡ no_memory_exit)
 IsSuited texts standing names (gives x) = standing ≡ command
 IsSuited texts standing names (reads name max more on) =
     (standing ≡ command) × Contains names name × IsStop texts standing more × ((b : List ℕ) → IsSuited texts standing names (on b))

@@ -1,6 +1,5 @@
 -- `demo N`: a source of N loads and a loop is assembled, proved, judged and run on sixteen packets.
-use Rattle.std.specs.Prelude.{ℕ, zero, suc, ◌+◌, ◌==◌, if◌then◌else◌, List, length, Option, Some, None, Ok, codes}
-use Rattle.file_port.specs.Files.{FileMap}
+use Rattle.std.specs.Prelude.{ℕ, zero, suc, ◌+◌, ◌==◌, if◌then◌else◌, List, length, Option, Some, None, codes}
 use Rattle.alpha_words.specs.declared.insn.Insn.{Insn}
 use Rattle.alpha_cfg.specs.Machine.{run_of}
 use Rattle.alpha_cfg.specs.declared.outcome.Outcome.{Outcome}
@@ -17,7 +16,12 @@ use Rattle.pcc_lines.specs.Demo.{demo_lines}
 use Rattle.pcc_lines.specs.declared.demo.DemoSummary.{DemoSummary}
 use Rattle.pcc_cli.specs.declared.commands.demo.TheConstants.{DEMO_STEPS}
 use Rattle.pcc_cli.specs.declared.commands.demo.Counts.{Counts}
-use Rattle.pcc_cli.specs.Stages.{Staged, Effect, ◌>>=◌, pure, policy_named, assembled_in, proved_in, Shown, shown_in, printing}
+use Rattle.pcc_exit.specs.Stages.{Stage, gives, ◌>>=◌}
+use Rattle.pcc_exit.specs.Runs.{Effect}
+use Rattle.pcc_cli.specs.Stages.Common.{policy_named, printing}
+use Rattle.pcc_cli.specs.Stages.Assembling.{assembled_in}
+use Rattle.pcc_cli.specs.Stages.Judging.{Shown, shown_in}
+use Rattle.pcc_cli.specs.Stages.Proving.{proved_in}
 
 -- ---- the runs
 
@@ -51,20 +55,20 @@ summary_of policy n shown =
 -- ---- the command
 
 -- the container with its proof
-unfoldable pub demo_container : PolicyKind → ℕ → Staged (List ℕ)
+unfoldable pub demo_container : PolicyKind → ℕ → Stage (List ℕ)
 demo_container policy n = do
   container ← assembled_in policy (demo_source n)
   proved_in policy container
 
 -- what is told
-unfoldable pub demo_told : PolicyKind → ℕ → Staged DemoSummary
+unfoldable pub demo_told : PolicyKind → ℕ → Stage DemoSummary
 demo_told policy n = do
   container ← demo_container policy n
   shown ← shown_in policy container
-  pure (Ok (summary_of policy n shown))
+  gives (summary_of policy n shown)
 
 -- the three lines of it
-unfoldable pub demo_effect : PolicyKind → ℕ → Staged Effect
+unfoldable pub demo_effect : PolicyKind → ℕ → Stage Effect
 demo_effect policy n = do
   told ← demo_told policy n
   printing (demo_lines told)
@@ -74,7 +78,7 @@ abbrev pub demo_policy : List ℕ
 demo_policy = codes "filter"
 
 -- no file is read
-unfoldable pub demo_command : ℕ → FileMap → Staged Effect
-demo_command n files = do
+unfoldable pub demo_command : ℕ → Stage Effect
+demo_command n = do
   under ← policy_named demo_policy
   demo_effect under n

@@ -1,14 +1,17 @@
 -- `ref POLICY FILE PACKETS [--steps N]`
 use Rattle.std.specs.Prelude.{ℕ, List}
-use Rattle.file_port.specs.Files.{FileMap}
 use Rattle.packet_store.specs.Results.{packet_result}
 use Rattle.pcc_lines.specs.Results.{result_lines}
-use Rattle.pcc_cli.specs.Stages.{Staged, Effect, ◌>>=◌, policy_named, code_of, packets_of, printing}
+use Rattle.pcc_exit.specs.Stages.{Stage, ◌>>=◌}
+use Rattle.pcc_exit.specs.Runs.{Effect}
+use Rattle.pcc_cli.specs.Stages.Common.{policy_named, printing}
+use Rattle.pcc_cli.specs.Stages.Containers.{code_of}
+use Rattle.pcc_cli.specs.Stages.Packets.{packets_of}
 
 -- the policy, the container and its refusals, the packet file and its faults, the packets in order
-unfoldable pub ref_command : List ℕ → List ℕ → List ℕ → ℕ → FileMap → Staged Effect
-ref_command policy file packets steps files = do
+unfoldable pub ref_command : List ℕ → List ℕ → List ℕ → ℕ → Stage Effect
+ref_command policy file packets steps = do
   under ← policy_named policy
-  code ← code_of under file files
-  all ← packets_of packets files
+  code ← code_of under file
+  all ← packets_of packets
   printing (result_lines under (packet_result under code steps) 0 all)

@@ -1,11 +1,9 @@
--- What was decided once the files were read and written, and how it is printed.
-use Rattle.std.specs.Prelude.{◌≡◌, ℕ, List, [], None, Result, Ok, Err}
+-- What was decided once the files were read and written.
+use Rattle.std.specs.Prelude.{◌≡◌, ℕ, List, ◌++◌, Option, Some, None, unwrap_or, Result, Ok, Err}
+use Rattle.file_port.specs.Events.{Event}
 use Rattle.file_port.specs.Files.{FilesState}
-use Rattle.file_port.specs.Sink.{SinkState, Puts}
-use Rattle.file_port.specs.declared.Put.{Put}
-use Rattle.file_port.specs.declared.Put.TheVariants as put
 use Rattle.packet_store.specs.Runners.{testing_results}
-use Rattle.pcc_lines.specs.Fixed.{accepted_line, container_too_long_line, packets_too_long_line, source_too_long_line}
+use Rattle.pcc_lines.specs.Fixed.{accepted_line, container_too_long_line, packets_too_long_line, source_too_long_line, unknown_policy_line}
 use Rattle.pcc_lines.specs.PacketFaults.{packet_fault_line}
 use Rattle.pcc_lines.specs.Proving.{not_easy_line, too_big_line}
 use Rattle.asm_text.specs.Names.{line_flaw_name}
@@ -17,32 +15,37 @@ use Rattle.safe_host.specs.Runners.{host_results}
 use Rattle.pcc_lines.specs.Results.{result_lines}
 use Rattle.pcc_lines.specs.Demo.{demo_lines}
 use Rattle.pcc_exit.specs.Exits.{Exit}
-use Rattle.pcc_exit.specs.Requests.{Request, usage_exit, unknown_policy_exit, read_fault_exit, write_fault_exit}
-use Rattle.pcc_exit.specs.Ends.{IsDecision}
-use Rattle.pcc_cli.specs.Stages.{Effect, refused, missing, no_memory}
-use Rattle.pcc_cli.specs.Requests.{texts}
+use Rattle.pcc_exit.specs.Requests.{usage_exit, missing_exit, read_fault_exit, write_fault_exit, no_memory_exit}
+use Rattle.pcc_exit.specs.Stages.{Stage, Follows}
+use Rattle.pcc_exit.specs.Runs.{Effect, Happens, NoneFailed, Comes, done_exit}
+use Rattle.pcc_cli.specs.Stages.Common.{refused}
+use Rattle.pcc_cli.specs.Texts.{texts}
 use Rattle.pcc_cli.specs.declared.stop.Stop.{Stop}
 use Rattle.pcc_cli.specs.declared.stop.Stop.TheVariants as stop
 use Rattle.pcc_cli.specs.declared.report.Report.{Report}
 use Rattle.pcc_cli.specs.declared.report.Report.TheVariants as report
 
--- the exit of a stop, if its line is put
+-- the exit of a stop, if its line is put; none of want of memory
+abbrev pub end_of : Stop → Option Exit
+end_of stop.Usage = Some (usage_exit texts)
+end_of stop.UnknownPolicy = Some (refused unknown_policy_line)
+end_of (stop.Refused refusal) = Some (refused (refusal_line refusal))
+end_of stop.ContainerTooLong = Some (refused container_too_long_line)
+end_of (stop.NotEasy part) = Some (refused (not_easy_line part))
+end_of (stop.TooBig measure number) = Some (refused (too_big_line (measure_name measure) number))
+end_of stop.SourceTooLong = Some (refused source_too_long_line)
+end_of (stop.BadLine line flaw) = Some (refused (source_fault_line line (line_flaw_name flaw)))
+end_of (stop.BadSource flaw) = Some (refused (source_fault_line (asm_flaw_line flaw) (asm_flaw_name flaw)))
+end_of stop.PacketsTooLong = Some (refused packets_too_long_line)
+end_of (stop.BadPackets fault) = Some (refused (packet_fault_line fault))
+end_of (stop.Missing name) = Some (missing_exit texts name.now)
+end_of (stop.ReadFault name) = Some (read_fault_exit texts name.now)
+end_of (stop.WriteFault name) = Some (write_fault_exit texts name.now)
+end_of stop.Memory = None
+
+-- the exit of a stop
 abbrev pub stop_exit : Stop → Exit
-stop_exit stop.Usage = usage_exit texts
-stop_exit stop.UnknownPolicy = unknown_policy_exit texts
-stop_exit (stop.Refused refusal) = refused (refusal_line refusal)
-stop_exit stop.ContainerTooLong = refused container_too_long_line
-stop_exit (stop.NotEasy part) = refused (not_easy_line part)
-stop_exit (stop.TooBig measure number) = refused (too_big_line (measure_name measure) number)
-stop_exit stop.SourceTooLong = refused source_too_long_line
-stop_exit (stop.BadLine line flaw) = refused (source_fault_line line (line_flaw_name flaw))
-stop_exit (stop.BadSource flaw) = refused (source_fault_line (asm_flaw_line flaw) (asm_flaw_name flaw))
-stop_exit stop.PacketsTooLong = refused packets_too_long_line
-stop_exit (stop.BadPackets fault) = refused (packet_fault_line fault)
-stop_exit (stop.Missing name) = missing name.now
-stop_exit (stop.ReadFault name) = read_fault_exit texts name.now
-stop_exit (stop.WriteFault name) = write_fault_exit texts name.now
-stop_exit stop.Memory = no_memory
+stop_exit why = unwrap_or (end_of why) no_memory_exit
 
 -- the lines of a report
 abbrev pub report_text : Report → List ℕ
@@ -56,23 +59,23 @@ report_text (report.Demo summary) = demo_lines summary
 abbrev pub effect_of : Report → Effect
 effect_of report = record { text = report_text report; change = None }
 
+-- the exit of what was decided, if there was memory
+abbrev pub end_of_decision : Result Report Stop → Option Exit
+end_of_decision (Ok report) = Some (done_exit (report_text report))
+end_of_decision (Err why) = end_of why
+
 -- the exit of what was decided, if the puts are done
 abbrev pub exit_of : Result Report Stop → Exit
-exit_of (Ok report) = record { status = 0; text = report_text report }
-exit_of (Err stop) = stop_exit stop
+exit_of decision = unwrap_or (end_of_decision decision) no_memory_exit
 
--- the decision is one on the request, or there was no memory
-abbrev pub Decides : Request → FilesState → FilesState → Result Report Stop → Type 0
-Decides request old new (Err stop.Memory) = new ≡ old
-Decides request old new decision = IsDecision request old new (exit_of decision)
+-- the events are all that the stage asks for, and this is the exit; or memory ran out on the way
+abbrev pub EndsWith : Stage Effect → List Event → Option Exit → Type 0
+EndsWith stage events (Some exit) = Comes texts stage events exit
+EndsWith stage events None = (later : Stage Effect) × Follows texts events stage later × NoneFailed events
 
--- a failed put has the last word on the status
-abbrev pub status_after : ℕ → Put → ℕ
-status_after status put.Done = status
-status_after status put.Failed = 4
-
--- the text was put, or a part of it
-pub record Prints (exit : Exit) (old new : SinkState) (status : ℕ) : Type 0 where
-  pub put : Put
-  pub puts : Puts exit.text old new put
-  pub after : status ≡ status_after exit.status put
+-- The decision is what the stage comes to by what was asked and answered.
+pub record Decides (stage : Stage Effect) (e e' : List Event) (f g : FilesState) (decision : Result Report Stop) : Type 0 where
+  pub events : List Event
+  pub logged : e' ≡ e ++ events
+  pub happened : Happens events f g
+  pub ends : EndsWith stage events (end_of_decision decision)

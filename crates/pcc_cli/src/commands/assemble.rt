@@ -1,8 +1,7 @@
 //! `asm POLICY IN OUT`: assembles a source into a container without a proof.
 
-ghost use Rattle.std.specs.Prelude.{Some};
 ghost use Rattle.pcc_words.specs.Invocations.{asm};
-ghost use Rattle.pcc_cli.specs.Requests.{request_of_command};
+ghost use Rattle.pcc_cli.specs.Tasks.{stage_of};
 ghost use Rattle.pcc_cli.specs.Inside.Decisions.{Decides};
 
 use crate::report::Report;
@@ -20,8 +19,8 @@ pub fn asm_command<'a, F: Files>(
     files: &mut F,
 ) -> Result<Report, Stop<'a>>
     ensures { let a = args.entry in
-        Decides (request_of_command (Some (asm a.policy.now a.input.now a.output.now)))
-        (F.state files.old) (F.state files.new) result }
+        Decides (stage_of (asm a.policy.now a.input.now a.output.now))
+        (F.log files.old) (F.log files.new) (F.state files.old) (F.state files.new) result }
 {
     let policy = policy_named(alloc, args.policy)?;
     let container = assembled_of(alloc, &policy, args.input, files)?;

@@ -1,8 +1,7 @@
 //! `check POLICY FILE`: judges a container.
 
-ghost use Rattle.std.specs.Prelude.{Some};
 ghost use Rattle.pcc_words.specs.Invocations.{check};
-ghost use Rattle.pcc_cli.specs.Requests.{request_of_command};
+ghost use Rattle.pcc_cli.specs.Tasks.{stage_of};
 ghost use Rattle.pcc_cli.specs.Inside.Decisions.{Decides};
 
 use crate::report::Report;
@@ -19,8 +18,8 @@ pub fn check_command<'a, F: Files>(
     files: &mut F,
 ) -> Result<Report, Stop<'a>>
     ensures { let a = args.entry in
-        Decides (request_of_command (Some (check a.policy.now a.file.now)))
-        (F.state files.old) (F.state files.new) result }
+        Decides (stage_of (check a.policy.now a.file.now))
+        (F.log files.old) (F.log files.new) (F.state files.old) (F.state files.new) result }
 {
     let policy = policy_named(alloc, args.policy)?;
     accepted_of(alloc, &policy, args.file, files)?;

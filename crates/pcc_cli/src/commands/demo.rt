@@ -9,7 +9,7 @@ ghost use Rattle.demo_input.specs.declared.packets.TheConstants.{PACKETS};
 ghost use Rattle.safe_host.specs.Runs.{outcome_of};
 ghost use Rattle.pcc_cli.specs.Commands.Demo.{one_of, count_from, counts_of, summary_of};
 ghost use Rattle.pcc_cli.specs.Commands.Demo.{demo_container, demo_told, demo_effect};
-ghost use Rattle.pcc_cli.specs.Requests.{request_of_command};
+ghost use Rattle.pcc_cli.specs.Tasks.{stage_of};
 ghost use Rattle.pcc_cli.specs.Inside.Gives.{GivesPure};
 ghost use Rattle.pcc_cli.specs.Inside.Decisions.{Decides, effect_of};
 ghost use Rattle.pcc_cli.specs.Inside.Shows.{shown_by};
@@ -152,8 +152,8 @@ fn report<'a>(alloc: Global, policy: &Policy, n: u32) -> Result<Report, Stop<'a>
 /// Makes the source, proves it, judges it and runs it; all memory is taken before the first line.
 pub fn demo_command<'a, F: Files>(alloc: Global, n: u64, files: &mut F) -> Result<Report, Stop<'a>>
     requires { n ≤ MAX_DEMO }
-    ensures { Decides (request_of_command (Some (demo n)))
-        (F.state files.old) (F.state files.new) result }
+    ensures { Decides (stage_of (demo n))
+        (F.log files.old) (F.log files.new) (F.state files.old) (F.state files.new) result }
 {
     let _ = files; // only the clause speaks of them
     let policy = policy_named(alloc, "filter")?;

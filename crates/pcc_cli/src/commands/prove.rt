@@ -1,8 +1,7 @@
 //! `prove POLICY IN OUT`: makes of a container one with a proof.
 
-ghost use Rattle.std.specs.Prelude.{Some};
 ghost use Rattle.pcc_words.specs.Invocations.{prove};
-ghost use Rattle.pcc_cli.specs.Requests.{request_of_command};
+ghost use Rattle.pcc_cli.specs.Tasks.{stage_of};
 ghost use Rattle.pcc_cli.specs.Inside.Decisions.{Decides};
 
 use crate::report::Report;
@@ -20,8 +19,8 @@ pub fn prove_command<'a, F: Files>(
     files: &mut F,
 ) -> Result<Report, Stop<'a>>
     ensures { let a = args.entry in
-        Decides (request_of_command (Some (prove a.policy.now a.input.now a.output.now)))
-        (F.state files.old) (F.state files.new) result }
+        Decides (stage_of (prove a.policy.now a.input.now a.output.now))
+        (F.log files.old) (F.log files.new) (F.state files.old) (F.state files.new) result }
 {
     let policy = policy_named(alloc, args.policy)?;
     let container = proved_of(alloc, &policy, args.input, files)?;

@@ -1,9 +1,8 @@
 //! `ref POLICY FILE PACKETS [--steps N]`: runs the code of a container on packets, by the machine
 //! that tests every access.
 
-ghost use Rattle.std.specs.Prelude.{Some};
 ghost use Rattle.pcc_words.specs.Invocations.{ref};
-ghost use Rattle.pcc_cli.specs.Requests.{request_of_command};
+ghost use Rattle.pcc_cli.specs.Tasks.{stage_of};
 ghost use Rattle.pcc_cli.specs.Inside.Decisions.{Decides};
 
 use crate::report::{Job, Report};
@@ -21,8 +20,8 @@ pub fn ref_command<'a, F: Files>(
     files: &mut F,
 ) -> Result<Report, Stop<'a>>
     ensures { let a = args.entry in
-        Decides (request_of_command (Some (ref a.policy.now a.file.now a.packets.now a.steps)))
-        (F.state files.old) (F.state files.new) result }
+        Decides (stage_of (ref a.policy.now a.file.now a.packets.now a.steps))
+        (F.log files.old) (F.log files.new) (F.state files.old) (F.state files.new) result }
 {
     let policy = policy_named(alloc, args.policy)?;
     let under = policy.kind();

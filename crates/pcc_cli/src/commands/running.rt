@@ -5,7 +5,7 @@ ghost use Rattle.std.specs.Prelude.{◌≡◌, Some, IfSome};
 ghost use Rattle.packet_store.specs.Results.{packet_result};
 ghost use Rattle.safe_host.specs.Runners.{host_results};
 ghost use Rattle.pcc_words.specs.Invocations.{run};
-ghost use Rattle.pcc_cli.specs.Requests.{request_of_command};
+ghost use Rattle.pcc_cli.specs.Tasks.{stage_of};
 ghost use Rattle.pcc_cli.specs.Inside.Decisions.{Decides};
 
 use crate::report::{Job, Report};
@@ -35,8 +35,8 @@ pub fn run_command<'a, F: Files>(
     files: &mut F,
 ) -> Result<Report, Stop<'a>>
     ensures { let a = args.entry in
-        Decides (request_of_command (Some (run a.policy.now a.file.now a.packets.now a.steps)))
-        (F.state files.old) (F.state files.new) result }
+        Decides (stage_of (run a.policy.now a.file.now a.packets.now a.steps))
+        (F.log files.old) (F.log files.new) (F.state files.old) (F.state files.new) result }
 {
     let policy = policy_named(alloc, args.policy)?;
     let under = policy.kind();

@@ -1,14 +1,15 @@
-use Rattle.std.proofs.Common.{◌≡◌, ◌∙◌, Ok, Err, ap, sym}
+use Rattle.std.proofs.Common.{◌≡◌, ◌∙◌, Err, ap, sym}
 use Rattle.asm_text.specs.Views.{source_view}
 use Rattle.proof_container.specs.Encoding.{encoding_of}
 use Rattle.pcc_asm.specs.declared.fault.AsmFlaw.{AsmFlaw}
 use Rattle.pcc_asm.specs.Assembling.{assembled_contents}
-use Rattle.pcc_cli.specs.Stages.{container_made, assembled_as}
+use Rattle.pcc_exit.specs.Stages.{gives}
+use Rattle.pcc_cli.specs.Stages.Assembling.{container_made, assembled_as}
 use Rattle.pcc_cli.proofs.stages.assembled_as.Goals as goal
 
 pub returns-in-Ok-write : goal.returns-in-Ok-write
 unfolding assembled_as
-returns-in-Ok-write c = ap container_made c.in-Ok.ensures.exact ∙ ap Ok (sym (c.in-Ok-write.ensures.encodes.encoded ∙ ap encoding_of c.view.ensures.shows))
+returns-in-Ok-write c = ap container_made c.in-Ok.ensures.exact ∙ ap gives (sym (c.in-Ok-write.ensures.encodes.encoded ∙ ap encoding_of c.view.ensures.shows))
 
 pub returns-in-Err-At : goal.returns-in-Err-At
 unfolding assembled_as

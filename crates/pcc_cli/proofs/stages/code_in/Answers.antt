@@ -1,20 +1,20 @@
-use Rattle.std.proofs.Common.{◌≡◌, Err, sym, ap}
+use Rattle.std.proofs.Common.{◌≡◌, Err, sym, ap, ◌∙◌}
 use Rattle.alpha_cfg.specs.CodeDecoding.{decoded_code}
-use Rattle.proof_container.specs.Views.{contents_of}
-use Rattle.pcc_cli.specs.Stages.{pure, code_found, code_in, container_in}
-use Rattle.pcc_cli.proofs.StageLemmas.{pure_first, pure_later}
+use Rattle.pcc_exit.specs.Stages.{◌>>=◌}
+use Rattle.pcc_cli.specs.Stages.Containers.{code_found, code_in, container_in}
+use Rattle.pcc_cli.proofs.StageLemmas.{pure_stops}
 use Rattle.pcc_cli.proofs.stages.code_in.Goals as goal
 
 pub returns-in-Err : goal.returns-in-Err
 unfolding code_in
-returns-in-Err c = pure_first (container_in c.args.policy c.args.bytes.now) (λ container. pure (code_found (decoded_code container.code))) c.in-Err.stop c.in-Err.ensures.exact
+returns-in-Err c = pure_stops (λ container. code_found (decoded_code container.code)) (container_in c.args.policy c.args.bytes.now) c.in-Err.stop c.in-Err.ensures.exact
 
 pub returns-in-Ok-of : goal.returns-in-Ok-of
 unfolding code_in
-returns-in-Ok-of c = pure_later (container_in c.args.policy c.args.bytes.now) (λ container. pure (code_found (decoded_code container.code))) (contents_of c.in-Ok.container) c.in-Ok.ensures.exact _ (ap code_found (sym c.in-Ok-of.ensures.exact))
+returns-in-Ok-of c = ap (λ s. s >>= λ container. code_found (decoded_code container.code)) c.in-Ok.ensures.exact ∙ ap code_found (sym c.in-Ok-of.ensures.exact)
 
 pub returns-in-Err-At : goal.returns-in-Err-At
 unfolding code_in
 returns-in-Err-At c =
     let read : Err c.in-Err-At.flaw ≡ decoded_code c.in-Ok.container.code.now = rw c.in-Err-At.field-0-is at c.in-Err-At.ensures.exact in
-    pure_later (container_in c.args.policy c.args.bytes.now) (λ container. pure (code_found (decoded_code container.code))) (contents_of c.in-Ok.container) c.in-Ok.ensures.exact _ (ap code_found (sym read))
+    ap (λ s. s >>= λ container. code_found (decoded_code container.code)) c.in-Ok.ensures.exact ∙ ap code_found (sym read)

@@ -1,7 +1,7 @@
 use Rattle.std.proofs.Common.{◌≡◌, Err, ap}
 use Rattle.bounds_prover.specs.Proving.{proved_container}
 use Rattle.bounds_prover.specs.declared.fault.ProveFault.TheVariants.{Refused, NotEasy, TooBig}
-use Rattle.pcc_cli.specs.Stages.{container_proved, proved_in}
+use Rattle.pcc_cli.specs.Stages.Proving.{container_proved, proved_in}
 use Rattle.pcc_cli.proofs.stages.proved_in.Goals as goal
 
 pub returns-in-Ok : goal.returns-in-Ok

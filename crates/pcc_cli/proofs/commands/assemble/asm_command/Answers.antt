@@ -1,23 +1,36 @@
-use Rattle.std.proofs.Common.{ℕ, List, refl, subst}
-use Rattle.pcc_words.specs.Invocations.{asm}
-use Rattle.pcc_cli.specs.Stages.{assembled_of}
+use Rattle.std.proofs.Common.{ℕ, List, Vec, Global, subst}
+use Rattle.pcc_exit.specs.Stages.{◌>>=◌}
+use Rattle.pcc_cli.specs.Stages.Common.{policy_named, writing}
+use Rattle.pcc_cli.specs.Stages.Assembling.{assembled_of}
+use Rattle.pcc_cli.specs.Commands.Assemble.{asm_command}
+use Rattle.pcc_cli.specs.Inside.Decisions.{effect_of}
 use Rattle.pcc_cli.specs.Inside.Gives.{Wrote}
-use Rattle.pcc_cli.proofs.CopyLemmas.{no_policy, not_made, written}
-use Rattle.pcc_cli.proofs.AsmLemmas.{asm_begins}
+use Rattle.pcc_cli.proofs.StageLemmas.{stops_first}
+use Rattle.pcc_cli.proofs.DecisionLemmas.{no_policy, under_policy, decides_report, decides_copy}
 use Rattle.pcc_cli.proofs.commands.assemble.asm_command.Goals as goal
 
 pub returns-in_err-policy : goal.returns-in_err-policy
+unfolding asm_command
 returns-in_err-policy g c =
     let a = c.args.args in
-    no_policy (asm a.policy.now a.input.now a.output.now) a.input.now a.output.now (λ under. assembled_of under a.input.now) refl (asm_begins a.policy.now a.input.now a.output.now) _ c.in_err-policy.field-0.0 c.from_residual.result c.in_err-policy.ensures c.from_residual.ensures.1
+    no_policy (policy_named a.policy.now) (λ under. assembled_of under a.input.now >>= λ container. writing a.output.now container) _ _ c.in_err-policy.field-0.0 c.from_residual.result c.in_err-policy.ensures
+    c.from_residual.ensures.1
 
 pub returns-in_err-container : goal.returns-in_err-container
+unfolding asm_command
 returns-in_err-container g c =
     let a = c.args.args in
-    not_made (asm a.policy.now a.input.now a.output.now) a.input.now a.output.now (λ under. assembled_of under a.input.now) refl (asm_begins a.policy.now a.input.now a.output.now) c.in_ok-policy.policy c.in_ok-policy.ensures _ _ c.in_err-container.field-0.0 c.from_residual-in_err-container.result c.in_err-container.ensures c.from_residual-in_err-container.ensures.1
+    let kind = c.in_ok-policy.policy in
+    under_policy (policy_named a.policy.now) (λ under. assembled_of under a.input.now >>= λ container. writing a.output.now container) kind _ _ _ _ _ c.in_ok-policy.ensures
+    (decides_report (assembled_of kind a.input.now >>= λ container. writing a.output.now container) _ _ _ _ c.from_residual-in_err-container.result
+    (stops_first (λ container. writing a.output.now container) (λ (v : Vec ℕ Global). v.items) effect_of (assembled_of kind a.input.now) _ _ _ _ c.in_err-container.field-0.0 c.from_residual-in_err-container.result
+    c.in_err-container.ensures c.from_residual-in_err-container.ensures.1))
 
 pub returns : goal.returns
+unfolding asm_command
 returns g c =
     let a = c.args.args in
-    written (asm a.policy.now a.input.now a.output.now) a.input.now a.output.now (λ under. assembled_of under a.input.now) refl (asm_begins a.policy.now a.input.now a.output.now) c.in_ok-policy.policy c.in_ok-policy.ensures _ _ c.in_ok-container.container.items c.in_ok-container.ensures _ c.write_to.result
-    (subst (λ (bytes : List ℕ). Wrote a.output.now bytes (g.F.Files.state c.assembled_of.new.files) (g.F.Files.state c.write_to.new.files) c.write_to.result) c.deref.ensures.value c.write_to.ensures)
+    let kind = c.in_ok-policy.policy in
+    under_policy (policy_named a.policy.now) (λ under. assembled_of under a.input.now >>= λ container. writing a.output.now container) kind _ _ _ _ _ c.in_ok-policy.ensures
+    (decides_copy (λ (v : Vec ℕ Global). v.items) (assembled_of kind a.input.now) a.output.now _ _ _ _ _ _ c.in_ok-container.container c.write_to.result c.in_ok-container.ensures
+    (subst (λ (bytes : List ℕ). Wrote a.output.now bytes (g.F.Files.log c.assembled_of.new.files) (g.F.Files.log c.write_to.new.files) (g.F.Files.state c.assembled_of.new.files) (g.F.Files.state c.write_to.new.files) c.write_to.result) c.deref.ensures.value c.write_to.ensures))

@@ -1,8 +1,18 @@
-use Rattle.pcc_cli.proofs.DemoLemmas.{no_policy, reported}
+use Rattle.pcc_cli.specs.Stages.Common.{policy_named}
+use Rattle.pcc_cli.specs.Commands.Demo.{demo_effect, demo_policy, demo_command}
+use Rattle.pcc_cli.specs.Inside.Decisions.{effect_of}
+use Rattle.pcc_cli.proofs.StageLemmas.{lifted}
+use Rattle.pcc_cli.proofs.DecisionLemmas.{no_policy, under_policy, decides_report}
 use Rattle.pcc_cli.proofs.commands.demo.demo_command.Goals as goal
 
 pub returns-in_err-policy : goal.returns-in_err-policy
-returns-in_err-policy g c = no_policy c.args.n _ c.in_err-policy.field-0.0 c.from_residual.result c.in_err-policy.ensures c.from_residual.ensures.1
+unfolding demo_command
+returns-in_err-policy g c =
+    no_policy (policy_named demo_policy) (λ under. demo_effect under c.args.n) _ _ c.in_err-policy.field-0.0 c.from_residual.result c.in_err-policy.ensures c.from_residual.ensures.1
 
 pub returns : goal.returns
-returns g c = reported c.args.n c.in_ok-policy.policy c.in_ok-policy.ensures _ c.report.result c.report.ensures
+unfolding demo_command
+returns g c =
+    let kind = c.in_ok-policy.policy in
+    under_policy (policy_named demo_policy) (λ under. demo_effect under c.args.n) kind _ _ _ _ _ c.in_ok-policy.ensures
+    (decides_report (demo_effect kind c.args.n) _ _ _ _ c.report.result (lifted effect_of (demo_effect kind c.args.n) _ _ c.report.result c.report.ensures))

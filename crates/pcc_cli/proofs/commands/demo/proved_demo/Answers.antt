@@ -1,9 +1,12 @@
-use Rattle.std.proofs.Common.{◌≡◌, ℕ, List, Ok, Vec, Global, ◌∙◌, subst}
+use Rattle.std.proofs.Common.{◌≡◌, ℕ, List, Vec, Global, ◌∙◌, subst}
 use Rattle.demo_input.specs.Sources.{demo_source}
-use Rattle.pcc_cli.specs.Stages.{assembled_in, proved_in}
+use Rattle.pcc_exit.specs.Stages.{gives}
+use Rattle.pcc_cli.specs.Stages.Assembling.{assembled_in}
+use Rattle.pcc_cli.specs.Stages.Proving.{proved_in}
 use Rattle.pcc_cli.specs.Commands.Demo.{demo_container}
-use Rattle.pcc_cli.specs.Inside.Gives.{StopsPure, GivesPure}
-use Rattle.pcc_cli.proofs.StageLemmas.{pure_first, pure_gives}
+use Rattle.pcc_cli.specs.Inside.Decisions.{end_of}
+use Rattle.pcc_cli.specs.Inside.Gives.{StopsAs, GivesPure}
+use Rattle.pcc_cli.proofs.StageLemmas.{pure_stops, pure_gives}
 use Rattle.pcc_cli.proofs.commands.demo.proved_demo.Goals as goal
 
 pub returns-in-Err : goal.returns-in-Err
@@ -11,8 +14,8 @@ unfolding demo_container
 returns-in-Err c =
     let policy = c.args.policy.now in
     let text : c.deref.result.now ≡ demo_source c.args.n = c.deref.ensures.value ∙ c.in-Ok.ensures.exact in
-    pure_first (assembled_in policy (demo_source c.args.n)) (λ container. proved_in policy container) c.in-Err.stop
-    (subst (λ (t : List ℕ). StopsPure (assembled_in policy t) c.in-Err.stop) text c.in-Err.ensures)
+    pure_stops (λ container. proved_in policy container) (assembled_in policy (demo_source c.args.n)) c.in-Err.stop
+    (subst (λ (t : List ℕ). StopsAs (assembled_in policy t) (end_of c.in-Err.stop)) text c.in-Err.ensures)
 
 pub returns : goal.returns
 unfolding demo_container
@@ -20,6 +23,6 @@ returns c =
     let policy = c.args.policy.now in
     let text : c.deref.result.now ≡ demo_source c.args.n = c.deref.ensures.value ∙ c.in-Ok.ensures.exact in
     let items : List ℕ = c.in-Ok-assembled_in.container.items in
-    let made : (assembled_in policy (demo_source c.args.n)).result ≡ Ok items = subst (λ (t : List ℕ). (assembled_in policy t).result ≡ Ok items) text c.in-Ok-assembled_in.ensures in
-    pure_gives (assembled_in policy (demo_source c.args.n)) (λ container. proved_in policy container) (λ (v : Vec ℕ Global). v.items) items made c.proved_in.result
+    let made : assembled_in policy (demo_source c.args.n) ≡ gives items = subst (λ (t : List ℕ). assembled_in policy t ≡ gives items) text c.in-Ok-assembled_in.ensures in
+    pure_gives (λ container. proved_in policy container) (λ (v : Vec ℕ Global). v.items) (assembled_in policy (demo_source c.args.n)) items made c.proved_in.result
     (subst (λ (b : List ℕ). GivesPure (λ (v : Vec ℕ Global). v.items) (proved_in policy b) c.proved_in.result) c.deref-2.ensures.value c.proved_in.ensures)

@@ -1,23 +1,36 @@
-use Rattle.std.proofs.Common.{ℕ, List, refl, subst}
-use Rattle.pcc_words.specs.Invocations.{prove}
-use Rattle.pcc_cli.specs.Stages.{proved_of}
+use Rattle.std.proofs.Common.{ℕ, List, Vec, Global, subst}
+use Rattle.pcc_exit.specs.Stages.{◌>>=◌}
+use Rattle.pcc_cli.specs.Stages.Common.{policy_named, writing}
+use Rattle.pcc_cli.specs.Stages.Proving.{proved_of}
+use Rattle.pcc_cli.specs.Commands.Prove.{prove_command}
+use Rattle.pcc_cli.specs.Inside.Decisions.{effect_of}
 use Rattle.pcc_cli.specs.Inside.Gives.{Wrote}
-use Rattle.pcc_cli.proofs.CopyLemmas.{no_policy, not_made, written}
-use Rattle.pcc_cli.proofs.ProveLemmas.{prove_begins}
+use Rattle.pcc_cli.proofs.StageLemmas.{stops_first}
+use Rattle.pcc_cli.proofs.DecisionLemmas.{no_policy, under_policy, decides_report, decides_copy}
 use Rattle.pcc_cli.proofs.commands.prove.prove_command.Goals as goal
 
 pub returns-in_err-policy : goal.returns-in_err-policy
+unfolding prove_command
 returns-in_err-policy g c =
     let a = c.args.args in
-    no_policy (prove a.policy.now a.input.now a.output.now) a.input.now a.output.now (λ under. proved_of under a.input.now) refl (prove_begins a.policy.now a.input.now a.output.now) _ c.in_err-policy.field-0.0 c.from_residual.result c.in_err-policy.ensures c.from_residual.ensures.1
+    no_policy (policy_named a.policy.now) (λ under. proved_of under a.input.now >>= λ container. writing a.output.now container) _ _ c.in_err-policy.field-0.0 c.from_residual.result c.in_err-policy.ensures
+    c.from_residual.ensures.1
 
 pub returns-in_err-container : goal.returns-in_err-container
+unfolding prove_command
 returns-in_err-container g c =
     let a = c.args.args in
-    not_made (prove a.policy.now a.input.now a.output.now) a.input.now a.output.now (λ under. proved_of under a.input.now) refl (prove_begins a.policy.now a.input.now a.output.now) c.in_ok-policy.policy c.in_ok-policy.ensures _ _ c.in_err-container.field-0.0 c.from_residual-in_err-container.result c.in_err-container.ensures c.from_residual-in_err-container.ensures.1
+    let kind = c.in_ok-policy.policy in
+    under_policy (policy_named a.policy.now) (λ under. proved_of under a.input.now >>= λ container. writing a.output.now container) kind _ _ _ _ _ c.in_ok-policy.ensures
+    (decides_report (proved_of kind a.input.now >>= λ container. writing a.output.now container) _ _ _ _ c.from_residual-in_err-container.result
+    (stops_first (λ container. writing a.output.now container) (λ (v : Vec ℕ Global). v.items) effect_of (proved_of kind a.input.now) _ _ _ _ c.in_err-container.field-0.0 c.from_residual-in_err-container.result
+    c.in_err-container.ensures c.from_residual-in_err-container.ensures.1))
 
 pub returns : goal.returns
+unfolding prove_command
 returns g c =
     let a = c.args.args in
-    written (prove a.policy.now a.input.now a.output.now) a.input.now a.output.now (λ under. proved_of under a.input.now) refl (prove_begins a.policy.now a.input.now a.output.now) c.in_ok-policy.policy c.in_ok-policy.ensures _ _ c.in_ok-container.container.items c.in_ok-container.ensures _ c.write_to.result
-    (subst (λ (bytes : List ℕ). Wrote a.output.now bytes (g.F.Files.state c.proved_of.new.files) (g.F.Files.state c.write_to.new.files) c.write_to.result) c.deref.ensures.value c.write_to.ensures)
+    let kind = c.in_ok-policy.policy in
+    under_policy (policy_named a.policy.now) (λ under. proved_of under a.input.now >>= λ container. writing a.output.now container) kind _ _ _ _ _ c.in_ok-policy.ensures
+    (decides_copy (λ (v : Vec ℕ Global). v.items) (proved_of kind a.input.now) a.output.now _ _ _ _ _ _ c.in_ok-container.container c.write_to.result c.in_ok-container.ensures
+    (subst (λ (bytes : List ℕ). Wrote a.output.now bytes (g.F.Files.log c.proved_of.new.files) (g.F.Files.log c.write_to.new.files) (g.F.Files.state c.proved_of.new.files) (g.F.Files.state c.write_to.new.files) c.write_to.result) c.deref.ensures.value c.write_to.ensures))

@@ -1,37 +1,88 @@
-use Rattle.std.proofs.Common.{◌≡◌, ℕ, List, Some, refl, ap, sym, ◌∙◌}
-use Rattle.policy_set.specs.Names.{policy_of}
+use Rattle.std.proofs.Common.{◌≡◌, ℕ, List, Ok, Err, ap, sym, ◌∙◌}
+use Rattle.alpha_words.specs.declared.insn.Insn.{Insn}
 use Rattle.policy_set.specs.declared.kind.PolicyKind.{PolicyKind}
 use Rattle.packet_store.specs.Results.{packet_result}
 use Rattle.packet_store.specs.declared.results.PacketResult.{PacketResult}
 use Rattle.pcc_lines.specs.Results.{result_lines}
+use Rattle.pcc_exit.specs.Stages.{Stage, gives, ◌>>=◌}
+use Rattle.pcc_exit.specs.Runs.{Effect}
+use Rattle.pcc_cli.specs.declared.stop.Stop.TheVariants.{Memory}
 use Rattle.pcc_cli.specs.declared.report.Report.{Report}
 use Rattle.pcc_cli.specs.declared.report.Report.TheVariants.{Results}
-use Rattle.pcc_words.specs.Invocations.{ref}
-use Rattle.pcc_cli.specs.Stages.{code_of}
-use Rattle.pcc_cli.proofs.PacketLemmas.{no_policy, no_code, no_packets, done}
-use Rattle.pcc_cli.proofs.RefLemmas.{ref_begins}
+use Rattle.pcc_cli.specs.Stages.Common.{policy_named, printing}
+use Rattle.pcc_cli.specs.Stages.Containers.{code_of}
+use Rattle.pcc_cli.specs.Stages.Packets.{packets_of}
+use Rattle.pcc_cli.specs.Commands.Reference.{ref_command}
+use Rattle.pcc_cli.specs.Inside.Decisions.{effect_of}
+use Rattle.pcc_cli.proofs.StageLemmas.{lifted, stops_first, gives_then}
+use Rattle.pcc_cli.proofs.DecisionLemmas.{no_policy, under_policy, decides_report}
 use Rattle.pcc_cli.proofs.commands.reference.ref_command.Goals as goal
 
+module _ (file packets : List ℕ) (steps : ℕ) where
+  -- the stages behind the policy
+  abbrev behind : PolicyKind → Stage Effect
+  behind kind = code_of kind file >>= λ code. packets_of packets >>= λ all. printing (result_lines kind (packet_result kind code steps) 0 all)
+
 pub returns-in_err-policy : goal.returns-in_err-policy
-returns-in_err-policy g c = let a = c.args.args in no_policy (ref a.policy.now a.file.now a.packets.now a.steps) a.file.now a.packets.now a.steps (λ under. code_of under a.file.now) refl (ref_begins a.policy.now a.file.now a.packets.now a.steps) _ c.in_err-policy.field-0.0 c.from_residual.result c.in_err-policy.ensures c.from_residual.ensures.1
+unfolding ref_command
+returns-in_err-policy g c =
+    let a = c.args.args in
+    no_policy (policy_named a.policy.now) (behind a.file.now a.packets.now a.steps) _ _ c.in_err-policy.field-0.0 c.from_residual.result c.in_err-policy.ensures c.from_residual.ensures.1
 
 pub returns-in_err-code : goal.returns-in_err-code
+unfolding ref_command
 returns-in_err-code g c =
     let a = c.args.args in
-    let found : policy_of a.policy.now ≡ Some c.kind-under.result = c.in_ok-policy.ensures ∙ ap Some (sym c.kind-under.ensures.exact) in
-    no_code (ref a.policy.now a.file.now a.packets.now a.steps) a.file.now a.packets.now a.steps (λ under. code_of under a.file.now) refl (ref_begins a.policy.now a.file.now a.packets.now a.steps) c.kind-under.result found _ _ c.in_err-code.field-0.0 c.from_residual-in_err-code.result c.in_err-code.ensures c.from_residual-in_err-code.ensures.1
+    let kind = c.kind-under.result in
+    let found : policy_named a.policy.now ≡ gives kind = c.in_ok-policy.ensures ∙ ap gives (sym c.kind-under.ensures.exact) in
+    under_policy (policy_named a.policy.now) (behind a.file.now a.packets.now a.steps) kind _ _ _ _ _ found
+    (decides_report (behind a.file.now a.packets.now a.steps kind) _ _ _ _ c.from_residual-in_err-code.result
+    (stops_first (λ code. packets_of a.packets.now >>= λ all. printing (result_lines kind (packet_result kind code a.steps) 0 all)) (λ (code : List Insn). code) effect_of (code_of kind a.file.now)
+    _ _ _ _ c.in_err-code.field-0.0 c.from_residual-in_err-code.result c.in_err-code.ensures c.from_residual-in_err-code.ensures.1))
 
 pub returns-in_err-packets : goal.returns-in_err-packets
+unfolding ref_command
 returns-in_err-packets g c =
     let a = c.args.args in
-    let found : policy_of a.policy.now ≡ Some c.kind-under.result = c.in_ok-policy.ensures ∙ ap Some (sym c.kind-under.ensures.exact) in
-    no_packets (ref a.policy.now a.file.now a.packets.now a.steps) a.file.now a.packets.now a.steps (λ under. code_of under a.file.now) refl (ref_begins a.policy.now a.file.now a.packets.now a.steps) c.kind-under.result found c.in_ok-code.code _ _ c.in_ok-code.ensures _ c.in_err-packets.field-0.0 c.from_residual-in_err-packets.result c.in_err-packets.ensures c.from_residual-in_err-packets.ensures.1
+    let kind = c.kind-under.result in
+    let code = c.in_ok-code.code in
+    let found : policy_named a.policy.now ≡ gives kind = c.in_ok-policy.ensures ∙ ap gives (sym c.kind-under.ensures.exact) in
+    under_policy (policy_named a.policy.now) (behind a.file.now a.packets.now a.steps) kind _ _ _ _ _ found
+    (decides_report (behind a.file.now a.packets.now a.steps kind) _ _ _ _ c.from_residual-in_err-packets.result
+    (gives_then (λ code. packets_of a.packets.now >>= λ all. printing (result_lines kind (packet_result kind code a.steps) 0 all)) (λ (code : List Insn). code) effect_of (code_of kind a.file.now)
+    _ _ _ _ _ _ code c.from_residual-in_err-packets.result c.in_ok-code.ensures
+    (stops_first (λ all. printing (result_lines kind (packet_result kind code a.steps) 0 all)) _ effect_of (packets_of a.packets.now) _ _ _ _ c.in_err-packets.field-0.0 c.from_residual-in_err-packets.result
+    c.in_err-packets.ensures c.from_residual-in_err-packets.ensures.1)))
 
 pub returns-in-Ok : goal.returns-in-Ok
+unfolding ref_command
 returns-in-Ok g c =
     let a = c.args.args in
-    let found : policy_of a.policy.now ≡ Some c.kind-under.result = c.in_ok-policy.ensures ∙ ap Some (sym c.kind-under.ensures.exact) in
-    let report : Report = Results (record { policy = c.kind-under.result; runner = c.in-Ok.runner; packets = c.in_ok-packets.packets }) in
-    done (ref a.policy.now a.file.now a.packets.now a.steps) a.file.now a.packets.now a.steps (λ under. code_of under a.file.now) refl (ref_begins a.policy.now a.file.now a.packets.now a.steps) c.kind-under.result found c.in_ok-code.code _ _ c.in_ok-code.ensures c.in_ok-packets.packets _ c.in_ok-packets.ensures report
-    (ap (λ (results : List ℕ → PacketResult). result_lines c.kind-under.result results 0 c.in_ok-packets.packets) c.in-Ok.ensures
-    ∙ ap (λ (p : PolicyKind). result_lines c.kind-under.result (packet_result p c.in_ok-code.code a.steps) 0 c.in_ok-packets.packets) (sym c.kind-under.ensures.exact))
+    let kind = c.kind-under.result in
+    let code = c.in_ok-code.code in
+    let all = c.in_ok-packets.packets in
+    let found : policy_named a.policy.now ≡ gives kind = c.in_ok-policy.ensures ∙ ap gives (sym c.kind-under.ensures.exact) in
+    let report : Report = Results (record { policy = kind; runner = c.in-Ok.runner; packets = all }) in
+    under_policy (policy_named a.policy.now) (behind a.file.now a.packets.now a.steps) kind _ _ _ _ _ found
+    (decides_report (behind a.file.now a.packets.now a.steps kind) _ _ _ _ (Ok report)
+    (gives_then (λ code. packets_of a.packets.now >>= λ all. printing (result_lines kind (packet_result kind code a.steps) 0 all)) (λ (code : List Insn). code) effect_of (code_of kind a.file.now)
+    _ _ _ _ _ _ code (Ok report) c.in_ok-code.ensures
+    (gives_then (λ all. printing (result_lines kind (packet_result kind code a.steps) 0 all)) _ effect_of (packets_of a.packets.now) _ _ _ _ _ _ c.in_ok-packets.packets (Ok report) c.in_ok-packets.ensures
+    (lifted effect_of (printing (result_lines kind (packet_result kind code a.steps) 0 all)) _ _ (Ok report)
+    (ap printing (sym (
+    ap (λ (results : List ℕ → PacketResult). result_lines kind results 0 all) c.in-Ok.ensures
+    ∙ ap (λ (p : PolicyKind). result_lines kind (packet_result p code a.steps) 0 all) (sym c.kind-under.ensures.exact))))))))
+
+pub returns-in-Err : goal.returns-in-Err
+unfolding ref_command
+returns-in-Err g c =
+    let a = c.args.args in
+    let kind = c.kind-under.result in
+    let code = c.in_ok-code.code in
+    let found : policy_named a.policy.now ≡ gives kind = c.in_ok-policy.ensures ∙ ap gives (sym c.kind-under.ensures.exact) in
+    under_policy (policy_named a.policy.now) (behind a.file.now a.packets.now a.steps) kind _ _ _ _ (Err Memory) found
+    (decides_report (behind a.file.now a.packets.now a.steps kind) _ _ _ _ (Err Memory)
+    (gives_then (λ code. packets_of a.packets.now >>= λ all. printing (result_lines kind (packet_result kind code a.steps) 0 all)) (λ (code : List Insn). code) effect_of (code_of kind a.file.now)
+    _ _ _ _ _ _ code (Err Memory) c.in_ok-code.ensures
+    (gives_then (λ all. printing (result_lines kind (packet_result kind code a.steps) 0 all)) _ effect_of (packets_of a.packets.now) _ _ _ _ _ _ c.in_ok-packets.packets (Err Memory) c.in_ok-packets.ensures
+    (lifted effect_of (printing (result_lines kind (packet_result kind code a.steps) 0 c.in_ok-packets.packets)) _ _ (Err Memory) tt))))

@@ -1,0 +1,288 @@
+-- What the arguments ask for is suited: the stages stop with refusals that go with what the arguments are, and read the named files.
+use Rattle.std.proofs.Common.{◌≡◌, ◌≢◌, ℕ, ◌<◌, Bool, true, false, List, [], ◌∷◌, length, ◌==◌, if◌then◌else◌, get_or, Option, Some, None, Result, Ok, Err, Contains, refl, sym, ap, ◌∙◌, subst, arith, inl, inr}
+use Rattle.std.proofs.lemmas.List.Elements.{Contains-append_left, Contains-append_right}
+use Rattle.packet_store.specs.declared.fault.PacketFault.{PacketFault}
+use Rattle.packet_store.specs.declared.fault.PacketFault.TheVariants as packet
+use Rattle.packet_store.specs.PacketDecoding.{decoded_packets}
+use Rattle.packet_store.specs.Results.{packet_result}
+use Rattle.alpha_words.specs.declared.insn.Insn.{Insn}
+use Rattle.alpha_cfg.specs.declared.fault.CodeFlaw.{CodeFlaw}
+use Rattle.alpha_cfg.specs.CodeDecoding.{decoded_code}
+use Rattle.policy_set.specs.declared.kind.PolicyKind.{PolicyKind}
+use Rattle.policy_set.specs.Names.{policy_of, policy_number}
+use Rattle.proof_container.specs.Contents.{Contents}
+use Rattle.proof_container.specs.Decoding.{Fault, decoded_container}
+use Rattle.asm_text.specs.declared.fault.LineFlaw.{LineFlaw}
+use Rattle.asm_text.specs.declared.limits.TheConstants.{MAX_SOURCE}
+use Rattle.asm_text.specs.Names.{line_flaw_name}
+use Rattle.asm_text.specs.Sources.{Source}
+use Rattle.asm_text.specs.SourceParsing.{parsed_source}
+use Rattle.pcc_asm.specs.declared.fault.AsmFlaw.{AsmFlaw}
+use Rattle.pcc_asm.specs.Names.{asm_flaw_line, asm_flaw_name}
+use Rattle.pcc_asm.specs.Assembling.{assembled_contents}
+use Rattle.bounds_prover.specs.declared.fault.ProveFault.{ProveFault}
+use Rattle.bounds_prover.specs.declared.fault.ProveFault.TheVariants as fault
+use Rattle.bounds_prover.specs.Names.{measure_name}
+use Rattle.bounds_prover.specs.Proving.{proved_container}
+use Rattle.demo_input.specs.Sources.{demo_source}
+use Rattle.pcc_gate.specs.declared.refusal.Refusal.{Refusal}
+use Rattle.pcc_gate.specs.declared.refusal.Refusal.TheVariants as refusal
+use Rattle.pcc_gate.specs.First.{first_refusal}
+use Rattle.pcc_words.specs.Invocations.{Invocation, asm, prove, check, run, ref, demo}
+use Rattle.pcc_lines.specs.Demo.{demo_lines}
+use Rattle.pcc_lines.specs.Fixed.{accepted_line, unknown_policy_line, container_too_long_line, packets_too_long_line, source_too_long_line}
+use Rattle.pcc_lines.specs.PacketFaults.{packet_fault_line}
+use Rattle.pcc_lines.specs.Proving.{not_easy_line, too_big_line}
+use Rattle.pcc_lines.specs.Refusals.{refusal_line}
+use Rattle.pcc_lines.specs.Results.{result_lines}
+use Rattle.pcc_lines.specs.Sources.{source_fault_line}
+use Rattle.pcc_exit.specs.Exits.{Exit}
+use Rattle.pcc_exit.specs.Requests.{Standing, Suits, command, unknown_policy_exit, usage_exit}
+use Rattle.pcc_exit.specs.Stages.{Stage, stops, gives, reads, ◌>>=◌}
+use Rattle.pcc_exit.specs.Runs.{Effect, IsStop, IsSuited}
+use Rattle.pcc_exit.proofs.RunLemmas.{is_read}
+use Rattle.pcc_cli.specs.Texts.{texts}
+use Rattle.pcc_cli.specs.declared.stages.TheConstants.{MAX_FILE}
+use Rattle.pcc_cli.specs.Stages.Common.{refused, policy_found, policy_named, printing, writing}
+use Rattle.pcc_cli.specs.Stages.Containers.{container_for, container_in, code_found, code_in, container_bytes_of, code_of}
+use Rattle.pcc_cli.specs.Stages.Judging.{unless_refused, accepted_in, accepted_code_in, Shown, shown_in, accepted_of, accepted_code_of}
+use Rattle.pcc_cli.specs.Stages.Packets.{packets_found, packets_in, packets_of}
+use Rattle.pcc_cli.specs.Stages.Assembling.{source_found, source_in, container_made, assembled_as, assembled_in, assembled_of}
+use Rattle.pcc_cli.specs.Stages.Proving.{no_container, container_proved, proved_in, proved_of}
+use Rattle.pcc_cli.specs.Commands.Assemble.{asm_command}
+use Rattle.pcc_cli.specs.Commands.Check.{check_command}
+use Rattle.pcc_cli.specs.Commands.Prove.{prove_command}
+use Rattle.pcc_cli.specs.Commands.Reference.{ref_command}
+use Rattle.pcc_cli.specs.Commands.Running.{run_command}
+use Rattle.pcc_cli.specs.Commands.Demo.{summary_of, demo_container, demo_told, demo_effect, demo_policy, demo_command}
+use Rattle.pcc_cli.specs.Tasks.{stage_of, names_of, standing_on, policy_name_of, standing_of, task_of_command}
+
+-- ---- lines
+
+-- a line that begins with another letter isn't the one of an unknown policy
+another_text : (text : List ℕ) → get_or text 0 0 < 117 → text ≢ unknown_policy_line
+another_text text less is =
+    let first : get_or text 0 0 ≡ 117 = ap (λ (x : List ℕ). get_or x 0 0) is in
+    absurd (omega arith)
+
+-- a refusal with such a line goes with a command
+stop_line : (text : List ℕ) → get_or text 0 0 < 117 → IsStop texts command (refused text)
+stop_line text less = record {
+  suits = (λ two. absurd (omega arith), λ is. another_text text less (ap (λ (x : Exit). x.text) is));
+  some = omega arith;
+  in_range = omega arith;
+}
+
+refusal-first : (r : Refusal) → get_or (refusal_line r) 0 0 ≡ 114
+unfolding refusal_line
+refusal-first (refusal.TooLong length) = refl
+refusal-first (refusal.Malformed offset flaw) = refl
+refusal-first (refusal.OtherPolicy number) = refl
+refusal-first (refusal.BadCode flaw) = refl
+refusal-first (refusal.Height h) = refl
+refusal-first (refusal.InvNotForm k) = refl
+refusal-first (refusal.Uncut i) = refl
+refusal-first (refusal.UnfoldLimit n) = refl
+refusal-first refusal.NoProof = refl
+refusal-first (refusal.ProofWeight n) = refl
+refusal-first refusal.NotProof = refl
+
+packet_fault-first : (fault : PacketFault) → get_or (packet_fault_line fault) 0 0 ≡ 112
+unfolding packet_fault_line
+packet_fault-first (packet.Cut offset) = refl
+packet_fault-first (packet.TooLong offset) = refl
+
+source_fault-first : (number : ℕ) (kind : List ℕ) → get_or (source_fault_line number kind) 0 0 ≡ 108
+unfolding source_fault_line
+source_fault-first number kind = refl
+
+not_easy-first : (part : ℕ) → get_or (not_easy_line part) 0 0 ≡ 110
+unfolding not_easy_line
+not_easy-first part = refl
+
+too_big-first : (name : List ℕ) (number : ℕ) → get_or (too_big_line name number) 0 0 ≡ 116
+unfolding too_big_line
+too_big-first name number = refl
+
+refusal_stop : (r : Refusal) → IsStop texts command (refused (refusal_line r))
+refusal_stop r = let first : get_or (refusal_line r) 0 0 ≡ 114 = refusal-first r in stop_line (refusal_line r) (omega arith)
+
+source_stop : (number : ℕ) (kind : List ℕ) → IsStop texts command (refused (source_fault_line number kind))
+source_stop number kind = let first : get_or (source_fault_line number kind) 0 0 ≡ 108 = source_fault-first number kind in stop_line (source_fault_line number kind) (omega arith)
+
+-- ---- stages
+
+suited-bind : {A B : Type 0} (standing : Standing) (names : List (List ℕ)) (next : A → Stage B) (s : Stage A)
+    → IsSuited texts standing names s → ((x : A) → IsSuited texts standing names (next x)) → IsSuited texts standing names (s >>= next)
+suited-bind standing names next (stops exit) h k = h
+suited-bind standing names next (gives x) h k = k x
+suited-bind standing names next (reads name max more on) h k = (h.0, h.1, h.2, λ b. suited-bind standing names next (on b) (h.3 b) k)
+
+module _ (names : List (List ℕ)) where
+  -- a stage of a command
+  abbrev Fits : {A : Type 0} → Stage A → Type 0
+  Fits s = IsSuited texts command names s
+
+  behind : {A B : Type 0} (next : A → Stage B) (s : Stage A) → Fits s → ((x : A) → Fits (next x)) → Fits (s >>= next)
+  behind next s h k = suited-bind command names next s h k
+
+  -- the file of a name is read
+  read : {A : Type 0} (name : List ℕ) (max : ℕ) (line : List ℕ) (on : List ℕ → Stage A) → Contains names name → get_or line 0 0 < 117 → ((b : List ℕ) → Fits (on b))
+      → Fits (reads name max (refused line) on)
+  read name max line on named less each = (refl, named, stop_line line less, each)
+
+  code_found-fits : (r : Result (List Insn) CodeFlaw) → Fits (code_found r)
+  code_found-fits (Ok code) = refl
+  code_found-fits (Err flaw) = inl (refusal_stop (refusal.BadCode flaw))
+
+  sized : (c : Contents) (b : Bool) → Fits (if b then gives c else stops (refused (refusal_line (refusal.OtherPolicy c.policy))))
+  sized c true = refl
+  sized c false = inl (refusal_stop (refusal.OtherPolicy c.policy))
+
+  container_for-fits : (policy : PolicyKind) (r : Result Contents Fault) → Fits (container_for policy r)
+  container_for-fits policy (Ok c) = sized c (c.policy == policy_number policy)
+  container_for-fits policy (Err fault) = inl (refusal_stop (refusal.Malformed fault.0 fault.1))
+
+  container_in-fits : (policy : PolicyKind) (bytes : List ℕ) → Fits (container_in policy bytes)
+  unfolding container_in
+  container_in-fits policy bytes = container_for-fits policy (decoded_container bytes)
+
+  code_in-fits : (policy : PolicyKind) (bytes : List ℕ) → Fits (code_in policy bytes)
+  unfolding code_in
+  code_in-fits policy bytes = behind (λ container. code_found (decoded_code container.code)) (container_in policy bytes) (container_in-fits policy bytes) (λ c. code_found-fits (decoded_code c.code))
+
+  unless_refused-fits : (r : Option Refusal) → Fits (unless_refused r)
+  unless_refused-fits None = refl
+  unless_refused-fits (Some r) = inl (refusal_stop r)
+
+  accepted_in-fits : (policy : PolicyKind) (bytes : List ℕ) → Fits (accepted_in policy bytes)
+  unfolding accepted_in
+  accepted_in-fits policy bytes = unless_refused-fits (first_refusal policy bytes)
+
+  accepted_code_in-fits : (policy : PolicyKind) (bytes : List ℕ) → Fits (accepted_code_in policy bytes)
+  unfolding accepted_code_in
+  accepted_code_in-fits policy bytes = behind (λ accepted. code_in policy bytes) (accepted_in policy bytes) (accepted_in-fits policy bytes) (λ accepted. code_in-fits policy bytes)
+
+  shown_in-fits : (policy : PolicyKind) (bytes : List ℕ) → Fits (shown_in policy bytes)
+  unfolding shown_in
+  shown_in-fits policy bytes =
+      behind (λ accepted. container_in policy bytes >>= λ container. code_in policy bytes >>= λ code. gives (shown code container)) (accepted_in policy bytes) (accepted_in-fits policy bytes) (λ accepted.
+      behind (λ container. code_in policy bytes >>= λ code. gives (shown code container)) (container_in policy bytes) (container_in-fits policy bytes) (λ container.
+      behind (λ code. gives (shown code container)) (code_in policy bytes) (code_in-fits policy bytes) (λ code. refl)))
+    where
+      shown : List Insn → Contents → Shown
+      shown code container = record { code = code; invariants = length container.invs }
+
+  packets_found-fits : (r : Result (List (List ℕ)) PacketFault) → Fits (packets_found r)
+  packets_found-fits (Ok packets) = refl
+  packets_found-fits (Err fault) = inl (let first : get_or (packet_fault_line fault) 0 0 ≡ 112 = packet_fault-first fault in stop_line (packet_fault_line fault) (omega arith))
+
+  source_found-fits : (r : Result Source (ℕ × LineFlaw)) → Fits (source_found r)
+  source_found-fits (Ok source) = refl
+  source_found-fits (Err fault) = inl (source_stop fault.0 (line_flaw_name fault.1))
+
+  container_made-fits : (r : Result Contents AsmFlaw) → Fits (container_made r)
+  container_made-fits (Ok contents) = refl
+  container_made-fits (Err flaw) = inl (source_stop (asm_flaw_line flaw) (asm_flaw_name flaw))
+
+  assembled_in-fits : (policy : PolicyKind) (text : List ℕ) → Fits (assembled_in policy text)
+  unfolding assembled_in source_in assembled_as
+  assembled_in-fits policy text =
+      behind (λ source. assembled_as policy source) (source_in text) (source_found-fits (parsed_source text)) (λ source. container_made-fits (assembled_contents policy source))
+
+  container_proved-fits : (r : Result (List ℕ) ProveFault) → Fits (container_proved r)
+  container_proved-fits (Ok bytes) = refl
+  container_proved-fits (Err (fault.Refused r)) = inl (refusal_stop r)
+  container_proved-fits (Err (fault.NotEasy part)) =
+      inl (let first : get_or (not_easy_line part) 0 0 ≡ 110 = not_easy-first part in stop_line (not_easy_line part) (omega arith))
+  container_proved-fits (Err (fault.TooBig measure number)) =
+      inl (let first : get_or (too_big_line (measure_name measure) number) 0 0 ≡ 116 = too_big-first (measure_name measure) number in
+      stop_line (too_big_line (measure_name measure) number) (omega arith))
+  container_proved-fits (Err fault.Memory) = inr refl
+  container_proved-fits (Err fault.Results) = inr refl
+
+  proved_in-fits : (policy : PolicyKind) (bytes : List ℕ) → Fits (proved_in policy bytes)
+  unfolding proved_in
+  proved_in-fits policy bytes = container_proved-fits (proved_container policy bytes)
+
+  -- stages that read
+  packets_of-fits : {B : Type 0} (name : List ℕ) (next : List (List ℕ) → Stage B) → Contains names name → ((all : List (List ℕ)) → Fits (next all)) → Fits (packets_of name >>= next)
+  unfolding packets_of
+  packets_of-fits name next named each =
+      behind next (packets_of name) (read name MAX_FILE packets_too_long_line (λ b. packets_in b) named (omega arith) (λ b. packets_found-fits (decoded_packets b))) each
+
+  demo_effect-fits : (policy : PolicyKind) (n : ℕ) → Fits (demo_effect policy n)
+  unfolding demo_effect demo_told demo_container
+  demo_effect-fits policy n =
+      behind (λ told. printing (demo_lines told)) (demo_told policy n)
+      (behind (λ container. shown_in policy container >>= λ shown. gives (summary_of policy n shown)) (demo_container policy n)
+      (behind (λ container. proved_in policy container) (assembled_in policy (demo_source n)) (assembled_in-fits policy (demo_source n)) (λ container. proved_in-fits policy container))
+      (λ container. behind (λ shown. gives (summary_of policy n shown)) (shown_in policy container) (shown_in-fits policy container) (λ shown. refl)))
+      (λ told. refl)
+
+-- ---- stages that ask for nothing
+
+-- what reads no file of none
+no_reads : {A : Type 0} (s : Stage A) → IsSuited texts command [] s → is_read s ≡ false
+no_reads (stops exit) h = refl
+no_reads (gives x) h = refl
+no_reads (reads name max more on) h = let none = h.1.1 in absurd (omega arith)
+
+pub code_in-ends : (policy : PolicyKind) (bytes : List ℕ) → is_read (code_in policy bytes) ≡ false
+code_in-ends policy bytes = no_reads (code_in policy bytes) (code_in-fits [] policy bytes)
+
+pub assembled_in-ends : (policy : PolicyKind) (text : List ℕ) → is_read (assembled_in policy text) ≡ false
+assembled_in-ends policy text = no_reads (assembled_in policy text) (assembled_in-fits [] policy text)
+
+pub proved_in-ends : (policy : PolicyKind) (bytes : List ℕ) → is_read (proved_in policy bytes) ≡ false
+proved_in-ends policy bytes = no_reads (proved_in policy bytes) (proved_in-fits [] policy bytes)
+
+pub demo_ends : (policy : PolicyKind) (n : ℕ) → is_read (demo_effect policy n) ≡ false
+demo_ends policy n = no_reads (demo_effect policy n) (demo_effect-fits [] policy n)
+
+-- ---- commands
+
+-- a command that begins with a policy
+begins : (names : List (List ℕ)) (next : PolicyKind → Stage Effect) (p : Option PolicyKind) → ((kind : PolicyKind) → IsSuited texts command names (next kind))
+    → IsSuited texts (standing_on p) names (policy_found p >>= next)
+begins names next None each = inl (record { suits = refl; some = omega arith; in_range = omega arith })
+begins names next (Some kind) each = each kind
+
+-- the only name, the first of two, the second
+only : (name : List ℕ) → Contains (name ∷ []) name
+only name = (0, omega arith, refl)
+
+first_name : (a b : List ℕ) → Contains (a ∷ b ∷ []) a
+first_name a b = (0, omega arith, refl)
+
+second_name : (a b : List ℕ) → Contains (a ∷ b ∷ []) b
+second_name a b = (1, omega arith, refl)
+
+pub suited : (o : Option Invocation) → let task = task_of_command o in IsSuited texts task.standing task.names task.stage
+unfolding asm_command prove_command check_command run_command ref_command demo_command assembled_of proved_of accepted_of accepted_code_of code_of
+suited None = inl (record { suits = refl; some = omega arith; in_range = omega arith })
+suited (Some (asm policy input output)) =
+    begins (input ∷ []) (λ under. assembled_of under input >>= λ container. writing output container) (policy_of policy) (λ kind.
+    read (input ∷ []) input MAX_SOURCE source_too_long_line (λ b. assembled_in kind b >>= λ container. writing output container) (only input) (omega arith) (λ b.
+    behind (input ∷ []) (λ container. writing output container) (assembled_in kind b) (assembled_in-fits (input ∷ []) kind b) (λ container. refl)))
+suited (Some (prove policy input output)) =
+    begins (input ∷ []) (λ under. proved_of under input >>= λ container. writing output container) (policy_of policy) (λ kind.
+    read (input ∷ []) input MAX_FILE container_too_long_line (λ b. proved_in kind b >>= λ container. writing output container) (only input) (omega arith) (λ b.
+    behind (input ∷ []) (λ container. writing output container) (proved_in kind b) (proved_in-fits (input ∷ []) kind b) (λ container. refl)))
+suited (Some (check policy file)) =
+    begins (file ∷ []) (λ under. accepted_of under file >>= λ accepted. printing accepted_line) (policy_of policy) (λ kind.
+    read (file ∷ []) file MAX_FILE container_too_long_line (λ b. accepted_in kind b >>= λ accepted. printing accepted_line) (only file) (omega arith) (λ b.
+    behind (file ∷ []) (λ accepted. printing accepted_line) (accepted_in kind b) (accepted_in-fits (file ∷ []) kind b) (λ accepted. refl)))
+suited (Some (run policy file packets steps)) =
+    let names = file ∷ packets ∷ [] in
+    begins names (λ under. accepted_code_of under file >>= λ code. packets_of packets >>= λ all. printing (result_lines under (packet_result under code steps) 0 all)) (policy_of policy) (λ kind.
+    read names file MAX_FILE container_too_long_line (λ b. accepted_code_in kind b >>= λ code. packets_of packets >>= λ all. printing (result_lines kind (packet_result kind code steps) 0 all)) (first_name file packets) (omega arith) (λ b.
+    behind names (λ code. packets_of packets >>= λ all. printing (result_lines kind (packet_result kind code steps) 0 all)) (accepted_code_in kind b) (accepted_code_in-fits names kind b) (λ code.
+    packets_of-fits names packets (λ all. printing (result_lines kind (packet_result kind code steps) 0 all)) (second_name file packets) (λ all. refl))))
+suited (Some (ref policy file packets steps)) =
+    let names = file ∷ packets ∷ [] in
+    begins names (λ under. code_of under file >>= λ code. packets_of packets >>= λ all. printing (result_lines under (packet_result under code steps) 0 all)) (policy_of policy) (λ kind.
+    read names file MAX_FILE container_too_long_line (λ b. code_in kind b >>= λ code. packets_of packets >>= λ all. printing (result_lines kind (packet_result kind code steps) 0 all)) (first_name file packets) (omega arith) (λ b.
+    behind names (λ code. packets_of packets >>= λ all. printing (result_lines kind (packet_result kind code steps) 0 all)) (code_in kind b) (code_in-fits names kind b) (λ code.
+    packets_of-fits names packets (λ all. printing (result_lines kind (packet_result kind code steps) 0 all)) (second_name file packets) (λ all. refl))))
+suited (Some (demo n)) = begins [] (λ under. demo_effect under n) (policy_of demo_policy) (λ kind. demo_effect-fits [] kind n)

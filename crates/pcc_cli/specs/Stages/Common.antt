@@ -1,0 +1,30 @@
+-- The stages that commands share: a policy by its name, what is printed, and what is written before.
+use Rattle.std.specs.Prelude.{ℕ, List, length, Option, Some, None}
+use Rattle.policy_set.specs.declared.kind.PolicyKind.{PolicyKind}
+use Rattle.policy_set.specs.Names.{policy_of}
+use Rattle.pcc_lines.specs.Fixed.{unknown_policy_line}
+use Rattle.pcc_lines.specs.Sources.{written_line}
+use Rattle.pcc_exit.specs.Exits.{Exit}
+use Rattle.pcc_exit.specs.Stages.{Stage, stops, gives}
+use Rattle.pcc_exit.specs.Runs.{Effect}
+
+-- the command is refused
+abbrev pub refused : List ℕ → Exit
+refused text = record { status = 1; text = text }
+
+-- the policy that was found
+abbrev pub policy_found : Option PolicyKind → Stage PolicyKind
+policy_found (Some policy) = gives policy
+policy_found None = stops (refused unknown_policy_line)
+
+-- the policy of the name
+abbrev pub policy_named : List ℕ → Stage PolicyKind
+policy_named name = policy_found (policy_of name)
+
+-- it prints, and writes nothing
+abbrev pub printing : List ℕ → Stage Effect
+printing text = gives (record { text = text; change = None })
+
+-- it writes the bytes to the file of the name, and prints how many they are
+abbrev pub writing : List ℕ → List ℕ → Stage Effect
+writing name bytes = gives (record { text = written_line (length bytes); change = Some (name, bytes) })

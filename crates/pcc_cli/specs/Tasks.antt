@@ -1,0 +1,68 @@
+-- What the arguments of pcc ask for.
+use Rattle.std.specs.Prelude.{ℕ, List, [], ◌∷◌, Option, Some, None}
+use Rattle.policy_set.specs.declared.kind.PolicyKind.{PolicyKind}
+use Rattle.policy_set.specs.Names.{policy_of}
+use Rattle.pcc_words.specs.Invocations.{Invocation, asm, prove, check, run, ref, demo, command_of}
+use Rattle.pcc_exit.specs.Requests.{Request, Standing, no_command, unknown_policy, command, usage_exit}
+use Rattle.pcc_exit.specs.Stages.{Stage, stops}
+use Rattle.pcc_exit.specs.Runs.{Effect, Task, request_of_task}
+use Rattle.pcc_cli.specs.Texts.{texts}
+use Rattle.pcc_cli.specs.Commands.Assemble.{asm_command}
+use Rattle.pcc_cli.specs.Commands.Check.{check_command}
+use Rattle.pcc_cli.specs.Commands.Prove.{prove_command}
+use Rattle.pcc_cli.specs.Commands.Reference.{ref_command}
+use Rattle.pcc_cli.specs.Commands.Demo.{demo_policy, demo_command}
+use Rattle.pcc_cli.specs.Commands.Running.{run_command}
+
+-- ---- each command
+
+-- what a command does
+abbrev pub stage_of : Invocation → Stage Effect
+stage_of (asm policy input output) = asm_command policy input output
+stage_of (prove policy input output) = prove_command policy input output
+stage_of (check policy file) = check_command policy file
+stage_of (run policy file packets steps) = run_command policy file packets steps
+stage_of (ref policy file packets steps) = ref_command policy file packets steps
+stage_of (demo n) = demo_command n
+
+-- the files that a command reads, whatever they hold
+abbrev pub names_of : Invocation → List (List ℕ)
+names_of (asm policy input output) = input ∷ []
+names_of (prove policy input output) = input ∷ []
+names_of (check policy file) = file ∷ []
+names_of (run policy file packets steps) = file ∷ packets ∷ []
+names_of (ref policy file packets steps) = file ∷ packets ∷ []
+names_of (demo n) = []
+
+-- what a command on this policy is
+abbrev pub standing_on : Option PolicyKind → Standing
+standing_on None = unknown_policy
+standing_on (Some policy) = command
+
+-- the policy that a command names, or is always under
+abbrev pub policy_name_of : Invocation → List ℕ
+policy_name_of (asm policy input output) = policy
+policy_name_of (prove policy input output) = policy
+policy_name_of (check policy file) = policy
+policy_name_of (run policy file packets steps) = policy
+policy_name_of (ref policy file packets steps) = policy
+policy_name_of (demo n) = demo_policy
+
+-- what a command is
+abbrev pub standing_of : Invocation → Standing
+standing_of invocation = standing_on (policy_of (policy_name_of invocation))
+
+-- ---- all commands
+
+-- what a command asks for, or arguments that are none
+abbrev pub task_of_command : Option Invocation → Task
+task_of_command None = record { standing = no_command; names = []; stage = stops (usage_exit texts) }
+task_of_command (Some invocation) = record { standing = standing_of invocation; names = names_of invocation; stage = stage_of invocation }
+
+-- what the arguments ask for
+abbrev pub task_of : List (List ℕ) → Task
+task_of args = task_of_command (command_of args)
+
+-- the request that they are, over files that are known
+abbrev pub request_of : List (List ℕ) → Request
+request_of args = request_of_task texts (task_of args)
