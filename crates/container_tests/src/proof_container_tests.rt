@@ -199,7 +199,10 @@ fn chain(alloc: Global, is_doubled: bool) -> Result<Vec<u8>, AllocError> {
 fn the_longest_chains(rt: HostRuntime) -> Result<(), Fail> {
     for is_doubled in [false, true] {
         let bytes = chain(rt.alloc(), is_doubled)?;
-        assert!(rt; comes_back(rt.alloc(), &bytes, 262_144)?, "doubled: {is_doubled}");
+        assert!(rt;
+            comes_back(rt.alloc(), &bytes, 262_144)?,
+            "doubled: {is_doubled}"
+        );
     }
     Ok(())
 }
@@ -211,7 +214,10 @@ fn join(bytes: &mut Vec<u8>, count: u32, number: u32) -> Result<u32, AllocError>
     let mut size = 1u32;
     for _ in 0..number.trailing_zeros() {
         size = size.saturating_mul(2);
-        put(bytes, &[6, count.saturating_sub(size), count.saturating_sub(1)])?;
+        put(
+            bytes,
+            &[6, count.saturating_sub(size), count.saturating_sub(1)],
+        )?;
         count = count.saturating_add(1);
     }
     Ok(count)

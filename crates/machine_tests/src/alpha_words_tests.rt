@@ -6,22 +6,22 @@ use alpha_words::{BadWord, Cond, Insn, Reg, decode, encode, lawful, target};
 
 /// Words that GNU as 2.40 made of the text behind, as condition, register and displacement.
 static BRANCHES: [(u32, Cond, u32, i32); 16] = [
-    (0xe4c0_0000, Cond::Zero, 6, 0),                 // beq $6,L+0
+    (0xe4c0_0000, Cond::Zero, 6, 0), // beq $6,L+0
     (0xf9d0_0000, Cond::NotNegative, 14, -1_048_576), // bge r14,L-1048576
-    (0xe13f_ffff, Cond::LowClear, 9, -1),            // blbc $9,L-1
-    (0xed2f_ffff, Cond::NotPositive, 9, 1_048_575),  // ble $9,L+1048575
-    (0xfe00_0000, Cond::Positive, 16, 0),            // bgt $16,L+0
-    (0xf3a4_d07a, Cond::LowSet, 29, 315_514),        // blbs gp,L+315514
-    (0xeb00_8000, Cond::Negative, 24, 32_768),       // blt $24,L+32768
-    (0xf5c8_0000, Cond::NotZero, 14, 524_288),       // bne s5,L+524288
-    (0xe51f_fc6d, Cond::Zero, 8, -915),              // beq t7,L-915
-    (0xf880_0003, Cond::NotNegative, 4, 3),          // bge r4,L+3
-    (0xfdfe_ffff, Cond::Positive, 15, -65_537),      // bgt $15,L-65537
-    (0xe221_0000, Cond::LowClear, 17, 65_536),       // blbc r17,L+65536
-    (0xf05e_ffff, Cond::LowSet, 2, -65_537),         // blbs t1,L-65537
-    (0xefb2_4de4, Cond::NotPositive, 29, -897_564),  // ble r29,L-897564
-    (0xe91f_fffe, Cond::Negative, 8, -2),            // blt $8,L-2
-    (0xf5df_7fff, Cond::NotZero, 14, -32_769),       // bne s5,L-32769
+    (0xe13f_ffff, Cond::LowClear, 9, -1), // blbc $9,L-1
+    (0xed2f_ffff, Cond::NotPositive, 9, 1_048_575), // ble $9,L+1048575
+    (0xfe00_0000, Cond::Positive, 16, 0), // bgt $16,L+0
+    (0xf3a4_d07a, Cond::LowSet, 29, 315_514), // blbs gp,L+315514
+    (0xeb00_8000, Cond::Negative, 24, 32_768), // blt $24,L+32768
+    (0xf5c8_0000, Cond::NotZero, 14, 524_288), // bne s5,L+524288
+    (0xe51f_fc6d, Cond::Zero, 8, -915), // beq t7,L-915
+    (0xf880_0003, Cond::NotNegative, 4, 3), // bge r4,L+3
+    (0xfdfe_ffff, Cond::Positive, 15, -65_537), // bgt $15,L-65537
+    (0xe221_0000, Cond::LowClear, 17, 65_536), // blbc r17,L+65536
+    (0xf05e_ffff, Cond::LowSet, 2, -65_537), // blbs t1,L-65537
+    (0xefb2_4de4, Cond::NotPositive, 29, -897_564), // ble r29,L-897564
+    (0xe91f_fffe, Cond::Negative, 8, -2), // blt $8,L-2
+    (0xf5df_7fff, Cond::NotZero, 14, -32_769), // bne s5,L-32769
 ];
 
 /// Whether the word reads as the branch.
@@ -103,7 +103,10 @@ fn a_return_is_written(rt: HostRuntime) {
 fn targets(rt: HostRuntime) {
     let rows = [(0, 1, Some(2)), (5, -3, Some(3)), (0, -2, Some(-1))];
     for (index, disp, at) in rows {
-        assert!(rt; target(index, Insn::Br { disp }) == at, "{index} and {disp}");
+        assert!(rt;
+            target(index, Insn::Br { disp }) == at,
+            "{index} and {disp}"
+        );
     }
 }
 

@@ -6,7 +6,11 @@ use std::test::Fail;
 
 /// The number of the policy of a name, and the heights of what it asks and promises.
 fn heights(policy: &Policy) -> (u32, u32, u32) {
-    (policy.number(), policy.pre().height(), policy.post().height())
+    (
+        policy.number(),
+        policy.pre().height(),
+        policy.post().height(),
+    )
 }
 
 /// The same of a copy of the policy of the name, if there is one.

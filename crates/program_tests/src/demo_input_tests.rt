@@ -57,14 +57,21 @@ fn ends(alloc: Global, n: u32, k: u32) -> Result<(usize, Option<u8>, Option<u8>)
     requires k { k < 16 }
 {
     let packet = demo_packet(alloc, n, k)?;
-    Ok((packet.len(), packet.first().copied(), packet.last().copied()))
+    Ok((
+        packet.len(),
+        packet.first().copied(),
+        packet.last().copied(),
+    ))
 }
 
 #[test]
 fn packets(rt: HostRuntime) -> Result<(), Fail> {
     for (n, k, length, first, last) in PACKETS {
         assert!(rt; n <= MAX_DEMO && k < 16);
-        assert!(rt; ends(rt.alloc(), n, k)? == (length, Some(first), Some(last)), "{n}, {k}");
+        assert!(rt;
+            ends(rt.alloc(), n, k)? == (length, Some(first), Some(last)),
+            "{n}, {k}"
+        );
     }
     Ok(())
 }

@@ -188,13 +188,31 @@ impl Write for Device {
 
 /// The room of a device, what it says when it is full and when it is flushed, how a put of eight bytes ends
 /// and the count of faults, and what it holds.
-type Putting = (usize, Option<ErrorKind>, Option<ErrorKind>, (Put, u64), &'static str);
+type Putting = (
+    usize,
+    Option<ErrorKind>,
+    Option<ErrorKind>,
+    (Put, u64),
+    &'static str,
+);
 
 const DEVICES: [Putting; 4] = [
     (8, None, None, (Put::Done, 0), "abcdefgh"),
     (7, None, None, (Put::Failed, 1), "abcdefg"),
-    (7, Some(ErrorKind::StorageFull), None, (Put::Failed, 1), "abcdefg"),
-    (8, None, Some(ErrorKind::BrokenPipe), (Put::Failed, 1), "abcdefgh"),
+    (
+        7,
+        Some(ErrorKind::StorageFull),
+        None,
+        (Put::Failed, 1),
+        "abcdefg",
+    ),
+    (
+        8,
+        None,
+        Some(ErrorKind::BrokenPipe),
+        (Put::Failed, 1),
+        "abcdefgh",
+    ),
 ];
 
 /// How a put of eight bytes ends, and an empty one behind it.
