@@ -1,18 +1,13 @@
-//! Worked containers, their faults, and containers at their limits.
+//! What is read of worked containers, and containers at their limits that are read and written again.
+//! Faults, the first of two, and each cut are in rows of `check` (command_rows: `containers.rows`); what
+//! is written of a table that was not read in rows of `prove` (`prove.rows`, `vectors.rows`).
 
-ghost use Rattle.std.specs.Prelude.{◌≤◌, length, OnOk};
-ghost use Rattle.term_table.specs.Tree.{IsAtomic, IsTerm};
-ghost use Rattle.term_table.specs.Table.{IsKnown, tree_at};
-ghost use Rattle.proof_container.specs.Postorder.{entries};
-ghost use Rattle.proof_container.specs.Contents.{roots};
-ghost use Rattle.proof_container.specs.Views.{AreKnown, view_contents};
-
-use proof_container::{Container, Flaw, Malformed, View, extent, read, write};
+use proof_container::{Container, Flaw, Malformed, extent, read, write};
 use std::alloc::{AllocError, Global};
 use std::test::Fail;
-use term_table::{Id, Node, Places, Table};
+use term_table::{Id, Node, Table};
 use test_inputs::containers::{RETURN, bytes_of, put};
-use test_inputs::terms::{Made, app, known, lam, leaf, made};
+use test_inputs::terms::{Made, made};
 
 /// The magic.
 const PCCA: u32 = 0x4143_4350;
@@ -66,13 +61,6 @@ fn node(table: &Table, index: usize) -> Made<Node> {
     }
 }
 
-fn fault_of(alloc: Global, bytes: &[u8]) -> Option<Malformed> {
-    match read(alloc, bytes) {
-        Ok(_) => None,
-        Err(fault) => Some(fault),
-    }
-}
-
 /// How many terms there are, and what is written of what was read; both are the extent.
 fn again(alloc: Global, bytes: &[u8]) -> Made<(u64, Vec<u8>)> {
     match read(alloc, bytes) {
@@ -89,242 +77,6 @@ fn again(alloc: Global, bytes: &[u8]) -> Made<(u64, Vec<u8>)> {
             }
         }
     }
-}
-
-/// Tests that the id is that of a term which may be applied.
-fn atomic(table: &Table, id: Id) -> Made<()>
-    requires { IsKnown table.now id }
-    ensures { OnOk result (IsAtomic (tree_at table.now id)) }
-{
-    match table.node(id) {
-        Node::Lam(_) | Node::Fam(_) | Node::TApp(_, _) | Node::Pi(_, _) => Err("it isn't applied"),
-        _ => Ok(()),
-    }
-}
-
-/// Tests that the id is that of a term.
-fn term(table: &Table, id: Id) -> Made<()>
-    ensures known { OnOk result (IsKnown table.now id) }
-    ensures term { OnOk result (IsTerm (tree_at table.now id)) }
-{
-    known(table, id)?;
-    match table.node(id) {
-        Node::App(f, a) => {
-            term(table, f)?;
-            atomic(table, f)?;
-            term(table, a)
-        }
-        Node::Lam(b) => term(table, b),
-        Node::Fam(_) | Node::TApp(_, _) | Node::Pi(_, _) => Err("no term"),
-        _ => Ok(()),
-    }
-}
-
-/// Tests that the view's container has few enough entries.
-fn few(alloc: Global, view: &View<'_>) -> Made<()>
-    requires { AreKnown view.now.table.now view.now.invs.now view.now.proof }
-    ensures { OnOk result (length (entries (roots (view_contents view.now))) ≤ 262144) }
-{
-    match extent(alloc, view) {
-        Ok((count, _)) if count <= 262_144 => Ok(()),
-        _ => Err("too many entries"),
-    }
-}
-
-/// What is written of these terms of a table: invariants at both words of the code, and a proof.
-fn written(alloc: Global, table: &Table, first: Id, second: Id, proof: Id) -> Made<Vec<u8>> {
-    term(table, first)?;
-    term(table, second)?;
-    term(table, proof)?;
-    let view = View {
-        policy: 0xffff_ffff,
-        code: &[0xff, 0xff, 0xff, 0xc3, 1, 0x80, 0xfa, 0x6b],
-        table,
-        invs: &[(0, first), (1, second)],
-        proof: Some(proof),
-    };
-    few(alloc, &view)?;
-    made(write(alloc, &view))
-}
-
-/// Fields up to the code and fields behind it, and where which fault is told.
-type Row = (&'static [u32], &'static [u32], u64, Flaw);
-
-/// Whether reading the row's fields tells its fault.
-fn is_told(alloc: Global, row: &Row) -> Result<bool, AllocError> {
-    let (head, tail, offset, flaw) = *row;
-    let bytes = bytes_of(alloc, &[head, tail])?;
-    Ok(fault_of(alloc, &bytes) == Some(Malformed::At(offset, flaw)))
-}
-
-/// Faults before the entries.
-const HEADS: [Row; 6] = [
-    (&[0x5043_4341], &[], 0, Flaw::Magic),
-    (&[PCCA, 2], &[], 4, Flaw::Version),
-    (&[PCCA, 1, 1, 0], &[], 12, Flaw::Count),
-    (&[PCCA, 1, 1, 1_025], &[], 12, Flaw::Count),
-    (&[PCCA, 1, 1, 2, LOOP], &[], 20, Flaw::Cut),
-    (&[], &[], 0, Flaw::Cut),
-];
-
-#[test]
-fn faults_before_the_entries(rt: HostRuntime) -> Result<(), Fail> {
-    for (k, row) in HEADS.iter().enumerate() {
-        assert!(rt; is_told(rt.alloc(), row)?, "row {k}");
-    }
-    Ok(())
-}
-
-/// Faults behind the code.
-const TAILS: [Row; 18] = [
-    (&OF_LOOP, &[262_145], 20, Flaw::Count),
-    (&OF_LOOP, &[1, 8], 24, Flaw::EntryKind),
-    (&OF_LOOP, &[1, 7, 0], 28, Flaw::ForwardRef),
-    (&OF_LOOP, &[2, 1, 13, 6, 1, 0], 36, Flaw::ForwardRef),
-    (&OF_LOOP, &[2, 1, 13, 6, 0, 1], 40, Flaw::ForwardRef),
-    (&OF_LOOP, &[2, 1, 13, 1, 13], 32, Flaw::DoubleEntry),
-    (
-        &OF_LOOP,
-        &[3, 1, 13, 6, 0, 0, 6, 0, 0],
-        44,
-        Flaw::DoubleEntry,
-    ),
-    (&OF_LOOP, &[3, 1, 13, 7, 0, 6, 1, 0], 44, Flaw::LambdaHead),
-    (&OF_LOOP, &[0, 257], 24, Flaw::Count),
-    (&OF_LOOP, &[1, 1, 13, 1, 1, 0], 36, Flaw::InvOrder),
-    (&OF_TWO, &[1, 1, 13, 2, 1, 0, 1, 0, 0], 48, Flaw::InvOrder),
-    (&OF_LOOP, &[1, 1, 13, 1, 0, 1], 40, Flaw::ForwardRef),
-    (&OF_LOOP, &[1, 1, 13, 1, 0, 0, 2], 44, Flaw::ForwardRef),
-    // the invariant is the second entry
-    (&OF_LOOP, &[2, 1, 13, 1, 14, 1, 0, 1, 0], 24, Flaw::Order),
-    // the proof comes before the invariant
-    (&OF_LOOP, &[2, 1, 13, 1, 14, 1, 0, 1, 1], 24, Flaw::Order),
-    // nothing needs the second entry
-    (&OF_LOOP, &[2, 1, 13, 1, 14, 1, 0, 0, 1], 32, Flaw::Order),
-    (
-        &OF_LOOP,
-        &[3, 2, 5, 0, 1, 13, 1, 14, 1, 0, 0, 3],
-        36,
-        Flaw::Order,
-    ),
-    // the argument comes before what is applied
-    (
-        &OF_LOOP,
-        &[3, 2, 5, 0, 1, 13, 6, 1, 0, 1, 0, 2, 0],
-        24,
-        Flaw::Order,
-    ),
-];
-
-#[test]
-fn faults_behind_the_code(rt: HostRuntime) -> Result<(), Fail> {
-    for (k, row) in TAILS.iter().enumerate() {
-        assert!(rt; is_told(rt.alloc(), row)?, "row {k}");
-    }
-    Ok(())
-}
-
-/// One byte, the first of a field, behind the end.
-#[test]
-fn a_trailing_byte(rt: HostRuntime) -> Result<(), Fail> {
-    let a = rt.alloc();
-    let mut bytes = bytes_of(a, &[&OF_LOOP, &[1, 1, 13, 1, 0, 0, 0, 9]])?;
-    for _ in 0..3 {
-        bytes.pop();
-    }
-    let trailing = Malformed::At(48, Flaw::Trailing);
-    assert_eq!(rt; fault_of(a, &bytes), Some(trailing));
-    Ok(())
-}
-
-/// Two faults each.
-const TWO_FAULTS: [Row; 26] = [
-    // the magic, the version, the counts
-    (&[PCCA + 1, 2], &[], 0, Flaw::Magic),
-    (&[PCCA, 2, 1, 0], &[], 4, Flaw::Version),
-    (&[PCCA, 1, 1, 1_025, LOOP], &[262_145], 12, Flaw::Count),
-    (&OF_LOOP, &[262_145, 8], 20, Flaw::Count),
-    // two entries
-    (&OF_LOOP, &[2, 8, 7, 9], 24, Flaw::EntryKind),
-    (&OF_LOOP, &[2, 7, 0, 8], 28, Flaw::ForwardRef),
-    (&OF_LOOP, &[3, 1, 13, 1, 13, 8], 32, Flaw::DoubleEntry),
-    (&OF_LOOP, &[3, 1, 13, 8, 1, 13], 32, Flaw::EntryKind),
-    // one entry
-    (&OF_LOOP, &[1, 6, 5, 6], 28, Flaw::ForwardRef),
-    (&OF_LOOP, &[1, 6, 5], 28, Flaw::ForwardRef),
-    (&OF_LOOP, &[3, 1, 13, 7, 0, 6, 1], 44, Flaw::LambdaHead),
-    (&OF_LOOP, &[3, 1, 13, 1, 13], 32, Flaw::DoubleEntry),
-    // an entry and what stands behind
-    (&OF_LOOP, &[2, 1, 13, 1, 13, 257], 32, Flaw::DoubleEntry),
-    (
-        &OF_LOOP,
-        &[3, 1, 14, 1, 13, 1, 14, 1, 0, 1, 0],
-        40,
-        Flaw::DoubleEntry,
-    ),
-    (
-        &OF_LOOP,
-        &[3, 1, 13, 7, 0, 6, 1, 0, 257],
-        44,
-        Flaw::LambdaHead,
-    ),
-    // invariants
-    (&OF_LOOP, &[1, 1, 13, 257, 1, 9], 32, Flaw::Count),
-    (&OF_LOOP, &[1, 1, 13, 1, 1, 9, 0], 36, Flaw::InvOrder),
-    (&OF_LOOP, &[1, 1, 13, 1, 1], 36, Flaw::InvOrder),
-    (&OF_TWO, &[1, 1, 13, 2, 1, 0, 0, 9, 0], 48, Flaw::InvOrder),
-    (&OF_TWO, &[1, 1, 13, 2, 1, 9, 0, 0, 0], 44, Flaw::ForwardRef),
-    (&OF_LOOP, &[1, 1, 13, 1, 0, 5, 7], 40, Flaw::ForwardRef),
-    (
-        &OF_LOOP,
-        &[2, 1, 13, 1, 14, 1, 0, 2, 0],
-        48,
-        Flaw::ForwardRef,
-    ),
-    (&OF_LOOP, &[2, 1, 13, 1, 14, 1, 1, 1, 0], 44, Flaw::InvOrder),
-    // the proof and the end
-    (&OF_LOOP, &[1, 1, 13, 1, 0, 0, 2, 9], 44, Flaw::ForwardRef),
-    (
-        &OF_LOOP,
-        &[2, 1, 13, 1, 14, 1, 0, 1, 9],
-        52,
-        Flaw::ForwardRef,
-    ),
-    (
-        &OF_LOOP,
-        &[2, 1, 13, 1, 14, 1, 0, 1, 0, 9],
-        56,
-        Flaw::Trailing,
-    ),
-];
-
-/// Where two faults meet, the one whose field is read first is told; one that needs the whole
-/// container comes last.
-#[test]
-fn the_first_of_two_faults(rt: HostRuntime) -> Result<(), Fail> {
-    for (k, row) in TWO_FAULTS.iter().enumerate() {
-        assert!(rt; is_told(rt.alloc(), row)?, "row {k}");
-    }
-    Ok(())
-}
-
-/// Whether, of bytes that are cut here, the field that is cut is told.
-fn is_cut_told(alloc: Global, bytes: &[u8]) -> bool {
-    let field = bytes.len() as u64 / 4;
-    let cut = Malformed::At(field.saturating_mul(4), Flaw::Cut);
-    fault_of(alloc, bytes) == Some(cut)
-}
-
-/// Wherever bytes with each kind of entry are cut, the field that is cut is told.
-#[test]
-fn each_cut(rt: HostRuntime) -> Result<(), Fail> {
-    let a = rt.alloc();
-    let bytes = bytes_of(a, &EACH_KIND)?;
-    let bytes = bytes.as_slice();
-    for len in 0..bytes.len() {
-        assert!(rt; is_cut_told(a, &bytes[..len]), "{len} bytes");
-    }
-    Ok(())
 }
 
 /// Whether the fault's words are these.
@@ -359,14 +111,18 @@ fn is_the_loop(container: &Container<'_>) -> Made<bool> {
     Ok(container.policy == 1 && is_code && is_first && is_constant && container.proof.is_none())
 }
 
+/// Whether the loop is read as it is.
+fn is_loop_read(alloc: Global) -> Made<bool> {
+    match read(alloc, &LOOPING) {
+        Err(_) => Err("a fault"),
+        Ok(container) => is_the_loop(&container),
+    }
+}
+
 #[test]
 fn a_loop_is_read(rt: HostRuntime) -> Result<(), Fail> {
-    let a = rt.alloc();
-    match read(a, &LOOPING) {
-        Err(fault) => assert!(rt; false, "{fault:?}"),
-        Ok(container) => assert!(rt; is_the_loop(&container)?),
-    }
-    assert!(rt; comes_back(a, &LOOPING, 1)?);
+    assert!(rt; is_loop_read(rt.alloc())?);
+    assert!(rt; comes_back(rt.alloc(), &LOOPING, 1)?);
     Ok(())
 }
 
@@ -409,67 +165,19 @@ fn is_each_kind(container: &Container<'_>) -> Made<bool> {
     Ok(is_code && is_proof && has_invs(container, (4, 9)) && has_leaves(&container.table)?)
 }
 
+/// Whether the bytes are read as the container with an entry of each kind.
+fn is_each_read(alloc: Global, bytes: &[u8]) -> Made<bool> {
+    match read(alloc, bytes) {
+        Err(_) => Err("a fault"),
+        Ok(container) => is_each_kind(&container),
+    }
+}
+
 #[test]
 fn each_kind_is_read(rt: HostRuntime) -> Result<(), Fail> {
-    let a = rt.alloc();
-    let bytes = bytes_of(a, &EACH_KIND)?;
-    match read(a, &bytes) {
-        Err(fault) => assert!(rt; false, "{fault:?}"),
-        Ok(container) => assert!(rt; is_each_kind(&container)?),
-    }
-    assert!(rt; comes_back(a, &bytes, 13)?);
-    Ok(())
-}
-
-/// The identity and the literal 5, behind a family that no root needs.
-fn same_and_five(table: &mut Table) -> Made<(Id, Id)> {
-    leaf(table, Node::Fam(2))?;
-    let x = leaf(table, Node::Var(0))?;
-    let five = leaf(table, Node::Lit(5))?;
-    Ok((lam(table, x)?, five))
-}
-
-/// The constant 13, and at a high literal, whose abstraction no root needs.
-fn head_and_proof(table: &mut Table) -> Made<(Id, Id)> {
-    let high = leaf(table, Node::Lit(0x8000_0000_0000_0005))?;
-    lam(table, high)?;
-    let head = leaf(table, Node::Const(13))?;
-    Ok((head, app(table, head, high)?))
-}
-
-/// What is written of a table whose terms stand in another order, with some that no root needs.
-fn unordered(alloc: Global) -> Made<Vec<u8>> {
-    let mut table = Table::new(alloc, Places::sigma1());
-    let table = &mut table;
-    let (same, five) = same_and_five(table)?;
-    let (head, proof) = head_and_proof(table)?;
-    let at_same = app(table, head, same)?;
-    let first = app(table, at_same, five)?;
-    written(alloc, table, first, same, proof)
-}
-
-/// The terms that a root needs, in order.
-const ORDERED: [&[u32]; 12] = [
-    &OF_TWO,
-    &[8],
-    &[1, 13],
-    &[0, 0],
-    &[7, 1],
-    &[6, 0, 2],
-    &[2, 5, 0],
-    &[6, 3, 4],
-    &[2, 5, HIGH],
-    &[6, 0, 6],
-    &[2, 0, 5, 1, 2],
-    &[8],
-];
-
-#[test]
-fn a_table_that_was_not_read(rt: HostRuntime) -> Result<(), Fail> {
-    let a = rt.alloc();
-    let bytes = bytes_of(a, &ORDERED)?;
-    assert!(rt; unordered(a)? == bytes);
-    assert!(rt; comes_back(a, &bytes, 8)?);
+    let bytes = bytes_of(rt.alloc(), &EACH_KIND)?;
+    assert!(rt; is_each_read(rt.alloc(), &bytes)?);
+    assert!(rt; comes_back(rt.alloc(), &bytes, 13)?);
     Ok(())
 }
 
@@ -489,48 +197,48 @@ fn chain(alloc: Global, is_doubled: bool) -> Result<Vec<u8>, AllocError> {
 
 #[test]
 fn the_longest_chains(rt: HostRuntime) -> Result<(), Fail> {
-    let a = rt.alloc();
     for is_doubled in [false, true] {
-        let bytes = chain(a, is_doubled)?;
-        assert!(rt; comes_back(a, &bytes, 262_144)?, "doubled: {is_doubled}");
+        let bytes = chain(rt.alloc(), is_doubled)?;
+        assert!(rt;
+            comes_back(rt.alloc(), &bytes, 262_144)?,
+            "doubled: {is_doubled}"
+        );
     }
     Ok(())
 }
 
-/// Adds as many applications as the number has zeros at its end, and gives the count of the entries;
-/// `tops` are the trees that are no part of another.
-fn join(bytes: &mut Vec<u8>, tops: &mut Vec<u32>, count: u32, number: u32) -> Made<u32> {
+/// Adds as many applications as the number has zeros at its end, each of the last two trees, and gives
+/// the count of the entries.
+fn join(bytes: &mut Vec<u8>, count: u32, number: u32) -> Result<u32, AllocError> {
     let mut count = count;
+    let mut size = 1u32;
     for _ in 0..number.trailing_zeros() {
-        let argument = tops.pop().ok_or("no tree")?;
-        let applied = tops.pop().ok_or("no tree")?;
-        made(put(bytes, &[6, applied, argument]))?;
-        made(tops.push(count))?;
+        size = size.saturating_mul(2);
+        put(
+            bytes,
+            &[6, count.saturating_sub(size), count.saturating_sub(1)],
+        )?;
         count = count.saturating_add(1);
     }
     Ok(count)
 }
 
-/// A tree of 131,072 different literals, which branches in the middle: its entries, and how many.
-fn balanced_tree(alloc: Global) -> Made<(Vec<u8>, u32)> {
-    let mut bytes = made(bytes_of(alloc, &[&OF_LOOP, &[262_143]]))?;
+/// A tree of 131,072 different literals, which branches in the middle.
+fn balanced_tree(alloc: Global) -> Result<Vec<u8>, AllocError> {
+    let mut bytes = bytes_of(alloc, &[&OF_LOOP, &[262_143]])?;
     let mut count = 0u32;
-    let mut tops = Vec::new(alloc);
     for k in 1..131_073u32 {
-        made(put(&mut bytes, &[2, k, k]))?;
-        made(tops.push(count))?;
-        count = join(&mut bytes, &mut tops, count.saturating_add(1), k)?;
+        put(&mut bytes, &[2, k, k])?;
+        count = join(&mut bytes, count.saturating_add(1), k)?;
     }
-    made(put(&mut bytes, &[0, count]))?;
-    Ok((bytes, count))
+    put(&mut bytes, &[0, count])?;
+    Ok(bytes)
 }
 
 #[test]
 fn the_largest_balanced_tree(rt: HostRuntime) -> Result<(), Fail> {
-    let a = rt.alloc();
-    let (bytes, count) = balanced_tree(a)?;
-    assert_eq!(rt; count, 262_143);
-    assert!(rt; comes_back(a, &bytes, 262_143)?);
+    let bytes = balanced_tree(rt.alloc())?;
+    assert!(rt; comes_back(rt.alloc(), &bytes, 262_143)?);
     Ok(())
 }
 

@@ -1,4 +1,4 @@
-//! What the crates of tests make: terms, and containers of fields; and rows of text with terms in them.
+//! What the crates of tests share: containers of fields, ids that are tested; and rows of text with terms in them.
 //!
 //! Nothing is promised of them but what the tests' proofs need: each tests at run time what it asks of
 //! ids, so that the tests carry no facts. What a text is read as are trees of the table, and the table

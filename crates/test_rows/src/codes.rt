@@ -1,8 +1,6 @@
 //! Rows of one instruction: its code word with what `check` says of it, or its text with what `asm`
 //! makes of it.
 
-use crate::files::placed;
-use crate::row::{Left, Row};
 use crate::scene::Scene;
 use crate::shapes::container;
 use std::alloc::{AllocError, Global};
@@ -10,12 +8,26 @@ use std::alloc::{AllocError, Global};
 /// The container for `filter` of this code word, in hexadecimal, and a return.
 fn two_words(alloc: Global, word: &str) -> Result<Option<Vec<u8>>, AllocError> {
     let code = format!(in alloc; "1 {word} 6bfa8001")?;
-    let mut bytes = match container(alloc, code.as_str())? {
-        Some(bytes) => bytes,
-        None => return Ok(None),
-    };
-    bytes.extend_from_slice(&[0; 12])?;
-    Ok(Some(bytes))
+    match container(alloc, code.as_str())? {
+        None => Ok(None),
+        Some(mut bytes) => {
+            bytes.extend_from_slice(&[0; 12])?;
+            Ok(Some(bytes))
+        }
+    }
+}
+
+/// Makes the container in `C` of a code word and a return, with no other files. It is false where the
+/// text is no word.
+fn place_word(scene: &mut Scene, word: &str) -> Result<bool, AllocError> {
+    match two_words(scene.alloc, word)? {
+        None => Ok(false),
+        Some(bytes) => {
+            scene.clear();
+            scene.place("C", bytes.as_slice())?;
+            Ok(true)
+        }
+    }
 }
 
 /// A code word before a return, and the line that `check` refuses it by: `WORD LINE`.
@@ -23,13 +35,10 @@ pub(crate) fn begin_word(scene: &mut Scene, line: u32, text: &str) -> Result<boo
     let Some((word, answer)) = text.split_once(' ') else {
         return Ok(false);
     };
-    let bytes = match two_words(scene.alloc, word)? {
-        Some(bytes) => bytes,
-        None => return Ok(false),
-    };
-    scene.clear();
-    placed(scene.alloc, &mut scene.files, "C", bytes)?;
-    scene.row = Row::of(scene.alloc, line, "check filter C")?;
+    if !place_word(scene, word)? {
+        return Ok(false);
+    }
+    scene.begin(line, "check filter C")?;
     scene.row.status = Some(1);
     scene.row.prints(answer, true)
 }
@@ -37,8 +46,21 @@ pub(crate) fn begin_word(scene: &mut Scene, line: u32, text: &str) -> Result<boo
 /// Makes the source in `S` of a text and a return.
 fn place_source(scene: &mut Scene, text: &str) -> Result<(), AllocError> {
     let source = format!(in scene.alloc; "{text}\nret\n")?;
-    let bytes = Vec::from_slice(scene.alloc, source.as_bytes())?;
-    placed(scene.alloc, &mut scene.files, "S", bytes)
+    scene.place("S", source.as_bytes())
+}
+
+/// Says that `asm` writes these bytes.
+fn writes(scene: &mut Scene, bytes: Vec<u8>) -> Result<bool, AllocError> {
+    scene.row.status = Some(0);
+    scene.row.expect_bytes(scene.alloc, "C", bytes)?;
+    scene.row.prints("written 36", true)
+}
+
+/// Says that `asm` finds this fault.
+fn finds(scene: &mut Scene, fault: &str) -> Result<bool, AllocError> {
+    let answer = format!(in scene.alloc; "line 1 {fault}")?;
+    scene.row.status = Some(1);
+    scene.row.prints(answer.as_str(), true)
 }
 
 /// The text of an instruction, and its code word or the fault that `asm` finds: `WORD TEXT` or
@@ -49,21 +71,9 @@ pub(crate) fn begin_insn(scene: &mut Scene, line: u32, text: &str) -> Result<boo
     };
     scene.clear();
     place_source(scene, insn)?;
-    scene.row = Row::of(scene.alloc, line, "asm filter S C")?;
+    scene.begin(line, "asm filter S C")?;
     match two_words(scene.alloc, word)? {
-        Some(bytes) => {
-            scene.row.status = Some(0);
-            scene.row.left.push(Left {
-                name: String::from_str(scene.alloc, "C")?,
-                bytes,
-                digest: None,
-            })?;
-            scene.row.prints("written 36", true)
-        }
-        None => {
-            let answer = format!(in scene.alloc; "line 1 {word}")?;
-            scene.row.status = Some(1);
-            scene.row.prints(answer.as_str(), true)
-        }
+        Some(bytes) => writes(scene, bytes),
+        None => finds(scene, word),
     }
 }

@@ -1,7 +1,6 @@
 //! Goals: a hypothesis and a goal as two invariants of a source, which `asm` assembles, `prove`
 //! proves and `check` accepts.
 
-use crate::files::placed;
 use crate::program::Program;
 use crate::row::Row;
 use crate::running::{carry, run, run_row};
@@ -11,7 +10,7 @@ use std::alloc::AllocError;
 /// Begins a goal by its hypothesis, with no files.
 pub(crate) fn begin_goal(scene: &mut Scene, line: u32, text: &str) -> Result<bool, AllocError> {
     scene.clear();
-    scene.row = Row::of(scene.alloc, line, "prove tag C P")?;
+    scene.begin(line, "prove tag C P")?;
     scene.row.is_goal = true;
     scene.row.hypothesis.push_str(text)?;
     Ok(true)
@@ -24,9 +23,23 @@ pub(crate) fn finish_goal(scene: &mut Scene, text: &str) -> Result<bool, AllocEr
     }
     let hypothesis = scene.row.hypothesis.as_str();
     let source = format!(in scene.alloc; "ret\n.inv {hypothesis}\nnop\n.inv {text}\nret\n")?;
-    let bytes = Vec::from_slice(scene.alloc, source.as_bytes())?;
-    placed(scene.alloc, &mut scene.files, "S", bytes)?;
+    scene.place("S", source.as_bytes())?;
     Ok(true)
+}
+
+/// Assembles the goal's source, and answers whether that came out.
+fn is_assembled<P: Program>(program: &P, scene: &mut Scene, line: u32) -> Result<bool, AllocError> {
+    let assembles = Row::of(scene.alloc, line, "asm tag S C")?;
+    let ran = run(program, scene, &assembles)?;
+    carry(scene, "C", &ran.files)?;
+    Ok(ran.status == 0)
+}
+
+/// Runs `check` of what the goal's row wrote.
+fn accept<P: Program>(program: &P, scene: &mut Scene, line: u32) -> Result<(), AllocError> {
+    let checks = Row::accepting(scene.alloc, line, "check tag P")?;
+    let _held = run_row(program, scene, &checks)?;
+    Ok(())
 }
 
 /// Runs `asm`, `prove` as the row says, and `check` of what it wrote.
@@ -35,19 +48,12 @@ pub(crate) fn run_goal<P: Program>(
     scene: &mut Scene,
     row: &Row,
 ) -> Result<(), AllocError> {
-    let assembles = Row::of(scene.alloc, row.line, "asm tag S C")?;
-    let ran = run(program, scene, &assembles)?;
-    if ran.status != 0 {
+    if !is_assembled(program, scene, row.line)? {
         return scene.differs(row.line, "the goal's source isn't assembled");
     }
-    carry(scene, "C", &ran.files)?;
     let held = run_row(program, scene, row)?;
     if !held || row.is_wrong || row.status != Some(0) {
         return Ok(());
     }
-    let mut checks = Row::of(scene.alloc, row.line, "check tag P")?;
-    checks.status = Some(0);
-    checks.output.extend_from_slice(b"accepted\n")?;
-    let _held = run_row(program, scene, &checks)?;
-    Ok(())
+    accept(program, scene, row.line)
 }

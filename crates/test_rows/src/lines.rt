@@ -59,7 +59,7 @@ fn begin(scene: &mut Scene, line: u32, key: &str, text: &str) -> Result<bool, Al
     match key {
         "file" => aim_at(scene, Target::File, text),
         "pcc" => {
-            scene.row = Row::of(scene.alloc, line, text)?;
+            scene.begin(line, text)?;
             Ok(true)
         }
         "goal" => begin_goal(scene, line, text),

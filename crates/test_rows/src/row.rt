@@ -14,6 +14,16 @@ pub struct Left {
 }
 
 impl Left {
+    /// An empty file of this name.
+    pub fn of(alloc: Global, name: &str) -> Result<Left, AllocError> {
+        let name = String::from_str(alloc, name)?;
+        Ok(Left {
+            name,
+            bytes: Vec::new(alloc),
+            digest: None,
+        })
+    }
+
     /// Whether there is to be no file.
     pub fn is_nothing(&self) -> bool {
         match &self.digest {
@@ -79,20 +89,41 @@ impl Row {
 
     /// A row that begins at this line with these words.
     pub fn of(alloc: Global, line: u32, words: &str) -> Result<Row, AllocError> {
+        let words = String::from_str(alloc, words)?;
         let mut row = Row::new(alloc);
         row.is_begun = true;
         row.line = line;
-        row.words.push_str(words)?;
+        row.words = words;
+        Ok(row)
+    }
+
+    /// A row that begins so, and accepts.
+    pub fn accepting(alloc: Global, line: u32, words: &str) -> Result<Row, AllocError> {
+        let output = Vec::from_slice(alloc, b"accepted\n")?;
+        let mut row = Row::of(alloc, line, words)?;
+        row.status = Some(0);
+        row.output = output;
         Ok(row)
     }
 
     /// Says that the file of this name is to have this SHA-256 and size, or to be nothing.
     pub fn expect(&mut self, alloc: Global, name: &str, digest: &str) -> Result<(), AllocError> {
-        self.left.push(Left {
-            name: String::from_str(alloc, name)?,
-            bytes: Vec::new(alloc),
-            digest: Some(String::from_str(alloc, digest)?),
-        })?;
+        let mut left = Left::of(alloc, name)?;
+        left.digest = Some(String::from_str(alloc, digest)?);
+        self.left.push(left)?;
+        Ok(())
+    }
+
+    /// Says that the file of this name is to have these bytes.
+    pub fn expect_bytes(
+        &mut self,
+        alloc: Global,
+        name: &str,
+        bytes: Vec<u8>,
+    ) -> Result<(), AllocError> {
+        let mut left = Left::of(alloc, name)?;
+        left.bytes = bytes;
+        self.left.push(left)?;
         Ok(())
     }
 

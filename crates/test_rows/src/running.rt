@@ -1,6 +1,6 @@
 //! What becomes of a row: its command is run over copies of the files, and compared.
 
-use crate::files::{copied, found, placed};
+use crate::files::{copied, found};
 use crate::numbers::digest;
 use crate::program::Program;
 use crate::row::{Left, Row};
@@ -102,8 +102,7 @@ fn are_kept(before: &[(String, Vec<u8>)], files: &MemFiles, row: &Row) -> bool {
 pub(crate) fn carry(scene: &mut Scene, names: &str, files: &MemFiles) -> Result<(), AllocError> {
     for name in names.split_whitespace() {
         if let Some(bytes) = files.get(name) {
-            let copy = Vec::from_slice(scene.alloc, bytes)?;
-            placed(scene.alloc, &mut scene.files, name, copy)?;
+            scene.place(name, bytes)?;
         }
     }
     Ok(())
@@ -183,6 +182,15 @@ fn compare(
     Ok(is_ended && is_left)
 }
 
+/// Whether what the command came to is what the row says; what it wrote stands from here on.
+fn judge(scene: &mut Scene, row: &Row, ran: &Ran) -> Result<bool, AllocError> {
+    let ended = is_ended(scene.alloc, row, ran)?;
+    let left = are_left(scene.alloc, &ran.files, row)?;
+    let kept = are_kept(scene.files.as_slice(), &ran.files, row);
+    carry(scene, row.words.as_str(), &ran.files)?;
+    compare(scene, row, ran, ended, left && kept)
+}
+
 /// Runs a row, and answers whether it came out as it says.
 pub(crate) fn run_row<P: Program>(
     program: &P,
@@ -190,9 +198,5 @@ pub(crate) fn run_row<P: Program>(
     row: &Row,
 ) -> Result<bool, AllocError> {
     let ran = run(program, scene, row)?;
-    let ended = is_ended(scene.alloc, row, &ran)?;
-    let left = are_left(scene.alloc, &ran.files, row)?;
-    let kept = are_kept(scene.files.as_slice(), &ran.files, row);
-    carry(scene, row.words.as_str(), &ran.files)?;
-    compare(scene, row, &ran, ended, left && kept)
+    judge(scene, row, &ran)
 }

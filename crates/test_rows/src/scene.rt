@@ -1,7 +1,7 @@
 //! What stands as files of rows are read.
 
 use crate::files::placed;
-use crate::row::{Left, Row};
+use crate::row::Row;
 use crate::tally::Tally;
 use std::alloc::{AllocError, Global};
 use std::mem;
@@ -56,6 +56,18 @@ impl Scene {
         Ok(())
     }
 
+    /// Sets the bytes of the file of this name.
+    pub(crate) fn place(&mut self, name: &str, bytes: &[u8]) -> Result<(), AllocError> {
+        let copy = Vec::from_slice(self.alloc, bytes)?;
+        placed(self.alloc, &mut self.files, name, copy)
+    }
+
+    /// Begins a row at this line with these words.
+    pub(crate) fn begin(&mut self, line: u32, words: &str) -> Result<(), AllocError> {
+        self.row = Row::of(self.alloc, line, words)?;
+        Ok(())
+    }
+
     /// Takes away all files but those that were given.
     pub(crate) fn clear(&mut self) {
         self.files.truncate(self.given);
@@ -75,11 +87,7 @@ impl Scene {
         match self.target {
             Target::Nothing => {}
             Target::File => placed(self.alloc, &mut self.files, name.as_str(), bytes)?,
-            Target::Left => self.row.left.push(Left {
-                name,
-                bytes,
-                digest: None,
-            })?,
+            Target::Left => self.row.expect_bytes(self.alloc, name.as_str(), bytes)?,
         }
         self.target = Target::Nothing;
         Ok(())

@@ -20,6 +20,19 @@ fn code_words(alloc: Global, text: &str) -> Result<Option<Vec<u32>>, AllocError>
     Ok(Some(words))
 }
 
+/// The front of a container of version 1 for the policy of this number, up to these code words.
+fn front(alloc: Global, policy: u32, words: &[u32]) -> Result<Vec<u8>, AllocError> {
+    let count = words.len().min(0xffff) as u32;
+    let mut bytes = Vec::new(alloc);
+    for field in [0x4143_4350, 1, policy, count] {
+        add(&mut bytes, field)?;
+    }
+    for word in words.iter() {
+        add(&mut bytes, *word)?;
+    }
+    Ok(bytes)
+}
+
 /// The front of a container of version 1, up to its code words: `POLICY WORD ..`, the policy's
 /// number and the words in hexadecimal.
 pub fn container(alloc: Global, text: &str) -> Result<Option<Vec<u8>>, AllocError> {
@@ -29,19 +42,10 @@ pub fn container(alloc: Global, text: &str) -> Result<Option<Vec<u8>>, AllocErro
     let Some(policy) = number(policy) else {
         return Ok(None);
     };
-    let words = match code_words(alloc, rest)? {
-        Some(words) => words,
-        None => return Ok(None),
-    };
-    let mut bytes = Vec::new(alloc);
-    add(&mut bytes, 0x4143_4350)?;
-    add(&mut bytes, 1)?;
-    add(&mut bytes, policy)?;
-    add(&mut bytes, words.len().min(0xffff) as u32)?;
-    for word in words.iter() {
-        add(&mut bytes, *word)?;
+    match code_words(alloc, rest)? {
+        Some(words) => Ok(Some(front(alloc, policy, words.as_slice())?)),
+        None => Ok(None),
     }
-    Ok(Some(bytes))
 }
 
 /// Applies the last tree but one to the last, as entry `entry`.

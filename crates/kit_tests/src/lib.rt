@@ -1,7 +1,0 @@
-//! Tests of what is found among hypotheses, by public calls.
-//!
-//! They stand in a crate of their own, since the gate proves all of a crate once more with its tests.
-#![tactic(auto)]
-
-#[cfg(test)]
-mod easy_hyps_tests;

@@ -1,0 +1,96 @@
+//! Questions on goals under a hypothesis.
+
+ghost use Rattle.std.specs.Prelude.{IfOk};
+ghost use Rattle.easy_goals.specs.Search.{IsContext};
+
+use crate::hypotheses::split;
+use bounds_prover::proof_by_access;
+use easy_goals::{Context, Search, proof_by_words, proof_without_access};
+use hereditary_subst::MOST_RESULTS;
+use std::alloc::Global;
+use term_table::{Id, Table};
+use test_inputs::cursors::Cursor;
+use test_inputs::faults::{Read, RowFault};
+use test_inputs::names::Names;
+use test_inputs::rows::Answer;
+use test_inputs::term_text::{known, read_term};
+
+/// How many binders stand outside.
+const OUTSIDE: u32 = 40;
+
+/// The context of the hypotheses that a formula is split into.
+fn context_of(table: &mut Table, form: Id) -> Read<Context>
+    ensures { IfOk result (IsContext table.new) }
+{
+    let hyps = split(table, form)?;
+    match Context::new(table, OUTSIDE, hyps) {
+        Ok(context) => Ok(context),
+        Err(_) => Err(RowFault::Memory),
+    }
+}
+
+/// What proves the goal by words alone.
+fn by_words(alloc: Global, table: &mut Table, form: Id, goal: Id) -> Read<Answer> {
+    let mut context = context_of(table, form)?;
+    let mut search = Search::new(alloc, MOST_RESULTS);
+    known(table, goal)?;
+    match proof_by_words(table, &mut search, &mut context, goal) {
+        Ok(found) => Ok(Answer::tree(found)),
+        Err(_) => Ok(Answer::Memory),
+    }
+}
+
+/// What proves the goal by connectives and words.
+fn by_connectives(alloc: Global, table: &mut Table, form: Id, goal: Id) -> Read<Answer> {
+    let mut context = context_of(table, form)?;
+    let mut search = Search::new(alloc, MOST_RESULTS);
+    known(table, goal)?;
+    match proof_without_access(table, &mut search, &mut context, goal) {
+        Ok(found) => Ok(Answer::tree(found)),
+        Err(_) => Ok(Answer::Memory),
+    }
+}
+
+/// What proves the goal as an access that the hypotheses give.
+fn by_access(alloc: Global, table: &mut Table, form: Id, goal: Id) -> Read<Answer> {
+    let mut context = context_of(table, form)?;
+    let mut search = Search::new(alloc, MOST_RESULTS);
+    known(table, goal)?;
+    match proof_by_access(table, &mut search, &mut context, goal) {
+        Ok(found) => Ok(Answer::tree(found)),
+        Err(_) => Ok(Answer::Memory),
+    }
+}
+
+/// Yes, where there is a tree.
+fn is_some(answer: Answer) -> Answer {
+    match answer {
+        Answer::Tree(_) => Answer::Yes,
+        Answer::Nothing => Answer::No,
+        other => other,
+    }
+}
+
+/// The answer to a question on a goal, if it is one.
+pub(crate) fn about_goals(
+    alloc: Global,
+    table: &mut Table,
+    names: &Names,
+    question: &[u8],
+    cursor: &mut Cursor<'_>,
+) -> Read<Option<Answer>> {
+    let is_words = question == b"words".as_slice();
+    let is_access = question == b"access".as_slice();
+    if !is_words && !is_access && question != b"connectives".as_slice() {
+        return Ok(None);
+    }
+    let form = read_term(table, names, cursor)?;
+    let goal = read_term(table, names, cursor)?;
+    if is_words {
+        return Ok(Some(is_some(by_words(alloc, table, form, goal)?)));
+    }
+    if is_access {
+        return Ok(Some(is_some(by_access(alloc, table, form, goal)?)));
+    }
+    Ok(Some(by_connectives(alloc, table, form, goal)?))
+}
