@@ -1,4 +1,4 @@
--- What a judgement in a part of a context says of the whole, and what is kept of it.
+-- What a judgement in another context says of the one that was asked for, and what is kept of it.
 use Rattle.std.proofs.Common.{◌≡◌, ℕ, ◌<◌, Bool, true, ◌&&◌, Option, List, ◌∷◌, sym, ◌∙◌, ap, arith}
 use Rattle.term_table.specs.Tree.{Tree, Const, Lam, Pi, TApp}
 use Rattle.term_table.specs.Table.{TableView, IsKnown, tree_at, Extends}
@@ -50,7 +50,7 @@ judges_formed s s' t u z a part e f g ka kp h = record {
   judges = (known-more u z a (known-more t u a ka e) f, known-more u z part kp f, rw (g, f.same a (known-more t u a ka e), f.same part kp, e.same a ka) (sym h));
 }
 
--- An abstraction: u has the part of the context, w the inner context.
+-- An abstraction: u has the other context, w the inner one.
 pub under_part : (s s₂ : Sig) (t u w : TableView) (m a body from to part inner : ℕ) (r : Bool) → Extends t u → Extends u w → s₂ ≡ s → IsKnown t m → IsKnown t a →
     (body < m) × (from < a) × (to < a) → IsKnown u part → Lam (tree_at t body) ≡ tree_at t m → Pi (tree_at t from) (tree_at t to) ≡ tree_at t a →
     tree_at w inner ≡ TApp (tree_at u part) (tree_at u from) → r ≡ checks_of s₂ (tree_at w body) (types_of (tree_at w inner)) (tree_at w to) →

@@ -1,5 +1,5 @@
 -- Kept judgements, as the table grows.
-use Rattle.std.proofs.Common.{◌≡◌, ℕ, Option, Some, Bool, true, false, cond, sym, ◌∙◌, ap, subst, arith, refl, take}
+use Rattle.std.proofs.Common.{◌≡◌, ℕ, Option, Some, Bool, true, false, cond, sym, ◌∙◌, ap, subst, arith, refl}
 use Rattle.std.specs.Bool.{Decides}
 use Rattle.term_table.specs.Tree.{Tree, Const}
 use Rattle.term_table.specs.Table.{TableView, IsKnown, Extends}
@@ -7,7 +7,6 @@ use Rattle.hereditary_subst.specs.Inside.Kept.{IsMemo}
 use Rattle.hereditary_subst.proofs.Rows.{memo-more}
 use Rattle.std.specs.BTreeMap.{get}
 use Rattle.lf_check.specs.contracts.judgements.QuestionOrd.TheImpl as block
-use Rattle.lf_check.specs.Inside.Lists.{types_of}
 use Rattle.lf_check.specs.Inside.Kept.{Judges, IsJudgement, AreKept}
 use Rattle.lf_check.specs.declared.judgements.Question.{Question}
 use Rattle.lf_check.specs.declared.judgements.Question.TheVariants as Q
@@ -20,7 +19,8 @@ judges-more : (sig : Const → Option Tree) (q : Question) (v : ℕ) (t u : Tabl
 judges-more sig (Q.Synth r c) v t u k h e = (known-more t u r h.0 e, known-more t u c h.1 e, rw (e.same r h.0, e.same c h.1, e.same v k) h.2)
 judges-more sig (Q.Under m a c) v t u k h e = (known-more t u m h.0 e, known-more t u a h.1 e, known-more t u c h.2 e, rw (e.same m h.0, e.same a h.1, e.same c h.2) h.3)
 judges-more sig (Q.Formed a c) v t u k h e = (known-more t u a h.0 e, known-more t u c h.1 e, rw (e.same a h.0, e.same c h.1) h.2)
-judges-more sig (Q.Cut c n) v t u k h e = (known-more t u c h.0 e, ap types_of (e.same v k) ∙ h.1 ∙ ap (λ z. take n (types_of z)) (sym (e.same c h.0)))
+judges-more sig (Q.Last m) v t u k h e = known-more t u m h e
+judges-more sig (Q.Uses m) v t u k h e = (known-more t u m h.0 e, rw (e.same v k, e.same m h.0) h.1)
 
 judgement-more : (sig : Const → Option Tree) (q : Question) (v : ℕ) (t u : TableView) → IsJudgement sig t q v → Extends t u → IsJudgement sig u q v
 judgement-more sig q v t u h e = record { known = known-more t u v h.known e; judges = judges-more sig q v t u h.known h.judges e }

@@ -1,8 +1,8 @@
-//! Judgements that are kept, so that a term that stands in many places is judged once in each part
-//! of a context that it can speak of.
+//! Judgements that are kept, so that a term that stands in many places is judged once where the
+//! variables that it uses have the same types (`contexts.rt` finds the context in which it was).
 //!
 //! Only what holds is kept: what doesn't hold ends the call. A context is an id of the table too
-//! (`specs/Inside/Lists`), so equal parts of contexts are equal ids. Rows are found by an ordered map
+//! (`specs/Inside/Lists`), so equal contexts are equal ids. Rows are found by an ordered map
 //! of numbers, so that no choice of ids makes them slow to find.
 
 ghost use Rattle.std.specs.Prelude.{◌≡◌, IfSome, Option};
@@ -28,8 +28,10 @@ pub(crate) enum Question {
     Under(u64, u64, u64),
     /// Whether the product is a type in the context.
     Formed(u64, u64),
-    /// The nearest so many types of the context.
-    Cut(u64, u64),
+    /// The context in which the term or type was judged last.
+    Last(u64),
+    /// A set that has each variable of the term or type.
+    Uses(u64),
 }
 
 /// Results and judgements on one table and signature, all up to one limit.
@@ -75,6 +77,17 @@ impl Kept {
         if self.steps / STEPS_A_JUDGEMENT > self.limit as u64 {
             return Err(Exhausted::Results);
         }
+        Ok(())
+    }
+
+    /// Counts a result that is kept elsewhere. Fails past the limit, by `Results`.
+    pub(crate) fn spend<S: Signature>(&mut self, table: &Table, sig: &S) -> Result<(), Exhausted>
+        requires { AreKept (S.declares sig.now table.now) table.now self.old }
+        ensures { AreKept (S.declares sig.now table.now) table.now self.new }
+    {
+        let _ = table; // only the clauses speak of it
+        let _ = sig; // only the clauses speak of it
+        self.memo.spend()?;
         Ok(())
     }
 

@@ -1,5 +1,5 @@
-//! Terms checked at types and types synthesised. Each judgement is made in the part of the context
-//! that the term can speak of.
+//! Terms checked at types and types synthesised. Each judgement is made in the context in which the
+//! term was judged last, where that gives the variables that it uses the same types.
 
 ghost use Rattle.std.specs.Prelude.{◌≡◌, true, false, ◌<◌, ◌≤◌, ◌+◌, ◌^◌, IfOk, IsTrue};
 ghost use Rattle.term_table.specs.Tree.{at, App, Lam, Pi};

@@ -1,11 +1,12 @@
 -- What kept results and judgements say of a table's trees.
-use Rattle.std.specs.Prelude.{◌≡◌, ℕ, Bool, true, Option, Some, take}
+use Rattle.std.specs.Prelude.{◌≡◌, ℕ, Bool, true, Option, Some}
 use Rattle.std.specs.BTreeMap.{get}
 use Rattle.term_table.specs.Tree.{Tree, Const}
 use Rattle.term_table.specs.Table.{TableView, IsKnown, tree_at}
 use Rattle.hereditary_subst.specs.Inside.Kept.{IsMemo}
 use Rattle.lf_signature.specs.Decide.{synth_of, checks_of, is_type_of}
 use Rattle.lf_check.specs.Inside.Lists.{types_of}
+use Rattle.lf_check.specs.Inside.Uses.{Covers}
 use Rattle.lf_check.specs.declared.judgements.Question.{Question}
 use Rattle.lf_check.specs.declared.judgements.Question.TheVariants as Q
 use Rattle.lf_check.specs.declared.judgements.Kept.{Kept}
@@ -28,7 +29,8 @@ abbrev pub Judges : (Const → Option Tree) → TableView → Question → ℕ �
 Judges sig t (Q.Synth r c) v = IsKnown t r × IsKnown t c × (synth_in sig t c r ≡ Some (tree_at t v))
 Judges sig t (Q.Under m a c) v = IsKnown t m × IsKnown t a × IsKnown t c × (checks_in sig t c m a ≡ true)
 Judges sig t (Q.Formed a c) v = IsKnown t a × IsKnown t c × (is_type_in sig t c a ≡ true)
-Judges sig t (Q.Cut c n) v = IsKnown t c × (types_of (tree_at t v) ≡ take n (types_of (tree_at t c)))
+Judges sig t (Q.Last m) v = IsKnown t m
+Judges sig t (Q.Uses m) v = IsKnown t m × Covers (tree_at t v) (tree_at t m)
 
 -- v is an id of the table, and right of the question
 pub record IsJudgement (sig : Const → Option Tree) (t : TableView) (q : Question) (v : ℕ) : Type 0 where

@@ -14,7 +14,7 @@ types_of (Lam b) = []
 types_of (Fam a) = []
 types_of (Pi a b) = []
 
--- in this part of the context the tree is judged as in the whole
+-- in this other context the tree is judged as in the one
 pub record IsPart (m : Tree) (ctx part : List Tree) : Type 0 where
   pub synth : (sig : Const → Option Tree) → synth_of sig m part ≡ synth_of sig m ctx
   pub checks : (sig : Const → Option Tree) (a : Tree) → checks_of sig m part a ≡ checks_of sig m ctx a
