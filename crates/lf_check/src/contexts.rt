@@ -1,13 +1,13 @@
 //! Contexts as ids of the table: a list of types is a tree with a node for each type.
 
-ghost use Rattle.std.specs.Prelude.{◌≡◌, ◌<◌, ◌≤◌, ◌+◌, ◌^◌, IfOk, IsTrue};
+ghost use Rattle.std.specs.Prelude.{◌≡◌, ◌<◌, ◌≤◌, ◌+◌, ◌^◌, IfOk, IfSome, IsTrue};
 ghost use Rattle.term_table.specs.Tree.{at};
 ghost use Rattle.term_table.specs.Table.{IsKnown, AllKnown, tree_at, ctx_of, Extends, Stands};
-ghost use Rattle.lf_check.specs.Inside.Lists.{types_of, IsPart, IsContextId, IsPartId};
+ghost use Rattle.lf_check.specs.Inside.Lists.{types_of, IsPart, IsContextId};
 ghost use Rattle.lf_check.specs.Inside.Uses.{member, past, AgreeOn};
-ghost use Rattle.lf_check.specs.Inside.Kept.{AreKept};
+ghost use Rattle.lf_check.specs.Inside.Kept.{AreKept, IsJudgement, subject};
 
-use crate::judgements::{Kept, Question, number};
+use crate::judgements::{Kept, Question};
 use crate::uses::{is_set, set_parts, uses_at};
 use hereditary_subst::Exhausted;
 use lf_signature::Signature;
@@ -167,30 +167,31 @@ fn is_alike<S: Signature>(
     agree_on(table, kept, sig, c, d, uses)
 }
 
-/// A context in which the tree is judged as in `c`: that in which it was judged last, where both give
-/// each variable that the tree uses the same type, else `c`.
-pub(crate) fn part_at<S: Signature>(
+/// What is kept of the question on the tree `m`, where it was found in a context that gives each
+/// variable that `m` uses the same type as `c` does.
+pub(crate) fn answer_on<S: Signature>(
     table: &mut Table,
     kept: &mut Kept,
     sig: &S,
+    question: &Question,
     c: Id,
     m: Id,
-) -> Result<Id, Exhausted>
+) -> Result<Option<Id>, Exhausted>
     requires holds { S.holds sig.now table.old }
+    requires about { subject question.now ≡ m }
     requires c { IsKnown table.old c }
     requires m { IsKnown table.old m }
     requires kept { AreKept (S.declares sig.now table.old) table.old kept.old }
-    ensures part { IfOk result
-        (IsPartId table.new (tree_at table.old m) (types_of (tree_at table.old c))) }
+    ensures answer { let declared = S.declares sig.now table.old in
+        IfOk result (λ o. IfSome o (IsJudgement declared table.new question.now c)) }
     ensures extends { Extends table.old table.new }
     ensures kept { AreKept (S.declares sig.now table.new) table.new kept.new }
 {
-    let question = Question::Last(number(m));
-    if let Some(d) = kept.find(table, sig, &question) {
-        if is_alike(table, kept, sig, c, d, m)? {
-            return Ok(d);
-        }
+    let Some(found) = kept.find(table, sig, question) else {
+        return Ok(None);
+    };
+    if is_alike(table, kept, sig, c, found.context, m)? {
+        return Ok(Some(found.answer));
     }
-    kept.keep(table, sig, question, c)?;
-    Ok(c)
+    Ok(None)
 }

@@ -217,11 +217,11 @@ pub(crate) fn uses_at<S: Signature>(
         return with_first(table, kept, sig, n, none);
     }
     let question = Question::Uses(number(m));
-    if let Some(set) = kept.find(table, sig, &question) {
-        return Ok(set);
+    if let Some(found) = kept.find(table, sig, &question) {
+        return Ok(found.answer);
     }
     let set = uses_of_parts(table, kept, sig, m, none)?;
-    kept.keep(table, sig, question, set)?;
+    kept.keep(table, sig, question, m, set)?;
     Ok(set)
 }
 

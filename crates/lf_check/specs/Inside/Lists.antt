@@ -23,7 +23,3 @@ pub record IsPart (m : Tree) (ctx part : List Tree) : Type 0 where
 -- the id stands for a context of these types
 abbrev pub IsContextId : TableView → List Tree → ℕ → Type 0
 IsContextId t ctx c = IsKnown t c × (types_of (tree_at t c) ≡ ctx)
-
--- the id stands for a context in which the tree is judged as in this one
-abbrev pub IsPartId : TableView → Tree → List Tree → ℕ → Type 0
-IsPartId t m ctx c = IsKnown t c × IsPart m ctx (types_of (tree_at t c))
