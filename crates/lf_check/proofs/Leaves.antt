@@ -1,5 +1,5 @@
 -- A tree without parts that is no variable uses none.
-use Rattle.std.proofs.Common.{◌≡◌, ℕ, true, false, refl, subst, sym}
+use Rattle.std.proofs.Common.{◌≡◌, ℕ, false, refl, subst, sym}
 use Rattle.term_table.specs.Tree.{Tree}
 use Rattle.term_table.specs.Table.{TableView, node_tree}
 use Rattle.term_table.specs.declared.Node.{Node}

@@ -1,10 +1,11 @@
 -- A tree is judged alike in contexts that give the variables which it uses the same types.
-use Rattle.std.proofs.Common.{◌≡◌, ℕ, zero, suc, Bool, true, ◌&&◌, Option, List, ◌∷◌, refl, sym, ap, eq-eqb}
+use Rattle.std.proofs.Common.{◌≡◌, ℕ, zero, suc, true, ◌&&◌, Option, List, ◌∷◌, refl, sym, ap, eq-eqb}
 use Rattle.term_table.specs.Tree.{Tree, Const, Var, Con, App, Lam, Fam, TApp, Pi, at}
 use Rattle.lf_signature.specs.Decide.{synth_of, checks_of, is_type_of, kind_of, kind_rule, is_star, app_rule, atom_rule, lam_rule, var_rule}
-use Rattle.lf_check.specs.Inside.Lists.{IsPart}
+use Rattle.term_table.specs.Table.{TableView, IsKnown, tree_at, Extends}
+use Rattle.lf_check.specs.Inside.Lists.{types_of, IsPart}
 use Rattle.lf_check.specs.Inside.Uses.{occurs, member, Covers, AgreeOn}
-use Rattle.lf_check.proofs.Uses.{or_one, or_other}
+use Rattle.lf_check.proofs.Sets.{or_one, or_other}
 
 -- the contexts agree on what occurs in the tree
 abbrev Agree : Tree → List Tree → List Tree → Type 0
@@ -82,3 +83,16 @@ part_alike s m ctx other c h = record {
   where
     back : Agree m other ctx
     back i q = sym (h i (c i q))
+
+pub part_same : (m : Tree) (ctx other : List Tree) → ctx ≡ other → IsPart m ctx other
+part_same m ctx other e = record {
+  synth = λ sig. ap (synth_of sig m) (sym e);
+  checks = λ sig a. ap (λ z. checks_of sig m z a) (sym e);
+  formed = λ sig. ap (is_type_of sig m) (sym e);
+}
+
+-- what is found in a later table of the earlier one's contexts
+pub part_grown : (t u : TableView) (c d s : ℕ) (m : Tree) → Extends t u → IsKnown t c → IsKnown t d → Covers (tree_at u s) m →
+    AgreeOn (member (tree_at u s)) (types_of (tree_at u c)) (types_of (tree_at u d)) → IsPart m (types_of (tree_at t c)) (types_of (tree_at t d))
+part_grown t u c d s m e k l v h =
+    part_alike (tree_at u s) m _ _ v (rw (sym (e.same c k), sym (e.same d l)) h)

@@ -4,7 +4,7 @@
 //! set of the others, counted from behind that one. So a set is as long as it has variables, whatever
 //! their numbers are. It may have more variables than the tree uses, which loses time alone.
 
-ghost use Rattle.std.specs.Prelude.{◌≡◌, true, ℕ, ◌<◌, ◌+◌, suc, IfOk};
+ghost use Rattle.std.specs.Prelude.{◌≡◌, true, false, ℕ, ◌<◌, ◌+◌, suc, IfOk};
 ghost use Rattle.term_table.specs.Tree.{App, Lam, Pi, TApp, Var};
 ghost use Rattle.term_table.specs.Table.{IsKnown, tree_at, Extends};
 ghost use Rattle.lf_check.specs.Inside.Uses.{is_variable, is_set, member, past, empty};
@@ -246,26 +246,85 @@ fn uses_of_parts<S: Signature>(
     ensures kept { AreKept (S.declares sig.now table.new) table.new kept.new }
 {
     match table.node(m) {
-        Node::App(f, a) => {
-            let one = uses_at(table, kept, sig, f)?;
-            let other = uses_at(table, kept, sig, a)?;
-            joined(table, kept, sig, one, other)
-        }
-        Node::TApp(p, a) => {
-            let one = uses_at(table, kept, sig, p)?;
-            let other = uses_at(table, kept, sig, a)?;
-            joined(table, kept, sig, one, other)
-        }
-        Node::Lam(b) => {
-            let inside = uses_at(table, kept, sig, b)?;
-            outside(table, kept, sig, inside)
-        }
-        Node::Pi(a, b) => {
-            let inside = uses_at(table, kept, sig, b)?;
-            let body = outside(table, kept, sig, inside)?;
-            let domain = uses_at(table, kept, sig, a)?;
-            joined(table, kept, sig, domain, body)
-        }
+        Node::App(f, a) => uses_of_both(table, kept, sig, m, f, a),
+        Node::TApp(p, a) => uses_of_both(table, kept, sig, m, p, a),
+        Node::Lam(b) => uses_under(table, kept, sig, m, b),
+        Node::Pi(a, b) => uses_of_product(table, kept, sig, m, a, b),
         _ => Ok(none),
     }
+}
+
+/// A set with each variable that one of two parts of m uses.
+#[cycle(using)]
+fn uses_of_both<S: Signature>(
+    table: &mut Table,
+    kept: &mut Kept,
+    sig: &S,
+    m: Id,
+    f: Id,
+    a: Id,
+) -> Result<Id, Exhausted>
+    requires holds { S.holds sig.now table.old }
+    requires m { IsKnown table.old m }
+    requires parts { (f < m) × (a < m) }
+    requires kept { AreKept (S.declares sig.now table.old) table.old kept.old }
+    ensures known { IfOk result (IsKnown table.new) }
+    ensures one { IfOk result
+        (λ u. Covers (tree_at table.new u) (tree_at table.old f)) }
+    ensures other { IfOk result
+        (λ u. Covers (tree_at table.new u) (tree_at table.old a)) }
+    ensures extends { Extends table.old table.new }
+    ensures kept { AreKept (S.declares sig.now table.new) table.new kept.new }
+{
+    let one = uses_at(table, kept, sig, f)?;
+    let other = uses_at(table, kept, sig, a)?;
+    joined(table, kept, sig, one, other)
+}
+
+/// A set with each variable that an abstraction of the part b of m uses.
+#[cycle(using)]
+fn uses_under<S: Signature>(
+    table: &mut Table,
+    kept: &mut Kept,
+    sig: &S,
+    m: Id,
+    b: Id,
+) -> Result<Id, Exhausted>
+    requires holds { S.holds sig.now table.old }
+    requires m { IsKnown table.old m }
+    requires part { b < m }
+    requires kept { AreKept (S.declares sig.now table.old) table.old kept.old }
+    ensures known { IfOk result (IsKnown table.new) }
+    ensures covers { let lam = Lam (tree_at table.old b) in
+        IfOk result (λ u. Covers (tree_at table.new u) lam) }
+    ensures extends { Extends table.old table.new }
+    ensures kept { AreKept (S.declares sig.now table.new) table.new kept.new }
+{
+    let inside = uses_at(table, kept, sig, b)?;
+    outside(table, kept, sig, inside)
+}
+
+/// A set with each variable that a product of two parts of m uses.
+#[cycle(using)]
+fn uses_of_product<S: Signature>(
+    table: &mut Table,
+    kept: &mut Kept,
+    sig: &S,
+    m: Id,
+    a: Id,
+    b: Id,
+) -> Result<Id, Exhausted>
+    requires holds { S.holds sig.now table.old }
+    requires m { IsKnown table.old m }
+    requires parts { (a < m) × (b < m) }
+    requires kept { AreKept (S.declares sig.now table.old) table.old kept.old }
+    ensures known { IfOk result (IsKnown table.new) }
+    ensures covers { let product = Pi (tree_at table.old a) (tree_at table.old b) in
+        IfOk result (λ u. Covers (tree_at table.new u) product) }
+    ensures extends { Extends table.old table.new }
+    ensures kept { AreKept (S.declares sig.now table.new) table.new kept.new }
+{
+    let domain = uses_at(table, kept, sig, a)?;
+    let body = uses_under(table, kept, sig, m, b)?;
+    joined(table, kept, sig, domain, body)
 }

@@ -1,6 +1,6 @@
 -- Sets of variables, and what a tree uses.
-use Rattle.std.proofs.Common.{◌≡◌, ℕ, zero, suc, ◌+◌, ◌-◌, ◌<◌, Bool, true, false, ◌&&◌, List, ◌∷◌, refl, sym, ◌∙◌, ap, subst, arith, ltb-true, eqb-true, ◌⊎◌, inl, inr, ⊎_elim}
-use Rattle.std.specs.Prelude.{◌||◌, ◌==◌}
+use Rattle.std.proofs.Common.{◌≡◌, ℕ, zero, suc, ◌+◌, ◌<◌, Bool, true, false, List, ◌∷◌, refl, sym, ◌∙◌, ap, subst, arith, ltb-true, eqb-true, ◌⊎◌, inl, inr, ⊎_elim}
+use Rattle.std.specs.Prelude.{◌||◌}
 use Rattle.term_table.specs.Tree.{Tree, Var, Con, App, Lam, Fam, TApp, Pi, at}
 use Rattle.term_table.specs.Scope.{is_scoped}
 use Rattle.term_table.specs.Table.{TableView, IsKnown, tree_at}
@@ -55,14 +55,11 @@ past_split zero h k s u e w = subst (λ z. IsWithin (past z s) (past zero u)) (s
     go : IsWithin (past (suc k) s) (past zero u)
     go zero q = refl
     go (suc i) q = w i q
-past_split (suc g) h k s u e w = subst (λ z. IsWithin (past z s) (past (suc g) u)) (sym (let f : h ≡ suc (suc (g + k)) = omega (arith, e) in f)) go
+past_split (suc g) h k s u e w = subst (λ z. IsWithin (past z s) (past (suc g) u)) (sym (let f : h ≡ suc (suc (g + k)) = omega (arith, e) in f)) (go (past_split g (suc (g + k)) k s u refl w))
   where
-    inner : IsWithin (past (suc (g + k)) s) (past g u)
-    inner = past_split g (suc (g + k)) k s u refl w
-
-    go : IsWithin (past (suc (suc (g + k))) s) (past (suc g) u)
-    go zero q = cc q
-    go (suc i) q = inner i q
+    go : IsWithin (past (suc (g + k)) s) (past g u) → IsWithin (past (suc (suc (g + k))) s) (past (suc g) u)
+    go inner zero q = cc q
+    go inner (suc i) q = inner i q
 
 -- the variable itself
 pub past_here : (g : ℕ) (s : ℕ → Bool) → past g s g ≡ true
@@ -156,11 +153,17 @@ outside_later s r u g k e z f i q =
     let x : s ≡ App (Var (suc k)) r = e ∙ ap (λ (j : ℕ). App (Var j) r) z in
     subst (λ y. member y i ≡ true) (sym f) (subst (λ y. member y (suc i) ≡ true) x q)
 
-pub covers_app : (t : TableView) (f a s r : Tree) (u : ℕ) → Covers s f → Covers r a → IsUnion t (member s) (member r) u → Covers (tree_at t u) (App f a)
-covers_app t f a s r u hf ha h i q = ⊎_elim (λ x. h.has_one i (hf i x)) (λ x. h.has_other i (ha i x)) (one_of _ _ q)
+pub covers_one : (t : TableView) (f : Tree) (s r : ℕ → Bool) (u : ℕ) → ((i : ℕ) → occurs i f ≡ true → s i ≡ true) → IsUnion t s r u → Covers (tree_at t u) f
+covers_one t f s r u hf h i q = h.has_one i (hf i q)
 
-pub covers_tapp : (t : TableView) (f a s r : Tree) (u : ℕ) → Covers s f → Covers r a → IsUnion t (member s) (member r) u → Covers (tree_at t u) (TApp f a)
-covers_tapp t f a s r u hf ha h i q = ⊎_elim (λ x. h.has_one i (hf i x)) (λ x. h.has_other i (ha i x)) (one_of _ _ q)
+pub covers_other : (t : TableView) (a : Tree) (s r : ℕ → Bool) (u : ℕ) → ((i : ℕ) → occurs i a ≡ true → r i ≡ true) → IsUnion t s r u → Covers (tree_at t u) a
+covers_other t a s r u ha h i q = h.has_other i (ha i q)
+
+pub covers_app : (f a s : Tree) → Covers s f → Covers s a → Covers s (App f a)
+covers_app f a s hf ha i q = ⊎_elim (hf i) (ha i) (one_of _ _ q)
+
+pub covers_tapp : (f a s : Tree) → Covers s f → Covers s a → Covers s (TApp f a)
+covers_tapp f a s hf ha i q = ⊎_elim (hf i) (ha i) (one_of _ _ q)
 
 pub covers_lam : (b s u : Tree) → Covers s b → IsOutside s u → Covers u (Lam b)
 covers_lam b s u h o i q = o i (h (suc i) q)
