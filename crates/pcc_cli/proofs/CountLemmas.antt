@@ -10,7 +10,7 @@ use Rattle.packet_store.specs.PolicyStarts.{start_of}
 use Rattle.safe_host.specs.Hosts.{HostView, state_under, start_rights}
 use Rattle.safe_host.specs.Runs.{Loads, IsRun, outcome_of}
 use Rattle.safe_host.specs.Counts.{steps_of, MakesSteps}
-use Rattle.safe_host.specs.declared.ended.Ended.{Ended}
+use Rattle.host_steps.specs.declared.ended.Ended.{Ended}
 use Rattle.demo_input.specs.Packets.{demo_packet}
 use Rattle.pcc_cli.specs.Commands.Demo.{one_of, count_from, both_counts, counts_of}
 use Rattle.pcc_cli.specs.declared.commands.demo.Counts.{Counts}

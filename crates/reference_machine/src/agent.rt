@@ -87,6 +87,7 @@ impl Agent {
     }
 
     /// A register's word.
+    #[inline(always)]
     fn reg(&self, reg: Reg) -> u64
         ensures { result ≡ read_reg self.now.state.regs reg }
     {
@@ -94,6 +95,7 @@ impl Agent {
     }
 
     /// The second operand's word.
+    #[inline(always)]
     fn rhs(&self, rhs: &Rhs) -> u64
         ensures { result ≡ machine.rhs_word self.now.state.regs rhs.now }
     {
@@ -101,6 +103,7 @@ impl Agent {
     }
 
     /// The sum of a register and a displacement.
+    #[inline(always)]
     fn address(&self, rb: Reg, disp: i16) -> u64
         ensures { result ≡ machine.address_of self.now.state.regs rb disp }
     {
@@ -108,6 +111,7 @@ impl Agent {
     }
 
     /// The word at an address, where it may be loaded.
+    #[inline(always)]
     fn word_at(&self, addr: u64) -> Option<u64>
         ensures { result ≡ (if allowed self.now.state.rights.reads addr
             then Some (memory.read self.now.state.memory addr) else None) }
@@ -117,6 +121,7 @@ impl Agent {
     }
 
     /// Whether a word may be stored at an address.
+    #[inline(always)]
     fn may_store(&self, addr: u64) -> bool
         ensures { result ≡ allowed self.now.state.rights.writes addr }
     {
@@ -124,6 +129,7 @@ impl Agent {
     }
 
     /// Writes a register and goes on to the next instruction.
+    #[inline(always)]
     fn set_reg(&mut self, reg: Reg, word: u64) -> Step
         requires { self.old.state.index < MAX_WORDS }
         ensures result { result ≡ Step.Moved }
@@ -140,6 +146,7 @@ impl Agent {
     }
 
     /// Stores a word and goes on to the next instruction.
+    #[inline(always)]
     fn store(&mut self, addr: u64, word: u64) -> Step
         requires index { self.old.state.index < MAX_WORDS }
         requires allowed { allowed self.old.state.rights.writes addr ≡ true }
@@ -159,6 +166,7 @@ impl Agent {
     }
 
     /// Loads the word at an address into a register and goes on, where that is allowed.
+    #[inline(always)]
     fn load_word(&mut self, ra: Reg, addr: u64) -> Step
         requires { self.old.state.index < MAX_WORDS }
         ensures step { let s : machine.State = self.old.state in
@@ -180,6 +188,7 @@ impl Agent {
     }
 
     /// Stores a register's word at an address and goes on, where that is allowed.
+    #[inline(always)]
     fn store_word(&mut self, ra: Reg, addr: u64) -> Step
         requires { self.old.state.index < MAX_WORDS }
         ensures step { let s : machine.State = self.old.state in
@@ -203,6 +212,7 @@ impl Agent {
     }
 
     /// Goes on to the instruction at the index.
+    #[inline(always)]
     fn go_to(&mut self, index: u32) -> Step
         ensures result { result ≡ Step.Moved }
         ensures value { self.new
@@ -213,6 +223,7 @@ impl Agent {
     }
 
     /// The index of the instruction that comes next.
+    #[inline(always)]
     pub fn index(&self) -> u32
         ensures { result ≡ self.now.state.index }
     {
@@ -221,6 +232,7 @@ impl Agent {
 
     /// Makes one step, and answers how it ended. A blocked step changes nothing, and a return
     /// neither; the index stays inside the code in any case.
+    #[inline(always)]
     pub fn step(&mut self, code: &Code) -> Step
         requires { self.old.state.index < length code.now }
         ensures step { (result, self.new.state) ≡ machine.step_of code.now self.old.state }
@@ -282,6 +294,7 @@ impl Agent {
     }
 
     /// The word of register 0.
+    #[inline(always)]
     pub fn result(&self) -> u64
         ensures { result ≡ slice_index self.now.state.regs 0 }
     {
@@ -303,6 +316,7 @@ impl Agent {
 }
 
 /// The place of an address among the arena's words, where the spans allow it.
+#[inline(always)]
 fn place_of(spans: &[(u64, u64)], addr: u64) -> Option<usize>
     requires { agents.AreInArena ARENA spans.now }
     ensures { agents.PlaceIs ARENA spans.now addr result }

@@ -9,6 +9,7 @@ use alpha_words::{Cond, Reg, Rhs};
 use word_ops::{Rel, holds};
 
 /// A register's word: that of `regs`, or 0 for register 31.
+#[inline(always)]
 pub fn read_reg(regs: &[u64; 31], reg: Reg) -> u64
     ensures { result ≡ registers.read_reg regs.now reg }
 {
@@ -17,6 +18,7 @@ pub fn read_reg(regs: &[u64; 31], reg: Reg) -> u64
 }
 
 /// Writes a register's word; a write to register 31 is ignored.
+#[inline(always)]
 pub fn write_reg(regs: &mut [u64; 31], reg: Reg, word: u64)
     ensures { regs.new ≡ registers.write_reg regs.old reg word }
 {
@@ -27,6 +29,7 @@ pub fn write_reg(regs: &mut [u64; 31], reg: Reg, word: u64)
 }
 
 /// The second operand's word: a register's, or the literal.
+#[inline(always)]
 pub fn rhs_word(regs: &[u64; 31], rhs: &Rhs) -> u64
     ensures { result ≡ machine.rhs_word regs.now rhs.now }
 {
@@ -37,6 +40,7 @@ pub fn rhs_word(regs: &[u64; 31], rhs: &Rhs) -> u64
 }
 
 /// The sum of register `rb` and the sign-extended displacement in bytes, modulo 2^64.
+#[inline(always)]
 pub fn address_of(regs: &[u64; 31], rb: Reg, disp: i16) -> u64
     ensures { result ≡ machine.address_of regs.now rb disp }
 {
@@ -44,6 +48,7 @@ pub fn address_of(regs: &[u64; 31], rb: Reg, disp: i16) -> u64
 }
 
 /// Whether a conditional branch is taken, by the word of its register.
+#[inline(always)]
 pub fn takes(cond: Cond, word: u64) -> bool
     ensures { result ≡ machine.takes cond word }
 {
@@ -60,6 +65,7 @@ pub fn takes(cond: Cond, word: u64) -> bool
 }
 
 /// Whether the address is that of a quadword of the span.
+#[inline(always)]
 fn is_in_span(span: (u64, u64), addr: u64) -> bool
     ensures { result ≡ rights.in_span span addr }
 {
@@ -73,6 +79,7 @@ fn is_in_span(span: (u64, u64), addr: u64) -> bool
 
 /// Whether `addr` is the address of a quadword of one of the `spans`, each a base address in bytes
 /// and a count of quadwords.
+#[inline(always)]
 pub fn is_allowed(spans: &[(u64, u64)], addr: u64) -> bool
     ensures { result ≡ rights.allowed spans.now addr }
 {

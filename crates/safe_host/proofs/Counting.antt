@@ -7,10 +7,10 @@ use Rattle.alpha_cfg.specs.declared.outcome.Step.{Step}
 use Rattle.alpha_cfg.specs.declared.outcome.Step.TheVariants as steps
 use Rattle.alpha_cfg.specs.declared.outcome.Outcome.{Outcome}
 use Rattle.alpha_cfg.specs.declared.outcome.Outcome.TheVariants as outcomes
-use Rattle.safe_host.specs.declared.ended.Ended.{Ended}
-use Rattle.safe_host.specs.declared.ended.Ended.TheVariants as ended
+use Rattle.host_steps.specs.declared.ended.Ended.{Ended}
+use Rattle.host_steps.specs.declared.ended.Ended.TheVariants as ended
 use Rattle.safe_host.specs.Hosts.{HostView, state_under, RightsFit}
-use Rattle.safe_host.specs.Runs.{outcome_of, IsRun, goes_on_after}
+use Rattle.safe_host.specs.Runs.{IsRun, outcome_of, goes_on_after}
 use Rattle.safe_host.specs.Counts.{steps_behind, steps_of, MakesSteps}
 
 -- ---- the machine

@@ -1,4 +1,3 @@
-pub mod Unblocked
 pub mod Counting
 pub mod Running
 pub mod Packets

@@ -12,9 +12,9 @@ use Rattle.packet_store.specs.PolicyStarts.{start_of, filter_start, tag_start, t
 use Rattle.packet_store.specs.Results.{result_from, packet_result}
 use Rattle.packet_store.proofs.ResultLemmas.{result_from-some}
 use Rattle.packet_store.proofs.StartLemmas.{the_same}
-use Rattle.safe_host.specs.declared.ended.Ended.{Ended}
+use Rattle.host_steps.specs.declared.ended.Ended.{Ended}
 use Rattle.safe_host.specs.Hosts.{HostView, state_under, RightsFit, host_at, start_rights}
-use Rattle.safe_host.specs.Runs.{Loads, outcome_of, IsRun}
+use Rattle.safe_host.specs.Runs.{Loads, IsRun, outcome_of}
 
 -- ---- a short packet
 

@@ -9,7 +9,7 @@ use Rattle.formula_tree.specs.Truth.{IsValid}
 use Rattle.policy_set.specs.declared.kind.PolicyKind.{PolicyKind}
 use Rattle.policy_set.specs.Policies.{pre_of}
 use Rattle.reference_machine.specs.Arena.{placed_words}
-use Rattle.reference_machine.specs.Starts.{StartView, Fits, HasWords, start_state}
+use Rattle.reference_machine.specs.Starts.{StartView, Fits, HasWords, start_regs, start_state}
 use Rattle.reference_machine.proofs.Starting.{start_state-is}
 use Rattle.packet_store.specs.StartMeets.{StartMeets}
 use Rattle.vcgen.specs.Conditions.{AnnotatedCode, condition}
@@ -18,12 +18,12 @@ use Rattle.vcgen.specs.Safety.{IsAnnotated, Holds, IsGoodRun}
 use Rattle.vcgen.proofs.Steps.{holds-start, runs-good}
 use Rattle.pcc_gate.specs.Views.{AcceptedView, AreAnnotations, IsConditionTrue}
 use Rattle.pcc_gate.proofs.First.{formulas-encoded}
-use Rattle.safe_host.specs.declared.ended.Ended.{Ended}
-use Rattle.safe_host.specs.declared.ended.Ended.TheVariants as ended
+use Rattle.host_steps.specs.declared.ended.Ended.{Ended}
+use Rattle.host_steps.specs.declared.ended.Ended.TheVariants as ended
 use Rattle.safe_host.specs.Hosts.{HostView, shown_formulas, shown_code, state_under, RightsFit, HasRights, host_at, start_rights}
-use Rattle.safe_host.specs.Runs.{outcome_of, IsRun, goes_on_after}
-use Rattle.safe_host.specs.Inside.Stepping.{arena_state, EndsUnblocked}
-use Rattle.safe_host.proofs.Unblocked.{under, run-same}
+use Rattle.safe_host.specs.Runs.{IsRun, outcome_of, goes_on_after}
+use Rattle.host_steps.specs.Stepping.{arena_state, EndsUnblocked}
+use Rattle.host_steps.proofs.Unblocked.{under, run-same}
 
 good-unblocked : (c : AnnotatedCode) (s : State) (n left : ℕ) (q : Outcome × State) → IsGoodRun c s n left q → EndsUnblocked q.0
 good-unblocked c s n left (outcomes.OutOfSteps, t) h = tt
@@ -58,9 +58,14 @@ module _ (a : AcceptedView) (forms : AreForms (inv_trees a.table a.invs)) (annot
   }
 
   -- the bytes of a start that meets the precondition stand in the arena
-  pub begins : (policy : PolicyKind) (setup : StartView) (words : List ℕ) → policy ≡ a.policy → Fits 65536 setup → HasWords setup → StartMeets setup (pre_of policy) → words ≡ placed_words ((setup.at - 65536) / 8) setup.bytes → HasBegun a setup (record (host_at a setup) { words = words })
-  begins policy setup words same fits are meets placed =
-      let is : record (host_at a setup) { words = words } ≡ host_at a setup = ap (λ l. record (host_at a setup) { words = l }) placed in
+  pub begins : (policy : PolicyKind) (setup : StartView) (regs words : List ℕ) → regs ≡ start_regs setup → policy ≡ a.policy →
+      Fits 65536 setup → HasWords setup → StartMeets setup (pre_of policy) →
+      words ≡ placed_words ((setup.at - 65536) / 8) setup.bytes →
+      HasBegun a setup (record (host_at a setup) { regs = regs; words = words })
+  begins policy setup regs words set same fits are meets placed =
+      let is : record (host_at a setup) { regs = regs; words = words } ≡ host_at a setup =
+      ap (λ (l : List ℕ). record (host_at a setup) { regs = regs; words = l }) placed
+      ∙ ap (λ (l : List ℕ). record (host_at a setup) { regs = l }) set in
       let start : StartMeets setup (pre_of a.policy) = subst (λ (p : PolicyKind). StartMeets setup (pre_of p)) same meets in
       record { is = is; meets = start; fits = subst (λ (h : HostView). RightsFit h (start_rights setup)) (sym is) (start-fits setup fits are start) }
 
@@ -72,31 +77,39 @@ module _ (h : HostView) (forms : AreForms (inv_trees h.accepted.table h.accepted
   ends-well : (r : Rights) → RightsFit h r → EndsUnblocked (run_of h.accepted.code n (state_under h r)).0
   ends-well r f = good-unblocked (shown_code h.accepted) (state_under h r) n 0 (run_of h.accepted.code n (state_under h r)) (good r f)
 
-  same : (r : Rights) → RightsFit h r → run_of h.accepted.code n (state_under h r) ≡ under r (run_of h.accepted.code n (arena_state h.index h.regs h.words))
-  same r f = run-same r f.reads f.writes h.accepted.code n (arena_state h.index h.regs h.words) (ends-well r f)
+  same : (r : Rights) → RightsFit h r →
+      run_of h.accepted.code n (state_under h r) ≡ under r (run_of h.accepted.code n (arena_state 65536 h.index h.regs h.words))
+  same r f = run-same 65536 r f.reads f.writes h.accepted.code n (arena_state 65536 h.index h.regs h.words) (ends-well r f)
 
   -- no access of its run is blocked
-  pub runs-unblocked : (code : List Insn) → code ≡ h.accepted.code → HasRights h → EndsUnblocked (run_of code n (arena_state h.index h.regs h.words)).0
+  pub runs-unblocked : (code : List Insn) → code ≡ h.accepted.code → HasRights h → EndsUnblocked (run_of code n (arena_state 65536 h.index h.regs h.words)).0
   runs-unblocked code is f =
-      subst (λ (l : List Insn). EndsUnblocked (run_of l n (arena_state h.index h.regs h.words)).0) (sym is)
+      subst (λ (l : List Insn). EndsUnblocked (run_of l n (arena_state 65536 h.index h.regs h.words)).0) (sym is)
       (subst (λ (q : Outcome × State). EndsUnblocked q.0) (same f.0 f.1) (ends-well f.0 f.1))
 
-  module _ (code : List Insn) (is : code ≡ h.accepted.code) (result : Ended) (new : HostView) (kept : new.accepted ≡ h.accepted) (ran : (outcome_of result, arena_state new.index new.regs new.words) ≡ run_of code n (arena_state h.index h.regs h.words)) where
-    run-is : (r : Rights) → RightsFit h r → run_of h.accepted.code n (state_under h r) ≡ (outcome_of result, state_under new r)
-    run-is r f = same r f ∙ sym (ap (under r) (ran ∙ ap (λ (l : List Insn). run_of l n (arena_state h.index h.regs h.words)) is))
+  module _
+      (code : List Insn)
+      (is : code ≡ h.accepted.code)
+      (result : Ended)
+      (new : HostView)
+      (kept : new.accepted ≡ h.accepted)
+      (ran : (outcome_of result, arena_state 65536 new.index new.regs new.words) ≡ run_of code n (arena_state 65536 h.index h.regs h.words))
+    where
+      run-is : (r : Rights) → RightsFit h r → run_of h.accepted.code n (state_under h r) ≡ (outcome_of result, state_under new r)
+      run-is r f = same r f ∙ sym (ap (under r) (ran ∙ ap (λ (l : List Insn). run_of l n (arena_state 65536 h.index h.regs h.words)) is))
 
-    out-holds : (r : Rights) → RightsFit h r → result ≡ ended.OutOfSteps → Holds (shown_code h.accepted) (state_under new r) 0
-    out-holds r f out =
-        let goes : IsGoodRun (shown_code h.accepted) (state_under h r) n 0 (outcome_of result, state_under new r) = subst (IsGoodRun (shown_code h.accepted) (state_under h r) n 0) (run-is r f) (good r f) in
-        (subst (λ (e : Ended). IsGoodRun (shown_code h.accepted) (state_under h r) n 0 (outcome_of e, state_under new r)) out goes).0
+      out-holds : (r : Rights) → RightsFit h r → result ≡ ended.OutOfSteps → Holds (shown_code h.accepted) (state_under new r) 0
+      out-holds r f out =
+          let goes : IsGoodRun (shown_code h.accepted) (state_under h r) n 0 (outcome_of result, state_under new r) = subst (IsGoodRun (shown_code h.accepted) (state_under h r) n 0) (run-is r f) (good r f) in
+          (subst (λ (e : Ended). IsGoodRun (shown_code h.accepted) (state_under h r) n 0 (outcome_of e, state_under new r)) out goes).0
 
-    -- under rights that fit, the run is that of the machine that tests
-    pub is-run : IsRun h n result new
-    is-run r f = record {
-      same = run-is r f;
-      fits = λ out. record { reads = f.reads; writes = f.writes; holds = subst (λ (b : AcceptedView). Holds (shown_code b) (state_under new r) 0) (sym kept) (out-holds r f out) };
-    }
+      -- under rights that fit, the run is that of the machine that tests
+      pub is-run : IsRun h n result new
+      is-run r f = record {
+        same = run-is r f;
+        fits = λ out. record { reads = f.reads; writes = f.writes; holds = subst (λ (b : AcceptedView). Holds (shown_code b) (state_under new r) 0) (sym kept) (out-holds r f out) };
+      }
 
-    -- where it may go on, some fit
-    pub still-fits : HasRights h → goes_on_after result ≡ true → HasRights new
-    still-fits f on = (f.0, (is-run f.0 f.1).fits (goes-on result on))
+      -- where it may go on, some fit
+      pub still-fits : HasRights h → goes_on_after result ≡ true → HasRights new
+      still-fits f on = (f.0, (is-run f.0 f.1).fits (goes-on result on))

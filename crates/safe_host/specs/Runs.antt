@@ -2,24 +2,18 @@
 use Rattle.std.specs.Prelude.{◌≡◌, ℕ, Bool, true, false, Option, Some, None}
 use Rattle.word_ops.specs.Rights.{Rights}
 use Rattle.alpha_cfg.specs.Machine.{run_of}
-use Rattle.alpha_cfg.specs.declared.outcome.Outcome.{Outcome}
-use Rattle.alpha_cfg.specs.declared.outcome.Outcome.TheVariants as outcomes
 use Rattle.policy_set.specs.Policies.{pre_of}
 use Rattle.reference_machine.specs.Starts.{StartView}
 use Rattle.packet_store.specs.StartMeets.{StartMeets}
-use Rattle.safe_host.specs.declared.ended.Ended.{Ended}
-use Rattle.safe_host.specs.declared.ended.Ended.TheVariants as ended
+use Rattle.host_steps.specs.declared.ended.Ended.{Ended}
+use Rattle.host_steps.specs.declared.ended.Ended.TheVariants as ended
+pub use Rattle.host_steps.specs.RunEnds.{outcome_of, goes_on_after}
 use Rattle.safe_host.specs.Hosts.{HostView, state_under, RightsFit, host_at, start_rights}
 
 -- A packet that is short leaves the host; any other brings it to the policy's start, which meets the precondition and whose rights fit.
 abbrev pub Loads : HostView → Option StartView → HostView → Bool → Type 0
 Loads old None new loaded = (loaded ≡ false) × (new ≡ old)
 Loads old (Some setup) new loaded = (loaded ≡ true) × (new ≡ host_at old.accepted setup) × StartMeets setup (pre_of old.accepted.policy) × RightsFit new (start_rights setup)
-
--- an end of a host's run, as one of the testing machine's: no access is blocked
-abbrev pub outcome_of : Ended → Outcome
-outcome_of (ended.Returned word) = outcomes.Returned word
-outcome_of ended.OutOfSteps = outcomes.OutOfSteps
 
 -- Under these rights the run is that of the machine that tests each access; where it was out of steps, they fit again.
 pub record IsRunUnder (old : HostView) (budget : ℕ) (result : Ended) (new : HostView) (rights : Rights) : Type 0 where
@@ -29,8 +23,3 @@ pub record IsRunUnder (old : HostView) (budget : ℕ) (result : Ended) (new : Ho
 -- the same under all rights that fit before
 abbrev pub IsRun : HostView → ℕ → Ended → HostView → Type 0
 IsRun old budget result new = (rights : Rights) → RightsFit old rights → IsRunUnder old budget result new rights
-
--- whether the host may go on
-abbrev pub goes_on_after : Ended → Bool
-goes_on_after (ended.Returned word) = false
-goes_on_after ended.OutOfSteps = true

@@ -9,22 +9,23 @@ ghost use Rattle.safe_host.specs.Hosts.{HasRights};
 ghost use Rattle.safe_host.specs.Counts.{MakesSteps};
 ghost use Rattle.safe_host.specs.Runs.{Loads, IsRun, goes_on_after};
 
-use crate::ended::{Counted, Ended};
-use crate::stepping::run_steps;
+use crate::ended::Counted;
+use host_steps::{Ended, Operation, Slots, operations_of, run_steps};
 use packet_store::start;
 use pcc_gate::Accepted;
 use reference_machine::{ARENA, QUADWORDS, fill};
 use std::alloc::{AllocError, Global};
 use std::marker::Model;
 
-/// Accepted code, registers, and an arena of 8,194 quadwords from address 65,536 on. It keeps no
-/// rights: while it is `live`, some rights fit it, under which the code accesses nothing that isn't
-/// allowed.
+/// Accepted code, its operations, registers, and an arena of 8,194 quadwords from address 65,536 on.
+/// It keeps no rights: while it is `live`, some rights fit it, under which the code accesses nothing
+/// that isn't allowed.
 #[derive(Drop)]
 pub struct Host {
     pub(crate) accepted: Accepted,
+    pub(crate) operations: Vec<Operation>,
     pub(crate) index: u32,
-    pub(crate) regs: [u64; 31],
+    pub(crate) slots: Slots,
     pub(crate) words: Vec<u64>,
     pub(crate) region: u64,
     pub(crate) live: bool,
@@ -48,18 +49,20 @@ impl Model for Host {
 }
 
 impl Host {
-    /// The host of the accepted code, with the arena reserved. Nothing is loaded, so it isn't live.
-    /// Fails only for want of memory.
+    /// The host of the accepted code, with its operations made and the arena reserved. Nothing is
+    /// loaded, so it isn't live. Fails only for want of memory.
     pub fn new(alloc: Global, accepted: Accepted) -> Result<Host, AllocError>
         ensures accepted { IfOk result (λ host. host.accepted ≡ accepted) }
         ensures live { IfOk result (λ host. host.live ≡ false) }
         ensures region { IfOk result (λ host. host.region ≡ 0) }
     {
+        let operations = operations_of(alloc, accepted.cut().code())?;
         let words = vec![in alloc; 0; QUADWORDS]?;
         Ok(Host {
             accepted,
+            operations,
             index: 0,
-            regs: [0; 31],
+            slots: Slots::new(0, 0, 0),
             words,
             region: 0,
             live: false,
@@ -84,10 +87,7 @@ impl Host {
         };
         let place = ((begin.at - ARENA) / 8) as usize;
         self.index = 0;
-        self.regs = [0; 31];
-        self.regs[16] = begin.r16;
-        self.regs[17] = begin.r17;
-        self.regs[18] = begin.r18;
+        self.slots = Slots::new(begin.r16, begin.r17, begin.r18);
         fill(&mut self.words, place, begin.bytes);
         self.region = begin.region;
         self.live = true;
@@ -108,8 +108,10 @@ impl Host {
         let code = self.accepted.cut().code();
         let ended = run_steps(
             code,
+            &self.operations,
             &mut self.index,
-            &mut self.regs,
+            &mut self.slots,
+            ARENA,
             &mut self.words,
             budget,
         );
@@ -161,16 +163,17 @@ impl Host {
         &self.accepted
     }
 
-    /// What was accepted, the host being given up. All that a host has is named here: its code, the state
-    /// of a run, the region's count and whether a run may go on. So it keeps no rights, and no packet's
-    /// length, and a field for them would have to be written here first.
+    /// What was accepted, the host being given up. All that a host has is named here: its code, also as
+    /// operations, the state of a run, the region's count and whether a run may go on. So it keeps no
+    /// rights, and no packet's length, and a field for them would have to be written here first.
     pub fn into_accepted(self) -> Accepted
         ensures { result ≡ self.accepted }
     {
         let Host {
             accepted,
+            operations: _,
             index: _,
-            regs: _,
+            slots: _,
             words: _,
             region: _,
             live: _,

@@ -5,17 +5,17 @@
 //! the run of the machine that tests each access; and that `HostRunner` makes of packets what that
 //! machine makes of them; `run_counted` counts the steps (`specs/Counts`; `count_laws` says what such a
 //! count is). What a host holds and which rights fit it stands in `specs/Hosts`, loading and running in
-//! `specs/Runs`, packets in `specs/Runners`. Source: Necula and Lee, Safe Kernel
-//! Extensions Without Run-Time Checking, OSDI 1996.
+//! `specs/Runs`, packets in `specs/Runners`; steps are those of the crate host_steps. Source: Necula and
+//! Lee, Safe Kernel Extensions Without Run-Time Checking, OSDI 1996.
 #![tactic(auto)]
 
 mod ended;
 mod host;
 mod runner;
-mod stepping;
 mod theorems;
 
-pub use ended::{Counted, Ended};
+pub use ended::Counted;
 pub use host::Host;
+pub use host_steps::Ended;
 pub use runner::HostRunner;
 pub use theorems::count_laws;

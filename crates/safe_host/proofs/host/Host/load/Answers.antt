@@ -19,12 +19,15 @@ invariant_of-self c =
     let law = c.laws.ensures in
     let start = c.in-Some.ensures in
     let setup : StartView = start_view c.in-Some.begin in
+    let regs : List ℕ = c.new-self-inside.result in
     let words : List ℕ = (with_items c.self.inside.words c.fill.new.words).items in
     let count : length c.fill.new.words ≡ c.self.inside.words.len = omega (arith, c.fill.auto.words, c.self.inside.words.ok.0) in
     let placed : words ≡ placed_words ((setup.at - 65536) / 8) setup.bytes = with_items_is c.self.inside.words c.fill.new.words count ∙ c.fill.ensures in
-    let begun : HasBegun a setup (record (host_at a setup) { words = words }) = begins a law.forms law.annotates law.valid c.policy.result.now setup words c.policy.ensures start.fits start.words start.meets placed in
+    let begun : HasBegun a setup (record (host_at a setup) { regs = regs; words = words }) =
+    begins a law.forms law.annotates law.valid c.policy.result.now setup regs words c.new-self-inside.ensures c.policy.ensures
+    start.fits start.words start.meets placed in
     record {
-      regs_len = refl;
+      operations = c.self.invariant.operations;
       words_len = ap (λ (l : List ℕ). length l) placed ∙ length-arena_words _;
       region_within = omega (arith, start.fits.region_in.from, start.fits.region_in.to);
       within = λ _. begun.fits.holds.within;
@@ -37,11 +40,14 @@ returns c =
     let law = c.laws.ensures in
     let start = c.in-Some.ensures in
     let setup : StartView = start_view c.in-Some.begin in
+    let regs : List ℕ = c.new-self-inside.result in
     let words : List ℕ = (with_items c.self.inside.words c.fill.new.words).items in
     let count : length c.fill.new.words ≡ c.self.inside.words.len = omega (arith, c.fill.auto.words, c.self.inside.words.ok.0) in
     let placed : words ≡ placed_words ((setup.at - 65536) / 8) setup.bytes = with_items_is c.self.inside.words c.fill.new.words count ∙ c.fill.ensures in
-    let new : HostView = record (host_at a setup) { words = words } in
-    let begun : HasBegun a setup new = begins a law.forms law.annotates law.valid c.policy.result.now setup words c.policy.ensures start.fits start.words start.meets placed in
+    let new : HostView = record (host_at a setup) { regs = regs; words = words } in
+    let begun : HasBegun a setup new =
+    begins a law.forms law.annotates law.valid c.policy.result.now setup regs words c.new-self-inside.ensures c.policy.ensures
+    start.fits start.words start.meets placed in
     let some : Some setup ≡ start_of a.policy c.args.packet.now = subst (λ (p : PolicyKind). Some setup ≡ start_of p c.args.packet.now) c.policy.ensures start.exact in
     let loads : Loads (host_view c.self.inside) (start_of a.policy c.args.packet.now) new true = subst (λ (o : Option StartView). Loads (host_view c.self.inside) o new true) some (refl, begun.is, begun.meets, begun.fits) in
     record { exact = subst (λ (v : HostView). Loads v (start_of v.accepted.policy c.args.packet.now) new true) c.self.view_is loads }

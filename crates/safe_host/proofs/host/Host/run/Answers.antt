@@ -4,10 +4,12 @@ use Rattle.std.proofs.lemmas.List.{with_items_is}
 use Rattle.alpha_words.specs.declared.insn.Insn.{Insn}
 use Rattle.alpha_cfg.specs.Machine.{run_of}
 use Rattle.safe_host.specs.Hosts.{HostView}
-use Rattle.safe_host.specs.Runs.{outcome_of, IsRun}
+use Rattle.safe_host.specs.Runs.{IsRun, outcome_of}
 use Rattle.safe_host.specs.Inside.Fields.{host_view}
-use Rattle.safe_host.specs.Inside.Stepping.{arena_state, EndsUnblocked}
+use Rattle.host_steps.specs.Stepping.{arena_state, EndsUnblocked}
 use Rattle.safe_host.proofs.Running.{runs-unblocked, is-run, still-fits}
+use Rattle.host_steps.specs.declared.operations.Operation.{Operation}
+use Rattle.host_steps.specs.Operations.{AreOperations}
 use Rattle.safe_host.proofs.host.Host.run.Goals as goal
 
 pub run_steps-ended-requires-clause-unblocked : goal.run_steps-ended-requires-clause-unblocked
@@ -16,8 +18,17 @@ run_steps-ended-requires-clause-unblocked c =
     let law = c.laws.ensures in
     let live : h.live ≡ true = subst (λ (v : HostView). v.live ≡ true) (sym c.self.view_is) c.requires in
     let code : List Insn = c.code-code.result.now in
-    subst (λ (words : List ℕ). EndsUnblocked (run_of code c.args.budget (arena_state h.index h.regs words)).0) (sym c.deref_mut.ensures.value)
+    subst (λ (words : List ℕ). EndsUnblocked (run_of code c.args.budget (arena_state 65536 h.index h.regs words)).0) (sym c.deref_mut.ensures.value)
     (runs-unblocked h law.forms law.annotates law.valid c.args.budget code (c.code-code.ensures.value ∙ c.cut.ensures.code) (c.self.invariant.rights live))
+
+pub run_steps-ended-requires-clause-operations : goal.run_steps-ended-requires-clause-operations
+run_steps-ended-requires-clause-operations c =
+    let code : List Insn = c.code-code.result.now in
+    let same : code ≡ c.self.inside.accepted.code = c.code-code.ensures.value ∙ c.cut.ensures.code in
+    let code_was : List Insn = c.self.inside.accepted.code in
+    let are : AreOperations code_was c.deref.result.now =
+    subst (λ (l : List Operation). AreOperations code_was l) (sym c.deref.ensures.value) c.self.invariant.operations in
+    subst (λ (l : List Insn). AreOperations l c.deref.result.now) (sym same) are
 
 pub invariant_of-self : goal.invariant_of-self
 invariant_of-self c =
@@ -29,13 +40,13 @@ invariant_of-self c =
     let same : code ≡ h.accepted.code = c.code-code.ensures.value ∙ c.cut.ensures.code in
     let items : List ℕ = (with_items c.self.inside.words ran.new.words).items in
     let words : items ≡ ran.new.words = with_items_is c.self.inside.words ran.new.words (omega (arith, ran.auto.words, c.self.inside.words.ok.0)) in
-    let new : HostView = record h { index = ran.new.index; regs = ran.new.regs; words = items; live = c.goes_on-self-inside.result } in
-    let run : (outcome_of ran.result, arena_state new.index new.regs items) ≡ run_of code c.args.budget (arena_state h.index h.regs h.words) =
-    ap (λ (l : List ℕ). (outcome_of ran.result, arena_state new.index new.regs l)) words
+    let new : HostView = record h { index = ran.new.index; regs = ran.new.slots; words = items; live = c.goes_on-self-inside.result } in
+    let run : (outcome_of ran.result, arena_state 65536 new.index new.regs items) ≡ run_of code c.args.budget (arena_state 65536 h.index h.regs h.words) =
+    ap (λ (l : List ℕ). (outcome_of ran.result, arena_state 65536 new.index new.regs l)) words
     ∙ ran.ensures.run
-    ∙ ap (λ (l : List ℕ). run_of code c.args.budget (arena_state h.index h.regs l)) c.deref_mut.ensures.value in
+    ∙ ap (λ (l : List ℕ). run_of code c.args.budget (arena_state 65536 h.index h.regs l)) c.deref_mut.ensures.value in
     record {
-      regs_len = ran.ensures.regs;
+      operations = c.self.invariant.operations;
       words_len = ap (λ (l : List ℕ). length l) words ∙ omega (arith, ran.auto.words, c.self.invariant.words_len);
       region_within = c.self.invariant.region_within;
       within = λ _. rw same at ran.ensures.within;
@@ -50,10 +61,10 @@ returns-clause-under c =
     let code : List Insn = c.code-code.result.now in
     let items : List ℕ = (with_items c.self.inside.words ran.new.words).items in
     let words : items ≡ ran.new.words = with_items_is c.self.inside.words ran.new.words (omega (arith, ran.auto.words, c.self.inside.words.ok.0)) in
-    let new : HostView = record h { index = ran.new.index; regs = ran.new.regs; words = items; live = c.goes_on-self-inside.result } in
-    let run : (outcome_of ran.result, arena_state new.index new.regs items) ≡ run_of code c.args.budget (arena_state h.index h.regs h.words) =
-    ap (λ (l : List ℕ). (outcome_of ran.result, arena_state new.index new.regs l)) words
+    let new : HostView = record h { index = ran.new.index; regs = ran.new.slots; words = items; live = c.goes_on-self-inside.result } in
+    let run : (outcome_of ran.result, arena_state 65536 new.index new.regs items) ≡ run_of code c.args.budget (arena_state 65536 h.index h.regs h.words) =
+    ap (λ (l : List ℕ). (outcome_of ran.result, arena_state 65536 new.index new.regs l)) words
     ∙ ran.ensures.run
-    ∙ ap (λ (l : List ℕ). run_of code c.args.budget (arena_state h.index h.regs l)) c.deref_mut.ensures.value in
+    ∙ ap (λ (l : List ℕ). run_of code c.args.budget (arena_state 65536 h.index h.regs l)) c.deref_mut.ensures.value in
     subst (λ (v : HostView). IsRun v c.args.budget ran.result new) c.self.view_is
     (is-run h law.forms law.annotates law.valid c.args.budget code (c.code-code.ensures.value ∙ c.cut.ensures.code) ran.result new refl run)

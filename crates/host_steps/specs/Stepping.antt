@@ -6,18 +6,18 @@ use Rattle.alpha_cfg.specs.declared.outcome.Step.{Step}
 use Rattle.alpha_cfg.specs.declared.outcome.Step.TheVariants as steps
 use Rattle.alpha_cfg.specs.declared.outcome.Outcome.{Outcome}
 use Rattle.alpha_cfg.specs.declared.outcome.Outcome.TheVariants as outcomes
-use Rattle.reference_machine.specs.declared.layout.TheConstants.{ARENA, QUADWORDS}
+use Rattle.reference_machine.specs.declared.layout.TheConstants.{QUADWORDS}
 use Rattle.reference_machine.specs.Arena.{map_of}
-use Rattle.safe_host.specs.declared.stepping.Stepped.{Stepped}
-use Rattle.safe_host.specs.declared.stepping.Stepped.TheVariants as stepped
+use Rattle.host_steps.specs.declared.stepping.Stepped.{Stepped}
+use Rattle.host_steps.specs.declared.stepping.Stepped.TheVariants as stepped
 
--- all of the arena
-abbrev pub arena_rights : Rights
-arena_rights = record { reads = (ARENA, QUADWORDS) ∷ []; writes = (ARENA, QUADWORDS) ∷ [] }
+-- all of an arena from the base on
+abbrev pub arena_rights : ℕ → Rights
+arena_rights base = record { reads = (base, QUADWORDS) ∷ []; writes = (base, QUADWORDS) ∷ [] }
 
 -- the state that an index, registers and the arena's words make where all of the arena is allowed
-abbrev pub arena_state : ℕ → List ℕ → List ℕ → State
-arena_state index regs words = record { index = index; regs = regs; memory = map_of ARENA words; rights = arena_rights }
+abbrev pub arena_state : ℕ → ℕ → List ℕ → List ℕ → State
+arena_state base index regs words = record { index = index; regs = regs; memory = map_of base words; rights = arena_rights base }
 
 -- the step's access wasn't blocked
 abbrev pub IsUnblocked : Step → Type 0

@@ -1,0 +1,4 @@
+pub mod Slots
+pub mod Operations
+pub mod Stepping
+pub mod RunEnds
