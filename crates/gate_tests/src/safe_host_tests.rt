@@ -59,21 +59,31 @@ fn is_unchanged(host: &mut Host) -> bool {
     host.load(&FIVE_SEVEN) && !host.load(&[1; 15]) && host.sum() == 12
 }
 
+/// Whether all that holds, call by call.
+fn is_right(host: &mut Host) -> bool {
+    is_new(host)
+        && is_out_of_steps(host)
+        && counts_none(host)
+        && counts_one(host)
+        && is_unchanged(host)
+}
+
 #[test]
 fn a_host_by_its_calls(rt: HostRuntime) -> Result<(), Fail> {
     let mut host = new_host(rt.alloc())?;
-    assert!(rt; is_new(&host));
-    assert!(rt; is_out_of_steps(&mut host));
-    assert!(rt; counts_none(&mut host));
-    assert!(rt; counts_one(&mut host));
-    assert!(rt; is_unchanged(&mut host));
+    assert!(rt; is_right(&mut host));
     Ok(())
+}
+
+/// Whether the host gives back what was accepted for `tag`.
+fn is_given_back(host: Host) -> bool {
+    host.into_accepted().policy().kind() == PolicyKind::Tag
 }
 
 /// What a host gives back: its fields are what was accepted and the state of a run, and no rights.
 #[test]
 fn host_fields(rt: HostRuntime) -> Result<(), Fail> {
-    let accepted = new_host(rt.alloc())?.into_accepted();
-    assert!(rt; accepted.policy().kind() == PolicyKind::Tag);
+    let host = new_host(rt.alloc())?;
+    assert!(rt; is_given_back(host));
     Ok(())
 }

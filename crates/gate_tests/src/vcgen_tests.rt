@@ -64,14 +64,28 @@ fn is_kept(table: &mut Table, cut: &Cut, policy: &Policy) -> Result<bool, VcFaul
     Ok(first == again && first == plain)
 }
 
+/// Whether both hold of a new table.
+fn is_answered(alloc: Global, cut: &Cut, policy: &Policy) -> Result<bool, VcFault>
+    requires { AreFlags [] (length cut.now.code) cut.now.marks }
+{
+    let mut table = Table::new(alloc, Places::sigma1());
+    let limited = is_limited(&mut table, cut, policy);
+    Ok(is_kept(&mut table, cut, policy)? && limited)
+}
+
+/// Whether they hold of the condition of the code under the policy filter.
+fn is_filtered(alloc: Global, cut: &Cut) -> Made<bool>
+    requires { AreFlags [] (length cut.now.code) cut.now.marks }
+{
+    let policy = made(Policy::of(alloc, PolicyKind::Filter))?;
+    made(is_answered(alloc, cut, &policy))
+}
+
 /// Past the limit of what is kept that is the answer; within it a second call gives the same.
 #[test]
 fn a_limit(rt: HostRuntime) -> Result<(), Fail> {
     let cut = cut_code(rt.alloc())?;
-    let policy = Policy::of(rt.alloc(), PolicyKind::Filter)?;
-    let mut table = Table::new(rt.alloc(), Places::sigma1());
-    assert!(rt; is_limited(&mut table, &cut, &policy));
-    assert!(rt; is_kept(&mut table, &cut, &policy)?);
+    assert!(rt; is_filtered(rt.alloc(), &cut)?);
     Ok(())
 }
 

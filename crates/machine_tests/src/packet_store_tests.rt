@@ -1,21 +1,54 @@
-//! Packets of a file by its calls. Runs, start states, spans and faults of packet files are in rows of `ref`
-//! (command_rows: `ref.rows`, `worked.rows`).
+//! Runs of packets on worked bytes. Start states, spans and faults of packet files are in rows of `ref`
+//! (command_rows).
 
-use packet_store::PacketFile;
+use crate::codes::{RETURN, code_of};
+use alpha_cfg::{CodeFault, Kind, Outcome};
+use packet_store::{PacketFile, PacketResult, PacketRunner, TestingRunner};
+use policy_set::Policy;
+use policy_set::PolicyKind::{self, Filter};
+use std::alloc::Global;
+use std::process::Abort;
 use std::test::Fail;
 
-/// Whether the packets are one of no byte and one of the byte 7.
-fn are_two(file: &PacketFile) -> bool {
-    let mut packets = file.packets();
-    packets.next() == Some([].as_slice())
-        && packets.next() == Some([7].as_slice())
-        && packets.next().is_none()
+/// What a run of 1,000 steps comes to.
+fn ran(
+    rt: &impl Abort,
+    alloc: Global,
+    kind: PolicyKind,
+    words: &[u32],
+    packet: &[u8],
+) -> Result<PacketResult, CodeFault> {
+    let code = code_of(rt, alloc, words)?;
+    let mut runner = TestingRunner::new(alloc, Policy::of(alloc, kind)?, code, 1000)?;
+    assert!(rt; packet.len() <= 65_535);
+    Ok(runner.run_packet(packet))
 }
 
+#[test]
+fn a_load_takes_the_old_address(rt: HostRuntime) -> Result<(), Fail> {
+    let a = rt.alloc();
+    let old_address = [0x2030_0000, 0xa421_0000, 0x201f_0001, RETURN];
+    let found = ran(&rt, a, Filter, &old_address, &[0; 64])?;
+    assert_eq!(rt; found, PacketResult::Ran(Outcome::Returned(1), 0));
+    let unaligned = [0xa430_0004, RETURN];
+    let blocked = Outcome::Blocked {
+        index: 0,
+        kind: Kind::Load,
+        addr: 0x1_0014,
+    };
+    let found = ran(&rt, a, Filter, &unaligned, &[0; 64])?;
+    assert_eq!(rt; found, PacketResult::Ran(blocked, 0));
+    Ok(())
+}
+
+/// Packets of no byte and of one, and a file that is cut short.
 #[test]
 fn a_packet_file(rt: HostRuntime) -> Result<(), Fail> {
     let bytes = Vec::from_slice(rt.alloc(), &[0, 0, 0, 0, 1, 0, 0, 0, 7])?;
     let file = PacketFile::new(bytes)?;
-    assert!(rt; are_two(&file));
+    let mut packets = file.packets();
+    assert!(rt; packets.next() == Some([].as_slice()));
+    assert!(rt; packets.next() == Some([7].as_slice()));
+    assert!(rt; packets.next().is_none());
     Ok(())
 }

@@ -30,44 +30,35 @@ fn context_of(table: &mut Table, form: Id) -> Read<Context>
 }
 
 /// What proves the goal by words alone.
-fn by_words(alloc: Global, table: &mut Table, form: Id, goal: Id) -> Read<Answer> {
+fn by_words(alloc: Global, table: &mut Table, form: Id, goal: Id) -> Read<Option<Id>> {
     let mut context = context_of(table, form)?;
     let mut search = Search::new(alloc, MOST_RESULTS);
     known(table, goal)?;
     match proof_by_words(table, &mut search, &mut context, goal) {
-        Ok(found) => Ok(Answer::tree(found)),
-        Err(_) => Ok(Answer::Memory),
+        Ok(found) => Ok(found),
+        Err(_) => Err(RowFault::Memory),
     }
 }
 
 /// What proves the goal by connectives and words.
-fn by_connectives(alloc: Global, table: &mut Table, form: Id, goal: Id) -> Read<Answer> {
+fn by_connectives(alloc: Global, table: &mut Table, form: Id, goal: Id) -> Read<Option<Id>> {
     let mut context = context_of(table, form)?;
     let mut search = Search::new(alloc, MOST_RESULTS);
     known(table, goal)?;
     match proof_without_access(table, &mut search, &mut context, goal) {
-        Ok(found) => Ok(Answer::tree(found)),
-        Err(_) => Ok(Answer::Memory),
+        Ok(found) => Ok(found),
+        Err(_) => Err(RowFault::Memory),
     }
 }
 
 /// What proves the goal as an access that the hypotheses give.
-fn by_access(alloc: Global, table: &mut Table, form: Id, goal: Id) -> Read<Answer> {
+fn by_access(alloc: Global, table: &mut Table, form: Id, goal: Id) -> Read<Option<Id>> {
     let mut context = context_of(table, form)?;
     let mut search = Search::new(alloc, MOST_RESULTS);
     known(table, goal)?;
     match proof_by_access(table, &mut search, &mut context, goal) {
-        Ok(found) => Ok(Answer::tree(found)),
-        Err(_) => Ok(Answer::Memory),
-    }
-}
-
-/// Yes, where there is a tree.
-fn is_some(answer: Answer) -> Answer {
-    match answer {
-        Answer::Tree(_) => Answer::Yes,
-        Answer::Nothing => Answer::No,
-        other => other,
+        Ok(found) => Ok(found),
+        Err(_) => Err(RowFault::Memory),
     }
 }
 
@@ -87,10 +78,12 @@ pub(crate) fn about_goals(
     let form = read_term(table, names, cursor)?;
     let goal = read_term(table, names, cursor)?;
     if is_words {
-        return Ok(Some(is_some(by_words(alloc, table, form, goal)?)));
+        let found = by_words(alloc, table, form, goal)?;
+        return Ok(Some(Answer::holds(found.is_some())));
     }
     if is_access {
-        return Ok(Some(is_some(by_access(alloc, table, form, goal)?)));
+        let found = by_access(alloc, table, form, goal)?;
+        return Ok(Some(Answer::holds(found.is_some())));
     }
-    Ok(Some(by_connectives(alloc, table, form, goal)?))
+    Ok(Some(Answer::tree(by_connectives(alloc, table, form, goal)?)))
 }

@@ -1,6 +1,6 @@
 //! Questions on hypotheses.
 
-ghost use Rattle.std.specs.Prelude.{IfOk};
+ghost use Rattle.std.specs.Prelude.{IfOk, IfSome};
 ghost use Rattle.term_table.specs.Table.{Extends, IsKnown};
 ghost use Rattle.formula_ids.specs.Hypotheses.{AreKnownHyps};
 
