@@ -1,4 +1,4 @@
--- What a judgement in a part of a context says of the whole, and what is kept of it.
+-- What a judgement in another context says of the one that was asked for, and what is kept of it.
 use Rattle.std.proofs.Common.{◌≡◌, ℕ, ◌<◌, Bool, true, ◌&&◌, Option, List, ◌∷◌, sym, ◌∙◌, ap, arith}
 use Rattle.term_table.specs.Tree.{Tree, Const, Lam, Pi, TApp}
 use Rattle.term_table.specs.Table.{TableView, IsKnown, tree_at, Extends}
@@ -44,13 +44,14 @@ product_part s s₁ s₂ t u v w a from to part inner r e f x g₁ g₂ ka lf lt
 
 -- what is kept, in the table at the end
 pub judges_formed : (s s' : Sig) (t u z : TableView) (a part : ℕ) → Extends t u → Extends u z → s' ≡ s → IsKnown t a → IsKnown u part →
-    true ≡ is_type_of s (tree_at t a) (types_of (tree_at u part)) → IsJudgement s' z (Q.Formed a part) a
+    true ≡ is_type_of s (tree_at t a) (types_of (tree_at u part)) → IsJudgement s' z (Q.Formed a) part a
 judges_formed s s' t u z a part e f g ka kp h = record {
   known = known-more u z a (known-more t u a ka e) f;
-  judges = (known-more u z a (known-more t u a ka e) f, known-more u z part kp f, rw (g, f.same a (known-more t u a ka e), f.same part kp, e.same a ka) (sym h));
+  context = known-more u z part kp f;
+  judges = (known-more u z a (known-more t u a ka e) f, rw (g, f.same a (known-more t u a ka e), f.same part kp, e.same a ka) (sym h));
 }
 
--- An abstraction: u has the part of the context, w the inner context.
+-- An abstraction: u has the other context, w the inner one.
 pub under_part : (s s₂ : Sig) (t u w : TableView) (m a body from to part inner : ℕ) (r : Bool) → Extends t u → Extends u w → s₂ ≡ s → IsKnown t m → IsKnown t a →
     (body < m) × (from < a) × (to < a) → IsKnown u part → Lam (tree_at t body) ≡ tree_at t m → Pi (tree_at t from) (tree_at t to) ≡ tree_at t a →
     tree_at w inner ≡ TApp (tree_at u part) (tree_at u from) → r ≡ checks_of s₂ (tree_at w body) (types_of (tree_at w inner)) (tree_at w to) →
@@ -76,11 +77,12 @@ under_part s s₂ t u w m a body from to part inner r e f g km ka l kp lam pi n 
 
 -- what is kept, in the table at the end
 pub judges_under : (s s' : Sig) (t u z : TableView) (m a part : ℕ) → Extends t u → Extends u z → s' ≡ s → IsKnown t m → IsKnown t a → IsKnown u part →
-    true ≡ checks_of s (tree_at t m) (types_of (tree_at u part)) (tree_at t a) → IsJudgement s' z (Q.Under m a part) m
+    true ≡ checks_of s (tree_at t m) (types_of (tree_at u part)) (tree_at t a) → IsJudgement s' z (Q.Under m a) part m
 judges_under s s' t u z m a part e f g km ka kp h =
     let kum : IsKnown u m = known-more t u m km e in
     let kua : IsKnown u a = known-more t u a ka e in
     record {
       known = known-more u z m kum f;
-      judges = (known-more u z m kum f, known-more u z a kua f, known-more u z part kp f, rw (g, f.same m kum, f.same a kua, f.same part kp, e.same m km, e.same a ka) (sym h));
+      context = known-more u z part kp f;
+      judges = (known-more u z m kum f, known-more u z a kua f, rw (g, f.same m kum, f.same a kua, f.same part kp, e.same m km, e.same a ka) (sym h));
     }

@@ -1,13 +1,14 @@
 //! Contexts as ids of the table: a list of types is a tree with a node for each type.
 
-ghost use Rattle.std.specs.Prelude.{◌≡◌, ◌<◌, ◌≤◌, ◌+◌, ◌^◌, IfOk, take};
+ghost use Rattle.std.specs.Prelude.{◌≡◌, ◌<◌, ◌≤◌, ◌+◌, ◌^◌, IfOk, IfSome, IsTrue};
 ghost use Rattle.term_table.specs.Tree.{at};
 ghost use Rattle.term_table.specs.Table.{IsKnown, AllKnown, tree_at, ctx_of, Extends, Stands};
-ghost use Rattle.lf_check.specs.Inside.Lists.{types_of, IsContextId, IsPartId};
-ghost use Rattle.lf_check.specs.Inside.Kept.{AreKept};
+ghost use Rattle.lf_check.specs.Inside.Lists.{types_of, IsPart, IsContextId};
+ghost use Rattle.lf_check.specs.Inside.Uses.{member, past, AgreeOn};
+ghost use Rattle.lf_check.specs.Inside.Kept.{AreKept, IsJudgement, subject};
 
-use crate::judgements::{Kept, Question, number};
-use crate::steps::intern_on;
+use crate::judgements::{Kept, Question};
+use crate::uses::{is_set, set_parts, uses_at};
 use hereditary_subst::Exhausted;
 use lf_signature::Signature;
 use std::alloc::AllocError;
@@ -71,59 +72,126 @@ pub(crate) fn type_at<S: Signature>(
     }
 }
 
-/// The nearest n types of a context.
-fn cut_at<S: Signature>(
+/// Whether the two contexts give each variable of the set the same type.
+#[cycle(agreeing)]
+fn agree_on<S: Signature>(
+    table: &Table,
+    kept: &mut Kept,
+    sig: &S,
+    c: Id,
+    d: Id,
+    s: Id,
+) -> Result<bool, Exhausted>
+    requires c { IsKnown table.now c }
+    requires d { IsKnown table.now d }
+    requires s { IsKnown table.now s }
+    requires kept { AreKept (S.declares sig.now table.now) table.now kept.old }
+    ensures agree { let types = types_of (tree_at table.now c) in
+        let other = types_of (tree_at table.now d) in
+        let set = member (tree_at table.now s) in
+        IfOk result (λ b. IsTrue b → AgreeOn set types other) }
+    ensures kept { AreKept (S.declares sig.now table.now) table.now kept.new }
+{
+    if !is_set(table, s) {
+        return Ok(true);
+    }
+    let (gap, rest) = set_parts(table, s);
+    agree_past(table, kept, sig, c, d, gap, rest)
+}
+
+/// Whether they give the variable `gap`, and those past it that are in `rest`, the same type. Each
+/// step along the contexts is counted.
+#[cycle(agreeing)]
+fn agree_past<S: Signature>(
+    table: &Table,
+    kept: &mut Kept,
+    sig: &S,
+    c: Id,
+    d: Id,
+    gap: u32,
+    rest: Id,
+) -> Result<bool, Exhausted>
+    requires c { IsKnown table.now c }
+    requires d { IsKnown table.now d }
+    requires rest { IsKnown table.now rest }
+    requires kept { AreKept (S.declares sig.now table.now) table.now kept.old }
+    ensures agree { let types = types_of (tree_at table.now c) in
+        let other = types_of (tree_at table.now d) in
+        let set = past gap (member (tree_at table.now rest)) in
+        IfOk result (λ b. IsTrue b → AgreeOn set types other) }
+    ensures kept { AreKept (S.declares sig.now table.now) table.now kept.new }
+{
+    if table.same(c, d) {
+        return Ok(true);
+    }
+    let Node::TApp(p, a) = table.node(c) else {
+        return Ok(false);
+    };
+    let Node::TApp(q, b) = table.node(d) else {
+        return Ok(false);
+    };
+    kept.step(table, sig)?;
+    if gap > 0 {
+        return agree_past(table, kept, sig, p, q, gap - 1, rest);
+    }
+    if !table.same(a, b) {
+        return Ok(false);
+    }
+    agree_on(table, kept, sig, p, q, rest)
+}
+
+/// Whether the two contexts give each variable that the tree uses the same type: where that is found.
+fn is_alike<S: Signature>(
     table: &mut Table,
     kept: &mut Kept,
     sig: &S,
     c: Id,
-    n: u64,
-) -> Result<Id, Exhausted>
+    d: Id,
+    m: Id,
+) -> Result<bool, Exhausted>
     requires holds { S.holds sig.now table.old }
-    requires known { IsKnown table.old c }
+    requires c { IsKnown table.old c }
+    requires d { IsKnown table.old d }
+    requires m { IsKnown table.old m }
     requires kept { AreKept (S.declares sig.now table.old) table.old kept.old }
-    ensures types { IfOk result (IsContextId table.new (take n (types_of (tree_at table.old c)))) }
+    ensures part { let types = types_of (tree_at table.old c) in
+        let other = types_of (tree_at table.old d) in
+        IfOk result (λ b. IsTrue b → IsPart (tree_at table.old m) types other) }
     ensures extends { Extends table.old table.new }
     ensures kept { AreKept (S.declares sig.now table.new) table.new kept.new }
 {
-    match table.node(c) {
-        Node::TApp(p, a) => {
-            if n == 0 {
-                return Ok(intern_on(table, kept, sig, Node::Fam(0))?);
-            }
-            let question = Question::Cut(number(c), n);
-            if let Some(r) = kept.find(table, sig, &question) {
-                return Ok(r);
-            }
-            let rest = cut_at(table, kept, sig, p, n - 1)?;
-            let r = intern_on(table, kept, sig, Node::TApp(rest, a))?;
-            kept.keep(table, sig, question, r)?;
-            Ok(r)
-        }
-        _ => Ok(c),
+    if table.same(c, d) {
+        return Ok(true);
     }
+    let uses = uses_at(table, kept, sig, m)?;
+    agree_on(table, kept, sig, c, d, uses)
 }
 
-/// The part of the context that the tree can speak of.
-pub(crate) fn part_at<S: Signature>(
+/// What is kept of the question on the tree `m`, where it was found in a context that gives each
+/// variable that `m` uses the same type as `c` does.
+pub(crate) fn answer_on<S: Signature>(
     table: &mut Table,
     kept: &mut Kept,
     sig: &S,
+    question: &Question,
     c: Id,
     m: Id,
-) -> Result<Id, Exhausted>
+) -> Result<Option<Id>, Exhausted>
     requires holds { S.holds sig.now table.old }
+    requires about { subject question.now ≡ m }
     requires c { IsKnown table.old c }
     requires m { IsKnown table.old m }
     requires kept { AreKept (S.declares sig.now table.old) table.old kept.old }
-    ensures part { IfOk result
-        (IsPartId table.new (tree_at table.old m) (types_of (tree_at table.old c))) }
+    ensures answer { let declared = S.declares sig.now table.old in
+        IfOk result (λ o. IfSome o (IsJudgement declared table.new question.now c)) }
     ensures extends { Extends table.old table.new }
     ensures kept { AreKept (S.declares sig.now table.new) table.new kept.new }
 {
-    let reach = table.reach(m);
-    if reach == u32::MAX {
-        return Ok(c);
+    let Some(found) = kept.find(table, sig, question) else {
+        return Ok(None);
+    };
+    if is_alike(table, kept, sig, c, found.context, m)? {
+        return Ok(Some(found.answer));
     }
-    cut_at(table, kept, sig, c, u64::from(reach))
+    Ok(None)
 }

@@ -6,7 +6,7 @@ ghost use Rattle.term_table.specs.Table.{IsKnown, tree_at, Extends};
 ghost use Rattle.lf_check.specs.Inside.Families.{is_proofs};
 ghost use Rattle.lf_check.specs.Inside.Kept.{AreKept, is_type_in};
 
-use crate::contexts::part_at;
+use crate::contexts::answer_on;
 use crate::judgements::{Kept, Question, number};
 use crate::steps::intern_on;
 use crate::walk::check_at;
@@ -85,18 +85,17 @@ fn product_at<S: Signature>(
     ensures extends { Extends table.old table.new }
     ensures kept { AreKept (S.declares sig.now table.new) table.new kept.new }
 {
-    let part = part_at(table, kept, sig, c, a)?;
-    let question = Question::Formed(number(a), number(part));
-    if let Some(_) = kept.find(table, sig, &question) {
+    let question = Question::Formed(number(a));
+    if let Some(_) = answer_on(table, kept, sig, &question, c, a)? {
         return Ok(true);
     }
-    if !is_type_at(table, kept, sig, part, from)? {
+    if !is_type_at(table, kept, sig, c, from)? {
         return Ok(false);
     }
-    let inner = intern_on(table, kept, sig, Node::TApp(part, from))?;
+    let inner = intern_on(table, kept, sig, Node::TApp(c, from))?;
     let answer = is_type_at(table, kept, sig, inner, to)?;
     if answer {
-        kept.keep(table, sig, question, a)?;
+        kept.keep(table, sig, question, c, a)?;
     }
     Ok(answer)
 }

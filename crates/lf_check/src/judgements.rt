@@ -1,13 +1,13 @@
-//! Judgements that are kept, so that a term that stands in many places is judged once in each part
-//! of a context that it can speak of.
+//! Judgements that are kept, so that a term that stands in many places is judged once where the
+//! variables that it uses have the same types (`contexts.rt` finds the context in which it was).
 //!
 //! Only what holds is kept: what doesn't hold ends the call. A context is an id of the table too
-//! (`specs/Inside/Lists`), so equal parts of contexts are equal ids. Rows are found by an ordered map
+//! (`specs/Inside/Lists`), so equal contexts are equal ids. Rows are found by an ordered map
 //! of numbers, so that no choice of ids makes them slow to find.
 
 ghost use Rattle.std.specs.Prelude.{◌≡◌, IfSome, Option};
 ghost use Rattle.term_table.specs.Tree.{Tree, Const};
-ghost use Rattle.term_table.specs.Table.{TableView};
+ghost use Rattle.term_table.specs.Table.{TableView, IsKnown};
 ghost use Rattle.lf_check.specs.Inside.Kept.{AreKept, IsJudgement};
 
 use hereditary_subst::{Exhausted, Memo};
@@ -19,17 +19,31 @@ use term_table::{Id, Table};
 /// So many steps along contexts, which keep nothing, count as one judgement.
 const STEPS_A_JUDGEMENT: u64 = 64;
 
-/// What is asked of a term, and in which context, by ids and counts.
+/// What is asked of a term or type, by ids.
 #[derive(Clone, Copy, PartialEq, Eq, PartialOrd, Ord)]
 pub(crate) enum Question {
-    /// The type that the term synthesises in the context.
-    Synth(u64, u64),
-    /// Whether the abstraction checks at the type in the context.
-    Under(u64, u64, u64),
-    /// Whether the product is a type in the context.
-    Formed(u64, u64),
-    /// The nearest so many types of the context.
-    Cut(u64, u64),
+    /// The type that the term synthesises.
+    Synth(u64),
+    /// Whether the abstraction checks at the type.
+    Under(u64, u64),
+    /// Whether the product is a type.
+    Formed(u64),
+    /// A set that has each variable of the term or type, whatever the context.
+    Uses(u64),
+}
+
+/// The answer in the context in which it was found last, as numbers.
+#[derive(Clone, Copy)]
+struct Row {
+    answer: u64,
+    context: u64,
+}
+
+/// The answer in the context in which it was found last.
+#[derive(Clone, Copy)]
+pub(crate) struct Found {
+    pub(crate) answer: Id,
+    pub(crate) context: Id,
 }
 
 /// Results and judgements on one table and signature, all up to one limit.
@@ -37,7 +51,7 @@ pub(crate) enum Question {
 pub struct Kept {
     /// Results of shifts and substitutions on the table. Its limit is that of the judgements too.
     pub memo: Memo,
-    rows: BTreeMap<Question, u64>,
+    rows: BTreeMap<Question, Row>,
     // along contexts, with their limit in judgements
     steps: u64,
     limit: usize,
@@ -48,6 +62,28 @@ pub(crate) fn number(id: Id) -> u64
     ensures { result ≡ id }
 {
     id.index() as u64
+}
+
+/// The row as ids of the table.
+fn found_of(table: &Table, row: Row) -> Found
+    requires answer { IsKnown table.now row.answer }
+    requires context { IsKnown table.now row.context }
+    ensures answer { result.answer ≡ row.answer }
+    ensures context { result.context ≡ row.context }
+{
+    let answer = table.id(row.answer);
+    let context = table.id(row.context);
+    Found { answer, context }
+}
+
+/// The row of an answer.
+fn row_of(answer: Id, context: Id) -> Row
+    ensures answer { result.answer ≡ answer }
+    ensures context { result.context ≡ context }
+{
+    let answer = number(answer);
+    let context = number(context);
+    Row { answer, context }
 }
 
 impl Kept {
@@ -78,11 +114,23 @@ impl Kept {
         Ok(())
     }
 
-    /// What is kept of the question, as a number.
-    fn row<S: Signature>(&self, table: &Table, sig: &S, question: &Question) -> Option<u64>
+    /// Counts a result that is kept elsewhere. Fails past the limit, by `Results`.
+    pub(crate) fn spend<S: Signature>(&mut self, table: &Table, sig: &S) -> Result<(), Exhausted>
+        requires { AreKept (S.declares sig.now table.now) table.now self.old }
+        ensures { AreKept (S.declares sig.now table.now) table.now self.new }
+    {
+        let _ = table; // only the clauses speak of it
+        let _ = sig; // only the clauses speak of it
+        self.memo.spend()?;
+        Ok(())
+    }
+
+    /// What is kept of the question, as numbers.
+    fn row<S: Signature>(&self, table: &Table, sig: &S, question: &Question) -> Option<Row>
         requires { AreKept (S.declares sig.now table.now) table.now self.now }
-        ensures { IfSome result
-            (IsJudgement (S.declares sig.now table.now) table.now question.now) }
+        ensures { let declared = S.declares sig.now table.now in
+            IfSome result
+            (λ r. IsJudgement declared table.now question.now r.context r.answer) }
     {
         let _ = table; // only the clauses speak of it
         let _ = sig; // only the clauses speak of it
@@ -95,34 +143,38 @@ impl Kept {
         table: &Table,
         sig: &S,
         question: &Question,
-    ) -> Option<Id>
+    ) -> Option<Found>
         requires { AreKept (S.declares sig.now table.now) table.now self.now }
-        ensures { IfSome result
-            (IsJudgement (S.declares sig.now table.now) table.now question.now) }
+        ensures { let declared = S.declares sig.now table.now in
+            IfSome result
+            (λ f. IsJudgement declared table.now question.now f.context f.answer) }
     {
         match self.row(table, sig, question) {
             None => None,
-            Some(n) => Some(table.id(n)),
+            Some(row) => Some(found_of(table, row)),
         }
     }
 
-    /// Keeps an answer to the question. Fails past the limit, and where memory does.
+    /// Keeps an answer to the question in the context, in place of one in another. Fails past the
+    /// limit, and where memory does.
     pub(crate) fn keep<S: Signature>(
         &mut self,
         table: &Table,
         sig: &S,
         question: Question,
-        id: Id,
+        context: Id,
+        answer: Id,
     ) -> Result<(), Exhausted>
         requires kept { AreKept (S.declares sig.now table.now) table.now self.old }
-        requires judges { IsJudgement (S.declares sig.now table.now) table.now question id }
+        requires judges { let declared = S.declares sig.now table.now in
+            IsJudgement declared table.now question context answer }
         ensures { AreKept (S.declares sig.now table.now) table.now self.new }
     {
         let _ = table; // only the clauses speak of it
         let _ = sig; // only the clauses speak of it
         self.memo.spend()?;
-        let n = number(id);
-        self.rows.insert(question, n)?;
+        let row = row_of(answer, context);
+        self.rows.insert(question, row)?;
         Ok(())
     }
 }

@@ -6,7 +6,7 @@
 //! ids are the table's. The derivations stand in `lf_signature` (`specs/Typing`). Each old id keeps
 //! its tree, also where memory fails.
 //!
-//! No shared term is judged twice in the part of a context that it can speak of: `Kept` has the
+//! No shared term is judged twice where the variables that it uses have the same types: `Kept` has the
 //! judgements, and can be handed from call to call on one table and signature. It has one limit for
 //! all that it keeps, past which a call answers `Exhausted::Results`; its `memo` can be lent to other
 //! calls on the table. Source: Harper and Licata, Mechanizing Metatheory in a Logical Framework, JFP 2007,
@@ -18,6 +18,7 @@ mod formed;
 mod introductions;
 mod judgements;
 mod steps;
+mod uses;
 mod walk;
 
 ghost use Rattle.std.specs.Prelude.{◌≡◌, ◌↔◌, IfOk, IsTrue};

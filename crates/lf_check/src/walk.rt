@@ -1,5 +1,5 @@
-//! Terms checked at types and types synthesised. Each judgement is made in the part of the context
-//! that the term can speak of.
+//! Terms checked at types and types synthesised. A judgement that was found in one context answers
+//! in each other that gives the variables that the term uses the same types.
 
 ghost use Rattle.std.specs.Prelude.{◌≡◌, true, false, ◌<◌, ◌≤◌, ◌+◌, ◌^◌, IfOk, IsTrue};
 ghost use Rattle.term_table.specs.Tree.{at, App, Lam, Pi};
@@ -9,7 +9,7 @@ ghost use Rattle.lf_check.specs.Inside.Introductions.{IsIntroduction};
 ghost use Rattle.lf_check.specs.Inside.Lists.{types_of};
 ghost use Rattle.lf_check.specs.Inside.Kept.{AreKept, synth_in, checks_in};
 
-use crate::contexts::{part_at, type_at};
+use crate::contexts::{answer_on, type_at};
 use crate::introductions::{Introduction, introduction_on};
 use crate::judgements::{Kept, Question, number};
 use crate::steps::{declared_on, intern_on, subst_on, weaken_on};
@@ -109,15 +109,14 @@ fn under_at<S: Signature>(
     ensures extends { Extends table.old table.new }
     ensures kept { AreKept (S.declares sig.now table.new) table.new kept.new }
 {
-    let part = part_at(table, kept, sig, c, m)?;
-    let question = Question::Under(number(m), number(a), number(part));
-    if let Some(_) = kept.find(table, sig, &question) {
+    let question = Question::Under(number(m), number(a));
+    if let Some(_) = answer_on(table, kept, sig, &question, c, m)? {
         return Ok(true);
     }
-    let inner = intern_on(table, kept, sig, Node::TApp(part, from))?;
+    let inner = intern_on(table, kept, sig, Node::TApp(c, from))?;
     let answer = check_at(table, kept, sig, inner, body, to)?;
     if answer {
-        kept.keep(table, sig, question, m)?;
+        kept.keep(table, sig, question, c, m)?;
     }
     Ok(answer)
 }
@@ -143,15 +142,14 @@ pub(crate) fn synth_at<S: Signature>(
     match table.node(r) {
         Node::Var(n) => var_type(table, kept, sig, c, n),
         Node::App(f, m) => {
-            let part = part_at(table, kept, sig, c, r)?;
-            let question = Question::Synth(number(r), number(part));
-            if let Some(p) = kept.find(table, sig, &question) {
+            let question = Question::Synth(number(r));
+            if let Some(p) = answer_on(table, kept, sig, &question, c, r)? {
                 return Ok(Some(p));
             }
-            let Some(p) = application_at(table, kept, sig, part, r, f, m)? else {
+            let Some(p) = application_at(table, kept, sig, c, r, f, m)? else {
                 return Ok(None);
             };
-            kept.keep(table, sig, question, p)?;
+            kept.keep(table, sig, question, c, p)?;
             Ok(Some(p))
         }
         _ => {

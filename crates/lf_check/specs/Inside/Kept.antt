@@ -1,13 +1,15 @@
 -- What kept results and judgements say of a table's trees.
-use Rattle.std.specs.Prelude.{◌≡◌, ℕ, Bool, true, Option, Some, take}
+use Rattle.std.specs.Prelude.{◌≡◌, ℕ, Bool, true, Option, Some}
 use Rattle.std.specs.BTreeMap.{get}
 use Rattle.term_table.specs.Tree.{Tree, Const}
 use Rattle.term_table.specs.Table.{TableView, IsKnown, tree_at}
 use Rattle.hereditary_subst.specs.Inside.Kept.{IsMemo}
 use Rattle.lf_signature.specs.Decide.{synth_of, checks_of, is_type_of}
 use Rattle.lf_check.specs.Inside.Lists.{types_of}
+use Rattle.lf_check.specs.Inside.Uses.{Covers}
 use Rattle.lf_check.specs.declared.judgements.Question.{Question}
 use Rattle.lf_check.specs.declared.judgements.Question.TheVariants as Q
+use Rattle.lf_check.specs.declared.judgements.Row.{Row}
 use Rattle.lf_check.specs.declared.judgements.Kept.{Kept}
 use Rattle.lf_check.specs.contracts.judgements.QuestionOrd.TheImpl as block
 
@@ -23,19 +25,27 @@ checks_in sig t c m a = checks_of sig (tree_at t m) (types_of (tree_at t c)) (tr
 abbrev pub is_type_in : (Const → Option Tree) → TableView → ℕ → ℕ → Bool
 is_type_in sig t c a = is_type_of sig (tree_at t a) (types_of (tree_at t c))
 
--- the judgement v is right of the question
-abbrev pub Judges : (Const → Option Tree) → TableView → Question → ℕ → Type 0
-Judges sig t (Q.Synth r c) v = IsKnown t r × IsKnown t c × (synth_in sig t c r ≡ Some (tree_at t v))
-Judges sig t (Q.Under m a c) v = IsKnown t m × IsKnown t a × IsKnown t c × (checks_in sig t c m a ≡ true)
-Judges sig t (Q.Formed a c) v = IsKnown t a × IsKnown t c × (is_type_in sig t c a ≡ true)
-Judges sig t (Q.Cut c n) v = IsKnown t c × (types_of (tree_at t v) ≡ take n (types_of (tree_at t c)))
+-- what the question is about
+abbrev pub subject : Question → ℕ
+subject (Q.Synth r) = r
+subject (Q.Under m a) = m
+subject (Q.Formed a) = a
+subject (Q.Uses m) = m
 
--- v is an id of the table, and right of the question
-pub record IsJudgement (sig : Const → Option Tree) (t : TableView) (q : Question) (v : ℕ) : Type 0 where
+-- the judgement v is right of the question in the context of c
+abbrev pub Judges : (Const → Option Tree) → TableView → Question → ℕ → ℕ → Type 0
+Judges sig t (Q.Synth r) c v = IsKnown t r × (synth_in sig t c r ≡ Some (tree_at t v))
+Judges sig t (Q.Under m a) c v = IsKnown t m × IsKnown t a × (checks_in sig t c m a ≡ true)
+Judges sig t (Q.Formed a) c v = IsKnown t a × (is_type_in sig t c a ≡ true)
+Judges sig t (Q.Uses m) c v = IsKnown t m × Covers (tree_at t v) (tree_at t m)
+
+-- v is an id of the table, and right of the question in the context of c
+pub record IsJudgement (sig : Const → Option Tree) (t : TableView) (q : Question) (c v : ℕ) : Type 0 where
   pub known : IsKnown t v
-  pub judges : Judges sig t q v
+  pub context : IsKnown t c
+  pub judges : Judges sig t q c v
 
 -- each kept result and judgement is right of the table
 pub record AreKept (sig : Const → Option Tree) (t : TableView) (k : Kept) : Type 0 where
   pub memo : IsMemo t k.memo
-  pub each : (q : Question) (v : ℕ) → get block.ghosts.cmp k.rows q ≡ Some v → IsJudgement sig t q v
+  pub each : (q : Question) (r : Row) → get block.ghosts.cmp k.rows q ≡ Some r → IsJudgement sig t q r.context r.answer

@@ -14,7 +14,7 @@ types_of (Lam b) = []
 types_of (Fam a) = []
 types_of (Pi a b) = []
 
--- in this part of the context the tree is judged as in the whole
+-- in this other context the tree is judged as in the one
 pub record IsPart (m : Tree) (ctx part : List Tree) : Type 0 where
   pub synth : (sig : Const → Option Tree) → synth_of sig m part ≡ synth_of sig m ctx
   pub checks : (sig : Const → Option Tree) (a : Tree) → checks_of sig m part a ≡ checks_of sig m ctx a
@@ -23,7 +23,3 @@ pub record IsPart (m : Tree) (ctx part : List Tree) : Type 0 where
 -- the id stands for a context of these types
 abbrev pub IsContextId : TableView → List Tree → ℕ → Type 0
 IsContextId t ctx c = IsKnown t c × (types_of (tree_at t c) ≡ ctx)
-
--- the id stands for a context in which the tree is judged as in this one
-abbrev pub IsPartId : TableView → Tree → List Tree → ℕ → Type 0
-IsPartId t m ctx c = IsKnown t c × IsPart m ctx (types_of (tree_at t c))

@@ -1,5 +1,5 @@
-use Rattle.std.proofs.Common.{◌≡◌, ◌↔◌, IsTrue, true, Some, sym, ◌∙◌, ap}
-use Rattle.term_table.specs.Table.{tree_at, node_tree, Stands, Extends}
+use Rattle.std.proofs.Common.{◌≡◌, ◌↔◌, IsTrue, true, Some, sym, ◌∙◌, ap, arith}
+use Rattle.term_table.specs.Table.{IsKnown, tree_at, node_tree, Stands, Extends}
 use Rattle.lf_check.specs.Inside.Lists.{types_of}
 use Rattle.lf_signature.specs.Decide.{checks_of, synth_of, atom_rule, is_atomic}
 use Rattle.lf_check.proofs.TypeLists.{grows_more}
@@ -30,47 +30,54 @@ check_at-returns-then-is_atomic_type g t c =
 pub under_at-keep-requires-clause-judges : goal.under_at-keep-requires-clause-judges
 under_at-keep-requires-clause-judges g k c =
     let t = c.args.table.now in
-    let u = c.part_at.new.table in
+    let u = c.answer_on.new.table in
     let w = c.intern_on.new.table in
     let s = g.S.Signature.declares c.args.sig.now in
-    let tu : Extends t u = c.in_ok-part.ensures.extends in
+    let tu : Extends t u = c.in_ok-answer_on.ensures.extends in
     let uw : Extends u w = c.in_ok-inner.ensures.extends in
+    let kc : IsKnown u c.args.c = omega (arith, c.requires.c, tu.longer) in
     let same = g.met.S.Signature.same_types c.args.sig.now t in
-    let is : c.in_ok-answer.answer ≡ checks_of (s t) (tree_at t c.args.m) (types_of (tree_at u c.in_ok-part.part)) (tree_at t c.args.a) =
-    under_part (s t) (s w) t u w c.args.m c.args.a c.args.body c.args.from c.args.to c.in_ok-part.part c.in_ok-inner.inner c.in_ok-answer.answer tu uw (same w (grows_more t u w tu uw) c.requires.holds)
-    c.requires.m c.requires.a c.requires.parts c.in_ok-part.ensures.part.0 c.requires.lam c.requires.pi c.in_ok-inner.ensures.id.1 c.in_ok-answer.ensures.answer
+    let is : c.in_ok-answer.answer ≡ checks_of (s t) (tree_at t c.args.m) (types_of (tree_at u c.args.c)) (tree_at t c.args.a) =
+    under_part (s t) (s w) t u w c.args.m c.args.a c.args.body c.args.from c.args.to c.args.c c.in_ok-inner.inner c.in_ok-answer.answer tu uw
+    (same w (grows_more t u w tu uw) c.requires.holds)
+    c.requires.m c.requires.a c.requires.parts kc c.requires.lam c.requires.pi c.in_ok-inner.ensures.id.1 c.in_ok-answer.ensures.answer
     in
     let z = c.check_at.new.table in
     let uz : Extends u z = grows_more u w z uw c.in_ok-answer.ensures.extends in
-    rw (c.number.ensures, c.number-2.ensures, c.number-3.ensures)
-    (judges_under (s t) (s z) t u z c.args.m c.args.a c.in_ok-part.part tu uz (same z (grows_more t u z tu uz) c.requires.holds) c.requires.m c.requires.a c.in_ok-part.ensures.part.0 (sym c.if-answer.true ∙ is))
+    rw (c.number.ensures, c.number-2.ensures)
+    (judges_under (s t) (s z) t u z c.args.m c.args.a c.args.c tu uz (same z (grows_more t u z tu uz) c.requires.holds) c.requires.m c.requires.a kc
+    (sym c.if-answer.true ∙ is))
 
 pub under_at-returns-in_ok-keep-clause-answer : goal.under_at-returns-in_ok-keep-clause-answer
 under_at-returns-in_ok-keep-clause-answer g k c =
     let t = c.args.table.now in
-    let u = c.part_at.new.table in
+    let u = c.answer_on.new.table in
     let w = c.intern_on.new.table in
     let s = g.S.Signature.declares c.args.sig.now in
-    let tu : Extends t u = c.in_ok-part.ensures.extends in
+    let tu : Extends t u = c.in_ok-answer_on.ensures.extends in
     let uw : Extends u w = c.in_ok-inner.ensures.extends in
+    let kc : IsKnown u c.args.c = omega (arith, c.requires.c, tu.longer) in
     let same = g.met.S.Signature.same_types c.args.sig.now t in
-    let is : c.in_ok-answer.answer ≡ checks_of (s t) (tree_at t c.args.m) (types_of (tree_at u c.in_ok-part.part)) (tree_at t c.args.a) =
-    under_part (s t) (s w) t u w c.args.m c.args.a c.args.body c.args.from c.args.to c.in_ok-part.part c.in_ok-inner.inner c.in_ok-answer.answer tu uw (same w (grows_more t u w tu uw) c.requires.holds)
-    c.requires.m c.requires.a c.requires.parts c.in_ok-part.ensures.part.0 c.requires.lam c.requires.pi c.in_ok-inner.ensures.id.1 c.in_ok-answer.ensures.answer
+    let is : c.in_ok-answer.answer ≡ checks_of (s t) (tree_at t c.args.m) (types_of (tree_at u c.args.c)) (tree_at t c.args.a) =
+    under_part (s t) (s w) t u w c.args.m c.args.a c.args.body c.args.from c.args.to c.args.c c.in_ok-inner.inner c.in_ok-answer.answer tu uw
+    (same w (grows_more t u w tu uw) c.requires.holds)
+    c.requires.m c.requires.a c.requires.parts kc c.requires.lam c.requires.pi c.in_ok-inner.ensures.id.1 c.in_ok-answer.ensures.answer
     in
-    is ∙ c.in_ok-part.ensures.part.1.checks (s t) (tree_at t c.args.a)
+    is ∙ ap (λ z. checks_of (s t) (tree_at t c.args.m) (types_of z) (tree_at t c.args.a)) (tu.same c.args.c c.requires.c)
 
 pub under_at-returns-else-answer-clause-answer : goal.under_at-returns-else-answer-clause-answer
 under_at-returns-else-answer-clause-answer g k c =
     let t = c.args.table.now in
-    let u = c.part_at.new.table in
+    let u = c.answer_on.new.table in
     let w = c.intern_on.new.table in
     let s = g.S.Signature.declares c.args.sig.now in
-    let tu : Extends t u = c.in_ok-part.ensures.extends in
+    let tu : Extends t u = c.in_ok-answer_on.ensures.extends in
     let uw : Extends u w = c.in_ok-inner.ensures.extends in
+    let kc : IsKnown u c.args.c = omega (arith, c.requires.c, tu.longer) in
     let same = g.met.S.Signature.same_types c.args.sig.now t in
-    let is : c.in_ok-answer.answer ≡ checks_of (s t) (tree_at t c.args.m) (types_of (tree_at u c.in_ok-part.part)) (tree_at t c.args.a) =
-    under_part (s t) (s w) t u w c.args.m c.args.a c.args.body c.args.from c.args.to c.in_ok-part.part c.in_ok-inner.inner c.in_ok-answer.answer tu uw (same w (grows_more t u w tu uw) c.requires.holds)
-    c.requires.m c.requires.a c.requires.parts c.in_ok-part.ensures.part.0 c.requires.lam c.requires.pi c.in_ok-inner.ensures.id.1 c.in_ok-answer.ensures.answer
+    let is : c.in_ok-answer.answer ≡ checks_of (s t) (tree_at t c.args.m) (types_of (tree_at u c.args.c)) (tree_at t c.args.a) =
+    under_part (s t) (s w) t u w c.args.m c.args.a c.args.body c.args.from c.args.to c.args.c c.in_ok-inner.inner c.in_ok-answer.answer tu uw
+    (same w (grows_more t u w tu uw) c.requires.holds)
+    c.requires.m c.requires.a c.requires.parts kc c.requires.lam c.requires.pi c.in_ok-inner.ensures.id.1 c.in_ok-answer.ensures.answer
     in
-    is ∙ c.in_ok-part.ensures.part.1.checks (s t) (tree_at t c.args.a)
+    is ∙ ap (λ z. checks_of (s t) (tree_at t c.args.m) (types_of z) (tree_at t c.args.a)) (tu.same c.args.c c.requires.c)

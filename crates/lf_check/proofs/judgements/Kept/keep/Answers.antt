@@ -30,8 +30,13 @@ pub returns : goal.returns
 returns g c =
     let t = c.args.table.now in
     let sig = g.S.Signature.declares c.args.sig.now t in
-    let judges : IsJudgement sig t c.args.question c.number-n.result = subst (λ (z : ℕ). IsJudgement sig t c.args.question z) (sym c.number-n.ensures) c.requires.judges in
+    let row = c.row_of-row.result in
+    let judges : IsJudgement sig t c.args.question row.context row.answer =
+    subst (λ (z : ℕ). IsJudgement sig t c.args.question z row.answer) (sym c.row_of-row.ensures.context)
+    (subst (λ (z : ℕ). IsJudgement sig t c.args.question c.args.context z) (sym c.row_of-row.ensures.answer) c.requires.judges)
+    in
     record {
       memo = c.spend.ensures t c.requires.kept.memo;
-      each = kept-one sig t (get block.ghosts.cmp c.args.self.now.rows) (get block.ghosts.cmp c.insert.new.self) (eq_by_cmp block.ghosts.cmp) c.args.question c.number-n.result decides c.requires.kept.each judges c.in_ok-insert.ensures.updates.0;
+      each = kept-one sig t (get block.ghosts.cmp c.args.self.now.rows) (get block.ghosts.cmp c.insert.new.self) (eq_by_cmp block.ghosts.cmp)
+          c.args.question row decides c.requires.kept.each judges c.in_ok-insert.ensures.updates.0;
     }
