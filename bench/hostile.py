@@ -1,0 +1,226 @@
+"""The families of bench/hostile.sh: files that are made to take `pcc check` long."""
+import os, subprocess, sys
+sys.path.insert(0, os.path.dirname(os.path.abspath(__file__)))
+from terms import *
+
+LOOP = 0xC3FFFFFF  # br to itself
+CHANGED = list(range(1, 9))  # registers that code may write
+MOST_SECONDS, MOST_MEGABYTES = 2.0, 512
+
+# A process of its own, since the peak memory of a child counts that of its parent.
+MEASURE = """
+import os, subprocess, sys
+process = subprocess.Popen(sys.argv[1:], stdout=subprocess.PIPE)
+line = process.stdout.read().decode().strip()
+_, status, used = os.wait4(process.pid, 0)
+print(os.waitstatus_to_exitcode(status), used.ru_utime + used.ru_stime, used.ru_maxrss / 1024, line)
+"""
+
+
+def both_ways(t, formula):
+    """The formula under a word that isn't used, and under a memory that isn't."""
+    return t.con(IMP, t.con(ALL, t.lam(formula)), t.con(ALLM, t.lam(formula)))
+
+
+def levels(t, count):
+    """So many levels over one free word, whose number falls by one a level."""
+    word = t.var(14 + count)
+    formula = t.con(EQ, word, word)
+    for _ in range(count):
+        formula = both_ways(t, formula)
+    return formula
+
+
+def levels_used(t, count):
+    """The same, where each binder's variable is used beside."""
+    word = t.var(14 + count)
+    formula = t.con(EQ, word, word)
+    for _ in range(count):
+        of_word = t.con(AND, formula, t.con(EQ, t.var(0), t.lit(0)))
+        of_memory = t.con(AND, formula, t.con(EQ, t.con(SEL, t.var(0), t.lit(0)), t.lit(0)))
+        formula = t.con(IMP, t.con(ALL, t.lam(of_word)), t.con(ALLM, t.lam(of_memory)))
+    return formula
+
+
+def levels_between(t, count):
+    """A variable that isn't used behind each that is used."""
+    formula = t.con(TT)
+    for k in range(count):
+        formula = t.con(AND, formula, t.con(EQ, t.var(2 * k), t.lit(k)))
+    for _ in range(count):
+        inner = t.con(ALL, t.lam(formula))
+        formula = t.con(IMP, t.con(ALL, t.lam(inner)), t.con(ALLM, t.lam(inner)))
+    return formula
+
+
+def disjoined(t, formula):
+    """A closed proof of `tt` by way of `formula or tt`."""
+    tt, tt_i = t.con(TT), t.con(TT_I)
+    return instead(t, t.con(OR, formula, tt), t.con(OR_R, formula, tt, tt_i))
+
+
+def levels_closed(t, count):
+    """The same over a word that a quantifier brings."""
+    word = t.var(count)
+    formula = t.con(EQ, word, word)
+    for _ in range(count):
+        formula = both_ways(t, formula)
+    return t.con(ALL, t.lam(formula))
+
+
+def by_cases(t, count):
+    """Proofs by cases of whether a fact holds or not, one in both cases of the next."""
+    proof = t.con(TT_I)
+    tt = t.con(TT)
+    for k in range(count):
+        held = t.con(EQ, t.lit(k), t.lit(k))
+        denied = t.con(IMP, held, t.con(FF))
+        proof = t.con(OR_E, held, denied, tt, t.con(EM, held), t.lam(proof), t.lam(proof))
+    return proof
+
+
+def by_cases_under(t, count):
+    """The same under one word, which what is at the end speaks of."""
+    word = t.var(count)
+    said = lambda depth: t.con(EQ, t.var(depth), t.var(depth))
+    proof = t.con(EQ_REFL, word)
+    for k in range(count):
+        held = t.con(EQ, t.lit(k), t.lit(k))
+        denied = t.con(IMP, held, t.con(FF))
+        depth = count - 1 - k
+        proof = t.con(OR_E, held, denied, said(depth), t.con(EM, held), t.lam(proof), t.lam(proof))
+    over = t.lam(said(0))
+    return instead(t, t.con(ALL, over), t.con(ALL_I, over, t.lam(proof)))
+
+
+def balanced(t, leaf, low, high):
+    if high - low == 1:
+        return leaf(low)
+    middle = (low + high) // 2
+    return t.con(AND, balanced(t, leaf, low, middle), balanced(t, leaf, middle, high))
+
+
+def rights(t, count):
+    """That so many rights to load lead to the same rights, in the other order: for `prove`."""
+    rights = [t.con(RD, t.con(ADD, t.var(30 - 1), t.lit(8 * k))) for k in range(count)]
+    under, over = rights[0], rights[-1]
+    for k in range(1, count):
+        under, over = t.con(AND, rights[k], under), t.con(AND, rights[-1 - k], over)
+    return t.con(IMP, under, over)
+
+
+def far_apart(t, count, leaves):
+    """Formulas of a far variable under two contexts that differ at the outermost of many binders."""
+    one = balanced(t, lambda k: t.con(EQ, t.var(count + 1 + 14), t.lit(k)), 0, leaves)
+    other = balanced(t, lambda k: t.con(EQ, t.var(count + 1 + 14), t.lit(leaves - 1 - k)), 0, leaves)
+    for _ in range(count):
+        one, other = t.con(ALL, t.lam(one)), t.con(ALL, t.lam(other))
+    return t.con(AND, t.con(ALL, t.lam(one)), t.con(ALLM, t.lam(other)))
+
+
+def mixed(t, count):
+    """A formula whose parts use up to so many variables, in two contexts."""
+    formula = t.con(TT)
+    for k in range(count):
+        formula = t.con(AND, formula, t.con(EQ, t.var(count - 1 - k), t.lit(k)))
+    formula = t.con(AND, formula, t.con(EQ, t.var(count + 1 + 14), t.lit(0)))
+    for _ in range(count):
+        formula = t.con(ALL, t.lam(formula))
+    return t.con(IMP, t.con(ALL, t.lam(formula)), t.con(ALLM, t.lam(formula)))
+
+
+def addq(a, literal, c):
+    return 0x10 << 26 | a << 21 | (literal & 255) << 13 | 1 << 12 | 0x20 << 5 | c
+
+
+def beq(a, displacement):
+    return 0x39 << 26 | a << 21 | displacement & 0x1FFFFF
+
+
+def changing(ways):
+    """Code of 2^ways ways that change registers, up to a loop at its last index, which is annotated."""
+    words = []
+    for k in range(ways):
+        words += [beq(16, 1), addq(CHANGED[k % 8], k + 1, CHANGED[k % 8])]
+    return words + [LOOP], len(words)
+
+
+def families():
+    for k in (18, 22, 200, 1000):
+        t = Terms()
+        yield "a, invariant, %d levels" % k, "filter", container(t, FILTER, [LOOP], [(0, levels(t, k))]), "refused 9 NoProof"
+    for k in (18, 200):
+        t = Terms()
+        yield "a, each binder used, %d levels" % k, "filter", container(t, FILTER, [LOOP], [(0, levels_used(t, k))]), "refused 9 NoProof"
+    for k in (16, 60):
+        t = Terms()
+        yield "a, unused between used, %d levels" % k, "filter", container(t, FILTER, [LOOP], [(0, levels_between(t, k))]), "refused 9 NoProof"
+    for k in (18, 22, 200, 1000):
+        t = Terms()
+        yield "a, parameter of or_r, %d levels" % k, "tag", returning_container(t, disjoined(t, levels_closed(t, k))), "accepted"
+    t = Terms()
+    words, end = changing(11)
+    wide = balanced(t, lambda k: t.con(EQ, t.var(30 - CHANGED[k % 8]), t.lit(k)), 0, 2500)
+    yield "b, 2,500 leaves, 2^11 ways", "filter", container(t, FILTER, words, [(end, wide)], t.con(TT_I)), "status 5"
+    t = Terms()
+    wide = balanced(t, lambda k: t.con(EQ, t.var(30 - 1), t.lit(k)), 0, 50000)
+    many = [addq(1, 1, 1)] * 256
+    yield "b, 255 invariants, 50,000 leaves", "filter", container(t, FILTER, many + [RETURN_1, RETURN], [(k, wide) for k in range(255)], t.con(TT_I)), "status 5"
+    t = Terms()
+    wide = balanced(t, lambda k: t.con(EQ, t.var(30 - 5), t.lit(k)), 0, 50000)
+    yield "b, .. of another register", "filter", container(t, FILTER, many + [RETURN_1, RETURN], [(k, wide) for k in range(255)], t.con(TT_I)), "status 5"
+    for k in (10, 15):
+        t = Terms()
+        yield "c, cases, %d levels" % k, "tag", returning_container(t, by_cases(t, k)), "accepted"
+        t = Terms()
+        yield "c, of a word, %d levels" % k, "tag", returning_container(t, by_cases_under(t, k)), "accepted"
+    t = Terms()
+    yield "d, 500 rights by hypotheses", "filter", container(t, FILTER, [LOOP], [(0, rights(t, 500))]), "prove"
+    for parts, count in [(40, 14500), (3000, 14500)]:
+        t = Terms()
+        data = returning_container(t, under_equality(t, contexts(t, parts, count)))
+        yield "e, a word of %d parts under %d hypotheses" % (parts, count), "tag", data, "accepted"
+    for parts, count in [(20, 14000), (3000, 12000)]:
+        t = Terms()
+        data = returning_container(t, under_equality(t, instances(t, parts, count)))
+        yield "e, %d instances of %d parts" % (count, parts), "tag", data, "accepted" if parts < 100 else "status 5"
+    for count, leaves in ((900, 10000), (900, 40000)):
+        t = Terms()
+        name = "f, %d formulas, %d binders apart" % (leaves, count)
+        yield name, "filter", container(t, FILTER, [LOOP], [(0, far_apart(t, count, leaves))]), "refused 9 NoProof"
+    for count in (300, 900):
+        t = Terms()
+        name = "g, %d variables, in two contexts" % count
+        yield name, "filter", container(t, FILTER, [LOOP], [(0, mixed(t, count))]), "refused 9 NoProof"
+
+
+def main(binary, work, *chosen):
+    passed = True
+    for name, policy, data, wanted in families():
+        if chosen and not any(word in name for word in chosen):
+            continue
+        path = os.path.join(work, "container")
+        with open(path, "wb") as out:
+            out.write(data)
+        if wanted == "prove" and binary != "write":
+            subprocess.run([binary, "prove", policy, path, path], stdout=subprocess.DEVNULL, check=False)
+            data, wanted = open(path, "rb").read(), "accepted"
+        if binary == "write":
+            with open(os.path.join(work, name.replace(" ", "_").replace(",", "")), "wb") as out:
+                out.write(data)
+            continue
+        words = [sys.executable, "-S", "-E", "-c", MEASURE, binary, "check", policy, path]
+        printed = subprocess.check_output(words).decode().rstrip("\n").split(" ", 3) + [""]
+        status, seconds, megabytes, line = printed[:4]
+        line = line or "status " + status
+        slow = float(seconds) > MOST_SECONDS or float(megabytes) > MOST_MEGABYTES
+        passed = passed and line == wanted and not slow
+        note = ("" if line == wanted else "  WANTED " + wanted) + ("  TOO MUCH" if slow else "")
+        print("%-46s %9d bytes %6.2f s %5.0f MB  %s%s"
+              % (name, len(data), float(seconds), float(megabytes), line, note), flush=True)
+    return 0 if passed else 1
+
+
+if __name__ == "__main__":
+    sys.setrecursionlimit(100000)
+    sys.exit(main(*sys.argv[1:]))
