@@ -4,6 +4,7 @@ sys.path.insert(0, os.path.dirname(os.path.abspath(__file__)))
 from terms import *
 
 LOOP = 0xC3FFFFFF  # br to itself
+CHANGED = list(range(1, 9))  # registers that code may write
 MOST_SECONDS, MOST_MEGABYTES = 2.0, 512
 
 # A process of its own, since the peak memory of a child counts that of its parent.
@@ -140,7 +141,7 @@ def changing(ways):
     """Code of 2^ways ways that change registers, up to a loop at its last index, which is annotated."""
     words = []
     for k in range(ways):
-        words += [beq(17 + k % 4, 1), addq(16 + k % 11, k + 1, 16 + k % 11)]
+        words += [beq(16, 1), addq(CHANGED[k % 8], k + 1, CHANGED[k % 8])]
     return words + [LOOP], len(words)
 
 
@@ -159,24 +160,22 @@ def families():
         yield "a, parameter of or_r, %d levels" % k, "tag", returning_container(t, disjoined(t, levels_closed(t, k))), "accepted"
     t = Terms()
     words, end = changing(11)
-    wide = balanced(t, lambda k: t.con(EQ, t.var(30 - (16 + k % 11)), t.lit(k)), 0, 2500)
-    yield "b, 2,500 leaves, 2^11 ways", "filter", container(t, FILTER, words, [(end, wide)], t.con(TT_I)), "refused 11 NotProof"
+    wide = balanced(t, lambda k: t.con(EQ, t.var(30 - CHANGED[k % 8]), t.lit(k)), 0, 2500)
+    yield "b, 2,500 leaves, 2^11 ways", "filter", container(t, FILTER, words, [(end, wide)], t.con(TT_I)), "status 5"
     t = Terms()
-    wide = balanced(t, lambda k: t.con(EQ, t.var(14), t.lit(k)), 0, 50000)
-    many = [addq(16, 1, 16)] * 256
-    yield "b, 255 invariants, 50,000 leaves", "filter", container(t, FILTER, many + [RETURN_1, RETURN], [(k, wide) for k in range(255)], t.con(TT_I)), "refused 11 NotProof"
+    wide = balanced(t, lambda k: t.con(EQ, t.var(30 - 1), t.lit(k)), 0, 50000)
+    many = [addq(1, 1, 1)] * 256
+    yield "b, 255 invariants, 50,000 leaves", "filter", container(t, FILTER, many + [RETURN_1, RETURN], [(k, wide) for k in range(255)], t.con(TT_I)), "status 5"
     t = Terms()
     wide = balanced(t, lambda k: t.con(EQ, t.var(30 - 5), t.lit(k)), 0, 50000)
-    yield "b, .. of another register", "filter", container(t, FILTER, many + [RETURN_1, RETURN], [(k, wide) for k in range(255)], t.con(TT_I)), "refused 11 NotProof"
-    for k in (15, 22, 200, 400):
+    yield "b, .. of another register", "filter", container(t, FILTER, many + [RETURN_1, RETURN], [(k, wide) for k in range(255)], t.con(TT_I)), "status 5"
+    for k in (10, 15):
         t = Terms()
         yield "c, cases, %d levels" % k, "tag", returning_container(t, by_cases(t, k)), "accepted"
-    for k in (15, 22, 200, 400):
         t = Terms()
         yield "c, of a word, %d levels" % k, "tag", returning_container(t, by_cases_under(t, k)), "accepted"
-    for k in (500, 1000):
-        t = Terms()
-        yield "d, %d rights by hypotheses" % k, "filter", container(t, FILTER, [LOOP], [(0, rights(t, k))]), "prove"
+    t = Terms()
+    yield "d, 500 rights by hypotheses", "filter", container(t, FILTER, [LOOP], [(0, rights(t, 500))]), "prove"
     for parts, count in [(40, 14500), (3000, 14500)]:
         t = Terms()
         data = returning_container(t, under_equality(t, contexts(t, parts, count)))

@@ -84,13 +84,6 @@ part_alike s m ctx other c h = record {
     back : Agree m other ctx
     back i q = sym (h i (c i q))
 
-pub part_same : (m : Tree) (ctx other : List Tree) → ctx ≡ other → IsPart m ctx other
-part_same m ctx other e = record {
-  synth = λ sig. ap (synth_of sig m) (sym e);
-  checks = λ sig a. ap (λ z. checks_of sig m z a) (sym e);
-  formed = λ sig. ap (is_type_of sig m) (sym e);
-}
-
 -- what is found in a later table of the earlier one's contexts
 pub part_grown : (t u : TableView) (c d s : ℕ) (m : Tree) → Extends t u → IsKnown t c → IsKnown t d → Covers (tree_at u s) m →
     AgreeOn (member (tree_at u s)) (types_of (tree_at u c)) (types_of (tree_at u d)) → IsPart m (types_of (tree_at t c)) (types_of (tree_at t d))

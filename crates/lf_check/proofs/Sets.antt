@@ -1,7 +1,8 @@
 -- Sets of variables, and what a tree uses.
-use Rattle.std.proofs.Common.{◌≡◌, ℕ, zero, suc, ◌+◌, ◌<◌, Bool, true, false, List, ◌∷◌, refl, sym, ◌∙◌, ap, subst, arith, ltb-true, eqb-true, ◌⊎◌, inl, inr, ⊎_elim}
+use Rattle.std.proofs.Common.{◌≡◌, ℕ, zero, suc, ◌+◌, ◌<◌, Bool, true, false, List, ◌∷◌}
+use Rattle.std.proofs.Common.{refl, sym, ◌∙◌, ap, subst, arith, ltb-true, eqb-true, ◌⊎◌, inl, inr, ⊎_elim}
 use Rattle.std.specs.Prelude.{◌||◌}
-use Rattle.term_table.specs.Tree.{Tree, Var, Con, App, Lam, Fam, TApp, Pi, at}
+use Rattle.term_table.specs.Tree.{Tree, Var, Con, App, Lam, Fam, TApp, Pi}
 use Rattle.term_table.specs.Scope.{is_scoped}
 use Rattle.term_table.specs.Table.{TableView, IsKnown, tree_at}
 use Rattle.lf_signature.specs.Laws.Booleans.{both}
@@ -55,7 +56,8 @@ past_split zero h k s u e w = subst (λ z. IsWithin (past z s) (past zero u)) (s
     go : IsWithin (past (suc k) s) (past zero u)
     go zero q = refl
     go (suc i) q = w i q
-past_split (suc g) h k s u e w = subst (λ z. IsWithin (past z s) (past (suc g) u)) (sym (let f : h ≡ suc (suc (g + k)) = omega (arith, e) in f)) (go (past_split g (suc (g + k)) k s u refl w))
+past_split (suc g) h k s u e w = subst (λ z. IsWithin (past z s) (past (suc g) u)) (sym (let f : h ≡ suc (suc (g + k)) = omega (arith, e) in f))
+    (go (past_split g (suc (g + k)) k s u refl w))
   where
     go : IsWithin (past (suc (g + k)) s) (past g u) → IsWithin (past (suc (suc (g + k))) s) (past (suc g) u)
     go inner zero q = cc q
@@ -75,11 +77,6 @@ pub agree_later : (g : ℕ) (s : ℕ → Bool) (a b : Tree) (ctx other : List Tr
 agree_later g s a b ctx other h zero q = cc q
 agree_later g s a b ctx other h (suc i) q = h i q
 
--- and at it
-pub agree_now : (s : ℕ → Bool) (a b : Tree) (ctx other : List Tree) → a ≡ b → AgreeOn s ctx other → AgreeOn (past zero s) (a ∷ ctx) (b ∷ other)
-agree_now s a b ctx other e h zero q = cc e
-agree_now s a b ctx other e h (suc i) q = h i q
-
 -- what occurs in a scoped tree is near
 pub occurs_near : (m : Tree) (n i : ℕ) → is_scoped n m ≡ true → occurs i m ≡ true → i < n
 occurs_near (Var k) n i h q = let e : i ≡ k = eqb-true i k q in omega (arith, ltb-true k n h, e)
@@ -95,9 +92,6 @@ occurs_near (Pi a b) n i h q =
 pub agree_none : (s : Tree) (ctx other : List Tree) → is_set s ≡ false → AgreeOn (member s) ctx other
 agree_none s ctx other h i q = cc (no_member s h i, q)
 
-pub agree_same : (s : ℕ → Bool) (ctx other : List Tree) → ctx ≡ other → AgreeOn s ctx other
-agree_same s ctx other e i q = ap (λ z. at z i) e
-
 -- the union of a set without variables and another
 pub union_right : (t : TableView) (s : Tree) (r : ℕ) → is_set s ≡ false → IsKnown t r → IsUnion t (member s) (member (tree_at t r)) r
 union_right t s r h k = record { known = k; has_one = none_within s _ h; has_other = λ i q. q }
@@ -109,10 +103,12 @@ union_same t s r e k = record { known = k; has_one = λ i q. subst (λ z. member
 begins : (v : TableView) (w g : ℕ) (r : Tree) (s : ℕ → Bool) → tree_at v w ≡ App (Var g) r → IsWithin s (past g (member r)) → IsWithin s (member (tree_at v w))
 begins v w g r s e h i q = set_is v w g r e i ∙ h i q
 
-pub union_first : (v : TableView) (w g : ℕ) (s r : Tree) → IsKnown v w → tree_at v w ≡ App (Var g) s → is_set r ≡ false → IsUnion v (past g (member s)) (member r) w
+pub union_first : (v : TableView) (w g : ℕ) (s r : Tree) → IsKnown v w → tree_at v w ≡ App (Var g) s → is_set r ≡ false →
+    IsUnion v (past g (member s)) (member r) w
 union_first v w g s r k e h = record { known = k; has_one = begins v w g s _ e (λ i q. q); has_other = none_within r _ h }
 
-pub union_less : (u v : TableView) (s r : ℕ → Bool) (rest w g h k : ℕ) → IsUnion u (past k r) s rest → IsKnown v w → tree_at v w ≡ App (Var g) (tree_at u rest) → h ≡ suc (g + k) →
+pub union_less : (u v : TableView) (s r : ℕ → Bool) (rest w g h k : ℕ) → IsUnion u (past k r) s rest → IsKnown v w →
+    tree_at v w ≡ App (Var g) (tree_at u rest) → h ≡ suc (g + k) →
     IsUnion v (past g s) (past h r) w
 union_less u v s r rest w g h k x kw e l = record {
   known = kw;
@@ -120,7 +116,8 @@ union_less u v s r rest w g h k x kw e l = record {
   has_other = begins v w g (tree_at u rest) _ e (past_split g h k r _ l x.has_one);
 }
 
-pub union_more : (u v : TableView) (s r : ℕ → Bool) (rest w g h k : ℕ) → IsUnion u (past k s) r rest → IsKnown v w → tree_at v w ≡ App (Var h) (tree_at u rest) → g ≡ suc (h + k) →
+pub union_more : (u v : TableView) (s r : ℕ → Bool) (rest w g h k : ℕ) → IsUnion u (past k s) r rest → IsKnown v w →
+    tree_at v w ≡ App (Var h) (tree_at u rest) → g ≡ suc (h + k) →
     IsUnion v (past g s) (past h r) w
 union_more u v s r rest w g h k x kw e l = record {
   known = kw;
@@ -158,18 +155,6 @@ covers_one t f s r u hf h i q = h.has_one i (hf i q)
 
 pub covers_other : (t : TableView) (a : Tree) (s r : ℕ → Bool) (u : ℕ) → ((i : ℕ) → occurs i a ≡ true → r i ≡ true) → IsUnion t s r u → Covers (tree_at t u) a
 covers_other t a s r u ha h i q = h.has_other i (ha i q)
-
-pub covers_app : (f a s : Tree) → Covers s f → Covers s a → Covers s (App f a)
-covers_app f a s hf ha i q = ⊎_elim (hf i) (ha i) (one_of _ _ q)
-
-pub covers_tapp : (f a s : Tree) → Covers s f → Covers s a → Covers s (TApp f a)
-covers_tapp f a s hf ha i q = ⊎_elim (hf i) (ha i) (one_of _ _ q)
-
-pub covers_lam : (b s u : Tree) → Covers s b → IsOutside s u → Covers u (Lam b)
-covers_lam b s u h o i q = o i (h (suc i) q)
-
-pub covers_pi : (t : TableView) (a b s r : Tree) (u : ℕ) → Covers s a → Covers r (Lam b) → IsUnion t (member s) (member r) u → Covers (tree_at t u) (Pi a b)
-covers_pi t a b s r u ha hb h i q = ⊎_elim (λ x. h.has_one i (ha i x)) (λ x. h.has_other i (hb i x)) (one_of _ _ q)
 
 pub covers_var : (n : ℕ) (r s : Tree) → s ≡ App (Var n) r → Covers s (Var n)
 covers_var n r s e i q =

@@ -19,6 +19,8 @@ agree_past-returns-then-gap-gt0-clause-agree g k c =
     let types = types_of (tree_at t c.in-TApp.p) in
     let others = types_of (tree_at t c.in-TApp-node.q) in
     let e : c.args.gap ≡ suc (c.args.gap - 1) = omega arith in
+    let before = λ (b : _). IsTrue b → AgreeOn (past (c.args.gap - 1) set) types others in
+    let after = λ (b : _). IsTrue b → AgreeOn (past (suc (c.args.gap - 1)) set) (tree_at t c.in-TApp.a ∷ types) (tree_at t c.in-TApp-node.b ∷ others) in
     rw (sym c.in-TApp.ensures.tree, sym c.in-TApp-node.ensures.tree, e)
-    (IfOk-weaker c.agree_past.result (λ b. IsTrue b → AgreeOn (past (c.args.gap - 1) set) types others) (λ b. IsTrue b → AgreeOn (past (suc (c.args.gap - 1)) set) (tree_at t c.in-TApp.a ∷ types) (tree_at t c.in-TApp-node.b ∷ others))
+    (IfOk-weaker c.agree_past.result before after
     (λ b h q. agree_later (c.args.gap - 1) set (tree_at t c.in-TApp.a) (tree_at t c.in-TApp-node.b) types others (h q)) c.agree_past.ensures.agree)

@@ -14,4 +14,5 @@ returns-clause-part g c =
     let s = c.in_ok-uses.uses in
     IfOk-weaker c.agree_on.result (λ b. IsTrue b → AgreeOn (member (tree_at u s)) (types_of (tree_at u c.args.c)) (types_of (tree_at u c.args.d)))
     (λ b. IsTrue b → IsPart m (types_of (tree_at t c.args.c)) (types_of (tree_at t c.args.d)))
-    (λ b h q. part_grown t u c.args.c c.args.d s m c.in_ok-uses.ensures.extends c.requires.c c.requires.d c.in_ok-uses.ensures.covers (h q)) c.agree_on.ensures.agree
+    (λ b h q. part_grown t u c.args.c c.args.d s m c.in_ok-uses.ensures.extends c.requires.c c.requires.d c.in_ok-uses.ensures.covers (h q))
+    c.agree_on.ensures.agree

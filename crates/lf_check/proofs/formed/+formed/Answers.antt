@@ -33,8 +33,10 @@ product_at-keep-requires-clause-judges g k c =
     let kc : IsKnown u c.args.c = omega (arith, c.requires.c, tu.longer) in
     let same = g.met.S.Signature.same_types c.args.sig.now t in
     let is : c.in_ok-answer.answer ≡ is_type_of (s t) (tree_at t c.args.a) (types_of (tree_at u c.args.c)) =
-    product_part (s t) (s u) (s w) t u v w c.args.a c.args.from c.args.to c.args.c c.in_ok-inner.inner c.in_ok-answer.answer tu uv vw (same u tu c.requires.holds) (same w tw c.requires.holds)
-    c.requires.a c.requires.parts.0 c.requires.parts.1 kc c.requires.is (sym c.if-not-branch.false ∙ c.in_ok-is_type_at.ensures.answer) c.in_ok-inner.ensures.id.1 c.in_ok-answer.ensures.answer
+    product_part (s t) (s u) (s w) t u v w c.args.a c.args.from c.args.to c.args.c c.in_ok-inner.inner c.in_ok-answer.answer tu uv vw
+    (same u tu c.requires.holds) (same w tw c.requires.holds)
+    c.requires.a c.requires.parts.0 c.requires.parts.1 kc c.requires.is (sym c.if-not-branch.false ∙ c.in_ok-is_type_at.ensures.answer)
+    c.in_ok-inner.ensures.id.1 c.in_ok-answer.ensures.answer
     in
     rw (c.number.ensures)
     (judges_formed (s t) (s z) t u z c.args.a c.args.c tu uz (same z (grows_more t u z tu uz) c.requires.holds) c.requires.a kc (sym c.if-answer.true ∙ is))
@@ -53,6 +55,8 @@ product_at-returns-else-answer-clause-answer g k c =
     let kc : IsKnown u c.args.c = omega (arith, c.requires.c, tu.longer) in
     let same = g.met.S.Signature.same_types c.args.sig.now t in
     let is : c.in_ok-answer.answer ≡ is_type_of (s t) (tree_at t c.args.a) (types_of (tree_at u c.args.c)) =
-    product_part (s t) (s u) (s w) t u v w c.args.a c.args.from c.args.to c.args.c c.in_ok-inner.inner c.in_ok-answer.answer tu uv vw (same u tu c.requires.holds) (same w tw c.requires.holds)
-    c.requires.a c.requires.parts.0 c.requires.parts.1 kc c.requires.is (sym c.if-not-branch.false ∙ c.in_ok-is_type_at.ensures.answer) c.in_ok-inner.ensures.id.1 c.in_ok-answer.ensures.answer
+    product_part (s t) (s u) (s w) t u v w c.args.a c.args.from c.args.to c.args.c c.in_ok-inner.inner c.in_ok-answer.answer tu uv vw
+    (same u tu c.requires.holds) (same w tw c.requires.holds)
+    c.requires.a c.requires.parts.0 c.requires.parts.1 kc c.requires.is (sym c.if-not-branch.false ∙ c.in_ok-is_type_at.ensures.answer)
+    c.in_ok-inner.ensures.id.1 c.in_ok-answer.ensures.answer
     in is ∙ ap (λ z. is_type_of (s t) (tree_at t c.args.a) (types_of z)) (tu.same c.args.c c.requires.c)

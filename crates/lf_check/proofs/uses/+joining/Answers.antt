@@ -26,7 +26,8 @@ joined_past-returns-then-not-is_set-clause-union g k c =
     let v = c.with_first.new.table in
     let h : is_set (tree_at t c.args.r) ≡ false = search rules in
     IfOk-weaker c.with_first.result
-    (λ w. IsKnown v w × (tree_at v w ≡ App (Var c.args.gap) (tree_at t c.args.s))) (IsUnion v (past c.args.gap (member (tree_at t c.args.s))) (member (tree_at t c.args.r)))
+    (λ w. IsKnown v w × (tree_at v w ≡ App (Var c.args.gap) (tree_at t c.args.s)))
+    (IsUnion v (past c.args.gap (member (tree_at t c.args.s))) (member (tree_at t c.args.r)))
     (λ w q. union_first v w c.args.gap (tree_at t c.args.s) (tree_at t c.args.r) q.0 q.1 h) c.with_first.ensures.set
 
 pub joined_past-returns-clause-union : goal.joined_past-returns-clause-union
@@ -41,7 +42,8 @@ joined_both-returns-then-g-h-clause-union g k c =
     let other = member (tree_at t c.args.r) in
     IfOk-weaker c.with_first.result
     (λ w. IsKnown v w × (tree_at v w ≡ App (Var c.args.g) (tree_at u c.in_ok-rest.rest))) (IsUnion v (past c.args.g one) (past c.args.h other))
-    (λ w q. union_less u v one other c.in_ok-rest.rest w c.args.g c.args.h (c.args.h - c.args.g - 1) c.in_ok-rest.ensures.union q.0 q.1 (omega arith)) c.with_first.ensures.set
+    (λ w q. union_less u v one other c.in_ok-rest.rest w c.args.g c.args.h (c.args.h - c.args.g - 1) c.in_ok-rest.ensures.union q.0 q.1 (omega arith))
+    c.with_first.ensures.set
 
 pub joined_both-returns-then-h-g-clause-union : goal.joined_both-returns-then-h-g-clause-union
 joined_both-returns-then-h-g-clause-union g k c =
@@ -52,7 +54,8 @@ joined_both-returns-then-h-g-clause-union g k c =
     let other = member (tree_at t c.args.r) in
     IfOk-weaker c.with_first-then-h-g.result
     (λ w. IsKnown v w × (tree_at v w ≡ App (Var c.args.h) (tree_at u c.in_ok-rest-2.rest))) (IsUnion v (past c.args.g one) (past c.args.h other))
-    (λ w q. union_more u v one other c.in_ok-rest-2.rest w c.args.g c.args.h (c.args.g - c.args.h - 1) c.in_ok-rest-2.ensures.union q.0 q.1 (omega arith)) c.with_first-then-h-g.ensures.set
+    (λ w q. union_more u v one other c.in_ok-rest-2.rest w c.args.g c.args.h (c.args.g - c.args.h - 1) c.in_ok-rest-2.ensures.union q.0 q.1 (omega arith))
+    c.with_first-then-h-g.ensures.set
 
 pub joined_both-returns-clause-union : goal.joined_both-returns-clause-union
 joined_both-returns-clause-union g k c =

@@ -28,7 +28,8 @@ uses_of_both-returns-clause-other g k c =
     let one = c.in_ok-one.one in
     let other = c.in_ok-other.other in
     let ka : IsKnown t c.args.a = omega (arith, c.requires.m, c.requires.parts.1) in
-    let ha : Covers (tree_at v other) (tree_at t c.args.a) = subst (Covers (tree_at v other)) (c.in_ok-one.ensures.extends.same c.args.a ka) c.in_ok-other.ensures.covers in
+    let ha : Covers (tree_at v other) (tree_at t c.args.a) =
+    subst (Covers (tree_at v other)) (c.in_ok-one.ensures.extends.same c.args.a ka) c.in_ok-other.ensures.covers in
     IfOk-weaker c.joined.result (IsUnion w (member (tree_at v one)) (member (tree_at v other))) (λ r. Covers (tree_at w r) (tree_at t c.args.a))
     (λ r h. covers_other w (tree_at t c.args.a) (member (tree_at v one)) (member (tree_at v other)) r ha h) c.joined.ensures.union
 

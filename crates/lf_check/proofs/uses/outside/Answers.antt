@@ -23,11 +23,14 @@ returns-clause-set g c =
     let v = c.with_first.new.table in
     let rest = c.set_parts-gap.result.1 in
     let gap = c.set_parts-gap.result.0 in
-    IfOk-weaker c.with_first.result (λ w. IsKnown v w × (tree_at v w ≡ App (Var (gap - 1)) (tree_at t rest))) (λ w. IsOutside (tree_at t c.args.s) (tree_at v w))
-    (λ w q. outside_later (tree_at t c.args.s) (tree_at t rest) (tree_at v w) gap (gap - 1) c.set_parts-gap.ensures.is (omega arith) q.1) c.with_first.ensures.set
+    IfOk-weaker c.with_first.result (λ w. IsKnown v w × (tree_at v w ≡ App (Var (gap - 1)) (tree_at t rest)))
+    (λ w. IsOutside (tree_at t c.args.s) (tree_at v w))
+    (λ w q. outside_later (tree_at t c.args.s) (tree_at t rest) (tree_at v w) gap (gap - 1) c.set_parts-gap.ensures.is (omega arith) q.1)
+    c.with_first.ensures.set
 
 pub returns-clause-known : goal.returns-clause-known
 returns-clause-known g c =
     let t = c.args.table.now in
     let v = c.with_first.new.table in
-    IfOk-weaker c.with_first.result (λ w. IsKnown v w × (tree_at v w ≡ App (Var (c.set_parts-gap.result.0 - 1)) (tree_at t c.set_parts-gap.result.1))) (IsKnown v) (λ w q. q.0) c.with_first.ensures.set
+    IfOk-weaker c.with_first.result (λ w. IsKnown v w × (tree_at v w ≡ App (Var (c.set_parts-gap.result.0 - 1)) (tree_at t c.set_parts-gap.result.1)))
+    (IsKnown v) (λ w q. q.0) c.with_first.ensures.set

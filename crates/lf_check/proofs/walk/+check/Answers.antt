@@ -38,13 +38,15 @@ under_at-keep-requires-clause-judges g k c =
     let kc : IsKnown u c.args.c = omega (arith, c.requires.c, tu.longer) in
     let same = g.met.S.Signature.same_types c.args.sig.now t in
     let is : c.in_ok-answer.answer ≡ checks_of (s t) (tree_at t c.args.m) (types_of (tree_at u c.args.c)) (tree_at t c.args.a) =
-    under_part (s t) (s w) t u w c.args.m c.args.a c.args.body c.args.from c.args.to c.args.c c.in_ok-inner.inner c.in_ok-answer.answer tu uw (same w (grows_more t u w tu uw) c.requires.holds)
+    under_part (s t) (s w) t u w c.args.m c.args.a c.args.body c.args.from c.args.to c.args.c c.in_ok-inner.inner c.in_ok-answer.answer tu uw
+    (same w (grows_more t u w tu uw) c.requires.holds)
     c.requires.m c.requires.a c.requires.parts kc c.requires.lam c.requires.pi c.in_ok-inner.ensures.id.1 c.in_ok-answer.ensures.answer
     in
     let z = c.check_at.new.table in
     let uz : Extends u z = grows_more u w z uw c.in_ok-answer.ensures.extends in
     rw (c.number.ensures, c.number-2.ensures)
-    (judges_under (s t) (s z) t u z c.args.m c.args.a c.args.c tu uz (same z (grows_more t u z tu uz) c.requires.holds) c.requires.m c.requires.a kc (sym c.if-answer.true ∙ is))
+    (judges_under (s t) (s z) t u z c.args.m c.args.a c.args.c tu uz (same z (grows_more t u z tu uz) c.requires.holds) c.requires.m c.requires.a kc
+    (sym c.if-answer.true ∙ is))
 
 pub under_at-returns-in_ok-keep-clause-answer : goal.under_at-returns-in_ok-keep-clause-answer
 under_at-returns-in_ok-keep-clause-answer g k c =
@@ -57,7 +59,8 @@ under_at-returns-in_ok-keep-clause-answer g k c =
     let kc : IsKnown u c.args.c = omega (arith, c.requires.c, tu.longer) in
     let same = g.met.S.Signature.same_types c.args.sig.now t in
     let is : c.in_ok-answer.answer ≡ checks_of (s t) (tree_at t c.args.m) (types_of (tree_at u c.args.c)) (tree_at t c.args.a) =
-    under_part (s t) (s w) t u w c.args.m c.args.a c.args.body c.args.from c.args.to c.args.c c.in_ok-inner.inner c.in_ok-answer.answer tu uw (same w (grows_more t u w tu uw) c.requires.holds)
+    under_part (s t) (s w) t u w c.args.m c.args.a c.args.body c.args.from c.args.to c.args.c c.in_ok-inner.inner c.in_ok-answer.answer tu uw
+    (same w (grows_more t u w tu uw) c.requires.holds)
     c.requires.m c.requires.a c.requires.parts kc c.requires.lam c.requires.pi c.in_ok-inner.ensures.id.1 c.in_ok-answer.ensures.answer
     in
     is ∙ ap (λ z. checks_of (s t) (tree_at t c.args.m) (types_of z) (tree_at t c.args.a)) (tu.same c.args.c c.requires.c)
@@ -73,7 +76,8 @@ under_at-returns-else-answer-clause-answer g k c =
     let kc : IsKnown u c.args.c = omega (arith, c.requires.c, tu.longer) in
     let same = g.met.S.Signature.same_types c.args.sig.now t in
     let is : c.in_ok-answer.answer ≡ checks_of (s t) (tree_at t c.args.m) (types_of (tree_at u c.args.c)) (tree_at t c.args.a) =
-    under_part (s t) (s w) t u w c.args.m c.args.a c.args.body c.args.from c.args.to c.args.c c.in_ok-inner.inner c.in_ok-answer.answer tu uw (same w (grows_more t u w tu uw) c.requires.holds)
+    under_part (s t) (s w) t u w c.args.m c.args.a c.args.body c.args.from c.args.to c.args.c c.in_ok-inner.inner c.in_ok-answer.answer tu uw
+    (same w (grows_more t u w tu uw) c.requires.holds)
     c.requires.m c.requires.a c.requires.parts kc c.requires.lam c.requires.pi c.in_ok-inner.ensures.id.1 c.in_ok-answer.ensures.answer
     in
     is ∙ ap (λ z. checks_of (s t) (tree_at t c.args.m) (types_of z) (tree_at t c.args.a)) (tu.same c.args.c c.requires.c)

@@ -37,5 +37,6 @@ returns g c =
     in
     record {
       memo = c.spend.ensures t c.requires.kept.memo;
-      each = kept-one sig t (get block.ghosts.cmp c.args.self.now.rows) (get block.ghosts.cmp c.insert.new.self) (eq_by_cmp block.ghosts.cmp) c.args.question row decides c.requires.kept.each judges c.in_ok-insert.ensures.updates.0;
+      each = kept-one sig t (get block.ghosts.cmp c.args.self.now.rows) (get block.ghosts.cmp c.insert.new.self) (eq_by_cmp block.ghosts.cmp)
+          c.args.question row decides c.requires.kept.each judges c.in_ok-insert.ensures.updates.0;
     }
