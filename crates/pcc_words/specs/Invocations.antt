@@ -27,31 +27,53 @@ steps_rule = record (new_rule (codes "steps")) {
 abbrev pub number_app : Text → App
 number_app name = with_rule (new_app name) (record (positional (codes "N")) { parser = Some (parser.Unsigned 1 MAX_DEMO) })
 
+-- `NAME POLICY`
+abbrev pub policy_app : Text → App
+policy_app name = with_rule (new_app name) (positional (codes "POLICY"))
+
 -- `NAME POLICY FILE`
 abbrev pub file_app : Text → App
-file_app name = with_rule (with_rule (new_app name) (positional (codes "POLICY"))) (positional (codes "FILE"))
+file_app name = with_rule (policy_app name) (positional (codes "FILE"))
+
+-- `NAME POLICY IN`
+abbrev pub input_app : Text → App
+input_app name = with_rule (policy_app name) (positional (codes "IN"))
 
 -- `NAME POLICY IN OUT`
 abbrev pub copy_app : Text → App
-copy_app name = with_rule (with_rule (with_rule (new_app name) (positional (codes "POLICY"))) (positional (codes "IN"))) (positional (codes "OUT"))
+copy_app name = with_rule (input_app name) (positional (codes "OUT"))
+
+-- `NAME POLICY FILE PACKETS`
+abbrev pub packets_app : Text → App
+packets_app name = with_rule (file_app name) (positional (codes "PACKETS"))
 
 -- `NAME POLICY FILE PACKETS [--steps N]`
 abbrev pub run_app : Text → App
-run_app name = with_rule (with_rule (file_app name) (positional (codes "PACKETS"))) steps_rule
+run_app name = with_rule (packets_app name) steps_rule
 
 -- the program with no command yet, whose own name is not among the arguments
 abbrev pub bare_app : App
 bare_app = on_top (λ top. record top { no_binary_name = true }) (new_app (codes "pcc"))
 
--- the program with the commands that run no code
-abbrev pub file_commands_app : App
-file_commands_app =
-    with_subcommand (with_subcommand (with_subcommand bare_app (copy_app (codes "asm")).top) (copy_app (codes "prove")).top)
-    (file_app (codes "check")).top
+-- the command line with `asm`
+abbrev pub asm_app : App
+asm_app = with_subcommand bare_app (copy_app (codes "asm")).top
 
--- the program with the commands over files
+-- with `prove`
+abbrev pub copies_app : App
+copies_app = with_subcommand asm_app (copy_app (codes "prove")).top
+
+-- with all commands that run no code
+abbrev pub file_commands_app : App
+file_commands_app = with_subcommand copies_app (file_app (codes "check")).top
+
+-- with `run`
+abbrev pub runs_app : App
+runs_app = with_subcommand file_commands_app (run_app (codes "run")).top
+
+-- the command line with the commands over files
 abbrev pub named_files_app : App
-named_files_app = with_subcommand (with_subcommand file_commands_app (run_app (codes "run")).top) (run_app (codes "ref")).top
+named_files_app = with_subcommand runs_app (run_app (codes "ref")).top
 
 -- the program
 abbrev pub pcc_app : App

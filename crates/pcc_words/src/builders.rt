@@ -2,8 +2,10 @@
 ghost use Rattle.std.specs.Prelude.{◌≡◌, IfOk, false};
 ghost use Rattle.clap.specs.Words.{app_of, rule_of};
 ghost use Rattle.clap.specs.declared.Command.TheViews.{out-Command as fields_of};
-ghost use Rattle.pcc_words.specs.Invocations.{copy_app, file_app, run_app, file_commands_app};
-ghost use Rattle.pcc_words.specs.Invocations.{named_files_app, number_app, pcc_app, steps_rule};
+ghost use Rattle.pcc_words.specs.Invocations.{policy_app, file_app, input_app, copy_app};
+ghost use Rattle.pcc_words.specs.Invocations.{packets_app, run_app, number_app, steps_rule};
+ghost use Rattle.pcc_words.specs.Invocations.{asm_app, copies_app, file_commands_app};
+ghost use Rattle.pcc_words.specs.Invocations.{runs_app, named_files_app, pcc_app};
 ghost use Rattle.pcc_words.specs.Invocations.{positional as positional_rule};
 
 use crate::limits::{MAX_DEMO, MAX_STEPS};
@@ -38,14 +40,28 @@ fn number_command<'a>(alloc: Global, name: &'a str) -> Result<Command<'a>, Alloc
     Command::new(alloc, name).arg(number)
 }
 
+/// `NAME POLICY`
+fn policy_command<'a>(alloc: Global, name: &'a str) -> Result<Command<'a>, AllocError>
+    ensures app { IfOk result (λ c. app_of c ≡ policy_app name.entry.now) }
+    ensures local { IfOk result (λ c. (fields_of c).has_globals ≡ false) }
+{
+    Command::new(alloc, name).arg(positional(alloc, "POLICY"))
+}
+
 /// `NAME POLICY FILE`
 fn file_command<'a>(alloc: Global, name: &'a str) -> Result<Command<'a>, AllocError>
     ensures app { IfOk result (λ c. app_of c ≡ file_app name.entry.now) }
     ensures local { IfOk result (λ c. (fields_of c).has_globals ≡ false) }
 {
-    Command::new(alloc, name)
-        .arg(positional(alloc, "POLICY"))?
-        .arg(positional(alloc, "FILE"))
+    policy_command(alloc, name)?.arg(positional(alloc, "FILE"))
+}
+
+/// `NAME POLICY IN`
+fn input_command<'a>(alloc: Global, name: &'a str) -> Result<Command<'a>, AllocError>
+    ensures app { IfOk result (λ c. app_of c ≡ input_app name.entry.now) }
+    ensures local { IfOk result (λ c. (fields_of c).has_globals ≡ false) }
+{
+    policy_command(alloc, name)?.arg(positional(alloc, "IN"))
 }
 
 /// `NAME POLICY IN OUT`
@@ -53,10 +69,15 @@ fn copy_command<'a>(alloc: Global, name: &'a str) -> Result<Command<'a>, AllocEr
     ensures app { IfOk result (λ c. app_of c ≡ copy_app name.entry.now) }
     ensures local { IfOk result (λ c. (fields_of c).has_globals ≡ false) }
 {
-    Command::new(alloc, name)
-        .arg(positional(alloc, "POLICY"))?
-        .arg(positional(alloc, "IN"))?
-        .arg(positional(alloc, "OUT"))
+    input_command(alloc, name)?.arg(positional(alloc, "OUT"))
+}
+
+/// `NAME POLICY FILE PACKETS`
+fn packets_command<'a>(alloc: Global, name: &'a str) -> Result<Command<'a>, AllocError>
+    ensures app { IfOk result (λ c. app_of c ≡ packets_app name.entry.now) }
+    ensures local { IfOk result (λ c. (fields_of c).has_globals ≡ false) }
+{
+    file_command(alloc, name)?.arg(positional(alloc, "PACKETS"))
 }
 
 /// `NAME POLICY FILE PACKETS [--steps N]`
@@ -64,29 +85,49 @@ fn run_command<'a>(alloc: Global, name: &'a str) -> Result<Command<'a>, AllocErr
     ensures app { IfOk result (λ c. app_of c ≡ run_app name.entry.now) }
     ensures local { IfOk result (λ c. (fields_of c).has_globals ≡ false) }
 {
-    file_command(alloc, name)?
-        .arg(positional(alloc, "PACKETS"))?
-        .arg(steps(alloc))
+    packets_command(alloc, name)?.arg(steps(alloc))
+}
+
+/// The command line with `asm`.
+fn asm_command<'a>(alloc: Global) -> Result<Command<'a>, AllocError>
+    ensures app { IfOk result (λ c. app_of c ≡ asm_app) }
+{
+    let added = copy_command(alloc, "asm")?;
+    Command::new(alloc, "pcc")
+        .no_binary_name(true)
+        .subcommand(added)
+}
+
+/// The same with `prove`.
+fn copies_command<'a>(alloc: Global) -> Result<Command<'a>, AllocError>
+    ensures app { IfOk result (λ c. app_of c ≡ copies_app) }
+{
+    let added = copy_command(alloc, "prove")?;
+    asm_command(alloc)?.subcommand(added)
 }
 
 /// The command line with the commands that run no code.
 fn file_commands<'a>(alloc: Global) -> Result<Command<'a>, AllocError>
     ensures app { IfOk result (λ c. app_of c ≡ file_commands_app) }
 {
-    Command::new(alloc, "pcc")
-        .no_binary_name(true)
-        .subcommand(copy_command(alloc, "asm")?)?
-        .subcommand(copy_command(alloc, "prove")?)?
-        .subcommand(file_command(alloc, "check")?)
+    let added = file_command(alloc, "check")?;
+    copies_command(alloc)?.subcommand(added)
+}
+
+/// The same with `run`.
+fn runs_command<'a>(alloc: Global) -> Result<Command<'a>, AllocError>
+    ensures app { IfOk result (λ c. app_of c ≡ runs_app) }
+{
+    let added = run_command(alloc, "run")?;
+    file_commands(alloc)?.subcommand(added)
 }
 
 /// The command line with the commands over files.
 fn named_files_command<'a>(alloc: Global) -> Result<Command<'a>, AllocError>
     ensures app { IfOk result (λ c. app_of c ≡ named_files_app) }
 {
-    file_commands(alloc)?
-        .subcommand(run_command(alloc, "run")?)?
-        .subcommand(run_command(alloc, "ref")?)
+    let added = run_command(alloc, "ref")?;
+    runs_command(alloc)?.subcommand(added)
 }
 
 /// The whole command line.
