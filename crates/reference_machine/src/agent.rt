@@ -13,7 +13,7 @@ ghost use Rattle.reference_machine.specs.declared.layout.TheConstants.{ARENA};
 ghost use Rattle.alpha_cfg.specs.declared.code.TheConstants.{MAX_WORDS};
 
 use crate::layout::{ARENA, QUADWORDS};
-use crate::loading::fill;
+use crate::loading::{reach, refill};
 use crate::parts::{address_of, is_allowed, read_reg, rhs_word, takes, write_reg};
 use crate::start::Start;
 use alpha_cfg::{Code, Kind, Outcome, Step};
@@ -23,12 +23,14 @@ use std::marker::Model;
 use word_ops::apply;
 
 /// A state of the machine in an arena of 8,194 quadwords from address 65,536 on, with the place
-/// of its region.
+/// of its region. From number `end` on all words are 0: nothing was put there, and no store is allowed
+/// there.
 #[derive(Drop)]
 pub struct Agent {
     index: u32,
     regs: [u64; 31],
     words: Vec<u64>,
+    end: usize,
     reads: [(u64, u64); 2],
     writes: [(u64, u64); 2],
     region_at: u64,
@@ -59,6 +61,7 @@ impl Agent {
             index: 0,
             regs: [0; 31],
             words,
+            end: 0,
             reads: [(ARENA, 0); 2],
             writes: [(ARENA, 0); 2],
             region_at: ARENA,
@@ -79,7 +82,8 @@ impl Agent {
         self.regs[16] = start.r16;
         self.regs[17] = start.r17;
         self.regs[18] = start.r18;
-        fill(&mut self.words, place, start.bytes);
+        refill(&mut self.words, self.end, place, start.bytes);
+        self.end = reach(place + start.bytes.len().div_ceil(8), &start.writes);
         self.reads = start.reads;
         self.writes = start.writes;
         self.region_at = start.at;

@@ -1,6 +1,7 @@
 -- Hosts with rights that fit: at a start, and after a run.
-use Rattle.std.proofs.Common.{◌-◌, ◌/◌, ◌≡◌, ℕ, List, true, refl, sym, ◌∙◌, ap, subst, arith}
-use Rattle.word_ops.specs.Rights.{Rights}
+use Rattle.std.proofs.Common.{◌+◌, ◌-◌, ◌*◌, ◌/◌, ◌≤◌, ◌≡◌, ℕ, List, true, false, refl, sym, ◌∙◌, ap, subst, arith}
+use Rattle.word_ops.specs.Memory.{read}
+use Rattle.word_ops.specs.Rights.{Rights, allowed}
 use Rattle.alpha_words.specs.declared.insn.Insn.{Insn}
 use Rattle.alpha_cfg.specs.Machine.{State, run_of}
 use Rattle.alpha_cfg.specs.declared.outcome.Outcome.{Outcome}
@@ -8,8 +9,10 @@ use Rattle.alpha_cfg.specs.declared.outcome.Outcome.TheVariants as outcomes
 use Rattle.formula_tree.specs.Truth.{IsValid}
 use Rattle.policy_set.specs.declared.kind.PolicyKind.{PolicyKind}
 use Rattle.policy_set.specs.Policies.{pre_of}
-use Rattle.reference_machine.specs.Arena.{placed_words}
+use Rattle.reference_machine.specs.Arena.{placed_words, IsZeroFrom}
 use Rattle.reference_machine.specs.Starts.{StartView, Fits, HasWords, start_regs, start_state}
+use Rattle.reference_machine.proofs.ArenaWords.{read-map_of}
+use Rattle.reference_machine.proofs.Places.{past-not_allowed}
 use Rattle.reference_machine.proofs.Starting.{start_state-is}
 use Rattle.packet_store.specs.StartMeets.{StartMeets}
 use Rattle.vcgen.specs.Conditions.{AnnotatedCode, condition}
@@ -20,10 +23,12 @@ use Rattle.pcc_gate.specs.Views.{AcceptedView, AreAnnotations, IsConditionTrue}
 use Rattle.pcc_gate.proofs.First.{formulas-encoded}
 use Rattle.host_steps.specs.declared.ended.Ended.{Ended}
 use Rattle.host_steps.specs.declared.ended.Ended.TheVariants as ended
-use Rattle.safe_host.specs.Hosts.{HostView, shown_formulas, shown_code, state_under, RightsFit, HasRights, host_at, start_rights}
+use Rattle.safe_host.specs.Hosts.{HostView, shown_formulas, shown_code, state_under, RightsFit, host_at, start_rights}
+use Rattle.safe_host.specs.Inside.Fields.{HasRightsBefore}
 use Rattle.safe_host.specs.Runs.{IsRun, outcome_of, goes_on_after}
 use Rattle.host_steps.specs.Stepping.{arena_state, EndsUnblocked}
 use Rattle.host_steps.proofs.Unblocked.{under, run-same}
+use Rattle.host_steps.proofs.Unwritten.{run-left}
 
 good-unblocked : (c : AnnotatedCode) (s : State) (n left : ℕ) (q : Outcome × State) → IsGoodRun c s n left q → EndsUnblocked q.0
 good-unblocked c s n left (outcomes.OutOfSteps, t) h = tt
@@ -82,8 +87,8 @@ module _ (h : HostView) (forms : AreForms (inv_trees h.accepted.table h.accepted
   same r f = run-same 65536 r f.reads f.writes h.accepted.code n (arena_state 65536 h.index h.regs h.words) (ends-well r f)
 
   -- no access of its run is blocked
-  pub runs-unblocked : (code : List Insn) → code ≡ h.accepted.code → HasRights h → EndsUnblocked (run_of code n (arena_state 65536 h.index h.regs h.words)).0
-  runs-unblocked code is f =
+  pub runs-unblocked : (code : List Insn) → code ≡ h.accepted.code → (end : ℕ) → HasRightsBefore end h → EndsUnblocked (run_of code n (arena_state 65536 h.index h.regs h.words)).0
+  runs-unblocked code is end f =
       subst (λ (l : List Insn). EndsUnblocked (run_of l n (arena_state 65536 h.index h.regs h.words)).0) (sym is)
       (subst (λ (q : Outcome × State). EndsUnblocked q.0) (same f.0 f.1) (ends-well f.0 f.1))
 
@@ -111,5 +116,18 @@ module _ (h : HostView) (forms : AreForms (inv_trees h.accepted.table h.accepted
       }
 
       -- where it may go on, some fit
-      pub still-fits : HasRights h → goes_on_after result ≡ true → HasRights new
-      still-fits f on = (f.0, (is-run f.0 f.1).fits (goes-on result on))
+      pub still-fits : (end : ℕ) → HasRightsBefore end h → goes_on_after result ≡ true → HasRightsBefore end new
+      still-fits end f on = (f.0, (is-run f.0 f.1).fits (goes-on result on), f.2)
+
+      -- from the place on where the stores end, words are 0 as before
+      pub still-zero : (end : ℕ) → HasRightsBefore end h → IsZeroFrom end h.words → IsZeroFrom end new.words
+      still-zero end f zero p past =
+          let a : ℕ = 65536 + 8 * p in
+          let place : end ≤ (a - 65536) / 8 = omega (arith, past) in
+          let closed : allowed f.0.writes a ≡ false = past-not_allowed 65536 end f.0.writes a f.1.writes f.2 place in
+          let s : State = state_under h f.0 in
+          sym (read-map_of new.words 65536 p)
+          ∙ ap (λ (q : Outcome × State). read q.1.memory a) (sym (run-is f.0 f.1))
+          ∙ run-left a h.accepted.code n s closed
+          ∙ read-map_of h.words 65536 p
+          ∙ zero p past

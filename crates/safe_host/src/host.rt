@@ -13,13 +13,14 @@ use crate::ended::Counted;
 use host_steps::{Ended, Operation, Slots, operations_of, run_steps};
 use packet_store::start;
 use pcc_gate::Accepted;
-use reference_machine::{ARENA, QUADWORDS, fill};
+use reference_machine::{ARENA, QUADWORDS, reach, refill};
 use std::alloc::{AllocError, Global};
 use std::marker::Model;
 
 /// Accepted code, its operations, registers, and an arena of 8,194 quadwords from address 65,536 on.
 /// It keeps no rights: while it is `live`, some rights fit it, under which the code accesses nothing
-/// that isn't allowed.
+/// that isn't allowed. From number `end` on all words of the arena are 0: nothing was put there, and
+/// these rights allow no store there.
 #[derive(Drop)]
 pub struct Host {
     pub(crate) accepted: Accepted,
@@ -27,6 +28,7 @@ pub struct Host {
     pub(crate) index: u32,
     pub(crate) slots: Slots,
     pub(crate) words: Vec<u64>,
+    pub(crate) end: usize,
     pub(crate) region: u64,
     pub(crate) live: bool,
 }
@@ -64,6 +66,7 @@ impl Host {
             index: 0,
             slots: Slots::new(0, 0, 0),
             words,
+            end: 0,
             region: 0,
             live: false,
         })
@@ -88,7 +91,8 @@ impl Host {
         let place = ((begin.at - ARENA) / 8) as usize;
         self.index = 0;
         self.slots = Slots::new(begin.r16, begin.r17, begin.r18);
-        fill(&mut self.words, place, begin.bytes);
+        refill(&mut self.words, self.end, place, begin.bytes);
+        self.end = reach(place + begin.bytes.len().div_ceil(8), &begin.writes);
         self.region = begin.region;
         self.live = true;
         true
@@ -164,8 +168,9 @@ impl Host {
     }
 
     /// What was accepted, the host being given up. All that a host has is named here: its code, also as
-    /// operations, the state of a run, the region's count and whether a run may go on. So it keeps no
-    /// rights, and no packet's length, and a field for them would have to be written here first.
+    /// operations, the state of a run, how many words at the arena's front `load` has to clear, the
+    /// region's count and whether a run may go on. So it keeps no rights, and a field for them would have
+    /// to be written here first.
     pub fn into_accepted(self) -> Accepted
         ensures { result ≡ self.accepted }
     {
@@ -175,6 +180,7 @@ impl Host {
             index: _,
             slots: _,
             words: _,
+            end: _,
             region: _,
             live: _,
         } = self;

@@ -5,9 +5,9 @@ use Rattle.alpha_words.specs.declared.insn.Insn.{Insn}
 use Rattle.alpha_cfg.specs.Machine.{run_of}
 use Rattle.safe_host.specs.Hosts.{HostView}
 use Rattle.safe_host.specs.Runs.{IsRun, outcome_of}
-use Rattle.safe_host.specs.Inside.Fields.{host_view}
+use Rattle.safe_host.specs.Inside.Fields.{host_view, HasRightsBefore}
 use Rattle.host_steps.specs.Stepping.{arena_state, EndsUnblocked}
-use Rattle.safe_host.proofs.Running.{runs-unblocked, is-run, still-fits}
+use Rattle.safe_host.proofs.Running.{runs-unblocked, is-run, still-fits, still-zero}
 use Rattle.host_steps.specs.declared.operations.Operation.{Operation}
 use Rattle.host_steps.specs.Operations.{AreOperations}
 use Rattle.safe_host.proofs.host.Host.run.Goals as goal
@@ -19,7 +19,7 @@ run_steps-ended-requires-clause-unblocked c =
     let live : h.live ≡ true = subst (λ (v : HostView). v.live ≡ true) (sym c.self.view_is) c.requires in
     let code : List Insn = c.code-code.result.now in
     subst (λ (words : List ℕ). EndsUnblocked (run_of code c.args.budget (arena_state 65536 h.index h.regs words)).0) (sym c.deref_mut.ensures.value)
-    (runs-unblocked h law.forms law.annotates law.valid c.args.budget code (c.code-code.ensures.value ∙ c.cut.ensures.code) (c.self.invariant.rights live))
+    (runs-unblocked h law.forms law.annotates law.valid c.args.budget code (c.code-code.ensures.value ∙ c.cut.ensures.code) c.self.inside.end (c.self.invariant.rights live))
 
 pub run_steps-ended-requires-clause-operations : goal.run_steps-ended-requires-clause-operations
 run_steps-ended-requires-clause-operations c =
@@ -45,12 +45,15 @@ invariant_of-self c =
     ap (λ (l : List ℕ). (outcome_of ran.result, arena_state 65536 new.index new.regs l)) words
     ∙ ran.ensures.run
     ∙ ap (λ (l : List ℕ). run_of code c.args.budget (arena_state 65536 h.index h.regs l)) c.deref_mut.ensures.value in
+    let fit : HasRightsBefore c.self.inside.end h = c.self.invariant.rights live in
     record {
       operations = c.self.invariant.operations;
       words_len = ap (λ (l : List ℕ). length l) words ∙ omega (arith, ran.auto.words, c.self.invariant.words_len);
       region_within = c.self.invariant.region_within;
       within = λ _. rw same at ran.ensures.within;
-      rights = λ on. still-fits h law.forms law.annotates law.valid c.args.budget code same ran.result new refl run (c.self.invariant.rights live) (sym c.goes_on-self-inside.ensures ∙ on);
+      end_within = c.self.invariant.end_within;
+      past_end = still-zero h law.forms law.annotates law.valid c.args.budget code same ran.result new refl run c.self.inside.end fit c.self.invariant.past_end;
+      rights = λ on. still-fits h law.forms law.annotates law.valid c.args.budget code same ran.result new refl run c.self.inside.end fit (sym c.goes_on-self-inside.ensures ∙ on);
     }
 
 pub returns-clause-under : goal.returns-clause-under
