@@ -239,11 +239,14 @@ module _ (texts : Texts) (task : Task) (suited : IsSuited texts task.standing ta
 -- where reads came to a value
 value : (texts : Texts) (task : Task) (f m : FilesState) (effect : Effect) → Walked texts task.standing task.names task.stage (gives effect) f m
     → (m ≡ f) × IfSome f.contents (λ files. answer_of (result_over texts files task.stage) ≡ answer_of (Ok effect)) × (task.standing ≡ command)
-value texts task f m effect (fine same told known) = (same,
+value texts task f m effect (fine same told known) = (
+  same,
   IfSome_then f.contents
-  {P = λ files. result_over texts files task.stage ≡ result_over texts files (gives effect)}
-  {Q = λ files. answer_of (result_over texts files task.stage) ≡ answer_of (Ok effect)}
-  told (λ files e. ap answer_of e), known)
+      {P = λ files. result_over texts files task.stage ≡ result_over texts files (gives effect)}
+      {Q = λ files. answer_of (result_over texts files task.stage) ≡ answer_of (Ok effect)}
+      told (λ files e. ap answer_of e),
+  known,
+)
 value texts task f m effect (fault name asked named known fails is) = absurd (no_stop effect (read_fault_exit texts name) is)
 value texts task f m effect (missed name same told known is) = absurd (no_stop effect (missing_exit texts name) is)
 value texts task f m effect (memory same is) = absurd (no_stop effect no_memory_exit is)
