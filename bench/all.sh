@@ -2,7 +2,9 @@
 # Prints one table of the program's speed, each row median of five beside a ratio: start-up; asm, prove
 # and check on examples and at limits; packets and steps a second of ref and run, beside the same filters
 # as native loops (bench/native.c, where there is a C compiler), and beside libpcap, tcpdump and
-# qemu-alpha where they are installed. What is missing is told.
+# qemu-alpha where they are installed; a loop of six instructions on one packet of 64 bytes, for which
+# loading counts nothing, beside qemu-alpha's translator, its -singlestep and libpcap's interpreter. What
+# is missing is told.
 #
 # PCC is the program that is measured; without it ./pcc builds the proved one and takes that. CC is the
 # C compiler, cc without it; an empty CC leaves the native rows out. A line that isn't the one expected
@@ -155,7 +157,7 @@ if compiler and shutil.which(compiler):
         for kind, path, times in [("port", small_file, 50), ("checksum", large_file, 50)]:
             for text in once([work + "/native", path, times])[0].decode().splitlines():
                 name, seconds, taken = text.split()
-                if name == kind or name == "libpcap" and kind == "port":
+                if name == kind or name in ("libpcap", "six") and kind == "port":
                     native[name] = float(seconds), int(taken)
 else:
     with_pcap = False
@@ -181,7 +183,7 @@ def passes(title, name, path, count, unit_count, scale, unit, times):
     return seconds["run"]
 
 head("steps a second, processor time without start-up and gate (the checksum of %d packets of 65,535 bytes, %d steps)" % (len(large), counted["checksum"]))
-passes("checksum", "checksum", large_file, len(large), counted["checksum"], 1e6, "M steps/s", 11)
+checksum_seconds = passes("checksum", "checksum", large_file, len(large), counted["checksum"], 1e6, "M steps/s", 11)
 head("packets a second, likewise (%d frames of 64 to 98 bytes, TCP to port 80, %d steps; each line is put by itself)" % (len(small), counted["port"]))
 run_seconds = passes("port", "port", small_file, len(small), len(small), 1e3, "k packets/s", 5)
 if "libpcap" in native:
@@ -202,25 +204,29 @@ if shutil.which("tcpdump"):
 else:
     line("tcpdump: it isn't installed", "missing", "")
 
-# ---- the same code words under qemu-alpha
+# ---- a loop of six instructions, and the checksum, under qemu-alpha too
+
+def low_and_high(value):
+    """What lda adds, and what ldah has to add before it."""
+    low = (value & 0xFFFF) - (value & 0x8000) * 2
+    return low, (value - low) >> 16
+
+def load(register, value):
+    """Code words that put a value below 2^47 into a register, by way of r25."""
+    low, high = low_and_high(value & 0x7FFFFFFF)
+    words = [0x24000000 | register << 21 | 31 << 16 | high & 0xFFFF,  # ldah
+             0x20000000 | register << 21 | register << 16 | low & 0xFFFF]  # lda
+    if value >> 31:
+        words += [0x20000000 | 25 << 21 | 31 << 16 | value >> 31,  # lda r25
+                  0x48000000 | 25 << 21 | 31 << 13 | 1 << 12 | 0x39 << 5 | 25,  # sll r25,31
+                  0x40000000 | register << 21 | 25 << 16 | 0x20 << 5 | register]  # addq
+    return words
 
 def alpha_program(code, packet, times):
     """An ELF file that calls the code so many times on the packet, and exits with r0."""
     base, entry = 0x120000000, 0x78
     at = entry + 4 * 64  # the code; then scratch and the packet at a multiple of 8
     data = (at + len(code) + 15) & ~7
-    def low(value):  # what lda adds, and what ldah has to add before it
-        l = (value & 0xFFFF) - (value & 0x8000) * 2
-        return l, (value - l) >> 16
-    def load(register, value):  # into a register by way of r25; value below 2^47 in two parts of 32 bits
-        words, (l, h) = [], low(value & 0x7FFFFFFF)
-        words.append(0x24000000 | register << 21 | 31 << 16 | h & 0xFFFF)  # ldah
-        words.append(0x20000000 | register << 21 | register << 16 | l & 0xFFFF)  # lda
-        if value >> 31:
-            words.append(0x20000000 | 25 << 21 | 31 << 16 | value >> 31)  # lda r25
-            words.append(0x48000000 | 25 << 21 | 31 << 13 | 1 << 12 | 0x39 << 5 | 25)  # sll r25,31
-            words.append(0x40000000 | register << 21 | 25 << 16 | 0x20 << 5 | register)  # addq
-        return words
     words = load(9, times)
     loop = len(words)
     words += load(16, base + data + 16) + load(17, len(packet)) + load(18, base + data)
@@ -234,22 +240,63 @@ def alpha_program(code, packet, times):
     header = b"\x7fELF\2\1\1" + bytes(9) + struct.pack("<HHIQQQIHHHHHH", 2, 0x9026, 1, base + entry, 64, 0, 0, 64, 56, 1, 0, 0, 0)
     return header + struct.pack("<IIQQQQQQ", 1, 7, 0, base, base, size, size, 0x10000) + image
 
+def emulated(flags, code, packet, counts, steps):
+    """Million steps a second of the emulator, by the difference of two counts of calls of the code."""
+    seconds = []
+    for times in counts:
+        path = write("alpha", alpha_program(code, packet, times))
+        os.chmod(path, 0o755)
+        runs = [once([emulator, *flags, path]) for _ in range(3)]
+        if any(r[1] != 1 for r in runs):
+            return None
+        seconds.append(statistics.median(r[2] for r in runs))
+    return (counts[1] - counts[0]) * steps / max(seconds[1] - seconds[0], 1e-4) / 1e6
+
+def beside(rates, rows):
+    """The rows of other programs, and how many times as fast as each the host is."""
+    global failed
+    for name, rate in rows:
+        if rate is None:
+            failed = True
+        line(name, "failed" if rate is None else "%.1f" % rate, "M steps/s", "run: " + ratio(rates["run"], rate, "of it") if rate else "")
+
+ROUNDS, STEPS = 50000000, 300000000
+SIX = b"""      .inv tt
+loop: addq r1,1,r1
+      and r1,255,r2
+      sll r2,3,r3
+      addq r3,r4,r4
+      subq r4,r1,r5
+      br loop
+"""
 emulator = next((name for name in ("qemu-alpha", "qemu-alpha-static") if shutil.which(name)), None)
+
+head("steps a second, a loop of six instructions on one packet of 64 bytes, processor time without start-up and gate")
+once([binary, "asm", "filter", write("six.s", SIX), work + "/six.plain"])
+once([binary, "prove", "filter", work + "/six.plain", work + "/six"])
+packet, rates = write("packet", file_of([bytes(64)])), {}
+for command in ("ref", "run"):
+    words = [binary, command, "filter", work + "/six", packet, "--steps"]
+    base = median([*words, 1], "0: out of steps")[0]
+    rates[command] = STEPS / (median([*words, STEPS], "0: out of steps")[0] - base) / 1e6
+    line(command, "%.1f" % rates[command], "M steps/s", ratio(rates["run"], rates["ref"], "ref's speed") if command == "run" else "")
 if emulator is None:
     line("qemu-alpha: it isn't installed", "missing", "")
-else:
+else:  # the last two: subq r6,1,r6; bne r6
+    loop = load(6, ROUNDS) + [0x40203401, 0x443FF002, 0x48407723, 0x40640404, 0x40C03526, 0xF4DFFFFA, 0x201F0001, RETURN]
+    code = struct.pack("<%dI" % len(loop), *loop)
+    beside(rates, [("qemu-alpha -singlestep, counting the rounds in r6", emulated(["-singlestep"], code, bytes(64), (1, 3), STEPS)),
+                   ("qemu-alpha, the same", emulated([], code, bytes(64), (1, 13), STEPS))])
+if "six" in native:
+    beside(rates, [("libpcap's bpf_filter, six of its instructions", native["six"][1] / native["six"][0] / 1e6)])
+
+if emulator is not None:
     bytes_of = read(proved["checksum"])
     code = bytes_of[16:16 + 4 * struct.unpack_from("<I", bytes_of, 12)[0]]
-    results = {}
-    for times in (1, 1 + len(large)):
-        path = write("alpha", alpha_program(code, large[0], times))
-        os.chmod(path, 0o755)
-        runs = [once([emulator, path]) for _ in range(5)]
-        results[times] = statistics.median(r[2] for r in runs), runs[0][1]
-    if results[1][1] != 1:
-        line("qemu-alpha: it ended with status %d, expected 1" % results[1][1], "failed", "")
-    else:
-        seconds = max(results[1 + len(large)][0] - results[1][0], 1e-4)
-        line("qemu-alpha, the checksum's code words", "%.1f" % (counted["checksum"] / seconds / 1e6), "M steps/s")
+    steps = counted["checksum"] / len(large)
+    head("the checksum of a packet of 65,535 bytes again and again, %d steps, likewise" % steps)
+    beside({"run": counted["checksum"] / checksum_seconds / 1e6},
+           [("qemu-alpha -singlestep", emulated(["-singlestep"], code, large[0], (1000, 4000), steps)),
+            ("qemu-alpha", emulated([], code, large[0], (10000, 20000), steps))])
 sys.exit(1 if failed else 0)
 PY

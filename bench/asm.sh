@@ -6,24 +6,20 @@ top=$(cd "$(dirname "${BASH_SOURCE[0]}")/.." && pwd)
 work=$(mktemp -d)
 trap 'rm -rf "$work"' EXIT
 "$top/pcc" asm filter "$top/examples/sum/source.s" "$work/out" > /dev/null || true
-python3 - "$top/crates/pcc_main/out/pcc_main" "$work" <<'PY'
-import os, shutil, statistics, subprocess, sys
+python3 - "$top/bench" "$top/crates/pcc_main/out/pcc_main" "$work" <<'PY'
+import shutil, statistics, sys
+sys.path.insert(0, sys.argv[1])
+from runs import run
 
-binary, work = sys.argv[1:]
-
-def once(words):
-    process = subprocess.Popen(words, stdout=subprocess.PIPE, stderr=subprocess.DEVNULL)
-    line = process.stdout.read().decode().strip()
-    _, status, used = os.wait4(process.pid, 0)
-    return line, used.ru_utime + used.ru_stime, used.ru_maxrss / 1024
+binary, work = sys.argv[2:]
 
 def row(name, source, wanted, policy="filter"):
     with open(work + "/source", "w") as out:
         out.write(source)
-    runs = [once([binary, "asm", policy, work + "/source", work + "/out"]) for _ in range(5)]
-    line = runs[0][0]
-    print("%-52s %6.3f s %5.0f MB  %9d bytes  %s%s" % (name, statistics.median(r[1] for r in runs),
-          statistics.median(r[2] for r in runs), len(source), line, "" if line.startswith(wanted) else "  EXPECTED " + wanted))
+    runs = [run([binary, "asm", policy, work + "/source", work + "/out"], work) for _ in range(5)]
+    line = runs[0].line
+    print("%-52s %6.3f s %5.0f MB  %9d bytes  %s%s" % (name, statistics.median(r.seconds for r in runs),
+          statistics.median(r.megabytes for r in runs), len(source), line, "" if line.startswith(wanted) else "  EXPECTED " + wanted))
 
 LIMIT, LINE = 1048576, 2048
 insns = ["addq $%d,%d,$%d" % (k % 8, k % 256, (k + 1) % 8) for k in range(1023)] + ["ret"]
@@ -69,6 +65,6 @@ if assembler is None:
 else:
     with open(work + "/source", "w") as out:
         out.write("\n".join(insns) + "\n")
-    runs = [once([assembler, "-o", work + "/object", work + "/source"]) for _ in range(5)]
-    print("%-52s %6.3f s %5.0f MB" % (assembler, statistics.median(r[1] for r in runs), statistics.median(r[2] for r in runs)))
+    runs = [run([assembler, "-o", work + "/object", work + "/source"], work) for _ in range(5)]
+    print("%-52s %6.3f s %5.0f MB" % (assembler, statistics.median(r.seconds for r in runs), statistics.median(r.megabytes for r in runs)))
 PY

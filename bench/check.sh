@@ -8,38 +8,25 @@ work=$(mktemp -d)
 trap 'rm -rf "$work"' EXIT
 "$top/pcc" check tag "$top/examples/tag/container" > /dev/null
 python3 - "$top/bench" "$top/crates/pcc_main/out/pcc_main" "$work" <<'PY'
-import os, statistics, subprocess, sys
+import statistics, sys
 sys.path.insert(0, sys.argv[1])
+from runs import run
 from terms import *
 
 binary, work = sys.argv[2:]
 failed = False
-
-# A process of its own, since the peak memory of a child counts that of its parent.
-MEASURE = """
-import os, subprocess, sys
-process = subprocess.Popen(sys.argv[1:], stdout=subprocess.PIPE)
-line = process.stdout.read().decode().strip()
-_, status, used = os.wait4(process.pid, 0)
-print(os.waitstatus_to_exitcode(status), used.ru_utime + used.ru_stime, used.ru_maxrss / 1024, line)
-"""
-
-def once(policy, path):
-    words = [sys.executable, "-S", "-E", "-c", MEASURE, binary, "check", policy, path]
-    status, seconds, megabytes, line = (subprocess.check_output(words).decode().rstrip("\n").split(" ", 3) + [""])[:4]
-    return line, int(status), float(seconds), float(megabytes)
 
 def row(name, policy, data, wanted, times=5):
     global failed
     path = work + "/container"
     with open(path, "wb") as out:
         out.write(data)
-    runs = [once(policy, path) for _ in range(times)]
-    line = runs[0][0] or "status %d" % runs[0][1]
+    runs = [run([binary, "check", policy, path], work) for _ in range(times)]
+    line = runs[0].line or "status %d" % runs[0].status
     note = "" if line == wanted else "  EXPECTED " + wanted
     failed = failed or line != wanted
-    print("%-52s %7.2f s %6.0f MB  %9d bytes  %s%s" % (name, statistics.median(r[2] for r in runs),
-          statistics.median(r[3] for r in runs), len(data), line, note), flush=True)
+    print("%-52s %7.2f s %6.0f MB  %9d bytes  %s%s" % (name, statistics.median(r.seconds for r in runs),
+          statistics.median(r.megabytes for r in runs), len(data), line, note), flush=True)
 
 t = Terms()
 row("ret under tag", "tag", returning_container(t), "accepted")

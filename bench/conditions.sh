@@ -7,19 +7,19 @@ set -eu
 top=$(cd "$(dirname "${BASH_SOURCE[0]}")/.." && pwd)
 binary=$top/crates/lf_bench/out/lf_bench
 [ -x "$binary" ] || (cd "$top/crates/lf_bench" && rt run) >&2
-python3 - "$binary" <<'PY'
-import os, statistics, subprocess, sys
+work=$(mktemp -d)
+trap 'rm -rf "$work"' EXIT
+python3 - "$top/bench" "$binary" "$work" <<'PY'
+import statistics, sys
+sys.path.insert(0, sys.argv[1])
+from runs import run
 
-def once(words):
-    process = subprocess.Popen([sys.argv[1]] + [str(word) for word in words], stdout=subprocess.PIPE)
-    line = process.stdout.read().decode().strip()
-    _, status, used = os.wait4(process.pid, 0)
-    assert status == 0, line
-    return line, used.ru_utime + used.ru_stime, used.ru_maxrss / 1024
+binary, work = sys.argv[2:]
 
 def median(words, times=5):
-    runs = [once(words) for _ in range(times)]
-    return runs[0][0], statistics.median(r[1] for r in runs), statistics.median(r[2] for r in runs)
+    runs = [run([binary, *words], work) for _ in range(times)]
+    assert all(r.status == 0 for r in runs), runs
+    return runs[0].line, statistics.median(r.seconds for r in runs), statistics.median(r.megabytes for r in runs)
 
 rows = [
     ("put-chains", [(3000, 12000), (3000, 26000), (3000, 53000)]),

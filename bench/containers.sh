@@ -66,18 +66,15 @@ with open(sys.argv[1] + "/packets", "wb") as out:
     out.write(struct.pack("<I", 64) + bytes(64))
 PY
 "$top/pcc" ref filter "$work/chain" "$work/packets"
-python3 - "$top/crates/pcc_main/out/pcc_main" "$work" <<'PY'
-import os, statistics, subprocess, sys
+python3 - "$top/bench" "$top/crates/pcc_main/out/pcc_main" "$work" <<'PY'
+import statistics, sys
+sys.path.insert(0, sys.argv[1])
+from runs import run
 
+binary, work = sys.argv[2:]
 for name in ["chain", "tree", "rising", "random", "equal hashes"]:
-    runs = []
-    for _ in range(5):
-        words = [sys.argv[1], "ref", "filter", sys.argv[2] + "/" + name, sys.argv[2] + "/packets"]
-        process = subprocess.Popen(words, stdout=subprocess.PIPE)
-        line = process.stdout.read().decode().strip()
-        _, status, used = os.wait4(process.pid, 0)
-        assert status == 0, line
-        runs.append((used.ru_utime + used.ru_stime, used.ru_maxrss / 1024))
+    runs = [run([binary, "ref", "filter", work + "/" + name, work + "/packets"], work) for _ in range(5)]
+    assert all(r.status == 0 for r in runs), runs
     print("%s: %s  %.2f s  %.0f MB" % (
-        name, line, statistics.median(r[0] for r in runs), statistics.median(r[1] for r in runs)))
+        name, runs[0].line, statistics.median(r.seconds for r in runs), statistics.median(r.megabytes for r in runs)))
 PY

@@ -1,20 +1,12 @@
 """The families of bench/hostile.sh: files that are made to take `pcc check` long."""
 import os, subprocess, sys
 sys.path.insert(0, os.path.dirname(os.path.abspath(__file__)))
+from runs import run
 from terms import *
 
 LOOP = 0xC3FFFFFF  # br to itself
 CHANGED = list(range(1, 9))  # registers that code may write
 MOST_SECONDS, MOST_MEGABYTES = 2.0, 512
-
-# A process of its own, since the peak memory of a child counts that of its parent.
-MEASURE = """
-import os, subprocess, sys
-process = subprocess.Popen(sys.argv[1:], stdout=subprocess.PIPE)
-line = process.stdout.read().decode().strip()
-_, status, used = os.wait4(process.pid, 0)
-print(os.waitstatus_to_exitcode(status), used.ru_utime + used.ru_stime, used.ru_maxrss / 1024, line)
-"""
 
 
 def both_ways(t, formula):
@@ -209,15 +201,13 @@ def main(binary, work, *chosen):
             with open(os.path.join(work, name.replace(" ", "_").replace(",", "")), "wb") as out:
                 out.write(data)
             continue
-        words = [sys.executable, "-S", "-E", "-c", MEASURE, binary, "check", policy, path]
-        printed = subprocess.check_output(words).decode().rstrip("\n").split(" ", 3) + [""]
-        status, seconds, megabytes, line = printed[:4]
-        line = line or "status " + status
-        slow = float(seconds) > MOST_SECONDS or float(megabytes) > MOST_MEGABYTES
+        found = run([binary, "check", policy, path], work)
+        line = found.line or "status %d" % found.status
+        slow = found.seconds > MOST_SECONDS or found.megabytes > MOST_MEGABYTES
         passed = passed and line == wanted and not slow
         note = ("" if line == wanted else "  WANTED " + wanted) + ("  TOO MUCH" if slow else "")
         print("%-46s %9d bytes %6.2f s %5.0f MB  %s%s"
-              % (name, len(data), float(seconds), float(megabytes), line, note), flush=True)
+              % (name, len(data), found.seconds, found.megabytes, line, note), flush=True)
     return 0 if passed else 1
 
 

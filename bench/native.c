@@ -2,7 +2,8 @@
 
    usage: native PACKETS TIMES       prints, of TIMES passes over the packets: seconds a pass of each
                                      filter, and how many packets each takes
-   With -DWITH_PCAP -lpcap it also has libpcap's filter `tcp dst port 80` go over the same packets. */
+   With -DWITH_PCAP -lpcap it also has libpcap's filter `tcp dst port 80` go over the same packets, and
+   libpcap's interpreter go round a loop of six instructions (seconds, and how many instructions). */
 #include <stdint.h>
 #include <stdio.h>
 #include <stdlib.h>
@@ -67,6 +68,26 @@ static int libpcap(const struct packet *p) {
     header.caplen = header.len = p->length;
     return p->length >= 64 && pcap_offline_filter(&program, &header, p->bytes) != 0;
 }
+
+#define ROUNDS 50000000
+
+/* Its jumps back are those that libpcap itself makes for `ip6 protochain`. */
+static void six(void) {
+    static const unsigned char packet[64];
+    struct bpf_insn code[] = {
+        BPF_STMT(BPF_LD | BPF_IMM, ROUNDS),
+        BPF_STMT(BPF_MISC | BPF_TAX, 0),
+        BPF_STMT(BPF_ALU | BPF_AND | BPF_K, 255),
+        BPF_STMT(BPF_MISC | BPF_TXA, 0),
+        BPF_STMT(BPF_ALU | BPF_SUB | BPF_K, 1),
+        BPF_JUMP(BPF_JMP | BPF_JEQ | BPF_K, 0, 1, 0),
+        BPF_STMT(BPF_JMP | BPF_JA, -6u),
+        BPF_STMT(BPF_RET | BPF_K, 1),
+    };
+    double start = now();
+    if (bpf_filter(code, packet, sizeof packet, sizeof packet) == 1)
+        printf("six %.9f %ld\n", now() - start, 6L * ROUNDS);
+}
 #endif
 
 int main(int argc, char **argv) {
@@ -89,6 +110,7 @@ int main(int argc, char **argv) {
     pcap_t *dead = pcap_open_dead(DLT_EN10MB, 65535);
     if (dead == NULL || pcap_compile(dead, &program, "tcp dst port 80", 1, PCAP_NETMASK_UNKNOWN) != 0) return 1;
     pass("libpcap", libpcap, packets, count, times);
+    six();
 #endif
     return 0;
 }

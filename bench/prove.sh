@@ -9,27 +9,18 @@ work=$(mktemp -d)
 trap 'rm -rf "$work"' EXIT
 "$top/pcc" check tag "$top/examples/tag/container" > /dev/null
 python3 - "$top/bench" "$top/crates/pcc_main/out/pcc_main" "$work" <<'PY'
-import hashlib, os, statistics, subprocess, sys
+import hashlib, os, statistics, sys
 sys.path.insert(0, sys.argv[1])
+from runs import run
 from terms import *
 
 binary, work = sys.argv[2:]
 source, target = work + "/in", work + "/out"
 failed = False
 
-# A process of its own, since the peak memory of a child counts that of its parent.
-MEASURE = """
-import os, subprocess, sys
-process = subprocess.Popen(sys.argv[1:], stdout=subprocess.PIPE)
-line = process.stdout.read().decode().strip()
-_, status, used = os.wait4(process.pid, 0)
-print(os.waitstatus_to_exitcode(status), used.ru_utime + used.ru_stime, used.ru_maxrss / 1024, line)
-"""
-
 def once(*words):
-    words = [sys.executable, "-S", "-E", "-c", MEASURE, binary, *words]
-    status, seconds, megabytes, line = (subprocess.check_output(words).decode().rstrip("\n").split(" ", 3) + [""])[:4]
-    return line or "status " + status, float(seconds), float(megabytes)
+    found = run([binary, *words], work)
+    return found.line or "status %d" % found.status, found.seconds, found.megabytes
 
 def digest():
     if not os.path.exists(target):
