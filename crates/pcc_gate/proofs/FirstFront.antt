@@ -73,7 +73,7 @@ key_rises (p ∷ q ∷ ps) low words (suc k) r h =
     subst (λ j. slice_index keys (suc k) < slice_index keys j) (sym one) (key_rises (q ∷ ps) (suc p.0) words k r.2 (omega (arith, h)))
 
 -- the annotated indices lie in the code
-annotated_flags : (c : Contents) (code : List Insn) → IsContents c → EncodesCode c.code code → AreFlags (map (λ p. p.0) c.invs) (length code) (marks_of c code)
+pub annotated_flags : (c : Contents) (code : List Insn) → IsContents c → EncodesCode c.code code → AreFlags (map (λ p. p.0) c.invs) (length code) (marks_of c code)
 annotated_flags c code s encoded =
     let words : ℕ = length c.code / 4 in
     let count : words ≡ length code = omega (arith, encoded.whole) in

@@ -3,6 +3,7 @@ pub mod CodeBytes
 pub mod Searches
 pub mod FirstFront
 pub mod First
+mod Witness
 pub mod Kept
 pub mod Refusing
 pub mod Stages

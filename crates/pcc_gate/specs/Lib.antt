@@ -4,6 +4,7 @@ pub mod First
 pub mod Refusals
 pub mod Safe
 pub mod Laws
+pub mod Witness
 pub mod Views
 pub mod Answers
 pub mod Shortages

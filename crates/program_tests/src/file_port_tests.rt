@@ -1,18 +1,24 @@
 //! What reads, writes and puts answer and leave, in memory and at the system.
 
+ghost use Rattle.std.specs.Prelude.{◌≡◌, [], ◌∷◌, ◌++◌};
+ghost use Rattle.file_port.specs.Events.{Given, was_read};
+
 use file_port::{DiskFiles, Files, MemFiles, MemSink, Put, Sink, StdSink};
 use std::alloc::{AllocError, Global};
 use std::io::{ErrorKind, Write};
 use std::test::Fail;
 use std::{fs, io};
 
-/// The answer of a read, as it is printed, and the count of faults after it.
+/// The answer of a read, as it is printed, and the count of faults after it. The read is in the log.
 fn read_text<F: Files>(
     alloc: Global,
     files: &mut F,
     name: &str,
     max: u32,
-) -> Result<(String, u64), AllocError> {
+) -> Result<(String, u64), AllocError>
+    ensures logged { (given : Given)
+        × (F.log files.new ≡ F.log files.old ++ was_read name.now max given ∷ []) }
+{
     let got = files.read(alloc, name, max);
     Ok((format!(in alloc; "{got:?}")?, files.read_faults()))
 }

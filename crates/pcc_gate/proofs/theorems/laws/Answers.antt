@@ -1,5 +1,6 @@
 use Rattle.pcc_gate.proofs.Safe.{accepted-safe}
 use Rattle.pcc_gate.proofs.FirstFront.{passed-none, none-passed, passed-one, before-is, passes-cut, cut-passes}
+use Rattle.pcc_gate.proofs.Witness.{loop_is_accepted}
 use Rattle.pcc_gate.proofs.First.{accepted-none, none-accepted, refusal-is}
 use Rattle.pcc_gate.proofs.theorems.laws.Goals as goal
 
@@ -24,3 +25,6 @@ returns-clause-before c policy bytes r fits = before-is policy bytes r fits
 pub returns-clause-up_to : goal.returns-clause-up_to
 returns-clause-up_to c policy bytes k code marks =
     (λ p. (passes-cut policy bytes k code marks p, p.unfolded), λ h. cut-passes policy bytes k code marks h.0 h.1)
+
+pub returns-clause-some : goal.returns-clause-some
+returns-clause-some c = loop_is_accepted

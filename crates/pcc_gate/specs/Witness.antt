@@ -1,0 +1,28 @@
+-- That acceptance isn't empty: a container whose code loads, stores and loops is accepted.
+use Rattle.std.specs.Prelude.{ℕ, zero, suc, Bool, List, [], ◌∷◌, pos, negsuc, Some}
+use Rattle.word_ops.specs.declared.Op.TheVariants.{Add}
+use Rattle.word_ops.specs.declared.Rel.TheVariants.{Eq}
+use Rattle.alpha_words.specs.declared.insn.Cond.TheVariants.{Zero}
+use Rattle.alpha_words.specs.declared.insn.Insn.{Insn}
+use Rattle.alpha_words.specs.declared.insn.Insn.TheVariants.{Ldq, Stq, Branch, Br, Ret}
+use Rattle.formula_tree.specs.Formulas.{Exp, EVar, ELit, EOp, ESel, MVar, Form, FTrue, FFalse, FRel, FRd, FWr, FAnd, FImp}
+use Rattle.formula_terms.specs.Encoding.{form_encoding}
+use Rattle.formula_terms.specs.ProofTerms.{tt_i, and_i, and_l, and_r, imp_i, imp_e, all_i, allm_i}
+use Rattle.policy_set.specs.declared.kind.PolicyKind.TheVariants.{Tag}
+use Rattle.policy_set.specs.Names.{policy_number}
+use Rattle.term_table.specs.Tree.{Tree, Var}
+use Rattle.proof_container.specs.Contents.{Contents}
+use Rattle.vcgen.specs.Conditions.{alls}
+use Rattle.pcc_gate.specs.Accepted.{Accepts}
+
+-- Where the first word isn't 0, the second is set to it and the first is read again, without end:
+--   ldq r0, 0(r16);  beq r0, to the end;  stq r0, 8(r16);  ldq r1, 0(r16);  br to the store;  ret
+abbrev pub loop_code : List Insn
+loop_code = Ldq 0 16 (pos 0) ∷ Branch Zero 0 (pos 3) ∷ Stq 0 16 (pos 8) ∷ Ldq 1 16 (pos 0) ∷ Br (negsuc 2) ∷ Ret ∷ []
+
+-- some bytes hold this code and are accepted under `tag`
+pub record LoopIsAccepted : Type 0 where
+  pub bytes : List ℕ
+  pub contents : Contents
+  pub marks : List Bool
+  pub accepts : Accepts Tag bytes contents loop_code marks
