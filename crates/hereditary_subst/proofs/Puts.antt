@@ -45,7 +45,7 @@ spare_head ty s ts m x t r h q =
     (h.0, λ acc. subst (λ z. walk (reduce s) m x z acc ≡ Some (Rattle.term_table.specs.Tree.apps (tree_at ts r) acc)) h.1 (cancel_atom (reduce s) h.2.scope x (tree_at ts r) m acc (sym (atom_shift 1 x (tree_at ts r)) ∙ ap is_atomic_shape h.1 ∙ q) h.2.within h.2.raises))
 
 pub says_under : (t u : TableView) (id m x ty r : ℕ) → Extends t u → IsKnown t id → IsKnown t m → IsKnown t ty → IsKnown u r →
-    hsub (erase (tree_at t ty)) (tree_at t m) x (tree_at t id) ≡ Some (tree_at u r) → Says u (Q.Under id m x ty) r None
+    hsub (erase (tree_at t ty)) (tree_at t m) x (tree_at t id) ≡ Some (tree_at u r) → Says u (Q.Under m id x ty) r None
 says_under t u id m x ty r e i j k n h = record {
   known = record { term = n; met = tt };
   tells = (known-more t u id i e, known-more t u m j e, known-more t u ty k e, rw (e.same id i, e.same m j, e.same ty k) h);

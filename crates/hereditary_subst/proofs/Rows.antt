@@ -38,15 +38,15 @@ tells-more (Q.Shift id by from) r met t u k h e =
     (known-more t u id h.0 e, ap (shifted by from) (e.same id h.0) ∙ h.1 ∙ ap Some (sym (e.same r k)))
 tells-more (Q.Lower id x) r met t u k h e =
     (known-more t u id h.0 e, subst (λ z. LowersTo u x z r met) (sym (e.same id h.0)) (lowers-more t u x (tree_at t id) r met k e h.1))
-tells-more (Q.Head id m x ty) r met t u k h e = (
+tells-more (Q.Head m id x ty) r met t u k h e = (
   known-more t u id h.0 e,
   known-more t u m h.1 e,
   known-more t u ty h.2 e,
   rw (e.same ty h.2, e.same m h.1, e.same id h.0, e.same r k) (met-more t u ty (erase (tree_at t ty)) (tree_at t m) x (tree_at t id) (tree_at t r) met e h.3),
 )
-tells-more (Q.Under id m x ty) r met t u k h e =
+tells-more (Q.Under m id x ty) r met t u k h e =
     (known-more t u id h.0 e, known-more t u m h.1 e, known-more t u ty h.2 e, rw (e.same ty h.2, e.same m h.1, e.same id h.0, e.same r k) h.3)
-tells-more (Q.Type id m x ty) r met t u k h e =
+tells-more (Q.Type m id x ty) r met t u k h e =
     (known-more t u id h.0 e, known-more t u m h.1 e, known-more t u ty h.2 e, rw (e.same ty h.2, e.same m h.1, e.same id h.0, e.same r k) h.3)
 
 pub says-more : (q : Question) (r : ℕ) (met : Option ℕ) (t u : TableView) → Says t q r met → Extends t u → Says u q r met

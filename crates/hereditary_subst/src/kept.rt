@@ -13,6 +13,9 @@ use std::alloc::Global;
 use std::collections::BTreeMap;
 use term_table::{Id, Table};
 
+/// Once a table has more trees than so many nothing more is kept of it.
+pub const MOST_TREES: u64 = 1_750_000;
+
 /// So many steps that keep nothing count as one result.
 const STEPS_A_RESULT: u64 = 16;
 
@@ -23,11 +26,12 @@ pub(crate) enum Question {
     Shift(u64, u64, u64),
     /// The tree with the variables past the second number lowered by one, where that one doesn't occur.
     Lower(u64, u64),
-    /// The atomic term with the second for the variable of the third number, at the type of the fourth.
+    /// The first for the variable of the third number, at the type of the fourth, in the second, an
+    /// atomic term. What is put stands first, so that the rows of one substitution stand together.
     Head(u64, u64, u64, u64),
-    /// The same for an abstraction.
+    /// The same in an abstraction.
     Under(u64, u64, u64, u64),
-    /// The same for a type.
+    /// The same in a type.
     Type(u64, u64, u64, u64),
 }
 
@@ -155,7 +159,8 @@ impl Memo {
         }
     }
 
-    /// Keeps an answer to the question. Fails past the limit, and where memory does.
+    /// Keeps an answer to the question. Fails past the limit, where the table has more than `MOST_TREES`
+    /// trees, and where memory does.
     pub(crate) fn keep(
         &mut self,
         table: &Table,
@@ -167,7 +172,9 @@ impl Memo {
         requires says { Says table.now question term met }
         ensures { IsMemo table.now self.new }
     {
-        let _ = table; // only the clauses speak of it
+        if table.count() > MOST_TREES {
+            return Err(Exhausted::Results);
+        }
         self.spend()?;
         let row = row_of(term, met);
         self.rows.insert(question, row)?;

@@ -116,7 +116,7 @@ fn subst_under(
     if let Some(r) = spare_at(table, memo, id, m, x)? {
         return Ok(Some(r));
     }
-    let question = Question::Under(number(id), number(m), x, number(ty));
+    let question = Question::Under(number(m), number(id), x, number(ty));
     if let Some(atom) = memo.find(table, &question) {
         return Ok(Some(atom.term));
     }
@@ -221,7 +221,7 @@ fn head_kept(
     if let Some(term) = spare_at(table, memo, id, m, x)? {
         return Ok(Some(Atom { term, met: None }));
     }
-    let question = Question::Head(number(id), number(m), x, number(ty));
+    let question = Question::Head(number(m), number(id), x, number(ty));
     if let Some(atom) = memo.find(table, &question) {
         return Ok(Some(atom));
     }
@@ -345,7 +345,7 @@ pub(crate) fn subst_type_at(
     if let Some(r) = spare_at(table, memo, id, m, x)? {
         return Ok(Some(r));
     }
-    let question = Question::Type(number(id), number(m), x, number(ty));
+    let question = Question::Type(number(m), number(id), x, number(ty));
     if let Some(atom) = memo.find(table, &question) {
         return Ok(Some(atom.term));
     }

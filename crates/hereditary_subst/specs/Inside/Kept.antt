@@ -35,9 +35,9 @@ pub record AreKnownIds (t : TableView) (r : ℕ) (u : Option ℕ) : Type 0 where
 abbrev pub Tells : TableView → Question → ℕ → Option ℕ → Type 0
 Tells t (Q.Shift id by from) r met = IsKnown t id × (shifted by from (tree_at t id) ≡ Some (tree_at t r))
 Tells t (Q.Lower id x) r met = IsKnown t id × LowersTo t x (tree_at t id) r met
-Tells t (Q.Head id m x ty) r met = IsKnown t id × IsKnown t m × IsKnown t ty × MetIs t ty (erase (tree_at t ty)) (tree_at t m) x (tree_at t id) (tree_at t r) met
-Tells t (Q.Under id m x ty) r met = IsKnown t id × IsKnown t m × IsKnown t ty × (hsub (erase (tree_at t ty)) (tree_at t m) x (tree_at t id) ≡ Some (tree_at t r))
-Tells t (Q.Type id m x ty) r met = IsKnown t id × IsKnown t m × IsKnown t ty × (hsub_type (erase (tree_at t ty)) (tree_at t m) x (tree_at t id) ≡ Some (tree_at t r))
+Tells t (Q.Head m id x ty) r met = IsKnown t id × IsKnown t m × IsKnown t ty × MetIs t ty (erase (tree_at t ty)) (tree_at t m) x (tree_at t id) (tree_at t r) met
+Tells t (Q.Under m id x ty) r met = IsKnown t id × IsKnown t m × IsKnown t ty × (hsub (erase (tree_at t ty)) (tree_at t m) x (tree_at t id) ≡ Some (tree_at t r))
+Tells t (Q.Type m id x ty) r met = IsKnown t id × IsKnown t m × IsKnown t ty × (hsub_type (erase (tree_at t ty)) (tree_at t m) x (tree_at t id) ≡ Some (tree_at t r))
 
 -- the answer is of the table, and right of the question
 pub record Says (t : TableView) (q : Question) (r : ℕ) (u : Option ℕ) : Type 0 where
