@@ -1,0 +1,4 @@
+pub mod Names
+pub mod Programs
+pub mod Reading
+pub mod Values
