@@ -13,3 +13,4 @@ pub mod PolicyHeights
 pub mod MachineRegs
 pub mod Walking
 pub mod Parts
+pub mod Sides

@@ -1,5 +1,5 @@
--- What `vc` answers.
-use Rattle.std.specs.Prelude.{◌≡◌, ℕ, ◌<◌, ◌≤◌, List, [], ◌∷◌, Result, Ok, Err}
+-- What `vc` and `is_condition_with` answer.
+use Rattle.std.specs.Prelude.{◌≡◌, ◌↔◌, ℕ, ◌<◌, ◌≤◌, List, [], ◌∷◌, Bool, IsTrue, Result, Ok, Err}
 use Rattle.alpha_cfg.specs.Cuts.{CutView, unfolded_of}
 use Rattle.alpha_cfg.specs.Graph.{capped}
 use Rattle.policy_set.specs.declared.kind.PolicyKind.{PolicyKind}
@@ -29,3 +29,10 @@ IsVcAnswer policy cut invs t (Ok id) = (unfolded_of cut.code cut.marks ≤ MAX_U
 IsVcAnswer policy cut invs t (Err (UnfoldLimit n)) = (MAX_UNFOLDED < unfolded_of cut.code cut.marks) × (n ≡ capped (unfolded_of cut.code cut.marks))
 IsVcAnswer policy cut invs t (Err Memory) = unfolded_of cut.code cut.marks ≤ MAX_UNFOLDED
 IsVcAnswer policy cut invs t (Err Results) = unfolded_of cut.code cut.marks ≤ MAX_UNFOLDED
+
+-- Whether the formula is the condition's encoding where the unfolded length is within its limit, which is tested first; else that length.
+abbrev pub IsConditionAnswer : PolicyKind → CutView → List (ℕ × Tree) → Tree → Result Bool VcFault → Type 0
+IsConditionAnswer policy cut invs formula (Ok b) = (unfolded_of cut.code cut.marks ≤ MAX_UNFOLDED) × (IsTrue b ↔ EncodesCondition policy cut.code invs formula)
+IsConditionAnswer policy cut invs formula (Err (UnfoldLimit n)) = (MAX_UNFOLDED < unfolded_of cut.code cut.marks) × (n ≡ capped (unfolded_of cut.code cut.marks))
+IsConditionAnswer policy cut invs formula (Err Memory) = unfolded_of cut.code cut.marks ≤ MAX_UNFOLDED
+IsConditionAnswer policy cut invs formula (Err Results) = unfolded_of cut.code cut.marks ≤ MAX_UNFOLDED

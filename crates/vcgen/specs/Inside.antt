@@ -1,3 +1,4 @@
 -- Words of the private functions and of the proofs.
 pub mod WalkTree
 pub mod Symbols
+pub mod Goals

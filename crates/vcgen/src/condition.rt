@@ -164,30 +164,10 @@ pub fn vc(table: &mut Table, cut: &Cut, policy: &Policy, invs: &[(u32, Id)]) -> 
     ensures exact { IsVcAnswer policy.now cut.now (inv_trees table.old invs.now) table.new result }
     ensures extends { Extends table.old table.new }
 {
-    let mut memo = Memo::new(table.allocator(), MOST_RESULTS);
-    vc_with(table, &mut memo, cut, policy, invs)
-}
-
-/// `vc`, with the results that `memo` keeps of earlier calls on the table. What is kept here counts
-/// in its limit, past which the answer is `Results`. The same clauses.
-pub fn vc_with(
-    table: &mut Table,
-    memo: &mut Memo,
-    cut: &Cut,
-    policy: &Policy,
-    invs: &[(u32, Id)],
-) -> Result<Id, VcFault>
-    requires invs { AreLowInvs table.old invs.now }
-    requires forms { AreForms (inv_trees table.old invs.now) }
-    requires marks { AreFlags (map (λ p. p.0) invs.now) (length cut.now.code) cut.now.marks }
-    requires memo { IsMemo table.old memo.old }
-    ensures exact { IsVcAnswer policy.now cut.now (inv_trees table.old invs.now) table.new result }
-    ensures extends { Extends table.old table.new }
-    ensures memo { IsMemo table.new memo.new }
-{
     let unfolded = cut.unfolded();
     if unfolded > MAX_UNFOLDED {
         return Err(VcFault::UnfoldLimit(unfolded));
     }
-    Ok(encoded_condition(table, memo, cut.code(), policy, invs)?)
+    let mut memo = Memo::new(table.allocator(), MOST_RESULTS);
+    Ok(encoded_condition(table, &mut memo, cut.code(), policy, invs)?)
 }

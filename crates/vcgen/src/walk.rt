@@ -32,7 +32,7 @@ pub(crate) struct Program<'a> {
 }
 
 /// The invariant of an index, if it is annotated.
-fn invariant(invs: &[(u32, Id)], index: u32) -> Option<Id>
+pub(crate) fn invariant(invs: &[(u32, Id)], index: u32) -> Option<Id>
     ensures { result ≡ inv_id invs.now index }
 {
     invs.iter().find(|pair| pair.0 == index).map(|pair| pair.1)

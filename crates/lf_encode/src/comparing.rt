@@ -1,0 +1,144 @@
+//! Whether a term is what a substitution of the machine's variables makes, by a walk through both of
+//! which no node is made but what is put under binders.
+//!
+//! What was found equal is kept as a result of the substitution, by entry and by the count of nearer
+//! variables: a second question about it compares ids.
+
+ghost use Rattle.std.specs.Prelude.{◌≡◌, ◌↔◌, ◌+◌, ◌<◌, ◌^◌, IfOk, IsTrue};
+ghost use Rattle.term_table.specs.Table.{IsKnown, tree_at, Extends};
+ghost use Rattle.term_table.specs.Measures.{height_of};
+ghost use Rattle.hereditary_subst.specs.Inside.Kept.{IsMemo};
+ghost use Rattle.lf_encode.specs.PutTree.{machine_terms_at, put_tree};
+ghost use Rattle.lf_encode.specs.Inside.Kept.{IsPutMemo, AreMachineTerms};
+
+use crate::puts::{Place, PutMemo, is_near, number, put_variable};
+use hereditary_subst::{Exhausted, Memo};
+use term_table::{Id, Node, Table};
+
+/// Whether `goal` is the term of `id` with what is put, where `depth` variables are nearer than the
+/// machine's.
+#[cycle(comparing)]
+#[tactic(auto, using(crate::proofs::KeptRows::rows))]
+fn is_put_at(
+    table: &mut Table,
+    shifts: &mut Memo,
+    kept: &mut PutMemo,
+    regs: &[Id],
+    memory: Id,
+    id: Id,
+    depth: u32,
+    goal: Id,
+) -> Result<bool, Exhausted>
+    requires known { IsKnown table.old id }
+    requires goal { IsKnown table.old goal }
+    requires ready { AreMachineTerms table.old regs.now memory }
+    requires shifts { IsMemo table.old shifts.old }
+    requires kept { IsPutMemo table.old regs.now memory kept.old }
+    requires low { depth + height_of (tree_at table.old id) < 2 ^ 31 }
+    ensures exact { let t = table.old in
+        let put = put_tree (machine_terms_at t regs.now memory) depth (tree_at t id) in
+        IfOk result (λ b. IsTrue b ↔ (tree_at t goal ≡ put)) }
+    ensures extends { Extends table.old table.new }
+    ensures shifts { IsMemo table.new shifts.new }
+    ensures kept { IsPutMemo table.new regs.now memory kept.new }
+{
+    if is_near(table, id, depth) {
+        return Ok(table.same(goal, id));
+    }
+    let place = Place {
+        id: number(id),
+        depth,
+    };
+    if let Some(put) = kept.find(table, regs, memory, &place) {
+        return Ok(table.same(goal, put));
+    }
+    let equal = is_put_by_parts(table, shifts, kept, regs, memory, id, depth, goal)?;
+    if equal {
+        kept.keep(shifts, table, regs, memory, place, goal)?;
+    }
+    Ok(equal)
+}
+
+/// The same, by the parts of both terms.
+#[cycle(comparing)]
+#[tactic(auto, using(crate::proofs::KeptRows::rows))]
+fn is_put_by_parts(
+    table: &mut Table,
+    shifts: &mut Memo,
+    kept: &mut PutMemo,
+    regs: &[Id],
+    memory: Id,
+    id: Id,
+    depth: u32,
+    goal: Id,
+) -> Result<bool, Exhausted>
+    requires known { IsKnown table.old id }
+    requires goal { IsKnown table.old goal }
+    requires ready { AreMachineTerms table.old regs.now memory }
+    requires shifts { IsMemo table.old shifts.old }
+    requires kept { IsPutMemo table.old regs.now memory kept.old }
+    requires low { depth + height_of (tree_at table.old id) < 2 ^ 31 }
+    ensures exact { let t = table.old in
+        let put = put_tree (machine_terms_at t regs.now memory) depth (tree_at t id) in
+        IfOk result (λ b. IsTrue b ↔ (tree_at t goal ≡ put)) }
+    ensures extends { Extends table.old table.new }
+    ensures shifts { IsMemo table.new shifts.new }
+    ensures kept { IsPutMemo table.new regs.now memory kept.new }
+{
+    match table.node(id) {
+        Node::Var(n) => {
+            let put = put_variable(table, shifts, regs, memory, n, depth)?;
+            Ok(table.same(goal, put))
+        }
+        Node::App(f, a) => {
+            let Node::App(function, argument) = table.node(goal) else {
+                return Ok(false);
+            };
+            if !is_put_at(table, shifts, kept, regs, memory, f, depth, function)? {
+                return Ok(false);
+            }
+            is_put_at(table, shifts, kept, regs, memory, a, depth, argument)
+        }
+        Node::Lam(b) => {
+            let Node::Lam(body) = table.node(goal) else {
+                return Ok(false);
+            };
+            is_put_at(table, shifts, kept, regs, memory, b, depth + 1, body)
+        }
+        _ => Ok(table.same(goal, id)),
+    }
+}
+
+/// Whether `goal` is the term that `put` gives of `id` with `regs` and `memory`: the term of `id`,
+/// which is over the context m, r0 to r30, with those of `regs`, 31 ids, for r0 to r30 and that of
+/// `memory` for m. The first difference ends the comparison.
+///
+/// `shifts` and `kept` are what earlier calls on the table kept, `kept` of the same `regs` and
+/// `memory`; it may have results of `put_with` too. What is found equal is kept, and counts in the
+/// limit of `shifts`.
+///
+/// Errors: want of memory, and `Exhausted::Results` past that limit; each id keeps its tree.
+pub fn is_put_with(
+    table: &mut Table,
+    shifts: &mut Memo,
+    kept: &mut PutMemo,
+    id: Id,
+    regs: &[Id],
+    memory: Id,
+    goal: Id,
+) -> Result<bool, Exhausted>
+    requires known { IsKnown table.old id }
+    requires goal { IsKnown table.old goal }
+    requires ready { AreMachineTerms table.old regs.now memory }
+    requires low { height_of (tree_at table.old id) < 2 ^ 31 }
+    requires shifts { IsMemo table.old shifts.old }
+    requires kept { IsPutMemo table.old regs.now memory kept.old }
+    ensures exact { let t = table.old in
+        let put = put_tree (machine_terms_at t regs.now memory) 0 (tree_at t id) in
+        IfOk result (λ b. IsTrue b ↔ (tree_at t goal ≡ put)) }
+    ensures extends { Extends table.old table.new }
+    ensures shifts { IsMemo table.new shifts.new }
+    ensures kept { IsPutMemo table.new regs.now memory kept.new }
+{
+    is_put_at(table, shifts, kept, regs, memory, id, 0, goal)
+}

@@ -1,0 +1,276 @@
+//! The walk over code against a formula that is given: whether that is what the walk would make.
+//!
+//! It goes as the walk that makes terms does, with the part of the formula that has to stand there in
+//! its hand, and ends at the first difference. No invariant is written out with its terms.
+
+ghost use Rattle.std.specs.Prelude.{◌≡◌, ◌↔◌, ◌<◌, IfOk, IsTrue, length, slice_get};
+ghost use Rattle.term_table.specs.Table.{IsKnown, tree_at, Extends};
+ghost use Rattle.lf_signature.specs.Terms.{imp_term, and_term};
+ghost use Rattle.lf_encode.specs.PutTree.{machine_terms_at};
+ghost use Rattle.lf_encode.specs.Inside.Kept.{AreMachineTerms};
+ghost use Rattle.vcgen.specs.Encoded.{inv_trees};
+ghost use Rattle.vcgen.specs.Inside.WalkTree.{walked, walked_at};
+ghost use Rattle.vcgen.specs.Inside.Symbols.{Walks};
+
+use crate::effects::{Effect, effect_at};
+use crate::goals::sides;
+use crate::symbols::Symbols;
+use crate::walk::{Program, invariant};
+use hereditary_subst::{Exhausted, Memo};
+use lf_encode::{PutMemo, is_put_with};
+use lf_signature::numbers::{AND, FF, IMP};
+use term_table::{Id, Node, Table};
+
+/// Whether `goal` is the term of the walk from `index` over at most `fuel` instructions, with these
+/// terms for the machine's variables.
+#[cycle(comparing)]
+pub(crate) fn is_walk(
+    table: &mut Table,
+    shifts: &mut Memo,
+    kept: &mut PutMemo,
+    program: &Program,
+    fuel: u32,
+    index: u32,
+    symbols: &Symbols,
+    goal: Id,
+) -> Result<bool, Exhausted>
+    requires walking { Walks table.old program.now symbols.now shifts.old kept.old }
+    requires within { index < length program.now.code.now }
+    requires goal { IsKnown table.old goal }
+    ensures exact { let t = table.old in
+        let terms = machine_terms_at t symbols.now.regs symbols.now.memory in
+        let p = program.now in
+        let walk = walked p.code.now (inv_trees t p.invs.now) (tree_at t p.post) fuel in
+        IfOk result (λ b. IsTrue b ↔ (tree_at t goal ≡ walk index terms)) }
+    ensures extends { Extends table.old table.new }
+    ensures walking { Walks table.new program.now symbols.now shifts.new kept.new }
+{
+    match invariant(program.invs, index) {
+        Some(inv) => is_put_with(
+            table,
+            shifts,
+            kept,
+            inv,
+            &symbols.regs,
+            symbols.memory,
+            goal,
+        ),
+        None => {
+            if fuel == 0 {
+                let falsity = table.intern(Node::Const(FF))?;
+                return Ok(table.same(goal, falsity));
+            }
+            is_walk_from(
+                table,
+                shifts,
+                kept,
+                program,
+                fuel - 1,
+                index,
+                symbols,
+                goal,
+            )
+        }
+    }
+}
+
+/// The same with the terms of `after`; of these nothing is kept beyond the walk.
+#[cycle(comparing)]
+fn is_walk_with(
+    table: &mut Table,
+    shifts: &mut Memo,
+    kept: &mut PutMemo,
+    program: &Program,
+    fuel: u32,
+    index: u32,
+    symbols: &Symbols,
+    after: &Symbols,
+    goal: Id,
+) -> Result<bool, Exhausted>
+    requires walking { Walks table.old program.now symbols.now shifts.old kept.old }
+    requires within { index < length program.now.code.now }
+    requires after { AreMachineTerms table.old after.now.regs after.now.memory }
+    requires goal { IsKnown table.old goal }
+    ensures exact { let t = table.old in
+        let terms = machine_terms_at t after.now.regs after.now.memory in
+        let p = program.now in
+        let walk = walked p.code.now (inv_trees t p.invs.now) (tree_at t p.post) fuel in
+        IfOk result (λ b. IsTrue b ↔ (tree_at t goal ≡ walk index terms)) }
+    ensures extends { Extends table.old table.new }
+    ensures walking { Walks table.new program.now symbols.now shifts.new kept.new }
+{
+    // Only the clauses speak of them.
+    let _ = symbols;
+    let _ = &kept;
+    let mut fresh = PutMemo::new(table.allocator());
+    is_walk(table, shifts, &mut fresh, program, fuel, index, after, goal)
+}
+
+/// Whether `goal` is that where the formula of `side` holds, the walk from its index does.
+#[cycle(comparing)]
+fn is_side(
+    table: &mut Table,
+    shifts: &mut Memo,
+    kept: &mut PutMemo,
+    program: &Program,
+    fuel: u32,
+    symbols: &Symbols,
+    side: (Id, u32),
+    goal: Id,
+) -> Result<bool, Exhausted>
+    requires walking { Walks table.old program.now symbols.now shifts.old kept.old }
+    requires within { side.1 < length program.now.code.now }
+    requires side { IsKnown table.old side.0 }
+    requires goal { IsKnown table.old goal }
+    ensures exact { let t = table.old in
+        let terms = machine_terms_at t symbols.now.regs symbols.now.memory in
+        let p = program.now in
+        let walk = walked p.code.now (inv_trees t p.invs.now) (tree_at t p.post) fuel in
+        let made = imp_term (tree_at t side.0) (walk side.1 terms) in
+        IfOk result (λ b. IsTrue b ↔ (tree_at t goal ≡ made)) }
+    ensures extends { Extends table.old table.new }
+    ensures walking { Walks table.new program.now symbols.now shifts.new kept.new }
+{
+    let Some(parts) = sides(table, IMP, goal) else {
+        return Ok(false);
+    };
+    if !table.same(parts.first, side.0) {
+        return Ok(false);
+    }
+    let rest = parts.second;
+    is_walk(table, shifts, kept, program, fuel, side.1, symbols, rest)
+}
+
+/// Whether `goal` is that both sides of a branch are, in this order.
+#[cycle(comparing)]
+fn is_both(
+    table: &mut Table,
+    shifts: &mut Memo,
+    kept: &mut PutMemo,
+    program: &Program,
+    fuel: u32,
+    symbols: &Symbols,
+    taken: (Id, u32),
+    passed: (Id, u32),
+    goal: Id,
+) -> Result<bool, Exhausted>
+    requires walking { Walks table.old program.now symbols.now shifts.old kept.old }
+    requires target { taken.1 < length program.now.code.now }
+    requires next { passed.1 < length program.now.code.now }
+    requires taken { IsKnown table.old taken.0 }
+    requires passed { IsKnown table.old passed.0 }
+    requires goal { IsKnown table.old goal }
+    ensures exact { let t = table.old in
+        let terms = machine_terms_at t symbols.now.regs symbols.now.memory in
+        let p = program.now in
+        let walk = walked p.code.now (inv_trees t p.invs.now) (tree_at t p.post) fuel in
+        let made = and_term
+        (imp_term (tree_at t taken.0) (walk taken.1 terms))
+        (imp_term (tree_at t passed.0) (walk passed.1 terms)) in
+        IfOk result (λ b. IsTrue b ↔ (tree_at t goal ≡ made)) }
+    ensures extends { Extends table.old table.new }
+    ensures walking { Walks table.new program.now symbols.now shifts.new kept.new }
+{
+    let Some(parts) = sides(table, AND, goal) else {
+        return Ok(false);
+    };
+    let (first, second) = (parts.first, parts.second);
+    let there = is_side(table, shifts, kept, program, fuel, symbols, taken, first)?;
+    if !there {
+        return Ok(false);
+    }
+    is_side(table, shifts, kept, program, fuel, symbols, passed, second)
+}
+
+/// Whether `goal` is that the formula `allowed` holds, and the walk from `index` with the terms of
+/// `after`.
+#[cycle(comparing)]
+fn is_behind(
+    table: &mut Table,
+    shifts: &mut Memo,
+    kept: &mut PutMemo,
+    program: &Program,
+    fuel: u32,
+    index: u32,
+    symbols: &Symbols,
+    allowed: Id,
+    after: &Symbols,
+    goal: Id,
+) -> Result<bool, Exhausted>
+    requires walking { Walks table.old program.now symbols.now shifts.old kept.old }
+    requires within { index < length program.now.code.now }
+    requires allowed { IsKnown table.old allowed }
+    requires after { AreMachineTerms table.old after.now.regs after.now.memory }
+    requires goal { IsKnown table.old goal }
+    ensures exact { let t = table.old in
+        let terms = machine_terms_at t after.now.regs after.now.memory in
+        let p = program.now in
+        let walk = walked p.code.now (inv_trees t p.invs.now) (tree_at t p.post) fuel in
+        let made = and_term (tree_at t allowed) (walk index terms) in
+        IfOk result (λ b. IsTrue b ↔ (tree_at t goal ≡ made)) }
+    ensures extends { Extends table.old table.new }
+    ensures walking { Walks table.new program.now symbols.now shifts.new kept.new }
+{
+    let Some(parts) = sides(table, AND, goal) else {
+        return Ok(false);
+    };
+    if !table.same(parts.first, allowed) {
+        return Ok(false);
+    }
+    let rest = parts.second;
+    is_walk_with(table, shifts, kept, program, fuel, index, symbols, after, rest)
+}
+
+/// Whether `goal` is the term of the walk from the instruction at `index`, whether that is annotated
+/// or not.
+#[cycle(comparing)]
+pub(crate) fn is_walk_from(
+    table: &mut Table,
+    shifts: &mut Memo,
+    kept: &mut PutMemo,
+    program: &Program,
+    fuel: u32,
+    index: u32,
+    symbols: &Symbols,
+    goal: Id,
+) -> Result<bool, Exhausted>
+    requires walking { Walks table.old program.now symbols.now shifts.old kept.old }
+    requires within { index < length program.now.code.now }
+    requires goal { IsKnown table.old goal }
+    ensures exact { let t = table.old in
+        let terms = machine_terms_at t symbols.now.regs symbols.now.memory in
+        let p = program.now in
+        let post = tree_at t p.post in
+        let walk = walked p.code.now (inv_trees t p.invs.now) post fuel in
+        let insn = slice_get p.code.now index in
+        IfOk result (λ b. IsTrue b ↔ (tree_at t goal ≡ walked_at walk post index insn terms)) }
+    ensures extends { Extends table.old table.new }
+    ensures walking { Walks table.new program.now symbols.now shifts.new kept.new }
+{
+    let insn = program.code.insn(index);
+    let next = index + 1;
+    match effect_at(table, program.code, index, insn, symbols)? {
+        Effect::Computed(after) => is_walk_with(
+            table, shifts, kept, program, fuel, next, symbols, &after, goal,
+        ),
+        Effect::Access(allowed, after) => is_behind(
+            table, shifts, kept, program, fuel, next, symbols, allowed, &after, goal,
+        ),
+        Effect::Split(taken, passed, target) => {
+            let (taken, passed) = ((taken, target), (passed, next));
+            is_both(table, shifts, kept, program, fuel, symbols, taken, passed, goal)
+        }
+        Effect::Jump(target) => {
+            is_walk(table, shifts, kept, program, fuel, target, symbols, goal)
+        }
+        Effect::Return => is_put_with(
+            table,
+            shifts,
+            kept,
+            program.post,
+            &symbols.regs,
+            symbols.memory,
+            goal,
+        ),
+    }
+}

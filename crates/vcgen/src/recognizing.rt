@@ -1,0 +1,247 @@
+//! Whether a formula is the verification condition.
+//!
+//! The formula is taken apart as the condition would be put together, and compared part by part; the
+//! first difference ends it. No part is written out: what a stranger's code would make of a stranger's
+//! invariants costs no more than the formula has of it.
+
+ghost use Rattle.std.specs.Prelude.{◌≡◌, ◌↔◌, ℕ, ◌<◌, ◌≤◌, IfOk, IsTrue, length, drop, map, All};
+ghost use Rattle.alpha_cfg.specs.Cuts.{AreFlags};
+ghost use Rattle.term_table.specs.Table.{IsKnown, tree_at, Extends};
+ghost use Rattle.hereditary_subst.specs.Inside.Kept.{IsMemo};
+ghost use Rattle.lf_signature.specs.Terms.{imp_term};
+ghost use Rattle.policy_set.specs.Policies.{pre_of, post_of};
+ghost use Rattle.lf_encode.specs.PutTree.{machine_terms_at};
+ghost use Rattle.lf_encode.specs.Contexts.{machine_context, encoding_in};
+ghost use Rattle.vcgen.specs.Encoded.{inv_trees, AreForms};
+ghost use Rattle.vcgen.specs.Answers.{IsConditionAnswer, AreLowInvs};
+ghost use Rattle.vcgen.specs.Inside.WalkTree.{start_terms, closed_term, walked, walked_from};
+ghost use Rattle.vcgen.specs.Inside.WalkTree.{part_terms, condition_term};
+ghost use Rattle.vcgen.specs.Inside.Symbols.{IsProgram, Walks};
+
+use crate::comparing::{is_walk, is_walk_from};
+use crate::condition::MAX_UNFOLDED;
+use crate::fault::VcFault;
+use crate::goals::{closed_sides, sides};
+use crate::symbols::Symbols;
+use crate::walk::Program;
+use alpha_cfg::{Code, Cut};
+use hereditary_subst::{Exhausted, Memo};
+use lf_encode::{PutMemo, encode_form, machine_context};
+use lf_signature::numbers::{AND, TT};
+use policy_set::Policy;
+use term_table::{Id, Node, Table};
+
+/// Whether `goal` is the part of the start: that `pre` leads to the walk from index 0.
+#[tactic(auto, using(crate::proofs::Walking::memos))]
+fn is_entry(
+    table: &mut Table,
+    shifts: &mut Memo,
+    kept: &mut PutMemo,
+    program: &Program,
+    start: &Symbols,
+    pre: Id,
+    goal: Id,
+) -> Result<bool, Exhausted>
+    requires walking { Walks table.old program.now start.now shifts.old kept.old }
+    requires start { machine_terms_at table.old start.now.regs start.now.memory ≡ start_terms }
+    requires pre { IsKnown table.old pre }
+    requires goal { IsKnown table.old goal }
+    ensures exact { let t = table.old in
+        let p = program.now in
+        let all = length p.code.now in
+        let walk = walked p.code.now (inv_trees t p.invs.now) (tree_at t p.post) all in
+        let made = closed_term (imp_term (tree_at t pre) (walk 0 start_terms)) in
+        IfOk result (λ b. IsTrue b ↔ (tree_at t goal ≡ made)) }
+    ensures extends { Extends table.old table.new }
+    ensures walking { Walks table.new program.now start.now shifts.new kept.new }
+{
+    let Some(parts) = closed_sides(table, goal) else {
+        return Ok(false);
+    };
+    if !table.same(parts.first, pre) {
+        return Ok(false);
+    }
+    let count = program.code.count();
+    is_walk(table, shifts, kept, program, count, 0, start, parts.second)
+}
+
+/// Whether `goal` is the part of an annotated index: that its invariant leads to the walk from there.
+#[tactic(auto, using(crate::proofs::Walking::memos))]
+fn is_inv_part(
+    table: &mut Table,
+    shifts: &mut Memo,
+    kept: &mut PutMemo,
+    program: &Program,
+    start: &Symbols,
+    index: u32,
+    inv: Id,
+    goal: Id,
+) -> Result<bool, Exhausted>
+    requires walking { Walks table.old program.now start.now shifts.old kept.old }
+    requires start { machine_terms_at table.old start.now.regs start.now.memory ≡ start_terms }
+    requires within { index < length program.now.code.now }
+    requires inv { IsKnown table.old inv }
+    requires goal { IsKnown table.old goal }
+    ensures exact { let t = table.old in
+        let p = program.now in
+        let invs = inv_trees t p.invs.now in
+        let walk = walked_from p.code.now invs (tree_at t p.post) index start_terms in
+        let made = closed_term (imp_term (tree_at t inv) walk) in
+        IfOk result (λ b. IsTrue b ↔ (tree_at t goal ≡ made)) }
+    ensures extends { Extends table.old table.new }
+    ensures walking { Walks table.new program.now start.now shifts.new kept.new }
+{
+    let Some(parts) = closed_sides(table, goal) else {
+        return Ok(false);
+    };
+    if !table.same(parts.first, inv) {
+        return Ok(false);
+    }
+    let count = program.code.count();
+    let rest = parts.second;
+    is_walk_from(table, shifts, kept, program, count, index, start, rest)
+}
+
+/// Whether `goal` is the parts of the invariants from place `from` on.
+#[tactic(auto, using(crate::proofs::Walking::memos))]
+fn are_inv_parts(
+    table: &mut Table,
+    shifts: &mut Memo,
+    kept: &mut PutMemo,
+    program: &Program,
+    start: &Symbols,
+    from: usize,
+    goal: Id,
+) -> Result<bool, Exhausted>
+    requires walking { Walks table.old program.now start.now shifts.old kept.old }
+    requires inside { All (λ p. p.0 < length program.now.code.now) program.now.invs.now }
+    requires from { from ≤ length program.now.invs.now }
+    requires start { machine_terms_at table.old start.now.regs start.now.memory ≡ start_terms }
+    requires goal { IsKnown table.old goal }
+    ensures exact { let t = table.old in
+        let p = program.now in
+        let invs = inv_trees t p.invs.now in
+        let rest = inv_trees t (drop from p.invs.now) in
+        let made = part_terms p.code.now invs (tree_at t p.post) rest in
+        IfOk result (λ b. IsTrue b ↔ (tree_at t goal ≡ made)) }
+    ensures extends { Extends table.old table.new }
+    ensures shifts { IsMemo table.new shifts.new }
+{
+    if from == program.invs.len() {
+        let truth = table.intern(Node::Const(TT))?;
+        return Ok(table.same(goal, truth));
+    }
+    let pair = program.invs[from];
+    let (index, inv) = pair;
+    let Some(parts) = sides(table, AND, goal) else {
+        return Ok(false);
+    };
+    let (here, rest) = (parts.first, parts.second);
+    let first = is_inv_part(table, shifts, kept, program, start, index, inv, here)?;
+    if !first {
+        return Ok(false);
+    }
+    are_inv_parts(table, shifts, kept, program, start, from + 1, rest)
+}
+
+/// Whether `goal` is the condition, from the terms of what holds at the start and of the program.
+#[tactic(auto, using(crate::proofs::Walking::memos))]
+fn is_condition_of(
+    table: &mut Table,
+    shifts: &mut Memo,
+    program: &Program,
+    pre: Id,
+    goal: Id,
+) -> Result<bool, Exhausted>
+    requires program { let p = program.now in
+        IsProgram table.old p.code.now p.invs.now p.post }
+    requires inside { All (λ p. p.0 < length program.now.code.now) program.now.invs.now }
+    requires pre { IsKnown table.old pre }
+    requires goal { IsKnown table.old goal }
+    requires shifts { IsMemo table.old shifts.old }
+    ensures exact { let t = table.old in
+        let p = program.now in
+        let invs = inv_trees t p.invs.now in
+        let made = condition_term p.code.now invs (tree_at t pre) (tree_at t p.post) in
+        IfOk result (λ b. IsTrue b ↔ (tree_at t goal ≡ made)) }
+    ensures extends { Extends table.old table.new }
+    ensures shifts { IsMemo table.new shifts.new }
+{
+    let Some(parts) = sides(table, AND, goal) else {
+        return Ok(false);
+    };
+    let (entry, rest) = (parts.first, parts.second);
+    let mut kept = PutMemo::new(table.allocator());
+    let start = Symbols::start(table)?;
+    let entered = is_entry(table, shifts, &mut kept, program, &start, pre, entry)?;
+    if !entered {
+        return Ok(false);
+    }
+    are_inv_parts(table, shifts, &mut kept, program, &start, 0, rest)
+}
+
+/// Whether `goal` is the encoding of the condition of code, its unfolded length being within its
+/// limit.
+#[tactic(auto, using(crate::proofs::Walking::memos))]
+fn is_encoded_condition(
+    table: &mut Table,
+    shifts: &mut Memo,
+    code: &Code,
+    policy: &Policy,
+    invs: &[(u32, Id)],
+    goal: Id,
+) -> Result<bool, Exhausted>
+    requires invs { AreLowInvs table.old invs.now }
+    requires inside { All (λ p. p.0 < length code.now) invs.now }
+    requires goal { IsKnown table.old goal }
+    requires shifts { IsMemo table.old shifts.old }
+    ensures exact { let t = table.old in
+        let pre = encoding_in machine_context (pre_of policy.now) in
+        let post = encoding_in machine_context (post_of policy.now) in
+        let made = condition_term code.now (inv_trees t invs.now) pre post in
+        IfOk result (λ b. IsTrue b ↔ (tree_at t goal ≡ made)) }
+    ensures extends { Extends table.old table.new }
+    ensures shifts { IsMemo table.new shifts.new }
+{
+    let _ = code.insns(); // tells the prover that this is code
+    let context = machine_context();
+    let pre = encode_form(table, policy.pre(), &context)?;
+    let post = encode_form(table, policy.post(), &context)?;
+    let program = Program { code, invs, post };
+    is_condition_of(table, shifts, &program, pre, goal)
+}
+
+/// Whether `formula` is what `vc` gives of `cut`, `policy` and `invs`, as the arguments stand there:
+/// the encoding of the verification condition of `cut` under `policy`. The condition isn't written
+/// out, and the first difference ends the comparison.
+///
+/// `memo` has the results of earlier calls on the table; what is kept here counts in its limit.
+///
+/// Errors: `UnfoldLimit` names the unfolded length exactly where it exceeds `MAX_UNFOLDED`, which is
+/// tested first; `Memory` says nothing of the condition, nor does `Results`, past the limit of
+/// `memo`. Each id keeps its tree.
+pub fn is_condition_with(
+    table: &mut Table,
+    memo: &mut Memo,
+    cut: &Cut,
+    policy: &Policy,
+    invs: &[(u32, Id)],
+    formula: Id,
+) -> Result<bool, VcFault>
+    requires invs { AreLowInvs table.old invs.now }
+    requires forms { AreForms (inv_trees table.old invs.now) }
+    requires marks { AreFlags (map (λ p. p.0) invs.now) (length cut.now.code) cut.now.marks }
+    requires formula { IsKnown table.old formula }
+    requires memo { IsMemo table.old memo.old }
+    ensures exact { let trees = inv_trees table.old invs.now in
+        IsConditionAnswer policy.now cut.now trees (tree_at table.old formula) result }
+    ensures extends { Extends table.old table.new }
+    ensures memo { IsMemo table.new memo.new }
+{
+    let unfolded = cut.unfolded();
+    if unfolded > MAX_UNFOLDED {
+        return Err(VcFault::UnfoldLimit(unfolded));
+    }
+    let equal = is_encoded_condition(table, memo, cut.code(), policy, invs, formula)?;
+    Ok(equal)
+}
