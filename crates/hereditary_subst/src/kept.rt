@@ -8,13 +8,11 @@ ghost use Rattle.std.specs.Prelude.{◌≡◌, IfSome};
 ghost use Rattle.term_table.specs.Table.{TableView, IsKnown};
 ghost use Rattle.hereditary_subst.specs.Inside.Kept.{IsMemo, Says, AreKnownIds};
 
+use crate::MOST_TREES;
 use crate::exhausted::Exhausted;
 use std::alloc::Global;
 use std::collections::BTreeMap;
 use term_table::{Id, Table};
-
-/// Once a table has more trees than so many nothing more is kept of it.
-pub const MOST_TREES: u64 = 1_750_000;
 
 /// So many steps that keep nothing count as one result.
 const STEPS_A_RESULT: u64 = 16;
