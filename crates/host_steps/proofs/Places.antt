@@ -1,8 +1,8 @@
 -- The places of the registers as registers.
-use Rattle.std.proofs.Common.{◌≡◌, ℕ, ◌<◌, List, take, slice_index, slice_set, sym, ◌∙◌, subst, arith, inl, inr, eqb, false, length-set}
+use Rattle.std.proofs.Common.{◌≡◌, ℕ, ◌<◌, List, take, slice_index, slice_set, sym, subst, arith, inl, inr, eqb, false}
 use Rattle.std.proofs.Math.Seq.{take-set-lt}
 use Rattle.std.proofs.lemmas.Bool.{cases_eq, ne_eqb}
-use Rattle.std.proofs.lemmas.List.{get_or-take, get_or-set_other}
+use Rattle.std.proofs.lemmas.List.{get_or-take}
 use Rattle.word_ops.specs.Registers.{read_reg, write_reg}
 use Rattle.host_steps.specs.Slots.{AreSlots}
 
@@ -16,10 +16,3 @@ read-place words r are lt = elim (cases_eq r 31) [
 -- a place is written as the register of its number
 pub write-place : (words : List ℕ) (r word : ℕ) → r < 31 → take 31 (slice_set words r word) ≡ write_reg (take 31 words) r word
 write-place words r word lt = let no : eqb r 31 ≡ false = ne_eqb r 31 (λ e. omega (arith, e, lt)) in rw no (take-set-lt 31 words r word lt)
-
--- and the last place stays 0
-pub AreSlots-set : (words : List ℕ) (r word : ℕ) → AreSlots words → r < 31 → AreSlots (slice_set words r word)
-AreSlots-set words r word are lt = record {
-  count = simp length-set are.count;
-  last = get_or-set_other words r 31 word 0 (λ e. omega (arith, e, lt)) ∙ are.last;
-}

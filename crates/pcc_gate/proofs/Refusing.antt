@@ -9,13 +9,10 @@ use Rattle.term_table.specs.Table.{TableView}
 use Rattle.alpha_cfg.specs.Cuts.{CutView}
 use Rattle.proof_container.specs.Views.{inv_trees}
 use Rattle.proof_container.specs.Contents.{Contents, roots}
-use Rattle.hereditary_subst.specs.declared.exhausted.Exhausted.{Exhausted}
-use Rattle.hereditary_subst.specs.declared.exhausted.Exhausted.TheVariants as exhausted
 use Rattle.pcc_gate.specs.declared.fault.GateFault.{GateFault}
 use Rattle.pcc_gate.specs.declared.fault.GateFault.TheVariants as fault
 use Rattle.pcc_gate.specs.declared.refusal.Refusal.{Refusal}
 use Rattle.pcc_gate.specs.declared.refusal.Refusal.TheVariants as refusal
-use Rattle.pcc_gate.specs.Shortages.{shortage_of}
 use Rattle.pcc_gate.specs.First.{marks_of, too_high, formless, refused_by, first_long, first_shape}
 use Rattle.pcc_gate.specs.Inside.Stages.{Refuses, IsMade, first_uncut, first_no_form}
 
@@ -23,11 +20,6 @@ pub refuses-into : {N M : Type 0} (first : N → Option Refusal) (inner : M → 
 refuses-into first inner into same (fault.Refused r) h = λ next. same next ∙ h (into next)
 refuses-into first inner into same fault.Memory h = tt
 refuses-into first inner into same fault.Results h = tt
-
--- what ran out refuses nothing
-pub runs-out : {N : Type 0} (first : N → Option Refusal) (what : Exhausted) → Refuses first (shortage_of what)
-runs-out first exhausted.Memory = tt
-runs-out first exhausted.Results = tt
 
 -- an early return keeps what is said of its error
 pub carries : {X : Type 0} (P : Result X GateFault → Type 0) (e : GateFault) → P (Err e) → (r : Result X GateFault) → IsErrAnd r (λ y. y ≡ e) → P r

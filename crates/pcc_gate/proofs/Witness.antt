@@ -1,6 +1,6 @@
 -- The worked container with a load, a store and a loop is accepted, clause by clause.
-use Rattle.std.proofs.Common.{◌≡◌, ℕ, zero, suc, ◌+◌, ◌*◌, ◌/◌, ◌^◌, ◌<◌, ◌≤◌, inl, inr, All, Bool, true, false, cond, eqb, ltb, List, [], ◌∷◌, ◌++◌, map, length}
-use Rattle.std.proofs.Common.{Option, Some, None, Result, Ok, Err, refl, sym, ◌∙◌, ap, subst, arith, length-append}
+use Rattle.std.proofs.Common.{◌≡◌, ℕ, zero, suc, ◌+◌, ◌*◌, ◌^◌, ◌≤◌, inl, inr, All, Bool, true, false, cond, List, [], ◌∷◌, ◌++◌, length}
+use Rattle.std.proofs.Common.{Some, None, Result, Ok, Err, refl, sym, ◌∙◌, subst, arith, length-append}
 use Rattle.std.specs.Prelude.{◌&&◌, nat_lt, nat_le, sum_by}
 use Rattle.std.proofs.lemmas.Bool.{ltb-true, leb-true, and_parts, false≢true}
 use Rattle.std.proofs.lemmas.Option.{none-some}
@@ -12,24 +12,22 @@ use Rattle.alpha_cfg.specs.declared.fault.CodeFlaw.{CodeFlaw}
 use Rattle.alpha_cfg.specs.declared.fault.CodeFault.TheVariants as fault
 use Rattle.alpha_cfg.specs.CodeBytes.{EncodesCode}
 use Rattle.alpha_cfg.specs.CodeDecoding.{decoded_code}
-use Rattle.alpha_cfg.specs.Cuts.{AreFlags, IsCut, unfolded_of}
-use Rattle.alpha_cfg.specs.Deciding.{flags_of, uncut_of}
+use Rattle.alpha_cfg.specs.Deciding.{flags_of}
 use Rattle.alpha_cfg.specs.Flow.{IsCode}
 use Rattle.alpha_cfg.proofs.Deciding.{uncut_none}
 use Rattle.alpha_cfg.proofs.Readings.{decoded_code-ok, IsDecoded-IsCodeAnswer}
-use Rattle.formula_tree.specs.Formulas.{Exp, EReg, EVar, ELit, EOp, ESel, MMem, MVar, Form, FTrue, FFalse, FRel, FRd, FWr, FAnd, FImp, FAllm}
+use Rattle.formula_tree.specs.Formulas.{Exp, EReg, EVar, ELit, EOp, ESel, MVar, Form, FTrue, FFalse, FRel, FRd, FWr, FAnd, FImp, FAllm}
 use Rattle.formula_terms.specs.Encoding.{form_encoding}
 use Rattle.formula_terms.specs.ProofTerms.{tt_i, and_i, and_l, and_r, imp_i, imp_e, all_i, allm_i}
 use Rattle.lf_encode.specs.Contexts.{machine_context, machine_names, sort_types, IsFormIn}
 use Rattle.lf_signature.specs.Sigma1.{declared, number_types, constant_types, the_rules}
 use Rattle.lf_signature.specs.Terms.{form, pf}
-use Rattle.lf_signature.specs.Typing.{Checks}
 use Rattle.lf_signature.specs.Decide.{checks_of}
 use Rattle.lf_signature.specs.Laws.Decided.{checks_follows}
 use Rattle.policy_set.specs.declared.kind.PolicyKind.TheVariants.{Tag}
 use Rattle.proof_container.specs.Contents.{Contents, roots}
-use Rattle.proof_container.specs.Encoding.{IsBytes, IsContents, EncodesContents, AreTerms, AreRising, encoding_of}
-use Rattle.proof_container.specs.Postorder.{is_emitted, unless_emitted, emitted_with, emitted_with_all, entries}
+use Rattle.proof_container.specs.Encoding.{IsBytes, IsContents, AreTerms, encoding_of}
+use Rattle.proof_container.specs.Postorder.{is_emitted, unless_emitted, emitted_with, entries}
 use Rattle.proof_container.specs.Inside.Walked.{nodes}
 use Rattle.proof_container.specs.Decoding.{entry_size}
 use Rattle.proof_container.proofs.Written.{length-encoding_of}
@@ -38,12 +36,10 @@ use Rattle.term_table.specs.Table.{IsSmall, IsSmallConst}
 use Rattle.term_table.specs.Measures.{weight_of, height_of, sigma1_places}
 use Rattle.vcgen.specs.Assignments.{unchanged}
 use Rattle.vcgen.specs.Conditions.{alls, condition}
-use Rattle.vcgen.specs.Encoded.{AreForms, EncodesCondition, annotated}
-use Rattle.pcc_gate.specs.Passing.{Passes}
-use Rattle.pcc_gate.specs.Accepted.{Accepts}
-use Rattle.pcc_gate.specs.First.{too_high, formless}
+use Rattle.vcgen.specs.Encoded.{AreForms, annotated}
+use Rattle.pcc_gate.specs.First.{too_high}
 use Rattle.pcc_gate.specs.Witness.{loop_code, LoopIsAccepted}
-use Rattle.pcc_gate.proofs.Searches.{low_decided, first_high, forms_decided, first_no_form}
+use Rattle.pcc_gate.proofs.Searches.{low_decided, first_high}
 use Rattle.pcc_gate.proofs.CodeBytes.{code_decided}
 use Rattle.pcc_gate.proofs.FirstFront.{annotated_flags}
 

@@ -1,18 +1,10 @@
 -- That acceptance isn't empty: a container whose code loads, stores and loops is accepted.
-use Rattle.std.specs.Prelude.{ℕ, zero, suc, Bool, List, [], ◌∷◌, pos, negsuc, Some}
-use Rattle.word_ops.specs.declared.Op.TheVariants.{Add}
-use Rattle.word_ops.specs.declared.Rel.TheVariants.{Eq}
+use Rattle.std.specs.Prelude.{ℕ, Bool, List, [], ◌∷◌, pos, negsuc}
 use Rattle.alpha_words.specs.declared.insn.Cond.TheVariants.{Zero}
 use Rattle.alpha_words.specs.declared.insn.Insn.{Insn}
 use Rattle.alpha_words.specs.declared.insn.Insn.TheVariants.{Ldq, Stq, Branch, Br, Ret}
-use Rattle.formula_tree.specs.Formulas.{Exp, EVar, ELit, EOp, ESel, MVar, Form, FTrue, FFalse, FRel, FRd, FWr, FAnd, FImp}
-use Rattle.formula_terms.specs.Encoding.{form_encoding}
-use Rattle.formula_terms.specs.ProofTerms.{tt_i, and_i, and_l, and_r, imp_i, imp_e, all_i, allm_i}
 use Rattle.policy_set.specs.declared.kind.PolicyKind.TheVariants.{Tag}
-use Rattle.policy_set.specs.Names.{policy_number}
-use Rattle.term_table.specs.Tree.{Tree, Var}
 use Rattle.proof_container.specs.Contents.{Contents}
-use Rattle.vcgen.specs.Conditions.{alls}
 use Rattle.pcc_gate.specs.Accepted.{Accepts}
 
 -- Where the first word isn't 0, the second is set to it and the first is read again, without end:

@@ -1,8 +1,9 @@
 -- Runs that go on after one another, and their steps.
-use Rattle.std.proofs.Common.{◌≡◌, ℕ, zero, suc, ◌+◌, List, slice_index, true, false, refl, sym, ◌∙◌, ap, subst, arith}
+use Rattle.std.proofs.Common.{◌≡◌, ℕ, zero, suc, ◌+◌, List, true, false, refl, sym, ◌∙◌, ap, subst, arith}
 use Rattle.word_ops.specs.Rights.{Rights}
 use Rattle.alpha_words.specs.declared.insn.Insn.{Insn}
 use Rattle.alpha_cfg.specs.Machine.{State, step_of, ends_with, run_of}
+use Rattle.alpha_cfg.proofs.Joining.{moved-on, run-behind}
 use Rattle.alpha_cfg.specs.declared.outcome.Step.{Step}
 use Rattle.alpha_cfg.specs.declared.outcome.Step.TheVariants as steps
 use Rattle.alpha_cfg.specs.declared.outcome.Outcome.{Outcome}
@@ -14,23 +15,6 @@ use Rattle.safe_host.specs.Runs.{IsRun, outcome_of, goes_on_after}
 use Rattle.safe_host.specs.Counts.{steps_behind, steps_of, MakesSteps}
 
 -- ---- the machine
-
--- a step that the run went on after
-moved-on : (p : Step × State) (on : Outcome × State) (u : State) → ends_with p.0 p.1 on ≡ (outcomes.OutOfSteps, u) → (p.0 ≡ steps.Moved) × (on ≡ (outcomes.OutOfSteps, u))
-moved-on (steps.Moved, t) on u e = (refl, e)
-moved-on (steps.Returned, t) on u e = let wrong : outcomes.Returned (slice_index t.regs 0) ≡ outcomes.OutOfSteps = ap (λ q. q.0) e in (cc, cc)
-moved-on (steps.Blocked index kind a, t) on u e = let wrong : outcomes.Blocked index kind a ≡ outcomes.OutOfSteps = ap (λ q. q.0) e in (cc, cc)
-
--- a run behind one that was out of steps
-pub run-behind : (code : List Insn) (k n : ℕ) (s u : State) → run_of code k s ≡ (outcomes.OutOfSteps, u) → run_of code (k + n) s ≡ run_of code n u
-run-behind code zero n s u e =
-    let none : 0 + n ≡ n = omega arith in
-    ap (λ m. run_of code m s) none ∙ ap (run_of code n) (ap (λ q. q.1) e)
-run-behind code (suc k) n s u e =
-    let p = step_of code s in
-    let m = moved-on p (run_of code k p.1) u e in
-    let one : suc k + n ≡ suc (k + n) = omega arith in
-    ap (λ j. run_of code j s) one ∙ ap (λ (q : Step). ends_with q p.1 (run_of code (k + n) p.1)) m.0 ∙ run-behind code k n p.1 u m.1
 
 -- its steps
 pub steps-behind : (code : List Insn) (k n : ℕ) (s u : State) → run_of code k s ≡ (outcomes.OutOfSteps, u) → steps_of code (k + n) s ≡ k + steps_of code n u
