@@ -5,3 +5,4 @@ pub mod Loads
 pub mod Places
 pub mod Simulation
 pub mod Starting
+pub mod Pushing

@@ -1,5 +1,5 @@
 -- What a load makes of A.
-use Rattle.std.proofs.Common.{◌≡◌, ℕ, zero, suc, ◌+◌, ◌-◌, ◌*◌, ◌/◌, ◌%◌, ◌^◌, ◌<◌, ◌≤◌, Bool, true, false, cond, eqb, inl, inr, List, [], ◌∷◌, ◌++◌, length, slice_index, refl, sym, ap, ◌∙◌, subst, arith}
+use Rattle.std.proofs.Common.{◌≡◌, ℕ, zero, suc, ◌+◌, ◌*◌, ◌/◌, ◌%◌, ◌^◌, ◌<◌, ◌≤◌, Bool, true, false, cond, eqb, inl, inr, List, [], ◌∷◌, length, slice_index, refl, sym, ap, ◌∙◌, subst, arith}
 use Rattle.std.specs.Prelude.{pos}
 use Rattle.std.specs.Int.{cast_unsigned, w64}
 use Rattle.std.proofs.lemmas.Bool.{cases_Bool, eqb-true, eqb-false}
@@ -9,9 +9,9 @@ use Rattle.word_ops.specs.Rights.{allowed}
 use Rattle.word_ops.specs.declared.Op.TheVariants.{Add, Band, Sll, Srl}
 use Rattle.alpha_words.specs.declared.insn.Insn.TheVariants.{Ldq}
 use Rattle.bpf_words.specs.Values.{big_endian}
-use Rattle.bpf_code.specs.Blocks.{shift_in, byte_code, bytes_code, quad_reg, load_code}
+use Rattle.bpf_code.specs.Blocks.{byte_code, bytes_code, quad_reg, load_code}
 use Rattle.bpf_code.specs.Simulation.{AreBytes}
-use Rattle.bpf_code.proofs.Straight.{effects, effects-append, effects-length, may-append, listing, listed, MayGo, MayRun}
+use Rattle.bpf_code.proofs.Straight.{effects, effects-append, effects-length, may-append, listing, listed, MayRun}
 use Rattle.bpf_code.proofs.Numbers.{eight, byte-is, shifted-is, first-is}
 
 -- the quadword of eight bytes
@@ -33,14 +33,18 @@ abbrev shifted : ℕ → ℕ → ℕ
 shifted zero a = word_of Add 0 0
 shifted (suc n) a = word_of Sll a 8
 
-byte_of : (m : Memory) (b : Bool) (n at : ℕ) (f : ℕ → ℕ) → slice_index (effects m (byte_code n (cond b 2 3) at) (listing 31 f 0)) 1 ≡ word_of Add (shifted n (f 1)) (word_of Band (word_of Srl (cond b (f 2) (f 3)) (8 * at)) 255)
+byte_of : (m : Memory) (b : Bool) (n at : ℕ) (f : ℕ → ℕ)
+    → slice_index (effects m (byte_code n (cond b 2 3) at) (listing 31 f 0)) 1 ≡ word_of Add (shifted n (f 1))
+    (word_of Band (word_of Srl (cond b (f 2) (f 3)) (8 * at)) 255)
 byte_of m true zero at f = refl
 byte_of m true (suc n) at f = refl
 byte_of m false zero at f = refl
 byte_of m false (suc n) at f = refl
 
 byte_keeps : (m : Memory) (b : Bool) (n at : ℕ) (f : ℕ → ℕ) →
-    (slice_index (effects m (byte_code n (cond b 2 3) at) (listing 31 f 0)) 2 ≡ f 2) × (slice_index (effects m (byte_code n (cond b 2 3) at) (listing 31 f 0)) 3 ≡ f 3) × (slice_index (effects m (byte_code n (cond b 2 3) at) (listing 31 f 0)) 16 ≡ f 16)
+    (slice_index (effects m (byte_code n (cond b 2 3) at) (listing 31 f 0)) 2 ≡ f 2) ×
+    (slice_index (effects m (byte_code n (cond b 2 3) at) (listing 31 f 0)) 3 ≡ f 3) ×
+    (slice_index (effects m (byte_code n (cond b 2 3) at) (listing 31 f 0)) 16 ≡ f 16)
 byte_keeps m true zero at f = (refl, refl, refl)
 byte_keeps m true (suc n) at f = (refl, refl, refl)
 byte_keeps m false zero at f = (refl, refl, refl)
@@ -85,7 +89,8 @@ record Loaded (packet : List ℕ) (k last n x : ℕ) (regs : List ℕ) : Type 0 
   base : slice_index regs 16 ≡ x
 
 module _ (packet : List ℕ) (k last x : ℕ) (m : Memory) (bytes : AreBytes packet) (few : last ≤ 3) where
-  quad_reg-is : (n : ℕ) → n ≤ last → (f : ℕ → ℕ) → f 2 ≡ quad packet (k / 8) → f 3 ≡ quad packet ((k + last) / 8) → cond (eqb ((k + n) / 8) (k / 8)) (f 2) (f 3) ≡ quad packet ((k + n) / 8)
+  quad_reg-is : (n : ℕ) → n ≤ last → (f : ℕ → ℕ) → f 2 ≡ quad packet (k / 8) → f 3 ≡ quad packet ((k + last) / 8)
+      → cond (eqb ((k + n) / 8) (k / 8)) (f 2) (f 3) ≡ quad packet ((k + n) / 8)
   quad_reg-is n le f two three =
       elim (cases_Bool (eqb ((k + n) / 8) (k / 8))) [
         | inl e ↦ ap (λ b. cond b (f 2) (f 3)) e ∙ two ∙ ap (quad packet) (sym (eqb-true ((k + n) / 8) (k / 8) e))
@@ -100,21 +105,26 @@ module _ (packet : List ℕ) (k last x : ℕ) (m : Memory) (bytes : AreBytes pac
   number-is (suc n) a le so =
       let i = big-below packet k (suc n) bytes in
       let l = limit-most (suc n) le in
-      ap (λ a. word_of Add (word_of Sll a 8) (slice_index packet (k + suc n))) so ∙ shifted-is (big_endian packet k (suc n)) (slice_index packet (k + suc n)) (omega (arith, i, l)) (bytes (k + suc n))
+      ap (λ a. word_of Add (word_of Sll a 8) (slice_index packet (k + suc n))) so
+      ∙ shifted-is (big_endian packet k (suc n)) (slice_index packet (k + suc n)) (omega (arith, i, l)) (bytes (k + suc n))
 
-  byte-step : (n : ℕ) (regs : List ℕ) → n ≤ last → Loaded packet k last n x regs → Loaded packet k last (suc n) x (effects m (byte_code n (quad_reg k n) ((k + n) % 8)) regs)
+  byte-step : (n : ℕ) (regs : List ℕ) → n ≤ last → Loaded packet k last n x regs
+      → Loaded packet k last (suc n) x (effects m (byte_code n (quad_reg k n) ((k + n) % 8)) regs)
   byte-step n regs le h =
       let f : ℕ → ℕ = slice_index regs in
       let b : Bool = eqb ((k + n) / 8) (k / 8) in
       let at : ℕ = (k + n) % 8 in
       let is : regs ≡ listing 31 f 0 = listed regs h.count in
       let keeps = byte_keeps m b n at f in
-      let back : (r : ℕ) → slice_index (effects m (byte_code n (quad_reg k n) at) regs) r ≡ slice_index (effects m (byte_code n (quad_reg k n) at) (listing 31 f 0)) r = λ r. ap (λ l. slice_index (effects m (byte_code n (quad_reg k n) at) l) r) is in
+      let back : (r : ℕ) → slice_index (effects m (byte_code n (quad_reg k n) at) regs) r ≡ slice_index
+      (effects m (byte_code n (quad_reg k n) at) (listing 31 f 0)) r = λ r. ap (λ l. slice_index (effects m (byte_code n (quad_reg k n) at) l) r) is in
       let there : word_of Band (word_of Srl (quad packet ((k + n) / 8)) (8 * at)) 255 ≡ slice_index packet (k + n) =
-      byte-is (λ i. slice_index packet (8 * ((k + n) / 8) + i)) (λ i. bytes (8 * ((k + n) / 8) + i)) at (omega arith) ∙ ap (slice_index packet) (omega arith) in
+      byte-is (λ i. slice_index packet (8 * ((k + n) / 8) + i)) (λ i. bytes (8 * ((k + n) / 8) + i)) at (omega arith)
+      ∙ ap (slice_index packet) (omega arith) in
       record {
         count = effects-length m (byte_code n (quad_reg k n) at) regs ∙ h.count;
-        a = back 1 ∙ byte_of m b n at f ∙ ap (λ q. word_of Add (shifted n (f 1)) (word_of Band (word_of Srl q (8 * at)) 255)) (quad_reg-is n le f h.two h.three)
+        a = back 1 ∙ byte_of m b n at f ∙ ap (λ q. word_of Add (shifted n (f 1)) (word_of Band (word_of Srl q (8 * at)) 255))
+            (quad_reg-is n le f h.two h.three)
             ∙ ap (word_of Add (shifted n (f 1))) there ∙ number-is n (f 1) (omega (arith, le, few)) h.a;
         two = back 2 ∙ keeps.0 ∙ h.two;
         three = back 3 ∙ keeps.1 ∙ h.three;
@@ -129,7 +139,8 @@ module _ (packet : List ℕ) (k last x : ℕ) (m : Memory) (bytes : AreBytes pac
 
 bytes-may : (m : Memory) (reads : List (ℕ × ℕ)) (k n : ℕ) (regs : List ℕ) → MayRun m reads (bytes_code k n) regs
 bytes-may m reads k zero regs = tt
-bytes-may m reads k (suc n) regs = may-append m reads (bytes_code k n) (byte_code n (quad_reg k n) ((k + n) % 8)) regs (bytes-may m reads k n regs) (byte_may m reads n (quad_reg k n) ((k + n) % 8) (effects m (bytes_code k n) regs))
+bytes-may m reads k (suc n) regs = may-append m reads (bytes_code k n) (byte_code n (quad_reg k n) ((k + n) % 8)) regs (bytes-may m reads k n regs)
+    (byte_may m reads n (quad_reg k n) ((k + n) % 8) (effects m (bytes_code k n) regs))
 
 -- ---- a load
 

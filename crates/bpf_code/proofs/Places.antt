@@ -1,7 +1,6 @@
 -- Where the blocks of a program stand in its code.
-use Rattle.std.proofs.Common.{◌≡◌, ℕ, zero, suc, ◌+◌, ◌-◌, ◌*◌, ◌<◌, ◌≤◌, List, [], ◌∷◌, ◌++◌, length, slice_get, Option, Some, None, refl, sym, ap, ◌∙◌, subst, arith, length-append}
+use Rattle.std.proofs.Common.{◌≡◌, ℕ, zero, suc, ◌+◌, ◌*◌, ◌≤◌, List, [], ◌∷◌, ◌++◌, length, slice_get, Option, Some, None, refl, ap, subst, arith, length-append}
 use Rattle.alpha_words.specs.declared.insn.Insn.{Insn}
-use Rattle.alpha_words.specs.declared.insn.Insn.TheVariants.{Ret}
 use Rattle.bpf_words.specs.declared.insn.Bpf.{Bpf}
 use Rattle.bpf_words.specs.declared.insn.BpfOp.{BpfOp}
 use Rattle.bpf_words.specs.Programs.{bpf_op}
@@ -10,7 +9,8 @@ use Rattle.bpf_code.proofs.Straight.{Stands, onward}
 
 stands-later : (y : Insn) (code : List Insn) (i : ℕ) (l : List Insn) → Stands code i l → Stands (y ∷ code) (i + 1) l
 stands-later y code i [] h = tt
-stands-later y code i (x ∷ l) h = let q : suc i ≡ i + 1 = omega arith in (subst (λ k. slice_get (y ∷ code) k ≡ Some x) q h.0, stands-later y code (i + 1) l h.1)
+stands-later y code i (x ∷ l) h = let q : suc i ≡ i + 1 = omega arith in
+    (subst (λ k. slice_get (y ∷ code) k ≡ Some x) q h.0, stands-later y code (i + 1) l h.1)
 
 pub stands-front : (l rest : List Insn) → Stands (l ++ rest) 0 l
 stands-front [] rest = tt
@@ -18,7 +18,8 @@ stands-front (x ∷ l) rest = (refl, stands-later x (l ++ rest) 0 l (stands-fron
 
 pub stands-behind : (front code : List Insn) (i : ℕ) (l : List Insn) → Stands code i l → Stands (front ++ code) (i + length front) l
 stands-behind [] code i l h = let q : i ≡ i + 0 = omega arith in subst (λ k. Stands code k l) q h
-stands-behind (y ∷ front) code i l h = let q : i + length front + 1 ≡ i + suc (length front) = omega arith in subst (λ k. Stands (y ∷ (front ++ code)) k l) q (stands-later y (front ++ code) (i + length front) l (stands-behind front code i l h))
+stands-behind (y ∷ front) code i l h = let q : i + length front + 1 ≡ i + suc (length front) = omega arith in subst
+    (λ k. Stands (y ∷ (front ++ code)) k l) q (stands-later y (front ++ code) (i + length front) l (stands-behind front code i l h))
 
 -- the first of two parts, and the second
 pub stands-first : (code : List Insn) (i : ℕ) (l k : List Insn) → Stands code i (l ++ k) → Stands code i l
@@ -43,13 +44,15 @@ pub length-block_of : (i : ℕ) (b : Bpf) (o : Option BpfOp) → length (block_o
 length-block_of i b None = length-filled 20 []
 length-block_of i b (Some op) = length-filled 20 (block_code i b op)
 
-stands-block_of : (first : ℕ) (p : List Bpf) (j : ℕ) (b : Bpf) → slice_get p j ≡ Some b → Stands (blocks_from first p) (20 * j) (block_of (first + j) b (bpf_op b.code))
+stands-block_of : (first : ℕ) (p : List Bpf) (j : ℕ) (b : Bpf) → slice_get p j ≡ Some b
+    → Stands (blocks_from first p) (20 * j) (block_of (first + j) b (bpf_op b.code))
 stands-block_of first [] j b e = absurd cc
 stands-block_of first (c ∷ p) zero b e =
     let same : c ≡ b = cc in
     let q : first ≡ first + 0 = omega arith in
     subst (λ b. Stands (blocks_from first (c ∷ p)) 0 (block_of (first + 0) b (bpf_op b.code))) same
-    (subst (λ i. Stands (blocks_from first (c ∷ p)) 0 (block_of i c (bpf_op c.code))) q (stands-front (block_of first c (bpf_op c.code)) (blocks_from (suc first) p)))
+    (subst (λ i. Stands (blocks_from first (c ∷ p)) 0 (block_of i c (bpf_op c.code))) q
+    (stands-front (block_of first c (bpf_op c.code)) (blocks_from (suc first) p)))
 stands-block_of first (c ∷ p) (suc j) b e =
     let front = block_of first c (bpf_op c.code) in
     let n = length-block_of first c (bpf_op c.code) in
@@ -60,7 +63,8 @@ stands-block_of first (c ∷ p) (suc j) b e =
     (subst (λ k. Stands (blocks_from first (c ∷ p)) k (block_of (suc first + j) b (bpf_op b.code))) r h)
 
 -- what block i does stands at word 20 * i
-pub stands-block_code : (p : List Bpf) (i : ℕ) (b : Bpf) (op : BpfOp) → slice_get p i ≡ Some b → bpf_op b.code ≡ Some op → length (block_code i b op) ≤ 20 → Stands (blocks_from 0 p) (20 * i) (block_code i b op)
+pub stands-block_code : (p : List Bpf) (i : ℕ) (b : Bpf) (op : BpfOp) → slice_get p i ≡ Some b → bpf_op b.code ≡ Some op
+    → length (block_code i b op) ≤ 20 → Stands (blocks_from 0 p) (20 * i) (block_code i b op)
 stands-block_code p i b op e k short =
     let q : 0 + i ≡ i = omega arith in
     stands-padded (blocks_from 0 p) (20 * i) 20 (block_code i b op) short

@@ -1,16 +1,16 @@
 -- What blocks make of A.
-use Rattle.std.proofs.Common.{◌≡◌, ℕ, zero, suc, ◌+◌, ◌-◌, ◌*◌, ◌/◌, ◌%◌, ◌^◌, ◌<◌, ◌≤◌, Bool, true, false, cond, List, [], ◌∷◌, length, slice_index, bit_and, bit_or, refl, sym, ap, ◌∙◌, subst, arith}
-use Rattle.word_ops.specs.Words.{word_of, flag_of, test_of}
+use Rattle.std.proofs.Common.{◌≡◌, ℕ, ◌+◌, ◌/◌, ◌%◌, ◌^◌, ◌<◌, ◌≤◌, slice_index, bit_and, bit_or, ap, ◌∙◌, arith}
+use Rattle.word_ops.specs.Words.{word_of}
 use Rattle.word_ops.specs.Memory.{Memory}
-use Rattle.word_ops.specs.declared.Op.TheVariants.{Add, Band, Bis, Sll, Srl, Cmpeq, Cmpult, Cmpule}
+use Rattle.word_ops.specs.declared.Op.TheVariants.{Add, Band, Sll, Srl, Cmpeq, Cmpult, Cmpule}
 use Rattle.bpf_words.specs.declared.insn.BpfOp.TheVariants as ops
 use Rattle.bpf_words.specs.declared.insn.BpfTest.{BpfTest}
 use Rattle.bpf_words.specs.declared.insn.BpfTest.TheVariants as tests
-use Rattle.bpf_code.specs.Blocks.{constant_code, straight_code, nonzero_flag}
-use Rattle.bpf_code.proofs.Straight.{effects, listing, MayRun}
+use Rattle.bpf_code.specs.Blocks.{straight_code}
+use Rattle.bpf_code.proofs.Straight.{effects, listing}
 use Rattle.bpf_code.proofs.Numbers.{constant-is, sum-is}
 
--- register r after the words of a op
+-- register r after what a block computes
 abbrev pub left_in : Memory → ops.the_data → ℕ → (ℕ → ℕ) → ℕ → ℕ
 left_in m op k f r = slice_index (effects m (straight_code op k) (listing 31 f 0)) r
 

@@ -1,18 +1,18 @@
 -- The code of a program returns 0 where the program's value is 0, else 1.
-use Rattle.std.proofs.Common.{◌≡◌, ℕ, zero, suc, ◌+◌, ◌-◌, ◌*◌, ◌/◌, ◌%◌, ◌^◌, ◌<◌, ◌≤◌, Bool, true, false, cond, eqb, inl, inr, List, [], ◌∷◌, ◌++◌, length, slice_get, slice_index, Option, Some, None, bit_and, bit_or, refl, sym, ap, ◌∙◌, subst, arith, length-append, get_or}
-use Rattle.std.specs.Prelude.{pos, nat_lt, nat_le, not}
+use Rattle.std.proofs.Common.{◌≡◌, ℕ, zero, suc, ◌+◌, ◌-◌, ◌*◌, ◌/◌, ◌%◌, ◌^◌, ◌<◌, ◌≤◌, Bool, true, false, cond, eqb, inl, inr, List, [], ◌∷◌, length, slice_get, slice_index, Option, Some, bit_and, bit_or, refl, sym, ap, ◌∙◌, subst, arith, length-append, get_or}
+use Rattle.std.specs.Prelude.{nat_lt, nat_le, not}
 use Rattle.std.proofs.lemmas.Nat.{or_lt, and_le_l, shr_le}
 use Rattle.std.proofs.lemmas.Option.{slice_get-get_or}
-use Rattle.std.proofs.lemmas.Bool.{cases_Bool, eqb-true, eqb-false, lt-ltb, ne_eqb}
+use Rattle.std.proofs.lemmas.Bool.{cases_Bool, eqb-true, lt-ltb, ne_eqb}
 use Rattle.word_ops.specs.Words.{word_of, flag_of}
-use Rattle.word_ops.specs.Memory.{Memory, read}
-use Rattle.word_ops.specs.Rights.{Rights, allowed}
-use Rattle.word_ops.specs.declared.Op.TheVariants.{Add, Band, Bis, Sll, Srl, Cmpeq, Cmpult, Cmpule}
+use Rattle.word_ops.specs.Memory.{Memory}
+use Rattle.word_ops.specs.Rights.{Rights}
+use Rattle.word_ops.specs.declared.Op.TheVariants.{Add, Cmpult}
 use Rattle.alpha_words.specs.declared.insn.Insn.{Insn}
 use Rattle.alpha_words.specs.declared.insn.Insn.TheVariants.{Branch, Br, Ret}
 use Rattle.alpha_words.specs.declared.insn.Cond.TheVariants.{NotZero}
 use Rattle.alpha_cfg.specs.Flow.{jump_of}
-use Rattle.alpha_cfg.specs.Machine.{State, state_at, step_at, step_of, ends_with, run_of}
+use Rattle.alpha_cfg.specs.Machine.{State, state_at, step_at, ends_with, run_of}
 use Rattle.alpha_cfg.specs.declared.outcome.Outcome.{Outcome}
 use Rattle.alpha_cfg.specs.declared.outcome.Outcome.TheVariants as outcomes
 use Rattle.alpha_cfg.specs.declared.outcome.Step.{Step}
@@ -21,17 +21,17 @@ use Rattle.bpf_words.specs.declared.insn.BpfOp.{BpfOp}
 use Rattle.bpf_words.specs.declared.insn.BpfOp.TheVariants as ops
 use Rattle.bpf_words.specs.declared.insn.BpfTest.{BpfTest}
 use Rattle.bpf_words.specs.declared.insn.BpfTest.TheVariants as tests
-use Rattle.bpf_words.specs.Programs.{bpf_op, IsInBounds, IsRet, HasWidths, IsSoundAt, IsProgram}
+use Rattle.bpf_words.specs.Programs.{bpf_op, IsInBounds, IsRet, IsSoundAt, IsProgram}
 use Rattle.bpf_words.specs.Values.{big_endian, jumps, op_effect, code_effect, insn_effect, value_after, value_from, bpf_value}
-use Rattle.bpf_code.specs.Blocks.{constant_code, load_code, straight_code, nonzero_flag, taken_index, passed_index, block_distance, branch_pair, end_code, end_place, block_code, block_of, blocks_from, bpf_code}
+use Rattle.bpf_code.specs.Blocks.{load_code, straight_code, nonzero_flag, taken_index, passed_index, block_distance, branch_pair, end_code, end_place, block_code, blocks_from, bpf_code}
+use Rattle.bpf_code.specs.Inside.Bounds.{KeepsTo}
 use Rattle.bpf_code.specs.Simulation.{AreBytes}
-use Rattle.bpf_code.proofs.Straight.{Stands, effects, effects-length, listing, listed, MayRun, more, more-is, onward, onward-is, after, runs_straight}
-use Rattle.bpf_code.proofs.Numbers.{constant-is, sum-is}
-use Rattle.bpf_code.proofs.Results.{left_in, constant-a, add-a, or-a, and-a, shift-a, tested, test-six}
-use Rattle.bpf_code.proofs.Loads.{HasPacket, IsLoaded, load-is, big-small}
+use Rattle.bpf_code.proofs.Straight.{Stands, effects, effects-length, listing, listed, MayRun, more, more-is, onward, onward-is, runs_straight}
+use Rattle.bpf_code.proofs.Results.{constant-a, add-a, or-a, and-a, shift-a, tested, test-six}
+use Rattle.bpf_code.proofs.Loads.{HasPacket, load-is, big-small}
 use Rattle.bpf_code.proofs.Places.{stands-first, stands-second, stands-block_code}
 
--- ---- what a op makes of A
+-- ---- what an instruction makes of A
 
 abbrev pub next_a : List ℕ → BpfOp → ℕ → ℕ → ℕ
 next_a packet ops.Ld k a = big_endian packet k 4
@@ -47,25 +47,16 @@ next_a packet (ops.Jump t) k a = a
 next_a packet ops.Ret k a = a
 next_a packet ops.RetA k a = a
 
--- what the straight words of a op leave
+-- what the straight words of an instruction leave
 record IsLeft (packet : List ℕ) (m : Memory) (reads : List (ℕ × ℕ)) (op : BpfOp) (k : ℕ) (regs : List ℕ) : Type 0 where
   may : MayRun m reads (straight_code op k) regs
   a : slice_index (effects m (straight_code op k) regs) 1 ≡ next_a packet op k (slice_index regs 1)
   base : slice_index (effects m (straight_code op k) regs) 16 ≡ slice_index regs 16
 
--- a bound of k that a op asks for
-abbrev Fits : BpfOp → ℕ → Type 0
-Fits ops.Ld k = k + 4 ≤ 64
-Fits ops.Ldh k = k + 2 ≤ 64
-Fits ops.Ldb k = k + 1 ≤ 64
-Fits ops.Rsh k = k ≤ 31
-Fits op k = Unit {0}
-
-abbrev constant_may : Unit {0} × (Unit {0} × (Unit {0} × (Unit {0} × (Unit {0} × (Unit {0} × Unit {0})))))
-constant_may = (tt, (tt, (tt, (tt, (tt, (tt, tt))))))
-
 module _ (packet : List ℕ) (m : Memory) (reads : List (ℕ × ℕ)) (bytes : AreBytes packet) where
-  left-load : (op : BpfOp) (k n : ℕ) (regs : List ℕ) → straight_code op k ≡ load_code k n → next_a packet op k (slice_index regs 1) ≡ big_endian packet k (suc n) → n ≤ 3 → k + suc n ≤ 64 → length regs ≡ 31 → HasPacket packet m reads (slice_index regs 16) → IsLeft packet m reads op k regs
+  left-load : (op : BpfOp) (k n : ℕ) (regs : List ℕ) → straight_code op k ≡ load_code k n
+      → next_a packet op k (slice_index regs 1) ≡ big_endian packet k (suc n) → n ≤ 3 → k + suc n ≤ 64 → length regs ≡ 31
+      → HasPacket packet m reads (slice_index regs 16) → IsLeft packet m reads op k regs
   left-load op k n regs code a few inside count has =
       let l = load-is packet m reads k n bytes few inside regs count has in
       record {
@@ -74,7 +65,8 @@ module _ (packet : List ℕ) (m : Memory) (reads : List (ℕ × ℕ)) (bytes : A
         base = ap (λ c. slice_index (effects m c regs) 16) code ∙ l.base;
       }
 
-  left-listed : (op : BpfOp) (k : ℕ) (f : ℕ → ℕ) → Fits op k → k < 2 ^ 32 → f 1 < 2 ^ 32 → HasPacket packet m reads (f 16) → IsLeft packet m reads op k (listing 31 f 0)
+  left-listed : (op : BpfOp) (k : ℕ) (f : ℕ → ℕ) → KeepsTo op k → k < 2 ^ 32 → f 1 < 2 ^ 32 → HasPacket packet m reads (f 16)
+      → IsLeft packet m reads op k (listing 31 f 0)
   left-listed ops.Ld k f fits w a has = left-load ops.Ld k 3 (listing 31 f 0) refl refl (omega arith) fits refl has
   left-listed ops.Ldh k f fits w a has = left-load ops.Ldh k 1 (listing 31 f 0) refl refl (omega arith) fits refl has
   left-listed ops.Ldb k f fits w a has = left-load ops.Ldb k 0 (listing 31 f 0) refl refl (omega arith) fits refl has
@@ -91,7 +83,8 @@ module _ (packet : List ℕ) (m : Memory) (reads : List (ℕ × ℕ)) (bytes : A
   left-listed ops.Ret k f fits w a has = record { may = (tt, tt); a = refl; base = refl }
   left-listed ops.RetA k f fits w a has = record { may = (tt, tt); a = refl; base = refl }
 
-  left-is : (op : BpfOp) (k : ℕ) (regs : List ℕ) → length regs ≡ 31 → Fits op k → k < 2 ^ 32 → slice_index regs 1 < 2 ^ 32 → HasPacket packet m reads (slice_index regs 16) → IsLeft packet m reads op k regs
+  left-is : (op : BpfOp) (k : ℕ) (regs : List ℕ) → length regs ≡ 31 → KeepsTo op k → k < 2 ^ 32 → slice_index regs 1 < 2 ^ 32
+      → HasPacket packet m reads (slice_index regs 16) → IsLeft packet m reads op k regs
   left-is op k regs count fits w a has = subst (IsLeft packet m reads op k) (sym (listed regs count)) (left-listed op k (slice_index regs) fits w a has)
 
   next-small : (op : BpfOp) (k a : ℕ) → k < 2 ^ 32 → a < 2 ^ 32 → next_a packet op k a < 2 ^ 32
@@ -128,7 +121,8 @@ abbrev branched : ℕ → ℕ → Bool → Option ℕ
 branched at i b = cond (not b) (jump_of at (Branch NotZero 6 (block_distance at i))) (Some (at + 1))
 
 -- a branch that isn't taken, and the branch behind it
-branch-passes : (code : List Insn) (s : State) (n i j : ℕ) → Stands code s.index (branch_pair s.index i j) → s.index + 2 ≤ 20 * j → slice_index s.regs 6 ≡ 0 → run_of code (suc (suc n)) s ≡ run_of code n (at_index (20 * j) s)
+branch-passes : (code : List Insn) (s : State) (n i j : ℕ) → Stands code s.index (branch_pair s.index i j) → s.index + 2 ≤ 20 * j
+    → slice_index s.regs 6 ≡ 0 → run_of code (suc (suc n)) s ≡ run_of code n (at_index (20 * j) s)
 branch-passes code s n i j stands room clear =
     let behind : State = at_index (s.index + 1) s in
     ap (λ o. stepped code (suc n) (step_at o s)) stands.0
@@ -136,13 +130,15 @@ branch-passes code s n i j stands room clear =
     ∙ ap (λ o. stepped code n (step_at o behind)) stands.1.0
     ∙ ap (λ o. run_of code n (state_at behind o)) (br-lands (s.index + 1) j (omega (arith, room)))
 
-branch-taken_index : (code : List Insn) (s : State) (n i j : ℕ) → Stands code s.index (branch_pair s.index i j) → s.index + 1 ≤ 20 * i → eqb (slice_index s.regs 6) 0 ≡ false → run_of code (suc (suc n)) s ≡ run_of code (suc n) (at_index (20 * i) s)
+branch-taken_index : (code : List Insn) (s : State) (n i j : ℕ) → Stands code s.index (branch_pair s.index i j) → s.index + 1 ≤ 20 * i
+    → eqb (slice_index s.regs 6) 0 ≡ false → run_of code (suc (suc n)) s ≡ run_of code (suc n) (at_index (20 * i) s)
 branch-taken_index code s n i j stands room set =
     ap (λ o. stepped code (suc n) (step_at o s)) stands.0
     ∙ ap (λ b. run_of code (suc n) (state_at s (branched s.index i b))) set
     ∙ ap (λ o. run_of code (suc n) (state_at s o)) (branch-lands s.index i room)
 
-returns-now : (code : List Insn) (s : State) (n : ℕ) → slice_get code s.index ≡ Some Ret → run_of code (suc n) s ≡ (outcomes.Returned (slice_index s.regs 0), s)
+returns-now : (code : List Insn) (s : State) (n : ℕ) → slice_get code s.index ≡ Some Ret
+    → run_of code (suc n) s ≡ (outcomes.Returned (slice_index s.regs 0), s)
 returns-now code s n stands = ap (λ o. stepped code n (step_at o s)) stands
 
 -- ---- what a block returns
@@ -163,10 +159,12 @@ return_a-listed m k f = above-zero (f 1)
 return-is : (m : Memory) (k : ℕ) (regs : List ℕ) → length regs ≡ 31 → slice_index (effects m (straight_code ops.Ret k) regs) 0 ≡ nonzero_flag k
 return-is m k regs count = ap (λ l. slice_index (effects m (straight_code ops.Ret k) l) 0) (listed regs count) ∙ return-listed m k (slice_index regs)
 
-return_a-is : (m : Memory) (k : ℕ) (regs : List ℕ) → length regs ≡ 31 → slice_index (effects m (straight_code ops.RetA k) regs) 0 ≡ nonzero_flag (slice_index regs 1)
+return_a-is : (m : Memory) (k : ℕ) (regs : List ℕ) → length regs ≡ 31
+    → slice_index (effects m (straight_code ops.RetA k) regs) 0 ≡ nonzero_flag (slice_index regs 1)
 return_a-is m k regs count = ap (λ l. slice_index (effects m (straight_code ops.RetA k) l) 0) (listed regs count) ∙ return_a-listed m k (slice_index regs)
 
-six-is : (m : Memory) (k : ℕ) (t : BpfTest) (regs : List ℕ) → k < 2 ^ 32 → length regs ≡ 31 → slice_index (effects m (straight_code (ops.Jump t) k) regs) 6 ≡ tested t (slice_index regs 1) k
+six-is : (m : Memory) (k : ℕ) (t : BpfTest) (regs : List ℕ) → k < 2 ^ 32 → length regs ≡ 31
+    → slice_index (effects m (straight_code (ops.Jump t) k) regs) 6 ≡ tested t (slice_index regs 1) k
 six-is m k t regs w count = ap (λ l. slice_index (effects m (straight_code (ops.Jump t) k) l) 6) (listed regs count) ∙ test-six m k (slice_index regs) t w
 
 -- ---- where a block goes
@@ -265,7 +263,7 @@ block_code-short i b op =
     let a = length-append (straight_code op b.k) (end_code (end_place i op b.k) i b op) in
     omega (arith, s, e, a)
 
-fits-good : (n i : ℕ) (b : Bpf) (op : BpfOp) → IsInBounds n i b op → Fits op b.k
+pub fits-good : (n i : ℕ) (b : Bpf) (op : BpfOp) → IsInBounds n i b op → KeepsTo op b.k
 fits-good n i b ops.Ld g = g
 fits-good n i b ops.Ldh g = g
 fits-good n i b ops.Ldb g = g
@@ -304,7 +302,8 @@ leads n i b (ops.Jump t) lt g last going = record { far = g.0; near = g.1; on = 
 leads n i b ops.Ret lt g last going = absurd going
 leads n i b ops.RetA lt g last going = absurd going
 
-tested-is : (m : Memory) (op : BpfOp) (k : ℕ) (regs : List ℕ) → k < 2 ^ 32 → length regs ≡ 31 → IsTested op (slice_index regs 1) k (slice_index (effects m (straight_code op k) regs) 6)
+tested-is : (m : Memory) (op : BpfOp) (k : ℕ) (regs : List ℕ) → k < 2 ^ 32 → length regs ≡ 31
+    → IsTested op (slice_index regs 1) k (slice_index (effects m (straight_code op k) regs) 6)
 tested-is m ops.Ld k regs w count = tt
 tested-is m ops.Ldh k regs w count = tt
 tested-is m ops.Ldb k regs w count = tt
@@ -334,14 +333,16 @@ end_code-going at i b ops.RetA g = absurd g
 
 -- ---- the whole
 
-module _ (p : List Bpf) (program : IsProgram p) (packet : List ℕ) (bytes : AreBytes packet) (m : Memory) (rights : Rights) (x : ℕ) (has : HasPacket packet m rights.reads x) where
+module _ (p : List Bpf) (program : IsProgram p) (packet : List ℕ) (bytes : AreBytes packet) (m : Memory) (rights : Rights) (x : ℕ)
+    (has : HasPacket packet m rights.reads x) where
   -- the state at the first word of block i
   abbrev here : ℕ → List ℕ → State
   here i regs = record { index = 20 * i; regs = regs; memory = m; rights = rights }
 
   -- the code at block i with these registers returns what the value says
   abbrev Answers : ℕ → ℕ → ℕ → List ℕ → Type 0
-  Answers n i budget regs = (run_of (blocks_from 0 p) budget (here i regs)).0 ≡ outcomes.Returned (nonzero_flag (value_from p packet n i (slice_index regs 1)))
+  Answers n i budget regs = (run_of (blocks_from 0 p) budget (here i regs)).0 ≡ outcomes.Returned
+      (nonzero_flag (value_from p packet n i (slice_index regs 1)))
 
   -- registers at the first word of a block
   record AreReady (regs : List ℕ) : Type 0 where
@@ -353,9 +354,11 @@ module _ (p : List Bpf) (program : IsProgram p) (packet : List ℕ) (bytes : Are
   abbrev Further : ℕ → Type 0
   Further n = (i budget : ℕ) (regs : List ℕ) → AreReady regs → i < length p → length p ≤ i + n → 20 * n ≤ budget → Answers n i budget regs
 
-  module _ (n i : ℕ) (b : Bpf) (op : BpfOp) (regs : List ℕ) (ready : AreReady regs) (at : slice_get p i ≡ Some b) (good : IsSoundAt (length p) i b) (op_is : bpf_op b.code ≡ Some op) (fine : IsInBounds (length p) i b op) (inside : i < length p) (last-of : i + 1 ≡ length p → IsRet op) where
+  module _ (n i : ℕ) (b : Bpf) (op : BpfOp) (regs : List ℕ) (ready : AreReady regs) (at : slice_get p i ≡ Some b) (good : IsSoundAt (length p) i b)
+      (op_is : bpf_op b.code ≡ Some op) (fine : IsInBounds (length p) i b op) (inside : i < length p) (last-of : i + 1 ≡ length p → IsRet op) where
     left : IsLeft packet m rights.reads op b.k regs
-    left = left-is packet m rights.reads bytes op b.k regs ready.count (fits-good (length p) i b op fine) good.widths.k ready.small (subst (HasPacket packet m rights.reads) (sym ready.base) has)
+    left = left-is packet m rights.reads bytes op b.k regs ready.count (fits-good (length p) i b op fine) good.widths.k ready.small
+        (subst (HasPacket packet m rights.reads) (sym ready.base) has)
 
     abbrev behind : List ℕ
     behind = effects m (straight_code op b.k) regs
@@ -370,11 +373,13 @@ module _ (p : List Bpf) (program : IsProgram p) (packet : List ℕ) (bytes : Are
     stands = stands-block_code p i b op at op_is (block_code-short i b op)
 
     stands-end_code : Stands (blocks_from 0 p) end (end_code end i b op)
-    stands-end_code = subst (λ e. Stands (blocks_from 0 p) end (end_code e i b op)) (sym end-is) (stands-second (blocks_from 0 p) (20 * i) (straight_code op b.k) (end_code (end_place i op b.k) i b op) stands)
+    stands-end_code = subst (λ e. Stands (blocks_from 0 p) end (end_code e i b op)) (sym end-is)
+        (stands-second (blocks_from 0 p) (20 * i) (straight_code op b.k) (end_code (end_place i op b.k) i b op) stands)
 
     -- the run up to the ending
     up : (r : ℕ) → run_of (blocks_from 0 p) (more (straight_code op b.k) r) (here i regs) ≡ run_of (blocks_from 0 p) r (at_index end (here i behind))
-    up r = runs_straight (blocks_from 0 p) (straight_code op b.k) (here i regs) r (stands-first (blocks_from 0 p) (20 * i) (straight_code op b.k) (end_code (end_place i op b.k) i b op) stands) left.may
+    up r = runs_straight (blocks_from 0 p) (straight_code op b.k) (here i regs) r
+        (stands-first (blocks_from 0 p) (20 * i) (straight_code op b.k) (end_code (end_place i op b.k) i b op) stands) left.may
 
     value-is : value_from p packet (suc n) i (slice_index regs 1) ≡ op_value packet (value_from p packet n) i (slice_index regs 1) b op
     value-is =
@@ -392,16 +397,22 @@ module _ (p : List Bpf) (program : IsProgram p) (packet : List ℕ) (bytes : Are
     return-case : (r : ℕ) → op ≡ ops.Ret → Answers (suc n) i (more (straight_code op b.k) (suc r)) regs
     return-case r e =
         let ret : Stands (blocks_from 0 p) end (Ret ∷ Ret ∷ []) = subst (λ kd. Stands (blocks_from 0 p) end (end_code end i b kd)) e stands-end_code in
-        let zero_is : slice_index behind 0 ≡ nonzero_flag b.k = ap (λ kd. slice_index (effects m (straight_code kd b.k) regs) 0) e ∙ return-is m b.k regs ready.count in
-        let value : value_from p packet (suc n) i (slice_index regs 1) ≡ b.k = value-is ∙ ap (op_value packet (value_from p packet n) i (slice_index regs 1) b) e in
-        ap (λ o. o.0) (up (suc r) ∙ returns-now (blocks_from 0 p) (at_index end (here i behind)) r ret.0) ∙ ap outcomes.Returned (zero_is ∙ ap nonzero_flag (sym value))
+        let zero_is : slice_index behind 0 ≡ nonzero_flag b.k = ap (λ kd. slice_index (effects m (straight_code kd b.k) regs) 0) e
+        ∙ return-is m b.k regs ready.count in
+        let value : value_from p packet (suc n) i (slice_index regs 1) ≡ b.k = value-is
+        ∙ ap (op_value packet (value_from p packet n) i (slice_index regs 1) b) e in
+        ap (λ o. o.0) (up (suc r) ∙ returns-now (blocks_from 0 p) (at_index end (here i behind)) r ret.0)
+        ∙ ap outcomes.Returned (zero_is ∙ ap nonzero_flag (sym value))
 
     return_a-case : (r : ℕ) → op ≡ ops.RetA → Answers (suc n) i (more (straight_code op b.k) (suc r)) regs
     return_a-case r e =
         let ret : Stands (blocks_from 0 p) end (Ret ∷ Ret ∷ []) = subst (λ kd. Stands (blocks_from 0 p) end (end_code end i b kd)) e stands-end_code in
-        let zero_is : slice_index behind 0 ≡ nonzero_flag (slice_index regs 1) = ap (λ kd. slice_index (effects m (straight_code kd b.k) regs) 0) e ∙ return_a-is m b.k regs ready.count in
-        let value : value_from p packet (suc n) i (slice_index regs 1) ≡ slice_index regs 1 = value-is ∙ ap (op_value packet (value_from p packet n) i (slice_index regs 1) b) e in
-        ap (λ o. o.0) (up (suc r) ∙ returns-now (blocks_from 0 p) (at_index end (here i behind)) r ret.0) ∙ ap outcomes.Returned (zero_is ∙ ap nonzero_flag (sym value))
+        let zero_is : slice_index behind 0 ≡ nonzero_flag (slice_index regs 1) = ap (λ kd. slice_index (effects m (straight_code kd b.k) regs) 0) e
+        ∙ return_a-is m b.k regs ready.count in
+        let value : value_from p packet (suc n) i (slice_index regs 1) ≡ slice_index regs 1 = value-is
+        ∙ ap (op_value packet (value_from p packet n) i (slice_index regs 1) b) e in
+        ap (λ o. o.0) (up (suc r) ∙ returns-now (blocks_from 0 p) (at_index end (here i behind)) r ret.0)
+        ∙ ap outcomes.Returned (zero_is ∙ ap nonzero_flag (sym value))
 
     -- a block that goes on
     going-case : (r : ℕ) → IsGoing op → Further n → length p ≤ i + suc n → 20 * n ≤ r → Answers (suc n) i (more (straight_code op b.k) (suc (suc r))) regs
@@ -411,17 +422,21 @@ module _ (p : List Bpf) (program : IsProgram p) (packet : List ℕ) (bytes : Are
         let to : LeadsInside (length p) i b op = leads (length p) i b op inside fine last-of going in
         let g = goes packet (value_from p packet n) i (slice_index regs 1) b op six going (tested-is m op b.k regs good.widths.k ready.count) in
         let short = straight_code-short op b.k in
-        let stands_here : Stands code end (branch_pair end (taken_index i b op) (passed_index i b op)) = subst (Stands code end) (end_code-going end i b op going) stands-end_code in
+        let stands_here : Stands code end (branch_pair end (taken_index i b op) (passed_index i b op)) = subst (Stands code end)
+        (end_code-going end i b op going) stands-end_code in
         let a_is : slice_index behind 1 ≡ next_a packet op b.k (slice_index regs 1) = left.a in
         let near_room : end + 2 ≤ 20 * passed_index i b op = let o = to.over in omega (arith, end-is, short, o) in
         let far_room : end + 1 ≤ 20 * taken_index i b op = let o = to.on in omega (arith, end-is, short, o) in
         elim (cases_Bool (eqb six 0)) [
           | inl e ↦
-              ap (λ o. o.0) (up (suc (suc r)) ∙ branch-passes code (at_index end (here i behind)) r (taken_index i b op) (passed_index i b op) stands_here near_room (eqb-true six 0 e))
+              ap (λ o. o.0) (up (suc (suc r))
+              ∙ branch-passes code (at_index end (here i behind)) r (taken_index i b op) (passed_index i b op) stands_here near_room (eqb-true six 0 e))
               ∙ further (passed_index i b op) r behind behind-ready to.near (let o = to.over in omega (arith, long, o)) enough
-              ∙ ap (λ v. outcomes.Returned (nonzero_flag v)) (ap (value_from p packet n (passed_index i b op)) a_is ∙ sym (g.clear (eqb-true six 0 e)) ∙ sym value-is)
+              ∙ ap (λ v. outcomes.Returned (nonzero_flag v)) (ap (value_from p packet n (passed_index i b op)) a_is ∙ sym (g.clear (eqb-true six 0 e))
+              ∙ sym value-is)
           | inr e ↦
-              ap (λ o. o.0) (up (suc (suc r)) ∙ branch-taken_index code (at_index end (here i behind)) r (taken_index i b op) (passed_index i b op) stands_here far_room e)
+              ap (λ o. o.0) (up (suc (suc r))
+              ∙ branch-taken_index code (at_index end (here i behind)) r (taken_index i b op) (passed_index i b op) stands_here far_room e)
               ∙ further (taken_index i b op) (suc r) behind behind-ready to.far (let o = to.on in omega (arith, long, o)) (omega (arith, enough))
               ∙ ap (λ v. outcomes.Returned (nonzero_flag v)) (ap (value_from p packet n (taken_index i b op)) a_is ∙ sym (g.some e) ∙ sym value-is)
         ]
@@ -429,19 +444,34 @@ module _ (p : List Bpf) (program : IsProgram p) (packet : List ℕ) (bytes : Are
   no_insn : Bpf
   no_insn = record { code = 0; jt = 0; jf = 0; k = 0 }
 
-  by-op : (n i : ℕ) (regs : List ℕ) → AreReady regs → i < length p → length p ≤ i + suc n → Further n → (b : Bpf) (at : slice_get p i ≡ Some b) (good : IsSoundAt (length p) i b) (op : BpfOp) → good.op ≡ op → (r : ℕ) → 20 * n ≤ r → Answers (suc n) i (more (straight_code good.op b.k) (suc (suc r))) regs
-  by-op n i regs ready inside long further b at good ops.Ret e r room = return-case n i b good.op regs ready at good good.op_is good.bounds inside good.last (suc r) e
-  by-op n i regs ready inside long further b at good ops.RetA e r room = return_a-case n i b good.op regs ready at good good.op_is good.bounds inside good.last (suc r) e
-  by-op n i regs ready inside long further b at good ops.Ld e r room = going-case n i b good.op regs ready at good good.op_is good.bounds inside good.last r (subst IsGoing (sym e) tt) further long room
-  by-op n i regs ready inside long further b at good ops.Ldh e r room = going-case n i b good.op regs ready at good good.op_is good.bounds inside good.last r (subst IsGoing (sym e) tt) further long room
-  by-op n i regs ready inside long further b at good ops.Ldb e r room = going-case n i b good.op regs ready at good good.op_is good.bounds inside good.last r (subst IsGoing (sym e) tt) further long room
-  by-op n i regs ready inside long further b at good ops.LdImm e r room = going-case n i b good.op regs ready at good good.op_is good.bounds inside good.last r (subst IsGoing (sym e) tt) further long room
-  by-op n i regs ready inside long further b at good ops.Add e r room = going-case n i b good.op regs ready at good good.op_is good.bounds inside good.last r (subst IsGoing (sym e) tt) further long room
-  by-op n i regs ready inside long further b at good ops.Or e r room = going-case n i b good.op regs ready at good good.op_is good.bounds inside good.last r (subst IsGoing (sym e) tt) further long room
-  by-op n i regs ready inside long further b at good ops.And e r room = going-case n i b good.op regs ready at good good.op_is good.bounds inside good.last r (subst IsGoing (sym e) tt) further long room
-  by-op n i regs ready inside long further b at good ops.Rsh e r room = going-case n i b good.op regs ready at good good.op_is good.bounds inside good.last r (subst IsGoing (sym e) tt) further long room
-  by-op n i regs ready inside long further b at good ops.Ja e r room = going-case n i b good.op regs ready at good good.op_is good.bounds inside good.last r (subst IsGoing (sym e) tt) further long room
-  by-op n i regs ready inside long further b at good (ops.Jump t) e r room = going-case n i b good.op regs ready at good good.op_is good.bounds inside good.last r (subst IsGoing (sym e) tt) further long room
+  by-op : (n i : ℕ) (regs : List ℕ) → AreReady regs → i < length p → length p ≤ i + suc n → Further n
+      → (b : Bpf) (at : slice_get p i ≡ Some b) (good : IsSoundAt (length p) i b) (op : BpfOp) → good.op ≡ op → (r : ℕ) → 20 * n ≤ r
+      → Answers (suc n) i (more (straight_code good.op b.k) (suc (suc r))) regs
+  by-op n i regs ready inside long further b at good ops.Ret e r room = return-case n i b good.op regs ready at good good.op_is good.bounds inside
+      good.last (suc r) e
+  by-op n i regs ready inside long further b at good ops.RetA e r room = return_a-case n i b good.op regs ready at good good.op_is good.bounds inside
+      good.last (suc r) e
+  by-op n i regs ready inside long further b at good ops.Ld e r room = going-case n i b good.op regs ready at good good.op_is good.bounds inside
+      good.last r (subst IsGoing (sym e) tt) further long room
+  by-op n i regs ready inside long further b at good ops.Ldh e r room = going-case n i b good.op regs ready at good good.op_is good.bounds inside
+      good.last r (subst IsGoing (sym e) tt) further long room
+  by-op n i regs ready inside long further b at good ops.Ldb e r room = going-case n i b good.op regs ready at good good.op_is good.bounds inside
+      good.last r (subst IsGoing (sym e) tt) further long room
+  by-op n i regs ready inside long further b at good ops.LdImm e r room = going-case n i b good.op regs ready at good good.op_is good.bounds inside
+      good.last r (subst IsGoing (sym e) tt) further long room
+  by-op n i regs ready inside long further b at good ops.Add e r room = going-case n i b good.op regs ready at good good.op_is good.bounds inside
+      good.last r (subst IsGoing (sym e) tt) further long room
+  by-op n i regs ready inside long further b at good ops.Or e r room = going-case n i b good.op regs ready at good good.op_is good.bounds inside
+      good.last r (subst IsGoing (sym e) tt) further long room
+  by-op n i regs ready inside long further b at good ops.And e r room = going-case n i b good.op regs ready at good good.op_is good.bounds inside
+      good.last r (subst IsGoing (sym e) tt) further long room
+  by-op n i regs ready inside long further b at good ops.Rsh e r room = going-case n i b good.op regs ready at good good.op_is good.bounds inside
+      good.last r (subst IsGoing (sym e) tt) further long room
+  by-op n i regs ready inside long further b at good ops.Ja e r room = going-case n i b good.op regs ready at good good.op_is good.bounds inside
+      good.last r (subst IsGoing (sym e) tt) further long room
+  by-op n i regs ready inside long further b at good
+      (ops.Jump t) e r room = going-case n i b good.op regs ready at good good.op_is good.bounds inside good.last r
+      (subst IsGoing (sym e) tt) further long room
 
   answers : (n : ℕ) → Further n
   answers zero i budget regs ready inside long enough = absurd (omega (arith, inside, long))

@@ -1,8 +1,8 @@
 -- The simulation, from a state before the first word.
-use Rattle.std.proofs.Common.{◌≡◌, ℕ, ◌+◌, ◌*◌, ◌%◌, ◌^◌, ◌<◌, ◌≤◌, List, length, slice_index, refl, sym, ap, ◌∙◌, subst, arith}
+use Rattle.std.proofs.Common.{◌≡◌, ℕ, ◌*◌, ◌<◌, List, length, slice_index, refl, sym, ap, ◌∙◌, subst, arith}
 use Rattle.word_ops.specs.Memory.{read}
 use Rattle.word_ops.specs.Rights.{allowed}
-use Rattle.alpha_cfg.specs.Machine.{State, run_of}
+use Rattle.alpha_cfg.specs.Machine.{State}
 use Rattle.bpf_words.specs.declared.insn.Bpf.{Bpf}
 use Rattle.bpf_words.specs.Programs.{IsProgram}
 use Rattle.bpf_code.specs.Blocks.{bpf_code}
@@ -28,9 +28,11 @@ pub simulates : Simulates
 simulates program packet budget s is bytes starts enough =
     let same : at_front s ≡ s = ap (λ i. record { index = i; regs = s.regs; memory = s.memory; rights = s.rights }) (sym starts.index) in
     subst (ReturnsValue program packet budget) same
-    (program-answers program is packet bytes s.memory s.rights (slice_index s.regs 16) (has-packet packet s starts) budget s.regs starts.count starts.a refl enough)
+    (program-answers program is packet bytes s.memory s.rights (slice_index s.regs 16)
+    (has-packet packet s starts) budget s.regs starts.count starts.a refl enough)
 
-pub simulates-thousand : (program : List Bpf) (packet : List ℕ) (s : State) → IsProgram program → AreBytes packet → StartsOn packet s → ReturnsValue program packet 1000 s
+pub simulates-thousand : (program : List Bpf) (packet : List ℕ) (s : State) → IsProgram program → AreBytes packet → StartsOn packet s
+    → ReturnsValue program packet 1000 s
 simulates-thousand program packet s is bytes starts = let few = is.few in simulates program packet 1000 s is bytes starts (omega (arith, few))
 
 pub length-bpf_code : (program : List Bpf) → length (bpf_code program) ≡ 20 * length program

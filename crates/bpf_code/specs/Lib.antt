@@ -1,2 +1,3 @@
 pub mod Blocks
 pub mod Simulation
+pub mod Inside

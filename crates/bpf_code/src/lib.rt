@@ -5,6 +5,9 @@
 //! the program's value on the packet is 0, else 1.
 #![tactic(auto)]
 
+mod blocks;
 mod theorems;
+mod words;
 
+pub use blocks::{BLOCK, bpf_code};
 pub use theorems::laws;

@@ -1,11 +1,9 @@
 -- Where instructions of a program lead.
 use Rattle.std.proofs.Common.{◌≡◌, ℕ, zero, suc, ◌+◌, ◌-◌, ◌<◌, ◌≤◌, Bool, true, false, cond, List, length, slice_get, get_or, Option, Some, None, refl, sym, ap, ◌∙◌, subst, arith}
 use Rattle.std.proofs.lemmas.Option.{slice_get-get_or}
-use Rattle.bpf_words.specs.declared.insn.TheConstants.{MAX_PROGRAM}
 use Rattle.bpf_words.specs.declared.insn.Bpf.{Bpf}
 use Rattle.bpf_words.specs.declared.insn.BpfOp.{BpfOp}
 use Rattle.bpf_words.specs.declared.insn.BpfOp.TheVariants as ops
-use Rattle.bpf_words.specs.declared.insn.BpfTest.{BpfTest}
 use Rattle.bpf_words.specs.declared.values.BpfEffect.{BpfEffect}
 use Rattle.bpf_words.specs.declared.values.BpfEffect.TheVariants as effects
 use Rattle.bpf_words.specs.Programs.{bpf_op, IsInBounds, IsRet, IsSoundAt, IsProgram}
@@ -19,7 +17,8 @@ same-op : (o p : BpfOp) (x : Option BpfOp) → x ≡ Some o → x ≡ Some p →
 same-op o p x a b = cc
 
 -- what a code says of an instruction of a program is in bounds
-pub in-bounds : (program : List Bpf) (i : ℕ) (insn : Bpf) (op : BpfOp) → IsProgram program → slice_get program i ≡ Some insn → bpf_op insn.code ≡ Some op → IsInBounds (length program) i insn op
+pub in-bounds : (program : List Bpf) (i : ℕ) (insn : Bpf) (op : BpfOp) → IsProgram program → slice_get program i ≡ Some insn
+    → bpf_op insn.code ≡ Some op → IsInBounds (length program) i insn op
 in-bounds program i insn op is at known =
     let sound : IsSoundAt (length program) i insn = is.each i insn at in
     subst (IsInBounds (length program) i insn) (same-op sound.op op (bpf_op insn.code) sound.op_is known) sound.bounds
@@ -62,7 +61,8 @@ chosen n i jt jf j true lt le e = beyond n i jt j lt e
 chosen n i jt jf j false lt le e = beyond n i jf j le e
 
 -- where an instruction of a program goes on, it does so further on in the program
-pub leads-on : (packet : List ℕ) (n i a : ℕ) (insn : Bpf) (op : BpfOp) (j b : ℕ) → i < n → IsInBounds n i insn op → (i + 1 ≡ n → IsRet op) → op_effect packet i a insn op ≡ effects.GoesOn j b → (i < j) × (j < n)
+pub leads-on : (packet : List ℕ) (n i a : ℕ) (insn : Bpf) (op : BpfOp) (j b : ℕ) → i < n → IsInBounds n i insn op → (i + 1 ≡ n → IsRet op)
+    → op_effect packet i a insn op ≡ effects.GoesOn j b → (i < j) × (j < n)
 leads-on packet n i a insn ops.Ld j b lt h last e = further n i j lt last (next-is (i + 1) _ j b e)
 leads-on packet n i a insn ops.Ldh j b lt h last e = further n i j lt last (next-is (i + 1) _ j b e)
 leads-on packet n i a insn ops.Ldb j b lt h last e = further n i j lt last (next-is (i + 1) _ j b e)
@@ -108,7 +108,8 @@ module _ (program : List Bpf) (packet : List ℕ) (is : IsProgram program) where
   abbrev Gives-from : ℕ → Type 0
   Gives-from n = (i a : ℕ) → i < length program → length program ≤ i + n → Gives program packet i a (value_from program packet n i a)
 
-  by-effect : (n i a : ℕ) (effect : BpfEffect) → HasEffect i a effect → Gives-from n → length program ≤ i + suc n → Gives program packet i a (value_after (value_from program packet n) (Some effect))
+  by-effect : (n i a : ℕ) (effect : BpfEffect) → HasEffect i a effect → Gives-from n → length program ≤ i + suc n
+      → Gives program packet i a (value_after (value_from program packet n) (Some effect))
   by-effect n i a (effects.GoesOn j b) has gives long =
       let on = has.on j b refl in
       let over = on.0 in
@@ -151,7 +152,8 @@ pub value-first : (program : List Bpf) (packet : List ℕ) → value_from progra
 unfolding bpf_value
 value-first program packet = let e : length program - 0 ≡ length program = omega arith in ap (λ n. value_from program packet n 0 0) e
 
-pub value-next : (program : List Bpf) (packet : List ℕ) (n count i a j b : ℕ) → count < n → effect_at program packet i a ≡ Some (effects.GoesOn j b) → value_from program packet (n - (count + 1)) j b ≡ value_from program packet (n - count) i a
+pub value-next : (program : List Bpf) (packet : List ℕ) (n count i a j b : ℕ) → count < n → effect_at program packet i a ≡ Some (effects.GoesOn j b)
+    → value_from program packet (n - (count + 1)) j b ≡ value_from program packet (n - count) i a
 value-next program packet n count i a j b lt e =
     let q : suc (n - (count + 1)) ≡ n - count = omega (arith, lt) in
     sym (ap (value_after (value_from program packet (n - (count + 1)))) e) ∙ ap (λ m. value_from program packet m i a) q

@@ -1,5 +1,5 @@
 -- The instructions that are read of bytes.
-use Rattle.std.proofs.Common.{◌≡◌, ℕ, zero, suc, ◌+◌, ◌-◌, ◌*◌, ◌/◌, ◌%◌, ◌<◌, ◌≤◌, Bool, true, false, cond, eqb, ◌||◌, List, [], ◌∷◌, ◌++◌, length, slice_get, Option, Some, None, Result, Ok, Err, refl, sym, ap, ◌∙◌, subst, arith, append_assoc}
+use Rattle.std.proofs.Common.{◌≡◌, ℕ, zero, suc, ◌+◌, ◌-◌, ◌/◌, ◌%◌, ◌<◌, Bool, true, false, eqb, ◌||◌, List, [], ◌∷◌, ◌++◌, length, slice_get, Option, Some, None, Ok, Err, refl, sym, ap, ◌∙◌, subst, arith, append_assoc}
 use Rattle.std.specs.Prelude.{not, nat_lt}
 use Rattle.std.proofs.lemmas.Bool.{eqb-true}
 use Rattle.bpf_words.specs.declared.insn.TheConstants.{MAX_PROGRAM}
@@ -14,7 +14,8 @@ length-insns_from bytes i zero = refl
 length-insns_from bytes i (suc n) = ap suc (length-insns_from bytes (i + 1) n)
 
 -- one instruction more is read
-pub insns_from-step : (bytes : List ℕ) (read : List Bpf) (i n : ℕ) → i < n → (read ++ (insn_at bytes i ∷ [])) ++ insns_from bytes (i + 1) (n - (i + 1)) ≡ read ++ insns_from bytes i (n - i)
+pub insns_from-step : (bytes : List ℕ) (read : List Bpf) (i n : ℕ) → i < n
+    → (read ++ (insn_at bytes i ∷ [])) ++ insns_from bytes (i + 1) (n - (i + 1)) ≡ read ++ insns_from bytes i (n - i)
 insns_from-step bytes read i n lt =
     let e : suc (n - (i + 1)) ≡ n - i = omega (arith, lt) in
     append_assoc read (insn_at bytes i ∷ []) (insns_from bytes (i + 1) (n - (i + 1))) ∙ ap (λ m. read ++ insns_from bytes i m) e
@@ -45,7 +46,8 @@ unfolding program_of
 program_of-has bytes program e =
     let size = length bytes in
     let ok = unless-ok (insns_of bytes) (first_of (size_flaw size) (first_flaw (insns_of bytes))) program e in
-    let none = first-none (flaw_if (eqb size 0 || not (eqb (size % 8) 0)) (flaws.Size size)) (flaw_if (nat_lt MAX_PROGRAM (size / 8)) (flaws.Count (size / 8))) (first-none (size_flaw size) (first_flaw (insns_of bytes)) ok.1).0 in
+    let none = first-none (flaw_if (eqb size 0 || not (eqb (size % 8) 0)) (flaws.Size size))
+    (flaw_if (nat_lt MAX_PROGRAM (size / 8)) (flaws.Count (size / 8))) (first-none (size_flaw size) (first_flaw (insns_of bytes)) ok.1).0 in
     let rest : size % 8 ≡ 0 = eqb-true (size % 8) 0 (whole-bytes (eqb size 0) (eqb (size % 8) 0) (test-false _ _ none.0)) in
     let n : length (insns_of bytes) ≡ size / 8 = length-insns_from bytes 0 (size / 8) in
     subst (HasInsns bytes) ok.0 record {
@@ -59,7 +61,8 @@ pub read-flawed : (bytes : List ℕ) (flaw : BpfFlaw) → size_flaw (length byte
 unfolding program_of
 read-flawed bytes flaw e = ap (λ o. unless_flaw (insns_of bytes) (first_of o (first_flaw (insns_of bytes)))) e
 
-pub read-insns : (bytes : List ℕ) (insns : List Bpf) (found : Option BpfFlaw) → size_flaw (length bytes) ≡ None → insns ≡ insns_of bytes → found ≡ first_flaw insns → program_of bytes ≡ unless_flaw insns found
+pub read-insns : (bytes : List ℕ) (insns : List Bpf) (found : Option BpfFlaw) → size_flaw (length bytes) ≡ None → insns ≡ insns_of bytes
+    → found ≡ first_flaw insns → program_of bytes ≡ unless_flaw insns found
 unfolding program_of
 read-insns bytes insns found none same is =
     ap (λ o. unless_flaw (insns_of bytes) (first_of o (first_flaw (insns_of bytes)))) none

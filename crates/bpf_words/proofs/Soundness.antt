@@ -1,31 +1,31 @@
 -- Instructions without a flaw are a program.
-use Rattle.std.proofs.Common.{◌≡◌, ℕ, zero, suc, ◌+◌, ◌-◌, ◌*◌, ◌<◌, ◌≤◌, Bool, true, false, cond, ◌||◌, List, [], ◌∷◌, length, drop, slice_get, get_or, Option, Some, None, refl, sym, ap, ◌∙◌, subst, arith, drop-cons, below_more}
-use Rattle.std.specs.Prelude.{not, nat_lt, nat_le, is_some}
+use Rattle.std.proofs.Common.{◌≡◌, ℕ, zero, suc, ◌+◌, ◌-◌, ◌<◌, ◌≤◌, Bool, true, false, ◌||◌, List, [], ◌∷◌, length, drop, slice_get, Option, Some, None, refl, sym, ap, ◌∙◌, subst, arith, below_more}
+use Rattle.std.specs.Prelude.{not, nat_le, is_some}
 use Rattle.std.proofs.lemmas.Bool.{ltb-false, leb-false}
-use Rattle.std.proofs.lemmas.Option.{slice_get-get_or, slice_get_within}
 use Rattle.bpf_words.specs.declared.insn.TheConstants.{MAX_PROGRAM, LOADABLE}
 use Rattle.bpf_words.specs.declared.insn.Bpf.{Bpf}
 use Rattle.bpf_words.specs.declared.insn.BpfOp.{BpfOp}
 use Rattle.bpf_words.specs.declared.insn.BpfOp.TheVariants as ops
 use Rattle.bpf_words.specs.declared.fault.BpfFlaw.{BpfFlaw}
-use Rattle.bpf_words.specs.declared.fault.BpfFlaw.TheVariants as flaws
 use Rattle.bpf_words.specs.Programs.{bpf_op, IsInBounds, IsRet, HasWidths, IsSoundAt, IsProgram}
 use Rattle.bpf_words.specs.Reading.{flaw_if, op_flaw, code_flaw, insn_flaw, first_of, flaw_from, returns, return_flaw, first_flaw, HaveWidths}
 
 -- ---- the loop over instructions
 
 -- the list from an index on begins with what stands there
-drop-at : (l : List Bpf) (i : ℕ) (x : Bpf) → slice_get l i ≡ Some x → drop i l ≡ x ∷ drop (i + 1) l
+pub drop-at : (l : List Bpf) (i : ℕ) (x : Bpf) → slice_get l i ≡ Some x → drop i l ≡ x ∷ drop (i + 1) l
 drop-at [] i x e = absurd cc
 drop-at (y ∷ l) zero x e = let same : y ≡ x = cc in ap (λ z. z ∷ l) same
 drop-at (y ∷ l) (suc i) x e = let q : suc (i + 1) ≡ suc i + 1 = omega arith in drop-at l i x e ∙ ap (λ n. x ∷ drop n (y ∷ l)) q
 
 -- where the first of the rest has no flaw, the first flaw is that of the others
-pub flaw_from-next : (count i : ℕ) (insns : List Bpf) (insn : Bpf) → i < length insns → slice_get insns i ≡ Some insn → insn_flaw count i insn ≡ None → flaw_from count i (drop i insns) ≡ flaw_from count (i + 1) (drop (i + 1) insns)
+pub flaw_from-next : (count i : ℕ) (insns : List Bpf) (insn : Bpf) → i < length insns → slice_get insns i ≡ Some insn → insn_flaw count i insn ≡ None
+    → flaw_from count i (drop i insns) ≡ flaw_from count (i + 1) (drop (i + 1) insns)
 flaw_from-next count i insns insn lt at none =
     ap (flaw_from count i) (drop-at insns i insn at) ∙ ap (λ o. first_of o (flaw_from count (i + 1) (drop (i + 1) insns))) none
 
-pub flaw_from-here : (count i : ℕ) (insns : List Bpf) (insn : Bpf) (flaw : BpfFlaw) → i < length insns → slice_get insns i ≡ Some insn → insn_flaw count i insn ≡ Some flaw → flaw_from count i (drop i insns) ≡ Some flaw
+pub flaw_from-here : (count i : ℕ) (insns : List Bpf) (insn : Bpf) (flaw : BpfFlaw) → i < length insns → slice_get insns i ≡ Some insn
+    → insn_flaw count i insn ≡ Some flaw → flaw_from count i (drop i insns) ≡ Some flaw
 flaw_from-here count i insns insn flaw lt at some =
     ap (flaw_from count i) (drop-at insns i insn at) ∙ ap (λ o. first_of o (flaw_from count (i + 1) (drop (i + 1) insns))) some
 
@@ -35,8 +35,11 @@ none-is None e = refl
 none-is (Some flaw) e = absurd cc
 
 -- widths of one instruction more
-pub widths-more : (insns : List Bpf) (i : ℕ) (insn : Bpf) → slice_get insns i ≡ Some insn → ((j : ℕ) → j < i → (x : Bpf) → slice_get insns j ≡ Some x → HasWidths x) → HasWidths insn → (j : ℕ) → j < i + 1 → (x : Bpf) → slice_get insns j ≡ Some x → HasWidths x
-widths-more insns i insn at before here j lt = below_more (λ k. (x : Bpf) → slice_get insns k ≡ Some x → HasWidths x) i before (λ x other. subst HasWidths (same-insn insn x (slice_get insns i) at other) here) j lt
+pub widths-more : (insns : List Bpf) (i : ℕ) (insn : Bpf) → slice_get insns i ≡ Some insn
+    → ((j : ℕ) → j < i → (x : Bpf) → slice_get insns j ≡ Some x → HasWidths x) → HasWidths insn → (j : ℕ) → j < i + 1 → (x : Bpf)
+    → slice_get insns j ≡ Some x → HasWidths x
+widths-more insns i insn at before here j lt = below_more (λ k. (x : Bpf) → slice_get insns k ≡ Some x
+    → HasWidths x) i before (λ x other. subst HasWidths (same-insn insn x (slice_get insns i) at other) here) j lt
   where
     same-insn : (x y : Bpf) (o : Option Bpf) → o ≡ Some x → o ≡ Some y → x ≡ y
     same-insn x y o a b = cc
@@ -47,7 +50,8 @@ pub first-none : (a b : Option BpfFlaw) → first_of a b ≡ None → (a ≡ Non
 first-none None b e = (refl, e)
 first-none (Some flaw) b e = absurd cc
 
-flaw_from-none : (count i : ℕ) (insns : List Bpf) → flaw_from count i insns ≡ None → (j : ℕ) (insn : Bpf) → slice_get insns j ≡ Some insn → insn_flaw count (i + j) insn ≡ None
+flaw_from-none : (count i : ℕ) (insns : List Bpf) → flaw_from count i insns ≡ None → (j : ℕ) (insn : Bpf) → slice_get insns j ≡ Some insn
+    → insn_flaw count (i + j) insn ≡ None
 flaw_from-none count i [] e j insn at = absurd cc
 flaw_from-none count i (x ∷ rest) e zero insn at =
     let none = first-none (insn_flaw count i x) (flaw_from count (i + 1) rest) e in
@@ -123,7 +127,8 @@ first_flaw-program insns some few widths e = record { some = some; few = few; ea
     each : (i : ℕ) (insn : Bpf) → slice_get insns i ≡ Some insn → IsSoundAt (length insns) i insn
     each i insn at =
         let q : 0 + i ≡ i = omega arith in
-        let known = code_flaw-none (length insns) i insn (bpf_op insn.code) (subst (λ k. insn_flaw (length insns) k insn ≡ None) q (flaw_from-none (length insns) 0 insns none.0 i insn at)) in
+        let known = code_flaw-none (length insns) i insn (bpf_op insn.code)
+        (subst (λ k. insn_flaw (length insns) k insn ≡ None) q (flaw_from-none (length insns) 0 insns none.0 i insn at)) in
         record {
           op = known.op;
           op_is = known.op_is;
@@ -131,5 +136,6 @@ first_flaw-program insns some few widths e = record { some = some; few = few; ea
           widths = widths i insn at;
           last = λ l.
               let here : i ≡ length insns - 1 = omega (arith, l) in
-              return_flaw-none (length insns - 1) insn known.op (sym (ap (return_flaw (length insns - 1)) (ap (slice_get insns) (sym here) ∙ at)) ∙ none.1) known.op_is;
+              return_flaw-none (length insns - 1) insn known.op (sym (ap (return_flaw (length insns - 1)) (ap (slice_get insns) (sym here) ∙ at))
+              ∙ none.1) known.op_is;
         }

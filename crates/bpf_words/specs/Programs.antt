@@ -5,7 +5,6 @@ use Rattle.bpf_words.specs.declared.insn.TheConstants.{MAX_PROGRAM, LOADABLE}
 use Rattle.bpf_words.specs.declared.insn.Bpf.{Bpf}
 use Rattle.bpf_words.specs.declared.insn.BpfOp.{BpfOp}
 use Rattle.bpf_words.specs.declared.insn.BpfOp.TheVariants as ops
-use Rattle.bpf_words.specs.declared.insn.BpfTest.{BpfTest}
 use Rattle.bpf_words.specs.declared.insn.BpfTest.TheVariants as tests
 
 -- what a code says, if it is one of the table

@@ -1,8 +1,7 @@
-use Rattle.std.proofs.Common.{◌≡◌, sym, ap, ◌∙◌, length, get_or, None, below_more, arith}
+use Rattle.std.proofs.Common.{◌≡◌, sym, ◌∙◌, length, get_or, None, arith}
 use Rattle.std.proofs.lemmas.Option.{slice_get-get_or, slice_get_within}
-use Rattle.bpf_words.specs.Programs.{HasWidths}
 use Rattle.bpf_words.proofs.Effects.{no_insn}
-use Rattle.bpf_words.proofs.Soundness.{flaw_from-next, flaw_from-here, widths-more, none-is}
+use Rattle.bpf_words.proofs.Soundness.{flaw_from-next, widths-more, none-is}
 use Rattle.bpf_words.proofs.reader.flaw_of.Goals as goal
 
 pub loop-i-preserved : goal.loop-i-preserved

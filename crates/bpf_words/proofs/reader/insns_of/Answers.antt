@@ -1,4 +1,4 @@
-use Rattle.std.proofs.Common.{sym, ap, ◌∙◌, ◌++◌, ◌∷◌, [], ◌/◌, ◌-◌, ◌+◌, length}
+use Rattle.std.proofs.Common.{ap, ◌∙◌, ◌++◌, ◌∷◌, [], ◌/◌, ◌-◌, ◌+◌, length}
 use Rattle.bpf_words.specs.Reading.{insns_from}
 use Rattle.bpf_words.proofs.Insns.{insns_from-step}
 use Rattle.bpf_words.proofs.reader.insns_of.Goals as goal
@@ -7,5 +7,6 @@ pub loop-i-preserved : goal.loop-i-preserved
 loop-i-preserved c =
     let bytes = c.args.bytes.now in
     let count = length bytes / 8 in
-    ap (λ l. l ++ insns_from bytes (c.loop-i.i + 1) (count - (c.loop-i.i + 1))) (c.in_ok-push.ensures.items ∙ ap (λ x. c.loop-i.insns.items ++ (x ∷ [])) c.insn_at.ensures.exact)
+    ap (λ l. l ++ insns_from bytes (c.loop-i.i + 1) (count - (c.loop-i.i + 1))) (c.in_ok-push.ensures.items
+    ∙ ap (λ x. c.loop-i.insns.items ++ (x ∷ [])) c.insn_at.ensures.exact)
     ∙ insns_from-step bytes c.loop-i.insns.items c.loop-i.i count c.loop-i-test.true ∙ c.loop-i.invariant

@@ -18,11 +18,13 @@ first_flaw-requires-clause-short c =
 pub returns-in-Some-first_flaw-clause-exact : goal.returns-in-Some-first_flaw-clause-exact
 returns-in-Some-first_flaw-clause-exact c =
     let none : c.size_flaw.result ≡ None = search rules in
-    read-insns c.args.bytes.now c.deref.result.now c.first_flaw.result (sym c.size_flaw.ensures.exact ∙ none) (c.deref.ensures.value ∙ c.in_ok-insns.ensures.exact) c.first_flaw.ensures.exact
+    read-insns c.args.bytes.now c.deref.result.now c.first_flaw.result (sym c.size_flaw.ensures.exact ∙ none) (c.deref.ensures.value
+    ∙ c.in_ok-insns.ensures.exact) c.first_flaw.ensures.exact
     ∙ ap (unless_flaw c.deref.result.now) c.in-Some-first_flaw.is
 
 pub returns-in-None-clause-exact : goal.returns-in-None-clause-exact
 returns-in-None-clause-exact c =
     let none : c.size_flaw.result ≡ None = search rules in
-    read-insns c.args.bytes.now c.in_ok-insns.insns.items c.first_flaw.result (sym c.size_flaw.ensures.exact ∙ none) c.in_ok-insns.ensures.exact (c.first_flaw.ensures.exact ∙ ap first_flaw c.deref.ensures.value)
+    read-insns c.args.bytes.now c.in_ok-insns.insns.items c.first_flaw.result (sym c.size_flaw.ensures.exact
+    ∙ none) c.in_ok-insns.ensures.exact (c.first_flaw.ensures.exact ∙ ap first_flaw c.deref.ensures.value)
     ∙ ap (unless_flaw c.in_ok-insns.insns.items) c.in-None.is

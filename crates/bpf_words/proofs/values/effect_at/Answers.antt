@@ -1,7 +1,6 @@
-use Rattle.std.proofs.Common.{◌≡◌, length, get_or, slice_get, Some, sym, ap, ◌∙◌}
+use Rattle.std.proofs.Common.{length, get_or, Some, sym, ap, ◌∙◌}
 use Rattle.std.proofs.lemmas.Option.{slice_get-get_or}
 use Rattle.bpf_words.specs.declared.insn.TheConstants.{MAX_PROGRAM}
-use Rattle.bpf_words.specs.Programs.{bpf_op}
 use Rattle.bpf_words.specs.Values.{code_effect, insn_effect}
 use Rattle.bpf_words.proofs.Effects.{no_insn, in-bounds, bounds-more, sound-none}
 use Rattle.bpf_words.proofs.values.effect_at.Goals as goal
@@ -11,13 +10,15 @@ op_effect-requires-clause-bounds c =
     let program = c.args.program.now in
     let insn = get_or program c.args.i no_insn in
     bounds-more (length program) MAX_PROGRAM c.args.i insn c.in-Some.op c.requires.program.few
-    (in-bounds program c.args.i insn c.in-Some.op c.requires.program (slice_get-get_or program c.args.i no_insn c.requires.within) (sym c.bpf_op.ensures.exact ∙ c.in-Some.is))
+    (in-bounds program c.args.i insn c.in-Some.op c.requires.program (slice_get-get_or program c.args.i no_insn c.requires.within)
+    (sym c.bpf_op.ensures.exact ∙ c.in-Some.is))
 
 pub unreachable-requires : goal.unreachable-requires
 unreachable-requires c =
     let program = c.args.program.now in
     let insn = get_or program c.args.i no_insn in
-    sound-none program c.args.i insn c.requires.program (slice_get-get_or program c.args.i no_insn c.requires.within) (sym c.bpf_op.ensures.exact ∙ c.in-None.is)
+    sound-none program c.args.i insn c.requires.program (slice_get-get_or program c.args.i no_insn c.requires.within) (sym c.bpf_op.ensures.exact
+    ∙ c.in-None.is)
 
 pub returns : goal.returns
 returns c =

@@ -1,0 +1,116 @@
+//! The answers to questions, as text.
+
+use crate::bytes::bytes_of;
+use bpf_words::{Bpf, BpfFault, LOADABLE, bpf_value, read_bpf};
+use std::alloc::{AllocError, Global};
+
+/// The answer to a question that is none.
+fn no_question(alloc: Global) -> Result<String, AllocError> {
+    format!(in alloc; "no question")
+}
+
+/// Why there is no program.
+pub fn fault_text(alloc: Global, fault: BpfFault) -> Result<String, AllocError> {
+    match fault {
+        BpfFault::At(flaw) => {
+            let name = flaw.name();
+            let number = flaw.number();
+            format!(in alloc; "{name} {number}")
+        }
+        BpfFault::Memory => format!(in alloc; "no memory"),
+    }
+}
+
+/// The value of a program on a packet that bytes are.
+pub fn value_text(alloc: Global, bytes: &[u8], packet: &[u8]) -> Result<String, AllocError> {
+    if packet.len() < LOADABLE {
+        return format!(in alloc; "a short packet");
+    }
+    match read_bpf(alloc, bytes) {
+        Err(fault) => fault_text(alloc, fault),
+        Ok(program) => {
+            let value = bpf_value(&program, packet);
+            format!(in alloc; "{value}")
+        }
+    }
+}
+
+/// How many instructions are read.
+fn read_text(alloc: Global, bytes: &[u8]) -> Result<String, AllocError> {
+    match read_bpf(alloc, bytes) {
+        Err(fault) => fault_text(alloc, fault),
+        Ok(program) => {
+            let count = program.len();
+            format!(in alloc; "program {count}")
+        }
+    }
+}
+
+/// The fields of an instruction.
+fn fields_text(alloc: Global, insn: &Bpf) -> Result<String, AllocError> {
+    let code = insn.code;
+    let jt = insn.jt;
+    let jf = insn.jf;
+    let k = insn.k;
+    format!(in alloc; "{code} {jt} {jf} {k}")
+}
+
+/// The fields of the instruction at an index.
+fn insn_text(alloc: Global, index: u32, bytes: &[u8]) -> Result<String, AllocError> {
+    match read_bpf(alloc, bytes) {
+        Err(fault) => fault_text(alloc, fault),
+        Ok(program) => match program.get(index as usize) {
+            Some(insn) => fields_text(alloc, insn),
+            None => format!(in alloc; "no instruction"),
+        },
+    }
+}
+
+/// The answer to `read`.
+fn read_answer(alloc: Global, text: &str) -> Result<String, AllocError> {
+    match bytes_of(alloc, text)? {
+        Some(bytes) => read_text(alloc, bytes.as_slice()),
+        None => no_question(alloc),
+    }
+}
+
+/// The answer to `insn`.
+fn insn_answer(alloc: Global, text: &str) -> Result<String, AllocError> {
+    let Some((index, digits)) = text.split_once(' ') else {
+        return no_question(alloc);
+    };
+    let Ok(index) = index.parse::<u32>() else {
+        return no_question(alloc);
+    };
+    match bytes_of(alloc, digits)? {
+        Some(bytes) => insn_text(alloc, index, bytes.as_slice()),
+        None => no_question(alloc),
+    }
+}
+
+/// The answer to `value`.
+fn value_answer(alloc: Global, text: &str) -> Result<String, AllocError> {
+    let Some((program, packet)) = text.split_once('/') else {
+        return no_question(alloc);
+    };
+    let Some(program) = bytes_of(alloc, program)? else {
+        return no_question(alloc);
+    };
+    match bytes_of(alloc, packet)? {
+        Some(packet) => value_text(alloc, program.as_slice(), packet.as_slice()),
+        None => no_question(alloc),
+    }
+}
+
+/// The answer to the question that a text is.
+pub fn run_question(alloc: Global, text: &str) -> Result<String, AllocError> {
+    let Some((question, rest)) = text.split_once(' ') else {
+        return no_question(alloc);
+    };
+    match question {
+        "read" => read_answer(alloc, rest),
+        "insn" => insn_answer(alloc, rest),
+        "value" => value_answer(alloc, rest),
+        _ => no_question(alloc),
+    }
+}
