@@ -69,13 +69,7 @@ fn formula_of(table: &Table, proofs: Id) -> Option<Id>
         return None;
     };
     match table.node(family) {
-        Node::Fam(number) => {
-            if number == PF {
-                Some(formula)
-            } else {
-                None
-            }
-        }
+        Node::Fam(number) => { if number == PF { Some(formula) } else { None } }
         _ => None,
     }
 }
