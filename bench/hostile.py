@@ -153,14 +153,14 @@ def families():
     t = Terms()
     words, end = changing(11)
     wide = balanced(t, lambda k: t.con(EQ, t.var(30 - CHANGED[k % 8]), t.lit(k)), 0, 2500)
-    yield "b, 2,500 leaves, 2^11 ways", "filter", container(t, FILTER, words, [(end, wide)], t.con(TT_I)), "status 5"
+    yield "b, 2,500 leaves, 2^11 ways", "filter", container(t, FILTER, words, [(end, wide)], t.con(TT_I)), "refused 11 NotProof"
     t = Terms()
     wide = balanced(t, lambda k: t.con(EQ, t.var(30 - 1), t.lit(k)), 0, 50000)
     many = [addq(1, 1, 1)] * 256
-    yield "b, 255 invariants, 50,000 leaves", "filter", container(t, FILTER, many + [RETURN_1, RETURN], [(k, wide) for k in range(255)], t.con(TT_I)), "status 5"
+    yield "b, 255 invariants, 50,000 leaves", "filter", container(t, FILTER, many + [RETURN_1, RETURN], [(k, wide) for k in range(255)], t.con(TT_I)), "refused 11 NotProof"
     t = Terms()
     wide = balanced(t, lambda k: t.con(EQ, t.var(30 - 5), t.lit(k)), 0, 50000)
-    yield "b, .. of another register", "filter", container(t, FILTER, many + [RETURN_1, RETURN], [(k, wide) for k in range(255)], t.con(TT_I)), "status 5"
+    yield "b, .. of another register", "filter", container(t, FILTER, many + [RETURN_1, RETURN], [(k, wide) for k in range(255)], t.con(TT_I)), "refused 11 NotProof"
     for k in (10, 15):
         t = Terms()
         yield "c, cases, %d levels" % k, "tag", returning_container(t, by_cases(t, k)), "accepted"

@@ -12,9 +12,10 @@ ghost use Rattle.formula_tree.specs.Sizes.{form_height};
 ghost use Rattle.formula_tree.specs.Views.{form_view};
 
 use formula_tree::{Exp, Form, MemExp};
+use hereditary_subst::{Exhausted, Memo};
 use lf_encode::{
-    adequacy_laws, encode_form, form_of, is_form, machine_context, put, put_laws, quantified,
-    scope_laws, substitution_in_contexts, substitution_on_encodings,
+    PutMemo, adequacy_laws, encode_form, form_of, is_form, is_put_with, machine_context, put,
+    put_laws, quantified, scope_laws, substitution_in_contexts, substitution_on_encodings,
 };
 use lf_signature::{app1, app2, app3};
 use std::alloc::{AllocError, Global};
@@ -303,5 +304,42 @@ fn puts_words(rt: HostRuntime) -> Result<(), Fail> {
     known(&rt, &table, form);
     assert!(rt; table.height(form) < 1_000);
     assert!(rt; put_word(&mut table, form, five)? == wanted);
+    Ok(())
+}
+
+/// Whether `goal` is the term of `id` with the word for each of the machine's variables.
+fn is_put_word(table: &mut Table, id: Id, word: Id, goal: Id) -> Result<bool, Exhausted>
+    requires known { IsKnown table.old id }
+    requires word { IsIdOf table.old (lit 5) word }
+    requires goal { IsKnown table.old goal }
+    requires low { height_of (tree_at table.old id) < 2 ^ 31 }
+{
+    let regs = [word; 31];
+    let mut shifts = Memo::new(table.allocator(), 1_000);
+    let mut kept = PutMemo::new(table.allocator());
+    is_put_with(table, &mut shifts, &mut kept, id, &regs, word, goal)
+}
+
+/// Whether `goal` is `(all i (eq r1 i))`, doubled sixty times, with 5 for r1.
+fn is_five_put(rt: &impl Abort, table: &mut Table, goal: Id) -> Result<bool, AllocError> {
+    let register = table.intern(Node::Var(30))?;
+    let form = doubled(rt, table, register)?;
+    let five = table.intern(Node::Lit(5))?;
+    known(rt, table, form);
+    known(rt, table, goal);
+    assert!(rt; table.height(form) < 1_000);
+    Ok(is_put_word(table, form, five, goal)?)
+}
+
+/// A formula of 2^60 leaves is told from what is put in it and from another word put in it.
+#[test]
+fn tells_what_is_put(rt: HostRuntime) -> Result<(), Fail> {
+    let mut table = Table::new(rt.alloc(), Places::sigma1());
+    let word = table.intern(Node::Lit(5))?;
+    let wanted = doubled(&rt, &mut table, word)?;
+    let other_word = table.intern(Node::Lit(6))?;
+    let other = doubled(&rt, &mut table, other_word)?;
+    assert!(rt; is_five_put(&rt, &mut table, wanted)?);
+    assert!(rt; !is_five_put(&rt, &mut table, other)?);
     Ok(())
 }

@@ -3,6 +3,7 @@
 
 ghost use Rattle.std.specs.Prelude.{[], IfOk, length};
 ghost use Rattle.alpha_cfg.specs.Cuts.{AreFlags};
+ghost use Rattle.term_table.specs.Table.{IsKnown, Extends};
 
 use alpha_cfg::{Code, Cut};
 use hereditary_subst::Memo;
@@ -10,9 +11,9 @@ use lf_encode::{encode_form, form_of, machine_context};
 use policy_set::{Policy, PolicyKind};
 use std::alloc::{AllocError, Global};
 use std::test::Fail;
-use term_table::{Id, Places, Table};
+use term_table::{Id, Node, Places, Table};
 use test_inputs::terms::{Made, made};
-use vcgen::{VcFault, condition_laws, encoding_laws, vc, vc_with, worked_conditions};
+use vcgen::{VcFault, condition_laws, encoding_laws, is_condition_with, vc, worked_conditions};
 
 #[test]
 fn laws_of_conditions() {
@@ -38,30 +39,25 @@ fn cut_code(alloc: Global) -> Made<Cut>
 }
 
 /// Whether past a limit of one result that is the answer.
-fn is_limited(table: &mut Table, cut: &Cut, policy: &Policy) -> bool
-    requires { AreFlags [] (length cut.now.code) cut.now.marks }
+fn is_limited(table: &mut Table, cut: &Cut, policy: &Policy, formula: Id) -> bool
+    requires marks { AreFlags [] (length cut.now.code) cut.now.marks }
+    requires formula { IsKnown table.old formula }
+    ensures extends { Extends table.old table.new }
 {
     let mut memo = Memo::new(table.allocator(), 1);
-    vc_with(table, &mut memo, cut, policy, &[]) == Err(VcFault::Results)
+    is_condition_with(table, &mut memo, cut, policy, &[], formula) == Err(VcFault::Results)
 }
 
-/// The conditions of two calls in one memo.
-fn twice(table: &mut Table, cut: &Cut, policy: &Policy) -> Result<(Id, Id), VcFault>
-    requires { AreFlags [] (length cut.now.code) cut.now.marks }
+/// Whether two calls in one memo tell the formula from a word.
+fn is_told(table: &mut Table, cut: &Cut, policy: &Policy, formula: Id) -> Result<bool, VcFault>
+    requires marks { AreFlags [] (length cut.now.code) cut.now.marks }
+    requires formula { IsKnown table.old formula }
 {
     let mut memo = Memo::new(table.allocator(), 1_000);
-    let first = vc_with(table, &mut memo, cut, policy, &[])?;
-    let again = vc_with(table, &mut memo, cut, policy, &[])?;
-    Ok((first, again))
-}
-
-/// Whether the calls in one memo give what the call without one gives.
-fn is_kept(table: &mut Table, cut: &Cut, policy: &Policy) -> Result<bool, VcFault>
-    requires { AreFlags [] (length cut.now.code) cut.now.marks }
-{
-    let plain = vc(table, cut, policy, &[])?;
-    let (first, again) = twice(table, cut, policy)?;
-    Ok(first == again && first == plain)
+    let word = table.intern(Node::Lit(0))?;
+    let other = is_condition_with(table, &mut memo, cut, policy, &[], word)?;
+    let is = is_condition_with(table, &mut memo, cut, policy, &[], formula)?;
+    Ok(is && !other)
 }
 
 /// Whether both hold of a new table.
@@ -69,8 +65,9 @@ fn is_answered(alloc: Global, cut: &Cut, policy: &Policy) -> Result<bool, VcFaul
     requires { AreFlags [] (length cut.now.code) cut.now.marks }
 {
     let mut table = Table::new(alloc, Places::sigma1());
-    let limited = is_limited(&mut table, cut, policy);
-    Ok(is_kept(&mut table, cut, policy)? && limited)
+    let formula = vc(&mut table, cut, policy, &[])?;
+    let limited = is_limited(&mut table, cut, policy, formula);
+    Ok(is_told(&mut table, cut, policy, formula)? && limited)
 }
 
 /// Whether they hold of the condition of the code under the policy filter.
@@ -81,7 +78,7 @@ fn is_filtered(alloc: Global, cut: &Cut) -> Made<bool>
     made(is_answered(alloc, cut, &policy))
 }
 
-/// Past the limit of what is kept that is the answer; within it a second call gives the same.
+/// Past the limit of what is kept that is the answer; within it the condition is told from a word.
 #[test]
 fn a_limit(rt: HostRuntime) -> Result<(), Fail> {
     let cut = cut_code(rt.alloc())?;

@@ -8,3 +8,4 @@ mod RuleMeaning
 mod FormMeaning
 mod DeclaredModel
 mod Closed
+pub mod Proved

@@ -1,7 +1,8 @@
 //! Proofs checked at formulas.
 
-ghost use Rattle.std.specs.Prelude.{◌↔◌, [], IfOk, IsTrue};
+ghost use Rattle.std.specs.Prelude.{◌≡◌, ◌↔◌, [], IfOk, IfSome, IsTrue};
 ghost use Rattle.term_table.specs.Table.{IsKnown, tree_at, Extends};
+ghost use Rattle.hereditary_subst.specs.Simples.{IsResult};
 ghost use Rattle.lf_signature.specs.Sigma1.{declared};
 ghost use Rattle.lf_signature.specs.Terms.{pf};
 ghost use Rattle.lf_signature.specs.Typing.{Checks};
@@ -11,10 +12,11 @@ ghost use Rattle.formula_tree.specs.Truth.{IsValid};
 ghost use Rattle.lf_truth.specs.Validity.{EncodesClosed};
 
 use crate::theorems::truth_laws;
-use lf_check::{Exhausted, Kept, MOST_RESULTS, check_term_with};
+use lf_check::{Exhausted, Kept, MOST_RESULTS, check_term_with, synth_with};
+use lf_signature::numbers::PF;
 use lf_signature::{Sigma1, pf};
 use std::alloc::AllocError;
-use term_table::{Id, Table};
+use term_table::{Id, Node, Table};
 
 /// Answers whether the term `proof` is a proof of the formula that the term `goal` encodes: true
 /// exactly where it checks at the type of the proofs of `goal`. Where it does, and `goal` encodes a
@@ -56,4 +58,46 @@ pub fn prove_true_with(
     truth_laws();
     let proofs = pf(table, goal)?;
     check_term_with(table, kept, &Sigma1, &[], proof, proofs)
+}
+
+/// The formula of a type of proofs; None where the type is none.
+fn formula_of(table: &Table, proofs: Id) -> Option<Id>
+    requires { IsKnown table.now proofs }
+    ensures { IsResult table.now (λ g. tree_at table.now proofs ≡ pf g) result }
+{
+    let Node::TApp(family, formula) = table.node(proofs) else {
+        return None;
+    };
+    match table.node(family) {
+        Node::Fam(number) => { if number == PF { Some(formula) } else { None } }
+        _ => None,
+    }
+}
+
+/// The formula that the term `proof` proves: None exactly where it checks at the type of the proofs of
+/// no formula. Where the formula encodes a closed one, that is true in every structure. It is found
+/// before any formula is known, and costs what the check of the proof costs.
+///
+/// `kept` has what earlier calls on the table over the signature of word arithmetic kept.
+///
+/// Errors: want of memory, and `Exhausted::Results` past the limit of `kept`; each id keeps its tree.
+pub fn proved_formula_with(
+    table: &mut Table,
+    kept: &mut Kept,
+    proof: Id,
+) -> Result<Option<Id>, Exhausted>
+    requires proof { IsKnown table.old proof }
+    requires kept { AreKept declared table.old kept.old }
+    ensures exact { let proves = Checks declared [] (tree_at table.old proof) in
+        IfOk result (IsResult table.new (λ g. proves (pf g))) }
+    ensures valid { IfOk result (λ o. IfSome o
+        (λ g. (F : Form) → EncodesClosed F (tree_at table.new g) → IsValid F)) }
+    ensures extends { Extends table.old table.new }
+    ensures kept { AreKept declared table.new kept.new }
+{
+    truth_laws();
+    match synth_with(table, kept, &Sigma1, &[], proof)? {
+        None => Ok(None),
+        Some(proofs) => Ok(formula_of(table, proofs)),
+    }
 }

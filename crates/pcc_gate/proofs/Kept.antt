@@ -1,5 +1,5 @@
 -- What stays as a table grows.
-use Rattle.std.proofs.Common.{◌≡◌, ℕ, zero, suc, List, [], ◌∷◌, drop, Option, Some, None, IfSome, replicate, slice_set, refl, sym, ◌∙◌, ap, arith}
+use Rattle.std.proofs.Common.{◌≡◌, ℕ, zero, suc, ◌≤◌, List, [], ◌∷◌, drop, Option, Some, None, IfSome, replicate, slice_set, refl, sym, ◌∙◌, ap, subst, arith}
 use Rattle.std.specs.List.{AllByRecursion}
 use Rattle.std.specs.Option.{option_map}
 use Rattle.term_table.specs.Tree.{Tree, Fam}
@@ -7,6 +7,9 @@ use Rattle.term_table.specs.Table.{TableView, IsKnown, AllKnown, tree_at, put_la
 use Rattle.lf_signature.specs.Nodes.{IsIdOf}
 use Rattle.lf_encode.specs.Contexts.{machine_context, sort_types}
 use Rattle.proof_container.specs.Views.{inv_trees}
+use Rattle.term_table.specs.Measures.{height_of}
+use Rattle.vcgen.specs.Answers.{AreLowInvs}
+use Rattle.vcgen.specs.declared.condition.TheConstants.{MAX_HEIGHT}
 
 module _ (t u : TableView) where
   pub known-id : (id : ℕ) → Extends t u → IsKnown t id → IsKnown u id
@@ -59,3 +62,12 @@ grown-twice s t u e h = record {
   same = λ id k. h.same id (known-id s t id e k) ∙ e.same id k;
   places = h.places ∙ e.places;
 }
+
+-- invariants that aren't high stay so, with their trees
+pub low-more : (t u : TableView) (ids : List (ℕ × ℕ)) → AreLowInvs t ids → Extends t u → AreLowInvs u ids
+low-more t u [] h e = tt
+low-more t u (p ∷ ids) h e = (known-id t u p.1 e h.0, subst (λ z. height_of z ≤ MAX_HEIGHT) (sym (e.same p.1 h.0)) h.1, low-more t u ids h.2 e)
+
+pub low-same : (t u : TableView) (ids : List (ℕ × ℕ)) → AreLowInvs t ids → Extends t u → inv_trees t ids ≡ inv_trees u ids
+low-same t u [] h e = refl
+low-same t u (p ∷ ids) h e = λ i. (p.0, sym (e.same p.1 h.0) i) ∷ low-same t u ids h.2 e i

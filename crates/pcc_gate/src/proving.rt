@@ -16,10 +16,10 @@ use crate::limits::MAX_WEIGHT;
 use crate::refusal::Refusal;
 use alpha_cfg::Cut;
 use lf_check::Kept;
-use lf_truth::prove_true_with;
+use lf_truth::proved_formula_with;
 use policy_set::Policy;
 use term_table::{Id, Table};
-use vcgen::{VcFault, vc_with};
+use vcgen::{VcFault, is_condition_with};
 
 /// Clauses 9 and 10: the proof, which isn't too heavy.
 pub(crate) fn proof_in(table: &Table, proof: Option<Id>) -> Result<Id, GateFault>
@@ -39,7 +39,8 @@ pub(crate) fn proof_in(table: &Table, proof: Option<Id>) -> Result<Id, GateFault
     }
 }
 
-/// Clause 11: the proof proves the verification condition.
+/// Clause 11: the proof proves the verification condition. What it proves is found first and the
+/// condition compared with that, so no condition is written out that a proof is too small for.
 pub(crate) fn proved(
     table: &mut Table,
     kept: &mut Kept,
@@ -58,13 +59,16 @@ pub(crate) fn proved(
         IsProofAnswer policy.now cut.now.code invs (tree_at table.old proof) result }
     ensures extends { Extends table.old table.new }
 {
-    let goal = match vc_with(table, &mut kept.memo, cut, policy, invs) {
-        Ok(goal) => goal,
+    let Some(formula) = proved_formula_with(table, kept, proof)? else {
+        return Err(GateFault::Refused(Refusal::NotProof));
+    };
+    let equal = match is_condition_with(table, &mut kept.memo, cut, policy, invs, formula) {
+        Ok(equal) => equal,
         Err(VcFault::Memory) => return Err(GateFault::Memory),
         Err(VcFault::Results) => return Err(GateFault::Results),
         Err(VcFault::UnfoldLimit(_)) => unreachable!(),
     };
-    if !prove_true_with(table, kept, proof, goal)? {
+    if !equal {
         return Err(GateFault::Refused(Refusal::NotProof));
     }
     Ok(())

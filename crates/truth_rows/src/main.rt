@@ -3,11 +3,12 @@
 //! The rows stand in `data/rows.txt` (docs/PROOFS.md, "Terms as text"). The questions are
 //!
 //! - `proves t F`: whether the term t proves the formula F;
-//! - `proves_after u G t F`: whether it does, with what is kept of whether u proves G.
+//! - `proves_after u G t F`: whether it does, with what is kept of whether u proves G;
+//! - `proved t F`: whether F is the formula that t proves, which is found without F.
 #![tactic(auto)]
 
 use lf_check::{Kept, MOST_RESULTS};
-use lf_truth::{prove_true, prove_true_with};
+use lf_truth::{prove_true, prove_true_with, proved_formula_with};
 use std::alloc::Global;
 use std::io;
 use term_table::{Id, Table};
@@ -64,6 +65,23 @@ fn proves_after(
     }
 }
 
+/// Whether the formula is the one that the term proves.
+fn proved(
+    alloc: Global,
+    table: &mut Table,
+    names: &Names,
+    cursor: &mut Cursor<'_>,
+) -> Read<Answer> {
+    let (proof, goal) = claim(table, names, cursor)?;
+    known(table, proof)?;
+    let mut kept = Kept::new(alloc, MOST_RESULTS);
+    match proved_formula_with(table, &mut kept, proof) {
+        Ok(Some(found)) => Ok(Answer::holds(found == goal)),
+        Ok(None) => Ok(Answer::holds(false)),
+        Err(_) => Ok(Answer::Memory),
+    }
+}
+
 impl Questions for ProofQuestions {
     fn answer(
         &mut self,
@@ -77,6 +95,9 @@ impl Questions for ProofQuestions {
         }
         if question == b"proves_after".as_slice() {
             return proves_after(self.alloc, table, names, cursor);
+        }
+        if question == b"proved".as_slice() {
+            return proved(self.alloc, table, names, cursor);
         }
         Err(RowFault::Word)
     }

@@ -60,16 +60,7 @@ pub(crate) fn is_walk(
                 let falsity = table.intern(Node::Const(FF))?;
                 return Ok(table.same(goal, falsity));
             }
-            is_walk_from(
-                table,
-                shifts,
-                kept,
-                program,
-                fuel - 1,
-                index,
-                symbols,
-                goal,
-            )
+            is_walk_from(table, shifts, kept, program, fuel - 1, index, symbols, goal)
         }
     }
 }
@@ -218,7 +209,9 @@ fn is_behind(
         return Ok(false);
     }
     let rest = parts.second;
-    is_walk_with(table, shifts, kept, program, fuel, index, symbols, after, rest)
+    is_walk_with(
+        table, shifts, kept, program, fuel, index, symbols, after, rest,
+    )
 }
 
 /// Whether `goal` is the term of the walk from the instruction at `index`, whether that is annotated
@@ -258,7 +251,9 @@ pub(crate) fn is_walk_from(
         ),
         Effect::Split(taken, passed, target) => {
             let (taken, passed) = ((taken, target), (passed, next));
-            is_both(table, shifts, kept, program, fuel, symbols, taken, passed, goal)
+            is_both(
+                table, shifts, kept, program, fuel, symbols, taken, passed, goal,
+            )
         }
         Effect::Jump(target) => {
             is_walk(table, shifts, kept, program, fuel, target, symbols, goal)

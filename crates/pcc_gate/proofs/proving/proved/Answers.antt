@@ -1,33 +1,59 @@
 use Rattle.std.proofs.Common.{◌≡◌, [], refl, sym, subst}
 use Rattle.term_table.specs.Table.{tree_at}
+use Rattle.hereditary_subst.specs.Simples.{IsResult}
 use Rattle.lf_signature.specs.Sigma1.{declared}
 use Rattle.lf_signature.specs.Terms.{pf}
 use Rattle.lf_signature.specs.Typing.{Checks}
-use Rattle.lf_check.proofs.Rows.{kept-grown}
-use Rattle.vcgen.specs.Encoded.{inv_trees}
-use Rattle.pcc_gate.proofs.First.{judged-true, judged-false}
+use Rattle.lf_truth.proofs.Proved.{one-formula}
+use Rattle.vcgen.specs.Encoded.{inv_trees, AreForms, EncodesCondition}
+use Rattle.pcc_gate.specs.First.{vc_of}
+use Rattle.pcc_gate.proofs.First.{judged-true, vc_of-encodes, proves-false}
+use Rattle.pcc_gate.proofs.Kept.{low-more, low-same}
 use Rattle.pcc_gate.proofs.Refusing.{not-both}
 use Rattle.pcc_gate.proofs.proving.proved.Goals as goal
 
-pub prove_true_with-requires-clause-kept : goal.prove_true_with-requires-clause-kept
-prove_true_with-requires-clause-kept c = kept-grown c.args.kept.now _ declared declared c.args.table.now c.vc_with.new.table c.requires.kept c.in-Ok.ensures.extends refl c.in-Ok.ensures.memo refl
+pub is_condition_with-requires-clause-invs : goal.is_condition_with-requires-clause-invs
+is_condition_with-requires-clause-invs c = low-more c.args.table.now c.proved_formula_with.new.table c.args.invs.now c.requires.invs c.in_ok-formula.ensures.extends
 
-pub returns-then-not-branch-clause-answer : goal.returns-then-not-branch-clause-answer
-returns-then-not-branch-clause-answer c =
+pub is_condition_with-requires-clause-forms : goal.is_condition_with-requires-clause-forms
+is_condition_with-requires-clause-forms c = subst AreForms (low-same c.args.table.now c.proved_formula_with.new.table c.args.invs.now c.requires.invs c.in_ok-formula.ensures.extends) c.requires.forms
+
+pub returns-in_default-clause-answer : goal.returns-in_default-clause-answer
+returns-in_default-clause-answer c =
     let o = c.args.table.now in
-    let u = c.vc_with.new.table in
-    let vc = tree_at u c.in-Ok.goal in
+    let u = c.proved_formula_with.new.table in
     let proof = tree_at o c.args.proof in
-    let same : tree_at u c.args.proof ≡ proof = c.in-Ok.ensures.extends.same c.args.proof c.requires.proof in
-    let no : Checks declared [] proof (pf vc) → ⊥ = λ k. not-both _ c.if-not-branch.true (c.in_ok-prove_true_with.ensures.exact.1 (subst (λ p. Checks declared [] p (pf vc)) (sym same) k)) in
-    (judged-false c.args.policy.now c.args.cut.now.code (inv_trees o c.args.invs.now) proof vc c.requires.forms c.in-Ok.ensures.exact.2 no, refl)
+    let vc = vc_of c.args.policy.now c.args.cut.now.code (inv_trees o c.args.invs.now) in
+    let none = subst (λ z. IsResult u (λ g. Checks declared [] proof (pf g)) z) c.in_default.is c.in_ok-formula.ensures.exact in
+    (proves-false proof vc (none vc), refl)
+
+pub returns-then-not-equal-clause-answer : goal.returns-then-not-equal-clause-answer
+returns-then-not-equal-clause-answer c =
+    let o = c.args.table.now in
+    let u = c.proved_formula_with.new.table in
+    let policy = c.args.policy.now in
+    let code = c.args.cut.now.code in
+    let proof = tree_at o c.args.proof in
+    let invs = inv_trees o c.args.invs.now in
+    let vc = vc_of policy code invs in
+    let found = tree_at u c.in-Some.formula in
+    let has = subst (λ z. IsResult u (λ g. Checks declared [] proof (pf g)) z) c.in-Some.is c.in_ok-formula.ensures.exact in
+    let same = low-same o u c.args.invs.now c.requires.invs c.in_ok-formula.ensures.extends in
+    let is : EncodesCondition policy code (inv_trees u c.args.invs.now) vc = subst (λ l. EncodesCondition policy code l vc) same (vc_of-encodes policy code invs c.requires.forms) in
+    let other : Checks declared [] proof (pf vc) → ⊥ =
+    λ k. not-both _ c.if-not-equal.true (c.in-Ok.ensures.exact.1.1 (subst (λ z. EncodesCondition policy code (inv_trees u c.args.invs.now) z) (one-formula proof vc found k has.1) is)) in
+    (proves-false proof vc other, refl)
 
 pub returns-clause-answer : goal.returns-clause-answer
 returns-clause-answer c =
     let o = c.args.table.now in
-    let u = c.vc_with.new.table in
-    let vc = tree_at u c.in-Ok.goal in
+    let u = c.proved_formula_with.new.table in
+    let policy = c.args.policy.now in
+    let code = c.args.cut.now.code in
     let proof = tree_at o c.args.proof in
-    let same : tree_at u c.args.proof ≡ proof = c.in-Ok.ensures.extends.same c.args.proof c.requires.proof in
-    let yes : Checks declared [] proof (pf vc) = subst (λ p. Checks declared [] p (pf vc)) same (c.in_ok-prove_true_with.ensures.exact.0 c.if-not-branch.false) in
-    judged-true c.args.policy.now c.args.cut.now.code (inv_trees o c.args.invs.now) proof vc c.requires.forms c.in-Ok.ensures.exact.2 yes
+    let invs = inv_trees o c.args.invs.now in
+    let found = tree_at u c.in-Some.formula in
+    let has = subst (λ z. IsResult u (λ g. Checks declared [] proof (pf g)) z) c.in-Some.is c.in_ok-formula.ensures.exact in
+    let same = low-same o u c.args.invs.now c.requires.invs c.in_ok-formula.ensures.extends in
+    let is : EncodesCondition policy code invs found = subst (λ l. EncodesCondition policy code l found) (sym same) (c.in-Ok.ensures.exact.1.0 c.if-not-equal.false) in
+    judged-true policy code invs proof found c.requires.forms is has.1
