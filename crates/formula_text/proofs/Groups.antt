@@ -40,7 +40,9 @@ some_left n [] e f = let g : true ≡ false = ap (λ (k : ℕ). k == 0) (sym e) 
 some_left n (w ∷ ws) e f = omega arith
 
 -- more than three parts
-pub of_more : (h : Keyword) (xs ys zs ws : List D.Phrase) (x y z : D.Phrase) (n : ℕ) → xs ≡ ys ++ z ∷ [] → ys ≡ zs ++ y ∷ [] → zs ≡ ws ++ x ∷ [] → n ≡ length ws → (n == 0) ≡ false → None ≡ group_phrase h (map phrase_view xs)
+pub of_more : (h : Keyword) (xs ys zs ws : List D.Phrase) (x y z : D.Phrase) (n : ℕ)
+    → xs ≡ ys ++ z ∷ [] → ys ≡ zs ++ y ∷ [] → zs ≡ ws ++ x ∷ [] → n ≡ length ws → (n == 0) ≡ false
+    → None ≡ group_phrase h (map phrase_view xs)
 of_more h xs ys zs ws x y z n e f g i j =
     let l = some_left n ws i j in
     let a : length xs ≡ length ys + 1 = ap length e ∙ length-append ys (z ∷ []) in

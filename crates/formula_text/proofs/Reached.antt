@@ -131,7 +131,8 @@ lexeme_spells s S.Mem w x n h =
 
 -- ---- parts
 
-parts_spell : (xs : List Phrase) (x : Phrase) (s : Bindings) (ts us : List (Token Paren)) → SpellsParts xs s ts → SpellsPhrase x s us → SpellsParts (xs ++ x ∷ []) s (ts ++ us)
+parts_spell : (xs : List Phrase) (x : Phrase) (s : Bindings) (ts us : List (Token Paren)) → SpellsParts xs s ts → SpellsPhrase x s us
+    → SpellsParts (xs ++ x ∷ []) s (ts ++ us)
 parts_spell [] x s ts us g f = (us, [], f, refl, ap (λ l. l ++ us) g ∙ sym (append-nil us))
 parts_spell (y ∷ xs) x s ts us g f = (g.0, g.1 ++ us, g.2, parts_spell xs x s g.1 us g.3 f, ap (λ l. l ++ us) g.4 ∙ append_assoc g.0 g.1 us)
 
@@ -158,21 +159,31 @@ two_lines us vs ws ts xs d e f = f ∙ ap (λ l. us ++ l) (one_line vs xs ws d e
 three_lines : (us vs ws xs ys zs ts : List (Token Paren)) → zs ≡ [] → ys ≡ ws ++ zs → xs ≡ vs ++ ys → ts ≡ us ++ xs → ts ≡ (us ++ vs) ++ ws
 three_lines us vs ws xs ys zs ts c d e f = f ∙ ap (λ l. us ++ l) (two_lines vs ws ys xs zs c d e) ∙ sym (append_assoc us vs ws)
 
+spelled_as : (x y : Phrase) (s : Bindings) (ts : List (Token Paren)) → ◌≡◌ {A = Option Phrase} (Some x) (Some y) → SpellsPhrase x s ts → SpellsPhrase y s ts
+spelled_as x y s ts e h = subst (λ z. SpellsPhrase z s ts) (some_same x y e) h
+
 -- parentheses that end are what was built of their parts
-group_spells : (h : Keyword) (n : List ℕ) (k : List Phrase) (s : Bindings) (x : Phrase) (vs : List (Token Paren)) → IsBinding (binder_sort h) n → SpellsParts k (with_binding (binder_sort h) n s) vs → group_phrase h k ≡ Some x →
-    SpellsPhrase x s ((Mark P.Open) ∷ Lexeme (keyword_text h) ∷ (name_tokens (binder_sort h) n ++ (vs ++ ((Mark P.Close) ∷ []))))
-group_spells (K.Rel p) n (AnExp a ∷ AnExp b ∷ []) s x vs i g e = subst (λ y. SpellsPhrase y s (group (K.Rel p) vs)) (some_same _ x e) (g.0, g.3.0, g.2, g.3.2, ap (group (K.Rel p)) (two_lines g.0 g.3.0 g.1 vs g.3.1 g.3.3 g.3.4 g.4))
-group_spells K.Rd n (AnExp a ∷ []) s x vs i g e = subst (λ y. SpellsPhrase y s (group K.Rd vs)) (some_same _ x e) (g.0, g.2, ap (group K.Rd) (one_line g.0 g.1 vs g.3 g.4))
-group_spells K.Wr n (AnExp a ∷ []) s x vs i g e = subst (λ y. SpellsPhrase y s (group K.Wr vs)) (some_same _ x e) (g.0, g.2, ap (group K.Wr) (one_line g.0 g.1 vs g.3 g.4))
-group_spells K.And n (AForm a ∷ AForm b ∷ []) s x vs i g e = subst (λ y. SpellsPhrase y s (group K.And vs)) (some_same _ x e) (g.0, g.3.0, g.2, g.3.2, ap (group K.And) (two_lines g.0 g.3.0 g.1 vs g.3.1 g.3.3 g.3.4 g.4))
-group_spells K.Or n (AForm a ∷ AForm b ∷ []) s x vs i g e = subst (λ y. SpellsPhrase y s (group K.Or vs)) (some_same _ x e) (g.0, g.3.0, g.2, g.3.2, ap (group K.Or) (two_lines g.0 g.3.0 g.1 vs g.3.1 g.3.3 g.3.4 g.4))
-group_spells K.Imp n (AForm a ∷ AForm b ∷ []) s x vs i g e = subst (λ y. SpellsPhrase y s (group K.Imp vs)) (some_same _ x e) (g.0, g.3.0, g.2, g.3.2, ap (group K.Imp) (two_lines g.0 g.3.0 g.1 vs g.3.1 g.3.3 g.3.4 g.4))
-group_spells K.All n (AForm A ∷ []) s x vs i g e = subst (λ y. SpellsPhrase y s (group K.All (Lexeme n ∷ vs))) (some_same _ x e) (n, g.0, i, g.2, ap (λ l. group K.All (Lexeme n ∷ l)) (one_line g.0 g.1 vs g.3 g.4))
-group_spells K.Allm n (AForm A ∷ []) s x vs i g e = subst (λ y. SpellsPhrase y s (group K.Allm (Lexeme n ∷ vs))) (some_same _ x e) (n, g.0, i, g.2, ap (λ l. group K.Allm (Lexeme n ∷ l)) (one_line g.0 g.1 vs g.3 g.4))
-group_spells (K.Oper o) n (AnExp a ∷ AnExp b ∷ []) s x vs i g e = subst (λ y. SpellsPhrase y s (group (K.Oper o) vs)) (some_same _ x e) (g.0, g.3.0, g.2, g.3.2, ap (group (K.Oper o)) (two_lines g.0 g.3.0 g.1 vs g.3.1 g.3.3 g.3.4 g.4))
-group_spells K.Sel n (AMem a ∷ AnExp b ∷ []) s x vs i g e = subst (λ y. SpellsPhrase y s (group K.Sel vs)) (some_same _ x e) (g.0, g.3.0, g.2, g.3.2, ap (group K.Sel) (two_lines g.0 g.3.0 g.1 vs g.3.1 g.3.3 g.3.4 g.4))
-group_spells K.Upd n (AMem m ∷ AnExp a ∷ AnExp v ∷ []) s x vs i g e = subst (λ y. SpellsPhrase y s (group K.Upd vs)) (some_same _ x e)
-    (g.0, g.3.0, g.3.3.0, g.2, g.3.2, g.3.3.2, ap (group K.Upd) (three_lines g.0 g.3.0 g.3.3.0 g.1 g.3.1 g.3.3.1 vs g.3.3.3 g.3.3.4 g.3.4 g.4))
+group_spells : (h : Keyword) (n : List ℕ) (k : List Phrase) (s : Bindings) (x : Phrase) (vs : List (Token Paren)) → IsBinding (binder_sort h) n
+    → SpellsParts k (with_binding (binder_sort h) n s) vs → group_phrase h k ≡ Some x
+    → SpellsPhrase x s ((Mark P.Open) ∷ Lexeme (keyword_text h) ∷ (name_tokens (binder_sort h) n ++ (vs ++ ((Mark P.Close) ∷ []))))
+group_spells (K.Rel p) n (AnExp a ∷ AnExp b ∷ []) s x vs i g e =
+    spelled_as _ x s _ e (g.0, g.3.0, g.2, g.3.2, ap (group (K.Rel p)) (two_lines g.0 g.3.0 g.1 vs g.3.1 g.3.3 g.3.4 g.4))
+group_spells K.Rd n (AnExp a ∷ []) s x vs i g e = spelled_as _ x s _ e (g.0, g.2, ap (group K.Rd) (one_line g.0 g.1 vs g.3 g.4))
+group_spells K.Wr n (AnExp a ∷ []) s x vs i g e = spelled_as _ x s _ e (g.0, g.2, ap (group K.Wr) (one_line g.0 g.1 vs g.3 g.4))
+group_spells K.And n (AForm a ∷ AForm b ∷ []) s x vs i g e =
+    spelled_as _ x s _ e (g.0, g.3.0, g.2, g.3.2, ap (group K.And) (two_lines g.0 g.3.0 g.1 vs g.3.1 g.3.3 g.3.4 g.4))
+group_spells K.Or n (AForm a ∷ AForm b ∷ []) s x vs i g e =
+    spelled_as _ x s _ e (g.0, g.3.0, g.2, g.3.2, ap (group K.Or) (two_lines g.0 g.3.0 g.1 vs g.3.1 g.3.3 g.3.4 g.4))
+group_spells K.Imp n (AForm a ∷ AForm b ∷ []) s x vs i g e =
+    spelled_as _ x s _ e (g.0, g.3.0, g.2, g.3.2, ap (group K.Imp) (two_lines g.0 g.3.0 g.1 vs g.3.1 g.3.3 g.3.4 g.4))
+group_spells K.All n (AForm A ∷ []) s x vs i g e = spelled_as _ x s _ e (n, g.0, i, g.2, ap (λ l. group K.All (Lexeme n ∷ l)) (one_line g.0 g.1 vs g.3 g.4))
+group_spells K.Allm n (AForm A ∷ []) s x vs i g e = spelled_as _ x s _ e (n, g.0, i, g.2, ap (λ l. group K.Allm (Lexeme n ∷ l)) (one_line g.0 g.1 vs g.3 g.4))
+group_spells (K.Oper o) n (AnExp a ∷ AnExp b ∷ []) s x vs i g e =
+    spelled_as _ x s _ e (g.0, g.3.0, g.2, g.3.2, ap (group (K.Oper o)) (two_lines g.0 g.3.0 g.1 vs g.3.1 g.3.3 g.3.4 g.4))
+group_spells K.Sel n (AMem a ∷ AnExp b ∷ []) s x vs i g e =
+    spelled_as _ x s _ e (g.0, g.3.0, g.2, g.3.2, ap (group K.Sel) (two_lines g.0 g.3.0 g.1 vs g.3.1 g.3.3 g.3.4 g.4))
+group_spells K.Upd n (AMem m ∷ AnExp a ∷ AnExp v ∷ []) s x vs i g e =
+    spelled_as _ x s _ e (g.0, g.3.0, g.3.3.0, g.2, g.3.2, g.3.3.2, ap (group K.Upd) (three_lines g.0 g.3.0 g.3.3.0 g.1 g.3.1 g.3.3.1 vs g.3.3.3 g.3.3.4 g.3.4 g.4))
 group_spells h n k s x vs i g e = cc
 
 closed_reached : (f : Frame) (fs : List Frame) (ts : List (Token Paren)) (s : ParseState) (o : Option Phrase) → group_phrase f.keyword f.parts ≡ o → AreOpen (f ∷ fs) ts → put_group o fs ≡ Ok s → IsReached s.0 s.1 (ts ++ ((Mark P.Close) ∷ []))
