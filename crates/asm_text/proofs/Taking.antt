@@ -26,7 +26,7 @@ use Rattle.asm_text.specs.Statements.{AnInsn}
 use Rattle.asm_text.specs.Sources.{Source, SpellsSource}
 use Rattle.asm_text.specs.SourceParsing.{Progress, is_known, take_label, take_inv, take_statement, take_line, at_line, source_end, take_lines, no_progress, parsed_source}
 use Rattle.asm_text.specs.Views.{source_insn_view, source_view, ParsesSource, SpellsNoSource}
-use Rattle.asm_text.specs.Inside.Views.{progress_view, IsSound, TakesLine}
+use Rattle.asm_text.specs.Inside.Views.{progress_view, IsSoundProgress, TakesOnLine}
 use Rattle.asm_text.proofs.Cutting.{not_same}
 use Rattle.asm_text.proofs.Found.{known_after}
 use Rattle.asm_text.proofs.Collected.{spelled_parsed, parsed_spelled}
@@ -83,7 +83,7 @@ pub none_taken : (p : code.Progress) → p.source.insns.items ≡ [] → p.sourc
 unfolding source_view
 none_taken p e f g w = progress_same (progress_view p) no_progress (ap (map (λ x. (x.0, source_insn_view x.1))) e) (ap (map (λ x. (x.0.text.items, x.1))) f) (ap (map (λ x. (x.0, form_view x.1))) g) w
 
-pub none_sound : (p : code.Progress) → p.source.insns.items ≡ [] → p.source.labels.items ≡ [] → p.known.keys ≡ [] → IsSound p
+pub none_sound : (p : code.Progress) → p.source.insns.items ≡ [] → p.source.labels.items ≡ [] → p.known.keys ≡ [] → IsSoundProgress p
 unfolding source_view
 none_sound p e f k = record {
   few = omega (arith, ap length e);
@@ -92,20 +92,20 @@ none_sound p e f k = record {
 
 -- ---- what stays sound
 
-pub sound_insn : (p q : code.Progress) (x : ℕ × SrcInsn) → IsSound p → length p.source.insns.items < MAX_INSNS → q.source.insns.items ≡ p.source.insns.items ++ (x ∷ []) → q.source.labels.items ≡ p.source.labels.items → q.known.keys ≡ p.known.keys → IsSound q
+pub sound_insn : (p q : code.Progress) (x : ℕ × SrcInsn) → IsSoundProgress p → length p.source.insns.items < MAX_INSNS → q.source.insns.items ≡ p.source.insns.items ++ (x ∷ []) → q.source.labels.items ≡ p.source.labels.items → q.known.keys ≡ p.known.keys → IsSoundProgress q
 sound_insn p q x s h e f k = record {
   few = omega (arith, h, ap length e, length-append p.source.insns.items (x ∷ []));
   known = λ l. ap (list_any (λ y. bytes_eq l y.now)) k ∙ s.known l ∙ ap (λ y. is_known y l) (sym (labels_kept p.source q.source f));
 }
 
-pub sound_inv : (p q : code.Progress) → IsSound p → q.source.insns.items ≡ p.source.insns.items → q.source.labels.items ≡ p.source.labels.items → q.known.keys ≡ p.known.keys → IsSound q
+pub sound_inv : (p q : code.Progress) → IsSoundProgress p → q.source.insns.items ≡ p.source.insns.items → q.source.labels.items ≡ p.source.labels.items → q.known.keys ≡ p.known.keys → IsSoundProgress q
 sound_inv p q s e f k = record {
   few = omega (arith, s.few, ap length e);
   known = λ l. ap (list_any (λ y. bytes_eq l y.now)) k ∙ s.known l ∙ ap (λ y. is_known y l) (sym (labels_kept p.source q.source f));
 }
 
-pub sound_label : (p q : code.Progress) (t : Bor (List ℕ)) (l : Label) (i : ℕ) → IsSound p → l.text.items ≡ t.now → q.source.insns.items ≡ p.source.insns.items → q.source.labels.items ≡ p.source.labels.items ++ ((l, i) ∷ []) →
-    q.known.keys ≡ insert_key (λ a b. slice_cmp nat_cmp a.now b.now) p.known.keys t → IsSound q
+pub sound_label : (p q : code.Progress) (t : Bor (List ℕ)) (l : Label) (i : ℕ) → IsSoundProgress p → l.text.items ≡ t.now → q.source.insns.items ≡ p.source.insns.items → q.source.labels.items ≡ p.source.labels.items ++ ((l, i) ∷ []) →
+    q.known.keys ≡ insert_key (λ a b. slice_cmp nat_cmp a.now b.now) p.known.keys t → IsSoundProgress q
 sound_label p q t l i s x e f k =
     let ls : (source_view q.source).labels ≡ (source_view p.source).labels ++ ((t.now, i) ∷ []) = labels_pushed p.source q.source l i f ∙ ap (λ y. (source_view p.source).labels ++ ((y, i) ∷ [])) x in
     record {
@@ -179,7 +179,7 @@ line_err : (n : ℕ) (line : List ℕ) (all more : List (List ℕ)) (p : Progres
 unfolding take_lines
 line_err n line all more p flaw r a e h = sym h ∙ ap (λ l. take_lines n l p) a ∙ ap (λ x. at_line n x >>= λ y. take_lines (suc n) more y) e
 
-pub line_stops : (n : ℕ) (line : List ℕ) (all more : List (List ℕ)) (p q : Progress) (e : LineFault) (r : Result Source (ℕ × LineFlaw)) → all ≡ line ∷ more → take_lines n all p ≡ r → TakesLine {X = Unit {0}} n (take_line n line p) q (Err e) → ParsesSource source_view r (Err e)
+pub line_stops : (n : ℕ) (line : List ℕ) (all more : List (List ℕ)) (p q : Progress) (e : LineFault) (r : Result Source (ℕ × LineFlaw)) → all ≡ line ∷ more → take_lines n all p ≡ r → TakesOnLine {X = Unit {0}} n (take_line n line p) q (Err e) → ParsesSource source_view r (Err e)
 line_stops n line all more p q F.Memory r a h m = tt
 line_stops n line all more p q (F.At k flaw) r a h m = line_err n line all more p flaw r a m.1 h ∙ ap (λ x. Err (x, flaw)) (sym m.0)
 

@@ -26,15 +26,13 @@ use Rattle.asm_text.specs.Insns.{SourceInsn, Plain, BranchTo, BrTo}
 
 -- the lexeme that stands next, and what is behind it
 abbrev pub next_lexeme : List (Token Punct) → Result (List ℕ × List (Token Punct)) LineFlaw
-next_lexeme [] = Err L.Operand
-next_lexeme (Mark m ∷ ts) = Err L.Operand
 next_lexeme (Lexeme w ∷ ts) = Ok (w, ts)
+next_lexeme ts = Err L.Operand
 
 -- what is behind this mark
 abbrev pub behind : Punct → List (Token Punct) → Result (List (Token Punct)) LineFlaw
-behind m [] = Err L.Operand
-behind m (Lexeme w ∷ ts) = Err L.Operand
 behind m (Mark k ∷ ts) = if same_mark k m then Ok ts else Err L.Operand
+behind m ts = Err L.Operand
 
 -- x, where no token is left
 abbrev pub at_end : {A : Type 0} → A → List (Token Punct) → Result A LineFlaw
@@ -43,9 +41,8 @@ at_end x (t ∷ ts) = Err L.Operand
 
 -- an integer, if a lexeme stands next, and what is behind it
 abbrev pub displacement_at : List (Token Punct) → Result (Option (List ℕ) × List (Token Punct)) LineFlaw
-displacement_at [] = Ok (None, [])
-displacement_at (Mark m ∷ ts) = Ok (None, Mark m ∷ ts)
 displacement_at (Lexeme w ∷ ts) = if is_integer w then Ok (Some w, ts) else Err L.Operand
+displacement_at ts = Ok (None, ts)
 
 -- `ra,disp(rb)` and `ra,(rb)`
 unfoldable pub memory_form : List (Token Punct) → Result (List ℕ × Option (List ℕ) × List ℕ) LineFlaw
@@ -224,6 +221,5 @@ by_mnemonic (Some m) ts = parsed_operands m ts
 
 -- the instruction that the tokens are parsed as, or the first flaw
 unfoldable pub parsed_insn : List (Token Punct) → Result SourceInsn LineFlaw
-parsed_insn [] = Err L.Mnemonic
-parsed_insn (Mark m ∷ ts) = Err L.Mnemonic
 parsed_insn (Lexeme w ∷ ts) = by_mnemonic (mnemonic_of w) ts
+parsed_insn ts = Err L.Mnemonic

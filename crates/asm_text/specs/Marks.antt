@@ -24,18 +24,7 @@ AreBlanks bs = AllByRecursion (λ b. source_class b ≡ C.Blank) bs
 -- whether two marks are the same
 abbrev pub same_mark : Punct → Punct → Bool
 same_mark M.Comma M.Comma = true
-same_mark M.Comma M.Open = false
-same_mark M.Comma M.Close = false
-same_mark M.Comma M.Colon = false
-same_mark M.Open M.Comma = false
 same_mark M.Open M.Open = true
-same_mark M.Open M.Close = false
-same_mark M.Open M.Colon = false
-same_mark M.Close M.Comma = false
-same_mark M.Close M.Open = false
 same_mark M.Close M.Close = true
-same_mark M.Close M.Colon = false
-same_mark M.Colon M.Comma = false
-same_mark M.Colon M.Open = false
-same_mark M.Colon M.Close = false
 same_mark M.Colon M.Colon = true
+same_mark a b = false

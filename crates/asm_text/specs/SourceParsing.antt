@@ -22,15 +22,13 @@ use Rattle.asm_text.specs.Sources.{Source}
 
 -- a label whose colon stands next, and what is behind the colon
 abbrev pub colon_by : List ℕ → Option (Token Punct × List ℕ) → Option (List ℕ × List ℕ)
-colon_by l None = None
-colon_by l (Some (Lexeme w, rest)) = None
 colon_by l (Some (Mark m, rest)) = if same_mark m M.Colon && is_label l then Some (l, rest) else None
+colon_by l next = None
 
 -- the same, by the first token
 abbrev pub label_by : Option (Token Punct × List ℕ) → Option (List ℕ × List ℕ)
-label_by None = None
-label_by (Some (Mark m, rest)) = None
 label_by (Some (Lexeme l, rest)) = colon_by l (front_token source_class rest)
+label_by first = None
 
 -- the label at the front, if there is one, and what is behind its colon
 unfoldable pub label_split : List ℕ → Option (List ℕ × List ℕ)

@@ -12,7 +12,7 @@ ghost use Rattle.asm_text.specs.InsnParsing.{memory_operands, parsed_memory, par
 ghost use Rattle.asm_text.specs.InsnParsing.{parsed_branch, br_by, parsed_br, parsed_return};
 ghost use Rattle.asm_text.specs.Insns.{BrTo};
 ghost use Rattle.asm_text.specs.InsnParsing.{nop, parsed_operands, parsed_insn};
-ghost use Rattle.asm_text.specs.Inside.Views.{Gives, GivesOrMemory};
+ghost use Rattle.asm_text.specs.Inside.Views.{Yields, YieldsOrMemory};
 ghost use Rattle.asm_text.specs.Views.{source_insn_view};
 
 use crate::fault::{LineFlaw, Refused};
@@ -65,7 +65,7 @@ pub fn owned_label(alloc: Global, text: &[u8]) -> Result<Label, AllocError>
 
 /// The lexeme that stands next, and the text behind it.
 fn next_lexeme(text: &[u8]) -> Result<(&[u8], &[u8]), LineFlaw>
-    ensures { Gives (λ p. (p.0.now, tokens_of source_class p.1.now))
+    ensures { Yields (λ p. (p.0.now, tokens_of source_class p.1.now))
         (next_lexeme (tokens_of source_class text.now)) result }
 {
     match front(text) {
@@ -76,7 +76,7 @@ fn next_lexeme(text: &[u8]) -> Result<(&[u8], &[u8]), LineFlaw>
 
 /// The text behind this mark.
 fn behind(wanted: Punct, text: &[u8]) -> Result<&[u8], LineFlaw>
-    ensures { Gives (λ p. tokens_of source_class p.now)
+    ensures { Yields (λ p. tokens_of source_class p.now)
         (behind wanted (tokens_of source_class text.now)) result }
 {
     match front(text) {
@@ -93,7 +93,7 @@ fn behind(wanted: Punct, text: &[u8]) -> Result<&[u8], LineFlaw>
 
 /// An integer, if a lexeme stands next, and the text behind it.
 fn displacement_at(text: &[u8]) -> Result<(Option<&[u8]>, &[u8]), LineFlaw>
-    ensures { Gives (λ p. (option_map (λ w. w.now) p.0, tokens_of source_class p.1.now))
+    ensures { Yields (λ p. (option_map (λ w. w.now) p.0, tokens_of source_class p.1.now))
         (displacement_at (tokens_of source_class text.now)) result }
 {
     match front(text) {
@@ -111,7 +111,7 @@ fn displacement_at(text: &[u8]) -> Result<(Option<&[u8]>, &[u8]), LineFlaw>
 /// The lexemes of `ra,disp(rb)` and `ra,(rb)`.
 #[tactic(auto, unfolding(crate::specs::InsnParsing::memory_form))]
 fn memory_form(text: &[u8]) -> Result<(&[u8], Option<&[u8]>, &[u8]), LineFlaw>
-    ensures { Gives (λ f. (f.0.now, option_map (λ w. w.now) f.1, f.2.now))
+    ensures { Yields (λ f. (f.0.now, option_map (λ w. w.now) f.1, f.2.now))
         (memory_form (tokens_of source_class text.now)) result }
 {
     let (ra, rest) = next_lexeme(text)?;
@@ -129,7 +129,7 @@ fn memory_form(text: &[u8]) -> Result<(&[u8], Option<&[u8]>, &[u8]), LineFlaw>
 /// The operands of a memory instruction.
 #[tactic(auto, unfolding(crate::specs::InsnParsing::memory_operands))]
 fn memory_operands(text: &[u8]) -> Result<MemoryOperands, LineFlaw>
-    ensures { Gives (λ m. (m.ra, m.disp, m.rb))
+    ensures { Yields (λ m. (m.ra, m.disp, m.rb))
         (memory_operands (tokens_of source_class text.now)) result }
 {
     let (ra, disp, rb) = memory_form(text)?;
@@ -142,7 +142,7 @@ fn memory_operands(text: &[u8]) -> Result<MemoryOperands, LineFlaw>
 /// The lexemes of `ra,rb,rc`.
 #[tactic(auto, unfolding(crate::specs::InsnParsing::operate_form))]
 fn operate_form(text: &[u8]) -> Result<(&[u8], &[u8], &[u8]), LineFlaw>
-    ensures { Gives (λ f. (f.0.now, f.1.now, f.2.now))
+    ensures { Yields (λ f. (f.0.now, f.1.now, f.2.now))
         (operate_form (tokens_of source_class text.now)) result }
 {
     let (ra, rest) = next_lexeme(text)?;
@@ -159,7 +159,7 @@ fn operate_form(text: &[u8]) -> Result<(&[u8], &[u8], &[u8]), LineFlaw>
 /// An operate instruction, from the text behind its mnemonic.
 #[tactic(auto, unfolding(crate::specs::InsnParsing::parsed_operate))]
 fn operate(op: Op, text: &[u8]) -> Result<SrcInsn, LineFlaw>
-    ensures { Gives source_insn_view (parsed_operate op (tokens_of source_class text.now)) result }
+    ensures { Yields source_insn_view (parsed_operate op (tokens_of source_class text.now)) result }
 {
     let (ra, right, rc) = operate_form(text)?;
     let ra = register_at(ra)?;
@@ -170,7 +170,7 @@ fn operate(op: Op, text: &[u8]) -> Result<SrcInsn, LineFlaw>
 
 /// The label, where no token is left behind it.
 fn last_label<'t>(label: &'t [u8], rest: &'t [u8]) -> Result<&'t [u8], LineFlaw>
-    ensures { Gives (λ l. l.now) (last_label (label.now, tokens_of source_class rest.now)) result }
+    ensures { Yields (λ l. l.now) (last_label (label.now, tokens_of source_class rest.now)) result }
 {
     if !is_label(label) || front(rest).is_some() {
         return Err(LineFlaw::Operand);
@@ -181,7 +181,7 @@ fn last_label<'t>(label: &'t [u8], rest: &'t [u8]) -> Result<&'t [u8], LineFlaw>
 /// The lexemes of `ra,label`.
 #[tactic(auto, unfolding(crate::specs::InsnParsing::branch_form))]
 fn branch_form(text: &[u8]) -> Result<(&[u8], &[u8]), LineFlaw>
-    ensures { Gives (λ f. (f.0.now, f.1.now))
+    ensures { Yields (λ f. (f.0.now, f.1.now))
         (branch_form (tokens_of source_class text.now)) result }
 {
     let (ra, rest) = next_lexeme(text)?;
@@ -194,7 +194,7 @@ fn branch_form(text: &[u8]) -> Result<(&[u8], &[u8]), LineFlaw>
 /// A conditional branch, from the text behind its mnemonic.
 #[tactic(auto, unfolding(crate::specs::InsnParsing::parsed_branch))]
 fn branch(alloc: Global, cond: Cond, text: &[u8]) -> Result<SrcInsn, Refused>
-    ensures { GivesOrMemory source_insn_view
+    ensures { YieldsOrMemory source_insn_view
         (parsed_branch cond (tokens_of source_class text.now)) result }
 {
     let (ra, label) = branch_form(text)?;
@@ -206,7 +206,7 @@ fn branch(alloc: Global, cond: Cond, text: &[u8]) -> Result<SrcInsn, Refused>
 /// The label of `,label`.
 #[tactic(auto, unfolding(crate::specs::InsnParsing::label_form))]
 fn label_form(text: &[u8]) -> Result<&[u8], LineFlaw>
-    ensures { Gives (λ l. l.now) (label_form (tokens_of source_class text.now)) result }
+    ensures { Yields (λ l. l.now) (label_form (tokens_of source_class text.now)) result }
 {
     let rest = behind(Punct::Comma, text)?;
     let (label, rest) = next_lexeme(rest)?;
@@ -215,7 +215,7 @@ fn label_form(text: &[u8]) -> Result<&[u8], LineFlaw>
 
 /// The label of `br`, from its first lexeme and the text behind it.
 fn br_by<'t>(first: &'t [u8], rest: &'t [u8]) -> Result<&'t [u8], LineFlaw>
-    ensures { Gives (λ l. BrTo l.now) (br_by first.now (tokens_of source_class rest.now)) result }
+    ensures { Yields (λ l. BrTo l.now) (br_by first.now (tokens_of source_class rest.now)) result }
 {
     match front(rest) {
         None => last_label(first, rest),
@@ -231,7 +231,7 @@ fn br_by<'t>(first: &'t [u8], rest: &'t [u8]) -> Result<&'t [u8], LineFlaw>
 /// `br`, from the text behind its mnemonic.
 #[tactic(auto, unfolding(crate::specs::InsnParsing::parsed_br))]
 fn br(alloc: Global, text: &[u8]) -> Result<SrcInsn, Refused>
-    ensures { GivesOrMemory source_insn_view (parsed_br (tokens_of source_class text.now)) result }
+    ensures { YieldsOrMemory source_insn_view (parsed_br (tokens_of source_class text.now)) result }
 {
     let (first, rest) = next_lexeme(text)?;
     let label = br_by(first, rest)?;
@@ -242,7 +242,7 @@ fn br(alloc: Global, text: &[u8]) -> Result<SrcInsn, Refused>
 /// The lexemes of `$31,($26),n`.
 #[tactic(auto, unfolding(crate::specs::InsnParsing::return_form))]
 fn return_form(text: &[u8]) -> Result<(&[u8], &[u8], &[u8]), LineFlaw>
-    ensures { Gives (λ f. (f.0.now, f.1.now, f.2.now))
+    ensures { Yields (λ f. (f.0.now, f.1.now, f.2.now))
         (return_form (tokens_of source_class text.now)) result }
 {
     let (ra, rest) = next_lexeme(text)?;
@@ -261,7 +261,7 @@ fn return_form(text: &[u8]) -> Result<(&[u8], &[u8], &[u8]), LineFlaw>
 /// `ret`, from the text behind its mnemonic.
 #[tactic(auto, unfolding(crate::specs::InsnParsing::parsed_return))]
 fn ret(text: &[u8]) -> Result<SrcInsn, LineFlaw>
-    ensures { Gives source_insn_view (parsed_return (tokens_of source_class text.now)) result }
+    ensures { Yields source_insn_view (parsed_return (tokens_of source_class text.now)) result }
 {
     if front(text).is_none() {
         return Ok(SrcInsn::Plain(Insn::Ret));
@@ -275,7 +275,7 @@ fn ret(text: &[u8]) -> Result<SrcInsn, LineFlaw>
 
 /// `nop`, from the text behind its mnemonic.
 fn nop(text: &[u8]) -> Result<SrcInsn, LineFlaw>
-    ensures { Gives source_insn_view (at_end nop (tokens_of source_class text.now)) result }
+    ensures { Yields source_insn_view (at_end nop (tokens_of source_class text.now)) result }
 {
     match front(text) {
         None => Ok(SrcInsn::Plain(Insn::Oper {
@@ -290,7 +290,7 @@ fn nop(text: &[u8]) -> Result<SrcInsn, LineFlaw>
 
 /// `lda`, from the text behind its mnemonic.
 fn lda(text: &[u8]) -> Result<SrcInsn, LineFlaw>
-    ensures { Gives source_insn_view (parsed_memory Lda (tokens_of source_class text.now)) result }
+    ensures { Yields source_insn_view (parsed_memory Lda (tokens_of source_class text.now)) result }
 {
     let MemoryOperands { ra, disp, rb } = memory_operands(text)?;
     Ok(SrcInsn::Plain(Insn::Lda { ra, rb, disp }))
@@ -298,7 +298,7 @@ fn lda(text: &[u8]) -> Result<SrcInsn, LineFlaw>
 
 /// `ldq`, from the text behind its mnemonic.
 fn ldq(text: &[u8]) -> Result<SrcInsn, LineFlaw>
-    ensures { Gives source_insn_view (parsed_memory Ldq (tokens_of source_class text.now)) result }
+    ensures { Yields source_insn_view (parsed_memory Ldq (tokens_of source_class text.now)) result }
 {
     let MemoryOperands { ra, disp, rb } = memory_operands(text)?;
     Ok(SrcInsn::Plain(Insn::Ldq { ra, rb, disp }))
@@ -306,7 +306,7 @@ fn ldq(text: &[u8]) -> Result<SrcInsn, LineFlaw>
 
 /// `stq`, from the text behind its mnemonic.
 fn stq(text: &[u8]) -> Result<SrcInsn, LineFlaw>
-    ensures { Gives source_insn_view (parsed_memory Stq (tokens_of source_class text.now)) result }
+    ensures { Yields source_insn_view (parsed_memory Stq (tokens_of source_class text.now)) result }
 {
     let MemoryOperands { ra, disp, rb } = memory_operands(text)?;
     Ok(SrcInsn::Plain(Insn::Stq { ra, rb, disp }))
@@ -314,7 +314,7 @@ fn stq(text: &[u8]) -> Result<SrcInsn, LineFlaw>
 
 /// The instruction of a mnemonic, from the text behind it.
 fn operands(alloc: Global, mnemonic: Mnemonic, text: &[u8]) -> Result<SrcInsn, Refused>
-    ensures { GivesOrMemory source_insn_view
+    ensures { YieldsOrMemory source_insn_view
         (parsed_operands mnemonic (tokens_of source_class text.now)) result }
 {
     match mnemonic {
@@ -332,7 +332,7 @@ fn operands(alloc: Global, mnemonic: Mnemonic, text: &[u8]) -> Result<SrcInsn, R
 /// The instruction that the text spells, or the first thing that is wrong.
 #[tactic(auto, unfolding(crate::specs::InsnParsing::parsed_insn))]
 pub fn read_insn(alloc: Global, text: &[u8]) -> Result<SrcInsn, Refused>
-    ensures { GivesOrMemory source_insn_view
+    ensures { YieldsOrMemory source_insn_view
         (parsed_insn (tokens_of source_class text.now)) result }
 {
     match front(text) {

@@ -5,7 +5,7 @@ ghost use Rattle.std.specs.Option.{option_map};
 ghost use Rattle.asm_text.specs.Integers.{Integer as IntegerView, lexeme_integer, is_integer};
 ghost use Rattle.asm_text.specs.InsnParsing.{in_displacement, displacement_of};
 ghost use Rattle.asm_text.specs.InsnParsing.{count_of, rhs_by};
-ghost use Rattle.asm_text.specs.Inside.Views.{Gives, IsIntegerAnswer};
+ghost use Rattle.asm_text.specs.Inside.Views.{Yields, IsIntegerAnswer};
 
 use crate::fault::LineFlaw;
 use crate::registers::register_at;
@@ -48,7 +48,7 @@ pub fn is_integer(lexeme: &[u8]) -> bool
 /// The displacement, in its range.
 fn in_displacement(integer: Integer) -> Result<i16, LineFlaw>
     ensures { (o : Option IntegerView) → IsIntegerAnswer o integer.minus integer.size
-        → Gives (λ d. d) (in_displacement o) result }
+        → Yields (λ d. d) (in_displacement o) result }
 {
     match integer.size {
         Number::NoNumber => Err(LineFlaw::Operand),
@@ -71,7 +71,7 @@ fn in_displacement(integer: Integer) -> Result<i16, LineFlaw>
 
 /// The displacement that the lexeme is, and 0 for none.
 pub fn displacement(lexeme: Option<&[u8]>) -> Result<i16, LineFlaw>
-    ensures { Gives (λ d. d) (displacement_of (option_map (λ w. w.now) lexeme.entry)) result }
+    ensures { Yields (λ d. d) (displacement_of (option_map (λ w. w.now) lexeme.entry)) result }
 {
     match lexeme {
         None => Ok(0),
@@ -82,7 +82,7 @@ pub fn displacement(lexeme: Option<&[u8]>) -> Result<i16, LineFlaw>
 /// The number from 0 on and below the limit.
 fn in_count(limit: u64, integer: Integer) -> Result<u64, LineFlaw>
     ensures { (o : Option IntegerView) → IsIntegerAnswer o integer.minus integer.size
-        → Gives (λ n. n) (count_of limit o) result }
+        → Yields (λ n. n) (count_of limit o) result }
 {
     match integer.size {
         Number::NoNumber => Err(LineFlaw::Operand),
@@ -101,14 +101,14 @@ fn in_count(limit: u64, integer: Integer) -> Result<u64, LineFlaw>
 
 /// The number that the lexeme is, from 0 on and below the limit.
 pub fn count(limit: u64, lexeme: &[u8]) -> Result<u64, LineFlaw>
-    ensures { Gives (λ n. n) (count_of limit (lexeme_integer lexeme.now)) result }
+    ensures { Yields (λ n. n) (count_of limit (lexeme_integer lexeme.now)) result }
 {
     in_count(limit, read_integer(lexeme))
 }
 
 /// A number from 0 to 255 where the lexeme is an integer, else a register.
 pub fn rhs(lexeme: &[u8]) -> Result<Rhs, LineFlaw>
-    ensures { Gives (λ r. r) (rhs_by lexeme.now (lexeme_integer lexeme.now)) result }
+    ensures { Yields (λ r. r) (rhs_by lexeme.now (lexeme_integer lexeme.now)) result }
 {
     if is_integer(lexeme) {
         let n = count(256, lexeme)?;

@@ -7,8 +7,8 @@ ghost use Rattle.asm_text.specs.SourceParsing.{take_body, take_line, source_end}
 ghost use Rattle.asm_text.specs.SourceParsing.{no_progress};
 ghost use Rattle.formula_tree.specs.Views.{form_view};
 ghost use Rattle.asm_text.specs.Views.{ParsesSource, source_insn_view, source_view};
-ghost use Rattle.asm_text.specs.Inside.Views.{progress_view, IsSound};
-ghost use Rattle.asm_text.specs.Inside.Views.{Takes, TakesLine};
+ghost use Rattle.asm_text.specs.Inside.Views.{progress_view, IsSoundProgress};
+ghost use Rattle.asm_text.specs.Inside.Views.{TakesOn, TakesOnLine};
 
 use crate::fault::{LineFault, LineFlaw, Refused};
 use crate::insns::{SrcInsn, owned_label};
@@ -31,7 +31,7 @@ pub struct Progress<'t> {
 /// Nothing read yet.
 pub fn no_progress<'t>(alloc: Global) -> Progress<'t>
     ensures view { progress_view result ≡ no_progress }
-    ensures sound { IsSound result }
+    ensures sound { IsSoundProgress result }
 {
     Progress {
         source: Source {
@@ -46,10 +46,10 @@ pub fn no_progress<'t>(alloc: Global) -> Progress<'t>
 
 /// Takes the label of a line.
 fn take_label<'t>(alloc: Global, progress: &mut Progress<'t>, text: &'t [u8]) -> Result<(), Refused>
-    requires sound { IsSound progress.old }
-    ensures takes { Takes (take_label (Some text.now) (progress_view progress.old))
+    requires sound { IsSoundProgress progress.old }
+    ensures takes { TakesOn (take_label (Some text.now) (progress_view progress.old))
         (progress_view progress.new) result }
-    ensures sound { OnOk result (IsSound progress.new) }
+    ensures sound { OnOk result (IsSoundProgress progress.new) }
 {
     if progress.known.contains(text) {
         return Err(Refused::Flaw(LineFlaw::DoubleLabel));
@@ -63,10 +63,10 @@ fn take_label<'t>(alloc: Global, progress: &mut Progress<'t>, text: &'t [u8]) ->
 
 /// Takes an instruction of line `n`.
 fn take_insn(progress: &mut Progress<'_>, n: u32, insn: SrcInsn) -> Result<(), Refused>
-    requires sound { IsSound progress.old }
-    ensures takes { Takes (take_statement n (AnInsn (source_insn_view insn))
+    requires sound { IsSoundProgress progress.old }
+    ensures takes { TakesOn (take_statement n (AnInsn (source_insn_view insn))
         (progress_view progress.old)) (progress_view progress.new) result }
-    ensures sound { OnOk result (IsSound progress.new) }
+    ensures sound { OnOk result (IsSoundProgress progress.new) }
 {
     if progress.source.insns.len() >= MAX_INSNS {
         drop(insn);
@@ -79,10 +79,10 @@ fn take_insn(progress: &mut Progress<'_>, n: u32, insn: SrcInsn) -> Result<(), R
 
 /// Takes an invariant of line `n`.
 fn take_inv(progress: &mut Progress<'_>, n: u32, form: Form) -> Result<(), Refused>
-    requires sound { IsSound progress.old }
-    ensures takes { Takes (take_inv n (form_view form) (progress_view progress.old)
+    requires sound { IsSoundProgress progress.old }
+    ensures takes { TakesOn (take_inv n (form_view form) (progress_view progress.old)
         progress.old.waiting) (progress_view progress.new) result }
-    ensures sound { OnOk result (IsSound progress.new) }
+    ensures sound { OnOk result (IsSoundProgress progress.new) }
 {
     if progress.waiting.is_some() {
         drop(form);
@@ -105,10 +105,10 @@ fn take_statement(
     n: u32,
     text: &[u8],
 ) -> Result<(), Refused>
-    requires sound { IsSound progress.old }
-    ensures takes { Takes (take_text n text.now (progress_view progress.old))
+    requires sound { IsSoundProgress progress.old }
+    ensures takes { TakesOn (take_text n text.now (progress_view progress.old))
         (progress_view progress.new) result }
-    ensures sound { OnOk result (IsSound progress.new) }
+    ensures sound { OnOk result (IsSoundProgress progress.new) }
 {
     match read_statement(alloc, text)? {
         Statement::NoStatement => Ok(()),
@@ -124,10 +124,10 @@ fn take_body<'t>(
     n: u32,
     body: &'t [u8],
 ) -> Result<(), Refused>
-    requires sound { IsSound progress.old }
-    ensures takes { Takes (take_body n body.now (progress_view progress.old))
+    requires sound { IsSoundProgress progress.old }
+    ensures takes { TakesOn (take_body n body.now (progress_view progress.old))
         (progress_view progress.new) result }
-    ensures sound { OnOk result (IsSound progress.new) }
+    ensures sound { OnOk result (IsSoundProgress progress.new) }
 {
     match split_label(body) {
         None => take_statement(alloc, progress, n, body),
@@ -146,10 +146,10 @@ fn take_line<'t>(
     n: u32,
     line: &'t [u8],
 ) -> Result<(), Refused>
-    requires sound { IsSound progress.old }
-    ensures takes { Takes (take_line n line.now (progress_view progress.old))
+    requires sound { IsSoundProgress progress.old }
+    ensures takes { TakesOn (take_line n line.now (progress_view progress.old))
         (progress_view progress.new) result }
-    ensures sound { OnOk result (IsSound progress.new) }
+    ensures sound { OnOk result (IsSoundProgress progress.new) }
 {
     if line.len() > MAX_LINE {
         return Err(Refused::Flaw(LineFlaw::Length));
@@ -167,10 +167,10 @@ pub fn take_numbered<'t>(
     n: u32,
     line: &'t [u8],
 ) -> Result<(), LineFault>
-    requires sound { IsSound progress.old }
-    ensures takes { TakesLine n (take_line n line.now (progress_view progress.old))
+    requires sound { IsSoundProgress progress.old }
+    ensures takes { TakesOnLine n (take_line n line.now (progress_view progress.old))
         (progress_view progress.new) result }
-    ensures sound { OnOk result (IsSound progress.new) }
+    ensures sound { OnOk result (IsSoundProgress progress.new) }
 {
     match take_line(alloc, progress, n, line) {
         Ok(()) => Ok(()),

@@ -2,7 +2,7 @@
 
 ghost use Rattle.std.specs.Prelude.{◌≡◌, ◌<◌};
 ghost use Rattle.asm_text.specs.InsnParsing.{register_at, fixed_register};
-ghost use Rattle.asm_text.specs.Inside.Views.{Gives};
+ghost use Rattle.asm_text.specs.Inside.Views.{Yields};
 
 use crate::fault::LineFlaw;
 use alpha_words::Reg;
@@ -10,7 +10,7 @@ use text_tokens::register;
 
 /// The register that the lexeme names.
 pub fn register_at(lexeme: &[u8]) -> Result<Reg, LineFlaw>
-    ensures { Gives (λ r. r) (register_at lexeme.now) result }
+    ensures { Yields (λ r. r) (register_at lexeme.now) result }
 {
     match register(lexeme) {
         Some(number) => Ok(Reg::new(u32::from(number))),
@@ -20,7 +20,7 @@ pub fn register_at(lexeme: &[u8]) -> Result<Reg, LineFlaw>
 
 /// Refuses a lexeme that doesn't name this register.
 pub fn fixed_register(number: u32, lexeme: &[u8]) -> Result<u32, LineFlaw>
-    ensures { Gives (λ r. r) (fixed_register number lexeme.now) result }
+    ensures { Yields (λ r. r) (fixed_register number lexeme.now) result }
 {
     let reg = register_at(lexeme)?;
     if reg.number() == number {

@@ -6,7 +6,7 @@ ghost use Rattle.asm_text.specs.Statements.{before_comment, is_printable, are_pr
 ghost use Rattle.formula_text.specs.Parsing.{parsed_form};
 ghost use Rattle.asm_text.specs.SourceParsing.{label_split, inv_or_flaw, insn_statement};
 ghost use Rattle.asm_text.specs.SourceParsing.{parsed_statement};
-ghost use Rattle.asm_text.specs.Inside.Views.{GivesOrMemory, statement_view};
+ghost use Rattle.asm_text.specs.Inside.Views.{YieldsOrMemory, statement_view};
 
 use crate::fault::{LineFlaw, Refused};
 use crate::insns::{SrcInsn, read_insn};
@@ -78,7 +78,7 @@ pub fn split_label(text: &[u8]) -> Option<(&[u8], &[u8])>
 
 /// The invariant that the text spells.
 fn read_inv(alloc: Global, text: &[u8]) -> Result<Statement, Refused>
-    ensures { GivesOrMemory statement_view (inv_or_flaw (parsed_form text.now)) result }
+    ensures { YieldsOrMemory statement_view (inv_or_flaw (parsed_form text.now)) result }
 {
     match read_form(alloc, text) {
         Ok(form) => Ok(Statement::Inv(form)),
@@ -89,7 +89,7 @@ fn read_inv(alloc: Global, text: &[u8]) -> Result<Statement, Refused>
 
 /// The instruction that the text spells.
 fn insn_statement(alloc: Global, text: &[u8]) -> Result<Statement, Refused>
-    ensures { GivesOrMemory statement_view (insn_statement text.now) result }
+    ensures { YieldsOrMemory statement_view (insn_statement text.now) result }
 {
     let insn = read_insn(alloc, text)?;
     Ok(Statement::Insn(insn))
@@ -98,7 +98,7 @@ fn insn_statement(alloc: Global, text: &[u8]) -> Result<Statement, Refused>
 /// The statement of a line, from the text behind its label.
 #[tactic(auto, unfolding(crate::specs::SourceParsing::parsed_statement))]
 pub fn read_statement(alloc: Global, text: &[u8]) -> Result<Statement, Refused>
-    ensures { GivesOrMemory statement_view (parsed_statement text.now) result }
+    ensures { YieldsOrMemory statement_view (parsed_statement text.now) result }
 {
     match front(text) {
         None => Ok(Statement::NoStatement),

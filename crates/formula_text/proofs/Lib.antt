@@ -8,3 +8,4 @@ pub mod Printed
 pub mod Turns
 pub mod Viable
 pub mod Refused
+pub mod Groups

@@ -5,7 +5,6 @@ use Rattle.std.specs.Str.{bytes_eq}
 use Rattle.std.specs.Option.{option_map}
 use Rattle.std.proofs.lemmas.Bool.{ltb-true}
 use Rattle.std.proofs.lemmas.List.{append-nil}
-use Rattle.formula_tree.specs.Formulas.{Exp, MemExp, Form}
 use Rattle.text_tokens.specs.declared.parens.Paren.{Paren}
 use Rattle.text_tokens.specs.declared.parens.Paren.TheVariants as P
 use Rattle.text_tokens.specs.Tokens.{Token, Mark, Lexeme}
@@ -20,7 +19,7 @@ use Rattle.formula_text.specs.declared.fault.TextFlaw.{TextFlaw}
 use Rattle.formula_text.specs.Keywords.{phrase_sort, binder_sort, keyword_text, keyword_of}
 use Rattle.formula_text.specs.Bindings.{is_name, Bindings, nearest_binding}
 use Rattle.formula_text.specs.Grammar.{group, SpellsExp, SpellsMem, SpellsForm}
-use Rattle.formula_text.specs.Parsing.{◌>>=◌, Phrase, AForm, AnExp, AMem, Parts, NoParts, OneExp, TwoExps, OneForm, TwoForms, OneMem, MemThenExp, MemThenExps, with_phrase, of_two_exps, of_one_exp, of_two_forms, of_one_form, of_mem_exp, of_mem_exps, group_phrase, Frame, Expected, Inside, Opened, Binding, Whole, ParseState, with_binding, bindings_of, awaited_sort, number_phrase, variable_exp, variable_mem, register_phrase, lexeme_phrase, with_frame_parts, put_phrase, put_group, close_group, inside_open, inside_lexeme, opened, same_sort, opened_keyword, binding_step, parse_step}
+use Rattle.formula_text.specs.Parsing.{◌>>=◌, Phrase, AForm, AnExp, AMem, group_phrase, Frame, Expected, Inside, Opened, Binding, Whole, ParseState, with_binding, bindings_of, awaited_sort, number_phrase, variable_exp, variable_mem, register_phrase, lexeme_phrase, put_phrase, put_group, close_group, inside_open, inside_lexeme, opened, same_sort, opened_keyword, binding_step, parse_step}
 use Rattle.formula_text.proofs.Known.{keyword_is}
 use Rattle.formula_text.proofs.Running.{parse_steps}
 
@@ -29,15 +28,9 @@ SpellsPhrase (AForm A) s ts = SpellsForm A s ts
 SpellsPhrase (AnExp a) s ts = SpellsExp a s ts
 SpellsPhrase (AMem m) s ts = SpellsMem m s ts
 
-abbrev pub SpellsParts : Parts → Bindings → List (Token Paren) → Type 0
-SpellsParts NoParts s ts = ts ≡ []
-SpellsParts (OneExp a) s ts = SpellsExp a s ts
-SpellsParts (TwoExps a b) s ts = (us vs : List (Token Paren)) × SpellsExp a s us × SpellsExp b s vs × (ts ≡ us ++ vs)
-SpellsParts (OneForm A) s ts = SpellsForm A s ts
-SpellsParts (TwoForms A B) s ts = (us vs : List (Token Paren)) × SpellsForm A s us × SpellsForm B s vs × (ts ≡ us ++ vs)
-SpellsParts (OneMem m) s ts = SpellsMem m s ts
-SpellsParts (MemThenExp m a) s ts = (us vs : List (Token Paren)) × SpellsMem m s us × SpellsExp a s vs × (ts ≡ us ++ vs)
-SpellsParts (MemThenExps m a v) s ts = (us vs ws : List (Token Paren)) × SpellsMem m s us × SpellsExp a s vs × SpellsExp v s ws × (ts ≡ (us ++ vs) ++ ws)
+abbrev pub SpellsParts : List Phrase → Bindings → List (Token Paren) → Type 0
+SpellsParts [] s ts = ts ≡ []
+SpellsParts (x ∷ xs) s ts = (us vs : List (Token Paren)) × SpellsPhrase x s us × SpellsParts xs s vs × (ts ≡ us ++ vs)
 
 -- what stands behind a keyword before the parts
 abbrev pub name_tokens : Option PhraseSort → List ℕ → List (Token Paren)
@@ -138,37 +131,10 @@ lexeme_spells s S.Mem w x n h =
 
 -- ---- parts
 
-parts_spell : (h k : Parts) (x : Phrase) (s : Bindings) (ts us : List (Token Paren)) → with_phrase h x ≡ Some k → SpellsParts h s ts → SpellsPhrase x s us → SpellsParts k s (ts ++ us)
-parts_spell NoParts k (AForm A) s ts us e g f = subst (λ y. SpellsParts y s (ts ++ us)) (some_same _ _ e) (subst (λ l. SpellsForm A s (l ++ us)) (sym g) f)
-parts_spell NoParts k (AnExp a) s ts us e g f = subst (λ y. SpellsParts y s (ts ++ us)) (some_same _ _ e) (subst (λ l. SpellsExp a s (l ++ us)) (sym g) f)
-parts_spell NoParts k (AMem m) s ts us e g f = subst (λ y. SpellsParts y s (ts ++ us)) (some_same _ _ e) (subst (λ l. SpellsMem m s (l ++ us)) (sym g) f)
-parts_spell (OneExp b) k (AnExp a) s ts us e g f = subst (λ y. SpellsParts y s (ts ++ us)) (some_same _ _ e) (ts, us, g, f, refl)
-parts_spell (OneForm B) k (AForm A) s ts us e g f = subst (λ y. SpellsParts y s (ts ++ us)) (some_same _ _ e) (ts, us, g, f, refl)
-parts_spell (OneMem m) k (AnExp a) s ts us e g f = subst (λ y. SpellsParts y s (ts ++ us)) (some_same _ _ e) (ts, us, g, f, refl)
-parts_spell (MemThenExp m b) k (AnExp a) s ts us e g f = subst (λ y. SpellsParts y s (ts ++ us)) (some_same _ _ e) (g.0, g.1, us, g.2, g.3, f, ap (λ l. l ++ us) g.4)
-parts_spell (OneExp b) k (AForm A) s ts us e g f = cc
-parts_spell (OneExp b) k (AMem m) s ts us e g f = cc
-parts_spell (OneForm B) k (AnExp a) s ts us e g f = cc
-parts_spell (OneForm B) k (AMem m) s ts us e g f = cc
-parts_spell (OneMem m) k (AForm A) s ts us e g f = cc
-parts_spell (OneMem m) k (AMem n) s ts us e g f = cc
-parts_spell (MemThenExp m b) k (AForm A) s ts us e g f = cc
-parts_spell (MemThenExp m b) k (AMem n) s ts us e g f = cc
-parts_spell (TwoExps b c) k (AForm A) s ts us e g f = cc
-parts_spell (TwoExps b c) k (AnExp a) s ts us e g f = cc
-parts_spell (TwoExps b c) k (AMem m) s ts us e g f = cc
-parts_spell (TwoForms B C) k (AForm A) s ts us e g f = cc
-parts_spell (TwoForms B C) k (AnExp a) s ts us e g f = cc
-parts_spell (TwoForms B C) k (AMem m) s ts us e g f = cc
-parts_spell (MemThenExps n b c) k (AForm A) s ts us e g f = cc
-parts_spell (MemThenExps n b c) k (AnExp a) s ts us e g f = cc
-parts_spell (MemThenExps n b c) k (AMem m) s ts us e g f = cc
-
-phrase_reached : (x : Phrase) (f : Frame) (fs : List Frame) (us vs : List (Token Paren)) (s : ParseState) (k : Option Parts) → with_phrase f.parts x ≡ k → AreOpen (f ∷ fs) us → SpellsPhrase x (bindings_of (f ∷ fs)) vs → with_frame_parts f fs k ≡ Ok s → IsReached s.0 s.1 (us ++ vs)
-phrase_reached x f fs us vs s None e o h g = cc
-phrase_reached x f fs us vs s (Some k) e o h g =
-    subst (λ n. IsReached n.0 n.1 (us ++ vs)) (same_Ok (Inside, record { keyword = f.keyword; name = f.name; parts = k } ∷ fs) s g)
-    (o.0, o.1 ++ vs, o.2, o.3, parts_spell f.parts k x (bindings_of (f ∷ fs)) o.1 vs e o.4 h, ap (λ l. l ++ vs) o.5 ∙ append_assoc o.0 (opening f ++ o.1) vs ∙ ap (λ l. o.0 ++ l) (append_assoc (opening f) o.1 vs))
+parts_spell : (xs : List Phrase) (x : Phrase) (s : Bindings) (ts us : List (Token Paren)) → SpellsParts xs s ts → SpellsPhrase x s us
+    → SpellsParts (xs ++ x ∷ []) s (ts ++ us)
+parts_spell [] x s ts us g f = (us, [], f, refl, ap (λ l. l ++ us) g ∙ sym (append-nil us))
+parts_spell (y ∷ xs) x s ts us g f = (g.0, g.1 ++ us, g.2, parts_spell xs x s g.1 us g.3 f, ap (λ l. l ++ us) g.4 ∙ append_assoc g.0 g.1 us)
 
 -- a part for the nearest parentheses
 put_reached : (x : Phrase) (fs : List Frame) (us vs : List (Token Paren)) (s : ParseState) → AreOpen fs us → SpellsPhrase x (bindings_of fs) vs → put_phrase x fs ≡ Ok s → IsReached s.0 s.1 (us ++ vs)
@@ -176,83 +142,49 @@ unfolding put_phrase
 put_reached (AForm A) [] us vs s o h e = subst (λ n. IsReached n.0 n.1 (us ++ vs)) (same_Ok (Whole A, []) s e) (subst (λ l. SpellsForm A [] (l ++ vs)) (sym o) h)
 put_reached (AnExp a) [] us vs s o h e = cc
 put_reached (AMem m) [] us vs s o h e = cc
-put_reached x (f ∷ fs) us vs s o h e = phrase_reached x f fs us vs s (with_phrase f.parts x) refl o h e
+put_reached x (f ∷ fs) us vs s o h e =
+    let line = ap (λ l. l ++ vs) o.5 ∙ append_assoc o.0 (opening f ++ o.1) vs ∙ ap (λ l. o.0 ++ l) (append_assoc (opening f) o.1 vs) in
+    subst (λ n. IsReached n.0 n.1 (us ++ vs)) (same_Ok (Inside, record { keyword = f.keyword; name = f.name; parts = f.parts ++ x ∷ [] } ∷ fs) s e)
+    (o.0, o.1 ++ vs, o.2, o.3, parts_spell f.parts x (bindings_of (f ∷ fs)) o.1 vs o.4 h, line)
 
 -- ---- the end of parentheses
 
-two_exps : (f : Exp → Exp → Phrase) (k : Parts) (x : Phrase) → of_two_exps f k ≡ Some x → (a b : Exp) × (k ≡ TwoExps a b) × (f a b ≡ x)
-two_exps f NoParts x e = cc
-two_exps f (OneExp a) x e = cc
-two_exps f (TwoExps a b) x e = (a, b, refl, some_same _ _ e)
-two_exps f (OneForm A) x e = cc
-two_exps f (TwoForms A B) x e = cc
-two_exps f (OneMem m) x e = cc
-two_exps f (MemThenExp m a) x e = cc
-two_exps f (MemThenExps m a v) x e = cc
+-- the tokens of one part, of two and of three
+one_line : (us vs ts : List (Token Paren)) → vs ≡ [] → ts ≡ us ++ vs → ts ≡ us
+one_line us vs ts e f = f ∙ ap (λ l. us ++ l) e ∙ append-nil us
 
-one_exp : (f : Exp → Phrase) (k : Parts) (x : Phrase) → of_one_exp f k ≡ Some x → (a : Exp) × (k ≡ OneExp a) × (f a ≡ x)
-one_exp f NoParts x e = cc
-one_exp f (OneExp a) x e = (a, refl, some_same _ _ e)
-one_exp f (TwoExps a b) x e = cc
-one_exp f (OneForm A) x e = cc
-one_exp f (TwoForms A B) x e = cc
-one_exp f (OneMem m) x e = cc
-one_exp f (MemThenExp m a) x e = cc
-one_exp f (MemThenExps m a v) x e = cc
+two_lines : (us vs ws ts xs : List (Token Paren)) → xs ≡ [] → ws ≡ vs ++ xs → ts ≡ us ++ ws → ts ≡ us ++ vs
+two_lines us vs ws ts xs d e f = f ∙ ap (λ l. us ++ l) (one_line vs xs ws d e)
 
-two_forms : (f : Form → Form → Phrase) (k : Parts) (x : Phrase) → of_two_forms f k ≡ Some x → (A B : Form) × (k ≡ TwoForms A B) × (f A B ≡ x)
-two_forms f NoParts x e = cc
-two_forms f (OneExp a) x e = cc
-two_forms f (TwoExps a b) x e = cc
-two_forms f (OneForm A) x e = cc
-two_forms f (TwoForms A B) x e = (A, B, refl, some_same _ _ e)
-two_forms f (OneMem m) x e = cc
-two_forms f (MemThenExp m a) x e = cc
-two_forms f (MemThenExps m a v) x e = cc
+three_lines : (us vs ws xs ys zs ts : List (Token Paren)) → zs ≡ [] → ys ≡ ws ++ zs → xs ≡ vs ++ ys → ts ≡ us ++ xs → ts ≡ (us ++ vs) ++ ws
+three_lines us vs ws xs ys zs ts c d e f = f ∙ ap (λ l. us ++ l) (two_lines vs ws ys xs zs c d e) ∙ sym (append_assoc us vs ws)
 
-one_form : (f : Form → Phrase) (k : Parts) (x : Phrase) → of_one_form f k ≡ Some x → (A : Form) × (k ≡ OneForm A) × (f A ≡ x)
-one_form f NoParts x e = cc
-one_form f (OneExp a) x e = cc
-one_form f (TwoExps a b) x e = cc
-one_form f (OneForm A) x e = (A, refl, some_same _ _ e)
-one_form f (TwoForms A B) x e = cc
-one_form f (OneMem m) x e = cc
-one_form f (MemThenExp m a) x e = cc
-one_form f (MemThenExps m a v) x e = cc
-
-mem_exp : (f : MemExp → Exp → Phrase) (k : Parts) (x : Phrase) → of_mem_exp f k ≡ Some x → (m : MemExp) × (a : Exp) × (k ≡ MemThenExp m a) × (f m a ≡ x)
-mem_exp f NoParts x e = cc
-mem_exp f (OneExp a) x e = cc
-mem_exp f (TwoExps a b) x e = cc
-mem_exp f (OneForm A) x e = cc
-mem_exp f (TwoForms A B) x e = cc
-mem_exp f (OneMem m) x e = cc
-mem_exp f (MemThenExp m a) x e = (m, a, refl, some_same _ _ e)
-mem_exp f (MemThenExps m a v) x e = cc
-
-mem_exps : (f : MemExp → Exp → Exp → Phrase) (k : Parts) (x : Phrase) → of_mem_exps f k ≡ Some x → (m : MemExp) × (a v : Exp) × (k ≡ MemThenExps m a v) × (f m a v ≡ x)
-mem_exps f NoParts x e = cc
-mem_exps f (OneExp a) x e = cc
-mem_exps f (TwoExps a b) x e = cc
-mem_exps f (OneForm A) x e = cc
-mem_exps f (TwoForms A B) x e = cc
-mem_exps f (OneMem m) x e = cc
-mem_exps f (MemThenExp m a) x e = cc
-mem_exps f (MemThenExps m a v) x e = (m, a, v, refl, some_same _ _ e)
+spelled_as : (x y : Phrase) (s : Bindings) (ts : List (Token Paren)) → ◌≡◌ {A = Option Phrase} (Some x) (Some y) → SpellsPhrase x s ts → SpellsPhrase y s ts
+spelled_as x y s ts e h = subst (λ z. SpellsPhrase z s ts) (some_same x y e) h
 
 -- parentheses that end are what was built of their parts
-group_spells : (h : Keyword) (n : List ℕ) (k : Parts) (s : Bindings) (x : Phrase) (vs : List (Token Paren)) → IsBinding (binder_sort h) n → SpellsParts k (with_binding (binder_sort h) n s) vs → group_phrase h k ≡ Some x → SpellsPhrase x s ((Mark P.Open) ∷ Lexeme (keyword_text h) ∷ (name_tokens (binder_sort h) n ++ (vs ++ ((Mark P.Close) ∷ []))))
-group_spells (K.Rel p) n k s x vs b g e = let f = two_exps _ k x e in let q = subst (λ y. SpellsParts y s vs) f.2 g in subst (λ y. SpellsPhrase y s (group (K.Rel p) vs)) f.3 (q.0, q.1, q.2, q.3, ap (group (K.Rel p)) q.4)
-group_spells K.Rd n k s x vs b g e = let f = one_exp _ k x e in let q = subst (λ y. SpellsParts y s vs) f.1 g in subst (λ y. SpellsPhrase y s (group K.Rd vs)) f.2 (vs, q, refl)
-group_spells K.Wr n k s x vs b g e = let f = one_exp _ k x e in let q = subst (λ y. SpellsParts y s vs) f.1 g in subst (λ y. SpellsPhrase y s (group K.Wr vs)) f.2 (vs, q, refl)
-group_spells K.And n k s x vs b g e = let f = two_forms _ k x e in let q = subst (λ y. SpellsParts y s vs) f.2 g in subst (λ y. SpellsPhrase y s (group K.And vs)) f.3 (q.0, q.1, q.2, q.3, ap (group K.And) q.4)
-group_spells K.Or n k s x vs b g e = let f = two_forms _ k x e in let q = subst (λ y. SpellsParts y s vs) f.2 g in subst (λ y. SpellsPhrase y s (group K.Or vs)) f.3 (q.0, q.1, q.2, q.3, ap (group K.Or) q.4)
-group_spells K.Imp n k s x vs b g e = let f = two_forms _ k x e in let q = subst (λ y. SpellsParts y s vs) f.2 g in subst (λ y. SpellsPhrase y s (group K.Imp vs)) f.3 (q.0, q.1, q.2, q.3, ap (group K.Imp) q.4)
-group_spells K.All n k s x vs b g e = let f = one_form _ k x e in let q = subst (λ y. SpellsParts y ((n, S.Exp) ∷ s) vs) f.1 g in subst (λ y. SpellsPhrase y s (group K.All (Lexeme n ∷ vs))) f.2 (n, vs, b, q, refl)
-group_spells K.Allm n k s x vs b g e = let f = one_form _ k x e in let q = subst (λ y. SpellsParts y ((n, S.Mem) ∷ s) vs) f.1 g in subst (λ y. SpellsPhrase y s (group K.Allm (Lexeme n ∷ vs))) f.2 (n, vs, b, q, refl)
-group_spells (K.Oper o) n k s x vs b g e = let f = two_exps _ k x e in let q = subst (λ y. SpellsParts y s vs) f.2 g in subst (λ y. SpellsPhrase y s (group (K.Oper o) vs)) f.3 (q.0, q.1, q.2, q.3, ap (group (K.Oper o)) q.4)
-group_spells K.Sel n k s x vs b g e = let f = mem_exp _ k x e in let q = subst (λ y. SpellsParts y s vs) f.2 g in subst (λ y. SpellsPhrase y s (group K.Sel vs)) f.3 (q.0, q.1, q.2, q.3, ap (group K.Sel) q.4)
-group_spells K.Upd n k s x vs b g e = let f = mem_exps _ k x e in let q = subst (λ y. SpellsParts y s vs) f.3 g in subst (λ y. SpellsPhrase y s (group K.Upd vs)) f.4 (q.0, q.1, q.2, q.3, q.4, q.5, ap (group K.Upd) q.6)
+group_spells : (h : Keyword) (n : List ℕ) (k : List Phrase) (s : Bindings) (x : Phrase) (vs : List (Token Paren)) → IsBinding (binder_sort h) n
+    → SpellsParts k (with_binding (binder_sort h) n s) vs → group_phrase h k ≡ Some x
+    → SpellsPhrase x s ((Mark P.Open) ∷ Lexeme (keyword_text h) ∷ (name_tokens (binder_sort h) n ++ (vs ++ ((Mark P.Close) ∷ []))))
+group_spells (K.Rel p) n (AnExp a ∷ AnExp b ∷ []) s x vs i g e =
+    spelled_as _ x s _ e (g.0, g.3.0, g.2, g.3.2, ap (group (K.Rel p)) (two_lines g.0 g.3.0 g.1 vs g.3.1 g.3.3 g.3.4 g.4))
+group_spells K.Rd n (AnExp a ∷ []) s x vs i g e = spelled_as _ x s _ e (g.0, g.2, ap (group K.Rd) (one_line g.0 g.1 vs g.3 g.4))
+group_spells K.Wr n (AnExp a ∷ []) s x vs i g e = spelled_as _ x s _ e (g.0, g.2, ap (group K.Wr) (one_line g.0 g.1 vs g.3 g.4))
+group_spells K.And n (AForm a ∷ AForm b ∷ []) s x vs i g e =
+    spelled_as _ x s _ e (g.0, g.3.0, g.2, g.3.2, ap (group K.And) (two_lines g.0 g.3.0 g.1 vs g.3.1 g.3.3 g.3.4 g.4))
+group_spells K.Or n (AForm a ∷ AForm b ∷ []) s x vs i g e =
+    spelled_as _ x s _ e (g.0, g.3.0, g.2, g.3.2, ap (group K.Or) (two_lines g.0 g.3.0 g.1 vs g.3.1 g.3.3 g.3.4 g.4))
+group_spells K.Imp n (AForm a ∷ AForm b ∷ []) s x vs i g e =
+    spelled_as _ x s _ e (g.0, g.3.0, g.2, g.3.2, ap (group K.Imp) (two_lines g.0 g.3.0 g.1 vs g.3.1 g.3.3 g.3.4 g.4))
+group_spells K.All n (AForm A ∷ []) s x vs i g e = spelled_as _ x s _ e (n, g.0, i, g.2, ap (λ l. group K.All (Lexeme n ∷ l)) (one_line g.0 g.1 vs g.3 g.4))
+group_spells K.Allm n (AForm A ∷ []) s x vs i g e = spelled_as _ x s _ e (n, g.0, i, g.2, ap (λ l. group K.Allm (Lexeme n ∷ l)) (one_line g.0 g.1 vs g.3 g.4))
+group_spells (K.Oper o) n (AnExp a ∷ AnExp b ∷ []) s x vs i g e =
+    spelled_as _ x s _ e (g.0, g.3.0, g.2, g.3.2, ap (group (K.Oper o)) (two_lines g.0 g.3.0 g.1 vs g.3.1 g.3.3 g.3.4 g.4))
+group_spells K.Sel n (AMem a ∷ AnExp b ∷ []) s x vs i g e =
+    spelled_as _ x s _ e (g.0, g.3.0, g.2, g.3.2, ap (group K.Sel) (two_lines g.0 g.3.0 g.1 vs g.3.1 g.3.3 g.3.4 g.4))
+group_spells K.Upd n (AMem m ∷ AnExp a ∷ AnExp v ∷ []) s x vs i g e =
+    spelled_as _ x s _ e (g.0, g.3.0, g.3.3.0, g.2, g.3.2, g.3.3.2, ap (group K.Upd) (three_lines g.0 g.3.0 g.3.3.0 g.1 g.3.1 g.3.3.1 vs g.3.3.3 g.3.3.4 g.3.4 g.4))
+group_spells h n k s x vs i g e = cc
 
 closed_reached : (f : Frame) (fs : List Frame) (ts : List (Token Paren)) (s : ParseState) (o : Option Phrase) → group_phrase f.keyword f.parts ≡ o → AreOpen (f ∷ fs) ts → put_group o fs ≡ Ok s → IsReached s.0 s.1 (ts ++ ((Mark P.Close) ∷ []))
 closed_reached f fs ts s None e h g = cc

@@ -18,7 +18,7 @@ use Rattle.formula_text.specs.declared.fault.TextFlaw.{TextFlaw}
 use Rattle.formula_text.specs.Keywords.{phrase_sort, binder_sort, keyword_text}
 use Rattle.formula_text.specs.Bindings.{is_name, Bindings, nearest_binding}
 use Rattle.formula_text.specs.Grammar.{group, SpellsExp, SpellsMem, SpellsForm}
-use Rattle.formula_text.specs.Parsing.{◌>>=◌, Phrase, AForm, AnExp, AMem, Parts, NoParts, OneExp, TwoExps, OneForm, TwoForms, OneMem, MemThenExp, MemThenExps, Frame, Inside, Opened, Binding, ParseState, bindings_of, awaited_sort, number_phrase, variable_exp, variable_mem, register_phrase, lexeme_phrase, put_phrase, inside_open, inside_lexeme, opened, same_sort, opened_keyword, parse_step}
+use Rattle.formula_text.specs.Parsing.{◌>>=◌, Phrase, AForm, AnExp, AMem, Frame, Inside, Opened, Binding, ParseState, bindings_of, awaited_sort, number_phrase, variable_exp, variable_mem, register_phrase, lexeme_phrase, put_phrase, inside_open, inside_lexeme, opened, same_sort, opened_keyword, parse_step}
 use Rattle.formula_text.proofs.Known.{keyword_found, name_free}
 
 -- all of these tokens
@@ -67,12 +67,12 @@ keyword_step_is : (fs : List Frame) (h : Keyword) → parse_step (Lexeme (keywor
 unfolding parse_step
 keyword_step_is fs h = ap (opened_keyword (phrase_sort h) fs) (keyword_found h) ∙ cond-true (same_sort (phrase_sort h) (phrase_sort h)) _ _ (same_sorts (phrase_sort h))
 
-name_step : (fs : List Frame) (h : Keyword) (x : List ℕ) → is_name x ≡ true → parse_step (Lexeme x) (Binding h, fs) ≡ Ok (Inside, record { keyword = h; name = x; parts = NoParts } ∷ fs)
+name_step : (fs : List Frame) (h : Keyword) (x : List ℕ) → is_name x ≡ true → parse_step (Lexeme x) (Binding h, fs) ≡ Ok (Inside, record { keyword = h; name = x; parts = [] } ∷ fs)
 unfolding parse_step
 name_step fs h x e = cond-true (is_name x) _ _ e
 
 group_runs : (fs : List Frame) (h : Keyword) (ts : List (Token Paren)) (s : ParseState) → awaited_sort fs ≡ Some (phrase_sort h) → binder_sort h ≡ None →
-    parse_steps ts (Inside, record { keyword = h; name = []; parts = NoParts } ∷ fs) ≡ Ok s → parse_steps (group h ts) (Inside, fs) ≡ parse_step (Mark P.Close) s
+    parse_steps ts (Inside, record { keyword = h; name = []; parts = [] } ∷ fs) ≡ Ok s → parse_steps (group h ts) (Inside, fs) ≡ parse_step (Mark P.Close) s
 group_runs fs h ts s e b r =
     ap (λ x. x >>= λ n. parse_steps (Lexeme (keyword_text h) ∷ (ts ++ ((Mark P.Close) ∷ []))) n) (open_step fs (phrase_sort h) e)
     ∙ ap (λ x. x >>= λ n. parse_steps (ts ++ ((Mark P.Close) ∷ [])) n) (keyword_step_is fs h)
@@ -80,7 +80,7 @@ group_runs fs h ts s e b r =
     ∙ steps_two ts ((Mark P.Close) ∷ []) _ s _ r (steps_one (Mark P.Close) s)
 
 binder_runs : (fs : List Frame) (h : Keyword) (q : PhraseSort) (x : List ℕ) (ts : List (Token Paren)) (s : ParseState) → awaited_sort fs ≡ Some (phrase_sort h) → binder_sort h ≡ Some q → is_name x ≡ true →
-    parse_steps ts (Inside, record { keyword = h; name = x; parts = NoParts } ∷ fs) ≡ Ok s → parse_steps (group h (Lexeme x ∷ ts)) (Inside, fs) ≡ parse_step (Mark P.Close) s
+    parse_steps ts (Inside, record { keyword = h; name = x; parts = [] } ∷ fs) ≡ Ok s → parse_steps (group h (Lexeme x ∷ ts)) (Inside, fs) ≡ parse_step (Mark P.Close) s
 binder_runs fs h q x ts s e b i r =
     ap (λ y. y >>= λ n. parse_steps (Lexeme (keyword_text h) ∷ Lexeme x ∷ (ts ++ ((Mark P.Close) ∷ []))) n) (open_step fs (phrase_sort h) e)
     ∙ ap (λ y. y >>= λ n. parse_steps (Lexeme x ∷ (ts ++ ((Mark P.Close) ∷ []))) n) (keyword_step_is fs h)
@@ -126,7 +126,7 @@ one_lexeme fs q w x ts a e f = ap (λ l. parse_steps l (Inside, fs)) e ∙ steps
 -- ---- parts
 
 -- parentheses with these parts so far
-abbrev with_parts : Keyword → List ℕ → Parts → List Frame → List Frame
+abbrev with_parts : Keyword → List ℕ → List Phrase → List Frame → List Frame
 with_parts h x p fs = record { keyword = h; name = x; parts = p } ∷ fs
 
 mutual
@@ -139,28 +139,28 @@ mutual
   exp_runs (ELit n) fs ts a h = let f = number_found h.0 n h.1 in one_lexeme fs S.Exp h.0 _ ts a h.3 (number_lexeme (bindings_of fs) h.0 n f.0 f.1 h.2)
   exp_runs (EOp o b c) fs ts a h =
       ap (λ l. parse_steps l (Inside, fs)) h.4
-      ∙ group_runs fs (K.Oper o) (h.0 ++ h.1) (Inside, with_parts (K.Oper o) [] (TwoExps b c) fs) a refl
-      (steps_two h.0 h.1 _ (Inside, with_parts (K.Oper o) [] (OneExp b) fs) _
-      (exp_runs b (with_parts (K.Oper o) [] NoParts fs) h.0 refl h.2)
-      (exp_runs c (with_parts (K.Oper o) [] (OneExp b) fs) h.1 refl h.3))
+      ∙ group_runs fs (K.Oper o) (h.0 ++ h.1) (Inside, with_parts (K.Oper o) [] (AnExp b ∷ AnExp c ∷ []) fs) a refl
+      (steps_two h.0 h.1 _ (Inside, with_parts (K.Oper o) [] (AnExp b ∷ []) fs) _
+      (exp_runs b (with_parts (K.Oper o) [] [] fs) h.0 refl h.2)
+      (exp_runs c (with_parts (K.Oper o) [] (AnExp b ∷ []) fs) h.1 refl h.3))
   exp_runs (ESel m c) fs ts a h =
       ap (λ l. parse_steps l (Inside, fs)) h.4
-      ∙ group_runs fs K.Sel (h.0 ++ h.1) (Inside, with_parts K.Sel [] (MemThenExp m c) fs) a refl
-      (steps_two h.0 h.1 _ (Inside, with_parts K.Sel [] (OneMem m) fs) _
-      (mem_runs m (with_parts K.Sel [] NoParts fs) h.0 refl h.2)
-      (exp_runs c (with_parts K.Sel [] (OneMem m) fs) h.1 refl h.3))
+      ∙ group_runs fs K.Sel (h.0 ++ h.1) (Inside, with_parts K.Sel [] (AMem m ∷ AnExp c ∷ []) fs) a refl
+      (steps_two h.0 h.1 _ (Inside, with_parts K.Sel [] (AMem m ∷ []) fs) _
+      (mem_runs m (with_parts K.Sel [] [] fs) h.0 refl h.2)
+      (exp_runs c (with_parts K.Sel [] (AMem m ∷ []) fs) h.1 refl h.3))
 
   pub mem_runs : (m : MemExp) (fs : List Frame) (ts : List (Token Paren)) → awaited_sort fs ≡ Some S.Mem → SpellsMem m (bindings_of fs) ts → parse_steps ts (Inside, fs) ≡ put_phrase (AMem m) fs
   mem_runs MMem fs ts a h = one_lexeme fs S.Mem (codes "m") _ ts a h (memory_lexeme (bindings_of fs))
   mem_runs (MVar k) fs ts a h = one_lexeme fs S.Mem h.0 _ ts a h.3 (mem_name (bindings_of fs) h.0 h.1 ∙ ap variable_mem h.2)
   mem_runs (MUpd m b c) fs ts a h =
       ap (λ l. parse_steps l (Inside, fs)) h.6
-      ∙ group_runs fs K.Upd ((h.0 ++ h.1) ++ h.2) (Inside, with_parts K.Upd [] (MemThenExps m b c) fs) a refl
-      (steps_two (h.0 ++ h.1) h.2 _ (Inside, with_parts K.Upd [] (MemThenExp m b) fs) _
-      (steps_two h.0 h.1 _ (Inside, with_parts K.Upd [] (OneMem m) fs) _
-      (mem_runs m (with_parts K.Upd [] NoParts fs) h.0 refl h.3)
-      (exp_runs b (with_parts K.Upd [] (OneMem m) fs) h.1 refl h.4))
-      (exp_runs c (with_parts K.Upd [] (MemThenExp m b) fs) h.2 refl h.5))
+      ∙ group_runs fs K.Upd ((h.0 ++ h.1) ++ h.2) (Inside, with_parts K.Upd [] (AMem m ∷ AnExp b ∷ AnExp c ∷ []) fs) a refl
+      (steps_two (h.0 ++ h.1) h.2 _ (Inside, with_parts K.Upd [] (AMem m ∷ AnExp b ∷ []) fs) _
+      (steps_two h.0 h.1 _ (Inside, with_parts K.Upd [] (AMem m ∷ []) fs) _
+      (mem_runs m (with_parts K.Upd [] [] fs) h.0 refl h.3)
+      (exp_runs b (with_parts K.Upd [] (AMem m ∷ []) fs) h.1 refl h.4))
+      (exp_runs c (with_parts K.Upd [] (AMem m ∷ AnExp b ∷ []) fs) h.2 refl h.5))
 
 pub form_runs : (A : Form) (fs : List Frame) (ts : List (Token Paren)) → awaited_sort fs ≡ Some S.Form → SpellsForm A (bindings_of fs) ts → parse_steps ts (Inside, fs) ≡ put_phrase (AForm A) fs
 unfolding put_phrase parse_step
@@ -168,39 +168,39 @@ form_runs FTrue fs ts a h = one_lexeme fs S.Form (codes "tt") _ ts a h (true_lex
 form_runs FFalse fs ts a h = one_lexeme fs S.Form (codes "ff") _ ts a h (false_lexeme (bindings_of fs))
 form_runs (FRel p b c) fs ts a h =
     ap (λ l. parse_steps l (Inside, fs)) h.4
-    ∙ group_runs fs (K.Rel p) (h.0 ++ h.1) (Inside, with_parts (K.Rel p) [] (TwoExps b c) fs) a refl
-    (steps_two h.0 h.1 _ (Inside, with_parts (K.Rel p) [] (OneExp b) fs) _
-    (exp_runs b (with_parts (K.Rel p) [] NoParts fs) h.0 refl h.2)
-    (exp_runs c (with_parts (K.Rel p) [] (OneExp b) fs) h.1 refl h.3))
+    ∙ group_runs fs (K.Rel p) (h.0 ++ h.1) (Inside, with_parts (K.Rel p) [] (AnExp b ∷ AnExp c ∷ []) fs) a refl
+    (steps_two h.0 h.1 _ (Inside, with_parts (K.Rel p) [] (AnExp b ∷ []) fs) _
+    (exp_runs b (with_parts (K.Rel p) [] [] fs) h.0 refl h.2)
+    (exp_runs c (with_parts (K.Rel p) [] (AnExp b ∷ []) fs) h.1 refl h.3))
 form_runs (FRd b) fs ts a h =
     ap (λ l. parse_steps l (Inside, fs)) h.2
-    ∙ group_runs fs K.Rd h.0 (Inside, with_parts K.Rd [] (OneExp b) fs) a refl (exp_runs b (with_parts K.Rd [] NoParts fs) h.0 refl h.1)
+    ∙ group_runs fs K.Rd h.0 (Inside, with_parts K.Rd [] (AnExp b ∷ []) fs) a refl (exp_runs b (with_parts K.Rd [] [] fs) h.0 refl h.1)
 form_runs (FWr b) fs ts a h =
     ap (λ l. parse_steps l (Inside, fs)) h.2
-    ∙ group_runs fs K.Wr h.0 (Inside, with_parts K.Wr [] (OneExp b) fs) a refl (exp_runs b (with_parts K.Wr [] NoParts fs) h.0 refl h.1)
+    ∙ group_runs fs K.Wr h.0 (Inside, with_parts K.Wr [] (AnExp b ∷ []) fs) a refl (exp_runs b (with_parts K.Wr [] [] fs) h.0 refl h.1)
 form_runs (FAnd A B) fs ts a h =
     ap (λ l. parse_steps l (Inside, fs)) h.4
-    ∙ group_runs fs K.And (h.0 ++ h.1) (Inside, with_parts K.And [] (TwoForms A B) fs) a refl
-    (steps_two h.0 h.1 _ (Inside, with_parts K.And [] (OneForm A) fs) _
-    (form_runs A (with_parts K.And [] NoParts fs) h.0 refl h.2)
-    (form_runs B (with_parts K.And [] (OneForm A) fs) h.1 refl h.3))
+    ∙ group_runs fs K.And (h.0 ++ h.1) (Inside, with_parts K.And [] (AForm A ∷ AForm B ∷ []) fs) a refl
+    (steps_two h.0 h.1 _ (Inside, with_parts K.And [] (AForm A ∷ []) fs) _
+    (form_runs A (with_parts K.And [] [] fs) h.0 refl h.2)
+    (form_runs B (with_parts K.And [] (AForm A ∷ []) fs) h.1 refl h.3))
 form_runs (FOr A B) fs ts a h =
     ap (λ l. parse_steps l (Inside, fs)) h.4
-    ∙ group_runs fs K.Or (h.0 ++ h.1) (Inside, with_parts K.Or [] (TwoForms A B) fs) a refl
-    (steps_two h.0 h.1 _ (Inside, with_parts K.Or [] (OneForm A) fs) _
-    (form_runs A (with_parts K.Or [] NoParts fs) h.0 refl h.2)
-    (form_runs B (with_parts K.Or [] (OneForm A) fs) h.1 refl h.3))
+    ∙ group_runs fs K.Or (h.0 ++ h.1) (Inside, with_parts K.Or [] (AForm A ∷ AForm B ∷ []) fs) a refl
+    (steps_two h.0 h.1 _ (Inside, with_parts K.Or [] (AForm A ∷ []) fs) _
+    (form_runs A (with_parts K.Or [] [] fs) h.0 refl h.2)
+    (form_runs B (with_parts K.Or [] (AForm A ∷ []) fs) h.1 refl h.3))
 form_runs (FImp A B) fs ts a h =
     ap (λ l. parse_steps l (Inside, fs)) h.4
-    ∙ group_runs fs K.Imp (h.0 ++ h.1) (Inside, with_parts K.Imp [] (TwoForms A B) fs) a refl
-    (steps_two h.0 h.1 _ (Inside, with_parts K.Imp [] (OneForm A) fs) _
-    (form_runs A (with_parts K.Imp [] NoParts fs) h.0 refl h.2)
-    (form_runs B (with_parts K.Imp [] (OneForm A) fs) h.1 refl h.3))
+    ∙ group_runs fs K.Imp (h.0 ++ h.1) (Inside, with_parts K.Imp [] (AForm A ∷ AForm B ∷ []) fs) a refl
+    (steps_two h.0 h.1 _ (Inside, with_parts K.Imp [] (AForm A ∷ []) fs) _
+    (form_runs A (with_parts K.Imp [] [] fs) h.0 refl h.2)
+    (form_runs B (with_parts K.Imp [] (AForm A ∷ []) fs) h.1 refl h.3))
 form_runs (FAll A) fs ts a h =
     ap (λ l. parse_steps l (Inside, fs)) h.4
-    ∙ binder_runs fs K.All S.Exp h.0 h.1 (Inside, with_parts K.All h.0 (OneForm A) fs) a refl h.2
-    (form_runs A (with_parts K.All h.0 NoParts fs) h.1 refl h.3)
+    ∙ binder_runs fs K.All S.Exp h.0 h.1 (Inside, with_parts K.All h.0 (AForm A ∷ []) fs) a refl h.2
+    (form_runs A (with_parts K.All h.0 [] fs) h.1 refl h.3)
 form_runs (FAllm A) fs ts a h =
     ap (λ l. parse_steps l (Inside, fs)) h.4
-    ∙ binder_runs fs K.Allm S.Mem h.0 h.1 (Inside, with_parts K.Allm h.0 (OneForm A) fs) a refl h.2
-    (form_runs A (with_parts K.Allm h.0 NoParts fs) h.1 refl h.3)
+    ∙ binder_runs fs K.Allm S.Mem h.0 h.1 (Inside, with_parts K.Allm h.0 (AForm A ∷ []) fs) a refl h.2
+    (form_runs A (with_parts K.Allm h.0 [] fs) h.1 refl h.3)

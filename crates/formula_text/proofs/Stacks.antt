@@ -7,10 +7,11 @@ use Rattle.std.proofs.lemmas.List.{take_more, map-append, reverse-append}
 use Rattle.std.proofs.lemmas.Bool.{cond-true, cond-false}
 use Rattle.formula_text.specs.declared.keywords.PhraseSort.{PhraseSort}
 use Rattle.formula_text.specs.declared.parsing.Frame as A
+use Rattle.formula_text.specs.declared.parts.Phrase as D
 use Rattle.formula_text.specs.Keywords.{binder_sort}
 use Rattle.formula_text.specs.Bindings.{nearest_binding}
 use Rattle.formula_text.specs.Parsing.{with_binding, bindings_of}
-use Rattle.formula_text.specs.Inside.Views.{frame_view, frames_view}
+use Rattle.formula_text.specs.Inside.Views.{phrase_view, frame_view, frames_view}
 
 pub frames_push : (fs : List A.Frame) (f : A.Frame) → frames_view (fs ++ f ∷ []) ≡ frame_view f ∷ frames_view fs
 unfolding frames_view
@@ -19,6 +20,9 @@ frames_push fs f = ap reverse (map-append frame_view fs (f ∷ [])) ∙ reverse-
 pub frames_none : frames_view [] ≡ []
 unfolding frames_view
 frames_none = refl
+
+pub parts_push : (xs : List D.Phrase) (x : D.Phrase) → map phrase_view (xs ++ x ∷ []) ≡ map phrase_view xs ++ phrase_view x ∷ []
+parts_push xs x = map-append phrase_view xs (x ∷ [])
 
 frames_here : (fs : List A.Frame) (i : ℕ) (d : A.Frame) → i < length fs → frames_view (take (i + 1) fs) ≡ frame_view (get_or fs i d) ∷ frames_view (take i fs)
 frames_here fs i d h = ap frames_view (take_more fs i d h) ∙ frames_push (take i fs) (get_or fs i d)

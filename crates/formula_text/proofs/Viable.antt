@@ -1,8 +1,8 @@
 -- Each state that tokens lead to can be completed to a formula.
-use Rattle.std.proofs.Common.{◌≡◌, ℕ, ◌^◌, ltb, Bool, true, false, cond, List, [], ◌∷◌, ◌++◌, Option, Some, None, Result, Ok, Err, refl, sym, ap, ◌∙◌, subst}
+use Rattle.std.proofs.Common.{◌≡◌, ℕ, ◌^◌, ltb, Bool, true, false, cond, List, [], ◌∷◌, ◌++◌, length, map, append_assoc, Option, Some, None, Result, Ok, Err, refl, sym, ap, ◌∙◌, subst}
 use Rattle.std.specs.Prelude.{codes, slice_get}
 use Rattle.std.specs.Str.{bytes_eq}
-use Rattle.std.proofs.lemmas.List.{append-nil}
+use Rattle.std.proofs.lemmas.List.{append-nil, map-append}
 use Rattle.std.proofs.lemmas.Bool.{cond-true}
 use Rattle.formula_tree.specs.Formulas.{ELit, MMem, Form, FTrue}
 use Rattle.text_tokens.specs.declared.parens.Paren.{Paren}
@@ -18,7 +18,7 @@ use Rattle.formula_text.specs.declared.fault.TextFlaw.{TextFlaw}
 use Rattle.formula_text.specs.Keywords.{phrase_sort, part_sorts, binder_sort, keyword_of, keywords}
 use Rattle.formula_text.specs.Bindings.{is_name, Bindings, nearest_binding}
 use Rattle.formula_text.specs.Grammar.{SpellsForm}
-use Rattle.formula_text.specs.Parsing.{number_phrase, variable_exp, variable_mem, register_phrase, ◌>>=◌, Phrase, AForm, AnExp, AMem, Parts, NoParts, OneExp, TwoExps, OneForm, TwoForms, OneMem, MemThenExp, MemThenExps, parts_count, with_phrase, group_phrase, Frame, Expected, Inside, Opened, Binding, Whole, ParseState, bindings_of, awaited_sort, with_frame_parts, lexeme_phrase, put_phrase, put_group, close_group, inside_open, inside_lexeme, opened, same_sort, opened_keyword, binding_step, parse_step}
+use Rattle.formula_text.specs.Parsing.{number_phrase, variable_exp, variable_mem, register_phrase, ◌>>=◌, Phrase, AForm, AnExp, AMem, group_phrase, Frame, Expected, Inside, Opened, Binding, Whole, ParseState, bindings_of, awaited_sort, lexeme_phrase, put_phrase, put_group, close_group, inside_open, inside_lexeme, opened, same_sort, opened_keyword, binding_step, parse_step}
 use Rattle.formula_text.proofs.Running.{parse_steps, parse_steps-append}
 use Rattle.formula_text.proofs.Reached.{run_reached}
 
@@ -29,368 +29,35 @@ sort_part (AForm A) = S.Form
 sort_part (AnExp a) = S.Exp
 sort_part (AMem m) = S.Mem
 
-abbrev sorts_of : Parts → List PhraseSort
-sorts_of NoParts = []
-sorts_of (OneExp a) = S.Exp ∷ []
-sorts_of (TwoExps a b) = S.Exp ∷ S.Exp ∷ []
-sorts_of (OneForm A) = S.Form ∷ []
-sorts_of (TwoForms A B) = S.Form ∷ S.Form ∷ []
-sorts_of (OneMem m) = S.Mem ∷ []
-sorts_of (MemThenExp m a) = S.Mem ∷ S.Exp ∷ []
-sorts_of (MemThenExps m a v) = S.Mem ∷ S.Exp ∷ S.Exp ∷ []
+abbrev sorts_of : List Phrase → List PhraseSort
+sorts_of xs = map sort_part xs
 
 -- a construct's parts are those that were read, and these
-abbrev Misses : Keyword → Parts → List PhraseSort → Type 0
+abbrev Misses : Keyword → List Phrase → List PhraseSort → Type 0
 Misses h k rest = sorts_of k ++ rest ≡ part_sorts h
 
 -- all parts are there
-whole_built : (h : Keyword) (k : Parts) → sorts_of k ≡ part_sorts h → (x : Phrase) × (group_phrase h k ≡ Some x) × (sort_part x ≡ phrase_sort h)
-whole_built (K.Rel p) NoParts e = cc
-whole_built (K.Rel p) (OneExp a) e = cc
-whole_built (K.Rel p) (TwoExps a b) e = (_, refl, refl)
-whole_built (K.Rel p) (OneForm A) e = cc
-whole_built (K.Rel p) (TwoForms A B) e = cc
-whole_built (K.Rel p) (OneMem m) e = cc
-whole_built (K.Rel p) (MemThenExp m a) e = cc
-whole_built (K.Rel p) (MemThenExps m a v) e = cc
-whole_built K.Rd NoParts e = cc
-whole_built K.Rd (OneExp a) e = (_, refl, refl)
-whole_built K.Rd (TwoExps a b) e = cc
-whole_built K.Rd (OneForm A) e = cc
-whole_built K.Rd (TwoForms A B) e = cc
-whole_built K.Rd (OneMem m) e = cc
-whole_built K.Rd (MemThenExp m a) e = cc
-whole_built K.Rd (MemThenExps m a v) e = cc
-whole_built K.Wr NoParts e = cc
-whole_built K.Wr (OneExp a) e = (_, refl, refl)
-whole_built K.Wr (TwoExps a b) e = cc
-whole_built K.Wr (OneForm A) e = cc
-whole_built K.Wr (TwoForms A B) e = cc
-whole_built K.Wr (OneMem m) e = cc
-whole_built K.Wr (MemThenExp m a) e = cc
-whole_built K.Wr (MemThenExps m a v) e = cc
-whole_built K.And NoParts e = cc
-whole_built K.And (OneExp a) e = cc
-whole_built K.And (TwoExps a b) e = cc
-whole_built K.And (OneForm A) e = cc
-whole_built K.And (TwoForms A B) e = (_, refl, refl)
-whole_built K.And (OneMem m) e = cc
-whole_built K.And (MemThenExp m a) e = cc
-whole_built K.And (MemThenExps m a v) e = cc
-whole_built K.Or NoParts e = cc
-whole_built K.Or (OneExp a) e = cc
-whole_built K.Or (TwoExps a b) e = cc
-whole_built K.Or (OneForm A) e = cc
-whole_built K.Or (TwoForms A B) e = (_, refl, refl)
-whole_built K.Or (OneMem m) e = cc
-whole_built K.Or (MemThenExp m a) e = cc
-whole_built K.Or (MemThenExps m a v) e = cc
-whole_built K.Imp NoParts e = cc
-whole_built K.Imp (OneExp a) e = cc
-whole_built K.Imp (TwoExps a b) e = cc
-whole_built K.Imp (OneForm A) e = cc
-whole_built K.Imp (TwoForms A B) e = (_, refl, refl)
-whole_built K.Imp (OneMem m) e = cc
-whole_built K.Imp (MemThenExp m a) e = cc
-whole_built K.Imp (MemThenExps m a v) e = cc
-whole_built K.All NoParts e = cc
-whole_built K.All (OneExp a) e = cc
-whole_built K.All (TwoExps a b) e = cc
-whole_built K.All (OneForm A) e = (_, refl, refl)
-whole_built K.All (TwoForms A B) e = cc
-whole_built K.All (OneMem m) e = cc
-whole_built K.All (MemThenExp m a) e = cc
-whole_built K.All (MemThenExps m a v) e = cc
-whole_built K.Allm NoParts e = cc
-whole_built K.Allm (OneExp a) e = cc
-whole_built K.Allm (TwoExps a b) e = cc
-whole_built K.Allm (OneForm A) e = (_, refl, refl)
-whole_built K.Allm (TwoForms A B) e = cc
-whole_built K.Allm (OneMem m) e = cc
-whole_built K.Allm (MemThenExp m a) e = cc
-whole_built K.Allm (MemThenExps m a v) e = cc
-whole_built (K.Oper o) NoParts e = cc
-whole_built (K.Oper o) (OneExp a) e = cc
-whole_built (K.Oper o) (TwoExps a b) e = (_, refl, refl)
-whole_built (K.Oper o) (OneForm A) e = cc
-whole_built (K.Oper o) (TwoForms A B) e = cc
-whole_built (K.Oper o) (OneMem m) e = cc
-whole_built (K.Oper o) (MemThenExp m a) e = cc
-whole_built (K.Oper o) (MemThenExps m a v) e = cc
-whole_built K.Sel NoParts e = cc
-whole_built K.Sel (OneExp a) e = cc
-whole_built K.Sel (TwoExps a b) e = cc
-whole_built K.Sel (OneForm A) e = cc
-whole_built K.Sel (TwoForms A B) e = cc
-whole_built K.Sel (OneMem m) e = cc
-whole_built K.Sel (MemThenExp m a) e = (_, refl, refl)
-whole_built K.Sel (MemThenExps m a v) e = cc
-whole_built K.Upd NoParts e = cc
-whole_built K.Upd (OneExp a) e = cc
-whole_built K.Upd (TwoExps a b) e = cc
-whole_built K.Upd (OneForm A) e = cc
-whole_built K.Upd (TwoForms A B) e = cc
-whole_built K.Upd (OneMem m) e = cc
-whole_built K.Upd (MemThenExp m a) e = cc
-whole_built K.Upd (MemThenExps m a v) e = (_, refl, refl)
-
-none_ef : (h : Keyword) (rest : List PhraseSort) → (S.Exp ∷ S.Form ∷ []) ++ rest ≡ part_sorts h → ⊥
-none_ef (K.Rel p) rest e = cc
-none_ef K.Rd rest e = cc
-none_ef K.Wr rest e = cc
-none_ef K.And rest e = cc
-none_ef K.Or rest e = cc
-none_ef K.Imp rest e = cc
-none_ef K.All rest e = cc
-none_ef K.Allm rest e = cc
-none_ef (K.Oper o) rest e = cc
-none_ef K.Sel rest e = cc
-none_ef K.Upd rest e = cc
-
-none_em : (h : Keyword) (rest : List PhraseSort) → (S.Exp ∷ S.Mem ∷ []) ++ rest ≡ part_sorts h → ⊥
-none_em (K.Rel p) rest e = cc
-none_em K.Rd rest e = cc
-none_em K.Wr rest e = cc
-none_em K.And rest e = cc
-none_em K.Or rest e = cc
-none_em K.Imp rest e = cc
-none_em K.All rest e = cc
-none_em K.Allm rest e = cc
-none_em (K.Oper o) rest e = cc
-none_em K.Sel rest e = cc
-none_em K.Upd rest e = cc
-
-none_eef : (h : Keyword) (rest : List PhraseSort) → (S.Exp ∷ S.Exp ∷ S.Form ∷ []) ++ rest ≡ part_sorts h → ⊥
-none_eef (K.Rel p) rest e = cc
-none_eef K.Rd rest e = cc
-none_eef K.Wr rest e = cc
-none_eef K.And rest e = cc
-none_eef K.Or rest e = cc
-none_eef K.Imp rest e = cc
-none_eef K.All rest e = cc
-none_eef K.Allm rest e = cc
-none_eef (K.Oper o) rest e = cc
-none_eef K.Sel rest e = cc
-none_eef K.Upd rest e = cc
-
-none_eee : (h : Keyword) (rest : List PhraseSort) → (S.Exp ∷ S.Exp ∷ S.Exp ∷ []) ++ rest ≡ part_sorts h → ⊥
-none_eee (K.Rel p) rest e = cc
-none_eee K.Rd rest e = cc
-none_eee K.Wr rest e = cc
-none_eee K.And rest e = cc
-none_eee K.Or rest e = cc
-none_eee K.Imp rest e = cc
-none_eee K.All rest e = cc
-none_eee K.Allm rest e = cc
-none_eee (K.Oper o) rest e = cc
-none_eee K.Sel rest e = cc
-none_eee K.Upd rest e = cc
-
-none_eem : (h : Keyword) (rest : List PhraseSort) → (S.Exp ∷ S.Exp ∷ S.Mem ∷ []) ++ rest ≡ part_sorts h → ⊥
-none_eem (K.Rel p) rest e = cc
-none_eem K.Rd rest e = cc
-none_eem K.Wr rest e = cc
-none_eem K.And rest e = cc
-none_eem K.Or rest e = cc
-none_eem K.Imp rest e = cc
-none_eem K.All rest e = cc
-none_eem K.Allm rest e = cc
-none_eem (K.Oper o) rest e = cc
-none_eem K.Sel rest e = cc
-none_eem K.Upd rest e = cc
-
-none_fe : (h : Keyword) (rest : List PhraseSort) → (S.Form ∷ S.Exp ∷ []) ++ rest ≡ part_sorts h → ⊥
-none_fe (K.Rel p) rest e = cc
-none_fe K.Rd rest e = cc
-none_fe K.Wr rest e = cc
-none_fe K.And rest e = cc
-none_fe K.Or rest e = cc
-none_fe K.Imp rest e = cc
-none_fe K.All rest e = cc
-none_fe K.Allm rest e = cc
-none_fe (K.Oper o) rest e = cc
-none_fe K.Sel rest e = cc
-none_fe K.Upd rest e = cc
-
-none_fm : (h : Keyword) (rest : List PhraseSort) → (S.Form ∷ S.Mem ∷ []) ++ rest ≡ part_sorts h → ⊥
-none_fm (K.Rel p) rest e = cc
-none_fm K.Rd rest e = cc
-none_fm K.Wr rest e = cc
-none_fm K.And rest e = cc
-none_fm K.Or rest e = cc
-none_fm K.Imp rest e = cc
-none_fm K.All rest e = cc
-none_fm K.Allm rest e = cc
-none_fm (K.Oper o) rest e = cc
-none_fm K.Sel rest e = cc
-none_fm K.Upd rest e = cc
-
-none_fff : (h : Keyword) (rest : List PhraseSort) → (S.Form ∷ S.Form ∷ S.Form ∷ []) ++ rest ≡ part_sorts h → ⊥
-none_fff (K.Rel p) rest e = cc
-none_fff K.Rd rest e = cc
-none_fff K.Wr rest e = cc
-none_fff K.And rest e = cc
-none_fff K.Or rest e = cc
-none_fff K.Imp rest e = cc
-none_fff K.All rest e = cc
-none_fff K.Allm rest e = cc
-none_fff (K.Oper o) rest e = cc
-none_fff K.Sel rest e = cc
-none_fff K.Upd rest e = cc
-
-none_ffe : (h : Keyword) (rest : List PhraseSort) → (S.Form ∷ S.Form ∷ S.Exp ∷ []) ++ rest ≡ part_sorts h → ⊥
-none_ffe (K.Rel p) rest e = cc
-none_ffe K.Rd rest e = cc
-none_ffe K.Wr rest e = cc
-none_ffe K.And rest e = cc
-none_ffe K.Or rest e = cc
-none_ffe K.Imp rest e = cc
-none_ffe K.All rest e = cc
-none_ffe K.Allm rest e = cc
-none_ffe (K.Oper o) rest e = cc
-none_ffe K.Sel rest e = cc
-none_ffe K.Upd rest e = cc
-
-none_ffm : (h : Keyword) (rest : List PhraseSort) → (S.Form ∷ S.Form ∷ S.Mem ∷ []) ++ rest ≡ part_sorts h → ⊥
-none_ffm (K.Rel p) rest e = cc
-none_ffm K.Rd rest e = cc
-none_ffm K.Wr rest e = cc
-none_ffm K.And rest e = cc
-none_ffm K.Or rest e = cc
-none_ffm K.Imp rest e = cc
-none_ffm K.All rest e = cc
-none_ffm K.Allm rest e = cc
-none_ffm (K.Oper o) rest e = cc
-none_ffm K.Sel rest e = cc
-none_ffm K.Upd rest e = cc
-
-none_mf : (h : Keyword) (rest : List PhraseSort) → (S.Mem ∷ S.Form ∷ []) ++ rest ≡ part_sorts h → ⊥
-none_mf (K.Rel p) rest e = cc
-none_mf K.Rd rest e = cc
-none_mf K.Wr rest e = cc
-none_mf K.And rest e = cc
-none_mf K.Or rest e = cc
-none_mf K.Imp rest e = cc
-none_mf K.All rest e = cc
-none_mf K.Allm rest e = cc
-none_mf (K.Oper o) rest e = cc
-none_mf K.Sel rest e = cc
-none_mf K.Upd rest e = cc
-
-none_mm : (h : Keyword) (rest : List PhraseSort) → (S.Mem ∷ S.Mem ∷ []) ++ rest ≡ part_sorts h → ⊥
-none_mm (K.Rel p) rest e = cc
-none_mm K.Rd rest e = cc
-none_mm K.Wr rest e = cc
-none_mm K.And rest e = cc
-none_mm K.Or rest e = cc
-none_mm K.Imp rest e = cc
-none_mm K.All rest e = cc
-none_mm K.Allm rest e = cc
-none_mm (K.Oper o) rest e = cc
-none_mm K.Sel rest e = cc
-none_mm K.Upd rest e = cc
-
-none_mef : (h : Keyword) (rest : List PhraseSort) → (S.Mem ∷ S.Exp ∷ S.Form ∷ []) ++ rest ≡ part_sorts h → ⊥
-none_mef (K.Rel p) rest e = cc
-none_mef K.Rd rest e = cc
-none_mef K.Wr rest e = cc
-none_mef K.And rest e = cc
-none_mef K.Or rest e = cc
-none_mef K.Imp rest e = cc
-none_mef K.All rest e = cc
-none_mef K.Allm rest e = cc
-none_mef (K.Oper o) rest e = cc
-none_mef K.Sel rest e = cc
-none_mef K.Upd rest e = cc
-
-none_mem : (h : Keyword) (rest : List PhraseSort) → (S.Mem ∷ S.Exp ∷ S.Mem ∷ []) ++ rest ≡ part_sorts h → ⊥
-none_mem (K.Rel p) rest e = cc
-none_mem K.Rd rest e = cc
-none_mem K.Wr rest e = cc
-none_mem K.And rest e = cc
-none_mem K.Or rest e = cc
-none_mem K.Imp rest e = cc
-none_mem K.All rest e = cc
-none_mem K.Allm rest e = cc
-none_mem (K.Oper o) rest e = cc
-none_mem K.Sel rest e = cc
-none_mem K.Upd rest e = cc
-
-none_meef : (h : Keyword) (rest : List PhraseSort) → (S.Mem ∷ S.Exp ∷ S.Exp ∷ S.Form ∷ []) ++ rest ≡ part_sorts h → ⊥
-none_meef (K.Rel p) rest e = cc
-none_meef K.Rd rest e = cc
-none_meef K.Wr rest e = cc
-none_meef K.And rest e = cc
-none_meef K.Or rest e = cc
-none_meef K.Imp rest e = cc
-none_meef K.All rest e = cc
-none_meef K.Allm rest e = cc
-none_meef (K.Oper o) rest e = cc
-none_meef K.Sel rest e = cc
-none_meef K.Upd rest e = cc
-
-none_meee : (h : Keyword) (rest : List PhraseSort) → (S.Mem ∷ S.Exp ∷ S.Exp ∷ S.Exp ∷ []) ++ rest ≡ part_sorts h → ⊥
-none_meee (K.Rel p) rest e = cc
-none_meee K.Rd rest e = cc
-none_meee K.Wr rest e = cc
-none_meee K.And rest e = cc
-none_meee K.Or rest e = cc
-none_meee K.Imp rest e = cc
-none_meee K.All rest e = cc
-none_meee K.Allm rest e = cc
-none_meee (K.Oper o) rest e = cc
-none_meee K.Sel rest e = cc
-none_meee K.Upd rest e = cc
-
-none_meem : (h : Keyword) (rest : List PhraseSort) → (S.Mem ∷ S.Exp ∷ S.Exp ∷ S.Mem ∷ []) ++ rest ≡ part_sorts h → ⊥
-none_meem (K.Rel p) rest e = cc
-none_meem K.Rd rest e = cc
-none_meem K.Wr rest e = cc
-none_meem K.And rest e = cc
-none_meem K.Or rest e = cc
-none_meem K.Imp rest e = cc
-none_meem K.All rest e = cc
-none_meem K.Allm rest e = cc
-none_meem (K.Oper o) rest e = cc
-none_meem K.Sel rest e = cc
-none_meem K.Upd rest e = cc
+whole_built : (h : Keyword) (k : List Phrase) → sorts_of k ≡ part_sorts h → (x : Phrase) × (group_phrase h k ≡ Some x) × (sort_part x ≡ phrase_sort h)
+whole_built (K.Rel p) (AnExp a ∷ AnExp b ∷ []) e = (_, refl, refl)
+whole_built K.Rd (AnExp a ∷ []) e = (_, refl, refl)
+whole_built K.Wr (AnExp a ∷ []) e = (_, refl, refl)
+whole_built K.And (AForm A ∷ AForm B ∷ []) e = (_, refl, refl)
+whole_built K.Or (AForm A ∷ AForm B ∷ []) e = (_, refl, refl)
+whole_built K.Imp (AForm A ∷ AForm B ∷ []) e = (_, refl, refl)
+whole_built K.All (AForm A ∷ []) e = (_, refl, refl)
+whole_built K.Allm (AForm A ∷ []) e = (_, refl, refl)
+whole_built (K.Oper o) (AnExp a ∷ AnExp b ∷ []) e = (_, refl, refl)
+whole_built K.Sel (AMem m ∷ AnExp a ∷ []) e = (_, refl, refl)
+whole_built K.Upd (AMem m ∷ AnExp a ∷ AnExp v ∷ []) e = (_, refl, refl)
+whole_built h k e = cc
 
 -- one part more, of the sort that is missing
-more_held : (h : Keyword) (k : Parts) (x : Phrase) (rest : List PhraseSort) → Misses h k (sort_part x ∷ rest) → (j : Parts) × (with_phrase k x ≡ Some j) × Misses h j rest
-more_held h NoParts (AForm C) rest e = (_, refl, e)
-more_held h NoParts (AnExp c) rest e = (_, refl, e)
-more_held h NoParts (AMem n) rest e = (_, refl, e)
-more_held h (OneExp a) (AForm C) rest e = absurd (none_ef h rest e)
-more_held h (OneExp a) (AnExp c) rest e = (_, refl, e)
-more_held h (OneExp a) (AMem n) rest e = absurd (none_em h rest e)
-more_held h (TwoExps a b) (AForm C) rest e = absurd (none_eef h rest e)
-more_held h (TwoExps a b) (AnExp c) rest e = absurd (none_eee h rest e)
-more_held h (TwoExps a b) (AMem n) rest e = absurd (none_eem h rest e)
-more_held h (OneForm A) (AForm C) rest e = (_, refl, e)
-more_held h (OneForm A) (AnExp c) rest e = absurd (none_fe h rest e)
-more_held h (OneForm A) (AMem n) rest e = absurd (none_fm h rest e)
-more_held h (TwoForms A B) (AForm C) rest e = absurd (none_fff h rest e)
-more_held h (TwoForms A B) (AnExp c) rest e = absurd (none_ffe h rest e)
-more_held h (TwoForms A B) (AMem n) rest e = absurd (none_ffm h rest e)
-more_held h (OneMem m) (AForm C) rest e = absurd (none_mf h rest e)
-more_held h (OneMem m) (AnExp c) rest e = (_, refl, e)
-more_held h (OneMem m) (AMem n) rest e = absurd (none_mm h rest e)
-more_held h (MemThenExp m a) (AForm C) rest e = absurd (none_mef h rest e)
-more_held h (MemThenExp m a) (AnExp c) rest e = (_, refl, e)
-more_held h (MemThenExp m a) (AMem n) rest e = absurd (none_mem h rest e)
-more_held h (MemThenExps m a v) (AForm C) rest e = absurd (none_meef h rest e)
-more_held h (MemThenExps m a v) (AnExp c) rest e = absurd (none_meee h rest e)
-more_held h (MemThenExps m a v) (AMem n) rest e = absurd (none_meem h rest e)
+more_held : (h : Keyword) (k : List Phrase) (x : Phrase) (rest : List PhraseSort) → Misses h k (sort_part x ∷ rest) → Misses h (k ++ x ∷ []) rest
+more_held h k x rest e = ap (λ l. l ++ rest) (map-append sort_part k (x ∷ [])) ∙ append_assoc (sorts_of k) (sort_part x ∷ []) rest ∙ e
 
-past_by : (k : Parts) → slice_get (sorts_of k ++ []) (parts_count k) ≡ None
-past_by NoParts = refl
-past_by (OneExp a) = refl
-past_by (TwoExps a b) = refl
-past_by (OneForm A) = refl
-past_by (TwoForms A B) = refl
-past_by (OneMem m) = refl
-past_by (MemThenExp m a) = refl
-past_by (MemThenExps m a v) = refl
+past_by : (k : List Phrase) → slice_get (sorts_of k ++ []) (length k) ≡ None
+past_by [] = refl
+past_by (x ∷ k) = past_by k
 
 some_same : {A : Type 0} (x y : A) → Some x ≡ Some y → x ≡ y
 some_same x y e = cc
@@ -398,18 +65,12 @@ some_same x y e = cc
 none_some : {q : PhraseSort} → None ≡ Some q → ⊥
 none_some e = cc
 
-next_by : (k : Parts) (q : PhraseSort) (rest : List PhraseSort) → slice_get (sorts_of k ++ (q ∷ rest)) (parts_count k) ≡ Some q
-next_by NoParts q rest = refl
-next_by (OneExp a) q rest = refl
-next_by (TwoExps a b) q rest = refl
-next_by (OneForm A) q rest = refl
-next_by (TwoForms A B) q rest = refl
-next_by (OneMem m) q rest = refl
-next_by (MemThenExp m a) q rest = refl
-next_by (MemThenExps m a v) q rest = refl
+next_by : (k : List Phrase) (q : PhraseSort) (rest : List PhraseSort) → slice_get (sorts_of k ++ (q ∷ rest)) (length k) ≡ Some q
+next_by [] q rest = refl
+next_by (x ∷ k) q rest = next_by k q rest
 
-next_sort : (h : Keyword) (k : Parts) (q : PhraseSort) (rest : List PhraseSort) → Misses h k (q ∷ rest) → slice_get (part_sorts h) (parts_count k) ≡ Some q
-next_sort h k q rest e = ap (λ l. slice_get l (parts_count k)) (sym e) ∙ next_by k q rest
+next_sort : (h : Keyword) (k : List Phrase) (q : PhraseSort) (rest : List PhraseSort) → Misses h k (q ∷ rest) → slice_get (part_sorts h) (length k) ≡ Some q
+next_sort h k q rest e = ap (λ l. slice_get l (length k)) (sym e) ∙ next_by k q rest
 
 -- ---- open parentheses that stand where they may
 
@@ -449,7 +110,7 @@ leaf_step fs S.Exp e = ap (inside_lexeme fs (codes "0")) e
 leaf_step fs S.Mem e = ap (inside_lexeme fs (codes "m")) e
 
 -- parentheses with these parts missing, where their whole can be given on
-fill : (rest : List PhraseSort) (h : Keyword) (n : List ℕ) (k : Parts) (fs : List Frame) → Misses h k rest → ((x : Phrase) → sort_part x ≡ phrase_sort h → CompletesAny (put_phrase x fs)) → Completes (Inside, record { keyword = h; name = n; parts = k } ∷ fs)
+fill : (rest : List PhraseSort) (h : Keyword) (n : List ℕ) (k : List Phrase) (fs : List Frame) → Misses h k rest → ((x : Phrase) → sort_part x ≡ phrase_sort h → CompletesAny (put_phrase x fs)) → Completes (Inside, record { keyword = h; name = n; parts = k } ∷ fs)
 unfolding parse_step put_phrase
 fill [] h n k fs e g =
     let w = whole_built h k (sym (append-nil (sorts_of k)) ∙ e) in
@@ -458,14 +119,15 @@ fill [] h n k fs e g =
 fill (q ∷ rest) h n k fs e g =
     let m = more_held h k (leaf q) rest (ap (λ p. sorts_of k ++ (p ∷ rest)) (leaf_sort q) ∙ e) in
     step_on (Lexeme (leaf_text q)) _
-    ((Inside, record { keyword = h; name = n; parts = m.0 } ∷ fs), leaf_step (record { keyword = h; name = n; parts = k } ∷ fs) q (next_sort h k q rest e) ∙ ap (with_frame_parts (record { keyword = h; name = n; parts = k }) fs) m.1, fill rest h n m.0 fs m.2 g)
+    ((Inside, record { keyword = h; name = n; parts = k ++ leaf q ∷ [] } ∷ fs), leaf_step (record { keyword = h; name = n; parts = k } ∷ fs) q (next_sort h k q rest e), fill rest h n (k ++ leaf q ∷ []) fs m g)
 
-give_frame : (f : Frame) (fs : List Frame) (x : Phrase) (rest : List PhraseSort) → Misses f.keyword f.parts rest → awaited_sort (f ∷ fs) ≡ Some (sort_part x) → ((y : Phrase) → sort_part y ≡ phrase_sort f.keyword → CompletesAny (put_phrase y fs)) → CompletesAny (with_frame_parts f fs (with_phrase f.parts x))
-give_frame f fs x [] m e g = let z : slice_get (part_sorts f.keyword) (parts_count f.parts) ≡ None = ap (λ l. slice_get l (parts_count f.parts)) (sym m) ∙ past_by f.parts in absurd (none_some (sym z ∙ e))
+give_frame : (f : Frame) (fs : List Frame) (x : Phrase) (rest : List PhraseSort) → Misses f.keyword f.parts rest → awaited_sort (f ∷ fs) ≡ Some (sort_part x) → ((y : Phrase) → sort_part y ≡ phrase_sort f.keyword → CompletesAny (put_phrase y fs)) → CompletesAny (put_phrase x (f ∷ fs))
+unfolding put_phrase
+give_frame f fs x [] m e g = let z : slice_get (part_sorts f.keyword) (length f.parts) ≡ None = ap (λ l. slice_get l (length f.parts)) (sym m) ∙ past_by f.parts in absurd (none_some (sym z ∙ e))
 give_frame f fs x (q ∷ rest) m e g =
     let s : q ≡ sort_part x = some_same _ _ (sym (next_sort f.keyword f.parts q rest m) ∙ e) in
     let j = more_held f.keyword f.parts x rest (ap (λ p. sorts_of f.parts ++ (p ∷ rest)) (sym s) ∙ m) in
-    ((Inside, record { keyword = f.keyword; name = f.name; parts = j.0 } ∷ fs), ap (with_frame_parts f fs) j.1, fill rest f.keyword f.name j.0 fs j.2 g)
+    ((Inside, record { keyword = f.keyword; name = f.name; parts = f.parts ++ x ∷ [] } ∷ fs), refl, fill rest f.keyword f.name (f.parts ++ x ∷ []) fs j g)
 
 -- any part of the awaited sort can be given on
 give_on : (fs : List Frame) (x : Phrase) → IsNest fs → awaited_sort fs ≡ Some (sort_part x) → CompletesAny (put_phrase x fs)
@@ -481,95 +143,19 @@ inside_completes (f ∷ fs) h = fill h.0 f.keyword f.name f.parts fs h.1 (λ y s
 
 -- ---- every state that tokens lead to
 
-built_sort : (h : Keyword) (k : Parts) (x : Phrase) → group_phrase h k ≡ Some x → sort_part x ≡ phrase_sort h
-built_sort (K.Rel p) NoParts x e = cc
-built_sort (K.Rel p) (OneExp a) x e = cc
-built_sort (K.Rel p) (TwoExps a b) x e = ap sort_part (sym (some_same _ _ e))
-built_sort (K.Rel p) (OneForm A) x e = cc
-built_sort (K.Rel p) (TwoForms A B) x e = cc
-built_sort (K.Rel p) (OneMem m) x e = cc
-built_sort (K.Rel p) (MemThenExp m a) x e = cc
-built_sort (K.Rel p) (MemThenExps m a v) x e = cc
-built_sort K.Rd NoParts x e = cc
-built_sort K.Rd (OneExp a) x e = ap sort_part (sym (some_same _ _ e))
-built_sort K.Rd (TwoExps a b) x e = cc
-built_sort K.Rd (OneForm A) x e = cc
-built_sort K.Rd (TwoForms A B) x e = cc
-built_sort K.Rd (OneMem m) x e = cc
-built_sort K.Rd (MemThenExp m a) x e = cc
-built_sort K.Rd (MemThenExps m a v) x e = cc
-built_sort K.Wr NoParts x e = cc
-built_sort K.Wr (OneExp a) x e = ap sort_part (sym (some_same _ _ e))
-built_sort K.Wr (TwoExps a b) x e = cc
-built_sort K.Wr (OneForm A) x e = cc
-built_sort K.Wr (TwoForms A B) x e = cc
-built_sort K.Wr (OneMem m) x e = cc
-built_sort K.Wr (MemThenExp m a) x e = cc
-built_sort K.Wr (MemThenExps m a v) x e = cc
-built_sort K.And NoParts x e = cc
-built_sort K.And (OneExp a) x e = cc
-built_sort K.And (TwoExps a b) x e = cc
-built_sort K.And (OneForm A) x e = cc
-built_sort K.And (TwoForms A B) x e = ap sort_part (sym (some_same _ _ e))
-built_sort K.And (OneMem m) x e = cc
-built_sort K.And (MemThenExp m a) x e = cc
-built_sort K.And (MemThenExps m a v) x e = cc
-built_sort K.Or NoParts x e = cc
-built_sort K.Or (OneExp a) x e = cc
-built_sort K.Or (TwoExps a b) x e = cc
-built_sort K.Or (OneForm A) x e = cc
-built_sort K.Or (TwoForms A B) x e = ap sort_part (sym (some_same _ _ e))
-built_sort K.Or (OneMem m) x e = cc
-built_sort K.Or (MemThenExp m a) x e = cc
-built_sort K.Or (MemThenExps m a v) x e = cc
-built_sort K.Imp NoParts x e = cc
-built_sort K.Imp (OneExp a) x e = cc
-built_sort K.Imp (TwoExps a b) x e = cc
-built_sort K.Imp (OneForm A) x e = cc
-built_sort K.Imp (TwoForms A B) x e = ap sort_part (sym (some_same _ _ e))
-built_sort K.Imp (OneMem m) x e = cc
-built_sort K.Imp (MemThenExp m a) x e = cc
-built_sort K.Imp (MemThenExps m a v) x e = cc
-built_sort K.All NoParts x e = cc
-built_sort K.All (OneExp a) x e = cc
-built_sort K.All (TwoExps a b) x e = cc
-built_sort K.All (OneForm A) x e = ap sort_part (sym (some_same _ _ e))
-built_sort K.All (TwoForms A B) x e = cc
-built_sort K.All (OneMem m) x e = cc
-built_sort K.All (MemThenExp m a) x e = cc
-built_sort K.All (MemThenExps m a v) x e = cc
-built_sort K.Allm NoParts x e = cc
-built_sort K.Allm (OneExp a) x e = cc
-built_sort K.Allm (TwoExps a b) x e = cc
-built_sort K.Allm (OneForm A) x e = ap sort_part (sym (some_same _ _ e))
-built_sort K.Allm (TwoForms A B) x e = cc
-built_sort K.Allm (OneMem m) x e = cc
-built_sort K.Allm (MemThenExp m a) x e = cc
-built_sort K.Allm (MemThenExps m a v) x e = cc
-built_sort (K.Oper o) NoParts x e = cc
-built_sort (K.Oper o) (OneExp a) x e = cc
-built_sort (K.Oper o) (TwoExps a b) x e = ap sort_part (sym (some_same _ _ e))
-built_sort (K.Oper o) (OneForm A) x e = cc
-built_sort (K.Oper o) (TwoForms A B) x e = cc
-built_sort (K.Oper o) (OneMem m) x e = cc
-built_sort (K.Oper o) (MemThenExp m a) x e = cc
-built_sort (K.Oper o) (MemThenExps m a v) x e = cc
-built_sort K.Sel NoParts x e = cc
-built_sort K.Sel (OneExp a) x e = cc
-built_sort K.Sel (TwoExps a b) x e = cc
-built_sort K.Sel (OneForm A) x e = cc
-built_sort K.Sel (TwoForms A B) x e = cc
-built_sort K.Sel (OneMem m) x e = cc
-built_sort K.Sel (MemThenExp m a) x e = ap sort_part (sym (some_same _ _ e))
-built_sort K.Sel (MemThenExps m a v) x e = cc
-built_sort K.Upd NoParts x e = cc
-built_sort K.Upd (OneExp a) x e = cc
-built_sort K.Upd (TwoExps a b) x e = cc
-built_sort K.Upd (OneForm A) x e = cc
-built_sort K.Upd (TwoForms A B) x e = cc
-built_sort K.Upd (OneMem m) x e = cc
-built_sort K.Upd (MemThenExp m a) x e = cc
-built_sort K.Upd (MemThenExps m a v) x e = ap sort_part (sym (some_same _ _ e))
+built_sort : (h : Keyword) (k : List Phrase) (x : Phrase) → group_phrase h k ≡ Some x → sort_part x ≡ phrase_sort h
+built_sort (K.Rel p) (AnExp a ∷ AnExp b ∷ []) x e = ap sort_part (sym (some_same _ _ e))
+built_sort K.Rd (AnExp a ∷ []) x e = ap sort_part (sym (some_same _ _ e))
+built_sort K.Wr (AnExp a ∷ []) x e = ap sort_part (sym (some_same _ _ e))
+built_sort K.And (AForm A ∷ AForm B ∷ []) x e = ap sort_part (sym (some_same _ _ e))
+built_sort K.Or (AForm A ∷ AForm B ∷ []) x e = ap sort_part (sym (some_same _ _ e))
+built_sort K.Imp (AForm A ∷ AForm B ∷ []) x e = ap sort_part (sym (some_same _ _ e))
+built_sort K.All (AForm A ∷ []) x e = ap sort_part (sym (some_same _ _ e))
+built_sort K.Allm (AForm A ∷ []) x e = ap sort_part (sym (some_same _ _ e))
+built_sort (K.Oper o) (AnExp a ∷ AnExp b ∷ []) x e = ap sort_part (sym (some_same _ _ e))
+built_sort K.Sel (AMem m ∷ AnExp a ∷ []) x e = ap sort_part (sym (some_same _ _ e))
+built_sort K.Upd (AMem m ∷ AnExp a ∷ AnExp v ∷ []) x e = ap sort_part (sym (some_same _ _ e))
+built_sort h k x e = cc
 
 chosen : {A : Type 0} (t : Bool) (x y z : A) → cond t x y ≡ z → (P : Type 0) → (t ≡ true → x ≡ z → P) → (t ≡ false → y ≡ z → P) → P
 chosen true x y z e P f g = f refl e
@@ -610,12 +196,13 @@ IsGood (Opened q) fs = IsNest fs × (awaited_sort fs ≡ Some q)
 IsGood (Binding h) fs = IsNest fs × (awaited_sort fs ≡ Some (phrase_sort h))
 IsGood (Whole A) fs = Unit {0}
 
-frame_good : (f : Frame) (fs : List Frame) (x : Phrase) (s : ParseState) (rest : List PhraseSort) → Misses f.keyword f.parts rest → IsNest (f ∷ fs) → awaited_sort (f ∷ fs) ≡ Some (sort_part x) → with_frame_parts f fs (with_phrase f.parts x) ≡ Ok s → IsGood s.0 s.1
-frame_good f fs x s [] m h a e = let z : slice_get (part_sorts f.keyword) (parts_count f.parts) ≡ None = ap (λ l. slice_get l (parts_count f.parts)) (sym m) ∙ past_by f.parts in absurd (none_some (sym z ∙ a))
+frame_good : (f : Frame) (fs : List Frame) (x : Phrase) (s : ParseState) (rest : List PhraseSort) → Misses f.keyword f.parts rest → IsNest (f ∷ fs) → awaited_sort (f ∷ fs) ≡ Some (sort_part x) → put_phrase x (f ∷ fs) ≡ Ok s → IsGood s.0 s.1
+unfolding put_phrase
+frame_good f fs x s [] m h a e = let z : slice_get (part_sorts f.keyword) (length f.parts) ≡ None = ap (λ l. slice_get l (length f.parts)) (sym m) ∙ past_by f.parts in absurd (none_some (sym z ∙ a))
 frame_good f fs x s (q ∷ rest) m h a e =
     let i : q ≡ sort_part x = some_same _ _ (sym (next_sort f.keyword f.parts q rest m) ∙ a) in
     let j = more_held f.keyword f.parts x rest (ap (λ p. sorts_of f.parts ++ (p ∷ rest)) (sym i) ∙ m) in
-    subst (λ n. IsGood n.0 n.1) (same_Ok _ _ (sym (ap (with_frame_parts f fs) j.1) ∙ e)) (rest, j.2, h.2, h.3)
+    subst (λ n. IsGood n.0 n.1) (same_Ok _ s e) (rest, j, h.2, h.3)
 
 given_good : (x : Phrase) (fs : List Frame) (s : ParseState) → IsNest fs → awaited_sort fs ≡ Some (sort_part x) → put_phrase x fs ≡ Ok s → IsGood s.0 s.1
 unfolding put_phrase
@@ -655,7 +242,7 @@ sorts_same S.Mem S.Form e = cc
 sorts_same S.Mem S.Exp e = cc
 sorts_same S.Mem S.Mem e = refl
 
-new_nest : (h : Keyword) (n : List ℕ) (fs : List Frame) → IsNest fs → awaited_sort fs ≡ Some (phrase_sort h) → IsNest (record { keyword = h; name = n; parts = NoParts } ∷ fs)
+new_nest : (h : Keyword) (n : List ℕ) (fs : List Frame) → IsNest fs → awaited_sort fs ≡ Some (phrase_sort h) → IsNest (record { keyword = h; name = n; parts = [] } ∷ fs)
 new_nest h n fs g a = (part_sorts h, refl, a, g)
 
 opened_good : (h : Keyword) (fs : List Frame) (o : Option PhraseSort) → IsNest fs → awaited_sort fs ≡ Some (phrase_sort h) → IsGood (opened h fs o).0 (opened h fs o).1
@@ -702,9 +289,9 @@ run_good (t ∷ ts) n s h e = good_from ts s (parse_step t n) (λ m f. step_good
 
 opened_completes : (fs : List Frame) (q : PhraseSort) → IsNest fs → awaited_sort fs ≡ Some q → Completes (Opened q, fs)
 unfolding parse_step keyword_of keywords
-opened_completes fs S.Form g a = step_on (Lexeme (codes "rd")) (Opened S.Form, fs) ((Inside, record { keyword = K.Rd; name = []; parts = NoParts } ∷ fs), refl, inside_completes _ (new_nest K.Rd [] fs g a))
-opened_completes fs S.Exp g a = step_on (Lexeme (codes "sel")) (Opened S.Exp, fs) ((Inside, record { keyword = K.Sel; name = []; parts = NoParts } ∷ fs), refl, inside_completes _ (new_nest K.Sel [] fs g a))
-opened_completes fs S.Mem g a = step_on (Lexeme (codes "upd")) (Opened S.Mem, fs) ((Inside, record { keyword = K.Upd; name = []; parts = NoParts } ∷ fs), refl, inside_completes _ (new_nest K.Upd [] fs g a))
+opened_completes fs S.Form g a = step_on (Lexeme (codes "rd")) (Opened S.Form, fs) ((Inside, record { keyword = K.Rd; name = []; parts = [] } ∷ fs), refl, inside_completes _ (new_nest K.Rd [] fs g a))
+opened_completes fs S.Exp g a = step_on (Lexeme (codes "sel")) (Opened S.Exp, fs) ((Inside, record { keyword = K.Sel; name = []; parts = [] } ∷ fs), refl, inside_completes _ (new_nest K.Sel [] fs g a))
+opened_completes fs S.Mem g a = step_on (Lexeme (codes "upd")) (Opened S.Mem, fs) ((Inside, record { keyword = K.Upd; name = []; parts = [] } ∷ fs), refl, inside_completes _ (new_nest K.Upd [] fs g a))
 
 x_is_name : is_name (codes "x") ≡ true
 unfolding is_name register_of registers keyword_of keywords
@@ -714,7 +301,7 @@ good_completes : (st : Expected) (fs : List Frame) → IsGood st fs → Complete
 unfolding parse_step
 good_completes Inside fs h = inside_completes fs h
 good_completes (Opened q) fs h = opened_completes fs q h.0 h.1
-good_completes (Binding k) fs h = step_on (Lexeme (codes "x")) (Binding k, fs) ((Inside, record { keyword = k; name = codes "x"; parts = NoParts } ∷ fs), cond-true (is_name (codes "x")) _ _ x_is_name, inside_completes _ (new_nest k (codes "x") fs h.0 h.1))
+good_completes (Binding k) fs h = step_on (Lexeme (codes "x")) (Binding k, fs) ((Inside, record { keyword = k; name = codes "x"; parts = [] } ∷ fs), cond-true (is_name (codes "x")) _ _ x_is_name, inside_completes _ (new_nest k (codes "x") fs h.0 h.1))
 good_completes (Whole A) fs h = ([], A, fs, refl)
 
 -- what is taken begins some formula

@@ -48,17 +48,10 @@ keyword_text K.Upd = codes "upd"
 
 -- what the parentheses stand for
 abbrev pub phrase_sort : Keyword → PhraseSort
-phrase_sort (K.Rel p) = S.Form
-phrase_sort K.Rd = S.Form
-phrase_sort K.Wr = S.Form
-phrase_sort K.And = S.Form
-phrase_sort K.Or = S.Form
-phrase_sort K.Imp = S.Form
-phrase_sort K.All = S.Form
-phrase_sort K.Allm = S.Form
 phrase_sort (K.Oper o) = S.Exp
 phrase_sort K.Sel = S.Exp
 phrase_sort K.Upd = S.Mem
+phrase_sort k = S.Form
 
 -- what stands behind the keyword, in order; a bound name stands before it
 abbrev pub part_sorts : Keyword → List PhraseSort
@@ -76,17 +69,9 @@ part_sorts K.Upd = S.Mem ∷ S.Exp ∷ S.Exp ∷ []
 
 -- the sort of the variable that is bound, if one is
 abbrev pub binder_sort : Keyword → Option PhraseSort
-binder_sort (K.Rel p) = None
-binder_sort K.Rd = None
-binder_sort K.Wr = None
-binder_sort K.And = None
-binder_sort K.Or = None
-binder_sort K.Imp = None
 binder_sort K.All = Some S.Exp
 binder_sort K.Allm = Some S.Mem
-binder_sort (K.Oper o) = None
-binder_sort K.Sel = None
-binder_sort K.Upd = None
+binder_sort k = None
 
 -- all of them
 unfoldable pub keywords : List Keyword

@@ -1,5 +1,5 @@
 -- Parsing a text as a formula, a token at a time: the first token that may not stand where it stands is the fault.
-use Rattle.std.specs.Prelude.{ℕ, ◌^◌, Bool, true, false, nat_lt, if◌then◌else◌, List, [], ◌∷◌, codes, length, slice_get, Option, Some, None, Result, Ok, Err}
+use Rattle.std.specs.Prelude.{ℕ, ◌^◌, Bool, true, false, nat_lt, if◌then◌else◌, List, [], ◌∷◌, ◌++◌, codes, length, slice_get, Option, Some, None, Result, Ok, Err}
 use Rattle.std.specs.Str.{bytes_eq}
 use Rattle.formula_tree.specs.Formulas.{Exp, EReg, EVar, ELit, EOp, ESel, MemExp, MMem, MVar, MUpd, Form, FTrue, FFalse, FRel, FRd, FWr, FAnd, FOr, FImp, FAll, FAllm}
 use Rattle.text_tokens.specs.declared.parens.Paren.{Paren}
@@ -33,152 +33,26 @@ pub data Phrase : Type 0 where
   AnExp : Exp → Phrase
   AMem : MemExp → Phrase
 
--- the parts of parentheses that have been read
-pub data Parts : Type 0 where
-  NoParts : Parts
-  OneExp : Exp → Parts
-  TwoExps : Exp → Exp → Parts
-  OneForm : Form → Parts
-  TwoForms : Form → Form → Parts
-  OneMem : MemExp → Parts
-  MemThenExp : MemExp → Exp → Parts
-  MemThenExps : MemExp → Exp → Exp → Parts
-
--- how many parts
-abbrev pub parts_count : Parts → ℕ
-parts_count NoParts = 0
-parts_count (OneExp a) = 1
-parts_count (TwoExps a b) = 2
-parts_count (OneForm A) = 1
-parts_count (TwoForms A B) = 2
-parts_count (OneMem m) = 1
-parts_count (MemThenExp m a) = 2
-parts_count (MemThenExps m a v) = 3
-
--- with an expression more
-abbrev pub with_exp : Parts → Exp → Option Parts
-with_exp NoParts b = Some (OneExp b)
-with_exp (OneExp a) b = Some (TwoExps a b)
-with_exp (TwoExps a c) b = None
-with_exp (OneForm A) b = None
-with_exp (TwoForms A B) b = None
-with_exp (OneMem m) b = Some (MemThenExp m b)
-with_exp (MemThenExp m a) b = Some (MemThenExps m a b)
-with_exp (MemThenExps m a v) b = None
-
--- with a formula more
-abbrev pub with_form : Parts → Form → Option Parts
-with_form NoParts B = Some (OneForm B)
-with_form (OneExp a) B = None
-with_form (TwoExps a c) B = None
-with_form (OneForm A) B = Some (TwoForms A B)
-with_form (TwoForms A C) B = None
-with_form (OneMem m) B = None
-with_form (MemThenExp m a) B = None
-with_form (MemThenExps m a v) B = None
-
--- with a memory more
-abbrev pub with_mem : Parts → MemExp → Option Parts
-with_mem NoParts n = Some (OneMem n)
-with_mem (OneExp a) n = None
-with_mem (TwoExps a c) n = None
-with_mem (OneForm A) n = None
-with_mem (TwoForms A C) n = None
-with_mem (OneMem m) n = None
-with_mem (MemThenExp m a) n = None
-with_mem (MemThenExps m a v) n = None
-
--- with one part more, where it fits
-abbrev pub with_phrase : Parts → Phrase → Option Parts
-with_phrase h (AForm A) = with_form h A
-with_phrase h (AnExp a) = with_exp h a
-with_phrase h (AMem m) = with_mem h m
-
--- what is made of two expressions, where the parts are these; and so on
-abbrev pub of_two_exps : (Exp → Exp → Phrase) → Parts → Option Phrase
-of_two_exps f NoParts = None
-of_two_exps f (OneExp a) = None
-of_two_exps f (TwoExps a b) = Some (f a b)
-of_two_exps f (OneForm A) = None
-of_two_exps f (TwoForms A C) = None
-of_two_exps f (OneMem m) = None
-of_two_exps f (MemThenExp m a) = None
-of_two_exps f (MemThenExps m a v) = None
-
--- the same of one expression
-abbrev pub of_one_exp : (Exp → Phrase) → Parts → Option Phrase
-of_one_exp f NoParts = None
-of_one_exp f (OneExp a) = Some (f a)
-of_one_exp f (TwoExps a b) = None
-of_one_exp f (OneForm A) = None
-of_one_exp f (TwoForms A C) = None
-of_one_exp f (OneMem m) = None
-of_one_exp f (MemThenExp m a) = None
-of_one_exp f (MemThenExps m a v) = None
-
--- of two formulas
-abbrev pub of_two_forms : (Form → Form → Phrase) → Parts → Option Phrase
-of_two_forms f NoParts = None
-of_two_forms f (OneExp a) = None
-of_two_forms f (TwoExps a b) = None
-of_two_forms f (OneForm A) = None
-of_two_forms f (TwoForms A C) = Some (f A C)
-of_two_forms f (OneMem m) = None
-of_two_forms f (MemThenExp m a) = None
-of_two_forms f (MemThenExps m a v) = None
-
--- of one formula
-abbrev pub of_one_form : (Form → Phrase) → Parts → Option Phrase
-of_one_form f NoParts = None
-of_one_form f (OneExp a) = None
-of_one_form f (TwoExps a b) = None
-of_one_form f (OneForm A) = Some (f A)
-of_one_form f (TwoForms A C) = None
-of_one_form f (OneMem m) = None
-of_one_form f (MemThenExp m a) = None
-of_one_form f (MemThenExps m a v) = None
-
--- of a memory and an expression
-abbrev pub of_mem_exp : (MemExp → Exp → Phrase) → Parts → Option Phrase
-of_mem_exp f NoParts = None
-of_mem_exp f (OneExp a) = None
-of_mem_exp f (TwoExps a b) = None
-of_mem_exp f (OneForm A) = None
-of_mem_exp f (TwoForms A C) = None
-of_mem_exp f (OneMem m) = None
-of_mem_exp f (MemThenExp m a) = Some (f m a)
-of_mem_exp f (MemThenExps m a v) = None
-
--- of a memory and two expressions
-abbrev pub of_mem_exps : (MemExp → Exp → Exp → Phrase) → Parts → Option Phrase
-of_mem_exps f NoParts = None
-of_mem_exps f (OneExp a) = None
-of_mem_exps f (TwoExps a b) = None
-of_mem_exps f (OneForm A) = None
-of_mem_exps f (TwoForms A C) = None
-of_mem_exps f (OneMem m) = None
-of_mem_exps f (MemThenExp m a) = None
-of_mem_exps f (MemThenExps m a v) = Some (f m a v)
-
--- what parentheses with this keyword stand for, where they have all their parts
-abbrev pub group_phrase : Keyword → Parts → Option Phrase
-group_phrase (K.Rel p) h = of_two_exps (λ a b. AForm (FRel p a b)) h
-group_phrase K.Rd h = of_one_exp (λ a. AForm (FRd a)) h
-group_phrase K.Wr h = of_one_exp (λ a. AForm (FWr a)) h
-group_phrase K.And h = of_two_forms (λ A B. AForm (FAnd A B)) h
-group_phrase K.Or h = of_two_forms (λ A B. AForm (FOr A B)) h
-group_phrase K.Imp h = of_two_forms (λ A B. AForm (FImp A B)) h
-group_phrase K.All h = of_one_form (λ A. AForm (FAll A)) h
-group_phrase K.Allm h = of_one_form (λ A. AForm (FAllm A)) h
-group_phrase (K.Oper o) h = of_two_exps (λ a b. AnExp (EOp o a b)) h
-group_phrase K.Sel h = of_mem_exp (λ m a. AnExp (ESel m a)) h
-group_phrase K.Upd h = of_mem_exps (λ m a v. AMem (MUpd m a v)) h
+-- what parentheses with this keyword stand for, where these are their parts
+abbrev pub group_phrase : Keyword → List Phrase → Option Phrase
+group_phrase (K.Rel p) (AnExp a ∷ AnExp b ∷ []) = Some (AForm (FRel p a b))
+group_phrase K.Rd (AnExp a ∷ []) = Some (AForm (FRd a))
+group_phrase K.Wr (AnExp a ∷ []) = Some (AForm (FWr a))
+group_phrase K.And (AForm A ∷ AForm B ∷ []) = Some (AForm (FAnd A B))
+group_phrase K.Or (AForm A ∷ AForm B ∷ []) = Some (AForm (FOr A B))
+group_phrase K.Imp (AForm A ∷ AForm B ∷ []) = Some (AForm (FImp A B))
+group_phrase K.All (AForm A ∷ []) = Some (AForm (FAll A))
+group_phrase K.Allm (AForm A ∷ []) = Some (AForm (FAllm A))
+group_phrase (K.Oper o) (AnExp a ∷ AnExp b ∷ []) = Some (AnExp (EOp o a b))
+group_phrase K.Sel (AMem m ∷ AnExp a ∷ []) = Some (AnExp (ESel m a))
+group_phrase K.Upd (AMem m ∷ AnExp a ∷ AnExp v ∷ []) = Some (AMem (MUpd m a v))
+group_phrase k parts = None
 
 -- parentheses that are open: their keyword, the name that they bind, if they bind one, and the parts so far
 pub record Frame : Type 0 where
   pub keyword : Keyword
   pub name : List ℕ
-  pub parts : Parts
+  pub parts : List Phrase
 
 -- what may come next: a part of the nearest parentheses or their end; a keyword of this sort; the name that is bound; or nothing behind a formula
 pub data Expected : Type 0 where
@@ -204,7 +78,7 @@ bindings_of (f ∷ fs) = with_binding (binder_sort f.keyword) f.name (bindings_o
 -- the sort of the next part, if one may stand here
 abbrev pub awaited_sort : List Frame → Option PhraseSort
 awaited_sort [] = Some S.Form
-awaited_sort (f ∷ fs) = slice_get (part_sorts f.keyword) (parts_count f.parts)
+awaited_sort (f ∷ fs) = slice_get (part_sorts f.keyword) (length f.parts)
 
 -- ---- a lexeme in the place of a part
 
@@ -215,17 +89,13 @@ number_phrase (Some n) = if nat_lt n (2 ^ 64) then Ok (AnExp (ELit n)) else Err 
 
 -- a bound name in the place of an expression
 abbrev pub variable_exp : Option (ℕ × PhraseSort) → Result Phrase TextFlaw
-variable_exp None = Err Name
 variable_exp (Some (n, S.Exp)) = Ok (AnExp (EVar n))
-variable_exp (Some (n, S.Mem)) = Err Name
-variable_exp (Some (n, S.Form)) = Err Name
+variable_exp found = Err Name
 
 -- a bound name in the place of a memory
 abbrev pub variable_mem : Option (ℕ × PhraseSort) → Result Phrase TextFlaw
-variable_mem None = Err Name
 variable_mem (Some (n, S.Mem)) = Ok (AMem (MVar n))
-variable_mem (Some (n, S.Exp)) = Err Name
-variable_mem (Some (n, S.Form)) = Err Name
+variable_mem found = Err Name
 
 -- a register, else a bound name
 abbrev pub register_phrase : Bindings → List ℕ → Option ℕ → Result Phrase TextFlaw
@@ -255,18 +125,12 @@ lexeme_phrase s S.Mem w = mem_lexeme s w
 -- a phrase behind which nothing is open
 abbrev pub whole_form : Phrase → Result ParseState TextFlaw
 whole_form (AForm A) = Ok (Whole A, [])
-whole_form (AnExp a) = Err Shape
-whole_form (AMem m) = Err Shape
+whole_form x = Err Shape
 
--- the nearest parentheses with other parts
-abbrev pub with_frame_parts : Frame → List Frame → Option Parts → Result ParseState TextFlaw
-with_frame_parts f fs None = Err Shape
-with_frame_parts f fs (Some h) = Ok (Inside, record { keyword = f.keyword; name = f.name; parts = h } ∷ fs)
-
--- a phrase goes to the nearest parentheses; where none are open it is the formula
+-- a phrase goes behind the parts of the nearest parentheses; where none are open it is the formula
 unfoldable pub put_phrase : Phrase → List Frame → Result ParseState TextFlaw
 put_phrase x [] = whole_form x
-put_phrase x (f ∷ fs) = with_frame_parts f fs (with_phrase f.parts x)
+put_phrase x (f ∷ fs) = Ok (Inside, record { keyword = f.keyword; name = f.name; parts = f.parts ++ x ∷ [] } ∷ fs)
 
 -- what parentheses that end stand for
 abbrev pub put_group : Option Phrase → List Frame → Result ParseState TextFlaw
@@ -297,18 +161,13 @@ inside_step (Lexeme w) fs = inside_lexeme fs w (awaited_sort fs)
 -- whether two sorts are the same
 abbrev pub same_sort : PhraseSort → PhraseSort → Bool
 same_sort S.Form S.Form = true
-same_sort S.Form S.Exp = false
-same_sort S.Form S.Mem = false
-same_sort S.Exp S.Form = false
 same_sort S.Exp S.Exp = true
-same_sort S.Exp S.Mem = false
-same_sort S.Mem S.Form = false
-same_sort S.Mem S.Exp = false
 same_sort S.Mem S.Mem = true
+same_sort a b = false
 
 -- parentheses with this keyword are open; next comes the name, where they bind one
 abbrev pub opened : Keyword → List Frame → Option PhraseSort → ParseState
-opened k fs None = (Inside, record { keyword = k; name = []; parts = NoParts } ∷ fs)
+opened k fs None = (Inside, record { keyword = k; name = []; parts = [] } ∷ fs)
 opened k fs (Some q) = (Binding k, fs)
 
 -- the same, where it is a keyword of the sort
@@ -324,7 +183,7 @@ keyword_step q (Lexeme w) fs = opened_keyword q fs (keyword_of w)
 -- a token where the name that is bound has to come
 abbrev pub binding_step : Keyword → Token Paren → List Frame → Result ParseState TextFlaw
 binding_step k (Mark p) fs = Err Shape
-binding_step k (Lexeme w) fs = if is_name w then Ok (Inside, record { keyword = k; name = w; parts = NoParts } ∷ fs) else Err Name
+binding_step k (Lexeme w) fs = if is_name w then Ok (Inside, record { keyword = k; name = w; parts = [] } ∷ fs) else Err Name
 
 -- the state behind one token, or what is wrong with it
 unfoldable pub parse_step : Token Paren → ParseState → Result ParseState TextFlaw
@@ -342,10 +201,8 @@ at_position p (Err flaw) = Err (p, flaw)
 
 -- the formula, where all tokens were read; end is the length of the text
 abbrev pub parse_end : ℕ → Expected → Result Form FaultAt
-parse_end end Inside = Err (end, Shape)
-parse_end end (Opened q) = Err (end, Shape)
-parse_end end (Binding k) = Err (end, Shape)
 parse_end end (Whole f) = Ok f
+parse_end end next = Err (end, Shape)
 
 -- the formula of all tokens, or the first fault
 unfoldable pub parsed_tokens : ℕ → List (Placed Paren) → ParseState → Result Form FaultAt

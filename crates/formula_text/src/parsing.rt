@@ -7,7 +7,7 @@ ghost use Rattle.text_tokens.specs.Tokens.{token_view};
 ghost use Rattle.text_tokens.specs.Numbers.{lexeme_number};
 ghost use Rattle.formula_text.specs.Bindings.{nearest_binding};
 ghost use Rattle.formula_text.specs.Grammar.{Spells};
-ghost use Rattle.formula_text.specs.Parsing.{Inside, NoParts, awaited_sort, bindings_of};
+ghost use Rattle.formula_text.specs.Parsing.{Inside, awaited_sort, bindings_of};
 ghost use Rattle.formula_text.specs.Parsing.{number_phrase, variable_exp, variable_mem};
 ghost use Rattle.formula_text.specs.Parsing.{form_lexeme, exp_lexeme, mem_lexeme, lexeme_phrase};
 ghost use Rattle.formula_text.specs.Parsing.{whole_form, put_phrase, close_group, inside_lexeme};
@@ -22,7 +22,7 @@ use crate::keywords::{
     Keyword, PhraseSort, binder_sort, is_sort, keyword_named, part_sort, phrase_sort,
 };
 use crate::names::is_name;
-use crate::parts::{Parts, Phrase, group_phrase, parts_count, with_phrase};
+use crate::parts::{Phrase, group_phrase};
 use formula_tree::{Exp, Form, MemExp};
 use std::alloc::Global;
 use text_tokens::{
@@ -35,7 +35,7 @@ use text_tokens::{
 pub struct Frame<'t> {
     pub keyword: Keyword,
     pub name: &'t [u8],
-    pub parts: Parts,
+    pub parts: Vec<Phrase>,
 }
 
 /// What may come next.
@@ -57,7 +57,7 @@ fn awaited_sort(frames: &[Frame<'_>]) -> Option<PhraseSort>
     ensures { result ≡ awaited_sort (frames_view frames.now) }
 {
     match frames.last() {
-        Some(frame) => part_sort(frame.keyword, parts_count(&frame.parts)),
+        Some(frame) => part_sort(frame.keyword, frame.parts.len()),
         None => Some(PhraseSort::Form),
     }
 }
@@ -185,7 +185,7 @@ fn whole_form(phrase: Phrase) -> Result<Expected, TokenFault>
 }
 
 /// Gives a phrase to the nearest parentheses.
-#[tactic(auto, using(crate::proofs::Stacks::frames_push, crate::proofs::Stacks::frames_none), unfolding(crate::specs::Parsing::put_phrase))]
+#[tactic(auto, using(crate::proofs::Stacks::frames_push, crate::proofs::Stacks::frames_none, crate::proofs::Stacks::parts_push), unfolding(crate::specs::Parsing::put_phrase))]
 fn put_phrase<'t>(frames: &mut Vec<Frame<'t>>, phrase: Phrase) -> Result<Expected, TokenFault>
     ensures { Moves (put_phrase (phrase_view phrase) (frames_view frames.old.items))
         (frames_view frames.new.items) result }
@@ -196,19 +196,15 @@ fn put_phrase<'t>(frames: &mut Vec<Frame<'t>>, phrase: Phrase) -> Result<Expecte
             let Frame {
                 keyword,
                 name,
-                parts,
+                mut parts,
             } = frame;
-            match with_phrase(parts, phrase) {
-                Some(parts) => {
-                    frames.push(Frame {
-                        keyword,
-                        name,
-                        parts,
-                    })?;
-                    Ok(Expected::Inside)
-                }
-                None => Err(TokenFault::Flaw(TextFlaw::Shape)),
-            }
+            parts.push(phrase)?;
+            frames.push(Frame {
+                keyword,
+                name,
+                parts,
+            })?;
+            Ok(Expected::Inside)
         }
     }
 }
@@ -270,25 +266,27 @@ fn inside_step<'t>(
 /// Opens parentheses with this keyword and, if they bind one, this name.
 #[tactic(auto, using(crate::proofs::Stacks::frames_push))]
 fn open_group<'t>(
+    alloc: Global,
     frames: &mut Vec<Frame<'t>>,
     keyword: Keyword,
     name: &'t [u8],
 ) -> Result<Expected, TokenFault>
     ensures { Moves (Ok (
       Inside,
-      record { keyword = keyword; name = name.now; parts = NoParts }
+      record { keyword = keyword; name = name.now; parts = [] }
           ∷ frames_view frames.old.items,
     )) (frames_view frames.new.items) result }
 {
     frames.push(Frame {
         keyword,
         name,
-        parts: Parts::NoParts,
+        parts: Vec::new(alloc),
     })?;
     Ok(Expected::Inside)
 }
 
 fn keyword_step<'t>(
+    alloc: Global,
     frames: &mut Vec<Frame<'t>>,
     wanted: PhraseSort,
     token: Token<'t, Paren>,
@@ -307,11 +305,12 @@ fn keyword_step<'t>(
     }
     match binder_sort(keyword) {
         Some(_) => Ok(Expected::Binding(keyword)),
-        None => open_group(frames, keyword, b""),
+        None => open_group(alloc, frames, keyword, b""),
     }
 }
 
 fn binding_step<'t>(
+    alloc: Global,
     frames: &mut Vec<Frame<'t>>,
     keyword: Keyword,
     token: Token<'t, Paren>,
@@ -323,7 +322,7 @@ fn binding_step<'t>(
         return Err(TokenFault::Flaw(TextFlaw::Shape));
     };
     if is_name(lexeme) {
-        open_group(frames, keyword, lexeme)
+        open_group(alloc, frames, keyword, lexeme)
     } else {
         Err(TokenFault::Flaw(TextFlaw::Name))
     }
@@ -343,8 +342,8 @@ fn parse_step<'t>(
 {
     match expected {
         Expected::Inside => inside_step(alloc, frames, token),
-        Expected::Opened(sort) => keyword_step(frames, sort, token),
-        Expected::Binding(keyword) => binding_step(frames, keyword, token),
+        Expected::Opened(sort) => keyword_step(alloc, frames, sort, token),
+        Expected::Binding(keyword) => binding_step(alloc, frames, keyword, token),
         Expected::Whole(form) => {
             drop(form);
             Err(TokenFault::Flaw(TextFlaw::Trailing))

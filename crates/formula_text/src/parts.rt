@@ -1,12 +1,10 @@
-//! The parts of parentheses.
+//! What parentheses stand for.
 
-ghost use Rattle.std.specs.Prelude.{◌≡◌, IfOk};
+ghost use Rattle.std.specs.Prelude.{◌≡◌, [], ◌∷◌, map, IfOk};
 ghost use Rattle.std.specs.Option.{option_map};
-ghost use Rattle.formula_text.specs.Parsing.{parts_count, with_form, with_mem, with_exp};
-ghost use Rattle.formula_text.specs.Parsing.{with_phrase, group_phrase, OneExp, TwoExps, OneForm};
-ghost use Rattle.formula_text.specs.Parsing.{TwoForms, MemThenExp, MemThenExps};
+ghost use Rattle.formula_text.specs.Parsing.{AForm, AnExp, AMem, group_phrase};
 ghost use Rattle.formula_tree.specs.Views.{form_view, exp_view, mem_exp_view};
-ghost use Rattle.formula_text.specs.Inside.Views.{phrase_view, parts_view};
+ghost use Rattle.formula_text.specs.Inside.Views.{phrase_view};
 
 use crate::keywords::Keyword;
 use formula_tree::{Exp, Form, MemExp};
@@ -20,82 +18,30 @@ pub enum Phrase {
     Mem(MemExp),
 }
 
-/// The parts of parentheses that have been read.
-#[derive(Drop)]
-pub enum Parts {
-    NoParts,
-    OneExp(Exp),
-    TwoExps(Exp, Exp),
-    OneForm(Form),
-    TwoForms(Form, Form),
-    OneMem(MemExp),
-    MemThenExp(MemExp, Exp),
-    MemThenExps(MemExp, Exp, Exp),
-}
-
-/// How many parts have been read.
-pub fn parts_count(parts: &Parts) -> usize
-    ensures { result ≡ parts_count (parts_view parts.now) }
+fn of_exp(keyword: Keyword, a: Exp) -> Option<Phrase>
+    ensures { option_map phrase_view result ≡ group_phrase keyword (AnExp (exp_view a) ∷ []) }
 {
-    match parts {
-        Parts::NoParts => 0,
-        Parts::OneExp(_) | Parts::OneForm(_) | Parts::OneMem(_) => 1,
-        Parts::TwoExps(_, _) | Parts::TwoForms(_, _) | Parts::MemThenExp(_, _) => 2,
-        Parts::MemThenExps(_, _, _) => 3,
-    }
-}
-
-fn with_form(parts: Parts, a: Form) -> Option<Parts>
-    ensures { option_map parts_view result ≡ with_form (parts_view parts) (form_view a) }
-{
-    match parts {
-        Parts::NoParts => Some(Parts::OneForm(a)),
-        Parts::OneForm(b) => Some(Parts::TwoForms(b, a)),
-        other => {
-            drop(other);
+    match keyword {
+        Keyword::Rd => Some(Phrase::Form(Form::Rd(a))),
+        Keyword::Wr => Some(Phrase::Form(Form::Wr(a))),
+        _ => {
             drop(a);
             None
         }
     }
 }
 
-fn with_mem(parts: Parts, m: MemExp) -> Option<Parts>
-    ensures { option_map parts_view result ≡ with_mem (parts_view parts) (mem_exp_view m) }
+fn of_form(alloc: Global, keyword: Keyword, a: Form) -> Result<Option<Phrase>, AllocError>
+    ensures { IfOk result (λ p. option_map phrase_view p
+        ≡ group_phrase keyword (AForm (form_view a) ∷ [])) }
 {
-    match parts {
-        Parts::NoParts => Some(Parts::OneMem(m)),
-        other => {
-            drop(other);
-            drop(m);
-            None
-        }
-    }
-}
-
-fn with_exp(parts: Parts, a: Exp) -> Option<Parts>
-    ensures { option_map parts_view result ≡ with_exp (parts_view parts) (exp_view a) }
-{
-    match parts {
-        Parts::NoParts => Some(Parts::OneExp(a)),
-        Parts::OneExp(b) => Some(Parts::TwoExps(b, a)),
-        Parts::OneMem(m) => Some(Parts::MemThenExp(m, a)),
-        Parts::MemThenExp(m, b) => Some(Parts::MemThenExps(m, b, a)),
-        other => {
-            drop(other);
+    match keyword {
+        Keyword::All => Ok(Some(Phrase::Form(Form::all(alloc, a)?))),
+        Keyword::Allm => Ok(Some(Phrase::Form(Form::allm(alloc, a)?))),
+        _ => {
             drop(a);
-            None
+            Ok(None)
         }
-    }
-}
-
-/// The parts with one more, where it fits.
-pub fn with_phrase(parts: Parts, phrase: Phrase) -> Option<Parts>
-    ensures { option_map parts_view result ≡ with_phrase (parts_view parts) (phrase_view phrase) }
-{
-    match phrase {
-        Phrase::Form(a) => with_form(parts, a),
-        Phrase::Exp(a) => with_exp(parts, a),
-        Phrase::Mem(m) => with_mem(parts, m),
     }
 }
 
@@ -106,7 +52,7 @@ fn of_two_exps(
     b: Exp,
 ) -> Result<Option<Phrase>, AllocError>
     ensures { IfOk result (λ p. option_map phrase_view p
-        ≡ group_phrase keyword (TwoExps (exp_view a) (exp_view b))) }
+        ≡ group_phrase keyword (AnExp (exp_view a) ∷ AnExp (exp_view b) ∷ [])) }
 {
     match keyword {
         Keyword::Rel(rel) => Ok(Some(Phrase::Form(Form::Rel(rel, a, b)))),
@@ -119,19 +65,6 @@ fn of_two_exps(
     }
 }
 
-fn of_one_exp(keyword: Keyword, a: Exp) -> Option<Phrase>
-    ensures { option_map phrase_view result ≡ group_phrase keyword (OneExp (exp_view a)) }
-{
-    match keyword {
-        Keyword::Rd => Some(Phrase::Form(Form::Rd(a))),
-        Keyword::Wr => Some(Phrase::Form(Form::Wr(a))),
-        _ => {
-            drop(a);
-            None
-        }
-    }
-}
-
 fn of_two_forms(
     alloc: Global,
     keyword: Keyword,
@@ -139,7 +72,7 @@ fn of_two_forms(
     b: Form,
 ) -> Result<Option<Phrase>, AllocError>
     ensures { IfOk result (λ p. option_map phrase_view p
-        ≡ group_phrase keyword (TwoForms (form_view a) (form_view b))) }
+        ≡ group_phrase keyword (AForm (form_view a) ∷ AForm (form_view b) ∷ [])) }
 {
     match keyword {
         Keyword::And => Ok(Some(Phrase::Form(Form::and(alloc, a, b)?))),
@@ -153,20 +86,6 @@ fn of_two_forms(
     }
 }
 
-fn of_one_form(alloc: Global, keyword: Keyword, a: Form) -> Result<Option<Phrase>, AllocError>
-    ensures { IfOk result (λ p. option_map phrase_view p
-        ≡ group_phrase keyword (OneForm (form_view a))) }
-{
-    match keyword {
-        Keyword::All => Ok(Some(Phrase::Form(Form::all(alloc, a)?))),
-        Keyword::Allm => Ok(Some(Phrase::Form(Form::allm(alloc, a)?))),
-        _ => {
-            drop(a);
-            Ok(None)
-        }
-    }
-}
-
 fn of_mem_exp(
     alloc: Global,
     keyword: Keyword,
@@ -174,7 +93,7 @@ fn of_mem_exp(
     a: Exp,
 ) -> Result<Option<Phrase>, AllocError>
     ensures { IfOk result (λ p. option_map phrase_view p
-        ≡ group_phrase keyword (MemThenExp (mem_exp_view m) (exp_view a))) }
+        ≡ group_phrase keyword (AMem (mem_exp_view m) ∷ AnExp (exp_view a) ∷ [])) }
 {
     match keyword {
         Keyword::Sel => Ok(Some(Phrase::Exp(Exp::sel(alloc, m, a)?))),
@@ -186,7 +105,7 @@ fn of_mem_exp(
     }
 }
 
-fn of_mem_exps(
+fn of_mem_two_exps(
     alloc: Global,
     keyword: Keyword,
     m: MemExp,
@@ -194,7 +113,8 @@ fn of_mem_exps(
     v: Exp,
 ) -> Result<Option<Phrase>, AllocError>
     ensures { IfOk result (λ p. option_map phrase_view p
-        ≡ group_phrase keyword (MemThenExps (mem_exp_view m) (exp_view a) (exp_view v))) }
+        ≡ group_phrase keyword
+        (AMem (mem_exp_view m) ∷ AnExp (exp_view a) ∷ AnExp (exp_view v) ∷ [])) }
 {
     match keyword {
         Keyword::Upd => Ok(Some(Phrase::Mem(MemExp::upd(alloc, m, a, v)?))),
@@ -207,25 +127,97 @@ fn of_mem_exps(
     }
 }
 
-/// What parentheses stand for, where they have all parts. Fails only for want of memory.
+/// What they stand for with one part.
+fn of_one(alloc: Global, keyword: Keyword, part: Phrase) -> Result<Option<Phrase>, AllocError>
+    ensures { IfOk result (λ p. option_map phrase_view p
+        ≡ group_phrase keyword (phrase_view part ∷ [])) }
+{
+    match part {
+        Phrase::Form(a) => of_form(alloc, keyword, a),
+        Phrase::Exp(a) => Ok(of_exp(keyword, a)),
+        Phrase::Mem(_) => Ok(None),
+    }
+}
+
+/// With two parts.
+fn of_two(
+    alloc: Global,
+    keyword: Keyword,
+    first: Phrase,
+    second: Phrase,
+) -> Result<Option<Phrase>, AllocError>
+    ensures { IfOk result (λ p. option_map phrase_view p
+        ≡ group_phrase keyword (phrase_view first ∷ phrase_view second ∷ [])) }
+{
+    match first {
+        Phrase::Form(a) => match second {
+            Phrase::Form(b) => of_two_forms(alloc, keyword, a, b),
+            Phrase::Exp(_) => Ok(None),
+            Phrase::Mem(_) => Ok(None),
+        },
+        Phrase::Exp(a) => match second {
+            Phrase::Exp(b) => of_two_exps(alloc, keyword, a, b),
+            Phrase::Form(_) => Ok(None),
+            Phrase::Mem(_) => Ok(None),
+        },
+        Phrase::Mem(m) => match second {
+            Phrase::Exp(a) => of_mem_exp(alloc, keyword, m, a),
+            Phrase::Form(_) => Ok(None),
+            Phrase::Mem(_) => Ok(None),
+        },
+    }
+}
+
+/// With three.
+#[tactic(auto, using(crate::proofs::Groups::form_of_three, crate::proofs::Groups::exp_of_three))]
+fn of_three(
+    alloc: Global,
+    keyword: Keyword,
+    first: Phrase,
+    second: Phrase,
+    third: Phrase,
+) -> Result<Option<Phrase>, AllocError>
+    ensures { IfOk result (λ p. option_map phrase_view p ≡ group_phrase keyword
+        (phrase_view first ∷ phrase_view second ∷ phrase_view third ∷ [])) }
+{
+    match first {
+        Phrase::Mem(m) => match second {
+            Phrase::Exp(a) => match third {
+                Phrase::Exp(v) => of_mem_two_exps(alloc, keyword, m, a, v),
+                Phrase::Form(_) => Ok(None),
+                Phrase::Mem(_) => Ok(None),
+            },
+            Phrase::Form(_) => Ok(None),
+            Phrase::Mem(_) => Ok(None),
+        },
+        Phrase::Form(_) => Ok(None),
+        Phrase::Exp(_) => Ok(None),
+    }
+}
+
+/// What parentheses with this keyword stand for, where these are its parts. Fails only for want of
+/// memory.
 pub fn group_phrase(
     alloc: Global,
     keyword: Keyword,
-    parts: Parts,
+    parts: Vec<Phrase>,
 ) -> Result<Option<Phrase>, AllocError>
     ensures { IfOk result (λ p. option_map phrase_view p
-        ≡ group_phrase keyword (parts_view parts)) }
+        ≡ group_phrase keyword (map phrase_view parts.items)) }
 {
-    match parts {
-        Parts::OneExp(a) => Ok(of_one_exp(keyword, a)),
-        Parts::TwoExps(a, b) => of_two_exps(alloc, keyword, a, b),
-        Parts::OneForm(a) => of_one_form(alloc, keyword, a),
-        Parts::TwoForms(a, b) => of_two_forms(alloc, keyword, a, b),
-        Parts::MemThenExp(m, a) => of_mem_exp(alloc, keyword, m, a),
-        Parts::MemThenExps(m, a, v) => of_mem_exps(alloc, keyword, m, a, v),
-        other => {
-            drop(other);
-            Ok(None)
-        }
+    let mut parts = parts;
+    let Some(third) = parts.pop() else {
+        return Ok(None);
+    };
+    let Some(second) = parts.pop() else {
+        return of_one(alloc, keyword, third);
+    };
+    let Some(first) = parts.pop() else {
+        return of_two(alloc, keyword, second, third);
+    };
+    if parts.is_empty() {
+        of_three(alloc, keyword, first, second, third)
+    } else {
+        Ok(None)
     }
 }

@@ -59,12 +59,7 @@ decoded_head bytes = do
 -- whether a tree is an abstraction
 abbrev pub is_lam : Tree → Bool
 is_lam (Lam b) = true
-is_lam (Var n) = false
-is_lam (Con c) = false
-is_lam (App f a) = false
-is_lam (Fam a) = false
-is_lam (TApp p a) = false
-is_lam (Pi a b) = false
+is_lam t = false
 
 -- the tree of an earlier entry
 abbrev pub part_at : List ℕ → ℕ → List Tree → Result Tree Fault
@@ -111,14 +106,10 @@ abbrev pub entry_size : Tree → ℕ
 entry_size (Var n) = 2
 entry_size (Con (Num n)) = 2
 entry_size (Con (Lit w)) = 3
-entry_size (Con (Calc o a b)) = 6
-entry_size (Con (Fact p a b)) = 6
-entry_size (Con (Deny p a b)) = 6
+entry_size (Con c) = 6
 entry_size (App f a) = 3
 entry_size (Lam b) = 2
-entry_size (Fam a) = 0
-entry_size (TApp p a) = 0
-entry_size (Pi a b) = 0
+entry_size t = 0
 
 -- n more entries from field i on: all trees, and the next field
 unfoldable pub entries_at : ℕ → List ℕ → ℕ → List Tree → Result (List Tree × ℕ) Fault

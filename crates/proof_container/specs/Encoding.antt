@@ -37,9 +37,7 @@ entry_fields es (Var n) = 0 ∷ n ∷ []
 entry_fields es (Con c) = const_fields c
 entry_fields es (App f a) = 6 ∷ entry_number es f ∷ entry_number es a ∷ []
 entry_fields es (Lam b) = 7 ∷ entry_number es b ∷ []
-entry_fields es (Fam a) = []
-entry_fields es (TApp p a) = []
-entry_fields es (Pi a b) = []
+entry_fields es t = []
 
 -- an invariant is its index and the number of its entry
 abbrev pub inv_fields : List Tree → ℕ × Tree → List ℕ

@@ -14,13 +14,11 @@ unless_emitted t ts with_parts = if is_emitted t ts then ts else with_parts ++ t
 
 -- Where a walk has left the trees ts, in this order, the trees that it has left once it has left this one too.
 abbrev pub emitted_with : Tree → List Tree → List Tree
-emitted_with (Var n) ts = unless_emitted (Var n) ts ts
-emitted_with (Con c) ts = unless_emitted (Con c) ts ts
 emitted_with (App f a) ts = unless_emitted (App f a) ts (emitted_with a (emitted_with f ts))
 emitted_with (Lam b) ts = unless_emitted (Lam b) ts (emitted_with b ts)
-emitted_with (Fam a) ts = unless_emitted (Fam a) ts ts
 emitted_with (TApp p a) ts = unless_emitted (TApp p a) ts (emitted_with a (emitted_with p ts))
 emitted_with (Pi a b) ts = unless_emitted (Pi a b) ts (emitted_with b (emitted_with a ts))
+emitted_with t ts = unless_emitted t ts ts
 
 -- the same for all of these trees, the first first
 abbrev pub emitted_with_all : List Tree → List Tree → List Tree
@@ -33,13 +31,11 @@ entries roots = emitted_with_all roots []
 
 -- the tree's parts are listed
 abbrev pub HasPartsFirst : List Tree → Tree → Type 0
-HasPartsFirst ts (Var n) = Unit {0}
-HasPartsFirst ts (Con c) = Unit {0}
 HasPartsFirst ts (App f a) = (is_emitted f ts ≡ true) × (is_emitted a ts ≡ true)
 HasPartsFirst ts (Lam b) = is_emitted b ts ≡ true
-HasPartsFirst ts (Fam a) = Unit {0}
 HasPartsFirst ts (TApp p a) = (is_emitted p ts ≡ true) × (is_emitted a ts ≡ true)
 HasPartsFirst ts (Pi a b) = (is_emitted a ts ≡ true) × (is_emitted b ts ≡ true)
+HasPartsFirst ts t = Unit {0}
 
 -- behind ts, each of these trees has its parts before it and isn't listed before
 abbrev pub ArePostorder : List Tree → List Tree → Type 0

@@ -25,16 +25,16 @@ IsIntegerAnswer integer minus N.NoNumber = integer ≡ None
 IsIntegerAnswer integer minus (N.Word n) = (integer ≡ Some (minus, n)) × (n < 2 ^ 64)
 IsIntegerAnswer integer minus N.Large = (n : ℕ) × (integer ≡ Some (minus, n)) × (2 ^ 64 ≤ n)
 
--- an answer, seen by view, is what the function gives
-abbrev pub Gives : {X Y : Type 0} → (X → Y) → Result Y LineFlaw → Result X LineFlaw → Type 0
-Gives view read (Ok x) = read ≡ Ok (view x)
-Gives view read (Err flaw) = read ≡ Err flaw
+-- an answer, seen by view, is what the function yields
+abbrev pub Yields : {X Y : Type 0} → (X → Y) → Result Y LineFlaw → Result X LineFlaw → Type 0
+Yields view read (Ok x) = read ≡ Ok (view x)
+Yields view read (Err flaw) = read ≡ Err flaw
 
 -- the same of a call that takes memory; want of memory says nothing
-abbrev pub GivesOrMemory : {X Y : Type 0} → (X → Y) → Result Y LineFlaw → Result X Refused → Type 0
-GivesOrMemory view read (Ok x) = read ≡ Ok (view x)
-GivesOrMemory view read (Err (V.Flaw flaw)) = read ≡ Err flaw
-GivesOrMemory view read (Err V.Memory) = Unit {0}
+abbrev pub YieldsOrMemory : {X Y : Type 0} → (X → Y) → Result Y LineFlaw → Result X Refused → Type 0
+YieldsOrMemory view read (Ok x) = read ≡ Ok (view x)
+YieldsOrMemory view read (Err (V.Flaw flaw)) = read ≡ Err flaw
+YieldsOrMemory view read (Err V.Memory) = Unit {0}
 
 -- a statement without addresses
 abbrev pub statement_view : said.Statement → Statement
@@ -47,18 +47,18 @@ abbrev pub progress_view : progress.Progress → Progress
 progress_view p = record { source = source_view p.source; waiting = p.waiting }
 
 -- there is room for the index of the next instruction, and the texts that are found fast are those of the labels
-pub record IsSound (p : progress.Progress) : Type 0 where
+pub record IsSoundProgress (p : progress.Progress) : Type 0 where
   pub few : length p.source.insns.items ≤ MAX_INSNS
   pub known : (l : List ℕ) → list_any (λ k. bytes_eq l k.now) p.known.keys ≡ is_known (source_view p.source).labels l
 
 -- the source is taken on, or the flaw is what the function gives; want of memory says nothing
-abbrev pub Takes : {X : Type 0} → Result Progress LineFlaw → Progress → Result X Refused → Type 0
-Takes taken new (Ok u) = taken ≡ Ok new
-Takes taken new (Err (V.Flaw flaw)) = taken ≡ Err flaw
-Takes taken new (Err V.Memory) = Unit {0}
+abbrev pub TakesOn : {X : Type 0} → Result Progress LineFlaw → Progress → Result X Refused → Type 0
+TakesOn taken new (Ok u) = taken ≡ Ok new
+TakesOn taken new (Err (V.Flaw flaw)) = taken ≡ Err flaw
+TakesOn taken new (Err V.Memory) = Unit {0}
 
 -- the same of a line by its number
-abbrev pub TakesLine : {X : Type 0} → ℕ → Result Progress LineFlaw → Progress → Result X LineFault → Type 0
-TakesLine n taken new (Ok u) = taken ≡ Ok new
-TakesLine n taken new (Err (F.At k flaw)) = (k ≡ n) × (taken ≡ Err flaw)
-TakesLine n taken new (Err F.Memory) = Unit {0}
+abbrev pub TakesOnLine : {X : Type 0} → ℕ → Result Progress LineFlaw → Progress → Result X LineFault → Type 0
+TakesOnLine n taken new (Ok u) = taken ≡ Ok new
+TakesOnLine n taken new (Err (F.At k flaw)) = (k ≡ n) × (taken ≡ Err flaw)
+TakesOnLine n taken new (Err F.Memory) = Unit {0}

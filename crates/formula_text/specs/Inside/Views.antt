@@ -3,8 +3,6 @@ use Rattle.std.specs.Prelude.{◌≡◌, ℕ, List, map, reverse, Result, Ok, Er
 use Rattle.formula_tree.specs.Views.{exp_view, mem_exp_view, form_view}
 use Rattle.formula_text.specs.declared.parts.Phrase as phrase
 use Rattle.formula_text.specs.declared.parts.Phrase.TheVariants as P
-use Rattle.formula_text.specs.declared.parts.Parts as parts
-use Rattle.formula_text.specs.declared.parts.Parts.TheVariants as H
 use Rattle.formula_text.specs.declared.parsing.Frame as frame
 use Rattle.formula_text.specs.declared.parsing.Expected as expected
 use Rattle.formula_text.specs.declared.parsing.Expected.TheVariants as E
@@ -13,7 +11,7 @@ use Rattle.formula_text.specs.declared.fault.TokenFault.{TokenFault}
 use Rattle.formula_text.specs.declared.fault.TokenFault.TheVariants as V
 use Rattle.formula_text.specs.declared.fault.TextFault.{TextFault}
 use Rattle.formula_text.specs.declared.fault.TextFault.TheVariants as F
-use Rattle.formula_text.specs.Parsing.{Phrase, AForm, AnExp, AMem, Parts, NoParts, OneExp, TwoExps, OneForm, TwoForms, OneMem, MemThenExp, MemThenExps, Frame, Expected, Inside, Opened, Binding, Whole, ParseState}
+use Rattle.formula_text.specs.Parsing.{Phrase, AForm, AnExp, AMem, Frame, Expected, Inside, Opened, Binding, Whole, ParseState}
 
 -- a phrase without addresses
 abbrev pub phrase_view : phrase.Phrase → Phrase
@@ -21,20 +19,9 @@ phrase_view (P.Form A) = AForm (form_view A)
 phrase_view (P.Exp a) = AnExp (exp_view a)
 phrase_view (P.Mem m) = AMem (mem_exp_view m)
 
--- parts without addresses
-abbrev pub parts_view : parts.Parts → Parts
-parts_view H.NoParts = NoParts
-parts_view (H.OneExp a) = OneExp (exp_view a)
-parts_view (H.TwoExps a b) = TwoExps (exp_view a) (exp_view b)
-parts_view (H.OneForm A) = OneForm (form_view A)
-parts_view (H.TwoForms A B) = TwoForms (form_view A) (form_view B)
-parts_view (H.OneMem m) = OneMem (mem_exp_view m)
-parts_view (H.MemThenExp m a) = MemThenExp (mem_exp_view m) (exp_view a)
-parts_view (H.MemThenExps m a v) = MemThenExps (mem_exp_view m) (exp_view a) (exp_view v)
-
 -- open parentheses without addresses
 abbrev pub frame_view : frame.Frame → Frame
-frame_view f = record { keyword = f.keyword; name = f.name.now; parts = parts_view f.parts }
+frame_view f = record { keyword = f.keyword; name = f.name.now; parts = map phrase_view f.parts.items }
 
 -- the open parentheses, the nearest first; in memory the nearest is the last
 unfoldable pub frames_view : List frame.Frame → List Frame
