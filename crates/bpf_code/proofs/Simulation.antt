@@ -25,7 +25,7 @@ use Rattle.bpf_words.specs.Programs.{bpf_op, IsInBounds, IsRet, IsSoundAt, IsPro
 use Rattle.bpf_words.specs.Values.{big_endian, jumps, op_effect, code_effect, bpf_effect, value_after, value_from, bpf_value}
 use Rattle.bpf_code.specs.Blocks.{load_code, straight_code, nonzero_flag, taken_index, passed_index, block_distance, branch_pair, end_code, end_place, block_code, blocks_from, bpf_code}
 use Rattle.bpf_code.specs.Inside.Bounds.{KeepsTo}
-use Rattle.bpf_code.specs.Simulation.{AreBytes}
+use Rattle.bpf_words.specs.Reading.{AreBytes}
 use Rattle.bpf_code.proofs.Straight.{Stands, effects, effects-length, listing, listed, MayRun, more, more-is, onward, onward-is, runs_straight}
 use Rattle.bpf_code.proofs.Results.{constant-a, add-a, or-a, and-a, shift-a, tested, test-six}
 use Rattle.bpf_code.proofs.Loads.{HasPacket, load-is, big-small}

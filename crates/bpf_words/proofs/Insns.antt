@@ -1,13 +1,14 @@
 -- The instructions that are read of bytes.
-use Rattle.std.proofs.Common.{◌≡◌, ℕ, zero, suc, ◌+◌, ◌-◌, ◌/◌, ◌%◌, ◌<◌, ◌≤◌, Bool, true, false, eqb, ◌||◌, List, [], ◌∷◌, ◌++◌, length, slice_get, Option, Some, None, Ok, Err, refl, sym, ap, ◌∙◌, subst, arith, append_assoc}
+use Rattle.std.proofs.Common.{◌≡◌, ℕ, zero, suc, ◌+◌, ◌-◌, ◌*◌, ◌/◌, ◌%◌, ◌<◌, ◌≤◌, Bool, true, false, eqb, ◌||◌, List, [], ◌∷◌, ◌++◌, length, slice_get, Option, Some, None, Ok, Err, refl, sym, ap, ◌∙◌, subst, arith, append_assoc}
 use Rattle.std.specs.Prelude.{not, nat_lt}
 use Rattle.std.proofs.lemmas.Bool.{eqb-true, eqb-false, ltb-false}
 use Rattle.bpf_words.specs.declared.insn.TheConstants.{MAX_PROGRAM}
 use Rattle.bpf_words.specs.declared.insn.Bpf.{Bpf}
 use Rattle.bpf_words.specs.declared.fault.BpfFlaw.{BpfFlaw}
 use Rattle.bpf_words.specs.declared.fault.BpfFlaw.TheVariants as flaws
-use Rattle.bpf_words.specs.Reading.{insn_at, bpf_insns_from, insns_of, flaw_if, else_flaw, size_flaw, first_flaw, unless_flaw, program_of, HasInsns}
-use Rattle.bpf_words.proofs.Soundness.{first-none, test-false}
+use Rattle.bpf_words.specs.Programs.{HasWidths, IsProgram}
+use Rattle.bpf_words.specs.Reading.{AreBytes, insn_at, bpf_insns_from, insns_of, flaw_if, else_flaw, size_flaw, first_flaw, unless_flaw, program_of, HasInsns}
+use Rattle.bpf_words.proofs.Soundness.{first-none, test-false, first_flaw-program}
 
 pub length-bpf_insns_from : (bytes : List ℕ) (i n : ℕ) → length (bpf_insns_from bytes i n) ≡ n
 length-bpf_insns_from bytes i zero = refl
@@ -77,6 +78,29 @@ program_of-has bytes program e =
     let ok = unless-ok (insns_of bytes) (else_flaw (size_flaw (length bytes)) (first_flaw (insns_of bytes))) program e in
     let fits = size-fits bytes (first-none (size_flaw (length bytes)) (first_flaw (insns_of bytes)) ok.1).0 in
     subst (HasInsns bytes) ok.0 (insns_of-has bytes fits.whole)
+
+-- the fields of what bytes are have their widths
+widths-at : (bytes : List ℕ) → AreBytes bytes → (i : ℕ) → HasWidths (insn_at bytes i)
+widths-at bytes are i =
+    let b0 = are (8 * i) in
+    let b1 = are (8 * i + 1) in
+    let b2 = are (8 * i + 2) in
+    let b3 = are (8 * i + 3) in
+    let b4 = are (8 * i + 4) in
+    let b5 = are (8 * i + 4 + 1) in
+    let b6 = are (8 * i + 4 + 2) in
+    let b7 = are (8 * i + 4 + 2 + 1) in
+    record { code = omega (arith, b0, b1); jt = b2; jf = b3; k = omega (arith, b4, b5, b6, b7) }
+
+pub program_of-program : (bytes : List ℕ) (program : List Bpf) → AreBytes bytes → program_of bytes ≡ Ok program → IsProgram program
+unfolding program_of
+program_of-program bytes program are e =
+    let ok = unless-ok (insns_of bytes) (else_flaw (size_flaw (length bytes)) (first_flaw (insns_of bytes))) program e in
+    let none = first-none (size_flaw (length bytes)) (first_flaw (insns_of bytes)) ok.1 in
+    let fits = size-fits bytes none.0 in
+    let has = insns_of-has bytes fits.whole in
+    subst IsProgram ok.0 (first_flaw-program (insns_of bytes) fits.some fits.few
+    (λ i insn at. subst HasWidths (sym (has.each i insn at)) (widths-at bytes are i)) none.1)
 
 -- ---- what the tests give
 

@@ -1,5 +1,5 @@
 -- The program that bytes are, or the first thing that is wrong with them, by the tests in their order.
-use Rattle.std.specs.Prelude.{◌≡◌, ℕ, zero, suc, ◌+◌, ◌-◌, ◌*◌, ◌/◌, ◌%◌, Bool, true, false, ◌||◌, not, ◌==◌, nat_lt, nat_le, if◌then◌else◌, List, [], ◌∷◌, length, slice_get, slice_index, Option, Some, None, Result, Ok, Err, Vec}
+use Rattle.std.specs.Prelude.{◌≡◌, ◌^◌, ◌<◌, ℕ, zero, suc, ◌+◌, ◌-◌, ◌*◌, ◌/◌, ◌%◌, Bool, true, false, ◌||◌, not, ◌==◌, nat_lt, nat_le, if◌then◌else◌, List, [], ◌∷◌, length, slice_get, slice_index, Option, Some, None, Result, Ok, Err, Vec}
 use Rattle.std.specs.Global.{Global}
 use Rattle.bpf_words.specs.declared.insn.TheConstants.{MAX_PROGRAM, LOADABLE}
 use Rattle.bpf_words.specs.declared.insn.Bpf.{Bpf}
@@ -10,6 +10,10 @@ use Rattle.bpf_words.specs.declared.fault.BpfFlaw.TheVariants as flaws
 use Rattle.bpf_words.specs.declared.fault.BpfFault.{BpfFault}
 use Rattle.bpf_words.specs.declared.fault.BpfFault.TheVariants as faults
 use Rattle.bpf_words.specs.Programs.{bpf_op, HasWidths}
+
+-- numbers that are bytes
+abbrev pub AreBytes : List ℕ → Type 0
+AreBytes bytes = (i : ℕ) → slice_index bytes i < 2 ^ 8
 
 -- the number of two bytes from an offset on, the lowest first
 abbrev pub half_word : List ℕ → ℕ → ℕ

@@ -1,5 +1,5 @@
 use Rattle.bpf_words.proofs.Effects.{gives-value, gives-one}
-use Rattle.bpf_words.proofs.Insns.{program_of-has}
+use Rattle.bpf_words.proofs.Insns.{program_of-has, program_of-program}
 use Rattle.bpf_words.proofs.Meanings.{program_of-flaw}
 use Rattle.bpf_words.proofs.theorems.laws.Goals as goal
 
@@ -14,3 +14,6 @@ returns-clause-one c = gives-one
 
 pub returns-clause-means : goal.returns-clause-means
 returns-clause-means c = program_of-flaw
+
+pub returns-clause-program : goal.returns-clause-program
+returns-clause-program c = program_of-program
