@@ -10,7 +10,7 @@ use Rattle.word_ops.specs.declared.Op.TheVariants.{Add, Band, Sll, Srl}
 use Rattle.alpha_words.specs.declared.insn.Insn.TheVariants.{Ldq}
 use Rattle.bpf_words.specs.Values.{big_endian}
 use Rattle.bpf_code.specs.Blocks.{byte_code, bytes_code, quad_reg, load_code}
-use Rattle.bpf_code.specs.Simulation.{AreBytes}
+use Rattle.bpf_words.specs.Reading.{AreBytes}
 use Rattle.bpf_code.proofs.Straight.{effects, effects-append, effects-length, may-append, listing, listed, MayRun}
 use Rattle.bpf_code.proofs.Numbers.{eight, byte-is, shifted-is, first-is}
 

@@ -22,10 +22,10 @@ use Rattle.bpf_words.specs.declared.insn.BpfOp.TheVariants as ops
 use Rattle.bpf_words.specs.declared.insn.BpfTest.{BpfTest}
 use Rattle.bpf_words.specs.declared.insn.BpfTest.TheVariants as tests
 use Rattle.bpf_words.specs.Programs.{bpf_op, IsInBounds, IsRet, IsSoundAt, IsProgram}
-use Rattle.bpf_words.specs.Values.{big_endian, jumps, op_effect, code_effect, insn_effect, value_after, value_from, bpf_value}
+use Rattle.bpf_words.specs.Values.{big_endian, jumps, op_effect, code_effect, bpf_effect, value_after, value_from, bpf_value}
 use Rattle.bpf_code.specs.Blocks.{load_code, straight_code, nonzero_flag, taken_index, passed_index, block_distance, branch_pair, end_code, end_place, block_code, blocks_from, bpf_code}
 use Rattle.bpf_code.specs.Inside.Bounds.{KeepsTo}
-use Rattle.bpf_code.specs.Simulation.{AreBytes}
+use Rattle.bpf_words.specs.Reading.{AreBytes}
 use Rattle.bpf_code.proofs.Straight.{Stands, effects, effects-length, listing, listed, MayRun, more, more-is, onward, onward-is, runs_straight}
 use Rattle.bpf_code.proofs.Results.{constant-a, add-a, or-a, and-a, shift-a, tested, test-six}
 use Rattle.bpf_code.proofs.Loads.{HasPacket, load-is, big-small}
@@ -383,7 +383,7 @@ module _ (p : List Bpf) (program : IsProgram p) (packet : List ℕ) (bytes : Are
 
     value-is : value_from p packet (suc n) i (slice_index regs 1) ≡ op_value packet (value_from p packet n) i (slice_index regs 1) b op
     value-is =
-        ap (λ o. value_after (value_from p packet n) (insn_effect packet i (slice_index regs 1) o)) at
+        ap (λ o. value_after (value_from p packet n) (bpf_effect packet i (slice_index regs 1) o)) at
         ∙ ap (λ o. value_after (value_from p packet n) (code_effect packet i (slice_index regs 1) b o)) op_is
 
     behind-ready : AreReady behind

@@ -6,7 +6,8 @@ use Rattle.alpha_cfg.specs.Machine.{State}
 use Rattle.bpf_words.specs.declared.insn.Bpf.{Bpf}
 use Rattle.bpf_words.specs.Programs.{IsProgram}
 use Rattle.bpf_code.specs.Blocks.{bpf_code}
-use Rattle.bpf_code.specs.Simulation.{AreBytes, address_behind, StartsOn, ReturnsValue, Simulates}
+use Rattle.bpf_words.specs.Reading.{AreBytes}
+use Rattle.bpf_code.specs.Simulation.{address_behind, StartsOn, ReturnsValue, Simulates}
 use Rattle.bpf_code.proofs.Loads.{HasPacket, quad_address}
 use Rattle.bpf_code.proofs.Places.{length-blocks_from}
 use Rattle.bpf_code.proofs.Simulation.{program-answers}

@@ -8,12 +8,9 @@ use Rattle.alpha_cfg.specs.declared.outcome.Outcome.TheVariants.{Returned}
 use Rattle.bpf_words.specs.declared.insn.TheConstants.{LOADABLE}
 use Rattle.bpf_words.specs.declared.insn.Bpf.{Bpf}
 use Rattle.bpf_words.specs.Programs.{IsProgram}
+use Rattle.bpf_words.specs.Reading.{AreBytes}
 use Rattle.bpf_words.specs.Values.{bpf_value}
 use Rattle.bpf_code.specs.Blocks.{nonzero_flag, bpf_code}
-
--- numbers that are bytes
-abbrev pub AreBytes : List ℕ → Type 0
-AreBytes packet = (i : ℕ) → slice_index packet i < 2 ^ 8
 
 -- the word of the eight bytes from offset k on, the lowest byte first
 abbrev pub quadword_of : List ℕ → ℕ → ℕ

@@ -7,13 +7,16 @@
 //! - `read BYTES`: `program N`, N being how many instructions are read, or the kind of what is wrong
 //!   with its number;
 //! - `insn I BYTES`: the fields of the instruction at an index, code, jt, jf and k;
-//! - `value BYTES / PACKET`: the value of the program on the packet.
+//! - `value BYTES / PACKET`: the value of the program on the packet;
+//! - `code BYTES`: how many words its code has; `block I BYTES`: the words of a block, each as what
+//!   it does, what it reads and what it writes.
 //!
 //! A line of `data/programs.tsv` is a program with packets and their values by libpcap: a number,
 //! where the program is from, its bytes, the packets, the values and what it is for, parted by tabs.
 //! Each packet is a row.
 #![tactic(auto)]
 
+mod blocks;
 mod bytes;
 mod questions;
 mod tables;

@@ -1,5 +1,6 @@
 //! The answers to questions, as text.
 
+use crate::blocks::{block_text, count_text};
 use crate::bytes::bytes_of;
 use bpf_words::{Bpf, BpfFault, LOADABLE, bpf_value, read_bpf};
 use std::alloc::{AllocError, Global};
@@ -74,16 +75,40 @@ fn read_answer(alloc: Global, text: &str) -> Result<String, AllocError> {
     }
 }
 
-/// The answer to `insn`.
-fn insn_answer(alloc: Global, text: &str) -> Result<String, AllocError> {
+/// An index, and the bytes behind it.
+fn indexed(alloc: Global, text: &str) -> Result<Option<(u32, Vec<u8>)>, AllocError> {
     let Some((index, digits)) = text.split_once(' ') else {
-        return no_question(alloc);
+        return Ok(None);
     };
     let Ok(index) = index.parse::<u32>() else {
-        return no_question(alloc);
+        return Ok(None);
     };
     match bytes_of(alloc, digits)? {
-        Some(bytes) => insn_text(alloc, index, bytes.as_slice()),
+        Some(bytes) => Ok(Some((index, bytes))),
+        None => Ok(None),
+    }
+}
+
+/// The answer to `insn`.
+fn insn_answer(alloc: Global, text: &str) -> Result<String, AllocError> {
+    match indexed(alloc, text)? {
+        Some((index, bytes)) => insn_text(alloc, index, bytes.as_slice()),
+        None => no_question(alloc),
+    }
+}
+
+/// The answer to `block`.
+fn block_answer(alloc: Global, text: &str) -> Result<String, AllocError> {
+    match indexed(alloc, text)? {
+        Some((index, bytes)) => block_text(alloc, index, bytes.as_slice()),
+        None => no_question(alloc),
+    }
+}
+
+/// The answer to `code`.
+fn code_answer(alloc: Global, text: &str) -> Result<String, AllocError> {
+    match bytes_of(alloc, text)? {
+        Some(bytes) => count_text(alloc, bytes.as_slice()),
         None => no_question(alloc),
     }
 }
@@ -111,6 +136,8 @@ pub fn run_question(alloc: Global, text: &str) -> Result<String, AllocError> {
         "read" => read_answer(alloc, rest),
         "insn" => insn_answer(alloc, rest),
         "value" => value_answer(alloc, rest),
+        "code" => code_answer(alloc, rest),
+        "block" => block_answer(alloc, rest),
         _ => no_question(alloc),
     }
 }

@@ -7,7 +7,7 @@ use Rattle.bpf_words.specs.declared.insn.BpfOp.TheVariants as ops
 use Rattle.bpf_words.specs.declared.values.BpfEffect.{BpfEffect}
 use Rattle.bpf_words.specs.declared.values.BpfEffect.TheVariants as effects
 use Rattle.bpf_words.specs.Programs.{bpf_op, IsInBounds, IsRet, IsSoundAt, IsProgram}
-use Rattle.bpf_words.specs.Values.{jumps, op_effect, code_effect, insn_effect, effect_at, Gives, value_after, value_from, bpf_value}
+use Rattle.bpf_words.specs.Values.{jumps, op_effect, code_effect, bpf_effect, effect_at, ComesTo, value_after, value_from, bpf_value}
 
 -- an instruction that nothing holds
 abbrev pub no_insn : Bpf
@@ -91,7 +91,7 @@ module _ (program : List Bpf) (packet : List ℕ) (is : IsProgram program) where
       let sound : IsSoundAt (length program) i insn = is.each i insn at in (
         op_effect packet i a insn sound.op,
         record {
-          effect_is = ap (insn_effect packet i a) at ∙ ap (code_effect packet i a insn) sound.op_is;
+          effect_is = ap (bpf_effect packet i a) at ∙ ap (code_effect packet i a insn) sound.op_is;
           on = λ j b. leads-on packet (length program) i a insn sound.op j b lt sound.bounds sound.last;
         },
       )
@@ -105,25 +105,25 @@ module _ (program : List Bpf) (packet : List ℕ) (is : IsProgram program) where
       same-effect : (o : Option BpfEffect) (x y : BpfEffect) → o ≡ Some x → o ≡ Some y → x ≡ y
       same-effect o x y p q = cc
 
-  abbrev Gives-from : ℕ → Type 0
-  Gives-from n = (i a : ℕ) → i < length program → length program ≤ i + n → Gives program packet i a (value_from program packet n i a)
+  abbrev ComesTo-from : ℕ → Type 0
+  ComesTo-from n = (i a : ℕ) → i < length program → length program ≤ i + n → ComesTo program packet i a (value_from program packet n i a)
 
-  by-effect : (n i a : ℕ) (effect : BpfEffect) → HasEffect i a effect → Gives-from n → length program ≤ i + suc n
-      → Gives program packet i a (value_after (value_from program packet n) (Some effect))
+  by-effect : (n i a : ℕ) (effect : BpfEffect) → HasEffect i a effect → ComesTo-from n → length program ≤ i + suc n
+      → ComesTo program packet i a (value_after (value_from program packet n) (Some effect))
   by-effect n i a (effects.GoesOn j b) has gives long =
       let on = has.on j b refl in
       let over = on.0 in
-      Gives.goes_on i a j b (value_from program packet n j b) has.effect_is (gives j b on.1 (omega (arith, over, long)))
-  by-effect n i a (effects.Returns value) has gives long = Gives.returns_now i a value has.effect_is
+      ComesTo.goes_on i a j b (value_from program packet n j b) has.effect_is (gives j b on.1 (omega (arith, over, long)))
+  by-effect n i a (effects.Returns value) has gives long = ComesTo.returns_now i a value has.effect_is
 
-  pub gives-from : (n : ℕ) → Gives-from n
+  pub gives-from : (n : ℕ) → ComesTo-from n
   gives-from zero i a lt long = absurd (omega (arith, lt, long))
   gives-from (suc n) i a lt long =
       let has = has-effect i a lt in
-      subst (λ o. Gives program packet i a (value_after (value_from program packet n) o)) (sym has.1.effect_is)
+      subst (λ o. ComesTo program packet i a (value_after (value_from program packet n) o)) (sym has.1.effect_is)
       (by-effect n i a has.0 has.1 (gives-from n) long)
 
-  pub gives-value : Gives program packet 0 0 (bpf_value program packet)
+  pub gives-value : ComesTo program packet 0 0 (bpf_value program packet)
   unfolding bpf_value
   gives-value = gives-from (length program) 0 0 is.some (omega arith)
 
@@ -138,13 +138,13 @@ one-kind o v j b p q = cc
 one-next : (o : Option BpfEffect) (j b k c : ℕ) → o ≡ Some (effects.GoesOn j b) → o ≡ Some (effects.GoesOn k c) → (k ≡ j) × (c ≡ b)
 one-next o j b k c p q = (cc, cc)
 
-pub gives-one : (program : List Bpf) (packet : List ℕ) (i a v w : ℕ) → Gives program packet i a v → Gives program packet i a w → v ≡ w
-gives-one program packet i a v w (Gives.returns_now _ _ _ e) (Gives.returns_now _ _ _ f) = one-returned (effect_at program packet i a) v w e f
-gives-one program packet i a v w (Gives.returns_now _ _ _ e) (Gives.goes_on _ _ k c _ f h) = absurd (one-kind (effect_at program packet i a) v k c e f)
-gives-one program packet i a v w (Gives.goes_on _ _ j b _ e g) (Gives.returns_now _ _ _ f) = absurd (one-kind (effect_at program packet i a) w j b f e)
-gives-one program packet i a v w (Gives.goes_on _ _ j b _ e g) (Gives.goes_on _ _ k c _ f h) =
+pub gives-one : (program : List Bpf) (packet : List ℕ) (i a v w : ℕ) → ComesTo program packet i a v → ComesTo program packet i a w → v ≡ w
+gives-one program packet i a v w (ComesTo.returns_now _ _ _ e) (ComesTo.returns_now _ _ _ f) = one-returned (effect_at program packet i a) v w e f
+gives-one program packet i a v w (ComesTo.returns_now _ _ _ e) (ComesTo.goes_on _ _ k c _ f h) = absurd (one-kind (effect_at program packet i a) v k c e f)
+gives-one program packet i a v w (ComesTo.goes_on _ _ j b _ e g) (ComesTo.returns_now _ _ _ f) = absurd (one-kind (effect_at program packet i a) w j b f e)
+gives-one program packet i a v w (ComesTo.goes_on _ _ j b _ e g) (ComesTo.goes_on _ _ k c _ f h) =
     let same = one-next (effect_at program packet i a) j b k c e f in
-    gives-one program packet j b v w g (subst (λ l. Gives program packet l b w) same.0 (subst (λ d. Gives program packet k d w) same.1 h))
+    gives-one program packet j b v w g (subst (λ l. ComesTo program packet l b w) same.0 (subst (λ d. ComesTo program packet k d w) same.1 h))
 
 -- ---- following a program, an instruction at a time
 

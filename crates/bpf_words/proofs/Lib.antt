@@ -1,3 +1,4 @@
 pub mod Effects
 pub mod Insns
+pub mod Meanings
 pub mod Soundness

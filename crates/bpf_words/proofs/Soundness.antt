@@ -8,7 +8,7 @@ use Rattle.bpf_words.specs.declared.insn.BpfOp.{BpfOp}
 use Rattle.bpf_words.specs.declared.insn.BpfOp.TheVariants as ops
 use Rattle.bpf_words.specs.declared.fault.BpfFlaw.{BpfFlaw}
 use Rattle.bpf_words.specs.Programs.{bpf_op, IsInBounds, IsRet, HasWidths, IsSoundAt, IsProgram}
-use Rattle.bpf_words.specs.Reading.{flaw_if, op_flaw, code_flaw, insn_flaw, first_of, flaw_from, returns, return_flaw, first_flaw, HaveWidths}
+use Rattle.bpf_words.specs.Reading.{flaw_if, op_flaw, code_flaw, insn_flaw, else_flaw, flaw_from, returns, return_flaw, first_flaw, HaveWidths}
 
 -- ---- the loop over instructions
 
@@ -22,12 +22,12 @@ drop-at (y ∷ l) (suc i) x e = let q : suc (i + 1) ≡ suc i + 1 = omega arith 
 pub flaw_from-next : (count i : ℕ) (insns : List Bpf) (insn : Bpf) → i < length insns → slice_get insns i ≡ Some insn → insn_flaw count i insn ≡ None
     → flaw_from count i (drop i insns) ≡ flaw_from count (i + 1) (drop (i + 1) insns)
 flaw_from-next count i insns insn lt at none =
-    ap (flaw_from count i) (drop-at insns i insn at) ∙ ap (λ o. first_of o (flaw_from count (i + 1) (drop (i + 1) insns))) none
+    ap (flaw_from count i) (drop-at insns i insn at) ∙ ap (λ o. else_flaw o (flaw_from count (i + 1) (drop (i + 1) insns))) none
 
 pub flaw_from-here : (count i : ℕ) (insns : List Bpf) (insn : Bpf) (flaw : BpfFlaw) → i < length insns → slice_get insns i ≡ Some insn
     → insn_flaw count i insn ≡ Some flaw → flaw_from count i (drop i insns) ≡ Some flaw
 flaw_from-here count i insns insn flaw lt at some =
-    ap (flaw_from count i) (drop-at insns i insn at) ∙ ap (λ o. first_of o (flaw_from count (i + 1) (drop (i + 1) insns))) some
+    ap (flaw_from count i) (drop-at insns i insn at) ∙ ap (λ o. else_flaw o (flaw_from count (i + 1) (drop (i + 1) insns))) some
 
 -- an answer that isn't some is none
 pub none-is : (o : Option BpfFlaw) → is_some o ≡ false → o ≡ None
@@ -46,11 +46,11 @@ widths-more insns i insn at before here j lt = below_more (λ k. (x : Bpf) → s
 
 -- ---- no flaw
 
-pub first-none : (a b : Option BpfFlaw) → first_of a b ≡ None → (a ≡ None) × (b ≡ None)
+pub first-none : (a b : Option BpfFlaw) → else_flaw a b ≡ None → (a ≡ None) × (b ≡ None)
 first-none None b e = (refl, e)
 first-none (Some flaw) b e = absurd cc
 
-flaw_from-none : (count i : ℕ) (insns : List Bpf) → flaw_from count i insns ≡ None → (j : ℕ) (insn : Bpf) → slice_get insns j ≡ Some insn
+pub flaw_from-none : (count i : ℕ) (insns : List Bpf) → flaw_from count i insns ≡ None → (j : ℕ) (insn : Bpf) → slice_get insns j ≡ Some insn
     → insn_flaw count (i + j) insn ≡ None
 flaw_from-none count i [] e j insn at = absurd cc
 flaw_from-none count i (x ∷ rest) e zero insn at =
@@ -88,12 +88,12 @@ op_flaw-none count i insn ops.Ret e = tt
 op_flaw-none count i insn ops.RetA e = tt
 
 -- what a code says, and that it is in bounds
-record IsKnown (count i : ℕ) (insn : Bpf) (said : Option BpfOp) : Type 0 where
-  op : BpfOp
-  op_is : said ≡ Some op
-  bounds : IsInBounds count i insn op
+pub record IsKnown (count i : ℕ) (insn : Bpf) (said : Option BpfOp) : Type 0 where
+  pub op : BpfOp
+  pub op_is : said ≡ Some op
+  pub bounds : IsInBounds count i insn op
 
-code_flaw-none : (count i : ℕ) (insn : Bpf) (said : Option BpfOp) → code_flaw count i insn said ≡ None → IsKnown count i insn said
+pub code_flaw-none : (count i : ℕ) (insn : Bpf) (said : Option BpfOp) → code_flaw count i insn said ≡ None → IsKnown count i insn said
 code_flaw-none count i insn None e = absurd cc
 code_flaw-none count i insn (Some op) e = record { op = op; op_is = refl; bounds = op_flaw-none count i insn op e }
 

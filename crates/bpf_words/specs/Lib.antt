@@ -1,3 +1,4 @@
+pub mod Flaws
 pub mod Names
 pub mod Programs
 pub mod Reading

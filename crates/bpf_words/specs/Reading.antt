@@ -1,5 +1,5 @@
 -- The program that bytes are, or the first thing that is wrong with them, by the tests in their order.
-use Rattle.std.specs.Prelude.{◌≡◌, ℕ, zero, suc, ◌+◌, ◌-◌, ◌*◌, ◌/◌, ◌%◌, Bool, true, false, ◌||◌, not, ◌==◌, nat_lt, nat_le, if◌then◌else◌, List, [], ◌∷◌, length, slice_get, slice_index, Option, Some, None, Result, Ok, Err, Vec}
+use Rattle.std.specs.Prelude.{◌≡◌, ◌^◌, ◌<◌, ℕ, zero, suc, ◌+◌, ◌-◌, ◌*◌, ◌/◌, ◌%◌, Bool, true, false, ◌||◌, not, ◌==◌, nat_lt, nat_le, if◌then◌else◌, List, [], ◌∷◌, length, slice_get, slice_index, Option, Some, None, Result, Ok, Err, Vec}
 use Rattle.std.specs.Global.{Global}
 use Rattle.bpf_words.specs.declared.insn.TheConstants.{MAX_PROGRAM, LOADABLE}
 use Rattle.bpf_words.specs.declared.insn.Bpf.{Bpf}
@@ -10,6 +10,10 @@ use Rattle.bpf_words.specs.declared.fault.BpfFlaw.TheVariants as flaws
 use Rattle.bpf_words.specs.declared.fault.BpfFault.{BpfFault}
 use Rattle.bpf_words.specs.declared.fault.BpfFault.TheVariants as faults
 use Rattle.bpf_words.specs.Programs.{bpf_op, HasWidths}
+
+-- numbers that are bytes
+abbrev pub AreBytes : List ℕ → Type 0
+AreBytes bytes = (i : ℕ) → slice_index bytes i < 2 ^ 8
 
 -- the number of two bytes from an offset on, the lowest first
 abbrev pub half_word : List ℕ → ℕ → ℕ
@@ -29,13 +33,13 @@ insn_at bytes i = record {
 }
 
 -- the n instructions from index i on
-abbrev pub insns_from : List ℕ → ℕ → ℕ → List Bpf
-insns_from bytes i zero = []
-insns_from bytes i (suc n) = insn_at bytes i ∷ insns_from bytes (i + 1) n
+abbrev pub bpf_insns_from : List ℕ → ℕ → ℕ → List Bpf
+bpf_insns_from bytes i zero = []
+bpf_insns_from bytes i (suc n) = insn_at bytes i ∷ bpf_insns_from bytes (i + 1) n
 
 -- the instructions of bytes
 abbrev pub insns_of : List ℕ → List Bpf
-insns_of bytes = insns_from bytes 0 (length bytes / 8)
+insns_of bytes = bpf_insns_from bytes 0 (length bytes / 8)
 
 -- a flaw where the test is true
 abbrev pub flaw_if : Bool → BpfFlaw → Option BpfFlaw
@@ -61,14 +65,14 @@ abbrev pub insn_flaw : ℕ → ℕ → Bpf → Option BpfFlaw
 insn_flaw count i insn = code_flaw count i insn (bpf_op insn.code)
 
 -- the first, if there is one, else the second
-abbrev pub first_of : Option BpfFlaw → Option BpfFlaw → Option BpfFlaw
-first_of None second = second
-first_of (Some flaw) second = Some flaw
+abbrev pub else_flaw : Option BpfFlaw → Option BpfFlaw → Option BpfFlaw
+else_flaw None second = second
+else_flaw (Some flaw) second = Some flaw
 
 -- the first flaw of instructions, whose first has index i of count
 abbrev pub flaw_from : ℕ → ℕ → List Bpf → Option BpfFlaw
 flaw_from count i [] = None
-flaw_from count i (insn ∷ rest) = first_of (insn_flaw count i insn) (flaw_from count (i + 1) rest)
+flaw_from count i (insn ∷ rest) = else_flaw (insn_flaw count i insn) (flaw_from count (i + 1) rest)
 
 -- whether an instruction returns, given what its code says
 abbrev pub returns : Option BpfOp → Bool
@@ -83,7 +87,7 @@ return_flaw i (Some insn) = flaw_if (not (returns (bpf_op insn.code))) (flaws.No
 
 -- the first flaw of instructions
 abbrev pub first_flaw : List Bpf → Option BpfFlaw
-first_flaw insns = first_of (flaw_from (length insns) 0 insns) (return_flaw (length insns - 1) (slice_get insns (length insns - 1)))
+first_flaw insns = else_flaw (flaw_from (length insns) 0 insns) (return_flaw (length insns - 1) (slice_get insns (length insns - 1)))
 
 -- the instructions, where there is no flaw
 abbrev pub unless_flaw : List Bpf → Option BpfFlaw → Result (List Bpf) BpfFlaw
@@ -92,11 +96,11 @@ unless_flaw insns (Some flaw) = Err flaw
 
 -- what is wrong with a length in bytes
 abbrev pub size_flaw : ℕ → Option BpfFlaw
-size_flaw size = first_of (flaw_if (size == 0 || not (size % 8 == 0)) (flaws.Size size)) (flaw_if (nat_lt MAX_PROGRAM (size / 8)) (flaws.Count (size / 8)))
+size_flaw size = else_flaw (flaw_if (size == 0 || not (size % 8 == 0)) (flaws.Size size)) (flaw_if (nat_lt MAX_PROGRAM (size / 8)) (flaws.Count (size / 8)))
 
 -- the program of bytes, or the first flaw: of the length, then of an instruction, then of the end
 unfoldable pub program_of : List ℕ → Result (List Bpf) BpfFlaw
-program_of bytes = unless_flaw (insns_of bytes) (first_of (size_flaw (length bytes)) (first_flaw (insns_of bytes)))
+program_of bytes = unless_flaw (insns_of bytes) (else_flaw (size_flaw (length bytes)) (first_flaw (insns_of bytes)))
 
 -- an answer that isn't want of memory is what the bytes read as
 abbrev pub IsProgramRead : List ℕ → Result (Vec Bpf Global) BpfFault → Type 0

@@ -43,18 +43,19 @@ code_effect packet i a insn None = None
 code_effect packet i a insn (Some op) = Some (op_effect packet i a insn op)
 
 -- the same, where there is an instruction
-abbrev pub insn_effect : List ℕ → ℕ → ℕ → Option Bpf → Option BpfEffect
-insn_effect packet i a None = None
-insn_effect packet i a (Some insn) = code_effect packet i a insn (bpf_op insn.code)
+abbrev pub bpf_effect : List ℕ → ℕ → ℕ → Option Bpf → Option BpfEffect
+bpf_effect packet i a None = None
+bpf_effect packet i a (Some insn) = code_effect packet i a insn (bpf_op insn.code)
 
 -- what comes of the instruction at index i of a program
 abbrev pub effect_at : List Bpf → List ℕ → ℕ → ℕ → Option BpfEffect
-effect_at program packet i a = insn_effect packet i a (slice_get program i)
+effect_at program packet i a = bpf_effect packet i a (slice_get program i)
 
 -- From index i with this A the program goes on, instruction by instruction, until it returns the value.
-pub data Gives (program : List Bpf) (packet : List ℕ) : ℕ → ℕ → ℕ → Type 0 where
-  returns_now : (i a value : ℕ) → effect_at program packet i a ≡ Some (effects.Returns value) → Gives program packet i a value
-  goes_on : (i a j b value : ℕ) → effect_at program packet i a ≡ Some (effects.GoesOn j b) → Gives program packet j b value → Gives program packet i a value
+pub data ComesTo (program : List Bpf) (packet : List ℕ) : ℕ → ℕ → ℕ → Type 0 where
+  returns_now : (i a value : ℕ) → effect_at program packet i a ≡ Some (effects.Returns value) → ComesTo program packet i a value
+  goes_on : (i a j b value : ℕ) → effect_at program packet i a ≡ Some (effects.GoesOn j b) → ComesTo program packet j b value
+      → ComesTo program packet i a value
 
 -- the value that an effect leads to, given the value from an index on with an A
 abbrev pub value_after : (ℕ → ℕ → ℕ) → Option BpfEffect → ℕ

@@ -1,18 +1,25 @@
 //! What holds of the definitions, with nothing to run.
 
-ghost use Rattle.std.specs.Prelude.{◌≡◌, ℕ, List, Ok};
+ghost use Rattle.std.specs.Prelude.{◌≡◌, ℕ, List, Ok, Err};
 ghost use Rattle.bpf_words.specs.declared.insn.Bpf.{Bpf};
+ghost use Rattle.bpf_words.specs.declared.fault.BpfFlaw.{BpfFlaw};
+ghost use Rattle.bpf_words.specs.Flaws.{MeansFlaw};
 ghost use Rattle.bpf_words.specs.Programs.{IsProgram};
-ghost use Rattle.bpf_words.specs.Reading.{program_of, HasInsns};
-ghost use Rattle.bpf_words.specs.Values.{bpf_value, Gives};
+ghost use Rattle.bpf_words.specs.Reading.{AreBytes, program_of, HasInsns};
+ghost use Rattle.bpf_words.specs.Values.{bpf_value, ComesTo};
 
-/// What is read has the instructions of all bytes, one for each eight, in their order. A program
-/// gives its value on a packet, and no other.
+/// What is read has the instructions of all bytes, one for each eight, in their order, and is a
+/// program; a flaw means what it says, and those that are tried before it aren't there. A program comes to its value on a
+/// packet, and to no other.
 pub fn laws()
     ensures reads { (bytes : List ℕ) (program : List Bpf) → program_of bytes ≡ Ok program
         → HasInsns bytes program }
-    ensures gives { (program : List Bpf) (packet : List ℕ) → IsProgram program
-        → Gives program packet 0 0 (bpf_value program packet) }
+    ensures program { (bytes : List ℕ) (program : List Bpf) → AreBytes bytes
+        → program_of bytes ≡ Ok program → IsProgram program }
+    ensures means { (bytes : List ℕ) (flaw : BpfFlaw) → program_of bytes ≡ Err flaw
+        → MeansFlaw bytes flaw }
+    ensures comes_to { (program : List Bpf) (packet : List ℕ) → IsProgram program
+        → ComesTo program packet 0 0 (bpf_value program packet) }
     ensures one { (program : List Bpf) (packet : List ℕ) (i a v w : ℕ)
-        → Gives program packet i a v → Gives program packet i a w → v ≡ w }
+        → ComesTo program packet i a v → ComesTo program packet i a w → v ≡ w }
 {}

@@ -1,6 +1,6 @@
 use Rattle.std.proofs.Common.{◌-◌, sym, ap, ◌∙◌, length, slice_get, arith}
 use Rattle.std.proofs.lemmas.Option.{slice_get-get_or}
-use Rattle.bpf_words.specs.Reading.{first_of, return_flaw}
+use Rattle.bpf_words.specs.Reading.{else_flaw, return_flaw}
 use Rattle.bpf_words.proofs.Effects.{no_insn}
 use Rattle.bpf_words.proofs.Soundness.{first_flaw-program}
 use Rattle.bpf_words.proofs.reader.first_flaw.Goals as goal
@@ -12,5 +12,5 @@ returns-in-None-clause-program c =
     let some = c.requires.some in
     let at = slice_get-get_or insns last no_insn (omega (arith, some)) in
     λ none. first_flaw-program insns c.requires.some c.requires.short (c.flaw_of.ensures.widths c.in-None.is)
-    (ap (λ o. first_of o (return_flaw last (slice_get insns last))) (sym c.flaw_of.ensures.exact ∙ c.in-None.is) ∙ ap (return_flaw last) at
+    (ap (λ o. else_flaw o (return_flaw last (slice_get insns last))) (sym c.flaw_of.ensures.exact ∙ c.in-None.is) ∙ ap (return_flaw last) at
     ∙ sym c.return_flaw.ensures.exact ∙ none)

@@ -1,7 +1,7 @@
 use Rattle.std.proofs.Common.{◌≡◌, ◌≤◌, ◌/◌, None, rules, sym, ap, ◌∙◌, length, subst}
 use Rattle.bpf_words.specs.declared.insn.TheConstants.{MAX_PROGRAM}
 use Rattle.bpf_words.specs.Reading.{first_flaw, unless_flaw}
-use Rattle.bpf_words.proofs.Insns.{length-insns_from, read-flawed, read-insns}
+use Rattle.bpf_words.proofs.Insns.{length-bpf_insns_from, read-flawed, read-insns}
 use Rattle.bpf_words.proofs.reader.read_bpf.Goals as goal
 
 pub returns-in-Some-clause-exact : goal.returns-in-Some-clause-exact
@@ -13,7 +13,7 @@ first_flaw-requires-clause-short c =
     let none : c.size_flaw.result ≡ None = search rules in
     let few : length bytes / 8 ≤ MAX_PROGRAM = c.size_flaw.ensures.few none in
     subst (λ l. length l ≤ MAX_PROGRAM) (sym (c.deref.ensures.value ∙ c.in_ok-insns.ensures.exact))
-    (subst (λ n. n ≤ MAX_PROGRAM) (sym (length-insns_from bytes 0 (length bytes / 8))) few)
+    (subst (λ n. n ≤ MAX_PROGRAM) (sym (length-bpf_insns_from bytes 0 (length bytes / 8))) few)
 
 pub returns-in-Some-first_flaw-clause-exact : goal.returns-in-Some-first_flaw-clause-exact
 returns-in-Some-first_flaw-clause-exact c =

@@ -1,12 +1,19 @@
 use Rattle.bpf_words.proofs.Effects.{gives-value, gives-one}
-use Rattle.bpf_words.proofs.Insns.{program_of-has}
+use Rattle.bpf_words.proofs.Insns.{program_of-has, program_of-program}
+use Rattle.bpf_words.proofs.Meanings.{program_of-flaw}
 use Rattle.bpf_words.proofs.theorems.laws.Goals as goal
 
 pub returns-clause-reads : goal.returns-clause-reads
 returns-clause-reads c = program_of-has
 
-pub returns-clause-gives : goal.returns-clause-gives
-returns-clause-gives c = gives-value
+pub returns-clause-comes_to : goal.returns-clause-comes_to
+returns-clause-comes_to c = gives-value
 
 pub returns-clause-one : goal.returns-clause-one
 returns-clause-one c = gives-one
+
+pub returns-clause-means : goal.returns-clause-means
+returns-clause-means c = program_of-flaw
+
+pub returns-clause-program : goal.returns-clause-program
+returns-clause-program c = program_of-program

@@ -1,7 +1,7 @@
 use Rattle.std.proofs.Common.{length, get_or, Some, sym, ap, ◌∙◌}
 use Rattle.std.proofs.lemmas.Option.{slice_get-get_or}
 use Rattle.bpf_words.specs.declared.insn.TheConstants.{MAX_PROGRAM}
-use Rattle.bpf_words.specs.Values.{code_effect, insn_effect}
+use Rattle.bpf_words.specs.Values.{code_effect, bpf_effect}
 use Rattle.bpf_words.proofs.Effects.{no_insn, in-bounds, bounds-more, sound-none}
 use Rattle.bpf_words.proofs.values.effect_at.Goals as goal
 
@@ -27,7 +27,7 @@ returns c =
     let insn = get_or program c.args.i no_insn in
     record {
       exact =
-          ap (insn_effect packet c.args.i c.args.a) (slice_get-get_or program c.args.i no_insn c.requires.within)
+          ap (bpf_effect packet c.args.i c.args.a) (slice_get-get_or program c.args.i no_insn c.requires.within)
           ∙ ap (code_effect packet c.args.i c.args.a insn) (sym c.bpf_op.ensures.exact ∙ c.in-Some.is)
           ∙ ap Some (sym c.op_effect.ensures.exact);
     }
