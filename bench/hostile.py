@@ -1,4 +1,4 @@
-"""The families of bench/hostile.sh: files that are made to take `pcc check` long."""
+"""The families of bench/hostile.sh: files that are made to take `pcc check` or `pcc prove` long."""
 import os, subprocess, sys
 sys.path.insert(0, os.path.dirname(os.path.abspath(__file__)))
 from runs import run
@@ -6,7 +6,7 @@ from terms import *
 
 LOOP = 0xC3FFFFFF  # br to itself
 CHANGED = list(range(1, 9))  # registers that code may write
-MOST_SECONDS, MOST_MEGABYTES = 2.0, 512
+MOST = {"check": (2.0, 512), "prove": (5.0, 1024)}  # seconds, megabytes
 
 
 def both_ways(t, formula):
@@ -186,9 +186,115 @@ def families():
         yield name, "filter", container(t, FILTER, [LOOP], [(0, mixed(t, count))]), "refused 9 NoProof"
 
 
+# ---- for `prove`: the invariant of a loop
+
+def word(t, register):
+    return t.var(30 - register)
+
+
+def joined(t, forms):
+    """The balanced conjunction."""
+    while len(forms) > 1:
+        pairs = [t.con(AND, a, b) for a, b in zip(forms[::2], forms[1::2])]
+        forms = pairs + forms[len(pairs) * 2:]
+    return forms[0]
+
+
+def summed(t, leaves):
+    """The sum of the leaves, nested to the left."""
+    whole = leaves[0]
+    for leaf in leaves[1:]:
+        whole = t.con(ADD, whole, leaf)
+    return whole
+
+
+def equal_sums(t, leaves, count):
+    """So many equations of sums of so many leaves, in the worst order, with the same in another order."""
+    forms = []
+    for k in range(count):
+        registers = sorted(((7 * i + k) % 31 for i in range(leaves - 2)), reverse=True)
+        parts = [t.con(SLL, word(t, k % 31), t.lit(k))] + [word(t, r) for r in registers]
+        forms.append(t.con(EQ, summed(t, parts), summed(t, parts[1:] + parts[:1])))
+    return joined(t, forms)
+
+
+def implications(t, depth, parts):
+    """Implications so deep, each of so many bounds of sums."""
+    formula = t.con(TT)
+    for k in range(depth):
+        sums = [t.con(ADD, word(t, 1 + i % 20), t.lit(1000 * i + k)) for i in range(parts)]
+        formula = t.con(IMP, joined(t, [t.con(ULE, a, t.lit(5)) for a in sums]), formula)
+    return formula
+
+
+def asked_of(t, given, asked):
+    """That what is given leads to each that is asked, or else to what is true."""
+    return t.con(IMP, joined(t, given), joined(t, [t.con(OR, form, t.con(TT)) for form in asked]))
+
+
+def rights_asked(t, count):
+    """Rights to load by one register, asked for by another."""
+    at = lambda register, k: t.con(RD, t.con(ADD, word(t, register), t.lit(8 * k)))
+    return asked_of(t, [at(1, k) for k in range(count)], [at(2, k) for k in range(count)])
+
+
+def bounds_asked(t, hyps, goals):
+    """Bounds of sums with one register, asked for of sums with another."""
+    at = lambda register, k, most: t.con(ULE, t.con(ADD, word(t, register), t.lit(k)), t.lit(most))
+    return asked_of(t, [at(1, k, 9) for k in range(hyps)], [at(2, k, 6) for k in range(goals)])
+
+
+def bounds_of_one(t, hyps):
+    """Bounds of one register, from the first on each a better one, and one that is asked for."""
+    given = [t.con(ULE, word(t, 1), t.lit(hyps + k)) for k in range(hyps)]
+    return asked_of(t, given, [t.con(ULE, t.con(ADD, word(t, 1), t.lit(1)), t.lit(6))])
+
+
+def both_sides(t, levels, formula):
+    """Disjunctions whose sides bring a hypothesis each: as many contexts as ways, and no proof."""
+    for k in range(levels):
+        formula = t.con(OR, *[t.con(IMP, t.con(ULE, t.lit(k), word(t, r)), formula) for r in (2, 3)])
+    return t.con(OR, formula, t.con(TT))
+
+
+def below(t, levels):
+    """The same of a word."""
+    return both_sides(t, levels, t.con(ULT, word(t, 1), t.lit(0)))
+
+
+def sums_below(t, levels, parts):
+    """The same of a sum of so many parts, each of which has a bound."""
+    sums = [t.con(BAND, word(t, 4 + k % 20), t.lit(1 + k)) for k in range(parts)]
+    return both_sides(t, levels, t.con(ULT, summed(t, sums), t.lit(0)))
+
+
+PROVED = [  # what is made, and how `prove` ends
+    ("h, equal sums of 32 leaves", equal_sums, (32, 1), "written 781468"),
+    ("h, 40 equal sums of 64 leaves", equal_sums, (64, 40), "status 5"),
+    ("h, 255 equal sums of 64 leaves", equal_sums, (64, 255), "status 5"),
+    ("i, implications, 300 deep", implications, (300, 1), "written 2747140"),
+    ("i, implications, 2,000 deep", implications, (2000, 1), "status 5"),
+    ("i, implications of 20 parts, 1,000 deep", implications, (1000, 20), "status 5"),
+    ("j, 500 rights, and none that is asked for", rights_asked, (500,), "written 184484"),
+    ("j, 5,000 rights", rights_asked, (5000,), "status 5"),
+    ("k, 2,000 bounds, and none that is asked for", bounds_asked, (2000, 2000), "written 844472"),
+    ("k, 20,000 bounds", bounds_asked, (20000, 10000), "status 5"),
+    ("l, 20,000 bounds of one register", bounds_of_one, (20000,), "written 1684904"),
+    ("m, 2^16 contexts of a word", below, (16,), "written 7772"),
+    ("m, 2^12 contexts of a sum of 500 parts", sums_below, (12, 500), "status 5"),
+]
+
+
+def for_prove():
+    for name, made, numbers, wanted in PROVED:
+        t = Terms()
+        yield name, "filter", container(t, FILTER, [LOOP], [(0, made(t, *numbers))]), wanted
+
+
 def main(binary, work, *chosen):
     passed = True
-    for name, policy, data, wanted in families():
+    asked = [("check", family) for family in families()] + [("prove", family) for family in for_prove()]
+    for command, (name, policy, data, wanted) in asked:
         if chosen and not any(word in name for word in chosen):
             continue
         path = os.path.join(work, "container")
@@ -201,13 +307,13 @@ def main(binary, work, *chosen):
             with open(os.path.join(work, name.replace(" ", "_").replace(",", "")), "wb") as out:
                 out.write(data)
             continue
-        found = run([binary, "check", policy, path], work)
+        found = run([binary, command, policy, path] + [os.path.join(work, "out")] * (command == "prove"), work)
         line = found.line or "status %d" % found.status
-        slow = found.seconds > MOST_SECONDS or found.megabytes > MOST_MEGABYTES
+        slow = found.seconds > MOST[command][0] or found.megabytes > MOST[command][1]
         passed = passed and line == wanted and not slow
         note = ("" if line == wanted else "  WANTED " + wanted) + ("  TOO MUCH" if slow else "")
-        print("%-46s %9d bytes %6.2f s %5.0f MB  %s%s"
-              % (name, len(data), found.seconds, found.megabytes, line, note), flush=True)
+        print("%-5s %-46s %9d bytes %6.2f s %5.0f MB  %s%s"
+              % (command, name, len(data), found.seconds, found.megabytes, line, note), flush=True)
     return 0 if passed else 1
 
 

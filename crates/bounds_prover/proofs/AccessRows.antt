@@ -37,7 +37,7 @@ use Rattle.easy_goals.proofs.Kept.{search-more}
 -- ---- what is kept
 
 -- with another memo and other results of substitutions
-pub with_puts : (t u : TableView) (s : Search) (m : Memo) (p : Puts) → IsSearch t s → Extends t u → IsMemo u m → ArePuts u p → IsSearch u (record { memo = m; forms = s.forms; puts = p; occurrences = s.occurrences })
+pub with_puts : (t u : TableView) (s : Search) (m : Memo) (p : Puts) → IsSearch t s → Extends t u → IsMemo u m → ArePuts u p → IsSearch u (record { memo = m; forms = s.forms; puts = p; occurrences = s.occurrences; counted = s.counted })
 with_puts t u s m p h x k l =
     let g = search-more s t u h x in
     record { memo = k; forms = g.forms; puts = l; occurrences = g.occurrences }

@@ -22,6 +22,9 @@ use formula_ids::{FormNode, Hypothesis, form_node};
 use hereditary_subst::Exhausted;
 use term_table::{Id, Table};
 
+/// As so many steps a hypothesis counts that is tried: it has two normal forms looked up.
+const STEPS_A_TRY: u64 = 4;
+
 /// Access by a quantified hypothesis over `body`.
 fn by_quantified(
     table: &mut Table,
@@ -217,7 +220,7 @@ fn by_hyps(
     ensures after { OnOk result (IsAfter table.new search.new context.old context.new) }
 {
     let count = context.hyps.as_slice().len();
-    search.spend_steps(count as u64)?;
+    search.spend_steps((count as u64).saturating_mul(STEPS_A_TRY))?;
     for i in 0..count {
         let hyp = hyp_at(table, context, i);
         if let Some(proof) = by_hyp(table, search, context, asked, hyp.form, hyp.proof)? {

@@ -77,7 +77,7 @@ fn parts_in(
     ensures extends { Extends table.old table.new }
 {
     let condition = condition_in(table, policy, cut, invs)?;
-    let mut search = Search::new(table.allocator(), MOST_RESULTS);
+    let mut search = Search::new(table, MOST_RESULTS);
     let parts = proof_of_parts(table, &mut search, condition, 0)?;
     Ok(parts)
 }
@@ -191,8 +191,9 @@ fn made(alloc: Global, policy: &Policy, bytes: &[u8]) -> Result<Vec<u8>, ProveFa
 /// (`pcc_gate::front`); `NotEasy` the first part of the condition that has no proof in the class: 0 is
 /// the entry's, k + 1 that of invariant k; `TooBig` the first measure that is past its limit: the
 /// proof's weight (`pcc_gate::MAX_WEIGHT`) and height (`vcgen::MAX_HEIGHT`), the container's entries
-/// and bytes (`proof_container::MAX_ENTRIES`, `MAX_BYTES`), with its number. `Memory` says nothing of
-/// `bytes`; the search keeps at most `MOST_RESULTS` results, past which the answer is `Memory` too.
+/// and bytes (`proof_container::MAX_ENTRIES`, `MAX_BYTES`), with its number. `Memory` and `Results` say
+/// nothing of `bytes`: there was no memory, or the results that the search keeps and the terms that it
+/// makes were more than `MOST_RESULTS`.
 pub fn prove(alloc: Global, policy: &Policy, bytes: &[u8]) -> Result<Vec<u8>, ProveFault>
     ensures exact { IsProveAnswer policy.now bytes.now result }
     ensures accepted { IfOk result (λ out. IsAccepted policy.now out.items) }

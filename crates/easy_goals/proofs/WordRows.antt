@@ -35,12 +35,12 @@ if_ok_by (Ok a) f p = f p
 if_ok_by (Err e) f p = tt
 
 -- with another memo, other normal forms, other bounds
-pub with_memo : (t u : TableView) (s : Search) (m : Memo) → IsSearch t s → Extends t u → IsMemo u m → IsSearch u (record { memo = m; forms = s.forms; puts = s.puts; occurrences = s.occurrences })
+pub with_memo : (t u : TableView) (s : Search) (m : Memo) → IsSearch t s → Extends t u → IsMemo u m → IsSearch u (record { memo = m; forms = s.forms; puts = s.puts; occurrences = s.occurrences; counted = s.counted })
 with_memo t u s m h x k =
     let g = search-more s t u h x in
     record { memo = k; forms = g.forms; puts = g.puts; occurrences = g.occurrences }
 
-pub with_forms : (t u : TableView) (s : Search) (m : Memo) (f : NormalForms) → IsSearch t s → Extends t u → IsMemo u m → AreNormalForms u f → IsSearch u (record { memo = m; forms = f; puts = s.puts; occurrences = s.occurrences })
+pub with_forms : (t u : TableView) (s : Search) (m : Memo) (f : NormalForms) → IsSearch t s → Extends t u → IsMemo u m → AreNormalForms u f → IsSearch u (record { memo = m; forms = f; puts = s.puts; occurrences = s.occurrences; counted = s.counted })
 with_forms t u s m f h x k l =
     let g = search-more s t u h x in
     record { memo = k; forms = l; puts = g.puts; occurrences = g.occurrences }

@@ -29,6 +29,7 @@ pub(crate) fn under_binder(
     if context.outside == u32::MAX {
         return Err(Exhausted::Memory);
     }
+    search.spend_terms(table)?;
     let hyps = raised_hyps(table, &mut search.memo, &context.hyps)?;
     Context::new(table, context.outside + 1, hyps)
 }
@@ -53,6 +54,7 @@ pub(crate) fn under_hypothesis(
     if context.outside == u32::MAX {
         return Err(Exhausted::Memory);
     }
+    search.spend_terms(table)?;
     let mut hyps = raised_hyps(table, &mut search.memo, &context.hyps)?;
     let form = raised(table, &mut search.memo, a)?;
     let proof = table.intern(Node::Var(0))?;

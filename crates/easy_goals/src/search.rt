@@ -12,10 +12,14 @@ use easy_forms::{NormalForms, Occurrences};
 use easy_hyps::{Hypotheses, absurdity};
 use formula_ids::Puts;
 use hereditary_subst::{Exhausted, Memo};
-use std::alloc::Global;
 use term_table::{Id, Table};
 
-/// What is kept of all contexts, on one table. All that is kept counts in the limit of the memo.
+/// As so many steps a term counts, which are three results: it takes as much time and memory, since more
+/// terms are looked up than made.
+const STEPS_A_TERM: u64 = 48;
+
+/// What is kept of all contexts, on one table. All that is kept counts in the limit of the memo, and so
+/// does each term that comes to the table.
 #[derive(Drop)]
 pub struct Search {
     /// Results of shifts, and the limit.
@@ -25,19 +29,23 @@ pub struct Search {
     pub puts: Puts,
     /// Where variable 0 stands.
     pub occurrences: Occurrences,
+    // how many terms the table had when they were counted last
+    counted: u64,
 }
 
 impl Search {
     /// Nothing yet, which takes no memory. A call that would keep more than `most` results answers
-    /// `Results`.
-    pub fn new(alloc: Global, most: usize) -> Search
+    /// `Results`; each term that comes to `table` from now on counts as three.
+    pub fn new(table: &Table, most: usize) -> Search
         ensures { (t : TableView) → IsSearch t result }
     {
+        let alloc = table.allocator();
         Search {
             memo: Memo::new(alloc, most),
             forms: NormalForms::new(alloc),
             puts: Puts::new(alloc),
             occurrences: Occurrences::new(alloc),
+            counted: table.count(),
         }
     }
 
@@ -46,6 +54,21 @@ impl Search {
         ensures { (t : TableView) → IsSearch t self.old → IsSearch t self.new }
     {
         self.memo.spend_steps(steps)
+    }
+
+    /// Counts each term that came to the table since the last call, whoever made it. Fails past the
+    /// limit of the memo.
+    pub(crate) fn spend_terms(&mut self, table: &Table) -> Result<(), Exhausted>
+        ensures { (t : TableView) → IsSearch t self.old → IsSearch t self.new }
+    {
+        let count = table.count();
+        let terms = count.saturating_sub(self.counted);
+        if terms == 0 {
+            return Ok(());
+        }
+        self.counted = count;
+        self.memo
+            .spend_steps(terms.saturating_mul(STEPS_A_TERM).saturating_sub(1))
     }
 }
 
@@ -96,9 +119,8 @@ impl Context {
     }
 }
 
-/// Keeps what was found of the goal, and answers it. Fails past the limit of what is kept, and where
-/// memory does.
-pub(crate) fn keep_answer(
+/// Keeps what was found of the goal, and answers it.
+fn keep_row(
     table: &Table,
     search: &mut Search,
     context: &mut Context,
@@ -140,4 +162,25 @@ pub(crate) fn keep_answer(
             Ok(Some(id))
         }
     }
+}
+
+/// Keeps what was found of the goal, and answers it; what was made for it is counted. Fails past the
+/// limit of what is kept, and where memory does.
+pub(crate) fn keep_answer(
+    table: &Table,
+    search: &mut Search,
+    context: &mut Context,
+    means: Means,
+    goal: Id,
+    proof: Option<Id>,
+) -> Result<Option<Id>, Exhausted>
+    requires search { IsSearch table.now search.old }
+    requires context { IsContext table.now context.old }
+    requires proof { let c = context.old in
+        IsFoundProof table.now c.hyps c.outside means goal proof }
+    ensures same { IfOk result (λ o. o ≡ proof) }
+    ensures after { OnOk result (IsAfter table.now search.new context.old context.new) }
+{
+    search.spend_terms(table)?;
+    keep_row(table, search, context, means, goal, proof)
 }

@@ -314,6 +314,7 @@ pub fn normal(
     ensures extends { Extends table.old table.new }
     ensures search { OnOk result (IsSearch table.new search.new) }
 {
+    search.spend_terms(table)?;
     normal_form(table, &mut search.memo, &mut search.forms, outside, e)
 }
 

@@ -73,15 +73,10 @@ fn form(alloc: Global, table: &mut Table, names: &Names, cursor: &mut Cursor<'_>
 }
 
 /// The normal form as the search keeps it.
-fn rewritten(
-    alloc: Global,
-    table: &mut Table,
-    names: &Names,
-    cursor: &mut Cursor<'_>,
-) -> Read<Answer> {
+fn rewritten(table: &mut Table, names: &Names, cursor: &mut Cursor<'_>) -> Read<Answer> {
     let outside = small_number(cursor)?;
     let e = read_term(table, names, cursor)?;
-    let mut search = Search::new(alloc, MOST_RESULTS);
+    let mut search = Search::new(table, MOST_RESULTS);
     match normal(table, &mut search, outside, e) {
         Ok(found) => Ok(Answer::Tree(found.now)),
         Err(_) => Ok(Answer::Memory),
@@ -130,7 +125,7 @@ pub(crate) fn about_forms(
         return Ok(Some(form(alloc, table, names, cursor)?));
     }
     if question == b"rewritten".as_slice() {
-        return Ok(Some(rewritten(alloc, table, names, cursor)?));
+        return Ok(Some(rewritten(table, names, cursor)?));
     }
     if question == b"rest".as_slice() {
         return Ok(Some(rest(table, names, cursor)?));

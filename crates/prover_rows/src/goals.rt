@@ -7,7 +7,6 @@ use crate::hypotheses::split;
 use bounds_prover::proof_by_access;
 use easy_goals::{Context, Search, proof_by_words, proof_without_access};
 use hereditary_subst::MOST_RESULTS;
-use std::alloc::Global;
 use term_table::{Id, Table};
 use test_inputs::cursors::Cursor;
 use test_inputs::faults::{Read, RowFault};
@@ -30,9 +29,9 @@ fn context_of(table: &mut Table, form: Id) -> Read<Context>
 }
 
 /// What proves the goal by words alone.
-fn by_words(alloc: Global, table: &mut Table, form: Id, goal: Id) -> Read<Option<Id>> {
+fn by_words(table: &mut Table, form: Id, goal: Id) -> Read<Option<Id>> {
     let mut context = context_of(table, form)?;
-    let mut search = Search::new(alloc, MOST_RESULTS);
+    let mut search = Search::new(table, MOST_RESULTS);
     known(table, goal)?;
     match proof_by_words(table, &mut search, &mut context, goal) {
         Ok(found) => Ok(found),
@@ -41,9 +40,9 @@ fn by_words(alloc: Global, table: &mut Table, form: Id, goal: Id) -> Read<Option
 }
 
 /// What proves the goal by connectives and words.
-fn by_connectives(alloc: Global, table: &mut Table, form: Id, goal: Id) -> Read<Option<Id>> {
+fn by_connectives(table: &mut Table, form: Id, goal: Id) -> Read<Option<Id>> {
     let mut context = context_of(table, form)?;
-    let mut search = Search::new(alloc, MOST_RESULTS);
+    let mut search = Search::new(table, MOST_RESULTS);
     known(table, goal)?;
     match proof_without_access(table, &mut search, &mut context, goal) {
         Ok(found) => Ok(found),
@@ -52,9 +51,9 @@ fn by_connectives(alloc: Global, table: &mut Table, form: Id, goal: Id) -> Read<
 }
 
 /// What proves the goal as an access that the hypotheses give.
-fn by_access(alloc: Global, table: &mut Table, form: Id, goal: Id) -> Read<Option<Id>> {
+fn by_access(table: &mut Table, form: Id, goal: Id) -> Read<Option<Id>> {
     let mut context = context_of(table, form)?;
-    let mut search = Search::new(alloc, MOST_RESULTS);
+    let mut search = Search::new(table, MOST_RESULTS);
     known(table, goal)?;
     match proof_by_access(table, &mut search, &mut context, goal) {
         Ok(found) => Ok(found),
@@ -64,7 +63,6 @@ fn by_access(alloc: Global, table: &mut Table, form: Id, goal: Id) -> Read<Optio
 
 /// The answer to a question on a goal, if it is one.
 pub(crate) fn about_goals(
-    alloc: Global,
     table: &mut Table,
     names: &Names,
     question: &[u8],
@@ -78,12 +76,12 @@ pub(crate) fn about_goals(
     let form = read_term(table, names, cursor)?;
     let goal = read_term(table, names, cursor)?;
     if is_words {
-        let found = by_words(alloc, table, form, goal)?;
+        let found = by_words(table, form, goal)?;
         return Ok(Some(Answer::holds(found.is_some())));
     }
     if is_access {
-        let found = by_access(alloc, table, form, goal)?;
+        let found = by_access(table, form, goal)?;
         return Ok(Some(Answer::holds(found.is_some())));
     }
-    Ok(Some(Answer::tree(by_connectives(alloc, table, form, goal)?)))
+    Ok(Some(Answer::tree(by_connectives(table, form, goal)?)))
 }

@@ -58,7 +58,7 @@ impl Questions for ProverQuestions {
         if let Some(answer) = about_forms(alloc, table, names, question, cursor)? {
             return Ok(answer);
         }
-        if let Some(answer) = about_goals(alloc, table, names, question, cursor)? {
+        if let Some(answer) = about_goals(table, names, question, cursor)? {
             return Ok(answer);
         }
         Err(RowFault::Word)
