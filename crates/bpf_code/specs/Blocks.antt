@@ -1,4 +1,4 @@
--- The code of a program: a block of twenty words for each instruction, block i from word 20 * i on.
+-- The code of a program: a block of BLOCK words for each instruction, block i from word BLOCK * i on.
 -- Register 1 is A; a block may use 2 and 3 (the quadwords that a load looks at), 4 (a byte), 5 (k) and 6 (what is tested). Register 0
 -- takes what is returned, register 16 is the packet's address, and no other register is written.
 use Rattle.std.specs.Prelude.{ℕ, zero, suc, ◌+◌, ◌-◌, ◌*◌, ◌/◌, ◌%◌, ◌==◌, if◌then◌else◌, List, [], ◌∷◌, ◌++◌, length, Option, Some, None, ℤ, pos}
@@ -7,6 +7,7 @@ use Rattle.alpha_words.specs.declared.insn.Rhs.TheVariants.{Reg, Lit}
 use Rattle.alpha_words.specs.declared.insn.Cond.TheVariants.{NotZero}
 use Rattle.alpha_words.specs.declared.insn.Insn.{Insn}
 use Rattle.alpha_words.specs.declared.insn.Insn.TheVariants.{Ldq, Oper, Branch, Br, Ret}
+use Rattle.bpf_code.specs.declared.blocks.TheConstants.{BLOCK}
 use Rattle.bpf_words.specs.declared.insn.Bpf.{Bpf}
 use Rattle.bpf_words.specs.declared.insn.BpfOp.{BpfOp}
 use Rattle.bpf_words.specs.declared.insn.BpfOp.TheVariants as ops
@@ -90,7 +91,7 @@ passed_index i b op = i + 1
 
 -- the displacement from the word `at` to block i, which lies behind it
 abbrev pub block_distance : ℕ → ℕ → ℤ
-block_distance at i = pos (20 * i - (at + 1))
+block_distance at i = pos (BLOCK * i - (at + 1))
 
 -- from the word `at` on: to block i where register 6 isn't 0, else to block j
 abbrev pub branch_pair : ℕ → ℕ → ℕ → List Insn
@@ -112,7 +113,7 @@ filled (suc n) (x ∷ l) = x ∷ filled n l
 
 -- the place of the last words of block i
 abbrev pub end_place : ℕ → BpfOp → ℕ → ℕ
-end_place i op k = 20 * i + length (straight_code op k)
+end_place i op k = BLOCK * i + length (straight_code op k)
 
 -- what block i does
 abbrev pub block_code : ℕ → Bpf → BpfOp → List Insn
@@ -120,8 +121,8 @@ block_code i b op = straight_code op b.k ++ end_code (end_place i op b.k) i b op
 
 -- block i, given what the code of its instruction says
 abbrev pub block_of : ℕ → Bpf → Option BpfOp → List Insn
-block_of i b None = filled 20 []
-block_of i b (Some op) = filled 20 (block_code i b op)
+block_of i b None = filled BLOCK []
+block_of i b (Some op) = filled BLOCK (block_code i b op)
 
 -- the blocks of instructions, the first of which has index i
 abbrev pub blocks_from : ℕ → List Bpf → List Insn

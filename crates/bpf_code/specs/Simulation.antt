@@ -10,6 +10,7 @@ use Rattle.bpf_words.specs.declared.insn.Bpf.{Bpf}
 use Rattle.bpf_words.specs.Programs.{IsProgram}
 use Rattle.bpf_words.specs.Reading.{AreBytes}
 use Rattle.bpf_words.specs.Values.{bpf_value}
+use Rattle.bpf_code.specs.declared.blocks.TheConstants.{BLOCK}
 use Rattle.bpf_code.specs.Blocks.{nonzero_flag, bpf_code}
 
 -- the word of the eight bytes from offset k on, the lowest byte first
@@ -35,7 +36,7 @@ pub record StartsOn (packet : List ℕ) (s : State) : Type 0 where
 abbrev pub ReturnsValue : List Bpf → List ℕ → ℕ → State → Type 0
 ReturnsValue program packet budget s = (run_of (bpf_code program) budget s).0 ≡ Returned (nonzero_flag (bpf_value program packet))
 
--- From each such state the code of a program returns so within twenty steps an instruction.
+-- From each such state the code of a program returns so within BLOCK steps an instruction.
 abbrev pub Simulates : Type 0
 Simulates = (program : List Bpf) (packet : List ℕ) (budget : ℕ) (s : State) → IsProgram program → AreBytes packet → StartsOn packet s
-    → 20 * length program ≤ budget → ReturnsValue program packet budget s
+    → BLOCK * length program ≤ budget → ReturnsValue program packet budget s

@@ -3,9 +3,9 @@
 ghost use Rattle.std.specs.Prelude.{◌≡◌, ◌+◌, ◌-◌, ◌*◌, ◌<◌, ◌≤◌, ◌++◌, ◌∷◌, [], length, replicate, slice_get, Some, IfOk, OnOk};
 ghost use Rattle.alpha_words.specs.declared.insn.Insn.TheVariants as words;
 ghost use Rattle.bpf_words.specs.declared.insn.BpfOp.TheVariants as ops;
-ghost use Rattle.bpf_words.specs.declared.insn.Bpf as specs;
 ghost use Rattle.bpf_words.specs.declared.insn.TheConstants.{MAX_PROGRAM};
 ghost use Rattle.bpf_words.specs.Programs.{bpf_op, IsInBounds, IsProgram, IsSoundAt};
+ghost use Rattle.bpf_code.specs.declared.blocks.TheConstants.{BLOCK};
 ghost use Rattle.bpf_code.specs.Blocks.{block_of, bpf_code, branch_pair, constant_code, end_code, filled, block_code, load_code, straight_code};
 ghost use Rattle.bpf_code.specs.Inside.Bounds.{KeepsTo};
 
@@ -97,8 +97,8 @@ fn push_straight(code: &mut Vec<Insn>, op: BpfOp, k: u32) -> Result<(), AllocErr
 fn push_branches(code: &mut Vec<Insn>, i: usize, j: usize) -> Result<(), AllocError>
     requires far { i ≤ MAX_PROGRAM }
     requires near { j ≤ MAX_PROGRAM }
-    requires ahead { length code.now.items + 1 ≤ 20 * i }
-    requires over { length code.now.items + 2 ≤ 20 * j }
+    requires ahead { length code.now.items + 1 ≤ BLOCK * i }
+    requires over { length code.now.items + 2 ≤ BLOCK * j }
     ensures exact { OnOk result
         (code.new.items ≡ code.old.items ++ branch_pair (length code.old.items) i j) }
 {
@@ -121,7 +121,7 @@ fn push_branches(code: &mut Vec<Insn>, i: usize, j: usize) -> Result<(), AllocEr
 fn push_end(code: &mut Vec<Insn>, i: usize, insn: Bpf, op: BpfOp) -> Result<(), AllocError>
     requires early { i < MAX_PROGRAM }
     requires bounds { IsInBounds MAX_PROGRAM i insn op }
-    requires place { length code.now.items ≤ 20 * i + 18 }
+    requires place { length code.now.items ≤ BLOCK * i + 18 }
     ensures exact { OnOk result
         (code.new.items ≡ code.old.items ++ end_code (length code.old.items) i insn op) }
 {
@@ -164,9 +164,9 @@ fn push_words(code: &mut Vec<Insn>, i: usize, insn: Bpf, op: BpfOp) -> Result<()
     requires early { i < MAX_PROGRAM }
     requires bounds { IsInBounds MAX_PROGRAM i insn op }
     requires keeps { KeepsTo op insn.k }
-    requires place { length code.now.items ≡ 20 * i }
+    requires place { length code.now.items ≡ BLOCK * i }
     ensures exact { OnOk result
-        (code.new.items ≡ code.old.items ++ filled 20 (block_code i insn op)) }
+        (code.new.items ≡ code.old.items ++ filled BLOCK (block_code i insn op)) }
 {
     push_straight(code, op, insn.k)?;
     push_end(code, i, insn, op)?;
@@ -177,8 +177,8 @@ fn push_words(code: &mut Vec<Insn>, i: usize, insn: Bpf, op: BpfOp) -> Result<()
 fn push_block(code: &mut Vec<Insn>, program: &[Bpf], i: usize) -> Result<(), AllocError>
     requires program { IsProgram program.now }
     requires within { i < length program.now }
-    requires place { length code.now.items ≡ 20 * i }
-    ensures exact { (insn : specs.Bpf) → slice_get program.now i ≡ Some insn → OnOk result
+    requires place { length code.now.items ≡ BLOCK * i }
+    ensures exact { (insn : Bpf) → slice_get program.now i ≡ Some insn → OnOk result
         (code.new.items ≡ code.old.items ++ block_of i insn (bpf_op insn.code)) }
 {
     let insn = program[i];
