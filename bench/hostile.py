@@ -137,6 +137,43 @@ def changing(ways):
     return words + [LOOP], len(words)
 
 
+def all_over(t, register, leaves, depth=0, put=None):
+    """So many leaves over a register, or tt, as a formula that `or_r` proves; under so many hypotheses."""
+    word = t.var(30 - register + depth) if put is None else t.lit(put)
+    return t.con(OR, balanced(t, lambda k: t.con(EQ, word, t.lit(k)), 0, leaves), t.con(TT))
+
+
+def by_right(t, formula):
+    """The proof of such a formula."""
+    return t.con(OR_R, t.nodes[t.nodes[formula][1]][2], t.con(TT), t.con(TT_I))
+
+
+def annotated(t, step, count, before, after, proof, at_start):
+    """Code of one instruction so many times, each with one invariant, and a return; and the proof that it
+    gives: of `after`, what the invariant is behind the instruction, under the invariant, and of the
+    invariant at the start."""
+    tt, tt_i, pre = t.con(TT), t.con(TT_I), tag_precondition(t)
+    goal, whole = tt, tt_i
+    last = closed(t, t.con(IMP, before, tt), t.con(IMP_I, before, tt, t.lam(tt_i)))
+    each = closed(t, t.con(IMP, before, after), t.con(IMP_I, before, after, t.lam(proof)))
+    first = closed(t, t.con(IMP, pre, before), t.con(IMP_I, pre, before, t.lam(at_start)))
+    for part in [last] + [each] * (count - 1) + [first]:
+        goal, whole = t.con(AND, part[0], goal), t.con(AND_I, part[0], goal, part[1], whole)
+    return container(t, TAG, [step] * count + [RETURN], [(k, before) for k in range(count)], whole)
+
+
+def unchanged(t, count, leaves):
+    """Each instruction changes r1, and the invariant speaks of r5."""
+    kept = all_over(t, 5, leaves)
+    return annotated(t, addq(1, 1, 1), count, kept, kept, t.var(0), by_right(t, all_over(t, 5, leaves, 1)))
+
+
+def same_again(t, count, leaves):
+    """Each instruction sets r1 to 5, and the invariant speaks of it."""
+    before, after = all_over(t, 1, leaves), all_over(t, 1, leaves, put=5)
+    return annotated(t, 0x08 << 26 | 1 << 21 | 31 << 16 | 5, count, before, after, by_right(t, after), by_right(t, all_over(t, 1, leaves, 1)))
+
+
 def families():
     for k in (18, 22, 200, 1000):
         t = Terms()
@@ -161,6 +198,11 @@ def families():
     t = Terms()
     wide = balanced(t, lambda k: t.con(EQ, t.var(30 - 5), t.lit(k)), 0, 50000)
     yield "b, .. of another register", "filter", container(t, FILTER, many + [RETURN_1, RETURN], [(k, wide) for k in range(255)], t.con(TT_I)), "refused 11 NotProof"
+    for count, leaves in ((16, 100), (250, 20000)):
+        t = Terms()
+        yield "h, %d invariants of %d leaves, unchanged, proved" % (count, leaves), "tag", unchanged(t, count, leaves), "accepted"
+        t = Terms()
+        yield "h, %d of a register that is set to 5, proved" % count, "tag", same_again(t, count, leaves), "accepted"
     for k in (10, 15):
         t = Terms()
         yield "c, cases, %d levels" % k, "tag", returning_container(t, by_cases(t, k)), "accepted"

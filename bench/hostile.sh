@@ -1,4 +1,5 @@
 #!/usr/bin/env bash
+<<<<<<< HEAD
 # Times `pcc check` and `pcc prove` on files made to be slow, each within every limit of the format: bytes,
 # processor time, peak memory, and the line or status. With words only the families whose name has one of
 # them; PCC names another program. Another line than the one expected, more than 2 s or 512 MB of `check`,
@@ -19,6 +20,12 @@
 #   k  bounds that are tried for each relation, in vain
 #   l  bounds of one word
 #   m  disjunctions whose sides bring a hypothesis each, so that one goal stands in many contexts
+=======
+# Times `pcc check` on files made to be slow, each within every limit of the format: bytes, processor
+# time, peak memory, and the line or status. With words only the families whose name has one of them; PCC
+# names another program. Another line than the one expected, or more than 2 s or 512 MB, ends the run with
+# status 1 (known: families e and h where the limit on results stands).
+>>>>>>> 1c09e7f3d52444f1e902d49d4a2fe535321cab35
 set -eu
 top=$(cd "$(dirname "${BASH_SOURCE[0]}")/.." && pwd)
 work=$(mktemp -d)

@@ -23,7 +23,8 @@ module _ (make : Tree → Tree → Tree) (one : IsOneToOne make) (tree a b p q :
   pub by-second : (s r : Bool) → IsTrue s ↔ (a ≡ p) → s ≡ true → IsTrue r ↔ (b ≡ q) → IsTrue r ↔ (tree ≡ make p q)
   by-second s r h e k = (λ x. is ∙ (λ i. make (h.0 e i) (k.0 x i)), λ x. k.1 (one.second a b p q (sym is ∙ x)))
 
-  pub ok-by-second : {E : Type 0} (s : Bool) (r : Result Bool E) → IsTrue s ↔ (a ≡ p) → s ≡ true → IfOk r (λ x. IsTrue x ↔ (b ≡ q)) → IfOk r (λ x. IsTrue x ↔ (tree ≡ make p q))
+  pub ok-by-second : {E : Type 0} (s : Bool) (r : Result Bool E) → IsTrue s ↔ (a ≡ p) → s ≡ true → IfOk r (λ x. IsTrue x ↔ (b ≡ q)) → IfOk r
+      (λ x. IsTrue x ↔ (tree ≡ make p q))
   ok-by-second s r h e k = IfOk-weaker r (λ x. IsTrue x ↔ (b ≡ q)) (λ x. IsTrue x ↔ (tree ≡ make p q)) (λ x. by-second s x h e) k
 
 -- an answer about two trees is one about trees that equal them

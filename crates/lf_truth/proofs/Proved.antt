@@ -27,11 +27,13 @@ pub formula-none : (p : Tree) → ((a : Tree) → Synth declared [] p a → ⊥)
 formula-none p none g h = none (pf g) (synthesised h)
 
 -- the formula is the one of the type, if that has one
-pub formula-is : (u : TableView) (p : Tree) (a : ℕ) (o : Option ℕ) → Synth declared [] p (tree_at u a) → IsResult u (λ g. tree_at u a ≡ pf g) o → IsResult u (λ g. Checks declared [] p (pf g)) o
+pub formula-is : (u : TableView) (p : Tree) (a : ℕ) (o : Option ℕ) → Synth declared [] p (tree_at u a) → IsResult u (λ g. tree_at u a ≡ pf g) o → IsResult u
+    (λ g. Checks declared [] p (pf g)) o
 formula-is u p a None d none = λ g h. none g (synth_unique declared d (synthesised h))
 formula-is u p a (Some id) d h = (h.0, atom_checks (subst (λ z. Synth declared [] p z) h.1 d) tt)
 
 -- it is true where it encodes a closed one
-pub formulas-valid : IsSoundSignature declared → (u : TableView) (p : Tree) (o : Option ℕ) → IsResult u (λ g. Checks declared [] p (pf g)) o → IfSome o (λ id. (F : Form) → EncodesClosed F (tree_at u id) → IsValid F)
+pub formulas-valid : IsSoundSignature declared → (u : TableView) (p : Tree) (o : Option ℕ) → IsResult u (λ g. Checks declared [] p (pf g)) o → IfSome o
+    (λ id. (F : Form) → EncodesClosed F (tree_at u id) → IsValid F)
 formulas-valid sound u p None h = tt
 formulas-valid sound u p (Some id) h = λ F e. sound F p e.over (subst (λ z. Checks declared [] p (pf z)) (sym e.is) h.1)

@@ -45,29 +45,35 @@ closed-one = record {
 -- ---- what the readers answer
 
 -- one quantifier more
-pub words-more : (t : TableView) (tree inner : Tree) (n m : ℕ) (o : Option ℕ) → tree ≡ all_term inner → n ≡ suc m → IsResult t (λ b. inner ≡ all_terms m b) o → IsResult t (λ b. tree ≡ all_terms n b) o
+pub words-more : (t : TableView) (tree inner : Tree) (n m : ℕ) (o : Option ℕ) → tree ≡ all_term inner → n ≡ suc m → IsResult t (λ b. inner ≡ all_terms m b)
+    o → IsResult t (λ b. tree ≡ all_terms n b) o
 words-more t tree inner n m None is s h = λ b e. h b (all_term-same inner (all_terms m b) (sym is ∙ e ∙ ap (λ k. all_terms k b) s))
 words-more t tree inner n m (Some id) is s h = (h.0, is ∙ ap all_term h.1 ∙ sym (ap (λ k. all_terms k (tree_at t id)) s))
 
-pub words-none : (t : TableView) (tree : Tree) (n : ℕ) (o : Option ℕ) → IsResult t (λ b. tree ≡ all_terms n b) o → o ≡ None → (a b : Tree) → tree ≡ all_terms n (imp_term a b) → ⊥
+pub words-none : (t : TableView) (tree : Tree) (n : ℕ) (o : Option ℕ) → IsResult t (λ b. tree ≡ all_terms n b) o → o ≡ None → (a b : Tree) → tree ≡
+    all_terms n (imp_term a b) → ⊥
 words-none t tree n o h e a b k = subst (λ z. IsResult t (λ b. tree ≡ all_terms n b) z) e h (imp_term a b) k
 
 -- the sides of what stands under the quantifiers
-pub words-sides : (t : TableView) (tree implied : Tree) (n : ℕ) (o : Option Pair) → tree ≡ all_terms n implied → AreSides (app2 IMP) t implied o → AreSides (λ a b. all_terms n (imp_term a b)) t tree o
+pub words-sides : (t : TableView) (tree implied : Tree) (n : ℕ) (o : Option Pair) → tree ≡ all_terms n implied → AreSides (app2 IMP) t implied o → AreSides
+    (λ a b. all_terms n (imp_term a b)) t tree o
 words-sides t tree implied n None is h = λ a b e. h a b (all_terms-same n implied (imp_term a b) (sym is ∙ e))
 words-sides t tree implied n (Some p) is h = (h.0, h.1, is ∙ ap (all_terms n) h.2)
 
 memory-none : (tree : Tree) (n : ℕ) → ((b : Tree) → tree ≡ allm_term b → ⊥) → (a b : Tree) → tree ≡ allm_term (all_terms n (imp_term a b)) → ⊥
 memory-none tree n none a b e = none (all_terms n (imp_term a b)) e
 
-memory-sides : (t : TableView) (tree words : Tree) (n : ℕ) (o : Option Pair) → tree ≡ allm_term words → AreSides (λ a b. all_terms n (imp_term a b)) t words o → AreSides (λ a b. allm_term (all_terms n (imp_term a b))) t tree o
+memory-sides : (t : TableView) (tree words : Tree) (n : ℕ) (o : Option Pair) → tree ≡ allm_term words → AreSides (λ a b. all_terms n (imp_term a b)) t words
+    o → AreSides (λ a b. allm_term (all_terms n (imp_term a b))) t tree o
 memory-sides t tree words n None is h = λ a b e. h a b (allm_term-same words (all_terms n (imp_term a b)) (sym is ∙ e))
 memory-sides t tree words n (Some p) is h = (h.0, h.1, is ∙ ap allm_term h.2)
 
-pub closed-none : (t : TableView) (tree : Tree) (o : Option ℕ) → IsResult t (λ b. tree ≡ allm_term b) o → o ≡ None → (a b : Tree) → tree ≡ closed_term (imp_term a b) → ⊥
+pub closed-none : (t : TableView) (tree : Tree) (o : Option ℕ) → IsResult t (λ b. tree ≡ allm_term b) o → o ≡ None → (a b : Tree) → tree ≡ closed_term
+    (imp_term a b) → ⊥
 unfolding closed_term
 closed-none t tree o h e a b k = memory-none tree 31 (subst (λ z. IsResult t (λ b. tree ≡ allm_term b) z) e h) a b k
 
-pub closed-sides : (t : TableView) (tree words : Tree) (o : Option Pair) → tree ≡ allm_term words → AreSides (λ a b. all_terms 31 (imp_term a b)) t words o → AreSides (λ a b. closed_term (imp_term a b)) t tree o
+pub closed-sides : (t : TableView) (tree words : Tree) (o : Option Pair) → tree ≡ allm_term words → AreSides (λ a b. all_terms 31 (imp_term a b)) t words o
+    → AreSides (λ a b. closed_term (imp_term a b)) t tree o
 unfolding closed_term
 closed-sides t tree words o is h = memory-sides t tree words 31 o is h

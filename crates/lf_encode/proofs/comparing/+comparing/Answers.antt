@@ -20,7 +20,8 @@ is_put_at-keep-requires-clause-put t c =
     let u = c.is_put_by_parts.new.table in
     let same = c.in_ok-equal.ensures.extends.same c.args.goal c.requires.goal in
     let known : IsKnown u c.args.goal = omega (arith, c.requires.goal, c.in_ok-equal.ensures.extends.longer) in
-    is-put o u c.args.regs.now c.args.memory _ c.args.id c.args.depth c.args.goal c.requires.ready c.in_ok-equal.ensures.extends c.requires.known c.number.ensures refl
+    is-put o u c.args.regs.now c.args.memory _ c.args.id c.args.depth c.args.goal c.requires.ready c.in_ok-equal.ensures.extends c.requires.known
+    c.number.ensures refl
     (record { known = known; is = same ∙ c.in_ok-equal.ensures.exact.0 c.if-equal.true })
 
 pub is_put_by_parts-is_put_at-requires-in-App : goal.is_put_by_parts-is_put_at-requires-in-App
@@ -66,7 +67,11 @@ is_put_by_parts-returns-else-not-branch-clause-exact t c =
     let there : IsKnown o argument = omega (arith, c.requires.goal, c.in-App-node.ensures.parts.1) in
     let put : put_tree (machine_terms_at u regs c.args.memory) depth (tree_at u a) ≡ put_tree terms depth (tree_at o a) =
     λ i. put_tree (ready-same o u regs c.args.memory c.requires.ready x i) depth (x.same a known i) in
-    let second = answer-of c.is_put_at-in-App.result (tree_at u argument) (tree_at o argument) (put_tree (machine_terms_at u regs c.args.memory) depth (tree_at u a)) (put_tree terms depth (tree_at o a)) (x.same argument there) put c.is_put_at-in-App.ensures.exact in
-    let both = ok-by-second App app-one (tree_at o c.args.goal) (tree_at o function) (tree_at o argument) (put_tree terms depth (tree_at o f)) (put_tree terms depth (tree_at o a)) (sym c.in-App-node.ensures.tree)
+    let second = answer-of c.is_put_at-in-App.result (tree_at u argument) (tree_at o argument)
+    (put_tree (machine_terms_at u regs c.args.memory) depth (tree_at u a)) (put_tree terms depth (tree_at o a)) (x.same argument there) put
+    c.is_put_at-in-App.ensures.exact in
+    let both = ok-by-second App app-one (tree_at o c.args.goal) (tree_at o function) (tree_at o argument) (put_tree terms depth (tree_at o f))
+    (put_tree terms depth (tree_at o a)) (sym c.in-App-node.ensures.tree)
     c.in_ok-is_put_at-in-App.field-0 c.is_put_at-in-App.result c.in_ok-is_put_at-in-App.ensures.exact c.if-not-branch.false second in
-    answer-of c.is_put_at-in-App.result (tree_at o c.args.goal) (tree_at o c.args.goal) (put_tree terms depth (App (tree_at o f) (tree_at o a))) (put_tree terms depth (tree_at o c.args.id)) refl (ap (put_tree terms depth) c.in-App.ensures.tree) both
+    answer-of c.is_put_at-in-App.result (tree_at o c.args.goal) (tree_at o c.args.goal) (put_tree terms depth (App (tree_at o f) (tree_at o a)))
+    (put_tree terms depth (tree_at o c.args.id)) refl (ap (put_tree terms depth) c.in-App.ensures.tree) both

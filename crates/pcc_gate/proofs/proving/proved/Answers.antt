@@ -13,10 +13,12 @@ use Rattle.pcc_gate.proofs.Refusing.{not-both}
 use Rattle.pcc_gate.proofs.proving.proved.Goals as goal
 
 pub is_condition_with-requires-clause-invs : goal.is_condition_with-requires-clause-invs
-is_condition_with-requires-clause-invs c = low-more c.args.table.now c.proved_formula_with.new.table c.args.invs.now c.requires.invs c.in_ok-formula.ensures.extends
+is_condition_with-requires-clause-invs c = low-more c.args.table.now c.proved_formula_with.new.table c.args.invs.now c.requires.invs
+    c.in_ok-formula.ensures.extends
 
 pub is_condition_with-requires-clause-forms : goal.is_condition_with-requires-clause-forms
-is_condition_with-requires-clause-forms c = subst AreForms (low-same c.args.table.now c.proved_formula_with.new.table c.args.invs.now c.requires.invs c.in_ok-formula.ensures.extends) c.requires.forms
+is_condition_with-requires-clause-forms c = subst AreForms (low-same c.args.table.now c.proved_formula_with.new.table c.args.invs.now c.requires.invs
+    c.in_ok-formula.ensures.extends) c.requires.forms
 
 pub returns-in_default-clause-answer : goal.returns-in_default-clause-answer
 returns-in_default-clause-answer c =
@@ -39,9 +41,11 @@ returns-then-not-equal-clause-answer c =
     let found = tree_at u c.in-Some.formula in
     let has = subst (λ z. IsResult u (λ g. Checks declared [] proof (pf g)) z) c.in-Some.is c.in_ok-formula.ensures.exact in
     let same = low-same o u c.args.invs.now c.requires.invs c.in_ok-formula.ensures.extends in
-    let is : EncodesCondition policy code (inv_trees u c.args.invs.now) vc = subst (λ l. EncodesCondition policy code l vc) same (vc_of-encodes policy code invs c.requires.forms) in
+    let is : EncodesCondition policy code (inv_trees u c.args.invs.now) vc = subst (λ l. EncodesCondition policy code l vc) same
+    (vc_of-encodes policy code invs c.requires.forms) in
     let other : Checks declared [] proof (pf vc) → ⊥ =
-    λ k. not-both _ c.if-not-equal.true (c.in-Ok.ensures.exact.1.1 (subst (λ z. EncodesCondition policy code (inv_trees u c.args.invs.now) z) (one-formula proof vc found k has.1) is)) in
+    λ k. not-both _ c.if-not-equal.true (c.in-Ok.ensures.exact.1.1 (subst (λ z. EncodesCondition policy code (inv_trees u c.args.invs.now) z)
+    (one-formula proof vc found k has.1) is)) in
     (proves-false proof vc other, refl)
 
 pub returns-clause-answer : goal.returns-clause-answer
@@ -55,5 +59,6 @@ returns-clause-answer c =
     let found = tree_at u c.in-Some.formula in
     let has = subst (λ z. IsResult u (λ g. Checks declared [] proof (pf g)) z) c.in-Some.is c.in_ok-formula.ensures.exact in
     let same = low-same o u c.args.invs.now c.requires.invs c.in_ok-formula.ensures.extends in
-    let is : EncodesCondition policy code invs found = subst (λ l. EncodesCondition policy code l found) (sym same) (c.in-Ok.ensures.exact.1.0 c.if-not-equal.false) in
+    let is : EncodesCondition policy code invs found = subst (λ l. EncodesCondition policy code l found) (sym same)
+    (c.in-Ok.ensures.exact.1.0 c.if-not-equal.false) in
     judged-true policy code invs proof found c.requires.forms is has.1

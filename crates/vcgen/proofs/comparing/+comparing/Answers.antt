@@ -19,10 +19,12 @@ use Rattle.vcgen.proofs.comparing.+comparing.Goals as goal
 -- ---- walk
 
 pub is_walk-is_put_with-requires-clause-known : goal.is_walk-is_put_with-requires-clause-known
-is_walk-is_put_with-requires-clause-known t c = (inv-known c.args.table.now c.args.program.now.invs.now c.args.index c.in-Some.inv c.invariant.result c.requires.walking.program.invs c.invariant.ensures c.in-Some.is).0
+is_walk-is_put_with-requires-clause-known t c = (inv-known c.args.table.now c.args.program.now.invs.now c.args.index c.in-Some.inv c.invariant.result
+    c.requires.walking.program.invs c.invariant.ensures c.in-Some.is).0
 
 pub is_walk-is_put_with-requires-clause-low : goal.is_walk-is_put_with-requires-clause-low
-is_walk-is_put_with-requires-clause-low t c = (inv-known c.args.table.now c.args.program.now.invs.now c.args.index c.in-Some.inv c.invariant.result c.requires.walking.program.invs c.invariant.ensures c.in-Some.is).1
+is_walk-is_put_with-requires-clause-low t c = (inv-known c.args.table.now c.args.program.now.invs.now c.args.index c.in-Some.inv c.invariant.result
+    c.requires.walking.program.invs c.invariant.ensures c.in-Some.is).1
 
 pub is_walk-returns-then-fuel-eq0-clause-exact : goal.is_walk-returns-then-fuel-eq0-clause-exact
 is_walk-returns-then-fuel-eq0-clause-exact t c =
@@ -32,9 +34,11 @@ is_walk-returns-then-fuel-eq0-clause-exact t c =
     let terms = machine_terms_at o c.args.symbols.now.regs c.args.symbols.now.memory in
     let post = tree_at o c.args.program.now.post in
     let tree = walked c.args.program.now.code.now (inv_trees o c.args.program.now.invs.now) post c.args.fuel c.args.index terms in
-    let spent = walk-spent o c.args.program.now.code.now c.args.program.now.invs.now post c.args.index terms c.args.fuel c.invariant.result c.if-fuel-eq0.true c.invariant.ensures c.in-None.is in
+    let spent = walk-spent o c.args.program.now.code.now c.args.program.now.invs.now post c.args.index terms c.args.fuel c.invariant.result
+    c.if-fuel-eq0.true c.invariant.ensures c.in-None.is in
     let s = c.in_ok-falsity-in-None.ensures.id in
-    one-answer c.same.result (tree_at u goal) (tree_at o goal) (tree_at u c.in_ok-falsity-in-None.falsity) tree (c.in_ok-falsity-in-None.ensures.extends.same goal c.requires.goal) (s.1 ∙ sym spent) c.same.ensures
+    one-answer c.same.result (tree_at u goal) (tree_at o goal) (tree_at u c.in_ok-falsity-in-None.falsity) tree
+    (c.in_ok-falsity-in-None.ensures.extends.same goal c.requires.goal) (s.1 ∙ sym spent) c.same.ensures
 
 pub is_walk-returns-then-fuel-eq0-clause-walking : goal.is_walk-returns-then-fuel-eq0-clause-walking
 is_walk-returns-then-fuel-eq0-clause-walking t c = walking-more _ _ _ _ _ _ _ _ _ c.requires.walking c.intern.ensures.extends
@@ -43,7 +47,8 @@ pub is_walk-returns-in-Some-clause-exact : goal.is_walk-returns-in-Some-clause-e
 is_walk-returns-in-Some-clause-exact t c =
     let o = c.args.table.now in
     let terms = machine_terms_at o c.args.symbols.now.regs c.args.symbols.now.memory in
-    let ended = walk-ended o c.args.program.now.code.now c.args.program.now.invs.now (tree_at o c.args.program.now.post) c.args.index terms c.args.fuel c.in-Some.inv c.invariant.result c.invariant.ensures c.in-Some.is in
+    let ended = walk-ended o c.args.program.now.code.now c.args.program.now.invs.now (tree_at o c.args.program.now.post) c.args.index terms c.args.fuel
+    c.in-Some.inv c.invariant.result c.invariant.ensures c.in-Some.is in
     subst (λ z. IfOk c.is_put_with.result (λ b. IsTrue b ↔ (tree_at o c.args.goal ≡ z))) (sym ended) c.is_put_with.ensures.exact
 
 pub is_walk-returns-in-Some-clause-walking : goal.is_walk-returns-in-Some-clause-walking
@@ -51,7 +56,8 @@ is_walk-returns-in-Some-clause-walking t c =
     let o = c.args.table.now in
     let u = c.is_put_with.new.table in
     record {
-      program = program-more o u c.args.program.now.code.now c.args.program.now.invs.now c.args.program.now.post c.requires.walking.program c.is_put_with.ensures.extends;
+      program = program-more o u c.args.program.now.code.now c.args.program.now.invs.now c.args.program.now.post c.requires.walking.program
+          c.is_put_with.ensures.extends;
       ready = ready-more o u c.args.symbols.now.regs c.args.symbols.now.memory c.requires.walking.ready c.is_put_with.ensures.extends;
       shifts = c.is_put_with.ensures.shifts;
       kept = c.is_put_with.ensures.kept;
@@ -61,7 +67,8 @@ pub is_walk-returns-else-fuel-eq0-clause-exact : goal.is_walk-returns-else-fuel-
 is_walk-returns-else-fuel-eq0-clause-exact t c =
     let o = c.args.table.now in
     let terms = machine_terms_at o c.args.symbols.now.regs c.args.symbols.now.memory in
-    let on = walk-on o c.args.program.now.code.now c.args.program.now.invs.now (tree_at o c.args.program.now.post) c.args.index terms c.args.fuel c.invariant.result (omega arith) c.invariant.ensures c.in-None.is in
+    let on = walk-on o c.args.program.now.code.now c.args.program.now.invs.now (tree_at o c.args.program.now.post) c.args.index terms c.args.fuel
+    c.invariant.result (omega arith) c.invariant.ensures c.in-None.is in
     subst (λ z. IfOk c.is_walk_from.result (λ b. IsTrue b ↔ (tree_at o c.args.goal ≡ z))) (sym on) c.is_walk_from.ensures.exact
 
 -- ---- the walk with other terms
@@ -71,10 +78,12 @@ is_walk_with-returns-clause-walking t c =
     let o = c.args.table.now in
     let u = c.is_walk.new.table in
     record {
-      program = program-more o u c.args.program.now.code.now c.args.program.now.invs.now c.args.program.now.post c.requires.walking.program c.is_walk.ensures.extends;
+      program = program-more o u c.args.program.now.code.now c.args.program.now.invs.now c.args.program.now.post c.requires.walking.program
+          c.is_walk.ensures.extends;
       ready = ready-more o u c.args.symbols.now.regs c.args.symbols.now.memory c.requires.walking.ready c.is_walk.ensures.extends;
       shifts = c.is_walk.ensures.walking.shifts;
-      kept = kept-ready c.args.kept.now o u c.args.symbols.now.regs c.args.symbols.now.memory c.requires.walking.kept c.requires.walking.ready c.is_walk.ensures.extends;
+      kept = kept-ready c.args.kept.now o u c.args.symbols.now.regs c.args.symbols.now.memory c.requires.walking.kept c.requires.walking.ready
+          c.is_walk.ensures.extends;
     }
 
 -- ---- both sides of a branch
@@ -93,12 +102,14 @@ is_both-returns-clause-exact t c =
     let grown : Extends o u = c.in_ok-there.ensures.extends in
     let passed = grown.same c.args.passed.0 c.requires.passed in
     let same = ready-same o u regs memory c.requires.walking.ready grown in
-    let onward = walk-same o u p.code.now p.invs.now p.post c.args.fuel c.args.passed.1 (machine_terms_at u regs memory) terms c.requires.walking.program grown same in
+    let onward = walk-same o u p.code.now p.invs.now p.post c.args.fuel c.args.passed.1 (machine_terms_at u regs memory) terms c.requires.walking.program
+    grown same in
     let later = walked p.code.now (inv_trees u p.invs.now) (tree_at u p.post) c.args.fuel in
     let there = imp_term (tree_at o c.args.taken.0) (walk c.args.taken.1 terms) in
     let rest = imp_term (tree_at o c.args.passed.0) (walk c.args.passed.1 terms) in
     let side : imp_term (tree_at u c.args.passed.0) (later c.args.passed.1 (machine_terms_at u regs memory)) ≡ rest = λ i. imp_term (passed i) (onward i) in
-    let second = answer-of c.is_side-2.result (tree_at u c.in-Some.parts.second) (tree_at o c.in-Some.parts.second) _ rest (grown.same c.in-Some.parts.second h.1) side c.is_side-2.ensures.exact in
+    let second = answer-of c.is_side-2.result (tree_at u c.in-Some.parts.second) (tree_at o c.in-Some.parts.second) _ rest
+    (grown.same c.in-Some.parts.second h.1) side c.is_side-2.ensures.exact in
     ok-by-second (app2 AND) (app2-one AND) goal (tree_at o c.in-Some.parts.first) (tree_at o c.in-Some.parts.second) there rest h.2
     c.in_ok-there.there c.is_side-2.result c.in_ok-there.ensures.exact c.if-not-there.false second
 
@@ -108,13 +119,16 @@ pub is_walk_from-returns-in_err-after-clause-walking : goal.is_walk_from-returns
 is_walk_from-returns-in_err-after-clause-walking t c = walking-more _ _ _ _ _ _ _ _ _ c.requires.walking c.in_err-after.ensures.extends
 
 pub is_walk_from-is_put_with-requires-clause-ready : goal.is_walk_from-is_put_with-requires-clause-ready
-is_walk_from-is_put_with-requires-clause-ready t c = ready-more c.args.table.now c.effect_at.new.table c.args.symbols.now.regs c.args.symbols.now.memory c.requires.walking.ready c.in_ok-after.ensures.extends
+is_walk_from-is_put_with-requires-clause-ready t c = ready-more c.args.table.now c.effect_at.new.table c.args.symbols.now.regs c.args.symbols.now.memory
+    c.requires.walking.ready c.in_ok-after.ensures.extends
 
 pub is_walk_from-is_put_with-requires-clause-shifts : goal.is_walk_from-is_put_with-requires-clause-shifts
-is_walk_from-is_put_with-requires-clause-shifts t c = memo-more c.args.shifts.now c.args.table.now c.effect_at.new.table c.requires.walking.shifts c.in_ok-after.ensures.extends
+is_walk_from-is_put_with-requires-clause-shifts t c = memo-more c.args.shifts.now c.args.table.now c.effect_at.new.table c.requires.walking.shifts
+    c.in_ok-after.ensures.extends
 
 pub is_walk_from-is_put_with-requires-clause-kept : goal.is_walk_from-is_put_with-requires-clause-kept
-is_walk_from-is_put_with-requires-clause-kept t c = kept-ready c.args.kept.now c.args.table.now c.effect_at.new.table c.args.symbols.now.regs c.args.symbols.now.memory c.requires.walking.kept c.requires.walking.ready c.in_ok-after.ensures.extends
+is_walk_from-is_put_with-requires-clause-kept t c = kept-ready c.args.kept.now c.args.table.now c.effect_at.new.table c.args.symbols.now.regs
+    c.args.symbols.now.memory c.requires.walking.kept c.requires.walking.ready c.in_ok-after.ensures.extends
 
 pub is_walk_from-is_walk_with-requires : goal.is_walk_from-is_walk_with-requires
 is_walk_from-is_walk_with-requires t c =
@@ -178,9 +192,12 @@ is_walk_from-returns-in-Computed-clause-exact t c =
     let exact = subst (λ (e : rust.Effect). IsEffect u (length p.code.now) c.args.index e effect) c.in-Computed.is c.in_ok-after.ensures.exact in
     let has = at-computed u (length p.code.now) c.args.index c.in-Computed.after effect exact in
     let walk = walked p.code.now (inv_trees o p.invs.now) (tree_at o p.post) c.args.fuel in
-    let at = walked_at-effect walk (tree_at o p.post) c.args.index (slice_get p.code.now c.args.index) c.insn-insn.result terms (Computed has.0) c.insn-insn.ensures.at has.1 in
-    let made = walk-same o u p.code.now p.invs.now p.post c.args.fuel (c.args.index + 1) (machine_terms_at u c.in-Computed.after.regs c.in-Computed.after.memory) has.0 c.requires.walking.program c.in_ok-after.ensures.extends has.3.are in
-    answer-of c.is_walk_with.result (tree_at u c.args.goal) (tree_at o c.args.goal) _ _ (c.in_ok-after.ensures.extends.same c.args.goal c.requires.goal) (made ∙ sym at) c.is_walk_with.ensures.exact
+    let at = walked_at-effect walk (tree_at o p.post) c.args.index (slice_get p.code.now c.args.index) c.insn-insn.result terms (Computed has.0)
+    c.insn-insn.ensures.at has.1 in
+    let made = walk-same o u p.code.now p.invs.now p.post c.args.fuel (c.args.index + 1)
+    (machine_terms_at u c.in-Computed.after.regs c.in-Computed.after.memory) has.0 c.requires.walking.program c.in_ok-after.ensures.extends has.3.are in
+    answer-of c.is_walk_with.result (tree_at u c.args.goal) (tree_at o c.args.goal) _ _ (c.in_ok-after.ensures.extends.same c.args.goal c.requires.goal)
+    (made ∙ sym at) c.is_walk_with.ensures.exact
 
 pub is_walk_from-returns-in-Access-clause-exact : goal.is_walk_from-returns-in-Access-clause-exact
 is_walk_from-returns-in-Access-clause-exact t c =
@@ -192,11 +209,16 @@ is_walk_from-returns-in-Access-clause-exact t c =
     let exact = subst (λ (e : rust.Effect). IsEffect u (length p.code.now) c.args.index e effect) c.in-Access.is c.in_ok-after.ensures.exact in
     let has = at-access u (length p.code.now) c.args.index c.in-Access.allowed c.in-Access.after effect exact in
     let walk = walked p.code.now (inv_trees o p.invs.now) (tree_at o p.post) c.args.fuel in
-    let at = walked_at-effect walk (tree_at o p.post) c.args.index (slice_get p.code.now c.args.index) c.insn-insn.result terms (Access has.0 has.1) c.insn-insn.ensures.at has.2 in
-    let rest = walk-same o u p.code.now p.invs.now p.post c.args.fuel (c.args.index + 1) (machine_terms_at u c.in-Access.after.regs c.in-Access.after.memory) has.1 c.requires.walking.program c.in_ok-after.ensures.extends has.5.are in
+    let at = walked_at-effect walk (tree_at o p.post) c.args.index (slice_get p.code.now c.args.index) c.insn-insn.result terms (Access has.0 has.1)
+    c.insn-insn.ensures.at has.2 in
+    let rest = walk-same o u p.code.now p.invs.now p.post c.args.fuel (c.args.index + 1)
+    (machine_terms_at u c.in-Access.after.regs c.in-Access.after.memory) has.1 c.requires.walking.program c.in_ok-after.ensures.extends has.5.are in
     let allowed : tree_at u c.in-Access.allowed ≡ has.0 = has.4.is in
-    let made : and_term (tree_at u c.in-Access.allowed) (walked p.code.now (inv_trees u p.invs.now) (tree_at u p.post) c.args.fuel (c.args.index + 1) (machine_terms_at u c.in-Access.after.regs c.in-Access.after.memory)) ≡ and_term has.0 (walk (c.args.index + 1) has.1) = λ i. and_term (allowed i) (rest i) in
-    answer-of c.is_behind.result (tree_at u c.args.goal) (tree_at o c.args.goal) _ _ (c.in_ok-after.ensures.extends.same c.args.goal c.requires.goal) (made ∙ sym at) c.is_behind.ensures.exact
+    let made : and_term (tree_at u c.in-Access.allowed) (walked p.code.now (inv_trees u p.invs.now) (tree_at u p.post) c.args.fuel (c.args.index + 1)
+    (machine_terms_at u c.in-Access.after.regs c.in-Access.after.memory)) ≡ and_term has.0 (walk (c.args.index + 1) has.1) = λ i. and_term (allowed i)
+    (rest i) in
+    answer-of c.is_behind.result (tree_at u c.args.goal) (tree_at o c.args.goal) _ _ (c.in_ok-after.ensures.extends.same c.args.goal c.requires.goal)
+    (made ∙ sym at) c.is_behind.ensures.exact
 
 pub is_walk_from-returns-in-Split-clause-exact : goal.is_walk_from-returns-in-Split-clause-exact
 is_walk_from-returns-in-Split-clause-exact t c =
@@ -208,17 +230,23 @@ is_walk_from-returns-in-Split-clause-exact t c =
     let exact = subst (λ (e : rust.Effect). IsEffect u (length p.code.now) c.args.index e effect) c.in-Split.is c.in_ok-after.ensures.exact in
     let has = at-split u (length p.code.now) c.args.index c.in-Split.taken c.in-Split.passed c.in-Split.target effect exact in
     let walk = walked p.code.now (inv_trees o p.invs.now) (tree_at o p.post) c.args.fuel in
-    let at = walked_at-effect walk (tree_at o p.post) c.args.index (slice_get p.code.now c.args.index) c.insn-insn.result terms (Split has.0 has.1 (Some c.in-Split.target)) c.insn-insn.ensures.at has.2 in
+    let at = walked_at-effect walk (tree_at o p.post) c.args.index (slice_get p.code.now c.args.index) c.insn-insn.result terms
+    (Split has.0 has.1 (Some c.in-Split.target)) c.insn-insn.ensures.at has.2 in
     let same = ready-same o u c.args.symbols.now.regs c.args.symbols.now.memory c.requires.walking.ready c.in_ok-after.ensures.extends in
-    let there = walk-same o u p.code.now p.invs.now p.post c.args.fuel c.in-Split.target (machine_terms_at u c.args.symbols.now.regs c.args.symbols.now.memory) terms c.requires.walking.program c.in_ok-after.ensures.extends same in
-    let onward = walk-same o u p.code.now p.invs.now p.post c.args.fuel (c.args.index + 1) (machine_terms_at u c.args.symbols.now.regs c.args.symbols.now.memory) terms c.requires.walking.program c.in_ok-after.ensures.extends same in
+    let there = walk-same o u p.code.now p.invs.now p.post c.args.fuel c.in-Split.target
+    (machine_terms_at u c.args.symbols.now.regs c.args.symbols.now.memory) terms c.requires.walking.program c.in_ok-after.ensures.extends same in
+    let onward = walk-same o u p.code.now p.invs.now p.post c.args.fuel (c.args.index + 1)
+    (machine_terms_at u c.args.symbols.now.regs c.args.symbols.now.memory) terms c.requires.walking.program c.in_ok-after.ensures.extends same in
     let taken : tree_at u c.in-Split.taken ≡ has.0 = has.5.is in
     let passed : tree_at u c.in-Split.passed ≡ has.1 = has.6.is in
     let later = walked p.code.now (inv_trees u p.invs.now) (tree_at u p.post) c.args.fuel in
     let now = machine_terms_at u c.args.symbols.now.regs c.args.symbols.now.memory in
-    let made : and_term (imp_term (tree_at u c.in-Split.taken) (later c.in-Split.target now)) (imp_term (tree_at u c.in-Split.passed) (later (c.args.index + 1) now)) ≡ and_term (imp_term has.0 (walk c.in-Split.target terms)) (imp_term has.1 (walk (c.args.index + 1) terms)) =
+    let made : and_term (imp_term (tree_at u c.in-Split.taken) (later c.in-Split.target now))
+    (imp_term (tree_at u c.in-Split.passed) (later (c.args.index + 1) now)) ≡ and_term (imp_term has.0 (walk c.in-Split.target terms))
+    (imp_term has.1 (walk (c.args.index + 1) terms)) =
     λ i. and_term (imp_term (taken i) (there i)) (imp_term (passed i) (onward i)) in
-    answer-of c.is_both.result (tree_at u c.args.goal) (tree_at o c.args.goal) _ _ (c.in_ok-after.ensures.extends.same c.args.goal c.requires.goal) (made ∙ sym at) c.is_both.ensures.exact
+    answer-of c.is_both.result (tree_at u c.args.goal) (tree_at o c.args.goal) _ _ (c.in_ok-after.ensures.extends.same c.args.goal c.requires.goal)
+    (made ∙ sym at) c.is_both.ensures.exact
 
 pub is_walk_from-returns-in-Jump-clause-exact : goal.is_walk_from-returns-in-Jump-clause-exact
 is_walk_from-returns-in-Jump-clause-exact t c =
@@ -230,10 +258,13 @@ is_walk_from-returns-in-Jump-clause-exact t c =
     let exact = subst (λ (e : rust.Effect). IsEffect u (length p.code.now) c.args.index e effect) c.in-Jump.is c.in_ok-after.ensures.exact in
     let has = at-jump u (length p.code.now) c.args.index c.in-Jump.target effect exact in
     let walk = walked p.code.now (inv_trees o p.invs.now) (tree_at o p.post) c.args.fuel in
-    let at = walked_at-effect walk (tree_at o p.post) c.args.index (slice_get p.code.now c.args.index) c.insn-insn.result terms (Jump (Some c.in-Jump.target)) c.insn-insn.ensures.at has.0 in
+    let at = walked_at-effect walk (tree_at o p.post) c.args.index (slice_get p.code.now c.args.index) c.insn-insn.result terms
+    (Jump (Some c.in-Jump.target)) c.insn-insn.ensures.at has.0 in
     let same = ready-same o u c.args.symbols.now.regs c.args.symbols.now.memory c.requires.walking.ready c.in_ok-after.ensures.extends in
-    let made = walk-same o u p.code.now p.invs.now p.post c.args.fuel c.in-Jump.target (machine_terms_at u c.args.symbols.now.regs c.args.symbols.now.memory) terms c.requires.walking.program c.in_ok-after.ensures.extends same in
-    answer-of c.is_walk.result (tree_at u c.args.goal) (tree_at o c.args.goal) _ _ (c.in_ok-after.ensures.extends.same c.args.goal c.requires.goal) (made ∙ sym at) c.is_walk.ensures.exact
+    let made = walk-same o u p.code.now p.invs.now p.post c.args.fuel c.in-Jump.target
+    (machine_terms_at u c.args.symbols.now.regs c.args.symbols.now.memory) terms c.requires.walking.program c.in_ok-after.ensures.extends same in
+    answer-of c.is_walk.result (tree_at u c.args.goal) (tree_at o c.args.goal) _ _ (c.in_ok-after.ensures.extends.same c.args.goal c.requires.goal)
+    (made ∙ sym at) c.is_walk.ensures.exact
 
 pub is_walk_from-returns-in-Return-clause-exact : goal.is_walk_from-returns-in-Return-clause-exact
 is_walk_from-returns-in-Return-clause-exact t c =
@@ -245,11 +276,14 @@ is_walk_from-returns-in-Return-clause-exact t c =
     let exact = subst (λ (e : rust.Effect). IsEffect u (length p.code.now) c.args.index e effect) c.in-Return.is c.in_ok-after.ensures.exact in
     let has = at-return u (length p.code.now) c.args.index effect exact in
     let walk = walked p.code.now (inv_trees o p.invs.now) (tree_at o p.post) c.args.fuel in
-    let at = walked_at-effect walk (tree_at o p.post) c.args.index (slice_get p.code.now c.args.index) c.insn-insn.result terms (Return) c.insn-insn.ensures.at has in
+    let at = walked_at-effect walk (tree_at o p.post) c.args.index (slice_get p.code.now c.args.index) c.insn-insn.result terms (Return)
+    c.insn-insn.ensures.at has in
     let same = ready-same o u c.args.symbols.now.regs c.args.symbols.now.memory c.requires.walking.ready c.in_ok-after.ensures.extends in
     let post = c.in_ok-after.ensures.extends.same p.post c.requires.walking.program.post in
-    let made : put_tree (machine_terms_at u c.args.symbols.now.regs c.args.symbols.now.memory) 0 (tree_at u p.post) ≡ put_tree terms 0 (tree_at o p.post) = λ i. put_tree (same i) 0 (post i) in
-    answer-of c.is_put_with.result (tree_at u c.args.goal) (tree_at o c.args.goal) _ _ (c.in_ok-after.ensures.extends.same c.args.goal c.requires.goal) (made ∙ sym at) c.is_put_with.ensures.exact
+    let made : put_tree (machine_terms_at u c.args.symbols.now.regs c.args.symbols.now.memory) 0 (tree_at u p.post) ≡ put_tree terms 0 (tree_at o p.post) =
+    λ i. put_tree (same i) 0 (post i) in
+    answer-of c.is_put_with.result (tree_at u c.args.goal) (tree_at o c.args.goal) _ _ (c.in_ok-after.ensures.extends.same c.args.goal c.requires.goal)
+    (made ∙ sym at) c.is_put_with.ensures.exact
 
 pub is_walk_from-returns-in-Return-clause-walking : goal.is_walk_from-returns-in-Return-clause-walking
 is_walk_from-returns-in-Return-clause-walking t c =

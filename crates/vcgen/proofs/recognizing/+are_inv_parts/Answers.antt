@@ -14,7 +14,8 @@ use Rattle.vcgen.proofs.Sides.{app2-one}
 use Rattle.vcgen.proofs.recognizing.+are_inv_parts.Goals as goal
 
 pub is_inv_part-requires-clause-inv : goal.is_inv_part-requires-clause-inv
-is_inv_part-requires-clause-inv t c = inv-at c.args.table.now c.args.program.now.invs.now c.args.from c.index-program-from.result c.requires.walking.program.invs (omega arith)
+is_inv_part-requires-clause-inv t c = inv-at c.args.table.now c.args.program.now.invs.now c.args.from c.index-program-from.result
+    c.requires.walking.program.invs (omega arith)
 
 pub are_inv_parts-requires : goal.are_inv_parts-requires
 are_inv_parts-requires t c =
@@ -46,7 +47,9 @@ returns-clause-exact t c =
     let few = invs-same o u later (invs-drop o p.invs.now (c.args.from + 1) c.requires.walking.program.invs) grown in
     let end = grown.same p.post c.requires.walking.program.post in
     λ i. part_terms p.code.now (all i) (end i) (few i) in
-    let second = answer-of c.are_inv_parts.result (tree_at u c.in-Some.parts.second) (tree_at o c.in-Some.parts.second) _ parts (grown.same c.in-Some.parts.second h.1) rest c.are_inv_parts.ensures.exact in
-    let both = ok-by-second (app2 AND) (app2-one AND) goal (tree_at o c.in-Some.parts.first) (tree_at o c.in-Some.parts.second) here parts h.2 c.in_ok-first.first c.are_inv_parts.result c.in_ok-first.ensures.exact c.if-not-first.false second in
+    let second = answer-of c.are_inv_parts.result (tree_at u c.in-Some.parts.second) (tree_at o c.in-Some.parts.second) _ parts
+    (grown.same c.in-Some.parts.second h.1) rest c.are_inv_parts.ensures.exact in
+    let both = ok-by-second (app2 AND) (app2-one AND) goal (tree_at o c.in-Some.parts.first) (tree_at o c.in-Some.parts.second) here parts h.2
+    c.in_ok-first.first c.are_inv_parts.result c.in_ok-first.ensures.exact c.if-not-first.false second in
     let split = drop_more p.invs.now c.args.from d (omega arith) in
     subst (λ z. IfOk c.are_inv_parts.result (λ b. IsTrue b ↔ (goal ≡ part_terms p.code.now invs post (inv_trees o z)))) (sym split) both

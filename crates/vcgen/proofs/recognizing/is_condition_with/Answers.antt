@@ -17,7 +17,8 @@ use Rattle.vcgen.proofs.recognizing.is_condition_with.Goals as goal
 
 pub is_encoded_condition-requires-clause-inside : goal.is_encoded_condition-requires-clause-inside
 is_encoded_condition-requires-clause-inside c k d lt =
-    subst (λ l. (slice_index_or c.args.invs.now k d).0 < length l) (sym c.code.ensures.value) (invs-inside c.args.invs.now (length c.args.cut.now.code) c.args.cut.now.marks c.requires.marks k d lt)
+    subst (λ l. (slice_index_or c.args.invs.now k d).0 < length l) (sym c.code.ensures.value)
+    (invs-inside c.args.invs.now (length c.args.cut.now.code) c.args.cut.now.marks c.requires.marks k d lt)
 
 pub returns-clause-exact : goal.returns-clause-exact
 returns-clause-exact c =
@@ -27,9 +28,16 @@ returns-clause-exact c =
     let formula = tree_at c.args.table.now c.args.formula in
     let has : EncodesCondition policy code invs _ = (encoding-exists policy code invs c.requires.forms).1 in
     let whole = form_encoding (condition (annotated policy code has.formulas)) in
-    let term : condition_term code invs (form_encoding (subst_form (pre_of policy) machine_names)) (form_encoding (subst_form (post_of policy) machine_names)) ≡ whole =
+    let term : condition_term code invs (form_encoding (subst_form (pre_of policy) machine_names))
+    (form_encoding (subst_form (post_of policy) machine_names)) ≡ whole =
     condition_term-is code invs has.formulas (pre_of policy) (post_of policy) has.encoded (pre-over policy) (post-over policy) in
     let made = (λ i. condition_term (c.code.ensures.value i) invs (encoding-machine (pre_of policy) i) (encoding-machine (post_of policy) i)) ∙ term in
     let exact = one-answer c.in_ok-equal.equal formula formula _ whole refl made c.in_ok-equal.ensures.exact in
-    let one : EncodesCondition policy code invs whole = record { formulas = has.formulas; encoded = has.encoded; is = refl } in
-    (omega arith, (λ b. record { formulas = has.formulas; encoded = has.encoded; is = sym (exact.0 b) }, λ e. exact.1 (encoding-unique policy code invs formula whole e one)))
+    let one : EncodesCondition policy code invs whole = record { formulas = has.formulas; encoded = has.encoded; is = refl } in (
+      omega arith,
+      (
+        λ b. record { formulas = has.formulas; encoded = has.encoded; is = sym (exact.0 b) },
+        λ e. exact.1
+            (encoding-unique policy code invs formula whole e one),
+      ),
+    )

@@ -15,17 +15,20 @@ use Rattle.vcgen.proofs.PolicyHeights.{post-low}
 use Rattle.vcgen.proofs.recognizing.is_encoded_condition.Goals as goal
 
 pub encode_form-requires-clause-over : goal.encode_form-requires-clause-over
-encode_form-requires-clause-over c = in-context c.machine_context-context.result _ (pre_of c.args.policy.now) c.machine_context-context.ensures c.pre.ensures.exact (over-machine (pre_of c.args.policy.now) (pre-over c.args.policy.now))
+encode_form-requires-clause-over c = in-context c.machine_context-context.result _ (pre_of c.args.policy.now) c.machine_context-context.ensures
+    c.pre.ensures.exact (over-machine (pre_of c.args.policy.now) (pre-over c.args.policy.now))
 
 pub encode_form-requires-2-clause-over : goal.encode_form-requires-2-clause-over
-encode_form-requires-2-clause-over c = in-context c.machine_context-context.result _ (post_of c.args.policy.now) c.machine_context-context.ensures c.post.ensures.exact (over-machine (post_of c.args.policy.now) (post-over c.args.policy.now))
+encode_form-requires-2-clause-over c = in-context c.machine_context-context.result _ (post_of c.args.policy.now) c.machine_context-context.ensures
+    c.post.ensures.exact (over-machine (post_of c.args.policy.now) (post-over c.args.policy.now))
 
 pub is_condition_of-requires-clause-program : goal.is_condition_of-requires-clause-program
 is_condition_of-requires-clause-program c =
     let o = c.args.table.now in
     let u = c.encode_form-2.new.table in
     let grown : Extends o u = grows_more o c.encode_form.new.table u c.in_ok-pre.ensures.extends c.in_ok-post.ensures.extends in
-    let post : tree_at u c.in_ok-post.post ≡ encoding_in machine_context (post_of c.args.policy.now) = c.in_ok-post.ensures.exact.is ∙ (λ i. encoding_in (c.machine_context-context.ensures i) (c.post.ensures.exact i)) in
+    let post : tree_at u c.in_ok-post.post ≡ encoding_in machine_context (post_of c.args.policy.now) = c.in_ok-post.ensures.exact.is ∙
+    (λ i. encoding_in (c.machine_context-context.ensures i) (c.post.ensures.exact i)) in
     record {
       code = subst IsCode c.insns.ensures.value c.insns.ensures.code;
       invs = low-invs o u c.args.invs.now c.requires.invs grown;
@@ -40,7 +43,10 @@ returns-clause-exact c =
     let u = c.encode_form-2.new.table in
     let grown : Extends o u = grows_more o v u c.in_ok-pre.ensures.extends c.in_ok-post.ensures.extends in
     let pre : tree_at u c.in_ok-pre.pre ≡ encoding_in machine_context (pre_of c.args.policy.now) =
-    c.in_ok-post.ensures.extends.same c.in_ok-pre.pre c.in_ok-pre.ensures.exact.known ∙ c.in_ok-pre.ensures.exact.is ∙ (λ i. encoding_in (c.machine_context-context.ensures i) (c.pre.ensures.exact i)) in
-    let post : tree_at u c.in_ok-post.post ≡ encoding_in machine_context (post_of c.args.policy.now) = c.in_ok-post.ensures.exact.is ∙ (λ i. encoding_in (c.machine_context-context.ensures i) (c.post.ensures.exact i)) in
+    c.in_ok-post.ensures.extends.same c.in_ok-pre.pre c.in_ok-pre.ensures.exact.known ∙ c.in_ok-pre.ensures.exact.is ∙
+    (λ i. encoding_in (c.machine_context-context.ensures i) (c.pre.ensures.exact i)) in
+    let post : tree_at u c.in_ok-post.post ≡ encoding_in machine_context (post_of c.args.policy.now) = c.in_ok-post.ensures.exact.is ∙
+    (λ i. encoding_in (c.machine_context-context.ensures i) (c.post.ensures.exact i)) in
     let invs = invs-same o u c.args.invs.now (low-here o c.args.invs.now c.requires.invs) grown in
-    answer-of c.is_condition_of.result (tree_at u c.args.goal) (tree_at o c.args.goal) _ _ (grown.same c.args.goal c.requires.goal) (λ i. condition_term c.args.code.now (invs i) (pre i) (post i)) c.is_condition_of.ensures.exact
+    answer-of c.is_condition_of.result (tree_at u c.args.goal) (tree_at o c.args.goal) _ _ (grown.same c.args.goal c.requires.goal)
+    (λ i. condition_term c.args.code.now (invs i) (pre i) (post i)) c.is_condition_of.ensures.exact
