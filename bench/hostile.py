@@ -200,9 +200,9 @@ def families():
     yield "b, .. of another register", "filter", container(t, FILTER, many + [RETURN_1, RETURN], [(k, wide) for k in range(255)], t.con(TT_I)), "refused 11 NotProof"
     for count, leaves in ((16, 100), (250, 20000)):
         t = Terms()
-        yield "h, %d invariants of %d leaves, unchanged, proved" % (count, leaves), "tag", unchanged(t, count, leaves), "accepted"
+        yield "n, %d invariants of %d leaves, unchanged, proved" % (count, leaves), "tag", unchanged(t, count, leaves), "accepted"
         t = Terms()
-        yield "h, %d of a register that is set to 5, proved" % count, "tag", same_again(t, count, leaves), "accepted"
+        yield "n, %d of a register that is set to 5, proved" % count, "tag", same_again(t, count, leaves), "accepted"
     for k in (10, 15):
         t = Terms()
         yield "c, cases, %d levels" % k, "tag", returning_container(t, by_cases(t, k)), "accepted"

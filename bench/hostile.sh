@@ -1,9 +1,8 @@
 #!/usr/bin/env bash
-<<<<<<< HEAD
 # Times `pcc check` and `pcc prove` on files made to be slow, each within every limit of the format: bytes,
 # processor time, peak memory, and the line or status. With words only the families whose name has one of
 # them; PCC names another program. Another line than the one expected, more than 2 s or 512 MB of `check`,
-# or more than 5 s or 1,024 MB of `prove` ends the run with status 1 (known: families b and e where the
+# or more than 5 s or 1,024 MB of `prove` ends the run with status 1 (known: families e and n where the
 # limit on results stands, and the last of m).
 # For `check` (bench/hostile.py):
 #   a  formulas under words and memories, each level in two contexts
@@ -13,6 +12,7 @@
 #   e  words of many parts under many hypotheses, and instances of a predicate
 #   f  formulas under many binders, in two contexts
 #   g  many variables in two contexts
+#   n  proved invariants of many leaves that instructions leave as they are, or set to the same
 # For `prove`, as an invariant:
 #   h  equations of sums of 64 words in the worst order
 #   i  deep implications, whose hypotheses are raised at each level
@@ -20,12 +20,6 @@
 #   k  bounds that are tried for each relation, in vain
 #   l  bounds of one word
 #   m  disjunctions whose sides bring a hypothesis each, so that one goal stands in many contexts
-=======
-# Times `pcc check` on files made to be slow, each within every limit of the format: bytes, processor
-# time, peak memory, and the line or status. With words only the families whose name has one of them; PCC
-# names another program. Another line than the one expected, or more than 2 s or 512 MB, ends the run with
-# status 1 (known: families e and h where the limit on results stands).
->>>>>>> 1c09e7f3d52444f1e902d49d4a2fe535321cab35
 set -eu
 top=$(cd "$(dirname "${BASH_SOURCE[0]}")/.." && pwd)
 work=$(mktemp -d)
