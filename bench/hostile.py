@@ -139,7 +139,7 @@ def changing(ways):
 
 def all_over(t, register, leaves, depth=0, put=None):
     """So many leaves over a register, or tt, as a formula that `or_r` proves; under so many hypotheses."""
-    word = t.var(30 - register + depth) if put is None else t.lit(put)
+    word = t.var(30 - register + depth) if put is None else t.con(ADD, t.lit(0), t.lit(put))
     return t.con(OR, balanced(t, lambda k: t.con(EQ, word, t.lit(k)), 0, leaves), t.con(TT))
 
 
