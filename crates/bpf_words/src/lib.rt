@@ -4,7 +4,8 @@
 //! register and scratch memory. The layers above use that `read_bpf` gives the program that bytes
 //! are, or the first thing that is wrong with them, and that `bpf_value` is the program's value on
 //! a packet. What a program is stands in `specs/Programs`, which bytes are one and the first flaw in
-//! `specs/Reading`, values in `specs/Values`, the names of the kinds of flaws in `specs/Names`.
+//! `specs/Reading`, what flaws mean in `specs/Flaws`, values in `specs/Values`, the names of the
+//! kinds of flaws in `specs/Names`.
 #![tactic(auto)]
 
 mod fault;
