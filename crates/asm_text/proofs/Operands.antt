@@ -16,7 +16,7 @@ use Rattle.text_tokens.specs.Tokens.{Token, Mark, Lexeme}
 use Rattle.text_tokens.specs.Registers.{IsRegister, registers, register_of}
 use Rattle.text_tokens.specs.Numbers.{IsNumber, numeral, lexeme_number, begins_with_digit}
 use Rattle.text_tokens.proofs.Known.{register_is, register_found, number_is, number_found, numeral_is, is_numeral, same_bytes}
-use Rattle.formula_text.specs.Parsing.{◌>>=◌}
+use Rattle.term_table.specs.Steps.{◌>>=◌}
 use Rattle.asm_text.specs.declared.fault.LineFlaw.{LineFlaw}
 use Rattle.asm_text.specs.declared.fault.LineFlaw.TheVariants as L
 use Rattle.asm_text.specs.declared.marks.Punct.{Punct}

@@ -7,7 +7,7 @@ use Rattle.alpha_words.specs.declared.insn.Insn.TheVariants as I
 use Rattle.alpha_words.specs.declared.insn.Rhs.TheVariants as R
 use Rattle.text_tokens.specs.Tokens.{Token, Mark, Lexeme}
 use Rattle.text_tokens.specs.Registers.{register_of}
-use Rattle.formula_text.specs.Parsing.{◌>>=◌}
+use Rattle.term_table.specs.Steps.{◌>>=◌}
 use Rattle.asm_text.specs.declared.fault.LineFlaw.{LineFlaw}
 use Rattle.asm_text.specs.declared.fault.LineFlaw.TheVariants as L
 use Rattle.asm_text.specs.declared.marks.Punct.{Punct}

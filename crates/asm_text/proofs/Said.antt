@@ -10,7 +10,8 @@ use Rattle.text_tokens.proofs.Known.{same_bytes}
 use Rattle.text_tokens.proofs.Lexing.{lexed, lexes}
 use Rattle.formula_text.specs.declared.fault.TextFlaw.{TextFlaw}
 use Rattle.formula_text.specs.Grammar.{Spells}
-use Rattle.formula_text.specs.Parsing.{◌>>=◌, parsed_form}
+use Rattle.term_table.specs.Steps.{◌>>=◌}
+use Rattle.formula_text.specs.Parsing.{parsed_form}
 use Rattle.formula_text.proofs.Joined as form
 use Rattle.asm_text.specs.declared.fault.LineFlaw.{LineFlaw}
 use Rattle.asm_text.specs.declared.limits.TheConstants.{MAX_LINE}

@@ -4,7 +4,7 @@ use Rattle.std.specs.Prelude.{◌==◌}
 use Rattle.std.proofs.lemmas.Bool.{cond-true, eqb-true, eq-eqb}
 use Rattle.std.proofs.lemmas.List.{take_at}
 use Rattle.formula_tree.specs.Formulas.{Form}
-use Rattle.formula_text.specs.Parsing.{◌>>=◌}
+use Rattle.term_table.specs.Steps.{◌>>=◌}
 use Rattle.asm_text.specs.declared.fault.LineFlaw.{LineFlaw}
 use Rattle.asm_text.specs.declared.fault.LineFlaw.TheVariants as L
 use Rattle.asm_text.specs.Insns.{SourceInsn}

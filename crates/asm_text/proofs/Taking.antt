@@ -10,7 +10,7 @@ use Rattle.std.proofs.lemmas.Bool.{false≢true, cond-true, cond-false, lt-ltb, 
 use Rattle.std.proofs.lemmas.List.{map-append, length-map, length-append}
 use Rattle.formula_tree.specs.declared.form.Form.{Form}
 use Rattle.formula_tree.specs.Views.{form_view}
-use Rattle.formula_text.specs.Parsing.{◌>>=◌}
+use Rattle.term_table.specs.Steps.{◌>>=◌}
 use Rattle.asm_text.specs.declared.fault.LineFlaw.{LineFlaw}
 use Rattle.asm_text.specs.declared.fault.LineFlaw.TheVariants as L
 use Rattle.asm_text.specs.declared.fault.LineFault.{LineFault}

@@ -5,7 +5,8 @@ use Rattle.std.specs.Str.{bytes_eq}
 use Rattle.formula_tree.specs.Formulas.{Form}
 use Rattle.text_tokens.specs.Tokens.{Token, Mark, Lexeme, tokens_of, front_token}
 use Rattle.formula_text.specs.declared.fault.TextFlaw.{TextFlaw}
-use Rattle.formula_text.specs.Parsing.{◌>>=◌, parsed_form}
+use Rattle.term_table.specs.Steps.{◌>>=◌}
+use Rattle.formula_text.specs.Parsing.{parsed_form}
 use Rattle.asm_text.specs.declared.fault.LineFlaw.{LineFlaw}
 use Rattle.asm_text.specs.declared.fault.LineFlaw.TheVariants as L
 use Rattle.asm_text.specs.declared.limits.TheConstants.{MAX_LINE, MAX_INSNS, MAX_INVS}

@@ -6,9 +6,9 @@ use Rattle.term_table.specs.Equality.{tree_eq}
 use Rattle.term_table.proofs.Equality.{tree_eq_refl, tree_eq-true}
 use Rattle.term_table.specs.Table.{TableView, IsKnown, tree_at, Extends, Stands}
 use Rattle.formula_tree.specs.Formulas.{Exp, Form, FAnd}
-use Rattle.hereditary_subst.specs.Inside.Kept.{IsMemo}
+use Rattle.hereditary_subst.specs.Kept.{IsMemo}
 use Rattle.hereditary_subst.specs.declared.kept.Memo.{Memo}
-use Rattle.formula_ids.specs.Inside.PutRows.{ArePuts}
+use Rattle.formula_ids.specs.PutRows.{ArePuts}
 use Rattle.formula_ids.specs.declared.puts.Puts.{Puts}
 use Rattle.formula_ids.specs.declared.hypotheses.Hypothesis.{Hypothesis}
 use Rattle.formula_ids.specs.Hypotheses.{AreHyps}

@@ -17,7 +17,8 @@ use Rattle.formula_terms.specs.Encoding.{form_encoding}
 use Rattle.lf_rules.proofs.Typed.{is_term}
 use Rattle.proof_container.specs.Contents.{Contents, one_or_none, roots}
 use Rattle.proof_container.specs.Postorder.{entries}
-use Rattle.proof_container.specs.Encoding.{AreTerms, IsBytes, IsContents, encoding_of}
+use Rattle.term_table.specs.Bytes.{IsBytes}
+use Rattle.proof_container.specs.Encoding.{AreTerms, IsContents, encoding_of}
 use Rattle.proof_container.specs.declared.limits.TheConstants.{MAX_ENTRIES}
 use Rattle.proof_container.specs.Decoding.{decoded_container}
 use Rattle.proof_container.proofs.Whole.{container_again}

@@ -1,7 +1,7 @@
 -- What holds of the containers that are made.
 use Rattle.std.specs.Prelude.{◌≡◌, ℕ, List, Ok}
 use Rattle.policy_set.specs.declared.kind.PolicyKind.{PolicyKind}
-use Rattle.proof_container.specs.Encoding.{IsBytes}
+use Rattle.term_table.specs.Bytes.{IsBytes}
 use Rattle.pcc_gate.specs.Accepted.{IsAccepted}
 use Rattle.bounds_prover.specs.Proving.{proved_container}
 

@@ -2,7 +2,7 @@
 
 ghost use Rattle.std.specs.Prelude.{◌≡◌, ◌≤◌, map, length, IfOk};
 ghost use Rattle.alpha_cfg.specs.Cuts.{AreFlags, unfolded_of};
-ghost use Rattle.term_table.specs.Table.{IsKnown, tree_at, Extends};
+ghost use Rattle.term_table.specs.Table.{IsKnown, tree_at, Extends, id_trees};
 ghost use Rattle.term_table.specs.Measures.{height_of, sigma1_places};
 ghost use Rattle.lf_signature.specs.Nodes.{IsIdOf};
 ghost use Rattle.formula_terms.specs.Encoding.{form_encoding};
@@ -12,7 +12,7 @@ ghost use Rattle.proof_container.specs.Encoding.{IsContents};
 ghost use Rattle.proof_container.specs.Views.{AreKnown, view_contents, contents_of};
 ghost use Rattle.proof_container.specs.declared.limits.TheConstants.{MAX_ENTRIES};
 ghost use Rattle.vcgen.specs.Answers.{AreLowInvs};
-ghost use Rattle.vcgen.specs.Encoded.{AreForms, inv_trees};
+ghost use Rattle.vcgen.specs.Encoded.{AreForms};
 ghost use Rattle.vcgen.specs.declared.condition.TheConstants.{MAX_HEIGHT, MAX_UNFOLDED};
 ghost use Rattle.pcc_gate.specs.Passing.{Passes};
 ghost use Rattle.pcc_gate.specs.Accepted.{IsAccepted};
@@ -44,10 +44,10 @@ fn condition_in(
     invs: &[(u32, Id)],
 ) -> Result<Id, Exhausted>
     requires invs { AreLowInvs table.old invs.now }
-    requires forms { AreForms (inv_trees table.old invs.now) }
+    requires forms { AreForms (id_trees table.old invs.now) }
     requires marks { AreFlags (map (λ p. p.0) invs.now) (length cut.now.code) cut.now.marks }
     requires short { unfolded_of cut.now.code cut.now.marks ≤ MAX_UNFOLDED }
-    ensures id { let invs = inv_trees table.old invs.now in
+    ensures id { let invs = id_trees table.old invs.now in
         let parts = condition_parts policy.now cut.now.code invs in
         IfOk result (IsIdOf table.new (form_encoding (conjoined parts))) }
     ensures extends { Extends table.old table.new }
@@ -68,11 +68,11 @@ fn parts_in(
     invs: &[(u32, Id)],
 ) -> Result<Parts, Exhausted>
     requires invs { AreLowInvs table.old invs.now }
-    requires forms { AreForms (inv_trees table.old invs.now) }
+    requires forms { AreForms (id_trees table.old invs.now) }
     requires marks { AreFlags (map (λ p. p.0) invs.now) (length cut.now.code) cut.now.marks }
     requires short { unfolded_of cut.now.code cut.now.marks ≤ MAX_UNFOLDED }
     ensures known { IfOk result (IsKnownAnswer table.new) }
-    ensures exact { let invs = inv_trees table.old invs.now in
+    ensures exact { let invs = id_trees table.old invs.now in
         IfOk result (IsPartsAnswer table.new 0 (condition_parts policy.now cut.now.code invs)) }
     ensures extends { Extends table.old table.new }
 {

@@ -2,7 +2,7 @@
 use Rattle.std.proofs.Common.{◌≡◌, ℕ, zero, suc, ◌<◌, length, drop, get_or, List, [], ◌∷◌, refl, sym, ◌∙◌, ap, subst, arith}
 use Rattle.term_table.specs.Tree.{Tree}
 use Rattle.term_table.specs.Table.{TableView, IsKnown, tree_at, Extends}
-use Rattle.hereditary_subst.specs.Inside.Kept.{IsMemo}
+use Rattle.hereditary_subst.specs.Kept.{IsMemo}
 use Rattle.hereditary_subst.specs.declared.kept.Memo.{Memo}
 use Rattle.hereditary_subst.proofs.Rows.{grows_more}
 use Rattle.formula_tree.specs.Formulas.{Exp, Form}

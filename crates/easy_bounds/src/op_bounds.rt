@@ -4,7 +4,7 @@
 
 ghost use Rattle.std.specs.Prelude.{◌≡◌, IfOk};
 ghost use Rattle.term_table.specs.Table.{IsKnown, tree_at, Extends};
-ghost use Rattle.hereditary_subst.specs.Inside.Kept.{IsMemo};
+ghost use Rattle.hereditary_subst.specs.Kept.{IsMemo};
 ghost use Rattle.word_ops.specs.declared.Op.TheVariants.{Add, Band, Sll, Srl};
 ghost use Rattle.formula_tree.specs.Formulas.{Exp, ELit, EOp};
 ghost use Rattle.formula_terms.specs.Encoding.{exp_encoding};

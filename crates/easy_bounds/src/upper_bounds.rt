@@ -4,7 +4,7 @@
 
 ghost use Rattle.std.specs.Prelude.{◌≡◌, IfOk, true};
 ghost use Rattle.term_table.specs.Table.{IsKnown, tree_at, Extends};
-ghost use Rattle.hereditary_subst.specs.Inside.Kept.{IsMemo};
+ghost use Rattle.hereditary_subst.specs.Kept.{IsMemo};
 ghost use Rattle.word_ops.specs.declared.Rel.TheVariants.{Ult};
 ghost use Rattle.formula_tree.specs.Formulas.{Exp, ELit, Form, FRel};
 ghost use Rattle.formula_terms.specs.Encoding.{exp_encoding, form_encoding};

@@ -3,7 +3,7 @@ use Rattle.std.proofs.Common.{◌≡◌, ℕ, Option, Some, None, Bool, true, fa
 use Rattle.std.specs.Bool.{Decides}
 use Rattle.term_table.specs.Table.{TableView}
 use Rattle.term_table.proofs.Options.{some_injective}
-use Rattle.easy_forms.specs.Inside.Occurrences.{IsOccurrence}
+use Rattle.easy_forms.specs.Occurrences.{IsOccurrence}
 use Rattle.easy_forms.specs.declared.occurrences.Question.{Question}
 
 pub occurrences-keep : (t : TableView) (old after : Question → Option Bool) (eq : Question → Question → Bool) (q : Question) (row : Bool) → ((a b : Question) → Decides (eq a b) (a ≡ b)) → ((p : Question) (b : Bool) → old p ≡ Some b → IsOccurrence t p b) →

@@ -2,4 +2,3 @@
 pub mod Rewrites
 pub mod Rounds
 pub mod Sums
-pub mod Occurrences

@@ -1,3 +1,4 @@
 pub mod NormalForms
 pub mod Sums
 pub mod Inside
+pub mod Occurrences

@@ -5,7 +5,7 @@
 
 ghost use Rattle.std.specs.Prelude.{◌≡◌, IfOk};
 ghost use Rattle.term_table.specs.Table.{IsKnown, tree_at, Extends, Stands};
-ghost use Rattle.hereditary_subst.specs.Inside.Kept.{IsMemo, IfKnown};
+ghost use Rattle.hereditary_subst.specs.Kept.{IsMemo, IfKnown};
 ghost use Rattle.lf_signature.specs.Nodes.{IsIdOf};
 ghost use Rattle.formula_tree.specs.Formulas.{Exp, ELit};
 ghost use Rattle.formula_terms.specs.Encoding.{exp_encoding};

@@ -2,9 +2,9 @@
 
 ghost use Rattle.std.specs.Prelude.{◌≡◌, IfOk, IfSome, OnOk};
 ghost use Rattle.term_table.specs.Table.{TableView, IsKnown, tree_at};
-ghost use Rattle.hereditary_subst.specs.Inside.Kept.{IsMemo};
+ghost use Rattle.hereditary_subst.specs.Kept.{IsMemo};
 ghost use Rattle.easy_forms.specs.Sums.{OccursInExp, OccursInMem};
-ghost use Rattle.easy_forms.specs.Inside.Occurrences.{AreOccurrences, IsOccurrence};
+ghost use Rattle.easy_forms.specs.Occurrences.{AreOccurrences, IsOccurrence};
 
 use formula_ids::{ExpNode, MemNode, exp_node, mem_node};
 use hereditary_subst::{Exhausted, Memo};

@@ -4,7 +4,7 @@
 
 ghost use Rattle.std.specs.Prelude.{◌≡◌, ◌<◌, ℕ, IfOk, List};
 ghost use Rattle.term_table.specs.Table.{IsKnown, tree_at, Extends};
-ghost use Rattle.hereditary_subst.specs.Inside.Kept.{IsMemo};
+ghost use Rattle.hereditary_subst.specs.Kept.{IsMemo};
 ghost use Rattle.word_ops.specs.Words.{word_of};
 ghost use Rattle.word_ops.specs.declared.Op.TheVariants.{Add};
 ghost use Rattle.formula_tree.specs.Formulas.{Exp, ELit, EOp};

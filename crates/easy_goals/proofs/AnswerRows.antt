@@ -2,7 +2,7 @@
 use Rattle.std.proofs.Common.{◌≡◌, ℕ, suc, Option, Some, Result, Ok, Err, IfOk, Bool, true, false, cond, IfSome, List, refl, sym, ◌∙◌, ap, subst, arith}
 use Rattle.std.specs.Bool.{Decides}
 use Rattle.term_table.specs.Table.{TableView, IsKnown, tree_at, Extends, Stands}
-use Rattle.hereditary_subst.specs.Inside.Kept.{IsMemo}
+use Rattle.hereditary_subst.specs.Kept.{IsMemo}
 use Rattle.hereditary_subst.specs.declared.kept.Memo.{Memo}
 use Rattle.term_table.proofs.Options.{some_injective}
 use Rattle.formula_ids.specs.declared.hypotheses.Hypothesis.{Hypothesis}

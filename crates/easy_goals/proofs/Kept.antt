@@ -8,7 +8,7 @@ use Rattle.formula_ids.specs.Hypotheses.{AreKnownHyps}
 use Rattle.formula_ids.proofs.PutRows.{puts-more}
 use Rattle.formula_ids.proofs.Standing.{stands-more, if_known-more}
 use Rattle.easy_class.specs.Goals.{Prover, absurdity}
-use Rattle.easy_forms.specs.Inside.Occurrences.{IsOccurrence, AreOccurrences}
+use Rattle.easy_forms.specs.Occurrences.{IsOccurrence, AreOccurrences}
 use Rattle.easy_forms.specs.declared.occurrences.Question.{Question}
 use Rattle.easy_forms.specs.declared.occurrences.Question.TheVariants as Q
 use Rattle.easy_forms.specs.declared.occurrences.Occurrences.{Occurrences}

@@ -1,7 +1,7 @@
 -- What is kept of a search, call after call.
 use Rattle.std.proofs.Common.{Result, Ok, Err, IfOk, OnOk}
 use Rattle.term_table.specs.Table.{TableView, Extends}
-use Rattle.hereditary_subst.specs.Inside.Kept.{IsMemo}
+use Rattle.hereditary_subst.specs.Kept.{IsMemo}
 use Rattle.hereditary_subst.specs.declared.kept.Memo.{Memo}
 use Rattle.easy_forms.specs.declared.normal_forms.NormalForms.{NormalForms}
 use Rattle.easy_bounds.specs.declared.kept_bounds.UpperBounds.{UpperBounds}

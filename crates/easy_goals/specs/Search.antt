@@ -1,12 +1,12 @@
 -- What is kept of a search.
 use Rattle.std.specs.Prelude.{◌≡◌}
 use Rattle.term_table.specs.Table.{TableView}
-use Rattle.hereditary_subst.specs.Inside.Kept.{IsMemo}
+use Rattle.hereditary_subst.specs.Kept.{IsMemo}
 use Rattle.formula_ids.specs.Hypotheses.{AreKnownHyps}
-use Rattle.formula_ids.specs.Inside.PutRows.{ArePuts}
+use Rattle.formula_ids.specs.PutRows.{ArePuts}
 use Rattle.easy_bounds.specs.KeptBounds.{AreUppers}
 use Rattle.easy_forms.specs.NormalForms.{AreNormalForms}
-use Rattle.easy_forms.specs.Inside.Occurrences.{AreOccurrences}
+use Rattle.easy_forms.specs.Occurrences.{AreOccurrences}
 use Rattle.easy_goals.specs.Answers.{AreAnswers, IsAbsurdity}
 use Rattle.easy_goals.specs.declared.search.Search.{Search}
 use Rattle.easy_goals.specs.declared.search.Context.{Context}

@@ -2,7 +2,7 @@
 
 ghost use Rattle.std.specs.Prelude.{◌≡◌, ℕ, List, IfSome, OnOk};
 ghost use Rattle.term_table.specs.Table.{TableView};
-ghost use Rattle.hereditary_subst.specs.Inside.Kept.{IsMemo};
+ghost use Rattle.hereditary_subst.specs.Kept.{IsMemo};
 ghost use Rattle.formula_ids.specs.declared.hypotheses.Hypothesis.{Hypothesis};
 ghost use Rattle.easy_goals.specs.Answers.{IsFoundProof, IsAnswerRow, AreAnswers};
 

@@ -14,7 +14,7 @@ use Rattle.formula_ids.specs.declared.hypotheses.Hypothesis.{Hypothesis}
 use Rattle.formula_ids.specs.Hypotheses.{AreKnownHyps}
 use Rattle.easy_class.specs.Goals.{first_of, aligned_form, alignment_proof}
 use Rattle.formula_ids.proofs.HypRows.{known_hyps-more, hyps-before}
-use Rattle.easy_hyps.specs.Inside.Alignments.{IsAlignmentOf, IsFoundAlignment, IsAlignment, AreAlignments}
+use Rattle.easy_hyps.specs.Alignments.{IsAlignmentOf, IsFoundAlignment, IsAlignment, AreAlignments}
 use Rattle.easy_hyps.specs.declared.alignments.Entry.{Entry}
 use Rattle.easy_hyps.specs.declared.alignments.Answer.{Answer}
 use Rattle.easy_hyps.specs.declared.alignments.Alignments.{Alignments}

@@ -2,4 +2,3 @@
 pub mod Comparisons
 pub mod Splits
 pub mod Refutations
-pub mod Alignments

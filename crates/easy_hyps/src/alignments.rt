@@ -5,7 +5,7 @@
 
 ghost use Rattle.std.specs.Prelude.{◌≡◌, IfOk, IfSome, OnOk};
 ghost use Rattle.term_table.specs.Table.{TableView, IsKnown, tree_at, Extends, Stands};
-ghost use Rattle.hereditary_subst.specs.Inside.Kept.{IsMemo};
+ghost use Rattle.hereditary_subst.specs.Kept.{IsMemo};
 ghost use Rattle.lf_signature.specs.Nodes.{IsIdOf};
 ghost use Rattle.word_ops.specs.declared.Rel.TheVariants.{Eq};
 ghost use Rattle.word_ops.specs.declared.Op.TheVariants.{Band, Sll};
@@ -17,7 +17,7 @@ ghost use Rattle.formula_ids.specs.Hypotheses.{AreKnownHyps};
 ghost use Rattle.formula_terms.specs.ProofTerms.{up};
 ghost use Rattle.easy_class.specs.Hypotheses.{Hyps};
 ghost use Rattle.easy_class.specs.Goals.{aligned_form, masked, alignment_proof};
-ghost use Rattle.easy_hyps.specs.Inside.Alignments.{masked_first, masked_second, masked_third, IsAlignmentOf, IsPartOf, IsFoundAlignment, IsAlignment, AreAlignments};
+ghost use Rattle.easy_hyps.specs.Alignments.{masked_first, masked_second, masked_third, IsAlignmentOf, IsPartOf, IsFoundAlignment, IsAlignment, AreAlignments};
 
 use crate::collection::Hypotheses;
 use crate::finding::find_hyp;

@@ -3,7 +3,7 @@
 ghost use Rattle.std.specs.Prelude.{◌≡◌, [], ◌∷◌, ◌++◌, IfOk, OnOk};
 ghost use Rattle.term_table.specs.Tree.{shift};
 ghost use Rattle.term_table.specs.Table.{IsKnown, tree_at, Extends};
-ghost use Rattle.hereditary_subst.specs.Inside.Kept.{IsMemo};
+ghost use Rattle.hereditary_subst.specs.Kept.{IsMemo};
 ghost use Rattle.formula_tree.specs.Formulas.{Form, shift_form};
 ghost use Rattle.formula_terms.specs.Encoding.{form_encoding};
 ghost use Rattle.formula_ids.specs.Hypotheses.{AreKnownHyps, AreHyps};

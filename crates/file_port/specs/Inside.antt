@@ -1,4 +1,3 @@
 -- Words of private functions.
 pub mod Streams
-pub mod Calls
 pub mod Takes

@@ -9,3 +9,4 @@ pub mod MemSink
 pub mod DiskFiles
 pub mod StdSink
 pub mod Inside
+pub mod Calls

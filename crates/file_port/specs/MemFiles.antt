@@ -7,7 +7,7 @@ use Rattle.std.specs.FinMap as finmap
 use Rattle.std.specs.Coded.{Coded, code_by, coded×, coded_ℕ, coded_list}
 use Rattle.file_port.specs.declared.spare.TheConstants.{MAX_NAME, MAX_BYTES}
 use Rattle.file_port.specs.Counts.{count_after}
-use Rattle.file_port.specs.Inside.Calls.{is_failing, first_half}
+use Rattle.file_port.specs.Calls.{is_failing, first_half}
 use Rattle.file_port.specs.Files.{FileMap, FilesState}
 use Rattle.file_port.specs.declared.port.Put.{Put}
 use Rattle.file_port.specs.declared.port.Put.TheVariants as put

@@ -2,7 +2,7 @@
 use Rattle.std.specs.Prelude.{ℕ, ◌+◌, Bool, ◌==◌, nat_le, if◌then◌else◌, List, [], ◌∷◌, ◌++◌, length, Some, refl}
 use Rattle.std.specs.Coded.{Coded, code_by, coded×, coded_ℕ, coded_list}
 use Rattle.file_port.specs.Counts.{count_after}
-use Rattle.file_port.specs.Inside.Calls.{is_failing, first_half}
+use Rattle.file_port.specs.Calls.{is_failing, first_half}
 use Rattle.file_port.specs.Sink.{SinkState}
 use Rattle.file_port.specs.Events.{Event, was_put, put_bytes}
 use Rattle.file_port.specs.Stored.{events_code}

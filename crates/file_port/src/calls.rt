@@ -1,7 +1,7 @@
 //! Which calls of an object in memory are to fail.
 
 ghost use Rattle.std.specs.Prelude.{◌≡◌};
-ghost use Rattle.file_port.specs.Inside.Calls.{is_failing};
+ghost use Rattle.file_port.specs.Calls.{is_failing};
 
 /// Whether the call of this number is in the list.
 pub fn is_failing(failing: &[u32], call: u64) -> bool

@@ -12,7 +12,7 @@ use Rattle.formula_terms.specs.Encoding.{exp_encoding, mem_encoding, form_encodi
 use Rattle.formula_terms.proofs.Encoded.{shift-exp_encoding}
 use Rattle.hereditary_subst.proofs.Rows.{memo-more}
 use Rattle.formula_ids.specs.Puts.{IsExpPut, IsMemPut, IsFormPut}
-use Rattle.formula_ids.specs.Inside.PutRows.{IsPutAt, ArePuts, IsUnderPut}
+use Rattle.formula_ids.specs.PutRows.{IsPutAt, ArePuts, IsUnderPut}
 use Rattle.formula_ids.specs.declared.puts.Question.{Question}
 use Rattle.formula_ids.specs.declared.puts.Question.TheVariants as Q
 use Rattle.formula_ids.specs.declared.puts.Puts.{Puts}

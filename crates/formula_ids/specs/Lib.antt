@@ -3,3 +3,4 @@ pub mod Operands
 pub mod Hypotheses
 pub mod Puts
 pub mod Inside
+pub mod PutRows

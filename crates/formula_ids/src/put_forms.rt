@@ -2,9 +2,9 @@
 
 ghost use Rattle.std.specs.Prelude.{◌≡◌, ◌<◌, ◌+◌, ◌^◌, IfOk};
 ghost use Rattle.term_table.specs.Table.{IsKnown, tree_at, Extends};
-ghost use Rattle.hereditary_subst.specs.Inside.Kept.{IsMemo};
+ghost use Rattle.hereditary_subst.specs.Kept.{IsMemo};
 ghost use Rattle.formula_ids.specs.Puts.{IsExpPut, IsFormPut};
-ghost use Rattle.formula_ids.specs.Inside.PutRows.{ArePuts, IsJoinPut, IsUnderPut};
+ghost use Rattle.formula_ids.specs.PutRows.{ArePuts, IsJoinPut, IsUnderPut};
 
 use crate::forms::{FormNode, form_node};
 use crate::hypotheses::raised;

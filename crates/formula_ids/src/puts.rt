@@ -6,13 +6,13 @@
 ghost use Rattle.std.specs.Prelude.{◌≡◌, IfOk, IfSome};
 ghost use Rattle.term_table.specs.Tree.{Var, spot};
 ghost use Rattle.term_table.specs.Table.{TableView, IsKnown, tree_at, Extends};
-ghost use Rattle.hereditary_subst.specs.Inside.Kept.{IsMemo};
+ghost use Rattle.hereditary_subst.specs.Kept.{IsMemo};
 ghost use Rattle.lf_signature.specs.Nodes.{IsIdOf};
 ghost use Rattle.formula_tree.specs.Formulas.{Exp};
 ghost use Rattle.formula_tree.specs.Variables.{PExp, exp_at, mem_at};
 ghost use Rattle.formula_terms.specs.Encoding.{exp_encoding, mem_encoding};
 ghost use Rattle.formula_ids.specs.Puts.{IsExpPut, IsMemPut};
-ghost use Rattle.formula_ids.specs.Inside.PutRows.{IsPutAt, ArePuts};
+ghost use Rattle.formula_ids.specs.PutRows.{IsPutAt, ArePuts};
 
 use crate::nodes::{ExpNode, MemNode, exp_node, mem_node};
 use hereditary_subst::{Exhausted, Memo};

@@ -4,7 +4,7 @@
 
 ghost use Rattle.std.specs.Prelude.{◌≡◌, IfOk};
 ghost use Rattle.term_table.specs.Table.{IsKnown, tree_at, Extends};
-ghost use Rattle.hereditary_subst.specs.Inside.Kept.{IsMemo};
+ghost use Rattle.hereditary_subst.specs.Kept.{IsMemo};
 ghost use Rattle.lf_signature.specs.Nodes.{IsIdOf};
 ghost use Rattle.lf_signature.specs.Terms.{op_term, rel_term};
 ghost use Rattle.formula_tree.specs.Formulas.{Exp, Form};

@@ -7,7 +7,8 @@ use Rattle.text_tokens.specs.Parens.{paren_class}
 use Rattle.text_tokens.proofs.Lexing.{lexed, lexes}
 use Rattle.formula_text.specs.declared.fault.TextFlaw.{TextFlaw}
 use Rattle.formula_text.specs.Grammar.{Spells}
-use Rattle.formula_text.specs.Parsing.{◌>>=◌, AForm, Expected, Inside, Opened, Binding, Whole, ParseState, put_phrase, parse_step, at_position, parse_end, parsed_tokens, parsed_form}
+use Rattle.term_table.specs.Steps.{◌>>=◌}
+use Rattle.formula_text.specs.Parsing.{AForm, Expected, Inside, Opened, Binding, Whole, ParseState, put_phrase, parse_step, at_position, parse_end, parsed_tokens, parsed_form}
 use Rattle.formula_text.proofs.Running.{parse_steps, form_runs}
 use Rattle.formula_text.proofs.Reached.{IsReached, run_reached}
 

@@ -19,7 +19,8 @@ use Rattle.formula_text.specs.declared.fault.TextFlaw.{TextFlaw}
 use Rattle.formula_text.specs.Keywords.{phrase_sort, binder_sort, keyword_text, keyword_of}
 use Rattle.formula_text.specs.Bindings.{is_name, Bindings, nearest_binding}
 use Rattle.formula_text.specs.Grammar.{group, SpellsExp, SpellsMem, SpellsForm}
-use Rattle.formula_text.specs.Parsing.{◌>>=◌, Phrase, AForm, AnExp, AMem, group_phrase, Frame, Expected, Inside, Opened, Binding, Whole, ParseState, with_binding, bindings_of, awaited_sort, number_phrase, variable_exp, variable_mem, register_phrase, lexeme_phrase, put_phrase, put_group, close_group, inside_open, inside_lexeme, opened, same_sort, opened_keyword, binding_step, parse_step}
+use Rattle.term_table.specs.Steps.{◌>>=◌}
+use Rattle.formula_text.specs.Parsing.{Phrase, AForm, AnExp, AMem, group_phrase, Frame, Expected, Inside, Opened, Binding, Whole, ParseState, with_binding, bindings_of, awaited_sort, number_phrase, variable_exp, variable_mem, register_phrase, lexeme_phrase, put_phrase, put_group, close_group, inside_open, inside_lexeme, opened, same_sort, opened_keyword, binding_step, parse_step}
 use Rattle.formula_text.proofs.Known.{keyword_is}
 use Rattle.formula_text.proofs.Running.{parse_steps}
 

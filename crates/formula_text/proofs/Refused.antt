@@ -6,7 +6,8 @@ use Rattle.text_tokens.specs.Tokens.{Token, Placed, tokens_at}
 use Rattle.text_tokens.specs.Parens.{paren_class}
 use Rattle.formula_text.specs.declared.fault.TextFlaw.{TextFlaw}
 use Rattle.formula_text.specs.Grammar.{SpellsForm}
-use Rattle.formula_text.specs.Parsing.{◌>>=◌, FaultAt, AForm, Expected, Inside, Opened, Binding, Whole, ParseState, put_phrase, parse_step, at_position, parse_end, parsed_tokens, parsed_form}
+use Rattle.term_table.specs.Steps.{◌>>=◌}
+use Rattle.formula_text.specs.Parsing.{FaultAt, AForm, Expected, Inside, Opened, Binding, Whole, ParseState, put_phrase, parse_step, at_position, parse_end, parsed_tokens, parsed_form}
 use Rattle.formula_text.proofs.Running.{parse_steps, parse_steps-append, form_runs}
 use Rattle.formula_text.proofs.Viable.{taken_begins}
 use Rattle.formula_text.specs.Faults.{bare, BeginsNoForm, IsFaultPosition}

@@ -12,7 +12,8 @@ use Rattle.formula_text.specs.declared.fault.TextFlaw.{TextFlaw}
 use Rattle.formula_text.specs.declared.fault.TextFault.{TextFault}
 use Rattle.formula_text.specs.declared.fault.TextFault.TheVariants as FV
 use Rattle.formula_text.specs.Grammar.{Spells}
-use Rattle.formula_text.specs.Parsing.{◌>>=◌, FaultAt, Frame, Inside, ParseState, parse_step, at_position, parse_end, parsed_tokens, parsed_form}
+use Rattle.term_table.specs.Steps.{◌>>=◌}
+use Rattle.formula_text.specs.Parsing.{FaultAt, Frame, Inside, ParseState, parse_step, at_position, parse_end, parsed_tokens, parsed_form}
 use Rattle.formula_text.specs.Answers.{Parses, SpellsNone}
 use Rattle.formula_text.specs.Inside.Views.{MovesAt}
 use Rattle.formula_text.proofs.Closed.{spelled_closed}

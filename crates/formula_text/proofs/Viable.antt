@@ -18,7 +18,8 @@ use Rattle.formula_text.specs.declared.fault.TextFlaw.{TextFlaw}
 use Rattle.formula_text.specs.Keywords.{phrase_sort, part_sorts, binder_sort, keyword_of, keywords}
 use Rattle.formula_text.specs.Bindings.{is_name, Bindings, nearest_binding}
 use Rattle.formula_text.specs.Grammar.{SpellsForm}
-use Rattle.formula_text.specs.Parsing.{number_phrase, variable_exp, variable_mem, register_phrase, ◌>>=◌, Phrase, AForm, AnExp, AMem, group_phrase, Frame, Expected, Inside, Opened, Binding, Whole, ParseState, bindings_of, awaited_sort, lexeme_phrase, put_phrase, put_group, close_group, inside_open, inside_lexeme, opened, same_sort, opened_keyword, binding_step, parse_step}
+use Rattle.term_table.specs.Steps.{◌>>=◌}
+use Rattle.formula_text.specs.Parsing.{number_phrase, variable_exp, variable_mem, register_phrase, Phrase, AForm, AnExp, AMem, group_phrase, Frame, Expected, Inside, Opened, Binding, Whole, ParseState, bindings_of, awaited_sort, lexeme_phrase, put_phrase, put_group, close_group, inside_open, inside_lexeme, opened, same_sort, opened_keyword, binding_step, parse_step}
 use Rattle.formula_text.proofs.Running.{parse_steps, parse_steps-append}
 use Rattle.formula_text.proofs.Reached.{run_reached}
 

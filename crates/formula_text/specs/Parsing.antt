@@ -1,4 +1,5 @@
 -- Parsing a text as a formula, a token at a time: the first token that may not stand where it stands is the fault.
+use Rattle.term_table.specs.Steps.{◌>>=◌}
 use Rattle.std.specs.Prelude.{ℕ, ◌^◌, Bool, true, false, nat_lt, if◌then◌else◌, List, [], ◌∷◌, ◌++◌, codes, length, slice_get, Option, Some, None, Result, Ok, Err}
 use Rattle.std.specs.Str.{bytes_eq}
 use Rattle.formula_tree.specs.Formulas.{Exp, EReg, EVar, ELit, EOp, ESel, MemExp, MMem, MVar, MUpd, Form, FTrue, FFalse, FRel, FRd, FWr, FAnd, FOr, FImp, FAll, FAllm}
@@ -20,12 +21,6 @@ use Rattle.formula_text.specs.Bindings.{is_name, Bindings, nearest_binding}
 -- a position, and what is wrong there
 abbrev pub FaultAt : Type 0
 FaultAt = ℕ × TextFlaw
-
-infixl 10 ◌>>=◌
--- the next step at an answer; a fault stays
-abbrev pub ◌>>=◌ : {A B E : Type 0} → Result A E → (A → Result B E) → Result B E
-(Ok x) >>= f = f x
-(Err e) >>= f = Err e
 
 -- what a lexeme or a pair of parentheses stands for
 pub data Phrase : Type 0 where

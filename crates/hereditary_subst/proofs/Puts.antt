@@ -6,8 +6,8 @@ use Rattle.term_table.specs.Scope.{is_atomic_shape, is_term_shape}
 use Rattle.term_table.specs.Table.{TableView, IsKnown, tree_at, node_tree, Extends, Stands}
 use Rattle.term_table.specs.declared.Node.{Node}
 use Rattle.term_table.specs.declared.Node.TheVariants as N
-use Rattle.hereditary_subst.specs.Inside.Heads.{HeadIs}
-use Rattle.hereditary_subst.specs.Inside.Kept.{Says}
+use Rattle.hereditary_subst.specs.Heads.{HeadIs}
+use Rattle.hereditary_subst.specs.Kept.{Says}
 use Rattle.hereditary_subst.specs.Inside.Spare.{Spares}
 use Rattle.hereditary_subst.specs.declared.kept.Question.TheVariants as Q
 use Rattle.hereditary_subst.proofs.Rows.{known-more}

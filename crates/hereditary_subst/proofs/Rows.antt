@@ -4,8 +4,8 @@ use Rattle.std.specs.Bool.{Decides}
 use Rattle.term_table.specs.Tree.{Tree, shift, shifted}
 use Rattle.term_table.specs.Subst.{Simple, erase}
 use Rattle.term_table.specs.Table.{TableView, IsKnown, tree_at, Extends}
-use Rattle.hereditary_subst.specs.Inside.Heads.{Meets, MetIs}
-use Rattle.hereditary_subst.specs.Inside.Kept.{LowersTo, IfKnown, Tells, Says, IsMemo}
+use Rattle.hereditary_subst.specs.Heads.{Meets, MetIs}
+use Rattle.hereditary_subst.specs.Kept.{LowersTo, IfKnown, Tells, Says, IsMemo}
 use Rattle.hereditary_subst.specs.declared.kept.Question.{Question}
 use Rattle.hereditary_subst.specs.declared.kept.Question.TheVariants as Q
 use Rattle.hereditary_subst.specs.declared.kept.Row.{Row}

@@ -4,7 +4,7 @@ use Rattle.term_table.specs.Tree.{Tree, Var, Here, Other, spot, later, apps}
 use Rattle.term_table.specs.Subst as L
 use Rattle.term_table.specs.Table.{TableView, IsKnown, tree_at}
 use Rattle.hereditary_subst.specs.declared.kept.Atom.{Atom}
-use Rattle.hereditary_subst.specs.Inside.Heads.{MetIs, HeadIs}
+use Rattle.hereditary_subst.specs.Heads.{MetIs, HeadIs}
 
 pub spot_here : (x : ℕ) → spot x x ≡ Here
 spot_here zero = refl

@@ -3,3 +3,5 @@ pub use Rattle.term_table.specs.Subst
 pub use Rattle.term_table.specs.Table
 pub mod Simples
 pub mod Inside
+pub mod Heads
+pub mod Kept

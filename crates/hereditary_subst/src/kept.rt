@@ -6,7 +6,7 @@
 
 ghost use Rattle.std.specs.Prelude.{◌≡◌, IfSome};
 ghost use Rattle.term_table.specs.Table.{TableView, IsKnown};
-ghost use Rattle.hereditary_subst.specs.Inside.Kept.{IsMemo, Says, AreKnownIds};
+ghost use Rattle.hereditary_subst.specs.Kept.{IsMemo, Says, AreKnownIds};
 
 use crate::MOST_TREES;
 use crate::exhausted::Exhausted;

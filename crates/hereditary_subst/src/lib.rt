@@ -16,7 +16,7 @@ mod shifts;
 mod substitute;
 
 ghost use Rattle.std.specs.Prelude.{◌≡◌, ◌<◌, ◌≤◌, ◌+◌, ◌^◌, IfOk};
-ghost use Rattle.hereditary_subst.specs.Inside.Kept.{IsMemo};
+ghost use Rattle.hereditary_subst.specs.Kept.{IsMemo};
 ghost use Rattle.term_table.specs.Tree.{shifted};
 ghost use Rattle.term_table.specs.Subst.{HSub, HSubType, hsub, hsub_type, erase};
 ghost use Rattle.term_table.specs.Table.{IsKnown, tree_at, Extends, Stands};

@@ -4,7 +4,7 @@ ghost use Rattle.std.specs.Prelude.{◌≡◌, true, false, ◌<◌, ◌≤◌, 
 ghost use Rattle.term_table.specs.Tree.{shifted, Var};
 ghost use Rattle.term_table.specs.Scope.{is_scoped, is_term_shape};
 ghost use Rattle.term_table.specs.Table.{IsKnown, tree_at, Extends, Stands};
-ghost use Rattle.hereditary_subst.specs.Inside.Kept.{IsMemo, Lowers};
+ghost use Rattle.hereditary_subst.specs.Kept.{IsMemo, Lowers};
 
 use crate::exhausted::Exhausted;
 use crate::kept::{Memo, Question, number};

@@ -6,8 +6,8 @@ ghost use Rattle.std.specs.Prelude.{◌≡◌, ◌<◌, ◌≤◌, ◌+◌, ◌^
 ghost use Rattle.term_table.specs.Tree.{App, Lam, Pi, Var};
 ghost use Rattle.term_table.specs.Scope.{is_term_shape};
 ghost use Rattle.term_table.specs.Table.{IsKnown, tree_at, Extends, Stands};
-ghost use Rattle.hereditary_subst.specs.Inside.Heads.{put_of, put_type_of, HeadPut, HeadApplied};
-ghost use Rattle.hereditary_subst.specs.Inside.Kept.{IsMemo};
+ghost use Rattle.hereditary_subst.specs.Heads.{put_of, put_type_of, HeadPut, HeadApplied};
+ghost use Rattle.hereditary_subst.specs.Kept.{IsMemo};
 ghost use Rattle.hereditary_subst.specs.Inside.Spare.{IsLowerable, Spares};
 
 use crate::exhausted::Exhausted;

@@ -3,7 +3,7 @@
 ghost use Rattle.std.specs.Prelude.{[], ◌∷◌};
 ghost use Rattle.term_table.specs.Table.{AllKnown};
 ghost use Rattle.lf_signature.specs.Sigma1.{declared};
-ghost use Rattle.lf_check.specs.Inside.Kept.{AreKept};
+ghost use Rattle.lf_check.specs.Kept.{AreKept};
 ghost use Rattle.lf_sequents.specs.Sequents.{AreSequents};
 
 use lf_check::Kept;

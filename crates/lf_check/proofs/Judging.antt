@@ -3,8 +3,8 @@ use Rattle.std.proofs.Common.{◌≡◌, ℕ, ◌<◌, Bool, true, ◌&&◌, Opt
 use Rattle.term_table.specs.Tree.{Tree, Const, Lam, Pi, TApp}
 use Rattle.term_table.specs.Table.{TableView, IsKnown, tree_at, Extends}
 use Rattle.lf_signature.specs.Decide.{checks_of, is_type_of}
-use Rattle.lf_check.specs.Inside.Lists.{types_of}
-use Rattle.lf_check.specs.Inside.Kept.{IsJudgement}
+use Rattle.lf_check.specs.Lists.{types_of}
+use Rattle.lf_check.specs.Kept.{IsJudgement}
 use Rattle.lf_check.specs.declared.judgements.Question.TheVariants as Q
 
 abbrev Sig : Type 0

@@ -3,8 +3,8 @@ use Rattle.std.proofs.Common.{◌≡◌, ℕ, zero, suc, true, ◌&&◌, Option,
 use Rattle.term_table.specs.Tree.{Tree, Const, Var, Con, App, Lam, Fam, TApp, Pi, at}
 use Rattle.lf_signature.specs.Decide.{synth_of, checks_of, is_type_of, kind_of, kind_rule, is_star, app_rule, atom_rule, lam_rule, var_rule}
 use Rattle.term_table.specs.Table.{TableView, IsKnown, tree_at, Extends}
-use Rattle.lf_check.specs.Inside.Lists.{types_of, IsPart}
-use Rattle.lf_check.specs.Inside.Uses.{occurs, member, Covers, AgreeOn}
+use Rattle.lf_check.specs.Lists.{types_of, IsPart}
+use Rattle.lf_check.specs.Uses.{occurs, member, Covers, AgreeOn}
 use Rattle.lf_check.proofs.Sets.{or_one, or_other}
 
 -- the contexts agree on what occurs in the tree

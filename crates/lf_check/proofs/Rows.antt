@@ -3,12 +3,12 @@ use Rattle.std.proofs.Common.{◌≡◌, ℕ, Option, Some, Bool, true, false, c
 use Rattle.std.specs.Bool.{Decides}
 use Rattle.term_table.specs.Tree.{Tree, Const}
 use Rattle.term_table.specs.Table.{TableView, IsKnown, tree_at, Extends}
-use Rattle.hereditary_subst.specs.Inside.Kept.{IsMemo}
+use Rattle.hereditary_subst.specs.Kept.{IsMemo}
 use Rattle.hereditary_subst.proofs.Rows.{memo-more}
 use Rattle.std.specs.BTreeMap.{get}
 use Rattle.lf_check.specs.contracts.judgements.QuestionOrd.TheImpl as block
-use Rattle.lf_check.specs.Inside.Lists.{types_of, IsPart}
-use Rattle.lf_check.specs.Inside.Kept.{Judges, IsJudgement, AreKept, subject}
+use Rattle.lf_check.specs.Lists.{types_of, IsPart}
+use Rattle.lf_check.specs.Kept.{Judges, IsJudgement, AreKept, subject}
 use Rattle.lf_check.specs.declared.judgements.Question.{Question}
 use Rattle.lf_check.specs.declared.judgements.Question.TheVariants as Q
 use Rattle.lf_check.specs.declared.judgements.Row.{Row}

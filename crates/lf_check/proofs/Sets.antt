@@ -6,7 +6,7 @@ use Rattle.term_table.specs.Tree.{Tree, Var, Con, App, Lam, Fam, TApp, Pi}
 use Rattle.term_table.specs.Scope.{is_scoped}
 use Rattle.term_table.specs.Table.{TableView, IsKnown, tree_at}
 use Rattle.lf_signature.specs.Laws.Booleans.{both}
-use Rattle.lf_check.specs.Inside.Uses.{occurs, past, past_of, is_variable, is_set, member, IsWithin, IsUnion, Covers, AgreeOn}
+use Rattle.lf_check.specs.Uses.{occurs, past, past_of, is_variable, is_set, member, IsSubset, IsUnion, Covers, AgreeOn}
 
 -- one of both tests passes where their disjunction does
 pub one_of : (a b : Bool) → (a || b) ≡ true → (a ≡ true) ⊎ (b ≡ true)
@@ -39,27 +39,27 @@ no_member (Fam a) h i = refl
 no_member (TApp p a) h i = refl
 no_member (Pi a b) h i = refl
 
-pub none_within : (s : Tree) (u : ℕ → Bool) → is_set s ≡ false → IsWithin (member s) u
+pub none_within : (s : Tree) (u : ℕ → Bool) → is_set s ≡ false → IsSubset (member s) u
 none_within s u h i q = cc (no_member s h i, q)
 
 -- what is past the same variable
-pub past_within : (g : ℕ) (s u : ℕ → Bool) → IsWithin s u → IsWithin (past g s) (past g u)
+pub past_within : (g : ℕ) (s u : ℕ → Bool) → IsSubset s u → IsSubset (past g s) (past g u)
 past_within zero s u h zero q = refl
 past_within zero s u h (suc i) q = h i q
 past_within (suc g) s u h zero q = cc q
 past_within (suc g) s u h (suc i) q = past_within g s u h i q
 
 -- what is past a variable that is past another
-pub past_split : (g h k : ℕ) (s u : ℕ → Bool) → h ≡ suc (g + k) → IsWithin (past k s) u → IsWithin (past h s) (past g u)
-past_split zero h k s u e w = subst (λ z. IsWithin (past z s) (past zero u)) (sym (let f : h ≡ suc k = omega (arith, e) in f)) go
+pub past_split : (g h k : ℕ) (s u : ℕ → Bool) → h ≡ suc (g + k) → IsSubset (past k s) u → IsSubset (past h s) (past g u)
+past_split zero h k s u e w = subst (λ z. IsSubset (past z s) (past zero u)) (sym (let f : h ≡ suc k = omega (arith, e) in f)) go
   where
-    go : IsWithin (past (suc k) s) (past zero u)
+    go : IsSubset (past (suc k) s) (past zero u)
     go zero q = refl
     go (suc i) q = w i q
-past_split (suc g) h k s u e w = subst (λ z. IsWithin (past z s) (past (suc g) u)) (sym (let f : h ≡ suc (suc (g + k)) = omega (arith, e) in f))
+past_split (suc g) h k s u e w = subst (λ z. IsSubset (past z s) (past (suc g) u)) (sym (let f : h ≡ suc (suc (g + k)) = omega (arith, e) in f))
     (go (past_split g (suc (g + k)) k s u refl w))
   where
-    go : IsWithin (past (suc (g + k)) s) (past g u) → IsWithin (past (suc (suc (g + k))) s) (past (suc g) u)
+    go : IsSubset (past (suc (g + k)) s) (past g u) → IsSubset (past (suc (suc (g + k))) s) (past (suc g) u)
     go inner zero q = cc q
     go inner (suc i) q = inner i q
 
@@ -100,7 +100,7 @@ pub union_same : (t : TableView) (s : Tree) (r : ℕ) → s ≡ tree_at t r → 
 union_same t s r e k = record { known = k; has_one = λ i q. subst (λ z. member z i ≡ true) e q; has_other = λ i q. q }
 
 -- what is in a set is in one with the same trees
-begins : (v : TableView) (w g : ℕ) (r : Tree) (s : ℕ → Bool) → tree_at v w ≡ App (Var g) r → IsWithin s (past g (member r)) → IsWithin s (member (tree_at v w))
+begins : (v : TableView) (w g : ℕ) (r : Tree) (s : ℕ → Bool) → tree_at v w ≡ App (Var g) r → IsSubset s (past g (member r)) → IsSubset s (member (tree_at v w))
 begins v w g r s e h i q = set_is v w g r e i ∙ h i q
 
 pub union_first : (v : TableView) (w g : ℕ) (s r : Tree) → IsKnown v w → tree_at v w ≡ App (Var g) s → is_set r ≡ false →
@@ -130,7 +130,7 @@ pub union_equal : (u v : TableView) (s r : ℕ → Bool) (rest w g h : ℕ) → 
 union_equal u v s r rest w g h x kw e l = record {
   known = kw;
   has_one = begins v w g (tree_at u rest) _ e (past_within g s _ x.has_one);
-  has_other = begins v w g (tree_at u rest) _ e (subst (λ z. IsWithin (past z r) (past g (member (tree_at u rest)))) l (past_within g r _ x.has_other));
+  has_other = begins v w g (tree_at u rest) _ e (subst (λ z. IsSubset (past z r) (past g (member (tree_at u rest)))) l (past_within g r _ x.has_other));
 }
 
 -- a set as it is outside of a binder

@@ -3,9 +3,9 @@
 ghost use Rattle.std.specs.Prelude.{◌≡◌, ◌<◌, ◌≤◌, ◌+◌, ◌^◌, IfOk, IfSome, IsTrue};
 ghost use Rattle.term_table.specs.Tree.{at};
 ghost use Rattle.term_table.specs.Table.{IsKnown, AllKnown, tree_at, ctx_of, Extends, Stands};
-ghost use Rattle.lf_check.specs.Inside.Lists.{types_of, IsPart, IsContextId};
-ghost use Rattle.lf_check.specs.Inside.Uses.{member, past, AgreeOn};
-ghost use Rattle.lf_check.specs.Inside.Kept.{AreKept, IsJudgement, subject};
+ghost use Rattle.lf_check.specs.Lists.{types_of, IsPart, IsContextId};
+ghost use Rattle.lf_check.specs.Uses.{member, past, AgreeOn};
+ghost use Rattle.lf_check.specs.Kept.{AreKept, IsJudgement, subject};
 
 use crate::judgements::{Kept, Question};
 use crate::uses::{is_set, set_parts, uses_at};

@@ -4,7 +4,7 @@ ghost use Rattle.std.specs.Prelude.{◌≡◌, ◌<◌, IfOk};
 ghost use Rattle.term_table.specs.Tree.{Pi};
 ghost use Rattle.term_table.specs.Table.{IsKnown, tree_at, Extends};
 ghost use Rattle.lf_check.specs.Inside.Families.{is_proofs};
-ghost use Rattle.lf_check.specs.Inside.Kept.{AreKept, is_type_in};
+ghost use Rattle.lf_check.specs.Kept.{AreKept, is_type_in};
 
 use crate::contexts::answer_on;
 use crate::judgements::{Kept, Question, number};

@@ -20,7 +20,7 @@ ghost use Rattle.lf_check.specs.Inside.Introductions.{
   IsFitted,
   IsIntroduction,
 };
-ghost use Rattle.lf_check.specs.Inside.Kept.{AreKept};
+ghost use Rattle.lf_check.specs.Kept.{AreKept};
 
 use crate::judgements::Kept;
 use crate::steps::{declared_on, intern_on};

@@ -2,13 +2,13 @@
 //! variables that it uses have the same types (`contexts.rt` finds the context in which it was).
 //!
 //! Only what holds is kept: what doesn't hold ends the call. A context is an id of the table too
-//! (`specs/Inside/Lists`), so equal contexts are equal ids. Rows are found by an ordered map
+//! (`specs/Lists`), so equal contexts are equal ids. Rows are found by an ordered map
 //! of numbers, so that no choice of ids makes them slow to find.
 
 ghost use Rattle.std.specs.Prelude.{◌≡◌, IfSome, Option};
 ghost use Rattle.term_table.specs.Tree.{Tree, Const};
 ghost use Rattle.term_table.specs.Table.{TableView, IsKnown};
-ghost use Rattle.lf_check.specs.Inside.Kept.{AreKept, IsJudgement};
+ghost use Rattle.lf_check.specs.Kept.{AreKept, IsJudgement};
 
 use hereditary_subst::{Exhausted, Memo};
 use lf_signature::Signature;

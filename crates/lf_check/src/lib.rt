@@ -25,7 +25,7 @@ ghost use Rattle.std.specs.Prelude.{◌≡◌, ◌↔◌, IfOk, IsTrue};
 ghost use Rattle.term_table.specs.Table.{IsKnown, AllKnown, tree_at, ctx_of, Extends};
 ghost use Rattle.hereditary_subst.specs.Simples.{IsResult};
 ghost use Rattle.lf_signature.specs.Typing.{Checks, Synth, IsType};
-ghost use Rattle.lf_check.specs.Inside.Kept.{AreKept};
+ghost use Rattle.lf_check.specs.Kept.{AreKept};
 
 use contexts::context_on;
 use formed::is_type_at;

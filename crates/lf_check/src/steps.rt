@@ -3,9 +3,9 @@
 ghost use Rattle.std.specs.Prelude.{◌≡◌, ◌≤◌, ◌^◌, IfOk};
 ghost use Rattle.term_table.specs.Tree.{shifted};
 ghost use Rattle.term_table.specs.Table.{IsKnown, PartsKnown, tree_at, node_tree, Extends, Stands};
-ghost use Rattle.hereditary_subst.specs.Inside.Heads.{put_type_of};
+ghost use Rattle.hereditary_subst.specs.Heads.{put_type_of};
 ghost use Rattle.lf_signature.specs.Nodes.{type_at};
-ghost use Rattle.lf_check.specs.Inside.Kept.{AreKept};
+ghost use Rattle.lf_check.specs.Kept.{AreKept};
 
 use crate::judgements::Kept;
 use hereditary_subst::{Exhausted, subst_type_with, weaken_with};

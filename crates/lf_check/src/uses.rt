@@ -7,9 +7,9 @@
 ghost use Rattle.std.specs.Prelude.{◌≡◌, true, false, ℕ, ◌<◌, ◌+◌, suc, IfOk};
 ghost use Rattle.term_table.specs.Tree.{App, Lam, Pi, TApp, Var};
 ghost use Rattle.term_table.specs.Table.{IsKnown, tree_at, Extends};
-ghost use Rattle.lf_check.specs.Inside.Uses.{is_variable, is_set, member, past, empty};
-ghost use Rattle.lf_check.specs.Inside.Uses.{IsUnion, Covers};
-ghost use Rattle.lf_check.specs.Inside.Kept.{AreKept};
+ghost use Rattle.lf_check.specs.Uses.{is_variable, is_set, member, past, empty};
+ghost use Rattle.lf_check.specs.Uses.{IsUnion, Covers};
+ghost use Rattle.lf_check.specs.Kept.{AreKept};
 
 use crate::judgements::{Kept, Question, number};
 use crate::steps::intern_on;

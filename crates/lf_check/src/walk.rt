@@ -6,8 +6,8 @@ ghost use Rattle.term_table.specs.Tree.{at, App, Lam, Pi};
 ghost use Rattle.term_table.specs.Table.{IsKnown, AllKnown, tree_at, Extends, Stands};
 ghost use Rattle.lf_signature.specs.Decide.{is_atomic, var_rule};
 ghost use Rattle.lf_check.specs.Inside.Introductions.{IsIntroduction};
-ghost use Rattle.lf_check.specs.Inside.Lists.{types_of};
-ghost use Rattle.lf_check.specs.Inside.Kept.{AreKept, synth_in, checks_in};
+ghost use Rattle.lf_check.specs.Lists.{types_of};
+ghost use Rattle.lf_check.specs.Kept.{AreKept, synth_in, checks_in};
 
 use crate::contexts::{answer_on, type_at};
 use crate::introductions::{Introduction, introduction_on};

@@ -6,7 +6,7 @@ use Rattle.term_table.specs.Tree.{Tree, Var, App, Lam}
 use Rattle.term_table.specs.Table.{TableView, IsKnown, tree_at, Extends}
 use Rattle.lf_signature.specs.Nodes.{IsIdOf}
 use Rattle.lf_encode.specs.PutTree.{machine_terms_at, put_tree}
-use Rattle.lf_encode.specs.Inside.Kept.{AreMachineTerms}
+use Rattle.lf_encode.specs.Kept.{AreMachineTerms}
 use Rattle.lf_encode.proofs.KeptRows.{ready-same}
 
 -- a tree is made in this way of one first part and one second part

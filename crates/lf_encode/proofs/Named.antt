@@ -11,7 +11,7 @@ use Rattle.lf_encode.specs.declared.contexts.Sort as sort
 use Rattle.lf_encode.specs.declared.contexts.Sort.TheVariants as S
 use Rattle.formula_terms.specs.Encoding.{exp_encoding, mem_encoding, form_encoding}
 use Rattle.lf_encode.specs.Contexts.{var_sort, put_nearest, sorts_of, sort_types, has_words, has_machine, bound_sorts, registers_in, IsExpIn, IsMemIn, IsFormIn, encoding_in, exp_encoding_in, mem_encoding_in, EncodesForm, EncodesExp, EncodesMem}
-use Rattle.lf_encode.specs.Inside.Naming.{words, named_exp, named_mem, named_form, unnamed_exp, unnamed_mem, unnamed_form}
+use Rattle.lf_encode.specs.Naming.{words, named_exp, named_mem, named_form, unnamed_exp, unnamed_mem, unnamed_form}
 use Rattle.lf_encode.proofs.Naming.{near-at}
 use Rattle.lf_encode.proofs.Naming.{named_exp-is, named_mem-is, named_form-is, named_exp-over, named_mem-over, named_form-over, named_exp-none, named_mem-none, named_form-none, unnamed_exp-over, unnamed_mem-over, unnamed_form-over, back_exp, back_mem, back_form}
 use Rattle.formula_terms.proofs.Encoded.{exp_encoding-injective, mem_encoding-injective, form_encoding-injective}

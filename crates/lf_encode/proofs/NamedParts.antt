@@ -8,7 +8,7 @@ use Rattle.formula_tree.specs.Formulas.{Exp, EReg, ELeft, EVar, ELit, EOp, ESel,
 use Rattle.formula_tree.specs.Formulas.{Form, FTrue, FFalse, FRel, FRd, FWr, FAnd, FOr, FImp, FAll, FAllm}
 use Rattle.formula_tree.specs.Variables.{Part, PExp, PMem, shift_part, exp_at, mem_at, subst_var_exp, subst_var_mem, subst_var}
 use Rattle.formula_tree.specs.Scope.{VarSort, OfWord, OfMem, sort_at, IsOverExp, IsOverMem, IsOver, part_sort}
-use Rattle.lf_encode.specs.Inside.Naming.{named_exp, named_mem, named_form}
+use Rattle.lf_encode.specs.Naming.{named_exp, named_mem, named_form}
 use Rattle.lf_encode.proofs.Substituted.{same_sort, sort_same}
 
 abbrev pub named_part : ℕ → Part → Part

@@ -7,4 +7,6 @@ pub use Rattle.lf_signature.specs.Terms
 pub use Rattle.formula_terms.specs.Encoding
 pub mod Contexts
 pub mod PutTree
-pub mod Inside
+pub mod Kept
+pub mod Naming
+pub mod Reading

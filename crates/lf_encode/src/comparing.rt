@@ -7,9 +7,9 @@
 ghost use Rattle.std.specs.Prelude.{◌≡◌, ◌↔◌, ◌+◌, ◌<◌, ◌^◌, IfOk, IsTrue};
 ghost use Rattle.term_table.specs.Table.{IsKnown, tree_at, Extends};
 ghost use Rattle.term_table.specs.Measures.{height_of};
-ghost use Rattle.hereditary_subst.specs.Inside.Kept.{IsMemo};
+ghost use Rattle.hereditary_subst.specs.Kept.{IsMemo};
 ghost use Rattle.lf_encode.specs.PutTree.{machine_terms_at, put_tree};
-ghost use Rattle.lf_encode.specs.Inside.Kept.{IsPutMemo, AreMachineTerms};
+ghost use Rattle.lf_encode.specs.Kept.{IsPutMemo, AreMachineTerms};
 
 use crate::puts::{Place, PutMemo, is_near, number, put_variable};
 use hereditary_subst::{Exhausted, Memo};

@@ -9,9 +9,9 @@ ghost use Rattle.lf_signature.specs.Typing.{Checks};
 ghost use Rattle.formula_tree.specs.Formulas.{EVar, MVar};
 ghost use Rattle.formula_tree.specs.Views.{exp_view, mem_exp_view, form_view};
 ghost use Rattle.lf_encode.specs.Contexts.{sort_types, EncodesForm};
-ghost use Rattle.lf_encode.specs.Inside.Naming.{unnamed_exp, unnamed_mem, unnamed_form};
-ghost use Rattle.lf_encode.specs.Inside.Reading.{id_of_sort, exp_of, mem_of};
-ghost use Rattle.lf_encode.specs.Inside.Reading.{form_of, body_of, connected, unary};
+ghost use Rattle.lf_encode.specs.Naming.{unnamed_exp, unnamed_mem, unnamed_form};
+ghost use Rattle.lf_encode.specs.Reading.{id_of_sort, exp_of, mem_of};
+ghost use Rattle.lf_encode.specs.Reading.{form_of, body_of, connected, unary};
 
 use crate::contexts::{Sort, bound_count};
 use formula_tree::{Exp, Form, MemExp};

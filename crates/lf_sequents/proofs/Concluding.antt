@@ -15,7 +15,7 @@ use Rattle.lf_sequents.specs.declared.sequent.Sequent.{Sequent}
 use Rattle.lf_rules.specs.Instance.{trees_of}
 use Rattle.lf_sequents.specs.Sequents.{IsSequent, AreSequents}
 use Rattle.lf_sequents.specs.Answers.{AreTyped, Binds, FitsPremise, FitPremises, proof_taken, proofs_taken, HasForm, Concludes}
-use Rattle.lf_sequents.specs.Inside.Room.{AreShallow, terms_of, HasVarRoom}
+use Rattle.lf_sequents.specs.Room.{AreShallow, terms_of, HasVarRoom}
 use Rattle.lf_rules.proofs.Grown.{known-more}
 use Rattle.lf_sequents.proofs.Fitting.{ctx-same}
 

@@ -2,7 +2,7 @@
 use Rattle.std.proofs.Common.{refl}
 use Rattle.term_table.specs.Table.{TableView, Extends}
 use Rattle.lf_signature.specs.Sigma1.{declared}
-use Rattle.lf_check.specs.Inside.Kept.{AreKept}
+use Rattle.lf_check.specs.Kept.{AreKept}
 use Rattle.lf_check.specs.declared.judgements.Kept.{Kept}
 use Rattle.lf_check.proofs.Rows.{kept-more}
 

@@ -6,11 +6,11 @@ ghost use Rattle.term_table.specs.Table.{IsKnown, AllKnown, tree_at, Extends};
 ghost use Rattle.lf_signature.specs.Schemas.{premise_of};
 ghost use Rattle.lf_signature.specs.Nodes.{IsIdOf};
 ghost use Rattle.lf_signature.specs.Sigma1.{declared};
-ghost use Rattle.lf_check.specs.Inside.Kept.{AreKept};
+ghost use Rattle.lf_check.specs.Kept.{AreKept};
 ghost use Rattle.lf_rules.specs.Instance.{trees_of};
 ghost use Rattle.lf_sequents.specs.Sequents.{AreSequents};
 ghost use Rattle.lf_sequents.specs.Answers.{proof_taken, proofs_taken, IsRuleAnswer};
-ghost use Rattle.lf_sequents.specs.Inside.Room.{sequents_of, terms_of, AreShallow, HasVarRoom};
+ghost use Rattle.lf_sequents.specs.Room.{sequents_of, terms_of, AreShallow, HasVarRoom};
 
 use crate::instance::form_id;
 use crate::premises::{are_typed, do_fit};

@@ -6,10 +6,10 @@ ghost use Rattle.term_table.specs.Table.{IsKnown, AllKnown, tree_at, Extends};
 ghost use Rattle.lf_signature.specs.Schemas.{exp_of, mem_of, form_of, connective_constant};
 ghost use Rattle.lf_signature.specs.Nodes.{IsIdOf};
 ghost use Rattle.lf_signature.specs.Sigma1.{declared};
-ghost use Rattle.lf_check.specs.Inside.Kept.{AreKept};
+ghost use Rattle.lf_check.specs.Kept.{AreKept};
 ghost use Rattle.lf_rules.specs.Instance.{nth_arg, exp_with, mem_with, form_with};
 ghost use Rattle.lf_rules.specs.Instance.{trees_of};
-ghost use Rattle.lf_sequents.specs.Inside.Room.{raised_by};
+ghost use Rattle.lf_sequents.specs.Room.{raised_by};
 
 use crate::kept::{beta_id, raised};
 use lf_check::Kept;

@@ -6,7 +6,7 @@ ghost use Rattle.term_table.specs.Subst.{erase, hsub_type};
 ghost use Rattle.term_table.specs.Table.{IsKnown, tree_at, Extends};
 ghost use Rattle.lf_signature.specs.Nodes.{IsIdOf};
 ghost use Rattle.lf_signature.specs.Sigma1.{declared};
-ghost use Rattle.lf_check.specs.Inside.Kept.{AreKept};
+ghost use Rattle.lf_check.specs.Kept.{AreKept};
 ghost use Rattle.lf_rules.specs.Plain.{beta};
 
 use hereditary_subst::{subst_type_with, weaken_with};

@@ -7,12 +7,12 @@ ghost use Rattle.lf_signature.specs.Schemas.{sort_of, form_of, premise_of};
 ghost use Rattle.lf_signature.specs.Nodes.{IsIdOf};
 ghost use Rattle.lf_signature.specs.Typing.{Checks};
 ghost use Rattle.lf_signature.specs.Sigma1.{declared};
-ghost use Rattle.lf_check.specs.Inside.Kept.{AreKept};
+ghost use Rattle.lf_check.specs.Kept.{AreKept};
 ghost use Rattle.lf_rules.specs.Instance.{nth_arg, form_with, under_binder};
 ghost use Rattle.lf_rules.specs.Instance.{trees_of};
 ghost use Rattle.lf_sequents.specs.Sequents.{IsSequent, AreSequents};
 ghost use Rattle.lf_sequents.specs.Answers.{AreTyped, Binds, FitsPremise, FitPremises};
-ghost use Rattle.lf_sequents.specs.Inside.Room.{sequents_of};
+ghost use Rattle.lf_sequents.specs.Room.{sequents_of};
 
 use crate::instance::form_id;
 use crate::sequent::Sequent;

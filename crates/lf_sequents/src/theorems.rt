@@ -11,7 +11,7 @@ ghost use Rattle.lf_rules.specs.Instance.{trees_of, nth_arg, form_with, by_rule}
 ghost use Rattle.lf_sequents.specs.declared.sequent.Sequent.{Sequent};
 ghost use Rattle.lf_sequents.specs.Sequents.{IsSequent, AreSequents};
 ghost use Rattle.lf_sequents.specs.Answers.{HasForm, proofs_taken};
-ghost use Rattle.lf_sequents.specs.Inside.Room.{HasVarRoom};
+ghost use Rattle.lf_sequents.specs.Room.{HasVarRoom};
 
 /// Laws of sequents: one of a table is one of each later table; without hypotheses its term checks at
 /// the proofs of its goal in the empty context, also in a later table; and a term proves one formula

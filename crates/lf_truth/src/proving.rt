@@ -6,7 +6,7 @@ ghost use Rattle.hereditary_subst.specs.Simples.{IsResult};
 ghost use Rattle.lf_signature.specs.Sigma1.{declared};
 ghost use Rattle.lf_signature.specs.Terms.{pf};
 ghost use Rattle.lf_signature.specs.Typing.{Checks};
-ghost use Rattle.lf_check.specs.Inside.Kept.{AreKept};
+ghost use Rattle.lf_check.specs.Kept.{AreKept};
 ghost use Rattle.formula_tree.specs.Formulas.{Form};
 ghost use Rattle.formula_tree.specs.Truth.{IsValid};
 ghost use Rattle.lf_truth.specs.Validity.{EncodesClosed};

@@ -2,7 +2,8 @@
 use Rattle.std.proofs.Common.{◌↔◌, ◌≡◌, ℕ, zero, suc, ◌+◌, ◌-◌, ◌≤◌, ◌⊎◌, inl, inr, List, [], ◌∷◌, ◌++◌, length, take, drop, Result, Ok, Err, arith, refl, sym, ◌∙◌, ap, subst, append_assoc, length-append}
 use Rattle.std.proofs.lemmas.Bool.{cases_lt}
 use Rattle.std.proofs.lemmas.List.{get_or-drop, length-drop, length-take-le}
-use Rattle.packet_store.specs.Packets.{IsBytes, packet_encoding, claimed_length, packets_encoding, AreShort, IsWhole, IsBadFront, IsFirstFault, offset_of}
+use Rattle.term_table.specs.Bytes.{IsBytes}
+use Rattle.packet_store.specs.Packets.{packet_encoding, claimed_length, packets_encoding, AreShort, IsWhole, IsBadFront, IsFirstFault, offset_of}
 use Rattle.packet_store.specs.PacketDecoding.{decoded_packets}
 use Rattle.packet_store.specs.declared.fault.PacketFault.{PacketFault}
 use Rattle.packet_store.specs.declared.fault.PacketFault.TheVariants.{Cut, TooLong}

@@ -10,7 +10,7 @@ use Rattle.reference_machine.specs.Agents.{IsInArena, AreInArena}
 use Rattle.reference_machine.specs.Starts.{StartView, Fits, HasWords, start_state}
 use Rattle.reference_machine.proofs.Fresh.{both_in}
 use Rattle.reference_machine.proofs.Starting.{start_state-is}
-use Rattle.packet_store.specs.Packets.{IsBytes}
+use Rattle.term_table.specs.Bytes.{IsBytes}
 use Rattle.packet_store.specs.PolicyStarts.{start_of, filter_start, tag_start, table_start, quadwords_of, unused}
 
 unused_in : IsInArena 65536 unused

@@ -5,10 +5,6 @@ use Rattle.packet_store.specs.declared.reader.TheConstants.{MAX_PACKET}
 use Rattle.packet_store.specs.declared.fault.PacketFault.{PacketFault}
 use Rattle.packet_store.specs.declared.fault.PacketFault.TheVariants.{Cut, TooLong}
 
--- numbers that are bytes
-abbrev pub IsBytes : List ℕ → Type 0
-IsBytes bytes = (i : ℕ) → slice_index bytes i < 256
-
 -- four bytes of length, and the packet
 abbrev pub packet_encoding : List ℕ → List ℕ
 packet_encoding packet = to_le_bytes w32 (length packet) ++ packet

@@ -9,12 +9,12 @@ use Rattle.policy_set.specs.Names.{policy_number}
 use Rattle.formula_tree.specs.declared.form.Form as lent
 use Rattle.formula_tree.specs.Formulas.{Form}
 use Rattle.term_table.specs.Tree.{Tree}
-use Rattle.term_table.specs.Table.{TableView, tree_at}
+use Rattle.term_table.specs.Table.{TableView, tree_at, id_trees}
 use Rattle.lf_encode.specs.Contexts.{machine_context, encoding_in}
 use Rattle.proof_container.specs.Contents.{Contents}
 use Rattle.proof_container.specs.Postorder.{entries}
 use Rattle.proof_container.specs.Encoding.{AreRising}
-use Rattle.proof_container.specs.Views.{inv_trees, AllTerms}
+use Rattle.proof_container.specs.Views.{AllTerms}
 use Rattle.asm_text.specs.declared.insns.SrcInsn.{SrcInsn}
 use Rattle.asm_text.specs.declared.sources.Source as code
 use Rattle.asm_text.specs.declared.limits.TheConstants.{MAX_INSNS}
@@ -124,7 +124,7 @@ unfolding assembled_contents
 ok_answer policy s number bytes t ids e n k =
     let b = bytes_by (assembled_code s) bytes e in
     ap (with_code policy s.invs) b.1
-    ∙ ap Ok (contents_same (policy_number policy) (code_bytes b.0) (inv_encodings s.invs) (inv_trees t ids) (sym k.trees))
+    ∙ ap Ok (contents_same (policy_number policy) (code_bytes b.0) (inv_encodings s.invs) (id_trees t ids) (sym k.trees))
     ∙ ap (λ x. Ok (held_contents (policy_number policy) x t ids)) b.2
     ∙ ap (λ x. Ok (held_contents x bytes t ids)) (sym n)
 
@@ -143,7 +143,7 @@ is_held s number bytes t ids h e k =
       short = omega (arith, size, sound.count, h.1.sound.insns);
       entries = subst (λ l. length (entries (map (λ p. p.1) l ++ [])) ≤ 262144) (sym k.trees) (entries_few s.invs h.1.sound.invs (bounded h.0 s h.1).invs);
       invs = omega (arith, count, h.1.sound.invs);
-      rising = subst (λ n. AreRising 0 n (inv_trees t ids)) (sym words) (subst (AreRising 0 (length s.insns)) (sym k.trees) (rising 0 (length s.insns) s.invs h.1.sound.belong));
+      rising = subst (λ n. AreRising 0 n (id_trees t ids)) (sym words) (subst (AreRising 0 (length s.insns)) (sym k.trees) (rising 0 (length s.insns) s.invs h.1.sound.belong));
     }
 
 contents_by : (policy : PolicyKind) (s : Source) (c : Contents) (r : Result (List Insn) AsmFlaw) → with_code policy s.invs r ≡ Ok c → (insns : List Insn) × (r ≡ Ok insns) × (plain_contents policy s.invs insns ≡ c)

@@ -31,7 +31,7 @@ use Rattle.lf_signature.specs.declared.numbers.TheConstants.{SEL, UPD, RD, WR, A
 use Rattle.lf_signature.specs.Numbers.{op_constant, rel_constant}
 use Rattle.lf_encode.specs.Encoding.{exp_encoding, mem_encoding, form_encoding}
 use Rattle.lf_encode.specs.Contexts.{machine_context, machine_names, encoding_in}
-use Rattle.lf_encode.specs.Inside.Naming.{named_exp, named_mem, named_form}
+use Rattle.lf_encode.specs.Naming.{named_exp, named_mem, named_form}
 use Rattle.lf_encode.proofs.Naming.{named_form-is}
 use Rattle.lf_encode.proofs.MachineContext.{bound_sorts-machine}
 use Rattle.proof_container.specs.Postorder.{is_emitted, emitted_with, emitted_with_all, entries}

@@ -11,7 +11,7 @@ use Rattle.term_table.specs.Tree.{Tree, Var, Con, App, Lam, Fam, TApp, Pi, Const
 use Rattle.term_table.specs.Measures.{height_of}
 use Rattle.lf_encode.specs.Encoding.{exp_encoding, mem_encoding, form_encoding}
 use Rattle.lf_encode.specs.Contexts.{machine_context, encoding_in}
-use Rattle.lf_encode.specs.Inside.Naming.{named_exp, named_mem, named_form}
+use Rattle.lf_encode.specs.Naming.{named_exp, named_mem, named_form}
 use Rattle.proof_container.specs.Contents.{Contents, roots}
 use Rattle.proof_container.specs.Postorder.{is_emitted, emitted_with, emitted_with_all, entries}
 use Rattle.proof_container.specs.Encoding.{field_bytes, entry_fields, inv_fields, proof_field, head_fields, tail_fields, encoding_of}

@@ -8,13 +8,13 @@ use Rattle.formula_tree.specs.declared.form.Form as lent
 use Rattle.formula_tree.specs.Views.{form_view}
 use Rattle.formula_tree.specs.Substitution.{subst_form}
 use Rattle.term_table.specs.Tree.{IsTerm}
-use Rattle.term_table.specs.Table.{TableView, IsKnown, tree_at, Extends}
+use Rattle.term_table.specs.Table.{TableView, IsKnown, tree_at, Extends, id_trees}
 use Rattle.lf_signature.specs.Nodes.{IsIdOf}
 use Rattle.lf_encode.specs.declared.contexts.Sort.{Sort}
 use Rattle.lf_encode.specs.Encoding.{exp_encoding, mem_encoding, form_encoding}
 use Rattle.lf_encode.specs.Contexts.{machine_context, registers_in, names_in, IsFormIn, encoding_in}
 use Rattle.lf_encode.proofs.MachineContext.{bound_sorts-machine, registers_in-machine}
-use Rattle.proof_container.specs.Views.{inv_trees, AllTerms}
+use Rattle.proof_container.specs.Views.{AllTerms}
 use Rattle.proof_container.specs.Encoding.{AreRising}
 use Rattle.asm_text.specs.Sources.{HaveInsns}
 use Rattle.pcc_asm.specs.Assembling.{inv_encodings}
@@ -67,7 +67,7 @@ known_more : (t u : TableView) (ids : List (ℕ × ℕ)) → Extends t u → All
 known_more t u [] e k = tt
 known_more t u (p ∷ ids) e k = (omega (arith, k.0, e.longer), known_more t u ids e k.1)
 
-trees_same : (t u : TableView) (ids : List (ℕ × ℕ)) → Extends t u → AllByRecursion (λ (inv : ℕ × ℕ). IsKnown t inv.1) ids → inv_trees u ids ≡ inv_trees t ids
+trees_same : (t u : TableView) (ids : List (ℕ × ℕ)) → Extends t u → AllByRecursion (λ (inv : ℕ × ℕ). IsKnown t inv.1) ids → id_trees u ids ≡ id_trees t ids
 trees_same t u [] e k = refl
 trees_same t u (p ∷ ids) e k = λ i. (p.0, e.same p.1 k.0 i) ∷ trees_same t u ids e k.1 i
 
@@ -88,7 +88,7 @@ pub more_encoded : (t u : TableView) (ctx : List Sort) (xs : List (ℕ × lent.F
     IsIdOf u (encoding_in ctx (form_view d.1)) id → all ≡ ids ++ ((d.0, id) ∷ []) → AreEncoded u (inv_views (take (i + 1) xs)) all
 more_encoded t u ctx xs i d ids all id h c s k e is a =
     let front = inv_encodings (inv_views (take i xs)) in
-    let trees : inv_trees u (ids ++ ((d.0, id) ∷ [])) ≡ inv_encodings (inv_views (take (i + 1) xs)) =
+    let trees : id_trees u (ids ++ ((d.0, id) ∷ [])) ≡ inv_encodings (inv_views (take (i + 1) xs)) =
     map-append (λ (inv : ℕ × ℕ). (inv.0, tree_at u inv.1)) ids ((d.0, id) ∷ [])
     ∙ ap (λ l. l ++ ((d.0, tree_at u id) ∷ [])) (trees_same t u ids e k.known.0 ∙ k.trees)
     ∙ ap (λ y. front ++ ((d.0, y) ∷ [])) is.is

@@ -12,7 +12,7 @@ use Rattle.safe_host.specs.Runs.{Loads, IsRun, outcome_of}
 use Rattle.safe_host.specs.Counts.{steps_of, MakesSteps}
 use Rattle.host_steps.specs.declared.ended.Ended.{Ended}
 use Rattle.demo_input.specs.Packets.{demo_packet}
-use Rattle.pcc_cli.specs.Commands.Demo.{one_of, count_from, both_counts, counts_of}
+use Rattle.pcc_cli.specs.Commands.Demo.{ones_of, count_from, both_counts, packet_counts}
 use Rattle.pcc_cli.specs.declared.commands.demo.Counts.{Counts}
 
 abbrev pub nothing : Counts
@@ -25,7 +25,7 @@ short-count old new code budget None l = refl
 short-count old new code budget (Some setup) l = let wrong : false ≡ true = l.0 in cc
 
 -- a run from a start that was loaded
-pub ran-count : (old begun after : HostView) (budget steps : ℕ) (result : Ended) (o : Option StartView) → Loads old o begun true → IsRun begun budget result after → MakesSteps begun budget steps → record { steps = steps; ones = one_of (outcome_of result) } ≡ count_from old.accepted.code budget o
+pub ran-count : (old begun after : HostView) (budget steps : ℕ) (result : Ended) (o : Option StartView) → Loads old o begun true → IsRun begun budget result after → MakesSteps begun budget steps → record { steps = steps; ones = ones_of (outcome_of result) } ≡ count_from old.accepted.code budget o
 unfolding count_from
 ran-count old begun after budget steps result None l run made = let wrong : true ≡ false = l.0 in cc
 ran-count old begun after budget steps result (Some setup) l run made =
@@ -35,17 +35,17 @@ ran-count old begun after budget steps result (Some setup) l run made =
     sym (run rights l.3).same ∙ ap (λ (h : HostView). run_of h.accepted.code budget (state_under h rights)) same in
     let count : steps ≡ steps_of old.accepted.code budget (start_state ARENA setup) =
     made rights l.3 ∙ ap (λ (h : HostView). steps_of h.accepted.code budget (state_under h rights)) same in
-    let one : one_of (outcome_of result) ≡ one_of (run_of old.accepted.code budget (start_state ARENA setup)).0 = ap (λ (q : Outcome × State). one_of q.0) ended in
+    let one : ones_of (outcome_of result) ≡ ones_of (run_of old.accepted.code budget (start_state ARENA setup)).0 = ap (λ (q : Outcome × State). ones_of q.0) ended in
     λ i. record { steps = count i; ones = one i }
 
 -- ---- packet after packet
 
-pub counts-none : (policy : PolicyKind) (code : List Insn) (budget n : ℕ) → nothing ≡ counts_of policy code budget n 0
-unfolding counts_of
+pub counts-none : (policy : PolicyKind) (code : List Insn) (budget n : ℕ) → nothing ≡ packet_counts policy code budget n 0
+unfolding packet_counts
 counts-none policy code budget n = refl
 
-pub counts-more : (policy : PolicyKind) (code : List Insn) (budget n k : ℕ) (all one : Counts) → all ≡ counts_of policy code budget n k → one ≡ count_from code budget (start_of policy (demo_packet n k)) → both_counts all one ≡ counts_of policy code budget n (k + 1)
-unfolding counts_of
+pub counts-more : (policy : PolicyKind) (code : List Insn) (budget n k : ℕ) (all one : Counts) → all ≡ packet_counts policy code budget n k → one ≡ count_from code budget (start_of policy (demo_packet n k)) → both_counts all one ≡ packet_counts policy code budget n (k + 1)
+unfolding packet_counts
 counts-more policy code budget n k all one a b =
     let next : suc k ≡ k + 1 = omega arith in
-    ap (λ (x : Counts). both_counts x one) a ∙ ap (both_counts (counts_of policy code budget n k)) b ∙ ap (counts_of policy code budget n) next
+    ap (λ (x : Counts). both_counts x one) a ∙ ap (both_counts (packet_counts policy code budget n k)) b ∙ ap (packet_counts policy code budget n) next

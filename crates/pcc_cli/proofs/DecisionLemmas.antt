@@ -13,7 +13,7 @@ use Rattle.pcc_exit.specs.Exits.{Exit}
 use Rattle.pcc_exit.specs.Requests.{no_memory_exit}
 use Rattle.policy_set.specs.declared.kind.PolicyKind.{PolicyKind}
 use Rattle.pcc_exit.specs.Stages.{Stage, stops, gives, ◌>>=◌, Follows}
-use Rattle.pcc_exit.specs.Runs.{Effect, Happens, NoneFailed, Comes, stopped, printed, wrote, done_exit, written_exit, status_after, Prints, IsRun, decided, out_of_memory, Runs}
+use Rattle.pcc_exit.specs.Runs.{Effect, Happens, NoneFailed, Comes, stopped, printed, wrote, done_exit, written_exit, status_after, Prints, EndsRun, decided, out_of_memory, Runs}
 use Rattle.pcc_cli.specs.Texts.{texts}
 use Rattle.pcc_cli.specs.Inside.Decisions.{end_of, stop_exit, report_text, effect_of, end_of_decision, exit_of, EndsWith, Decides}
 use Rattle.pcc_cli.specs.Inside.Gives.{StopsAs, GivesPure, IsClean, Gives, TellsWrite, Wrote}
@@ -98,11 +98,11 @@ decides_written stage name bytes e m e' f n g asked logged happened follows d w 
 -- ---- what is printed
 
 module _ (stage : Stage Effect) (e e' : List Event) (f g : FilesState) (s t : SinkState) (status : ℕ) where
-  nothing_put : (events : List Event) (later : Stage Effect) → Follows texts events stage later → NoneFailed events → (r : Put) → Puts [] s t r → status ≡ status_after 5 r → IsRun texts stage events s t status
+  nothing_put : (events : List Event) (later : Stage Effect) → Follows texts events stage later → NoneFailed events → (r : Put) → Puts [] s t r → status ≡ status_after 5 r → EndsRun texts stage events s t status
   nothing_put events later follows clean put.Done puts after = out_of_memory later follows clean (puts ∙ with_piece-nil s) after
   nothing_put events later follows clean put.Failed puts after = let some = puts.some in absurd (omega arith)
 
-  run_of_end : (events : List Event) (end : Option Exit) → EndsWith stage events end → Prints (unwrap_or end no_memory_exit) s t status → IsRun texts stage events s t status
+  run_of_end : (events : List Event) (end : Option Exit) → EndsWith stage events end → Prints (unwrap_or end no_memory_exit) s t status → EndsRun texts stage events s t status
   run_of_end events (Some exit) comes p = decided exit comes p
   run_of_end events None (later, follows, clean) p = nothing_put events later follows clean p.put p.puts p.after
 

@@ -19,7 +19,7 @@ use Rattle.packet_store.specs.PacketDecoding.{decoded_packets}
 use Rattle.packet_store.specs.PolicyStarts.{start_of}
 use Rattle.packet_store.specs.Results.{packet_result}
 use Rattle.packet_store.specs.StartMeets.{StartMeets}
-use Rattle.proof_container.specs.Encoding.{IsBytes}
+use Rattle.term_table.specs.Bytes.{IsBytes}
 use Rattle.asm_text.specs.declared.limits.TheConstants.{MAX_SOURCE}
 use Rattle.pcc_gate.specs.declared.refusal.Refusal.{Refusal}
 use Rattle.pcc_gate.specs.Accepted.{IsAccepted}
@@ -36,8 +36,8 @@ use Rattle.pcc_lines.specs.Results.{result_lines}
 use Rattle.pcc_lines.specs.Sources.{written_line}
 use Rattle.pcc_exit.specs.Exits.{Exit, Change}
 use Rattle.pcc_exit.specs.Requests.{missing_exit, no_memory_exit}
-use Rattle.pcc_exit.specs.Stages.{Stage, stops, gives, reads, ◌>>=◌, went_on, Reads as Asks, Follows}
-use Rattle.pcc_exit.specs.Runs.{Effect, AreOctets, Happens, Comes, stopped, printed, wrote, done_exit, written_exit, Prints, IsRun, decided, out_of_memory as ran_out, Runs}
+use Rattle.pcc_exit.specs.Stages.{Stage, stops, gives, reads, ◌>>=◌, went_on, Asks, Follows}
+use Rattle.pcc_exit.specs.Runs.{Effect, AreOctets, Happens, Comes, stopped, printed, wrote, done_exit, written_exit, Prints, EndsRun, decided, out_of_memory as ran_out, Runs}
 use Rattle.pcc_exit.proofs.RunLemmas.{is_stop, is_read, exit_at}
 use Rattle.pcc_cli.specs.declared.stages.TheConstants.{MAX_FILE}
 use Rattle.pcc_cli.specs.Texts.{texts}
@@ -54,7 +54,7 @@ use Rattle.pcc_cli.specs.Commands.Reference.{ref_command}
 use Rattle.pcc_cli.specs.Commands.Running.{run_command}
 use Rattle.pcc_cli.specs.Commands.Demo.{demo_effect, demo_policy, demo_command}
 use Rattle.pcc_cli.specs.Tasks.{stage_of, policy_name_of, task_of_command}
-use Rattle.pcc_cli.specs.Headline.{IsVerdict, IsJudged, lines_exit, run_exit, Checks, RunsCode, not_accepted, accepted, Refs, no_code, ran, Makes, not_made, made, IsAssembled, IsProved, DoesUnder, Does, Means, came, out_of_memory, MeansIfCommand, IsSafeRun, RunsSafely, AcceptedRunsSafely}
+use Rattle.pcc_cli.specs.Headline.{IsVerdict, IsJudged, lines_exit, run_exit, Checks, RunsCode, not_accepted, accepted, Refs, no_code, ran, Makes, not_made, made, AssemblesTo, ProvesTo, DoesUnder, Does, Means, came, out_of_memory, MeansIfCommand, IsSafeRun, RunsSafely, AcceptedRunsSafely}
 use Rattle.pcc_cli.proofs.RunLemmas.{code_given, accepted_code_of_bytes}
 use Rattle.pcc_cli.proofs.TaskLemmas.{code_in-ends, assembled_in-ends, proved_in-ends, demo_ends}
 
@@ -509,14 +509,14 @@ module _ (input output : List ℕ) (max : ℕ) (more : Exit) (made_of : List ℕ
         copy_given r.given r.rest r.is r.follows
 
 -- what the prover made is accepted
-proved_is : ProvedAccepted → (kind : PolicyKind) (b out : List ℕ) → IsBytes b → (r : Result (List ℕ) ProveFault) → proved_container kind b ≡ r → container_proved r ≡ gives out → IsProved kind b out
+proved_is : ProvedAccepted → (kind : PolicyKind) (b out : List ℕ) → IsBytes b → (r : Result (List ℕ) ProveFault) → proved_container kind b ≡ r → container_proved r ≡ gives out → ProvesTo kind b out
 proved_is proved_accepted kind b out held (Ok bytes) is e =
     let same : Some bytes ≡ Some out = ap value_at e in
     let at : proved_container kind b ≡ Ok out = is ∙ ap Ok (let found : bytes ≡ out = cc in found) in
     record { proved = at; accepted = proved_accepted kind b out held at }
 proved_is proved_accepted kind b out held (Err fault) is e = absurd (true≢false (ap is_stop e))
 
-proved_of_stage : ProvedAccepted → (kind : PolicyKind) (b out : List ℕ) → IsBytes b → proved_in kind b ≡ gives out → IsProved kind b out
+proved_of_stage : ProvedAccepted → (kind : PolicyKind) (b out : List ℕ) → IsBytes b → proved_in kind b ≡ gives out → ProvesTo kind b out
 unfolding proved_in
 proved_of_stage proved_accepted kind b out held e = proved_is proved_accepted kind b out held (proved_container kind b) refl e
 
@@ -555,10 +555,10 @@ module _ (accepted_first : AcceptedFirst) (proved_accepted : ProvedAccepted) whe
   unfolding asm_command prove_command check_command run_command ref_command demo_command assembled_of proved_of accepted_of accepted_code_of code_of accepted_in demo_effect
   does (asm policy input output) events exit f g happened e =
       does_by (asm policy input output) (λ kind. reads input MAX_SOURCE (refused source_too_long_line) (λ b. assembled_in kind b >>= λ out. writing output out)) events exit
-      (λ kind e. makes input output MAX_SOURCE (refused source_too_long_line) (assembled_in kind) (assembled_in-ends kind) (IsAssembled kind) events exit (λ b out rest split is. is) e) (policy_of policy) e
+      (λ kind e. makes input output MAX_SOURCE (refused source_too_long_line) (assembled_in kind) (assembled_in-ends kind) (AssemblesTo kind) events exit (λ b out rest split is. is) e) (policy_of policy) e
   does (prove policy input output) events exit f g happened e =
       does_by (prove policy input output) (λ kind. reads input MAX_FILE (refused container_too_long_line) (λ b. proved_in kind b >>= λ out. writing output out)) events exit
-      (λ kind e. makes input output MAX_FILE (refused container_too_long_line) (proved_in kind) (proved_in-ends kind) (IsProved kind) events exit
+      (λ kind e. makes input output MAX_FILE (refused container_too_long_line) (proved_in kind) (proved_in-ends kind) (ProvesTo kind) events exit
       (λ b out rest split is. proved_of_stage proved_accepted kind b out (given_bytes input MAX_FILE (whole b) rest events f g split happened) is) e) (policy_of policy) e
   does (check policy file) events exit f g happened e =
       does_by (check policy file) (λ kind. reads file MAX_FILE (refused container_too_long_line) (λ b. accepted_in kind b >>= λ accepted. printing accepted_line)) events exit
@@ -576,13 +576,13 @@ module _ (accepted_first : AcceptedFirst) (proved_accepted : ProvedAccepted) whe
       → MeansIfCommand o e e' s t status
   means (Some invocation) e e' f g s t status r = by r.ends
     where
-      by : IsRun texts (stage_of invocation) r.events s t status → Means invocation e e' s t status
+      by : EndsRun texts (stage_of invocation) r.events s t status → Means invocation e e' s t status
       by (decided exit comes prints) =
           came r.events exit r.logged (does invocation r.events exit f g r.happened (ended_of (stage_of invocation) r.events exit comes)) prints
       by (ran_out later follows clean same status_is) = out_of_memory r.events r.logged clean same status_is
   means None e e' f g s t status r = r.logged ∙ ap (λ es. e ++ es) (by r.ends) ∙ append-nil e
     where
-      by : IsRun texts (task_of_command None).stage r.events s t status → r.events ≡ []
+      by : EndsRun texts (task_of_command None).stage r.events s t status → r.events ≡ []
       by (decided exit comes prints) = (ended_at_once _ r.events exit (ended_of (task_of_command None).stage r.events exit comes)).0
       by (ran_out later follows clean same status_is) = (no_read (task_of_command None).stage refl r.events later follows).0
 

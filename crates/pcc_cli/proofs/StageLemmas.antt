@@ -6,7 +6,7 @@ use Rattle.file_port.specs.Events.{Given, whole, missing, too_long, failed, no_m
 use Rattle.file_port.specs.Files.{FilesState}
 use Rattle.file_port.specs.Files.{Reads}
 use Rattle.pcc_exit.specs.Exits.{Exit}
-use Rattle.pcc_exit.specs.Stages.{Stage, stops, gives, reads, ◌>>=◌, went_on, Reads as Asks, Follows}
+use Rattle.pcc_exit.specs.Stages.{Stage, stops, gives, reads, ◌>>=◌, went_on, Asks, Follows}
 use Rattle.pcc_exit.specs.Runs.{AreOctets, Happens, NoneFailed}
 use Rattle.pcc_cli.specs.Texts.{texts}
 use Rattle.pcc_cli.specs.Inside.Decisions.{end_of, stop_exit}

@@ -16,7 +16,7 @@ use Rattle.packet_store.specs.declared.fault.PacketFault.{PacketFault}
 use Rattle.packet_store.specs.PacketDecoding.{decoded_packets}
 use Rattle.packet_store.specs.PolicyStarts.{start_of}
 use Rattle.packet_store.specs.Results.{packet_result}
-use Rattle.proof_container.specs.Encoding.{IsBytes}
+use Rattle.term_table.specs.Bytes.{IsBytes}
 use Rattle.vcgen.specs.Safety.{IsGoodEnd}
 use Rattle.pcc_gate.specs.declared.refusal.Refusal.{Refusal}
 use Rattle.pcc_gate.specs.Accepted.{IsAccepted}
@@ -101,11 +101,11 @@ pub data Makes (input output : List ℕ) (max : ℕ) (IsMade : List ℕ → List
       → IsMade bytes out → exit ≡ written_exit texts output (written_line (length out)) answer → Makes input output max IsMade events exit
 
 -- `asm` makes of a source the container that it is assembled into
-abbrev pub IsAssembled : PolicyKind → List ℕ → List ℕ → Type 0
-IsAssembled policy text out = assembled_in policy text ≡ gives out
+abbrev pub AssemblesTo : PolicyKind → List ℕ → List ℕ → Type 0
+AssemblesTo policy text out = assembled_in policy text ≡ gives out
 
 -- `prove` makes of a container one that is accepted under the policy
-pub record IsProved (policy : PolicyKind) (bytes out : List ℕ) : Type 0 where
+pub record ProvesTo (policy : PolicyKind) (bytes out : List ℕ) : Type 0 where
   pub proved : proved_container policy bytes ≡ Ok out
   pub accepted : IsAccepted policy out
 
@@ -113,8 +113,8 @@ pub record IsProved (policy : PolicyKind) (bytes out : List ℕ) : Type 0 where
 
 -- what a command under a policy did that came to an exit
 abbrev pub DoesUnder : PolicyKind → Invocation → List Event → Exit → Type 0
-DoesUnder kind (asm policy input output) events exit = Makes input output MAX_SOURCE (IsAssembled kind) events exit
-DoesUnder kind (prove policy input output) events exit = Makes input output MAX_FILE (IsProved kind) events exit
+DoesUnder kind (asm policy input output) events exit = Makes input output MAX_SOURCE (AssemblesTo kind) events exit
+DoesUnder kind (prove policy input output) events exit = Makes input output MAX_FILE (ProvesTo kind) events exit
 DoesUnder kind (check policy file) events exit = Checks kind file events exit
 DoesUnder kind (run policy file packets steps) events exit = RunsCode kind file packets steps events exit
 DoesUnder kind (ref policy file packets steps) events exit = Refs kind file packets steps events exit

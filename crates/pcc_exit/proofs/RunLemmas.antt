@@ -11,8 +11,8 @@ use Rattle.file_port.specs.declared.port.Put.TheVariants as put
 use Rattle.file_port.proofs.PutLemmas.{with_piece-nil}
 use Rattle.pcc_exit.specs.Exits.{Exit, Change, Answer, changed}
 use Rattle.pcc_exit.specs.Requests.{Request, Standing, Suits, Texts, command, missing_exit, no_memory_exit, read_fault_exit, unknown_policy_exit}
-use Rattle.pcc_exit.specs.Stages.{Stage, stops, gives, reads, went_on, Reads as Asks, Follows, by_given, result_over, names_over}
-use Rattle.pcc_exit.specs.Runs.{Effect, Task, Happens, done_exit, written_exit, Comes, stopped, printed, wrote, status_after, Prints, IsRun, decided, out_of_memory, Runs, NoneFailed, answer_of, request_of_task, IsStop, IsSuited}
+use Rattle.pcc_exit.specs.Stages.{Stage, stops, gives, reads, went_on, Asks, Follows, by_given, result_over, names_over}
+use Rattle.pcc_exit.specs.Runs.{Effect, Task, Happens, done_exit, written_exit, Comes, stopped, printed, wrote, status_after, Prints, EndsRun, decided, out_of_memory, Runs, NoneFailed, answer_of, request_of_task, IsStop, IsSuited}
 use Rattle.pcc_exit.specs.Ends as ends
 use Rattle.pcc_exit.specs.Ends.{Ends, IsDecision, answered, not_read, not_written}
 
@@ -274,7 +274,7 @@ module _ (texts : Texts) (task : Task) (suited : IsSuited texts task.standing ta
     line = refl;
   })
 
-  run_ends : (events : List Event) → Happens events f g → IsRun texts task.stage events s t status → Ends of_task f g s t status
+  run_ends : (events : List Event) → Happens events f g → EndsRun texts task.stage events s t status → Ends of_task f g s t status
   run_ends events happened (decided exit (stopped follows) p) =
       stop_printed texts task suited f g s t status exit (of_stop texts task suited f g exit (walked texts task.standing task.names events task.stage (stops exit) f g suited follows happened)) p
   run_ends events happened (decided exit (printed text follows is) p) =

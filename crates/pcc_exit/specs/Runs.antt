@@ -83,17 +83,17 @@ pub record Prints (exit : Exit) (old new : SinkState) (status : ℕ) : Type 0 wh
   pub after : status ≡ status_after exit.status put
 
 -- By these events and puts a run ends with the status: all was asked for and an exit printed, or memory ran out on the way.
-pub data IsRun (texts : Texts) (stage : Stage Effect) (events : List Event) (s t : SinkState) (status : ℕ) : Type 0 where
-  decided : (exit : Exit) → Comes texts stage events exit → Prints exit s t status → IsRun texts stage events s t status
+pub data EndsRun (texts : Texts) (stage : Stage Effect) (events : List Event) (s t : SinkState) (status : ℕ) : Type 0 where
+  decided : (exit : Exit) → Comes texts stage events exit → Prints exit s t status → EndsRun texts stage events s t status
   out_of_memory : (later : Stage Effect) → Follows texts events stage later → NoneFailed events → t ≡ s → status ≡ 5
-      → IsRun texts stage events s t status
+      → EndsRun texts stage events s t status
 
 -- A run took files from a log e and a state f to a log e' and a state g, and output from s to t, and ended with the status.
 pub record Runs (texts : Texts) (stage : Stage Effect) (e e' : List Event) (f g : FilesState) (s t : SinkState) (status : ℕ) : Type 0 where
   pub events : List Event
   pub logged : e' ≡ e ++ events
   pub happened : Happens events f g
-  pub ends : IsRun texts stage events s t status
+  pub ends : EndsRun texts stage events s t status
 
 -- ---- the same over files that are known
 

@@ -33,7 +33,7 @@ went_on texts name more on failed = stops (read_fault_exit texts name)
 went_on texts name more on no_memory = stops no_memory_exit
 
 -- The stage asks for a read of the name, of at most so many bytes, and goes on so where that gives this.
-pub record Reads {A : Type 0} (texts : Texts) (name : List ℕ) (max : ℕ) (given : Given) (stage later : Stage A) : Type 0 where
+pub record Asks {A : Type 0} (texts : Texts) (name : List ℕ) (max : ℕ) (given : Given) (stage later : Stage A) : Type 0 where
   pub more : Exit
   pub on : List ℕ → Stage A
   pub asks : stage ≡ reads name max more on
@@ -42,7 +42,7 @@ pub record Reads {A : Type 0} (texts : Texts) (name : List ℕ) (max : ℕ) (giv
 -- The events are the reads that the stage asks for, in their order, and no other; then it is at this one.
 abbrev pub Follows : {A : Type 0} → Texts → List Event → Stage A → Stage A → Type 0
 Follows texts [] stage later = later ≡ stage
-Follows {A = A} texts (was_read name max given ∷ events) stage later = (next : Stage A) × Reads texts name max given stage next × Follows texts events next later
+Follows {A = A} texts (was_read name max given ∷ events) stage later = (next : Stage A) × Asks texts name max given stage next × Follows texts events next later
 Follows texts (was_written name bytes answer ∷ events) stage later = ⊥
 Follows texts (was_put piece answer ∷ events) stage later = ⊥
 

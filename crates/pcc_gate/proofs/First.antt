@@ -12,13 +12,13 @@ use Rattle.lf_signature.specs.Typing.{Checks}
 use Rattle.lf_signature.specs.Laws.Decided.{checks_is, checks_follows}
 use Rattle.formula_tree.specs.Formulas.{Form}
 use Rattle.lf_encode.specs.Contexts.{machine_context, EncodesForm}
-use Rattle.lf_encode.specs.Inside.Naming.{unnamed_form}
-use Rattle.lf_encode.specs.Inside.Reading.{form_of}
+use Rattle.lf_encode.specs.Naming.{unnamed_form}
+use Rattle.lf_encode.specs.Reading.{form_of}
 use Rattle.lf_encode.proofs.Named.{form_encoded}
 use Rattle.lf_encode.proofs.Decoded.{form_of-encoding}
 use Rattle.lf_encode.proofs.MachineContext.{bound_sorts-machine}
 use Rattle.proof_container.specs.Contents.{Contents}
-use Rattle.proof_container.specs.Encoding.{IsBytes}
+use Rattle.term_table.specs.Bytes.{IsBytes}
 use Rattle.vcgen.specs.Encoded.{AreForms, AreEncodings, EncodesCondition}
 use Rattle.vcgen.proofs.Encodings.{encoding-unique}
 use Rattle.pcc_gate.specs.declared.limits.TheConstants.{MAX_WEIGHT}

@@ -17,7 +17,8 @@ use Rattle.term_table.specs.Tree.{Tree}
 use Rattle.term_table.specs.Measures.{capped}
 use Rattle.proof_container.specs.Contents.{Contents, roots}
 use Rattle.proof_container.specs.Decoding.{Fault, decoded_container}
-use Rattle.proof_container.specs.Encoding.{IsBytes, IsContents, AreRising}
+use Rattle.term_table.specs.Bytes.{IsBytes}
+use Rattle.proof_container.specs.Encoding.{IsContents, AreRising}
 use Rattle.proof_container.specs.declared.limits.TheConstants.{MAX_BYTES}
 use Rattle.proof_container.proofs.Whole.{container_takes, container_again, none_spelled, one_content}
 use Rattle.vcgen.specs.declared.condition.TheConstants.{MAX_UNFOLDED}

@@ -3,10 +3,9 @@ use Rattle.std.proofs.Common.{◌≡◌, ℕ, zero, suc, ◌≤◌, List, [], �
 use Rattle.std.specs.List.{AllByRecursion}
 use Rattle.std.specs.Option.{option_map}
 use Rattle.term_table.specs.Tree.{Tree, Fam}
-use Rattle.term_table.specs.Table.{TableView, IsKnown, AllKnown, tree_at, put_last, ctx_of, Extends}
+use Rattle.term_table.specs.Table.{TableView, IsKnown, AllKnown, tree_at, put_last, ctx_of, Extends, id_trees}
 use Rattle.lf_signature.specs.Nodes.{IsIdOf}
 use Rattle.lf_encode.specs.Contexts.{machine_context, sort_types}
-use Rattle.proof_container.specs.Views.{inv_trees}
 use Rattle.term_table.specs.Measures.{height_of}
 use Rattle.vcgen.specs.Answers.{AreLowInvs}
 use Rattle.vcgen.specs.declared.condition.TheConstants.{MAX_HEIGHT}
@@ -34,7 +33,7 @@ module _ (t u : TableView) where
   id-more x id e h = record { known = known-id id e h.known; is = e.same id h.known ∙ h.is }
 
   -- the trees of known ids stay
-  pub trees-same : (ps : List (ℕ × ℕ)) → Extends t u → AllByRecursion (λ (inv : ℕ × ℕ). IsKnown t inv.1) ps → inv_trees t ps ≡ inv_trees u ps
+  pub trees-same : (ps : List (ℕ × ℕ)) → Extends t u → AllByRecursion (λ (inv : ℕ × ℕ). IsKnown t inv.1) ps → id_trees t ps ≡ id_trees u ps
   trees-same [] e k = refl
   trees-same (p ∷ ps) e k = λ i. (p.0, sym (e.same p.1 k.0) i) ∷ trees-same ps e k.1 i
 
@@ -68,6 +67,6 @@ pub low-more : (t u : TableView) (ids : List (ℕ × ℕ)) → AreLowInvs t ids 
 low-more t u [] h e = tt
 low-more t u (p ∷ ids) h e = (known-id t u p.1 e h.0, subst (λ z. height_of z ≤ MAX_HEIGHT) (sym (e.same p.1 h.0)) h.1, low-more t u ids h.2 e)
 
-pub low-same : (t u : TableView) (ids : List (ℕ × ℕ)) → AreLowInvs t ids → Extends t u → inv_trees t ids ≡ inv_trees u ids
+pub low-same : (t u : TableView) (ids : List (ℕ × ℕ)) → AreLowInvs t ids → Extends t u → id_trees t ids ≡ id_trees u ids
 low-same t u [] h e = refl
 low-same t u (p ∷ ids) h e = λ i. (p.0, sym (e.same p.1 h.0) i) ∷ low-same t u ids h.2 e i

@@ -5,9 +5,8 @@ use Rattle.alpha_words.specs.declared.insn.Insn.{Insn}
 use Rattle.alpha_cfg.specs.Deciding.{flags_of, uncut_of}
 use Rattle.term_table.specs.Tree.{Tree}
 use Rattle.term_table.specs.Measures.{capped}
-use Rattle.term_table.specs.Table.{TableView}
+use Rattle.term_table.specs.Table.{TableView, id_trees}
 use Rattle.alpha_cfg.specs.Cuts.{CutView}
-use Rattle.proof_container.specs.Views.{inv_trees}
 use Rattle.proof_container.specs.Contents.{Contents, roots}
 use Rattle.pcc_gate.specs.declared.fault.GateFault.{GateFault}
 use Rattle.pcc_gate.specs.declared.fault.GateFault.TheVariants as fault
@@ -62,7 +61,7 @@ module _ (c : Contents) (code : List Insn) where
   long-refuses low forms uncut e h = refuses-into (first_shape c code) (first_long code (marks_of c code)) (λ next. next) (shape-long low forms uncut) e h
 
 -- the indices of invariants are those of their trees
-pub keys : (t : TableView) (ps : List (ℕ × ℕ)) → map (λ (p : ℕ × Tree). p.0) (inv_trees t ps) ≡ map (λ (p : ℕ × ℕ). p.0) ps
+pub keys : (t : TableView) (ps : List (ℕ × ℕ)) → map (λ (p : ℕ × Tree). p.0) (id_trees t ps) ≡ map (λ (p : ℕ × ℕ). p.0) ps
 keys t [] = refl
 keys t (p ∷ ps) = ap (λ l. p.0 ∷ l) (keys t ps)
 

@@ -5,7 +5,7 @@ use Rattle.alpha_cfg.specs.CodeDecoding.{decoded_code}
 use Rattle.alpha_cfg.specs.Cuts.{CutView, AreFlags}
 use Rattle.std.proofs.lemmas.List.Elements.{All-head, All-tail}
 use Rattle.std.specs.List.{AllByRecursion}
-use Rattle.term_table.specs.Table.{TableView, IsKnown, Extends, tree_at}
+use Rattle.term_table.specs.Table.{TableView, IsKnown, Extends, tree_at, id_trees}
 use Rattle.lf_truth.specs.Validity.{IsSoundSignature}
 use Rattle.vcgen.specs.Encoded.{AreForms, AreEncodings}
 use Rattle.pcc_gate.proofs.Kept.{known-more, trees-same}
@@ -23,7 +23,7 @@ use Rattle.pcc_gate.specs.Inside.Acceptance.{IsProofAnswer, IsProved}
 use Rattle.pcc_gate.proofs.First.{vc_of-encodes}
 use Rattle.policy_set.specs.declared.kind.PolicyKind.{PolicyKind}
 use Rattle.proof_container.specs.Contents.{Contents, roots}
-use Rattle.proof_container.specs.Views.{contents_of, inv_trees}
+use Rattle.proof_container.specs.Views.{contents_of}
 use Rattle.pcc_gate.specs.declared.fault.GateFault.{GateFault}
 use Rattle.pcc_gate.specs.declared.passing.Passed.{Passed}
 use Rattle.pcc_gate.specs.declared.refusal.Refusal.{Refusal}
@@ -130,16 +130,16 @@ front-refused policy bytes fault.Memory h = h
 front-refused policy bytes fault.Results h = h
 
 -- the invariants' terms are low
-pub low-invs : (t : TableView) (ps : List (ℕ × ℕ)) (more : List Tree) → AllByRecursion (λ (inv : ℕ × ℕ). IsKnown t inv.1) ps → AreLow (map (λ p. p.1) (inv_trees t ps) ++ more) → AreLowInvs t ps
+pub low-invs : (t : TableView) (ps : List (ℕ × ℕ)) (more : List Tree) → AllByRecursion (λ (inv : ℕ × ℕ). IsKnown t inv.1) ps → AreLow (map (λ p. p.1) (id_trees t ps) ++ more) → AreLowInvs t ps
 low-invs t [] more k l = tt
 low-invs t (p ∷ ps) more k l =
-    let rest : List Tree = map (λ (z : ℕ × Tree). z.1) (inv_trees t ps) ++ more in
+    let rest : List Tree = map (λ (z : ℕ × Tree). z.1) (id_trees t ps) ++ more in
     (k.0, All-head (λ x. height_of x ≤ MAX_HEIGHT) (tree_at t p.1) rest l, low-invs t ps more k.1 (All-tail (λ x. height_of x ≤ MAX_HEIGHT) (tree_at t p.1) rest l))
 
 -- accepted code is safe, and its condition true, also over a later table
-pub proved-by : IsSoundSignature declared → (policy : PolicyKind) (bytes : List ℕ) (c : Contents) (cut : CutView) (t u : TableView) (ps : List (ℕ × ℕ)) → Extends t u → AllByRecursion (λ (inv : ℕ × ℕ). IsKnown t inv.1) ps → c.invs ≡ inv_trees t ps → Accepts policy bytes c cut.code cut.marks → IsProved policy cut u ps
+pub proved-by : IsSoundSignature declared → (policy : PolicyKind) (bytes : List ℕ) (c : Contents) (cut : CutView) (t u : TableView) (ps : List (ℕ × ℕ)) → Extends t u → AllByRecursion (λ (inv : ℕ × ℕ). IsKnown t inv.1) ps → c.invs ≡ id_trees t ps → Accepts policy bytes c cut.code cut.marks → IsProved policy cut u ps
 proved-by sound policy bytes c cut t u ps grown known is a =
-    let same : c.invs ≡ inv_trees u ps = is ∙ trees-same t u ps grown known in
+    let same : c.invs ≡ id_trees u ps = is ∙ trees-same t u ps grown known in
     record {
       code = a.passes.code;
       flags = subst (λ (l : List (ℕ × Tree)). AreFlags (map (λ p. p.0) l) (length cut.code) cut.marks) same a.passes.annotated;

@@ -26,7 +26,8 @@ use Rattle.lf_signature.specs.Decide.{checks_of}
 use Rattle.lf_signature.specs.Laws.Decided.{checks_follows}
 use Rattle.policy_set.specs.declared.kind.PolicyKind.TheVariants.{Tag}
 use Rattle.proof_container.specs.Contents.{Contents, roots}
-use Rattle.proof_container.specs.Encoding.{IsBytes, IsContents, AreTerms, encoding_of}
+use Rattle.term_table.specs.Bytes.{IsBytes}
+use Rattle.proof_container.specs.Encoding.{IsContents, AreTerms, encoding_of}
 use Rattle.proof_container.specs.Postorder.{is_emitted, unless_emitted, emitted_with, entries}
 use Rattle.proof_container.specs.Inside.Walked.{nodes}
 use Rattle.proof_container.specs.Decoding.{entry_size}

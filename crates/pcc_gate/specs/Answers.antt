@@ -2,7 +2,8 @@
 use Rattle.std.specs.Prelude.{◌≡◌, ℕ, ◌≤◌, List, length, None, Some, Result, Ok, Err}
 use Rattle.policy_set.specs.declared.kind.PolicyKind.{PolicyKind}
 use Rattle.term_table.specs.Measures.{sigma1_places}
-use Rattle.proof_container.specs.Views.{AreKnown, contents_of, inv_trees}
+use Rattle.term_table.specs.Table.{id_trees}
+use Rattle.proof_container.specs.Views.{AreKnown, contents_of}
 use Rattle.proof_container.specs.Contents.{Contents}
 use Rattle.proof_container.specs.declared.limits.TheConstants.{MAX_BYTES}
 use Rattle.proof_container.specs.declared.container.Container.{Container}
@@ -31,7 +32,7 @@ IsFrontAnswer policy bytes (Err Results) = length bytes ≤ MAX_BYTES
 pub record IsAcceptedBy (policy : PolicyKind) (bytes : List ℕ) (a : AcceptedView) : Type 0 where
   pub contents : Contents
   pub policy_is : a.policy ≡ policy
-  pub invs_are : contents.invs ≡ inv_trees a.table a.invs
+  pub invs_are : contents.invs ≡ id_trees a.table a.invs
   pub accepts : Accepts policy bytes contents a.code a.marks
   pub first : first_refusal policy bytes ≡ None
 

@@ -16,8 +16,8 @@ use Rattle.lf_signature.specs.Terms.{form, pf}
 use Rattle.lf_signature.specs.Decide.{checks_of}
 use Rattle.lf_encode.specs.Encoding.{form_encoding}
 use Rattle.lf_encode.specs.Contexts.{machine_context, sort_types}
-use Rattle.lf_encode.specs.Inside.Naming.{unnamed_form}
-use Rattle.lf_encode.specs.Inside.Reading.{form_of}
+use Rattle.lf_encode.specs.Naming.{unnamed_form}
+use Rattle.lf_encode.specs.Reading.{form_of}
 use Rattle.proof_container.specs.Contents.{Contents, roots}
 use Rattle.proof_container.specs.Decoding.{Fault, decoded_container}
 use Rattle.proof_container.specs.declared.limits.TheConstants.{MAX_BYTES}

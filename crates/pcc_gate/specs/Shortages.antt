@@ -5,6 +5,6 @@ use Rattle.pcc_gate.specs.declared.fault.GateFault.{GateFault}
 use Rattle.pcc_gate.specs.declared.fault.GateFault.TheVariants.{Memory, Results}
 
 -- memory, or the results that may be kept
-abbrev pub shortage_of : Exhausted → GateFault
-shortage_of exhausted.Memory = Memory
-shortage_of exhausted.Results = Results
+abbrev pub gate_shortage_of : Exhausted → GateFault
+gate_shortage_of exhausted.Memory = Memory
+gate_shortage_of exhausted.Results = Results

@@ -4,10 +4,10 @@ use Rattle.alpha_words.specs.declared.insn.Insn.{Insn}
 use Rattle.policy_set.specs.declared.kind.PolicyKind.{PolicyKind}
 use Rattle.formula_tree.specs.Formulas.{Form}
 use Rattle.formula_tree.specs.Truth.{IsValid}
-use Rattle.term_table.specs.Table.{TableView}
+use Rattle.term_table.specs.Table.{TableView, id_trees}
 use Rattle.vcgen.specs.Conditions.{condition}
 use Rattle.vcgen.specs.Safety.{IsAnnotated}
-use Rattle.vcgen.specs.Encoded.{annotated, AreEncodings, inv_trees}
+use Rattle.vcgen.specs.Encoded.{annotated, AreEncodings}
 
 -- accepted code: its policy, the code with its flags, and its invariants as ids of the table
 pub record AcceptedView : Type 0 where
@@ -19,8 +19,8 @@ pub record AcceptedView : Type 0 where
 
 -- the condition of the policy, the code and the formulas of the invariants is true in every structure
 abbrev pub IsConditionTrue : AcceptedView → Type 0
-IsConditionTrue a = (formulas : List (ℕ × Form)) → AreEncodings (inv_trees a.table a.invs) formulas → IsValid (condition (annotated a.policy a.code formulas))
+IsConditionTrue a = (formulas : List (ℕ × Form)) → AreEncodings (id_trees a.table a.invs) formulas → IsValid (condition (annotated a.policy a.code formulas))
 
 -- the formulas of the invariants annotate the code
 abbrev pub AreAnnotations : AcceptedView → Type 0
-AreAnnotations a = (formulas : List (ℕ × Form)) → AreEncodings (inv_trees a.table a.invs) formulas → IsAnnotated (annotated a.policy a.code formulas)
+AreAnnotations a = (formulas : List (ℕ × Form)) → AreEncodings (id_trees a.table a.invs) formulas → IsAnnotated (annotated a.policy a.code formulas)

@@ -2,9 +2,9 @@
 
 ghost use Rattle.std.specs.Prelude.{◌≡◌};
 ghost use Rattle.std.specs.List.{AllByRecursion};
-ghost use Rattle.term_table.specs.Table.{IsKnown};
+ghost use Rattle.term_table.specs.Table.{IsKnown, id_trees};
 ghost use Rattle.policy_set.specs.Policies.{pre_of, post_of};
-ghost use Rattle.vcgen.specs.Encoded.{AreForms, inv_trees};
+ghost use Rattle.vcgen.specs.Encoded.{AreForms};
 ghost use Rattle.vcgen.specs.Safety.{IsSafe};
 ghost use Rattle.pcc_gate.specs.Views.{IsConditionTrue, AreAnnotations};
 
@@ -81,7 +81,7 @@ impl Accepted {
     /// policy, the code and these formulas is true in every structure.
     pub fn laws(&self)
         ensures safe { IsSafe self.now.code (pre_of self.now.policy) (post_of self.now.policy) }
-        ensures forms { AreForms (inv_trees self.now.table self.now.invs) }
+        ensures forms { AreForms (id_trees self.now.table self.now.invs) }
         ensures annotates { AreAnnotations self.now }
         ensures valid { IsConditionTrue self.now }
     {

@@ -5,14 +5,14 @@ ghost use Rattle.std.specs.List.Sorted.{IsStrictlyIncreasing};
 ghost use Rattle.std.specs.List.{AllByRecursion};
 ghost use Rattle.std.specs.Option.{option_map};
 ghost use Rattle.alpha_cfg.specs.declared.code.TheConstants.{MAX_WORDS};
-ghost use Rattle.term_table.specs.Table.{IsKnown, AllKnown, tree_at, ctx_of, Extends};
+ghost use Rattle.term_table.specs.Table.{IsKnown, AllKnown, tree_at, ctx_of, Extends, id_trees};
 ghost use Rattle.term_table.specs.Measures.{capped};
 ghost use Rattle.lf_signature.specs.Nodes.{IsIdOf};
 ghost use Rattle.lf_signature.specs.Sigma1.{declared};
 ghost use Rattle.term_table.specs.Tree.{Fam};
-ghost use Rattle.lf_check.specs.Inside.Kept.{AreKept};
+ghost use Rattle.lf_check.specs.Kept.{AreKept};
 ghost use Rattle.lf_encode.specs.Contexts.{machine_context, sort_types};
-ghost use Rattle.proof_container.specs.Views.{AreKnown, inv_trees};
+ghost use Rattle.proof_container.specs.Views.{AreKnown};
 ghost use Rattle.proof_container.specs.declared.limits.TheConstants.{MAX_INVS};
 ghost use Rattle.pcc_gate.specs.First.{too_high, has_form, formless};
 ghost use Rattle.pcc_gate.specs.Inside.Stages.{IsContainerAnswer, IsCodeRead, measured_trees};
@@ -159,7 +159,7 @@ pub(crate) fn first_formless(
     requires context { AllKnown table.old context.now }
     requires types { ctx_of table.old context.now ≡ sort_types machine_context }
     requires kept { AreKept declared table.old kept.old }
-    ensures exact { let rest = inv_trees table.old (drop from invs.now) in
+    ensures exact { let rest = id_trees table.old (drop from invs.now) in
         IfOk result (λ found. found ≡ formless from rest) }
     ensures extends { Extends table.old table.new }
     ensures kept { AreKept declared table.new kept.new }

@@ -32,9 +32,9 @@ impl From<AllocError> for GateFault {
 }
 
 impl From<Exhausted> for GateFault {
-    ghost use Rattle.pcc_gate.specs.Shortages.{shortage_of};
+    ghost use Rattle.pcc_gate.specs.Shortages.{gate_shortage_of};
 
-    ghost from_gives = { λ what e. e ≡ shortage_of what };
+    ghost from_gives = { λ what e. e ≡ gate_shortage_of what };
 
     fn from(what: Exhausted) -> GateFault {
         match what {

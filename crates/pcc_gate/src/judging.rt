@@ -3,7 +3,7 @@
 ghost use Rattle.proof_container.specs.Views.{contents_of};
 ghost use Rattle.term_table.specs.Table.{TableView};
 ghost use Rattle.lf_signature.specs.Sigma1.{declared};
-ghost use Rattle.lf_check.specs.Inside.Kept.{AreKept};
+ghost use Rattle.lf_check.specs.Kept.{AreKept};
 ghost use Rattle.pcc_gate.specs.Answers.{IsHeld, IsGateAnswer};
 ghost use Rattle.pcc_gate.specs.Passing.{Passes};
 

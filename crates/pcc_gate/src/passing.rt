@@ -3,10 +3,10 @@
 ghost use Rattle.std.specs.Prelude.{◌≡◌, ◌≤◌, ◌<◌, length, map, All, IfOk, OnOk};
 ghost use Rattle.std.specs.List.{AllByRecursion};
 ghost use Rattle.std.specs.List.Sorted.{IsStrictlyIncreasing};
-ghost use Rattle.term_table.specs.Table.{TableView, IsKnown, Extends};
+ghost use Rattle.term_table.specs.Table.{TableView, IsKnown, Extends, id_trees};
 ghost use Rattle.lf_signature.specs.Sigma1.{declared};
-ghost use Rattle.lf_check.specs.Inside.Kept.{AreKept};
-ghost use Rattle.proof_container.specs.Views.{AreKnown, contents_of, inv_trees};
+ghost use Rattle.lf_check.specs.Kept.{AreKept};
+ghost use Rattle.proof_container.specs.Views.{AreKnown, contents_of};
 ghost use Rattle.proof_container.specs.Encoding.{IsContents};
 ghost use Rattle.proof_container.specs.declared.limits.TheConstants.{MAX_INVS};
 ghost use Rattle.pcc_gate.specs.Answers.{IsHeld, IsFrontAnswer};
@@ -45,7 +45,7 @@ fn formed(
     requires known { AllByRecursion (λ inv. IsKnown table.old inv.1) invs.now }
     requires few { length invs.now ≤ MAX_INVS }
     requires kept { (t : TableView) → AreKept declared t kept.old }
-    ensures answer { AreFormed (inv_trees table.old invs.now) result }
+    ensures answer { AreFormed (id_trees table.old invs.now) result }
     ensures extends { Extends table.old table.new }
     ensures kept { OnOk result (AreKept declared table.new kept.new) }
 {

@@ -2,12 +2,12 @@
 
 ghost use Rattle.std.specs.Prelude.{◌≡◌, ◌≤◌, IfSome, length, map};
 ghost use Rattle.alpha_cfg.specs.Cuts.{AreFlags, unfolded_of};
-ghost use Rattle.term_table.specs.Table.{IsKnown, Extends, tree_at};
+ghost use Rattle.term_table.specs.Table.{IsKnown, Extends, tree_at, id_trees};
 ghost use Rattle.term_table.specs.Measures.{sigma1_places};
 ghost use Rattle.lf_signature.specs.Sigma1.{declared};
-ghost use Rattle.lf_check.specs.Inside.Kept.{AreKept};
+ghost use Rattle.lf_check.specs.Kept.{AreKept};
 ghost use Rattle.vcgen.specs.Answers.{AreLowInvs};
-ghost use Rattle.vcgen.specs.Encoded.{AreForms, inv_trees};
+ghost use Rattle.vcgen.specs.Encoded.{AreForms};
 ghost use Rattle.vcgen.specs.declared.condition.TheConstants.{MAX_UNFOLDED};
 ghost use Rattle.pcc_gate.specs.Inside.Acceptance.{IsProofFound, IsProofAnswer};
 
@@ -50,12 +50,12 @@ pub(crate) fn proved(
     proof: Id,
 ) -> Result<(), GateFault>
     requires invs { AreLowInvs table.old invs.now }
-    requires forms { AreForms (inv_trees table.old invs.now) }
+    requires forms { AreForms (id_trees table.old invs.now) }
     requires marks { AreFlags (map (λ p. p.0) invs.now) (length cut.now.code) cut.now.marks }
     requires short { unfolded_of cut.now.code cut.now.marks ≤ MAX_UNFOLDED }
     requires proof { IsKnown table.old proof }
     requires kept { AreKept declared table.old kept.old }
-    ensures answer { let invs = inv_trees table.old invs.now in
+    ensures answer { let invs = id_trees table.old invs.now in
         IsProofAnswer policy.now cut.now.code invs (tree_at table.old proof) result }
     ensures extends { Extends table.old table.new }
 {

@@ -6,7 +6,8 @@ use Rattle.term_table.specs.Tree.{Tree}
 use Rattle.proof_container.specs.declared.fault.Flaw.TheVariants.{Magic, Version}
 use Rattle.proof_container.specs.Contents.{Contents, roots}
 use Rattle.proof_container.specs.Postorder.{entries, ArePostorder}
-use Rattle.proof_container.specs.Encoding.{entry_fields, magic, AreTerms, IsBytes}
+use Rattle.term_table.specs.Bytes.{IsBytes}
+use Rattle.proof_container.specs.Encoding.{entry_fields, magic, AreTerms}
 use Rattle.proof_container.specs.Decoding.{field_at, exact_at, count_at, decoded_head, entries_at, decoded_entries, invs_at, decoded_invs, first_misplaced, unless_misplaced, decoded_end}
 use Rattle.proof_container.proofs.Walks.{ArePostorder-different, misplaced_none}
 use Rattle.proof_container.proofs.FieldLaws.{bind_ok, guard_ok, ok_is, exact_takes, exact_again, count_takes, count_again, Stands, Stands-there}

@@ -5,8 +5,10 @@ use Rattle.term_table.specs.Tree.{Tree, Var, Con, App, Lam, Fam, TApp, Pi, Num, 
 use Rattle.term_table.specs.Table.{tree_in, IsSmall, AreDifferent}
 use Rattle.proof_container.specs.declared.fault.Flaw.TheVariants.{EntryKind}
 use Rattle.proof_container.specs.Postorder.{is_emitted, HasPartsFirst}
-use Rattle.proof_container.specs.Encoding.{word_fields, entry_number, entry_fields, AreTerms, IsBytes}
-use Rattle.proof_container.specs.Decoding.{◌>>=◌, field_at, word_at, triple_at, is_lam, part_at, head_at, application_at, kind_at, entry_at, entry_size}
+use Rattle.term_table.specs.Bytes.{IsBytes}
+use Rattle.proof_container.specs.Encoding.{word_fields, entry_number, entry_fields, AreTerms}
+use Rattle.term_table.specs.Steps.{◌>>=◌}
+use Rattle.proof_container.specs.Decoding.{field_at, word_at, triple_at, is_lam, part_at, head_at, application_at, kind_at, entry_at, entry_size}
 use Rattle.proof_container.proofs.Walks.{number_is, number-append, number-at, listed-at}
 use Rattle.proof_container.proofs.FieldLaws.{bind_ok, guard_ok, test_ok, either_ok, ok_is, field_takes, Stands, Stands-append, Stands-split, Stands-there, field_there, word_takes, word_again}
 

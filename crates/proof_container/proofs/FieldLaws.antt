@@ -6,8 +6,10 @@ use Rattle.std.proofs.lemmas.Bool.{cases_lt, ltb-false, le-ltb, eqb-true}
 use Rattle.std.proofs.lemmas.List.{length-append, length-take, length-drop, get_or-drop, get_or-take, get_or_past}
 use Rattle.std.proofs.lemmas.Nat.{le_bytes_4, from_le_bytes-to_le_bytes_4}
 use Rattle.proof_container.specs.declared.fault.Flaw.{Flaw}
-use Rattle.proof_container.specs.Encoding.{field_bytes, word_fields, IsBytes}
-use Rattle.proof_container.specs.Decoding.{Fault, ◌>>=◌, field_at, exact_at, count_at, word_at}
+use Rattle.term_table.specs.Bytes.{IsBytes}
+use Rattle.proof_container.specs.Encoding.{field_bytes, word_fields}
+use Rattle.term_table.specs.Steps.{◌>>=◌}
+use Rattle.proof_container.specs.Decoding.{Fault, field_at, exact_at, count_at, word_at}
 
 -- ---- steps of a reader that did not fail
 

@@ -4,13 +4,14 @@ use Rattle.std.specs.List.{AllByRecursion}
 use Rattle.std.specs.Option.{option_map}
 use Rattle.std.proofs.lemmas.List.{length-map}
 use Rattle.term_table.specs.Tree.{Tree, Var, Con, App, Lam, Fam, TApp, Pi}
-use Rattle.term_table.specs.Table.{TableView, IsKnown, tree_at, AreSmall}
+use Rattle.term_table.specs.Table.{TableView, IsKnown, tree_at, AreSmall, id_trees}
 use Rattle.proof_container.specs.declared.container.View.{View}
 use Rattle.proof_container.specs.declared.walk.Walk.{Walk}
 use Rattle.proof_container.specs.Contents.{Contents, one_or_none, roots}
 use Rattle.proof_container.specs.Postorder.{is_emitted, HasPartsFirst, ArePostorder, AreEmitted, entries}
-use Rattle.proof_container.specs.Encoding.{field_bytes, head_fields, tail_fields, encoding_of, AreTerms, IsContents, IsBytes}
-use Rattle.proof_container.specs.Views.{AreKnown, AllTerms, IsWritable, inv_trees, view_contents}
+use Rattle.term_table.specs.Bytes.{IsBytes}
+use Rattle.proof_container.specs.Encoding.{field_bytes, head_fields, tail_fields, encoding_of, AreTerms, IsContents}
+use Rattle.proof_container.specs.Views.{AreKnown, AllTerms, IsWritable, view_contents}
 use Rattle.proof_container.specs.Inside.Walked.{IsLeft, IsReady, HaveParts, root_trees, left_trees}
 use Rattle.proof_container.proofs.Small.{AreEmitted-split}
 use Rattle.proof_container.proofs.Walks.{listed-left, entries_grow, entries_listed}
@@ -33,7 +34,7 @@ have_parts ts (u ∷ us) extends =
 
 -- ---- what the roots' trees are
 
-listed_invs : (t : TableView) (es : List Tree) (invs : List (ℕ × ℕ)) → AreEmitted es (map (λ p. p.1) (inv_trees t invs)) → AreEmitted es (map (λ inv. tree_at t inv.1) invs)
+listed_invs : (t : TableView) (es : List Tree) (invs : List (ℕ × ℕ)) → AreEmitted es (map (λ p. p.1) (id_trees t invs)) → AreEmitted es (map (λ inv. tree_at t inv.1) invs)
 listed_invs t es [] listed = tt
 listed_invs t es (inv ∷ invs) listed = (listed.0, listed_invs t es invs listed.1)
 
@@ -47,7 +48,7 @@ ready v w writable is =
     let rs : List Tree = root_trees t v.invs.now v.proof in
     let same : entries rs ≡ left_trees t w = sym is.left in
     let listed : AreEmitted (entries rs) rs = entries_listed rs in
-    let apart = AreEmitted-split (entries rs) (map (λ p. p.1) (inv_trees t v.invs.now)) (one_or_none (option_map (tree_at t) v.proof)) listed in
+    let apart = AreEmitted-split (entries rs) (map (λ p. p.1) (id_trees t v.invs.now)) (one_or_none (option_map (tree_at t) v.proof)) listed in
     record {
       left = subst (λ (z : List Tree). IsLeft t z w) same is;
       parts = subst (λ (z : List Tree). HaveParts z z) same (have_parts [] (entries rs) (entries_grow rs));

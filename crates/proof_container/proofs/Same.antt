@@ -4,11 +4,11 @@ use Rattle.std.specs.List.{AllByRecursion}
 use Rattle.std.specs.Option.{option_map}
 use Rattle.std.specs.Prelude.{IfSome}
 use Rattle.term_table.specs.Tree.{Tree}
-use Rattle.term_table.specs.Table.{TableView, IsKnown, AreDifferent, tree_at}
+use Rattle.term_table.specs.Table.{TableView, IsKnown, AreDifferent, tree_at, id_trees}
 use Rattle.proof_container.specs.declared.container.Container.{Container}
 use Rattle.proof_container.specs.Contents.{Contents, roots}
 use Rattle.proof_container.specs.Postorder.{entries}
-use Rattle.proof_container.specs.Views.{IsCanonical, AreSame, AreKnown, contents_of, inv_trees}
+use Rattle.proof_container.specs.Views.{IsCanonical, AreSame, AreKnown, contents_of}
 use Rattle.proof_container.proofs.Walks.{entries_grow, ArePostorder-different}
 
 head_of : {X : Type 0} → X → List X → X
@@ -19,7 +19,7 @@ rest_of : {X : Type 0} → List X → List X
 rest_of [] = []
 rest_of (x ∷ xs) = xs
 
-same_invs : (t : TableView) (xs ys : List (ℕ × ℕ)) → AreDifferent t.trees → AllByRecursion (λ inv. IsKnown t inv.1) xs → AllByRecursion (λ inv. IsKnown t inv.1) ys → inv_trees t xs ≡ inv_trees t ys → xs ≡ ys
+same_invs : (t : TableView) (xs ys : List (ℕ × ℕ)) → AreDifferent t.trees → AllByRecursion (λ inv. IsKnown t inv.1) xs → AllByRecursion (λ inv. IsKnown t inv.1) ys → id_trees t xs ≡ id_trees t ys → xs ≡ ys
 unfolding head_of rest_of
 same_invs t [] [] different p q e = refl
 same_invs t [] (y ∷ ys) different p q e = cc
@@ -46,7 +46,7 @@ same_canonical c d p q e =
     let table : c.table ≡ d.table = λ i. record { trees = trees i; places = places i } in
     let different : AreDifferent c.table.trees = subst (λ (z : List Tree). AreDifferent z) (sym p.trees) (ArePostorder-different (entries rs) (entries_grow rs)) in
     let known : AreKnown c.table d.invs.items d.proof = subst (λ (t : TableView). AreKnown t d.invs.items d.proof) (sym table) q.known in
-    let invs : inv_trees c.table c.invs.items ≡ inv_trees c.table d.invs.items = ap (λ (z : Contents). z.invs) e ∙ ap (λ (t : TableView). inv_trees t d.invs.items) (sym table) in
+    let invs : id_trees c.table c.invs.items ≡ id_trees c.table d.invs.items = ap (λ (z : Contents). z.invs) e ∙ ap (λ (t : TableView). id_trees t d.invs.items) (sym table) in
     let proof : option_map (tree_at c.table) c.proof ≡ option_map (tree_at c.table) d.proof = ap (λ (z : Contents). z.proof) e ∙ ap (λ (t : TableView). option_map (tree_at t) d.proof) (sym table) in
     record {
       policy = ap (λ (z : Contents). z.policy) e;

@@ -7,7 +7,8 @@ use Rattle.term_table.specs.Table.{tree_in, AreDifferent}
 use Rattle.proof_container.specs.declared.fault.Flaw.TheVariants.{ForwardRef, InvOrder}
 use Rattle.proof_container.specs.Contents.{one_or_none}
 use Rattle.proof_container.specs.Postorder.{is_emitted, HasPartsFirst, ArePostorder, AreEmitted}
-use Rattle.proof_container.specs.Encoding.{entry_number, entry_fields, inv_fields, proof_field, AreTerms, AreRising, IsBytes}
+use Rattle.term_table.specs.Bytes.{IsBytes}
+use Rattle.proof_container.specs.Encoding.{entry_number, entry_fields, inv_fields, proof_field, AreTerms, AreRising}
 use Rattle.proof_container.specs.Decoding.{Fault, field_at, part_at, entry_at, entry_size, entries_at, inv_at, invs_at, decoded_proof}
 use Rattle.proof_container.proofs.Walks.{ArePostorder-append, ArePostorder-different, number_is, number-at, listed-at}
 use Rattle.proof_container.proofs.FieldLaws.{bind_ok, guard_ok, either_ok, neither, ok_is, Stands, Stands-append, Stands-split, field_there}

@@ -3,7 +3,8 @@ use Rattle.std.proofs.Common.{ℕ, List, Result, Ok, Err, IfOk, IfErr}
 use Rattle.proof_container.specs.declared.container.Container.{Container}
 use Rattle.proof_container.specs.declared.fault.Malformed.{Malformed}
 use Rattle.proof_container.specs.declared.fault.Malformed.TheVariants as malformed
-use Rattle.proof_container.specs.Encoding.{EncodesContents, IsBytes}
+use Rattle.term_table.specs.Bytes.{IsBytes}
+use Rattle.proof_container.specs.Encoding.{EncodesContents}
 use Rattle.proof_container.specs.Decoding.{decoded_container}
 use Rattle.proof_container.specs.Views.{contents_of, IsNone, IsFault, Decodes}
 use Rattle.proof_container.proofs.Whole.{container_takes, none_spelled}

@@ -4,7 +4,7 @@ use Rattle.std.specs.List.{AllByRecursion}
 use Rattle.std.proofs.lemmas.List.{map-append, length-map, length-replicate, get_or-replicate, reverse-append}
 use Rattle.term_table.specs.Tree.{Tree, Var, Con, App, Lam, Fam, TApp, Pi}
 use Rattle.term_table.specs.Equality.{tree_eq}
-use Rattle.term_table.specs.Table.{TableView, IsKnown, AllKnown, tree_at, node_tree, PartsBelow, AreDifferent}
+use Rattle.term_table.specs.Table.{TableView, IsKnown, AllKnown, tree_at, node_tree, PartsBelow, AreDifferent, id_trees}
 use Rattle.term_table.specs.declared.Node.{Node}
 use Rattle.term_table.specs.declared.Node.TheVariants as N
 use Rattle.term_table.proofs.Options.{some_injective}
@@ -15,7 +15,7 @@ use Rattle.proof_container.specs.declared.walk.Step.TheVariants.{Enter, Leave}
 use Rattle.proof_container.specs.Contents.{one_or_none}
 use Rattle.proof_container.specs.Postorder.{is_emitted, unless_emitted, emitted_with, emitted_with_all, entries}
 use Rattle.proof_container.specs.Encoding.{entry_number}
-use Rattle.proof_container.specs.Views.{AreKnown, inv_trees}
+use Rattle.proof_container.specs.Views.{AreKnown}
 use Rattle.proof_container.specs.Inside.Walked.{IsLeft, AreMarks, mark, root_trees, part_steps, proof_steps, first_steps, taken, all_taken, IsStep, AreSteps, left_trees, IsUnderWay, nodes, steps_cost}
 use Rattle.proof_container.proofs.Walks.{listed-last, listed-push, number_is, number-append, emitted_with-listed, emitted_with-app, emitted_with-tapp, emitted_with-pi, emitted_with-lam}
 
@@ -242,7 +242,7 @@ enter_inv inv = Enter inv.1
 enter_back : (inv : ℕ × ℕ) (invs : List (ℕ × ℕ)) → map enter_inv (reverse (inv ∷ invs)) ≡ map enter_inv (reverse invs) ++ Enter inv.1 ∷ []
 enter_back inv invs = ap (map enter_inv) (reverse-append (inv ∷ []) invs) ∙ map-append enter_inv (reverse invs) (inv ∷ [])
 
-invs_taken : (t : TableView) (invs : List (ℕ × ℕ)) (ts : List Tree) → all_taken t (map enter_inv (reverse invs)) ts ≡ emitted_with_all (map (λ p. p.1) (inv_trees t invs)) ts
+invs_taken : (t : TableView) (invs : List (ℕ × ℕ)) (ts : List Tree) → all_taken t (map enter_inv (reverse invs)) ts ≡ emitted_with_all (map (λ p. p.1) (id_trees t invs)) ts
 invs_taken t [] ts = refl
 invs_taken t (inv ∷ invs) ts =
     ap (λ z. all_taken t z ts) (enter_back inv invs) ∙ all_taken-append t (map enter_inv (reverse invs)) (Enter inv.1 ∷ []) ts ∙ invs_taken t invs (emitted_with (tree_at t inv.1) ts)
@@ -253,7 +253,7 @@ proof_taken t (Some id) ts = refl
 
 first_taken : (t : TableView) (invs : List (ℕ × ℕ)) (proof : Option ℕ) (ts : List Tree) → all_taken t (first_steps invs proof) ts ≡ emitted_with_all (root_trees t invs proof) ts
 first_taken t invs proof ts =
-    let rs = map (λ p. p.1) (inv_trees t invs) in
+    let rs = map (λ p. p.1) (id_trees t invs) in
     all_taken-append t (proof_steps proof) (map enter_inv (reverse invs)) ts
     ∙ ap (all_taken t (proof_steps proof)) (invs_taken t invs ts)
     ∙ proof_taken t proof (emitted_with_all rs ts)

@@ -5,7 +5,8 @@ use Rattle.std.proofs.lemmas.List.Folds.{drop_split}
 use Rattle.term_table.specs.Tree.{Tree}
 use Rattle.proof_container.specs.Contents.{Contents, one_or_none, roots}
 use Rattle.proof_container.specs.Postorder.{entries, ArePostorder, AreEmitted}
-use Rattle.proof_container.specs.Encoding.{field_bytes, entry_fields, inv_fields, proof_field, magic, head_fields, tail_fields, encoding_of, AreRising, AreTerms, IsContents, EncodesContents, IsBytes}
+use Rattle.term_table.specs.Bytes.{IsBytes}
+use Rattle.proof_container.specs.Encoding.{field_bytes, entry_fields, inv_fields, proof_field, magic, head_fields, tail_fields, encoding_of, AreRising, AreTerms, IsContents, EncodesContents}
 use Rattle.proof_container.specs.Decoding.{Fault, decoded_head, decoded_entries, decoded_invs, decoded_proof, first_misplaced, decoded_end, decoded_container}
 use Rattle.proof_container.proofs.Walks.{entries_grow, entries_listed, entries_terms, ArePostorder-different, ordered_is}
 use Rattle.proof_container.proofs.FieldLaws.{bind_ok, ok_is, IsBytes-take, IsBytes-drop, field_takes, Stands, Stands-append, Stands-split, Stands-takes, Stands-again, length-field_bytes}

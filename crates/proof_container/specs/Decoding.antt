@@ -1,4 +1,5 @@
 -- Reading bytes as a container, front to back. Each field is tested as soon as it is read, and the first fault is the answer.
+use Rattle.term_table.specs.Steps.{◌>>=◌}
 use Rattle.std.specs.Prelude.{ℕ, zero, suc, ◌+◌, ◌*◌, ◌/◌, ◌-◌, Bool, true, false, ◌||◌, ◌==◌, nat_lt, if◌then◌else◌, List, [], ◌∷◌, ◌++◌, length, take, drop, slice_range, sum_by, Option, Some, None, Result, Ok, Err}
 use Rattle.std.specs.Option.{option_map}
 use Rattle.std.specs.Int.{w32, from_le_bytes}
@@ -15,12 +16,6 @@ use Rattle.proof_container.specs.Encoding.{magic}
 -- an offset, and what is wrong there
 abbrev pub Fault : Type 0
 Fault = ℕ × Flaw
-
-infixl 10 ◌>>=◌
--- the next step at an answer; a fault stays
-abbrev pub ◌>>=◌ : {A B : Type 0} → Result A Fault → (A → Result B Fault) → Result B Fault
-(Ok x) >>= f = f x
-(Err e) >>= f = Err e
 
 -- ---- fields, by their number from the front
 

@@ -1,5 +1,6 @@
 -- The grammar of containers, version 1. All fields are little-endian numbers of four bytes.
 -- The format is this project's own.
+use Rattle.term_table.specs.Bytes.{IsBytes}
 use Rattle.std.specs.Prelude.{◌≡◌, ℕ, suc, ◌+◌, ◌*◌, ◌/◌, ◌%◌, ◌^◌, ◌<◌, ◌≤◌, if◌then◌else◌, List, [], ◌∷◌, ◌++◌, length, slice_index, Option, Some, None}
 use Rattle.std.specs.List.{flat_map}
 use Rattle.std.specs.Int.{w32, to_le_bytes}
@@ -73,10 +74,6 @@ AreRising low words (inv ∷ invs) = (low ≤ inv.0) × (inv.0 < words) × AreRi
 abbrev pub AreTerms : List Tree → Type 0
 AreTerms [] = Unit {0}
 AreTerms (t ∷ ts) = IsTerm t × IsSmall t × AreTerms ts
-
--- numbers below 256
-abbrev pub IsBytes : List ℕ → Type 0
-IsBytes bytes = (i : ℕ) → slice_index bytes i < 256
 
 -- what a container may hold
 pub record IsContents (c : Contents) : Type 0 where

@@ -1,4 +1,5 @@
 -- The contents of a container as it stands in memory, and what answers of calls say.
+use Rattle.term_table.specs.Table.{id_trees}
 use Rattle.std.specs.Prelude.{◌≡◌, ℕ, ◌*◌, ◌/◌, ◌<◌, ◌≤◌, List, [], ◌∷◌, length, map, Option, Result, Ok, Err, IfSome}
 use Rattle.std.specs.List.{AllByRecursion}
 use Rattle.std.specs.Option.{option_map}
@@ -15,16 +16,12 @@ use Rattle.proof_container.specs.Postorder.{entries}
 use Rattle.proof_container.specs.Encoding.{AreRising, EncodesContents}
 use Rattle.proof_container.specs.Decoding.{Fault}
 
--- invariants with their trees in place of their ids
-abbrev pub inv_trees : TableView → List (ℕ × ℕ) → List (ℕ × Tree)
-inv_trees t invs = map (λ inv. (inv.0, tree_at t inv.1)) invs
-
 -- what a container holds
 abbrev pub contents_of : Container → Contents
 contents_of c = record {
   policy = c.policy;
   code = c.code.now;
-  invs = inv_trees c.table c.invs.items;
+  invs = id_trees c.table c.invs.items;
   proof = option_map (tree_at c.table) c.proof;
 }
 
@@ -33,7 +30,7 @@ abbrev pub view_contents : View → Contents
 view_contents v = record {
   policy = v.policy;
   code = v.code.now;
-  invs = inv_trees v.table.now v.invs.now;
+  invs = id_trees v.table.now v.invs.now;
   proof = option_map (tree_at v.table.now) v.proof;
 }
 

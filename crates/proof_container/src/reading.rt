@@ -4,7 +4,7 @@ ghost use Rattle.std.specs.Prelude.{◌≡◌, [], ◌+◌, ◌*◌, ◌<◌, �
 ghost use Rattle.std.specs.Prelude.{IfOk, IfErr, IfSome, IsTrue, OnOk};
 ghost use Rattle.std.specs.List.{AllByRecursion};
 ghost use Rattle.std.specs.Option.{option_map};
-ghost use Rattle.term_table.specs.Table.{IsKnown, AllKnown, tree_at};
+ghost use Rattle.term_table.specs.Table.{IsKnown, AllKnown, tree_at, id_trees};
 ghost use Rattle.proof_container.specs.Encoding.{EncodesContents};
 ghost use Rattle.proof_container.specs.Decoding.{decoded_head, inv_at, invs_at, decoded_invs, decoded_proof};
 ghost use Rattle.proof_container.specs.Decoding.{first_misplaced, entry_offset, decoded_end};
@@ -14,7 +14,7 @@ ghost use Rattle.proof_container.specs.declared.limits.TheConstants.{MAX_ENTRIES
 ghost use Rattle.proof_container.specs.Inside.Cursor.{IsPast};
 ghost use Rattle.proof_container.specs.Inside.Walked.{IsPlaced};
 ghost use Rattle.proof_container.specs.Views.{Decodes, IsNone, IsCanonical, AreKnown};
-ghost use Rattle.proof_container.specs.Views.{contents_of, inv_trees};
+ghost use Rattle.proof_container.specs.Views.{contents_of};
 
 use crate::container::Container;
 use crate::entry::{entries, part, size};
@@ -83,7 +83,7 @@ fn invs_from(
 ) -> Result<Vec<(u32, Id)>, Malformed>
     requires few { count ≤ MAX_INVS }
     requires short { words ≤ MAX_WORDS }
-    ensures read { Decodes (λ v. inv_trees table.now v.items)
+    ensures read { Decodes (λ v. id_trees table.now v.items)
         (invs_at count fields.old.bytes.now fields.old.read table.now.trees words 0 []) result }
     ensures moves { IfOk result (λ v. IsPast fields.old fields.new (2 * length v.items)) }
     ensures known { IfOk result (λ v. AllByRecursion (λ inv. IsKnown table.now inv.1) v.items) }
@@ -108,7 +108,7 @@ fn invs(
     words: usize,
 ) -> Result<Vec<(u32, Id)>, Malformed>
     requires { words ≤ MAX_WORDS }
-    ensures read { Decodes (λ v. inv_trees table.now v.items)
+    ensures read { Decodes (λ v. id_trees table.now v.items)
         (decoded_invs fields.old.bytes.now fields.old.read table.now.trees words) result }
     ensures moves { IfOk result (λ v. IsPast fields.old fields.new (1 + 2 * length v.items)) }
     ensures known { IfOk result (λ v. AllByRecursion (λ inv. IsKnown table.now inv.1) v.items) }

@@ -5,7 +5,7 @@ ghost use Rattle.std.specs.Prelude.{sum_by, slice_index, length, map, true, None
 ghost use Rattle.std.specs.Prelude.{IfOk, IfSome, OnOk};
 ghost use Rattle.std.specs.List.{flat_map};
 ghost use Rattle.std.specs.Option.{option_map};
-ghost use Rattle.term_table.specs.Table.{IsKnown, AllKnown, tree_at};
+ghost use Rattle.term_table.specs.Table.{IsKnown, AllKnown, tree_at, id_trees};
 ghost use Rattle.proof_container.specs.Contents.{roots};
 ghost use Rattle.proof_container.specs.Postorder.{entries, is_emitted, HasPartsFirst, AreEmitted};
 ghost use Rattle.proof_container.specs.Encoding.{field_bytes, entry_number, entry_fields};
@@ -14,7 +14,7 @@ ghost use Rattle.proof_container.specs.Encoding.{encoding_of, EncodesContents};
 ghost use Rattle.proof_container.specs.declared.limits.TheConstants.{MAX_ENTRIES};
 ghost use Rattle.proof_container.specs.Decoding.{entry_size, decoded_container};
 ghost use Rattle.proof_container.specs.Inside.Walked.{IsLeft, IsReady, HaveParts, left_trees};
-ghost use Rattle.proof_container.specs.Views.{AreKnown, IsWritable, inv_trees, view_contents};
+ghost use Rattle.proof_container.specs.Views.{AreKnown, IsWritable, view_contents};
 
 use crate::container::View;
 use crate::entry::size;
@@ -121,7 +121,7 @@ fn put_invs(
     requires few { length walk.now.left.items ≤ MAX_ENTRIES }
     ensures { let es = left_trees table.now walk.now in
         OnOk result (out.new.items ≡ out.old.items ++
-        field_bytes (flat_map (inv_fields es) (inv_trees table.now invs.now))) }
+        field_bytes (flat_map (inv_fields es) (id_trees table.now invs.now))) }
 {
     for inv in invs {
         let (index, id) = *inv;

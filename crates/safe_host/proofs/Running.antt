@@ -16,7 +16,8 @@ use Rattle.reference_machine.proofs.Places.{past-not_allowed}
 use Rattle.reference_machine.proofs.Starting.{start_state-is}
 use Rattle.packet_store.specs.StartMeets.{StartMeets}
 use Rattle.vcgen.specs.Conditions.{AnnotatedCode, condition}
-use Rattle.vcgen.specs.Encoded.{AreForms, AreEncodings, inv_trees}
+use Rattle.term_table.specs.Table.{id_trees}
+use Rattle.vcgen.specs.Encoded.{AreForms, AreEncodings}
 use Rattle.vcgen.specs.Safety.{IsAnnotated, Holds, IsGoodRun}
 use Rattle.vcgen.proofs.Steps.{holds-start, runs-good}
 use Rattle.pcc_gate.specs.Views.{AcceptedView, AreAnnotations, IsConditionTrue}
@@ -45,9 +46,9 @@ pub record HasBegun (a : AcceptedView) (setup : StartView) (h : HostView) : Type
   pub meets : StartMeets setup (pre_of a.policy)
   pub fits : RightsFit h (start_rights setup)
 
-module _ (a : AcceptedView) (forms : AreForms (inv_trees a.table a.invs)) (annotates : AreAnnotations a) (valid : IsConditionTrue a) where
-  encoded : AreEncodings (inv_trees a.table a.invs) (shown_formulas a)
-  encoded = formulas-encoded (inv_trees a.table a.invs) forms
+module _ (a : AcceptedView) (forms : AreForms (id_trees a.table a.invs)) (annotates : AreAnnotations a) (valid : IsConditionTrue a) where
+  encoded : AreEncodings (id_trees a.table a.invs) (shown_formulas a)
+  encoded = formulas-encoded (id_trees a.table a.invs) forms
 
   is-annotated : IsAnnotated (shown_code a)
   is-annotated = annotates (shown_formulas a) encoded
@@ -75,7 +76,7 @@ module _ (a : AcceptedView) (forms : AreForms (inv_trees a.table a.invs)) (annot
       record { is = is; meets = start; fits = subst (λ (h : HostView). RightsFit h (start_rights setup)) (sym is) (start-fits setup fits are start) }
 
 -- a host's accepted code has these laws
-module _ (h : HostView) (forms : AreForms (inv_trees h.accepted.table h.accepted.invs)) (annotates : AreAnnotations h.accepted) (valid : IsConditionTrue h.accepted) (n : ℕ) where
+module _ (h : HostView) (forms : AreForms (id_trees h.accepted.table h.accepted.invs)) (annotates : AreAnnotations h.accepted) (valid : IsConditionTrue h.accepted) (n : ℕ) where
   good : (r : Rights) → RightsFit h r → IsGoodRun (shown_code h.accepted) (state_under h r) n 0 (run_of h.accepted.code n (state_under h r))
   good r f = runs-good (shown_code h.accepted) (is-annotated h.accepted forms annotates valid) (is-valid h.accepted forms annotates valid) n (state_under h r) 0 f.holds
 

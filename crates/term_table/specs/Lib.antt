@@ -5,3 +5,5 @@ pub mod Measures
 pub mod Scope
 pub mod Inside
 pub mod Table
+pub mod Steps
+pub mod Bytes

@@ -6,7 +6,7 @@ use Rattle.alpha_words.specs.declared.insn.Rhs.TheVariants.{Reg, Lit}
 use Rattle.std.proofs.Math.ListN.{length-set}
 use Rattle.std.proofs.lemmas.Result.{IfOk-weaker}
 use Rattle.term_table.specs.Tree.{Tree, Var, shift, fits}
-use Rattle.term_table.specs.Table.{TableView, IsKnown, AllKnown, tree_at, Extends}
+use Rattle.term_table.specs.Table.{TableView, IsKnown, AllKnown, tree_at, Extends, id_trees}
 use Rattle.lf_signature.specs.Laws.Booleans.{and_of}
 use Rattle.lf_signature.specs.Nodes.{IsIdOf}
 use Rattle.lf_signature.specs.Numbers.{op_constant}
@@ -15,8 +15,7 @@ use Rattle.hereditary_subst.proofs.Rows.{grows_more}
 use Rattle.lf_encode.proofs.KeptRows.{ready-same}
 use Rattle.word_ops.specs.declared.Op.{Op}
 use Rattle.lf_encode.specs.PutTree.{MachineTerms, machine_terms_at, put_for, HasRoomUnder}
-use Rattle.lf_encode.specs.Inside.Kept.{AreMachineTerms}
-use Rattle.vcgen.specs.Encoded.{inv_trees}
+use Rattle.lf_encode.specs.Kept.{AreMachineTerms}
 use Rattle.vcgen.specs.Inside.WalkTree.{reg_term, rhs_term, with_reg, inv_term, var_terms, start_terms}
 use Rattle.vcgen.specs.Inside.Symbols.{IsTermFor, inv_id}
 
@@ -139,7 +138,7 @@ ready-reg t regs memory r id h k room = record {
 
 -- ---- invariants by their ids and by their terms
 
-pub inv_term-is : (t : TableView) (ps : List (ℕ × ℕ)) (i : ℕ) → inv_term (inv_trees t ps) i ≡ option_map (λ id. tree_at t id) (inv_id ps i)
+pub inv_term-is : (t : TableView) (ps : List (ℕ × ℕ)) (i : ℕ) → inv_term (id_trees t ps) i ≡ option_map (λ id. tree_at t id) (inv_id ps i)
 inv_term-is t [] i = refl
 inv_term-is t (p ∷ ps) i = elim (cases_Bool (eqb p.0 i)) [ inl e ↦ rw e refl | inr e ↦ rw e (inv_term-is t ps i) ]
 

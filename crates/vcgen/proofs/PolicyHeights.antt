@@ -8,7 +8,7 @@ use Rattle.formula_tree.specs.Formulas.{Form, FTrue}
 use Rattle.formula_tree.specs.Substitution.{subst_form}
 use Rattle.lf_encode.specs.Encoding.{form_encoding}
 use Rattle.lf_encode.specs.Contexts.{machine_names}
-use Rattle.lf_encode.specs.Inside.Naming.{named_form}
+use Rattle.lf_encode.specs.Naming.{named_form}
 use Rattle.vcgen.proofs.WalkTrees.{subst-names}
 
 named-low : (F : Form) → height_of (form_encoding (named_form 0 F)) < 2 ^ 31 → height_of (form_encoding (subst_form F machine_names)) < 2 ^ 31

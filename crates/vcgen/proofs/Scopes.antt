@@ -17,7 +17,7 @@ use Rattle.formula_tree.specs.Substitution.{subst_form}
 use Rattle.formula_tree.specs.Scope.{VarSort, OfMem, IsOverExp, IsOverMem, IsOver, IsOverSubstitution}
 use Rattle.formula_tree.proofs.Scopes.{Includes, scope-subst}
 use Rattle.lf_encode.specs.Contexts.{machine_names}
-use Rattle.lf_encode.specs.Inside.Naming.{words}
+use Rattle.lf_encode.specs.Naming.{words}
 use Rattle.lf_encode.proofs.Naming.{named_form-over}
 use Rattle.vcgen.specs.Assignments.{regs_from, unchanged, for_reg, for_memory}
 use Rattle.vcgen.specs.Conditions.{AnnotatedCode, reg_exp, rhs_exp, address_exp, taken_if, passed_if, at_target, insn_condition, condition_at, invariant_at, or_else, wp_within, wp, body, alls, close, entered, inv_parts, condition}

@@ -22,7 +22,7 @@ use Rattle.formula_tree.proofs.Putting.{change_none}
 use Rattle.lf_encode.specs.Encoding.{exp_encoding, mem_encoding, form_encoding}
 use Rattle.lf_encode.specs.Contexts.{machine_context, bound_sorts, vars_down, machine_names, EncodesForm}
 use Rattle.lf_encode.specs.PutTree.{MachineTerms, machine_terms_of, put_tree}
-use Rattle.lf_encode.specs.Inside.Naming.{named_form}
+use Rattle.lf_encode.specs.Naming.{named_form}
 use Rattle.lf_encode.proofs.Naming.{named_form-is}
 use Rattle.lf_encode.proofs.MachineContext.{bound_sorts-machine, registers_in-machine, names_in-machine}
 use Rattle.lf_encode.proofs.PutTree.{put-encoding}

@@ -6,17 +6,16 @@ use Rattle.lf_signature.specs.Terms.{falsity}
 use Rattle.alpha_words.specs.declared.insn.Insn.{Insn}
 use Rattle.term_table.specs.Tree.{Tree}
 use Rattle.term_table.specs.Measures.{height_of}
-use Rattle.term_table.specs.Table.{TableView, IsKnown, tree_at, Extends}
+use Rattle.term_table.specs.Table.{TableView, IsKnown, tree_at, Extends, id_trees}
 use Rattle.hereditary_subst.specs.declared.kept.Memo.{Memo}
 use Rattle.hereditary_subst.proofs.Rows.{memo-more}
 use Rattle.lf_encode.specs.declared.puts.PutMemo.{PutMemo}
 use Rattle.lf_encode.specs.PutTree.{MachineTerms, machine_terms_at, put_tree}
-use Rattle.lf_encode.specs.Inside.Kept.{AreMachineTerms}
+use Rattle.lf_encode.specs.Kept.{AreMachineTerms}
 use Rattle.lf_encode.proofs.KeptRows.{ready-more, ready-same, kept-ready}
 use Rattle.vcgen.specs.declared.symbols.Symbols.{Symbols}
 use Rattle.vcgen.specs.Inside.WalkTree.{with_reg, with_memory, InsnEffect, Computed, Access, Split, Jump, Return, insn_effect, walked_on, walked, walked_at, ended}
 use Rattle.vcgen.proofs.MachineRegs.{inv_term-is}
-use Rattle.vcgen.specs.Encoded.{inv_trees}
 use Rattle.vcgen.specs.Inside.Symbols.{inv_id, AreInvs, IsProgram, IsWalking, StandFor, IsEffect}
 use Rattle.vcgen.specs.declared.effects.Effect.TheVariants as E
 use Rattle.lf_signature.specs.Nodes.{IsIdOf}
@@ -44,7 +43,7 @@ walking-more t u insns ids at_end registers m memo puts h e = record {
 
 -- ---- the terms stay
 
-pub invs-same : (t u : TableView) (ids : List (ℕ × ℕ)) → AreInvs t ids → Extends t u → inv_trees u ids ≡ inv_trees t ids
+pub invs-same : (t u : TableView) (ids : List (ℕ × ℕ)) → AreInvs t ids → Extends t u → id_trees u ids ≡ id_trees t ids
 invs-same t u [] h e = refl
 invs-same t u (p ∷ ids) h e = λ i. (p.0, e.same p.1 h.0 i) ∷ invs-same t u ids h.2 e i
 
@@ -81,25 +80,25 @@ inv-known t ids i inv r h e q = inv-found t ids i inv h (sym e ∙ q)
 module _ (t : TableView) (insns : List Insn) (ids : List (ℕ × ℕ)) (post : Tree) (i : ℕ) (s : MachineTerms) where
   -- the term of the walk
   abbrev walk : ℕ → Tree
-  walk n = walked insns (inv_trees t ids) post n i s
+  walk n = walked insns (id_trees t ids) post n i s
 
   pub walk-ended : (n inv : ℕ) (r : Option ℕ) → r ≡ inv_id ids i → r ≡ Some inv → walk n ≡ put_tree s 0 (tree_at t inv)
   walk-ended zero inv r e q = ap (λ o. ended o falsity s) (inv_term-is t ids i ∙ ap (option_map (λ id. tree_at t id)) (sym e ∙ q))
-  walk-ended (suc n) inv r e q = ap (λ o. ended o (walked_at (walked insns (inv_trees t ids) post n) post i (slice_get insns i) s) s) (inv_term-is t ids i ∙ ap (option_map (λ id. tree_at t id)) (sym e ∙ q))
+  walk-ended (suc n) inv r e q = ap (λ o. ended o (walked_at (walked insns (id_trees t ids) post n) post i (slice_get insns i) s) s) (inv_term-is t ids i ∙ ap (option_map (λ id. tree_at t id)) (sym e ∙ q))
 
   pub walk-spent : (n : ℕ) (r : Option ℕ) → n ≡ 0 → r ≡ inv_id ids i → r ≡ None → walk n ≡ falsity
   walk-spent n r z e q = ap walk z ∙ ap (λ o. ended o falsity s) (inv_term-is t ids i ∙ ap (option_map (λ id. tree_at t id)) (sym e ∙ q))
 
-  pub walk-on : (n : ℕ) (r : Option ℕ) → 0 < n → r ≡ inv_id ids i → r ≡ None → walk n ≡ walked_at (walked insns (inv_trees t ids) post (n - 1)) post i (slice_get insns i) s
+  pub walk-on : (n : ℕ) (r : Option ℕ) → 0 < n → r ≡ inv_id ids i → r ≡ None → walk n ≡ walked_at (walked insns (id_trees t ids) post (n - 1)) post i (slice_get insns i) s
   walk-on zero r p e q = absurd (omega (arith, p))
   walk-on (suc n) r p e q =
       let less : suc n - 1 ≡ n = omega arith in
-      ap (λ o. ended o (walked_at (walked insns (inv_trees t ids) post n) post i (slice_get insns i) s) s) (inv_term-is t ids i ∙ ap (option_map (λ id. tree_at t id)) (sym e ∙ q))
-      ∙ sym (ap (λ k. walked_at (walked insns (inv_trees t ids) post k) post i (slice_get insns i) s) less)
+      ap (λ o. ended o (walked_at (walked insns (id_trees t ids) post n) post i (slice_get insns i) s) s) (inv_term-is t ids i ∙ ap (option_map (λ id. tree_at t id)) (sym e ∙ q))
+      ∙ sym (ap (λ k. walked_at (walked insns (id_trees t ids) post k) post i (slice_get insns i) s) less)
 
 -- a walk by a later table's ids is the one by an earlier table's
 pub walk-same : (t u : TableView) (insns : List Insn) (ids : List (ℕ × ℕ)) (at_end n i : ℕ) (s z : MachineTerms) → IsProgram t insns ids at_end → Extends t u → s ≡ z →
-    walked insns (inv_trees u ids) (tree_at u at_end) n i s ≡ walked insns (inv_trees t ids) (tree_at t at_end) n i z
+    walked insns (id_trees u ids) (tree_at u at_end) n i s ≡ walked insns (id_trees t ids) (tree_at t at_end) n i z
 walk-same t u insns ids at_end n i s z h e q k = walked insns (invs-same t u ids h.invs e k) (e.same at_end h.post k) n i (q k)
 
 -- ---- what an effect says

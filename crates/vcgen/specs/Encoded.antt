@@ -34,7 +34,3 @@ pub record EncodesCondition (policy : PolicyKind) (code : List Insn) (invs : Lis
   pub formulas : List (ℕ × Form)
   pub encoded : AreEncodings invs formulas
   pub is : form_encoding (condition (annotated policy code formulas)) ≡ vc
-
--- the terms of invariants that are given by their ids
-abbrev pub inv_trees : TableView → List (ℕ × ℕ) → List (ℕ × Tree)
-inv_trees t invs = map (λ p. (p.0, tree_at t p.1)) invs

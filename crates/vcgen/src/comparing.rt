@@ -4,11 +4,10 @@
 //! its hand, and ends at the first difference. No invariant is written out with its terms.
 
 ghost use Rattle.std.specs.Prelude.{◌≡◌, ◌↔◌, ◌<◌, IfOk, IsTrue, length, slice_get};
-ghost use Rattle.term_table.specs.Table.{IsKnown, tree_at, Extends};
+ghost use Rattle.term_table.specs.Table.{IsKnown, tree_at, Extends, id_trees};
 ghost use Rattle.lf_signature.specs.Terms.{imp_term, and_term};
 ghost use Rattle.lf_encode.specs.PutTree.{machine_terms_at};
-ghost use Rattle.lf_encode.specs.Inside.Kept.{AreMachineTerms};
-ghost use Rattle.vcgen.specs.Encoded.{inv_trees};
+ghost use Rattle.lf_encode.specs.Kept.{AreMachineTerms};
 ghost use Rattle.vcgen.specs.Inside.WalkTree.{walked, walked_at};
 ghost use Rattle.vcgen.specs.Inside.Symbols.{Walks};
 
@@ -40,7 +39,7 @@ pub(crate) fn is_walk(
     ensures exact { let t = table.old in
         let terms = machine_terms_at t symbols.now.regs symbols.now.memory in
         let p = program.now in
-        let walk = walked p.code.now (inv_trees t p.invs.now) (tree_at t p.post) fuel in
+        let walk = walked p.code.now (id_trees t p.invs.now) (tree_at t p.post) fuel in
         IfOk result (λ b. IsTrue b ↔ (tree_at t goal ≡ walk index terms)) }
     ensures extends { Extends table.old table.new }
     ensures walking { Walks table.new program.now symbols.now shifts.new kept.new }
@@ -85,7 +84,7 @@ fn is_walk_with(
     ensures exact { let t = table.old in
         let terms = machine_terms_at t after.now.regs after.now.memory in
         let p = program.now in
-        let walk = walked p.code.now (inv_trees t p.invs.now) (tree_at t p.post) fuel in
+        let walk = walked p.code.now (id_trees t p.invs.now) (tree_at t p.post) fuel in
         IfOk result (λ b. IsTrue b ↔ (tree_at t goal ≡ walk index terms)) }
     ensures extends { Extends table.old table.new }
     ensures walking { Walks table.new program.now symbols.now shifts.new kept.new }
@@ -116,7 +115,7 @@ fn is_side(
     ensures exact { let t = table.old in
         let terms = machine_terms_at t symbols.now.regs symbols.now.memory in
         let p = program.now in
-        let walk = walked p.code.now (inv_trees t p.invs.now) (tree_at t p.post) fuel in
+        let walk = walked p.code.now (id_trees t p.invs.now) (tree_at t p.post) fuel in
         let made = imp_term (tree_at t side.0) (walk side.1 terms) in
         IfOk result (λ b. IsTrue b ↔ (tree_at t goal ≡ made)) }
     ensures extends { Extends table.old table.new }
@@ -154,7 +153,7 @@ fn is_both(
     ensures exact { let t = table.old in
         let terms = machine_terms_at t symbols.now.regs symbols.now.memory in
         let p = program.now in
-        let walk = walked p.code.now (inv_trees t p.invs.now) (tree_at t p.post) fuel in
+        let walk = walked p.code.now (id_trees t p.invs.now) (tree_at t p.post) fuel in
         let made = and_term
         (imp_term (tree_at t taken.0) (walk taken.1 terms))
         (imp_term (tree_at t passed.0) (walk passed.1 terms)) in
@@ -196,7 +195,7 @@ fn is_behind(
     ensures exact { let t = table.old in
         let terms = machine_terms_at t after.now.regs after.now.memory in
         let p = program.now in
-        let walk = walked p.code.now (inv_trees t p.invs.now) (tree_at t p.post) fuel in
+        let walk = walked p.code.now (id_trees t p.invs.now) (tree_at t p.post) fuel in
         let made = and_term (tree_at t allowed) (walk index terms) in
         IfOk result (λ b. IsTrue b ↔ (tree_at t goal ≡ made)) }
     ensures extends { Extends table.old table.new }
@@ -234,7 +233,7 @@ pub(crate) fn is_walk_from(
         let terms = machine_terms_at t symbols.now.regs symbols.now.memory in
         let p = program.now in
         let post = tree_at t p.post in
-        let walk = walked p.code.now (inv_trees t p.invs.now) post fuel in
+        let walk = walked p.code.now (id_trees t p.invs.now) post fuel in
         let insn = slice_get p.code.now index in
         IfOk result (λ b. IsTrue b ↔ (tree_at t goal ≡ walked_at walk post index insn terms)) }
     ensures extends { Extends table.old table.new }

@@ -2,14 +2,14 @@
 
 ghost use Rattle.std.specs.Prelude.{◌≡◌, ℕ, List, ◌<◌, ◌≤◌, IfOk, length, drop, map, All};
 ghost use Rattle.alpha_cfg.specs.Cuts.{AreFlags};
-ghost use Rattle.term_table.specs.Table.{IsKnown, tree_at, Extends};
-ghost use Rattle.hereditary_subst.specs.Inside.Kept.{IsMemo};
+ghost use Rattle.term_table.specs.Table.{IsKnown, tree_at, Extends, id_trees};
+ghost use Rattle.hereditary_subst.specs.Kept.{IsMemo};
 ghost use Rattle.lf_signature.specs.Nodes.{IsIdOf};
 ghost use Rattle.lf_signature.specs.Terms.{imp_term};
 ghost use Rattle.policy_set.specs.Policies.{pre_of, post_of};
 ghost use Rattle.lf_encode.specs.PutTree.{machine_terms_at};
 ghost use Rattle.lf_encode.specs.Contexts.{machine_context, encoding_in};
-ghost use Rattle.vcgen.specs.Encoded.{inv_trees, AreForms};
+ghost use Rattle.vcgen.specs.Encoded.{AreForms};
 ghost use Rattle.vcgen.specs.Answers.{IsVcAnswer, AreLowInvs};
 ghost use Rattle.vcgen.specs.Inside.WalkTree.{start_terms, all_terms, closed_term};
 ghost use Rattle.vcgen.specs.Inside.WalkTree.{part_terms, condition_term};
@@ -74,8 +74,8 @@ fn inv_parts(
     requires from { from ≤ length program.now.invs.now }
     requires start { machine_terms_at table.old start.now.regs start.now.memory ≡ start_terms }
     ensures id { let t = table.old in
-        let invs = inv_trees t program.now.invs.now in
-        let rest = inv_trees t (drop from program.now.invs.now) in
+        let invs = id_trees t program.now.invs.now in
+        let rest = id_trees t (drop from program.now.invs.now) in
         IfOk result (IsIdOf table.new
         (part_terms program.now.code.now invs (tree_at t program.now.post) rest)) }
     ensures extends { Extends table.old table.new }
@@ -107,7 +107,7 @@ fn condition_of(
     requires pre { IsKnown table.old pre }
     requires shifts { IsMemo table.old shifts.old }
     ensures id { let t = table.old in
-        let invs = inv_trees t program.now.invs.now in
+        let invs = id_trees t program.now.invs.now in
         IfOk result (IsIdOf table.new
         (condition_term program.now.code.now invs (tree_at t pre) (tree_at t program.now.post))) }
     ensures extends { Extends table.old table.new }
@@ -138,7 +138,7 @@ fn encoded_condition(
         let pre = encoding_in machine_context (pre_of policy.now) in
         let post = encoding_in machine_context (post_of policy.now) in
         IfOk result (IsIdOf table.new
-        (condition_term code.now (inv_trees t invs.now) pre post)) }
+        (condition_term code.now (id_trees t invs.now) pre post)) }
     ensures extends { Extends table.old table.new }
     ensures shifts { IsMemo table.new shifts.new }
 {
@@ -159,9 +159,9 @@ fn encoded_condition(
 /// `MOST_RESULTS` results of substitution are. Each id keeps its tree.
 pub fn vc(table: &mut Table, cut: &Cut, policy: &Policy, invs: &[(u32, Id)]) -> Result<Id, VcFault>
     requires invs { AreLowInvs table.old invs.now }
-    requires forms { AreForms (inv_trees table.old invs.now) }
+    requires forms { AreForms (id_trees table.old invs.now) }
     requires marks { AreFlags (map (λ p. p.0) invs.now) (length cut.now.code) cut.now.marks }
-    ensures exact { IsVcAnswer policy.now cut.now (inv_trees table.old invs.now) table.new result }
+    ensures exact { IsVcAnswer policy.now cut.now (id_trees table.old invs.now) table.new result }
     ensures extends { Extends table.old table.new }
 {
     let unfolded = cut.unfolded();

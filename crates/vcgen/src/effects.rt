@@ -4,7 +4,7 @@ ghost use Rattle.std.specs.Prelude.{◌≡◌, ◌<◌, Some, IfOk, IfSome, leng
 ghost use Rattle.alpha_cfg.specs.Flow.{next_of};
 ghost use Rattle.term_table.specs.Table.{Extends};
 ghost use Rattle.lf_encode.specs.PutTree.{machine_terms_at};
-ghost use Rattle.lf_encode.specs.Inside.Kept.{AreMachineTerms};
+ghost use Rattle.lf_encode.specs.Kept.{AreMachineTerms};
 ghost use Rattle.lf_signature.specs.Nodes.{IsIdOf};
 ghost use Rattle.lf_signature.specs.Terms.{rd, wr, sel, upd};
 ghost use Rattle.vcgen.specs.Inside.WalkTree.{insn_effect, reg_term, address_term, with_reg, with_memory};

@@ -6,13 +6,13 @@
 
 ghost use Rattle.std.specs.Prelude.{◌≡◌, ◌↔◌, ℕ, ◌<◌, ◌≤◌, IfOk, IsTrue, length, drop, map, All};
 ghost use Rattle.alpha_cfg.specs.Cuts.{AreFlags};
-ghost use Rattle.term_table.specs.Table.{IsKnown, tree_at, Extends};
-ghost use Rattle.hereditary_subst.specs.Inside.Kept.{IsMemo};
+ghost use Rattle.term_table.specs.Table.{IsKnown, tree_at, Extends, id_trees};
+ghost use Rattle.hereditary_subst.specs.Kept.{IsMemo};
 ghost use Rattle.lf_signature.specs.Terms.{imp_term};
 ghost use Rattle.policy_set.specs.Policies.{pre_of, post_of};
 ghost use Rattle.lf_encode.specs.PutTree.{machine_terms_at};
 ghost use Rattle.lf_encode.specs.Contexts.{machine_context, encoding_in};
-ghost use Rattle.vcgen.specs.Encoded.{inv_trees, AreForms};
+ghost use Rattle.vcgen.specs.Encoded.{AreForms};
 ghost use Rattle.vcgen.specs.Answers.{IsConditionAnswer, AreLowInvs};
 ghost use Rattle.vcgen.specs.Inside.WalkTree.{start_terms, closed_term, walked, walked_from};
 ghost use Rattle.vcgen.specs.Inside.WalkTree.{part_terms, condition_term};
@@ -49,7 +49,7 @@ fn is_entry(
     ensures exact { let t = table.old in
         let p = program.now in
         let all = length p.code.now in
-        let walk = walked p.code.now (inv_trees t p.invs.now) (tree_at t p.post) all in
+        let walk = walked p.code.now (id_trees t p.invs.now) (tree_at t p.post) all in
         let made = closed_term (imp_term (tree_at t pre) (walk 0 start_terms)) in
         IfOk result (λ b. IsTrue b ↔ (tree_at t goal ≡ made)) }
     ensures extends { Extends table.old table.new }
@@ -84,7 +84,7 @@ fn is_inv_part(
     requires goal { IsKnown table.old goal }
     ensures exact { let t = table.old in
         let p = program.now in
-        let invs = inv_trees t p.invs.now in
+        let invs = id_trees t p.invs.now in
         let walk = walked_from p.code.now invs (tree_at t p.post) index start_terms in
         let made = closed_term (imp_term (tree_at t inv) walk) in
         IfOk result (λ b. IsTrue b ↔ (tree_at t goal ≡ made)) }
@@ -120,8 +120,8 @@ fn are_inv_parts(
     requires goal { IsKnown table.old goal }
     ensures exact { let t = table.old in
         let p = program.now in
-        let invs = inv_trees t p.invs.now in
-        let rest = inv_trees t (drop from p.invs.now) in
+        let invs = id_trees t p.invs.now in
+        let rest = id_trees t (drop from p.invs.now) in
         let made = part_terms p.code.now invs (tree_at t p.post) rest in
         IfOk result (λ b. IsTrue b ↔ (tree_at t goal ≡ made)) }
     ensures extends { Extends table.old table.new }
@@ -161,7 +161,7 @@ fn is_condition_of(
     requires shifts { IsMemo table.old shifts.old }
     ensures exact { let t = table.old in
         let p = program.now in
-        let invs = inv_trees t p.invs.now in
+        let invs = id_trees t p.invs.now in
         let made = condition_term p.code.now invs (tree_at t pre) (tree_at t p.post) in
         IfOk result (λ b. IsTrue b ↔ (tree_at t goal ≡ made)) }
     ensures extends { Extends table.old table.new }
@@ -198,7 +198,7 @@ fn is_encoded_condition(
     ensures exact { let t = table.old in
         let pre = encoding_in machine_context (pre_of policy.now) in
         let post = encoding_in machine_context (post_of policy.now) in
-        let made = condition_term code.now (inv_trees t invs.now) pre post in
+        let made = condition_term code.now (id_trees t invs.now) pre post in
         IfOk result (λ b. IsTrue b ↔ (tree_at t goal ≡ made)) }
     ensures extends { Extends table.old table.new }
     ensures shifts { IsMemo table.new shifts.new }
@@ -229,11 +229,11 @@ pub fn is_condition_with(
     formula: Id,
 ) -> Result<bool, VcFault>
     requires invs { AreLowInvs table.old invs.now }
-    requires forms { AreForms (inv_trees table.old invs.now) }
+    requires forms { AreForms (id_trees table.old invs.now) }
     requires marks { AreFlags (map (λ p. p.0) invs.now) (length cut.now.code) cut.now.marks }
     requires formula { IsKnown table.old formula }
     requires memo { IsMemo table.old memo.old }
-    ensures exact { let trees = inv_trees table.old invs.now in
+    ensures exact { let trees = id_trees table.old invs.now in
         IsConditionAnswer policy.now cut.now trees (tree_at table.old formula) result }
     ensures extends { Extends table.old table.new }
     ensures memo { IsMemo table.new memo.new }

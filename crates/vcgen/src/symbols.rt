@@ -4,7 +4,7 @@ ghost use Rattle.std.specs.Prelude.{◌≡◌, ◌<◌, ◌≤◌, ◌^◌, true
 ghost use Rattle.term_table.specs.Tree.{shift, fits};
 ghost use Rattle.term_table.specs.Table.{IsKnown, tree_at, Extends};
 ghost use Rattle.lf_encode.specs.PutTree.{machine_terms_at};
-ghost use Rattle.lf_encode.specs.Inside.Kept.{AreMachineTerms};
+ghost use Rattle.lf_encode.specs.Kept.{AreMachineTerms};
 ghost use Rattle.lf_signature.specs.Terms.{sel, upd, op_term};
 ghost use Rattle.vcgen.specs.Inside.WalkTree.{reg_term, rhs_term, address_term};
 ghost use Rattle.vcgen.specs.Inside.WalkTree.{with_reg, with_memory, start_terms};

@@ -5,12 +5,11 @@
 //! are at most 1,024; what it visits in all is the unfolded length.
 
 ghost use Rattle.std.specs.Prelude.{◌≡◌, ◌<◌, IfOk, length, slice_get};
-ghost use Rattle.term_table.specs.Table.{IsKnown, tree_at, Extends};
+ghost use Rattle.term_table.specs.Table.{IsKnown, tree_at, Extends, id_trees};
 ghost use Rattle.lf_signature.specs.Nodes.{IsIdOf};
 ghost use Rattle.lf_signature.specs.Terms.{and_term, imp_term};
 ghost use Rattle.lf_encode.specs.PutTree.{machine_terms_at};
-ghost use Rattle.lf_encode.specs.Inside.Kept.{AreMachineTerms};
-ghost use Rattle.vcgen.specs.Encoded.{inv_trees};
+ghost use Rattle.lf_encode.specs.Kept.{AreMachineTerms};
 ghost use Rattle.vcgen.specs.Inside.WalkTree.{walked, walked_at};
 ghost use Rattle.vcgen.specs.Inside.Symbols.{inv_id, Walks};
 
@@ -55,7 +54,7 @@ pub(crate) fn walk(
     ensures id { let t = table.old in
         let terms = machine_terms_at t symbols.now.regs symbols.now.memory in
         let p = program.now in
-        let walk = walked p.code.now (inv_trees t p.invs.now) (tree_at t p.post) fuel in
+        let walk = walked p.code.now (id_trees t p.invs.now) (tree_at t p.post) fuel in
         IfOk result (IsIdOf table.new (walk index terms)) }
     ensures extends { Extends table.old table.new }
     ensures walking { Walks table.new program.now symbols.now shifts.new kept.new }
@@ -90,7 +89,7 @@ fn walk_with(
     ensures id { let t = table.old in
         let terms = machine_terms_at t after.now.regs after.now.memory in
         let p = program.now in
-        let walk = walked p.code.now (inv_trees t p.invs.now) (tree_at t p.post) fuel in
+        let walk = walked p.code.now (id_trees t p.invs.now) (tree_at t p.post) fuel in
         IfOk result (IsIdOf table.new (walk index terms)) }
     ensures extends { Extends table.old table.new }
     ensures walking { Walks table.new program.now symbols.now shifts.new kept.new }
@@ -122,7 +121,7 @@ fn walk_both(
     ensures id { let t = table.old in
         let terms = machine_terms_at t symbols.now.regs symbols.now.memory in
         let p = program.now in
-        let walk = walked p.code.now (inv_trees t p.invs.now) (tree_at t p.post) fuel in
+        let walk = walked p.code.now (id_trees t p.invs.now) (tree_at t p.post) fuel in
         IfOk result (IsIdOf table.new (and_term
         (imp_term (tree_at t taken.0) (walk taken.1 terms))
         (imp_term (tree_at t passed.0) (walk passed.1 terms)))) }
@@ -156,7 +155,7 @@ fn walk_behind(
     ensures id { let t = table.old in
         let terms = machine_terms_at t after.now.regs after.now.memory in
         let p = program.now in
-        let walk = walked p.code.now (inv_trees t p.invs.now) (tree_at t p.post) fuel in
+        let walk = walked p.code.now (id_trees t p.invs.now) (tree_at t p.post) fuel in
         IfOk result (IsIdOf table.new (and_term (tree_at t allowed) (walk index terms))) }
     ensures extends { Extends table.old table.new }
     ensures walking { Walks table.new program.now symbols.now shifts.new kept.new }
@@ -182,7 +181,7 @@ pub(crate) fn walk_from(
         let terms = machine_terms_at t symbols.now.regs symbols.now.memory in
         let p = program.now in
         let post = tree_at t p.post in
-        let walk = walked p.code.now (inv_trees t p.invs.now) post fuel in
+        let walk = walked p.code.now (id_trees t p.invs.now) post fuel in
         let insn = slice_get p.code.now index in
         IfOk result (IsIdOf table.new (walked_at walk post index insn terms)) }
     ensures extends { Extends table.old table.new }

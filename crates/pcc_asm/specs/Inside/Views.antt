@@ -12,8 +12,8 @@ use Rattle.formula_tree.specs.Formulas.{Form}
 use Rattle.formula_tree.specs.Scope.{IsOver}
 use Rattle.formula_tree.specs.Sizes.{form_height}
 use Rattle.formula_tree.specs.Views.{form_view}
-use Rattle.term_table.specs.Table.{TableView}
-use Rattle.proof_container.specs.Views.{inv_trees, AreKnown}
+use Rattle.term_table.specs.Table.{TableView, id_trees}
+use Rattle.proof_container.specs.Views.{AreKnown}
 use Rattle.asm_text.specs.declared.insns.SrcInsn.{SrcInsn}
 use Rattle.asm_text.specs.declared.labels.Label.{Label}
 use Rattle.asm_text.specs.declared.limits.TheConstants.{MAX_INSNS}
@@ -73,4 +73,4 @@ IsEncodableForm F = IsOver 32 F [] × (form_height F < 2 ^ 31)
 -- the ids stand for the encodings of the invariants
 pub record AreEncoded (t : TableView) (invs : List (ℕ × Form)) (ids : List (ℕ × ℕ)) : Type 0 where
   pub known : AreKnown t ids None
-  pub trees : inv_trees t ids ≡ inv_encodings invs
+  pub trees : id_trees t ids ≡ inv_encodings invs

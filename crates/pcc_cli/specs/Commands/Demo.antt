@@ -26,30 +26,30 @@ use Rattle.pcc_cli.specs.Stages.Proving.{proved_in}
 -- ---- the runs
 
 -- 1 where a run returned 1
-abbrev pub one_of : Outcome → ℕ
-one_of (Returned word) = if word == 1 then 1 else 0
-one_of outcome = 0
+abbrev pub ones_of : Outcome → ℕ
+ones_of (Returned word) = if word == 1 then 1 else 0
+ones_of outcome = 0
 
 -- the steps of a run of at most so many from a start, and whether it returned 1
 unfoldable pub count_from : List Insn → ℕ → Option StartView → Counts
 count_from code budget None = record { steps = 0; ones = 0 }
 count_from code budget (Some setup) =
     let state = start_state ARENA setup in
-    record { steps = steps_of code budget state; ones = one_of (run_of code budget state).0 }
+    record { steps = steps_of code budget state; ones = ones_of (run_of code budget state).0 }
 
 -- two counts in one
 abbrev pub both_counts : Counts → Counts → Counts
 both_counts a b = record { steps = a.steps + b.steps; ones = a.ones + b.ones }
 
 -- the same of the first so many packets
-unfoldable pub counts_of : PolicyKind → List Insn → ℕ → ℕ → ℕ → Counts
-counts_of policy code budget n zero = record { steps = 0; ones = 0 }
-counts_of policy code budget n (suc k) = both_counts (counts_of policy code budget n k) (count_from code budget (start_of policy (demo_packet n k)))
+unfoldable pub packet_counts : PolicyKind → List Insn → ℕ → ℕ → ℕ → Counts
+packet_counts policy code budget n zero = record { steps = 0; ones = 0 }
+packet_counts policy code budget n (suc k) = both_counts (packet_counts policy code budget n k) (count_from code budget (start_of policy (demo_packet n k)))
 
 -- what is told of code with so many invariants
 abbrev pub summary_of : PolicyKind → ℕ → Shown → DemoSummary
 summary_of policy n shown =
-    let counts = counts_of policy shown.code DEMO_STEPS n PACKETS in
+    let counts = packet_counts policy shown.code DEMO_STEPS n PACKETS in
     record { words = length shown.code; invariants = shown.invariants; packets = PACKETS; steps = counts.steps; ones = counts.ones }
 
 -- ---- the command

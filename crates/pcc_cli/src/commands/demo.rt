@@ -7,7 +7,7 @@ ghost use Rattle.pcc_words.specs.Invocations.{demo};
 ghost use Rattle.demo_input.specs.declared.sources.TheConstants.{MAX_DEMO};
 ghost use Rattle.demo_input.specs.declared.packets.TheConstants.{PACKETS};
 ghost use Rattle.safe_host.specs.Runs.{outcome_of};
-ghost use Rattle.pcc_cli.specs.Commands.Demo.{one_of, count_from, counts_of, summary_of};
+ghost use Rattle.pcc_cli.specs.Commands.Demo.{ones_of, count_from, packet_counts, summary_of};
 ghost use Rattle.pcc_cli.specs.Commands.Demo.{demo_container, demo_told, demo_effect};
 ghost use Rattle.pcc_cli.specs.Tasks.{stage_of};
 ghost use Rattle.pcc_cli.specs.Inside.Gives.{GivesPure};
@@ -39,7 +39,7 @@ pub struct Counts {
 
 /// 1 where a run returned 1, and else 0.
 fn one_where(ended: Ended) -> u64
-    ensures exact { result ≡ one_of (outcome_of ended) }
+    ensures exact { result ≡ ones_of (outcome_of ended) }
     ensures few { result ≤ 1 }
 {
     match ended {
@@ -72,7 +72,7 @@ fn count_all(alloc: Global, accepted: Accepted, n: u32, budget: u64) -> Result<C
     requires loads { n ≤ MAX_DEMO }
     requires budget { budget ≤ DEMO_STEPS }
     ensures { IfOk result (λ counts. counts
-        ≡ counts_of accepted.policy accepted.code budget n PACKETS) }
+        ≡ packet_counts accepted.policy accepted.code budget n PACKETS) }
 {
     let mut host = Host::new(alloc, accepted)?;
     let mut all = Counts { steps: 0, ones: 0 };

@@ -11,9 +11,9 @@ use Rattle.policy_set.specs.declared.kind.PolicyKind.{PolicyKind}
 use Rattle.policy_set.specs.Policies.{pre_of, post_of}
 use Rattle.term_table.specs.Tree.{Tree}
 use Rattle.term_table.specs.Measures.{weight_of, sigma1_places}
-use Rattle.term_table.specs.Table.{TableView, IsKnown, tree_at}
+use Rattle.term_table.specs.Table.{TableView, IsKnown, tree_at, id_trees}
 use Rattle.vcgen.specs.Conditions.{condition}
-use Rattle.vcgen.specs.Encoded.{annotated, AreForms, AreEncodings, inv_trees}
+use Rattle.vcgen.specs.Encoded.{annotated, AreForms, AreEncodings}
 use Rattle.vcgen.specs.Safety.{IsSafe}
 use Rattle.pcc_gate.specs.declared.fault.GateFault.{GateFault}
 use Rattle.pcc_gate.specs.declared.fault.GateFault.TheVariants as fault
@@ -25,12 +25,12 @@ use Rattle.pcc_gate.specs.Inside.Stages.{Refuses}
 -- the code is safe for the policy, its invariants are forms, and the condition of their formulas is true in every structure
 pub record IsProved (policy : PolicyKind) (cut : CutView) (table : TableView) (invs : List (ℕ × ℕ)) : Type 0 where
   pub code : IsCode cut.code
-  pub flags : AreFlags (map (λ p. p.0) (inv_trees table invs)) (length cut.code) cut.marks
+  pub flags : AreFlags (map (λ p. p.0) (id_trees table invs)) (length cut.code) cut.marks
   pub cuts : IsCut cut.code cut.marks
   pub known : AllByRecursion (λ (inv : ℕ × ℕ). IsKnown table inv.1) invs
-  pub forms : AreForms (inv_trees table invs)
+  pub forms : AreForms (id_trees table invs)
   pub safe : IsSafe cut.code (pre_of policy) (post_of policy)
-  pub valid : (formulas : List (ℕ × Form)) → AreEncodings (inv_trees table invs) formulas → IsValid (condition (annotated policy cut.code formulas))
+  pub valid : (formulas : List (ℕ × Form)) → AreEncodings (id_trees table invs) formulas → IsValid (condition (annotated policy cut.code formulas))
 
 -- the proof isn't too heavy, and is the one that there is
 abbrev pub IsProofFound : TableView → Option ℕ → Result ℕ GateFault → Type 0

@@ -10,10 +10,10 @@ use Rattle.alpha_cfg.specs.Deciding.{flags_of, uncut_of}
 use Rattle.policy_set.specs.declared.kind.PolicyKind.{PolicyKind}
 use Rattle.policy_set.specs.Names.{policy_number}
 use Rattle.term_table.specs.Tree.{Tree}
-use Rattle.term_table.specs.Table.{TableView, tree_at}
+use Rattle.term_table.specs.Table.{TableView, tree_at, id_trees}
 use Rattle.proof_container.specs.Contents.{Contents, roots, one_or_none}
 use Rattle.proof_container.specs.Encoding.{EncodesContents}
-use Rattle.proof_container.specs.Views.{contents_of, inv_trees}
+use Rattle.proof_container.specs.Views.{contents_of}
 use Rattle.proof_container.specs.declared.container.Container.{Container}
 use Rattle.proof_container.specs.declared.limits.TheConstants.{MAX_BYTES}
 use Rattle.pcc_gate.specs.declared.fault.GateFault.{GateFault}
@@ -26,7 +26,7 @@ use Rattle.pcc_gate.specs.First.{too_high, formless, first_code, first_front, fi
 
 -- the trees of the roots, by their ids
 abbrev pub measured_trees : TableView → List (ℕ × ℕ) → Option ℕ → List Tree
-measured_trees t invs proof = map (λ p. p.1) (inv_trees t invs) ++ one_or_none (option_map (tree_at t) proof)
+measured_trees t invs proof = map (λ p. p.1) (id_trees t invs) ++ one_or_none (option_map (tree_at t) proof)
 
 -- a refusal is the first whatever comes after the stage, for which next stands; what ran out says nothing
 abbrev pub Refuses : {N : Type 0} → (N → Option Refusal) → GateFault → Type 0
@@ -80,7 +80,7 @@ IsLengthAnswer code marks (Err e) = Refuses (first_long code marks) e
 
 -- contents of which the roots alone are of interest, by their ids
 abbrev pub with_roots : TableView → List (ℕ × ℕ) → Option ℕ → Contents
-with_roots t invs proof = record { policy = 0; code = []; invs = inv_trees t invs; proof = option_map (tree_at t) proof }
+with_roots t invs proof = record { policy = 0; code = []; invs = id_trees t invs; proof = option_map (tree_at t) proof }
 
 -- the first refusal by clause 6, and what comes after
 abbrev pub first_no_form : List (ℕ × Tree) → Option Refusal → Option Refusal

@@ -2,7 +2,7 @@
 use Rattle.std.specs.Prelude.{◌≡◌, ℕ, ◌+◌, ◌*◌, ◌<◌, ◌≤◌, true, IfSome, if◌then◌else◌, List, [], ◌∷◌, ◌++◌, map, reverse, length, get_or, Option, Some, None}
 use Rattle.std.specs.Option.{option_map}
 use Rattle.term_table.specs.Tree.{Tree, Var, Con, App, Lam, Fam, TApp, Pi}
-use Rattle.term_table.specs.Table.{TableView, AllKnown, IsKnown, tree_at}
+use Rattle.term_table.specs.Table.{TableView, AllKnown, IsKnown, tree_at, id_trees}
 use Rattle.term_table.specs.declared.Node.{Node}
 use Rattle.term_table.specs.declared.Node.TheVariants as N
 use Rattle.proof_container.specs.declared.container.View.{View}
@@ -13,11 +13,11 @@ use Rattle.proof_container.specs.declared.limits.TheConstants.{MAX_ENTRIES, MAX_
 use Rattle.proof_container.specs.Contents.{one_or_none}
 use Rattle.proof_container.specs.Postorder.{is_emitted, unless_emitted, emitted_with, HasPartsFirst, AreEmitted}
 use Rattle.proof_container.specs.Encoding.{entry_number}
-use Rattle.proof_container.specs.Views.{AreKnown, inv_trees}
+use Rattle.proof_container.specs.Views.{AreKnown}
 
 -- the trees of the roots: the invariants in order, then the proof
 abbrev pub root_trees : TableView → List (ℕ × ℕ) → Option ℕ → List Tree
-root_trees t invs proof = map (λ p. p.1) (inv_trees t invs) ++ one_or_none (option_map (tree_at t) proof)
+root_trees t invs proof = map (λ p. p.1) (id_trees t invs) ++ one_or_none (option_map (tree_at t) proof)
 
 -- the number of a tree among those that were left, if it was left
 abbrev pub mark : List Tree → Tree → Option ℕ

@@ -6,11 +6,11 @@ use Rattle.term_table.specs.Tree.{Tree, shift, fits}
 use Rattle.term_table.specs.Measures.{height_of}
 use Rattle.term_table.specs.Table.{TableView, IsKnown, tree_at}
 use Rattle.hereditary_subst.specs.declared.kept.Memo.{Memo}
-use Rattle.hereditary_subst.specs.Inside.Kept.{IsMemo}
+use Rattle.hereditary_subst.specs.Kept.{IsMemo}
 use Rattle.lf_signature.specs.Nodes.{IsIdOf}
 use Rattle.lf_encode.specs.declared.puts.PutMemo.{PutMemo}
 use Rattle.lf_encode.specs.PutTree.{MachineTerms, machine_terms_at}
-use Rattle.lf_encode.specs.Inside.Kept.{IsPutMemo, AreMachineTerms}
+use Rattle.lf_encode.specs.Kept.{IsPutMemo, AreMachineTerms}
 use Rattle.vcgen.specs.declared.symbols.Symbols.{Symbols}
 use Rattle.vcgen.specs.declared.walk.Program.{Program}
 use Rattle.vcgen.specs.declared.effects.Effect as rust

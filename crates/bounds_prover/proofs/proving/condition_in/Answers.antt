@@ -1,5 +1,4 @@
-use Rattle.term_table.specs.Table.{tree_at}
-use Rattle.vcgen.specs.Encoded.{inv_trees}
+use Rattle.term_table.specs.Table.{tree_at, id_trees}
 use Rattle.bounds_prover.proofs.Making.{encodes-parts}
 use Rattle.bounds_prover.proofs.proving.condition_in.Goals as goal
 
@@ -8,5 +7,5 @@ returns-in-Ok-clause-id c =
     let e = c.in-Ok.ensures.exact in
     record {
       known = e.1;
-      is = encodes-parts c.args.policy.now c.args.cut.now.code (inv_trees c.args.table.now c.args.invs.now) (tree_at c.vc.new.table c.in-Ok.condition) c.requires.forms e.2;
+      is = encodes-parts c.args.policy.now c.args.cut.now.code (id_trees c.args.table.now c.args.invs.now) (tree_at c.vc.new.table c.in-Ok.condition) c.requires.forms e.2;
     }

@@ -1,11 +1,11 @@
 use Rattle.std.proofs.Common.{◌≡◌, ℕ, ◌≤◌, List, length, map, Some, sym, ◌∙◌, ap, subst}
 use Rattle.std.specs.List.{AllByRecursion}
 use Rattle.alpha_cfg.specs.Cuts.{AreFlags}
-use Rattle.term_table.specs.Table.{IsKnown, tree_at}
+use Rattle.term_table.specs.Table.{IsKnown, tree_at, id_trees}
 use Rattle.proof_container.specs.Contents.{roots}
 use Rattle.proof_container.specs.Postorder.{entries}
 use Rattle.proof_container.specs.Encoding.{IsContents}
-use Rattle.proof_container.specs.Views.{contents_of, inv_trees}
+use Rattle.proof_container.specs.Views.{contents_of}
 use Rattle.proof_container.specs.declared.limits.TheConstants.{MAX_ENTRIES}
 use Rattle.vcgen.specs.Answers.{AreLowInvs}
 use Rattle.pcc_gate.proofs.Kept.{known-more, trees-same}
@@ -27,13 +27,13 @@ pub parts_in-requires-clause-marks : goal.parts_in-requires-clause-marks
 parts_in-requires-clause-marks c =
     let k = c.args.passed.container in
     let cut = c.args.passed.cut in
-    let same : map (λ p. p.0) (inv_trees k.table k.invs.items) ≡ map (λ p. p.0) c.deref.result.now = keys k.table k.invs.items ∙ ap (λ (l : List (ℕ × ℕ)). map (λ (p : ℕ × ℕ). p.0) l) (sym c.deref.ensures.value) in
+    let same : map (λ p. p.0) (id_trees k.table k.invs.items) ≡ map (λ p. p.0) c.deref.result.now = keys k.table k.invs.items ∙ ap (λ (l : List (ℕ × ℕ)). map (λ (p : ℕ × ℕ). p.0) l) (sym c.deref.ensures.value) in
     subst (λ l. AreFlags l (length cut.code) cut.marks) same c.requires.passes.annotated
 
 pub returns-in-NotEasy : goal.returns-in-NotEasy
 returns-in-NotEasy c =
     let k = c.args.passed.container in
-    let parts = λ (l : List (ℕ × ℕ)). condition_parts c.args.policy.now c.args.passed.cut.code (inv_trees k.table l) in
+    let parts = λ (l : List (ℕ × ℕ)). condition_parts c.args.policy.now c.args.passed.cut.code (id_trees k.table l) in
     let answer = subst (IsPartsAnswer c.parts_in.new.table 0 (parts c.deref.result.now)) c.in-NotEasy.is c.in-Ok.ensures.exact in
     not_easy-made (contents_of k) (parts k.invs.items) c.in-NotEasy.part (subst (λ l. first_not_easy by_all_means 0 (parts l) ≡ Some c.in-NotEasy.part) c.deref.ensures.value answer)
 
@@ -52,10 +52,10 @@ written-requires-clause-contents c = λ low few.
     let ps = k.invs.items in
     let p = tree_at u c.in-Proved.proof in
     let cut = c.args.passed.cut in
-    let parts = λ (l : List (ℕ × ℕ)). condition_parts c.args.policy.now cut.code (inv_trees t l) in
+    let parts = λ (l : List (ℕ × ℕ)). condition_parts c.args.policy.now cut.code (id_trees t l) in
     let answer = subst (IsPartsAnswer u 0 (parts c.deref.result.now)) c.in-Proved.is c.in-Ok.ensures.exact in
     let given = subst (λ l. condition_proof by_all_means (parts l) ≡ Some p) c.deref.ensures.value answer in
-    let same = same_invs (contents_of k) (inv_trees u c.deref-in-Proved.result.now) p (ap (inv_trees u) c.deref-in-Proved.ensures.value ∙ sym (trees-same t u ps c.in-Ok.ensures.extends c.requires.held.known.0)) in
+    let same = same_invs (contents_of k) (id_trees u c.deref-in-Proved.result.now) p (ap (id_trees u) c.deref-in-Proved.ensures.value ∙ sym (trees-same t u ps c.in-Ok.ensures.extends c.requires.held.known.0)) in
     subst IsContents (sym same)
     (made-contents c.class_laws.ensures.sound c.args.policy.now c.args.bytes.now (contents_of k) cut.code cut.marks c.requires.passes p given low (subst (λ d. length (entries (roots d)) ≤ MAX_ENTRIES) same few))
 
@@ -66,9 +66,9 @@ returns c =
     let u = c.parts_in.new.table in
     let ps = k.invs.items in
     let p = tree_at u c.in-Proved.proof in
-    let parts = λ (l : List (ℕ × ℕ)). condition_parts c.args.policy.now c.args.passed.cut.code (inv_trees t l) in
+    let parts = λ (l : List (ℕ × ℕ)). condition_parts c.args.policy.now c.args.passed.cut.code (id_trees t l) in
     let answer = subst (IsPartsAnswer u 0 (parts c.deref.result.now)) c.in-Proved.is c.in-Ok.ensures.exact in
     let given = subst (λ l. condition_proof by_all_means (parts l) ≡ Some p) c.deref.ensures.value answer in
-    let same = same_invs (contents_of k) (inv_trees u c.deref-in-Proved.result.now) p (ap (inv_trees u) c.deref-in-Proved.ensures.value ∙ sym (trees-same t u ps c.in-Ok.ensures.extends c.requires.held.known.0)) in
+    let same = same_invs (contents_of k) (id_trees u c.deref-in-Proved.result.now) p (ap (id_trees u) c.deref-in-Proved.ensures.value ∙ sym (trees-same t u ps c.in-Ok.ensures.extends c.requires.held.known.0)) in
     let none = (c.class_laws.ensures.exact (parts ps) 0).1 (p, given) in
     subst (λ m. IsMadeAnswer m c.written.result) (sym (proof-made (contents_of k) (parts ps) p none given)) (subst (λ d. IsMadeAnswer (encoded_unless (excess d p) d) c.written.result) same c.written.ensures)

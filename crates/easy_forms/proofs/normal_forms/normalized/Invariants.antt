@@ -1,6 +1,6 @@
 use Rattle.std.proofs.Common.{◌≡◌, ◌-◌}
 use Rattle.term_table.specs.Table.{tree_at, Extends}
-use Rattle.hereditary_subst.specs.Inside.Kept.{IsMemo}
+use Rattle.hereditary_subst.specs.Kept.{IsMemo}
 use Rattle.formula_tree.specs.Formulas.{Exp}
 use Rattle.formula_terms.specs.Encoding.{exp_encoding}
 use Rattle.formula_terms.specs.ProofTerms.{up}

@@ -6,7 +6,7 @@ use Rattle.lf_signature.specs.Terms.{op_term}
 use Rattle.formula_tree.specs.Formulas.{ELit, EOp}
 use Rattle.formula_terms.specs.Encoding.{exp_encoding}
 use Rattle.formula_ids.proofs.Standing.{stands, more, twice}
-use Rattle.easy_hyps.specs.Inside.Alignments.{masked_second, masked_third}
+use Rattle.easy_hyps.specs.Alignments.{masked_second, masked_third}
 use Rattle.easy_hyps.proofs.alignments.masked.Goals as goal
 
 pub returns-clause-is : goal.returns-clause-is

@@ -1,6 +1,6 @@
 use Rattle.std.proofs.Common.{take}
 use Rattle.term_table.specs.Table.{Extends}
-use Rattle.hereditary_subst.specs.Inside.Kept.{IsMemo}
+use Rattle.hereditary_subst.specs.Kept.{IsMemo}
 use Rattle.formula_ids.specs.Hypotheses.{AreKnownHyps, AreHyps}
 use Rattle.easy_class.specs.Hypotheses.{Hyps, raised_hyps}
 use Rattle.easy_hyps.proofs.raising.raised_hyps.Given as goal

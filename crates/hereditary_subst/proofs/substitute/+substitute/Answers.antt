@@ -6,7 +6,7 @@ use Rattle.term_table.specs.Table.{IsKnown, tree_at, Stands}
 use Rattle.hereditary_subst.specs.Inside.Spare.{Spares}
 use Rattle.hereditary_subst.proofs.Rows.{grows_more}
 use Rattle.hereditary_subst.proofs.Puts.{spare_term, spare_head, says_under, put_under, reduce_other, no_lam}
-use Rattle.hereditary_subst.specs.Inside.Heads.{HeadIs}
+use Rattle.hereditary_subst.specs.Heads.{HeadIs}
 use Rattle.hereditary_subst.proofs.Spots.{head_result}
 use Rattle.hereditary_subst.proofs.substitute.+substitute.Goals as goal
 

@@ -1,8 +1,8 @@
 use Rattle.std.proofs.Common.{rules, ◌≡◌, suc, ◌-◌, ◌∷◌, false, IsTrue, sym, arith}
 use Rattle.std.proofs.lemmas.Result.{IfOk-weaker}
 use Rattle.term_table.specs.Table.{tree_at}
-use Rattle.lf_check.specs.Inside.Lists.{types_of}
-use Rattle.lf_check.specs.Inside.Uses.{member, past, is_set, AgreeOn}
+use Rattle.lf_check.specs.Lists.{types_of}
+use Rattle.lf_check.specs.Uses.{member, past, is_set, AgreeOn}
 use Rattle.lf_check.proofs.Sets.{agree_none, agree_later}
 use Rattle.lf_check.proofs.contexts.+agreeing.Goals as goal
 

@@ -1,7 +1,7 @@
 use Rattle.std.proofs.Common.{◌≡◌, ◌∷◌, get_or, sym, ◌∙◌, ap, subst, arith}
 use Rattle.term_table.specs.Tree.{Tree, TApp}
 use Rattle.term_table.specs.Table.{IsKnown, tree_at, Extends}
-use Rattle.lf_check.specs.Inside.Lists.{types_of}
+use Rattle.lf_check.specs.Lists.{types_of}
 use Rattle.lf_check.proofs.TypeLists.{ctx-take, known-at, grows_more}
 use Rattle.lf_check.proofs.contexts.context_at.Goals as goal
 

@@ -1,6 +1,6 @@
 use Rattle.std.proofs.Common.{◌≡◌, take}
 use Rattle.term_table.specs.Table.{IsKnown, tree_at, ctx_of, Extends}
-use Rattle.lf_check.specs.Inside.Lists.{types_of}
+use Rattle.lf_check.specs.Lists.{types_of}
 use Rattle.lf_check.proofs.contexts.context_at.Given as goal
 
 abbrev pub invariant-loop-id : goal.invariant-loop-id

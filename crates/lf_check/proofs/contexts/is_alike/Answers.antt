@@ -1,8 +1,8 @@
 use Rattle.std.proofs.Common.{IsTrue}
 use Rattle.std.proofs.lemmas.Result.{IfOk-weaker}
 use Rattle.term_table.specs.Table.{tree_at}
-use Rattle.lf_check.specs.Inside.Lists.{types_of, IsPart}
-use Rattle.lf_check.specs.Inside.Uses.{member, AgreeOn}
+use Rattle.lf_check.specs.Lists.{types_of, IsPart}
+use Rattle.lf_check.specs.Uses.{member, AgreeOn}
 use Rattle.lf_check.proofs.Parts.{part_grown}
 use Rattle.lf_check.proofs.contexts.is_alike.Goals as goal
 

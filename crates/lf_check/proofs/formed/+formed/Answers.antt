@@ -3,7 +3,7 @@ use Rattle.term_table.specs.Tree.{TApp}
 use Rattle.term_table.specs.Table.{IsKnown, tree_at, Extends}
 use Rattle.lf_signature.specs.Decide.{is_type_of}
 use Rattle.lf_check.specs.Inside.Families.{is_proofs}
-use Rattle.lf_check.specs.Inside.Lists.{types_of}
+use Rattle.lf_check.specs.Lists.{types_of}
 use Rattle.lf_check.proofs.Families.{other_type}
 use Rattle.lf_check.proofs.TypeLists.{grows_more}
 use Rattle.lf_check.proofs.Judging.{product_part, judges_formed}

@@ -2,7 +2,7 @@ use Rattle.std.proofs.Common.{rules, ◌≡◌, ◌-◌, false, arith}
 use Rattle.std.proofs.lemmas.Result.{IfOk-weaker}
 use Rattle.term_table.specs.Tree.{App, Var}
 use Rattle.term_table.specs.Table.{IsKnown, tree_at}
-use Rattle.lf_check.specs.Inside.Uses.{member, past, is_set, IsUnion}
+use Rattle.lf_check.specs.Uses.{member, past, is_set, IsUnion}
 use Rattle.lf_check.proofs.Sets.{union_same, union_right, union_first, union_less, union_more, union_equal}
 use Rattle.lf_check.proofs.uses.+joining.Goals as goal
 

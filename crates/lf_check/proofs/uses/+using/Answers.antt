@@ -3,7 +3,7 @@ use Rattle.std.proofs.lemmas.Result.{IfOk-weaker}
 use Rattle.term_table.specs.Tree.{App, Var}
 use Rattle.term_table.specs.Scope.{is_scoped}
 use Rattle.term_table.specs.Table.{IsKnown, tree_at}
-use Rattle.lf_check.specs.Inside.Uses.{member, IsUnion, Covers}
+use Rattle.lf_check.specs.Uses.{member, IsUnion, Covers}
 use Rattle.lf_check.proofs.Sets.{covers_one, covers_other, covers_var, covers_closed}
 use Rattle.lf_check.proofs.uses.+using.Goals as goal
 

@@ -2,7 +2,7 @@ use Rattle.std.proofs.Common.{rules, ◌≡◌, ◌-◌, false, arith}
 use Rattle.std.proofs.lemmas.Result.{IfOk-weaker}
 use Rattle.term_table.specs.Tree.{App, Var}
 use Rattle.term_table.specs.Table.{IsKnown, tree_at}
-use Rattle.lf_check.specs.Inside.Uses.{is_set}
+use Rattle.lf_check.specs.Uses.{is_set}
 use Rattle.lf_check.proofs.Sets.{IsOutside, outside_none, outside_here, outside_later}
 use Rattle.lf_check.proofs.uses.outside.Goals as goal
 

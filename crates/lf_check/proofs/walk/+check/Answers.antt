@@ -1,6 +1,6 @@
 use Rattle.std.proofs.Common.{◌≡◌, ◌↔◌, IsTrue, true, Some, sym, ◌∙◌, ap, arith}
 use Rattle.term_table.specs.Table.{IsKnown, tree_at, node_tree, Stands, Extends}
-use Rattle.lf_check.specs.Inside.Lists.{types_of}
+use Rattle.lf_check.specs.Lists.{types_of}
 use Rattle.lf_signature.specs.Decide.{checks_of, synth_of, atom_rule, is_atomic}
 use Rattle.lf_check.proofs.TypeLists.{grows_more}
 use Rattle.lf_check.proofs.Judging.{under_part, judges_under}

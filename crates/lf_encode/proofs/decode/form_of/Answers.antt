@@ -6,8 +6,8 @@ use Rattle.lf_signature.specs.Typing.{Checks}
 use Rattle.formula_tree.specs.Formulas.{Form}
 use Rattle.formula_tree.specs.Views.{form_view}
 use Rattle.lf_encode.specs.Contexts.{sort_types, EncodesForm}
-use Rattle.lf_encode.specs.Inside.Naming.{unnamed_form}
-use Rattle.lf_encode.specs.Inside.Reading.{form_of}
+use Rattle.lf_encode.specs.Naming.{unnamed_form}
+use Rattle.lf_encode.specs.Reading.{form_of}
 use Rattle.lf_encode.proofs.Named.{form_encoded}
 use Rattle.lf_encode.proofs.Decoded.{form_of-encoding}
 use Rattle.lf_encode.proofs.decode.form_of.Goals as goal

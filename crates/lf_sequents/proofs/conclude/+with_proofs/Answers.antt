@@ -5,7 +5,7 @@ use Rattle.lf_signature.specs.Schemas.{premise_of}
 use Rattle.lf_signature.specs.Nodes.{IsIdOf}
 use Rattle.lf_sequents.specs.Sequents.{AreSequents}
 use Rattle.lf_sequents.specs.Answers.{proof_taken, proofs_taken}
-use Rattle.lf_sequents.specs.Inside.Room.{sequents_of}
+use Rattle.lf_sequents.specs.Room.{sequents_of}
 use Rattle.lf_rules.proofs.Grown.{extends_trans}
 use Rattle.lf_sequents.proofs.Fitting.{sequents-more, proofs-same}
 use Rattle.lf_rules.proofs.Slices.{parted}

@@ -7,7 +7,7 @@ use Rattle.lf_rules.specs.Instance.{nth_arg, form_with, by_rule}
 use Rattle.lf_rules.proofs.Shifts.{shift-none}
 use Rattle.lf_rules.specs.Instance.{trees_of}
 use Rattle.lf_sequents.specs.Answers.{FitPremises, HasForm, IsRowAnswer, proofs_taken}
-use Rattle.lf_sequents.specs.Inside.Room.{sequents_of, HasVarRoom}
+use Rattle.lf_sequents.specs.Room.{sequents_of, HasVarRoom}
 use Rattle.lf_rules.proofs.Grown.{known-more, trees-same, extends_trans}
 use Rattle.lf_sequents.proofs.Lasting.{kept-last}
 use Rattle.lf_sequents.proofs.Fitting.{sequents-more, fit-more, fit-back, proofs-same}

@@ -5,7 +5,7 @@ use Rattle.lf_rules.specs.Instance.{nth_arg}
 use Rattle.lf_rules.specs.Instance.{trees_of}
 use Rattle.lf_sequents.specs.Sequents.{AreSequents}
 use Rattle.lf_sequents.specs.Answers.{FitPremises}
-use Rattle.lf_sequents.specs.Inside.Room.{sequents_of}
+use Rattle.lf_sequents.specs.Room.{sequents_of}
 use Rattle.lf_rules.proofs.Grown.{known-more, trees-same}
 use Rattle.lf_sequents.proofs.Fitting.{sequents-more, fit_next}
 use Rattle.lf_rules.proofs.Slices.{parted}

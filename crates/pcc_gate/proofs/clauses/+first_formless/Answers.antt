@@ -1,7 +1,6 @@
 use Rattle.std.proofs.Common.{◌≡◌, ◌+◌, ℕ, IfOk, drop, cond, slice_index_or, true, suc, Some, sym, ◌∙◌, ap, subst, arith}
 use Rattle.std.proofs.lemmas.List.{drop_more}
-use Rattle.term_table.specs.Table.{tree_at}
-use Rattle.proof_container.specs.Views.{inv_trees}
+use Rattle.term_table.specs.Table.{tree_at, id_trees}
 use Rattle.pcc_gate.specs.First.{has_form, formless}
 use Rattle.pcc_gate.proofs.Kept.{known-more, ids-more, ctx-more, id-more, trees-same, trees-drop}
 use Rattle.pcc_gate.proofs.clauses.+first_formless.Goals as goal
@@ -26,6 +25,6 @@ returns-clause-exact t c =
     let split = drop_more invs c.args.from d (omega arith) in
     let later = trees-same o u (drop n invs) grown (trees-drop o invs n c.requires.known) in
     let is : has_form (tree_at o pair.1) ≡ true = sym c.in_ok-has_form.ensures.exact ∙ c.if-not-branch.false in
-    let next : formless c.args.from (inv_trees o (drop c.args.from invs)) ≡ formless n (inv_trees u (drop n invs)) =
-    ap (λ z. formless c.args.from (inv_trees o z)) split ∙ ap (λ b. cond b (formless (suc c.args.from) (inv_trees o (drop n invs))) (Some c.args.from)) is ∙ (λ i. formless (one i) (later i)) in
+    let next : formless c.args.from (id_trees o (drop c.args.from invs)) ≡ formless n (id_trees u (drop n invs)) =
+    ap (λ z. formless c.args.from (id_trees o z)) split ∙ ap (λ b. cond b (formless (suc c.args.from) (id_trees o (drop n invs))) (Some c.args.from)) is ∙ (λ i. formless (one i) (later i)) in
     subst (λ z. IfOk c.first_formless.result (λ found. found ≡ z)) (sym next) c.first_formless.ensures.exact

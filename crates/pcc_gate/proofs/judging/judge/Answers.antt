@@ -1,7 +1,7 @@
 use Rattle.std.proofs.Common.{◌≡◌, ℕ, List, length, map, true, Err, option_map, refl, sym, ◌∙◌, ap, subst}
 use Rattle.alpha_cfg.specs.Cuts.{AreFlags}
-use Rattle.term_table.specs.Table.{tree_at}
-use Rattle.proof_container.specs.Views.{contents_of, inv_trees}
+use Rattle.term_table.specs.Table.{tree_at, id_trees}
+use Rattle.proof_container.specs.Views.{contents_of}
 use Rattle.vcgen.specs.Answers.{AreLowInvs}
 use Rattle.pcc_gate.specs.Answers.{IsGateAnswer}
 use Rattle.pcc_gate.specs.Inside.Acceptance.{IsProved, IsProofAnswer}
@@ -26,7 +26,7 @@ pub proved-requires-clause-marks : goal.proved-requires-clause-marks
 proved-requires-clause-marks c =
     let k = c.args.passed.container in
     let cut = c.args.passed.cut in
-    let same : map (λ p. p.0) (inv_trees k.table k.invs.items) ≡ map (λ p. p.0) c.deref.result.now = keys k.table k.invs.items ∙ ap (λ (l : List (ℕ × ℕ)). map (λ (p : ℕ × ℕ). p.0) l) (sym c.deref.ensures.value) in
+    let same : map (λ p. p.0) (id_trees k.table k.invs.items) ≡ map (λ p. p.0) c.deref.result.now = keys k.table k.invs.items ∙ ap (λ (l : List (ℕ × ℕ)). map (λ (p : ℕ × ℕ). p.0) l) (sym c.deref.ensures.value) in
     subst (λ l. AreFlags l (length cut.code) cut.marks) same c.requires.passes.annotated
 
 pub returns-in_err-proved : goal.returns-in_err-proved
@@ -36,7 +36,7 @@ returns-in_err-proved c =
     let found = c.in_ok-proof.ensures in
     let t = p.container.table in
     let tree = tree_at t c.in_ok-proof.proof in
-    let answer = subst (λ l. IsProofAnswer c.args.policy.now p.cut.code (inv_trees t l) tree (Err e)) c.deref.ensures.value c.in_err-proved.ensures.answer in
+    let answer = subst (λ l. IsProofAnswer c.args.policy.now p.cut.code (id_trees t l) tree (Err e)) c.deref.ensures.value c.in_err-proved.ensures.answer in
     carries (IsGateAnswer c.args.policy.now c.args.bytes.now) e (gate-judged c.args.policy.now c.args.bytes.now (contents_of p.container) p.cut.code p.cut.marks c.requires.passes tree (ap (option_map (tree_at t)) found.0) found.2 e answer) c.from_residual-in_err-proved.result c.from_residual-in_err-proved.ensures.1
 
 pub invariant_of-result : goal.invariant_of-result
@@ -46,7 +46,7 @@ invariant_of-result c =
     let u = c.proved.new.table in
     let found = c.in_ok-proof.ensures in
     let tree = tree_at t c.in_ok-proof.proof in
-    let h = subst (λ l. proves tree (vc_of c.args.policy.now p.cut.code (inv_trees t l)) ≡ true) c.deref.ensures.value c.in_ok-proved.ensures.answer in
+    let h = subst (λ l. proves tree (vc_of c.args.policy.now p.cut.code (id_trees t l)) ≡ true) c.deref.ensures.value c.in_ok-proved.ensures.answer in
     let a = gate-accepts c.args.policy.now c.args.bytes.now (contents_of p.container) p.cut.code p.cut.marks c.requires.passes tree (ap (option_map (tree_at t)) found.0) found.2 h in
     subst (λ k. IsProved k p.cut u p.container.invs.items) (sym c.in_ok-policy.ensures.exact)
     (proved-by c.truth_laws.ensures.sound c.args.policy.now c.args.bytes.now (contents_of p.container) p.cut t u p.container.invs.items c.in_ok-proved.ensures.extends c.requires.held.known.0 refl a)
@@ -58,7 +58,7 @@ returns c =
     let u = c.proved.new.table in
     let found = c.in_ok-proof.ensures in
     let tree = tree_at t c.in_ok-proof.proof in
-    let h = subst (λ l. proves tree (vc_of c.args.policy.now p.cut.code (inv_trees t l)) ≡ true) c.deref.ensures.value c.in_ok-proved.ensures.answer in
+    let h = subst (λ l. proves tree (vc_of c.args.policy.now p.cut.code (id_trees t l)) ≡ true) c.deref.ensures.value c.in_ok-proved.ensures.answer in
     let given = ap (option_map (tree_at t)) found.0 in
     record {
       contents = contents_of p.container;

@@ -1,6 +1,5 @@
 use Rattle.std.proofs.Common.{◌≡◌, Some, sym, ◌∙◌, ap}
-use Rattle.term_table.specs.Table.{Extends, ctx_of}
-use Rattle.proof_container.specs.Views.{inv_trees}
+use Rattle.term_table.specs.Table.{Extends, ctx_of, id_trees}
 use Rattle.pcc_gate.specs.declared.refusal.Refusal.TheVariants as refusal
 use Rattle.pcc_gate.specs.First.{formless, refused_by}
 use Rattle.pcc_gate.proofs.Kept.{grown-twice, known-more, ids-more, ctx-more, trees-same}
@@ -31,7 +30,7 @@ returns-in-Some-clause-answer c =
     let v = c.intern.new.self in
     let invs = c.args.invs.now in
     let grown : Extends o v = grown-twice o c.machine_types.new.table v c.in_ok-context.ensures.extends c.in_ok-form.ensures.extends in
-    let found : formless 0 (inv_trees o invs) ≡ Some c.in-Some.inv = ap (formless 0) (trees-same o v invs grown c.requires.known) ∙ sym c.in_ok-inv.ensures.exact ∙ c.in-Some.is in
+    let found : formless 0 (id_trees o invs) ≡ Some c.in-Some.inv = ap (formless 0) (trees-same o v invs grown c.requires.known) ∙ sym c.in_ok-inv.ensures.exact ∙ c.in-Some.is in
     λ next. ap (λ x. refused_by refusal.InvNotForm x next) found
 
 pub returns-clause-answer : goal.returns-clause-answer

@@ -2,9 +2,9 @@ use Rattle.std.proofs.Common.{◌≡◌, ◌<◌, ◌/◌, ℕ, All, List, lengt
 use Rattle.std.specs.List.Sorted.{IsStrictlyIncreasing}
 use Rattle.alpha_cfg.specs.CodeBytes.{EncodesCode}
 use Rattle.alpha_cfg.specs.Flow.{IsCode}
-use Rattle.term_table.specs.Table.{Extends}
+use Rattle.term_table.specs.Table.{Extends, id_trees}
 use Rattle.proof_container.specs.Contents.{Contents}
-use Rattle.proof_container.specs.Views.{contents_of, inv_trees}
+use Rattle.proof_container.specs.Views.{contents_of}
 use Rattle.pcc_gate.specs.Inside.Stages.{Refuses, with_roots, IsShaped}
 use Rattle.pcc_gate.specs.Inside.Passed.{IsRestAnswer}
 use Rattle.pcc_gate.specs.First.{first_shape}
@@ -24,8 +24,8 @@ shaped-requires-clause-rising c =
     let t = c.args.container.table in
     let ps : List (ℕ × ℕ) = c.args.container.invs.items in
     let n : ℕ = length c.args.container.code.now / 4 in
-    let same : map (λ p. p.0) (inv_trees t ps) ≡ map (λ p. p.0) c.deref.result.now = keys t ps ∙ ap (λ (l : List (ℕ × ℕ)). map (λ (p : ℕ × ℕ). p.0) l) (sym c.deref.ensures.value) in
-    subst (λ l. IsStrictlyIncreasing l) same (λ k h. key_rises (inv_trees t ps) 0 n k c.requires.contents.rising h)
+    let same : map (λ p. p.0) (id_trees t ps) ≡ map (λ p. p.0) c.deref.result.now = keys t ps ∙ ap (λ (l : List (ℕ × ℕ)). map (λ (p : ℕ × ℕ). p.0) l) (sym c.deref.ensures.value) in
+    subst (λ l. IsStrictlyIncreasing l) same (λ k h. key_rises (id_trees t ps) 0 n k c.requires.contents.rising h)
 
 pub shaped-requires-clause-below : goal.shaped-requires-clause-below
 shaped-requires-clause-below c =
@@ -34,8 +34,8 @@ shaped-requires-clause-below c =
     let n : ℕ = length c.args.container.code.now / 4 in
     let insns = c.in_ok-insns.insns in
     let count : n ≡ length insns = omega (arith, c.in_ok-insns.ensures.1.whole) in
-    let same : map (λ p. p.0) (inv_trees t ps) ≡ map (λ p. p.0) c.deref.result.now = keys t ps ∙ ap (λ (l : List (ℕ × ℕ)). map (λ (p : ℕ × ℕ). p.0) l) (sym c.deref.ensures.value) in
-    let all : All (λ j. j < length insns) (map (λ p. p.0) (inv_trees t ps)) = λ k d h. subst (λ w. slice_index_or (map (λ p. p.0) (inv_trees t ps)) k d < w) count (key_below (inv_trees t ps) 0 n k d c.requires.contents.rising h) in
+    let same : map (λ p. p.0) (id_trees t ps) ≡ map (λ p. p.0) c.deref.result.now = keys t ps ∙ ap (λ (l : List (ℕ × ℕ)). map (λ (p : ℕ × ℕ). p.0) l) (sym c.deref.ensures.value) in
+    let all : All (λ j. j < length insns) (map (λ p. p.0) (id_trees t ps)) = λ k d h. subst (λ w. slice_index_or (map (λ p. p.0) (id_trees t ps)) k d < w) count (key_below (id_trees t ps) 0 n k d c.requires.contents.rising h) in
     subst (λ l. All (λ j. j < length insns) l) same all
 
 pub returns-in_err-cut-clause-answer : goal.returns-in_err-cut-clause-answer

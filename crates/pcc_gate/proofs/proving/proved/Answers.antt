@@ -1,11 +1,11 @@
 use Rattle.std.proofs.Common.{◌≡◌, [], refl, sym, subst}
-use Rattle.term_table.specs.Table.{tree_at}
+use Rattle.term_table.specs.Table.{tree_at, id_trees}
 use Rattle.hereditary_subst.specs.Simples.{IsResult}
 use Rattle.lf_signature.specs.Sigma1.{declared}
 use Rattle.lf_signature.specs.Terms.{pf}
 use Rattle.lf_signature.specs.Typing.{Checks}
 use Rattle.lf_truth.proofs.Proved.{one-formula}
-use Rattle.vcgen.specs.Encoded.{inv_trees, AreForms, EncodesCondition}
+use Rattle.vcgen.specs.Encoded.{AreForms, EncodesCondition}
 use Rattle.pcc_gate.specs.First.{vc_of}
 use Rattle.pcc_gate.proofs.First.{judged-true, vc_of-encodes, proves-false}
 use Rattle.pcc_gate.proofs.Kept.{low-more, low-same}
@@ -25,7 +25,7 @@ returns-in_default-clause-answer c =
     let o = c.args.table.now in
     let u = c.proved_formula_with.new.table in
     let proof = tree_at o c.args.proof in
-    let vc = vc_of c.args.policy.now c.args.cut.now.code (inv_trees o c.args.invs.now) in
+    let vc = vc_of c.args.policy.now c.args.cut.now.code (id_trees o c.args.invs.now) in
     let none = subst (λ z. IsResult u (λ g. Checks declared [] proof (pf g)) z) c.in_default.is c.in_ok-formula.ensures.exact in
     (proves-false proof vc (none vc), refl)
 
@@ -36,15 +36,15 @@ returns-then-not-equal-clause-answer c =
     let policy = c.args.policy.now in
     let code = c.args.cut.now.code in
     let proof = tree_at o c.args.proof in
-    let invs = inv_trees o c.args.invs.now in
+    let invs = id_trees o c.args.invs.now in
     let vc = vc_of policy code invs in
     let found = tree_at u c.in-Some.formula in
     let has = subst (λ z. IsResult u (λ g. Checks declared [] proof (pf g)) z) c.in-Some.is c.in_ok-formula.ensures.exact in
     let same = low-same o u c.args.invs.now c.requires.invs c.in_ok-formula.ensures.extends in
-    let is : EncodesCondition policy code (inv_trees u c.args.invs.now) vc = subst (λ l. EncodesCondition policy code l vc) same
+    let is : EncodesCondition policy code (id_trees u c.args.invs.now) vc = subst (λ l. EncodesCondition policy code l vc) same
     (vc_of-encodes policy code invs c.requires.forms) in
     let other : Checks declared [] proof (pf vc) → ⊥ =
-    λ k. not-both _ c.if-not-equal.true (c.in-Ok.ensures.exact.1.1 (subst (λ z. EncodesCondition policy code (inv_trees u c.args.invs.now) z)
+    λ k. not-both _ c.if-not-equal.true (c.in-Ok.ensures.exact.1.1 (subst (λ z. EncodesCondition policy code (id_trees u c.args.invs.now) z)
     (one-formula proof vc found k has.1) is)) in
     (proves-false proof vc other, refl)
 
@@ -55,7 +55,7 @@ returns-clause-answer c =
     let policy = c.args.policy.now in
     let code = c.args.cut.now.code in
     let proof = tree_at o c.args.proof in
-    let invs = inv_trees o c.args.invs.now in
+    let invs = id_trees o c.args.invs.now in
     let found = tree_at u c.in-Some.formula in
     let has = subst (λ z. IsResult u (λ g. Checks declared [] proof (pf g)) z) c.in-Some.is c.in_ok-formula.ensures.exact in
     let same = low-same o u c.args.invs.now c.requires.invs c.in_ok-formula.ensures.extends in

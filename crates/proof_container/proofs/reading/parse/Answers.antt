@@ -2,10 +2,9 @@ use Rattle.std.proofs.Common.{rules, ◌≡◌, ◌+◌, ◌*◌, ℕ, List, len
 use Rattle.std.specs.Option.{option_map}
 use Rattle.std.proofs.lemmas.List.{length-map}
 use Rattle.term_table.specs.Tree.{Tree}
-use Rattle.term_table.specs.Table.{TableView, tree_at}
+use Rattle.term_table.specs.Table.{TableView, tree_at, id_trees}
 use Rattle.proof_container.specs.Contents.{Contents}
 use Rattle.proof_container.specs.Decoding.{decoded_head, decoded_entries, decoded_invs, decoded_proof, decoded_end}
-use Rattle.proof_container.specs.Views.{inv_trees}
 use Rattle.proof_container.proofs.Whole.{parts_parsed, parsed_order}
 use Rattle.proof_container.proofs.reading.parse.Goals as goal
 
@@ -17,7 +16,7 @@ returns-clause-canonical c =
     let policy = c.in_ok-head.head.policy in
     let words = c.in_ok-head.head.words in
     let next = c.entries.new.fields.read in
-    let invs : List (ℕ × Tree) = inv_trees table c.in_ok-invs.invs.items in
+    let invs : List (ℕ × Tree) = id_trees table c.in_ok-invs.invs.items in
     let proof = option_map (tree_at table) c.in_ok-proof.proof in
     let made : Contents = record { policy = policy; code = slice_range bytes 16 (16 + 4 * words); invs = invs; proof = proof } in
     -- each part was read of the same bytes

@@ -1,11 +1,10 @@
 use Rattle.std.proofs.Common.{◌≡◌, IfOk, length, ◌∙◌, ap, subst}
-use Rattle.term_table.specs.Table.{tree_at, Extends}
+use Rattle.term_table.specs.Table.{tree_at, Extends, id_trees}
 use Rattle.hereditary_subst.proofs.Rows.{grows_more, memo-more}
 use Rattle.lf_encode.specs.PutTree.{machine_terms_at}
 use Rattle.lf_encode.proofs.KeptRows.{ready-same}
 use Rattle.lf_signature.specs.Nodes.{IsIdOf}
 use Rattle.lf_signature.specs.Terms.{and_term, imp_term}
-use Rattle.vcgen.specs.Encoded.{inv_trees}
 use Rattle.vcgen.specs.Inside.WalkTree.{start_terms, walked, closed_term, part_terms}
 use Rattle.vcgen.proofs.Walking.{program-more, walking-more, invs-same, walk-same}
 use Rattle.vcgen.proofs.condition.condition_of.Goals as goal
@@ -42,13 +41,13 @@ returns-clause-id c =
     let begun : Extends o w = grows_more o s w c.in_ok-start.ensures.extends c.in_ok-walked.ensures.extends in
     let grown : Extends o p = grows_more o w p begun c.in_ok-entry.ensures.extends in
     let pre : tree_at w c.args.pre ≡ tree_at o c.args.pre = begun.same c.args.pre c.requires.pre in
-    let walk : tree_at w c.in_ok-walked.walked ≡ walked it.code.now (inv_trees o it.invs.now) post (length it.code.now) 0 start_terms =
+    let walk : tree_at w c.in_ok-walked.walked ≡ walked it.code.now (id_trees o it.invs.now) post (length it.code.now) 0 start_terms =
     c.in_ok-walked.ensures.id.is
     ∙ walk-same o s it.code.now it.invs.now it.post c.count-count.result 0 (machine_terms_at s c.in_ok-start.start.regs c.in_ok-start.start.memory) start_terms c.requires.program c.in_ok-start.ensures.extends c.in_ok-start.ensures.terms
-    ∙ ap (λ n. walked it.code.now (inv_trees o it.invs.now) post n 0 start_terms) c.count-count.ensures.value in
-    let entry : tree_at r c.in_ok-entry.entry ≡ closed_term (imp_term (tree_at o c.args.pre) (walked it.code.now (inv_trees o it.invs.now) post (length it.code.now) 0 start_terms)) =
+    ∙ ap (λ n. walked it.code.now (id_trees o it.invs.now) post n 0 start_terms) c.count-count.ensures.value in
+    let entry : tree_at r c.in_ok-entry.entry ≡ closed_term (imp_term (tree_at o c.args.pre) (walked it.code.now (id_trees o it.invs.now) post (length it.code.now) 0 start_terms)) =
     c.in_ok-rest.ensures.extends.same c.in_ok-entry.entry c.in_ok-entry.ensures.id.known ∙ c.in_ok-entry.ensures.id.is ∙ (λ i. closed_term (imp_term (pre i) (walk i))) in
-    let rest : tree_at r c.in_ok-rest.rest ≡ part_terms it.code.now (inv_trees o it.invs.now) post (inv_trees o it.invs.now) =
+    let rest : tree_at r c.in_ok-rest.rest ≡ part_terms it.code.now (id_trees o it.invs.now) post (id_trees o it.invs.now) =
     let all = invs-same o p it.invs.now c.requires.program.invs grown in
     let end = grown.same it.post c.requires.program.post in
     c.in_ok-rest.ensures.id.is ∙ (λ i. part_terms it.code.now (all i) (end i) (all i)) in

@@ -5,7 +5,8 @@ use Rattle.formula_tree.specs.Substitution.{subst_form}
 use Rattle.lf_encode.specs.Encoding.{form_encoding}
 use Rattle.lf_encode.specs.Contexts.{machine_names}
 use Rattle.vcgen.specs.Conditions.{condition}
-use Rattle.vcgen.specs.Encoded.{annotated, inv_trees, EncodesCondition}
+use Rattle.term_table.specs.Table.{id_trees}
+use Rattle.vcgen.specs.Encoded.{annotated, EncodesCondition}
 use Rattle.vcgen.specs.Inside.WalkTree.{condition_term}
 use Rattle.vcgen.proofs.WalkTrees.{condition_term-is}
 use Rattle.vcgen.proofs.Encodings.{encoding-exists}
@@ -21,7 +22,7 @@ pub returns-clause-exact : goal.returns-clause-exact
 returns-clause-exact c =
     let policy = c.args.policy.now in
     let code = c.args.cut.now.code in
-    let invs = inv_trees c.args.table.now c.args.invs.now in
+    let invs = id_trees c.args.table.now c.args.invs.now in
     let has : EncodesCondition policy code invs _ = (encoding-exists policy code invs c.requires.forms).1 in
     let term : condition_term code invs (form_encoding (subst_form (pre_of policy) machine_names)) (form_encoding (subst_form (post_of policy) machine_names)) ≡ form_encoding (condition (annotated policy code has.formulas)) =
     condition_term-is code invs has.formulas (pre_of policy) (post_of policy) has.encoded (pre-over policy) (post-over policy) in

@@ -1,11 +1,10 @@
 use Rattle.std.proofs.Common.{◌≡◌, ◌↔◌, ◌+◌, ℕ, IsTrue, IfOk, length, drop, slice_index_or, sym, ◌∙◌, subst, arith}
 use Rattle.std.proofs.lemmas.List.{drop_more}
-use Rattle.term_table.specs.Table.{IsKnown, tree_at, Extends}
+use Rattle.term_table.specs.Table.{IsKnown, tree_at, Extends, id_trees}
 use Rattle.lf_encode.proofs.KeptRows.{ready-same}
 use Rattle.lf_encode.proofs.Comparisons.{ok-by-second, answer-of}
 use Rattle.lf_signature.specs.declared.numbers.TheConstants.{AND}
 use Rattle.lf_signature.specs.Terms.{app2, imp_term}
-use Rattle.vcgen.specs.Encoded.{inv_trees}
 use Rattle.vcgen.specs.Inside.Goals.{AreSides}
 use Rattle.vcgen.specs.Inside.WalkTree.{start_terms, walked_from, closed_term, part_terms}
 use Rattle.vcgen.proofs.Walking.{invs-same}
@@ -38,11 +37,11 @@ returns-clause-exact t c =
     let goal = tree_at o c.args.goal in
     let grown : Extends o u = c.in_ok-first.ensures.extends in
     let h = subst (λ z. AreSides (app2 AND) o goal z) c.in-Some.is c.sides.ensures in
-    let invs = inv_trees o p.invs.now in
+    let invs = id_trees o p.invs.now in
     let later = drop (c.args.from + 1) p.invs.now in
     let here = closed_term (imp_term (tree_at o pair.1) (walked_from p.code.now invs post pair.0 start_terms)) in
-    let parts = part_terms p.code.now invs post (inv_trees o later) in
-    let rest : part_terms p.code.now (inv_trees u p.invs.now) (tree_at u p.post) (inv_trees u later) ≡ parts =
+    let parts = part_terms p.code.now invs post (id_trees o later) in
+    let rest : part_terms p.code.now (id_trees u p.invs.now) (tree_at u p.post) (id_trees u later) ≡ parts =
     let all = invs-same o u p.invs.now c.requires.walking.program.invs grown in
     let few = invs-same o u later (invs-drop o p.invs.now (c.args.from + 1) c.requires.walking.program.invs) grown in
     let end = grown.same p.post c.requires.walking.program.post in
@@ -52,4 +51,4 @@ returns-clause-exact t c =
     let both = ok-by-second (app2 AND) (app2-one AND) goal (tree_at o c.in-Some.parts.first) (tree_at o c.in-Some.parts.second) here parts h.2
     c.in_ok-first.first c.are_inv_parts.result c.in_ok-first.ensures.exact c.if-not-first.false second in
     let split = drop_more p.invs.now c.args.from d (omega arith) in
-    subst (λ z. IfOk c.are_inv_parts.result (λ b. IsTrue b ↔ (goal ≡ part_terms p.code.now invs post (inv_trees o z)))) (sym split) both
+    subst (λ z. IfOk c.are_inv_parts.result (λ b. IsTrue b ↔ (goal ≡ part_terms p.code.now invs post (id_trees o z)))) (sym split) both

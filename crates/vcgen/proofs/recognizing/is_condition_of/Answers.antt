@@ -1,11 +1,10 @@
 use Rattle.std.proofs.Common.{◌≡◌, length, ◌∙◌, subst}
-use Rattle.term_table.specs.Table.{tree_at, Extends}
+use Rattle.term_table.specs.Table.{tree_at, Extends, id_trees}
 use Rattle.hereditary_subst.proofs.Rows.{grows_more, memo-more}
 use Rattle.lf_encode.proofs.KeptRows.{ready-same}
 use Rattle.lf_encode.proofs.Comparisons.{apart-first, ok-by-second, answer-of, one-answer}
 use Rattle.lf_signature.specs.declared.numbers.TheConstants.{AND}
 use Rattle.lf_signature.specs.Terms.{app2, imp_term}
-use Rattle.vcgen.specs.Encoded.{inv_trees}
 use Rattle.vcgen.specs.Inside.Goals.{AreSides}
 use Rattle.vcgen.specs.Inside.WalkTree.{start_terms, walked, closed_term, part_terms}
 use Rattle.vcgen.proofs.Walking.{program-more, invs-same}
@@ -31,13 +30,13 @@ returns-then-not-entered-clause-exact c =
     let goal = tree_at o c.args.goal in
     let h = subst (λ z. AreSides (app2 AND) o goal z) c.in-Some.is c.sides.ensures in
     let begun : Extends o s = c.in_ok-start.ensures.extends in
-    let entry = closed_term (imp_term (tree_at o c.args.pre) (walked it.code.now (inv_trees o it.invs.now) (tree_at o it.post) (length it.code.now) 0
+    let entry = closed_term (imp_term (tree_at o c.args.pre) (walked it.code.now (id_trees o it.invs.now) (tree_at o it.post) (length it.code.now) 0
     start_terms)) in
-    let parts = part_terms it.code.now (inv_trees o it.invs.now) (tree_at o it.post) (inv_trees o it.invs.now) in
+    let parts = part_terms it.code.now (id_trees o it.invs.now) (tree_at o it.post) (id_trees o it.invs.now) in
     let all = invs-same o s it.invs.now c.requires.program.invs begun in
     let end = begun.same it.post c.requires.program.post in
     let pre = begun.same c.args.pre c.requires.pre in
-    let made : closed_term (imp_term (tree_at s c.args.pre) (walked it.code.now (inv_trees s it.invs.now) (tree_at s it.post) (length it.code.now) 0
+    let made : closed_term (imp_term (tree_at s c.args.pre) (walked it.code.now (id_trees s it.invs.now) (tree_at s it.post) (length it.code.now) 0
     start_terms)) ≡ entry =
     λ i. closed_term (imp_term (pre i) (walked it.code.now (all i) (end i) (length it.code.now) 0 start_terms)) in
     let first = one-answer c.in_ok-entered.entered (tree_at s c.in-Some.parts.first) (tree_at o c.in-Some.parts.first) _ entry
@@ -60,18 +59,18 @@ returns-clause-exact c =
     let h = subst (λ z. AreSides (app2 AND) o goal z) c.in-Some.is c.sides.ensures in
     let begun : Extends o s = c.in_ok-start.ensures.extends in
     let grown : Extends o u = grows_more o s u begun c.in_ok-entered.ensures.extends in
-    let entry = closed_term (imp_term (tree_at o c.args.pre) (walked it.code.now (inv_trees o it.invs.now) (tree_at o it.post) (length it.code.now) 0
+    let entry = closed_term (imp_term (tree_at o c.args.pre) (walked it.code.now (id_trees o it.invs.now) (tree_at o it.post) (length it.code.now) 0
     start_terms)) in
-    let parts = part_terms it.code.now (inv_trees o it.invs.now) (tree_at o it.post) (inv_trees o it.invs.now) in
+    let parts = part_terms it.code.now (id_trees o it.invs.now) (tree_at o it.post) (id_trees o it.invs.now) in
     let all = invs-same o s it.invs.now c.requires.program.invs begun in
     let end = begun.same it.post c.requires.program.post in
     let pre = begun.same c.args.pre c.requires.pre in
-    let made : closed_term (imp_term (tree_at s c.args.pre) (walked it.code.now (inv_trees s it.invs.now) (tree_at s it.post) (length it.code.now) 0
+    let made : closed_term (imp_term (tree_at s c.args.pre) (walked it.code.now (id_trees s it.invs.now) (tree_at s it.post) (length it.code.now) 0
     start_terms)) ≡ entry =
     λ i. closed_term (imp_term (pre i) (walked it.code.now (all i) (end i) (length it.code.now) 0 start_terms)) in
     let first = one-answer c.in_ok-entered.entered (tree_at s c.in-Some.parts.first) (tree_at o c.in-Some.parts.first) _ entry
     (begun.same c.in-Some.parts.first h.0) made c.in_ok-entered.ensures.exact in
-    let later : part_terms it.code.now (inv_trees u it.invs.now) (tree_at u it.post) (inv_trees u it.invs.now) ≡ parts =
+    let later : part_terms it.code.now (id_trees u it.invs.now) (tree_at u it.post) (id_trees u it.invs.now) ≡ parts =
     let each = invs-same o u it.invs.now c.requires.program.invs grown in
     let last = grown.same it.post c.requires.program.post in
     λ i. part_terms it.code.now (each i) (last i) (each i) in

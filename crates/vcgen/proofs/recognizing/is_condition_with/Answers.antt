@@ -1,14 +1,14 @@
 use Rattle.std.proofs.Common.{◌≡◌, ◌<◌, length, slice_index_or, refl, sym, ◌∙◌, subst, arith}
 use Rattle.policy_set.specs.Policies.{pre_of, post_of}
 use Rattle.policy_set.proofs.Closed.{pre-over, post-over}
-use Rattle.term_table.specs.Table.{tree_at}
+use Rattle.term_table.specs.Table.{tree_at, id_trees}
 use Rattle.formula_tree.specs.Substitution.{subst_form}
 use Rattle.lf_encode.specs.Encoding.{form_encoding}
 use Rattle.lf_encode.specs.Contexts.{machine_context, machine_names, encoding_in}
 use Rattle.lf_encode.proofs.MachineContext.{encoding-machine}
 use Rattle.lf_encode.proofs.Comparisons.{one-answer}
 use Rattle.vcgen.specs.Conditions.{condition}
-use Rattle.vcgen.specs.Encoded.{annotated, inv_trees, EncodesCondition}
+use Rattle.vcgen.specs.Encoded.{annotated, EncodesCondition}
 use Rattle.vcgen.specs.Inside.WalkTree.{condition_term}
 use Rattle.vcgen.proofs.WalkTrees.{condition_term-is}
 use Rattle.vcgen.proofs.Encodings.{encoding-exists, encoding-unique}
@@ -24,7 +24,7 @@ pub returns-clause-exact : goal.returns-clause-exact
 returns-clause-exact c =
     let policy = c.args.policy.now in
     let code = c.args.cut.now.code in
-    let invs = inv_trees c.args.table.now c.args.invs.now in
+    let invs = id_trees c.args.table.now c.args.invs.now in
     let formula = tree_at c.args.table.now c.args.formula in
     let has : EncodesCondition policy code invs _ = (encoding-exists policy code invs c.requires.forms).1 in
     let whole = form_encoding (condition (annotated policy code has.formulas)) in

@@ -1,9 +1,8 @@
 use Rattle.std.proofs.Common.{◌≡◌, length, refl, subst}
-use Rattle.term_table.specs.Table.{tree_at}
+use Rattle.term_table.specs.Table.{tree_at, id_trees}
 use Rattle.lf_encode.specs.PutTree.{machine_terms_at}
 use Rattle.lf_encode.proofs.Comparisons.{apart-first, ok-by-second, answer-of}
 use Rattle.lf_signature.specs.Terms.{imp_term}
-use Rattle.vcgen.specs.Encoded.{inv_trees}
 use Rattle.vcgen.specs.Inside.Goals.{AreSides}
 use Rattle.vcgen.specs.Inside.WalkTree.{start_terms, walked, closed_term}
 use Rattle.vcgen.proofs.Sides.{closed-one}
@@ -13,7 +12,7 @@ pub returns-then-not-same-clause-exact : goal.returns-then-not-same-clause-exact
 returns-then-not-same-clause-exact c =
     let o = c.args.table.now in
     let p = c.args.program.now in
-    let walk = walked p.code.now (inv_trees o p.invs.now) (tree_at o p.post) (length p.code.now) 0 start_terms in
+    let walk = walked p.code.now (id_trees o p.invs.now) (tree_at o p.post) (length p.code.now) 0 start_terms in
     let h = subst (λ z. AreSides (λ a b. closed_term (imp_term a b)) o (tree_at o c.args.goal) z) c.in-Some.is c.closed_sides.ensures in
     apart-first (λ a b. closed_term (imp_term a b)) closed-one (tree_at o c.args.goal) (tree_at o c.in-Some.parts.first) (tree_at o c.in-Some.parts.second)
     (tree_at o c.args.pre) walk h.2
@@ -24,7 +23,7 @@ returns-clause-exact c =
     let o = c.args.table.now in
     let p = c.args.program.now in
     let terms = machine_terms_at o c.args.start.now.regs c.args.start.now.memory in
-    let walk = walked p.code.now (inv_trees o p.invs.now) (tree_at o p.post) in
+    let walk = walked p.code.now (id_trees o p.invs.now) (tree_at o p.post) in
     let h = subst (λ z. AreSides (λ a b. closed_term (imp_term a b)) o (tree_at o c.args.goal) z) c.in-Some.is c.closed_sides.ensures in
     let same : walk c.count-count.result 0 terms ≡ walk (length p.code.now) 0 start_terms = λ i. walk (c.count-count.ensures.value i) 0 (c.requires.start i)
     in

@@ -1,10 +1,9 @@
 use Rattle.std.proofs.Common.{◌≡◌, ℕ, length, slice_get, refl, subst}
 use Rattle.term_table.specs.Tree.{Tree}
-use Rattle.term_table.specs.Table.{tree_at}
+use Rattle.term_table.specs.Table.{tree_at, id_trees}
 use Rattle.lf_encode.specs.PutTree.{MachineTerms, machine_terms_at}
 use Rattle.lf_encode.proofs.Comparisons.{apart-first, ok-by-second, answer-of}
 use Rattle.lf_signature.specs.Terms.{imp_term}
-use Rattle.vcgen.specs.Encoded.{inv_trees}
 use Rattle.vcgen.specs.Inside.Goals.{AreSides}
 use Rattle.vcgen.specs.Inside.WalkTree.{start_terms, walked, walked_at, walked_from, closed_term}
 use Rattle.vcgen.proofs.Sides.{closed-one}
@@ -14,7 +13,7 @@ pub returns-then-not-same-clause-exact : goal.returns-then-not-same-clause-exact
 returns-then-not-same-clause-exact c =
     let o = c.args.table.now in
     let p = c.args.program.now in
-    let walk = walked_from p.code.now (inv_trees o p.invs.now) (tree_at o p.post) c.args.index start_terms in
+    let walk = walked_from p.code.now (id_trees o p.invs.now) (tree_at o p.post) c.args.index start_terms in
     let h = subst (λ z. AreSides (λ a b. closed_term (imp_term a b)) o (tree_at o c.args.goal) z) c.in-Some.is c.closed_sides.ensures in
     apart-first (λ a b. closed_term (imp_term a b)) closed-one (tree_at o c.args.goal) (tree_at o c.in-Some.parts.first) (tree_at o c.in-Some.parts.second)
     (tree_at o c.args.inv) walk h.2
@@ -26,7 +25,7 @@ returns-clause-exact c =
     let p = c.args.program.now in
     let terms = machine_terms_at o c.args.start.now.regs c.args.start.now.memory in
     let post = tree_at o p.post in
-    let walk : ℕ → MachineTerms → Tree = λ n s. walked_at (walked p.code.now (inv_trees o p.invs.now) post n) post c.args.index
+    let walk : ℕ → MachineTerms → Tree = λ n s. walked_at (walked p.code.now (id_trees o p.invs.now) post n) post c.args.index
     (slice_get p.code.now c.args.index) s in
     let h = subst (λ z. AreSides (λ a b. closed_term (imp_term a b)) o (tree_at o c.args.goal) z) c.in-Some.is c.closed_sides.ensures in
     let same : walk c.count-count.result terms ≡ walk (length p.code.now) start_terms = λ i. walk (c.count-count.ensures.value i) (c.requires.start i) in

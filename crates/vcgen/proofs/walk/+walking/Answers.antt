@@ -1,12 +1,11 @@
 use Rattle.std.proofs.Common.{◌≡◌, ◌+◌, IfOk, Some, length, slice_get, sym, ◌∙◌, subst, arith}
 use Rattle.std.proofs.lemmas.Result.{IfOk-weaker}
-use Rattle.term_table.specs.Table.{IsKnown, tree_at, Extends}
+use Rattle.term_table.specs.Table.{IsKnown, tree_at, Extends, id_trees}
 use Rattle.hereditary_subst.proofs.Rows.{grows_more, memo-more}
 use Rattle.lf_signature.specs.Nodes.{IsIdOf}
 use Rattle.lf_signature.specs.Terms.{falsity, and_term, imp_term}
 use Rattle.lf_encode.specs.PutTree.{machine_terms_at, put_tree}
 use Rattle.lf_encode.proofs.KeptRows.{ready-more, ready-same, kept-ready}
-use Rattle.vcgen.specs.Encoded.{inv_trees}
 use Rattle.vcgen.specs.Inside.WalkTree.{InsnEffect, Computed, Access, Split, Jump, Return, insn_effect, walked}
 use Rattle.vcgen.specs.Inside.Symbols.{IsEffect}
 use Rattle.vcgen.specs.declared.effects.Effect as rust
@@ -27,7 +26,7 @@ walk-returns-then-fuel-eq0-clause-id t c =
     let u = c.intern.new.self in
     let terms = machine_terms_at o c.args.symbols.now.regs c.args.symbols.now.memory in
     let post = tree_at o c.args.program.now.post in
-    let tree = walked c.args.program.now.code.now (inv_trees o c.args.program.now.invs.now) post c.args.fuel c.args.index terms in
+    let tree = walked c.args.program.now.code.now (id_trees o c.args.program.now.invs.now) post c.args.fuel c.args.index terms in
     let spent = walk-spent o c.args.program.now.code.now c.args.program.now.invs.now post c.args.index terms c.args.fuel c.invariant.result c.if-fuel-eq0.true c.invariant.ensures c.in-None.is in
     let s = c.in_ok-intern-in-None.ensures.id in
     record { known = s.0; is = s.1 ∙ sym spent }
@@ -114,7 +113,7 @@ walk_both-returns-clause-id t c =
     let regs = c.args.symbols.now.regs in
     let memory = c.args.symbols.now.memory in
     let terms = machine_terms_at o regs memory in
-    let walk = walked p.code.now (inv_trees o p.invs.now) (tree_at o p.post) c.args.fuel in
+    let walk = walked p.code.now (id_trees o p.invs.now) (tree_at o p.post) c.args.fuel in
     let first : tree_at x c.in_ok-first.first ≡ imp_term (tree_at o c.args.taken.0) (walk c.args.taken.1 terms) =
     let known = c.in_ok-first.ensures.id in
     let there = c.in_ok-onward.ensures.extends.same c.in_ok-there.there c.in_ok-there.ensures.id.known ∙ c.in_ok-there.ensures.id.is in
@@ -199,7 +198,7 @@ walk_from-returns-in-Computed-clause-id t c =
     let effect : InsnEffect = insn_effect c.args.index c.insn-insn.result terms in
     let exact = subst (λ (e : rust.Effect). IsEffect u (length p.code.now) c.args.index e effect) c.in-Computed.is c.in_ok-after.ensures.exact in
     let has = at-computed u (length p.code.now) c.args.index c.in-Computed.after effect exact in
-    let walk = walked p.code.now (inv_trees o p.invs.now) (tree_at o p.post) c.args.fuel in
+    let walk = walked p.code.now (id_trees o p.invs.now) (tree_at o p.post) c.args.fuel in
     let at = walked_at-effect walk (tree_at o p.post) c.args.index (slice_get p.code.now c.args.index) c.insn-insn.result terms (Computed has.0) c.insn-insn.ensures.at has.1 in
     let made = walk-same o u p.code.now p.invs.now p.post c.args.fuel (c.args.index + 1) (machine_terms_at u c.in-Computed.after.regs c.in-Computed.after.memory) has.0 c.requires.walking.program c.in_ok-after.ensures.extends has.3.are in
     subst (λ z. IfOk c.walk_with.result (IsIdOf c.walk_with.new.table z)) (made ∙ sym at) c.walk_with.ensures.id
@@ -213,11 +212,11 @@ walk_from-returns-in-Access-clause-id t c =
     let effect : InsnEffect = insn_effect c.args.index c.insn-insn.result terms in
     let exact = subst (λ (e : rust.Effect). IsEffect u (length p.code.now) c.args.index e effect) c.in-Access.is c.in_ok-after.ensures.exact in
     let has = at-access u (length p.code.now) c.args.index c.in-Access.allowed c.in-Access.after effect exact in
-    let walk = walked p.code.now (inv_trees o p.invs.now) (tree_at o p.post) c.args.fuel in
+    let walk = walked p.code.now (id_trees o p.invs.now) (tree_at o p.post) c.args.fuel in
     let at = walked_at-effect walk (tree_at o p.post) c.args.index (slice_get p.code.now c.args.index) c.insn-insn.result terms (Access has.0 has.1) c.insn-insn.ensures.at has.2 in
     let rest = walk-same o u p.code.now p.invs.now p.post c.args.fuel (c.args.index + 1) (machine_terms_at u c.in-Access.after.regs c.in-Access.after.memory) has.1 c.requires.walking.program c.in_ok-after.ensures.extends has.5.are in
     let allowed : tree_at u c.in-Access.allowed ≡ has.0 = has.4.is in
-    let made : and_term (tree_at u c.in-Access.allowed) (walked p.code.now (inv_trees u p.invs.now) (tree_at u p.post) c.args.fuel (c.args.index + 1) (machine_terms_at u c.in-Access.after.regs c.in-Access.after.memory)) ≡ and_term has.0 (walk (c.args.index + 1) has.1) = λ i. and_term (allowed i) (rest i) in
+    let made : and_term (tree_at u c.in-Access.allowed) (walked p.code.now (id_trees u p.invs.now) (tree_at u p.post) c.args.fuel (c.args.index + 1) (machine_terms_at u c.in-Access.after.regs c.in-Access.after.memory)) ≡ and_term has.0 (walk (c.args.index + 1) has.1) = λ i. and_term (allowed i) (rest i) in
     subst (λ z. IfOk c.walk_behind.result (IsIdOf c.walk_behind.new.table z)) (made ∙ sym at) c.walk_behind.ensures.id
 
 pub walk_from-returns-in-Split-clause-id : goal.walk_from-returns-in-Split-clause-id
@@ -229,14 +228,14 @@ walk_from-returns-in-Split-clause-id t c =
     let effect : InsnEffect = insn_effect c.args.index c.insn-insn.result terms in
     let exact = subst (λ (e : rust.Effect). IsEffect u (length p.code.now) c.args.index e effect) c.in-Split.is c.in_ok-after.ensures.exact in
     let has = at-split u (length p.code.now) c.args.index c.in-Split.taken c.in-Split.passed c.in-Split.target effect exact in
-    let walk = walked p.code.now (inv_trees o p.invs.now) (tree_at o p.post) c.args.fuel in
+    let walk = walked p.code.now (id_trees o p.invs.now) (tree_at o p.post) c.args.fuel in
     let at = walked_at-effect walk (tree_at o p.post) c.args.index (slice_get p.code.now c.args.index) c.insn-insn.result terms (Split has.0 has.1 (Some c.in-Split.target)) c.insn-insn.ensures.at has.2 in
     let same = ready-same o u c.args.symbols.now.regs c.args.symbols.now.memory c.requires.walking.ready c.in_ok-after.ensures.extends in
     let there = walk-same o u p.code.now p.invs.now p.post c.args.fuel c.in-Split.target (machine_terms_at u c.args.symbols.now.regs c.args.symbols.now.memory) terms c.requires.walking.program c.in_ok-after.ensures.extends same in
     let onward = walk-same o u p.code.now p.invs.now p.post c.args.fuel (c.args.index + 1) (machine_terms_at u c.args.symbols.now.regs c.args.symbols.now.memory) terms c.requires.walking.program c.in_ok-after.ensures.extends same in
     let taken : tree_at u c.in-Split.taken ≡ has.0 = has.5.is in
     let passed : tree_at u c.in-Split.passed ≡ has.1 = has.6.is in
-    let later = walked p.code.now (inv_trees u p.invs.now) (tree_at u p.post) c.args.fuel in
+    let later = walked p.code.now (id_trees u p.invs.now) (tree_at u p.post) c.args.fuel in
     let now = machine_terms_at u c.args.symbols.now.regs c.args.symbols.now.memory in
     let made : and_term (imp_term (tree_at u c.in-Split.taken) (later c.in-Split.target now)) (imp_term (tree_at u c.in-Split.passed) (later (c.args.index + 1) now)) ≡ and_term (imp_term has.0 (walk c.in-Split.target terms)) (imp_term has.1 (walk (c.args.index + 1) terms)) =
     λ i. and_term (imp_term (taken i) (there i)) (imp_term (passed i) (onward i)) in
@@ -251,7 +250,7 @@ walk_from-returns-in-Jump-clause-id t c =
     let effect : InsnEffect = insn_effect c.args.index c.insn-insn.result terms in
     let exact = subst (λ (e : rust.Effect). IsEffect u (length p.code.now) c.args.index e effect) c.in-Jump.is c.in_ok-after.ensures.exact in
     let has = at-jump u (length p.code.now) c.args.index c.in-Jump.target effect exact in
-    let walk = walked p.code.now (inv_trees o p.invs.now) (tree_at o p.post) c.args.fuel in
+    let walk = walked p.code.now (id_trees o p.invs.now) (tree_at o p.post) c.args.fuel in
     let at = walked_at-effect walk (tree_at o p.post) c.args.index (slice_get p.code.now c.args.index) c.insn-insn.result terms (Jump (Some c.in-Jump.target)) c.insn-insn.ensures.at has.0 in
     let same = ready-same o u c.args.symbols.now.regs c.args.symbols.now.memory c.requires.walking.ready c.in_ok-after.ensures.extends in
     let made = walk-same o u p.code.now p.invs.now p.post c.args.fuel c.in-Jump.target (machine_terms_at u c.args.symbols.now.regs c.args.symbols.now.memory) terms c.requires.walking.program c.in_ok-after.ensures.extends same in
@@ -266,7 +265,7 @@ walk_from-returns-in-Return-clause-id t c =
     let effect : InsnEffect = insn_effect c.args.index c.insn-insn.result terms in
     let exact = subst (λ (e : rust.Effect). IsEffect u (length p.code.now) c.args.index e effect) c.in-Return.is c.in_ok-after.ensures.exact in
     let has = at-return u (length p.code.now) c.args.index effect exact in
-    let walk = walked p.code.now (inv_trees o p.invs.now) (tree_at o p.post) c.args.fuel in
+    let walk = walked p.code.now (id_trees o p.invs.now) (tree_at o p.post) c.args.fuel in
     let at = walked_at-effect walk (tree_at o p.post) c.args.index (slice_get p.code.now c.args.index) c.insn-insn.result terms (Return) c.insn-insn.ensures.at has in
     let same = ready-same o u c.args.symbols.now.regs c.args.symbols.now.memory c.requires.walking.ready c.in_ok-after.ensures.extends in
     let post = c.in_ok-after.ensures.extends.same p.post c.requires.walking.program.post in

@@ -2,7 +2,7 @@ use Rattle.std.proofs.Common.{rules, ◌≡◌, ℕ, Option, sym, subst}
 use Rattle.std.specs.Bool.{Decides}
 use Rattle.std.specs.BTreeMap.{get}
 use Rattle.std.specs.Ordering.{eq_by_cmp}
-use Rattle.easy_hyps.specs.Inside.Alignments.{IsFoundAlignment, IsAlignment}
+use Rattle.easy_hyps.specs.Alignments.{IsFoundAlignment, IsAlignment}
 use Rattle.easy_hyps.specs.declared.alignments.Entry.{Entry}
 use Rattle.easy_hyps.specs.contracts.alignments.EntryOrd.TheImpl as block
 use Rattle.easy_hyps.specs.contracts.alignments.EntryPartialEq.TheImpl as equality

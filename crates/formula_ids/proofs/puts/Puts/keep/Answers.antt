@@ -6,7 +6,7 @@ use Rattle.std.specs.Map.{lookup}
 use Rattle.formula_ids.specs.declared.puts.Question.{Question}
 use Rattle.formula_ids.specs.contracts.puts.QuestionOrd.TheImpl as block
 use Rattle.formula_ids.specs.contracts.puts.QuestionPartialEq.TheImpl as equality
-use Rattle.formula_ids.specs.Inside.PutRows.{IsPutAt}
+use Rattle.formula_ids.specs.PutRows.{IsPutAt}
 use Rattle.formula_ids.proofs.PutRows.{puts-keep}
 use Rattle.formula_ids.proofs.puts.Puts.keep.Goals as goal
 

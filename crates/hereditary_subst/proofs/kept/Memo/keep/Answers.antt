@@ -6,7 +6,7 @@ use Rattle.std.specs.Map.{lookup}
 use Rattle.hereditary_subst.specs.declared.kept.Question.{Question}
 use Rattle.hereditary_subst.specs.contracts.kept.QuestionOrd.TheImpl as block
 use Rattle.hereditary_subst.specs.contracts.kept.QuestionPartialEq.TheImpl as equality
-use Rattle.hereditary_subst.specs.Inside.Kept.{Says}
+use Rattle.hereditary_subst.specs.Kept.{Says}
 use Rattle.hereditary_subst.proofs.Rows.{memo-keep}
 use Rattle.hereditary_subst.proofs.kept.Memo.keep.Goals as goal
 

@@ -6,7 +6,7 @@ use Rattle.std.specs.Ordering.{eq_by_cmp}
 use Rattle.lf_check.specs.declared.judgements.Question.{Question}
 use Rattle.lf_check.specs.contracts.judgements.QuestionOrd.TheImpl as block
 use Rattle.lf_check.specs.contracts.judgements.QuestionPartialEq.TheImpl as equality
-use Rattle.lf_check.specs.Inside.Kept.{IsJudgement}
+use Rattle.lf_check.specs.Kept.{IsJudgement}
 use Rattle.lf_check.proofs.Rows.{kept-one}
 use Rattle.lf_check.proofs.judgements.Kept.keep.Goals as goal
 

@@ -46,14 +46,14 @@ member (App v r) i = past_of v (member r) i
 member _ i = false
 
 -- each variable of the one set is in the other
-abbrev pub IsWithin : (ℕ → Bool) → (ℕ → Bool) → Type 0
-IsWithin s u = (i : ℕ) → s i ≡ true → u i ≡ true
+abbrev pub IsSubset : (ℕ → Bool) → (ℕ → Bool) → Type 0
+IsSubset s u = (i : ℕ) → s i ≡ true → u i ≡ true
 
 -- the id stands for a set with all variables of both
 pub record IsUnion (t : TableView) (one other : ℕ → Bool) (u : ℕ) : Type 0 where
   pub known : IsKnown t u
-  pub has_one : IsWithin one (member (tree_at t u))
-  pub has_other : IsWithin other (member (tree_at t u))
+  pub has_one : IsSubset one (member (tree_at t u))
+  pub has_other : IsSubset other (member (tree_at t u))
 
 -- the set has each variable that occurs in the tree
 abbrev pub Covers : Tree → Tree → Type 0

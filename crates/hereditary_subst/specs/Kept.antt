@@ -4,7 +4,7 @@ use Rattle.std.specs.BTreeMap.{get}
 use Rattle.term_table.specs.Tree.{Tree, shift, shifted}
 use Rattle.term_table.specs.Subst.{erase, hsub, hsub_type}
 use Rattle.term_table.specs.Table.{TableView, IsKnown, tree_at}
-use Rattle.hereditary_subst.specs.Inside.Heads.{MetIs}
+use Rattle.hereditary_subst.specs.Heads.{MetIs}
 use Rattle.hereditary_subst.specs.declared.kept.Question.{Question}
 use Rattle.hereditary_subst.specs.declared.kept.Question.TheVariants as Q
 use Rattle.hereditary_subst.specs.declared.kept.Row.{Row}

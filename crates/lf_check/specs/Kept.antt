@@ -3,10 +3,10 @@ use Rattle.std.specs.Prelude.{◌≡◌, ℕ, Bool, true, Option, Some}
 use Rattle.std.specs.BTreeMap.{get}
 use Rattle.term_table.specs.Tree.{Tree, Const}
 use Rattle.term_table.specs.Table.{TableView, IsKnown, tree_at}
-use Rattle.hereditary_subst.specs.Inside.Kept.{IsMemo}
+use Rattle.hereditary_subst.specs.Kept.{IsMemo}
 use Rattle.lf_signature.specs.Decide.{synth_of, checks_of, is_type_of}
-use Rattle.lf_check.specs.Inside.Lists.{types_of}
-use Rattle.lf_check.specs.Inside.Uses.{Covers}
+use Rattle.lf_check.specs.Lists.{types_of}
+use Rattle.lf_check.specs.Uses.{Covers}
 use Rattle.lf_check.specs.declared.judgements.Question.{Question}
 use Rattle.lf_check.specs.declared.judgements.Question.TheVariants as Q
 use Rattle.lf_check.specs.declared.judgements.Row.{Row}
