@@ -12,7 +12,6 @@ mod NormalForms
 mod Access
 mod Parts
 mod Laws
-mod Rows
 mod Repeats
 mod RepeatedBounds
 mod RepeatedSearch

@@ -6,10 +6,3 @@ pub mod Goals
 pub mod Parts
 pub mod Access
 pub mod Repeats
-pub mod Worked
-pub mod WorkedReturns
-pub mod WorkedLoads
-pub mod WorkedShapes
-pub mod WorkedForms
-pub mod WorkedBounds
-pub mod WorkedAccess

@@ -8,9 +8,9 @@
 //! Hypotheses are split as they come (`specs/Hypotheses`). All are functions on formulas, which give
 //! the proof as a term (`formula_terms`); they are this project's own. That it is a proof is
 //! `class_laws`; that repeats of hypotheses would change none is `repeat_laws`; that it is the one that
-//! another implementation gives was compared (`worked_rows`).
+//! another implementation gives was compared (`class_rows`).
 #![tactic(auto)]
 
 mod theorems;
 
-pub use theorems::{class_laws, repeat_laws, worked_rows};
+pub use theorems::{class_laws, repeat_laws};

@@ -1,4 +1,4 @@
-//! What the class gives: proofs, and those of another implementation.
+//! What the class gives: proofs, the same ones where hypotheses are repeated.
 
 ghost use Rattle.std.specs.Prelude.{◌≡◌, ◌≤◌, ◌^◌, ◌↔◌, ℕ, List, [], Some, None};
 ghost use Rattle.term_table.specs.Tree.{Tree};
@@ -13,13 +13,6 @@ ghost use Rattle.easy_class.specs.Parts.{conjoined, part_proof, condition_proof,
 ghost use Rattle.easy_class.specs.Hypotheses.{with_new};
 ghost use Rattle.easy_class.specs.Access.{by_all_means};
 ghost use Rattle.easy_class.specs.Repeats.{part_proof_adding, with_repeats};
-ghost use Rattle.easy_class.specs.Worked.{AreWorked, small_rows};
-ghost use Rattle.easy_class.specs.WorkedReturns.{return_rows};
-ghost use Rattle.easy_class.specs.WorkedLoads.{load_rows};
-ghost use Rattle.easy_class.specs.WorkedShapes.{shape_rows};
-ghost use Rattle.easy_class.specs.WorkedForms.{form_rows};
-ghost use Rattle.easy_class.specs.WorkedBounds.{bound_rows};
-ghost use Rattle.easy_class.specs.WorkedAccess.{access_rows};
 
 /// The class is sound: what it gives a closed condition is a proof of it, a term of that type by the
 /// typing derivations, where the condition's height is at most 2^29. It gives one exactly where no
@@ -42,16 +35,4 @@ pub fn repeat_laws()
         part_proof_adding with_new part ≡ part_proof by_all_means part }
     ensures repeats { (part : Form) →
         part_proof_adding with_repeats part ≡ part_proof by_all_means part }
-{}
-
-/// What a second implementation gives goals and parts of conditions, the class gives them: that proof,
-/// term for term, or none. An independent one makes the same containers of nearly all of these goals.
-pub fn worked_rows()
-    ensures small { AreWorked small_rows }
-    ensures code_that_returns { AreWorked return_rows }
-    ensures code_that_loads { AreWorked load_rows }
-    ensures shapes { AreWorked shape_rows }
-    ensures forms { AreWorked form_rows }
-    ensures bounds { AreWorked bound_rows }
-    ensures access { AreWorked access_rows }
 {}

@@ -1,5 +1,5 @@
-use Rattle.easy_class.proofs.Rows.{small_worked, returns_worked, loads_worked, shapes_worked, forms_worked, bounds_worked, access_worked}
-use Rattle.easy_class.proofs.theorems.worked_rows.Goals as goal
+use Rattle.class_rows.proofs.Rows.{small_worked, returns_worked, loads_worked, shapes_worked, forms_worked, bounds_worked, access_worked}
+use Rattle.class_rows.proofs.worked_rows.Goals as goal
 
 pub returns : goal.returns
 returns c = record {

@@ -1,13 +1,13 @@
 -- The class gives the worked goals their proofs.
 use Rattle.std.proofs.Common.{refl}
 use Rattle.easy_class.specs.NormalForms.{normalized}
-use Rattle.easy_class.specs.Worked.{AreWorked, small_rows}
-use Rattle.easy_class.specs.WorkedReturns.{return_rows, t0_part, row_18_part, row_1_part}
-use Rattle.easy_class.specs.WorkedLoads.{load_rows, row_6_part, row_5_part, row_19_0_part, row_19_1_part, row_21_part}
-use Rattle.easy_class.specs.WorkedShapes.{shape_rows}
-use Rattle.easy_class.specs.WorkedForms.{form_rows}
-use Rattle.easy_class.specs.WorkedBounds.{bound_rows}
-use Rattle.easy_class.specs.WorkedAccess.{access_rows}
+use Rattle.class_rows.specs.Small.{AreWorked, small_rows}
+use Rattle.class_rows.specs.Returns.{return_rows, t0_part, row_18_part, row_1_part}
+use Rattle.class_rows.specs.Loads.{load_rows, row_6_part, row_5_part, row_19_0_part, row_19_1_part, row_21_part}
+use Rattle.class_rows.specs.Shapes.{shape_rows}
+use Rattle.class_rows.specs.Forms.{form_rows}
+use Rattle.class_rows.specs.Bounds.{bound_rows}
+use Rattle.class_rows.specs.Access.{access_rows}
 
 pub small_worked : AreWorked small_rows
 unfolding normalized small_rows

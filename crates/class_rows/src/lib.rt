@@ -1,0 +1,26 @@
+//! Worked rows of the class of easy conditions: goals with the proofs that another implementation
+//! gives them.
+//!
+//! Nothing stands on this crate. Its definitions are rows (`specs/`), which `easy_class` is held
+//! against by the prover; they say nothing of what the class is.
+#![tactic(auto)]
+
+ghost use Rattle.class_rows.specs.Small.{AreWorked, small_rows};
+ghost use Rattle.class_rows.specs.Returns.{return_rows};
+ghost use Rattle.class_rows.specs.Loads.{load_rows};
+ghost use Rattle.class_rows.specs.Shapes.{shape_rows};
+ghost use Rattle.class_rows.specs.Forms.{form_rows};
+ghost use Rattle.class_rows.specs.Bounds.{bound_rows};
+ghost use Rattle.class_rows.specs.Access.{access_rows};
+
+/// What a second implementation gives goals and parts of conditions, the class gives them: that proof,
+/// term for term, or none. An independent one makes the same containers of nearly all of these goals.
+pub fn worked_rows()
+    ensures small { AreWorked small_rows }
+    ensures code_that_returns { AreWorked return_rows }
+    ensures code_that_loads { AreWorked load_rows }
+    ensures shapes { AreWorked shape_rows }
+    ensures forms { AreWorked form_rows }
+    ensures bounds { AreWorked bound_rows }
+    ensures access { AreWorked access_rows }
+{}
