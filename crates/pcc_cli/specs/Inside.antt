@@ -1,3 +1,4 @@
 pub mod Decisions
 pub mod Gives
 pub mod Shows
+pub mod Behind

@@ -6,7 +6,9 @@ ghost use Rattle.packet_store.specs.Results.{packet_result};
 ghost use Rattle.safe_host.specs.Runners.{host_results};
 ghost use Rattle.pcc_words.specs.Invocations.{run};
 ghost use Rattle.pcc_cli.specs.Tasks.{stage_of};
-ghost use Rattle.pcc_cli.specs.Inside.Decisions.{Decides};
+ghost use Rattle.pcc_cli.specs.Inside.Behind.{results_on, run_under};
+ghost use Rattle.pcc_cli.specs.Inside.Decisions.{Decides, effect_of};
+ghost use Rattle.pcc_cli.specs.Inside.Gives.{Gives};
 
 use crate::report::{Job, Report};
 use crate::stages::{accepted_of, packets_of, policy_named};
@@ -14,6 +16,7 @@ use crate::stop::Stop;
 use file_port::Files;
 use pcc_gate::Accepted;
 use pcc_words::RunArgs;
+use policy_set::Policy;
 use safe_host::{Host, HostRunner};
 use std::alloc::Global;
 
@@ -28,6 +31,44 @@ fn runner_of(alloc: Global, accepted: Accepted, steps: u64) -> Option<HostRunner
     }
 }
 
+/// Reads the packets, and reserves all that the runs of the accepted code need.
+fn results_of<'a, F: Files>(
+    alloc: Global,
+    accepted: Accepted,
+    args: RunArgs<'a>,
+    files: &mut F,
+) -> Result<Report, Stop<'a>>
+    ensures { let a = args.entry in
+        Gives effect_of (results_on a.packets.now a.steps accepted.policy accepted.code)
+        (F.log files.old) (F.log files.new) (F.state files.old) (F.state files.new) result }
+{
+    let under = accepted.policy().kind();
+    let packets = packets_of(alloc, args.packets, files)?;
+    match runner_of(alloc, accepted, args.steps) {
+        Some(runner) => Ok(Report::Hosted(Job {
+            policy: under,
+            runner,
+            packets,
+        })),
+        None => Err(Stop::Memory),
+    }
+}
+
+/// Reads the container and judges it under the policy, and reads the packets.
+fn run_under<'a, F: Files>(
+    alloc: Global,
+    policy: &Policy,
+    args: RunArgs<'a>,
+    files: &mut F,
+) -> Result<Report, Stop<'a>>
+    ensures { let a = args.entry in
+        Gives effect_of (run_under a.file.now a.packets.now a.steps policy.now)
+        (F.log files.old) (F.log files.new) (F.state files.old) (F.state files.new) result }
+{
+    let accepted = accepted_of(alloc, policy, args.file, files)?;
+    results_of(alloc, accepted, args, files)
+}
+
 /// Reads the container and judges it, reads the packets, and reserves all that the runs need.
 pub fn run_command<'a, F: Files>(
     alloc: Global,
@@ -39,15 +80,5 @@ pub fn run_command<'a, F: Files>(
         (F.log files.old) (F.log files.new) (F.state files.old) (F.state files.new) result }
 {
     let policy = policy_named(alloc, args.policy)?;
-    let under = policy.kind();
-    let accepted = accepted_of(alloc, &policy, args.file, files)?;
-    let packets = packets_of(alloc, args.packets, files)?;
-    match runner_of(alloc, accepted, args.steps) {
-        Some(runner) => Ok(Report::Hosted(Job {
-            policy: under,
-            runner,
-            packets,
-        })),
-        None => Err(Stop::Memory),
-    }
+    run_under(alloc, &policy, args, files)
 }
