@@ -2,19 +2,23 @@
 use Rattle.std.proofs.Common.{◌≡◌, ◌↔◌, IsTrue, ◌==◌, ◌<◌, ◌≤◌, ◌+◌, ℕ, zero, suc, length, get_or, drop, Bool, true, false, cond, Option, Some, None, List, [], ◌∷◌, ◌++◌, refl, sym, ◌∙◌, ap, subst, arith, eqb-true}
 use Rattle.std.specs.BTreeSet.{BTreeSet, contains}
 use Rattle.term_table.specs.Tree.{Tree}
+use Rattle.term_table.specs.Subst.{bind}
 use Rattle.term_table.specs.Equality.{tree_eq}
 use Rattle.term_table.proofs.Equality.{tree_eq_refl, tree_eq-true}
 use Rattle.term_table.specs.Table.{TableView, IsKnown, tree_at, Extends, Stands}
 use Rattle.formula_tree.specs.Formulas.{Exp, Form, FAnd}
 use Rattle.hereditary_subst.specs.Kept.{IsMemo}
 use Rattle.hereditary_subst.specs.declared.kept.Memo.{Memo}
+use Rattle.formula_ids.specs.Nodes.{right_form}
+use Rattle.formula_ids.specs.declared.forms.Access.{Access}
+use Rattle.formula_ids.specs.declared.forms.Access.TheVariants.{Load, Store}
 use Rattle.formula_ids.specs.PutRows.{ArePuts}
 use Rattle.formula_ids.specs.declared.puts.Puts.{Puts}
 use Rattle.formula_ids.specs.declared.hypotheses.Hypothesis.{Hypothesis}
 use Rattle.formula_ids.specs.Hypotheses.{AreHyps}
 use Rattle.easy_class.specs.Hypotheses.{Hyps}
 use Rattle.easy_class.specs.Access as class
-use Rattle.easy_class.specs.Goals.{first_of}
+use Rattle.easy_class.specs.Goals.{Prover, first_of}
 use Rattle.formula_terms.specs.Encoding.{exp_encoding, form_encoding}
 use Rattle.lf_signature.specs.Nodes.{IsIdOf}
 use Rattle.easy_forms.specs.Sums.{IsExpOption}
@@ -163,3 +167,15 @@ hyps_end t [] (y ∷ Γ) i h n = absurd h
 hyps_end t (x ∷ l) [] i h n = absurd h
 hyps_end t (x ∷ l) (y ∷ Γ) zero h n = absurd (omega (arith, n))
 hyps_end t (x ∷ l) (y ∷ Γ) (suc i) h n = hyps_end t l Γ i h.2 (omega (arith, n))
+
+-- ---- rights
+
+-- the class's right
+pub right_is : (given : Access) (z : Exp) → right_form given z ≡ class.access_form (access_of given) z
+right_is Load z = refl
+right_is Store z = refl
+
+-- a right as a hypothesis
+pub hyp-right : (prove : Prover) (out : ℕ) (Γ : Hyps) (k : class.Access) (a : Exp) (given : Access) (z : Exp) (h : Tree) → class.by_hyp prove out Γ k a (right_form given z) h ≡ bind (class.address_of k (right_form given z)) (λ z. class.moved out k a z h)
+hyp-right prove out Γ k a Load z h = refl
+hyp-right prove out Γ k a Store z h = refl

@@ -51,7 +51,8 @@ tries-reached k f (FAnd A B) end =
     ∙ ended-first end (first_opened k f A) (first_opened k f B)
 tries-reached Load f (FRd z) end = ended-here end (f z)
 tries-reached Store f (FWr z) end = ended-here end (f z)
-tries-reached k f _ end = refl
+tries-reached Load f _ end = refl
+tries-reached Store f _ end = refl
 
 -- a try at one address
 try_is : (prove : Prover) (out : ℕ) (Γ : Hyps) (k : Access) (a : Exp) (P Q : Form) (h : Tree) (way : List Side) (z o : Exp) →
@@ -104,12 +105,10 @@ all_tries-first prove out Γ k a P Q h = tries-all prove out Γ k a P Q h (reach
 
 -- the same as hypotheses
 pub hyp-imp : (prove : Prover) (out : ℕ) (Γ : Hyps) (k : Access) (a : Exp) (P Q : Form) (h : Tree) → by_hyp prove out Γ k a (FImp P Q) h ≡ by_grant prove false out Γ k a P Q h
-hyp-imp prove out Γ Load a P Q h = imp_tries-first prove out Γ Load a P Q h
-hyp-imp prove out Γ Store a P Q h = imp_tries-first prove out Γ Store a P Q h
+hyp-imp prove out Γ k a P Q h = imp_tries-first prove out Γ k a P Q h
 
 pub hyp-all : (prove : Prover) (out : ℕ) (Γ : Hyps) (k : Access) (a : Exp) (P Q : Form) (h : Tree) → by_hyp prove out Γ k a (FAll (FImp P Q)) h ≡ by_grant prove true out Γ k a P Q h
-hyp-all prove out Γ Load a P Q h = all_tries-first prove out Γ Load a P Q h
-hyp-all prove out Γ Store a P Q h = all_tries-first prove out Γ Store a P Q h
+hyp-all prove out Γ k a P Q h = all_tries-first prove out Γ k a P Q h
 
 -- no other address has an instance
 pub instance-other : (out : ℕ) (a z : Exp) → ((b : Exp) (scaled : Bool) → z ≡ EOp Add b (variable_index scaled) → ⊥) → instance_of out a z ≡ None

@@ -18,9 +18,9 @@ ghost use Rattle.bounds_prover.specs.Inside.Access.{Opened, opening_of, opened_b
 ghost use Rattle.bounds_prover.specs.Inside.AccessIds.{access_of, side_of, IsKnownGrant, IsKnownOpening, IsKnownFound, IfOpened, IfFound, IsOpeningAt, IsFoundHere, IsWalk, IsBothWalk, AreMisses};
 
 use crate::access_instances::instance_of;
-use crate::access_moves::{Access, exp_with, form_with, same_address};
+use crate::access_moves::{exp_with, form_with, is_asked, same_address};
 use easy_goals::{Context, Search, proof_without_access};
-use formula_ids::{FormNode, form_node};
+use formula_ids::{Access, FormNode, form_node};
 use hereditary_subst::Exhausted;
 use std::alloc::AllocError;
 use std::collections::BTreeSet;
@@ -373,20 +373,13 @@ fn walk_parts(
             let found = walk_both(table, search, context, asked, grant, misses, form, a, b)?;
             Ok(found)
         }
-        FormNode::Load(z) => match asked.access {
-            Access::Load => {
-                let found = found_at(table, search, context, asked, grant, z)?;
-                Ok(found)
+        FormNode::Right(given, z) => {
+            if !is_asked(asked.access, given) {
+                return Ok(None);
             }
-            Access::Store => Ok(None),
-        },
-        FormNode::Store(z) => match asked.access {
-            Access::Load => Ok(None),
-            Access::Store => {
-                let found = found_at(table, search, context, asked, grant, z)?;
-                Ok(found)
-            }
-        },
+            let found = found_at(table, search, context, asked, grant, z)?;
+            Ok(found)
+        }
         FormNode::True => Ok(None),
         FormNode::False => Ok(None),
         FormNode::Relation(_, _, _) => Ok(None),

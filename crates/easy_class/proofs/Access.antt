@@ -1,5 +1,5 @@
 -- Access that is found is proved.
-use Rattle.std.proofs.Common.{◌≡◌, ℕ, zero, suc, ◌+◌, ◌^◌, ◌<◌, ◌≤◌, max, Bool, true, false, cond, ◌==◌, Option, Some, None, List, [], ◌∷◌, ◌++◌, ◌⊎◌, inl, inr, length, refl, ap, subst, option_map, arith}
+use Rattle.std.proofs.Common.{◌≡◌, ℕ, zero, suc, ◌+◌, ◌^◌, ◌<◌, ◌≤◌, max, Bool, true, false, cond, ◌==◌, Option, Some, None, List, [], ◌∷◌, ◌++◌, ◌⊎◌, inl, inr, length, refl, ap, ◌∙◌, subst, option_map, arith}
 use Rattle.term_table.specs.Tree.{Tree}
 use Rattle.term_table.specs.Subst.{bind}
 use Rattle.term_table.proofs.Options.{bind_some, map_some, some_injective}
@@ -19,7 +19,7 @@ use Rattle.easy_class.specs.Hypotheses.{Hyps, same_exp}
 use Rattle.easy_class.specs.NormalForms.{normal_form, equal_proof}
 use Rattle.easy_class.specs.Goals.{Prover, by_words_alone}
 use Rattle.easy_class.specs.Parts.{levels}
-use Rattle.easy_class.specs.Access.{Access, Load, Store, access_form, Side, Left, Right, beside, reached, down, moved, by_imp, imp_tries, has_var, summands, literal, without, all_without, sum_with, rest_of, eighth, instance_of, by_all, all_tries, by_hyp, by_hyps, by_access, without_access, by_all_means}
+use Rattle.easy_class.specs.Access.{Access, Load, Store, access_form, address_of, Side, Left, Right, beside, reached, down, moved, by_imp, imp_tries, has_var, summands, literal, without, all_without, sum_with, rest_of, eighth, instance_of, by_all, all_tries, by_hyp, by_hyps, by_access, without_access, by_all_means}
 use Rattle.easy_class.proofs.Proved.{Proves, IsHyp, AreHyps}
 use Rattle.easy_class.proofs.Uses.{rule_proves, stays_now}
 use Rattle.easy_class.proofs.Named.{all_e_proves, move_proves}
@@ -43,9 +43,7 @@ nest-put (FAllm A) x o = ap suc (nest-put A (suc x) (shift_exp 1 0 o))
 abbrev LeadsTo : Access → Form → List Side → Exp → Type 0
 LeadsTo k (FAnd A B) (Left ∷ l) z = LeadsTo k A l z
 LeadsTo k (FAnd A B) (Right ∷ l) z = LeadsTo k B l z
-LeadsTo k (FAnd A B) [] z = ⊥
-LeadsTo Load (FRd a) [] z = a ≡ z
-LeadsTo Store (FWr a) [] z = a ≡ z
+LeadsTo k A [] z = A ≡ access_form k z
 LeadsTo k A l z = ⊥
 
 abbrev AllLead : Access → Form → List (List Side × Exp) → Type 0
@@ -70,21 +68,31 @@ reached_lead Load (FRd a) = (refl, tt)
 reached_lead Store (FWr a) = (refl, tt)
 reached_lead k _ = tt
 
+put_right : (k : Access) (z o : Exp) → subst_var (access_form k z) 0 (PExp o) ≡ access_form k (subst_var_exp z 0 (PExp o))
+put_right Load z o = refl
+put_right Store z o = refl
+
+over_right : (ctx : List Tree) (k : Access) (z : Exp) → Over (access_form k z) ctx → OverExp z ctx
+over_right ctx Load z h = h
+over_right ctx Store z h = h
+
+-- the formula is the right at its address
+pub address_is : (k : Access) (A : Form) (z : Exp) → address_of k A ≡ Some z → A ≡ access_form k z
+address_is Load (FRd a) z q = ap FRd (some_injective q)
+address_is Store (FWr a) z q = ap FWr (some_injective q)
+address_is k _ z q = cc
+
 lead_put : (k : Access) (A : Form) (l : List Side) (z o : Exp) → LeadsTo k A l z → LeadsTo k (subst_var A 0 (PExp o)) l (subst_var_exp z 0 (PExp o))
 lead_put k (FAnd A B) (Left ∷ l) z o h = lead_put k A l z o h
 lead_put k (FAnd A B) (Right ∷ l) z o h = lead_put k B l z o h
-lead_put k (FAnd A B) [] z o h = elim h [ ]
-lead_put Load (FRd a) [] z o h = ap (λ x. subst_var_exp x 0 (PExp o)) h
-lead_put Store (FWr a) [] z o h = ap (λ x. subst_var_exp x 0 (PExp o)) h
+lead_put k A [] z o h = ap (λ B. subst_var B 0 (PExp o)) h ∙ put_right k z o
 lead_put k _ l z o h = elim h [ ]
 
 -- the address is over the context
 lead_over : (ctx : List Tree) (m : Access) (A : Form) (l : List Side) (z : Exp) → Over A ctx → LeadsTo m A l z → OverExp z ctx
 lead_over ctx m (FAnd A B) (Left ∷ l) z o h = lead_over ctx m A l z o.0 h
 lead_over ctx m (FAnd A B) (Right ∷ l) z o h = lead_over ctx m B l z o.1 h
-lead_over ctx m (FAnd A B) [] z o h = elim h [ ]
-lead_over ctx Load (FRd a) [] z o h = subst (λ x. OverExp x ctx) h o
-lead_over ctx Store (FWr a) [] z o h = subst (λ x. OverExp x ctx) h o
+lead_over ctx m A [] z o h = over_right ctx m z (subst (λ B. Over B ctx) h o)
 lead_over ctx m _ l z o h = elim h [ ]
 
 module _ (e d : ℕ) (room : e + (d + d + d) + 16 ≤ 2 ^ 32) (some : 0 < d) (k : ℕ) (ctx : List Tree) (w : length ctx + k ≤ e) where
@@ -105,9 +113,7 @@ module _ (e d : ℕ) (room : e + (d + d + d) + 16 ≤ 2 ^ 32) (some : 0 < d) (k 
   down_says : (m : Access) (A : Form) (l : List Side) (z : Exp) (p : Tree) → Over A ctx → nesting A ≤ d → LeadsTo m A l z → Says A p → Says (access_form m z) (down A l p)
   down_says m (FAnd A B) (Left ∷ l) z p o n h g = down_says m A l z (and_l A B p) o.0 (omega (arith, n)) h (and_l_says A B p o n g)
   down_says m (FAnd A B) (Right ∷ l) z p o n h g = down_says m B l z (and_r A B p) o.1 (omega (arith, n)) h (and_r_says A B p o n g)
-  down_says m (FAnd A B) [] z p o n h g = elim h [ ]
-  down_says Load (FRd a) [] z p o n h g = subst (λ x. Says (FRd x) p) h g
-  down_says Store (FWr a) [] z p o n h g = subst (λ x. Says (FWr x) p) h g
+  down_says m A [] z p o n h g = subst (λ B. Says B p) h g
   down_says m _ l z p o n h g = elim h [ ]
 
   move_access : (m : Access) (z a : Exp) → OverExp z ctx → OverExp a ctx → (q h : Tree) → Says (FRel Rattle.word_ops.specs.declared.Rel.TheVariants.Eq z a) q → Says (access_form m z) h → Says (access_form m a) (move (access_form m (EVar 0)) z a q h)
@@ -227,11 +233,12 @@ module _ (e d : ℕ) (room : e + (d + d + d) + 16 ≤ 2 ^ 32) (some : 0 < d) (k 
         go (inr f) rest = rest f
 
     by_hyp_says : (m : Access) (a : Exp) → OverExp a ctx → (A : Form) (h t : Tree) → IsHyp (e + d) d k ctx (A, h) → by_hyp without_access out Γ m a A h ≡ Some t → Says (access_form m a) t
-    by_hyp_says Load a oa (FRd z) h t i q = moved_says out Load a z h t oa i.over (stays_now (e + d) k ctx (form_encoding (FRd z)) h i.stays) q
-    by_hyp_says Store a oa (FWr z) h t i q = moved_says out Store a z h t oa i.over (stays_now (e + d) k ctx (form_encoding (FWr z)) h i.stays) q
     by_hyp_says m a oa (FImp P Q) h t i q = imp_tries_says m a oa P Q h i.over i.nesting (stays_now (e + d) k ctx (form_encoding (FImp P Q)) h i.stays) (reached m Q) (reached_lead m Q) t q
     by_hyp_says m a oa (FAll (FImp P Q)) h t i q = all_tries_says m a oa P Q h i.over i.nesting (stays_now (e + d) k ctx (form_encoding (FAll (FImp P Q))) h i.stays) (reached m Q) (reached_lead m Q) t q
-    by_hyp_says m a oa _ h t i q = cc
+    by_hyp_says m a oa A h t i q =
+        let x = bind_some (address_of m A) (λ z. moved out m a z h) t q in
+        let is = address_is m A x.0 x.1 in
+        moved_says out m a x.0 h t oa (over_right ctx m x.0 (subst (λ B. Over B ctx) is i.over)) (subst (λ B. Says B h) is (stays_now (e + d) k ctx (form_encoding A) h i.stays)) x.2
 
     by_hyps_says : (m : Access) (a : Exp) → OverExp a ctx → (l : Hyps) → AreHyps (e + d) d k ctx l → (t : Tree) → by_hyps without_access out Γ m a l ≡ Some t → Says (access_form m a) t
     by_hyps_says m a oa [] g t q = cc

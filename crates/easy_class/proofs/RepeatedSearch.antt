@@ -11,7 +11,7 @@ use Rattle.easy_class.specs.Hypotheses.{Hyps, same_exp, find_hyp, raised_hyps, s
 use Rattle.easy_class.specs.NormalForms.{normal_form, equal_proof}
 use Rattle.easy_class.specs.Goals.{first_of, absurdity, Prover, by_shape, goal_proof, aligned_form, alignment_proof, by_aligned, ule_by, ult_by, by_bounds, by_normal, by_words_alone}
 use Rattle.easy_class.specs.Parts.{levels, part_proof}
-use Rattle.easy_class.specs.Access.{Access, Load, Store, access_form, Side, reached, down, moved, by_imp, imp_tries, instance_of, by_all, all_tries, by_hyp, by_hyps, by_access, without_access, by_all_means}
+use Rattle.easy_class.specs.Access.{Access, Load, Store, access_form, address_of, Side, reached, down, moved, by_imp, imp_tries, instance_of, by_all, all_tries, by_hyp, by_hyps, by_access, without_access, by_all_means}
 use Rattle.easy_class.specs.Repeats.{Adding, with_repeats, by_shape_adding, goal_proof_adding, without_access_adding, by_all_means_adding, part_proof_adding}
 use Rattle.easy_class.proofs.Repeats.{IsUse, find_use, first_use, absurdity_use, raised_use, new_same, new_use}
 use Rattle.easy_class.proofs.RepeatedBounds.{upper_use, lower_use}
@@ -89,8 +89,6 @@ module _ (f g : Prover) (out : ℕ) (Γ Δ : Hyps) (same : (P : Form) → f out 
 
 hyp_same : (f g : Prover) (out : ℕ) (Γ Δ : Hyps) → ((P : Form) → f out Γ P ≡ g out Δ P) → (k : Access) (a : Exp) (A : Form) (h : Tree) →
     by_hyp f out Γ k a A h ≡ by_hyp g out Δ k a A h
-hyp_same f g out Γ Δ s Load a (FRd z) h = refl
-hyp_same f g out Γ Δ s Store a (FWr z) h = refl
 hyp_same f g out Γ Δ s k a (FImp P Q) h = imps_same f g out Γ Δ s k a P Q h (reached k Q)
 hyp_same f g out Γ Δ s k a (FAll (FImp P Q)) h = alls_same f g out Γ Δ s k a P Q h (reached k Q)
 hyp_same f g out Γ Δ s k a _ h = refl
@@ -149,11 +147,9 @@ module _ (f : Prover) (out : ℕ) (Γ : Hyps) (k : Access) (a : Exp) where
       (bind_none o u v (all_none P Q p q x.0 x.1)) (alls_none P Q p q l) e
 
 hyp_none : (f : Prover) (out : ℕ) (Γ : Hyps) (k : Access) (a : Exp) (A : Form) (p q : Tree) → by_hyp f out Γ k a A p ≡ None → by_hyp f out Γ k a A q ≡ None
-hyp_none f out Γ Load a (FRd z) p q e = moved_none f out Γ Load a z p q e
-hyp_none f out Γ Store a (FWr z) p q e = moved_none f out Γ Store a z p q e
 hyp_none f out Γ k a (FImp P Q) p q e = imps_none f out Γ k a P Q p q (reached k Q) e
 hyp_none f out Γ k a (FAll (FImp P Q)) p q e = alls_none f out Γ k a P Q p q (reached k Q) e
-hyp_none f out Γ k a _ p q e = refl
+hyp_none f out Γ k a A p q e = bind_none (address_of k A) (λ z. moved out k a z p) (λ z. moved out k a z q) (λ z. moved_none f out Γ k a z p q) e
 
 module _ (f : Prover) (t : Takes f) where
   hyps_take : (out : ℕ) (k : Access) (a : Exp) → IsUse (λ Γ. by_hyps f out Γ k a Γ)

@@ -22,6 +22,12 @@ abbrev pub access_form : Access → Exp → Form
 access_form Load a = FRd a
 access_form Store a = FWr a
 
+-- the address, where the formula is this right
+abbrev pub address_of : Access → Form → Option Exp
+address_of Load (FRd a) = Some a
+address_of Store (FWr a) = Some a
+address_of k A = None
+
 -- a way down through conjunctions
 pub data Side : Type 0 where
   Left Right : Side
@@ -127,11 +133,9 @@ all_tries without_access out Γ k a P Q h (x ∷ l) = first_of (bind (instance_o
 
 -- access to a by one hypothesis: as it stands, from an implication, or from an instance
 abbrev pub by_hyp : Prover → ℕ → Hyps → Access → Exp → Form → Tree → Option Tree
-by_hyp without_access out Γ Load a (FRd z) h = moved out Load a z h
-by_hyp without_access out Γ Store a (FWr z) h = moved out Store a z h
 by_hyp without_access out Γ k a (FImp P Q) h = imp_tries without_access out Γ k a P Q h (reached k Q)
 by_hyp without_access out Γ k a (FAll (FImp P Q)) h = all_tries without_access out Γ k a P Q h (reached k Q)
-by_hyp without_access out Γ k a A h = None
+by_hyp without_access out Γ k a A h = bind (address_of k A) (λ z. moved out k a z h)
 
 -- by the first hypothesis that gives it
 abbrev pub by_hyps : Prover → ℕ → Hyps → Access → Exp → Hyps → Option Tree

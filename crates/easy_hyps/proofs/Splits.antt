@@ -10,7 +10,9 @@ use Rattle.word_ops.specs.declared.Rel.TheVariants.{Eq, Ult, Ule, Slt, Sle}
 use Rattle.formula_tree.specs.Formulas.{Exp, EReg, ELeft, EVar, ELit, EOp, ESel, Form, FTrue, FFalse, FRel, FRd, FWr, FAnd, FOr, FImp, FAll, FAllm}
 use Rattle.formula_terms.specs.Encoding.{form_encoding}
 use Rattle.formula_terms.proofs.Encoded.{form_encoding-injective}
-use Rattle.formula_ids.specs.Nodes.{IsFormNode}
+use Rattle.formula_ids.specs.Nodes.{right_form, IsFormNode}
+use Rattle.formula_ids.specs.declared.forms.Access.{Access}
+use Rattle.formula_ids.specs.declared.forms.Access.TheVariants.{Load, Store}
 use Rattle.formula_ids.specs.declared.forms.FormNode.{FormNode}
 use Rattle.formula_ids.specs.declared.forms.FormNode.TheVariants as F
 use Rattle.formula_ids.specs.declared.hypotheses.Hypothesis.{Hypothesis}
@@ -180,13 +182,17 @@ seen-insert t Γ old after eq key A g same known is found s put k i = go (key.fo
         )
     go false e = s k (sym (put k ∙ ap (λ b. cond b true (contains key_block.ghosts.cmp old k)) (same k ∙ e)) ∙ i)
 
+-- a right isn't split
+right-split : (k : Access) (a : Exp) (h : Tree) → split_hyps (right_form k a) h ≡ (right_form k a, h) ∷ []
+right-split Load a h = refl
+right-split Store a h = refl
+
 -- what isn't split
 pub other-split : (t : TableView) (A : Form) (n : FormNode) (h : Tree) → IsFormNode t A n → ((a b : ℕ) → n ≡ F.And a b → ⊥) → ((r : Rel) (a b : ℕ) → n ≡ F.Relation r a b → ⊥) → ((a b : ℕ) → n ≡ F.Imp a b → ⊥) → split_hyps A h ≡ (A, h) ∷ []
 other-split t A F.True h i and rel imp = subst (λ Z. split_hyps Z h ≡ (Z, h) ∷ []) (sym i) refl
 other-split t A F.False h i and rel imp = subst (λ Z. split_hyps Z h ≡ (Z, h) ∷ []) (sym i) refl
 other-split t A (F.Relation r a b) h i and rel imp = absurd (rel r a b refl)
-other-split t A (F.Load a) h i and rel imp = subst (λ Z. split_hyps Z h ≡ (Z, h) ∷ []) (sym i.is) refl
-other-split t A (F.Store a) h i and rel imp = subst (λ Z. split_hyps Z h ≡ (Z, h) ∷ []) (sym i.is) refl
+other-split t A (F.Right k a) h i and rel imp = subst (λ Z. split_hyps Z h ≡ (Z, h) ∷ []) (sym i.is) (right-split k i.address h)
 other-split t A (F.And a b) h i and rel imp = absurd (and a b refl)
 other-split t A (F.Or a b) h i and rel imp = subst (λ Z. split_hyps Z h ≡ (Z, h) ∷ []) (sym i.is) refl
 other-split t A (F.Imp a b) h i and rel imp = absurd (imp a b refl)

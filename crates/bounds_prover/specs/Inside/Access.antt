@@ -4,13 +4,13 @@ use Rattle.std.specs.Option.{option_map}
 use Rattle.term_table.specs.Tree.{Tree}
 use Rattle.term_table.specs.Subst.{bind}
 use Rattle.word_ops.specs.declared.Op.TheVariants.{Sll}
-use Rattle.formula_tree.specs.Formulas.{Exp, EVar, ELit, EOp, Form, FRd, FWr, FAnd, FImp}
+use Rattle.formula_tree.specs.Formulas.{Exp, EVar, ELit, EOp, Form, FAnd, FImp}
 use Rattle.formula_tree.specs.Variables.{PExp, subst_var_exp, subst_var}
 use Rattle.formula_terms.specs.ProofTerms.{imp_e, all_e, move}
 use Rattle.easy_class.specs.Hypotheses.{Hyps, same_exp}
 use Rattle.easy_class.specs.NormalForms.{normal_form, equal_proof}
 use Rattle.easy_class.specs.Goals.{Prover}
-use Rattle.easy_class.specs.Access.{Access, Load, Store, access_form, Side, Left, Right, down, has_var, rest_of, eighth, instance_of}
+use Rattle.easy_class.specs.Access.{Access, access_form, address_of, Side, Left, Right, down, has_var, rest_of, eighth, instance_of}
 
 -- ---- addresses
 
@@ -85,9 +85,7 @@ no_way (Some x) = Some ([], x)
 -- what gives something first of the addresses that are reached through conjunctions alone, from the left, with its way
 abbrev pub first_opened : Access → (Exp → Option Opened) → Form → Option (List Side × Opened)
 first_opened k f (FAnd A B) = first_way (from_side Left (first_opened k f A)) (from_side Right (first_opened k f B))
-first_opened Load f (FRd z) = no_way (f z)
-first_opened Store f (FWr z) = no_way (f z)
-first_opened k f A = None
+first_opened k f A = no_way (bind (address_of k A) f)
 
 -- ---- the proof by it
 

@@ -6,12 +6,12 @@ use Rattle.term_table.specs.Table.{TableView, IsKnown, tree_at, Stands}
 use Rattle.formula_tree.specs.Formulas.{Exp, EOp, Form, FAnd, FImp, FAll}
 use Rattle.formula_terms.specs.Encoding.{exp_encoding, form_encoding}
 use Rattle.formula_ids.specs.Hypotheses.{AreHyps}
+use Rattle.formula_ids.specs.declared.forms.Access.{Access}
+use Rattle.formula_ids.specs.declared.forms.Access.TheVariants.{Load, Store}
 use Rattle.formula_ids.specs.declared.hypotheses.Hypothesis.{Hypothesis}
 use Rattle.easy_class.specs.Hypotheses.{Hyps}
 use Rattle.easy_class.specs.Access as class
 use Rattle.bounds_prover.specs.Inside.Access.{variable_index, Opened, opened_at, no_way, first_opened, by_grant}
-use Rattle.bounds_prover.specs.declared.access_moves.Access.{Access}
-use Rattle.bounds_prover.specs.declared.access_moves.Access.TheVariants.{Load, Store}
 use Rattle.bounds_prover.specs.declared.access_instances.Indexed.{Indexed}
 use Rattle.bounds_prover.specs.declared.access_walks.Asked.{Asked}
 use Rattle.bounds_prover.specs.declared.access_walks.Grant.{Grant}
