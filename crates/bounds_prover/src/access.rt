@@ -14,7 +14,7 @@ ghost use Rattle.easy_class.specs.Hypotheses.{Hyps};
 ghost use Rattle.easy_class.specs.Access.{address_of, moved, without_access, by_hyps, by_access};
 ghost use Rattle.easy_goals.specs.Provers.{IsProofBy};
 ghost use Rattle.easy_goals.specs.Search.{IsSearch, IsContext, IsAfter};
-ghost use Rattle.bounds_prover.specs.Inside.AccessIds.{access_of, IsHypProof, IsImplicationProof, IsBodyProof};
+ghost use Rattle.bounds_prover.specs.Inside.AccessIds.{access_of, IsHypProof, IsBodyProof};
 
 use crate::access_grants::by_grant;
 use crate::access_moves::{is_asked, moved_access};
@@ -67,38 +67,6 @@ fn by_quantified(
         FormNode::All(_) => Ok(None),
         FormNode::AllMem(_) => Ok(None),
     }
-}
-
-/// Access by an implication.
-fn by_implication(
-    table: &mut Table,
-    search: &mut Search,
-    context: &mut Context,
-    asked: &Asked,
-    premise: Id,
-    conclusion: Id,
-    proof: Id,
-) -> Result<Option<Id>, Exhausted>
-    requires asked { IsKnown table.old asked.now.address }
-    requires premise { IsKnown table.old premise }
-    requires conclusion { IsKnown table.old conclusion }
-    requires proof { IsKnown table.old proof }
-    requires search { IsSearch table.old search.old }
-    requires context { IsContext table.old context.old }
-    ensures known { IfOk result (λ o. IfSome o (IsKnown table.new)) }
-    ensures exact { let c = context.old in IfOk result (IsImplicationProof table.old table.new
-        c.hyps c.outside asked.now premise conclusion proof) }
-    ensures extends { Extends table.old table.new }
-    ensures after { OnOk result (IsAfter table.new search.new context.old context.new) }
-{
-    let grant = Grant {
-        quantified: false,
-        premise,
-        conclusion,
-        proof,
-    };
-    let found = by_grant(table, search, context, asked, &grant)?;
-    Ok(found)
 }
 
 /// Access by a hypothesis that is a right at the address `z`.
@@ -159,8 +127,14 @@ fn by_hyp(
             let moved = by_right(table, search, context, asked, given, z, proof)?;
             Ok(moved)
         }
-        FormNode::Imp(p, q) => {
-            let found = by_implication(table, search, context, asked, p, q, proof)?;
+        FormNode::Imp(premise, conclusion) => {
+            let grant = Grant {
+                quantified: false,
+                premise,
+                conclusion,
+                proof,
+            };
+            let found = by_grant(table, search, context, asked, &grant)?;
             Ok(found)
         }
         FormNode::All(body) => {

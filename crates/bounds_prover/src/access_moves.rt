@@ -10,9 +10,8 @@ ghost use Rattle.formula_tree.specs.Formulas.{Exp, EVar};
 ghost use Rattle.formula_terms.specs.Encoding.{exp_encoding, form_encoding};
 ghost use Rattle.formula_ids.specs.Nodes.{right_form};
 ghost use Rattle.formula_ids.specs.Puts.{IsExpPut, IsFormPut};
-ghost use Rattle.easy_class.specs.Access.{access_form, address_of, moved};
+ghost use Rattle.easy_class.specs.Access.{access_form, address_of, moved, same_address, access_move};
 ghost use Rattle.easy_goals.specs.Search.{IsSearch};
-ghost use Rattle.bounds_prover.specs.Inside.Access.{same_address, access_move};
 ghost use Rattle.bounds_prover.specs.Inside.AccessIds.{access_of};
 
 use easy_forms::equal_proof;

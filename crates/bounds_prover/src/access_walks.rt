@@ -11,10 +11,9 @@ ghost use Rattle.formula_tree.specs.Formulas.{Exp, Form};
 ghost use Rattle.formula_terms.specs.Encoding.{exp_encoding, form_encoding};
 ghost use Rattle.formula_ids.specs.Hypotheses.{AreHyps};
 ghost use Rattle.easy_class.specs.Hypotheses.{Hyps};
-ghost use Rattle.easy_class.specs.Access.{without_access};
+ghost use Rattle.easy_class.specs.Access.{without_access, Opened, opening_of, opened_by, opened_with, opened_at, from_side};
 ghost use Rattle.easy_class.specs.Access as class;
 ghost use Rattle.easy_goals.specs.Search.{IsSearch, IsContext, IsAfter};
-ghost use Rattle.bounds_prover.specs.Inside.Access.{Opened, opening_of, opened_by, opened_with, opened_at, from_side};
 ghost use Rattle.bounds_prover.specs.Inside.AccessIds.{access_of, side_of, IsKnownGrant, IsKnownOpening, IsKnownFound, IfOpened, IfFound, IsOpeningAt, IsFoundHere, IsWalk, IsBothWalk, AreMisses};
 
 use crate::access_instances::instance_of;

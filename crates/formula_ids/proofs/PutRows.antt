@@ -126,7 +126,8 @@ put_right Load z o x = refl
 put_right Store z o x = refl
 
 -- a right, at the address with what is put
-pub right_put : (t u v : TableView) (k : Access) (id a x arg address r : ℕ) → ((A : Form) → tree_at t id ≡ form_encoding A → IsRight t A k a) → IsExpPut t u a x arg address → IsKnown v r →
+pub right_put : (t u v : TableView) (k : Access) (id a x arg address r : ℕ) → ((A : Form) → tree_at t id ≡ form_encoding A → IsRight t A k a) →
+    IsExpPut t u a x arg address → IsKnown v r →
     ((e : Exp) → tree_at u address ≡ exp_encoding e → IsIdOf v (form_encoding (right_form k e)) r) → IsFormPut t v id x arg r
 right_put t u v k id a x arg address r is put known made = record {
   known = known;
