@@ -1,20 +1,27 @@
 -- Walks for access, call after call, as the table and what is kept grow.
 use Rattle.std.proofs.Common.{◌≡◌, ◌↔◌, IsTrue, ◌==◌, ◌<◌, ◌≤◌, ◌+◌, ℕ, zero, suc, length, get_or, drop, Bool, true, false, cond, Option, Some, None, List, [], ◌∷◌, ◌++◌, refl, sym, ◌∙◌, ap, subst, arith, eqb-true}
 use Rattle.std.specs.BTreeSet.{BTreeSet, contains}
+use Rattle.word_ops.specs.declared.Op.TheVariants.{Add, Sll}
 use Rattle.term_table.specs.Tree.{Tree}
+use Rattle.term_table.specs.Subst.{bind}
 use Rattle.term_table.specs.Equality.{tree_eq}
 use Rattle.term_table.proofs.Equality.{tree_eq_refl, tree_eq-true}
 use Rattle.term_table.specs.Table.{TableView, IsKnown, tree_at, Extends, Stands}
-use Rattle.formula_tree.specs.Formulas.{Exp, Form, FAnd}
+use Rattle.formula_tree.specs.Formulas.{Exp, EVar, ELit, EOp, Form, FAnd}
 use Rattle.hereditary_subst.specs.Kept.{IsMemo}
 use Rattle.hereditary_subst.specs.declared.kept.Memo.{Memo}
+use Rattle.formula_ids.specs.Nodes.{right_form}
+use Rattle.formula_ids.specs.declared.forms.Access.{Access}
+use Rattle.formula_ids.specs.declared.forms.Access.TheVariants.{Load, Store}
 use Rattle.formula_ids.specs.PutRows.{ArePuts}
 use Rattle.formula_ids.specs.declared.puts.Puts.{Puts}
 use Rattle.formula_ids.specs.declared.hypotheses.Hypothesis.{Hypothesis}
 use Rattle.formula_ids.specs.Hypotheses.{AreHyps}
 use Rattle.easy_class.specs.Hypotheses.{Hyps}
+use Rattle.easy_class.specs.Access.{Opened, opened_at, from_side, first_way, first_opened}
 use Rattle.easy_class.specs.Access as class
-use Rattle.easy_class.specs.Goals.{first_of}
+use Rattle.bounds_prover.specs.Inside.Instances.{variable_index}
+use Rattle.easy_class.specs.Goals.{Prover, first_of}
 use Rattle.formula_terms.specs.Encoding.{exp_encoding, form_encoding}
 use Rattle.lf_signature.specs.Nodes.{IsIdOf}
 use Rattle.easy_forms.specs.Sums.{IsExpOption}
@@ -23,7 +30,6 @@ use Rattle.formula_ids.proofs.HypRows.{hyps-before, hyps-after}
 use Rattle.easy_goals.specs.Search.{IsSearch, IsContext, IsAfter}
 use Rattle.easy_goals.specs.declared.search.Search.{Search}
 use Rattle.easy_goals.specs.declared.search.Context.{Context}
-use Rattle.bounds_prover.specs.Inside.Access.{Opened, opened_at, from_side, first_way, first_opened}
 use Rattle.bounds_prover.specs.Inside.AccessIds.{access_of, side_of, way_back, IsKnownGrant, IsOpening, IfFound, AreMeant, IsWalk, AreMisses}
 use Rattle.bounds_prover.specs.declared.access_walks.Asked.{Asked}
 use Rattle.bounds_prover.specs.declared.access_walks.Grant.{Grant}
@@ -163,3 +169,22 @@ hyps_end t [] (y ∷ Γ) i h n = absurd h
 hyps_end t (x ∷ l) [] i h n = absurd h
 hyps_end t (x ∷ l) (y ∷ Γ) zero h n = absurd (omega (arith, n))
 hyps_end t (x ∷ l) (y ∷ Γ) (suc i) h n = hyps_end t l Γ i h.2 (omega (arith, n))
+
+-- ---- rights
+
+-- the class's right
+pub right_is : (given : Access) (z : Exp) → right_form given z ≡ class.access_form (access_of given) z
+right_is Load z = refl
+right_is Store z = refl
+
+-- a right as a hypothesis
+pub hyp-right : (prove : Prover) (out : ℕ) (Γ : Hyps) (k : class.Access) (a : Exp) (given : Access) (z : Exp) (h : Tree) →
+    class.by_hyp prove out Γ k a (right_form given z) h ≡ bind (class.address_of k (right_form given z)) (λ z. class.moved out k a z h)
+hyp-right prove out Γ k a Load z h = refl
+hyp-right prove out Γ k a Store z h = refl
+
+-- no address but a base and the variable, or 8 times it, has an instance
+pub instance-other : (out : ℕ) (a z : Exp) → ((b : Exp) (scaled : Bool) → z ≡ EOp Add b (variable_index scaled) → ⊥) → class.instance_of out a z ≡ None
+instance-other out a (EOp Add b (EVar zero)) other = absurd (other b false refl)
+instance-other out a (EOp Add b (EOp Sll (EVar zero) (ELit (suc (suc (suc zero)))))) other = absurd (other b true refl)
+instance-other out a _ other = refl

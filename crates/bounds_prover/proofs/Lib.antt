@@ -1,5 +1,4 @@
 pub mod AccessRows
-mod Tries
 mod Measures
 mod Writable
 mod Heights

@@ -1,5 +1,5 @@
 -- The container that is made: what it holds, that its proof is one, and that it is accepted.
-use Rattle.std.proofs.Common.{◌≡◌, ℕ, ◌≤◌, ◌^◌, Bool, List, [], ◌∷◌, ◌++◌, map, length, Option, Some, None, Result, Ok, Err, refl, sym, ◌∙◌, ap, subst, arith}
+use Rattle.std.proofs.Common.{◌≡◌, ℕ, ◌≤◌, ◌^◌, Bool, List, [], ◌∷◌, ◌++◌, map, length, Option, Some, None, Ok, Err, refl, sym, ◌∙◌, ap, subst, arith}
 use Rattle.std.proofs.lemmas.List.Elements.{All-nil, All-cons, All-head, All-tail}
 use Rattle.alpha_words.specs.declared.insn.Insn.{Insn}
 use Rattle.alpha_cfg.proofs.Readings.{decoded_code-ok}
@@ -37,8 +37,8 @@ use Rattle.pcc_gate.proofs.Safe.{formulas-over}
 use Rattle.easy_class.specs.Parts.{conjoined, condition_proof, first_not_easy}
 use Rattle.easy_class.specs.Access.{by_all_means}
 use Rattle.bounds_prover.specs.declared.fault.ProveFault.{ProveFault}
-use Rattle.bounds_prover.specs.declared.fault.ProveFault.TheVariants.{Refused, NotEasy, TooBig, Memory, Results}
-use Rattle.bounds_prover.specs.Proving.{condition_parts, with_proof, excess, encoded_unless, with_parts_proof, proved_contents, proved_code, proved_read, made_unless, proved_container, IsMadeAnswer}
+use Rattle.bounds_prover.specs.declared.fault.ProveFault.TheVariants.{Refused, NotEasy}
+use Rattle.bounds_prover.specs.Proving.{condition_parts, with_proof, excess, encoded_unless, with_parts_proof, proved_contents, proved_code, proved_read, made_unless, proved_container}
 use Rattle.bounds_prover.proofs.Measures.{IsSmallEnough, small-enough}
 use Rattle.bounds_prover.proofs.Heights.{parts-low}
 use Rattle.bounds_prover.proofs.SmallTerms.{checks-small}

@@ -1,4 +1,4 @@
 -- Words of the private functions.
 pub mod Parts
-pub mod Access
+pub mod Instances
 pub mod AccessIds

@@ -7,18 +7,20 @@ ghost use Rattle.std.specs.Prelude.{◌≡◌, ◌<◌, length, get_or, IfOk, If
 ghost use Rattle.term_table.specs.Table.{IsKnown, tree_at, Extends, Stands};
 ghost use Rattle.formula_tree.specs.Formulas.{Exp};
 ghost use Rattle.formula_terms.specs.Encoding.{exp_encoding};
+ghost use Rattle.term_table.specs.Subst.{bind};
+ghost use Rattle.formula_ids.specs.Nodes.{right_form};
 ghost use Rattle.formula_ids.specs.Hypotheses.{AreKnownHyps, AreHyps};
 ghost use Rattle.easy_class.specs.Hypotheses.{Hyps};
-ghost use Rattle.easy_class.specs.Access.{access_form, without_access, by_hyp, by_hyps, by_access};
+ghost use Rattle.easy_class.specs.Access.{address_of, moved, without_access, by_hyps, by_access};
 ghost use Rattle.easy_goals.specs.Provers.{IsProofBy};
 ghost use Rattle.easy_goals.specs.Search.{IsSearch, IsContext, IsAfter};
-ghost use Rattle.bounds_prover.specs.Inside.AccessIds.{access_of, IsHypProof, IsImplicationProof, IsBodyProof};
+ghost use Rattle.bounds_prover.specs.Inside.AccessIds.{access_of, IsHypProof, IsBodyProof};
 
 use crate::access_grants::by_grant;
-use crate::access_moves::{Access, moved_access};
+use crate::access_moves::{is_asked, moved_access};
 use crate::access_walks::{Asked, Grant};
 use easy_goals::{Context, Search};
-use formula_ids::{FormNode, Hypothesis, form_node};
+use formula_ids::{Access, FormNode, Hypothesis, form_node};
 use hereditary_subst::Exhausted;
 use term_table::{Id, Table};
 
@@ -59,8 +61,7 @@ fn by_quantified(
         FormNode::True => Ok(None),
         FormNode::False => Ok(None),
         FormNode::Relation(_, _, _) => Ok(None),
-        FormNode::Load(_) => Ok(None),
-        FormNode::Store(_) => Ok(None),
+        FormNode::Right(_, _) => Ok(None),
         FormNode::And(_, _) => Ok(None),
         FormNode::Or(_, _) => Ok(None),
         FormNode::All(_) => Ok(None),
@@ -68,41 +69,9 @@ fn by_quantified(
     }
 }
 
-/// Access by an implication.
-fn by_implication(
-    table: &mut Table,
-    search: &mut Search,
-    context: &mut Context,
-    asked: &Asked,
-    premise: Id,
-    conclusion: Id,
-    proof: Id,
-) -> Result<Option<Id>, Exhausted>
-    requires asked { IsKnown table.old asked.now.address }
-    requires premise { IsKnown table.old premise }
-    requires conclusion { IsKnown table.old conclusion }
-    requires proof { IsKnown table.old proof }
-    requires search { IsSearch table.old search.old }
-    requires context { IsContext table.old context.old }
-    ensures known { IfOk result (λ o. IfSome o (IsKnown table.new)) }
-    ensures exact { let c = context.old in IfOk result (IsImplicationProof table.old table.new
-        c.hyps c.outside asked.now premise conclusion proof) }
-    ensures extends { Extends table.old table.new }
-    ensures after { OnOk result (IsAfter table.new search.new context.old context.new) }
-{
-    let grant = Grant {
-        quantified: false,
-        premise,
-        conclusion,
-        proof,
-    };
-    let found = by_grant(table, search, context, asked, &grant)?;
-    Ok(found)
-}
-
-/// Access by a hypothesis that gives it at the address `z`.
+/// Access by a hypothesis that is a right at the address `z`.
 #[tactic(auto, using(easy_goals::proofs::WordRows::rows))]
-fn by_address(
+fn by_right(
     table: &mut Table,
     search: &mut Search,
     context: &Context,
@@ -117,30 +86,19 @@ fn by_address(
     requires search { IsSearch table.old search.old }
     requires context { IsContext table.old context.now }
     ensures known { IfOk result (λ o. IfSome o (IsKnown table.new)) }
-    ensures exact { (Γ : Hyps) (x y : Exp) → tree_at table.old z ≡ exp_encoding x
+    ensures exact { (x y : Exp) → tree_at table.old z ≡ exp_encoding x
         → tree_at table.old asked.now.address ≡ exp_encoding y → IfOk result (Stands table.new
-        (by_hyp without_access context.now.outside Γ (access_of asked.now.access) y
-        (access_form (access_of given) x) (tree_at table.old proof))) }
+        (bind (address_of (access_of asked.now.access) (right_form given x)) (λ a.
+        moved context.now.outside (access_of asked.now.access) y a (tree_at table.old proof)))) }
     ensures extends { Extends table.old table.new }
     ensures search { OnOk result (IsSearch table.new search.new) }
 {
-    let (outside, a) = (context.outside, asked.address);
-    match asked.access {
-        Access::Load => match given {
-            Access::Load => {
-                let moved = moved_access(table, search, outside, Access::Load, z, a, proof)?;
-                Ok(moved)
-            }
-            Access::Store => Ok(None),
-        },
-        Access::Store => match given {
-            Access::Load => Ok(None),
-            Access::Store => {
-                let moved = moved_access(table, search, outside, Access::Store, z, a, proof)?;
-                Ok(moved)
-            }
-        },
+    let (access, a) = (asked.access, asked.address);
+    if !is_asked(access, given) {
+        return Ok(None);
     }
+    let moved = moved_access(table, search, context.outside, access, z, a, proof)?;
+    Ok(moved)
 }
 
 /// Access by one hypothesis: as it stands, from an implication, or from an instance.
@@ -165,16 +123,18 @@ fn by_hyp(
     ensures after { OnOk result (IsAfter table.new search.new context.old context.new) }
 {
     match form_node(table, form) {
-        FormNode::Load(z) => {
-            let moved = by_address(table, search, context, asked, Access::Load, z, proof)?;
+        FormNode::Right(given, z) => {
+            let moved = by_right(table, search, context, asked, given, z, proof)?;
             Ok(moved)
         }
-        FormNode::Store(z) => {
-            let moved = by_address(table, search, context, asked, Access::Store, z, proof)?;
-            Ok(moved)
-        }
-        FormNode::Imp(p, q) => {
-            let found = by_implication(table, search, context, asked, p, q, proof)?;
+        FormNode::Imp(premise, conclusion) => {
+            let grant = Grant {
+                quantified: false,
+                premise,
+                conclusion,
+                proof,
+            };
+            let found = by_grant(table, search, context, asked, &grant)?;
             Ok(found)
         }
         FormNode::All(body) => {
@@ -248,14 +208,7 @@ pub fn proof_by_access(
     ensures after { OnOk result (IsAfter table.new search.new context.old context.new) }
 {
     match form_node(table, goal) {
-        FormNode::Load(address) => {
-            let access = Access::Load;
-            let asked = Asked { access, address };
-            let proof = by_hyps(table, search, context, &asked)?;
-            Ok(proof)
-        }
-        FormNode::Store(address) => {
-            let access = Access::Store;
+        FormNode::Right(access, address) => {
             let asked = Asked { access, address };
             let proof = by_hyps(table, search, context, &asked)?;
             Ok(proof)

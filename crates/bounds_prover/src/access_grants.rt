@@ -9,10 +9,9 @@ ghost use Rattle.lf_signature.specs.Nodes.{IsIdOf};
 ghost use Rattle.formula_tree.specs.Formulas.{Exp, Form, FImp};
 ghost use Rattle.formula_terms.specs.Encoding.{exp_encoding, form_encoding};
 ghost use Rattle.formula_terms.specs.ProofTerms.{all_e};
-ghost use Rattle.easy_class.specs.Access.{down};
+ghost use Rattle.easy_class.specs.Access.{down, Opened, granted, granted_by};
 ghost use Rattle.easy_class.specs.Access as class;
 ghost use Rattle.easy_goals.specs.Search.{IsSearch, IsContext, IsAfter};
-ghost use Rattle.bounds_prover.specs.Inside.Access.{Opened, granted, granted_by};
 ghost use Rattle.bounds_prover.specs.Inside.AccessIds.{access_of, way_back, IsKnownGrant, IsKnownFound, IsFoundAt, IsGranted};
 
 use crate::access_moves::{access_move, form_with};

@@ -12,7 +12,7 @@ ghost use Rattle.formula_terms.specs.Encoding.{exp_encoding};
 ghost use Rattle.easy_forms.specs.Sums.{IsExpOption, OccursInExp};
 ghost use Rattle.easy_class.specs.Access.{instance_of};
 ghost use Rattle.easy_goals.specs.Search.{IsSearch};
-ghost use Rattle.bounds_prover.specs.Inside.Access.{variable_index, rest_at, scaled_rest, index_at};
+ghost use Rattle.bounds_prover.specs.Inside.Instances.{variable_index, rest_at, scaled_rest, index_at};
 ghost use Rattle.bounds_prover.specs.Inside.AccessIds.{IfIndexed};
 
 use crate::access_moves::exp_with;

@@ -3,33 +3,33 @@
 //! Errors: want of memory alone, which more results than the search may keep are too; each id keeps
 //! its tree.
 
-ghost use Rattle.std.specs.Prelude.{◌≡◌, IfOk, IfSome, OnOk};
+ghost use Rattle.std.specs.Prelude.{◌≡◌, if◌then◌else◌, Some, None, IfOk, IfSome, OnOk};
 ghost use Rattle.term_table.specs.Table.{IsKnown, tree_at, Extends, Stands};
 ghost use Rattle.lf_signature.specs.Nodes.{IsIdOf};
 ghost use Rattle.formula_tree.specs.Formulas.{Exp, EVar};
 ghost use Rattle.formula_terms.specs.Encoding.{exp_encoding, form_encoding};
+ghost use Rattle.formula_ids.specs.Nodes.{right_form};
 ghost use Rattle.formula_ids.specs.Puts.{IsExpPut, IsFormPut};
-ghost use Rattle.easy_class.specs.Access.{access_form, moved};
+ghost use Rattle.easy_class.specs.Access.{access_form, address_of, moved, same_address, access_move};
 ghost use Rattle.easy_goals.specs.Search.{IsSearch};
-ghost use Rattle.bounds_prover.specs.Inside.Access.{same_address, access_move};
 ghost use Rattle.bounds_prover.specs.Inside.AccessIds.{access_of};
 
 use easy_forms::equal_proof;
 use easy_goals::{Search, normal};
-use formula_ids::{moved, put_word, put_word_exp};
+use formula_ids::{Access, moved, put_word, put_word_exp, right};
 use hereditary_subst::Exhausted;
-use lf_signature::app1;
-use lf_signature::numbers::{RD, WR};
 use std::alloc::AllocError;
 use term_table::{Id, Node, Table};
 
-/// What is asked for at an address.
-#[derive(Clone, Copy)]
-pub(crate) enum Access {
-    /// To load from it.
-    Load,
-    /// To store there.
-    Store,
+/// Whether the access that is given is the one that is asked for.
+pub(crate) fn is_asked(asked: Access, given: Access) -> bool
+    ensures { (z : Exp) → address_of (access_of asked) (right_form given z)
+        ≡ if result then Some z else None }
+{
+    match asked {
+        Access::Load => matches!(given, Access::Load),
+        Access::Store => matches!(given, Access::Store),
+    }
 }
 
 /// The expression with `arg` for variable 0.
@@ -98,10 +98,8 @@ fn place_form(table: &mut Table, access: Access) -> Result<Id, AllocError>
     ensures extends { Extends table.old table.new }
 {
     let place = table.intern(Node::Var(0))?;
-    match access {
-        Access::Load => app1(table, RD, place),
-        Access::Store => app1(table, WR, place),
-    }
+    let form = right(table, access, place)?;
+    Ok(form)
 }
 
 /// The proof of access to `a`, by that of access to `z`, which has its normal form.

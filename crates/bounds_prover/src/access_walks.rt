@@ -11,16 +11,15 @@ ghost use Rattle.formula_tree.specs.Formulas.{Exp, Form};
 ghost use Rattle.formula_terms.specs.Encoding.{exp_encoding, form_encoding};
 ghost use Rattle.formula_ids.specs.Hypotheses.{AreHyps};
 ghost use Rattle.easy_class.specs.Hypotheses.{Hyps};
-ghost use Rattle.easy_class.specs.Access.{without_access};
+ghost use Rattle.easy_class.specs.Access.{without_access, Opened, opening_of, opened_by, opened_with, opened_at, from_side};
 ghost use Rattle.easy_class.specs.Access as class;
 ghost use Rattle.easy_goals.specs.Search.{IsSearch, IsContext, IsAfter};
-ghost use Rattle.bounds_prover.specs.Inside.Access.{Opened, opening_of, opened_by, opened_with, opened_at, from_side};
 ghost use Rattle.bounds_prover.specs.Inside.AccessIds.{access_of, side_of, IsKnownGrant, IsKnownOpening, IsKnownFound, IfOpened, IfFound, IsOpeningAt, IsFoundHere, IsWalk, IsBothWalk, AreMisses};
 
 use crate::access_instances::instance_of;
-use crate::access_moves::{Access, exp_with, form_with, same_address};
+use crate::access_moves::{exp_with, form_with, is_asked, same_address};
 use easy_goals::{Context, Search, proof_without_access};
-use formula_ids::{FormNode, form_node};
+use formula_ids::{Access, FormNode, form_node};
 use hereditary_subst::Exhausted;
 use std::alloc::AllocError;
 use std::collections::BTreeSet;
@@ -373,20 +372,13 @@ fn walk_parts(
             let found = walk_both(table, search, context, asked, grant, misses, form, a, b)?;
             Ok(found)
         }
-        FormNode::Load(z) => match asked.access {
-            Access::Load => {
-                let found = found_at(table, search, context, asked, grant, z)?;
-                Ok(found)
+        FormNode::Right(given, z) => {
+            if !is_asked(asked.access, given) {
+                return Ok(None);
             }
-            Access::Store => Ok(None),
-        },
-        FormNode::Store(z) => match asked.access {
-            Access::Load => Ok(None),
-            Access::Store => {
-                let found = found_at(table, search, context, asked, grant, z)?;
-                Ok(found)
-            }
-        },
+            let found = found_at(table, search, context, asked, grant, z)?;
+            Ok(found)
+        }
         FormNode::True => Ok(None),
         FormNode::False => Ok(None),
         FormNode::Relation(_, _, _) => Ok(None),

@@ -237,8 +237,7 @@ fn lower_by_hyp(
         }
         FormNode::True => Ok(last),
         FormNode::False => Ok(last),
-        FormNode::Load(_) => Ok(last),
-        FormNode::Store(_) => Ok(last),
+        FormNode::Right(_, _) => Ok(last),
         FormNode::And(_, _) => Ok(last),
         FormNode::Or(_, _) => Ok(last),
         FormNode::Imp(_, _) => Ok(last),

@@ -1,5 +1,5 @@
 -- Access that is found is proved.
-use Rattle.std.proofs.Common.{◌≡◌, ℕ, zero, suc, ◌+◌, ◌^◌, ◌<◌, ◌≤◌, max, Bool, true, false, cond, ◌==◌, Option, Some, None, List, [], ◌∷◌, ◌++◌, ◌⊎◌, inl, inr, length, refl, ap, subst, option_map, arith}
+use Rattle.std.proofs.Common.{◌≡◌, ℕ, zero, suc, ◌+◌, ◌^◌, ◌<◌, ◌≤◌, max, Bool, true, false, cond, ◌==◌, Option, Some, None, List, [], ◌∷◌, ◌⊎◌, inl, inr, length, refl, ap, ◌∙◌, subst, option_map, arith}
 use Rattle.term_table.specs.Tree.{Tree}
 use Rattle.term_table.specs.Subst.{bind}
 use Rattle.term_table.proofs.Options.{bind_some, map_some, some_injective}
@@ -19,7 +19,7 @@ use Rattle.easy_class.specs.Hypotheses.{Hyps, same_exp}
 use Rattle.easy_class.specs.NormalForms.{normal_form, equal_proof}
 use Rattle.easy_class.specs.Goals.{Prover, by_words_alone}
 use Rattle.easy_class.specs.Parts.{levels}
-use Rattle.easy_class.specs.Access.{Access, Load, Store, access_form, Side, Left, Right, beside, reached, down, moved, by_imp, imp_tries, has_var, summands, literal, without, all_without, sum_with, rest_of, eighth, instance_of, by_all, all_tries, by_hyp, by_hyps, by_access, without_access, by_all_means}
+use Rattle.easy_class.specs.Access.{Access, Load, Store, access_form, address_of, Side, Left, Right, down, same_address, access_move, moved, Opened, opening_of, opened_by, opened_with, opened_at, from_side, first_way, first_opened, granted, granted_by, by_grant, has_var, summands, literal, without, all_without, sum_with, rest_of, eighth, instance_of, by_hyp, by_hyps, by_access, without_access, by_all_means}
 use Rattle.easy_class.proofs.Proved.{Proves, IsHyp, AreHyps}
 use Rattle.easy_class.proofs.Uses.{rule_proves, stays_now}
 use Rattle.easy_class.proofs.Named.{all_e_proves, move_proves}
@@ -43,48 +43,61 @@ nest-put (FAllm A) x o = ap suc (nest-put A (suc x) (shift_exp 1 0 o))
 abbrev LeadsTo : Access → Form → List Side → Exp → Type 0
 LeadsTo k (FAnd A B) (Left ∷ l) z = LeadsTo k A l z
 LeadsTo k (FAnd A B) (Right ∷ l) z = LeadsTo k B l z
-LeadsTo k (FAnd A B) [] z = ⊥
-LeadsTo Load (FRd a) [] z = a ≡ z
-LeadsTo Store (FWr a) [] z = a ≡ z
+LeadsTo k A [] z = A ≡ access_form k z
 LeadsTo k A l z = ⊥
 
-abbrev AllLead : Access → Form → List (List Side × Exp) → Type 0
-AllLead k A [] = Unit {0}
-AllLead k A (x ∷ l) = LeadsTo k A x.0 x.1 × AllLead k A l
+put_right : (k : Access) (z o : Exp) → subst_var (access_form k z) 0 (PExp o) ≡ access_form k (subst_var_exp z 0 (PExp o))
+put_right Load z o = refl
+put_right Store z o = refl
 
-lead_left : (k : Access) (A B : Form) (l : List (List Side × Exp)) → AllLead k A l → AllLead k (FAnd A B) (beside Left l)
-lead_left k A B [] h = tt
-lead_left k A B (x ∷ l) h = (h.0, lead_left k A B l h.1)
+over_right : (ctx : List Tree) (k : Access) (z : Exp) → Over (access_form k z) ctx → OverExp z ctx
+over_right ctx Load z h = h
+over_right ctx Store z h = h
 
-lead_right : (k : Access) (A B : Form) (l : List (List Side × Exp)) → AllLead k B l → AllLead k (FAnd A B) (beside Right l)
-lead_right k A B [] h = tt
-lead_right k A B (x ∷ l) h = (h.0, lead_right k A B l h.1)
-
-lead_append : (k : Access) (A : Form) (l m : List (List Side × Exp)) → AllLead k A l → AllLead k A m → AllLead k A (l ++ m)
-lead_append k A [] m h g = g
-lead_append k A (x ∷ l) m h g = (h.0, lead_append k A l m h.1 g)
-
-reached_lead : (k : Access) (A : Form) → AllLead k A (reached k A)
-reached_lead k (FAnd A B) = lead_append k (FAnd A B) (beside Left (reached k A)) (beside Right (reached k B)) (lead_left k A B (reached k A) (reached_lead k A)) (lead_right k A B (reached k B) (reached_lead k B))
-reached_lead Load (FRd a) = (refl, tt)
-reached_lead Store (FWr a) = (refl, tt)
-reached_lead k _ = tt
+-- the formula is the right at its address
+pub address_is : (k : Access) (A : Form) (z : Exp) → address_of k A ≡ Some z → A ≡ access_form k z
+address_is Load (FRd a) z q = ap FRd (some_injective q)
+address_is Store (FWr a) z q = ap FWr (some_injective q)
+address_is k _ z q = cc
 
 lead_put : (k : Access) (A : Form) (l : List Side) (z o : Exp) → LeadsTo k A l z → LeadsTo k (subst_var A 0 (PExp o)) l (subst_var_exp z 0 (PExp o))
 lead_put k (FAnd A B) (Left ∷ l) z o h = lead_put k A l z o h
 lead_put k (FAnd A B) (Right ∷ l) z o h = lead_put k B l z o h
-lead_put k (FAnd A B) [] z o h = elim h [ ]
-lead_put Load (FRd a) [] z o h = ap (λ x. subst_var_exp x 0 (PExp o)) h
-lead_put Store (FWr a) [] z o h = ap (λ x. subst_var_exp x 0 (PExp o)) h
+lead_put k A [] z o h = ap (λ B. subst_var B 0 (PExp o)) h ∙ put_right k z o
 lead_put k _ l z o h = elim h [ ]
+
+-- what opens first stands at an address to which its way leads
+abbrev Opens : Access → (Exp → Option Opened) → Form → List Side × Opened → Type 0
+Opens k f A x = (z : Exp) × LeadsTo k A x.0 z × (f z ≡ Some x.1)
+
+first_opens : (k : Access) (f : Exp → Option Opened) (A : Form) (x : List Side × Opened) → first_opened k f A ≡ Some x → Opens k f A x
+first_opens k f (FAnd A B) x q = go (first_opened k f A) (first_opened k f B) q (first_opens k f A) (first_opens k f B)
+  where
+    go : (o u : Option (List Side × Opened)) → first_way (from_side Left o) (from_side Right u) ≡ Some x →
+        ((y : List Side × Opened) → o ≡ Some y → Opens k f A y) → ((y : List Side × Opened) → u ≡ Some y → Opens k f B y) → Opens k f (FAnd A B) x
+    go (Some y) u q l r = subst (Opens k f (FAnd A B)) (some_injective q) (l y refl)
+    go None (Some y) q l r = subst (Opens k f (FAnd A B)) (some_injective q) (r y refl)
+    go None None q l r = cc
+first_opens k f A x q =
+    let y = map_some (bind (address_of k A) f) (λ (o : Opened). ([], o)) x q in
+    let z = bind_some (address_of k A) f y.0 y.1 in
+    subst (Opens k f A) y.2 (z.0, address_is k A z.0 z.1, z.2)
+
+-- when an address opens
+opened_is : (prove : Prover) (out : ℕ) (Γ : Hyps) (a : Exp) (P : Form) (z o : Exp) (x : Opened) → opened_by prove out Γ a P z o ≡ Some x →
+    (p : Tree) × (same_address out z a ≡ true) × (prove out Γ P ≡ Some p) × (opening_of z o p ≡ x)
+opened_is prove out Γ a P z o x q = go (same_address out z a) refl q
+  where
+    go : (t : Bool) → same_address out z a ≡ t → cond t (option_map (opening_of z o) (prove out Γ P)) None ≡ Some x →
+        (p : Tree) × (same_address out z a ≡ true) × (prove out Γ P ≡ Some p) × (opening_of z o p ≡ x)
+    go true e q = let y = map_some (prove out Γ P) (opening_of z o) x q in (y.0, e, y.1, y.2)
+    go false e q = cc
 
 -- the address is over the context
 lead_over : (ctx : List Tree) (m : Access) (A : Form) (l : List Side) (z : Exp) → Over A ctx → LeadsTo m A l z → OverExp z ctx
 lead_over ctx m (FAnd A B) (Left ∷ l) z o h = lead_over ctx m A l z o.0 h
 lead_over ctx m (FAnd A B) (Right ∷ l) z o h = lead_over ctx m B l z o.1 h
-lead_over ctx m (FAnd A B) [] z o h = elim h [ ]
-lead_over ctx Load (FRd a) [] z o h = subst (λ x. OverExp x ctx) h o
-lead_over ctx Store (FWr a) [] z o h = subst (λ x. OverExp x ctx) h o
+lead_over ctx m A [] z o h = over_right ctx m z (subst (λ B. Over B ctx) h o)
 lead_over ctx m _ l z o h = elim h [ ]
 
 module _ (e d : ℕ) (room : e + (d + d + d) + 16 ≤ 2 ^ 32) (some : 0 < d) (k : ℕ) (ctx : List Tree) (w : length ctx + k ≤ e) where
@@ -105,20 +118,25 @@ module _ (e d : ℕ) (room : e + (d + d + d) + 16 ≤ 2 ^ 32) (some : 0 < d) (k 
   down_says : (m : Access) (A : Form) (l : List Side) (z : Exp) (p : Tree) → Over A ctx → nesting A ≤ d → LeadsTo m A l z → Says A p → Says (access_form m z) (down A l p)
   down_says m (FAnd A B) (Left ∷ l) z p o n h g = down_says m A l z (and_l A B p) o.0 (omega (arith, n)) h (and_l_says A B p o n g)
   down_says m (FAnd A B) (Right ∷ l) z p o n h g = down_says m B l z (and_r A B p) o.1 (omega (arith, n)) h (and_r_says A B p o n g)
-  down_says m (FAnd A B) [] z p o n h g = elim h [ ]
-  down_says Load (FRd a) [] z p o n h g = subst (λ x. Says (FRd x) p) h g
-  down_says Store (FWr a) [] z p o n h g = subst (λ x. Says (FWr x) p) h g
+  down_says m A [] z p o n h g = subst (λ B. Says B p) h g
   down_says m _ l z p o n h g = elim h [ ]
 
   move_access : (m : Access) (z a : Exp) → OverExp z ctx → OverExp a ctx → (q h : Tree) → Says (FRel Rattle.word_ops.specs.declared.Rel.TheVariants.Eq z a) q → Says (access_form m z) h → Says (access_form m a) (move (access_form m (EVar 0)) z a q h)
   move_access Load z a oz oa q h hq hh = move_proves e d room ctx wide (FRd (EVar 0)) z a refl some oz oa (rd (exp_encoding z)) (rd (exp_encoding a)) q h refl refl hq hh
   move_access Store z a oz oa q h hq hh = move_proves e d room ctx wide (FWr (EVar 0)) z a refl some oz oa (wr (exp_encoding z)) (wr (exp_encoding a)) q h refl refl hq hh
 
+  access_move_says : (out : ℕ) (m : Access) (a z : Exp) (h : Tree) → OverExp a ctx → OverExp z ctx → Says (access_form m z) h →
+      same_address out z a ≡ true → Says (access_form m a) (access_move out m z a h)
+  access_move_says out m a z h oa oz g same =
+      move_access m z a oz oa (equal_proof z a (normal_form out z) (normal_form out a)) h
+      (equal_says e d room some k ctx w z a (normal_form out z) (normal_form out a) oz oa (normal_form_is e d room some k ctx w out z oz)
+      (normal_form_is e d room some k ctx w out a oa) (tree_eq-true (exp_encoding (normal_form out z).now) (exp_encoding (normal_form out a).now) same))
+      g
+
   moved_says : (out : ℕ) (m : Access) (a z : Exp) (h p : Tree) → OverExp a ctx → OverExp z ctx → Says (access_form m z) h → moved out m a z h ≡ Some p → Says (access_form m a) p
   moved_says out m a z h p oa oz g q =
-      let c = if_some (same_exp (normal_form out z).now (normal_form out a).now) (move (access_form m (EVar 0)) z a (equal_proof z a (normal_form out z) (normal_form out a)) h) p q in
-      let s = equal_says e d room some k ctx w z a (normal_form out z) (normal_form out a) oz oa (normal_form_is e d room some k ctx w out z oz) (normal_form_is e d room some k ctx w out a oa) (tree_eq-true (exp_encoding (normal_form out z).now) (exp_encoding (normal_form out a).now) c.0) in
-      subst (λ x. Says (access_form m a) x) c.1 (move_access m z a oz oa (equal_proof z a (normal_form out z) (normal_form out a)) h s g)
+      let c = if_some (same_address out z a) (access_move out m z a h) p q in
+      subst (λ x. Says (access_form m a) x) c.1 (access_move_says out m a z h oa oz g c.0)
 
   -- terms that are put for a variable
   abbrev AllOver : List Exp → Type 0
@@ -190,48 +208,50 @@ module _ (e d : ℕ) (room : e + (d + d + d) + 16 ≤ 2 ^ 32) (some : 0 < d) (k 
     unfolding the_rules
     imp_e_says P Q h p o n g f = rule_proves e d room 36 _ refl ctx wide (AForm P ∷ AForm Q ∷ []) (h ∷ p ∷ []) ((o.0, omega (arith, n)), ((o.1, omega (arith, n)), tt)) (g, (f, tt))
 
-    by_imp_says : (m : Access) (a : Exp) → OverExp a ctx → (P Q : Form) (h : Tree) (way : List Side) (z : Exp) (t : Tree) → Over (FImp P Q) ctx → nesting (FImp P Q) ≤ d → Says (FImp P Q) h → LeadsTo m Q way z →
-        by_imp without_access out Γ m a P Q h way z ≡ Some t → Says (access_form m a) t
-    by_imp_says m a oa P Q h way z t o n g l q =
-        let x = bind_some (without_access out Γ P) (λ p. moved out m a z (down Q way (imp_e P Q h p))) t q in
-        let f : Says P x.0 = sl k out ctx Γ P x.0 w are o.0 (omega (arith, n, big)) (omega (arith, n)) x.1 in
-        let c : Says (access_form m z) (down Q way (imp_e P Q h x.0)) = down_says m Q way z (imp_e P Q h x.0) o.1 (omega (arith, n)) l (imp_e_says P Q h x.0 o n g f) in
-        moved_says out m a z (down Q way (imp_e P Q h x.0)) t oa (lead_over ctx m Q way z o.1 l) c x.2
+    granted_says : (m : Access) (a : Exp) → OverExp a ctx → (P Q : Form) (h : Tree) (way : List Side) (z o : Exp) (p : Tree) → Over (FImp P Q) ctx →
+        nesting (FImp P Q) ≤ d → Says (FImp P Q) h → LeadsTo m Q way z →
+        same_address out z a ≡ true → without_access out Γ P ≡ Some p → Says (access_form m a) (granted out m a P Q h (way, opening_of z o p))
+    granted_says m a oa P Q h way z o p ov n g l same q =
+        let f : Says P p = sl k out ctx Γ P p w are ov.0 (omega (arith, n, big)) (omega (arith, n)) q in
+        let c : Says (access_form m z) (down Q way (imp_e P Q h p)) = down_says m Q way z (imp_e P Q h p) ov.1 (omega (arith, n)) l (imp_e_says P Q h p ov n g f) in
+        access_move_says out m a z (down Q way (imp_e P Q h p)) oa (lead_over ctx m Q way z ov.1 l) c same
 
-    imp_tries_says : (m : Access) (a : Exp) → OverExp a ctx → (P Q : Form) (h : Tree) → Over (FImp P Q) ctx → nesting (FImp P Q) ≤ d → Says (FImp P Q) h → (l : List (List Side × Exp)) → AllLead m Q l → (t : Tree) →
-        imp_tries without_access out Γ m a P Q h l ≡ Some t → Says (access_form m a) t
-    imp_tries_says m a oa P Q h o n g [] c t q = cc
-    imp_tries_says m a oa P Q h o n g (x ∷ l) c t q = go (else_some (by_imp without_access out Γ m a P Q h x.0 x.1) (imp_tries without_access out Γ m a P Q h l) t q) (λ f. imp_tries_says m a oa P Q h o n g l c.1 t f)
-      where
-        go : (by_imp without_access out Γ m a P Q h x.0 x.1 ≡ Some t) ⊎ (imp_tries without_access out Γ m a P Q h l ≡ Some t) → (imp_tries without_access out Γ m a P Q h l ≡ Some t → Says (access_form m a) t) → Says (access_form m a) t
-        go (inl f) rest = by_imp_says m a oa P Q h x.0 x.1 t o n g c.0 f
-        go (inr f) rest = rest f
+    by_imp_says : (m : Access) (a : Exp) → OverExp a ctx → (P Q : Form) (h t : Tree) → Over (FImp P Q) ctx → nesting (FImp P Q) ≤ d →
+        Says (FImp P Q) h → by_grant without_access false out Γ m a P Q h ≡ Some t → Says (access_form m a) t
+    by_imp_says m a oa P Q h t ov n g q =
+        let f : Exp → Option Opened = opened_at without_access false out Γ a P in
+        let x = map_some (first_opened m f Q) (granted_by false out m a P Q h) t q in
+        let z = first_opens m f Q x.0 x.1 in
+        let y = opened_is without_access out Γ a P z.0 z.0 x.0.1 z.2 in
+        let made = granted_says m a oa P Q h x.0.0 z.0 z.0 y.0 ov n g z.1 y.1 y.2 in
+        subst (λ v. Says (access_form m a) v) x.2 (subst (λ (v : Opened). Says (access_form m a) (granted out m a P Q h (x.0.0, v))) y.3 made)
 
-    by_all_says : (m : Access) (a : Exp) → OverExp a ctx → (P Q : Form) (h : Tree) (way : List Side) (z o : Exp) (t : Tree) → Over (FAll (FImp P Q)) ctx → nesting (FAll (FImp P Q)) ≤ d → Says (FAll (FImp P Q)) h → LeadsTo m Q way z →
-        OverExp o ctx → by_all without_access out Γ m a P Q h way z o ≡ Some t → Says (access_form m a) t
-    by_all_says m a oa P Q h way z o t ov n g l oo q =
-        let x : Says (FImp (subst_var P 0 (PExp o)) (subst_var Q 0 (PExp o))) (all_e (FImp P Q) o h) = all_e_proves e d room ctx wide (FImp P Q) o ov (omega (arith, n)) oo h g in
-        by_imp_says m a oa (subst_var P 0 (PExp o)) (subst_var Q 0 (PExp o)) (all_e (FImp P Q) o h) way (subst_var_exp z 0 (PExp o)) t (over_put (FImp P Q) 0 o ctx (exp ∷ ctx) (splits_first ctx) oo ov) (omega (arith, n, nest-put P 0 o, nest-put Q 0 o)) x
-        (lead_put m Q way z o l) q
-
-    all_tries_says : (m : Access) (a : Exp) → OverExp a ctx → (P Q : Form) (h : Tree) → Over (FAll (FImp P Q)) ctx → nesting (FAll (FImp P Q)) ≤ d → Says (FAll (FImp P Q)) h → (l : List (List Side × Exp)) → AllLead m Q l → (t : Tree) →
-        all_tries without_access out Γ m a P Q h l ≡ Some t → Says (access_form m a) t
-    all_tries_says m a oa P Q h o n g [] c t q = cc
-    all_tries_says m a oa P Q h o n g (x ∷ l) c t q =
-        go (else_some (bind (instance_of out a x.1) (by_all without_access out Γ m a P Q h x.0 x.1)) (all_tries without_access out Γ m a P Q h l) t q) (λ f. all_tries_says m a oa P Q h o n g l c.1 t f)
-      where
-        go : (bind (instance_of out a x.1) (by_all without_access out Γ m a P Q h x.0 x.1) ≡ Some t) ⊎ (all_tries without_access out Γ m a P Q h l ≡ Some t) → (all_tries without_access out Γ m a P Q h l ≡ Some t → Says (access_form m a) t) → Says (access_form m a) t
-        go (inl f) rest =
-            let y = bind_some (instance_of out a x.1) (by_all without_access out Γ m a P Q h x.0 x.1) t f in
-            by_all_says m a oa P Q h x.0 x.1 y.0 t o n g c.0 (instance_over out a x.1 y.0 oa (lead_over (exp ∷ ctx) m Q x.0 x.1 o.1 c.0) y.1) y.2
-        go (inr f) rest = rest f
+    by_all_says : (m : Access) (a : Exp) → OverExp a ctx → (P Q : Form) (h t : Tree) → Over (FAll (FImp P Q)) ctx → nesting (FAll (FImp P Q)) ≤ d →
+        Says (FAll (FImp P Q)) h → by_grant without_access true out Γ m a P Q h ≡ Some t → Says (access_form m a) t
+    by_all_says m a oa P Q h t ov n g q =
+        let f : Exp → Option Opened = opened_at without_access true out Γ a P in
+        let x = map_some (first_opened m f Q) (granted_by true out m a P Q h) t q in
+        let z = first_opens m f Q x.0 x.1 in
+        let i = bind_some (instance_of out a z.0) (opened_with without_access out Γ a P z.0) x.0.1 z.2 in
+        let o = i.0 in
+        let R = subst_var P 0 (PExp o) in
+        let S = subst_var Q 0 (PExp o) in
+        let y = opened_is without_access out Γ a R (subst_var_exp z.0 0 (PExp o)) o x.0.1 i.2 in
+        let oo = instance_over out a z.0 o oa (lead_over (exp ∷ ctx) m Q x.0.0 z.0 ov.1 z.1) i.1 in
+        let made =
+        granted_says m a oa R S (all_e (FImp P Q) o h) x.0.0 (subst_var_exp z.0 0 (PExp o)) o y.0
+        (over_put (FImp P Q) 0 o ctx (exp ∷ ctx) (splits_first ctx) oo ov) (omega (arith, n, nest-put P 0 o, nest-put Q 0 o))
+        (all_e_proves e d room ctx wide (FImp P Q) o ov (omega (arith, n)) oo h g) (lead_put m Q x.0.0 z.0 o z.1) y.1 y.2 in
+        subst (λ v. Says (access_form m a) v) x.2 (subst (λ (v : Opened). Says (access_form m a) (granted_by true out m a P Q h (x.0.0, v))) y.3 made)
 
     by_hyp_says : (m : Access) (a : Exp) → OverExp a ctx → (A : Form) (h t : Tree) → IsHyp (e + d) d k ctx (A, h) → by_hyp without_access out Γ m a A h ≡ Some t → Says (access_form m a) t
-    by_hyp_says Load a oa (FRd z) h t i q = moved_says out Load a z h t oa i.over (stays_now (e + d) k ctx (form_encoding (FRd z)) h i.stays) q
-    by_hyp_says Store a oa (FWr z) h t i q = moved_says out Store a z h t oa i.over (stays_now (e + d) k ctx (form_encoding (FWr z)) h i.stays) q
-    by_hyp_says m a oa (FImp P Q) h t i q = imp_tries_says m a oa P Q h i.over i.nesting (stays_now (e + d) k ctx (form_encoding (FImp P Q)) h i.stays) (reached m Q) (reached_lead m Q) t q
-    by_hyp_says m a oa (FAll (FImp P Q)) h t i q = all_tries_says m a oa P Q h i.over i.nesting (stays_now (e + d) k ctx (form_encoding (FAll (FImp P Q))) h i.stays) (reached m Q) (reached_lead m Q) t q
-    by_hyp_says m a oa _ h t i q = cc
+    by_hyp_says m a oa (FImp P Q) h t i q = by_imp_says m a oa P Q h t i.over i.nesting (stays_now (e + d) k ctx (form_encoding (FImp P Q)) h i.stays) q
+    by_hyp_says m a oa (FAll (FImp P Q)) h t i q = by_all_says m a oa P Q h t i.over i.nesting (stays_now (e + d) k ctx (form_encoding (FAll (FImp P Q))) h i.stays) q
+    by_hyp_says m a oa A h t i q =
+        let x = bind_some (address_of m A) (λ z. moved out m a z h) t q in
+        let is = address_is m A x.0 x.1 in
+        moved_says out m a x.0 h t oa (over_right ctx m x.0 (subst (λ B. Over B ctx) is i.over))
+        (subst (λ B. Says B h) is (stays_now (e + d) k ctx (form_encoding A) h i.stays)) x.2
 
     by_hyps_says : (m : Access) (a : Exp) → OverExp a ctx → (l : Hyps) → AreHyps (e + d) d k ctx l → (t : Tree) → by_hyps without_access out Γ m a l ≡ Some t → Says (access_form m a) t
     by_hyps_says m a oa [] g t q = cc

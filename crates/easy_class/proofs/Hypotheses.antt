@@ -1,10 +1,10 @@
 -- What a hypothesis is split into has its proofs.
-use Rattle.std.proofs.Common.{◌≡◌, ℕ, zero, suc, ◌+◌, ◌^◌, ◌<◌, ◌≤◌, Bool, true, false, cond, Option, Some, None, List, [], ◌∷◌, ◌++◌, length, refl, sym, ap, subst, arith, one-add}
+use Rattle.std.proofs.Common.{◌≡◌, ℕ, zero, suc, ◌+◌, ◌^◌, ◌<◌, ◌≤◌, Bool, true, false, not, cond, Option, Some, None, List, [], ◌∷◌, ◌++◌, length, refl, sym, ap, subst, arith, one-add}
 use Rattle.term_table.specs.Tree.{Tree, Var, shift, at}
 use Rattle.term_table.proofs.Equality.{tree_eq-true}
 use Rattle.term_table.proofs.Options.{some_injective}
 use Rattle.word_ops.specs.declared.Op.{Op}
-use Rattle.word_ops.specs.declared.Op.TheVariants.{Add, Sub, Band, Bis, Sll, Srl, Cmpeq, Cmplt, Cmple, Cmpult, Cmpule}
+use Rattle.word_ops.specs.declared.Op.TheVariants.{Cmpeq, Cmplt, Cmple, Cmpult, Cmpule}
 use Rattle.word_ops.specs.declared.Rel.{Rel}
 use Rattle.word_ops.specs.declared.Rel.TheVariants.{Eq, Ult, Ule, Slt, Sle}
 use Rattle.lf_signature.specs.Terms.{pf}
@@ -14,13 +14,13 @@ use Rattle.lf_signature.specs.Sigma1.{the_rules}
 use Rattle.lf_rules.specs.Plain.{var_bound}
 use Rattle.lf_rules.proofs.Room.{fits_shift, var_bound_shift}
 use Rattle.lf_rules.proofs.Shifts.{shift-more}
-use Rattle.formula_tree.specs.Formulas.{Exp, EVar, ELit, EOp, ESel, Form, FTrue, FFalse, FRel, FRd, FWr, FAnd, FOr, FImp, FAll, FAllm, shift_form, EReg, ELeft}
+use Rattle.formula_tree.specs.Formulas.{Exp, ELit, EOp, Form, FFalse, FRel, FAnd, FImp, shift_form}
 use Rattle.formula_terms.specs.Encoding.{form_encoding}
 use Rattle.easy_class.proofs.Scope.{OverExp, Over, nesting}
 use Rattle.easy_class.proofs.Encoded.{shift-form_encoding, over_wider, wider_one}
 use Rattle.easy_class.proofs.Typed.{form_bound}
 use Rattle.formula_terms.specs.ProofTerms.{AExp, AForm, and_l, and_r, word_rule}
-use Rattle.easy_class.specs.Hypotheses.{Hyps, same_form, find_hyp, raised_hyps, compared, rel_hyps, not_hyps, zero_of, one_of, zero_hyps, one_hyps, imp_hyps, split_hyps, added, with_new}
+use Rattle.easy_class.specs.Hypotheses.{Hyps, same_form, find_hyp, raised_hyps, compared, comparison, test_rule, other_hyps, test_hyps, tested_hyps, split_hyps, added, with_new}
 use Rattle.easy_class.proofs.Proved.{Proves, Stays, IsHyp, AreHyps}
 use Rattle.easy_class.proofs.Uses.{rule_stays, stays_now, nesting-shift}
 
@@ -128,12 +128,7 @@ module _ (e d : ℕ) (room : e + (d + d + d) + 16 ≤ 2 ^ 32) (some : 0 < d) whe
         go Cmple p q i = move_to Cmple p (Sle, 2) q (at_op Cmple Sle 80 (rule_stays e d room 80 _ refl (SRel Eq (SOp Cmple (SPar 0) (SPar 1)) (SLit 0)) refl refl k ctx w (AExp a ∷ AExp b ∷ []) (i.over.0.0, (i.over.0.1, tt)) h i.stays) i)
         go Cmpult p q i = move_to Cmpult p (Ult, 3) q (at_op Cmpult Ult 81 (rule_stays e d room 81 _ refl (SRel Eq (SOp Cmpult (SPar 0) (SPar 1)) (SLit 0)) refl refl k ctx w (AExp a ∷ AExp b ∷ []) (i.over.0.0, (i.over.0.1, tt)) h i.stays) i)
         go Cmpule p q i = move_to Cmpule p (Ule, 4) q (at_op Cmpule Ule 82 (rule_stays e d room 82 _ refl (SRel Eq (SOp Cmpule (SPar 0) (SPar 1)) (SLit 0)) refl refl k ctx w (AExp a ∷ AExp b ∷ []) (i.over.0.0, (i.over.0.1, tt)) h i.stays) i)
-        go Add p q i = cc
-        go Sub p q i = cc
-        go Band p q i = cc
-        go Bis p q i = cc
-        go Sll p q i = cc
-        go Srl p q i = cc
+        go _ p q i = cc
 
     yes_hyp : (o : Op) (p : Rel × ℕ) → compared o ≡ Some p → (a b : Exp) (h : Tree) → Hyp (FImp (FRel Eq (EOp o a b) (ELit 0)) FFalse) h → Hyp (FRel p.0 a b) (word_rule (73 + p.1) (a ∷ b ∷ []) (h ∷ []))
     unfolding the_rules
@@ -151,76 +146,35 @@ module _ (e d : ℕ) (room : e + (d + d + d) + 16 ≤ 2 ^ 32) (some : 0 < d) whe
         go Cmple p q i = move_to Cmple p (Sle, 2) q (at_op Cmple Sle 75 (rule_stays e d room 75 _ refl (SImp (SRel Eq (SOp Cmple (SPar 0) (SPar 1)) (SLit 0)) SFalse) refl refl k ctx w (AExp a ∷ AExp b ∷ []) (i.over.0.0.0, (i.over.0.0.1, tt)) h i.stays) i)
         go Cmpult p q i = move_to Cmpult p (Ult, 3) q (at_op Cmpult Ult 76 (rule_stays e d room 76 _ refl (SImp (SRel Eq (SOp Cmpult (SPar 0) (SPar 1)) (SLit 0)) SFalse) refl refl k ctx w (AExp a ∷ AExp b ∷ []) (i.over.0.0.0, (i.over.0.0.1, tt)) h i.stays) i)
         go Cmpule p q i = move_to Cmpule p (Ule, 4) q (at_op Cmpule Ule 77 (rule_stays e d room 77 _ refl (SImp (SRel Eq (SOp Cmpule (SPar 0) (SPar 1)) (SLit 0)) SFalse) refl refl k ctx w (AExp a ∷ AExp b ∷ []) (i.over.0.0.0, (i.over.0.0.1, tt)) h i.stays) i)
-        go Add p q i = cc
-        go Sub p q i = cc
-        go Band p q i = cc
-        go Bis p q i = cc
-        go Sll p q i = cc
-        go Srl p q i = cc
+        go _ p q i = cc
 
-    rel_are : (p : Rel) (a b : Exp) (h : Tree) (more : Tree → Hyps) → Hyp (FRel p a b) h → (Hyp (FRel Eq a (ELit 0)) h → Are (more h)) → Are (rel_hyps p a b h more)
-    rel_are Eq a (ELit zero) h more i f = (i, f i)
-    rel_are Eq a (ELit (suc v)) h more i f = (i, tt)
-    rel_are Eq a (EReg r) h more i f = (i, tt)
-    rel_are Eq a ELeft h more i f = (i, tt)
-    rel_are Eq a (EVar n) h more i f = (i, tt)
-    rel_are Eq a (EOp o x y) h more i f = (i, tt)
-    rel_are Eq a (ESel m x) h more i f = (i, tt)
-    rel_are Ult a b h more i f = (i, tt)
-    rel_are Ule a b h more i f = (i, tt)
-    rel_are Slt a b h more i f = (i, tt)
-    rel_are Sle a b h more i f = (i, tt)
+    test_hyp : (is_zero : Bool) (o : Op) (p : Rel × ℕ) → compared o ≡ Some p → (a b : Exp) (h : Tree) →
+        Hyp (comparison is_zero Eq (EOp o a b) (ELit 0)) h →
+        Hyp (comparison (not is_zero) p.0 a b) (word_rule (test_rule is_zero + p.1) (a ∷ b ∷ []) (h ∷ []))
+    test_hyp true = no_hyp
+    test_hyp false = yes_hyp
 
-    not_are : (p : Rel) (a b : Exp) (h : Tree) (more : Tree → Hyps) → Hyp (FImp (FRel p a b) FFalse) h → (Hyp (FImp (FRel Eq a (ELit 0)) FFalse) h → Are (more h)) → Are (not_hyps p a b h more)
-    not_are Eq a (ELit zero) h more i f = (i, f i)
-    not_are Eq a (ELit (suc v)) h more i f = (i, tt)
-    not_are Eq a (EReg r) h more i f = (i, tt)
-    not_are Eq a ELeft h more i f = (i, tt)
-    not_are Eq a (EVar n) h more i f = (i, tt)
-    not_are Eq a (EOp o x y) h more i f = (i, tt)
-    not_are Eq a (ESel m x) h more i f = (i, tt)
-    not_are Ult a b h more i f = (i, (not_lt_hyp a b h i, tt))
-    not_are Ule a b h more i f = (i, tt)
-    not_are Slt a b h more i f = (i, tt)
-    not_are Sle a b h more i f = (i, tt)
+    other_are : (more : Bool → Tree → Hyps) (holds : Bool) (p : Rel) (a b : Exp) (h : Tree) → Hyp (comparison holds p a b) h →
+        (Hyp (comparison holds Eq a (ELit 0)) h → Are (more holds h)) → Are (other_hyps more holds p a b h)
+    other_are more holds Eq a (ELit zero) h i f = f i
+    other_are more false Ult a b h i f = (not_lt_hyp a b h i, tt)
+    other_are more holds p a b h i f = tt
 
-    zero_of_are : (o : Op) (a b : Exp) (h : Tree) (more : Tree → Hyps) → Hyp (FRel Eq (EOp o a b) (ELit 0)) h → ((h : Tree) → Hyp (FImp (FRel Eq a (ELit 0)) FFalse) h → Are (more h)) → (p : Option (Rel × ℕ)) → compared o ≡ p → Are (zero_of p a b h more)
-    zero_of_are o a b h more i f None q = tt
-    zero_of_are o a b h more i f (Some p) q = not_are p.0 a b (word_rule (78 + p.1) (a ∷ b ∷ []) (h ∷ [])) more (no_hyp o p q a b h i) (f (word_rule (78 + p.1) (a ∷ b ∷ []) (h ∷ [])))
+    test_are : (more : Bool → Tree → Hyps) (is_zero : Bool) (o : Op) (a b : Exp) (h : Tree) → Hyp (comparison is_zero Eq (EOp o a b) (ELit 0)) h →
+        ((z : Bool) (h : Tree) → Hyp (comparison z Eq a (ELit 0)) h → Are (more z h)) → (p : Option (Rel × ℕ)) → compared o ≡ p →
+        Are (test_hyps more is_zero p a b h)
+    test_are more z o a b h i f None q = tt
+    test_are more z o a b h i f (Some p) q =
+        let g = word_rule (test_rule z + p.1) (a ∷ b ∷ []) (h ∷ []) in
+        let j = test_hyp z o p q a b h i in
+        (j, other_are more (not z) p.0 a b g j (f (not z) g))
 
-    one_of_are : (o : Op) (a b : Exp) (h : Tree) (more : Tree → Hyps) → Hyp (FImp (FRel Eq (EOp o a b) (ELit 0)) FFalse) h → ((h : Tree) → Hyp (FRel Eq a (ELit 0)) h → Are (more h)) → (p : Option (Rel × ℕ)) → compared o ≡ p → Are (one_of p a b h more)
-    one_of_are o a b h more i f None q = tt
-    one_of_are o a b h more i f (Some p) q = rel_are p.0 a b (word_rule (73 + p.1) (a ∷ b ∷ []) (h ∷ [])) more (yes_hyp o p q a b h i) (f (word_rule (73 + p.1) (a ∷ b ∷ []) (h ∷ [])))
-
-    mutual
-      zero_are : (a : Exp) (h : Tree) → Hyp (FRel Eq a (ELit 0)) h → Are (zero_hyps a h)
-      zero_are (EOp o a b) h i = zero_of_are o a b h (one_hyps a) i (λ h i. one_are a h i) (compared o) refl
-      zero_are (EReg r) h i = tt
-      zero_are ELeft h i = tt
-      zero_are (EVar n) h i = tt
-      zero_are (ELit v) h i = tt
-      zero_are (ESel m a) h i = tt
-
-      one_are : (a : Exp) (h : Tree) → Hyp (FImp (FRel Eq a (ELit 0)) FFalse) h → Are (one_hyps a h)
-      one_are (EOp o a b) h i = one_of_are o a b h (zero_hyps a) i (λ h i. zero_are a h i) (compared o) refl
-      one_are (EReg r) h i = tt
-      one_are ELeft h i = tt
-      one_are (EVar n) h i = tt
-      one_are (ELit v) h i = tt
-      one_are (ESel m a) h i = tt
-
-    imp_are : (A B : Form) (h : Tree) → Hyp (FImp A B) h → Are (imp_hyps A B h)
-    imp_are (FRel p a b) FFalse h i = not_are p a b h (one_hyps a) i (one_are a h)
-    imp_are A B h i = (i, tt)
+    tested_are : (a : Exp) (is_zero : Bool) (h : Tree) → Hyp (comparison is_zero Eq a (ELit 0)) h → Are (tested_hyps a is_zero h)
+    tested_are (EOp o a b) z h i = test_are (tested_hyps a) z o a b h i (λ z h i. tested_are a z h i) (compared o) refl
+    tested_are a z h i = tt
 
     pub split_are : (A : Form) (h : Tree) → Hyp A h → Are (split_hyps A h)
     split_are (FAnd A B) h i = append_are (e + d) d k ctx (split_hyps A (and_l A B h)) (split_hyps B (and_r A B h)) (split_are A (and_l A B h) (and_l_hyp A B h i)) (split_are B (and_r A B h) (and_r_hyp A B h i))
-    split_are (FRel p a b) h i = rel_are p a b h (zero_hyps a) i (zero_are a h)
-    split_are (FImp A B) h i = imp_are A B h i
-    split_are FTrue h i = (i, tt)
-    split_are FFalse h i = (i, tt)
-    split_are (FRd a) h i = (i, tt)
-    split_are (FWr a) h i = (i, tt)
-    split_are (FOr A B) h i = (i, tt)
-    split_are (FAll A) h i = (i, tt)
-    split_are (FAllm A) h i = (i, tt)
+    split_are (FRel p a b) h i = (i, other_are (tested_hyps a) true p a b h i (tested_are a true h))
+    split_are (FImp (FRel p a b) FFalse) h i = (i, other_are (tested_hyps a) false p a b h i (tested_are a false h))
+    split_are A h i = (i, tt)

@@ -1,17 +1,15 @@
 -- The search is a use of its hypotheses that takes the first with a formula; so it finds the same where repeats are added.
-use Rattle.std.proofs.Common.{◌≡◌, ℕ, zero, suc, Bool, true, false, cond, Option, Some, None, List, [], ◌∷◌, ◌++◌, refl, sym, ap, ◌∙◌, option_map}
+use Rattle.std.proofs.Common.{◌≡◌, ℕ, zero, suc, Bool, true, false, cond, Option, Some, None, [], ◌∷◌, ◌++◌, refl, sym, ap, ◌∙◌, option_map}
 use Rattle.term_table.specs.Tree.{Tree, Var}
 use Rattle.term_table.specs.Subst.{bind}
 use Rattle.word_ops.specs.declared.Op.TheVariants.{Add, Band, Sll}
 use Rattle.word_ops.specs.declared.Rel.TheVariants.{Eq, Ult, Ule}
-use Rattle.formula_tree.specs.Formulas.{Exp, EVar, ELit, EOp, Form, FTrue, FFalse, FRel, FRd, FWr, FAnd, FOr, FImp, FAll, FAllm, shift_form}
-use Rattle.formula_tree.specs.Variables.{PExp, subst_var_exp, subst_var}
-use Rattle.formula_terms.specs.ProofTerms.{ff_e, and_i, or_l, or_r, imp_i, imp_e, all_e, all_i, allm_i, move, word_rule}
-use Rattle.easy_class.specs.Hypotheses.{Hyps, same_exp, find_hyp, raised_hyps, split_hyps, with_new}
-use Rattle.easy_class.specs.NormalForms.{normal_form, equal_proof}
+use Rattle.formula_tree.specs.Formulas.{Exp, ELit, EOp, Form, FTrue, FFalse, FRel, FRd, FWr, FAnd, FOr, FImp, FAll, FAllm, shift_form}
+use Rattle.formula_terms.specs.ProofTerms.{ff_e, and_i, or_l, or_r, imp_i, all_i, allm_i, word_rule}
+use Rattle.easy_class.specs.Hypotheses.{Hyps, find_hyp, raised_hyps, split_hyps, with_new}
 use Rattle.easy_class.specs.Goals.{first_of, absurdity, Prover, by_shape, goal_proof, aligned_form, alignment_proof, by_aligned, ule_by, ult_by, by_bounds, by_normal, by_words_alone}
 use Rattle.easy_class.specs.Parts.{levels, part_proof}
-use Rattle.easy_class.specs.Access.{Access, Load, Store, access_form, Side, reached, down, moved, by_imp, imp_tries, instance_of, by_all, all_tries, by_hyp, by_hyps, by_access, without_access, by_all_means}
+use Rattle.easy_class.specs.Access.{Access, Load, Store, address_of, same_address, access_move, moved, opened_at, first_opened, granted_by, by_grant, by_hyp, by_hyps, by_access, without_access, by_all_means}
 use Rattle.easy_class.specs.Repeats.{Adding, with_repeats, by_shape_adding, goal_proof_adding, without_access_adding, by_all_means_adding, part_proof_adding}
 use Rattle.easy_class.proofs.Repeats.{IsUse, find_use, first_use, absurdity_use, raised_use, new_same, new_use}
 use Rattle.easy_class.proofs.RepeatedBounds.{upper_use, lower_use}
@@ -72,27 +70,10 @@ module _ (leaf : Prover) (takes : Takes leaf) where
       (first_of (option_map (ff_e A) (absurdity_use Γ l h q i)) (shape_takes (goal_proof leaf n) (goal_takes n) out A Γ l h q i))
 
 -- access by premises that two provers prove alike
-module _ (f g : Prover) (out : ℕ) (Γ Δ : Hyps) (same : (P : Form) → f out Γ P ≡ g out Δ P) (k : Access) (a : Exp) where
-  imp_same : (P Q : Form) (h : Tree) (way : List Side) (z : Exp) → by_imp f out Γ k a P Q h way z ≡ by_imp g out Δ k a P Q h way z
-  imp_same P Q h way z = ap (λ o. bind o (λ p. moved out k a z (down Q way (imp_e P Q h p)))) (same P)
-
-  imps_same : (P Q : Form) (h : Tree) (l : List (List Side × Exp)) → imp_tries f out Γ k a P Q h l ≡ imp_tries g out Δ k a P Q h l
-  imps_same P Q h [] = refl
-  imps_same P Q h (x ∷ l) = λ i. first_of (imp_same P Q h x.0 x.1 i) (imps_same P Q h l i)
-
-  all_same : (P Q : Form) (h : Tree) (way : List Side) (z o : Exp) → by_all f out Γ k a P Q h way z o ≡ by_all g out Δ k a P Q h way z o
-  all_same P Q h way z o = imp_same (subst_var P 0 (PExp o)) (subst_var Q 0 (PExp o)) (all_e (FImp P Q) o h) way (subst_var_exp z 0 (PExp o))
-
-  alls_same : (P Q : Form) (h : Tree) (l : List (List Side × Exp)) → all_tries f out Γ k a P Q h l ≡ all_tries g out Δ k a P Q h l
-  alls_same P Q h [] = refl
-  alls_same P Q h (x ∷ l) = λ i. first_of (bind (instance_of out a x.1) (λ o. all_same P Q h x.0 x.1 o i)) (alls_same P Q h l i)
-
 hyp_same : (f g : Prover) (out : ℕ) (Γ Δ : Hyps) → ((P : Form) → f out Γ P ≡ g out Δ P) → (k : Access) (a : Exp) (A : Form) (h : Tree) →
     by_hyp f out Γ k a A h ≡ by_hyp g out Δ k a A h
-hyp_same f g out Γ Δ s Load a (FRd z) h = refl
-hyp_same f g out Γ Δ s Store a (FWr z) h = refl
-hyp_same f g out Γ Δ s k a (FImp P Q) h = imps_same f g out Γ Δ s k a P Q h (reached k Q)
-hyp_same f g out Γ Δ s k a (FAll (FImp P Q)) h = alls_same f g out Γ Δ s k a P Q h (reached k Q)
+hyp_same f g out Γ Δ s k a (FImp P Q) h = λ i. by_grant (λ m Θ A. s A i) false out Γ k a P Q h
+hyp_same f g out Γ Δ s k a (FAll (FImp P Q)) h = λ i. by_grant (λ m Θ A. s A i) true out Γ k a P Q h
 hyp_same f g out Γ Δ s k a _ h = refl
 
 hyps_same : (f g : Prover) (out : ℕ) (Γ Δ : Hyps) → ((P : Form) → f out Γ P ≡ g out Δ P) → (k : Access) (a : Exp) (l : Hyps) →
@@ -106,9 +87,9 @@ access_same f g out Γ s (FWr a) = hyps_same f g out Γ Γ s Store a Γ
 access_same f g out Γ s _ = refl
 
 -- whether a hypothesis gives access doesn't go by its proof
-first_none : (o r o' r' : Option Tree) → (o ≡ None → o' ≡ None) → (r ≡ None → r' ≡ None) → first_of o r ≡ None → first_of o' r' ≡ None
-first_none (Some p) r o' r' x y q = cc
-first_none None r o' r' x y q = ap (λ z. first_of z r') (x refl) ∙ y q
+map_none : {X : Type 0} (o : Option X) (f g : X → Tree) → option_map f o ≡ None → option_map g o ≡ None
+map_none (Some x) f g q = cc
+map_none None f g q = refl
 
 bind_none : {X : Type 0} (o : Option X) (f g : X → Option Tree) → ((x : X) → f x ≡ None → g x ≡ None) → bind o f ≡ None → bind o g ≡ None
 bind_none (Some x) f g s q = s x q
@@ -118,42 +99,10 @@ if_none : (t : Bool) (p q : Tree) → cond t (Some p) None ≡ None → cond t (
 if_none true p q e = cc
 if_none false p q e = refl
 
-module _ (f : Prover) (out : ℕ) (Γ : Hyps) (k : Access) (a : Exp) where
-  moved_none : (z : Exp) (p q : Tree) → moved out k a z p ≡ None → moved out k a z q ≡ None
-  moved_none z p q e =
-      let by : Tree → Tree = move (access_form k (EVar 0)) z a (equal_proof z a (normal_form out z) (normal_form out a)) in
-      if_none (same_exp (normal_form out z).now (normal_form out a).now) (by p) (by q) e
-
-  imp_none : (P Q : Form) (p q : Tree) (way : List Side) (z : Exp) → by_imp f out Γ k a P Q p way z ≡ None → by_imp f out Γ k a P Q q way z ≡ None
-  imp_none P Q p q way z e =
-      bind_none (f out Γ P) (λ r. moved out k a z (down Q way (imp_e P Q p r))) (λ r. moved out k a z (down Q way (imp_e P Q q r)))
-      (λ r. moved_none z (down Q way (imp_e P Q p r)) (down Q way (imp_e P Q q r))) e
-
-  imps_none : (P Q : Form) (p q : Tree) (l : List (List Side × Exp)) → imp_tries f out Γ k a P Q p l ≡ None → imp_tries f out Γ k a P Q q l ≡ None
-  imps_none P Q p q [] e = refl
-  imps_none P Q p q (x ∷ l) e =
-      first_none (by_imp f out Γ k a P Q p x.0 x.1) (imp_tries f out Γ k a P Q p l) (by_imp f out Γ k a P Q q x.0 x.1) (imp_tries f out Γ k a P Q q l)
-      (imp_none P Q p q x.0 x.1) (imps_none P Q p q l) e
-
-  all_none : (P Q : Form) (p q : Tree) (way : List Side) (z o : Exp) → by_all f out Γ k a P Q p way z o ≡ None → by_all f out Γ k a P Q q way z o ≡ None
-  all_none P Q p q way z o e =
-      imp_none (subst_var P 0 (PExp o)) (subst_var Q 0 (PExp o)) (all_e (FImp P Q) o p) (all_e (FImp P Q) o q) way (subst_var_exp z 0 (PExp o)) e
-
-  alls_none : (P Q : Form) (p q : Tree) (l : List (List Side × Exp)) → all_tries f out Γ k a P Q p l ≡ None → all_tries f out Γ k a P Q q l ≡ None
-  alls_none P Q p q [] e = refl
-  alls_none P Q p q (x ∷ l) e =
-      let o : Option Exp = instance_of out a x.1 in
-      let u : Exp → Option Tree = by_all f out Γ k a P Q p x.0 x.1 in
-      let v : Exp → Option Tree = by_all f out Γ k a P Q q x.0 x.1 in
-      first_none (bind o u) (all_tries f out Γ k a P Q p l) (bind o v) (all_tries f out Γ k a P Q q l)
-      (bind_none o u v (all_none P Q p q x.0 x.1)) (alls_none P Q p q l) e
-
 hyp_none : (f : Prover) (out : ℕ) (Γ : Hyps) (k : Access) (a : Exp) (A : Form) (p q : Tree) → by_hyp f out Γ k a A p ≡ None → by_hyp f out Γ k a A q ≡ None
-hyp_none f out Γ Load a (FRd z) p q e = moved_none f out Γ Load a z p q e
-hyp_none f out Γ Store a (FWr z) p q e = moved_none f out Γ Store a z p q e
-hyp_none f out Γ k a (FImp P Q) p q e = imps_none f out Γ k a P Q p q (reached k Q) e
-hyp_none f out Γ k a (FAll (FImp P Q)) p q e = alls_none f out Γ k a P Q p q (reached k Q) e
-hyp_none f out Γ k a _ p q e = refl
+hyp_none f out Γ k a (FImp P Q) p q e = map_none (first_opened k (opened_at f false out Γ a P) Q) (granted_by false out k a P Q p) (granted_by false out k a P Q q) e
+hyp_none f out Γ k a (FAll (FImp P Q)) p q e = map_none (first_opened k (opened_at f true out Γ a P) Q) (granted_by true out k a P Q p) (granted_by true out k a P Q q) e
+hyp_none f out Γ k a A p q e = bind_none (address_of k A) (λ z. moved out k a z p) (λ z. moved out k a z q) (λ z. if_none (same_address out z a) (access_move out k z a p) (access_move out k z a q)) e
 
 module _ (f : Prover) (t : Takes f) where
   hyps_take : (out : ℕ) (k : Access) (a : Exp) → IsUse (λ Γ. by_hyps f out Γ k a Γ)

@@ -1,5 +1,5 @@
 -- What the prover answers proves the goal, if what it asks of goals without parts does.
-use Rattle.std.proofs.Common.{◌≡◌, ℕ, zero, suc, ◌+◌, ◌^◌, ◌<◌, ◌≤◌, Option, Some, None, List, [], ◌∷◌, ◌++◌, ◌⊎◌, inl, inr, length, refl, subst, option_map, arith}
+use Rattle.std.proofs.Common.{◌≡◌, ℕ, zero, suc, ◌+◌, ◌^◌, ◌<◌, ◌≤◌, Option, Some, None, List, [], ◌∷◌, ◌⊎◌, inl, inr, length, refl, subst, option_map, arith}
 use Rattle.term_table.specs.Tree.{Tree, Var}
 use Rattle.term_table.specs.Subst.{bind}
 use Rattle.term_table.proofs.Options.{bind_some, map_some, some_injective}

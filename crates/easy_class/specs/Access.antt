@@ -1,5 +1,5 @@
 -- Access to memory, by hypotheses that give it.
-use Rattle.std.specs.Prelude.{ℕ, zero, suc, Bool, false, ◌&&◌, not, if◌then◌else◌, ◌==◌, Option, Some, None, List, [], ◌∷◌, ◌++◌}
+use Rattle.std.specs.Prelude.{ℕ, zero, suc, Bool, true, false, ◌&&◌, not, if◌then◌else◌, ◌==◌, Option, Some, None, List, [], ◌∷◌}
 use Rattle.std.specs.Option.{option_map}
 use Rattle.term_table.specs.Tree.{Tree}
 use Rattle.term_table.specs.Subst.{bind}
@@ -22,40 +22,21 @@ abbrev pub access_form : Access → Exp → Form
 access_form Load a = FRd a
 access_form Store a = FWr a
 
+-- the address, where the formula is this right
+abbrev pub address_of : Access → Form → Option Exp
+address_of Load (FRd a) = Some a
+address_of Store (FWr a) = Some a
+address_of k A = None
+
 -- a way down through conjunctions
 pub data Side : Type 0 where
   Left Right : Side
-
--- each way one conjunction longer
-abbrev pub beside : Side → List (List Side × Exp) → List (List Side × Exp)
-beside s [] = []
-beside s (x ∷ l) = (s ∷ x.0, x.1) ∷ beside s l
-
--- the addresses that are reached through conjunctions alone, from the left, each with its way
-abbrev pub reached : Access → Form → List (List Side × Exp)
-reached k (FAnd A B) = beside Left (reached k A) ++ beside Right (reached k B)
-reached Load (FRd a) = ([], a) ∷ []
-reached Store (FWr a) = ([], a) ∷ []
-reached k A = []
 
 -- the proof at the end of a way
 abbrev pub down : Form → List Side → Tree → Tree
 down (FAnd A B) (Left ∷ l) p = down A l (and_l A B p)
 down (FAnd A B) (Right ∷ l) p = down B l (and_r A B p)
 down A l p = p
-
--- access to z, by h, gives access to a where the normal forms are one
-abbrev pub moved : ℕ → Access → Exp → Exp → Tree → Option Tree
-moved out k a z h = if same_exp (normal_form out z).now (normal_form out a).now then Some (move (access_form k (EVar 0)) z a (equal_proof z a (normal_form out z) (normal_form out a)) h) else None
-
--- the same from (imp P Q) by h, z standing in Q at the end of the way
-abbrev pub by_imp : Prover → ℕ → Hyps → Access → Exp → Form → Form → Tree → List Side → Exp → Option Tree
-by_imp without_access out Γ k a P Q h way z = bind (without_access out Γ P) (λ p. moved out k a z (down Q way (imp_e P Q h p)))
-
--- access to a from (imp P Q), by the first address of the list for which it is given
-abbrev pub imp_tries : Prover → ℕ → Hyps → Access → Exp → Form → Form → Tree → List (List Side × Exp) → Option Tree
-imp_tries without_access out Γ k a P Q h [] = None
-imp_tries without_access out Γ k a P Q h (x ∷ l) = first_of (by_imp without_access out Γ k a P Q h x.0 x.1) (imp_tries without_access out Γ k a P Q h l)
 
 -- whether variable 0 stands in the expression, c binders being nearer
 abbrev mutual
@@ -116,22 +97,77 @@ instance_of out a (EOp Add b (EVar zero)) = if has_var 0 b then None else rest_o
 instance_of out a (EOp Add b (EOp Sll (EVar zero) (ELit (suc (suc (suc zero)))))) = if has_var 0 b then None else bind (rest_of (normal_form out a).now (normal_form out (subst_var_exp b 0 (PExp (ELit 0)))).now) eighth
 instance_of out a z = None
 
--- the same from (all (imp P Q)) by h, with o for its variable
-abbrev pub by_all : Prover → ℕ → Hyps → Access → Exp → Form → Form → Tree → List Side → Exp → Exp → Option Tree
-by_all without_access out Γ k a P Q h way z o = by_imp without_access out Γ k a (subst_var P 0 (PExp o)) (subst_var Q 0 (PExp o)) (all_e (FImp P Q) o h) way (subst_var_exp z 0 (PExp o))
+-- whether two addresses have one normal form
+abbrev pub same_address : ℕ → Exp → Exp → Bool
+same_address out z a = same_exp (normal_form out z).now (normal_form out a).now
 
--- the same from (all (imp P Q))
-abbrev pub all_tries : Prover → ℕ → Hyps → Access → Exp → Form → Form → Tree → List (List Side × Exp) → Option Tree
-all_tries without_access out Γ k a P Q h [] = None
-all_tries without_access out Γ k a P Q h (x ∷ l) = first_of (bind (instance_of out a x.1) (by_all without_access out Γ k a P Q h x.0 x.1)) (all_tries without_access out Γ k a P Q h l)
+-- the step from access to z to access to a, which have one normal form
+abbrev pub access_move : ℕ → Access → Exp → Exp → Tree → Tree
+access_move out k z a h = move (access_form k (EVar 0)) z a (equal_proof z a (normal_form out z) (normal_form out a)) h
+
+-- access to z, by h, gives access to a where the normal forms are one
+abbrev pub moved : ℕ → Access → Exp → Exp → Tree → Option Tree
+moved out k a z h = if same_address out z a then Some (access_move out k z a h) else None
+
+-- what an address of a conclusion opens: itself, what is put for the variable, and the proof of the premise
+pub record Opened : Type 0 where
+  pub address : Exp
+  pub put : Exp
+  pub proof : Tree
+
+-- z, for which o was put, by p
+abbrev pub opening_of : Exp → Exp → Tree → Opened
+opening_of z o p = record { address = z; put = o; proof = p }
+
+-- z, for which o was put, where its normal form is a's and P is proved
+abbrev pub opened_by : Prover → ℕ → Hyps → Exp → Form → Exp → Exp → Option Opened
+opened_by prove out Γ a P z o = if same_address out z a then option_map (opening_of z o) (prove out Γ P) else None
+
+-- the same where o is still to be put for variable 0
+abbrev pub opened_with : Prover → ℕ → Hyps → Exp → Form → Exp → Exp → Option Opened
+opened_with prove out Γ a P z o = opened_by prove out Γ a (subst_var P 0 (PExp o)) (subst_var_exp z 0 (PExp o)) o
+
+-- a try at z, an address of Q, for access to a: from (imp P Q), or where quantified from an instance of (all (imp P Q))
+abbrev pub opened_at : Prover → Bool → ℕ → Hyps → Exp → Form → Exp → Option Opened
+opened_at prove true out Γ a P z = bind (instance_of out a z) (opened_with prove out Γ a P z)
+opened_at prove false out Γ a P z = opened_by prove out Γ a P z z
+
+-- the way one conjunction longer
+abbrev pub from_side : Side → Option (List Side × Opened) → Option (List Side × Opened)
+from_side s o = option_map (λ x. (s ∷ x.0, x.1)) o
+
+-- an address itself
+abbrev pub no_way : Option Opened → Option (List Side × Opened)
+no_way o = option_map (λ x. ([], x)) o
+
+-- the first answer
+abbrev pub first_way : Option (List Side × Opened) → Option (List Side × Opened) → Option (List Side × Opened)
+first_way None o = o
+first_way (Some x) o = Some x
+
+-- what f opens first of the addresses that are reached through conjunctions alone, from the left, with its way
+abbrev pub first_opened : Access → (Exp → Option Opened) → Form → Option (List Side × Opened)
+first_opened k f (FAnd A B) = first_way (from_side Left (first_opened k f A)) (from_side Right (first_opened k f B))
+first_opened k f A = no_way (bind (address_of k A) f)
+
+-- access to a from (imp P Q) by h, by what opened at the end of the way
+abbrev pub granted : ℕ → Access → Exp → Form → Form → Tree → List Side × Opened → Tree
+granted out k a P Q h x = access_move out k x.1.address a (down Q x.0 (imp_e P Q h x.1.proof))
+
+-- the same, or where quantified from (all (imp P Q))
+abbrev pub granted_by : Bool → ℕ → Access → Exp → Form → Form → Tree → List Side × Opened → Tree
+granted_by true out k a P Q h x = granted out k a (subst_var P 0 (PExp x.1.put)) (subst_var Q 0 (PExp x.1.put)) (all_e (FImp P Q) x.1.put h) x
+granted_by false out k a P Q h x = granted out k a P Q h x
+
+-- the same by the first address that opens
+abbrev pub by_grant : Prover → Bool → ℕ → Hyps → Access → Exp → Form → Form → Tree → Option Tree
+by_grant prove quantified out Γ k a P Q h = option_map (granted_by quantified out k a P Q h) (first_opened k (opened_at prove quantified out Γ a P) Q)
 
 -- access to a by one hypothesis: as it stands, from an implication, or from an instance
 abbrev pub by_hyp : Prover → ℕ → Hyps → Access → Exp → Form → Tree → Option Tree
-by_hyp without_access out Γ Load a (FRd z) h = moved out Load a z h
-by_hyp without_access out Γ Store a (FWr z) h = moved out Store a z h
-by_hyp without_access out Γ k a (FImp P Q) h = imp_tries without_access out Γ k a P Q h (reached k Q)
-by_hyp without_access out Γ k a (FAll (FImp P Q)) h = all_tries without_access out Γ k a P Q h (reached k Q)
-by_hyp without_access out Γ k a A h = None
+by_hyp without_access out Γ k a (FImp P Q) h = by_grant without_access false out Γ k a P Q h
+by_hyp without_access out Γ k a (FAll (FImp P Q)) h = by_grant without_access true out Γ k a P Q h
+by_hyp without_access out Γ k a A h = bind (address_of k A) (λ z. moved out k a z h)
 
 -- by the first hypothesis that gives it
 abbrev pub by_hyps : Prover → ℕ → Hyps → Access → Exp → Hyps → Option Tree

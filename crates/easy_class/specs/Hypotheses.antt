@@ -1,12 +1,12 @@
 -- Hypotheses with their proofs, and what a hypothesis is split into.
-use Rattle.std.specs.Prelude.{ℕ, zero, ◌+◌, Bool, if◌then◌else◌, Option, Some, None, List, [], ◌∷◌, ◌++◌}
+use Rattle.std.specs.Prelude.{ℕ, zero, ◌+◌, Bool, true, false, not, if◌then◌else◌, Option, Some, None, List, [], ◌∷◌, ◌++◌}
 use Rattle.term_table.specs.Tree.{Tree, shift}
 use Rattle.term_table.specs.Equality.{tree_eq}
 use Rattle.word_ops.specs.declared.Op.{Op}
-use Rattle.word_ops.specs.declared.Op.TheVariants.{Add, Sub, Band, Bis, Sll, Srl, Cmpeq, Cmplt, Cmple, Cmpult, Cmpule}
+use Rattle.word_ops.specs.declared.Op.TheVariants.{Cmpeq, Cmplt, Cmple, Cmpult, Cmpule}
 use Rattle.word_ops.specs.declared.Rel.{Rel}
 use Rattle.word_ops.specs.declared.Rel.TheVariants.{Eq, Ult, Ule, Slt, Sle}
-use Rattle.formula_tree.specs.Formulas.{Exp, EReg, ELeft, EVar, ELit, EOp, ESel, Form, FTrue, FFalse, FRel, FRd, FWr, FAnd, FOr, FImp, FAll, FAllm, shift_form}
+use Rattle.formula_tree.specs.Formulas.{Exp, ELit, EOp, Form, FFalse, FRel, FAnd, FImp, shift_form}
 use Rattle.formula_terms.specs.Encoding.{form_encoding, exp_encoding}
 use Rattle.formula_terms.specs.ProofTerms.{and_l, and_r, word_rule}
 
@@ -39,70 +39,48 @@ compared Cmplt = Some (Slt, 1)
 compared Cmple = Some (Sle, 2)
 compared Cmpult = Some (Ult, 3)
 compared Cmpule = Some (Ule, 4)
-compared Add = None
-compared Sub = None
-compared Band = None
-compared Bis = None
-compared Sll = None
-compared Srl = None
+compared o = None
 
--- (p a b) by h; more is what is split off where it is (eq a 0)
-abbrev pub rel_hyps : Rel → Exp → Exp → Tree → (Tree → Hyps) → Hyps
-rel_hyps Eq a (ELit zero) h more = (FRel Eq a (ELit 0), h) ∷ more h
-rel_hyps p a b h more = (FRel p a b, h) ∷ []
+-- the relation of two expressions, or where it doesn't hold that it leads to falsity
+abbrev pub comparison : Bool → Rel → Exp → Exp → Form
+comparison true p a b = FRel p a b
+comparison false p a b = FImp (FRel p a b) FFalse
 
--- (imp (p a b) ff) by h; more is what is split off where it is (imp (eq a 0) ff)
-abbrev pub not_hyps : Rel → Exp → Exp → Tree → (Tree → Hyps) → Hyps
-not_hyps Eq a (ELit zero) h more = (FImp (FRel Eq a (ELit 0)) FFalse, h) ∷ more h
-not_hyps Ult a b h more = (FImp (FRel Ult a b) FFalse, h) ∷ (FRel Ule b a, word_rule 70 (a ∷ b ∷ []) (h ∷ [])) ∷ []
-not_hyps p a b h more = (FImp (FRel p a b) FFalse, h) ∷ []
+-- the first of the rules for a test that is 0, or isn't
+abbrev pub test_rule : Bool → ℕ
+test_rule true = 78
+test_rule false = 73
 
--- the test o is 0 by h: its relation doesn't hold
-abbrev pub zero_of : Option (Rel × ℕ) → Exp → Exp → Tree → (Tree → Hyps) → Hyps
-zero_of None a b h more = []
-zero_of (Some p) a b h more = not_hyps p.0 a b (word_rule (78 + p.1) (a ∷ b ∷ []) (h ∷ [])) more
+-- (ule b a) by h, that a isn't less than b
+abbrev pub reversed_hyps : Exp → Exp → Tree → Hyps
+reversed_hyps a b h = (FRel Ule b a, word_rule 70 (a ∷ b ∷ []) (h ∷ [])) ∷ []
 
--- the test isn't 0: its relation holds
-abbrev pub one_of : Option (Rel × ℕ) → Exp → Exp → Tree → (Tree → Hyps) → Hyps
-one_of None a b h more = []
-one_of (Some p) a b h more = rel_hyps p.0 a b (word_rule (73 + p.1) (a ∷ b ∷ []) (h ∷ [])) more
+-- the consequences of a comparison by h, beside itself; more are those of its first expression where that is 0, or isn't
+abbrev pub other_hyps : (Bool → Tree → Hyps) → Bool → Rel → Exp → Exp → Tree → Hyps
+other_hyps more holds Eq a (ELit zero) h = more holds h
+other_hyps more false Ult a b h = reversed_hyps a b h
+other_hyps more holds p a b h = []
 
-abbrev mutual
-  -- what is split off (eq e 0)
-  pub zero_hyps : Exp → Tree → Hyps
-  zero_hyps (EOp o a b) h = zero_of (compared o) a b h (one_hyps a)
-  zero_hyps (EReg r) h = []
-  zero_hyps ELeft h = []
-  zero_hyps (EVar n) h = []
-  zero_hyps (ELit w) h = []
-  zero_hyps (ESel m a) h = []
+-- the consequences of a comparison
+abbrev pub comparison_hyps : (Bool → Tree → Hyps) → Bool → Rel → Exp → Exp → Tree → Hyps
+comparison_hyps more holds p a b h = (comparison holds p a b, h) ∷ other_hyps more holds p a b h
 
-  -- what is split off (imp (eq e 0) ff)
-  pub one_hyps : Exp → Tree → Hyps
-  one_hyps (EOp o a b) h = one_of (compared o) a b h (zero_hyps a)
-  one_hyps (EReg r) h = []
-  one_hyps ELeft h = []
-  one_hyps (EVar n) h = []
-  one_hyps (ELit w) h = []
-  one_hyps (ESel m a) h = []
+-- the consequences of a test that is 0, or isn't: its relation doesn't hold, or does
+abbrev pub test_hyps : (Bool → Tree → Hyps) → Bool → Option (Rel × ℕ) → Exp → Exp → Tree → Hyps
+test_hyps more is_zero None a b h = []
+test_hyps more is_zero (Some p) a b h = comparison_hyps more (not is_zero) p.0 a b (word_rule (test_rule is_zero + p.1) (a ∷ b ∷ []) (h ∷ []))
 
--- (imp A B) by h
-abbrev pub imp_hyps : Form → Form → Tree → Hyps
-imp_hyps (FRel p a b) FFalse h = not_hyps p a b h (one_hyps a)
-imp_hyps A B h = (FImp A B, h) ∷ []
+-- the consequences of an expression that is 0, or isn't
+abbrev pub tested_hyps : Exp → Bool → Tree → Hyps
+tested_hyps (EOp o a b) is_zero h = test_hyps (tested_hyps a) is_zero (compared o) a b h
+tested_hyps a is_zero h = []
 
--- the hypotheses that the formula is split into
+-- the hypotheses that the formula is split into: its consequences
 abbrev pub split_hyps : Form → Tree → Hyps
 split_hyps (FAnd A B) h = split_hyps A (and_l A B h) ++ split_hyps B (and_r A B h)
-split_hyps (FRel p a b) h = rel_hyps p a b h (zero_hyps a)
-split_hyps (FImp A B) h = imp_hyps A B h
-split_hyps FTrue h = (FTrue, h) ∷ []
-split_hyps FFalse h = (FFalse, h) ∷ []
-split_hyps (FRd a) h = (FRd a, h) ∷ []
-split_hyps (FWr a) h = (FWr a, h) ∷ []
-split_hyps (FOr A B) h = (FOr A B, h) ∷ []
-split_hyps (FAll A) h = (FAll A, h) ∷ []
-split_hyps (FAllm A) h = (FAllm A, h) ∷ []
+split_hyps (FRel p a b) h = comparison_hyps (tested_hyps a) true p a b h
+split_hyps (FImp (FRel p a b) FFalse) h = comparison_hyps (tested_hyps a) false p a b h
+split_hyps A h = (A, h) ∷ []
 
 -- one more at the end, unless its formula was found
 abbrev pub added : Option Tree → Hyps → Form × Tree → Hyps

@@ -112,8 +112,7 @@ fn proof_by_shape<L: Leaf>(
         FormNode::AllMem(b) => proof_for_all(table, leaf, search, context, goal, ALLM_I, b),
         FormNode::False => leaf.leaf_proof(table, search, context, goal),
         FormNode::Relation(_, _, _) => leaf.leaf_proof(table, search, context, goal),
-        FormNode::Load(_) => leaf.leaf_proof(table, search, context, goal),
-        FormNode::Store(_) => leaf.leaf_proof(table, search, context, goal),
+        FormNode::Right(_, _) => leaf.leaf_proof(table, search, context, goal),
     }
 }
 

@@ -1,8 +1,8 @@
 -- Hypotheses as ids and as formulas with proofs, one after another.
-use Rattle.std.proofs.Common.{◌≡◌, ℕ, ◌==◌, Bool, true, false, cond, Option, Some, None, IfSome, List, [], ◌∷◌, ◌++◌, refl, sym, ◌∙◌, ap, subst, arith, eqb-true, eq-eqb}
+use Rattle.std.proofs.Common.{◌≡◌, ℕ, ◌==◌, Bool, true, false, cond, Option, Some, None, IfSome, List, [], ◌∷◌, ◌++◌, refl, sym, ◌∙◌, ap, subst, eqb-true, eq-eqb}
 use Rattle.term_table.specs.Tree.{Tree}
 use Rattle.term_table.specs.Equality.{tree_eq}
-use Rattle.term_table.specs.Table.{TableView, IsKnown, tree_at, AreDifferent, Extends, Stands}
+use Rattle.term_table.specs.Table.{TableView, IsKnown, tree_at, AreDifferent, Stands}
 use Rattle.term_table.proofs.Equality.{tree_eq_refl, tree_eq-true}
 use Rattle.formula_tree.specs.Formulas.{Form}
 use Rattle.formula_terms.specs.Encoding.{form_encoding}

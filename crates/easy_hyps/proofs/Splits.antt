@@ -1,22 +1,24 @@
 -- Hypotheses with others that aren't among them, and what was gone through.
-use Rattle.std.proofs.Common.{◌≡◌, ℕ, zero, suc, ◌==◌, ◌+◌, Bool, true, false, cond, is_some, Option, Some, None, OnOk, Result, List, [], ◌∷◌, ◌++◌, refl, sym, ◌∙◌, ap, subst, arith, eqb-true}
+use Rattle.std.proofs.Common.{◌≡◌, ℕ, zero, ◌==◌, ◌+◌, Bool, true, false, not, cond, is_some, Option, Some, None, OnOk, Result, List, [], ◌∷◌, ◌++◌, refl, sym, ◌∙◌, ap, subst, arith, eqb-true}
 use Rattle.std.proofs.lemmas.Result.{on_ok_weaker}
 use Rattle.std.specs.BTreeSet.{BTreeSet, contains}
 use Rattle.term_table.specs.Tree.{Tree}
 use Rattle.term_table.specs.Table.{TableView, IsKnown, tree_at, Extends}
 use Rattle.term_table.proofs.Equality.{tree_eq_refl}
 use Rattle.word_ops.specs.declared.Rel.{Rel}
-use Rattle.word_ops.specs.declared.Rel.TheVariants.{Eq, Ult, Ule, Slt, Sle}
-use Rattle.formula_tree.specs.Formulas.{Exp, EReg, ELeft, EVar, ELit, EOp, ESel, Form, FTrue, FFalse, FRel, FRd, FWr, FAnd, FOr, FImp, FAll, FAllm}
+use Rattle.word_ops.specs.declared.Rel.TheVariants.{Eq, Ult}
+use Rattle.formula_tree.specs.Formulas.{Exp, ELit, EOp, Form, FFalse, FRel, FAnd, FImp}
 use Rattle.formula_terms.specs.Encoding.{form_encoding}
 use Rattle.formula_terms.proofs.Encoded.{form_encoding-injective}
-use Rattle.formula_ids.specs.Nodes.{IsFormNode}
+use Rattle.formula_ids.specs.Nodes.{right_form, IsFormNode}
+use Rattle.formula_ids.specs.declared.forms.Access.{Access}
+use Rattle.formula_ids.specs.declared.forms.Access.TheVariants.{Load, Store}
 use Rattle.formula_ids.specs.declared.forms.FormNode.{FormNode}
 use Rattle.formula_ids.specs.declared.forms.FormNode.TheVariants as F
 use Rattle.formula_ids.specs.declared.hypotheses.Hypothesis.{Hypothesis}
 use Rattle.formula_ids.specs.Hypotheses.{AreHyps}
 use Rattle.formula_terms.specs.ProofTerms.{and_l, and_r, word_rule}
-use Rattle.easy_class.specs.Hypotheses.{Hyps, same_form, find_hyp, compared, rel_hyps, not_hyps, zero_of, one_of, zero_hyps, one_hyps, imp_hyps, split_hyps, added, with_new}
+use Rattle.easy_class.specs.Hypotheses.{Hyps, same_form, find_hyp, compared, comparison, test_rule, comparison_hyps, test_hyps, tested_hyps, split_hyps, added, with_new}
 use Rattle.easy_hyps.specs.declared.collection.Key.{Key}
 use Rattle.easy_hyps.specs.contracts.collection.KeyOrd.TheImpl as key_block
 use Rattle.easy_hyps.specs.Inside.Splits.{forms_of, AreFound, AreSeen, AreSplit}
@@ -79,79 +81,33 @@ forms-append [] M = refl
 forms-append (x ∷ L) M = ap (λ z. x.0 ∷ z) (forms-append L M)
 
 -- The formulas that a formula is split into don't depend on its proof.
-rel-forms : (p : Rel) (a b : Exp) (h g : Tree) (more : Tree → Hyps) → forms_of (more h) ≡ forms_of (more g) → forms_of (rel_hyps p a b h more) ≡ forms_of (rel_hyps p a b g more)
-rel-forms Eq a (ELit zero) h g more e = ap (λ z. FRel Eq a (ELit 0) ∷ z) e
-rel-forms Eq a (ELit (suc v)) h g more e = refl
-rel-forms Eq a (EReg r) h g more e = refl
-rel-forms Eq a ELeft h g more e = refl
-rel-forms Eq a (EVar n) h g more e = refl
-rel-forms Eq a (EOp o x y) h g more e = refl
-rel-forms Eq a (ESel m x) h g more e = refl
-rel-forms Ult a b h g more e = refl
-rel-forms Ule a b h g more e = refl
-rel-forms Slt a b h g more e = refl
-rel-forms Sle a b h g more e = refl
+comparison-forms : (more : Bool → Tree → Hyps) (holds : Bool) (p : Rel) (a b : Exp) (h g : Tree) →
+    ((z : Bool) (h g : Tree) → forms_of (more z h) ≡ forms_of (more z g)) →
+    forms_of (comparison_hyps more holds p a b h) ≡ forms_of (comparison_hyps more holds p a b g)
+comparison-forms more holds Eq a (ELit zero) h g e = ap (λ z. comparison holds Eq a (ELit 0) ∷ z) (e holds h g)
+comparison-forms more false Ult a b h g e = refl
+comparison-forms more holds p a b h g e = refl
 
-not-forms : (p : Rel) (a b : Exp) (h g : Tree) (more : Tree → Hyps) → forms_of (more h) ≡ forms_of (more g) → forms_of (not_hyps p a b h more) ≡ forms_of (not_hyps p a b g more)
-not-forms Eq a (ELit zero) h g more e = ap (λ z. FImp (FRel Eq a (ELit 0)) FFalse ∷ z) e
-not-forms Eq a (ELit (suc v)) h g more e = refl
-not-forms Eq a (EReg r) h g more e = refl
-not-forms Eq a ELeft h g more e = refl
-not-forms Eq a (EVar n) h g more e = refl
-not-forms Eq a (EOp o x y) h g more e = refl
-not-forms Eq a (ESel m x) h g more e = refl
-not-forms Ult a b h g more e = refl
-not-forms Ule a b h g more e = refl
-not-forms Slt a b h g more e = refl
-not-forms Sle a b h g more e = refl
+test-forms : (more : Bool → Tree → Hyps) (is_zero : Bool) (q : Option (Rel × ℕ)) (a b : Exp) (h g : Tree) →
+    ((z : Bool) (h g : Tree) → forms_of (more z h) ≡ forms_of (more z g)) →
+    forms_of (test_hyps more is_zero q a b h) ≡ forms_of (test_hyps more is_zero q a b g)
+test-forms more z None a b h g e = refl
+test-forms more z (Some p) a b h g e =
+    let f : Tree → Tree = λ h. word_rule (test_rule z + p.1) (a ∷ b ∷ []) (h ∷ []) in
+    comparison-forms more (not z) p.0 a b (f h) (f g) e
 
-zero_of-forms : (q : Option (Rel × ℕ)) (a b : Exp) (h g : Tree) (more : Tree → Hyps) → ((h g : Tree) → forms_of (more h) ≡ forms_of (more g)) → forms_of (zero_of q a b h more) ≡ forms_of (zero_of q a b g more)
-zero_of-forms None a b h g more e = refl
-zero_of-forms (Some p) a b h g more e =
-    let f : Tree → Tree = λ z. word_rule (78 + p.1) (a ∷ b ∷ []) (z ∷ []) in
-    not-forms p.0 a b (f h) (f g) more (e (f h) (f g))
-
-one_of-forms : (q : Option (Rel × ℕ)) (a b : Exp) (h g : Tree) (more : Tree → Hyps) → ((h g : Tree) → forms_of (more h) ≡ forms_of (more g)) → forms_of (one_of q a b h more) ≡ forms_of (one_of q a b g more)
-one_of-forms None a b h g more e = refl
-one_of-forms (Some p) a b h g more e =
-    let f : Tree → Tree = λ z. word_rule (73 + p.1) (a ∷ b ∷ []) (z ∷ []) in
-    rel-forms p.0 a b (f h) (f g) more (e (f h) (f g))
-
-mutual
-  zero-forms : (a : Exp) (h g : Tree) → forms_of (zero_hyps a h) ≡ forms_of (zero_hyps a g)
-  zero-forms (EOp o a b) h g = zero_of-forms (compared o) a b h g (one_hyps a) (one-forms a)
-  zero-forms (EReg r) h g = refl
-  zero-forms ELeft h g = refl
-  zero-forms (EVar n) h g = refl
-  zero-forms (ELit w) h g = refl
-  zero-forms (ESel m a) h g = refl
-
-  one-forms : (a : Exp) (h g : Tree) → forms_of (one_hyps a h) ≡ forms_of (one_hyps a g)
-  one-forms (EOp o a b) h g = one_of-forms (compared o) a b h g (zero_hyps a) (zero-forms a)
-  one-forms (EReg r) h g = refl
-  one-forms ELeft h g = refl
-  one-forms (EVar n) h g = refl
-  one-forms (ELit w) h g = refl
-  one-forms (ESel m a) h g = refl
-
-imp-forms : (A B : Form) (h g : Tree) → forms_of (imp_hyps A B h) ≡ forms_of (imp_hyps A B g)
-imp-forms (FRel p a b) FFalse h g = not-forms p a b h g (one_hyps a) (one-forms a h g)
-imp-forms A B h g = refl
+tested-forms : (a : Exp) (is_zero : Bool) (h g : Tree) → forms_of (tested_hyps a is_zero h) ≡ forms_of (tested_hyps a is_zero g)
+tested-forms (EOp o a b) z h g = test-forms (tested_hyps a) z (compared o) a b h g (tested-forms a)
+tested-forms a z h g = refl
 
 pub split-forms : (A : Form) (h g : Tree) → forms_of (split_hyps A h) ≡ forms_of (split_hyps A g)
 split-forms (FAnd A B) h g =
     forms-append (split_hyps A (and_l A B h)) (split_hyps B (and_r A B h))
     ∙ (λ i. split-forms A (and_l A B h) (and_l A B g) i ++ split-forms B (and_r A B h) (and_r A B g) i)
     ∙ sym (forms-append (split_hyps A (and_l A B g)) (split_hyps B (and_r A B g)))
-split-forms (FRel p a b) h g = rel-forms p a b h g (zero_hyps a) (zero-forms a h g)
-split-forms (FImp A B) h g = imp-forms A B h g
-split-forms FTrue h g = refl
-split-forms FFalse h g = refl
-split-forms (FRd a) h g = refl
-split-forms (FWr a) h g = refl
-split-forms (FOr A B) h g = refl
-split-forms (FAll A) h g = refl
-split-forms (FAllm A) h g = refl
+split-forms (FRel p a b) h g = comparison-forms (tested_hyps a) true p a b h g (tested-forms a)
+split-forms (FImp (FRel p a b) FFalse) h g = comparison-forms (tested_hyps a) false p a b h g (tested-forms a)
+split-forms A h g = refl
 
 -- what was gone through, as the table and the hypotheses grow
 pub seen-more : (t u : TableView) (Γ L : Hyps) (seen : BTreeSet Key) → Extends t u → AreSeen t Γ seen → AreSeen u (with_new Γ L) seen
@@ -180,13 +136,17 @@ seen-insert t Γ old after eq key A g same known is found s put k i = go (key.fo
         )
     go false e = s k (sym (put k ∙ ap (λ b. cond b true (contains key_block.ghosts.cmp old k)) (same k ∙ e)) ∙ i)
 
+-- a right isn't split
+right-split : (k : Access) (a : Exp) (h : Tree) → split_hyps (right_form k a) h ≡ (right_form k a, h) ∷ []
+right-split Load a h = refl
+right-split Store a h = refl
+
 -- what isn't split
 pub other-split : (t : TableView) (A : Form) (n : FormNode) (h : Tree) → IsFormNode t A n → ((a b : ℕ) → n ≡ F.And a b → ⊥) → ((r : Rel) (a b : ℕ) → n ≡ F.Relation r a b → ⊥) → ((a b : ℕ) → n ≡ F.Imp a b → ⊥) → split_hyps A h ≡ (A, h) ∷ []
 other-split t A F.True h i and rel imp = subst (λ Z. split_hyps Z h ≡ (Z, h) ∷ []) (sym i) refl
 other-split t A F.False h i and rel imp = subst (λ Z. split_hyps Z h ≡ (Z, h) ∷ []) (sym i) refl
 other-split t A (F.Relation r a b) h i and rel imp = absurd (rel r a b refl)
-other-split t A (F.Load a) h i and rel imp = subst (λ Z. split_hyps Z h ≡ (Z, h) ∷ []) (sym i.is) refl
-other-split t A (F.Store a) h i and rel imp = subst (λ Z. split_hyps Z h ≡ (Z, h) ∷ []) (sym i.is) refl
+other-split t A (F.Right k a) h i and rel imp = subst (λ Z. split_hyps Z h ≡ (Z, h) ∷ []) (sym i.is) (right-split k i.address h)
 other-split t A (F.And a b) h i and rel imp = absurd (and a b refl)
 other-split t A (F.Or a b) h i and rel imp = subst (λ Z. split_hyps Z h ≡ (Z, h) ∷ []) (sym i.is) refl
 other-split t A (F.Imp a b) h i and rel imp = absurd (imp a b refl)

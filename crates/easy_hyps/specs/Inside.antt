@@ -1,4 +1,3 @@
 -- Words of the private functions.
-pub mod Comparisons
 pub mod Splits
 pub mod Refutations

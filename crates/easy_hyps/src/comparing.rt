@@ -10,9 +10,8 @@ ghost use Rattle.formula_tree.specs.Formulas.{Exp, ELit};
 ghost use Rattle.formula_terms.specs.Encoding.{exp_encoding, form_encoding};
 ghost use Rattle.formula_ids.specs.Hypotheses.{AreKnownHyps, AreHyps};
 ghost use Rattle.formula_terms.specs.ProofTerms.{word_rule};
-ghost use Rattle.easy_class.specs.Hypotheses.{Hyps, compared, with_new};
-ghost use Rattle.easy_hyps.specs.Inside.Comparisons.{comparison, comparison_hyps, other_hyps};
-ghost use Rattle.easy_hyps.specs.Inside.Comparisons.{reversed_hyps, test_rule, tested_hyps};
+ghost use Rattle.easy_class.specs.Hypotheses.{Hyps, compared, comparison, comparison_hyps};
+ghost use Rattle.easy_class.specs.Hypotheses.{other_hyps, reversed_hyps, test_rule, tested_hyps, with_new};
 
 use crate::collection::Hypotheses;
 use crate::finding::add;
@@ -137,7 +136,7 @@ pub(crate) fn add_comparison(
     ensures exact { (Γ : Hyps) (x y : Exp) → AreHyps table.old hyps.old Γ
         → tree_at table.old a ≡ exp_encoding x → tree_at table.old b ≡ exp_encoding y
         → OnOk result (AreHyps table.new hyps.new
-        (with_new Γ (comparison_hyps holds rel x y (tree_at table.old proof)))) }
+        (with_new Γ (comparison_hyps (tested_hyps x) holds rel x y (tree_at table.old proof)))) }
     ensures extends { Extends table.old table.new }
 {
     let form = comparison(table, holds, rel, a, b)?;
@@ -165,7 +164,7 @@ fn add_others(
     ensures exact { (Γ : Hyps) (x y : Exp) → AreHyps table.old hyps.old Γ
         → tree_at table.old a ≡ exp_encoding x → tree_at table.old b ≡ exp_encoding y
         → OnOk result (AreHyps table.new hyps.new
-        (with_new Γ (other_hyps holds rel x y (tree_at table.old proof)))) }
+        (with_new Γ (other_hyps (tested_hyps x) holds rel x y (tree_at table.old proof)))) }
     ensures extends { Extends table.old table.new }
 {
     match rel {
@@ -203,7 +202,7 @@ fn add_tested(
     ensures known { OnOk result (AreKnownHyps table.new hyps.new) }
     ensures exact { (Γ : Hyps) (x : Exp) → AreHyps table.old hyps.old Γ
         → tree_at table.old a ≡ exp_encoding x → OnOk result (AreHyps table.new hyps.new
-        (with_new Γ (tested_hyps is_zero x (tree_at table.old proof)))) }
+        (with_new Γ (tested_hyps x is_zero (tree_at table.old proof)))) }
     ensures extends { Extends table.old table.new }
 {
     match exp_node(table, a) {

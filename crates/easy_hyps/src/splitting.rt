@@ -7,7 +7,7 @@ ghost use Rattle.formula_tree.specs.Formulas.{Form, FAnd, FImp};
 ghost use Rattle.formula_terms.specs.Encoding.{form_encoding};
 ghost use Rattle.formula_ids.specs.Hypotheses.{AreKnownHyps, AreHyps};
 ghost use Rattle.formula_terms.specs.ProofTerms.{and_l, and_r};
-ghost use Rattle.easy_class.specs.Hypotheses.{Hyps, imp_hyps, split_hyps, with_new};
+ghost use Rattle.easy_class.specs.Hypotheses.{Hyps, split_hyps, with_new};
 ghost use Rattle.easy_hyps.specs.Inside.Splits.{AreSeen, AreSplit, IsNegated};
 
 use crate::collection::{Hypotheses, Key, key_of};
@@ -93,7 +93,7 @@ fn add_implication(
         → tree_at table.old form ≡ form_encoding (FImp A B)
         → tree_at table.old a ≡ form_encoding A → tree_at table.old b ≡ form_encoding B
         → OnOk result (AreHyps table.new hyps.new
-        (with_new Γ (imp_hyps A B (tree_at table.old proof)))) }
+        (with_new Γ (split_hyps (FImp A B) (tree_at table.old proof)))) }
     ensures extends { Extends table.old table.new }
 {
     match negated(table, a, b) {

@@ -9,6 +9,7 @@ use Rattle.lf_signature.specs.Laws.Numbered.{op_of_constant-op_constant, rel_of_
 use Rattle.formula_tree.specs.Formulas.{Exp, EReg, ELeft, EVar, ELit, EOp, ESel, MemExp, MMem, MVar, MUpd, Form, FTrue, FFalse, FRel, FRd, FWr, FAnd, FOr, FImp, FAll, FAllm}
 use Rattle.formula_terms.specs.Encoding.{exp_encoding, mem_encoding, form_encoding}
 use Rattle.term_table.specs.Measures.{height_of}
+use Rattle.formula_ids.specs.declared.forms.Access.TheVariants.{Load, Store}
 use Rattle.formula_ids.specs.declared.forms.FormNode.{FormNode}
 use Rattle.formula_ids.specs.declared.forms.FormNode.TheVariants as F
 use Rattle.formula_ids.specs.Nodes.{AreFormPartsLower, IsExpNode, IsUpd, IsFormNode}
@@ -191,7 +192,7 @@ either_lower t n false f g h k = k
 pub unary_lower : (t : TableView) (n c a : ℕ) (o : Option ℕ) → IsBody t a o → App (Con (Num c)) (tree_at t a) ≡ tree_at t n → AreFormPartsLower t n (unary_node c a o)
 unary_lower t n c a o h q =
     let less : height_of (tree_at t a) < height_of (tree_at t n) = omega (arith, ap height_of q) in
-    either_lower t n (c == 20) (F.Load a) _ tt (either_lower t n (c == 21) (F.Store a) (quantified_node c o) tt (quantified_lower t n a (c == 25) o h less c refl))
+    either_lower t n (c == 20) (F.Right Load a) _ tt (either_lower t n (c == 21) (F.Right Store a) (quantified_node c o) tt (quantified_lower t n a (c == 25) o h less c refl))
 
 pub binary_lower : (t : TableView) (n c a b : ℕ) → App (App (Con (Num c)) (tree_at t a)) (tree_at t b) ≡ tree_at t n → AreFormPartsLower t n (binary_node c a b)
 binary_lower t n c a b q = go (rel_of_constant c)

@@ -1,5 +1,5 @@
 -- Hypotheses as the table grows.
-use Rattle.std.proofs.Common.{◌≡◌, List, [], ◌∷◌, sym, ◌∙◌, arith}
+use Rattle.std.proofs.Common.{List, [], ◌∷◌, sym, ◌∙◌, arith}
 use Rattle.term_table.specs.Tree.{Tree}
 use Rattle.term_table.specs.Table.{TableView, Extends}
 use Rattle.formula_tree.specs.Formulas.{Form}

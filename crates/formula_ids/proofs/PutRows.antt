@@ -6,11 +6,14 @@ use Rattle.term_table.specs.Table.{TableView, IsKnown, tree_at, Extends}
 use Rattle.term_table.proofs.Options.{some_injective}
 use Rattle.lf_signature.specs.Nodes.{IsIdOf}
 use Rattle.lf_signature.specs.Terms.{app1}
-use Rattle.formula_tree.specs.Formulas.{Exp, EVar, MemExp, MVar, shift_exp}
-use Rattle.formula_tree.specs.Variables.{PExp, exp_at, mem_at, subst_var_exp, subst_var_mem, subst_var}
+use Rattle.formula_tree.specs.Formulas.{Exp, Form, shift_exp}
+use Rattle.formula_tree.specs.Variables.{PExp, mem_at, subst_var_exp, subst_var}
 use Rattle.formula_terms.specs.Encoding.{exp_encoding, mem_encoding, form_encoding}
 use Rattle.formula_terms.proofs.Encoded.{shift-exp_encoding}
 use Rattle.hereditary_subst.proofs.Rows.{memo-more}
+use Rattle.formula_ids.specs.declared.forms.Access.{Access}
+use Rattle.formula_ids.specs.declared.forms.Access.TheVariants.{Load, Store}
+use Rattle.formula_ids.specs.Nodes.{right_form, IsRight}
 use Rattle.formula_ids.specs.Puts.{IsExpPut, IsMemPut, IsFormPut}
 use Rattle.formula_ids.specs.PutRows.{IsPutAt, ArePuts, IsUnderPut}
 use Rattle.formula_ids.specs.declared.puts.Question.{Question}
@@ -116,4 +119,20 @@ under_put t u v w z quantifier body x arg under put function (Ok r) b a e s p l 
       let up : tree_at u under ≡ exp_encoding (shift_exp 1 0 o) = s.is ∙ ap (shift 1 0) k ∙ shift-exp_encoding o 1 0 in
       let of : tree_at v put ≡ form_encoding (subst_var A (x + 1) (PExp (shift_exp 1 0 o))) = p.is A (shift_exp 1 0 o) (e.same body b ∙ q) up in
       f.is ∙ ap (app1 quantifier) (l ∙ ap Lam of) ∙ ap (λ n. app1 quantifier (Lam (form_encoding (subst_var A n (PExp (shift_exp 1 0 o)))))) next;
+}
+
+put_right : (k : Access) (z o : Exp) (x : ℕ) → subst_var (right_form k z) x (PExp o) ≡ right_form k (subst_var_exp z x (PExp o))
+put_right Load z o x = refl
+put_right Store z o x = refl
+
+-- a right, at the address with what is put
+pub right_put : (t u v : TableView) (k : Access) (id a x arg address r : ℕ) → ((A : Form) → tree_at t id ≡ form_encoding A → IsRight t A k a) →
+    IsExpPut t u a x arg address → IsKnown v r →
+    ((e : Exp) → tree_at u address ≡ exp_encoding e → IsIdOf v (form_encoding (right_form k e)) r) → IsFormPut t v id x arg r
+right_put t u v k id a x arg address r is put known made = record {
+  known = known;
+  is = λ A o q w.
+      let at = is A q in
+      let there : Form → Form = λ B. subst_var B x (PExp o) in
+      (made (subst_var_exp at.address x (PExp o)) (put.is at.address o at.address_is w)).is ∙ ap form_encoding (sym (ap there at.is ∙ put_right k at.address o x));
 }

@@ -10,6 +10,8 @@ use Rattle.formula_ids.specs.declared.nodes.ExpNode.{ExpNode}
 use Rattle.formula_ids.specs.declared.nodes.ExpNode.TheVariants as E
 use Rattle.formula_ids.specs.declared.nodes.MemNode.{MemNode}
 use Rattle.formula_ids.specs.declared.nodes.MemNode.TheVariants as M
+use Rattle.formula_ids.specs.declared.forms.Access.{Access}
+use Rattle.formula_ids.specs.declared.forms.Access.TheVariants.{Load, Store}
 use Rattle.formula_ids.specs.declared.forms.FormNode.{FormNode}
 use Rattle.formula_ids.specs.declared.forms.FormNode.TheVariants as F
 
@@ -61,10 +63,15 @@ pub record IsRelation (t : TableView) (A : Form) (r : Rel) (a b : ℕ) : Type 0 
   pub left_is : tree_at t a ≡ exp_encoding left
   pub right_is : tree_at t b ≡ exp_encoding right
 
--- a right at an address, which the id stands for
-pub record IsRight (t : TableView) (A : Form) (right : Exp → Form) (a : ℕ) : Type 0 where
+-- the right to load from a, or to store there
+abbrev pub right_form : Access → Exp → Form
+right_form Load a = FRd a
+right_form Store a = FWr a
+
+-- the right to an access at an address, which the id stands for
+pub record IsRight (t : TableView) (A : Form) (k : Access) (a : ℕ) : Type 0 where
   pub address : Exp
-  pub is : A ≡ right address
+  pub is : A ≡ right_form k address
   pub address_is : tree_at t a ≡ exp_encoding address
 
 -- a connective of two formulas, which the ids stand for
@@ -86,8 +93,7 @@ abbrev pub IsFormNode : TableView → Form → FormNode → Type 0
 IsFormNode t A F.True = A ≡ FTrue
 IsFormNode t A F.False = A ≡ FFalse
 IsFormNode t A (F.Relation r a b) = IsRelation t A r a b
-IsFormNode t A (F.Load a) = IsRight t A FRd a
-IsFormNode t A (F.Store a) = IsRight t A FWr a
+IsFormNode t A (F.Right k a) = IsRight t A k a
 IsFormNode t A (F.And a b) = IsJoin t A FAnd a b
 IsFormNode t A (F.Or a b) = IsJoin t A FOr a b
 IsFormNode t A (F.Imp a b) = IsJoin t A FImp a b
@@ -113,8 +119,7 @@ abbrev pub AreFormPartsBelow : ℕ → FormNode → Type 0
 AreFormPartsBelow n F.True = Unit {0}
 AreFormPartsBelow n F.False = Unit {0}
 AreFormPartsBelow n (F.Relation r a b) = (a < n) × (b < n)
-AreFormPartsBelow n (F.Load a) = a < n
-AreFormPartsBelow n (F.Store a) = a < n
+AreFormPartsBelow n (F.Right k a) = a < n
 AreFormPartsBelow n (F.And a b) = (a < n) × (b < n)
 AreFormPartsBelow n (F.Or a b) = (a < n) × (b < n)
 AreFormPartsBelow n (F.Imp a b) = (a < n) × (b < n)
@@ -135,5 +140,4 @@ AreFormPartsLower t n (F.AllMem b) = IsLower t b n
 AreFormPartsLower t n F.True = Unit {0}
 AreFormPartsLower t n F.False = Unit {0}
 AreFormPartsLower t n (F.Relation r a b) = Unit {0}
-AreFormPartsLower t n (F.Load a) = Unit {0}
-AreFormPartsLower t n (F.Store a) = Unit {0}
+AreFormPartsLower t n (F.Right k a) = Unit {0}

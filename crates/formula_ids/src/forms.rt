@@ -12,6 +12,15 @@ use lf_signature::rel_of_constant;
 use term_table::{Id, Node, Table};
 use word_ops::Rel;
 
+/// What is done at an address.
+#[derive(Clone, Copy)]
+pub enum Access {
+    /// To load from it.
+    Load,
+    /// To store there.
+    Store,
+}
+
 /// A formula by its head, its parts as ids.
 #[derive(Clone, Copy)]
 pub enum FormNode {
@@ -21,10 +30,8 @@ pub enum FormNode {
     False,
     /// A relation of two expressions.
     Relation(Rel, Id, Id),
-    /// The right to load from an address.
-    Load(Id),
-    /// The right to store at an address.
-    Store(Id),
+    /// The right to an access at an address.
+    Right(Access, Id),
     /// Both.
     And(Id, Id),
     /// One of two.
@@ -42,10 +49,10 @@ fn unary(constant: u32, argument: Id, body: Option<Id>) -> FormNode
     ensures { result ≡ unary_node constant argument body }
 {
     if constant == RD {
-        return FormNode::Load(argument);
+        return FormNode::Right(Access::Load, argument);
     }
     if constant == WR {
-        return FormNode::Store(argument);
+        return FormNode::Right(Access::Store, argument);
     }
     match body {
         None => FormNode::True,

@@ -14,9 +14,9 @@ mod put_forms;
 mod puts;
 mod steps;
 
-pub use forms::{FormNode, form_node};
+pub use forms::{Access, FormNode, form_node};
 pub use hypotheses::{Hypothesis, raised};
 pub use nodes::{ExpNode, MemNode, Sides, exp_node, literal, mem_node, operands};
 pub use put_forms::{put_word, put_word_exp};
 pub use puts::Puts;
-pub use steps::{calc, fact, moved, oper, reflexive, relation, swapped};
+pub use steps::{calc, fact, moved, oper, reflexive, relation, right, swapped};

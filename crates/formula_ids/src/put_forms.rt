@@ -9,8 +9,9 @@ ghost use Rattle.formula_ids.specs.PutRows.{ArePuts, IsJoinPut, IsUnderPut};
 use crate::forms::{FormNode, form_node};
 use crate::hypotheses::raised;
 use crate::puts::{Puts, Question, number, put_exp};
+use crate::steps::right;
 use hereditary_subst::{Exhausted, Memo};
-use lf_signature::numbers::{ALL, ALLM, AND, IMP, OR, RD, WR, rel_constant};
+use lf_signature::numbers::{ALL, ALLM, AND, IMP, OR, rel_constant};
 use lf_signature::{app1, app2};
 use term_table::{Id, Node, Table};
 
@@ -71,13 +72,9 @@ fn put_form_parts(
             let right = put_exp(table, memo, kept, b, x, arg)?;
             Ok(app2(table, rel_constant(rel), left, right)?)
         }
-        FormNode::Load(a) => {
+        FormNode::Right(access, a) => {
             let address = put_exp(table, memo, kept, a, x, arg)?;
-            Ok(app1(table, RD, address)?)
-        }
-        FormNode::Store(a) => {
-            let address = put_exp(table, memo, kept, a, x, arg)?;
-            Ok(app1(table, WR, address)?)
+            Ok(right(table, access, address)?)
         }
         FormNode::And(a, b) => put_joined(table, memo, kept, AND, a, b, x, arg),
         FormNode::Or(a, b) => put_joined(table, memo, kept, OR, a, b, x, arg),

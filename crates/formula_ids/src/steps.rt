@@ -9,14 +9,16 @@ ghost use Rattle.lf_signature.specs.Nodes.{IsIdOf};
 ghost use Rattle.lf_signature.specs.Terms.{op_term, rel_term};
 ghost use Rattle.formula_tree.specs.Formulas.{Exp, Form};
 ghost use Rattle.formula_terms.specs.Encoding.{exp_encoding, form_encoding};
+ghost use Rattle.formula_ids.specs.Nodes.{right_form};
 ghost use Rattle.formula_terms.specs.ProofTerms.{eq_refl, move, swap, calc, fact};
 
+use crate::forms::Access;
 use crate::hypotheses::raised;
 use hereditary_subst::{Exhausted, Memo};
 use lf_rules::numbers::{EQ_REFL, EQ_SUB};
 use lf_rules::rule_term;
-use lf_signature::app2;
-use lf_signature::numbers::{op_constant, op_number, rel_constant, rel_number};
+use lf_signature::numbers::{RD, WR, op_constant, op_number, rel_constant, rel_number};
+use lf_signature::{app1, app2};
 use std::alloc::AllocError;
 use term_table::{Id, Node, Table};
 use word_ops::{Op, Rel};
@@ -41,6 +43,20 @@ pub fn relation(table: &mut Table, rel: Rel, a: Id, b: Id) -> Result<Id, AllocEr
     ensures extends { Extends table.old table.new }
 {
     app2(table, rel_constant(rel), a, b)
+}
+
+/// The right to the access at the address.
+pub fn right(table: &mut Table, access: Access, address: Id) -> Result<Id, AllocError>
+    requires address { IsKnown table.old address }
+    ensures known { IfOk result (IsKnown table.new) }
+    ensures exact { (a : Exp) → tree_at table.old address ≡ exp_encoding a
+        → IfOk result (IsIdOf table.new (form_encoding (right_form access a))) }
+    ensures extends { Extends table.old table.new }
+{
+    match access {
+        Access::Load => app1(table, RD, address),
+        Access::Store => app1(table, WR, address),
+    }
 }
 
 /// The proof that the operator gives what it gives at two words.

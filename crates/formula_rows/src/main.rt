@@ -11,8 +11,8 @@
 #![tactic(auto)]
 
 use formula_ids::{
-    ExpNode, FormNode, MemNode, Puts, exp_node, form_node, literal, mem_node, moved, operands,
-    put_word, put_word_exp, raised, reflexive, swapped,
+    Access, ExpNode, FormNode, MemNode, Puts, exp_node, form_node, literal, mem_node, moved,
+    operands, put_word, put_word_exp, raised, reflexive, swapped,
 };
 use hereditary_subst::{MOST_RESULTS, Memo};
 use lf_signature::numbers::{
@@ -46,8 +46,8 @@ fn form_constant(table: &mut Table, names: &Names, cursor: &mut Cursor<'_>) -> R
         FormNode::Relation(Rel::Ule, _, _) => ULE,
         FormNode::Relation(Rel::Slt, _, _) => SLT,
         FormNode::Relation(Rel::Sle, _, _) => SLE,
-        FormNode::Load(_) => RD,
-        FormNode::Store(_) => WR,
+        FormNode::Right(Access::Load, _) => RD,
+        FormNode::Right(Access::Store, _) => WR,
         FormNode::And(_, _) => AND,
         FormNode::Or(_, _) => OR,
         FormNode::Imp(_, _) => IMP,

@@ -3,15 +3,16 @@ use Rattle.std.specs.Prelude.{◌≡◌, ℕ, Bool, true, Option, Some, None, Li
 use Rattle.std.specs.BTreeSet.{BTreeSet, contains}
 use Rattle.word_ops.specs.declared.Op.TheVariants.{Add}
 use Rattle.term_table.specs.Table.{TableView, IsKnown, tree_at, Stands}
-use Rattle.formula_tree.specs.Formulas.{Exp, EOp, Form, FAnd, FImp, FAll}
+use Rattle.formula_tree.specs.Formulas.{Exp, EOp, Form, FAnd, FAll}
 use Rattle.formula_terms.specs.Encoding.{exp_encoding, form_encoding}
 use Rattle.formula_ids.specs.Hypotheses.{AreHyps}
+use Rattle.formula_ids.specs.declared.forms.Access.{Access}
+use Rattle.formula_ids.specs.declared.forms.Access.TheVariants.{Load, Store}
 use Rattle.formula_ids.specs.declared.hypotheses.Hypothesis.{Hypothesis}
 use Rattle.easy_class.specs.Hypotheses.{Hyps}
+use Rattle.easy_class.specs.Access.{Opened, opened_at, no_way, first_opened, by_grant}
 use Rattle.easy_class.specs.Access as class
-use Rattle.bounds_prover.specs.Inside.Access.{variable_index, Opened, opened_at, no_way, first_opened, by_grant}
-use Rattle.bounds_prover.specs.declared.access_moves.Access.{Access}
-use Rattle.bounds_prover.specs.declared.access_moves.Access.TheVariants.{Load, Store}
+use Rattle.bounds_prover.specs.Inside.Instances.{variable_index}
 use Rattle.bounds_prover.specs.declared.access_instances.Indexed.{Indexed}
 use Rattle.bounds_prover.specs.declared.access_walks.Asked.{Asked}
 use Rattle.bounds_prover.specs.declared.access_walks.Grant.{Grant}
@@ -139,12 +140,6 @@ abbrev pub IsHypProof : TableView → TableView → List Hypothesis → ℕ → 
 IsHypProof t u hyps outside asked form proof o =
     (Γ : Hyps) (a : Exp) (A : Form) → AreHyps t hyps Γ → tree_at t asked.address ≡ exp_encoding a → tree_at t form ≡ form_encoding A →
     Stands u (class.by_hyp class.without_access outside Γ (access_of asked.access) a A (tree_at t proof)) o
-
--- access by an implication
-abbrev pub IsImplicationProof : TableView → TableView → List Hypothesis → ℕ → Asked → ℕ → ℕ → ℕ → Option ℕ → Type 0
-IsImplicationProof t u hyps outside asked premise conclusion proof o =
-    (Γ : Hyps) (a : Exp) (P Q : Form) → AreHyps t hyps Γ → tree_at t asked.address ≡ exp_encoding a → tree_at t premise ≡ form_encoding P → tree_at t conclusion ≡ form_encoding Q →
-    Stands u (class.by_hyp class.without_access outside Γ (access_of asked.access) a (FImp P Q) (tree_at t proof)) o
 
 -- access by a quantified hypothesis over a body
 abbrev pub IsBodyProof : TableView → TableView → List Hypothesis → ℕ → Asked → ℕ → ℕ → Option ℕ → Type 0

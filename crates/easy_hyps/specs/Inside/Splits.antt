@@ -8,7 +8,7 @@ use Rattle.formula_terms.specs.Encoding.{form_encoding}
 use Rattle.formula_ids.specs.Nodes.{IsRelation}
 use Rattle.formula_ids.specs.declared.hypotheses.Hypothesis.{Hypothesis}
 use Rattle.formula_ids.specs.Hypotheses.{AreHyps}
-use Rattle.easy_class.specs.Hypotheses.{Hyps, find_hyp, imp_hyps, split_hyps}
+use Rattle.easy_class.specs.Hypotheses.{Hyps, find_hyp, split_hyps}
 use Rattle.easy_hyps.specs.declared.collection.Key.{Key}
 use Rattle.easy_hyps.specs.declared.splitting.Relation.{Relation}
 use Rattle.easy_hyps.specs.contracts.collection.KeyOrd.TheImpl as key_block
@@ -35,5 +35,5 @@ pub record AreSplit (t : TableView) (l : List Hypothesis) (s : BTreeSet Key) (Γ
 
 -- where B is falsity and A a relation, which the ids stand for; else the implication has one member
 abbrev pub IsNegated : TableView → Form → Form → Option Relation → Type 0
-IsNegated t A B None = (h : Tree) → imp_hyps A B h ≡ (FImp A B, h) ∷ []
+IsNegated t A B None = (h : Tree) → split_hyps (FImp A B) h ≡ (FImp A B, h) ∷ []
 IsNegated t A B (Some r) = IsRelation t A r.rel r.a r.b × (B ≡ FFalse)

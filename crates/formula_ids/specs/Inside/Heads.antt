@@ -8,6 +8,7 @@ use Rattle.lf_signature.specs.Numbers.{op_of_constant, rel_of_constant}
 use Rattle.lf_signature.specs.declared.numbers.TheConstants.{RD, WR, AND, OR, ALL}
 use Rattle.formula_ids.specs.declared.nodes.ExpNode.{ExpNode}
 use Rattle.formula_ids.specs.declared.nodes.ExpNode.TheVariants as E
+use Rattle.formula_ids.specs.declared.forms.Access.TheVariants.{Load, Store}
 use Rattle.formula_ids.specs.declared.forms.FormNode.{FormNode}
 use Rattle.formula_ids.specs.declared.forms.FormNode.TheVariants as F
 
@@ -27,7 +28,7 @@ quantified_node c (Some b) = if c == ALL then F.All b else F.AllMem b
 
 -- the formula of the constant c at one part, which has that body where it is an abstraction
 abbrev pub unary_node : ℕ → ℕ → Option ℕ → FormNode
-unary_node c a body = if c == RD then F.Load a else if c == WR then F.Store a else quantified_node c body
+unary_node c a body = if c == RD then F.Right Load a else if c == WR then F.Right Store a else quantified_node c body
 
 -- a relation, or else a connective
 abbrev pub joined_node : Option Rel → ℕ → ℕ → ℕ → FormNode

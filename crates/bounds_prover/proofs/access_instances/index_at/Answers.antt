@@ -1,7 +1,7 @@
 use Rattle.std.proofs.Common.{◌≡◌, Bool, false, None, cond, sym, ◌∙◌, subst}
 use Rattle.easy_class.specs.Access.{has_var}
 use Rattle.easy_forms.specs.Sums.{IsExpOption}
-use Rattle.bounds_prover.specs.Inside.Access.{rest_at, scaled_rest}
+use Rattle.bounds_prover.specs.Inside.Instances.{rest_at, scaled_rest}
 use Rattle.easy_goals.proofs.Kept.{search-more}
 use Rattle.bounds_prover.proofs.access_instances.index_at.Goals as goal
 

@@ -1,4 +1,4 @@
-use Rattle.bounds_prover.proofs.Tries.{instance-other}
+use Rattle.bounds_prover.proofs.AccessRows.{instance-other}
 use Rattle.bounds_prover.proofs.access_instances.instance_of.Goals as goal
 
 pub returns-in-None-clause-exact : goal.returns-in-None-clause-exact

@@ -2,8 +2,8 @@ use Rattle.std.proofs.Common.{rules, ◌≡◌, ◌==◌, ℕ, Option, Some, Non
 use Rattle.std.specs.Ordering.{eq_by_cmp}
 use Rattle.term_table.specs.Table.{IsKnown}
 use Rattle.formula_tree.specs.Formulas.{Exp}
+use Rattle.easy_class.specs.Access.{Opened, opened_at, from_side, first_opened}
 use Rattle.easy_class.specs.Access as class
-use Rattle.bounds_prover.specs.Inside.Access.{Opened, opened_at, from_side, first_opened}
 use Rattle.bounds_prover.specs.Inside.AccessIds.{access_of, IfFound, IsWalk}
 use Rattle.bounds_prover.specs.declared.access_walks.Found.{Found}
 use Rattle.bounds_prover.specs.declared.access_walks.Part.{Part}
@@ -75,15 +75,8 @@ walk_both-returns-in-None-2-clause-exact g c = λ Γ w P A B m qa qb.
     let no_right : first_opened k f B ≡ None = if_found-at u (first_opened k f B) c.in_ok-found-in-None.field-0 None c.in-None-2.is same in
     first-right u (first_opened k f A) (first_opened k f B) None none (ap (from_side class.Right) no_right)
 
-pub walk_parts-returns-in_ok-found-in-Load-access-clause-misses :
-    goal.walk_parts-returns-in_ok-found-in-Load-access-clause-misses
-walk_parts-returns-in_ok-found-in-Load-access-clause-misses g c =
-    let done = c.in_ok-found-in-Load-access.ensures in
+pub walk_parts-returns-in_ok-found-in-Right-clause-misses :
+    goal.walk_parts-returns-in_ok-found-in-Right-clause-misses
+walk_parts-returns-in_ok-found-in-Right-clause-misses g c =
+    let done = c.in_ok-found-in-Right.ensures in
     misses-after c.args.table.now c.found_at.new.table c.found_at.new.search c.args.context.now c.found_at.new.context c.args.asked.now c.args.grant.now c.args.misses.now c.requires.context c.requires.asked c.requires.grant done.extends done.after c.requires.misses
-
-pub walk_parts-returns-in_ok-found-in-Store-access-2-clause-misses :
-    goal.walk_parts-returns-in_ok-found-in-Store-access-2-clause-misses
-walk_parts-returns-in_ok-found-in-Store-access-2-clause-misses g c =
-    let n = c.found_at-in-Store-access-2.new in
-    let done = c.in_ok-found-in-Store-access-2.ensures in
-    misses-after c.args.table.now n.table n.search c.args.context.now n.context c.args.asked.now c.args.grant.now c.args.misses.now c.requires.context c.requires.asked c.requires.grant done.extends done.after c.requires.misses

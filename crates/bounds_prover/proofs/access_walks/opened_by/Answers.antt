@@ -1,7 +1,6 @@
 use Rattle.std.proofs.Common.{◌≡◌, Bool, true, None, cond, option_map, sym, ◌∙◌, subst}
-use Rattle.easy_class.specs.Access.{without_access}
+use Rattle.easy_class.specs.Access.{without_access, same_address, opening_of}
 use Rattle.formula_ids.proofs.HypRows.{hyps-after}
-use Rattle.bounds_prover.specs.Inside.Access.{same_address, opening_of}
 use Rattle.bounds_prover.specs.Inside.AccessIds.{IfOpened}
 use Rattle.easy_goals.proofs.Kept.{context-more}
 use Rattle.easy_goals.proofs.WordRows.{after_now}

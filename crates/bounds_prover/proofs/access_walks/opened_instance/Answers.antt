@@ -1,10 +1,9 @@
 use Rattle.std.proofs.Common.{Option, Some, sym, ◌∙◌, subst}
 use Rattle.term_table.specs.Subst.{bind}
 use Rattle.formula_tree.specs.Formulas.{Exp}
-use Rattle.easy_class.specs.Access.{without_access, instance_of}
+use Rattle.easy_class.specs.Access.{without_access, instance_of, opened_with}
 use Rattle.formula_ids.proofs.HypRows.{hyps-after}
 use Rattle.easy_forms.specs.Sums.{IsExpOption}
-use Rattle.bounds_prover.specs.Inside.Access.{opened_with}
 use Rattle.bounds_prover.specs.Inside.AccessIds.{IfOpened}
 use Rattle.easy_goals.proofs.Kept.{context-more}
 use Rattle.easy_goals.proofs.WordRows.{after_now}

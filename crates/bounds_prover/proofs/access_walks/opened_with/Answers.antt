@@ -2,10 +2,9 @@ use Rattle.std.proofs.Common.{◌≡◌, Bool, true, None, cond, option_map, sym
 use Rattle.term_table.specs.Table.{IsKnown, tree_at}
 use Rattle.formula_tree.specs.Variables.{PExp, subst_var_exp, subst_var}
 use Rattle.formula_terms.specs.Encoding.{exp_encoding, form_encoding}
-use Rattle.easy_class.specs.Access.{without_access}
+use Rattle.easy_class.specs.Access.{without_access, same_address, opening_of}
 use Rattle.formula_ids.proofs.Standing.{twice}
 use Rattle.formula_ids.proofs.HypRows.{hyps-after}
-use Rattle.bounds_prover.specs.Inside.Access.{same_address, opening_of}
 use Rattle.bounds_prover.specs.Inside.AccessIds.{IfOpened}
 use Rattle.easy_goals.proofs.Kept.{context-more}
 use Rattle.easy_goals.proofs.WordRows.{after_now}

@@ -1,4 +1,4 @@
-use Rattle.std.proofs.Common.{◌≡◌, IfOk, ◌∙◌, ap, subst}
+use Rattle.std.proofs.Common.{◌≡◌, ◌∙◌, ap, subst}
 use Rattle.word_ops.specs.declared.Rel.TheVariants.{Eq}
 use Rattle.term_table.specs.Tree.{Tree, shift}
 use Rattle.term_table.specs.Table.{tree_at}

@@ -1,4 +1,4 @@
-use Rattle.std.proofs.Common.{[], ◌∷◌, IfOk, subst}
+use Rattle.std.proofs.Common.{[], ◌∷◌, subst}
 use Rattle.word_ops.specs.declared.Op.TheVariants.{Band}
 use Rattle.word_ops.specs.declared.Rel.TheVariants.{Eq}
 use Rattle.term_table.specs.Tree.{Tree}

@@ -1,10 +1,9 @@
 use Rattle.std.proofs.Common.{◌≡◌, [], ◌∷◌, OnOk, not, sym, ◌∙◌, subst, arith, Some}
 use Rattle.term_table.specs.Table.{IsKnown, tree_at}
 use Rattle.formula_ids.specs.Hypotheses.{AreHyps}
-use Rattle.easy_class.specs.Hypotheses.{compared, with_new}
-use Rattle.easy_hyps.specs.Inside.Comparisons.{comparison, comparison_hyps, tested_hyps, other_hyps}
+use Rattle.easy_class.specs.Hypotheses.{compared, comparison, comparison_hyps, other_hyps, tested_hyps, with_new}
 use Rattle.formula_ids.proofs.HypRows.{hyps-after}
-use Rattle.easy_hyps.proofs.Compared.{comparison-split, tested-split}
+use Rattle.easy_hyps.proofs.Compared.{tested-split}
 use Rattle.easy_hyps.proofs.comparing.+comparing.Goals as goal
 
 pub add_comparison-returns-clause-exact : goal.add_comparison-returns-clause-exact
@@ -18,8 +17,7 @@ add_comparison-returns-clause-exact t c = λ Γ x y h a b.
     let Δ = with_new Γ ((C, tree_at u c.args.proof) ∷ []) in
     let first : AreHyps u c.add.new.hyps Δ = c.in_ok-add.ensures.exact Γ C (hyps-after s u c.args.hyps.now Γ c.requires.hyps su h) form in
     let rest = c.add_others.ensures.exact Δ x y first (su.same c.args.a c.requires.a ∙ a) (su.same c.args.b c.requires.b ∙ b) in
-    subst (λ L. OnOk c.add_others.result (AreHyps c.add_others.new.table c.add_others.new.hyps (with_new Γ L))) (sym (comparison-split c.args.holds c.args.rel x y (tree_at s c.args.proof)))
-    (subst (λ p. OnOk c.add_others.result (AreHyps c.add_others.new.table c.add_others.new.hyps (with_new (with_new Γ ((C, p) ∷ [])) (other_hyps c.args.holds c.args.rel x y p)))) proof rest)
+    subst (λ p. OnOk c.add_others.result (AreHyps c.add_others.new.table c.add_others.new.hyps (with_new (with_new Γ ((C, p) ∷ [])) (other_hyps (tested_hyps x) c.args.holds c.args.rel x y p)))) proof rest
 
 pub add_tested-returns-in_ok-proof-in-Some-clause-exact : goal.add_tested-returns-in_ok-proof-in-Some-clause-exact
 add_tested-returns-in_ok-proof-in-Some-clause-exact t c = λ Γ x h a.
@@ -32,6 +30,6 @@ add_tested-returns-in_ok-proof-in-Some-clause-exact t c = λ Γ x h a.
     let ka : IsKnown s c.in-Apply.x = omega (arith, c.requires.a, c.in-Apply.ensures.below.0) in
     let kb : IsKnown s c.in-Apply.y = omega (arith, c.requires.a, c.in-Apply.ensures.below.1) in
     let rest = c.add_comparison.ensures.exact Γ at.left at.right (hyps-after s u c.args.hyps.now Γ c.requires.hyps su h) (su.same c.in-Apply.x ka ∙ at.left_is) (su.same c.in-Apply.y kb ∙ at.right_is) in
-    subst (λ z. OnOk c.add_comparison.result (AreHyps c.add_comparison.new.table c.add_comparison.new.hyps (with_new Γ (tested_hyps c.args.is_zero z (tree_at s c.args.proof))))) (sym at.is)
+    subst (λ z. OnOk c.add_comparison.result (AreHyps c.add_comparison.new.table c.add_comparison.new.hyps (with_new Γ (tested_hyps z c.args.is_zero (tree_at s c.args.proof))))) (sym at.is)
     (subst (λ L. OnOk c.add_comparison.result (AreHyps c.add_comparison.new.table c.add_comparison.new.hyps (with_new Γ L))) (tested-split c.args.is_zero c.in-Apply.op c.in-Some.rel c.in-Some.place at.left at.right (tree_at s c.args.proof) is)
-    (subst (λ p. OnOk c.add_comparison.result (AreHyps c.add_comparison.new.table c.add_comparison.new.hyps (with_new Γ (comparison_hyps (not c.args.is_zero) c.in-Some.rel at.left at.right p)))) proved.is rest))
+    (subst (λ p. OnOk c.add_comparison.result (AreHyps c.add_comparison.new.table c.add_comparison.new.hyps (with_new Γ (comparison_hyps (tested_hyps at.left) (not c.args.is_zero) c.in-Some.rel at.left at.right p)))) proved.is rest))

@@ -1,5 +1,4 @@
-use Rattle.std.proofs.Common.{◌≡◌, [], ◌∷◌, ◌++◌, OnOk, ◌∙◌, ap, subst, arith}
-use Rattle.std.proofs.lemmas.Result.{on_ok_weaker}
+use Rattle.std.proofs.Common.{◌≡◌, [], ◌∷◌, ◌++◌, ◌∙◌, ap, subst, arith}
 use Rattle.term_table.specs.Tree.{shift}
 use Rattle.term_table.specs.Table.{IsKnown, tree_at}
 use Rattle.formula_tree.specs.Formulas.{shift_form}
