@@ -7,12 +7,14 @@
 #![tactic(auto)]
 
 mod bounds;
+mod choices;
 mod kept_bounds;
 mod lower_bounds;
-mod op_bounds;
+mod parts;
+mod relations;
 mod upper_bounds;
 
 pub use bounds::Bound;
 pub use kept_bounds::UpperBounds;
-pub use lower_bounds::lower_bound;
-pub use upper_bounds::upper_bound;
+pub use lower_bounds::{lower_bound, lower_word};
+pub use upper_bounds::{upper_bound, upper_word};
