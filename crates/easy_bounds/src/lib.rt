@@ -13,8 +13,10 @@ mod lower_bounds;
 mod parts;
 mod relations;
 mod upper_bounds;
+mod words;
 
 pub use bounds::Bound;
 pub use kept_bounds::UpperBounds;
-pub use lower_bounds::{lower_bound, lower_word};
-pub use upper_bounds::{upper_bound, upper_word};
+pub use lower_bounds::lower_bound;
+pub use upper_bounds::upper_bound;
+pub use words::{BoundWords, bound_words};

@@ -22,27 +22,6 @@ use formula_ids::Hypothesis;
 use hereditary_subst::{Exhausted, Memo};
 use term_table::{Id, Table};
 
-/// The word of the greatest lower bound of the expression that is found by the hypotheses, for which
-/// no proof is made. Fails past the limit of `memo`, since the hypotheses are gone through.
-pub fn lower_word(
-    table: &Table,
-    memo: &mut Memo,
-    hyps: &[Hypothesis],
-    e: Id,
-) -> Result<u64, Exhausted>
-    requires hyps { AreKnownHyps table.now hyps.now }
-    requires e { IsKnown table.now e }
-    requires memo { IsMemo table.now memo.old }
-    ensures exact { (Γ : Hyps) (x : Exp) → AreHyps table.now hyps.now Γ
-        → tree_at table.now e ≡ exp_encoding x
-        → IfOk result (λ v. v ≡ (lower_bound Γ x).value) }
-    ensures memo { IsMemo table.now memo.new }
-{
-    memo.spend_steps(hyps.len() as u64)?;
-    let choice = choice_alone(table, Side::Lower, hyps, e);
-    Ok(choice.value)
-}
-
 /// The bound that a choice names.
 #[tactic(auto, using(hereditary_subst::proofs::Rows::rows))]
 fn made(

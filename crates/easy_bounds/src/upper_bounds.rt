@@ -29,7 +29,7 @@ use term_table::{Id, Table};
 
 /// What is chosen as the upper bound of the expression, which is kept.
 #[cycle(choosing)]
-fn choice_of(
+pub(crate) fn choice_of(
     table: &Table,
     memo: &mut Memo,
     kept: &mut UpperBounds,
@@ -82,32 +82,6 @@ fn choice_anew(
             Ok(choice_of_parts(table, hyps, e, &p, v.value, w.value))
         }
     }
-}
-
-/// The word of the least upper bound of the expression that is found by the hypotheses and by its
-/// operators, for which no proof is made. `kept` has what was found under the same hypotheses.
-///
-/// Errors: want of memory alone, which more results than `memo` may keep are too; nothing is promised
-/// of `kept`.
-pub fn upper_word(
-    table: &Table,
-    memo: &mut Memo,
-    kept: &mut UpperBounds,
-    hyps: &[Hypothesis],
-    e: Id,
-) -> Result<u64, Exhausted>
-    requires hyps { AreKnownHyps table.now hyps.now }
-    requires e { IsKnown table.now e }
-    requires memo { IsMemo table.now memo.old }
-    requires kept { AreUppers table.now hyps.now kept.old }
-    ensures exact { (Γ : Hyps) (x : Exp) → AreHyps table.now hyps.now Γ
-        → tree_at table.now e ≡ exp_encoding x
-        → IfOk result (λ v. v ≡ (upper_bound Γ x).value) }
-    ensures memo { IsMemo table.now memo.new }
-    ensures kept { IfOk result (λ _. AreUppers table.now hyps.now kept.new) }
-{
-    let choice = choice_of(table, memo, kept, hyps, e)?;
-    Ok(choice.value)
 }
 
 /// The least upper bound of the expression that is found by the hypotheses and by its operators,
