@@ -7,7 +7,7 @@ use Rattle.formula_ids.specs.Operands.{IsLiteral}
 use Rattle.easy_class.specs.Hypotheses.{Hyps}
 use Rattle.easy_class.specs.Bounds.{WordBound, least_bound, own_bounds, op_bounds, uppers, upper_bound}
 use Rattle.easy_bounds.specs.declared.bounds.Side.TheVariants.{Upper}
-use Rattle.easy_bounds.specs.declared.choices.By.{By}
+use Rattle.easy_bounds.specs.declared.choices.How.{How}
 use Rattle.easy_bounds.specs.Candidates.{limit}
 use Rattle.easy_bounds.specs.declared.choices.Choice.{Choice}
 use Rattle.easy_bounds.specs.Choices.{by_parts, IsChoice}
@@ -33,7 +33,7 @@ upper_alone Γ ELeft n = refl
 upper_alone Γ (EVar v) n = refl
 upper_alone Γ (ESel m a) n = refl
 
-pub no_parts : (Γ : Hyps) (x : Exp) (c : By) → IsNoOp x → limit Upper x ≡ by_parts Γ x c
+pub no_parts : (Γ : Hyps) (x : Exp) (c : How) → IsNoOp x → limit Upper x ≡ by_parts Γ x c
 no_parts Γ (EOp o a b) c n = absurd (n o a b refl)
 no_parts Γ (ELit w) c n = refl
 no_parts Γ (EReg r) c n = refl

@@ -8,8 +8,6 @@ use Rattle.formula_terms.specs.ProofTerms.{word_rule, move, up}
 use Rattle.easy_class.specs.Bounds.{WordBound, word_bound, folded, fit_proof, max_word}
 use Rattle.easy_bounds.specs.declared.bounds.Side.{Side}
 use Rattle.easy_bounds.specs.declared.bounds.Side.TheVariants.{Upper, Lower}
-use Rattle.easy_bounds.specs.declared.parts.Left.{Left}
-use Rattle.easy_bounds.specs.declared.parts.Left.TheVariants.{And, ShiftRight, ShiftLeft}
 use Rattle.easy_bounds.specs.declared.relations.Kind.{Kind}
 use Rattle.easy_bounds.specs.declared.relations.Kind.TheVariants.{AtMost, Less, Equal}
 
@@ -69,12 +67,6 @@ by_right_shift e a c v = folded e Srl v.value c (word_rule 59 (a ∷ ELit v.valu
 -- the left shift e of a by the word c, where no bit is lost
 abbrev pub by_left_shift : Exp → Exp → ℕ → WordBound → WordBound
 by_left_shift e a c v = folded e Sll v.value c (word_rule 60 (a ∷ ELit v.value ∷ ELit c ∷ []) (v.proof ∷ fit_proof v.value Srl max_word c ∷ []))
-
--- one of these three
-abbrev pub by_left_side : Left → Exp → Exp → Exp → WordBound → WordBound
-by_left_side And e a b v = by_left e a b v
-by_left_side (ShiftRight c) e a b v = by_right_shift e a c v
-by_left_side (ShiftLeft c) e a b v = by_left_shift e a c v
 
 -- the sum e of a and b, where it doesn't wrap
 abbrev pub by_sum : Exp → Exp → Exp → WordBound → WordBound → WordBound

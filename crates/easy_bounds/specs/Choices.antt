@@ -8,14 +8,16 @@ use Rattle.formula_terms.specs.Encoding.{exp_encoding}
 use Rattle.formula_ids.specs.Nodes.{IsApply}
 use Rattle.easy_class.specs.Hypotheses.{Hyps}
 use Rattle.easy_class.specs.Bounds.{WordBound, lesser, greater, least_bound, greatest_bound, upper_of, lower_of, uppers, lowers, upper_bound}
-use Rattle.easy_bounds.specs.Candidates.{limit, by_itself, by_relation, by_right, by_left_side, by_sum, by_comparison}
+use Rattle.easy_bounds.specs.Candidates.{limit, by_itself, by_relation, by_right, by_left, by_right_shift, by_left_shift, by_sum, by_comparison}
 use Rattle.easy_bounds.specs.declared.bounds.Side.{Side}
 use Rattle.easy_bounds.specs.declared.bounds.Side.TheVariants.{Upper, Lower}
 use Rattle.easy_bounds.specs.declared.relations.Kind.{Kind}
 use Rattle.easy_bounds.specs.declared.relations.Related.{Related}
-use Rattle.easy_bounds.specs.declared.parts.Parts.{Parts}
+use Rattle.easy_bounds.specs.declared.parts.Parts.{Parts as Sides}
 use Rattle.easy_bounds.specs.declared.choices.By.{By}
-use Rattle.easy_bounds.specs.declared.choices.By.TheVariants.{Limit, Itself, Hypothesis, Left, Right, Sum, Compared}
+use Rattle.easy_bounds.specs.declared.choices.By.TheVariants.{Limit, Itself, Hypothesis, Parts}
+use Rattle.easy_bounds.specs.declared.choices.How.{How}
+use Rattle.easy_bounds.specs.declared.choices.How.TheVariants.{AndLeft, AndRight, ShiftRight, ShiftLeft, Sum, Compared}
 use Rattle.easy_bounds.specs.declared.choices.Choice.{Choice}
 
 -- the first, unless the second is strictly better
@@ -49,25 +51,26 @@ by_first s e [] = limit s e
 by_first s e (h ∷ Γ) = first_or (says s e h.0 h.1) (limit s e)
 
 -- the expression e, an operator at a and b, by their upper bounds
-abbrev pub by_sides : Hyps → Exp → Exp → Exp → By → WordBound
-by_sides Γ e a b (Left how) = by_left_side how e a b (upper_bound Γ a)
-by_sides Γ e a b Right = by_right e a b (upper_bound Γ b)
+abbrev pub by_sides : Hyps → Exp → Exp → Exp → How → WordBound
+by_sides Γ e a b AndLeft = by_left e a b (upper_bound Γ a)
+by_sides Γ e a b AndRight = by_right e a b (upper_bound Γ b)
+by_sides Γ e a b (ShiftRight c) = by_right_shift e a c (upper_bound Γ a)
+by_sides Γ e a b (ShiftLeft c) = by_left_shift e a c (upper_bound Γ a)
 by_sides Γ e a b Sum = by_sum e a b (upper_bound Γ a) (upper_bound Γ b)
 by_sides Γ e a b (Compared n) = by_comparison n a b
-by_sides Γ e a b c = limit Upper e
 
 -- the expression by its operator's parts
-abbrev pub by_parts : Hyps → Exp → By → WordBound
-by_parts Γ (EOp o a b) c = by_sides Γ (EOp o a b) a b c
-by_parts Γ e c = limit Upper e
+abbrev pub by_parts : Hyps → Exp → How → WordBound
+by_parts Γ (EOp o a b) how = by_sides Γ (EOp o a b) a b how
+by_parts Γ e how = limit Upper e
 
 -- the candidate that a choice names
 abbrev pub chosen : Side → Hyps → Exp → By → WordBound
 chosen s Γ e Limit = limit s e
 chosen s Γ e Itself = by_itself s e
 chosen s Γ e (Hypothesis i) = by_first s e (drop i Γ)
-chosen Upper Γ e c = by_parts Γ e c
-chosen Lower Γ e c = limit Lower e
+chosen Upper Γ e (Parts how) = by_parts Γ e how
+chosen Lower Γ e (Parts how) = limit Lower e
 
 -- the choice names the bound, and has its word
 pub record IsChoice (s : Side) (Γ : Hyps) (e : Exp) (w : WordBound) (c : Choice) : Type 0 where
@@ -91,6 +94,6 @@ IsToWord k e a b None = (w : ℕ) → exp_encoding a ≡ exp_encoding e → b �
 IsToWord k e a b (Some r) = IsToWordBy k e a b r
 
 -- the operator at two expressions, which the ids stand for; none where it is no operator
-abbrev pub AreParts : TableView → Exp → Option Parts → Type 0
+abbrev pub AreParts : TableView → Exp → Option Sides → Type 0
 AreParts t e None = (o : Op) (a b : Exp) → e ≡ EOp o a b → ⊥
 AreParts t e (Some p) = IsApply t e p.op p.left p.right

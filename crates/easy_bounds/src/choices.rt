@@ -15,12 +15,29 @@ ghost use Rattle.easy_bounds.specs.Candidates.{limit};
 ghost use Rattle.easy_bounds.specs.Choices.{better, best, all_say, chosen, IsChoice};
 
 use crate::bounds::Side;
-use crate::parts::{Left, Parts};
+use crate::parts::Parts;
 use crate::relations::{bound_word, relation_of};
 use formula_ids::{Hypothesis, literal};
 use lf_rules::numbers::CMP_LE1;
 use term_table::{Id, Table};
 use word_ops::{Op, apply};
+
+/// How an operator is bounded from above by upper bounds of its parts.
+#[derive(Clone, Copy)]
+pub(crate) enum How {
+    /// Bitwise and is at most its left side.
+    AndLeft,
+    /// Bitwise and is at most its right side.
+    AndRight,
+    /// A shift of its left side to the right by so many bits.
+    ShiftRight(u64),
+    /// A shift of its left side to the left by so many bits, where none is lost.
+    ShiftLeft(u64),
+    /// A sum of both, where it doesn't wrap.
+    Sum,
+    /// A comparison is at most 1, by the rule of this number.
+    Compared(u32),
+}
 
 /// What a bound holds by.
 #[derive(Clone, Copy)]
@@ -31,14 +48,8 @@ pub(crate) enum By {
     Itself,
     /// The hypothesis at this place, which relates it to a word.
     Hypothesis(usize),
-    /// An upper bound of its operator's left side.
-    Left(Left),
-    /// An upper bound of its operator's right side.
-    Right,
-    /// Upper bounds of both sides of a sum.
-    Sum,
-    /// It is a comparison, by the rule of this number.
-    Compared(u32),
+    /// Its operator's parts.
+    Parts(How),
 }
 
 /// A bound that was chosen: its word, and what it holds by.
@@ -194,29 +205,34 @@ fn by_parts(table: &Table, op: Op, b: Id, v: u64, w: u64) -> Choice
     let last = limited(Side::Upper);
     match op {
         Op::Band => {
-            let left = or_last(Side::Upper, By::Left(Left::And), v, last);
-            or_last(Side::Upper, By::Right, w, left)
+            let left = or_last(Side::Upper, By::Parts(How::AndLeft), v, last);
+            or_last(Side::Upper, By::Parts(How::AndRight), w, left)
         }
         Op::Srl => match literal(table, b) {
             None => last,
             Some(n) => {
-                let by = By::Left(Left::ShiftRight(n));
+                let by = By::Parts(How::ShiftRight(n));
                 or_last(Side::Upper, by, apply(Op::Srl, v, n), last)
             }
         },
         Op::Sll => match literal(table, b) {
             None => last,
             Some(n) => {
-                let by = By::Left(Left::ShiftLeft(n));
+                let by = By::Parts(How::ShiftLeft(n));
                 or_last_if(fits_shift(v, n), by, apply(Op::Sll, v, n), last)
             }
         },
-        Op::Add => or_last_if(fits_sum(v, w), By::Sum, apply(Op::Add, v, w), last),
-        Op::Cmpeq => or_last(Side::Upper, By::Compared(CMP_LE1), 1, last),
-        Op::Cmplt => or_last(Side::Upper, By::Compared(CMP_LE1 + 1), 1, last),
-        Op::Cmple => or_last(Side::Upper, By::Compared(CMP_LE1 + 2), 1, last),
-        Op::Cmpult => or_last(Side::Upper, By::Compared(CMP_LE1 + 3), 1, last),
-        Op::Cmpule => or_last(Side::Upper, By::Compared(CMP_LE1 + 4), 1, last),
+        Op::Add => or_last_if(
+            fits_sum(v, w),
+            By::Parts(How::Sum),
+            apply(Op::Add, v, w),
+            last,
+        ),
+        Op::Cmpeq => or_last(Side::Upper, By::Parts(How::Compared(CMP_LE1)), 1, last),
+        Op::Cmplt => or_last(Side::Upper, By::Parts(How::Compared(CMP_LE1 + 1)), 1, last),
+        Op::Cmple => or_last(Side::Upper, By::Parts(How::Compared(CMP_LE1 + 2)), 1, last),
+        Op::Cmpult => or_last(Side::Upper, By::Parts(How::Compared(CMP_LE1 + 3)), 1, last),
+        Op::Cmpule => or_last(Side::Upper, By::Parts(How::Compared(CMP_LE1 + 4)), 1, last),
         Op::Sub => last,
         Op::Bis => last,
     }

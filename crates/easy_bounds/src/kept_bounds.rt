@@ -1,7 +1,7 @@
 //! Upper bounds that are kept, so that an expression that stands in many places is gone through
 //! once, and the proof of its bound made once.
 
-ghost use Rattle.std.specs.Prelude.{◌≡◌, IfOk, IfSome, List, Some};
+ghost use Rattle.std.specs.Prelude.{◌≡◌, IfOk, IfSome, List};
 ghost use Rattle.term_table.specs.Table.{TableView, IsKnown, tree_at};
 ghost use Rattle.hereditary_subst.specs.Kept.{IsMemo};
 ghost use Rattle.formula_tree.specs.Formulas.{Exp};
@@ -17,7 +17,7 @@ ghost use Rattle.easy_bounds.specs.KeptBounds.{IsUpper, AreUppers, IsKept};
 use crate::choices::Choice;
 use formula_ids::Hypothesis;
 use hereditary_subst::{Exhausted, Memo};
-use std::alloc::{AllocError, Global};
+use std::alloc::Global;
 use std::collections::BTreeMap;
 use term_table::{Id, Table};
 
@@ -31,7 +31,7 @@ struct Subject {
 #[derive(Clone, Copy)]
 struct Row {
     choice: Choice,
-    proof: Option<u64>,
+    proof: Option<Id>,
 }
 
 /// Upper bounds that were found, of expressions under one list of hypotheses. They count in the
@@ -94,80 +94,36 @@ impl UpperBounds {
         let subject = Subject { exp: number(e) };
         match self.row(table, hyps, &subject) {
             None => None,
-            Some(row) => match row.proof {
-                None => None,
-                Some(proof) => Some(table.id(proof)),
-            },
+            Some(row) => row.proof,
         }
     }
 
-    /// Keeps what was chosen of the expression, and a proof where one was made.
-    fn keep(
-        &mut self,
-        table: &Table,
-        hyps: &[Hypothesis],
-        e: Id,
-        choice: Choice,
-        proof: Option<u64>,
-    ) -> Result<(), AllocError>
-        requires kept { AreUppers table.now hyps.now self.old }
-        requires e { IsKnown table.now e }
-        requires known { IfSome proof (IsKnown table.now) }
-        requires is { (Γ : Hyps) (x : Exp) → AreHyps table.now hyps.now Γ
-            → tree_at table.now e ≡ exp_encoding x
-            → IsKept table.now Γ x choice proof }
-        ensures { IfOk result (λ _. AreUppers table.now hyps.now self.new) }
-    {
-        // Only the clauses speak of them.
-        let _ = table;
-        let _ = hyps;
-        let subject = Subject { exp: number(e) };
-        let row = Row { choice, proof };
-        self.rows.insert(subject, row)?;
-        Ok(())
-    }
-
-    /// Keeps what was chosen of the expression. Fails past the limit of `memo`, and where memory does.
-    pub(crate) fn keep_choice(
+    /// Keeps what was chosen of the expression, and the proof where it was made. Fails past the limit
+    /// of `memo`, and where memory does.
+    pub(crate) fn keep(
         &mut self,
         memo: &mut Memo,
         table: &Table,
         hyps: &[Hypothesis],
         e: Id,
         choice: Choice,
+        proof: Option<Id>,
     ) -> Result<(), Exhausted>
         requires memo { IsMemo table.now memo.old }
         requires kept { AreUppers table.now hyps.now self.old }
         requires e { IsKnown table.now e }
+        requires known { IfSome proof (IsKnown table.now) }
         requires is { (Γ : Hyps) (x : Exp) → AreHyps table.now hyps.now Γ
-            → tree_at table.now e ≡ exp_encoding x
-            → IsChoice Upper Γ x (upper_bound Γ x) choice }
+            → tree_at table.now e ≡ exp_encoding x → IsKept table.now Γ x choice proof }
         ensures memo { IsMemo table.now memo.new }
         ensures kept { IfOk result (λ _. AreUppers table.now hyps.now self.new) }
     {
+        // Only the clauses speak of them.
+        let _ = table;
+        let _ = hyps;
         memo.spend()?;
-        self.keep(table, hyps, e, choice, None)?;
-        Ok(())
-    }
-
-    /// Keeps the proof that was made for what was chosen. Fails where memory does.
-    pub(crate) fn keep_proof(
-        &mut self,
-        table: &Table,
-        hyps: &[Hypothesis],
-        e: Id,
-        choice: Choice,
-        proof: Id,
-    ) -> Result<(), Exhausted>
-        requires kept { AreUppers table.now hyps.now self.old }
-        requires e { IsKnown table.now e }
-        requires known { IsKnown table.now proof }
-        requires is { (Γ : Hyps) (x : Exp) → AreHyps table.now hyps.now Γ
-            → tree_at table.now e ≡ exp_encoding x
-            → IsKept table.now Γ x choice (Some proof) }
-        ensures { IfOk result (λ _. AreUppers table.now hyps.now self.new) }
-    {
-        self.keep(table, hyps, e, choice, Some(number(proof)))?;
+        let subject = Subject { exp: number(e) };
+        self.rows.insert(subject, Row { choice, proof })?;
         Ok(())
     }
 }

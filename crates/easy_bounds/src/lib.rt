@@ -13,10 +13,8 @@ mod lower_bounds;
 mod parts;
 mod relations;
 mod upper_bounds;
-mod words;
 
 pub use bounds::Bound;
 pub use kept_bounds::UpperBounds;
-pub use lower_bounds::lower_bound;
+pub use lower_bounds::{BoundWords, bound_words, lower_bound};
 pub use upper_bounds::upper_bound;
-pub use words::{BoundWords, bound_words};

@@ -1,4 +1,4 @@
-//! Lower bounds of expressions, by hypotheses.
+//! Lower bounds of expressions, by hypotheses, and the words of bounds, for which no proof is made.
 //!
 //! Errors: want of memory alone; each id keeps its tree.
 
@@ -9,47 +9,61 @@ ghost use Rattle.formula_tree.specs.Formulas.{Exp};
 ghost use Rattle.formula_terms.specs.Encoding.{exp_encoding};
 ghost use Rattle.formula_ids.specs.Hypotheses.{AreKnownHyps, AreHyps};
 ghost use Rattle.easy_class.specs.Hypotheses.{Hyps};
-ghost use Rattle.easy_class.specs.Bounds.{lower_bound};
-ghost use Rattle.easy_bounds.specs.declared.bounds.Side.TheVariants.{Lower};
+ghost use Rattle.easy_class.specs.Bounds.{lower_bound, upper_bound};
 ghost use Rattle.easy_bounds.specs.BoundIds.{IsBoundOf};
-ghost use Rattle.easy_bounds.specs.Choices.{chosen};
+ghost use Rattle.easy_bounds.specs.KeptBounds.{AreUppers};
 
 use crate::bounds::{Bound, Side};
 use crate::choices::{By, choice_alone};
+use crate::kept_bounds::UpperBounds;
 use crate::parts::{by_itself, limit};
 use crate::relations::by_hypothesis;
+use crate::upper_bounds::choice_of;
 use formula_ids::Hypothesis;
 use hereditary_subst::{Exhausted, Memo};
 use term_table::{Id, Table};
 
-/// The bound that a choice names.
-#[tactic(auto, using(hereditary_subst::proofs::Rows::rows))]
-fn made(
-    table: &mut Table,
+/// The words of an upper bound of one expression and of a lower bound of another.
+#[derive(Clone, Copy)]
+pub struct BoundWords {
+    /// The word of the upper bound.
+    pub upper: u64,
+    /// The word of the lower bound.
+    pub lower: u64,
+}
+
+/// The words of the upper bound of `a` and of the lower bound of `b` that `upper_bound` and
+/// `lower_bound` would prove. `kept` has what was found under the same hypotheses.
+///
+/// Errors: want of memory alone, which more results than `memo` may keep are too; nothing is promised
+/// of `kept`.
+pub fn bound_words(
+    table: &Table,
     memo: &mut Memo,
+    kept: &mut UpperBounds,
     hyps: &[Hypothesis],
-    e: Id,
-    by: By,
-) -> Result<Bound, Exhausted>
-    requires hyps { AreKnownHyps table.old hyps.now }
-    requires e { IsKnown table.old e }
-    requires memo { IsMemo table.old memo.old }
-    ensures known { IfOk result (λ b. IsKnown table.new b.proof) }
-    ensures is { (Γ : Hyps) (x : Exp) → AreHyps table.old hyps.now Γ
-        → tree_at table.old e ≡ exp_encoding x
-        → IfOk result (IsBoundOf table.new (chosen Lower Γ x by)) }
-    ensures extends { Extends table.old table.new }
-    ensures memo { IsMemo table.new memo.new }
+    a: Id,
+    b: Id,
+) -> Result<BoundWords, Exhausted>
+    requires hyps { AreKnownHyps table.now hyps.now }
+    requires a { IsKnown table.now a }
+    requires b { IsKnown table.now b }
+    requires memo { IsMemo table.now memo.old }
+    requires kept { AreUppers table.now hyps.now kept.old }
+    ensures exact { (Γ : Hyps) (x y : Exp) → AreHyps table.now hyps.now Γ
+        → tree_at table.now a ≡ exp_encoding x → tree_at table.now b ≡ exp_encoding y
+        → IfOk result (λ w. (w.upper ≡ (upper_bound Γ x).value)
+        × (w.lower ≡ (lower_bound Γ y).value)) }
+    ensures memo { IsMemo table.now memo.new }
+    ensures kept { IfOk result (λ _. AreUppers table.now hyps.now kept.new) }
 {
-    match by {
-        By::Hypothesis(at) => by_hypothesis(table, memo, Side::Lower, hyps, at, e),
-        By::Itself => by_itself(table, Side::Lower, e),
-        By::Limit => limit(table, Side::Lower, e),
-        By::Left(_) => limit(table, Side::Lower, e),
-        By::Right => limit(table, Side::Lower, e),
-        By::Sum => limit(table, Side::Lower, e),
-        By::Compared(_) => limit(table, Side::Lower, e),
-    }
+    memo.spend_steps(hyps.len() as u64)?;
+    let upper = choice_of(table, memo, kept, hyps, a)?;
+    let lower = choice_alone(table, Side::Lower, hyps, b);
+    Ok(BoundWords {
+        upper: upper.value,
+        lower: lower.value,
+    })
 }
 
 /// The greatest lower bound of the expression that is found by the hypotheses, with a proof: what
@@ -57,6 +71,7 @@ fn made(
 ///
 /// Errors: want of memory alone, which more results than `memo` may keep are too; each id keeps its
 /// tree.
+#[tactic(auto, using(hereditary_subst::proofs::Rows::rows))]
 pub fn lower_bound(
     table: &mut Table,
     memo: &mut Memo,
@@ -75,5 +90,10 @@ pub fn lower_bound(
 {
     memo.spend_steps(hyps.len() as u64)?;
     let choice = choice_alone(table, Side::Lower, hyps, e);
-    made(table, memo, hyps, e, choice.by)
+    match choice.by {
+        By::Hypothesis(at) => by_hypothesis(table, memo, Side::Lower, hyps, at, e),
+        By::Itself => by_itself(table, Side::Lower, e),
+        By::Limit => limit(table, Side::Lower, e),
+        By::Parts(_) => limit(table, Side::Lower, e),
+    }
 }

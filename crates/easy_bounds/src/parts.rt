@@ -8,7 +8,7 @@ ghost use Rattle.hereditary_subst.specs.Kept.{IsMemo};
 ghost use Rattle.formula_tree.specs.Formulas.{Exp, ELit};
 ghost use Rattle.formula_terms.specs.Encoding.{exp_encoding};
 ghost use Rattle.easy_bounds.specs.BoundIds.{IsBoundOf, bound_by_ids};
-ghost use Rattle.easy_bounds.specs.Candidates.{limit, by_word, by_itself, by_right, by_left, by_right_shift, by_left_shift, by_left_side, by_sum, by_comparison};
+ghost use Rattle.easy_bounds.specs.Candidates.{limit, by_word, by_itself, by_right, by_left, by_right_shift, by_left_shift, by_sum, by_comparison};
 ghost use Rattle.easy_bounds.specs.Choices.{AreParts};
 
 use crate::bounds::{Bound, Side, fit_proof, folded, placed, word};
@@ -28,17 +28,6 @@ pub(crate) struct Parts {
     pub(crate) op: Op,
     pub(crate) left: Id,
     pub(crate) right: Id,
-}
-
-/// How a bound of an operator's left side gives one of the operator.
-#[derive(Clone, Copy)]
-pub(crate) enum Left {
-    /// Bitwise and is at most it.
-    And,
-    /// A right shift of it by so many bits.
-    ShiftRight(u64),
-    /// A left shift of it by so many bits, where none is lost.
-    ShiftLeft(u64),
 }
 
 /// The operator and the sides of the expression that `e` encodes; none where it is no operator. Of an
@@ -145,7 +134,7 @@ pub(crate) fn by_right(table: &mut Table, e: Id, a: Id, b: Id, w: Bound) -> Resu
 
 /// Bitwise and is at most what its left side is.
 #[tactic(auto, using(hereditary_subst::proofs::Rows::rows))]
-fn by_left(
+pub(crate) fn by_left(
     table: &mut Table,
     memo: &mut Memo,
     e: Id,
@@ -180,7 +169,7 @@ fn by_left(
 
 /// A right shift by a word.
 #[tactic(auto, using(hereditary_subst::proofs::Rows::rows))]
-fn by_right_shift(
+pub(crate) fn by_right_shift(
     table: &mut Table,
     memo: &mut Memo,
     e: Id,
@@ -207,7 +196,7 @@ fn by_right_shift(
 
 /// A left shift by a word, where no bit is lost.
 #[tactic(auto, using(hereditary_subst::proofs::Rows::rows))]
-fn by_left_shift(
+pub(crate) fn by_left_shift(
     table: &mut Table,
     memo: &mut Memo,
     e: Id,
@@ -263,35 +252,4 @@ pub(crate) fn by_sum(
     let right = word(table, w.value)?;
     let proof = rule_term(table, ADD_LE, &[a, b, left, right, v.proof, w.proof, fits])?;
     folded(table, memo, e, Op::Add, v.value, w.value, proof)
-}
-
-/// The bound by one of the operator's left side: of bitwise and, or of a shift by a word.
-#[tactic(auto, using(hereditary_subst::proofs::Rows::rows))]
-pub(crate) fn by_left_side(
-    table: &mut Table,
-    memo: &mut Memo,
-    by: Left,
-    e: Id,
-    parts: Parts,
-    v: Bound,
-) -> Result<Bound, Exhausted>
-    requires e { IsKnown table.old e }
-    requires a { IsKnown table.old parts.left }
-    requires b { IsKnown table.old parts.right }
-    requires v { IsKnown table.old v.proof }
-    requires memo { IsMemo table.old memo.old }
-    ensures known { IfOk result (λ b. IsKnown table.new b.proof) }
-    ensures is { (x y z : Exp) → tree_at table.old e ≡ exp_encoding x
-        → tree_at table.old parts.left ≡ exp_encoding y
-        → tree_at table.old parts.right ≡ exp_encoding z
-        → IfOk result (IsBoundOf table.new (by_left_side by x y z (bound_by_ids table.old v))) }
-    ensures extends { Extends table.old table.new }
-    ensures memo { IsMemo table.new memo.new }
-{
-    let left = parts.left;
-    match by {
-        Left::And => by_left(table, memo, e, left, parts.right, v),
-        Left::ShiftRight(count) => by_right_shift(table, memo, e, left, count, v),
-        Left::ShiftLeft(count) => by_left_shift(table, memo, e, left, count, v),
-    }
 }

@@ -11,16 +11,16 @@ ghost use Rattle.formula_ids.specs.Hypotheses.{AreKnownHyps, AreHyps};
 ghost use Rattle.easy_class.specs.Hypotheses.{Hyps};
 ghost use Rattle.easy_class.specs.Bounds.{upper_bound};
 ghost use Rattle.easy_bounds.specs.declared.bounds.Side.TheVariants.{Upper};
-ghost use Rattle.easy_bounds.specs.declared.choices.By.TheVariants.{Left as ByLeft, Right, Sum, Compared};
 ghost use Rattle.easy_bounds.specs.BoundIds.{IsBoundOf};
 ghost use Rattle.easy_bounds.specs.Choices.{IsChoice, chosen, by_parts};
 ghost use Rattle.easy_bounds.specs.KeptBounds.{AreUppers};
 
 use crate::bounds::{Bound, Side};
-use crate::choices::{By, Choice, choice_alone, choice_of_parts};
+use crate::choices::{By, Choice, How, choice_alone, choice_of_parts};
 use crate::kept_bounds::UpperBounds;
 use crate::parts::{
-    Left, by_comparison, by_itself, by_left_side, by_right, by_sum, limit, parts_of,
+    by_comparison, by_itself, by_left, by_left_shift, by_right, by_right_shift, by_sum, limit,
+    parts_of,
 };
 use crate::relations::by_hypothesis;
 use formula_ids::Hypothesis;
@@ -50,7 +50,7 @@ pub(crate) fn choice_of(
         return Ok(choice);
     }
     let choice = choice_anew(table, memo, kept, hyps, e)?;
-    kept.keep_choice(memo, table, hyps, e, choice)?;
+    kept.keep(memo, table, hyps, e, choice, None)?;
     Ok(choice)
 }
 
@@ -118,7 +118,7 @@ pub fn upper_bound(
     }
     let made = made(table, memo, kept, hyps, choice.by, e)?;
     let proof = made.proof;
-    kept.keep_proof(table, hyps, e, choice, proof)?;
+    kept.keep(memo, table, hyps, e, choice, Some(proof))?;
     Ok(Bound { value, proof })
 }
 
@@ -149,22 +149,19 @@ fn made(
         By::Limit => limit(table, Side::Upper, e),
         By::Itself => by_itself(table, Side::Upper, e),
         By::Hypothesis(at) => by_hypothesis(table, memo, Side::Upper, hyps, at, e),
-        By::Left(how) => made_by_left(table, memo, kept, hyps, how, e),
-        By::Right => made_by_right(table, memo, kept, hyps, e),
-        By::Sum => made_by_both(table, memo, kept, hyps, e),
-        By::Compared(number) => compared(table, number, e),
+        By::Parts(how) => made_by_parts(table, memo, kept, hyps, how, e),
     }
 }
 
-/// The bound of an operator by one of its left side.
+/// The bound of an operator by those of its parts that it needs.
 #[cycle(bounding)]
 #[tactic(auto, using(crate::proofs::UpperRows::rows))]
-fn made_by_left(
+fn made_by_parts(
     table: &mut Table,
     memo: &mut Memo,
     kept: &mut UpperBounds,
     hyps: &[Hypothesis],
-    how: Left,
+    how: How,
     e: Id,
 ) -> Result<Bound, Exhausted>
     requires hyps { AreKnownHyps table.old hyps.now }
@@ -174,93 +171,36 @@ fn made_by_left(
     ensures known { IfOk result (λ b. IsKnown table.new b.proof) }
     ensures exact { (Γ : Hyps) (x : Exp) → AreHyps table.old hyps.now Γ
         → tree_at table.old e ≡ exp_encoding x
-        → IfOk result (IsBoundOf table.new (by_parts Γ x (ByLeft how))) }
+        → IfOk result (IsBoundOf table.new (by_parts Γ x how)) }
     ensures extends { Extends table.old table.new }
     ensures memo { IsMemo table.new memo.new }
     ensures kept { IfOk result (λ _. AreUppers table.new hyps.now kept.new) }
 {
-    match parts_of(table, e) {
-        None => limit(table, Side::Upper, e),
-        Some(p) => {
+    let Some(p) = parts_of(table, e) else {
+        return limit(table, Side::Upper, e);
+    };
+    match how {
+        How::AndLeft => {
             let v = upper_bound(table, memo, kept, hyps, p.left)?;
-            by_left_side(table, memo, how, e, p, v)
+            by_left(table, memo, e, p.left, p.right, v)
         }
-    }
-}
-
-/// The bound of an operator by one of its right side.
-#[cycle(bounding)]
-#[tactic(auto, using(crate::proofs::UpperRows::rows))]
-fn made_by_right(
-    table: &mut Table,
-    memo: &mut Memo,
-    kept: &mut UpperBounds,
-    hyps: &[Hypothesis],
-    e: Id,
-) -> Result<Bound, Exhausted>
-    requires hyps { AreKnownHyps table.old hyps.now }
-    requires e { IsKnown table.old e }
-    requires memo { IsMemo table.old memo.old }
-    requires kept { AreUppers table.old hyps.now kept.old }
-    ensures known { IfOk result (λ b. IsKnown table.new b.proof) }
-    ensures exact { (Γ : Hyps) (x : Exp) → AreHyps table.old hyps.now Γ
-        → tree_at table.old e ≡ exp_encoding x
-        → IfOk result (IsBoundOf table.new (by_parts Γ x Right)) }
-    ensures extends { Extends table.old table.new }
-    ensures memo { IsMemo table.new memo.new }
-    ensures kept { IfOk result (λ _. AreUppers table.new hyps.now kept.new) }
-{
-    match parts_of(table, e) {
-        None => limit(table, Side::Upper, e),
-        Some(p) => {
+        How::AndRight => {
             let w = upper_bound(table, memo, kept, hyps, p.right)?;
             by_right(table, e, p.left, p.right, w)
         }
-    }
-}
-
-/// The bound of a sum by those of its sides.
-#[cycle(bounding)]
-#[tactic(auto, using(crate::proofs::UpperRows::rows))]
-fn made_by_both(
-    table: &mut Table,
-    memo: &mut Memo,
-    kept: &mut UpperBounds,
-    hyps: &[Hypothesis],
-    e: Id,
-) -> Result<Bound, Exhausted>
-    requires hyps { AreKnownHyps table.old hyps.now }
-    requires e { IsKnown table.old e }
-    requires memo { IsMemo table.old memo.old }
-    requires kept { AreUppers table.old hyps.now kept.old }
-    ensures known { IfOk result (λ b. IsKnown table.new b.proof) }
-    ensures exact { (Γ : Hyps) (x : Exp) → AreHyps table.old hyps.now Γ
-        → tree_at table.old e ≡ exp_encoding x
-        → IfOk result (IsBoundOf table.new (by_parts Γ x Sum)) }
-    ensures extends { Extends table.old table.new }
-    ensures memo { IsMemo table.new memo.new }
-    ensures kept { IfOk result (λ _. AreUppers table.new hyps.now kept.new) }
-{
-    match parts_of(table, e) {
-        None => limit(table, Side::Upper, e),
-        Some(p) => {
+        How::ShiftRight(count) => {
+            let v = upper_bound(table, memo, kept, hyps, p.left)?;
+            by_right_shift(table, memo, e, p.left, count, v)
+        }
+        How::ShiftLeft(count) => {
+            let v = upper_bound(table, memo, kept, hyps, p.left)?;
+            by_left_shift(table, memo, e, p.left, count, v)
+        }
+        How::Sum => {
             let v = upper_bound(table, memo, kept, hyps, p.left)?;
             let w = upper_bound(table, memo, kept, hyps, p.right)?;
             by_sum(table, memo, e, p.left, p.right, v, w)
         }
-    }
-}
-
-/// The bound of a comparison.
-fn compared(table: &mut Table, number: u32, e: Id) -> Result<Bound, Exhausted>
-    requires { IsKnown table.old e }
-    ensures known { IfOk result (λ b. IsKnown table.new b.proof) }
-    ensures is { (Γ : Hyps) (x : Exp) → tree_at table.old e ≡ exp_encoding x
-        → IfOk result (IsBoundOf table.new (by_parts Γ x (Compared number))) }
-    ensures extends { Extends table.old table.new }
-{
-    match parts_of(table, e) {
-        None => limit(table, Side::Upper, e),
-        Some(p) => by_comparison(table, number, p.left, p.right),
+        How::Compared(number) => by_comparison(table, number, p.left, p.right),
     }
 }

@@ -18,8 +18,8 @@ agrees a b = search rules
 decides : (a b : Subject) → Decides (eq_by_cmp block.ghosts.cmp a b) (a ≡ b)
 decides a b = subst (λ z. Decides z (a ≡ b)) (agrees a b) (decides_eq a b)
 
-pub returns : goal.returns
-returns c =
+pub returns-clause-kept : goal.returns-clause-kept
+returns-clause-kept c =
     let a = c.args in
     let r = c.requires in
     let row = upper-row a.table.now a.hyps.now c.number.result a.e a.choice a.proof c.number.ensures r.e r.known r.is in
