@@ -7,10 +7,10 @@ use Rattle.formula_ids.specs.Operands.{IsLiteral}
 use Rattle.easy_class.specs.Hypotheses.{Hyps}
 use Rattle.easy_class.specs.Bounds.{WordBound, least_bound, own_bounds, op_bounds, uppers, upper_bound}
 use Rattle.easy_bounds.specs.declared.bounds.Side.TheVariants.{Upper}
-use Rattle.easy_bounds.specs.declared.choices.How.{How}
-use Rattle.easy_bounds.specs.Candidates.{limit}
+use Rattle.easy_bounds.specs.declared.parts.How.{How}
+use Rattle.easy_bounds.specs.Candidates.{limit, by_parts}
 use Rattle.easy_bounds.specs.declared.choices.Choice.{Choice}
-use Rattle.easy_bounds.specs.Choices.{by_parts, IsChoice}
+use Rattle.easy_bounds.specs.Choices.{IsChoice}
 
 -- what is no word has no bound of its own
 pub own_none : (x : Exp) → ((w : ℕ) → x ≡ ELit w → ⊥) → own_bounds x ≡ []

@@ -5,9 +5,12 @@ use Rattle.word_ops.specs.declared.Op.TheVariants.{Add, Sub, Band, Sll, Srl}
 use Rattle.word_ops.specs.declared.Rel.TheVariants.{Ule}
 use Rattle.formula_tree.specs.Formulas.{Exp, EVar, ELit, EOp, Form, FRel}
 use Rattle.formula_terms.specs.ProofTerms.{word_rule, move, up}
-use Rattle.easy_class.specs.Bounds.{WordBound, word_bound, folded, fit_proof, max_word}
+use Rattle.easy_class.specs.Hypotheses.{Hyps}
+use Rattle.easy_class.specs.Bounds.{WordBound, word_bound, folded, fit_proof, max_word, upper_bound}
 use Rattle.easy_bounds.specs.declared.bounds.Side.{Side}
 use Rattle.easy_bounds.specs.declared.bounds.Side.TheVariants.{Upper, Lower}
+use Rattle.easy_bounds.specs.declared.parts.How.{How}
+use Rattle.easy_bounds.specs.declared.parts.How.TheVariants.{AndLeft, AndRight, ShiftRight, ShiftLeft, Sum, Compared}
 use Rattle.easy_bounds.specs.declared.relations.Kind.{Kind}
 use Rattle.easy_bounds.specs.declared.relations.Kind.TheVariants.{AtMost, Less, Equal}
 
@@ -76,3 +79,17 @@ by_sum e a b v w =
 -- the comparison of a and b is at most 1, by the rule of this number
 abbrev pub by_comparison : ℕ → Exp → Exp → WordBound
 by_comparison n a b = word_bound 1 (word_rule n (a ∷ b ∷ []) [])
+
+-- the expression e, an operator at a and b, by their upper bounds
+abbrev pub by_sides : Hyps → Exp → Exp → Exp → How → WordBound
+by_sides Γ e a b AndLeft = by_left e a b (upper_bound Γ a)
+by_sides Γ e a b AndRight = by_right e a b (upper_bound Γ b)
+by_sides Γ e a b (ShiftRight c) = by_right_shift e a c (upper_bound Γ a)
+by_sides Γ e a b (ShiftLeft c) = by_left_shift e a c (upper_bound Γ a)
+by_sides Γ e a b Sum = by_sum e a b (upper_bound Γ a) (upper_bound Γ b)
+by_sides Γ e a b (Compared n) = by_comparison n a b
+
+-- the expression by its operator's parts
+abbrev pub by_parts : Hyps → Exp → How → WordBound
+by_parts Γ (EOp o a b) how = by_sides Γ (EOp o a b) a b how
+by_parts Γ e how = limit Upper e

@@ -7,8 +7,8 @@ use Rattle.formula_tree.specs.Formulas.{Exp, ELit, EOp, Form}
 use Rattle.formula_terms.specs.Encoding.{exp_encoding}
 use Rattle.formula_ids.specs.Nodes.{IsApply}
 use Rattle.easy_class.specs.Hypotheses.{Hyps}
-use Rattle.easy_class.specs.Bounds.{WordBound, lesser, greater, least_bound, greatest_bound, upper_of, lower_of, uppers, lowers, upper_bound}
-use Rattle.easy_bounds.specs.Candidates.{limit, by_itself, by_relation, by_right, by_left, by_right_shift, by_left_shift, by_sum, by_comparison}
+use Rattle.easy_class.specs.Bounds.{WordBound, lesser, greater, least_bound, greatest_bound, upper_of, lower_of, uppers, lowers}
+use Rattle.easy_bounds.specs.Candidates.{limit, by_itself, by_relation, by_parts}
 use Rattle.easy_bounds.specs.declared.bounds.Side.{Side}
 use Rattle.easy_bounds.specs.declared.bounds.Side.TheVariants.{Upper, Lower}
 use Rattle.easy_bounds.specs.declared.relations.Kind.{Kind}
@@ -16,8 +16,6 @@ use Rattle.easy_bounds.specs.declared.relations.Related.{Related}
 use Rattle.easy_bounds.specs.declared.parts.Parts.{Parts as Sides}
 use Rattle.easy_bounds.specs.declared.choices.By.{By}
 use Rattle.easy_bounds.specs.declared.choices.By.TheVariants.{Limit, Itself, Hypothesis, Parts}
-use Rattle.easy_bounds.specs.declared.choices.How.{How}
-use Rattle.easy_bounds.specs.declared.choices.How.TheVariants.{AndLeft, AndRight, ShiftRight, ShiftLeft, Sum, Compared}
 use Rattle.easy_bounds.specs.declared.choices.Choice.{Choice}
 
 -- the first, unless the second is strictly better
@@ -49,20 +47,6 @@ first_or (b ∷ l) last = b
 abbrev pub by_first : Side → Exp → Hyps → WordBound
 by_first s e [] = limit s e
 by_first s e (h ∷ Γ) = first_or (says s e h.0 h.1) (limit s e)
-
--- the expression e, an operator at a and b, by their upper bounds
-abbrev pub by_sides : Hyps → Exp → Exp → Exp → How → WordBound
-by_sides Γ e a b AndLeft = by_left e a b (upper_bound Γ a)
-by_sides Γ e a b AndRight = by_right e a b (upper_bound Γ b)
-by_sides Γ e a b (ShiftRight c) = by_right_shift e a c (upper_bound Γ a)
-by_sides Γ e a b (ShiftLeft c) = by_left_shift e a c (upper_bound Γ a)
-by_sides Γ e a b Sum = by_sum e a b (upper_bound Γ a) (upper_bound Γ b)
-by_sides Γ e a b (Compared n) = by_comparison n a b
-
--- the expression by its operator's parts
-abbrev pub by_parts : Hyps → Exp → How → WordBound
-by_parts Γ (EOp o a b) how = by_sides Γ (EOp o a b) a b how
-by_parts Γ e how = limit Upper e
 
 -- the candidate that a choice names
 abbrev pub chosen : Side → Hyps → Exp → By → WordBound

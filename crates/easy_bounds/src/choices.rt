@@ -15,29 +15,12 @@ ghost use Rattle.easy_bounds.specs.Candidates.{limit};
 ghost use Rattle.easy_bounds.specs.Choices.{better, best, all_say, chosen, IsChoice};
 
 use crate::bounds::Side;
-use crate::parts::Parts;
+use crate::parts::{How, Parts};
 use crate::relations::{bound_word, relation_of};
 use formula_ids::{Hypothesis, literal};
 use lf_rules::numbers::CMP_LE1;
 use term_table::{Id, Table};
 use word_ops::{Op, apply};
-
-/// How an operator is bounded from above by upper bounds of its parts.
-#[derive(Clone, Copy)]
-pub(crate) enum How {
-    /// Bitwise and is at most its left side.
-    AndLeft,
-    /// Bitwise and is at most its right side.
-    AndRight,
-    /// A shift of its left side to the right by so many bits.
-    ShiftRight(u64),
-    /// A shift of its left side to the left by so many bits, where none is lost.
-    ShiftLeft(u64),
-    /// A sum of both, where it doesn't wrap.
-    Sum,
-    /// A comparison is at most 1, by the rule of this number.
-    Compared(u32),
-}
 
 /// What a bound holds by.
 #[derive(Clone, Copy)]
@@ -251,8 +234,8 @@ pub(crate) fn choice_of_parts(
     requires hyps { AreKnownHyps table.now hyps.now }
     requires e { IsKnown table.now e }
     requires right { IsKnown table.now parts.now.right }
-    ensures { (Γ : Hyps) (x : Exp) (p : IsApply table.now x parts.now.op parts.now.left parts.now.right)
-        → AreHyps table.now hyps.now Γ
+    ensures { let q = parts.now in (Γ : Hyps) (x : Exp)
+        (p : IsApply table.now x q.op q.left q.right) → AreHyps table.now hyps.now Γ
         → tree_at table.now e ≡ exp_encoding x → v ≡ (upper_bound Γ p.left).value
         → w ≡ (upper_bound Γ p.right).value → IsChoice Upper Γ x (upper_bound Γ x) result }
 {

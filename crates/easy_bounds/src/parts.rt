@@ -30,6 +30,23 @@ pub(crate) struct Parts {
     pub(crate) right: Id,
 }
 
+/// How an operator is bounded from above by upper bounds of its parts.
+#[derive(Clone, Copy)]
+pub(crate) enum How {
+    /// Bitwise and is at most its left side.
+    AndLeft,
+    /// Bitwise and is at most its right side.
+    AndRight,
+    /// A shift of its left side to the right by so many bits.
+    ShiftRight(u64),
+    /// A shift of its left side to the left by so many bits, where none is lost.
+    ShiftLeft(u64),
+    /// A sum of both, where it doesn't wrap.
+    Sum,
+    /// A comparison is at most 1, by the rule of this number.
+    Compared(u32),
+}
+
 /// The operator and the sides of the expression that `e` encodes; none where it is no operator. Of an
 /// id that encodes none it says nothing, but that the sides' ids are lower.
 pub(crate) fn parts_of(table: &Table, e: Id) -> Option<Parts>

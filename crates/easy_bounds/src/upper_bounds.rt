@@ -12,14 +12,15 @@ ghost use Rattle.easy_class.specs.Hypotheses.{Hyps};
 ghost use Rattle.easy_class.specs.Bounds.{upper_bound};
 ghost use Rattle.easy_bounds.specs.declared.bounds.Side.TheVariants.{Upper};
 ghost use Rattle.easy_bounds.specs.BoundIds.{IsBoundOf};
-ghost use Rattle.easy_bounds.specs.Choices.{IsChoice, chosen, by_parts};
+ghost use Rattle.easy_bounds.specs.Candidates.{by_parts};
+ghost use Rattle.easy_bounds.specs.Choices.{IsChoice, chosen};
 ghost use Rattle.easy_bounds.specs.KeptBounds.{AreUppers};
 
 use crate::bounds::{Bound, Side};
-use crate::choices::{By, Choice, How, choice_alone, choice_of_parts};
+use crate::choices::{By, Choice, choice_alone, choice_of_parts};
 use crate::kept_bounds::UpperBounds;
 use crate::parts::{
-    by_comparison, by_itself, by_left, by_left_shift, by_right, by_right_shift, by_sum, limit,
+    How, by_comparison, by_itself, by_left, by_left_shift, by_right, by_right_shift, by_sum, limit,
     parts_of,
 };
 use crate::relations::by_hypothesis;

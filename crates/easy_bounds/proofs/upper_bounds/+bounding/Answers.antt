@@ -5,11 +5,10 @@ use Rattle.formula_terms.specs.Encoding.{exp_encoding}
 use Rattle.formula_ids.proofs.HypRows.{hyps-before, hyps-after}
 use Rattle.formula_ids.proofs.Standing.{stands, more, twice}
 use Rattle.easy_class.specs.Bounds.{WordBound, upper_bound}
-use Rattle.easy_bounds.specs.declared.choices.How.{How}
-use Rattle.easy_bounds.specs.declared.choices.How.TheVariants.{ShiftRight, ShiftLeft, Sum}
+use Rattle.easy_bounds.specs.declared.parts.How.{How}
+use Rattle.easy_bounds.specs.declared.parts.How.TheVariants.{ShiftRight, ShiftLeft, Sum}
 use Rattle.easy_bounds.specs.BoundIds.{IsBoundOf}
-use Rattle.easy_bounds.specs.Candidates.{by_right_shift, by_left_shift, by_sum}
-use Rattle.easy_bounds.specs.Choices.{by_parts}
+use Rattle.easy_bounds.specs.Candidates.{by_parts, by_right_shift, by_left_shift, by_sum}
 use Rattle.easy_bounds.proofs.UpperRows.{bound-more, bound_is}
 use Rattle.easy_bounds.proofs.upper_bounds.+bounding.Goals as goal
 
