@@ -1,5 +1,4 @@
 pub mod UpperRows
-pub mod Candidates
+pub mod Relating
 pub mod Scans
-pub mod Uppers
-mod BoundRows
+pub mod Choosing

@@ -1,25 +1,18 @@
 -- A walk over hypotheses from the last to the first, which takes in what each says.
-use Rattle.std.proofs.Common.{◌≡◌, ℕ, zero, suc, ◌<◌, length, drop, get_or, List, [], ◌∷◌, refl, sym, ◌∙◌, ap, subst, arith}
+use Rattle.std.proofs.Common.{◌≡◌, ℕ, zero, suc, ◌<◌, ◌≤◌, length, drop, get_or, List, [], ◌∷◌, ◌++◌, refl, ◌∙◌, ap, arith}
 use Rattle.term_table.specs.Tree.{Tree}
-use Rattle.term_table.specs.Table.{TableView, IsKnown, tree_at, Extends}
-use Rattle.hereditary_subst.specs.Kept.{IsMemo}
-use Rattle.hereditary_subst.specs.declared.kept.Memo.{Memo}
-use Rattle.hereditary_subst.proofs.Rows.{grows_more}
+use Rattle.term_table.specs.Table.{TableView, IsKnown, tree_at}
 use Rattle.formula_tree.specs.Formulas.{Exp, Form}
 use Rattle.formula_terms.specs.Encoding.{exp_encoding, form_encoding}
 use Rattle.formula_ids.specs.Hypotheses.{AreKnownHyps, AreHyps}
 use Rattle.formula_ids.specs.declared.hypotheses.Hypothesis.{Hypothesis}
 use Rattle.easy_class.specs.Hypotheses.{Hyps}
-use Rattle.easy_class.specs.Bounds.{WordBound}
-use Rattle.easy_bounds.specs.BoundIds.{IsBoundOf, bound_by_ids}
-use Rattle.easy_bounds.specs.declared.bounds.Bound.{Bound}
-
--- the best so far is what the aim gives of the hypotheses from the number k on
-pub record IsScan (aim : Exp → Hyps → WordBound) (t u : TableView) (m : Memo) (hyps : List Hypothesis) (e : ℕ) (best : Bound) (k : ℕ) : Type 0 where
-  pub extends : Extends t u
-  pub memo : IsMemo u m
-  pub known : IsKnown u best.proof
-  pub is : (Γ : Hyps) (x : Exp) → AreHyps t hyps Γ → tree_at t e ≡ exp_encoding x → IsBoundOf u (aim x (drop k Γ)) best
+use Rattle.easy_class.specs.Bounds.{WordBound, lesser, greater, least_bound, greatest_bound, upper_of, lower_of, uppers, lowers}
+use Rattle.easy_bounds.specs.Candidates.{limit}
+use Rattle.easy_bounds.specs.Choices.{better, best, says, all_say, first_or, by_first, IsChoice}
+use Rattle.easy_bounds.specs.declared.bounds.Side.{Side}
+use Rattle.easy_bounds.specs.declared.bounds.Side.TheVariants.{Upper, Lower}
+use Rattle.easy_bounds.specs.declared.choices.Choice.{Choice}
 
 -- a hypothesis, and what it stands for
 pub record IsHypAt (t : TableView) (Γ : Hyps) (j : ℕ) (h : Hypothesis) : Type 0 where
@@ -28,11 +21,14 @@ pub record IsHypAt (t : TableView) (Γ : Hyps) (j : ℕ) (h : Hypothesis) : Type
   pub form : tree_at t h.form ≡ form_encoding now.0
   pub proof : tree_at t h.proof ≡ now.1
 
-dropped : (t : TableView) (l : List Hypothesis) (Γ : Hyps) → AreHyps t l Γ → drop (length l) Γ ≡ []
-dropped t [] [] h = refl
-dropped t (x ∷ l) (y ∷ Γ) h = dropped t l Γ h.2
-dropped t [] (y ∷ Γ) h = absurd h
-dropped t (x ∷ l) [] h = absurd h
+-- past the last there is none
+pub dropped : (t : TableView) (l : List Hypothesis) (Γ : Hyps) (n : ℕ) → AreHyps t l Γ → length l ≤ n → drop n Γ ≡ []
+dropped t [] [] zero h e = refl
+dropped t [] [] (suc n) h e = refl
+dropped t (x ∷ l) (y ∷ Γ) (suc n) h e = dropped t l Γ n h.2 (omega (arith, e))
+dropped t (x ∷ l) (y ∷ Γ) zero h e = absurd (omega (arith, e))
+dropped t [] (y ∷ Γ) n h e = absurd h
+dropped t (x ∷ l) [] n h e = absurd h
 
 pub hyp_at : (t : TableView) (l : List Hypothesis) (Γ : Hyps) (j : ℕ) (d : Hypothesis) → AreHyps t l Γ → j < length l → IsHypAt t Γ j (get_or l j d)
 hyp_at t [] Γ j d h low = absurd (omega (arith, low))
@@ -47,39 +43,46 @@ hyp_known t [] j d k low = absurd (omega (arith, low))
 hyp_known t (x ∷ l) zero d k low = (k.0, k.1)
 hyp_known t (x ∷ l) (suc j) d k low = hyp_known t l j d k.2 (omega (arith, low))
 
-pub bound_is : {u : TableView} {w : WordBound} {b : Bound} → IsBoundOf u w b → bound_by_ids u b ≡ w
-bound_is h = λ i. record { value = h.value i; proof = h.is i }
+-- the least of two lists and the last
+pub least-append : (a b : List WordBound) (last : WordBound) → least_bound (a ++ b) last ≡ least_bound a (least_bound b last)
+least-append [] b last = refl
+least-append (x ∷ a) b last = ap (lesser x) (least-append a b last)
 
-extends_refl : (t : TableView) → Extends t t
-extends_refl t = record { longer = omega arith; same = λ id k. refl; places = refl }
+-- the best of two lists and the last
+pub best-append : (s : Side) (a b : List WordBound) (last : WordBound) → best s (a ++ b) last ≡ best s a (best s b last)
+best-append Upper a b last = least-append a b last
+best-append Lower [] b last = refl
+best-append Lower (x ∷ a) b last = ap (greater x) (best-append Lower a b last)
 
--- before the walk
-pub scan-start : (aim : Exp → Hyps → WordBound) (t : TableView) (m : Memo) (hyps : List Hypothesis) (e : ℕ) (last : Bound) (k : ℕ) → k ≡ length hyps → IsMemo t m → IsKnown t last.proof →
-    ((x : Exp) → aim x [] ≡ bound_by_ids t last) → IsScan aim t t m hyps e last k
-scan-start aim t m hyps e last k count memo known none = record {
-  extends = extends_refl t;
-  memo = memo;
-  known = known;
-  is = λ Γ x g q.
-      let at : aim x (drop k Γ) ≡ bound_by_ids t last = ap (λ (n : ℕ). aim x (drop n Γ)) count ∙ ap (aim x) (dropped t hyps Γ g) ∙ none x in
-      subst (λ w. IsBoundOf t w last) (sym at) (record { known = known; value = refl; is = refl });
-}
+pub best_none : (s : Side) (last : WordBound) → best s [] last ≡ last
+best_none Upper last = refl
+best_none Lower last = refl
 
--- one hypothesis more
-pub scan-step : (aim : Exp → Hyps → WordBound) (step : Exp → Form → Tree → WordBound → WordBound) (t u v : TableView) (m n : Memo) (hyps : List Hypothesis) (e : ℕ) (best next : Bound) (k j : ℕ) (h : Hypothesis) →
-    ((x : Exp) (y : Form × Tree) (Γ : Hyps) → aim x (y ∷ Γ) ≡ step x y.0 y.1 (aim x Γ)) → IsScan aim t u m hyps e best k → AreKnownHyps t hyps → IsKnown t e → k ≡ suc j → j < length hyps → get_or hyps j h ≡ h →
-    Extends u v → IsMemo v n → IsKnown v next.proof →
-    ((x : Exp) (A : Form) → tree_at u e ≡ exp_encoding x → tree_at u h.form ≡ form_encoding A → IsBoundOf v (step x A (tree_at u h.proof) (bound_by_ids u best)) next) → IsScan aim t v n hyps e next j
-scan-step aim step t u v m n hyps e best next k j h parts s known ke count low at grows memo kn told = record {
-  extends = grows_more t u v s.extends grows;
-  memo = memo;
-  known = kn;
-  is = λ Γ x g q.
-      let i : IsHypAt t Γ j h = subst (λ (z : Hypothesis). IsHypAt t Γ j z) at (hyp_at t hyps Γ j h g low) in
-      let ids : IsKnown t h.form × IsKnown t h.proof = subst (λ (z : Hypothesis). IsKnown t z.form × IsKnown t z.proof) at (hyp_known t hyps j h known low) in
-      let before : bound_by_ids u best ≡ aim x (drop (suc j) Γ) = bound_is (subst (λ (z : ℕ). IsBoundOf u (aim x (drop z Γ)) best) count (s.is Γ x g q)) in
-      let proof : tree_at u h.proof ≡ i.now.1 = s.extends.same h.proof ids.1 ∙ i.proof in
-      let says = told x i.now.0 (s.extends.same e ke ∙ q) (s.extends.same h.form ids.0 ∙ i.form) in
-      let whole : step x i.now.0 (tree_at u h.proof) (bound_by_ids u best) ≡ aim x (drop j Γ) = (λ l. step x i.now.0 (proof l) (before l)) ∙ sym (parts x i.now (drop (suc j) Γ)) ∙ ap (aim x) (sym i.rest) in
-      subst (λ w. IsBoundOf v w next) whole says;
-}
+pub best_one : (s : Side) (b last : WordBound) → best s (b ∷ []) last ≡ better s b last
+best_one Upper b last = refl
+best_one Lower b last = refl
+
+pub none_say : (s : Side) (x : Exp) (last : WordBound) → best s (all_say s x []) last ≡ last
+none_say Upper x last = refl
+none_say Lower x last = refl
+
+-- what one hypothesis says, before the others
+pub best_of : (t : TableView) (s : Side) (Γ : Hyps) (j : ℕ) (h : Hypothesis) (x : Exp) (w : WordBound) (i : IsHypAt t Γ j h) → best s (all_say s x (drop j Γ)) w ≡ best s (says s x i.now.0 i.now.1) (best s (all_say s x (drop (suc j) Γ)) w)
+best_of t Upper Γ j h x w i = ap (λ l. least_bound (uppers x l) w) i.rest ∙ best-append Upper (upper_of x i.now.0 i.now.1) (uppers x (drop (suc j) Γ)) w
+best_of t Lower Γ j h x w i = ap (λ l. greatest_bound (lowers x l) w) i.rest ∙ best-append Lower (lower_of x i.now.0 i.now.1) (lowers x (drop (suc j) Γ)) w
+
+-- where it says nothing
+pub says_none : (t : TableView) (s : Side) (Γ : Hyps) (j : ℕ) (h : Hypothesis) (x : Exp) (w : WordBound) (i : IsHypAt t Γ j h) → says s x i.now.0 i.now.1 ≡ [] → best s (all_say s x (drop j Γ)) w ≡ best s (all_say s x (drop (suc j) Γ)) w
+says_none t s Γ j h x w i n = let rest = best s (all_say s x (drop (suc j) Γ)) w in best_of t s Γ j h x w i ∙ ap (λ l. best s l rest) n ∙ best_none s rest
+
+-- where it says one thing
+pub says_one : (t : TableView) (s : Side) (Γ : Hyps) (j : ℕ) (h : Hypothesis) (x : Exp) (w b : WordBound) (i : IsHypAt t Γ j h) → says s x i.now.0 i.now.1 ≡ b ∷ [] → best s (all_say s x (drop j Γ)) w ≡ better s b (best s (all_say s x (drop (suc j) Γ)) w)
+says_one t s Γ j h x w b i n = let rest = best s (all_say s x (drop (suc j) Γ)) w in best_of t s Γ j h x w i ∙ ap (λ l. best s l rest) n ∙ best_one s b rest
+
+-- the candidate that it is
+pub first_is : (t : TableView) (s : Side) (Γ : Hyps) (j : ℕ) (h : Hypothesis) (x : Exp) (l : List WordBound) (i : IsHypAt t Γ j h) → says s x i.now.0 i.now.1 ≡ l → by_first s x (drop j Γ) ≡ first_or l (limit s x)
+first_is t s Γ j h x l i n = ap (by_first s x) i.rest ∙ ap (λ m. first_or m (limit s x)) n
+
+-- what was found so far is the best of what the hypotheses from the number k on say, and the last
+abbrev pub IsScan : TableView → Side → List Hypothesis → ℕ → Choice → Choice → ℕ → Type 0
+IsScan t s l e last found k = (Γ : Hyps) (x : Exp) (w : WordBound) → AreHyps t l Γ → tree_at t e ≡ exp_encoding x → IsChoice s Γ x w last → IsChoice s Γ x (best s (all_say s x (drop k Γ)) w) found

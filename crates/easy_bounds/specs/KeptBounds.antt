@@ -1,5 +1,5 @@
 -- What is kept of upper bounds says what the definition gives.
-use Rattle.std.specs.Prelude.{◌≡◌, List, Some}
+use Rattle.std.specs.Prelude.{◌≡◌, ℕ, Option, Some, IfSome, List}
 use Rattle.std.specs.BTreeMap.{get}
 use Rattle.term_table.specs.Table.{TableView, IsKnown, tree_at}
 use Rattle.formula_tree.specs.Formulas.{Exp}
@@ -8,22 +8,24 @@ use Rattle.formula_ids.specs.Hypotheses.{AreHyps}
 use Rattle.formula_ids.specs.declared.hypotheses.Hypothesis.{Hypothesis}
 use Rattle.easy_class.specs.Hypotheses.{Hyps}
 use Rattle.easy_class.specs.Bounds.{upper_bound}
-use Rattle.easy_bounds.specs.BoundIds.{IsBoundOf}
-use Rattle.easy_bounds.specs.declared.bounds.Bound.{Bound}
+use Rattle.easy_bounds.specs.Choices.{IsChoice}
+use Rattle.easy_bounds.specs.declared.bounds.Side.TheVariants.{Upper}
+use Rattle.easy_bounds.specs.declared.choices.Choice.{Choice}
 use Rattle.easy_bounds.specs.declared.kept_bounds.Row.{Row}
 use Rattle.easy_bounds.specs.declared.kept_bounds.Subject.{Subject}
 use Rattle.easy_bounds.specs.declared.kept_bounds.UpperBounds.{UpperBounds}
 use Rattle.easy_bounds.specs.contracts.kept_bounds.SubjectOrd.TheImpl as block
 
--- a kept row as a bound
-abbrev pub bound_of : Row → Bound
-bound_of r = record { value = r.value; proof = r.proof }
+-- the choice is the bound's, and the id, where there is one, stands for its proof
+pub record IsKept (t : TableView) (Γ : Hyps) (e : Exp) (choice : Choice) (proof : Option ℕ) : Type 0 where
+  pub chosen : IsChoice Upper Γ e (upper_bound Γ e) choice
+  pub made : IfSome proof (λ p. tree_at t p ≡ (upper_bound Γ e).proof)
 
 -- the row has the upper bound of the expression under any hypotheses that the ids stand for
 pub record IsUpper (t : TableView) (hyps : List Hypothesis) (subject : Subject) (r : Row) : Type 0 where
   pub of : IsKnown t subject.exp
-  pub known : IsKnown t r.proof
-  pub is : (Γ : Hyps) (x : Exp) → AreHyps t hyps Γ → tree_at t subject.exp ≡ exp_encoding x → IsBoundOf t (upper_bound Γ x) (bound_of r)
+  pub known : IfSome r.proof (IsKnown t)
+  pub is : (Γ : Hyps) (x : Exp) → AreHyps t hyps Γ → tree_at t subject.exp ≡ exp_encoding x → IsKept t Γ x r.choice r.proof
 
 -- each kept row is right
 pub record AreUppers (t : TableView) (hyps : List Hypothesis) (kept : UpperBounds) : Type 0 where

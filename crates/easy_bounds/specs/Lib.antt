@@ -1,3 +1,4 @@
 pub mod BoundIds
+pub mod Candidates
+pub mod Choices
 pub mod KeptBounds
-pub mod Inside

@@ -9,9 +9,9 @@ ghost use Rattle.lf_signature.specs.Nodes.{IsIdOf};
 ghost use Rattle.word_ops.specs.declared.Rel.TheVariants.{Ule};
 ghost use Rattle.formula_tree.specs.Formulas.{Exp, EVar, ELit, EOp, FRel};
 ghost use Rattle.formula_terms.specs.Encoding.{exp_encoding, form_encoding};
-ghost use Rattle.formula_terms.specs.ProofTerms.{up};
-ghost use Rattle.easy_class.specs.Bounds.{WordBound, lesser, greater, folded, fit_proof};
+ghost use Rattle.easy_class.specs.Bounds.{folded, fit_proof};
 ghost use Rattle.easy_bounds.specs.BoundIds.{IsBoundOf};
+ghost use Rattle.easy_bounds.specs.Candidates.{placed};
 
 use formula_ids::{calc, fact, moved, oper, raised, relation, swapped};
 use hereditary_subst::{Exhausted, Memo};
@@ -28,58 +28,33 @@ pub struct Bound {
     pub proof: Id,
 }
 
-/// The second where it is less; of equal ones the first.
-pub(crate) fn lesser(b: Bound, c: Bound) -> Bound
-    ensures known { (t : TableView) → IsKnown t b.proof → IsKnown t c.proof
-        → IsKnown t result.proof }
-    ensures is { (t : TableView) (v w : WordBound) → IsBoundOf t v b → IsBoundOf t w c
-        → IsBoundOf t (lesser v w) result }
-{
-    if c.value < b.value { c } else { b }
+/// From which side a word bounds an expression.
+#[derive(Clone, Copy)]
+pub(crate) enum Side {
+    /// The expression is at most the word.
+    Upper,
+    /// The word is at most the expression.
+    Lower,
 }
 
-/// The second where it is greater; of equal ones the first.
-pub(crate) fn greater(b: Bound, c: Bound) -> Bound
-    ensures known { (t : TableView) → IsKnown t b.proof → IsKnown t c.proof
-        → IsKnown t result.proof }
-    ensures is { (t : TableView) (v w : WordBound) → IsBoundOf t v b → IsBoundOf t w c
-        → IsBoundOf t (greater v w) result }
-{
-    if b.value < c.value { c } else { b }
-}
-
-/// That the expression is at most a word, which is the variable 0 under a binder.
+/// That the first is at most the second, where one is the expression and the other a word, which is
+/// the variable 0 under a binder.
 #[tactic(auto, using(hereditary_subst::proofs::Rows::rows))]
-pub(crate) fn below_place(table: &mut Table, memo: &mut Memo, e: Id) -> Result<Id, Exhausted>
+pub(crate) fn placed(table: &mut Table, memo: &mut Memo, side: Side, e: Id) -> Result<Id, Exhausted>
     requires e { IsKnown table.old e }
     requires memo { IsMemo table.old memo.old }
     ensures known { IfOk result (IsKnown table.new) }
     ensures is { (x : Exp) → tree_at table.old e ≡ exp_encoding x
-        → IfOk result (IsIdOf table.new (form_encoding (FRel Ule (up x) (EVar 0)))) }
+        → IfOk result (IsIdOf table.new (form_encoding (placed side x))) }
     ensures extends { Extends table.old table.new }
     ensures memo { IsMemo table.new memo.new }
 {
     let under = raised(table, memo, e)?;
     let place = table.intern(Node::Var(0))?;
-    let form = relation(table, Rel::Ule, under, place)?;
-    Ok(form)
-}
-
-/// That a word, which is the variable 0 under a binder, is at most the expression.
-#[tactic(auto, using(hereditary_subst::proofs::Rows::rows))]
-pub(crate) fn above_place(table: &mut Table, memo: &mut Memo, e: Id) -> Result<Id, Exhausted>
-    requires e { IsKnown table.old e }
-    requires memo { IsMemo table.old memo.old }
-    ensures known { IfOk result (IsKnown table.new) }
-    ensures is { (x : Exp) → tree_at table.old e ≡ exp_encoding x
-        → IfOk result (IsIdOf table.new (form_encoding (FRel Ule (EVar 0) (up x)))) }
-    ensures extends { Extends table.old table.new }
-    ensures memo { IsMemo table.new memo.new }
-{
-    let under = raised(table, memo, e)?;
-    let place = table.intern(Node::Var(0))?;
-    let form = relation(table, Rel::Ule, place, under)?;
-    Ok(form)
+    match side {
+        Side::Upper => Ok(relation(table, Rel::Ule, under, place)?),
+        Side::Lower => Ok(relation(table, Rel::Ule, place, under)?),
+    }
 }
 
 /// A word.
@@ -132,7 +107,7 @@ pub(crate) fn folded(
     ensures memo { IsMemo table.new memo.new }
 {
     let value = apply(op, v, w);
-    let form = below_place(table, memo, e)?;
+    let form = placed(table, memo, Side::Upper, e)?;
     let from = oper_of_words(table, op, v, w)?;
     let to = word(table, value)?;
     let equal = calc(table, op, v, w)?;

@@ -1,5 +1,5 @@
 //! Upper bounds that are kept, so that an expression that stands in many places is gone through
-//! once.
+//! once, and the proof of its bound made once.
 
 ghost use Rattle.std.specs.Prelude.{◌≡◌, IfOk, IfSome, List};
 ghost use Rattle.term_table.specs.Table.{TableView, IsKnown, tree_at};
@@ -10,10 +10,11 @@ ghost use Rattle.formula_ids.specs.declared.hypotheses.Hypothesis.{Hypothesis as
 ghost use Rattle.formula_ids.specs.Hypotheses.{AreHyps};
 ghost use Rattle.easy_class.specs.Hypotheses.{Hyps};
 ghost use Rattle.easy_class.specs.Bounds.{upper_bound};
-ghost use Rattle.easy_bounds.specs.BoundIds.{IsBoundOf};
-ghost use Rattle.easy_bounds.specs.KeptBounds.{IsUpper, AreUppers};
+ghost use Rattle.easy_bounds.specs.declared.bounds.Side.TheVariants.{Upper};
+ghost use Rattle.easy_bounds.specs.Choices.{IsChoice};
+ghost use Rattle.easy_bounds.specs.KeptBounds.{IsUpper, AreUppers, IsKept};
 
-use crate::bounds::Bound;
+use crate::choices::Choice;
 use formula_ids::Hypothesis;
 use hereditary_subst::{Exhausted, Memo};
 use std::alloc::Global;
@@ -26,11 +27,11 @@ struct Subject {
     exp: u64,
 }
 
-/// A bound as it is kept.
+/// What was chosen as a bound, and the proof's id where it was made.
 #[derive(Clone, Copy)]
 struct Row {
-    value: u64,
-    proof: u64,
+    choice: Choice,
+    proof: Option<Id>,
 }
 
 /// Upper bounds that were found, of expressions under one list of hypotheses. They count in the
@@ -68,42 +69,52 @@ impl UpperBounds {
         self.rows.get(subject).copied()
     }
 
-    /// What is kept of the expression.
-    pub(crate) fn find(&self, table: &Table, hyps: &[Hypothesis], e: Id) -> Option<Bound>
+    /// The choice that is kept of the expression.
+    pub(crate) fn choice(&self, table: &Table, hyps: &[Hypothesis], e: Id) -> Option<Choice>
         requires { AreUppers table.now hyps.now self.now }
-        ensures known { IfSome result (λ b. IsKnown table.now b.proof) }
-        ensures is { (Γ : Hyps) (x : Exp) → AreHyps table.now hyps.now Γ
+        ensures { (Γ : Hyps) (x : Exp) → AreHyps table.now hyps.now Γ
             → tree_at table.now e ≡ exp_encoding x
-            → IfSome result (IsBoundOf table.now (upper_bound Γ x)) }
+            → IfSome result (IsChoice Upper Γ x (upper_bound Γ x)) }
     {
         let subject = Subject { exp: number(e) };
         match self.row(table, hyps, &subject) {
             None => None,
-            Some(row) => {
-                let proof = table.id(row.proof);
-                Some(Bound {
-                    value: row.value,
-                    proof,
-                })
-            }
+            Some(row) => Some(row.choice),
         }
     }
 
-    /// Keeps a bound of the expression. Fails past the limit of `memo`, and where memory does.
+    /// The proof that is kept of the expression.
+    pub(crate) fn proof(&self, table: &Table, hyps: &[Hypothesis], e: Id) -> Option<Id>
+        requires { AreUppers table.now hyps.now self.now }
+        ensures known { IfSome result (IsKnown table.now) }
+        ensures is { (Γ : Hyps) (x : Exp) → AreHyps table.now hyps.now Γ
+            → tree_at table.now e ≡ exp_encoding x
+            → IfSome result (λ p. tree_at table.now p ≡ (upper_bound Γ x).proof) }
+    {
+        let subject = Subject { exp: number(e) };
+        match self.row(table, hyps, &subject) {
+            None => None,
+            Some(row) => row.proof,
+        }
+    }
+
+    /// Keeps what was chosen of the expression, and the proof where it was made. Fails past the limit
+    /// of `memo`, and where memory does.
     pub(crate) fn keep(
         &mut self,
         memo: &mut Memo,
         table: &Table,
         hyps: &[Hypothesis],
         e: Id,
-        bound: Bound,
+        choice: Choice,
+        proof: Option<Id>,
     ) -> Result<(), Exhausted>
         requires memo { IsMemo table.now memo.old }
         requires kept { AreUppers table.now hyps.now self.old }
         requires e { IsKnown table.now e }
-        requires known { IsKnown table.now bound.proof }
+        requires known { IfSome proof (IsKnown table.now) }
         requires is { (Γ : Hyps) (x : Exp) → AreHyps table.now hyps.now Γ
-            → tree_at table.now e ≡ exp_encoding x → IsBoundOf table.now (upper_bound Γ x) bound }
+            → tree_at table.now e ≡ exp_encoding x → IsKept table.now Γ x choice proof }
         ensures memo { IsMemo table.now memo.new }
         ensures kept { IfOk result (λ _. AreUppers table.now hyps.now self.new) }
     {
@@ -112,11 +123,7 @@ impl UpperBounds {
         let _ = hyps;
         memo.spend()?;
         let subject = Subject { exp: number(e) };
-        let row = Row {
-            value: bound.value,
-            proof: number(bound.proof),
-        };
-        self.rows.insert(subject, row)?;
+        self.rows.insert(subject, Row { choice, proof })?;
         Ok(())
     }
 }

@@ -1,5 +1,5 @@
 -- What is kept of a search, call after call.
-use Rattle.std.proofs.Common.{Result, Ok, Err, IfOk, OnOk}
+use Rattle.std.proofs.Common.{Result, Ok, Err, IfOk, OnOk, refl, arith}
 use Rattle.term_table.specs.Table.{TableView, Extends}
 use Rattle.hereditary_subst.specs.Kept.{IsMemo}
 use Rattle.hereditary_subst.specs.declared.kept.Memo.{Memo}
@@ -20,6 +20,10 @@ after_search t u r s a b h x g = record { search = g; context = context-more b t
 -- the context as it was
 pub after_now : (t : TableView) (s : Search) (c : Context) → IsSearch t s → IsContext t c → IsAfter t s c c
 after_now t s c g h = record { search = g; context = h; hyps = λ i. c.hyps; outside = λ i. c.outside }
+
+-- a table as it is
+pub itself : (t : TableView) → Extends t t
+itself t = record { longer = omega arith; same = λ id k. refl; places = refl }
 
 -- what holds in any case, or follows, holds of Ok
 pub on_ok : {A E P : Type 0} (r : Result A E) → P → OnOk r P

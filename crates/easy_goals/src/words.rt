@@ -21,7 +21,7 @@ ghost use Rattle.easy_goals.specs.Search.{IsSearch, IsContext, IsAfter};
 ghost use Rattle.easy_goals.specs.Inside.Words.{at_most_tree, less_tree, IsRelationProof, IsBoundsProof, IsAlignedPart};
 
 use crate::search::{Context, Search};
-use easy_bounds::{Bound, lower_bound, upper_bound};
+use easy_bounds::{Bound, BoundWords, bound_words, lower_bound, upper_bound};
 use easy_forms::{Rewritten, normal_form, proof_by_forms};
 use easy_hyps::{Alignments, alignment_proof, find_hyp};
 use formula_ids::{FormNode, fact, form_node, literal, operands, relation};
@@ -188,6 +188,29 @@ fn bounds_of(
     Ok(Bounds { upper, lower })
 }
 
+/// The words of the upper bound of `a` and of the lower bound of `b`, for which no proof is made.
+#[tactic(auto, using(crate::proofs::Kept::rows))]
+fn words_of(
+    table: &Table,
+    search: &mut Search,
+    context: &mut Context,
+    a: Id,
+    b: Id,
+) -> Result<BoundWords, Exhausted>
+    requires a { IsKnown table.now a }
+    requires b { IsKnown table.now b }
+    requires search { IsSearch table.now search.old }
+    requires context { IsContext table.now context.old }
+    ensures exact { (Γ : Hyps) (x y : Exp) → AreHyps table.now context.old.hyps Γ
+        → tree_at table.now a ≡ exp_encoding x → tree_at table.now b ≡ exp_encoding y
+        → IfOk result (λ w. (w.upper ≡ (upper_bound Γ x).value)
+        × (w.lower ≡ (lower_bound Γ y).value)) }
+    ensures after { OnOk result (IsAfter table.now search.new context.old context.new) }
+{
+    let hyps = context.hyps.as_slice();
+    bound_words(table, &mut search.memo, &mut context.bounds, hyps, a, b)
+}
+
 /// The proof that `a` is at most `b`, by bounds.
 #[tactic(auto, using(crate::proofs::WordRows::rows))]
 fn at_most_by_bounds(
@@ -207,6 +230,10 @@ fn at_most_by_bounds(
     ensures extends { Extends table.old table.new }
     ensures after { OnOk result (IsAfter table.new search.new context.old context.new) }
 {
+    let words = words_of(table, search, context, a, b)?;
+    if words.lower < words.upper {
+        return Ok(None);
+    }
     let bounds = bounds_of(table, search, context, a, b)?;
     ule_by(table, a, b, bounds.upper, bounds.lower)
 }
@@ -262,6 +289,10 @@ fn less(
     ensures extends { Extends table.old table.new }
     ensures after { OnOk result (IsAfter table.new search.new context.old context.new) }
 {
+    let words = words_of(table, search, context, a, b)?;
+    if words.lower <= words.upper {
+        return Ok(None);
+    }
     let bounds = bounds_of(table, search, context, a, b)?;
     ult_by(table, a, b, bounds.upper, bounds.lower)
 }

@@ -1,4 +1,4 @@
-use Rattle.std.proofs.Common.{ℕ, IfOk, subst}
+use Rattle.std.proofs.Common.{ℕ, subst}
 use Rattle.word_ops.specs.declared.Rel.TheVariants.{Ule}
 use Rattle.word_ops.specs.Words.{word_of}
 use Rattle.formula_tree.specs.Formulas.{EVar, ELit, EOp, FRel}

@@ -1,81 +1,73 @@
-use Rattle.std.proofs.Common.{◌≡◌, sym, ◌∙◌, ap, arith}
-use Rattle.term_table.specs.Table.{IsKnown, tree_at}
-use Rattle.formula_tree.specs.Formulas.{EOp}
+use Rattle.std.proofs.Common.{◌≡◌, IfOk, sym, ◌∙◌, ap, subst, arith}
+use Rattle.term_table.specs.Table.{IsKnown}
+use Rattle.formula_tree.specs.Formulas.{Exp}
 use Rattle.formula_terms.specs.Encoding.{exp_encoding}
-use Rattle.easy_class.specs.Bounds.{uppers, upper_bound}
-use Rattle.easy_bounds.specs.Inside.Candidates.{by_most}
 use Rattle.formula_ids.proofs.HypRows.{hyps-before, hyps-after}
-use Rattle.easy_bounds.proofs.UpperRows.{bound-more}
 use Rattle.formula_ids.proofs.Standing.{stands, more, twice}
-use Rattle.easy_bounds.proofs.Uppers.{var-whole, sel-whole, unbound-whole, by_hyps, word-whole, op-whole}
+use Rattle.easy_class.specs.Bounds.{WordBound, upper_bound}
+use Rattle.easy_bounds.specs.declared.parts.How.{How}
+use Rattle.easy_bounds.specs.declared.parts.How.TheVariants.{ShiftRight, ShiftLeft, Sum}
+use Rattle.easy_bounds.specs.BoundIds.{IsBoundOf}
+use Rattle.easy_bounds.specs.Candidates.{by_parts, by_right_shift, by_left_shift, by_sum}
+use Rattle.easy_bounds.proofs.UpperRows.{bound-more, bound_is}
 use Rattle.easy_bounds.proofs.upper_bounds.+bounding.Goals as goal
 
 pub upper_bound-keep-requires-clause-is : goal.upper_bound-keep-requires-clause-is
 upper_bound-keep-requires-clause-is t c = λ Γ x g q.
     let a = c.args in
-    let e = c.in_ok-bound.ensures.extends in
-    c.in_ok-bound.ensures.exact Γ x (hyps-before a.table.now c.upper_by_node.new.table a.hyps.now Γ c.requires.hyps e g) (sym (e.same a.e c.requires.e) ∙ q)
+    let e = c.in_ok-made.ensures.extends in
+    let before = hyps-before a.table.now c.made.new.table a.hyps.now Γ c.requires.hyps e g in
+    let old = sym (e.same a.e c.requires.e) ∙ q in
+    let choice = c.in_ok-choice.ensures.exact Γ x before old in
+    let made = c.in_ok-made.ensures.exact Γ x before old in
+    record { chosen = choice; made = made.is ∙ ap (λ (w : WordBound). w.proof) choice.is }
 
-pub upper_by_node-returns-in_ok-best-in-Apply-clause-exact :
-    goal.upper_by_node-returns-in_ok-best-in-Apply-clause-exact
-upper_by_node-returns-in_ok-best-in-Apply-clause-exact t c = λ Γ x g q.
-    let n = c.args in
-    let t0 = n.table.now in
-    let t1 = c.by_most.new.table in
-    let e1 = c.in_ok-last.ensures.extends in
-    let e2 = c.in_ok-v-in-Apply.ensures.extends in
-    let e3 = c.in_ok-w-in-Apply.ensures.extends in
-    let e4 = c.in_ok-best-in-Apply.ensures.extends in
-    let e = stands t0 (exp_encoding x) n.e c.requires.e q in
-    let p = c.in-Apply.ensures.is x (more e e1).is in
-    let ka : IsKnown t1 c.in-Apply.a = omega (arith, c.in-Apply.ensures.below.0, c.requires.e, e1.longer) in
-    let kb : IsKnown t1 c.in-Apply.b = omega (arith, c.in-Apply.ensures.below.1, c.requires.e, e1.longer) in
-    let left = stands t1 (exp_encoding p.left) c.in-Apply.a ka p.left_is in
-    let right = stands t1 (exp_encoding p.right) c.in-Apply.b kb p.right_is in
-    let v = c.in_ok-v-in-Apply.ensures.exact Γ p.left (hyps-after t0 t1 n.hyps.now Γ c.requires.hyps e1 g) p.left_is in
-    let w = c.in_ok-w-in-Apply.ensures.exact Γ p.right (hyps-after t0 c.upper_bound.new.table n.hyps.now Γ c.requires.hyps (twice e1 e2) g) (more right e2).is in
-    let x3 = twice (twice e1 e2) e3 in
-    let e_is : tree_at c.upper_bound-in-Apply.new.table n.e ≡ exp_encoding (EOp c.in-Apply.op p.left p.right) = (more e x3).is ∙ ap exp_encoding p.is in
-    let best = c.in_ok-best-in-Apply.ensures.is p.left p.right e_is (more left (twice e2 e3)).is (more right (twice e2 e3)).is in
-    let last = bound-more (c.in_ok-last.ensures.is x q) (twice e2 e3) in
-    op-whole c.upper_bound-in-Apply.new.table c.upper_by_parts.new.table c.upper_by_hyps.new.table Γ x c.in-Apply.op p.left p.right c.in_ok-v-in-Apply.v c.in_ok-w-in-Apply.w c.in_ok-last.last c.in_ok-best-in-Apply.best c.upper_by_hyps.result
-    p.is (bound-more v e3) w last best
-    (c.upper_by_hyps.ensures.is Γ x (hyps-after t0 c.upper_by_parts.new.table n.hyps.now Γ c.requires.hyps (twice x3 e4) g) (more e (twice x3 e4)).is)
+pub made_by_parts-returns-in_ok-w-in-Sum-clause-exact :
+    goal.made_by_parts-returns-in_ok-w-in-Sum-clause-exact
+made_by_parts-returns-in_ok-w-in-Sum-clause-exact t c = λ Γ x g q.
+    let t0 = c.args.table.now in
+    let e1 = c.in_ok-v-in-Sum.ensures.extends in
+    let e2 = c.in_ok-w-in-Sum.ensures.extends in
+    let e = stands t0 (exp_encoding x) c.args.e c.requires.e q in
+    let p = c.in-Some.ensures.is x q in
+    let ka : IsKnown t0 c.in-Some.p.left = omega (arith, c.in-Some.ensures.below.0, c.requires.e) in
+    let kb : IsKnown t0 c.in-Some.p.right = omega (arith, c.in-Some.ensures.below.1, c.requires.e) in
+    let left = stands t0 (exp_encoding p.left) c.in-Some.p.left ka p.left_is in
+    let right = stands t0 (exp_encoding p.right) c.in-Some.p.right kb p.right_is in
+    let v = bound-more (c.in_ok-v-in-Sum.ensures.exact Γ p.left g p.left_is) e2 in
+    let w = c.in_ok-w-in-Sum.ensures.exact Γ p.right (hyps-after t0 c.upper_bound-in-Sum.new.table c.args.hyps.now Γ c.requires.hyps e1 g) (more right e1).is in
+    let sum = c.by_sum.ensures.is x p.left p.right (more e (twice e1 e2)).is (more left (twice e1 e2)).is (more right (twice e1 e2)).is in
+    let is : by_sum x p.left p.right (upper_bound Γ p.left) (upper_bound Γ p.right) ≡ by_parts Γ x Sum =
+    ap (λ (z : Exp). by_sum z p.left p.right (upper_bound Γ p.left) (upper_bound Γ p.right)) p.is ∙ sym (ap (λ (z : Exp). by_parts Γ z Sum) p.is) in
+    subst (λ (h : How). IfOk c.by_sum.result (IsBoundOf c.by_sum.new.table (by_parts Γ x h))) (sym c.in-Sum.is)
+    (subst (λ (b : WordBound). IfOk c.by_sum.result (IsBoundOf c.by_sum.new.table b)) ((λ i. by_sum x p.left p.right (bound_is v i) (bound_is w i)) ∙ is) sum)
 
-pub upper_by_node-returns-in-Word-clause-exact : goal.upper_by_node-returns-in-Word-clause-exact
-upper_by_node-returns-in-Word-clause-exact t c = λ Γ x g q.
-    let n = c.args in
-    let e1 = c.in_ok-last.ensures.extends in
-    let later : tree_at c.by_most.new.table n.e ≡ exp_encoding x = e1.same n.e c.requires.e ∙ q in
-    let s = c.in-Word.ensures.is x later in
-    word-whole c.by_most.new.table c.upper_of_word.new.table Γ x c.in-Word.w c.in_ok-last.last c.upper_of_word.result s (c.in_ok-last.ensures.is x q)
-    (c.upper_of_word.ensures.is Γ (hyps-after n.table.now c.by_most.new.table n.hyps.now Γ c.requires.hyps e1 g) (later ∙ ap exp_encoding s))
+pub made_by_parts-returns-in_ok-v-in-ShiftRight-clause-exact :
+    goal.made_by_parts-returns-in_ok-v-in-ShiftRight-clause-exact
+made_by_parts-returns-in_ok-v-in-ShiftRight-clause-exact t c = λ Γ x g q.
+    let t0 = c.args.table.now in
+    let n = c.in-ShiftRight.count in
+    let e1 = c.in_ok-v-in-ShiftRight.ensures.extends in
+    let e = stands t0 (exp_encoding x) c.args.e c.requires.e q in
+    let p = c.in-Some.ensures.is x q in
+    let left = stands t0 (exp_encoding p.left) c.in-Some.p.left (omega (arith, c.in-Some.ensures.below.0, c.requires.e)) p.left_is in
+    let v = c.in_ok-v-in-ShiftRight.ensures.exact Γ p.left g p.left_is in
+    let made = c.by_right_shift.ensures.is x p.left (more e e1).is (more left e1).is in
+    let is : by_right_shift x p.left n (upper_bound Γ p.left) ≡ by_parts Γ x (ShiftRight n) = ap (λ (z : Exp). by_right_shift z p.left n (upper_bound Γ p.left)) p.is ∙ sym (ap (λ (z : Exp). by_parts Γ z (ShiftRight n)) p.is) in
+    subst (λ (h : How). IfOk c.by_right_shift.result (IsBoundOf c.by_right_shift.new.table (by_parts Γ x h))) (sym c.in-ShiftRight.is)
+    (subst (λ (b : WordBound). IfOk c.by_right_shift.result (IsBoundOf c.by_right_shift.new.table b)) (ap (by_right_shift x p.left n) (bound_is v) ∙ is) made)
 
-pub upper_by_node-returns-in-Var-clause-exact : goal.upper_by_node-returns-in-Var-clause-exact
-upper_by_node-returns-in-Var-clause-exact t c = λ Γ x g q.
-    let n = c.args in
-    let e1 = c.in_ok-last.ensures.extends in
-    let later : tree_at c.by_most.new.table n.e ≡ exp_encoding x = e1.same n.e c.requires.e ∙ q in
-    by_hyps c.by_most.new.table c.upper_by_hyps-in-Var.new.table (upper_bound Γ x) (by_most x) (uppers x Γ) c.in_ok-last.last c.upper_by_hyps-in-Var.result (c.in_ok-last.ensures.is x q)
-    (var-whole Γ x c.in-Var.field-0 (c.in-Var.ensures.is x later))
-    (c.upper_by_hyps-in-Var.ensures.is Γ x (hyps-after n.table.now c.by_most.new.table n.hyps.now Γ c.requires.hyps e1 g) later)
-
-pub upper_by_node-returns-in-Sel-clause-exact : goal.upper_by_node-returns-in-Sel-clause-exact
-upper_by_node-returns-in-Sel-clause-exact t c = λ Γ x g q.
-    let n = c.args in
-    let e1 = c.in_ok-last.ensures.extends in
-    let later : tree_at c.by_most.new.table n.e ≡ exp_encoding x = e1.same n.e c.requires.e ∙ q in
-    let s = c.in-Sel.ensures.is x later in
-    by_hyps c.by_most.new.table c.upper_by_hyps-in-Sel.new.table (upper_bound Γ x) (by_most x) (uppers x Γ) c.in_ok-last.last c.upper_by_hyps-in-Sel.result (c.in_ok-last.ensures.is x q)
-    (sel-whole Γ x s.memory s.address s.is)
-    (c.upper_by_hyps-in-Sel.ensures.is Γ x (hyps-after n.table.now c.by_most.new.table n.hyps.now Γ c.requires.hyps e1 g) later)
-
-pub upper_by_node-returns-in-Unbound-clause-exact :
-    goal.upper_by_node-returns-in-Unbound-clause-exact
-upper_by_node-returns-in-Unbound-clause-exact t c = λ Γ x g q.
-    let n = c.args in
-    let e1 = c.in_ok-last.ensures.extends in
-    let later : tree_at c.by_most.new.table n.e ≡ exp_encoding x = e1.same n.e c.requires.e ∙ q in
-    by_hyps c.by_most.new.table c.upper_by_hyps-in-Unbound.new.table (upper_bound Γ x) (by_most x) (uppers x Γ) c.in_ok-last.last c.upper_by_hyps-in-Unbound.result (c.in_ok-last.ensures.is x q)
-    (unbound-whole Γ x (c.in-Unbound.ensures.is x later))
-    (c.upper_by_hyps-in-Unbound.ensures.is Γ x (hyps-after n.table.now c.by_most.new.table n.hyps.now Γ c.requires.hyps e1 g) later)
+pub made_by_parts-returns-in_ok-v-in-ShiftLeft-clause-exact :
+    goal.made_by_parts-returns-in_ok-v-in-ShiftLeft-clause-exact
+made_by_parts-returns-in_ok-v-in-ShiftLeft-clause-exact t c = λ Γ x g q.
+    let t0 = c.args.table.now in
+    let n = c.in-ShiftLeft.count in
+    let e1 = c.in_ok-v-in-ShiftLeft.ensures.extends in
+    let e = stands t0 (exp_encoding x) c.args.e c.requires.e q in
+    let p = c.in-Some.ensures.is x q in
+    let left = stands t0 (exp_encoding p.left) c.in-Some.p.left (omega (arith, c.in-Some.ensures.below.0, c.requires.e)) p.left_is in
+    let v = c.in_ok-v-in-ShiftLeft.ensures.exact Γ p.left g p.left_is in
+    let made = c.by_left_shift.ensures.is x p.left (more e e1).is (more left e1).is in
+    let is : by_left_shift x p.left n (upper_bound Γ p.left) ≡ by_parts Γ x (ShiftLeft n) = ap (λ (z : Exp). by_left_shift z p.left n (upper_bound Γ p.left)) p.is ∙ sym (ap (λ (z : Exp). by_parts Γ z (ShiftLeft n)) p.is) in
+    subst (λ (h : How). IfOk c.by_left_shift.result (IsBoundOf c.by_left_shift.new.table (by_parts Γ x h))) (sym c.in-ShiftLeft.is)
+    (subst (λ (b : WordBound). IfOk c.by_left_shift.result (IsBoundOf c.by_left_shift.new.table b)) (ap (by_left_shift x p.left n) (bound_is v) ∙ is) made)

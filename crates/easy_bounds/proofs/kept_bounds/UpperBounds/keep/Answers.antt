@@ -21,9 +21,8 @@ decides a b = subst (λ z. Decides z (a ≡ b)) (agrees a b) (decides_eq a b)
 pub returns-clause-kept : goal.returns-clause-kept
 returns-clause-kept c =
     let a = c.args in
-    let t = a.table.now in
     let r = c.requires in
-    let row = upper-row t a.hyps.now c.number.result a.e c.number-2.result a.bound c.number.ensures c.number-2.ensures r.e r.known r.is in
+    let row = upper-row a.table.now a.hyps.now c.number.result a.e a.choice a.proof c.number.ensures r.e r.known r.is in
     record {
-      each = uppers-keep t a.hyps.now (get block.ghosts.cmp a.self.now.rows) (get block.ghosts.cmp c.insert.new.self) (eq_by_cmp block.ghosts.cmp) _ _ decides r.kept.each row c.in_ok-insert.ensures.updates.0;
+      each = uppers-keep a.table.now a.hyps.now (get block.ghosts.cmp a.self.now.rows) (get block.ghosts.cmp c.insert.new.self) (eq_by_cmp block.ghosts.cmp) _ _ decides r.kept.each row c.in_ok-insert.ensures.updates.0;
     }

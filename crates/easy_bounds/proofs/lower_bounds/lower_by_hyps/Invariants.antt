@@ -1,9 +1,0 @@
-use Rattle.std.proofs.Common.{◌-◌}
-use Rattle.easy_class.specs.Bounds.{greatest_bound, lowers}
-use Rattle.easy_bounds.specs.BoundIds.{bound_by_ids}
-use Rattle.easy_bounds.proofs.Scans.{IsScan}
-use Rattle.easy_bounds.proofs.lower_bounds.lower_by_hyps.Given as goal
-
-abbrev pub invariant-loop-i : goal.invariant-loop-i
-invariant-loop-i l =
-    IsScan (λ x Γ. greatest_bound (lowers x Γ) (bound_by_ids l.fn.table l.fn.last)) l.fn.table l.table l.memo l.hyps l.e l.best (l.count - l.i)

@@ -1,2 +1,0 @@
--- Words of the private functions.
-pub mod Candidates
