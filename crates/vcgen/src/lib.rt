@@ -10,6 +10,7 @@
 
 mod branches;
 mod comparing;
+mod comparisons;
 mod condition;
 mod effects;
 mod fault;

@@ -18,7 +18,7 @@ use term_table::{Id, Node, Table};
 use word_ops::Op;
 
 /// Terms for r0 to r30 and for m, in the context m, r0 to r30.
-#[derive(Clone, Copy)]
+#[derive(Clone, Copy, PartialEq, Eq)]
 pub(crate) struct Symbols {
     pub(crate) regs: [Id; 31],
     pub(crate) memory: Id,
