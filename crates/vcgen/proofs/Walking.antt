@@ -16,6 +16,7 @@ use Rattle.lf_encode.proofs.KeptRows.{ready-more, ready-same, kept-ready}
 use Rattle.vcgen.specs.declared.symbols.Symbols.{Symbols}
 use Rattle.vcgen.specs.declared.comparisons.Comparisons.{Comparisons}
 use Rattle.vcgen.specs.Inside.WalkTree.{with_reg, with_memory, InsnEffect, Computed, Access, Split, Jump, Return, insn_effect, walked_on, walked, walked_at, ended}
+use Rattle.vcgen.proofs.Lacking.{uses-more}
 use Rattle.vcgen.proofs.MachineRegs.{inv_term-is}
 use Rattle.vcgen.specs.Inside.Symbols.{inv_id, AreInvs, IsProgram, IsWalking, AreComparisons, IsComparing, StandFor, IsEffect}
 use Rattle.vcgen.specs.declared.effects.Effect.TheVariants as E
@@ -48,6 +49,7 @@ comparisons-more c t u registers m h r e = record {
   puts = kept-ready c.puts t u registers m h.puts r e;
   ready = ready-more t u c.earlier.regs c.earlier.memory h.ready e;
   before = kept-ready c.before t u c.earlier.regs c.earlier.memory h.before h.ready e;
+  uses = uses-more c.uses t u h.uses e;
 }
 
 pub comparing-more : (t u : TableView) (insns : List Insn) (ids : List (ℕ × ℕ)) (at_end : ℕ) (registers : List ℕ) (m : ℕ) (memo : Memo) (c : Comparisons) →

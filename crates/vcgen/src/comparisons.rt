@@ -12,6 +12,7 @@ ghost use Rattle.lf_encode.specs.Kept.{AreMachineTerms};
 ghost use Rattle.vcgen.specs.Inside.Symbols.{AreComparisons};
 
 use crate::symbols::Symbols;
+use crate::uses::{Uses, stays};
 use hereditary_subst::{Exhausted, Memo};
 use lf_encode::{PutMemo, is_put_with};
 use std::mem;
@@ -25,6 +26,8 @@ pub(crate) struct Comparisons {
     compared: bool,
     earlier: Symbols,
     before: PutMemo,
+    // which variables terms lack
+    uses: Uses,
 }
 
 impl Comparisons {
@@ -39,6 +42,7 @@ impl Comparisons {
             compared: false,
             earlier: *symbols,
             before: PutMemo::new(alloc),
+            uses: Uses::new(alloc),
         }
     }
 
@@ -53,12 +57,14 @@ impl Comparisons {
         let _ = symbols; // only the clauses speak of it
         let alloc = table.allocator();
         let before = mem::replace(&mut self.before, PutMemo::new(alloc));
+        let uses = mem::replace(&mut self.uses, Uses::new(alloc));
         if self.earlier == *after {
             return Comparisons {
                 puts: before,
                 compared: false,
                 earlier: *after,
                 before: PutMemo::new(alloc),
+                uses,
             };
         }
         Comparisons {
@@ -66,6 +72,7 @@ impl Comparisons {
             compared: false,
             earlier: self.earlier,
             before,
+            uses,
         }
     }
 
@@ -84,6 +91,7 @@ impl Comparisons {
     {
         let _ = table; // only the clauses speak of it
         let _ = symbols; // only the clauses speak of it
+        self.uses = inner.uses;
         if inner.compared {
             self.earlier = *after;
             self.before = inner.puts;
@@ -92,6 +100,33 @@ impl Comparisons {
             self.before = inner.before;
         }
     }
+}
+
+/// Whether what is put for the machine's variables in a term is the term itself, where the goal is
+/// this; else nothing is said.
+fn is_left_alone(
+    table: &Table,
+    shifts: &mut Memo,
+    kept: &mut Comparisons,
+    id: Id,
+    symbols: &Symbols,
+    goal: Id,
+) -> Result<bool, Exhausted>
+    requires known { IsKnown table.now id }
+    requires goal { IsKnown table.now goal }
+    requires ready { AreMachineTerms table.now symbols.now.regs symbols.now.memory }
+    requires shifts { IsMemo table.now shifts.old }
+    requires kept { AreComparisons table.now symbols.now.regs symbols.now.memory kept.old }
+    ensures exact { let t = table.now in
+        let put = put_tree (machine_terms_at t symbols.now.regs symbols.now.memory) 0 (tree_at t id) in
+        IfOk result (λ b. IsTrue b → tree_at t goal ≡ put) }
+    ensures shifts { IsMemo table.now shifts.new }
+    ensures kept { AreComparisons table.now symbols.now.regs symbols.now.memory kept.new }
+{
+    if !table.same(goal, id) {
+        return Ok(false);
+    }
+    stays(table, shifts, &mut kept.uses, symbols, id)
 }
 
 /// `is_put_with` of the terms of now.
@@ -116,6 +151,9 @@ pub(crate) fn is_put_by(
     ensures shifts { IsMemo table.new shifts.new }
     ensures kept { AreComparisons table.new symbols.now.regs symbols.now.memory kept.new }
 {
+    if is_left_alone(table, shifts, kept, id, symbols, goal)? {
+        return Ok(true);
+    }
     kept.compared = true;
     is_put_with(
         table,

@@ -16,6 +16,7 @@ use Rattle.vcgen.specs.declared.walk.Program.{Program}
 use Rattle.vcgen.specs.declared.comparisons.Comparisons.{Comparisons}
 use Rattle.vcgen.specs.declared.effects.Effect as rust
 use Rattle.vcgen.specs.declared.effects.Effect.TheVariants as E
+use Rattle.vcgen.specs.Inside.Uses.{AreUses}
 use Rattle.vcgen.specs.Inside.WalkTree.{InsnEffect, Computed, Access, Split, Jump, Return}
 
 -- the id stands for the term, which can be shifted over so many binders as a formula may have
@@ -69,6 +70,7 @@ pub record AreComparisons (t : TableView) (registers : List ℕ) (m : ℕ) (c : 
   pub puts : IsPutMemo t registers m c.puts
   pub ready : AreMachineTerms t c.earlier.regs c.earlier.memory
   pub before : IsPutMemo t c.earlier.regs c.earlier.memory c.before
+  pub uses : AreUses t c.uses
 
 -- a program, ids for the machine's variables, and what comparisons with their terms kept, are right of the table
 pub record IsComparing (t : TableView) (insns : List Insn) (ids : List (ℕ × ℕ)) (at_end : ℕ) (registers : List ℕ) (m : ℕ) (memo : Memo) (c : Comparisons) : Type 0 where

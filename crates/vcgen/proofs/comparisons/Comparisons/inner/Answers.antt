@@ -5,6 +5,7 @@ use Rattle.term_table.specs.contracts.IdPartialEq.TheImpl as ids
 use Rattle.lf_encode.specs.Kept.{IsPutMemo}
 use Rattle.vcgen.specs.declared.symbols.Symbols.{Symbols}
 use Rattle.vcgen.specs.contracts.symbols.SymbolsPartialEq.TheImpl as equality
+use Rattle.vcgen.specs.Inside.Uses.{AreUses}
 use Rattle.vcgen.proofs.comparisons.Comparisons.inner.Goals as goal
 
 decides_id : (a b : ℕ) → Decides (ids.ghosts.eq a b) (a ≡ b)
@@ -29,4 +30,5 @@ returns-then-eq-clause-inner c =
           (subst (λ (s : Symbols). IsPutMemo c.args.table.now s.regs s.memory c.args.self.now.before) same c.requires.kept.before);
       ready = c.requires.after;
       before = c.new-then-eq.ensures _ _ _;
+      uses = subst (AreUses c.args.table.now) (sym c.replace-uses.ensures.value) c.requires.kept.uses;
     }
