@@ -33,7 +33,7 @@ use term_table::{Id, Node, Table, substitution_laws};
 pub const MOST_RESULTS: usize = 4_000_000;
 
 /// Once a table has more trees than so many, no call keeps another result of it.
-pub const MOST_TREES: u64 = 1_750_000;
+pub const MOST_TREES: u64 = 1_200_000;
 
 /// The simple type of a type: its families and arrows, without the terms that it speaks of.
 #[derive(PartialEq, Eq, Debug, Drop)]

@@ -29,6 +29,14 @@ fn is_variable(table: &Table, id: Id) -> bool
     }
 }
 
+/// Whether x is the furthest variable outside the tree: where the table knows. Then it occurs.
+fn is_furthest(table: &Table, id: Id, x: u64) -> bool
+    requires { IsKnown table.now id }
+{
+    let reach = u64::from(table.reach(id));
+    reach > x && reach - 1 == x
+}
+
 /// The tree with each variable from `from` on raised by `by`. Parts have lower ids, so `from` has
 /// room to rise by one at each binder.
 #[cycle(shifting)]
@@ -190,6 +198,9 @@ pub(crate) fn lower_at(
 {
     if is_within(table, id, x) {
         return Ok(Some(id));
+    }
+    if is_furthest(table, id, x) {
+        return Ok(None);
     }
     if is_variable(table, id) {
         return lower_parts(table, memo, id, x);

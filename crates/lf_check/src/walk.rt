@@ -152,6 +152,17 @@ pub(crate) fn synth_at<S: Signature>(
             kept.keep(table, sig, question, c, p)?;
             Ok(Some(p))
         }
+        Node::Const(n) => {
+            let question = Question::Synth(number(r));
+            if let Some(p) = answer_on(table, kept, sig, &question, c, r)? {
+                return Ok(Some(p));
+            }
+            let Some(p) = declared_on(table, kept, sig, Node::Const(n))? else {
+                return Ok(None);
+            };
+            kept.keep(table, sig, question, c, p)?;
+            Ok(Some(p))
+        }
         _ => {
             let node = table.node(r);
             declared_on(table, kept, sig, node)

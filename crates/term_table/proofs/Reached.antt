@@ -1,8 +1,8 @@
 -- How far a node's variables reach, by its parts.
-use Rattle.std.proofs.Common.{◌≡◌, ℕ, suc, ◌+◌, ◌-◌, ◌<◌, ◌≤◌, max, List, Bool, true, false, cond, ◌&&◌, ◌==◌, refl, sym, ap, subst, arith, lt-ltb, eq-eqb}
+use Rattle.std.proofs.Common.{◌≡◌, ℕ, suc, ◌-◌, ◌<◌, ◌≤◌, max, List, Bool, true, false, cond, ◌&&◌, ◌==◌, refl, sym, ap, subst, arith, eq-eqb}
 use Rattle.std.specs.Prelude.{not}
 use Rattle.std.specs.Cmp.Derive.{both_true}
-use Rattle.term_table.specs.Tree.{Tree, Var, App, Lam, TApp, Pi}
+use Rattle.term_table.specs.Tree.{Tree, App, Lam, TApp, Pi}
 use Rattle.term_table.specs.Scope.{is_atomic_shape, is_term_shape, is_scoped, HasReach}
 use Rattle.term_table.specs.Inside.Reach.{is_atomic_node, is_term_node, reach_outside}
 use Rattle.term_table.specs.declared.Node.{Node}

@@ -2,3 +2,4 @@
 pub mod Code
 pub mod Reach
 pub mod Entries
+pub mod Keys

@@ -14,6 +14,7 @@ ghost use Rattle.std.specs.Prelude.{◌≡◌, ℕ, List, Option, ◌<◌, ◌�
 ghost use Rattle.term_table.specs.Measures.{sigma1_places, height_of, weight_of, capped};
 ghost use Rattle.term_table.specs.Table.{counts_of, IsKnown, tree_at, node_tree, node_tree_in, PartsBelow, PartsKnown, AreDifferent, AreSmall, Adds, Extends};
 ghost use Rattle.term_table.specs.Inside.Entries.{entry_trees, IsSmallNode, IsMeasured, AreMeasured};
+ghost use Rattle.term_table.specs.Inside.Keys.{key_of};
 ghost use Rattle.term_table.specs.Scope.{HasReach};
 ghost use Rattle.term_table.specs.Inside.Reach.{is_atomic_node, is_term_node, reach_outside};
 
@@ -285,13 +286,33 @@ fn numbers(node: Node)
     }
 }
 
+/// A node as the index has it, by that of its parts that came in last. So trees that come in one
+/// behind the other stand together there, however old their other parts are.
+#[derive(Clone, Copy, PartialEq, Eq, PartialOrd, Ord)]
+enum Key {
+    /// The id of that part, or 0 where there is none, and the node.
+    Of(u64, Node),
+}
+
+/// The key of a node.
+fn key_of(node: &Node) -> Key
+    ensures { result ≡ key_of node.now }
+{
+    let latest = match *node {
+        Node::App(a, b) | Node::TApp(a, b) | Node::Pi(a, b) => a.0.max(b.0),
+        Node::Lam(b) => b.0,
+        _ => 0,
+    };
+    Key::Of(latest, *node)
+}
+
 /// Trees without repeats: two ids are equal exactly where their trees are.
 #[derive(Drop)]
 pub struct Table {
     places: Places,
     entries: Vec<Entry>,
-    // each node's id
-    index: BTreeMap<Node, Id>,
+    // each node's id, by the node's key
+    index: BTreeMap<Key, Id>,
 }
 
 impl Model for Table {
@@ -302,12 +323,13 @@ impl Model for Table {
 
     ghost coded = { table_view_code };
 
-    ghost use Rattle.term_table.specs.contracts.NodeOrd.TheImpl as node_block;
+    ghost use Rattle.term_table.specs.contracts.KeyOrd.TheImpl as key_block;
     ghost use Rattle.term_table.specs.Inside.Entries.{entry_trees, AreEntries};
+    ghost use Rattle.term_table.specs.Inside.Keys.{key_of};
 
     ghost view = { λ t. record { trees = entry_trees t.entries.items; places = counts_of t.places } };
 
-    ghost invariant = { λ t. AreEntries (counts_of t.places) t.entries.items (λ n. get node_block.ghosts.cmp t.index n) };
+    ghost invariant = { λ t. AreEntries (counts_of t.places) t.entries.items (λ n. get key_block.ghosts.cmp t.index (key_of n)) };
 }
 
 impl Table {
@@ -422,14 +444,15 @@ impl Table {
         ensures err { OnErr result (self.new ≡ self.old) }
         ensures extends { Extends self.old self.new }
     {
-        if let Some(id) = self.index.get(&node).copied() {
+        let asked = key_of(&node);
+        if let Some(id) = self.index.get(&asked).copied() {
             return Ok(id);
         }
         numbers(node);
         let entry = entry_of(self.entries.as_slice(), self.places, node);
         let id = Id(self.entries.len() as u64);
         self.entries.reserve(1)?;
-        self.index.insert(node, id)?;
+        self.index.insert(key_of(&node), id)?;
         self.entries.push(entry)?;
         Ok(id)
     }

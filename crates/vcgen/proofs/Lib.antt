@@ -14,3 +14,4 @@ pub mod MachineRegs
 pub mod Walking
 pub mod Parts
 pub mod Sides
+pub mod Lacking

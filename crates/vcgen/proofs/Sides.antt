@@ -1,7 +1,7 @@
 -- Formulas that are compared part by part.
 use Rattle.std.proofs.Common.{◌≡◌, ℕ, zero, suc, Option, Some, None, sym, ◌∙◌, ap, subst}
 use Rattle.term_table.specs.Tree.{Tree}
-use Rattle.term_table.specs.Table.{TableView, IsKnown, tree_at}
+use Rattle.term_table.specs.Table.{TableView, tree_at}
 use Rattle.hereditary_subst.specs.Simples.{IsResult}
 use Rattle.lf_signature.specs.declared.numbers.TheConstants.{IMP}
 use Rattle.lf_signature.specs.Terms.{app2, imp_term, all_term, allm_term}

@@ -14,9 +14,11 @@ use Rattle.lf_encode.specs.PutTree.{MachineTerms, machine_terms_at, put_tree}
 use Rattle.lf_encode.specs.Kept.{AreMachineTerms}
 use Rattle.lf_encode.proofs.KeptRows.{ready-more, ready-same, kept-ready}
 use Rattle.vcgen.specs.declared.symbols.Symbols.{Symbols}
+use Rattle.vcgen.specs.declared.comparisons.Comparisons.{Comparisons}
 use Rattle.vcgen.specs.Inside.WalkTree.{with_reg, with_memory, InsnEffect, Computed, Access, Split, Jump, Return, insn_effect, walked_on, walked, walked_at, ended}
+use Rattle.vcgen.proofs.Lacking.{uses-more}
 use Rattle.vcgen.proofs.MachineRegs.{inv_term-is}
-use Rattle.vcgen.specs.Inside.Symbols.{inv_id, AreInvs, IsProgram, IsWalking, StandFor, IsEffect}
+use Rattle.vcgen.specs.Inside.Symbols.{inv_id, AreInvs, IsProgram, IsWalking, AreComparisons, IsComparing, StandFor, IsEffect}
 use Rattle.vcgen.specs.declared.effects.Effect.TheVariants as E
 use Rattle.lf_signature.specs.Nodes.{IsIdOf}
 
@@ -39,6 +41,24 @@ walking-more t u insns ids at_end registers m memo puts h e = record {
   ready = ready-more t u registers m h.ready e;
   shifts = memo-more memo t u h.shifts e;
   kept = kept-ready puts t u registers m h.kept h.ready e;
+}
+
+pub comparisons-more : (c : Comparisons) (t u : TableView) (registers : List ℕ) (m : ℕ) → AreComparisons t registers m c → AreMachineTerms t registers m → Extends t u →
+    AreComparisons u registers m c
+comparisons-more c t u registers m h r e = record {
+  puts = kept-ready c.puts t u registers m h.puts r e;
+  ready = ready-more t u c.earlier.regs c.earlier.memory h.ready e;
+  before = kept-ready c.before t u c.earlier.regs c.earlier.memory h.before h.ready e;
+  uses = uses-more c.uses t u h.uses e;
+}
+
+pub comparing-more : (t u : TableView) (insns : List Insn) (ids : List (ℕ × ℕ)) (at_end : ℕ) (registers : List ℕ) (m : ℕ) (memo : Memo) (c : Comparisons) →
+    IsComparing t insns ids at_end registers m memo c → Extends t u → IsComparing u insns ids at_end registers m memo c
+comparing-more t u insns ids at_end registers m memo c h e = record {
+  program = program-more t u insns ids at_end h.program e;
+  ready = ready-more t u registers m h.ready e;
+  shifts = memo-more memo t u h.shifts e;
+  kept = comparisons-more c t u registers m h.kept h.ready e;
 }
 
 -- ---- the terms stay

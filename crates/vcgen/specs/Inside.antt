@@ -2,3 +2,4 @@
 pub mod WalkTree
 pub mod Symbols
 pub mod Goals
+pub mod Uses

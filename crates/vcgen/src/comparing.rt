@@ -9,14 +9,14 @@ ghost use Rattle.lf_signature.specs.Terms.{imp_term, and_term};
 ghost use Rattle.lf_encode.specs.PutTree.{machine_terms_at};
 ghost use Rattle.lf_encode.specs.Kept.{AreMachineTerms};
 ghost use Rattle.vcgen.specs.Inside.WalkTree.{walked, walked_at};
-ghost use Rattle.vcgen.specs.Inside.Symbols.{Walks};
+ghost use Rattle.vcgen.specs.Inside.Symbols.{Compares};
 
+use crate::comparisons::{Comparisons, is_put_by};
 use crate::effects::{Effect, effect_at};
 use crate::goals::sides;
 use crate::symbols::Symbols;
 use crate::walk::{Program, invariant};
 use hereditary_subst::{Exhausted, Memo};
-use lf_encode::{PutMemo, is_put_with};
 use lf_signature::numbers::{AND, FF, IMP};
 use term_table::{Id, Node, Table};
 
@@ -26,14 +26,14 @@ use term_table::{Id, Node, Table};
 pub(crate) fn is_walk(
     table: &mut Table,
     shifts: &mut Memo,
-    kept: &mut PutMemo,
+    kept: &mut Comparisons,
     program: &Program,
     fuel: u32,
     index: u32,
     symbols: &Symbols,
     goal: Id,
 ) -> Result<bool, Exhausted>
-    requires walking { Walks table.old program.now symbols.now shifts.old kept.old }
+    requires walking { Compares table.old program.now symbols.now shifts.old kept.old }
     requires within { index < length program.now.code.now }
     requires goal { IsKnown table.old goal }
     ensures exact { let t = table.old in
@@ -42,18 +42,10 @@ pub(crate) fn is_walk(
         let walk = walked p.code.now (id_trees t p.invs.now) (tree_at t p.post) fuel in
         IfOk result (λ b. IsTrue b ↔ (tree_at t goal ≡ walk index terms)) }
     ensures extends { Extends table.old table.new }
-    ensures walking { Walks table.new program.now symbols.now shifts.new kept.new }
+    ensures walking { Compares table.new program.now symbols.now shifts.new kept.new }
 {
     match invariant(program.invs, index) {
-        Some(inv) => is_put_with(
-            table,
-            shifts,
-            kept,
-            inv,
-            &symbols.regs,
-            symbols.memory,
-            goal,
-        ),
+        Some(inv) => is_put_by(table, shifts, kept, inv, symbols, goal),
         None => {
             if fuel == 0 {
                 let falsity = table.intern(Node::Const(FF))?;
@@ -64,12 +56,12 @@ pub(crate) fn is_walk(
     }
 }
 
-/// The same with the terms of `after`; of these nothing is kept beyond the walk.
+/// The same with the terms of `after`.
 #[cycle(comparing)]
 fn is_walk_with(
     table: &mut Table,
     shifts: &mut Memo,
-    kept: &mut PutMemo,
+    kept: &mut Comparisons,
     program: &Program,
     fuel: u32,
     index: u32,
@@ -77,7 +69,7 @@ fn is_walk_with(
     after: &Symbols,
     goal: Id,
 ) -> Result<bool, Exhausted>
-    requires walking { Walks table.old program.now symbols.now shifts.old kept.old }
+    requires walking { Compares table.old program.now symbols.now shifts.old kept.old }
     requires within { index < length program.now.code.now }
     requires after { AreMachineTerms table.old after.now.regs after.now.memory }
     requires goal { IsKnown table.old goal }
@@ -87,13 +79,12 @@ fn is_walk_with(
         let walk = walked p.code.now (id_trees t p.invs.now) (tree_at t p.post) fuel in
         IfOk result (λ b. IsTrue b ↔ (tree_at t goal ≡ walk index terms)) }
     ensures extends { Extends table.old table.new }
-    ensures walking { Walks table.new program.now symbols.now shifts.new kept.new }
+    ensures walking { Compares table.new program.now symbols.now shifts.new kept.new }
 {
-    // Only the clauses speak of them.
-    let _ = symbols;
-    let _ = &kept;
-    let mut fresh = PutMemo::new(table.allocator());
-    is_walk(table, shifts, &mut fresh, program, fuel, index, after, goal)
+    let mut inner = kept.inner(table, symbols, after);
+    let equal = is_walk(table, shifts, &mut inner, program, fuel, index, after, goal)?;
+    kept.resume(table, symbols, after, inner);
+    Ok(equal)
 }
 
 /// Whether `goal` is that where the formula of `side` holds, the walk from its index does.
@@ -101,14 +92,14 @@ fn is_walk_with(
 fn is_side(
     table: &mut Table,
     shifts: &mut Memo,
-    kept: &mut PutMemo,
+    kept: &mut Comparisons,
     program: &Program,
     fuel: u32,
     symbols: &Symbols,
     side: (Id, u32),
     goal: Id,
 ) -> Result<bool, Exhausted>
-    requires walking { Walks table.old program.now symbols.now shifts.old kept.old }
+    requires walking { Compares table.old program.now symbols.now shifts.old kept.old }
     requires within { side.1 < length program.now.code.now }
     requires side { IsKnown table.old side.0 }
     requires goal { IsKnown table.old goal }
@@ -119,7 +110,7 @@ fn is_side(
         let made = imp_term (tree_at t side.0) (walk side.1 terms) in
         IfOk result (λ b. IsTrue b ↔ (tree_at t goal ≡ made)) }
     ensures extends { Extends table.old table.new }
-    ensures walking { Walks table.new program.now symbols.now shifts.new kept.new }
+    ensures walking { Compares table.new program.now symbols.now shifts.new kept.new }
 {
     let Some(parts) = sides(table, IMP, goal) else {
         return Ok(false);
@@ -136,7 +127,7 @@ fn is_side(
 fn is_both(
     table: &mut Table,
     shifts: &mut Memo,
-    kept: &mut PutMemo,
+    kept: &mut Comparisons,
     program: &Program,
     fuel: u32,
     symbols: &Symbols,
@@ -144,7 +135,7 @@ fn is_both(
     passed: (Id, u32),
     goal: Id,
 ) -> Result<bool, Exhausted>
-    requires walking { Walks table.old program.now symbols.now shifts.old kept.old }
+    requires walking { Compares table.old program.now symbols.now shifts.old kept.old }
     requires target { taken.1 < length program.now.code.now }
     requires next { passed.1 < length program.now.code.now }
     requires taken { IsKnown table.old taken.0 }
@@ -159,7 +150,7 @@ fn is_both(
         (imp_term (tree_at t passed.0) (walk passed.1 terms)) in
         IfOk result (λ b. IsTrue b ↔ (tree_at t goal ≡ made)) }
     ensures extends { Extends table.old table.new }
-    ensures walking { Walks table.new program.now symbols.now shifts.new kept.new }
+    ensures walking { Compares table.new program.now symbols.now shifts.new kept.new }
 {
     let Some(parts) = sides(table, AND, goal) else {
         return Ok(false);
@@ -178,7 +169,7 @@ fn is_both(
 fn is_behind(
     table: &mut Table,
     shifts: &mut Memo,
-    kept: &mut PutMemo,
+    kept: &mut Comparisons,
     program: &Program,
     fuel: u32,
     index: u32,
@@ -187,7 +178,7 @@ fn is_behind(
     after: &Symbols,
     goal: Id,
 ) -> Result<bool, Exhausted>
-    requires walking { Walks table.old program.now symbols.now shifts.old kept.old }
+    requires walking { Compares table.old program.now symbols.now shifts.old kept.old }
     requires within { index < length program.now.code.now }
     requires allowed { IsKnown table.old allowed }
     requires after { AreMachineTerms table.old after.now.regs after.now.memory }
@@ -199,7 +190,7 @@ fn is_behind(
         let made = and_term (tree_at t allowed) (walk index terms) in
         IfOk result (λ b. IsTrue b ↔ (tree_at t goal ≡ made)) }
     ensures extends { Extends table.old table.new }
-    ensures walking { Walks table.new program.now symbols.now shifts.new kept.new }
+    ensures walking { Compares table.new program.now symbols.now shifts.new kept.new }
 {
     let Some(parts) = sides(table, AND, goal) else {
         return Ok(false);
@@ -219,14 +210,14 @@ fn is_behind(
 pub(crate) fn is_walk_from(
     table: &mut Table,
     shifts: &mut Memo,
-    kept: &mut PutMemo,
+    kept: &mut Comparisons,
     program: &Program,
     fuel: u32,
     index: u32,
     symbols: &Symbols,
     goal: Id,
 ) -> Result<bool, Exhausted>
-    requires walking { Walks table.old program.now symbols.now shifts.old kept.old }
+    requires walking { Compares table.old program.now symbols.now shifts.old kept.old }
     requires within { index < length program.now.code.now }
     requires goal { IsKnown table.old goal }
     ensures exact { let t = table.old in
@@ -237,7 +228,7 @@ pub(crate) fn is_walk_from(
         let insn = slice_get p.code.now index in
         IfOk result (λ b. IsTrue b ↔ (tree_at t goal ≡ walked_at walk post index insn terms)) }
     ensures extends { Extends table.old table.new }
-    ensures walking { Walks table.new program.now symbols.now shifts.new kept.new }
+    ensures walking { Compares table.new program.now symbols.now shifts.new kept.new }
 {
     let insn = program.code.insn(index);
     let next = index + 1;
@@ -257,14 +248,6 @@ pub(crate) fn is_walk_from(
         Effect::Jump(target) => {
             is_walk(table, shifts, kept, program, fuel, target, symbols, goal)
         }
-        Effect::Return => is_put_with(
-            table,
-            shifts,
-            kept,
-            program.post,
-            &symbols.regs,
-            symbols.memory,
-            goal,
-        ),
+        Effect::Return => is_put_by(table, shifts, kept, program.post, symbols, goal),
     }
 }

@@ -10,6 +10,7 @@
 
 mod branches;
 mod comparing;
+mod comparisons;
 mod condition;
 mod effects;
 mod fault;
@@ -17,6 +18,7 @@ mod goals;
 mod recognizing;
 mod symbols;
 mod theorems;
+mod uses;
 mod walk;
 
 pub use condition::{MAX_HEIGHT, MAX_UNFOLDED, vc};

@@ -16,9 +16,10 @@ ghost use Rattle.vcgen.specs.Encoded.{AreForms};
 ghost use Rattle.vcgen.specs.Answers.{IsConditionAnswer, AreLowInvs};
 ghost use Rattle.vcgen.specs.Inside.WalkTree.{start_terms, closed_term, walked, walked_from};
 ghost use Rattle.vcgen.specs.Inside.WalkTree.{part_terms, condition_term};
-ghost use Rattle.vcgen.specs.Inside.Symbols.{IsProgram, Walks};
+ghost use Rattle.vcgen.specs.Inside.Symbols.{IsProgram, Compares};
 
 use crate::comparing::{is_walk, is_walk_from};
+use crate::comparisons::Comparisons;
 use crate::condition::MAX_UNFOLDED;
 use crate::fault::VcFault;
 use crate::goals::{closed_sides, sides};
@@ -26,7 +27,7 @@ use crate::symbols::Symbols;
 use crate::walk::Program;
 use alpha_cfg::{Code, Cut};
 use hereditary_subst::{Exhausted, Memo};
-use lf_encode::{PutMemo, encode_form, machine_context};
+use lf_encode::{encode_form, machine_context};
 use lf_signature::numbers::{AND, TT};
 use policy_set::Policy;
 use term_table::{Id, Node, Table};
@@ -36,13 +37,13 @@ use term_table::{Id, Node, Table};
 fn is_entry(
     table: &mut Table,
     shifts: &mut Memo,
-    kept: &mut PutMemo,
+    kept: &mut Comparisons,
     program: &Program,
     start: &Symbols,
     pre: Id,
     goal: Id,
 ) -> Result<bool, Exhausted>
-    requires walking { Walks table.old program.now start.now shifts.old kept.old }
+    requires walking { Compares table.old program.now start.now shifts.old kept.old }
     requires start { machine_terms_at table.old start.now.regs start.now.memory ≡ start_terms }
     requires pre { IsKnown table.old pre }
     requires goal { IsKnown table.old goal }
@@ -53,7 +54,7 @@ fn is_entry(
         let made = closed_term (imp_term (tree_at t pre) (walk 0 start_terms)) in
         IfOk result (λ b. IsTrue b ↔ (tree_at t goal ≡ made)) }
     ensures extends { Extends table.old table.new }
-    ensures walking { Walks table.new program.now start.now shifts.new kept.new }
+    ensures walking { Compares table.new program.now start.now shifts.new kept.new }
 {
     let Some(parts) = closed_sides(table, goal) else {
         return Ok(false);
@@ -70,14 +71,14 @@ fn is_entry(
 fn is_inv_part(
     table: &mut Table,
     shifts: &mut Memo,
-    kept: &mut PutMemo,
+    kept: &mut Comparisons,
     program: &Program,
     start: &Symbols,
     index: u32,
     inv: Id,
     goal: Id,
 ) -> Result<bool, Exhausted>
-    requires walking { Walks table.old program.now start.now shifts.old kept.old }
+    requires walking { Compares table.old program.now start.now shifts.old kept.old }
     requires start { machine_terms_at table.old start.now.regs start.now.memory ≡ start_terms }
     requires within { index < length program.now.code.now }
     requires inv { IsKnown table.old inv }
@@ -89,7 +90,7 @@ fn is_inv_part(
         let made = closed_term (imp_term (tree_at t inv) walk) in
         IfOk result (λ b. IsTrue b ↔ (tree_at t goal ≡ made)) }
     ensures extends { Extends table.old table.new }
-    ensures walking { Walks table.new program.now start.now shifts.new kept.new }
+    ensures walking { Compares table.new program.now start.now shifts.new kept.new }
 {
     let Some(parts) = closed_sides(table, goal) else {
         return Ok(false);
@@ -107,13 +108,13 @@ fn is_inv_part(
 fn are_inv_parts(
     table: &mut Table,
     shifts: &mut Memo,
-    kept: &mut PutMemo,
+    kept: &mut Comparisons,
     program: &Program,
     start: &Symbols,
     from: usize,
     goal: Id,
 ) -> Result<bool, Exhausted>
-    requires walking { Walks table.old program.now start.now shifts.old kept.old }
+    requires walking { Compares table.old program.now start.now shifts.old kept.old }
     requires inside { All (λ p. p.0 < length program.now.code.now) program.now.invs.now }
     requires from { from ≤ length program.now.invs.now }
     requires start { machine_terms_at table.old start.now.regs start.now.memory ≡ start_terms }
@@ -171,8 +172,8 @@ fn is_condition_of(
         return Ok(false);
     };
     let (entry, rest) = (parts.first, parts.second);
-    let mut kept = PutMemo::new(table.allocator());
     let start = Symbols::start(table)?;
+    let mut kept = Comparisons::new(table, &start);
     let entered = is_entry(table, shifts, &mut kept, program, &start, pre, entry)?;
     if !entered {
         return Ok(false);

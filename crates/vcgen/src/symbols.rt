@@ -3,7 +3,7 @@
 ghost use Rattle.std.specs.Prelude.{◌≡◌, ◌<◌, ◌≤◌, ◌^◌, true, IfOk};
 ghost use Rattle.term_table.specs.Tree.{shift, fits};
 ghost use Rattle.term_table.specs.Table.{IsKnown, tree_at, Extends};
-ghost use Rattle.lf_encode.specs.PutTree.{machine_terms_at};
+ghost use Rattle.lf_encode.specs.PutTree.{machine_terms_at, put_for};
 ghost use Rattle.lf_encode.specs.Kept.{AreMachineTerms};
 ghost use Rattle.lf_signature.specs.Terms.{sel, upd, op_term};
 ghost use Rattle.vcgen.specs.Inside.WalkTree.{reg_term, rhs_term, address_term};
@@ -18,7 +18,7 @@ use term_table::{Id, Node, Table};
 use word_ops::Op;
 
 /// Terms for r0 to r30 and for m, in the context m, r0 to r30.
-#[derive(Clone, Copy)]
+#[derive(Clone, Copy, PartialEq, Eq)]
 pub(crate) struct Symbols {
     pub(crate) regs: [Id; 31],
     pub(crate) memory: Id,
@@ -77,6 +77,22 @@ impl Symbols {
         Symbols {
             regs: self.regs,
             memory: id,
+        }
+    }
+
+    /// The term for the variable `k` of the context m, r0 to r30.
+    pub(crate) fn term(&self, table: &Table, k: u32) -> Id
+        requires ready { AreMachineTerms table.now self.now.regs self.now.memory }
+        requires low { k < 32 }
+        ensures known { IsKnown table.now result }
+        ensures is { let terms = machine_terms_at table.now self.now.regs self.now.memory in
+            tree_at table.now result ≡ put_for terms k }
+    {
+        let _ = table; // only the clauses speak of it
+        if k < 31 {
+            self.regs[(30 - k) as usize]
+        } else {
+            self.memory
         }
     }
 

@@ -13,8 +13,10 @@ use Rattle.lf_encode.specs.PutTree.{MachineTerms, machine_terms_at}
 use Rattle.lf_encode.specs.Kept.{IsPutMemo, AreMachineTerms}
 use Rattle.vcgen.specs.declared.symbols.Symbols.{Symbols}
 use Rattle.vcgen.specs.declared.walk.Program.{Program}
+use Rattle.vcgen.specs.declared.comparisons.Comparisons.{Comparisons}
 use Rattle.vcgen.specs.declared.effects.Effect as rust
 use Rattle.vcgen.specs.declared.effects.Effect.TheVariants as E
+use Rattle.vcgen.specs.Inside.Uses.{AreUses}
 use Rattle.vcgen.specs.Inside.WalkTree.{InsnEffect, Computed, Access, Split, Jump, Return}
 
 -- the id stands for the term, which can be shifted over so many binders as a formula may have
@@ -62,3 +64,21 @@ IsEffect t count i _ _ = ⊥
 -- the same of what a walk has in memory
 abbrev pub Walks : TableView → Program → Symbols → Memo → PutMemo → Type 0
 Walks t p s memo puts = IsWalking t p.code.now p.invs.now p.post s.regs s.memory memo puts
+
+-- results of the terms that ids stand for, and of earlier ones, are right
+pub record AreComparisons (t : TableView) (registers : List ℕ) (m : ℕ) (c : Comparisons) : Type 0 where
+  pub puts : IsPutMemo t registers m c.puts
+  pub ready : AreMachineTerms t c.earlier.regs c.earlier.memory
+  pub before : IsPutMemo t c.earlier.regs c.earlier.memory c.before
+  pub uses : AreUses t c.uses
+
+-- a program, ids for the machine's variables, and what comparisons with their terms kept, are right of the table
+pub record IsComparing (t : TableView) (insns : List Insn) (ids : List (ℕ × ℕ)) (at_end : ℕ) (registers : List ℕ) (m : ℕ) (memo : Memo) (c : Comparisons) : Type 0 where
+  pub program : IsProgram t insns ids at_end
+  pub ready : AreMachineTerms t registers m
+  pub shifts : IsMemo t memo
+  pub kept : AreComparisons t registers m c
+
+-- the same of what a walk that compares has in memory
+abbrev pub Compares : TableView → Program → Symbols → Memo → Comparisons → Type 0
+Compares t p s memo c = IsComparing t p.code.now p.invs.now p.post s.regs s.memory memo c

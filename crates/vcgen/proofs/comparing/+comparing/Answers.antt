@@ -1,28 +1,27 @@
 use Rattle.std.proofs.Common.{◌≡◌, ◌+◌, ◌↔◌, IsTrue, IfOk, Some, length, slice_get, sym, ◌∙◌, subst, arith}
-use Rattle.std.proofs.lemmas.Result.{IfOk-weaker}
 use Rattle.term_table.specs.Table.{IsKnown, tree_at, Extends, id_trees}
 use Rattle.hereditary_subst.proofs.Rows.{grows_more, memo-more}
 use Rattle.lf_signature.specs.declared.numbers.TheConstants.{AND}
 use Rattle.lf_signature.specs.Terms.{app2, and_term, imp_term}
 use Rattle.lf_encode.specs.PutTree.{machine_terms_at, put_tree}
-use Rattle.lf_encode.proofs.KeptRows.{ready-more, ready-same, kept-ready}
+use Rattle.lf_encode.proofs.KeptRows.{ready-more, ready-same}
 use Rattle.lf_encode.proofs.Comparisons.{ok-by-second, answer-of, one-answer}
 use Rattle.vcgen.specs.Inside.WalkTree.{InsnEffect, Computed, Access, Split, Jump, Return, insn_effect, walked}
 use Rattle.vcgen.specs.Inside.Symbols.{IsEffect}
 use Rattle.vcgen.specs.Inside.Goals.{AreSides}
 use Rattle.vcgen.proofs.Sides.{app2-one}
 use Rattle.vcgen.specs.declared.effects.Effect as rust
-use Rattle.vcgen.proofs.Walking.{program-more, walking-more, inv-known, walk-ended, walk-spent, walk-on, walk-same, at-computed, at-access, at-split, at-jump, at-return, walked_at-effect}
+use Rattle.vcgen.proofs.Walking.{program-more, comparisons-more, comparing-more, inv-known, walk-ended, walk-spent, walk-on, walk-same, at-computed, at-access, at-split, at-jump, at-return, walked_at-effect}
 use Rattle.vcgen.proofs.comparing.+comparing.Goals as goal
 
 -- ---- walk
 
-pub is_walk-is_put_with-requires-clause-known : goal.is_walk-is_put_with-requires-clause-known
-is_walk-is_put_with-requires-clause-known t c = (inv-known c.args.table.now c.args.program.now.invs.now c.args.index c.in-Some.inv c.invariant.result
+pub is_walk-is_put_by-requires-clause-known : goal.is_walk-is_put_by-requires-clause-known
+is_walk-is_put_by-requires-clause-known t c = (inv-known c.args.table.now c.args.program.now.invs.now c.args.index c.in-Some.inv c.invariant.result
     c.requires.walking.program.invs c.invariant.ensures c.in-Some.is).0
 
-pub is_walk-is_put_with-requires-clause-low : goal.is_walk-is_put_with-requires-clause-low
-is_walk-is_put_with-requires-clause-low t c = (inv-known c.args.table.now c.args.program.now.invs.now c.args.index c.in-Some.inv c.invariant.result
+pub is_walk-is_put_by-requires-clause-low : goal.is_walk-is_put_by-requires-clause-low
+is_walk-is_put_by-requires-clause-low t c = (inv-known c.args.table.now c.args.program.now.invs.now c.args.index c.in-Some.inv c.invariant.result
     c.requires.walking.program.invs c.invariant.ensures c.in-Some.is).1
 
 pub is_walk-returns-then-fuel-eq0-clause-exact : goal.is_walk-returns-then-fuel-eq0-clause-exact
@@ -40,7 +39,7 @@ is_walk-returns-then-fuel-eq0-clause-exact t c =
     (c.in_ok-falsity-in-None.ensures.extends.same goal c.requires.goal) (s.1 ∙ sym spent) c.same.ensures
 
 pub is_walk-returns-then-fuel-eq0-clause-walking : goal.is_walk-returns-then-fuel-eq0-clause-walking
-is_walk-returns-then-fuel-eq0-clause-walking t c = walking-more _ _ _ _ _ _ _ _ _ c.requires.walking c.intern.ensures.extends
+is_walk-returns-then-fuel-eq0-clause-walking t c = comparing-more _ _ _ _ _ _ _ _ _ c.requires.walking c.intern.ensures.extends
 
 pub is_walk-returns-in-Some-clause-exact : goal.is_walk-returns-in-Some-clause-exact
 is_walk-returns-in-Some-clause-exact t c =
@@ -48,18 +47,18 @@ is_walk-returns-in-Some-clause-exact t c =
     let terms = machine_terms_at o c.args.symbols.now.regs c.args.symbols.now.memory in
     let ended = walk-ended o c.args.program.now.code.now c.args.program.now.invs.now (tree_at o c.args.program.now.post) c.args.index terms c.args.fuel
     c.in-Some.inv c.invariant.result c.invariant.ensures c.in-Some.is in
-    subst (λ z. IfOk c.is_put_with.result (λ b. IsTrue b ↔ (tree_at o c.args.goal ≡ z))) (sym ended) c.is_put_with.ensures.exact
+    subst (λ z. IfOk c.is_put_by.result (λ b. IsTrue b ↔ (tree_at o c.args.goal ≡ z))) (sym ended) c.is_put_by.ensures.exact
 
 pub is_walk-returns-in-Some-clause-walking : goal.is_walk-returns-in-Some-clause-walking
 is_walk-returns-in-Some-clause-walking t c =
     let o = c.args.table.now in
-    let u = c.is_put_with.new.table in
+    let u = c.is_put_by.new.table in
     record {
       program = program-more o u c.args.program.now.code.now c.args.program.now.invs.now c.args.program.now.post c.requires.walking.program
-          c.is_put_with.ensures.extends;
-      ready = ready-more o u c.args.symbols.now.regs c.args.symbols.now.memory c.requires.walking.ready c.is_put_with.ensures.extends;
-      shifts = c.is_put_with.ensures.shifts;
-      kept = c.is_put_with.ensures.kept;
+          c.is_put_by.ensures.extends;
+      ready = ready-more o u c.args.symbols.now.regs c.args.symbols.now.memory c.requires.walking.ready c.is_put_by.ensures.extends;
+      shifts = c.is_put_by.ensures.shifts;
+      kept = c.is_put_by.ensures.kept;
     }
 
 pub is_walk-returns-else-fuel-eq0-clause-exact : goal.is_walk-returns-else-fuel-eq0-clause-exact
@@ -72,17 +71,39 @@ is_walk-returns-else-fuel-eq0-clause-exact t c =
 
 -- ---- the walk with other terms
 
+-- ---- the walk with other terms
+
+pub is_walk_with-returns-in_err-equal-clause-walking : goal.is_walk_with-returns-in_err-equal-clause-walking
+is_walk_with-returns-in_err-equal-clause-walking t c =
+    let o = c.args.table.now in
+    let u = c.is_walk.new.table in
+    let grown = c.is_walk.ensures.extends in
+    let regs = c.args.symbols.now.regs in
+    let memory = c.args.symbols.now.memory in
+    record {
+      program = program-more o u c.args.program.now.code.now c.args.program.now.invs.now c.args.program.now.post c.requires.walking.program grown;
+      ready = ready-more o u regs memory c.requires.walking.ready grown;
+      shifts = c.is_walk.ensures.walking.shifts;
+      kept = comparisons-more c.inner-inner.new.self o u regs memory c.inner-inner.ensures.kept c.requires.walking.ready grown;
+    }
+
+pub is_walk_with-resume-requires-clause-kept : goal.is_walk_with-resume-requires-clause-kept
+is_walk_with-resume-requires-clause-kept t c =
+    comparisons-more c.inner-inner.new.self c.args.table.now c.is_walk.new.table c.args.symbols.now.regs c.args.symbols.now.memory c.inner-inner.ensures.kept
+    c.requires.walking.ready c.in_ok-equal.ensures.extends
+
 pub is_walk_with-returns-clause-walking : goal.is_walk_with-returns-clause-walking
 is_walk_with-returns-clause-walking t c =
     let o = c.args.table.now in
     let u = c.is_walk.new.table in
+    let grown = c.in_ok-equal.ensures.extends in
+    let regs = c.args.symbols.now.regs in
+    let memory = c.args.symbols.now.memory in
     record {
-      program = program-more o u c.args.program.now.code.now c.args.program.now.invs.now c.args.program.now.post c.requires.walking.program
-          c.is_walk.ensures.extends;
-      ready = ready-more o u c.args.symbols.now.regs c.args.symbols.now.memory c.requires.walking.ready c.is_walk.ensures.extends;
-      shifts = c.is_walk.ensures.walking.shifts;
-      kept = kept-ready c.args.kept.now o u c.args.symbols.now.regs c.args.symbols.now.memory c.requires.walking.kept c.requires.walking.ready
-          c.is_walk.ensures.extends;
+      program = program-more o u c.args.program.now.code.now c.args.program.now.invs.now c.args.program.now.post c.requires.walking.program grown;
+      ready = ready-more o u regs memory c.requires.walking.ready grown;
+      shifts = c.in_ok-equal.ensures.walking.shifts;
+      kept = c.resume.ensures;
     }
 
 -- ---- both sides of a branch
@@ -115,18 +136,18 @@ is_both-returns-clause-exact t c =
 -- ---- the walk from an instruction
 
 pub is_walk_from-returns-in_err-after-clause-walking : goal.is_walk_from-returns-in_err-after-clause-walking
-is_walk_from-returns-in_err-after-clause-walking t c = walking-more _ _ _ _ _ _ _ _ _ c.requires.walking c.in_err-after.ensures.extends
+is_walk_from-returns-in_err-after-clause-walking t c = comparing-more _ _ _ _ _ _ _ _ _ c.requires.walking c.in_err-after.ensures.extends
 
-pub is_walk_from-is_put_with-requires-clause-ready : goal.is_walk_from-is_put_with-requires-clause-ready
-is_walk_from-is_put_with-requires-clause-ready t c = ready-more c.args.table.now c.effect_at.new.table c.args.symbols.now.regs c.args.symbols.now.memory
+pub is_walk_from-is_put_by-requires-clause-ready : goal.is_walk_from-is_put_by-requires-clause-ready
+is_walk_from-is_put_by-requires-clause-ready t c = ready-more c.args.table.now c.effect_at.new.table c.args.symbols.now.regs c.args.symbols.now.memory
     c.requires.walking.ready c.in_ok-after.ensures.extends
 
-pub is_walk_from-is_put_with-requires-clause-shifts : goal.is_walk_from-is_put_with-requires-clause-shifts
-is_walk_from-is_put_with-requires-clause-shifts t c = memo-more c.args.shifts.now c.args.table.now c.effect_at.new.table c.requires.walking.shifts
+pub is_walk_from-is_put_by-requires-clause-shifts : goal.is_walk_from-is_put_by-requires-clause-shifts
+is_walk_from-is_put_by-requires-clause-shifts t c = memo-more c.args.shifts.now c.args.table.now c.effect_at.new.table c.requires.walking.shifts
     c.in_ok-after.ensures.extends
 
-pub is_walk_from-is_put_with-requires-clause-kept : goal.is_walk_from-is_put_with-requires-clause-kept
-is_walk_from-is_put_with-requires-clause-kept t c = kept-ready c.args.kept.now c.args.table.now c.effect_at.new.table c.args.symbols.now.regs
+pub is_walk_from-is_put_by-requires-clause-kept : goal.is_walk_from-is_put_by-requires-clause-kept
+is_walk_from-is_put_by-requires-clause-kept t c = comparisons-more c.args.kept.now c.args.table.now c.effect_at.new.table c.args.symbols.now.regs
     c.args.symbols.now.memory c.requires.walking.kept c.requires.walking.ready c.in_ok-after.ensures.extends
 
 pub is_walk_from-is_walk_with-requires : goal.is_walk_from-is_walk_with-requires
@@ -138,7 +159,7 @@ is_walk_from-is_walk_with-requires t c =
     let effect : InsnEffect = insn_effect c.args.index c.insn-insn.result terms in
     let exact = subst (λ (e : rust.Effect). IsEffect u (length p.code.now) c.args.index e effect) c.in-Computed.is c.in_ok-after.ensures.exact in
     let has = at-computed u (length p.code.now) c.args.index c.in-Computed.after effect exact in
-    let walking = walking-more _ _ _ _ _ _ _ _ _ c.requires.walking c.in_ok-after.ensures.extends in
+    let walking = comparing-more _ _ _ _ _ _ _ _ _ c.requires.walking c.in_ok-after.ensures.extends in
     let known : IsKnown u c.args.goal = omega (arith, c.requires.goal, c.in_ok-after.ensures.extends.longer) in
     (omega (arith, c.decreases), (walking, (has.2, (has.3.ready, known))))
 
@@ -151,7 +172,7 @@ is_walk_from-is_behind-requires t c =
     let effect : InsnEffect = insn_effect c.args.index c.insn-insn.result terms in
     let exact = subst (λ (e : rust.Effect). IsEffect u (length p.code.now) c.args.index e effect) c.in-Access.is c.in_ok-after.ensures.exact in
     let has = at-access u (length p.code.now) c.args.index c.in-Access.allowed c.in-Access.after effect exact in
-    let walking = walking-more _ _ _ _ _ _ _ _ _ c.requires.walking c.in_ok-after.ensures.extends in
+    let walking = comparing-more _ _ _ _ _ _ _ _ _ c.requires.walking c.in_ok-after.ensures.extends in
     let known : IsKnown u c.args.goal = omega (arith, c.requires.goal, c.in_ok-after.ensures.extends.longer) in
     (omega (arith, c.decreases), (walking, (has.3, (has.4.known, (has.5.ready, known)))))
 
@@ -164,7 +185,7 @@ is_walk_from-is_both-requires t c =
     let effect : InsnEffect = insn_effect c.args.index c.insn-insn.result terms in
     let exact = subst (λ (e : rust.Effect). IsEffect u (length p.code.now) c.args.index e effect) c.in-Split.is c.in_ok-after.ensures.exact in
     let has = at-split u (length p.code.now) c.args.index c.in-Split.taken c.in-Split.passed c.in-Split.target effect exact in
-    let walking = walking-more _ _ _ _ _ _ _ _ _ c.requires.walking c.in_ok-after.ensures.extends in
+    let walking = comparing-more _ _ _ _ _ _ _ _ _ c.requires.walking c.in_ok-after.ensures.extends in
     let known : IsKnown u c.args.goal = omega (arith, c.requires.goal, c.in_ok-after.ensures.extends.longer) in
     (omega (arith, c.decreases), (walking, (has.4, (has.3, (has.5.known, (has.6.known, known))))))
 
@@ -177,7 +198,7 @@ is_walk_from-is_walk-requires t c =
     let effect : InsnEffect = insn_effect c.args.index c.insn-insn.result terms in
     let exact = subst (λ (e : rust.Effect). IsEffect u (length p.code.now) c.args.index e effect) c.in-Jump.is c.in_ok-after.ensures.exact in
     let has = at-jump u (length p.code.now) c.args.index c.in-Jump.target effect exact in
-    let walking = walking-more _ _ _ _ _ _ _ _ _ c.requires.walking c.in_ok-after.ensures.extends in
+    let walking = comparing-more _ _ _ _ _ _ _ _ _ c.requires.walking c.in_ok-after.ensures.extends in
     let known : IsKnown u c.args.goal = omega (arith, c.requires.goal, c.in_ok-after.ensures.extends.longer) in
     (omega (arith, c.decreases), (walking, (has.1, known)))
 
@@ -281,17 +302,17 @@ is_walk_from-returns-in-Return-clause-exact t c =
     let post = c.in_ok-after.ensures.extends.same p.post c.requires.walking.program.post in
     let made : put_tree (machine_terms_at u c.args.symbols.now.regs c.args.symbols.now.memory) 0 (tree_at u p.post) ≡ put_tree terms 0 (tree_at o p.post) =
     λ i. put_tree (same i) 0 (post i) in
-    answer-of c.is_put_with.result (tree_at u c.args.goal) (tree_at o c.args.goal) _ _ (c.in_ok-after.ensures.extends.same c.args.goal c.requires.goal)
-    (made ∙ sym at) c.is_put_with.ensures.exact
+    answer-of c.is_put_by.result (tree_at u c.args.goal) (tree_at o c.args.goal) _ _ (c.in_ok-after.ensures.extends.same c.args.goal c.requires.goal)
+    (made ∙ sym at) c.is_put_by.ensures.exact
 
 pub is_walk_from-returns-in-Return-clause-walking : goal.is_walk_from-returns-in-Return-clause-walking
 is_walk_from-returns-in-Return-clause-walking t c =
     let o = c.args.table.now in
-    let v = c.is_put_with.new.table in
-    let grown = grows_more o c.effect_at.new.table v c.in_ok-after.ensures.extends c.is_put_with.ensures.extends in
+    let v = c.is_put_by.new.table in
+    let grown = grows_more o c.effect_at.new.table v c.in_ok-after.ensures.extends c.is_put_by.ensures.extends in
     record {
       program = program-more o v c.args.program.now.code.now c.args.program.now.invs.now c.args.program.now.post c.requires.walking.program grown;
       ready = ready-more o v c.args.symbols.now.regs c.args.symbols.now.memory c.requires.walking.ready grown;
-      shifts = c.is_put_with.ensures.shifts;
-      kept = c.is_put_with.ensures.kept;
+      shifts = c.is_put_by.ensures.shifts;
+      kept = c.is_put_by.ensures.kept;
     }

@@ -1,4 +1,4 @@
-use Rattle.std.proofs.Common.{◌≡◌, ◌+◌, ℕ, IfOk, length, drop, slice_get, slice_index_or, sym, ◌∙◌, ap, subst, arith}
+use Rattle.std.proofs.Common.{◌≡◌, ◌+◌, ℕ, length, drop, slice_get, slice_index_or, sym, ◌∙◌, ap, subst, arith}
 use Rattle.std.proofs.lemmas.List.{drop_more}
 use Rattle.term_table.specs.Tree.{Tree}
 use Rattle.term_table.specs.Table.{IsKnown, tree_at, Extends, id_trees}

@@ -1,4 +1,4 @@
-use Rattle.std.proofs.Common.{◌≡◌, ◌↔◌, ◌+◌, ℕ, IsTrue, IfOk, length, drop, slice_index_or, sym, ◌∙◌, subst, arith}
+use Rattle.std.proofs.Common.{◌≡◌, ◌↔◌, ◌+◌, ℕ, IsTrue, IfOk, drop, slice_index_or, sym, ◌∙◌, subst, arith}
 use Rattle.std.proofs.lemmas.List.{drop_more}
 use Rattle.term_table.specs.Table.{IsKnown, tree_at, Extends, id_trees}
 use Rattle.lf_encode.proofs.KeptRows.{ready-same}

@@ -19,7 +19,7 @@ is_entry-requires-clause-walking c =
           c.in_ok-start.ensures.extends;
       ready = c.in_ok-start.ensures.ready;
       shifts = memo-more c.args.shifts.now c.args.table.now s c.requires.shifts c.in_ok-start.ensures.extends;
-      kept = c.new-kept.ensures s c.in_ok-start.start.regs c.in_ok-start.start.memory;
+      kept = c.new-kept.ensures;
     }
 
 pub returns-then-not-entered-clause-exact : goal.returns-then-not-entered-clause-exact

@@ -4,7 +4,7 @@ use Rattle.policy_set.proofs.Closed.{pre-over, post-over}
 use Rattle.term_table.specs.Table.{tree_at, id_trees}
 use Rattle.formula_tree.specs.Substitution.{subst_form}
 use Rattle.lf_encode.specs.Encoding.{form_encoding}
-use Rattle.lf_encode.specs.Contexts.{machine_context, machine_names, encoding_in}
+use Rattle.lf_encode.specs.Contexts.{machine_names}
 use Rattle.lf_encode.proofs.MachineContext.{encoding-machine}
 use Rattle.lf_encode.proofs.Comparisons.{one-answer}
 use Rattle.vcgen.specs.Conditions.{condition}

@@ -1,9 +1,8 @@
 use Rattle.std.proofs.Common.{◌≡◌, ◌+◌, IfOk, Some, length, slice_get, sym, ◌∙◌, subst, arith}
-use Rattle.std.proofs.lemmas.Result.{IfOk-weaker}
-use Rattle.term_table.specs.Table.{IsKnown, tree_at, Extends, id_trees}
+use Rattle.term_table.specs.Table.{tree_at, Extends, id_trees}
 use Rattle.hereditary_subst.proofs.Rows.{grows_more, memo-more}
 use Rattle.lf_signature.specs.Nodes.{IsIdOf}
-use Rattle.lf_signature.specs.Terms.{falsity, and_term, imp_term}
+use Rattle.lf_signature.specs.Terms.{and_term, imp_term}
 use Rattle.lf_encode.specs.PutTree.{machine_terms_at, put_tree}
 use Rattle.lf_encode.proofs.KeptRows.{ready-more, ready-same, kept-ready}
 use Rattle.vcgen.specs.Inside.WalkTree.{InsnEffect, Computed, Access, Split, Jump, Return, insn_effect, walked}
