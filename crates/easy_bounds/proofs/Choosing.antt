@@ -15,11 +15,7 @@ use Rattle.easy_bounds.specs.Choices.{IsChoice}
 -- what is no word has no bound of its own
 pub own_none : (x : Exp) → ((w : ℕ) → x ≡ ELit w → ⊥) → own_bounds x ≡ []
 own_none (ELit w) n = absurd (n w refl)
-own_none (EReg r) n = refl
-own_none ELeft n = refl
-own_none (EVar v) n = refl
-own_none (EOp o a b) n = refl
-own_none (ESel m a) n = refl
+own_none x n = refl
 
 -- what is no operator has no parts
 abbrev pub IsNoOp : Exp → Type 0
@@ -27,36 +23,20 @@ IsNoOp x = (o : Op) (a b : Exp) → x ≡ EOp o a b → ⊥
 
 pub upper_alone : (Γ : Hyps) (x : Exp) → IsNoOp x → least_bound (own_bounds x ++ uppers x Γ) (limit Upper x) ≡ upper_bound Γ x
 upper_alone Γ (EOp o a b) n = absurd (n o a b refl)
-upper_alone Γ (ELit w) n = refl
-upper_alone Γ (EReg r) n = refl
-upper_alone Γ ELeft n = refl
-upper_alone Γ (EVar v) n = refl
-upper_alone Γ (ESel m a) n = refl
+upper_alone Γ x n = refl
 
 pub no_parts : (Γ : Hyps) (x : Exp) (c : How) → IsNoOp x → limit Upper x ≡ by_parts Γ x c
 no_parts Γ (EOp o a b) c n = absurd (n o a b refl)
-no_parts Γ (ELit w) c n = refl
-no_parts Γ (EReg r) c n = refl
-no_parts Γ ELeft c n = refl
-no_parts Γ (EVar v) c n = refl
-no_parts Γ (ESel m a) c n = refl
+no_parts Γ x c n = refl
 
 -- a shift by what is no word has none
 pub right_none : (a b : Exp) (v w : WordBound) → IsLiteral b None → op_bounds Srl a b v w ≡ []
 right_none a (ELit w) v u n = absurd (n w refl)
-right_none a (EReg r) v u n = refl
-right_none a ELeft v u n = refl
-right_none a (EVar m) v u n = refl
-right_none a (EOp o x y) v u n = refl
-right_none a (ESel m x) v u n = refl
+right_none a b v u n = refl
 
 pub left_none : (a b : Exp) (v w : WordBound) → IsLiteral b None → op_bounds Sll a b v w ≡ []
 left_none a (ELit w) v u n = absurd (n w refl)
-left_none a (EReg r) v u n = refl
-left_none a ELeft v u n = refl
-left_none a (EVar m) v u n = refl
-left_none a (EOp o x y) v u n = refl
-left_none a (ESel m x) v u n = refl
+left_none a b v u n = refl
 
 -- the choice is the least of what the parts of this operator say
 abbrev pub IsPartChoice : Hyps → Exp → Exp → Choice → Op → Type 0

@@ -46,50 +46,21 @@ pub upper_none : (rel : Rel) (x y z : Exp) → IsNoWord x y z → (h : Tree) →
 upper_none Ule x y (ELit w) n h = none_if (same_exp y x) _ (same_false y x (λ e. n w e refl))
 upper_none Eq x y (ELit w) n h = none_if (same_exp y x) _ (same_false y x (λ e. n w e refl))
 upper_none Ult x y (ELit (suc w)) n h = none_if (same_exp y x) _ (same_false y x (λ e. n (suc w) e refl))
-upper_none Ult x y (ELit zero) n h = refl
-upper_none Slt x y z n h = refl
-upper_none Sle x y z n h = refl
-upper_none Ule x y (EReg r) n h = refl
-upper_none Ule x y ELeft n h = refl
-upper_none Ule x y (EVar v) n h = refl
-upper_none Ule x y (EOp o a b) n h = refl
-upper_none Ule x y (ESel m a) n h = refl
-upper_none Eq x y (EReg r) n h = refl
-upper_none Eq x y ELeft n h = refl
-upper_none Eq x y (EVar v) n h = refl
-upper_none Eq x y (EOp o a b) n h = refl
-upper_none Eq x y (ESel m a) n h = refl
-upper_none Ult x y (EReg r) n h = refl
-upper_none Ult x y ELeft n h = refl
-upper_none Ult x y (EVar v) n h = refl
-upper_none Ult x y (EOp o a b) n h = refl
-upper_none Ult x y (ESel m a) n h = refl
+upper_none rel x y z n h = refl
 
 -- from below, by an equation
 lower_eq_none : (x y z : Exp) → IsNoWord x y z → (h : Tree) → lower_of x (FRel Eq y z) h ≡ []
 lower_eq_none x y (ELit w) n h = none_if (same_exp y x) _ (same_false y x (λ e. n w e refl))
-lower_eq_none x y (EReg r) n h = refl
-lower_eq_none x y ELeft n h = refl
-lower_eq_none x y (EVar v) n h = refl
-lower_eq_none x y (EOp o a b) n h = refl
-lower_eq_none x y (ESel m a) n h = refl
+lower_eq_none x y z n h = refl
 
 -- by "at most", whose right side is the expression
 lower_ule_none : (x y z : Exp) → IsNoWord x z y → (h : Tree) → lower_of x (FRel Ule y z) h ≡ []
 lower_ule_none x (ELit w) z n h = none_if (same_exp z x) _ (same_false z x (λ e. n w e refl))
-lower_ule_none x (EReg r) z n h = refl
-lower_ule_none x ELeft z n h = refl
-lower_ule_none x (EVar v) z n h = refl
-lower_ule_none x (EOp o a b) z n h = refl
-lower_ule_none x (ESel m a) z n h = refl
+lower_ule_none x y z n h = refl
 
 lower_ult_none : (x y z : Exp) → IsNoWord x z y → (h : Tree) → lower_of x (FRel Ult y z) h ≡ []
 lower_ult_none x (ELit w) z n h = none_if (same_exp z x) _ (same_false z x (λ e. n w e refl))
-lower_ult_none x (EReg r) z n h = refl
-lower_ult_none x ELeft z n h = refl
-lower_ult_none x (EVar v) z n h = refl
-lower_ult_none x (EOp o a b) z n h = refl
-lower_ult_none x (ESel m a) z n h = refl
+lower_ult_none x y z n h = refl
 
 -- what is related to a word, by what the relation says of its two sides
 pub related_by : (s : Side) (k : Kind) (x a b : Exp) (A : Form) (r : Related) → IsToWordBy k x a b r → (same_exp a x ≡ true → (h : Tree) → says s x A h ≡ by_relation s k x r.value h ∷ []) → (h : Tree) → says s x A h ≡ by_relation s r.kind x r.value h ∷ []
