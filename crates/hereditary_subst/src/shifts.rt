@@ -63,7 +63,7 @@ pub(crate) fn shift_at(
     if is_variable(table, id) {
         return shift_parts(table, memo, id, by, from);
     }
-    let question = Question::Shift(number(id), by, from);
+    let question = Question::Shift(by, from, number(id));
     if let Some(atom) = memo.find(table, &question) {
         return Ok(Some(atom.term));
     }
@@ -205,7 +205,7 @@ pub(crate) fn lower_at(
     if is_variable(table, id) {
         return lower_parts(table, memo, id, x);
     }
-    let question = Question::Lower(number(id), x);
+    let question = Question::Lower(x, number(id));
     if let Some(atom) = memo.find(table, &question) {
         return match atom.met {
             None => Ok(Some(atom.term)),
