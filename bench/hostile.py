@@ -149,9 +149,9 @@ def by_right(t, formula):
 
 
 def annotated(t, step, count, before, after, proof, at_start):
-    """Code of one instruction so many times, or of a list of them, each with one invariant, and a return; and the proof that it
-    gives: of `after`, what the invariant is behind the instruction, under the invariant, and of the
-    invariant at the start."""
+    """Code of one instruction so many times, or of a list of them, each with one invariant, and a
+    return; and the proof that it gives: of `after`, what the invariant is behind the instruction, under
+    the invariant, and of the invariant at the start."""
     tt, tt_i, pre = t.con(TT), t.con(TT_I), tag_precondition(t)
     goal, whole = tt, tt_i
     last = closed(t, t.con(IMP, before, tt), t.con(IMP_I, before, tt, t.lam(tt_i)))

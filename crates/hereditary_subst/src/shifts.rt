@@ -10,8 +10,8 @@ use crate::exhausted::Exhausted;
 use crate::kept::{Memo, Question, number};
 use term_table::{Id, Node, Table};
 
-/// Of a tree that isn't higher than this, as an equation of two words without parts, no row is kept:
-/// its parts, seven at most, are gone through faster than a row is found. It counts as a result.
+/// Of a tree that isn't higher than this, as an equation of two words without parts, no row is
+/// kept: its parts, seven at most, are gone through faster than a row is found. It is counted.
 const MOST_WITHOUT_ROW: u32 = 3;
 
 /// Of a tree that isn't higher than this nothing is counted: it stands in a tree that is.
