@@ -149,9 +149,9 @@ def by_right(t, formula):
 
 
 def annotated(t, step, count, before, after, proof, at_start):
-    """Code of one instruction so many times, each with one invariant, and a return; and the proof that it
-    gives: of `after`, what the invariant is behind the instruction, under the invariant, and of the
-    invariant at the start."""
+    """Code of one instruction so many times, or of a list of them, each with one invariant, and a
+    return; and the proof that it gives: of `after`, what the invariant is behind the instruction, under
+    the invariant, and of the invariant at the start."""
     tt, tt_i, pre = t.con(TT), t.con(TT_I), tag_precondition(t)
     goal, whole = tt, tt_i
     last = closed(t, t.con(IMP, before, tt), t.con(IMP_I, before, tt, t.lam(tt_i)))
@@ -159,7 +159,8 @@ def annotated(t, step, count, before, after, proof, at_start):
     first = closed(t, t.con(IMP, pre, before), t.con(IMP_I, pre, before, t.lam(at_start)))
     for part in [last] + [each] * (count - 1) + [first]:
         goal, whole = t.con(AND, part[0], goal), t.con(AND_I, part[0], goal, part[1], whole)
-    return container(t, TAG, [step] * count + [RETURN], [(k, before) for k in range(count)], whole)
+    steps = step if isinstance(step, list) else [step] * count
+    return container(t, TAG, steps + [RETURN], [(k, before) for k in range(count)], whole)
 
 
 def unchanged(t, count, leaves):
@@ -172,6 +173,27 @@ def same_again(t, count, leaves):
     """Each instruction sets r1 to 5, and the invariant speaks of it."""
     before, after = all_over(t, 1, leaves), all_over(t, 1, leaves, put=5)
     return annotated(t, 0x08 << 26 | 1 << 21 | 31 << 16 | 5, count, before, after, by_right(t, after), by_right(t, all_over(t, 1, leaves, 1)))
+
+
+def other_numbers(t, count, leaves):
+    """Each instruction sets r1 to another number, and the invariant speaks of r5."""
+    kept = all_over(t, 5, leaves)
+    steps = [0x08 << 26 | 1 << 21 | 31 << 16 | k for k in range(count)]
+    return annotated(t, steps, count, kept, kept, t.var(0), by_right(t, all_over(t, 5, leaves, 1)))
+
+
+def at_depths(t, leaves, depths, far):
+    """A formula of one far variable under each count of binders up to so many, in a parameter that is
+    raised: each part is asked for once a count, and few trees are made."""
+    forms = [balanced(t, lambda k: t.con(EQ, t.var(far), t.lit(k)), 0, leaves)]
+    for _ in range(1, depths):
+        forms.append(t.con(ALL, t.lam(forms[-1])))
+    whole = joined(t, forms)
+    formula, proof = t.con(OR, whole, t.con(TT)), t.con(OR_R, whole, t.con(TT), t.con(TT_I))
+    for _ in range(far + 1):
+        over, under = t.lam(formula), t.lam(proof)
+        formula, proof = t.con(ALL, over), t.con(ALL_I, over, under)
+    return returning_container(t, instead(t, formula, proof))
 
 
 def families():
@@ -203,6 +225,8 @@ def families():
         yield "n, %d invariants of %d leaves, unchanged, proved" % (count, leaves), "tag", unchanged(t, count, leaves), "accepted"
         t = Terms()
         yield "n, %d of a register that is set to 5, proved" % count, "tag", same_again(t, count, leaves), "accepted"
+        t = Terms()
+        yield "n, %d beside another number each, proved" % count, "tag", other_numbers(t, count, leaves), "accepted"
     for k in (10, 15):
         t = Terms()
         yield "c, cases, %d levels" % k, "tag", returning_container(t, by_cases(t, k)), "accepted"
@@ -222,6 +246,10 @@ def families():
         t = Terms()
         name = "f, %d formulas, %d binders apart" % (leaves, count)
         yield name, "filter", container(t, FILTER, [LOOP], [(0, far_apart(t, count, leaves))]), "refused 9 NoProof"
+    for leaves, depths in ((20000, 60), (40000, 30)):
+        t = Terms()
+        name = "o, %d formulas at %d depths" % (leaves, depths)
+        yield name, "tag", at_depths(t, leaves, depths, 200), "status 5"
     for count in (300, 900):
         t = Terms()
         name = "g, %d variables, in two contexts" % count

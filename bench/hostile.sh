@@ -2,8 +2,7 @@
 # Times `pcc check` and `pcc prove` on files made to be slow, each within every limit of the format: bytes,
 # processor time, peak memory, and the line or status. With words only the families whose name has one of
 # them; PCC names another program. Another line than the one expected, more than 2 s or 512 MB of `check`,
-# or more than 5 s or 1,024 MB of `prove` ends the run with status 1 (known: families e and n where the
-# limit on results stands, and the last of m).
+# or more than 5 s or 1,024 MB of `prove` ends the run with status 1 (known: the last of m).
 # For `check` (bench/hostile.py):
 #   a  formulas under words and memories, each level in two contexts
 #   b  invariants of many leaves, changed by many ways or many instructions
@@ -13,6 +12,7 @@
 #   f  formulas under many binders, in two contexts
 #   g  many variables in two contexts
 #   n  proved invariants of many leaves that instructions leave as they are, or set to the same
+#   o  a formula under many counts of binders in a parameter, so that rows are kept and no trees made
 # For `prove`, as an invariant:
 #   h  equations of sums of 64 words in the worst order
 #   i  deep implications, whose hypotheses are raised at each level

@@ -34,9 +34,9 @@ met-more t u ty s m x tree r None e h = h
 met-more t u ty s m x tree r (Some v) e h = (known-more t u v h.0 e, h.1, subst (λ z. Meets s m x tree r (erase z)) (sym (e.same v h.0)) h.2)
 
 tells-more : (q : Question) (r : ℕ) (met : Option ℕ) (t u : TableView) → IsKnown t r → Tells t q r met → Extends t u → Tells u q r met
-tells-more (Q.Shift id by from) r met t u k h e =
+tells-more (Q.Shift by from id) r met t u k h e =
     (known-more t u id h.0 e, ap (shifted by from) (e.same id h.0) ∙ h.1 ∙ ap Some (sym (e.same r k)))
-tells-more (Q.Lower id x) r met t u k h e =
+tells-more (Q.Lower x id) r met t u k h e =
     (known-more t u id h.0 e, subst (λ z. LowersTo u x z r met) (sym (e.same id h.0)) (lowers-more t u x (tree_at t id) r met k e h.1))
 tells-more (Q.Head m id x ty) r met t u k h e = (
   known-more t u id h.0 e,

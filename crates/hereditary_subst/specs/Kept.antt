@@ -33,8 +33,8 @@ pub record AreKnownIds (t : TableView) (r : ℕ) (u : Option ℕ) : Type 0 where
 
 -- the answer is right of the question
 abbrev pub Tells : TableView → Question → ℕ → Option ℕ → Type 0
-Tells t (Q.Shift id by from) r met = IsKnown t id × (shifted by from (tree_at t id) ≡ Some (tree_at t r))
-Tells t (Q.Lower id x) r met = IsKnown t id × LowersTo t x (tree_at t id) r met
+Tells t (Q.Shift by from id) r met = IsKnown t id × (shifted by from (tree_at t id) ≡ Some (tree_at t r))
+Tells t (Q.Lower x id) r met = IsKnown t id × LowersTo t x (tree_at t id) r met
 Tells t (Q.Head m id x ty) r met = IsKnown t id × IsKnown t m × IsKnown t ty × MetIs t ty (erase (tree_at t ty)) (tree_at t m) x (tree_at t id) (tree_at t r) met
 Tells t (Q.Under m id x ty) r met = IsKnown t id × IsKnown t m × IsKnown t ty × (hsub (erase (tree_at t ty)) (tree_at t m) x (tree_at t id) ≡ Some (tree_at t r))
 Tells t (Q.Type m id x ty) r met = IsKnown t id × IsKnown t m × IsKnown t ty × (hsub_type (erase (tree_at t ty)) (tree_at t m) x (tree_at t id) ≡ Some (tree_at t r))

@@ -20,12 +20,14 @@ const STEPS_A_RESULT: u64 = 16;
 /// What is asked of a tree, by ids and counts.
 #[derive(Clone, Copy, PartialEq, Eq, PartialOrd, Ord)]
 pub(crate) enum Question {
-    /// The tree with each variable from the third number on raised by the second.
+    /// The third, a tree, with each variable from the second number on raised by the first. What is
+    /// done stands before the tree here and below, so that the rows of one walk stand together.
     Shift(u64, u64, u64),
-    /// The tree with the variables past the second number lowered by one, where that one doesn't occur.
+    /// The second, a tree, with the variables past the first number lowered by one, where that one
+    /// doesn't occur.
     Lower(u64, u64),
     /// The first for the variable of the third number, at the type of the fourth, in the second, an
-    /// atomic term. What is put stands first, so that the rows of one substitution stand together.
+    /// atomic term.
     Head(u64, u64, u64, u64),
     /// The same in an abstraction.
     Under(u64, u64, u64, u64),

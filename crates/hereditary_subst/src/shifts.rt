@@ -10,6 +10,13 @@ use crate::exhausted::Exhausted;
 use crate::kept::{Memo, Question, number};
 use term_table::{Id, Node, Table};
 
+/// Of a tree that isn't higher than this, as an equation of two words without parts, no row is
+/// kept: its parts, seven at most, are gone through faster than a row is found. It is counted.
+const MOST_WITHOUT_ROW: u32 = 3;
+
+/// Of a tree that isn't higher than this nothing is counted: it stands in a tree that is.
+const MOST_UNCOUNTED: u32 = 2;
+
 /// Whether each of the tree's variables is bound, or among the n next outside: where the table knows.
 pub(crate) fn is_within(table: &Table, id: Id, n: u64) -> bool
     requires { IsKnown table.now id }
@@ -19,14 +26,11 @@ pub(crate) fn is_within(table: &Table, id: Id, n: u64) -> bool
     reach < u32::MAX && u64::from(reach) <= n
 }
 
-/// Whether it is a variable.
-fn is_variable(table: &Table, id: Id) -> bool
+/// Whether the tree is not higher than so many.
+fn is_low(table: &Table, id: Id, most: u32) -> bool
     requires { IsKnown table.now id }
 {
-    match table.node(id) {
-        Node::Var(_) => true,
-        _ => false,
-    }
+    table.height(id) <= most
 }
 
 /// Whether x is the furthest variable outside the tree: where the table knows. Then it occurs.
@@ -60,10 +64,14 @@ pub(crate) fn shift_at(
     if is_within(table, id, from) {
         return Ok(Some(id));
     }
-    if is_variable(table, id) {
+    if is_low(table, id, MOST_UNCOUNTED) {
         return shift_parts(table, memo, id, by, from);
     }
-    let question = Question::Shift(number(id), by, from);
+    if is_low(table, id, MOST_WITHOUT_ROW) {
+        memo.spend()?;
+        return shift_parts(table, memo, id, by, from);
+    }
+    let question = Question::Shift(by, from, number(id));
     if let Some(atom) = memo.find(table, &question) {
         return Ok(Some(atom.term));
     }
@@ -202,10 +210,14 @@ pub(crate) fn lower_at(
     if is_furthest(table, id, x) {
         return Ok(None);
     }
-    if is_variable(table, id) {
+    if is_low(table, id, MOST_UNCOUNTED) {
         return lower_parts(table, memo, id, x);
     }
-    let question = Question::Lower(number(id), x);
+    if is_low(table, id, MOST_WITHOUT_ROW) {
+        memo.spend()?;
+        return lower_parts(table, memo, id, x);
+    }
+    let question = Question::Lower(x, number(id));
     if let Some(atom) = memo.find(table, &question) {
         return match atom.met {
             None => Ok(Some(atom.term)),

@@ -1,4 +1,4 @@
-//! What comparisons keep: results of the terms that a walk has now, and of terms that one had before.
+//! What comparisons keep: results of the terms that a walk has now, and of terms of a walk before.
 //!
 //! The parts of many invariants make the same terms again, as where each has one instruction; then
 //! what is alike in the invariants is gone through once.
@@ -118,7 +118,8 @@ fn is_left_alone(
     requires shifts { IsMemo table.now shifts.old }
     requires kept { AreComparisons table.now symbols.now.regs symbols.now.memory kept.old }
     ensures exact { let t = table.now in
-        let put = put_tree (machine_terms_at t symbols.now.regs symbols.now.memory) 0 (tree_at t id) in
+        let terms = machine_terms_at t symbols.now.regs symbols.now.memory in
+        let put = put_tree terms 0 (tree_at t id) in
         IfOk result (λ b. IsTrue b → tree_at t goal ≡ put) }
     ensures shifts { IsMemo table.now shifts.new }
     ensures kept { AreComparisons table.now symbols.now.regs symbols.now.memory kept.new }
@@ -145,7 +146,8 @@ pub(crate) fn is_put_by(
     requires shifts { IsMemo table.old shifts.old }
     requires kept { AreComparisons table.old symbols.now.regs symbols.now.memory kept.old }
     ensures exact { let t = table.old in
-        let put = put_tree (machine_terms_at t symbols.now.regs symbols.now.memory) 0 (tree_at t id) in
+        let terms = machine_terms_at t symbols.now.regs symbols.now.memory in
+        let put = put_tree terms 0 (tree_at t id) in
         IfOk result (λ b. IsTrue b ↔ (tree_at t goal ≡ put)) }
     ensures extends { Extends table.old table.new }
     ensures shifts { IsMemo table.new shifts.new }

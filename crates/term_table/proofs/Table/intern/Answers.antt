@@ -94,7 +94,9 @@ invariant_of-self-2 c =
     subst (λ k. PartsBelow k c.args.node) (ap (λ (t : TableView). length t.trees) (sym c.self.view_is) ∙ length-entry_trees items) c.requires
     in
     let measured : IsMeasured (counts_of c.self.inside.places) (node_tree_in (entry_trees items) c.args.node) e = rw c.as_slice.ensures.value at c.entry_of-entry.ensures.measured in
-    let put : (q : Key) → get cmp c.insert.new.self q ≡ cond (eq_by_cmp cmp c.key_of.result q) (Some c.len.result) (get cmp c.self.inside.index q) = c.in_ok-insert.ensures.updates.0 in
+    let put : (q : Key) →
+    get cmp c.insert.new.self q ≡ cond (eq_by_cmp cmp c.key_of.result q) (Some c.len.result) (get cmp c.self.inside.index q) = c.in_ok-insert.ensures.updates.0
+    in
     rw more (entries-push (counts_of c.self.inside.places) items e same_key (λ q. get cmp c.self.inside.index (key_of q)) _ decides c.self.invariant (rw node parts) (rw node c.numbers.ensures) (rw node none)
     (subst (λ z. IsMeasured (counts_of c.self.inside.places) (node_tree_in (entry_trees items) z) e) (sym node) measured)
     (λ q. put (key_of q) ∙ row_is _ _ _ q _ _ _ key node n))
