@@ -179,7 +179,7 @@ right_is Store z = refl
 
 -- a right as a hypothesis
 pub hyp-right : (prove : Prover) (out : ℕ) (Γ : Hyps) (k : class.Access) (a : Exp) (given : Access) (z : Exp) (h : Tree) →
-    class.by_hyp prove out Γ k a (right_form given z) h ≡ bind (class.address_of k (right_form given z)) (λ z. class.moved out k a z h)
+    class.by_hyp prove out Γ k a (right_form given z) h ≡ bind (class.right_address k (right_form given z)) (λ z. class.moved out k a z h)
 hyp-right prove out Γ k a Load z h = refl
 hyp-right prove out Γ k a Store z h = refl
 

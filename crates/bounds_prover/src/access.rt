@@ -11,7 +11,7 @@ ghost use Rattle.term_table.specs.Subst.{bind};
 ghost use Rattle.formula_ids.specs.Nodes.{right_form};
 ghost use Rattle.formula_ids.specs.Hypotheses.{AreKnownHyps, AreHyps};
 ghost use Rattle.easy_class.specs.Hypotheses.{Hyps};
-ghost use Rattle.easy_class.specs.Access.{address_of, moved, without_access, by_hyps, by_access};
+ghost use Rattle.easy_class.specs.Access.{right_address, moved, without_access, by_hyps, by_access};
 ghost use Rattle.easy_goals.specs.Provers.{IsProofBy};
 ghost use Rattle.easy_goals.specs.Search.{IsSearch, IsContext, IsAfter};
 ghost use Rattle.bounds_prover.specs.Inside.AccessIds.{access_of, IsHypProof, IsBodyProof};
@@ -88,7 +88,7 @@ fn by_right(
     ensures known { IfOk result (λ o. IfSome o (IsKnown table.new)) }
     ensures exact { (x y : Exp) → tree_at table.old z ≡ exp_encoding x
         → tree_at table.old asked.now.address ≡ exp_encoding y → IfOk result (Stands table.new
-        (bind (address_of (access_of asked.now.access) (right_form given x)) (λ a.
+        (bind (right_address (access_of asked.now.access) (right_form given x)) (λ a.
         moved context.now.outside (access_of asked.now.access) y a (tree_at table.old proof)))) }
     ensures extends { Extends table.old table.new }
     ensures search { OnOk result (IsSearch table.new search.new) }

@@ -10,7 +10,7 @@ ghost use Rattle.formula_tree.specs.Formulas.{Exp, EVar};
 ghost use Rattle.formula_terms.specs.Encoding.{exp_encoding, form_encoding};
 ghost use Rattle.formula_ids.specs.Nodes.{right_form};
 ghost use Rattle.formula_ids.specs.Puts.{IsExpPut, IsFormPut};
-ghost use Rattle.easy_class.specs.Access.{access_form, address_of, moved, same_address, access_move};
+ghost use Rattle.easy_class.specs.Access.{access_form, right_address, moved, same_address, access_move};
 ghost use Rattle.easy_goals.specs.Search.{IsSearch};
 ghost use Rattle.bounds_prover.specs.Inside.AccessIds.{access_of};
 
@@ -23,7 +23,7 @@ use term_table::{Id, Node, Table};
 
 /// Whether the access that is given is the one that is asked for.
 pub(crate) fn is_asked(asked: Access, given: Access) -> bool
-    ensures { (z : Exp) → address_of (access_of asked) (right_form given z)
+    ensures { (z : Exp) → right_address (access_of asked) (right_form given z)
         ≡ if result then Some z else None }
 {
     match asked {

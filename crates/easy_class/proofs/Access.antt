@@ -19,7 +19,7 @@ use Rattle.easy_class.specs.Hypotheses.{Hyps, same_exp}
 use Rattle.easy_class.specs.NormalForms.{normal_form, equal_proof}
 use Rattle.easy_class.specs.Goals.{Prover, by_words_alone}
 use Rattle.easy_class.specs.Parts.{levels}
-use Rattle.easy_class.specs.Access.{Access, Load, Store, access_form, address_of, Side, Left, Right, down, same_address, access_move, moved, Opened, opening_of, opened_by, opened_with, opened_at, from_side, first_way, first_opened, granted, granted_by, by_grant, has_var, summands, literal, without, all_without, sum_with, rest_of, eighth, instance_of, by_hyp, by_hyps, by_access, without_access, by_all_means}
+use Rattle.easy_class.specs.Access.{Access, Load, Store, access_form, right_address, Side, Left, Right, down, same_address, access_move, moved, Opened, opening_of, opened_by, opened_with, opened_at, from_side, first_way, first_opened, granted, granted_by, by_grant, has_var, summands, literal, without, all_without, sum_with, rest_of, eighth, instance_of, by_hyp, by_hyps, by_access, without_access, by_all_means}
 use Rattle.easy_class.proofs.Proved.{Proves, IsHyp, AreHyps}
 use Rattle.easy_class.proofs.Uses.{rule_proves, stays_now}
 use Rattle.easy_class.proofs.Named.{all_e_proves, move_proves}
@@ -55,7 +55,7 @@ over_right ctx Load z h = h
 over_right ctx Store z h = h
 
 -- the formula is the right at its address
-pub address_is : (k : Access) (A : Form) (z : Exp) → address_of k A ≡ Some z → A ≡ access_form k z
+pub address_is : (k : Access) (A : Form) (z : Exp) → right_address k A ≡ Some z → A ≡ access_form k z
 address_is Load (FRd a) z q = ap FRd (some_injective q)
 address_is Store (FWr a) z q = ap FWr (some_injective q)
 address_is k _ z q = cc
@@ -79,8 +79,8 @@ first_opens k f (FAnd A B) x q = go (first_opened k f A) (first_opened k f B) q 
     go None (Some y) q l r = subst (Opens k f (FAnd A B)) (some_injective q) (r y refl)
     go None None q l r = cc
 first_opens k f A x q =
-    let y = map_some (bind (address_of k A) f) (λ (o : Opened). ([], o)) x q in
-    let z = bind_some (address_of k A) f y.0 y.1 in
+    let y = map_some (bind (right_address k A) f) (λ (o : Opened). ([], o)) x q in
+    let z = bind_some (right_address k A) f y.0 y.1 in
     subst (Opens k f A) y.2 (z.0, address_is k A z.0 z.1, z.2)
 
 -- when an address opens
@@ -248,7 +248,7 @@ module _ (e d : ℕ) (room : e + (d + d + d) + 16 ≤ 2 ^ 32) (some : 0 < d) (k 
     by_hyp_says m a oa (FImp P Q) h t i q = by_imp_says m a oa P Q h t i.over i.nesting (stays_now (e + d) k ctx (form_encoding (FImp P Q)) h i.stays) q
     by_hyp_says m a oa (FAll (FImp P Q)) h t i q = by_all_says m a oa P Q h t i.over i.nesting (stays_now (e + d) k ctx (form_encoding (FAll (FImp P Q))) h i.stays) q
     by_hyp_says m a oa A h t i q =
-        let x = bind_some (address_of m A) (λ z. moved out m a z h) t q in
+        let x = bind_some (right_address m A) (λ z. moved out m a z h) t q in
         let is = address_is m A x.0 x.1 in
         moved_says out m a x.0 h t oa (over_right ctx m x.0 (subst (λ B. Over B ctx) is i.over))
         (subst (λ B. Says B h) is (stays_now (e + d) k ctx (form_encoding A) h i.stays)) x.2

@@ -9,7 +9,7 @@ use Rattle.formula_terms.specs.ProofTerms.{ff_e, and_i, or_l, or_r, imp_i, all_i
 use Rattle.easy_class.specs.Hypotheses.{Hyps, find_hyp, raised_hyps, split_hyps, with_new}
 use Rattle.easy_class.specs.Goals.{first_of, absurdity, Prover, by_shape, goal_proof, aligned_form, alignment_proof, by_aligned, ule_by, ult_by, by_bounds, by_normal, by_words_alone}
 use Rattle.easy_class.specs.Parts.{levels, part_proof}
-use Rattle.easy_class.specs.Access.{Access, Load, Store, address_of, same_address, access_move, moved, opened_at, first_opened, granted_by, by_grant, by_hyp, by_hyps, by_access, without_access, by_all_means}
+use Rattle.easy_class.specs.Access.{Access, Load, Store, right_address, same_address, access_move, moved, opened_at, first_opened, granted_by, by_grant, by_hyp, by_hyps, by_access, without_access, by_all_means}
 use Rattle.easy_class.specs.Repeats.{Adding, with_repeats, by_shape_adding, goal_proof_adding, without_access_adding, by_all_means_adding, part_proof_adding}
 use Rattle.easy_class.proofs.Repeats.{IsUse, find_use, first_use, absurdity_use, raised_use, new_same, new_use}
 use Rattle.easy_class.proofs.RepeatedBounds.{upper_use, lower_use}
@@ -102,7 +102,7 @@ if_none false p q e = refl
 hyp_none : (f : Prover) (out : ℕ) (Γ : Hyps) (k : Access) (a : Exp) (A : Form) (p q : Tree) → by_hyp f out Γ k a A p ≡ None → by_hyp f out Γ k a A q ≡ None
 hyp_none f out Γ k a (FImp P Q) p q e = map_none (first_opened k (opened_at f false out Γ a P) Q) (granted_by false out k a P Q p) (granted_by false out k a P Q q) e
 hyp_none f out Γ k a (FAll (FImp P Q)) p q e = map_none (first_opened k (opened_at f true out Γ a P) Q) (granted_by true out k a P Q p) (granted_by true out k a P Q q) e
-hyp_none f out Γ k a A p q e = bind_none (address_of k A) (λ z. moved out k a z p) (λ z. moved out k a z q) (λ z. if_none (same_address out z a) (access_move out k z a p) (access_move out k z a q)) e
+hyp_none f out Γ k a A p q e = bind_none (right_address k A) (λ z. moved out k a z p) (λ z. moved out k a z q) (λ z. if_none (same_address out z a) (access_move out k z a p) (access_move out k z a q)) e
 
 module _ (f : Prover) (t : Takes f) where
   hyps_take : (out : ℕ) (k : Access) (a : Exp) → IsUse (λ Γ. by_hyps f out Γ k a Γ)

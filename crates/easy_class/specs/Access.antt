@@ -23,10 +23,10 @@ access_form Load a = FRd a
 access_form Store a = FWr a
 
 -- the address, where the formula is this right
-abbrev pub address_of : Access → Form → Option Exp
-address_of Load (FRd a) = Some a
-address_of Store (FWr a) = Some a
-address_of k A = None
+abbrev pub right_address : Access → Form → Option Exp
+right_address Load (FRd a) = Some a
+right_address Store (FWr a) = Some a
+right_address k A = None
 
 -- a way down through conjunctions
 pub data Side : Type 0 where
@@ -148,7 +148,7 @@ first_way (Some x) o = Some x
 -- what f opens first of the addresses that are reached through conjunctions alone, from the left, with its way
 abbrev pub first_opened : Access → (Exp → Option Opened) → Form → Option (List Side × Opened)
 first_opened k f (FAnd A B) = first_way (from_side Left (first_opened k f A)) (from_side Right (first_opened k f B))
-first_opened k f A = no_way (bind (address_of k A) f)
+first_opened k f A = no_way (bind (right_address k A) f)
 
 -- access to a from (imp P Q) by h, by what opened at the end of the way
 abbrev pub granted : ℕ → Access → Exp → Form → Form → Tree → List Side × Opened → Tree
@@ -167,7 +167,7 @@ by_grant prove quantified out Γ k a P Q h = option_map (granted_by quantified o
 abbrev pub by_hyp : Prover → ℕ → Hyps → Access → Exp → Form → Tree → Option Tree
 by_hyp without_access out Γ k a (FImp P Q) h = by_grant without_access false out Γ k a P Q h
 by_hyp without_access out Γ k a (FAll (FImp P Q)) h = by_grant without_access true out Γ k a P Q h
-by_hyp without_access out Γ k a A h = bind (address_of k A) (λ z. moved out k a z h)
+by_hyp without_access out Γ k a A h = bind (right_address k A) (λ z. moved out k a z h)
 
 -- by the first hypothesis that gives it
 abbrev pub by_hyps : Prover → ℕ → Hyps → Access → Exp → Hyps → Option Tree

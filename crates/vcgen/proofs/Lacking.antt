@@ -10,9 +10,9 @@ use Rattle.lf_signature.specs.Laws.Booleans.{both}
 use Rattle.lf_encode.specs.PutTree.{MachineTerms, put_for, put_tree}
 use Rattle.vcgen.specs.declared.uses.Place.{Place}
 use Rattle.vcgen.specs.declared.uses.Uses.{Uses}
-use Rattle.vcgen.specs.Inside.Uses.{Lacks, IsIdle, AreIdleFrom, IsRow, AreUses}
+use Rattle.vcgen.specs.Inside.Uses.{IsFreeOf, IsIdle, AreIdleFrom, IsRow, AreUses}
 
-pub scoped-lacks : (n : ℕ) (t : Tree) → is_scoped n t ≡ true → Lacks n t
+pub scoped-lacks : (n : ℕ) (t : Tree) → is_scoped n t ≡ true → IsFreeOf n t
 scoped-lacks n (Var m) h = λ e. absurd (omega (arith, ltb-true m n h, e))
 scoped-lacks n (Con c) h = tt
 scoped-lacks n (App f a) h = let q = both _ _ (both _ _ h).1 in (scoped-lacks n f q.0, scoped-lacks n a q.1)
@@ -23,7 +23,7 @@ scoped-lacks n (Pi a b) h = tt
 
 -- each of the machine's variables stands for itself, or doesn't occur where d variables are nearer
 abbrev pub AreIdle : MachineTerms → ℕ → Tree → Type 0
-AreIdle p d t = (k : ℕ) → k < 32 → (put_for p k ≡ Var k) ⊎ Lacks (k + d) t
+AreIdle p d t = (k : ℕ) → k < 32 → (put_for p k ≡ Var k) ⊎ IsFreeOf (k + d) t
 
 near : (p : MachineTerms) (d k : ℕ) → k < d → put_tree p d (Var k) ≡ Var k
 near p d k h = ap (λ b. cond b (Var k) (shift d 0 (put_for p (k - d)))) (lt-ltb k d h)
@@ -45,10 +45,10 @@ variable-stays p d n h idle =
           ]
     ]
 
-lacks-under : (k d : ℕ) (b : Tree) → Lacks (suc (k + d)) b → Lacks (k + suc d) b
+lacks-under : (k d : ℕ) (b : Tree) → IsFreeOf (suc (k + d)) b → IsFreeOf (k + suc d) b
 lacks-under k d b h =
     let same : suc (k + d) ≡ k + suc d = omega arith in
-    subst (λ n. Lacks n b) same h
+    subst (λ n. IsFreeOf n b) same h
 
 pub stays : (p : MachineTerms) (d : ℕ) (t : Tree) → is_scoped (32 + d) t ≡ true → AreIdle p d t → put_tree p d t ≡ t
 stays p d (Var n) h idle = variable-stays p d n (ltb-true n (32 + d) h) idle
@@ -73,8 +73,8 @@ stays_whole p t h idle =
     let each : AreIdle p 0 t = λ k l. elim (idle k (omega arith) l) [ inl e ↦ inl e | inr e ↦ inr (lacks-at k t e) ] in
     stays p 0 t (subst (λ n. is_scoped n t ≡ true) room h) each
   where
-    lacks-at : (k : ℕ) (t : Tree) → Lacks k t → Lacks (k + 0) t
-    lacks-at k t h = let same : k ≡ k + 0 = omega arith in subst (λ n. Lacks n t) same h
+    lacks-at : (k : ℕ) (t : Tree) → IsFreeOf k t → IsFreeOf (k + 0) t
+    lacks-at k t h = let same : k ≡ k + 0 = omega arith in subst (λ n. IsFreeOf n t) same h
 
 pub idle_none : (p : MachineTerms) (t : Tree) (k : ℕ) → 32 ≤ k → AreIdleFrom k p t
 idle_none p t k h = λ j l m. absurd (omega (arith, h, l, m))
@@ -90,7 +90,7 @@ pub uses-more : (uses : Uses) (t u : TableView) → AreUses t uses → Extends t
 uses-more uses t u h e = record {
   each = λ place lacks i.
       let row = h.each place lacks i in
-      (omega (arith, row.0, e.longer), λ b. subst (Lacks place.variable) (sym (e.same place.id row.0)) (row.1 b));
+      (omega (arith, row.0, e.longer), λ b. subst (IsFreeOf place.variable) (sym (e.same place.id row.0)) (row.1 b));
 }
 
 -- one answer more

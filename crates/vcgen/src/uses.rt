@@ -7,7 +7,7 @@ ghost use Rattle.term_table.specs.Table.{TableView, IsKnown, tree_at};
 ghost use Rattle.hereditary_subst.specs.Kept.{IsMemo};
 ghost use Rattle.lf_encode.specs.PutTree.{machine_terms_at, put_tree};
 ghost use Rattle.lf_encode.specs.Kept.{AreMachineTerms};
-ghost use Rattle.vcgen.specs.Inside.Uses.{Lacks, IsIdle, AreIdleFrom, IsRow, AreUses};
+ghost use Rattle.vcgen.specs.Inside.Uses.{IsFreeOf, IsIdle, AreIdleFrom, IsRow, AreUses};
 
 use crate::symbols::Symbols;
 use hereditary_subst::{Exhausted, Memo};
@@ -94,7 +94,7 @@ pub(crate) fn lacks(
     requires room { variable + id < 2 ^ 64 }
     requires shifts { IsMemo table.now shifts.old }
     requires uses { AreUses table.now uses.old }
-    ensures lacks { IfOk result (λ b. IsTrue b → Lacks variable (tree_at table.now id)) }
+    ensures lacks { IfOk result (λ b. IsTrue b → IsFreeOf variable (tree_at table.now id)) }
     ensures shifts { IsMemo table.now shifts.new }
     ensures uses { AreUses table.now uses.new }
 {
@@ -126,7 +126,7 @@ fn lacks_both(
     requires room { variable + id < 2 ^ 64 }
     requires shifts { IsMemo table.now shifts.old }
     requires uses { AreUses table.now uses.old }
-    ensures lacks { IfOk result (λ b. IsTrue b → Lacks variable (tree_at table.now id)) }
+    ensures lacks { IfOk result (λ b. IsTrue b → IsFreeOf variable (tree_at table.now id)) }
     ensures shifts { IsMemo table.now shifts.new }
     ensures uses { AreUses table.now uses.new }
 {

@@ -9,18 +9,18 @@ use Rattle.vcgen.specs.declared.uses.Uses.{Uses}
 use Rattle.vcgen.specs.contracts.uses.PlaceOrd.TheImpl as block
 
 -- the variable doesn't occur in the term; types, which no term holds, count for nothing
-abbrev pub Lacks : ℕ → Tree → Type 0
-Lacks n (Var m) = m ≢ n
-Lacks n (Con c) = Unit {0}
-Lacks n (App f a) = Lacks n f × Lacks n a
-Lacks n (Lam b) = Lacks (suc n) b
-Lacks n (Fam a) = Unit {0}
-Lacks n (TApp q a) = Unit {0}
-Lacks n (Pi a b) = Unit {0}
+abbrev pub IsFreeOf : ℕ → Tree → Type 0
+IsFreeOf n (Var m) = m ≢ n
+IsFreeOf n (Con c) = Unit {0}
+IsFreeOf n (App f a) = IsFreeOf n f × IsFreeOf n a
+IsFreeOf n (Lam b) = IsFreeOf (suc n) b
+IsFreeOf n (Fam a) = Unit {0}
+IsFreeOf n (TApp q a) = Unit {0}
+IsFreeOf n (Pi a b) = Unit {0}
 
 -- the machine's variable stands for itself, or doesn't occur
 abbrev pub IsIdle : ℕ → MachineTerms → Tree → Type 0
-IsIdle k p t = (put_for p k ≡ Var k) ⊎ Lacks k t
+IsIdle k p t = (put_for p k ≡ Var k) ⊎ IsFreeOf k t
 
 -- so does each of the machine's variables from this one on
 abbrev pub AreIdleFrom : ℕ → MachineTerms → Tree → Type 0
@@ -28,7 +28,7 @@ AreIdleFrom k p t = (j : ℕ) → k ≤ j → j < 32 → IsIdle j p t
 
 -- of a kept answer: where it is true, the place's term lacks the place's variable
 abbrev pub IsRow : TableView → Place → Bool → Type 0
-IsRow t place lacks = IsKnown t place.id × (lacks ≡ true → Lacks place.variable (tree_at t place.id))
+IsRow t place lacks = IsKnown t place.id × (lacks ≡ true → IsFreeOf place.variable (tree_at t place.id))
 
 -- each kept answer is right
 pub record AreUses (t : TableView) (uses : Uses) : Type 0 where
