@@ -180,7 +180,8 @@ fn assembled_as<'a>(alloc: Global, policy: &Policy, source: &Source) -> Result<V
 /// The same of the source that the text spells.
 pub fn assembled_in<'a>(alloc: Global, policy: &Policy, text: &[u8]) -> Result<Vec<u8>, Stop<'a>>
     requires short { length text.now ≤ MAX_SOURCE }
-    ensures { GivesPure (λ bytes. bytes.items) (assembling.assembled_in policy.now text.now) result }
+    ensures { GivesPure (λ bytes. bytes.items)
+        (assembling.assembled_in policy.now text.now) result }
 {
     let source = match source_in(alloc, text) {
         Ok(source) => source,
