@@ -1,6 +1,4 @@
-pub mod AccessRows
 mod Measures
 mod Writable
-mod Heights
-mod SmallTerms
+pub mod SmallTerms
 mod Making

@@ -1,4 +1,4 @@
--- The container that is made: what it holds, that its proof is one, and that it is accepted.
+-- The container that is made: what it holds, and that it is accepted.
 use Rattle.std.proofs.Common.{◌≡◌, ℕ, ◌≤◌, ◌^◌, Bool, List, [], ◌∷◌, ◌++◌, map, length, Option, Some, None, Ok, Err, refl, sym, ◌∙◌, ap, subst, arith}
 use Rattle.std.proofs.lemmas.List.Elements.{All-nil, All-cons, All-head, All-tail}
 use Rattle.alpha_words.specs.declared.insn.Insn.{Insn}
@@ -38,26 +38,11 @@ use Rattle.easy_class.specs.Parts.{conjoined, condition_proof, first_not_easy}
 use Rattle.easy_class.specs.Access.{by_all_means}
 use Rattle.bounds_prover.specs.declared.fault.ProveFault.{ProveFault}
 use Rattle.bounds_prover.specs.declared.fault.ProveFault.TheVariants.{Refused, NotEasy}
-use Rattle.bounds_prover.specs.Proving.{condition_parts, with_proof, excess, encoded_unless, with_parts_proof, proved_contents, proved_code, proved_read, made_unless, proved_container}
+use Rattle.condition_prover.specs.Conditions.{condition_parts}
+use Rattle.condition_prover.proofs.WholeProof.{IsSoundClass, condition-parts, proof-checks}
+use Rattle.bounds_prover.specs.Proving.{with_proof, excess, encoded_unless, with_parts_proof, proved_contents, proved_code, proved_read, made_unless, proved_container}
 use Rattle.bounds_prover.proofs.Measures.{IsSmallEnough, small-enough}
-use Rattle.bounds_prover.proofs.Heights.{parts-low}
 use Rattle.bounds_prover.proofs.SmallTerms.{checks-small}
-
--- ---- the condition is its parts
-
-conjoined-parts : (c : AnnotatedCode) (ps : List (ℕ × Form)) → inv_parts c ps ≡ conjoined (map (inv_part c) ps)
-conjoined-parts c [] = refl
-conjoined-parts c (p ∷ ps) = ap (FAnd (inv_part c p)) (conjoined-parts c ps)
-
-pub condition-parts : (policy : PolicyKind) (code : List Insn) (invs : List (ℕ × Tree)) → condition (annotated policy code (formulas invs)) ≡ conjoined (condition_parts policy code invs)
-unfolding condition_parts
-condition-parts policy code invs =
-    let c = annotated policy code (formulas invs) in
-    ap (FAnd (entry_part c)) (conjoined-parts c c.invs)
-
--- the encoding of a condition is that of its parts
-pub encodes-parts : (policy : PolicyKind) (code : List Insn) (invs : List (ℕ × Tree)) (vc : Tree) → AreForms invs → EncodesCondition policy code invs vc → vc ≡ form_encoding (conjoined (condition_parts policy code invs))
-encodes-parts policy code invs vc forms e = condition-one policy code invs vc forms e ∙ ap form_encoding (condition-parts policy code invs)
 
 -- ---- contents with another proof
 
@@ -78,36 +63,23 @@ same_invs c l p e = λ i. record { policy = c.policy; code = c.code; invs = e i;
 
 -- ---- the proof of a condition that passed
 
--- what the class gives a closed condition is a proof
-abbrev pub IsSoundClass : Type 0
-IsSoundClass =
-    (parts : List Form) (p : Tree) → IsOver 0 (conjoined parts) [] → form_height (conjoined parts) ≤ 2 ^ 29 → condition_proof by_all_means parts ≡ Some p → Checks declared [] p (pf (form_encoding (conjoined parts)))
-
 module _ (sound : IsSoundClass) (policy : PolicyKind) (bytes : List ℕ) (c : Contents) (code : List Insn) (marks : List Bool) (passes : Passes policy bytes c code marks) where
-  parts-closed : IsOver 0 (conjoined (condition_parts policy code c.invs)) []
-  parts-closed =
-      let a = annotated policy code (formulas c.invs) in
-      let encoded = formulas-encoded c.invs passes.forms in
-      let is = encoded-annotates policy code c.invs (formulas c.invs) marks encoded passes.code passes.annotated passes.cut in
-      subst (λ F. IsOver 0 F []) (condition-parts policy code c.invs) (condition-closed a is refl (formulas-over c.invs (formulas c.invs) encoded))
-
   module _ (p : Tree) (given : condition_proof by_all_means (condition_parts policy code c.invs) ≡ Some p) (low : height_of p ≤ MAX_HEIGHT) where
-    proof-checks : Checks declared [] p (pf (form_encoding (conjoined (condition_parts policy code c.invs))))
-    proof-checks =
-        let parts = condition_parts policy code c.invs in
-        sound parts p parts-closed (parts-low by_all_means parts p given low) given
+    checks : Checks declared [] p (pf (form_encoding (conjoined (condition_parts policy code c.invs))))
+    checks =
+        proof-checks sound policy code c.invs marks passes.forms passes.code passes.annotated passes.cut p given low
 
     pub made-contents : length (entries (roots (with_proof c p))) ≤ MAX_ENTRIES → IsContents (with_proof c p)
     made-contents few =
         let h = passes.container.contents in
-        let small : IsSmall p = checks-small proof-checks (omega (arith, low)) in
+        let small : IsSmall p = checks-small checks (omega (arith, low)) in
         record {
           policy = h.policy;
           bytes = h.bytes;
           whole = h.whole;
           some = h.some;
           short = h.short;
-          terms = terms_with (map (λ p. p.1) c.invs) (one_or_none c.proof) p h.terms (is_term proof-checks) small;
+          terms = terms_with (map (λ p. p.1) c.invs) (one_or_none c.proof) p h.terms (is_term checks) small;
           entries = few;
           invs = h.invs;
           rising = h.rising;
@@ -115,7 +87,7 @@ module _ (sound : IsSoundClass) (policy : PolicyKind) (bytes : List ℕ) (c : Co
 
   made-accepts : (p : Tree) → condition_proof by_all_means (condition_parts policy code c.invs) ≡ Some p → IsSmallEnough (with_proof c p) p → Accepts policy (encoding_of (with_proof c p)) (with_proof c p) code marks
   made-accepts p given s =
-      let checks = proof-checks p given s.height in
+      let proved = checks p given s.height in
       record {
         passes = record {
           size = s.bytes;
@@ -134,7 +106,7 @@ module _ (sound : IsSoundClass) (policy : PolicyKind) (bytes : List ℕ) (c : Co
         given = refl;
         weight = s.weight;
         condition = vc_of-encodes policy code c.invs passes.forms;
-        proved = subst (λ F. Checks declared [] p (pf (form_encoding F))) (sym (condition-parts policy code c.invs)) checks;
+        proved = subst (λ F. Checks declared [] p (pf (form_encoding F))) (sym (condition-parts policy code c.invs)) proved;
       }
 
 -- ---- what is made of parts

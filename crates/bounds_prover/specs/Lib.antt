@@ -1,4 +1,3 @@
 pub mod Names
 pub mod Proving
 pub mod ProvedLaws
-pub mod Inside

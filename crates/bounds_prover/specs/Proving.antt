@@ -13,25 +13,18 @@ use Rattle.proof_container.specs.Postorder.{entries}
 use Rattle.proof_container.specs.Encoding.{encoding_of}
 use Rattle.proof_container.specs.Decoding.{Fault, decoded_container}
 use Rattle.proof_container.specs.declared.limits.TheConstants.{MAX_BYTES, MAX_ENTRIES}
-use Rattle.vcgen.specs.Conditions.{entry_part, inv_part}
-use Rattle.vcgen.specs.Encoded.{annotated}
 use Rattle.vcgen.specs.declared.condition.TheConstants.{MAX_HEIGHT}
-use Rattle.pcc_gate.specs.First.{formulas, front_refusal}
+use Rattle.pcc_gate.specs.First.{front_refusal}
 use Rattle.pcc_gate.specs.declared.limits.TheConstants.{MAX_WEIGHT}
 use Rattle.pcc_gate.specs.declared.refusal.Refusal.{Refusal}
 use Rattle.pcc_gate.specs.declared.refusal.Refusal.TheVariants as refusal
 use Rattle.easy_class.specs.Parts.{condition_proof, first_not_easy}
 use Rattle.easy_class.specs.Access.{by_all_means}
+use Rattle.condition_prover.specs.Conditions.{condition_parts}
 use Rattle.bounds_prover.specs.declared.fault.Measure.{Measure}
 use Rattle.bounds_prover.specs.declared.fault.Measure.TheVariants.{Weight, Height, Entries, Bytes}
 use Rattle.bounds_prover.specs.declared.fault.ProveFault.{ProveFault}
 use Rattle.bounds_prover.specs.declared.fault.ProveFault.TheVariants.{Refused, NotEasy, TooBig, Memory, Results}
-
--- the parts of the verification condition: the entry's, then each invariant's
-unfoldable pub condition_parts : PolicyKind → List Insn → List (ℕ × Tree) → List Form
-condition_parts policy code invs =
-    let c = annotated policy code (formulas invs) in
-    entry_part c ∷ map (inv_part c) c.invs
 
 -- the contents with this proof in place of theirs
 abbrev pub with_proof : Contents → Tree → Contents

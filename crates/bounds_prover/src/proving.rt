@@ -1,86 +1,32 @@
 //! Containers with a proof of their condition.
 
 ghost use Rattle.std.specs.Prelude.{◌≡◌, ◌≤◌, map, length, IfOk};
-ghost use Rattle.alpha_cfg.specs.Cuts.{AreFlags, unfolded_of};
-ghost use Rattle.term_table.specs.Table.{IsKnown, tree_at, Extends, id_trees};
+ghost use Rattle.term_table.specs.Table.{IsKnown, tree_at};
 ghost use Rattle.term_table.specs.Measures.{height_of, sigma1_places};
-ghost use Rattle.lf_signature.specs.Nodes.{IsIdOf};
-ghost use Rattle.formula_terms.specs.Encoding.{form_encoding};
 ghost use Rattle.proof_container.specs.Contents.{roots};
 ghost use Rattle.proof_container.specs.Postorder.{entries};
 ghost use Rattle.proof_container.specs.Encoding.{IsContents};
 ghost use Rattle.proof_container.specs.Views.{AreKnown, view_contents, contents_of};
 ghost use Rattle.proof_container.specs.declared.limits.TheConstants.{MAX_ENTRIES};
-ghost use Rattle.vcgen.specs.Answers.{AreLowInvs};
-ghost use Rattle.vcgen.specs.Encoded.{AreForms};
-ghost use Rattle.vcgen.specs.declared.condition.TheConstants.{MAX_HEIGHT, MAX_UNFOLDED};
+ghost use Rattle.vcgen.specs.declared.condition.TheConstants.{MAX_HEIGHT};
 ghost use Rattle.pcc_gate.specs.Passing.{Passes};
 ghost use Rattle.pcc_gate.specs.Accepted.{IsAccepted};
 ghost use Rattle.pcc_gate.specs.Answers.{IsHeld};
-ghost use Rattle.easy_class.specs.Parts.{conjoined};
-ghost use Rattle.bounds_prover.specs.Proving.{condition_parts, excess, encoded_unless};
+ghost use Rattle.condition_prover.specs.Conditions.{condition_parts};
+ghost use Rattle.bounds_prover.specs.Proving.{excess, encoded_unless};
 ghost use Rattle.bounds_prover.specs.Proving.{proved_contents, IsMadeAnswer, IsProveAnswer};
-ghost use Rattle.bounds_prover.specs.Inside.Parts.{IsKnownAnswer, IsPartsAnswer};
 
 use crate::fault::{Measure, ProveFault};
-use crate::parts::{Parts, proof_of_parts};
 use crate::theorems::prove_laws;
-use alpha_cfg::Cut;
+use condition_prover::{ConditionProof, prove_condition};
 use easy_class::class_laws;
-use easy_goals::Search;
-use hereditary_subst::{Exhausted, MOST_RESULTS};
+use hereditary_subst::Exhausted;
 use pcc_gate::{GateFault, MAX_WEIGHT, Passed, front};
 use policy_set::Policy;
 use proof_container::{MAX_BYTES, MAX_ENTRIES, View, extent, write};
 use std::alloc::{AllocError, Global};
-use term_table::{Id, Table};
-use vcgen::{MAX_HEIGHT, VcFault, vc};
-
-/// The encoding of the verification condition, its unfolded length being within its limit.
-fn condition_in(
-    table: &mut Table,
-    policy: &Policy,
-    cut: &Cut,
-    invs: &[(u32, Id)],
-) -> Result<Id, Exhausted>
-    requires invs { AreLowInvs table.old invs.now }
-    requires forms { AreForms (id_trees table.old invs.now) }
-    requires marks { AreFlags (map (λ p. p.0) invs.now) (length cut.now.code) cut.now.marks }
-    requires short { unfolded_of cut.now.code cut.now.marks ≤ MAX_UNFOLDED }
-    ensures id { let invs = id_trees table.old invs.now in
-        let parts = condition_parts policy.now cut.now.code invs in
-        IfOk result (IsIdOf table.new (form_encoding (conjoined parts))) }
-    ensures extends { Extends table.old table.new }
-{
-    match vc(table, cut, policy, invs) {
-        Ok(condition) => Ok(condition),
-        Err(VcFault::Memory) => Err(Exhausted::Memory),
-        Err(VcFault::Results) => Err(Exhausted::Results),
-        Err(VcFault::UnfoldLimit(_)) => unreachable!(),
-    }
-}
-
-/// The proof of the verification condition, or its first part that isn't easy.
-fn parts_in(
-    table: &mut Table,
-    policy: &Policy,
-    cut: &Cut,
-    invs: &[(u32, Id)],
-) -> Result<Parts, Exhausted>
-    requires invs { AreLowInvs table.old invs.now }
-    requires forms { AreForms (id_trees table.old invs.now) }
-    requires marks { AreFlags (map (λ p. p.0) invs.now) (length cut.now.code) cut.now.marks }
-    requires short { unfolded_of cut.now.code cut.now.marks ≤ MAX_UNFOLDED }
-    ensures known { IfOk result (IsKnownAnswer table.new) }
-    ensures exact { let invs = id_trees table.old invs.now in
-        IfOk result (IsPartsAnswer table.new 0 (condition_parts policy.now cut.now.code invs)) }
-    ensures extends { Extends table.old table.new }
-{
-    let condition = condition_in(table, policy, cut, invs)?;
-    let mut search = Search::new(table, MOST_RESULTS);
-    let parts = proof_of_parts(table, &mut search, condition, 0)?;
-    Ok(parts)
-}
+use term_table::Id;
+use vcgen::MAX_HEIGHT;
 
 /// The first measure of the proof, or of the contents that the view shows, that is past its limit.
 fn excess(alloc: Global, view: &View<'_>, proof: Id) -> Result<Option<ProveFault>, AllocError>
@@ -151,14 +97,14 @@ fn proved(
     let code = container.code;
     let mut table = container.table;
     let invs = container.invs;
-    let parts = match parts_in(&mut table, policy, &cut, &invs) {
-        Ok(parts) => parts,
+    let found = match prove_condition(&mut table, policy, &cut, &invs) {
+        Ok(found) => found,
         Err(Exhausted::Memory) => return Err(ProveFault::Memory),
         Err(Exhausted::Results) => return Err(ProveFault::Results),
     };
-    match parts {
-        Parts::NotEasy(part) => Err(ProveFault::NotEasy(part)),
-        Parts::Proved(proof) => {
+    match found {
+        ConditionProof::NotEasy(part) => Err(ProveFault::NotEasy(part)),
+        ConditionProof::Proved(proof) => {
             let view = View {
                 policy: number,
                 code,
@@ -193,7 +139,7 @@ fn made(alloc: Global, policy: &Policy, bytes: &[u8]) -> Result<Vec<u8>, ProveFa
 /// proof's weight (`pcc_gate::MAX_WEIGHT`) and height (`vcgen::MAX_HEIGHT`), the container's entries
 /// and bytes (`proof_container::MAX_ENTRIES`, `MAX_BYTES`), with its number. `Memory` and `Results` say
 /// nothing of `bytes`: there was no memory, or the results that the search keeps and the terms that it
-/// makes were more than `MOST_RESULTS`.
+/// makes were more than `condition_prover::MOST_SEARCHED`.
 pub fn prove(alloc: Global, policy: &Policy, bytes: &[u8]) -> Result<Vec<u8>, ProveFault>
     ensures exact { IsProveAnswer policy.now bytes.now result }
     ensures accepted { IfOk result (λ out. IsAccepted policy.now out.items) }

@@ -4,7 +4,7 @@ ghost use Rattle.std.specs.Prelude.{IfOk};
 ghost use Rattle.easy_goals.specs.Search.{IsContext};
 
 use crate::hypotheses::split;
-use bounds_prover::proof_by_access;
+use condition_prover::proof_by_access;
 use easy_goals::{Context, Search, proof_by_words, proof_without_access};
 use hereditary_subst::MOST_RESULTS;
 use term_table::{Id, Table};

@@ -13,18 +13,18 @@ use Rattle.pcc_gate.proofs.Refusing.{keys}
 use Rattle.pcc_gate.proofs.Stages.{low-invs}
 use Rattle.easy_class.specs.Parts.{condition_proof, first_not_easy}
 use Rattle.easy_class.specs.Access.{by_all_means}
-use Rattle.bounds_prover.specs.Proving.{condition_parts, excess, encoded_unless, IsMadeAnswer}
-use Rattle.bounds_prover.specs.Inside.Parts.{IsKnownAnswer, IsPartsAnswer}
+use Rattle.condition_prover.specs.Conditions.{condition_parts, IsKnownAnswer, IsPartsAnswer}
+use Rattle.bounds_prover.specs.Proving.{excess, encoded_unless, IsMadeAnswer}
 use Rattle.bounds_prover.proofs.Making.{same_invs, made-contents, not_easy-made, proof-made}
 use Rattle.bounds_prover.proofs.proving.proved.Goals as goal
 
-pub parts_in-requires-clause-invs : goal.parts_in-requires-clause-invs
-parts_in-requires-clause-invs c =
+pub prove_condition-requires-clause-invs : goal.prove_condition-requires-clause-invs
+prove_condition-requires-clause-invs c =
     let k = c.args.passed.container in
     subst (λ l. AreLowInvs k.table l) (sym c.deref.ensures.value) (low-invs k.table k.invs.items _ c.requires.held.known.0 c.requires.passes.heights)
 
-pub parts_in-requires-clause-marks : goal.parts_in-requires-clause-marks
-parts_in-requires-clause-marks c =
+pub prove_condition-requires-clause-marks : goal.prove_condition-requires-clause-marks
+prove_condition-requires-clause-marks c =
     let k = c.args.passed.container in
     let cut = c.args.passed.cut in
     let same : map (λ p. p.0) (id_trees k.table k.invs.items) ≡ map (λ p. p.0) c.deref.result.now = keys k.table k.invs.items ∙ ap (λ (l : List (ℕ × ℕ)). map (λ (p : ℕ × ℕ). p.0) l) (sym c.deref.ensures.value) in
@@ -34,13 +34,13 @@ pub returns-in-NotEasy : goal.returns-in-NotEasy
 returns-in-NotEasy c =
     let k = c.args.passed.container in
     let parts = λ (l : List (ℕ × ℕ)). condition_parts c.args.policy.now c.args.passed.cut.code (id_trees k.table l) in
-    let answer = subst (IsPartsAnswer c.parts_in.new.table 0 (parts c.deref.result.now)) c.in-NotEasy.is c.in-Ok.ensures.exact in
+    let answer = subst (IsPartsAnswer c.prove_condition.new.table 0 (parts c.deref.result.now)) c.in-NotEasy.is c.in-Ok.ensures.exact in
     not_easy-made (contents_of k) (parts k.invs.items) c.in-NotEasy.part (subst (λ l. first_not_easy by_all_means 0 (parts l) ≡ Some c.in-NotEasy.part) c.deref.ensures.value answer)
 
 pub written-requires-clause-roots : goal.written-requires-clause-roots
 written-requires-clause-roots c =
     let k = c.args.passed.container in
-    let u = c.parts_in.new.table in
+    let u = c.prove_condition.new.table in
     let invs = known-more k.table u k.invs.items c.in-Ok.ensures.extends c.requires.held.known.0 in
     (subst (λ l. AllByRecursion (λ (inv : ℕ × ℕ). IsKnown u inv.1) l) (sym c.deref-in-Proved.ensures.value) invs, subst (IsKnownAnswer u) c.in-Proved.is c.in-Ok.ensures.known)
 
@@ -48,7 +48,7 @@ pub written-requires-clause-contents : goal.written-requires-clause-contents
 written-requires-clause-contents c = λ low few.
     let k = c.args.passed.container in
     let t = k.table in
-    let u = c.parts_in.new.table in
+    let u = c.prove_condition.new.table in
     let ps = k.invs.items in
     let p = tree_at u c.in-Proved.proof in
     let cut = c.args.passed.cut in
@@ -63,7 +63,7 @@ pub returns : goal.returns
 returns c =
     let k = c.args.passed.container in
     let t = k.table in
-    let u = c.parts_in.new.table in
+    let u = c.prove_condition.new.table in
     let ps = k.invs.items in
     let p = tree_at u c.in-Proved.proof in
     let parts = λ (l : List (ℕ × ℕ)). condition_parts c.args.policy.now c.args.passed.cut.code (id_trees t l) in

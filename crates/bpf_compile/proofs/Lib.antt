@@ -1,0 +1,4 @@
+pub mod Bytes
+pub mod Terms
+pub mod Placed
+pub mod Made

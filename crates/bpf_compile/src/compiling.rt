@@ -1,0 +1,87 @@
+//! Programs of classic BPF as accepted containers.
+
+ghost use Rattle.std.specs.Prelude.{◌≡◌, IfOk};
+ghost use Rattle.policy_set.specs.declared.kind.PolicyKind.TheVariants.{Filter};
+ghost use Rattle.bpf_words.specs.Programs.{IsProgram};
+ghost use Rattle.bpf_container.specs.Compiled.{IsCompiled};
+ghost use Rattle.bpf_compile.specs.Compilation.{IsBare, IsCompilation};
+
+use crate::invariants::encode_invs;
+use crate::words::bytes_of;
+use bounds_prover::{ProveFault, prove};
+use bpf_code::bpf_code;
+use bpf_words::Bpf;
+use hereditary_subst::Exhausted;
+use policy_set::{Policy, PolicyKind};
+use proof_container::{View, write};
+use std::alloc::{AllocError, Global};
+use term_table::{Places, Table};
+
+/// The container of a program without a proof. Fails only for want of memory.
+fn bare(alloc: Global, policy: &Policy, program: &[Bpf]) -> Result<Vec<u8>, AllocError>
+    requires policy { policy.now ≡ Filter }
+    requires program { IsProgram program.now }
+    ensures { IfOk result (λ v. IsBare program.now v.items) }
+{
+    bpf_filter::code_laws();
+    bpf_container::laws();
+    let insns = bpf_code(alloc, program)?;
+    let code = bytes_of(alloc, &insns)?;
+    let mut table = Table::new(alloc, Places::sigma1());
+    let invs = encode_invs(alloc, &mut table, policy, program)?;
+    let view = View {
+        policy: policy.number(),
+        code: &code,
+        table: &table,
+        invs: &invs,
+        proof: None,
+    };
+    let bytes = write(alloc, &view)?;
+    Ok(bytes)
+}
+
+/// The container of a program with a proof.
+fn with_proof(
+    alloc: Global,
+    policy: &Policy,
+    program: &[Bpf],
+    bytes: &[u8],
+) -> Result<Vec<u8>, Exhausted>
+    requires policy { policy.now ≡ Filter }
+    requires program { IsProgram program.now }
+    requires bare { IsBare program.now bytes.now }
+    ensures exact { IfOk result (λ out. IsCompilation program.now out.items) }
+    ensures compiled { IfOk result (λ out. IsCompiled program.now out.items) }
+{
+    let _ = program; // only the clauses speak of it
+    bpf_vc::laws();
+    bpf_container::laws();
+    match prove(alloc, policy, bytes) {
+        Ok(out) => Ok(out),
+        Err(ProveFault::Memory) => Err(Exhausted::Memory),
+        Err(ProveFault::Results) => Err(Exhausted::Results),
+        Err(ProveFault::Refused(_)) => unreachable!(),
+        Err(ProveFault::NotEasy(_)) => unreachable!(),
+        Err(ProveFault::TooBig(_, _)) => unreachable!(),
+    }
+}
+
+/// Compiles a program to a container that the gate accepts under `filter`, and whose code returns
+/// 0 on a packet of 64 bytes or more where the program's value is 0, else 1. The container has the
+/// words of the program's code, two invariants an instruction, and the proof that the class of
+/// easy conditions gives.
+///
+/// Errors: `Memory`, where there was no memory, and `Results`, where the search of the proof kept
+/// more results than its limit; they say nothing of `program`. Every program has a container.
+///
+/// Asks for a program, as `bpf_words::read_bpf` promises. Source: McCanne and Jacobson, The BSD
+/// Packet Filter, USENIX 1993.
+pub fn compile(alloc: Global, program: &[Bpf]) -> Result<Vec<u8>, Exhausted>
+    requires { IsProgram program.now }
+    ensures compiled { IfOk result (λ out. IsCompiled program.now out.items) }
+    ensures exact { IfOk result (λ out. IsCompilation program.now out.items) }
+{
+    let policy = Policy::of(alloc, PolicyKind::Filter)?;
+    let bytes = bare(alloc, &policy, program)?;
+    with_proof(alloc, &policy, program, &bytes)
+}

@@ -1,0 +1,55 @@
+//! What holds of the definitions, with nothing to run.
+
+ghost use Rattle.std.specs.Prelude.{◌≡◌, ℕ, List, Ok, Some};
+ghost use Rattle.policy_set.specs.declared.kind.PolicyKind.TheVariants.{Filter};
+ghost use Rattle.term_table.specs.Tree.{Tree};
+ghost use Rattle.proof_container.specs.Encoding.{IsContents, encoding_of};
+ghost use Rattle.pcc_gate.specs.Passing.{Passes};
+ghost use Rattle.easy_class.specs.Access.{by_all_means};
+ghost use Rattle.easy_class.specs.Parts.{condition_proof};
+ghost use Rattle.bounds_prover.specs.Proving.{proved_container, with_proof};
+ghost use Rattle.pcc_asm.specs.Assembling.{plain_contents};
+ghost use Rattle.bpf_words.specs.declared.insn.Bpf.{Bpf};
+ghost use Rattle.bpf_words.specs.Programs.{IsProgram};
+ghost use Rattle.bpf_code.specs.Blocks.{bpf_code};
+ghost use Rattle.bpf_vc.specs.Invariants.{bpf_invariants};
+ghost use Rattle.bpf_vc.specs.Condition.{bpf_flags, bpf_parts};
+ghost use Rattle.bpf_container.specs.Compiled.{IsCompiled};
+ghost use Rattle.bpf_container.specs.Contents.{AreCodeBytes, bpf_contents};
+
+use easy_class::class_laws;
+
+/// What the container of a program holds, with any bytes that encode its code, are contents. Their
+/// encoding passes the clauses of the gate before the proof, with the program's code and the flags
+/// of the words that have an invariant. What `prove` makes of that encoding is the encoding of the
+/// contents with the class's proof. That is accepted under `filter`, and whatever code it is
+/// accepted with gives the program's values. So `prove` makes of it a container that is all this,
+/// and does with the bytes that the assembler writes for the code.
+pub fn laws()
+    ensures contents { (program : List Bpf) (code : List ℕ) → IsProgram program
+        → AreCodeBytes program code → IsContents (bpf_contents program code) }
+    ensures passes { (program : List Bpf) (code : List ℕ) → IsProgram program
+        → AreCodeBytes program code
+        → Passes Filter (encoding_of (bpf_contents program code)) (bpf_contents program code)
+        (bpf_code program) (bpf_flags program) }
+    ensures made { (program : List Bpf) (code : List ℕ) (proof : Tree) → IsProgram program
+        → AreCodeBytes program code
+        → condition_proof by_all_means (bpf_parts program) ≡ Some proof
+        → proved_container Filter (encoding_of (bpf_contents program code))
+        ≡ Ok (encoding_of (with_proof (bpf_contents program code) proof)) }
+    ensures accepted { (program : List Bpf) (code : List ℕ) (proof : Tree) → IsProgram program
+        → AreCodeBytes program code
+        → condition_proof by_all_means (bpf_parts program) ≡ Some proof
+        → IsCompiled program (encoding_of (with_proof (bpf_contents program code) proof)) }
+    ensures compiles { (program : List Bpf) (code : List ℕ) → IsProgram program
+        → AreCodeBytes program code
+        → (out : List ℕ)
+        × (proved_container Filter (encoding_of (bpf_contents program code)) ≡ Ok out)
+        × IsCompiled program out }
+    ensures plain { (program : List Bpf) → IsProgram program
+        → (out : List ℕ) × (proved_container Filter (encoding_of
+        (plain_contents Filter (bpf_invariants program) (bpf_code program))) ≡ Ok out)
+        × IsCompiled program out }
+{
+    class_laws();
+}

@@ -1,0 +1,3 @@
+pub mod FilterStarts
+pub mod Shapes
+pub mod Unfolded

@@ -1,0 +1,67 @@
+//! What holds of the definitions, with nothing to run.
+
+ghost use Rattle.std.specs.Prelude.{◌≡◌, ◌≢◌, ℕ, ◌*◌, ◌<◌, ◌≤◌, Bool, List, length, slice_get, Ok, Some};
+ghost use Rattle.alpha_words.specs.declared.insn.Insn.{Insn};
+ghost use Rattle.alpha_cfg.specs.CodeBytes.{EncodesCode};
+ghost use Rattle.alpha_cfg.specs.CodeDecoding.{decoded_code};
+ghost use Rattle.alpha_cfg.specs.Cuts.{IsCut, StepsTo, unfolded_of};
+ghost use Rattle.alpha_cfg.specs.Flow.{IsCode, jump_of};
+ghost use Rattle.alpha_cfg.specs.Graph.{IsMarked};
+ghost use Rattle.alpha_cfg.specs.declared.outcome.Kind.{Kind};
+ghost use Rattle.alpha_cfg.specs.declared.outcome.Outcome.TheVariants.{Blocked, Returned};
+ghost use Rattle.policy_set.specs.declared.kind.PolicyKind.TheVariants.{Filter};
+ghost use Rattle.reference_machine.specs.declared.layout.TheConstants.{ARENA};
+ghost use Rattle.reference_machine.specs.Starts.{StartView, start_state};
+ghost use Rattle.packet_store.specs.declared.results.PacketResult.TheVariants.{Ran, Short};
+ghost use Rattle.packet_store.specs.PolicyStarts.{start_of};
+ghost use Rattle.packet_store.specs.Results.{packet_result};
+ghost use Rattle.bpf_words.specs.declared.insn.TheConstants.{LOADABLE};
+ghost use Rattle.bpf_words.specs.declared.insn.Bpf.{Bpf};
+ghost use Rattle.bpf_words.specs.Programs.{IsProgram};
+ghost use Rattle.bpf_words.specs.Reading.{AreBytes};
+ghost use Rattle.bpf_words.specs.Values.{bpf_value};
+ghost use Rattle.bpf_code.specs.declared.blocks.TheConstants.{BLOCK};
+ghost use Rattle.bpf_code.specs.Blocks.{bpf_code, nonzero_flag};
+ghost use Rattle.bpf_code.specs.Simulation.{ReturnsValue, StartsOn};
+
+/// The start of `filter` on a packet is a state from which the code of a program is run. So the
+/// code returns 0 where the program's value on the packet is 0, else 1, with 1,000 steps; and that
+/// is what the packet comes to, with twenty steps an instruction or more. Whatever the budget, no
+/// access is blocked. A packet is short where it has less than the 64 bytes that loads may read.
+pub fn laws()
+    ensures starts { (packet : List ℕ) (setup : StartView) → start_of Filter packet ≡ Some setup
+        → StartsOn packet (start_state ARENA setup) }
+    ensures returns { (program : List Bpf) (packet : List ℕ) (setup : StartView)
+        → IsProgram program → AreBytes packet → start_of Filter packet ≡ Some setup
+        → ReturnsValue program packet 1000 (start_state ARENA setup) }
+    ensures outcome { (program : List Bpf) (packet : List ℕ) (budget : ℕ) → IsProgram program
+        → AreBytes packet → LOADABLE ≤ length packet → BLOCK * length program ≤ budget
+        → packet_result Filter (bpf_code program) budget packet
+        ≡ Ran (Returned (nonzero_flag (bpf_value program packet))) 0 }
+    ensures safe { (program : List Bpf) (packet : List ℕ) (budget i a sum : ℕ) (kind : Kind)
+        → IsProgram program → AreBytes packet
+        → packet_result Filter (bpf_code program) budget packet ≢ Ran (Blocked i kind a) sum }
+    ensures short { (code : List Insn) (packet : List ℕ) (budget : ℕ) → length packet < LOADABLE
+        → packet_result Filter code budget packet ≡ Short }
+{}
+
+/// The code of a program is code: at most 1,024 words, each of which some word encodes, branches
+/// inside, and an end that it can't run off; and bytes that encode it are read as it. Each branch
+/// leads to the first word of a block, and each step leads forward; so no cycle is left uncut,
+/// whichever indices are annotated. Where the first word of each block is annotated, the unfolded
+/// length is at most twenty for each flag.
+pub fn code_laws()
+    ensures code { (program : List Bpf) → IsProgram program → IsCode (bpf_code program) }
+    ensures read { (program : List Bpf) (bytes : List ℕ) → IsProgram program
+        → EncodesCode bytes (bpf_code program) → decoded_code bytes ≡ Ok (bpf_code program) }
+    ensures lands { (program : List Bpf) (i j : ℕ) (insn : Insn) → IsProgram program
+        → slice_get (bpf_code program) i ≡ Some insn → jump_of i insn ≡ Some j
+        → (block : ℕ) × (block < length program) × (j ≡ BLOCK * block) }
+    ensures forward { (program : List Bpf) (i j : ℕ) → IsProgram program
+        → StepsTo (bpf_code program) i j → i < j }
+    ensures cut { (program : List Bpf) (marks : List Bool) → IsProgram program
+        → IsCut (bpf_code program) marks }
+    ensures unfolded { (program : List Bpf) (marks : List Bool) → IsProgram program
+        → ((i : ℕ) → i < length program → IsMarked marks (BLOCK * i))
+        → unfolded_of (bpf_code program) marks ≤ BLOCK * length marks }
+{}

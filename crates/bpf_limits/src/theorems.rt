@@ -1,0 +1,22 @@
+//! What holds of the definitions, with nothing to run.
+
+ghost use Rattle.std.specs.Prelude.{◌≡◌, ◌+◌, ◌≤◌, ◌++◌, ◌∷◌, [], List, length, Some};
+ghost use Rattle.term_table.specs.Tree.{Tree};
+ghost use Rattle.proof_container.specs.Postorder.{AreEmitted, entries};
+ghost use Rattle.easy_class.specs.Parts.{condition_proof};
+ghost use Rattle.easy_class.specs.Access.{by_all_means};
+ghost use Rattle.bpf_words.specs.declared.insn.Bpf.{Bpf};
+ghost use Rattle.bpf_words.specs.Programs.{IsProgram};
+ghost use Rattle.bpf_vc.specs.Condition.{bpf_parts};
+ghost use Rattle.entry_limits.specs.Parts.{HoldsParts};
+ghost use Rattle.bpf_limits.specs.declared.limits.TheConstants.{MOST_ENTRIES};
+
+/// From the class's proof of a program's condition, behind other roots, a walk leaves at most
+/// `MOST_ENTRIES` trees, and as many more as a list has that holds the other roots and the parts of
+/// each of its trees.
+pub fn laws()
+    ensures entries { (program : List Bpf) (proof : Tree) (others roots : List Tree)
+        → IsProgram program → condition_proof by_all_means (bpf_parts program) ≡ Some proof
+        → HoldsParts others → AreEmitted others roots
+        → length (entries (roots ++ proof ∷ [])) ≤ MOST_ENTRIES + length others }
+{}

@@ -1,0 +1,3 @@
+pub mod AccessRows
+pub mod Heights
+pub mod WholeProof

@@ -1,0 +1,95 @@
+//! The verification condition of cut code, and its proof.
+//!
+//! Errors: want of memory alone, which more results than the search may keep and the terms that it
+//! makes are too; each id keeps its tree.
+
+ghost use Rattle.std.specs.Prelude.{◌≤◌, map, length, IfOk};
+ghost use Rattle.alpha_cfg.specs.Flow.{IsCode};
+ghost use Rattle.alpha_cfg.specs.Cuts.{AreFlags, IsCut, unfolded_of};
+ghost use Rattle.term_table.specs.Table.{Extends, id_trees};
+ghost use Rattle.lf_signature.specs.Nodes.{IsIdOf};
+ghost use Rattle.formula_terms.specs.Encoding.{form_encoding};
+ghost use Rattle.vcgen.specs.Answers.{AreLowInvs};
+ghost use Rattle.vcgen.specs.Encoded.{AreForms};
+ghost use Rattle.vcgen.specs.declared.condition.TheConstants.{MAX_UNFOLDED};
+ghost use Rattle.easy_class.specs.Parts.{conjoined};
+ghost use Rattle.condition_prover.specs.Conditions.{condition_parts};
+ghost use Rattle.condition_prover.specs.Conditions.{IsKnownAnswer, IsPartsAnswer, IsProofOfParts};
+
+use crate::parts::{ConditionProof, proof_of_parts};
+use alpha_cfg::Cut;
+use easy_class::class_laws;
+use easy_goals::Search;
+use hereditary_subst::Exhausted;
+use policy_set::Policy;
+use term_table::{Id, Table};
+use vcgen::{VcFault, vc};
+
+/// The most results that the search for a proof keeps, with what its terms and steps count as: more
+/// than a check's, since a goal that stands in 2^16 contexts is to be decided in each.
+pub const MOST_SEARCHED: usize = 6_500_000;
+
+/// What is known of cut code.
+fn is_cut_code(cut: &Cut)
+    ensures code { IsCode cut.now.code }
+    ensures cut { IsCut cut.now.code cut.now.marks }
+{
+    let _ = cut.code().insns();
+}
+
+/// The encoding of the verification condition, its unfolded length being within its limit.
+fn condition_in(
+    table: &mut Table,
+    policy: &Policy,
+    cut: &Cut,
+    invs: &[(u32, Id)],
+) -> Result<Id, Exhausted>
+    requires invs { AreLowInvs table.old invs.now }
+    requires forms { AreForms (id_trees table.old invs.now) }
+    requires marks { AreFlags (map (λ p. p.0) invs.now) (length cut.now.code) cut.now.marks }
+    requires short { unfolded_of cut.now.code cut.now.marks ≤ MAX_UNFOLDED }
+    ensures id { let invs = id_trees table.old invs.now in
+        let parts = condition_parts policy.now cut.now.code invs in
+        IfOk result (IsIdOf table.new (form_encoding (conjoined parts))) }
+    ensures extends { Extends table.old table.new }
+{
+    match vc(table, cut, policy, invs) {
+        Ok(condition) => Ok(condition),
+        Err(VcFault::Memory) => Err(Exhausted::Memory),
+        Err(VcFault::Results) => Err(Exhausted::Results),
+        Err(VcFault::UnfoldLimit(_)) => unreachable!(),
+    }
+}
+
+/// Proves the verification condition of cut code under a policy, part by part, where each is easy
+/// (`easy_class`), or names the first part that isn't. `invs` are the annotated indices with the ids
+/// of their invariants, whose terms are formulas and no higher than `vcgen::MAX_HEIGHT`. A proof that
+/// is no higher than that checks at the condition; its weight and height are the table's
+/// (`Table::weight`, `Table::height`).
+///
+/// Fails for want of memory, and by `Results` where the results that the search keeps and the terms
+/// that it makes are more than `MOST_SEARCHED`.
+pub fn prove_condition(
+    table: &mut Table,
+    policy: &Policy,
+    cut: &Cut,
+    invs: &[(u32, Id)],
+) -> Result<ConditionProof, Exhausted>
+    requires invs { AreLowInvs table.old invs.now }
+    requires forms { AreForms (id_trees table.old invs.now) }
+    requires marks { AreFlags (map (λ p. p.0) invs.now) (length cut.now.code) cut.now.marks }
+    requires short { unfolded_of cut.now.code cut.now.marks ≤ MAX_UNFOLDED }
+    ensures known { IfOk result (IsKnownAnswer table.new) }
+    ensures exact { let invs = id_trees table.old invs.now in
+        IfOk result (IsPartsAnswer table.new 0 (condition_parts policy.now cut.now.code invs)) }
+    ensures proves { let invs = id_trees table.old invs.now in
+        IfOk result (IsProofOfParts table.new (condition_parts policy.now cut.now.code invs)) }
+    ensures extends { Extends table.old table.new }
+{
+    class_laws();
+    is_cut_code(cut);
+    let condition = condition_in(table, policy, cut, invs)?;
+    let mut search = Search::new(table, MOST_SEARCHED);
+    let found = proof_of_parts(table, &mut search, condition, 0)?;
+    Ok(found)
+}

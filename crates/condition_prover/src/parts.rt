@@ -1,0 +1,107 @@
+//! The parts of a condition, one after another.
+//!
+//! Errors: want of memory alone, which more results than the search may keep are too; each id keeps
+//! its tree.
+
+ghost use Rattle.std.specs.Prelude.{◌≡◌, ◌<◌, List, IfOk, IfSome, OnOk};
+ghost use Rattle.term_table.specs.Table.{IsKnown, tree_at, Extends, Stands};
+ghost use Rattle.formula_tree.specs.Formulas.{Form};
+ghost use Rattle.formula_terms.specs.Encoding.{form_encoding};
+ghost use Rattle.easy_class.specs.Parts.{conjoined, part_proof};
+ghost use Rattle.easy_class.specs.Access.{by_all_means};
+ghost use Rattle.easy_goals.specs.Search.{IsSearch};
+ghost use Rattle.condition_prover.specs.Conditions.{IsKnownAnswer, IsPartsAnswer};
+ghost use Rattle.condition_prover.specs.Inside.Parts.{AreFirstAndRest};
+
+use crate::all_means::proof_by_all_means;
+use easy_goals::{Context, Search};
+use easy_hyps::Hypotheses;
+use formula_ids::{FormNode, form_node};
+use hereditary_subst::Exhausted;
+use lf_rules::numbers::{AND_I, TT_I};
+use lf_rules::rule_term;
+use term_table::{Id, Table};
+
+/// What is found of a condition.
+pub enum ConditionProof {
+    /// The proof of all parts.
+    Proved(Id),
+    /// The number of the first part that isn't easy: 0 is the entry's, k + 1 that of invariant k.
+    NotEasy(u32),
+}
+
+/// Two formulas that are conjoined.
+#[derive(Clone, Copy)]
+struct Conjunction {
+    first: Id,
+    rest: Id,
+}
+
+/// The first part of a condition and the rest; none where there are no parts. Of an id that encodes no
+/// parts one after another it says nothing, but that the rest's id is lower.
+fn first_and_rest(table: &Table, condition: Id) -> Option<Conjunction>
+    requires { IsKnown table.now condition }
+    ensures known { IfSome result (λ c. IsKnown table.now c.first × IsKnown table.now c.rest) }
+    ensures below { IfSome result (λ c. c.rest < condition) }
+    ensures exact { (l : List Form) → tree_at table.now condition ≡ form_encoding (conjoined l)
+        → AreFirstAndRest table.now l result }
+{
+    match form_node(table, condition) {
+        FormNode::And(first, rest) => Some(Conjunction { first, rest }),
+        _ => None,
+    }
+}
+
+/// The proof of a part from no hypotheses.
+#[tactic(auto, using(easy_goals::proofs::Kept::rows))]
+fn part_proof(table: &mut Table, search: &mut Search, part: Id) -> Result<Option<Id>, Exhausted>
+    requires part { IsKnown table.old part }
+    requires search { IsSearch table.old search.old }
+    ensures known { IfOk result (λ o. IfSome o (IsKnown table.new)) }
+    ensures exact { (A : Form) → tree_at table.old part ≡ form_encoding A
+        → IfOk result (Stands table.new (part_proof by_all_means A)) }
+    ensures extends { Extends table.old table.new }
+    ensures search { OnOk result (IsSearch table.new search.new) }
+{
+    let none = Hypotheses::new(table.allocator());
+    let mut context = Context::new(table, 0, none)?;
+    let proof = proof_by_all_means(table, search, &mut context, part)?;
+    Ok(proof)
+}
+
+/// The proof of a condition, part by part, or the number of the first part that isn't easy, where the
+/// parts' numbers begin at `number`. It says so of whatever parts the id is the conjunction of, one
+/// after another and ended by truth. Fails where a number would be 2^32, and where memory does.
+#[tactic(auto, using(easy_goals::proofs::Kept::rows))]
+pub(crate) fn proof_of_parts(
+    table: &mut Table,
+    search: &mut Search,
+    condition: Id,
+    number: u32,
+) -> Result<ConditionProof, Exhausted>
+    requires condition { IsKnown table.old condition }
+    requires search { IsSearch table.old search.old }
+    ensures known { IfOk result (IsKnownAnswer table.new) }
+    ensures exact { (l : List Form) → tree_at table.old condition ≡ form_encoding (conjoined l)
+        → IfOk result (IsPartsAnswer table.new number l) }
+    ensures extends { Extends table.old table.new }
+    ensures search { OnOk result (IsSearch table.new search.new) }
+{
+    let Some(parts) = first_and_rest(table, condition) else {
+        let proof = rule_term(table, TT_I, &[])?;
+        return Ok(ConditionProof::Proved(proof));
+    };
+    let Some(proof) = part_proof(table, search, parts.first)? else {
+        return Ok(ConditionProof::NotEasy(number));
+    };
+    let Some(next) = number.checked_add(1) else {
+        return Err(Exhausted::Memory);
+    };
+    match proof_of_parts(table, search, parts.rest, next)? {
+        ConditionProof::NotEasy(refused) => Ok(ConditionProof::NotEasy(refused)),
+        ConditionProof::Proved(rest) => {
+            let whole = rule_term(table, AND_I, &[parts.first, parts.rest, proof, rest])?;
+            Ok(ConditionProof::Proved(whole))
+        }
+    }
+}
