@@ -15,10 +15,15 @@ fn accepted_of(alloc: Global, bytes: &[u8]) -> Made<Accepted> {
     made(gate(alloc, &policy, bytes))
 }
 
-/// A host of the accepted container for `ret` that has loaded nothing.
-fn new_host(alloc: Global) -> Made<Host> {
+/// What is accepted of the container for `ret`.
+fn accepted_return(alloc: Global) -> Made<Accepted> {
     let bytes = made(container(alloc, 2, &[RETURN], &PROOF))?;
-    let accepted = accepted_of(alloc, &bytes)?;
+    accepted_of(alloc, &bytes)
+}
+
+/// A host of it that has loaded nothing.
+fn new_host(alloc: Global) -> Made<Host> {
+    let accepted = accepted_return(alloc)?;
     made(Host::new(alloc, accepted))
 }
 

@@ -60,14 +60,21 @@ fn is_told(table: &mut Table, cut: &Cut, policy: &Policy, formula: Id) -> Result
     Ok(is && !other)
 }
 
+/// Whether both hold of the condition in this table.
+fn is_answered_in(table: &mut Table, cut: &Cut, policy: &Policy) -> Result<bool, VcFault>
+    requires { AreFlags [] (length cut.now.code) cut.now.marks }
+{
+    let formula = vc(table, cut, policy, &[])?;
+    let limited = is_limited(table, cut, policy, formula);
+    Ok(is_told(table, cut, policy, formula)? && limited)
+}
+
 /// Whether both hold of a new table.
 fn is_answered(alloc: Global, cut: &Cut, policy: &Policy) -> Result<bool, VcFault>
     requires { AreFlags [] (length cut.now.code) cut.now.marks }
 {
     let mut table = Table::new(alloc, Places::sigma1());
-    let formula = vc(&mut table, cut, policy, &[])?;
-    let limited = is_limited(&mut table, cut, policy, formula);
-    Ok(is_told(&mut table, cut, policy, formula)? && limited)
+    is_answered_in(&mut table, cut, policy)
 }
 
 /// Whether they hold of the condition of the code under the policy filter.
@@ -102,13 +109,29 @@ fn is_promised(table: &mut Table, policy: &Policy) -> Result<bool, AllocError> {
     Ok(promised == Some(policy.post().copy(table.allocator())?))
 }
 
+/// Whether a new table gives back what the policy asks.
+fn asks(alloc: Global, policy: &Policy) -> Result<bool, AllocError> {
+    let mut table = Table::new(alloc, Places::sigma1());
+    is_asked(&mut table, policy)
+}
+
+/// Whether a new table gives back what the policy promises.
+fn promises(alloc: Global, policy: &Policy) -> Result<bool, AllocError> {
+    let mut table = Table::new(alloc, Places::sigma1());
+    is_promised(&mut table, policy)
+}
+
+/// Whether the encodings of the policy give back its formulas.
+fn are_given_back(alloc: Global, policy: &Policy) -> Result<bool, AllocError> {
+    let asked = asks(alloc, policy)?;
+    let promised = promises(alloc, policy)?;
+    Ok(asked && promised)
+}
+
 /// Whether the encodings of the policy of this kind give back its formulas.
 fn is_given_back(alloc: Global, kind: PolicyKind) -> Made<bool> {
     let policy = made(Policy::of(alloc, kind))?;
-    let mut table = Table::new(alloc, Places::sigma1());
-    let asked = made(is_asked(&mut table, &policy))?;
-    let promised = made(is_promised(&mut table, &policy))?;
-    Ok(asked && promised)
+    made(are_given_back(alloc, &policy))
 }
 
 #[test]

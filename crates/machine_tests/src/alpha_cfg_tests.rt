@@ -1,16 +1,15 @@
-//! Code, its faults, its cycles and its unfolded length, on worked words.
+//! Code, its marks and its unfolded length. Faults of code, cycles that no invariant cuts and
+//! lengths past the limit are in rows of `check` (command_rows: `check.rows`, `code.rows`).
 
 ghost use Rattle.std.specs.Prelude.{◌+◌, ◌<◌, length, IsTrue};
 ghost use Rattle.std.specs.List.Sorted.{IsStrictlyIncreasing};
 
 use crate::codes::{NOP, RETURN, code_of};
-use alpha_cfg::{CodeFault, CodeFlaw, Cut, CutFault};
-use alpha_words::{BadWord, Insn};
-use std::alloc::Global;
+use alpha_cfg::{Cut, CutFault};
+use alpha_words::Insn;
+use std::alloc::{AllocError, Global};
 use std::process::Abort;
 use std::test::Fail;
-
-const SKIP: u32 = 0xe420_0000;
 
 /// Whether each is above the one before it.
 fn is_rising(marks: &[u32]) -> bool
@@ -34,6 +33,7 @@ fn cut_of(rt: &impl Abort, alloc: Global, words: &[u32], marks: &[u32]) -> Resul
     code.cut(alloc, marks)
 }
 
+/// The unfolded length of the words, cut at the indices.
 fn unfolded(rt: &impl Abort, alloc: Global, words: &[u32], marks: &[u32]) -> Result<u32, CutFault> {
     let cut = cut_of(rt, alloc, words, marks)?;
     assert_eq!(rt; cut.code().count() as usize, words.len());
@@ -41,67 +41,38 @@ fn unfolded(rt: &impl Abort, alloc: Global, words: &[u32], marks: &[u32]) -> Res
 }
 
 #[test]
-fn the_first_fault_is_named(rt: HostRuntime) -> Result<(), Fail> {
-    let a = rt.alloc();
-    let bad = |word, why| Err(CodeFault::At(CodeFlaw::BadWord(0, word, why)));
-    let rows = [
-        (
-            [0x4022_041a, RETURN],
-            bad(0x4022_041a, BadWord::KeptRegister),
-        ),
-        ([0x4022_2403, 0], bad(0x4022_2403, BadWord::Reserved)),
-        (
-            [0xe420_0001, RETURN],
-            Err(CodeFault::At(CodeFlaw::Target(0))),
-        ),
-        ([NOP, NOP], Err(CodeFault::At(CodeFlaw::FallsOff(1)))),
-        ([NOP, RETURN], Ok(2)),
-        (
-            [0xe440_0001, 0],
-            Err(CodeFault::At(CodeFlaw::BadWord(1, 0, BadWord::Opcode))),
-        ),
-    ];
-    for (words, want) in rows {
-        assert_eq!(rt; code_of(&rt, a, &words).map(|code| code.count()), want);
-    }
-    let code = code_of(&rt, a, &[NOP, 0xc3ff_fffe])?;
+fn code_by_its_calls(rt: HostRuntime) -> Result<(), Fail> {
+    let code = code_of(&rt, rt.alloc(), &[NOP, 0xc3ff_fffe])?;
     assert_eq!(rt; code.insns().len(), 2);
     assert_eq!(rt; code.count(), 2);
     assert_eq!(rt; code.insn(1), Insn::Br { disp: -2 });
     Ok(())
 }
 
+/// Four instructions of which the last branches back to the one at index 1.
+const TURN: [u32; 4] = [0x203f_0000, 0x4020_3401, NOP, 0xc3ff_fffd];
+
 #[test]
-fn marks_cut_cycles(rt: HostRuntime) {
-    let a = rt.alloc();
-    let turn = [0x203f_0000, 0x4020_3401, NOP, 0xc3ff_fffd];
-    assert_eq!(rt; unfolded(&rt, a, &turn, &[]), Err(CutFault::Uncut(1)));
-    assert_eq!(rt; unfolded(&rt, a, &turn, &[1]), Ok(4));
-    assert_eq!(rt; unfolded(&rt, a, &turn, &[0]), Err(CutFault::Uncut(1)));
-    let around = [0x4020_3401, 0xc3ff_fffe];
-    assert_eq!(rt; unfolded(&rt, a, &around, &[]), Err(CutFault::Uncut(0)));
-    assert_eq!(rt;
-        unfolded(&rt, a, &[0xc3ff_ffff], &[]),
-        Err(CutFault::Uncut(0))
-    );
+fn a_turn_is_unfolded(rt: HostRuntime) {
+    assert_eq!(rt; unfolded(&rt, rt.alloc(), &TURN, &[1]), Ok(4));
+}
+
+/// Whether of all indices 1 and 3 alone are marked.
+fn has_two_marks(cut: &Cut) -> bool {
+    let within = !cut.marked(0) && cut.marked(1) && !cut.marked(2) && cut.marked(3);
+    within && !cut.marked(4) && !cut.marked(u32::MAX)
 }
 
 #[test]
 fn annotated_indices_are_marked(rt: HostRuntime) -> Result<(), Fail> {
-    let turn = [0x203f_0000, 0x4020_3401, NOP, 0xc3ff_fffd];
-    let cut = cut_of(&rt, rt.alloc(), &turn, &[1, 3])?;
-    let rows = [false, true, false, true, false];
-    for (i, marked) in rows.iter().enumerate() {
-        assert_eq!(rt; cut.marked(i as u32), *marked);
-    }
-    assert!(rt; !cut.marked(u32::MAX));
+    let cut = cut_of(&rt, rt.alloc(), &TURN, &[1, 3])?;
+    assert!(rt; has_two_marks(&cut));
     Ok(())
 }
 
-#[test]
-fn both_ways_of_a_branch_count(rt: HostRuntime) -> Result<(), Fail> {
-    let a = rt.alloc();
-    let mut words = Vec::new(a);
+/// Two instructions that do nothing, and fourteen branches over one more: both ways of each count.
+fn branching(alloc: Global) -> Result<Vec<u32>, AllocError> {
+    let mut words = Vec::new(alloc);
     words.push(NOP)?;
     words.push(NOP)?;
     for _ in 0..14 {
@@ -110,30 +81,39 @@ fn both_ways_of_a_branch_count(rt: HostRuntime) -> Result<(), Fail> {
     }
     words.push(0x201f_0001)?;
     words.push(RETURN)?;
-    assert_eq!(rt; unfolded(&rt, a, &words, &[]), Ok(65_536));
-    words.insert(0, NOP)?;
-    assert_eq!(rt; unfolded(&rt, a, &words, &[]), Ok(65_537));
-    let mut chain = Vec::new(a);
-    for _ in 0..1000 {
-        chain.push(SKIP)?;
-    }
-    chain.push(RETURN)?;
-    assert_eq!(rt; unfolded(&rt, a, &chain, &[]), Ok(4_294_967_295));
+    Ok(words)
+}
+
+#[test]
+fn both_ways_of_a_branch_count(rt: HostRuntime) -> Result<(), Fail> {
+    let words = branching(rt.alloc())?;
+    assert_eq!(rt; unfolded(&rt, rt.alloc(), &words, &[]), Ok(65_536));
     Ok(())
+}
+
+/// A branch back over 1,023 instructions that do nothing.
+fn turning(alloc: Global) -> Result<Vec<u32>, AllocError> {
+    let mut words = Vec::new(alloc);
+    for _ in 0..1023 {
+        words.push(NOP)?;
+    }
+    words.push(0xc3ff_fc00)?;
+    Ok(words)
+}
+
+/// The numbers below 1,024.
+fn all_indices(alloc: Global) -> Result<Vec<u32>, AllocError> {
+    let mut all = Vec::new(alloc);
+    for i in 0..1024u32 {
+        all.push(i)?;
+    }
+    Ok(all)
 }
 
 #[test]
 fn one_cycle_of_all_words(rt: HostRuntime) -> Result<(), Fail> {
-    let a = rt.alloc();
-    let mut words = Vec::new(a);
-    let mut all = Vec::new(a);
-    for i in 0..1023u32 {
-        words.push(NOP)?;
-        all.push(i)?;
-    }
-    words.push(0xc3ff_fc00)?;
-    all.push(1023)?;
-    assert_eq!(rt; unfolded(&rt, a, &words, &[]), Err(CutFault::Uncut(0)));
-    assert_eq!(rt; unfolded(&rt, a, &words, &all), Ok(1024));
+    let words = turning(rt.alloc())?;
+    let all = all_indices(rt.alloc())?;
+    assert_eq!(rt; unfolded(&rt, rt.alloc(), &words, &all), Ok(1024));
     Ok(())
 }

@@ -1,9 +1,9 @@
-//! Runs of packets on worked bytes. Start states, spans and faults of packet files are in rows of `ref`
-//! (command_rows).
+//! A run of a packet. Start states, spans, accesses that are blocked, packet files and their faults
+//! are in rows of `ref` (command_rows: `ref.rows`, `code.rows`, `machine.rows`).
 
 use crate::codes::{RETURN, code_of};
-use alpha_cfg::{CodeFault, Kind, Outcome};
-use packet_store::{PacketFile, PacketResult, PacketRunner, TestingRunner};
+use alpha_cfg::{CodeFault, Outcome};
+use packet_store::{PacketResult, PacketRunner, TestingRunner};
 use policy_set::Policy;
 use policy_set::PolicyKind::{self, Filter};
 use std::alloc::Global;
@@ -30,25 +30,5 @@ fn a_load_takes_the_old_address(rt: HostRuntime) -> Result<(), Fail> {
     let old_address = [0x2030_0000, 0xa421_0000, 0x201f_0001, RETURN];
     let found = ran(&rt, a, Filter, &old_address, &[0; 64])?;
     assert_eq!(rt; found, PacketResult::Ran(Outcome::Returned(1), 0));
-    let unaligned = [0xa430_0004, RETURN];
-    let blocked = Outcome::Blocked {
-        index: 0,
-        kind: Kind::Load,
-        addr: 0x1_0014,
-    };
-    let found = ran(&rt, a, Filter, &unaligned, &[0; 64])?;
-    assert_eq!(rt; found, PacketResult::Ran(blocked, 0));
-    Ok(())
-}
-
-/// Packets of no byte and of one, and a file that is cut short.
-#[test]
-fn a_packet_file(rt: HostRuntime) -> Result<(), Fail> {
-    let bytes = Vec::from_slice(rt.alloc(), &[0, 0, 0, 0, 1, 0, 0, 0, 7])?;
-    let file = PacketFile::new(bytes)?;
-    let mut packets = file.packets();
-    assert!(rt; packets.next() == Some([].as_slice()));
-    assert!(rt; packets.next() == Some([7].as_slice()));
-    assert!(rt; packets.next().is_none());
     Ok(())
 }

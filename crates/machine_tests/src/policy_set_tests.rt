@@ -1,29 +1,33 @@
 //! Names, numbers, and the heights of what the policies ask, a leaf being 1.
 
 use policy_set::{by_name, laws};
+use std::alloc::{AllocError, Global};
 use std::test::Fail;
 
-#[test]
-fn names_numbers_and_heights(rt: HostRuntime) -> Result<(), Fail> {
-    laws();
-    let rows = [
-        ("filter", Some((1, 11, 2))),
-        ("tag", Some((2, 8, 1))),
-        ("table", Some((3, 8, 1))),
-        ("", None),
-        ("Filter", None),
-        ("filters", None),
-        ("filter ", None),
-    ];
-    for (name, want) in rows {
-        match by_name(rt.alloc(), name)? {
-            Some(policy) => {
-                let copy = policy.copy(rt.alloc())?;
-                let got = (copy.number(), copy.pre().height(), copy.post().height());
-                assert!(rt; want == Some(got), "{name}");
-            }
-            None => assert!(rt; want.is_none(), "{name}"),
+/// The number of the policy of this name, and the heights of what it asks and promises.
+fn measures(alloc: Global, name: &str) -> Result<Option<(u32, u32, u32)>, AllocError> {
+    match by_name(alloc, name)? {
+        Some(policy) => {
+            let copy = policy.copy(alloc)?;
+            Ok(Some((copy.number(), copy.pre().height(), copy.post().height())))
         }
+        None => Ok(None),
+    }
+}
+
+#[test]
+fn numbers_and_heights(rt: HostRuntime) -> Result<(), Fail> {
+    laws();
+    assert!(rt; measures(rt.alloc(), "filter")? == Some((1, 11, 2)));
+    assert!(rt; measures(rt.alloc(), "tag")? == Some((2, 8, 1)));
+    assert!(rt; measures(rt.alloc(), "table")? == Some((3, 8, 1)));
+    Ok(())
+}
+
+#[test]
+fn names_of_no_policy(rt: HostRuntime) -> Result<(), Fail> {
+    for name in ["", "Filter", "filters", "filter "] {
+        assert!(rt; measures(rt.alloc(), name)?.is_none(), "{name}");
     }
     Ok(())
 }

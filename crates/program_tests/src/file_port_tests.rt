@@ -23,6 +23,17 @@ fn read_text<F: Files>(
     Ok((format!(in alloc; "{got:?}")?, files.read_faults()))
 }
 
+/// Whether a read of the file answers so, and counts so many faults.
+fn is_read<F: Files>(
+    alloc: Global,
+    files: &mut F,
+    row: (&str, u32, &str, u64),
+) -> Result<bool, AllocError> {
+    let (name, max, want, faults) = row;
+    let (got, count) = read_text(alloc, files, name, max)?;
+    Ok(got.as_str() == want && count == faults)
+}
+
 /// The answer of a write, and the count of faults after it.
 fn write_text<F: Files>(files: &mut F, name: &str, text: &str) -> (Put, u64) {
     let put = files.write(name, text.as_bytes());
@@ -65,72 +76,101 @@ fn reads_in_memory(rt: HostRuntime) -> Result<(), Fail> {
         ("b", 3, "Missing", 1),
     ];
     for (name, max, want, faults) in rows {
-        let (got, count) = read_text(rt.alloc(), &mut files, name, max)?;
-        assert_eq!(rt; (got.as_str(), count), (want, faults));
+        let row = (name, max, want, faults);
+        assert!(rt; is_read(rt.alloc(), &mut files, row)?, "{name}");
     }
     Ok(())
+}
+
+/// Whether a write of the text answers so, and leaves that in the file.
+fn is_written(files: &mut MemFiles, text: &str, want: (Put, u64), left: &str) -> bool {
+    write_text(files, "a", text) == want && is_file(files, "a", left)
+}
+
+/// Whether the first write is done, and the two behind it fail.
+fn are_written(files: &mut MemFiles) -> bool {
+    is_written(files, "abcd", (Put::Done, 0), "abcd")
+        && is_written(files, "efghi", (Put::Failed, 1), "ef")
+        && is_written(files, "past", (Put::Failed, 2), "ef")
 }
 
 /// The second call fails, and there is room for two writes.
 #[test]
 fn writes_in_memory(rt: HostRuntime) -> Result<(), Fail> {
     let mut files = two_texts(rt.alloc(), 2, &[1])?;
-    let rows = [
-        ("abcd", Put::Done, 0, "abcd"),
-        ("efghi", Put::Failed, 1, "ef"),
-        ("past", Put::Failed, 2, "ef"),
-    ];
-    for (text, put, faults, left) in rows {
-        assert_eq!(rt; write_text(&mut files, "a", text), (put, faults));
-        assert!(rt; is_file(&files, "a", left));
-    }
+    assert!(rt; are_written(&mut files));
     assert_eq!(rt; files.get("b"), None);
     Ok(())
+}
+
+/// Whether a put of the text answers so, and leaves that in the output.
+fn is_put(sink: &mut MemSink, text: &str, want: (Put, u64), left: &str) -> bool {
+    put_text(sink, text) == want && sink.bytes() == left.as_bytes()
+}
+
+/// Whether the third and the fourth of five calls alone fail.
+fn are_put(sink: &mut MemSink) -> bool {
+    is_put(sink, "abcd", (Put::Done, 0), "abcd")
+        && is_put(sink, "past", (Put::Failed, 1), "abcd")
+        && is_put(sink, "", (Put::Done, 1), "abcd")
+        && is_put(sink, "efg", (Put::Failed, 2), "abcde")
+        && is_put(sink, "fg", (Put::Done, 2), "abcdefg")
 }
 
 /// The third and the fourth call fail, and there is room for seven bytes.
 #[test]
 fn puts_in_memory(rt: HostRuntime) -> Result<(), Fail> {
     let mut sink = MemSink::new(rt.alloc(), 7, Vec::from_slice(rt.alloc(), &[2, 3])?)?;
-    let rows = [
-        ("abcd", Put::Done, 0, "abcd"),
-        ("past", Put::Failed, 1, "abcd"),
-        ("", Put::Done, 1, "abcd"),
-        ("efg", Put::Failed, 2, "abcde"),
-        ("fg", Put::Done, 2, "abcdefg"),
-    ];
-    for (text, put, faults, left) in rows {
-        assert_eq!(rt; put_text(&mut sink, text), (put, faults));
-        assert_eq!(rt; sink.bytes(), left.as_bytes());
-    }
+    assert!(rt; are_put(&mut sink));
     Ok(())
 }
 
 #[test]
-fn files_of_the_system(rt: HostRuntime) -> Result<(), Fail> {
+fn writes_at_the_system(rt: HostRuntime) -> Result<(), Fail> {
     let mut files = DiskFiles::new(&rt);
     assert_eq!(rt; write_text(&mut files, "a", "long"), (Put::Done, 0));
     assert_eq!(rt; write_text(&mut files, "a", "old"), (Put::Done, 0));
     assert_eq!(rt; write_text(&mut files, "none/a", "x"), (Put::Failed, 1));
     assert_eq!(rt; fs::read(&rt, "a")?.as_slice(), b"old".as_slice());
-    let mut long = String::new(rt.alloc());
+    fs::remove_file(&rt, "a")?;
+    Ok(())
+}
+
+/// A name that is longer than the system's names.
+fn long_name(alloc: Global) -> Result<String, AllocError> {
+    let mut long = String::new(alloc);
     for _ in 0..300 {
         long.push('a')?;
     }
+    Ok(long)
+}
+
+#[test]
+fn reads_at_the_system(rt: HostRuntime) -> Result<(), Fail> {
+    let mut files = DiskFiles::new(&rt);
+    assert_eq!(rt; write_text(&mut files, "r", "old"), (Put::Done, 0));
     let rows = [
-        ("a", 3, "Bytes([111, 108, 100])", 0),
-        ("a", 2, "TooLong", 0),
+        ("r", 3, "Bytes([111, 108, 100])", 0),
+        ("r", 2, "TooLong", 0),
         ("b", 3, "Missing", 0),
         ("", 3, "Missing", 0),
         (".", 3, "Failed", 1),
-        (long.as_str(), 3, "Failed", 2),
-        ("a/b", 3, "Failed", 3),
+        ("r/b", 3, "Failed", 2),
     ];
     for (name, max, want, faults) in rows {
-        let (got, count) = read_text(rt.alloc(), &mut files, name, max)?;
-        assert_eq!(rt; (got.as_str(), count), (want, faults));
+        let row = (name, max, want, faults);
+        assert!(rt; is_read(rt.alloc(), &mut files, row)?, "{name}");
     }
-    fs::remove_file(&rt, "a")?;
+    fs::remove_file(&rt, "r")?;
+    Ok(())
+}
+
+#[test]
+fn a_name_that_is_too_long(rt: HostRuntime) -> Result<(), Fail> {
+    let long = long_name(rt.alloc())?;
+    let mut files = DiskFiles::new(&rt);
+    let row = (long.as_str(), 3, "Failed", 1);
+    assert!(rt; is_read(rt.alloc(), &mut files, row)?);
     Ok(())
 }
 
@@ -163,39 +203,44 @@ impl Write for Device {
     }
 }
 
+/// Whether a put of `abcdefgh` answers so and leaves that, and one of nothing is done.
+fn is_put_at(mut device: Device, want: (Put, u64), left: &str) -> bool {
+    let mut sink = StdSink::new(&mut device);
+    let is_answered = put_text(&mut sink, "abcdefgh") == want;
+    let is_done = put_text(&mut sink, "").0 == Put::Done;
+    is_answered && is_done && device.taken.as_slice() == left.as_bytes()
+}
+
+/// An empty device with so much room, which is full and flushes so.
+fn empty_device(
+    alloc: Global,
+    room: usize,
+    full: Option<ErrorKind>,
+    flush: Option<ErrorKind>,
+) -> Device {
+    Device {
+        taken: Vec::new(alloc),
+        room,
+        full,
+        flush,
+    }
+}
+
 /// A full device takes nothing, or says so; one that can't flush has taken all.
 #[test]
-fn puts_at_a_writer(rt: HostRuntime) -> Result<(), Fail> {
-    let rows = [
-        (8, None, None, (Put::Done, 0), "abcdefgh"),
-        (7, None, None, (Put::Failed, 1), "abcdefg"),
-        (
-            7,
-            Some(ErrorKind::StorageFull),
-            None,
-            (Put::Failed, 1),
-            "abcdefg",
-        ),
-        (
-            8,
-            None,
-            Some(ErrorKind::BrokenPipe),
-            (Put::Failed, 1),
-            "abcdefgh",
-        ),
-    ];
-    for (room, full, flush, want, left) in rows {
-        let taken = Vec::new(rt.alloc());
-        let mut device = Device {
-            taken,
-            room,
-            full,
-            flush,
-        };
-        let mut sink = StdSink::new(&mut device);
-        assert_eq!(rt; put_text(&mut sink, "abcdefgh"), want);
-        assert_eq!(rt; put_text(&mut sink, "").0, Put::Done);
-        assert_eq!(rt; device.taken.as_slice(), left.as_bytes());
-    }
-    Ok(())
+fn puts_at_a_writer(rt: HostRuntime) {
+    let alloc = rt.alloc();
+    let full = Some(ErrorKind::StorageFull);
+    let broken = Some(ErrorKind::BrokenPipe);
+    let failed = (Put::Failed, 1);
+    assert!(rt;
+        is_put_at(
+            empty_device(alloc, 8, None, None),
+            (Put::Done, 0),
+            "abcdefgh"
+        )
+    );
+    assert!(rt; is_put_at(empty_device(alloc, 7, None, None), failed, "abcdefg"));
+    assert!(rt; is_put_at(empty_device(alloc, 7, full, None), failed, "abcdefg"));
+    assert!(rt; is_put_at(empty_device(alloc, 8, None, broken), failed, "abcdefgh"));
 }

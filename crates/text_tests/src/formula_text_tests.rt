@@ -7,8 +7,8 @@ use std::process::Abort;
 use std::test::Fail;
 use word_ops::Rel;
 
-/// Texts with what is printed of their formulas.
-static READ: [(&str, &str); 14] = [
+/// Texts with what is printed of their formulas; the last five are what policies ask for.
+static READ: [(&str, &str); 19] = [
     ("tt", "tt"),
     ("\t ff ", "ff"),
     ("(eq r31 0)", "(eq r31 0)"),
@@ -47,10 +47,6 @@ static READ: [(&str, &str); 14] = [
         "(all i (imp (ult i r17) (and (rd (add r16 (sll i 3))) (wr (add r16 (sll i 3))))))",
         "(all x0 (imp (ult x0 r17) (and (rd (add r16 (sll x0 3))) (wr (add r16 (sll x0 3))))))",
     ),
-];
-
-/// The formulas that policies ask for, as text, printed with the names of printing.
-static POLICIES: [(&str, &str); 5] = [
     ("(ule 64 r17)", "(ule 64 r17)"),
     (
         "(all i (imp (and (ult i r17) (eq (band i 7) 0)) (rd (add r16 i))))",
@@ -151,18 +147,15 @@ fn test_read(rt: &impl Abort, alloc: Global, text: &str, want: &str) {
 }
 
 #[test]
-fn what_is_read_is_printed(rt: HostRuntime) {
+fn laws_of_texts() {
     laws();
-    for &(text, want) in READ.iter() {
-        test_read(&rt, rt.alloc(), text, want);
-        test_read(&rt, rt.alloc(), want, want);
-    }
 }
 
 #[test]
-fn formulas_of_policies(rt: HostRuntime) {
-    for &(text, want) in POLICIES.iter() {
+fn what_is_read_is_printed(rt: HostRuntime) {
+    for &(text, want) in READ.iter() {
         test_read(&rt, rt.alloc(), text, want);
+        test_read(&rt, rt.alloc(), want, want);
     }
 }
 
@@ -186,6 +179,10 @@ fn the_first_fault_is_named(rt: HostRuntime) {
     test_faults(&rt, rt.alloc(), &NAME, TextFlaw::Name);
     test_faults(&rt, rt.alloc(), &NUMBER, TextFlaw::Number);
     test_faults(&rt, rt.alloc(), &TRAILING, TextFlaw::Trailing);
+}
+
+#[test]
+fn flaws_have_names(rt: HostRuntime) {
     assert!(rt; TextFlaw::Shape.name() == "Shape");
     assert!(rt; TextFlaw::Name.name() == "Name");
     assert!(rt; TextFlaw::Number.name() == "Number");
@@ -226,22 +223,35 @@ fn is_read_back(alloc: Global, text: &[u8]) -> Result<bool, TextFault> {
     Ok(read_form(alloc, &again)? == form)
 }
 
-/// The text is as long as it can be, and its formula is printed and read back.
-fn test_nested(rt: &impl Abort, alloc: Global, text: &[u8], most: usize) {
-    assert!(rt; text.len() <= most);
-    assert!(rt; most - text.len() < 8);
-    assert!(rt; matches!(is_read_back(alloc, text), Ok(true)));
+/// Whether the text is as long as it can be, and its formula is printed and read back.
+fn is_longest(alloc: Global, text: &[u8], most: usize) -> bool {
+    if text.len() > most {
+        return false;
+    }
+    if most - text.len() >= 8 {
+        return false;
+    }
+    matches!(is_read_back(alloc, text), Ok(true))
+}
+
+/// Whether so many alternatives, each the left side of the next, are a text as long as it can be.
+fn is_deepest_or(alloc: Global, count: u32, most: usize) -> Result<bool, AllocError> {
+    let text = nested(alloc, count, b"(or", b"(or tt tt)", b"tt)")?;
+    Ok(is_longest(alloc, &text, most))
+}
+
+/// Whether so many quantifiers are a text as long as it can be.
+fn is_deepest_all(alloc: Global, count: u32, most: usize) -> Result<bool, AllocError> {
+    let text = nested(alloc, count, b"(all x", b" tt", b")")?;
+    Ok(is_longest(alloc, &text, most))
 }
 
 /// The deepest nestings of texts of 2,048 and of 4,096 bytes.
 #[test]
 fn deepest_nestings(rt: HostRuntime) -> Result<(), Fail> {
-    let alloc = rt.alloc();
-    for (most, deep, bound) in [(2_048, 339, 292), (4_096, 681, 584)] {
-        let either = nested(alloc, deep, b"(or", b"(or tt tt)", b"tt)")?;
-        test_nested(&rt, alloc, &either, most);
-        let each = nested(alloc, bound, b"(all x", b" tt", b")")?;
-        test_nested(&rt, alloc, &each, most);
-    }
+    assert!(rt; is_deepest_or(rt.alloc(), 339, 2_048)?);
+    assert!(rt; is_deepest_all(rt.alloc(), 292, 2_048)?);
+    assert!(rt; is_deepest_or(rt.alloc(), 681, 4_096)?);
+    assert!(rt; is_deepest_all(rt.alloc(), 584, 4_096)?);
     Ok(())
 }
