@@ -2,7 +2,7 @@
 # Times `pcc check` and `pcc prove` on files made to be slow, each within every limit of the format: bytes,
 # processor time, peak memory, and the line or status. With words only the families whose name has one of
 # them; PCC names another program. Another line than the one expected, more than 2 s or 512 MB of `check`,
-# or more than 5 s or 1,024 MB of `prove` ends the run with status 1 (known: the last of m).
+# or more than 5 s or 1,024 MB of `prove` ends the run with status 1 (known: o).
 # For `check` (bench/hostile.py):
 #   a  formulas under words and memories, each level in two contexts
 #   b  invariants of many leaves, changed by many ways or many instructions
