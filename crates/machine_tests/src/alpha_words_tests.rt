@@ -28,9 +28,8 @@ static BRANCHES: [(u32, Cond, u32, i32); 16] = [
 fn assembled_branches_read_as_their_text(rt: HostRuntime) {
     for (word, cond, a, disp) in BRANCHES {
         let ra = Reg::new(a % 32);
-        assert_eq!(rt;
-            decode(word),
-            Ok(Insn::Branch { cond, ra, disp }),
+        assert!(rt;
+            decode(word) == Ok(Insn::Branch { cond, ra, disp }),
             "{word:08x}"
         );
     }
@@ -39,8 +38,8 @@ fn assembled_branches_read_as_their_text(rt: HostRuntime) {
 /// `br r31,L+893` and `br L-534488`.
 #[test]
 fn assembled_jumps_read_as_their_text(rt: HostRuntime) {
-    assert_eq!(rt; decode(0xc3e0_037d), Ok(Insn::Br { disp: 893 }));
-    assert_eq!(rt; decode(0xc3f7_d828), Ok(Insn::Br { disp: -534_488 }));
+    assert!(rt; decode(0xc3e0_037d) == Ok(Insn::Br { disp: 893 }));
+    assert!(rt; decode(0xc3f7_d828) == Ok(Insn::Br { disp: -534_488 }));
 }
 
 /// The opcodes of profile 1 in the Handbook's tables; all others are refused.
@@ -77,16 +76,19 @@ fn all_functions_are_told(rt: HostRuntime) {
 
 #[test]
 fn a_return_is_written(rt: HostRuntime) {
-    assert_eq!(rt; encode(Insn::Ret), 0x6bfa_8001);
-    assert_eq!(rt; lawful(Insn::Ret), Ok(()));
-    assert_eq!(rt; target(3, Insn::Ret), None);
+    assert!(rt; encode(Insn::Ret) == 0x6bfa_8001);
+    assert!(rt; lawful(Insn::Ret) == Ok(()));
+    assert!(rt; target(3, Insn::Ret).is_none());
 }
 
 #[test]
 fn branches_have_targets(rt: HostRuntime) {
     let rows = [(0, 1, Some(2)), (5, -3, Some(3)), (0, -2, Some(-1))];
     for (index, disp, at) in rows {
-        assert_eq!(rt; target(index, Insn::Br { disp }), at, "{index} and {disp}");
+        assert!(rt;
+            target(index, Insn::Br { disp }) == at,
+            "{index} and {disp}"
+        );
     }
 }
 
@@ -97,7 +99,7 @@ fn a_kept_register_is_unlawful(rt: HostRuntime) {
         rb: Reg::new(0),
         disp: 0,
     };
-    assert_eq!(rt; lawful(kept), Err(BadWord::KeptRegister));
+    assert!(rt; lawful(kept) == Err(BadWord::KeptRegister));
 }
 
 /// The caller's registers are kept: r9 to r15, r26, r29 and r30.

@@ -1,8 +1,8 @@
-//! A run of a packet. Start states, spans, accesses that are blocked, packet files and their faults
-//! are in rows of `ref` (command_rows: `ref.rows`, `code.rows`, `machine.rows`).
+//! Runs of a packet with their sums. Start states, spans, accesses that are blocked, packet files and
+//! their faults are in rows of `ref` (command_rows: `ref.rows`, `code.rows`, `machine.rows`).
 
 use crate::codes::{RETURN, code_of};
-use alpha_cfg::{CodeFault, Outcome};
+use alpha_cfg::{CodeFault, Kind, Outcome};
 use packet_store::{PacketResult, PacketRunner, TestingRunner};
 use policy_set::Policy;
 use policy_set::PolicyKind::{self, Filter};
@@ -29,6 +29,20 @@ fn a_load_takes_the_old_address(rt: HostRuntime) -> Result<(), Fail> {
     let a = rt.alloc();
     let old_address = [0x2030_0000, 0xa421_0000, 0x201f_0001, RETURN];
     let found = ran(&rt, a, Filter, &old_address, &[0; 64])?;
-    assert_eq!(rt; found, PacketResult::Ran(Outcome::Returned(1), 0));
+    assert!(rt; found == PacketResult::Ran(Outcome::Returned(1), 0));
+    Ok(())
+}
+
+/// An address that is no multiple of 8. No row shows the sum beside what is blocked.
+#[test]
+fn an_unaligned_load_is_blocked(rt: HostRuntime) -> Result<(), Fail> {
+    let blocked = Outcome::Blocked {
+        index: 0,
+        kind: Kind::Load,
+        addr: 0x1_0014,
+    };
+    let unaligned = [0xa430_0004, RETURN];
+    let found = ran(&rt, rt.alloc(), Filter, &unaligned, &[0; 64])?;
+    assert!(rt; found == PacketResult::Ran(blocked, 0));
     Ok(())
 }

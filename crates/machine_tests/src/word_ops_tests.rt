@@ -31,6 +31,6 @@ fn relations_at_edge_words(rt: HostRuntime) {
         (Rel::Sle, 1, TOP, false),
     ];
     for (rel, a, b, want) in rows {
-        assert_eq!(rt; holds(rel, a, b), want, "{rel:?} of {a} and {b}");
+        assert!(rt; holds(rel, a, b) == want, "{rel:?} of {a} and {b}");
     }
 }

@@ -25,10 +25,10 @@ fn ids_are_places_without_repeats(rt: HostRuntime) -> Result<(), Fail> {
                 nodes.len() - 1
             }
         };
-        assert_eq!(rt; last.index(), place, "at {k}");
-        assert_eq!(rt; table.node(last), node, "at {k}");
+        assert!(rt; last.index() == place, "at {k}");
+        assert!(rt; table.node(last) == node, "at {k}");
     }
-    assert_eq!(rt; table.count(), nodes.len() as u64);
+    assert!(rt; table.count() == nodes.len() as u64);
     Ok(())
 }
 
@@ -40,8 +40,8 @@ fn a_long_chain(rt: HostRuntime) -> Result<(), Fail> {
     for _ in 1..262_144 {
         top = table.intern(Node::Lam(top))?;
     }
-    assert_eq!(rt; table.count(), 262_144);
-    assert_eq!(rt; table.height(top), 262_144);
-    assert_eq!(rt; table.weight(top), 262_144);
+    assert!(rt; table.count() == 262_144);
+    assert!(rt; table.height(top) == 262_144);
+    assert!(rt; table.weight(top) == 262_144);
     Ok(())
 }

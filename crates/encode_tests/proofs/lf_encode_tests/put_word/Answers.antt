@@ -1,6 +1,0 @@
-use Rattle.std.proofs.Common.{nat_lt}
-use Rattle.encode_tests.proofs.Copies.{room-word}
-use Rattle.encode_tests.proofs.lf_encode_tests.put_word.Goals as goal
-
-pub put-requires-clause-room : goal.put-requires-clause-room
-put-requires-clause-room c = record { each = λ n. room-word c.args.table.now c.args.word n c.requires.word.is (nat_lt n 31) }

@@ -1,5 +1,0 @@
-use Rattle.lf_signature.specs.Sigma1.{declared}
-use Rattle.kit_rows.proofs.bare_rule.Goals as goal
-
-pub by_rule-requires-clause-kept : goal.by_rule-requires-clause-kept
-by_rule-requires-clause-kept c = c.new-kept.ensures declared c.args.table.now

@@ -1,0 +1,132 @@
+//! Rows on LF: terms, the checker, rules, what proves a formula, ids of formulas.
+//!
+//! The rows stand in `data` (docs/PROOFS.md, "Terms as text"), a file a layer, and ask any question.
+//!
+//! Of terms, the signature and substitution (`terms.txt`):
+//!
+//! - `height t`, `weight t`, `reach t`, and `same a b`: whether two trees have one id;
+//! - `declared c`: the type that the signature gives a constant; `parameters N` and `premises N`: how
+//!   many the rule of this number has;
+//! - `shift BY FROM t`, and `weaken BY t`: from the nearest binder on, by up to 2^32;
+//! - `subst S t u`: u for variable 0 in t, S being a type with u's simple type; `subst_type S A u`: in
+//!   a type; `subst_weaken LIMIT S A u`: in a type, and then weakened by 1, keeping up to LIMIT
+//!   results;
+//! - `alike A B`: whether two types have one simple type.
+//!
+//! Of what checks at which type (`checks.txt`), each type of a context being over those before it:
+//!
+//! - `check A .. |- t : B`: whether a term checks at a type; `judged LIMIT A .. |- t : B`: whether B is
+//!   a type, and what t synthesises and checks at, keeping up to LIMIT results;
+//! - `synth A .. |- t`: the type that a term synthesises; `type A .. |- B`: whether B is a type;
+//! - `formed c`: whether the type that the signature gives a constant is one.
+//!
+//! Of the functions of the rules (`rules.txt`), a sequent being its hypotheses, the nearest last,
+//! `|-`, its term, `:` and its goal:
+//!
+//! - `rule R A .. |- a .. / P / ..`: the goal of the sequent that R's function answers under the
+//!   hypotheses A .. at the parameters a .. and the sequents P .. of its premises, R being a rule's
+//!   constant; the answer is tested to be a sequent under these hypotheses;
+//! - `constant c`: the goal of the sequent that is answered for an evaluation, a fact or a denial;
+//! - `by_rule N`: that of a rule's number without parameters and premises; `cmp_le1 N a b`: that of
+//!   the last family's pair N; both are tested too;
+//! - `rule_term N a ..`: the term of a rule's number at terms.
+//!
+//! Of what proves a formula (`truths.txt`):
+//!
+//! - `proves t F`: whether the term t proves the formula F;
+//! - `proves_after u G t F`: whether it does, with what is kept of whether u proves G;
+//! - `proved t F`: whether F is the formula that t proves, which is found without F.
+//!
+//! Of the encodings of formulas (`encodings.txt`), over no variables but in the last two:
+//!
+//! - `form t`: whether t encodes a formula; `formula_height t`: how high that is;
+//! - `relation t`: the relation of two words that t encodes, as a fact; `operator t`: the operator at
+//!   two words whose right to be loaded t encodes, as an evaluation;
+//! - `quantified Q t`: the quantifier of the constant Q over t;
+//! - `put_five t`: t over m and r0 to r30, with 5 for each; `is_five_put t u`: whether u is that.
+//!
+//! Of the ids of formulas and expressions (`formulas.txt`):
+//!
+//! - `head F`: the constant at the head of a formula; `exp_head e` and `mem_head m`: that of an
+//!   expression or a memory, which is itself where it is a variable or a literal;
+//! - `left O e` and `right O e`: the operands where O is the operator at the head; `literal e`;
+//! - `put F e` and `put_exp e e`: an expression for variable 0, in a formula or an expression;
+//!   `raised t`: under one binder more;
+//! - `reflexive a`, `moved F a b p q` and `swapped a b p`: the proofs that steps of equations make.
+#![tactic(auto)]
+
+mod answers;
+mod encodings;
+mod formulas;
+mod functions;
+mod judgements;
+mod rules;
+mod terms;
+mod truths;
+
+use encodings::about_encodings;
+use formulas::about_formulas;
+use judgements::about_judgements;
+use rules::about_rules;
+use std::alloc::Global;
+use std::io;
+use term_table::Table;
+use terms::about_terms;
+use test_inputs::cursors::Cursor;
+use test_inputs::faults::{Read, RowFault};
+use test_inputs::names::Names;
+use test_inputs::rows::{Answer, Questions, run};
+use truths::about_truths;
+
+/// The questions of all layers.
+#[derive(Drop)]
+struct LfQuestions {
+    alloc: Global,
+}
+
+impl Questions for LfQuestions {
+    fn answer(
+        &mut self,
+        table: &mut Table,
+        names: &Names,
+        question: &[u8],
+        cursor: &mut Cursor<'_>,
+    ) -> Read<Answer> {
+        let alloc = self.alloc;
+        if let Some(answer) = about_terms(alloc, table, names, question, cursor)? {
+            return Ok(answer);
+        }
+        if let Some(answer) = about_judgements(alloc, table, names, question, cursor)? {
+            return Ok(answer);
+        }
+        if let Some(answer) = about_rules(alloc, table, names, question, cursor)? {
+            return Ok(answer);
+        }
+        if let Some(answer) = about_truths(alloc, table, names, question, cursor)? {
+            return Ok(answer);
+        }
+        if let Some(answer) = about_encodings(table, names, question, cursor)? {
+            return Ok(answer);
+        }
+        if let Some(answer) = about_formulas(alloc, table, names, question, cursor)? {
+            return Ok(answer);
+        }
+        Err(RowFault::Word)
+    }
+}
+
+/// Prints the name of a file, and goes through its rows.
+fn run_file(rt: &HostRuntime, name: &str) -> io::Result<()> {
+    println!(rt; "{name}")?;
+    let mut questions = LfQuestions { alloc: rt.alloc() };
+    run(rt, name, &mut questions)
+}
+
+fn main(rt: HostRuntime) -> io::Result<()> {
+    run_file(&rt, "terms.txt")?;
+    run_file(&rt, "checks.txt")?;
+    run_file(&rt, "rules.txt")?;
+    run_file(&rt, "truths.txt")?;
+    run_file(&rt, "encodings.txt")?;
+    run_file(&rt, "formulas.txt")
+}

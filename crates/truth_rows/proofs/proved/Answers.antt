@@ -1,5 +1,0 @@
-use Rattle.lf_signature.specs.Sigma1.{declared}
-use Rattle.truth_rows.proofs.proved.Goals as goal
-
-pub proved_formula_with-requires-clause-kept : goal.proved_formula_with-requires-clause-kept
-proved_formula_with-requires-clause-kept c = c.new-kept.ensures declared _
