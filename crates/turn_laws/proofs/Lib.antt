@@ -1,0 +1,5 @@
+pub mod Members
+pub mod Running
+pub mod Turning
+pub mod Depending
+pub mod Parting
