@@ -1,4 +1,3 @@
-pub mod Bytes
 pub mod Terms
 pub mod Placed
 pub mod Made

@@ -1,20 +1,24 @@
--- From the written words to the container.
-use Rattle.std.proofs.Common.{◌≡◌, ℕ, List, [], ◌∷◌, Some, None, Ok, Err, Result, refl, sym, ap, ◌∙◌, subst, arith}
+-- From the code to the container.
+use Rattle.std.proofs.Common.{◌≡◌, ℕ, List, [], ◌∷◌, Some, None, Ok, Err, Result, sym, ap, ◌∙◌, subst, arith}
 use Rattle.std.specs.Prelude.{IfSome, Vec}
 use Rattle.std.specs.Global.{Global}
 use Rattle.std.proofs.lemmas.List.{length-map}
-use Rattle.std.proofs.lemmas.Option.{slice_get_within}
+use Rattle.alpha_words.specs.declared.insn.Insn.{Insn}
+use Rattle.alpha_cfg.specs.CodeBytes.{EncodesCode}
+use Rattle.alpha_cfg.specs.Flow.{IsCode}
 use Rattle.policy_set.specs.declared.kind.PolicyKind.{PolicyKind}
 use Rattle.policy_set.specs.declared.kind.PolicyKind.TheVariants.{Filter}
 use Rattle.policy_set.specs.Names.{policy_number}
+use Rattle.term_table.specs.Bytes.{IsBytes}
 use Rattle.term_table.specs.Tree.{Tree}
 use Rattle.term_table.specs.Table.{TableView, IsKnown, tree_at, id_trees}
-use Rattle.proof_container.specs.Contents.{Contents, roots}
+use Rattle.proof_container.specs.Contents.{roots}
 use Rattle.proof_container.specs.Encoding.{AreTerms, IsContents, encoding_of}
 use Rattle.proof_container.specs.Views.{AllTerms, IsWritable, view_contents}
 use Rattle.proof_container.specs.declared.container.View.{View}
 use Rattle.easy_class.specs.Access.{by_all_means}
 use Rattle.easy_class.specs.Parts.{condition_proof}
+use Rattle.pcc_asm.specs.Words.{code_bytes}
 use Rattle.bounds_prover.specs.declared.fault.ProveFault.{ProveFault}
 use Rattle.bounds_prover.specs.Proving.{with_proof, proved_container, IsProveAnswer}
 use Rattle.bpf_words.specs.declared.insn.Bpf.{Bpf}
@@ -22,28 +26,22 @@ use Rattle.bpf_code.specs.Blocks.{bpf_code}
 use Rattle.bpf_vc.specs.Condition.{HasEasyProof, bpf_parts}
 use Rattle.bpf_container.specs.Compiled.{IsCompiled}
 use Rattle.bpf_container.specs.Contents.{AreCodeBytes, bpf_contents}
-use Rattle.bpf_compile.specs.Words.{AreWrittenWords}
-use Rattle.bpf_compile.specs.Compilation.{IsBare, IsCompilation}
+use Rattle.bpf_compile.specs.Compilation.{bare_contents, compiled_container, IsCompilation}
 use Rattle.bpf_compile.specs.Inside.Ids.{AreInvIds}
 
 -- the words that are written encode the code
-pub code-bytes : (program : List Bpf) (code : List ℕ) → AreWrittenWords code (bpf_code program) → AreCodeBytes program code
-code-bytes program code h = record {
-  bytes = h.small;
-  encode = record {
-    whole = h.words.whole;
-    first = record { count = refl; each = λ i insn at. (h.words.each i insn (slice_get_within (bpf_code program) i insn at) at).0 };
-  };
-}
+pub code-bytes : (program : List Bpf) → ((code : List Insn) → IsBytes (code_bytes code)) → ((code : List Insn) → IsCode code → EncodesCode (code_bytes code) code)
+    → IsCode (bpf_code program) → AreCodeBytes program (code_bytes (bpf_code program))
+code-bytes program bytes encode is = record { bytes = bytes (bpf_code program); encode = encode (bpf_code program) is }
 
 terms-all : (ts : List Tree) → AreTerms ts → AllTerms ts
 terms-all [] h = tt
 terms-all (t ∷ ts) h = (h.0, terms-all ts h.2)
 
 -- contents that are the program's, part by part
-pub contents-are : (program : List Bpf) (code : List ℕ) (policy : ℕ) (shown : List ℕ) (t : TableView) (ids : List (ℕ × ℕ)) → policy ≡ policy_number Filter
-    → shown ≡ code → AreInvIds t program ids → record { policy = policy; code = shown; invs = id_trees t ids; proof = None } ≡ bpf_contents program code
-contents-are program code policy shown t ids number same are = let trees = are.trees in λ j. record {
+pub contents-are : (program : List Bpf) (policy : ℕ) (shown : List ℕ) (t : TableView) (ids : List (ℕ × ℕ)) → policy ≡ policy_number Filter
+    → shown ≡ code_bytes (bpf_code program) → AreInvIds t program ids → record { policy = policy; code = shown; invs = id_trees t ids; proof = None } ≡ bare_contents program
+contents-are program policy shown t ids number same are = let trees = are.trees in λ j. record {
   policy = number j;
   code = same j;
   invs = trees j;
@@ -51,9 +49,9 @@ contents-are program code policy shown t ids number same are = let trees = are.t
 }
 
 -- a view that shows a program's contents can be written
-pub view-writable : (program : List Bpf) (code : List ℕ) (v : View) → IsContents (bpf_contents program code) → view_contents v ≡ bpf_contents program code
+pub view-writable : (program : List Bpf) (v : View) → IsContents (bare_contents program) → view_contents v ≡ bare_contents program
     → v.proof ≡ None → AreInvIds v.table.now program v.invs.now → IsWritable v
-view-writable program code v contents shown none ids =
+view-writable program v contents shown none ids =
     let is : IsContents (view_contents v) = subst IsContents (sym shown) contents in
     let few = is.invs in
     let n = length-map {B = ℕ × Tree} v.invs.now (λ (p : ℕ × ℕ). (p.0, tree_at v.table.now p.1)) in
@@ -68,10 +66,6 @@ view-writable program code v contents shown none ids =
       rising = is.rising;
     }
 
-pub bare-is : (program : List Bpf) (code bytes : List ℕ) (shown : Contents) → AreWrittenWords code (bpf_code program) → shown ≡ bpf_contents program code
-    → bytes ≡ encoding_of shown → IsBare program bytes
-bare-is program code bytes shown words same encoded = record { code = code; words = words; encoded = encoded ∙ ap encoding_of same }
-
 -- ---- with a proof
 
 -- what `prove` makes of containers of programs, by the laws
@@ -79,43 +73,39 @@ abbrev pub Makes : List Bpf → Type 0
 Makes program = (code : List ℕ) (proof : Tree) → AreCodeBytes program code → condition_proof by_all_means (bpf_parts program) ≡ Some proof
     → proved_container Filter (encoding_of (bpf_contents program code)) ≡ Ok (encoding_of (with_proof (bpf_contents program code) proof))
 
--- which are accepted
-abbrev pub Gives : List Bpf → Type 0
-Gives program = (code : List ℕ) (proof : Tree) → AreCodeBytes program code → condition_proof by_all_means (bpf_parts program) ≡ Some proof
-    → IsCompiled program (encoding_of (with_proof (bpf_contents program code) proof))
+-- that it makes one, which is accepted
+abbrev pub Compiles : List Bpf → Type 0
+Compiles program = (out : List ℕ) × (proved_container Filter (encoding_of (bare_contents program)) ≡ Ok out) × IsCompiled program out
 
-made-of : (program : List Bpf) (policy : PolicyKind) (bytes : List ℕ) → policy ≡ Filter → (bare : IsBare program bytes) → (easy : HasEasyProof program)
-    → Makes program
-    → proved_container policy bytes ≡ Ok (encoding_of (with_proof (bpf_contents program bare.code) easy.proof))
-made-of program policy bytes is bare easy makes =
-    ap (λ p. proved_container p bytes) is ∙ ap (proved_container Filter) bare.encoded
-    ∙ makes bare.code easy.proof (code-bytes program bare.code bare.words) easy.given
+-- the bytes of the program under `filter`
+pub at-program : (program : List Bpf) (policy : PolicyKind) (bytes : List ℕ) → policy ≡ Filter → bytes ≡ encoding_of (bare_contents program)
+    → (r : Result (List ℕ) ProveFault) → proved_container policy bytes ≡ r → compiled_container program ≡ r
+unfolding compiled_container
+at-program program policy bytes is bare r given = sym (ap (λ p. proved_container p bytes) is ∙ ap (proved_container Filter) bare) ∙ given
 
-pub compilation-is : (program : List Bpf) (policy : PolicyKind) (bytes out : List ℕ) → policy ≡ Filter → IsBare program bytes → HasEasyProof program
-    → Makes program → proved_container policy bytes ≡ Ok out → IsCompilation program out
-compilation-is program policy bytes out is bare easy makes given = record {
-  code = bare.code;
-  words = bare.words;
+one : (r : Result (List ℕ) ProveFault) (a b : List ℕ) → r ≡ Ok a → r ≡ Ok b → a ≡ b
+one r a b p q = cc
+
+pub compilation-is : (program : List Bpf) (out : List ℕ) → AreCodeBytes program (code_bytes (bpf_code program)) → HasEasyProof program
+    → Makes program → compiled_container program ≡ Ok out → IsCompilation program out
+unfolding compiled_container
+compilation-is program out holds easy makes given = record {
   proof = easy.proof;
   given = easy.given;
-  encoded = one (proved_container policy bytes) out _ given (made-of program policy bytes is bare easy makes);
+  encoded = one (compiled_container program) out _ given (makes (code_bytes (bpf_code program)) easy.proof holds easy.given);
 }
-  where
-    one : (r : Result (List ℕ) ProveFault) (a b : List ℕ) → r ≡ Ok a → r ≡ Ok b → a ≡ b
-    one r a b p q = cc
+
+pub compiled-is : (program : List Bpf) (out : List ℕ) → Compiles program → compiled_container program ≡ Ok out → IsCompiled program out
+unfolding compiled_container
+compiled-is program out compiles given = subst (IsCompiled program) (one (compiled_container program) compiles.0 out compiles.1 given) compiles.2
 
 -- no fault is given
-pub no-fault : (program : List Bpf) (policy : PolicyKind) (bytes : List ℕ) (fault : ProveFault) → policy ≡ Filter → IsBare program bytes → HasEasyProof program
-    → Makes program → proved_container policy bytes ≡ Err fault → ⊥
-no-fault program policy bytes fault is bare easy makes given =
-    apart (proved_container policy bytes) _ fault (made-of program policy bytes is bare easy makes) given
+pub no-fault : (program : List Bpf) (fault : ProveFault) → Compiles program → compiled_container program ≡ Err fault → ⊥
+unfolding compiled_container
+no-fault program fault compiles given = apart (compiled_container program) compiles.0 fault compiles.1 given
   where
     apart : (r : Result (List ℕ) ProveFault) (a : List ℕ) (f : ProveFault) → r ≡ Ok a → r ≡ Err f → ⊥
     apart r a f p q = cc
-
-pub compiled-is : (program : List Bpf) (out : List ℕ) → Gives program → IsCompilation program out → IsCompiled program out
-compiled-is program out gives h =
-    subst (IsCompiled program) (sym h.encoded) (gives h.code h.proof (code-bytes program h.code h.words) h.given)
 
 -- what `prove` answers, where the answer is known
 pub fault-given : (policy : PolicyKind) (bytes : List ℕ) (r : Result (Vec ℕ Global) ProveFault) (e f : ProveFault) → r ≡ Err e → e ≡ f

@@ -1,26 +1,29 @@
 -- What a program is compiled to.
-use Rattle.std.specs.Prelude.{◌≡◌, ℕ, List, Some}
+use Rattle.std.specs.Prelude.{◌≡◌, ℕ, List, Some, Result}
+use Rattle.policy_set.specs.declared.kind.PolicyKind.TheVariants.{Filter}
 use Rattle.term_table.specs.Tree.{Tree}
+use Rattle.proof_container.specs.Contents.{Contents}
 use Rattle.proof_container.specs.Encoding.{encoding_of}
 use Rattle.easy_class.specs.Access.{by_all_means}
 use Rattle.easy_class.specs.Parts.{condition_proof}
-use Rattle.bounds_prover.specs.Proving.{with_proof}
+use Rattle.pcc_asm.specs.Assembling.{plain_contents}
+use Rattle.bounds_prover.specs.declared.fault.ProveFault.{ProveFault}
+use Rattle.bounds_prover.specs.Proving.{proved_container, with_proof}
 use Rattle.bpf_words.specs.declared.insn.Bpf.{Bpf}
 use Rattle.bpf_code.specs.Blocks.{bpf_code}
+use Rattle.bpf_vc.specs.Invariants.{bpf_invariants}
 use Rattle.bpf_vc.specs.Condition.{bpf_parts}
-use Rattle.bpf_container.specs.Contents.{bpf_contents}
-use Rattle.bpf_compile.specs.Words.{AreWrittenWords}
 
--- the bytes are the program's container without a proof
-pub record IsBare (program : List Bpf) (bytes : List ℕ) : Type 0 where
-  pub code : List ℕ
-  pub words : AreWrittenWords code (bpf_code program)
-  pub encoded : bytes ≡ encoding_of (bpf_contents program code)
+-- what the program's container holds before it has a proof: the words that the assembler writes for its code, and its invariants
+abbrev pub bare_contents : List Bpf → Contents
+bare_contents program = plain_contents Filter (bpf_invariants program) (bpf_code program)
 
--- The bytes are the program's container with the class's proof of its condition, the code being the words that are written for it.
+-- the program's container: what `prove` makes of the one without a proof
+unfoldable pub compiled_container : List Bpf → Result (List ℕ) ProveFault
+compiled_container program = proved_container Filter (encoding_of (bare_contents program))
+
+-- The bytes are the program's container with the class's proof of its condition.
 pub record IsCompilation (program : List Bpf) (bytes : List ℕ) : Type 0 where
-  pub code : List ℕ
-  pub words : AreWrittenWords code (bpf_code program)
   pub proof : Tree
   pub given : condition_proof by_all_means (bpf_parts program) ≡ Some proof
-  pub encoded : bytes ≡ encoding_of (with_proof (bpf_contents program code) proof)
+  pub encoded : bytes ≡ encoding_of (with_proof (bare_contents program) proof)

@@ -1,10 +1,11 @@
 //! Programs of classic BPF as accepted containers.
 
-ghost use Rattle.std.specs.Prelude.{◌≡◌, IfOk};
+ghost use Rattle.std.specs.Prelude.{◌≡◌, IfOk, Ok};
+ghost use Rattle.proof_container.specs.Encoding.{encoding_of};
 ghost use Rattle.policy_set.specs.declared.kind.PolicyKind.TheVariants.{Filter};
 ghost use Rattle.bpf_words.specs.Programs.{IsProgram};
 ghost use Rattle.bpf_container.specs.Compiled.{IsCompiled};
-ghost use Rattle.bpf_compile.specs.Compilation.{IsBare, IsCompilation};
+ghost use Rattle.bpf_compile.specs.Compilation.{bare_contents, compiled_container, IsCompilation};
 
 use crate::invariants::encode_invs;
 use crate::words::bytes_of;
@@ -21,10 +22,11 @@ use term_table::{Places, Table};
 fn bare(alloc: Global, policy: &Policy, program: &[Bpf]) -> Result<Vec<u8>, AllocError>
     requires policy { policy.now ≡ Filter }
     requires program { IsProgram program.now }
-    ensures { IfOk result (λ v. IsBare program.now v.items) }
+    ensures { IfOk result (λ v. v.items ≡ encoding_of (bare_contents program.now)) }
 {
     bpf_filter::code_laws();
     bpf_container::laws();
+    written_code::laws();
     let insns = bpf_code(alloc, program)?;
     let code = bytes_of(alloc, &insns)?;
     let mut table = Table::new(alloc, Places::sigma1());
@@ -49,13 +51,16 @@ fn with_proof(
 ) -> Result<Vec<u8>, Exhausted>
     requires policy { policy.now ≡ Filter }
     requires program { IsProgram program.now }
-    requires bare { IsBare program.now bytes.now }
+    requires bare { bytes.now ≡ encoding_of (bare_contents program.now) }
+    ensures made { IfOk result (λ out. compiled_container program.now ≡ Ok out.items) }
     ensures exact { IfOk result (λ out. IsCompilation program.now out.items) }
     ensures compiled { IfOk result (λ out. IsCompiled program.now out.items) }
 {
     let _ = program; // only the clauses speak of it
     bpf_vc::laws();
+    bpf_filter::code_laws();
     bpf_container::laws();
+    written_code::laws();
     match prove(alloc, policy, bytes) {
         Ok(out) => Ok(out),
         Err(ProveFault::Memory) => Err(Exhausted::Memory),
@@ -68,8 +73,8 @@ fn with_proof(
 
 /// Compiles a program to a container that the gate accepts under `filter`, and whose code returns
 /// 0 on a packet of 64 bytes or more where the program's value is 0, else 1. The container has the
-/// words of the program's code, two invariants an instruction, and the proof that the class of
-/// easy conditions gives.
+/// words that the assembler writes for the program's code, two invariants an instruction, and the
+/// proof that the class of easy conditions gives: what `prove` makes of the container without one.
 ///
 /// Errors: `Memory`, where there was no memory, and `Results`, where the search of the proof kept
 /// more results than its limit; they say nothing of `program`. Every program has a container.
@@ -79,6 +84,7 @@ fn with_proof(
 pub fn compile(alloc: Global, program: &[Bpf]) -> Result<Vec<u8>, Exhausted>
     requires { IsProgram program.now }
     ensures compiled { IfOk result (λ out. IsCompiled program.now out.items) }
+    ensures made { IfOk result (λ out. compiled_container program.now ≡ Ok out.items) }
     ensures exact { IfOk result (λ out. IsCompilation program.now out.items) }
 {
     let policy = Policy::of(alloc, PolicyKind::Filter)?;

@@ -12,11 +12,11 @@ use Rattle.pcc_lines.specs.Sources.{written_line}
 use Rattle.pcc_exit.specs.Exits.{Exit}
 use Rattle.pcc_exit.specs.Requests.{no_memory_exit}
 use Rattle.policy_set.specs.declared.kind.PolicyKind.{PolicyKind}
-use Rattle.pcc_exit.specs.Stages.{Stage, stops, gives, ◌>>=◌, Follows}
-use Rattle.pcc_exit.specs.Runs.{Effect, Happens, NoneFailed, Comes, stopped, printed, wrote, done_exit, written_exit, status_after, Prints, EndsRun, decided, out_of_memory, Runs}
+use Rattle.pcc_exit.specs.Stages.{Stage, gives, ◌>>=◌, Follows}
+use Rattle.pcc_exit.specs.Runs.{Effect, Happens, NoneFailed, stopped, printed, wrote, done_exit, written_exit, status_after, Prints, EndsRun, decided, out_of_memory, Runs}
 use Rattle.pcc_cli.specs.Texts.{texts}
-use Rattle.pcc_cli.specs.Inside.Decisions.{end_of, stop_exit, report_text, effect_of, end_of_decision, exit_of, EndsWith, Decides}
-use Rattle.pcc_cli.specs.Inside.Gives.{StopsAs, GivesPure, IsClean, Gives, TellsWrite, Wrote}
+use Rattle.pcc_cli.specs.Inside.Decisions.{end_of, report_text, effect_of, end_of_decision, exit_of, EndsWith, Decides}
+use Rattle.pcc_cli.specs.Inside.Gives.{StopsAs, IsClean, Gives, TellsWrite, Wrote}
 use Rattle.pcc_cli.specs.declared.stop.Stop.{Stop}
 use Rattle.pcc_cli.specs.declared.stop.Stop.TheVariants as stop
 use Rattle.pcc_cli.specs.declared.report.Report.{Report}
@@ -81,6 +81,8 @@ wrote_ends stage asked name bytes put.Failed (Err (stop.BadLine line flaw)) foll
 wrote_ends stage asked name bytes put.Failed (Err (stop.BadSource flaw)) follows is = absurd is
 wrote_ends stage asked name bytes put.Failed (Err stop.PacketsTooLong) follows is = absurd is
 wrote_ends stage asked name bytes put.Failed (Err (stop.BadPackets fault)) follows is = absurd is
+wrote_ends stage asked name bytes put.Failed (Err stop.ProgramTooLong) follows is = absurd is
+wrote_ends stage asked name bytes put.Failed (Err (stop.BadProgram flaw)) follows is = absurd is
 wrote_ends stage asked name bytes put.Failed (Err (stop.Missing other)) follows is = absurd is
 wrote_ends stage asked name bytes put.Failed (Err (stop.ReadFault other)) follows is = absurd is
 wrote_ends stage asked name bytes put.Failed (Err stop.Memory) follows is = absurd is

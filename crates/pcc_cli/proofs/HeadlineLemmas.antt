@@ -1,5 +1,5 @@
 -- What a run means, by its events and its exit.
-use Rattle.std.proofs.Common.{◌≡◌, ℕ, ◌≤◌, ◌⊎◌, inl, inr, Bool, true, false, true≢false, List, [], ◌∷◌, ◌++◌, length, Option, Some, None, is_some, unwrap_or, Result, Ok, Err, refl, sym, ap, ◌∙◌, subst, arith}
+use Rattle.std.proofs.Common.{◌≡◌, ℕ, ◌≤◌, ◌⊎◌, inl, inr, false, true≢false, List, [], ◌∷◌, ◌++◌, length, Option, Some, None, is_some, unwrap_or, Result, Ok, Err, refl, sym, ap, ◌∙◌, subst, arith}
 use Rattle.std.proofs.lemmas.List.{append-nil}
 use Rattle.file_port.specs.Events.{Given, whole, missing, too_long, failed, no_memory, Event, was_read, was_written, was_put}
 use Rattle.file_port.specs.Files.{FilesState}
@@ -29,34 +29,37 @@ use Rattle.pcc_gate.specs.Safe.{AcceptedSafe}
 use Rattle.bounds_prover.specs.declared.fault.ProveFault.{ProveFault}
 use Rattle.bounds_prover.specs.Proving.{proved_container}
 use Rattle.bounds_prover.specs.ProvedLaws.{ProvedAccepted}
-use Rattle.pcc_words.specs.Invocations.{Invocation, asm, prove, check, run, ref, demo}
-use Rattle.pcc_lines.specs.Fixed.{accepted_line, unknown_policy_line, container_too_long_line, packets_too_long_line, source_too_long_line}
+use Rattle.pcc_words.specs.Invocations.{Invocation, asm, prove, check, run, ref, demo, bpf}
+use Rattle.pcc_lines.specs.Fixed.{accepted_line, bpf_too_long_line, unknown_policy_line, container_too_long_line, packets_too_long_line, source_too_long_line}
 use Rattle.pcc_lines.specs.Refusals.{refusal_line}
 use Rattle.pcc_lines.specs.Results.{result_lines}
 use Rattle.pcc_lines.specs.Sources.{written_line}
 use Rattle.pcc_exit.specs.Exits.{Exit, Change}
 use Rattle.pcc_exit.specs.Requests.{missing_exit, no_memory_exit}
 use Rattle.pcc_exit.specs.Stages.{Stage, stops, gives, reads, ◌>>=◌, went_on, Asks, Follows}
-use Rattle.pcc_exit.specs.Runs.{Effect, AreOctets, Happens, Comes, stopped, printed, wrote, done_exit, written_exit, Prints, EndsRun, decided, out_of_memory as ran_out, Runs}
-use Rattle.pcc_exit.proofs.RunLemmas.{is_stop, is_read, exit_at}
-use Rattle.pcc_cli.specs.declared.stages.TheConstants.{MAX_FILE}
+use Rattle.pcc_exit.specs.Runs.{Effect, AreOctets, Happens, Comes, stopped, printed, wrote, done_exit, written_exit, EndsRun, decided, out_of_memory as ran_out, Runs}
+use Rattle.pcc_exit.proofs.RunLemmas.{is_stop, is_read}
+use Rattle.pcc_cli.specs.declared.stages.TheConstants.{MAX_FILE, MAX_PROGRAM_FILE}
 use Rattle.pcc_cli.specs.Texts.{texts}
-use Rattle.pcc_cli.specs.Stages.Common.{refused, policy_found, policy_named, printing, writing}
-use Rattle.pcc_cli.specs.Stages.Containers.{container_bytes_of, code_in, code_of}
+use Rattle.pcc_cli.specs.Stages.Common.{refused, policy_found, printing, writing}
+use Rattle.pcc_cli.specs.Stages.Containers.{code_in, code_of}
 use Rattle.pcc_cli.specs.Stages.Judging.{unless_refused, accepted_in, accepted_code_in, accepted_of, accepted_code_of}
 use Rattle.pcc_cli.specs.Stages.Packets.{packets_found, packets_in, packets_of}
-use Rattle.pcc_cli.specs.Stages.Assembling.{source_found, source_in, container_made, assembled_as, assembled_in, assembled_of}
+use Rattle.pcc_cli.specs.Stages.Assembling.{assembled_in, assembled_of}
 use Rattle.pcc_cli.specs.Stages.Proving.{container_proved, proved_in, proved_of}
+use Rattle.pcc_cli.specs.Stages.Compiling.{compiled_in, compiled_of}
 use Rattle.pcc_cli.specs.Commands.Assemble.{asm_command}
+use Rattle.pcc_cli.specs.Commands.Bpf.{bpf_command}
 use Rattle.pcc_cli.specs.Commands.Check.{check_command}
 use Rattle.pcc_cli.specs.Commands.Prove.{prove_command}
 use Rattle.pcc_cli.specs.Commands.Reference.{ref_command}
 use Rattle.pcc_cli.specs.Commands.Running.{run_command}
 use Rattle.pcc_cli.specs.Commands.Demo.{demo_effect, demo_policy, demo_command}
 use Rattle.pcc_cli.specs.Tasks.{stage_of, policy_name_of, task_of_command}
-use Rattle.pcc_cli.specs.Headline.{IsVerdict, IsJudged, lines_exit, run_exit, Checks, RunsCode, not_accepted, accepted, Refs, no_code, ran, Makes, not_made, made, AssemblesTo, ProvesTo, DoesUnder, Does, Means, came, out_of_memory, MeansIfCommand, IsSafeRun, RunsSafely, AcceptedRunsSafely}
+use Rattle.pcc_cli.specs.Headline.{IsVerdict, IsJudged, lines_exit, run_exit, Checks, RunsCode, not_accepted, accepted, Refs, no_code, ran, Makes, not_made, made, StopsWith, AssemblesTo, ProvesTo, CompilesTo, IsToldOf, DoesUnder, Does, Means, came, out_of_memory, MeansIfCommand, AcceptedRunsSafely}
 use Rattle.pcc_cli.proofs.RunLemmas.{code_given, accepted_code_of_bytes}
-use Rattle.pcc_cli.proofs.TaskLemmas.{code_in-ends, assembled_in-ends, proved_in-ends, demo_ends}
+use Rattle.pcc_cli.proofs.CompileLemmas.{ReadsPrograms, CompilesPrograms, compiles, told}
+use Rattle.pcc_cli.proofs.TaskLemmas.{code_in-ends, assembled_in-ends, proved_in-ends, compiled_in-ends, demo_ends}
 
 -- ---- what follows a stage
 
@@ -446,25 +449,29 @@ module _ (kind : PolicyKind) (file packets : List ℕ) (steps : ℕ) where
         let r = first_read file MAX_FILE (refused container_too_long_line) ref_by e.asked e.later e.ended e.follows in
         ref_given r.given r.rest r.is r.follows
 
--- ---- asm and prove
+-- ---- asm, prove and bpf
 
-module _ (input output : List ℕ) (max : ℕ) (more : Exit) (made_of : List ℕ → Stage (List ℕ)) (ends : (b : List ℕ) → is_read (made_of b) ≡ false) (IsMade : List ℕ → List ℕ → Type 0) where
+module _ (input output : List ℕ) (max : ℕ) (more : Exit) (made_of : List ℕ → Stage (List ℕ)) (ends : (b : List ℕ) → is_read (made_of b) ≡ false)
+    (IsMade : List ℕ → List ℕ → Type 0) (IsTold : Given → Exit → Type 0) where
   -- what the command goes on with
   abbrev copy_by : List ℕ → Stage Effect
   copy_by b = made_of b >>= λ out. writing output out
 
   module _ (events : List Event) (exit : Exit) (is_made : (b out : List ℕ) (rest : List Event) → events ≡ was_read input max (whole b) ∷ rest → made_of b ≡ gives out → IsMade b out)
+      (is_told : (given : Given) (exit' : Exit) (rest : List Event) → events ≡ was_read input max given ∷ rest → went_on texts input more made_of given ≡ stops exit' → IsTold given exit')
       (e : Ended (reads input max more copy_by) events exit) where
-    copy_stopped : (given : Given) (exit' : Exit) (rest : List Event) → e.asked ≡ was_read input max given ∷ rest → went_on texts input more copy_by given ≡ stops exit'
-        → Follows texts rest (went_on texts input more copy_by given) e.later → Makes input output max IsMade events exit
-    copy_stopped given exit' rest is stop follows =
-        not_made given (stopped_there exit' rest e.later (was_read input max given) events e.asked exit is (went_on texts input more copy_by given) stop follows e.does).0
+    copy_stopped : (given : Given) (exit' : Exit) (rest : List Event) → e.asked ≡ was_read input max given ∷ rest → went_on texts input more made_of given ≡ stops exit'
+        → went_on texts input more copy_by given ≡ stops exit' → Follows texts rest (went_on texts input more copy_by given) e.later → Makes input output max IsMade IsTold events exit
+    copy_stopped given exit' rest is why stop follows =
+        let there = stopped_there exit' rest e.later (was_read input max given) events e.asked exit is (went_on texts input more copy_by given) stop follows e.does in
+        not_made given there.0 (subst (IsTold given) (sym there.1) (is_told given exit' [] there.0 why))
 
     -- the effect of what was made
     abbrev made_effect : List ℕ → Effect
     made_effect out = record { text = written_line (length out); change = Some (output, out) }
 
-    copied : (b out : List ℕ) (rest : List Event) → made_of b ≡ gives out → e.asked ≡ was_read input max (whole b) ∷ rest → Follows texts rest (copy_by b) e.later → Makes input output max IsMade events exit
+    copied : (b out : List ℕ) (rest : List Event) → made_of b ≡ gives out → e.asked ≡ was_read input max (whole b) ∷ rest → Follows texts rest (copy_by b) e.later
+        → Makes input output max IsMade IsTold events exit
     copied b out rest is asked follows = by e.does
       where
         at : copy_by b ≡ gives (made_effect out)
@@ -475,7 +482,7 @@ module _ (input output : List ℕ) (max : ℕ) (more : Exit) (made_of : List ℕ
 
         by : ((events ≡ e.asked) × (exit ≡ end_at e.later) × (change_at e.later ≡ None))
             ⊎ ((text : List ℕ) × (to : List ℕ) × (bytes : List ℕ) × (answer : Put) × (e.later ≡ gives (record { text = text; change = Some (to, bytes) }))
-            × (events ≡ e.asked ++ was_written to bytes answer ∷ []) × (exit ≡ written_exit texts to text answer)) → Makes input output max IsMade events exit
+            × (events ≡ e.asked ++ was_written to bytes answer ∷ []) × (exit ≡ written_exit texts to text answer)) → Makes input output max IsMade IsTold events exit
         by (inl d) = let none : Some (output, out) ≡ None = ap change_at (sym (last.1 ∙ at)) ∙ d.2 in absurd (true≢false (ap is_some none))
         by (inr d) =
             let same : Some (made_effect out) ≡ Some (record { text = d.0; change = Some (d.1, d.2) }) = ap value_at (sym (last.1 ∙ at) ∙ d.4) in
@@ -491,19 +498,19 @@ module _ (input output : List ℕ) (max : ℕ) (more : Exit) (made_of : List ℕ
             (d.6 ∙ ap (λ n. written_exit texts n d.0 d.3) to ∙ ap (λ x. written_exit texts output x d.3) text)
 
     copy_made : (b : List ℕ) (rest : List Event) → ((out : List ℕ) × (made_of b ≡ gives out)) ⊎ ((exit' : Exit) × (made_of b ≡ stops exit'))
-        → e.asked ≡ was_read input max (whole b) ∷ rest → Follows texts rest (copy_by b) e.later → Makes input output max IsMade events exit
+        → e.asked ≡ was_read input max (whole b) ∷ rest → Follows texts rest (copy_by b) e.later → Makes input output max IsMade IsTold events exit
     copy_made b rest (inl (out, is)) asked follows = copied b out rest is asked follows
-    copy_made b rest (inr (exit', is)) asked follows = copy_stopped (whole b) exit' rest asked (ap (λ c. c >>= λ out. writing output out) is) follows
+    copy_made b rest (inr (exit', is)) asked follows = copy_stopped (whole b) exit' rest asked is (ap (λ c. c >>= λ out. writing output out) is) follows
 
     copy_given : (given : Given) (rest : List Event) → e.asked ≡ was_read input max given ∷ rest → Follows texts rest (went_on texts input more copy_by given) e.later
-        → Makes input output max IsMade events exit
+        → Makes input output max IsMade IsTold events exit
     copy_given (whole b) rest is follows = copy_made b rest (shape (made_of b) (ends b)) is follows
-    copy_given missing rest is follows = copy_stopped missing _ rest is refl follows
-    copy_given too_long rest is follows = copy_stopped too_long _ rest is refl follows
-    copy_given failed rest is follows = copy_stopped failed _ rest is refl follows
-    copy_given no_memory rest is follows = copy_stopped no_memory _ rest is refl follows
+    copy_given missing rest is follows = copy_stopped missing _ rest is refl refl follows
+    copy_given too_long rest is follows = copy_stopped too_long _ rest is refl refl follows
+    copy_given failed rest is follows = copy_stopped failed _ rest is refl refl follows
+    copy_given no_memory rest is follows = copy_stopped no_memory _ rest is refl refl follows
 
-    makes : Makes input output max IsMade events exit
+    makes : Makes input output max IsMade IsTold events exit
     makes =
         let r = first_read input max more copy_by e.asked e.later e.ended e.follows in
         copy_given r.given r.rest r.is r.follows
@@ -542,7 +549,7 @@ asks_nothing s none silent events exit e = by e.does
 
 -- ---- by what the arguments are
 
-module _ (accepted_first : AcceptedFirst) (proved_accepted : ProvedAccepted) where
+module _ (accepted_first : AcceptedFirst) (proved_accepted : ProvedAccepted) (reads_programs : ReadsPrograms) (compiles_programs : CompilesPrograms) where
   -- a command whose policy was looked up
   does_by : (invocation : Invocation) (next : PolicyKind → Stage Effect) (events : List Event) (exit : Exit)
       → ((kind : PolicyKind) → Ended (next kind) events exit → DoesUnder kind invocation events exit)
@@ -552,14 +559,16 @@ module _ (accepted_first : AcceptedFirst) (proved_accepted : ProvedAccepted) whe
 
   does : (invocation : Invocation) (events : List Event) (exit : Exit) (f g : FilesState) → Happens events f g → Ended (stage_of invocation) events exit
       → Does (policy_of (policy_name_of invocation)) invocation events exit
-  unfolding asm_command prove_command check_command run_command ref_command demo_command assembled_of proved_of accepted_of accepted_code_of code_of accepted_in demo_effect
+  unfolding asm_command prove_command check_command run_command ref_command demo_command bpf_command assembled_of proved_of accepted_of accepted_code_of code_of compiled_of accepted_in demo_effect
   does (asm policy input output) events exit f g happened e =
       does_by (asm policy input output) (λ kind. reads input MAX_SOURCE (refused source_too_long_line) (λ b. assembled_in kind b >>= λ out. writing output out)) events exit
-      (λ kind e. makes input output MAX_SOURCE (refused source_too_long_line) (assembled_in kind) (assembled_in-ends kind) (AssemblesTo kind) events exit (λ b out rest split is. is) e) (policy_of policy) e
+      (λ kind e. makes input output MAX_SOURCE (refused source_too_long_line) (assembled_in kind) (assembled_in-ends kind) (AssemblesTo kind)
+      (StopsWith input (refused source_too_long_line) (assembled_in kind)) events exit (λ b out rest split is. is) (λ given exit' rest split why. why) e) (policy_of policy) e
   does (prove policy input output) events exit f g happened e =
       does_by (prove policy input output) (λ kind. reads input MAX_FILE (refused container_too_long_line) (λ b. proved_in kind b >>= λ out. writing output out)) events exit
-      (λ kind e. makes input output MAX_FILE (refused container_too_long_line) (proved_in kind) (proved_in-ends kind) (ProvesTo kind) events exit
-      (λ b out rest split is. proved_of_stage proved_accepted kind b out (given_bytes input MAX_FILE (whole b) rest events f g split happened) is) e) (policy_of policy) e
+      (λ kind e. makes input output MAX_FILE (refused container_too_long_line) (proved_in kind) (proved_in-ends kind) (ProvesTo kind)
+      (StopsWith input (refused container_too_long_line) (proved_in kind)) events exit
+      (λ b out rest split is. proved_of_stage proved_accepted kind b out (given_bytes input MAX_FILE (whole b) rest events f g split happened) is) (λ given exit' rest split why. why) e) (policy_of policy) e
   does (check policy file) events exit f g happened e =
       does_by (check policy file) (λ kind. reads file MAX_FILE (refused container_too_long_line) (λ b. accepted_in kind b >>= λ accepted. printing accepted_line)) events exit
       (λ kind e. checks accepted_first kind file events exit f g happened e) (policy_of policy) e
@@ -571,6 +580,10 @@ module _ (accepted_first : AcceptedFirst) (proved_accepted : ProvedAccepted) whe
       (λ kind e. refs kind file packets steps events exit e) (policy_of policy) e
   does (demo n) events exit f g happened e =
       does_by (demo n) (λ kind. demo_effect kind n) events exit (λ kind e. asks_nothing (demo_effect kind n) (demo_ends kind n) (demo-silent _ _) events exit e) (policy_of demo_policy) e
+  does (bpf input output) events exit f g happened e =
+      makes input output MAX_PROGRAM_FILE (refused bpf_too_long_line) compiled_in compiled_in-ends CompilesTo (IsToldOf input) events exit
+      (λ b out rest split is. compiles reads_programs compiles_programs b out (given_bytes input MAX_PROGRAM_FILE (whole b) rest events f g split happened) is)
+      (λ given exit' rest split why. told reads_programs compiles_programs input given exit' (given_bytes input MAX_PROGRAM_FILE given rest events f g split happened) why) e
 
   pub means : (o : Option Invocation) (e e' : List Event) (f g : FilesState) (s t : SinkState) (status : ℕ) → Runs texts (task_of_command o).stage e e' f g s t status
       → MeansIfCommand o e e' s t status

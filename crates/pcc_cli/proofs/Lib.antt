@@ -3,4 +3,5 @@ pub mod DecisionLemmas
 pub mod TaskLemmas
 pub mod CountLemmas
 pub mod RunLemmas
+pub mod CompileLemmas
 pub mod HeadlineLemmas

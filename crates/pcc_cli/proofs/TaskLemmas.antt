@@ -1,6 +1,5 @@
 -- What the arguments ask for is suited: the stages stop with refusals that go with what the arguments are, and read the named files.
-use Rattle.std.proofs.Common.{◌≡◌, ◌≢◌, ℕ, ◌<◌, Bool, true, false, List, [], ◌∷◌, length, ◌==◌, if◌then◌else◌, get_or, Option, Some, None, Result, Ok, Err, Contains, refl, sym, ap, ◌∙◌, subst, arith, inl, inr}
-use Rattle.std.proofs.lemmas.List.Elements.{Contains-append_left, Contains-append_right}
+use Rattle.std.proofs.Common.{◌≡◌, ◌≢◌, ℕ, ◌<◌, Bool, true, false, List, [], ◌∷◌, length, ◌==◌, if◌then◌else◌, get_or, Option, Some, None, Result, Ok, Err, Contains, refl, ap, arith, inl, inr}
 use Rattle.packet_store.specs.declared.fault.PacketFault.{PacketFault}
 use Rattle.packet_store.specs.declared.fault.PacketFault.TheVariants as packet
 use Rattle.packet_store.specs.PacketDecoding.{decoded_packets}
@@ -24,38 +23,46 @@ use Rattle.bounds_prover.specs.declared.fault.ProveFault.{ProveFault}
 use Rattle.bounds_prover.specs.declared.fault.ProveFault.TheVariants as fault
 use Rattle.bounds_prover.specs.Names.{measure_name}
 use Rattle.bounds_prover.specs.Proving.{proved_container}
+use Rattle.bpf_words.specs.declared.insn.Bpf.{Bpf}
+use Rattle.bpf_words.specs.declared.fault.BpfFlaw.{BpfFlaw}
+use Rattle.bpf_words.specs.declared.fault.BpfFlaw.TheVariants as flaw
+use Rattle.bpf_words.specs.Reading.{program_of}
+use Rattle.bpf_compile.specs.Compilation.{compiled_container}
 use Rattle.demo_input.specs.Sources.{demo_source}
 use Rattle.pcc_gate.specs.declared.refusal.Refusal.{Refusal}
 use Rattle.pcc_gate.specs.declared.refusal.Refusal.TheVariants as refusal
 use Rattle.pcc_gate.specs.First.{first_refusal}
-use Rattle.pcc_words.specs.Invocations.{Invocation, asm, prove, check, run, ref, demo}
+use Rattle.pcc_words.specs.Invocations.{Invocation, asm, prove, check, run, ref, demo, bpf}
+use Rattle.pcc_lines.specs.Bpf.{bpf_measure_line, bpf_insn_line, bpf_flaw_line}
 use Rattle.pcc_lines.specs.Demo.{demo_lines}
-use Rattle.pcc_lines.specs.Fixed.{accepted_line, unknown_policy_line, container_too_long_line, packets_too_long_line, source_too_long_line}
+use Rattle.pcc_lines.specs.Fixed.{accepted_line, bpf_too_long_line, unknown_policy_line, container_too_long_line, packets_too_long_line, source_too_long_line}
 use Rattle.pcc_lines.specs.PacketFaults.{packet_fault_line}
 use Rattle.pcc_lines.specs.Proving.{not_easy_line, too_big_line}
 use Rattle.pcc_lines.specs.Refusals.{refusal_line}
 use Rattle.pcc_lines.specs.Results.{result_lines}
 use Rattle.pcc_lines.specs.Sources.{source_fault_line}
 use Rattle.pcc_exit.specs.Exits.{Exit}
-use Rattle.pcc_exit.specs.Requests.{Standing, Suits, command, unknown_policy_exit, usage_exit}
+use Rattle.pcc_exit.specs.Requests.{Standing, command}
 use Rattle.pcc_exit.specs.Stages.{Stage, stops, gives, reads, ◌>>=◌}
 use Rattle.pcc_exit.specs.Runs.{Effect, IsStop, IsSuited}
 use Rattle.pcc_exit.proofs.RunLemmas.{is_read}
 use Rattle.pcc_cli.specs.Texts.{texts}
-use Rattle.pcc_cli.specs.declared.stages.TheConstants.{MAX_FILE}
-use Rattle.pcc_cli.specs.Stages.Common.{refused, policy_found, policy_named, printing, writing}
-use Rattle.pcc_cli.specs.Stages.Containers.{container_for, container_in, code_found, code_in, container_bytes_of, code_of}
+use Rattle.pcc_cli.specs.declared.stages.TheConstants.{MAX_FILE, MAX_PROGRAM_FILE}
+use Rattle.pcc_cli.specs.Stages.Common.{refused, policy_found, printing, writing}
+use Rattle.pcc_cli.specs.Stages.Containers.{container_for, container_in, code_found, code_in, code_of}
 use Rattle.pcc_cli.specs.Stages.Judging.{unless_refused, accepted_in, accepted_code_in, Shown, shown_in, accepted_of, accepted_code_of}
 use Rattle.pcc_cli.specs.Stages.Packets.{packets_found, packets_in, packets_of}
 use Rattle.pcc_cli.specs.Stages.Assembling.{source_found, source_in, container_made, assembled_as, assembled_in, assembled_of}
-use Rattle.pcc_cli.specs.Stages.Proving.{no_container, container_proved, proved_in, proved_of}
+use Rattle.pcc_cli.specs.Stages.Proving.{container_proved, proved_in, proved_of}
+use Rattle.pcc_cli.specs.Stages.Compiling.{program_found, program_in, compiled_as, compiled_in, compiled_of}
 use Rattle.pcc_cli.specs.Commands.Assemble.{asm_command}
+use Rattle.pcc_cli.specs.Commands.Bpf.{bpf_command}
 use Rattle.pcc_cli.specs.Commands.Check.{check_command}
 use Rattle.pcc_cli.specs.Commands.Prove.{prove_command}
 use Rattle.pcc_cli.specs.Commands.Reference.{ref_command}
 use Rattle.pcc_cli.specs.Commands.Running.{run_command}
 use Rattle.pcc_cli.specs.Commands.Demo.{summary_of, demo_container, demo_told, demo_effect, demo_policy, demo_command}
-use Rattle.pcc_cli.specs.Tasks.{stage_of, names_of, standing_on, policy_name_of, standing_of, task_of_command}
+use Rattle.pcc_cli.specs.Tasks.{standing_on, task_of_command}
 
 -- ---- lines
 
@@ -103,6 +110,16 @@ not_easy-first part = refl
 too_big-first : (name : List ℕ) (number : ℕ) → get_or (too_big_line name number) 0 0 ≡ 116
 unfolding too_big_line
 too_big-first name number = refl
+
+bpf_flaw-first : (f : BpfFlaw) → get_or (bpf_flaw_line f) 0 0 ≡ 98
+unfolding bpf_measure_line bpf_insn_line
+bpf_flaw-first (flaw.Size n) = refl
+bpf_flaw-first (flaw.Count n) = refl
+bpf_flaw-first (flaw.Opcode i) = refl
+bpf_flaw-first (flaw.Offset i) = refl
+bpf_flaw-first (flaw.Shift i) = refl
+bpf_flaw-first (flaw.Jump i) = refl
+bpf_flaw-first (flaw.NoReturn i) = refl
 
 refusal_stop : (r : Refusal) → IsStop texts command (refused (refusal_line r))
 refusal_stop r = let first : get_or (refusal_line r) 0 0 ≡ 114 = refusal-first r in stop_line (refusal_line r) (omega arith)
@@ -205,6 +222,14 @@ module _ (names : List (List ℕ)) where
   unfolding proved_in
   proved_in-fits policy bytes = container_proved-fits (proved_container policy bytes)
 
+  program_found-fits : (r : Result (List Bpf) BpfFlaw) → Fits (program_found r)
+  program_found-fits (Ok program) = refl
+  program_found-fits (Err f) = inl (let first : get_or (bpf_flaw_line f) 0 0 ≡ 98 = bpf_flaw-first f in stop_line (bpf_flaw_line f) (omega arith))
+
+  compiled_in-fits : (bytes : List ℕ) → Fits (compiled_in bytes)
+  unfolding compiled_in program_in compiled_as
+  compiled_in-fits bytes = behind (λ program. compiled_as program) (program_in bytes) (program_found-fits (program_of bytes)) (λ program. container_proved-fits (compiled_container program))
+
   -- stages that read
   packets_of-fits : {B : Type 0} (name : List ℕ) (next : List (List ℕ) → Stage B) → Contains names name → ((all : List (List ℕ)) → Fits (next all)) → Fits (packets_of name >>= next)
   unfolding packets_of
@@ -237,6 +262,9 @@ assembled_in-ends policy text = no_reads (assembled_in policy text) (assembled_i
 pub proved_in-ends : (policy : PolicyKind) (bytes : List ℕ) → is_read (proved_in policy bytes) ≡ false
 proved_in-ends policy bytes = no_reads (proved_in policy bytes) (proved_in-fits [] policy bytes)
 
+pub compiled_in-ends : (bytes : List ℕ) → is_read (compiled_in bytes) ≡ false
+compiled_in-ends bytes = no_reads (compiled_in bytes) (compiled_in-fits [] bytes)
+
 pub demo_ends : (policy : PolicyKind) (n : ℕ) → is_read (demo_effect policy n) ≡ false
 demo_ends policy n = no_reads (demo_effect policy n) (demo_effect-fits [] policy n)
 
@@ -259,7 +287,7 @@ second_name : (a b : List ℕ) → Contains (a ∷ b ∷ []) b
 second_name a b = (1, omega arith, refl)
 
 pub suited : (o : Option Invocation) → let task = task_of_command o in IsSuited texts task.standing task.names task.stage
-unfolding asm_command prove_command check_command run_command ref_command demo_command assembled_of proved_of accepted_of accepted_code_of code_of
+unfolding asm_command prove_command check_command run_command ref_command demo_command bpf_command assembled_of proved_of accepted_of accepted_code_of code_of compiled_of
 suited None = inl (record { suits = refl; some = omega arith; in_range = omega arith })
 suited (Some (asm policy input output)) =
     begins (input ∷ []) (λ under. assembled_of under input >>= λ container. writing output container) (policy_of policy) (λ kind.
@@ -286,3 +314,6 @@ suited (Some (ref policy file packets steps)) =
     behind names (λ code. packets_of packets >>= λ all. printing (result_lines kind (packet_result kind code steps) 0 all)) (code_in kind b) (code_in-fits names kind b) (λ code.
     packets_of-fits names packets (λ all. printing (result_lines kind (packet_result kind code steps) 0 all)) (second_name file packets) (λ all. refl))))
 suited (Some (demo n)) = begins [] (λ under. demo_effect under n) (policy_of demo_policy) (λ kind. demo_effect-fits [] kind n)
+suited (Some (bpf input output)) =
+    read (input ∷ []) input MAX_PROGRAM_FILE bpf_too_long_line (λ b. compiled_in b >>= λ container. writing output container) (only input) (omega arith) (λ b.
+    behind (input ∷ []) (λ container. writing output container) (compiled_in b) (compiled_in-fits (input ∷ []) b) (λ container. refl))

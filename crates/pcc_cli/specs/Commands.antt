@@ -1,4 +1,5 @@
 pub mod Assemble
+pub mod Bpf
 pub mod Check
 pub mod Demo
 pub mod Prove

@@ -1,4 +1,4 @@
--- What a run of `check`, `run`, `ref`, `prove` and `asm` means, whatever the files hold, by what it read; and what accepted code is worth.
+-- What a run of `check`, `run`, `ref`, `prove`, `asm` and `bpf` means, whatever the files hold, by what it read; and what accepted code is worth.
 use Rattle.std.specs.Prelude.{◌≡◌, ℕ, ◌≤◌, ◌↔◌, ◌⊎◌, List, [], ◌∷◌, ◌++◌, length, Option, None, Some, Result, Ok, Err}
 use Rattle.file_port.specs.Events.{Given, whole, missing, too_long, failed, no_memory, Event, was_read, was_written}
 use Rattle.file_port.specs.Sink.{SinkState}
@@ -6,13 +6,16 @@ use Rattle.file_port.specs.declared.port.Put.{Put}
 use Rattle.alpha_words.specs.declared.insn.Insn.{Insn}
 use Rattle.alpha_cfg.specs.Isolation.{ChangesWritable, DependsOnReadable}
 use Rattle.alpha_cfg.specs.Machine.{State, run_of}
+use Rattle.alpha_cfg.specs.declared.outcome.Outcome.TheVariants.{Returned}
 use Rattle.policy_set.specs.declared.kind.PolicyKind.{PolicyKind}
+use Rattle.policy_set.specs.declared.kind.PolicyKind.TheVariants.{Filter}
 use Rattle.policy_set.specs.Names.{policy_of}
 use Rattle.policy_set.specs.Policies.{post_of}
 use Rattle.reference_machine.specs.declared.layout.TheConstants.{ARENA}
 use Rattle.reference_machine.specs.Starts.{StartView, start_state}
 use Rattle.packet_store.specs.declared.reader.TheConstants.{MAX_PACKET}
 use Rattle.packet_store.specs.declared.fault.PacketFault.{PacketFault}
+use Rattle.packet_store.specs.declared.results.PacketResult.TheVariants.{Ran}
 use Rattle.packet_store.specs.PacketDecoding.{decoded_packets}
 use Rattle.packet_store.specs.PolicyStarts.{start_of}
 use Rattle.packet_store.specs.Results.{packet_result}
@@ -21,8 +24,16 @@ use Rattle.vcgen.specs.Safety.{IsGoodEnd}
 use Rattle.pcc_gate.specs.declared.refusal.Refusal.{Refusal}
 use Rattle.pcc_gate.specs.Accepted.{IsAccepted}
 use Rattle.pcc_gate.specs.First.{first_refusal}
-use Rattle.pcc_words.specs.Invocations.{Invocation, asm, prove, check, run, ref, demo}
-use Rattle.pcc_lines.specs.Fixed.{accepted_line, unknown_policy_line, container_too_long_line, packets_too_long_line}
+use Rattle.bpf_words.specs.declared.insn.TheConstants.{LOADABLE}
+use Rattle.bpf_words.specs.declared.insn.Bpf.{Bpf}
+use Rattle.bpf_words.specs.declared.fault.BpfFlaw.{BpfFlaw}
+use Rattle.bpf_words.specs.Reading.{program_of}
+use Rattle.bpf_words.specs.Values.{bpf_value}
+use Rattle.bpf_code.specs.Blocks.{nonzero_flag}
+use Rattle.bpf_compile.specs.Compilation.{compiled_container}
+use Rattle.pcc_words.specs.Invocations.{Invocation, asm, prove, check, run, ref, demo, bpf}
+use Rattle.pcc_lines.specs.Bpf.{bpf_flaw_line}
+use Rattle.pcc_lines.specs.Fixed.{accepted_line, bpf_too_long_line, unknown_policy_line, container_too_long_line, packets_too_long_line, source_too_long_line}
 use Rattle.pcc_lines.specs.PacketFaults.{packet_fault_line}
 use Rattle.pcc_lines.specs.Refusals.{refusal_line}
 use Rattle.pcc_lines.specs.Results.{result_lines}
@@ -32,12 +43,13 @@ use Rattle.pcc_exit.specs.Requests.{missing_exit, read_fault_exit, no_memory_exi
 use Rattle.pcc_exit.specs.Runs.{done_exit, written_exit, Prints, NoneFailed}
 use Rattle.asm_text.specs.declared.limits.TheConstants.{MAX_SOURCE}
 use Rattle.bounds_prover.specs.Proving.{proved_container}
-use Rattle.pcc_exit.specs.Stages.{gives}
+use Rattle.pcc_exit.specs.Stages.{Stage, stops, gives, went_on}
 use Rattle.pcc_cli.specs.Texts.{texts}
 use Rattle.pcc_cli.specs.Tasks.{policy_name_of}
 use Rattle.pcc_cli.specs.Stages.Assembling.{assembled_in}
 use Rattle.pcc_cli.specs.Stages.Common.{refused}
-use Rattle.pcc_cli.specs.declared.stages.TheConstants.{MAX_FILE}
+use Rattle.pcc_cli.specs.Stages.Proving.{proved_in}
+use Rattle.pcc_cli.specs.declared.stages.TheConstants.{MAX_FILE, MAX_PROGRAM_FILE}
 
 -- ---- the verdict on what was read
 
@@ -94,11 +106,16 @@ pub data Refs (policy : PolicyKind) (file packets : List ℕ) (steps : ℕ) (eve
       → events ≡ was_read file MAX_FILE (whole bytes) ∷ was_read packets MAX_FILE given ∷ [] → exit ≡ run_exit policy code steps packets given
       → ((a : IsAccepted policy bytes) → code ≡ a.code) → Refs policy file packets steps events exit
 
--- A command that makes a file of another: one read, of IN, and a refusal; or then one write to OUT, of what is made of the bytes.
-pub data Makes (input output : List ℕ) (max : ℕ) (IsMade : List ℕ → List ℕ → Type 0) (events : List Event) (exit : Exit) : Type 0 where
-  not_made : (given : Given) → events ≡ was_read input max given ∷ [] → Makes input output max IsMade events exit
+-- A command that makes a file of another: one read, of IN, and the exit that tells why nothing is made of what it gave; or then one
+-- write to OUT, of what is made of the bytes.
+pub data Makes (input output : List ℕ) (max : ℕ) (IsMade : List ℕ → List ℕ → Type 0) (IsTold : Given → Exit → Type 0) (events : List Event) (exit : Exit) : Type 0 where
+  not_made : (given : Given) → events ≡ was_read input max given ∷ [] → IsTold given exit → Makes input output max IsMade IsTold events exit
   made : (bytes out : List ℕ) (answer : Put) → events ≡ was_read input max (whole bytes) ∷ was_written output out answer ∷ []
-      → IsMade bytes out → exit ≡ written_exit texts output (written_line (length out)) answer → Makes input output max IsMade events exit
+      → IsMade bytes out → exit ≡ written_exit texts output (written_line (length out)) answer → Makes input output max IsMade IsTold events exit
+
+-- what is told of what the read of IN gave, where a stage goes on with the bytes: it stops with this exit, or there are none
+abbrev pub StopsWith : List ℕ → Exit → (List ℕ → Stage (List ℕ)) → Given → Exit → Type 0
+StopsWith input too_long_exit stage given exit = went_on texts input too_long_exit stage given ≡ stops exit
 
 -- `asm` makes of a source the container that it is assembled into
 abbrev pub AssemblesTo : PolicyKind → List ℕ → List ℕ → Type 0
@@ -109,16 +126,45 @@ pub record ProvesTo (policy : PolicyKind) (bytes out : List ℕ) : Type 0 where
   pub proved : proved_container policy bytes ≡ Ok out
   pub accepted : IsAccepted policy out
 
+-- the most steps of a run of what a program is compiled to; each of at most forty instructions takes twenty
+abbrev pub bpf_steps : ℕ
+bpf_steps = 1000
+
+-- each packet that isn't short comes to 0 where the program's value on it is 0, else to 1, by the machine that tests every access
+abbrev pub ComesToValues : List Bpf → List Insn → Type 0
+ComesToValues program code =
+    (packet : List ℕ) → IsBytes packet → LOADABLE ≤ length packet
+    → packet_result Filter code bpf_steps packet ≡ Ran (Returned (nonzero_flag (bpf_value program packet))) 0
+
+-- `bpf` makes of a program its container, which is accepted under `filter`, and whatever code that is, packets come to the program's values
+pub record CompilesTo (bytes out : List ℕ) : Type 0 where
+  pub program : List Bpf
+  pub reads : program_of bytes ≡ Ok program
+  pub compiled : compiled_container program ≡ Ok out
+  pub accepted : IsAccepted Filter out
+  pub values : (a : IsAccepted Filter out) → ComesToValues program a.code
+
+-- what `bpf` prints of what its read of IN gave, where it compiles nothing: the bytes are no program, and the line is that of the first flaw
+abbrev pub IsToldOf : List ℕ → Given → Exit → Type 0
+IsToldOf input (whole bytes) exit = (flaw : BpfFlaw) × (program_of bytes ≡ Err flaw) × (exit ≡ refused (bpf_flaw_line flaw))
+IsToldOf input missing exit = exit ≡ missing_exit texts input
+IsToldOf input too_long exit = exit ≡ refused bpf_too_long_line
+IsToldOf input failed exit = exit ≡ read_fault_exit texts input
+IsToldOf input no_memory exit = exit ≡ no_memory_exit
+
 -- ---- by what the arguments are
 
 -- what a command under a policy did that came to an exit
 abbrev pub DoesUnder : PolicyKind → Invocation → List Event → Exit → Type 0
-DoesUnder kind (asm policy input output) events exit = Makes input output MAX_SOURCE (AssemblesTo kind) events exit
-DoesUnder kind (prove policy input output) events exit = Makes input output MAX_FILE (ProvesTo kind) events exit
+DoesUnder kind (asm policy input output) events exit =
+    Makes input output MAX_SOURCE (AssemblesTo kind) (StopsWith input (refused source_too_long_line) (assembled_in kind)) events exit
+DoesUnder kind (prove policy input output) events exit =
+    Makes input output MAX_FILE (ProvesTo kind) (StopsWith input (refused container_too_long_line) (proved_in kind)) events exit
 DoesUnder kind (check policy file) events exit = Checks kind file events exit
 DoesUnder kind (run policy file packets steps) events exit = RunsCode kind file packets steps events exit
 DoesUnder kind (ref policy file packets steps) events exit = Refs kind file packets steps events exit
 DoesUnder kind (demo n) events exit = events ≡ []
+DoesUnder kind (bpf input output) events exit = Makes input output MAX_PROGRAM_FILE CompilesTo (IsToldOf input) events exit
 
 -- what a command did whose policy was found, or wasn't
 abbrev pub Does : Option PolicyKind → Invocation → List Event → Exit → Type 0

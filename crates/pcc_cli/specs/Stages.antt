@@ -4,3 +4,4 @@ pub mod Judging
 pub mod Packets
 pub mod Assembling
 pub mod Proving
+pub mod Compiling

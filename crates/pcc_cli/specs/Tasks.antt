@@ -2,7 +2,7 @@
 use Rattle.std.specs.Prelude.{ℕ, List, [], ◌∷◌, Option, Some, None}
 use Rattle.policy_set.specs.declared.kind.PolicyKind.{PolicyKind}
 use Rattle.policy_set.specs.Names.{policy_of}
-use Rattle.pcc_words.specs.Invocations.{Invocation, asm, prove, check, run, ref, demo, command_of}
+use Rattle.pcc_words.specs.Invocations.{Invocation, asm, prove, check, run, ref, demo, bpf, command_of}
 use Rattle.pcc_exit.specs.Requests.{Request, Standing, no_command, unknown_policy, command, usage_exit}
 use Rattle.pcc_exit.specs.Stages.{Stage, stops}
 use Rattle.pcc_exit.specs.Runs.{Effect, Task, request_of_task}
@@ -13,6 +13,7 @@ use Rattle.pcc_cli.specs.Commands.Prove.{prove_command}
 use Rattle.pcc_cli.specs.Commands.Reference.{ref_command}
 use Rattle.pcc_cli.specs.Commands.Demo.{demo_policy, demo_command}
 use Rattle.pcc_cli.specs.Commands.Running.{run_command}
+use Rattle.pcc_cli.specs.Commands.Bpf.{bpf_policy, bpf_command}
 
 -- ---- each command
 
@@ -24,6 +25,7 @@ stage_of (check policy file) = check_command policy file
 stage_of (run policy file packets steps) = run_command policy file packets steps
 stage_of (ref policy file packets steps) = ref_command policy file packets steps
 stage_of (demo n) = demo_command n
+stage_of (bpf input output) = bpf_command input output
 
 -- the files that a command reads, whatever they hold
 abbrev pub names_of : Invocation → List (List ℕ)
@@ -33,6 +35,7 @@ names_of (check policy file) = file ∷ []
 names_of (run policy file packets steps) = file ∷ packets ∷ []
 names_of (ref policy file packets steps) = file ∷ packets ∷ []
 names_of (demo n) = []
+names_of (bpf input output) = input ∷ []
 
 -- what a command on this policy is
 abbrev pub standing_on : Option PolicyKind → Standing
@@ -47,6 +50,7 @@ policy_name_of (check policy file) = policy
 policy_name_of (run policy file packets steps) = policy
 policy_name_of (ref policy file packets steps) = policy
 policy_name_of (demo n) = demo_policy
+policy_name_of (bpf input output) = bpf_policy
 
 -- what a command is
 abbrev pub standing_of : Invocation → Standing

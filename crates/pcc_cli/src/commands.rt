@@ -1,6 +1,7 @@
 //! The commands, a file each.
 
 mod assemble;
+mod bpf;
 mod check;
 mod demo;
 mod prove;
@@ -8,6 +9,7 @@ mod reference;
 mod running;
 
 pub use assemble::asm_command;
+pub use bpf::bpf_command;
 pub use check::check_command;
 pub use demo::demo_command;
 pub use prove::prove_command;

@@ -7,6 +7,7 @@ ghost use Rattle.asm_text.specs.declared.limits.TheConstants.{MAX_SOURCE};
 ghost use Rattle.asm_text.specs.Views.{source_view};
 ghost use Rattle.pcc_asm.specs.Views.{IsSpelled};
 ghost use Rattle.pcc_gate.specs.Answers.{IsAcceptedBy};
+ghost use Rattle.bpf_words.specs.Programs.{IsProgram};
 ghost use Rattle.pcc_exit.specs.Stages.{reads, gives};
 ghost use Rattle.pcc_cli.specs.Stages.Common as common;
 ghost use Rattle.pcc_cli.specs.Stages.Containers as containers;
@@ -14,6 +15,7 @@ ghost use Rattle.pcc_cli.specs.Stages.Judging as judging;
 ghost use Rattle.pcc_cli.specs.Stages.Packets as packets;
 ghost use Rattle.pcc_cli.specs.Stages.Assembling as assembling;
 ghost use Rattle.pcc_cli.specs.Stages.Proving as proving;
+ghost use Rattle.pcc_cli.specs.Stages.Compiling as compiling;
 ghost use Rattle.pcc_cli.specs.Inside.Gives.{Gives, GivesPure, IsTooLong, HasWholeCode, Wrote};
 ghost use Rattle.pcc_cli.specs.Inside.Decisions.{stop_exit};
 ghost use Rattle.pcc_cli.specs.Inside.Shows.{shown_by};
@@ -23,6 +25,8 @@ use crate::stop::Stop;
 use alpha_cfg::{Code, CodeFault};
 use asm_text::{LineFault, MAX_SOURCE, Source, read_source};
 use bounds_prover::{ProveFault, prove};
+use bpf_compile::compile;
+use bpf_words::{Bpf, BpfFault, read_bpf};
 use file_port::{Files, Got, Put};
 use packet_store::PacketFile;
 use pcc_asm::{AsmFault, assemble};
@@ -33,6 +37,9 @@ use std::alloc::Global;
 
 /// The most bytes of a container and of a packet file.
 pub const MAX_FILE: u32 = 4_194_304;
+
+/// The most bytes that are read of a program of classic BPF; none is longer than 320.
+pub const MAX_PROGRAM_FILE: u32 = 65_536;
 
 /// The policy of the name.
 pub fn policy_named<'a>(alloc: Global, name: &str) -> Result<Policy, Stop<'a>>
@@ -283,6 +290,55 @@ pub fn assembled_of<'a, F: Files>(
 {
     let text = bytes_of(alloc, name, MAX_SOURCE as u32, Stop::SourceTooLong, files)?;
     assembled_in(alloc, policy, &text)
+}
+
+/// The program of classic BPF that the bytes are.
+#[tactic(auto, unfolding(crate::specs::Stages::Compiling::program_in))]
+fn program_in<'a>(alloc: Global, bytes: &[u8]) -> Result<Vec<Bpf>, Stop<'a>>
+    ensures exact { GivesPure (λ program. program.items) (compiling.program_in bytes.now) result }
+    ensures program { IfOk result (λ program. IsProgram program.items) }
+{
+    match read_bpf(alloc, bytes) {
+        Ok(program) => Ok(program),
+        Err(BpfFault::At(flaw)) => Err(Stop::BadProgram(flaw)),
+        Err(BpfFault::Memory) => Err(Stop::Memory),
+    }
+}
+
+/// The container, as bytes, that the program is compiled to.
+#[tactic(auto, unfolding(crate::specs::Stages::Compiling::compiled_as))]
+fn compiled_as<'a>(alloc: Global, program: &[Bpf]) -> Result<Vec<u8>, Stop<'a>>
+    requires { IsProgram program.now }
+    ensures { GivesPure (λ bytes. bytes.items) (compiling.compiled_as program.now) result }
+{
+    match compile(alloc, program) {
+        Ok(container) => Ok(container),
+        Err(_) => Err(Stop::Memory),
+    }
+}
+
+/// The same of the program that the bytes are.
+fn compiled_in<'a>(alloc: Global, bytes: &[u8]) -> Result<Vec<u8>, Stop<'a>>
+    ensures { GivesPure (λ bytes. bytes.items) (compiling.compiled_in bytes.now) result }
+{
+    let program = match program_in(alloc, bytes) {
+        Ok(program) => program,
+        Err(stop) => return Err(stop),
+    };
+    compiled_as(alloc, &program)
+}
+
+/// The container, as bytes, that the program in the file of the name is compiled to.
+pub fn compiled_of<'a, F: Files>(
+    alloc: Global,
+    name: &'a str,
+    files: &mut F,
+) -> Result<Vec<u8>, Stop<'a>>
+    ensures { Gives (λ bytes. bytes.items) (compiling.compiled_of name.entry.now)
+        (F.log files.old) (F.log files.new) (F.state files.old) (F.state files.new) result }
+{
+    let bytes = bytes_of(alloc, name, MAX_PROGRAM_FILE, Stop::ProgramTooLong, files)?;
+    compiled_in(alloc, &bytes)
 }
 
 /// Writes the bytes to the file of the name, and reports how many they are.

@@ -6,14 +6,16 @@ ghost use Rattle.pcc_cli.specs.Inside.Decisions.{stop_exit};
 
 use asm_text::LineFlaw;
 use bounds_prover::Measure;
+use bpf_words::BpfFlaw;
 use file_port::{Put, Sink};
 use packet_store::PacketFault;
 use pcc_asm::AsmFlaw;
 use pcc_gate::Refusal;
 use pcc_lines::{
-    print_container_too_long, print_missing, print_not_easy, print_packet_fault,
-    print_packets_too_long, print_read_fault, print_refusal, print_source_fault,
-    print_source_too_long, print_too_big, print_unknown_policy, print_usage, print_write_fault,
+    print_bpf_flaw, print_bpf_too_long, print_container_too_long, print_missing, print_not_easy,
+    print_packet_fault, print_packets_too_long, print_read_fault, print_refusal,
+    print_source_fault, print_source_too_long, print_too_big, print_unknown_policy, print_usage,
+    print_write_fault,
 };
 
 /// What ends a command before it is done.
@@ -42,6 +44,10 @@ pub enum Stop<'a> {
     PacketsTooLong,
     /// The packet file has a fault.
     BadPackets(PacketFault),
+    /// The program's file is longer than what is read of one.
+    ProgramTooLong,
+    /// The bytes are no program of classic BPF: the first thing that is wrong with them.
+    BadProgram(BpfFlaw),
     /// There is no file of this name.
     Missing(&'a str),
     /// The read of the file of this name failed.
@@ -67,7 +73,9 @@ impl Stop<'_> {
             | Stop::BadLine(_, _)
             | Stop::BadSource(_)
             | Stop::PacketsTooLong
-            | Stop::BadPackets(_) => 1,
+            | Stop::BadPackets(_)
+            | Stop::ProgramTooLong
+            | Stop::BadProgram(_) => 1,
             Stop::Usage => 2,
             Stop::Missing(_) | Stop::ReadFault(_) => 3,
             Stop::WriteFault(_) => 4,
@@ -91,6 +99,8 @@ impl Stop<'_> {
             Stop::BadSource(flaw) => print_source_fault(flaw.line(), flaw.name(), out),
             Stop::PacketsTooLong => print_packets_too_long(out),
             Stop::BadPackets(fault) => print_packet_fault(*fault, out),
+            Stop::ProgramTooLong => print_bpf_too_long(out),
+            Stop::BadProgram(flaw) => print_bpf_flaw(*flaw, out),
             Stop::Missing(name) => print_missing(name, out),
             Stop::ReadFault(name) => print_read_fault(name, out),
             Stop::WriteFault(name) => print_write_fault(name, out),

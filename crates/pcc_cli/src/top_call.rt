@@ -14,7 +14,7 @@ ghost use Rattle.pcc_cli.specs.Headline.{MeansIfCommand, AcceptedRunsSafely};
 ghost use Rattle.pcc_cli.specs.Inside.Decisions.{Decides, exit_of};
 
 use crate::commands::{
-    asm_command, check_command, demo_command, prove_command, ref_command, run_command,
+    asm_command, bpf_command, check_command, demo_command, prove_command, ref_command, run_command,
 };
 use crate::report::Report;
 use crate::stop::Stop;
@@ -38,6 +38,7 @@ fn decide<'a, F: Files>(
         Ok(Some(Command::Run(args))) => run_command(alloc, args, files),
         Ok(Some(Command::Ref(args))) => ref_command(alloc, args, files),
         Ok(Some(Command::Demo(n))) => demo_command(alloc, n, files),
+        Ok(Some(Command::Bpf(args))) => bpf_command(alloc, args, files),
         Ok(None) => Err(Stop::Usage),
         Err(_) => Err(Stop::Memory),
     }
@@ -75,8 +76,9 @@ fn print<S: Sink>(decision: Result<Report, Stop<'_>>, out: &mut S) -> u8
 /// status, go by what these reads gave. By `means`, that is for each command what its users want
 /// to know of it: `check` reads FILE once, and puts `accepted` exactly where the bytes that were
 /// read are accepted under the policy; `run` runs the code that was accepted of these bytes alone,
-/// and puts the lines of the machine that tests every access; what `prove` writes is accepted. By
-/// `safe`, no run of accepted code from a start of the policy is blocked, whatever the budget, what
+/// and puts the lines of the machine that tests every access; what `prove` writes is accepted; and
+/// so is what `bpf` writes, whose runs return 0 on a packet where the program's value is 0, else 1,
+/// and what it says where IN is no program is the first thing that is wrong with it. By `safe`, no run of accepted code from a start of the policy is blocked, whatever the budget, what
 /// it returns satisfies the postcondition, and it neither changes nor depends on anything outside
 /// its rights.
 pub fn pcc<F: Files, S: Sink>(alloc: Global, words: Vec<String>, files: &mut F, out: &mut S) -> u8
@@ -90,6 +92,8 @@ pub fn pcc<F: Files, S: Sink>(alloc: Global, words: Vec<String>, files: &mut F, 
     pcc_gate::laws();
     packet_store::laws();
     bounds_prover::prove_laws();
+    bpf_words::laws();
+    bpf_container::laws();
     alpha_cfg::isolation_laws();
     let decision = decide(alloc, words.as_slice(), files);
     print(decision, out)

@@ -3,7 +3,7 @@ use Rattle.std.specs.Prelude.{ℕ, List, codes}
 
 -- the arguments are no command
 abbrev pub usage_line : List ℕ
-usage_line = codes "usage: pcc asm|prove|check|run|ref|demo\n"
+usage_line = codes "usage: pcc asm|prove|check|run|ref|demo|bpf\n"
 
 -- no policy has the name
 abbrev pub unknown_policy_line : List ℕ
@@ -20,6 +20,10 @@ accepted_line = codes "accepted\n"
 -- the container's file is longer than a file may be
 abbrev pub container_too_long_line : List ℕ
 container_too_long_line = codes "refused 1 TooLong\n"
+
+-- the program's file is longer than what is read of one
+abbrev pub bpf_too_long_line : List ℕ
+bpf_too_long_line = codes "bpf TooLong\n"
 
 -- the source's file is longer than a source may be
 abbrev pub source_too_long_line : List ℕ

@@ -6,4 +6,5 @@ pub mod Proving
 pub mod Refusals
 pub mod Results
 pub mod Sources
+pub mod Bpf
 pub mod Demo

@@ -3,7 +3,7 @@
 ghost use Rattle.file_port.specs.Sink.{Puts};
 ghost use Rattle.pcc_lines.specs.Fixed.{usage_line, unknown_policy_line, packets_too_long_line};
 ghost use Rattle.pcc_lines.specs.Fixed.{accepted_line, container_too_long_line};
-ghost use Rattle.pcc_lines.specs.Fixed.{source_too_long_line};
+ghost use Rattle.pcc_lines.specs.Fixed.{source_too_long_line, bpf_too_long_line};
 
 use file_port::{Put, Sink};
 
@@ -11,7 +11,7 @@ use file_port::{Put, Sink};
 pub fn print_usage<S: Sink>(out: &mut S) -> Put
     ensures { Puts usage_line (S.state out.old) (S.state out.new) result }
 {
-    out.put(b"usage: pcc asm|prove|check|run|ref|demo\n")
+    out.put(b"usage: pcc asm|prove|check|run|ref|demo|bpf\n")
 }
 
 /// Prints that no policy has the name.
@@ -47,4 +47,11 @@ pub fn print_source_too_long<S: Sink>(out: &mut S) -> Put
     ensures { Puts source_too_long_line (S.state out.old) (S.state out.new) result }
 {
     out.put(b"source TooLong\n")
+}
+
+/// Prints that the program's file is longer than what is read of one.
+pub fn print_bpf_too_long<S: Sink>(out: &mut S) -> Put
+    ensures { Puts bpf_too_long_line (S.state out.old) (S.state out.new) result }
+{
+    out.put(b"bpf TooLong\n")
 }

@@ -5,10 +5,11 @@
 //! is three pieces. No call takes memory. A file of `src/` has its definitions in the file of
 //! `specs/` with the same name: lines that are always the same (`Fixed`), lines with a name
 //! (`Named`), faults of packet files (`PacketFaults`), why there is no proof (`Proving`), refusals
-//! (`Refusals`), result lines (`Results`), what is said of a source (`Sources`), and the lines of `demo`
-//! (`Demo`). The names of the kinds of faults, and of measures, come from the crates that have them.
+//! (`Refusals`), result lines (`Results`), what is said of a source (`Sources`), faults
+//! of programs of classic BPF (`Bpf`), and the lines of `demo` (`Demo`). The names of the kinds of faults, and of measures, come from the crates that have them.
 #![tactic(auto)]
 
+mod bpf;
 mod demo;
 mod fixed;
 mod line;
@@ -19,10 +20,11 @@ mod refusals;
 mod results;
 mod sources;
 
+pub use bpf::print_bpf_flaw;
 pub use demo::{DemoSummary, print_demo};
 pub use fixed::{
-    print_accepted, print_container_too_long, print_packets_too_long, print_source_too_long,
-    print_unknown_policy, print_usage,
+    print_accepted, print_bpf_too_long, print_container_too_long, print_packets_too_long,
+    print_source_too_long, print_unknown_policy, print_usage,
 };
 pub use named::{print_missing, print_read_fault, print_write_fault};
 pub use packet_faults::print_packet_fault;

@@ -43,6 +43,14 @@ input_app name = with_rule (policy_app name) (positional (codes "IN"))
 abbrev pub copy_app : Text → App
 copy_app name = with_rule (input_app name) (positional (codes "OUT"))
 
+-- `NAME IN`
+abbrev pub path_app : Text → App
+path_app name = with_rule (new_app name) (positional (codes "IN"))
+
+-- `NAME IN OUT`
+abbrev pub paths_app : Text → App
+paths_app name = with_rule (path_app name) (positional (codes "OUT"))
+
 -- `NAME POLICY FILE PACKETS`
 abbrev pub packets_app : Text → App
 packets_app name = with_rule (file_app name) (positional (codes "PACKETS"))
@@ -75,9 +83,13 @@ runs_app = with_subcommand file_commands_app (run_app (codes "run")).top
 abbrev pub named_files_app : App
 named_files_app = with_subcommand runs_app (run_app (codes "ref")).top
 
+-- with `demo`
+abbrev pub demos_app : App
+demos_app = with_subcommand named_files_app (number_app (codes "demo")).top
+
 -- the program
 abbrev pub pcc_app : App
-pcc_app = with_subcommand named_files_app (number_app (codes "demo")).top
+pcc_app = with_subcommand demos_app (paths_app (codes "bpf")).top
 
 -- ---- the values
 
@@ -95,6 +107,8 @@ pub data Invocation : Type 0 where
   ref : Text → Text → Text → ℕ → Invocation
   -- `demo N`
   demo : ℕ → Invocation
+  -- `bpf IN OUT`
+  bpf : Text → Text → Invocation
 
 -- the value of a required argument
 abbrev pub value_of : Text → List Row → Text
@@ -138,6 +152,10 @@ demo_invocation rows = let n = number_at (codes "N") rows in if is_demo_size n t
 abbrev pub copy_invocation : (Text → Text → Text → Invocation) → List Row → Invocation
 copy_invocation command rows = command (value_of (codes "POLICY") rows) (value_of (codes "IN") rows) (value_of (codes "OUT") rows)
 
+-- a command that makes a file of another under no named policy, of these rows
+abbrev pub path_invocation : (Text → Text → Invocation) → List Row → Invocation
+path_invocation command rows = command (value_of (codes "IN") rows) (value_of (codes "OUT") rows)
+
 -- a command that reads a container, of these rows
 abbrev pub file_invocation : (Text → Text → Invocation) → List Row → Invocation
 file_invocation command rows = command (value_of (codes "POLICY") rows) (value_of (codes "FILE") rows)
@@ -151,6 +169,7 @@ invocation_at name rows =
     if bytes_eq name (codes "run") then run_invocation run rows else
     if bytes_eq name (codes "ref") then run_invocation ref rows else
     if bytes_eq name (codes "demo") then demo_invocation rows else
+    if bytes_eq name (codes "bpf") then Some (path_invocation bpf rows) else
     None
 
 -- the same of a name with its rows

@@ -5,7 +5,8 @@ ghost use Rattle.clap.specs.declared.Command.TheViews.{out-Command as fields_of}
 ghost use Rattle.pcc_words.specs.Invocations.{policy_app, file_app, input_app, copy_app};
 ghost use Rattle.pcc_words.specs.Invocations.{packets_app, run_app, number_app, steps_rule};
 ghost use Rattle.pcc_words.specs.Invocations.{asm_app, copies_app, file_commands_app};
-ghost use Rattle.pcc_words.specs.Invocations.{runs_app, named_files_app, pcc_app};
+ghost use Rattle.pcc_words.specs.Invocations.{runs_app, named_files_app, demos_app, pcc_app};
+ghost use Rattle.pcc_words.specs.Invocations.{path_app, paths_app};
 ghost use Rattle.pcc_words.specs.Invocations.{positional as positional_rule};
 
 use crate::limits::{MAX_DEMO, MAX_STEPS};
@@ -72,6 +73,22 @@ fn copy_command<'a>(alloc: Global, name: &'a str) -> Result<Command<'a>, AllocEr
     input_command(alloc, name)?.arg(positional(alloc, "OUT"))
 }
 
+/// `NAME IN`
+fn path_command<'a>(alloc: Global, name: &'a str) -> Result<Command<'a>, AllocError>
+    ensures app { IfOk result (λ c. app_of c ≡ path_app name.entry.now) }
+    ensures local { IfOk result (λ c. (fields_of c).has_globals ≡ false) }
+{
+    Command::new(alloc, name).arg(positional(alloc, "IN"))
+}
+
+/// `NAME IN OUT`
+fn paths_command<'a>(alloc: Global, name: &'a str) -> Result<Command<'a>, AllocError>
+    ensures app { IfOk result (λ c. app_of c ≡ paths_app name.entry.now) }
+    ensures local { IfOk result (λ c. (fields_of c).has_globals ≡ false) }
+{
+    path_command(alloc, name)?.arg(positional(alloc, "OUT"))
+}
+
 /// `NAME POLICY FILE PACKETS`
 fn packets_command<'a>(alloc: Global, name: &'a str) -> Result<Command<'a>, AllocError>
     ensures app { IfOk result (λ c. app_of c ≡ packets_app name.entry.now) }
@@ -130,9 +147,17 @@ fn named_files_command<'a>(alloc: Global) -> Result<Command<'a>, AllocError>
     runs_command(alloc)?.subcommand(added)
 }
 
+/// The same with `demo`.
+fn demos_command<'a>(alloc: Global) -> Result<Command<'a>, AllocError>
+    ensures app { IfOk result (λ c. app_of c ≡ demos_app) }
+{
+    named_files_command(alloc)?.subcommand(number_command(alloc, "demo")?)
+}
+
 /// The whole command line.
 pub fn pcc_command<'a>(alloc: Global) -> Result<Command<'a>, AllocError>
     ensures app { IfOk result (λ c. app_of c ≡ pcc_app) }
 {
-    named_files_command(alloc)?.subcommand(number_command(alloc, "demo")?)
+    let added = paths_command(alloc, "bpf")?;
+    demos_command(alloc)?.subcommand(added)
 }

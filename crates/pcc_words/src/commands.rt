@@ -11,6 +11,15 @@ pub struct CopyArgs<'a> {
     pub output: &'a str,
 }
 
+/// The arguments of a command that makes a file of another under no named policy: `IN OUT`.
+#[derive(Clone, Copy, Debug, PartialEq, Eq)]
+pub struct PathArgs<'a> {
+    /// The name of the file that is read.
+    pub input: &'a str,
+    /// The name of the file that is written, which may be the same.
+    pub output: &'a str,
+}
+
 /// The arguments of a command that reads a container: `POLICY FILE`.
 #[derive(Clone, Copy, Debug, PartialEq, Eq)]
 pub struct FileArgs<'a> {
@@ -48,4 +57,6 @@ pub enum Command<'a> {
     Ref(RunArgs<'a>),
     /// Makes a source of so many loads, proves it, judges it and runs it.
     Demo(u64),
+    /// Compiles a program of classic BPF to an accepted container.
+    Bpf(PathArgs<'a>),
 }

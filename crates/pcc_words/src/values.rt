@@ -5,7 +5,7 @@ ghost use Rattle.pcc_words.specs.Invocations.{is_step_count, is_demo_size, numbe
 ghost use Rattle.pcc_words.specs.Invocations.{invocation_at, invocation_of_subcommand};
 ghost use Rattle.pcc_words.specs.Commands.{invocation_of, IsInRange};
 
-use crate::commands::{Command, CopyArgs, FileArgs, RunArgs};
+use crate::commands::{Command, CopyArgs, FileArgs, PathArgs, RunArgs};
 use crate::limits::{MAX_DEMO, MAX_STEPS};
 use clap::ArgMatches;
 
@@ -41,6 +41,16 @@ fn copy_args_given<'a>(matches: &ArgMatches<'a>) -> CopyArgs<'a>
         input: text_given(matches, "IN"),
         output: text_given(matches, "OUT"),
     }
+}
+
+/// The arguments of a command that makes a file of another under no named policy.
+fn path_args_given<'a>(matches: &ArgMatches<'a>) -> PathArgs<'a>
+    ensures input { result.input.now ≡ value_of (codes "IN") (rows_of (found_of matches.now)) }
+    ensures output { result.output.now ≡ value_of (codes "OUT") (rows_of (found_of matches.now)) }
+{
+    let input = text_given(matches, "IN");
+    let output = text_given(matches, "OUT");
+    PathArgs { input, output }
 }
 
 /// The arguments of a command that reads a container.
@@ -111,6 +121,7 @@ fn command_given<'a>(name: &str, matches: &ArgMatches<'a>) -> Option<Command<'a>
         "run" => Some(Command::Run(with_steps_in_range(run_args_given(matches))?)),
         "ref" => Some(Command::Ref(with_steps_in_range(run_args_given(matches))?)),
         "demo" => Some(Command::Demo(demo_size_given(matches)?)),
+        "bpf" => Some(Command::Bpf(path_args_given(matches))),
         _ => None,
     }
 }

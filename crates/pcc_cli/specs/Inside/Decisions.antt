@@ -3,7 +3,8 @@ use Rattle.std.specs.Prelude.{◌≡◌, ℕ, List, ◌++◌, Option, Some, None
 use Rattle.file_port.specs.Events.{Event}
 use Rattle.file_port.specs.Files.{FilesState}
 use Rattle.packet_store.specs.Runners.{testing_results}
-use Rattle.pcc_lines.specs.Fixed.{accepted_line, container_too_long_line, packets_too_long_line, source_too_long_line, unknown_policy_line}
+use Rattle.pcc_lines.specs.Bpf.{bpf_flaw_line}
+use Rattle.pcc_lines.specs.Fixed.{accepted_line, bpf_too_long_line, container_too_long_line, packets_too_long_line, source_too_long_line, unknown_policy_line}
 use Rattle.pcc_lines.specs.PacketFaults.{packet_fault_line}
 use Rattle.pcc_lines.specs.Proving.{not_easy_line, too_big_line}
 use Rattle.asm_text.specs.Names.{line_flaw_name}
@@ -38,6 +39,8 @@ end_of (stop.BadLine line flaw) = Some (refused (source_fault_line line (line_fl
 end_of (stop.BadSource flaw) = Some (refused (source_fault_line (asm_flaw_line flaw) (asm_flaw_name flaw)))
 end_of stop.PacketsTooLong = Some (refused packets_too_long_line)
 end_of (stop.BadPackets fault) = Some (refused (packet_fault_line fault))
+end_of stop.ProgramTooLong = Some (refused bpf_too_long_line)
+end_of (stop.BadProgram flaw) = Some (refused (bpf_flaw_line flaw))
 end_of (stop.Missing name) = Some (missing_exit texts name.now)
 end_of (stop.ReadFault name) = Some (read_fault_exit texts name.now)
 end_of (stop.WriteFault name) = Some (write_fault_exit texts name.now)

@@ -19,6 +19,7 @@ abbrev pub IsTooLong : Stop → Type 0
 IsTooLong stop.ContainerTooLong = Unit {0}
 IsTooLong stop.SourceTooLong = Unit {0}
 IsTooLong stop.PacketsTooLong = Unit {0}
+IsTooLong stop.ProgramTooLong = Unit {0}
 IsTooLong other = ⊥
 
 -- whole words of code, 1 to 1,024 of them

@@ -1,5 +1,6 @@
-use Rattle.bpf_compile.specs.Words.{AreFirstWords}
+use Rattle.std.proofs.Common.{◌≡◌, take}
+use Rattle.pcc_asm.specs.Words.{code_bytes}
 use Rattle.bpf_compile.proofs.words.bytes_of.Given as goal
 
 abbrev pub invariant-loop-i : goal.invariant-loop-i
-invariant-loop-i l = AreFirstWords l.bytes.items l.i l.code
+invariant-loop-i l = l.bytes.items ≡ code_bytes (take l.i l.code)

@@ -1,4 +1,4 @@
-use Rattle.std.proofs.Common.{ℕ, List, Vec, Global}
+use Rattle.std.proofs.Common.{ℕ, Vec, Global}
 use Rattle.pcc_cli.specs.Stages.Packets.{packet_bytes_of, packets_in, packets_of}
 use Rattle.pcc_cli.proofs.StageLemmas.{lifted, stops_first, gives_then}
 use Rattle.pcc_cli.proofs.stages.packets_of.Goals as goal

@@ -3,6 +3,7 @@ use Rattle.pcc_words.specs.Invocations.{command_of}
 use Rattle.pcc_exit.specs.Runs.{Runs}
 use Rattle.pcc_cli.specs.Texts.{texts}
 use Rattle.pcc_cli.specs.Tasks.{task_of}
+use Rattle.pcc_cli.proofs.CompileLemmas.{programs-compile}
 use Rattle.pcc_cli.proofs.DecisionLemmas.{runs_of_decision}
 use Rattle.pcc_cli.proofs.HeadlineLemmas.{means, runs_safely}
 use Rattle.pcc_cli.proofs.top_call.pcc.Goals as goal
@@ -15,6 +16,6 @@ returns g c =
     rw (← c.as_slice.ensures.value) (runs_of_decision _ _ _ _ _ _ _ c.print.result c.decide-decision.result c.decide-decision.ensures c.print.ensures) in
     record {
       runs = runs;
-      means = means c.laws.ensures.accepted c.prove_laws.ensures.accepted (command_of words) _ _ _ _ _ _ c.print.result runs;
+      means = means c.laws.ensures.accepted c.prove_laws.ensures.accepted c.laws-3.ensures.program (programs-compile c.laws-4.ensures.plain) (command_of words) _ _ _ _ _ _ c.print.result runs;
       safe = runs_safely c.laws.ensures.safe c.laws-2.ensures.state c.laws-2.ensures.meets c.isolation_laws.ensures.changes c.isolation_laws.ensures.depends;
     }

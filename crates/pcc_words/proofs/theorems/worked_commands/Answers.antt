@@ -22,4 +22,6 @@ returns c = record {
   demo_three = refl;
   demo_most = refl;
   demo_plus = refl;
+  bpf = refl;
+  bpf_in_place = refl;
 }

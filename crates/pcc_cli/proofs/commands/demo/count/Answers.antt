@@ -2,7 +2,6 @@ use Rattle.std.proofs.Common.{◌∙◌, ap}
 use Rattle.packet_store.specs.PolicyStarts.{start_of}
 use Rattle.safe_host.specs.Hosts.{HostView}
 use Rattle.pcc_cli.proofs.CountLemmas.{short-count, ran-count}
-use Rattle.pcc_cli.specs.declared.commands.demo.Counts.{Counts}
 use Rattle.pcc_cli.proofs.commands.demo.count.Goals as goal
 
 pub returns-then-not-load-clause-exact : goal.returns-then-not-load-clause-exact

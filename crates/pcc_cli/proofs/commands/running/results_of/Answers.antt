@@ -3,7 +3,6 @@ use Rattle.policy_set.specs.declared.kind.PolicyKind.{PolicyKind}
 use Rattle.packet_store.specs.Results.{packet_result}
 use Rattle.packet_store.specs.declared.results.PacketResult.{PacketResult}
 use Rattle.pcc_lines.specs.Results.{result_lines}
-use Rattle.pcc_exit.specs.Stages.{◌>>=◌}
 use Rattle.pcc_cli.specs.declared.stop.Stop.TheVariants.{Memory}
 use Rattle.pcc_cli.specs.declared.report.Report.{Report}
 use Rattle.pcc_cli.specs.declared.report.Report.TheVariants.{Hosted}
