@@ -1,9 +1,11 @@
-/* The filters of examples/checksum and examples/port as native loops, for bench/all.sh.
+/* The filters of examples/checksum and examples/port as native loops, for bench/all.sh and bench/bpf.sh.
 
-   usage: native PACKETS TIMES       prints, of TIMES passes over the packets: seconds a pass of each
-                                     filter, and how many packets each takes
+   usage: native PACKETS TIMES [PROGRAM]  prints, of TIMES passes over the packets: seconds a pass of each
+                                          filter, and how many packets each takes
    With -DWITH_PCAP -lpcap it also has libpcap's filter `tcp dst port 80` go over the same packets, and
-   libpcap's interpreter go round a loop of six instructions (seconds, and how many instructions). */
+   libpcap's interpreter go round a loop of six instructions (seconds, and how many instructions). With
+   PROGRAM, instructions of classic BPF as `pcc bpf` reads them, it has libpcap's interpreter run that
+   over the packets, and nothing else. */
 #include <stdint.h>
 #include <stdio.h>
 #include <stdlib.h>
@@ -47,7 +49,7 @@ static int port(const struct packet *p) {
 
 static double now(void) {
     struct timespec t;
-    clock_gettime(CLOCK_MONOTONIC, &t);
+    clock_gettime(CLOCK_PROCESS_CPUTIME_ID, &t); /* as run is measured */
     return t.tv_sec + t.tv_nsec / 1e9;
 }
 
@@ -60,7 +62,19 @@ static void pass(const char *name, int (*taken)(const struct packet *), const st
 }
 
 #ifdef WITH_PCAP
+#define MAX_INSNS 4096
+
 static struct bpf_program program;
+
+/* Fields as they stand in a file are those in memory, on a little-endian machine. */
+static int read_program(const char *path) {
+    static struct bpf_insn insns[MAX_INSNS];
+    FILE *file = fopen(path, "rb");
+    if (file == NULL) return 0;
+    program.bf_insns = insns;
+    program.bf_len = fread(insns, sizeof *insns, MAX_INSNS, file);
+    return fclose(file) == 0 && bpf_validate(insns, (int)program.bf_len);
+}
 
 static int libpcap(const struct packet *p) {
     struct pcap_pkthdr header;
@@ -91,8 +105,8 @@ static void six(void) {
 #endif
 
 int main(int argc, char **argv) {
-    FILE *file = argc == 3 ? fopen(argv[1], "rb") : NULL;
-    long times = argc == 3 ? atol(argv[2]) : 0;
+    FILE *file = argc == 3 || argc == 4 ? fopen(argv[1], "rb") : NULL;
+    long times = file != NULL ? atol(argv[2]) : 0;
     struct packet *packets = calloc(1 << 20, sizeof *packets);
     size_t count = 0;
     unsigned char field[4];
@@ -104,6 +118,13 @@ int main(int argc, char **argv) {
         packets[count].bytes = bytes;
         packets[count++].length = length;
     }
+#ifdef WITH_PCAP
+    if (argc == 4) {
+        if (!read_program(argv[3])) return 1;
+        pass("program", libpcap, packets, count, times);
+        return 0;
+    }
+#endif
     pass("checksum", checksum, packets, count, times);
     pass("port", port, packets, count, times);
 #ifdef WITH_PCAP
