@@ -18,7 +18,7 @@ use Rattle.reference_machine.specs.Starts.{StartView, start_state}
 use Rattle.reference_machine.proofs.Starting.{read-start}
 use Rattle.packet_store.specs.declared.results.PacketResult.{PacketResult}
 use Rattle.packet_store.specs.declared.results.PacketResult.TheVariants.{Ran, Short}
-use Rattle.packet_store.specs.PolicyStarts.{filter_start, quadwords_of, start_of}
+use Rattle.packet_store.specs.PolicyStarts.{filter_start, quadwords_of, start_from, start_of}
 use Rattle.packet_store.specs.Results.{packet_result, result_from}
 use Rattle.bpf_words.specs.declared.insn.Bpf.{Bpf}
 use Rattle.bpf_words.specs.Programs.{IsProgram}
@@ -31,7 +31,7 @@ use Rattle.bpf_code.proofs.Starting.{simulates, simulates-thousand}
 -- ---- where the packet stands
 
 abbrev memory_of : List ℕ → Memory
-memory_of packet = (start_state 65536 (filter_start packet)).memory
+memory_of packet = (start_state 65536 (filter_start 65536 packet)).memory
 
 -- a word of the arena that lies d words behind the first of the bytes
 placed_word-behind : (place : ℕ) (packet : List ℕ) (d : ℕ) → placed_word place packet (place + d) ≡ quadword packet d
@@ -43,33 +43,33 @@ stands : (packet : List ℕ) (d : ℕ) → 8 * d < 64 → read (memory_of packet
 stands packet d inside =
     let place : address_behind 65552 (8 * d) ≡ 65536 + 8 * (2 + d) = omega (arith, inside) in
     ap (read (memory_of packet)) place
-    ∙ read-start 65536 (filter_start packet) (2 + d) (omega (arith, inside))
+    ∙ read-start 65536 (filter_start 65536 packet) (2 + d) (omega (arith, inside))
     ∙ placed_word-behind 2 packet d
 
-readable : (packet : List ℕ) → 64 ≤ length packet → (d : ℕ) → 8 * d < 64 → allowed (filter_start packet).reads (address_behind 65552 (8 * d)) ≡ true
+readable : (packet : List ℕ) → 64 ≤ length packet → (d : ℕ) → 8 * d < 64 → allowed (filter_start 65536 packet).reads (address_behind 65552 (8 * d)) ≡ true
 readable packet long d inside =
     let within : d < quadwords_of packet = omega (arith, inside, long) in
     let place : address_behind 65552 (8 * d) ≡ 65552 + 8 * d = omega (arith, inside) in
-    allowed-from (filter_start packet).reads (address_behind 65552 (8 * d)) ((65552, quadwords_of packet), (1, omega arith, refl), (d, within, place))
+    allowed-from (filter_start 65536 packet).reads (address_behind 65552 (8 * d)) ((65552, quadwords_of packet), (1, omega arith, refl), (d, within, place))
 
-starts-on : (packet : List ℕ) → 64 ≤ length packet → StartsOn packet (start_state 65536 (filter_start packet))
+starts-on : (packet : List ℕ) → 64 ≤ length packet → StartsOn packet (start_state 65536 (filter_start 65536 packet))
 starts-on packet long = record { index = refl; count = refl; a = refl; stands = stands packet; readable = readable packet long }
 
 -- ---- the policy's start
 
-start-long : (packet : List ℕ) → 64 ≤ length packet → start_of Filter packet ≡ Some (filter_start packet)
-unfolding start_of
-start-long packet long = ap (λ b. cond b None (Some (filter_start packet))) (le-ltb (length packet) 64 long)
+start-long : (packet : List ℕ) → 64 ≤ length packet → start_of Filter packet ≡ Some (filter_start 65536 packet)
+unfolding start_from
+start-long packet long = ap (λ b. cond b None (Some (filter_start 65536 packet))) (le-ltb (length packet) 64 long)
 
 start-short : (packet : List ℕ) → length packet < 64 → start_of Filter packet ≡ None
-unfolding start_of
-start-short packet less = ap (λ b. cond b None (Some (filter_start packet))) (lt-ltb (length packet) 64 less)
+unfolding start_from
+start-short packet less = ap (λ b. cond b None (Some (filter_start 65536 packet))) (lt-ltb (length packet) 64 less)
 
 pub starts : (packet : List ℕ) (setup : StartView) → start_of Filter packet ≡ Some setup → StartsOn packet (start_state 65536 setup)
 starts packet setup e = elim (cases_lt (length packet) 64) [
   | inl less ↦ let none : None ≡ Some setup = sym (start-short packet less) ∙ e in cc
   | inr long ↦
-      let same : filter_start packet ≡ setup = same_Some (filter_start packet) setup (sym (start-long packet long) ∙ e) in
+      let same : filter_start 65536 packet ≡ setup = same_Some (filter_start 65536 packet) setup (sym (start-long packet long) ∙ e) in
       subst (λ s. StartsOn packet (start_state 65536 s)) same (starts-on packet long)
 ]
 
@@ -85,7 +85,7 @@ pub outcome : (program : List Bpf) (packet : List ℕ) (budget : ℕ) → IsProg
 unfolding result_from
 outcome program packet budget is bytes long enough =
     ap (result_from (bpf_code program) budget) (start-long packet long)
-    ∙ ap (λ end. Ran end 0) (simulates program packet budget (start_state 65536 (filter_start packet)) is bytes (starts-on packet long) enough)
+    ∙ ap (λ end. Ran end 0) (simulates program packet budget (start_state 65536 (filter_start 65536 packet)) is bytes (starts-on packet long) enough)
 
 pub short : (code : List Insn) (packet : List ℕ) (budget : ℕ) → length packet < 64 → packet_result Filter code budget packet ≡ Short
 unfolding result_from
@@ -119,7 +119,7 @@ unfolding result_from
 unblocked program packet budget is bytes = elim (cases_lt (length packet) 64) [
   | inl less ↦ ap (λ o. is_blocked (result_from (bpf_code program) budget o)) (start-short packet less)
   | inr long ↦
-      let s : State = start_state 65536 (filter_start packet) in
+      let s : State = start_state 65536 (filter_start 65536 packet) in
       let answer : ReturnsValue program packet (budget + 20 * length program) s =
       simulates program packet (budget + 20 * length program) s is bytes (starts-on packet long) (omega arith) in
       ap (λ o. is_blocked (result_from (bpf_code program) budget o)) (start-long packet long)

@@ -1,4 +1,5 @@
--- The start of each policy on a packet, in the arena of 8,194 quadwords from address 65,536 on. A span that isn't used is (65,536, 0).
+-- The start of each policy on a packet, in an arena of 8,194 quadwords from a base on: from 65,536 on, where an agent is alone.
+-- A span that isn't used is (base, 0).
 use Rattle.std.specs.Prelude.{ℕ, ◌+◌, ◌/◌, ◌==◌, nat_lt, if◌then◌else◌, List, [], ◌∷◌, length, take, Option, Some, None}
 use Rattle.policy_set.specs.declared.kind.PolicyKind.{PolicyKind}
 use Rattle.policy_set.specs.declared.kind.PolicyKind.TheVariants.{Filter, Tag, Table}
@@ -11,50 +12,54 @@ abbrev pub quadwords_of : List ℕ → ℕ
 quadwords_of bytes = (length bytes + 7) / 8
 
 -- a span of no quadwords
-abbrev pub unused : ℕ × ℕ
-unused = (ARENA, 0)
+abbrev pub unused : ℕ → ℕ × ℕ
+unused base = (base, 0)
 
 -- two quadwords of scratch, and the packet behind them; both may be loaded, and scratch stored
-abbrev pub filter_start : List ℕ → StartView
-filter_start packet = record {
-  r16 = ARENA + 16;
+abbrev pub filter_start : ℕ → List ℕ → StartView
+filter_start base packet = record {
+  r16 = base + 16;
   r17 = length packet;
-  r18 = ARENA;
+  r18 = base;
   bytes = packet;
-  at = ARENA + 16;
+  at = base + 16;
   region = 0;
-  reads = (ARENA, 2) ∷ (ARENA + 16, quadwords_of packet) ∷ [];
-  writes = (ARENA, 2) ∷ unused ∷ [];
+  reads = (base, 2) ∷ (base + 16, quadwords_of packet) ∷ [];
+  writes = (base, 2) ∷ unused base ∷ [];
 }
 
 -- the first 16 bytes; both quadwords may be loaded, and the second stored where the first isn't 0
-abbrev pub tag_start : List ℕ → StartView
-tag_start packet = record {
-  r16 = ARENA;
+abbrev pub tag_start : ℕ → List ℕ → StartView
+tag_start base packet = record {
+  r16 = base;
   r17 = 0;
   r18 = 0;
   bytes = take 16 packet;
-  at = ARENA;
+  at = base;
   region = 2;
-  reads = (ARENA, 2) ∷ unused ∷ [];
-  writes = (if quadword packet 0 == 0 then unused else (ARENA + 8, 1)) ∷ unused ∷ [];
+  reads = (base, 2) ∷ unused base ∷ [];
+  writes = (if quadword packet 0 == 0 then unused base else (base + 8, 1)) ∷ unused base ∷ [];
 }
 
 -- the packet's quadwords, all of which may be loaded and stored
-abbrev pub table_start : List ℕ → StartView
-table_start packet = record {
-  r16 = ARENA;
+abbrev pub table_start : ℕ → List ℕ → StartView
+table_start base packet = record {
+  r16 = base;
   r17 = quadwords_of packet;
   r18 = 0;
   bytes = packet;
-  at = ARENA;
+  at = base;
   region = quadwords_of packet;
-  reads = (ARENA, quadwords_of packet) ∷ unused ∷ [];
-  writes = (ARENA, quadwords_of packet) ∷ unused ∷ [];
+  reads = (base, quadwords_of packet) ∷ unused base ∷ [];
+  writes = (base, quadwords_of packet) ∷ unused base ∷ [];
 }
 
 -- a filter's packet is short below 64 bytes, a tag's below 16, and a table's never
-unfoldable pub start_of : PolicyKind → List ℕ → Option StartView
-start_of Filter packet = if nat_lt (length packet) 64 then None else Some (filter_start packet)
-start_of Tag packet = if nat_lt (length packet) 16 then None else Some (tag_start packet)
-start_of Table packet = Some (table_start packet)
+unfoldable pub start_from : ℕ → PolicyKind → List ℕ → Option StartView
+start_from base Filter packet = if nat_lt (length packet) 64 then None else Some (filter_start base packet)
+start_from base Tag packet = if nat_lt (length packet) 16 then None else Some (tag_start base packet)
+start_from base Table packet = Some (table_start base packet)
+
+-- the start of an agent that is alone
+abbrev pub start_of : PolicyKind → List ℕ → Option StartView
+start_of = start_from ARENA

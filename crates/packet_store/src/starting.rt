@@ -1,34 +1,33 @@
 //! The start of each policy on a packet.
 
-ghost use Rattle.std.specs.Prelude.{◌≡◌, ◌==◌, ◌≤◌, option_map, IfSome, length};
-ghost use Rattle.packet_store.specs.PolicyStarts.{start_of, filter_start, tag_start, table_start};
-ghost use Rattle.packet_store.specs.StartMeets.{StartMeets};
+ghost use Rattle.std.specs.Prelude.{◌≡◌, ◌+◌, ◌%◌, ◌^◌, ◌==◌, ◌<◌, ◌≤◌, option_map, IfSome, length};
+ghost use Rattle.alpha_cfg.specs.Machine.{IsState};
+ghost use Rattle.packet_store.specs.PolicyStarts.{start_from, start_of, filter_start, tag_start, table_start};
+ghost use Rattle.packet_store.specs.StartMeets.{StartMeets, StartMeetsIn};
 ghost use Rattle.policy_set.specs.Policies.{pre_of};
 ghost use Rattle.reference_machine.specs.Arena.{quadword};
 ghost use Rattle.reference_machine.specs.Setups.{start_view};
-ghost use Rattle.reference_machine.specs.Starts.{Fits, HasWords};
+ghost use Rattle.reference_machine.specs.Starts.{Fits, HasWords, start_state};
 
 use crate::reader::MAX_PACKET;
 use policy_set::{Policy, PolicyKind};
 use reference_machine::{ARENA, Start};
 
-/// A span of no quadwords.
-const UNUSED: (u64, u64) = (ARENA, 0);
-
 /// Two quadwords of scratch, and the packet behind them.
-fn filter_start(packet: &[u8]) -> Start<'_>
-    requires { length packet.now ≤ MAX_PACKET }
-    ensures value { start_view result ≡ filter_start packet.now }
+fn filter_start(packet: &[u8], base: u64) -> Start<'_>
+    requires packet { length packet.now ≤ MAX_PACKET }
+    requires low { base < 2 ^ 32 }
+    ensures value { start_view result ≡ filter_start base packet.now }
 {
     Start {
-        r16: ARENA + 16,
+        r16: base + 16,
         r17: packet.len() as u64,
-        r18: ARENA,
+        r18: base,
         bytes: packet,
-        at: ARENA + 16,
+        at: base + 16,
         region: 0,
-        reads: [(ARENA, 2), (ARENA + 16, (packet.len() as u64 + 7) / 8)],
-        writes: [(ARENA, 2), UNUSED],
+        reads: [(base, 2), (base + 16, (packet.len() as u64 + 7) / 8)],
+        writes: [(base, 2), (base, 0)],
     }
 }
 
@@ -44,50 +43,84 @@ fn begins_with_zero(packet: &[u8]) -> bool
 }
 
 /// The first 16 bytes, of which the second quadword may be stored where the first isn't 0.
-fn tag_start(packet: &[u8]) -> Start<'_>
-    requires { 16 ≤ length packet.now }
-    ensures value { start_view result ≡ tag_start packet.now }
+fn tag_start(packet: &[u8], base: u64) -> Start<'_>
+    requires packet { 16 ≤ length packet.now }
+    requires low { base < 2 ^ 32 }
+    ensures value { start_view result ≡ tag_start base packet.now }
 {
     let second = if begins_with_zero(packet) {
-        UNUSED
+        (base, 0)
     } else {
-        (ARENA + 8, 1)
+        (base + 8, 1)
     };
     Start {
-        r16: ARENA,
+        r16: base,
         r17: 0,
         r18: 0,
         bytes: &packet[..16],
-        at: ARENA,
+        at: base,
         region: 2,
-        reads: [(ARENA, 2), UNUSED],
-        writes: [second, UNUSED],
+        reads: [(base, 2), (base, 0)],
+        writes: [second, (base, 0)],
     }
 }
 
 /// The packet's quadwords, all of which may be loaded and stored.
-fn table_start(packet: &[u8]) -> Start<'_>
+fn table_start(packet: &[u8], base: u64) -> Start<'_>
     requires { length packet.now ≤ MAX_PACKET }
-    ensures value { start_view result ≡ table_start packet.now }
+    ensures value { start_view result ≡ table_start base packet.now }
 {
     let count = (packet.len() as u64 + 7) / 8;
     Start {
-        r16: ARENA,
+        r16: base,
         r17: count,
         r18: 0,
         bytes: packet,
-        at: ARENA,
+        at: base,
         region: count,
-        reads: [(ARENA, count), UNUSED],
-        writes: [(ARENA, count), UNUSED],
+        reads: [(base, count), (base, 0)],
+        writes: [(base, count), (base, 0)],
     }
 }
 
-/// The start of the policy on a packet of at most `MAX_PACKET` bytes.
+/// The start of the policy on a packet of at most `MAX_PACKET` bytes, in an arena that begins at
+/// `base`, an address that is a multiple of 8 and below 2^32.
 ///
 /// None exactly where the packet is short, which is below 64 bytes for `filter`, below 16 for
-/// `tag` and never for `table`. The start meets the policy's precondition.
-#[tactic(auto, unfolding(crate::specs::PolicyStarts::start_of))]
+/// `tag` and never for `table`. The start lies in that arena, is a state of the machine and meets the
+/// policy's precondition.
+#[tactic(auto, unfolding(crate::specs::PolicyStarts::start_from))]
+pub fn start_at<'b>(policy: &Policy, packet: &'b [u8], base: u64) -> Option<Start<'b>>
+    requires packet { length packet.now ≤ MAX_PACKET }
+    requires aligned { base % 8 ≡ 0 }
+    requires low { base < 2 ^ 32 }
+    ensures exact { option_map start_view result ≡ start_from base policy.now packet.now }
+    ensures fits { IfSome result (λ s. Fits base (start_view s)) }
+    ensures words { IfSome result (λ s. HasWords (start_view s)) }
+    ensures meets { IfSome result (λ s. StartMeetsIn base (start_view s) (pre_of policy.now)) }
+    ensures state { IfSome result (λ s. IsState (start_state base (start_view s))) }
+{
+    match policy.kind() {
+        PolicyKind::Filter => {
+            if packet.len() < 64 {
+                return None;
+            }
+            Some(filter_start(packet, base))
+        }
+        PolicyKind::Tag => {
+            if packet.len() < 16 {
+                return None;
+            }
+            Some(tag_start(packet, base))
+        }
+        PolicyKind::Table => Some(table_start(packet, base)),
+    }
+}
+
+/// The start of the policy on a packet of at most `MAX_PACKET` bytes, for an agent that is alone:
+/// `start_at` with the arena's own place.
+///
+/// None exactly where the packet is short. The start meets the policy's precondition.
 pub fn start<'b>(policy: &Policy, packet: &'b [u8]) -> Option<Start<'b>>
     requires { length packet.now ≤ MAX_PACKET }
     ensures exact { option_map start_view result ≡ start_of policy.now packet.now }
@@ -95,19 +128,5 @@ pub fn start<'b>(policy: &Policy, packet: &'b [u8]) -> Option<Start<'b>>
     ensures words { IfSome result (λ s. HasWords (start_view s)) }
     ensures meets { IfSome result (λ s. StartMeets (start_view s) (pre_of policy.now)) }
 {
-    match policy.kind() {
-        PolicyKind::Filter => {
-            if packet.len() < 64 {
-                return None;
-            }
-            Some(filter_start(packet))
-        }
-        PolicyKind::Tag => {
-            if packet.len() < 16 {
-                return None;
-            }
-            Some(tag_start(packet))
-        }
-        PolicyKind::Table => Some(table_start(packet)),
-    }
+    start_at(policy, packet, ARENA)
 }

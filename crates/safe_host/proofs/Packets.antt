@@ -8,7 +8,7 @@ use Rattle.policy_set.specs.declared.kind.PolicyKind.TheVariants.{Filter, Tag, T
 use Rattle.reference_machine.specs.Arena.{map_of, sum_of}
 use Rattle.reference_machine.specs.Starts.{StartView, start_state}
 use Rattle.packet_store.specs.declared.results.PacketResult.TheVariants.{Short, Ran}
-use Rattle.packet_store.specs.PolicyStarts.{start_of, filter_start, tag_start, table_start}
+use Rattle.packet_store.specs.PolicyStarts.{start_from, start_of, filter_start, tag_start, table_start}
 use Rattle.packet_store.specs.Results.{result_from, packet_result}
 use Rattle.packet_store.proofs.ResultLemmas.{result_from-some}
 use Rattle.packet_store.proofs.StartLemmas.{the_same}
@@ -41,16 +41,18 @@ loaded old new (Some setup) (e, is, meets, fits) = record { setup = setup; is = 
 
 -- where the region isn't empty it is at the arena's front
 sum-at : (policy : PolicyKind) (packet : List ℕ) (setup : StartView) (m : Memory) → start_of policy packet ≡ Some setup → sum_of m 65536 setup.region ≡ sum_of m setup.at setup.region
-unfolding start_of
+unfolding start_from
 sum-at Filter packet setup m e = elim (cases_lt (length packet) 64) [
   | inl less ↦ let none : None ≡ Some setup = rw (lt-ltb (length packet) 64 less) at e in absurd (cc)
-  | inr enough ↦ the_same (λ s. sum_of m 65536 s.region ≡ sum_of m s.at s.region) (filter_start packet) setup refl (rw (le-ltb (length packet) 64 enough) at e)
+  | inr enough ↦
+      the_same (λ s. sum_of m 65536 s.region ≡ sum_of m s.at s.region) (filter_start 65536 packet) setup refl (rw (le-ltb (length packet) 64 enough) at e)
 ]
 sum-at Tag packet setup m e = elim (cases_lt (length packet) 16) [
   | inl less ↦ let none : None ≡ Some setup = rw (lt-ltb (length packet) 16 less) at e in absurd (cc)
-  | inr enough ↦ the_same (λ s. sum_of m 65536 s.region ≡ sum_of m s.at s.region) (tag_start packet) setup refl (rw (le-ltb (length packet) 16 enough) at e)
+  | inr enough ↦
+      the_same (λ s. sum_of m 65536 s.region ≡ sum_of m s.at s.region) (tag_start 65536 packet) setup refl (rw (le-ltb (length packet) 16 enough) at e)
 ]
-sum-at Table packet setup m e = the_same (λ s. sum_of m 65536 s.region ≡ sum_of m s.at s.region) (table_start packet) setup refl e
+sum-at Table packet setup m e = the_same (λ s. sum_of m 65536 s.region ≡ sum_of m s.at s.region) (table_start 65536 packet) setup refl e
 
 -- a run from a start that was loaded, and the sum behind it
 pub ran-result : (old begun after : HostView) (n sum : ℕ) (result : Ended) (packet : List ℕ) → Loads old (start_of old.accepted.policy packet) begun true → IsRun begun n result after → after.region ≡ begun.region → sum ≡ sum_of (map_of 65536 after.words) 65536 after.region % 2 ^ 64 →

@@ -1,25 +1,19 @@
 -- Hosts with rights that fit: at a start, and after a run.
-use Rattle.std.proofs.Common.{◌+◌, ◌-◌, ◌*◌, ◌/◌, ◌≤◌, ◌≡◌, ℕ, List, true, false, refl, sym, ◌∙◌, ap, subst, arith}
-use Rattle.word_ops.specs.Memory.{read}
-use Rattle.word_ops.specs.Rights.{Rights, allowed}
+use Rattle.std.proofs.Common.{◌-◌, ◌/◌, ◌≡◌, ℕ, List, true, refl, sym, ◌∙◌, ap, subst, arith}
+use Rattle.word_ops.specs.Rights.{Rights}
 use Rattle.alpha_words.specs.declared.insn.Insn.{Insn}
-use Rattle.alpha_cfg.specs.Machine.{State, run_of}
-use Rattle.alpha_cfg.specs.declared.outcome.Outcome.{Outcome}
-use Rattle.alpha_cfg.specs.declared.outcome.Outcome.TheVariants as outcomes
+use Rattle.alpha_cfg.specs.Machine.{IsState, run_of}
 use Rattle.formula_tree.specs.Truth.{IsValid}
 use Rattle.policy_set.specs.declared.kind.PolicyKind.{PolicyKind}
 use Rattle.policy_set.specs.Policies.{pre_of}
 use Rattle.reference_machine.specs.Arena.{placed_words, IsZeroFrom}
 use Rattle.reference_machine.specs.Starts.{StartView, Fits, HasWords, start_regs, start_state}
-use Rattle.reference_machine.proofs.ArenaWords.{read-map_of}
-use Rattle.reference_machine.proofs.Places.{past-not_allowed}
 use Rattle.reference_machine.proofs.Starting.{start_state-is}
 use Rattle.packet_store.specs.StartMeets.{StartMeets}
-use Rattle.vcgen.specs.Conditions.{AnnotatedCode, condition}
+use Rattle.vcgen.specs.Conditions.{condition}
 use Rattle.term_table.specs.Table.{id_trees}
 use Rattle.vcgen.specs.Encoded.{AreForms, AreEncodings}
-use Rattle.vcgen.specs.Safety.{IsAnnotated, Holds, IsGoodRun}
-use Rattle.vcgen.proofs.Steps.{holds-start, runs-good}
+use Rattle.vcgen.specs.Safety.{IsAnnotated, Holds}
 use Rattle.pcc_gate.specs.Views.{AcceptedView, AreAnnotations, IsConditionTrue}
 use Rattle.pcc_gate.proofs.First.{formulas-encoded}
 use Rattle.host_steps.specs.declared.ended.Ended.{Ended}
@@ -28,13 +22,12 @@ use Rattle.safe_host.specs.Hosts.{HostView, shown_formulas, shown_code, state_un
 use Rattle.safe_host.specs.Inside.Fields.{HasRightsBefore}
 use Rattle.safe_host.specs.Runs.{IsRun, outcome_of, goes_on_after}
 use Rattle.host_steps.specs.Stepping.{arena_state, EndsUnblocked}
-use Rattle.host_steps.proofs.Unblocked.{under, run-same}
-use Rattle.host_steps.proofs.Unwritten.{run-left}
+use Rattle.part_runs.specs.Parts.{PartView, PartFits, IsPartRun, IsPartRunUnder}
+use Rattle.part_runs.proofs.Fitting.{start-part-fits, part-unblocked, part-run, part-unwritten}
 
-good-unblocked : (c : AnnotatedCode) (s : State) (n left : ℕ) (q : Outcome × State) → IsGoodRun c s n left q → EndsUnblocked q.0
-good-unblocked c s n left (outcomes.OutOfSteps, t) h = tt
-good-unblocked c s n left (outcomes.Returned word, t) h = tt
-good-unblocked c s n left (outcomes.Blocked index kind a, t) h = absurd h
+-- a host as a part of an arena
+abbrev part_of : HostView → PartView
+part_of h = record { base = 65536; index = h.index; regs = h.regs; words = h.words }
 
 pub goes-on : (result : Ended) → goes_on_after result ≡ true → result ≡ ended.OutOfSteps
 goes-on ended.OutOfSteps e = refl
@@ -57,11 +50,10 @@ module _ (a : AcceptedView) (forms : AreForms (id_trees a.table a.invs)) (annota
   is-valid = valid (shown_formulas a) encoded
 
   start-fits : (setup : StartView) → Fits 65536 setup → HasWords setup → StartMeets setup (pre_of a.policy) → RightsFit (host_at a setup) (start_rights setup)
-  start-fits setup fits words meets = record {
-    reads = fits.reads_in;
-    writes = fits.writes_in;
-    holds = holds-start (shown_code a) is-annotated is-valid (start_state 65536 setup) (start_state-is 65536 setup refl (omega arith) fits words) refl meets;
-  }
+  start-fits setup fits words meets =
+      let state : IsState (start_state 65536 setup) = start_state-is 65536 setup refl (omega arith) fits words in
+      let f = start-part-fits (shown_code a) 65536 setup is-annotated is-valid fits state meets in
+      record { reads = f.reads; writes = f.writes; holds = f.holds }
 
   -- the bytes of a start that meets the precondition stand in the arena
   pub begins : (policy : PolicyKind) (setup : StartView) (regs words : List ℕ) → regs ≡ start_regs setup → policy ≡ a.policy →
@@ -77,21 +69,15 @@ module _ (a : AcceptedView) (forms : AreForms (id_trees a.table a.invs)) (annota
 
 -- a host's accepted code has these laws
 module _ (h : HostView) (forms : AreForms (id_trees h.accepted.table h.accepted.invs)) (annotates : AreAnnotations h.accepted) (valid : IsConditionTrue h.accepted) (n : ℕ) where
-  good : (r : Rights) → RightsFit h r → IsGoodRun (shown_code h.accepted) (state_under h r) n 0 (run_of h.accepted.code n (state_under h r))
-  good r f = runs-good (shown_code h.accepted) (is-annotated h.accepted forms annotates valid) (is-valid h.accepted forms annotates valid) n (state_under h r) 0 f.holds
-
-  ends-well : (r : Rights) → RightsFit h r → EndsUnblocked (run_of h.accepted.code n (state_under h r)).0
-  ends-well r f = good-unblocked (shown_code h.accepted) (state_under h r) n 0 (run_of h.accepted.code n (state_under h r)) (good r f)
-
-  same : (r : Rights) → RightsFit h r →
-      run_of h.accepted.code n (state_under h r) ≡ under r (run_of h.accepted.code n (arena_state 65536 h.index h.regs h.words))
-  same r f = run-same 65536 r f.reads f.writes h.accepted.code n (arena_state 65536 h.index h.regs h.words) (ends-well r f)
+  fits : (r : Rights) → RightsFit h r → PartFits (shown_code h.accepted) 0 (part_of h) r
+  fits r f = record { reads = f.reads; writes = f.writes; holds = f.holds }
 
   -- no access of its run is blocked
   pub runs-unblocked : (code : List Insn) → code ≡ h.accepted.code → (end : ℕ) → HasRightsBefore end h → EndsUnblocked (run_of code n (arena_state 65536 h.index h.regs h.words)).0
   runs-unblocked code is end f =
       subst (λ (l : List Insn). EndsUnblocked (run_of l n (arena_state 65536 h.index h.regs h.words)).0) (sym is)
-      (subst (λ (q : Outcome × State). EndsUnblocked q.0) (same f.0 f.1) (ends-well f.0 f.1))
+      (part-unblocked (shown_code h.accepted) (is-annotated h.accepted forms annotates valid) (is-valid h.accepted forms annotates valid) (part_of h) n 0 f.0
+      (fits f.0 f.1))
 
   module _
       (code : List Insn)
@@ -101,20 +87,28 @@ module _ (h : HostView) (forms : AreForms (id_trees h.accepted.table h.accepted.
       (kept : new.accepted ≡ h.accepted)
       (ran : (outcome_of result, arena_state 65536 new.index new.regs new.words) ≡ run_of code n (arena_state 65536 h.index h.regs h.words))
     where
-      run-is : (r : Rights) → RightsFit h r → run_of h.accepted.code n (state_under h r) ≡ (outcome_of result, state_under new r)
-      run-is r f = same r f ∙ sym (ap (under r) (ran ∙ ap (λ (l : List Insn). run_of l n (arena_state 65536 h.index h.regs h.words)) is))
+      ran-part : IsPartRun (shown_code h.accepted) (part_of h) n result (part_of new)
+      ran-part = record { base = refl; run = ran ∙ ap (λ (l : List Insn). run_of l n (arena_state 65536 h.index h.regs h.words)) is }
 
-      out-holds : (r : Rights) → RightsFit h r → result ≡ ended.OutOfSteps → Holds (shown_code h.accepted) (state_under new r) 0
-      out-holds r f out =
-          let goes : IsGoodRun (shown_code h.accepted) (state_under h r) n 0 (outcome_of result, state_under new r) = subst (IsGoodRun (shown_code h.accepted) (state_under h r) n 0) (run-is r f) (good r f) in
-          (subst (λ (e : Ended). IsGoodRun (shown_code h.accepted) (state_under h r) n 0 (outcome_of e, state_under new r)) out goes).0
+      ran-under : (r : Rights) → RightsFit h r → IsPartRunUnder (shown_code h.accepted) (part_of h) n 0 result (part_of new) r
+      ran-under r f =
+          part-run (shown_code h.accepted) (is-annotated h.accepted forms annotates valid) (is-valid h.accepted forms annotates valid) (part_of h) n 0 r
+          (fits r f) result (part_of new) ran-part
 
       -- under rights that fit, the run is that of the machine that tests
       pub is-run : IsRun h n result new
-      is-run r f = record {
-        same = run-is r f;
-        fits = λ out. record { reads = f.reads; writes = f.writes; holds = subst (λ (b : AcceptedView). Holds (shown_code b) (state_under new r) 0) (sym kept) (out-holds r f out) };
-      }
+      is-run r f =
+          let ran_under = ran-under r f in
+          record {
+            same = ran_under.same;
+            fits = λ out.
+                let g = ran_under.fits out in
+                record {
+                  reads = g.reads;
+                  writes = g.writes;
+                  holds = subst (λ (b : AcceptedView). Holds (shown_code b) (state_under new r) 0) (sym kept) g.holds;
+                };
+          }
 
       -- where it may go on, some fit
       pub still-fits : (end : ℕ) → HasRightsBefore end h → goes_on_after result ≡ true → HasRightsBefore end new
@@ -122,13 +116,6 @@ module _ (h : HostView) (forms : AreForms (id_trees h.accepted.table h.accepted.
 
       -- from the place on where the stores end, words are 0 as before
       pub still-zero : (end : ℕ) → HasRightsBefore end h → IsZeroFrom end h.words → IsZeroFrom end new.words
-      still-zero end f zero p past =
-          let a : ℕ = 65536 + 8 * p in
-          let place : end ≤ (a - 65536) / 8 = omega (arith, past) in
-          let closed : allowed f.0.writes a ≡ false = past-not_allowed 65536 end f.0.writes a f.1.writes f.2 place in
-          let s : State = state_under h f.0 in
-          sym (read-map_of new.words 65536 p)
-          ∙ ap (λ (q : Outcome × State). read q.1.memory a) (sym (run-is f.0 f.1))
-          ∙ run-left a h.accepted.code n s closed
-          ∙ read-map_of h.words 65536 p
-          ∙ zero p past
+      still-zero end f zero =
+          part-unwritten (shown_code h.accepted) (is-annotated h.accepted forms annotates valid) (is-valid h.accepted forms annotates valid) (part_of h) n 0
+          f.0 (fits f.0 f.1) result (part_of new) ran-part end f.2 zero

@@ -1,0 +1,38 @@
+//! What holds of the definitions, with nothing to run.
+
+ghost use Rattle.std.specs.Prelude.{ℕ};
+ghost use Rattle.word_ops.specs.Rights.{Rights};
+ghost use Rattle.alpha_cfg.specs.Machine.{IsState, run_of};
+ghost use Rattle.formula_tree.specs.Truth.{IsValid};
+ghost use Rattle.policy_set.specs.Satisfies.{Satisfies};
+ghost use Rattle.reference_machine.specs.Agents.{EndBy};
+ghost use Rattle.reference_machine.specs.Arena.{IsZeroFrom};
+ghost use Rattle.reference_machine.specs.Starts.{StartView, Fits, start_regs, start_state};
+ghost use Rattle.vcgen.specs.Conditions.{AnnotatedCode, condition};
+ghost use Rattle.vcgen.specs.Safety.{IsAnnotated, all_steps};
+ghost use Rattle.host_steps.specs.declared.ended.Ended.{Ended};
+ghost use Rattle.host_steps.specs.Stepping.{EndsUnblocked};
+ghost use Rattle.part_runs.specs.Parts.{PartView, PartFits, open_state, part_at_start, rights_of, IsPartRun, IsPartRunUnder};
+
+/// Of annotated code whose condition is true. The rights of a start that lies in a part and meets
+/// the precondition fit the part (`start`). Under rights that fit, a run that tests no access isn't
+/// blocked (`unblocked`) and is the run of the machine that tests each; out of steps, they fit again
+/// (`run`). From a number on at which their stores end, quadwords that are 0 stay so (`unwritten`).
+pub fn laws()
+    ensures start { (c : AnnotatedCode) (base : ℕ) (setup : StartView) → IsAnnotated c
+        → IsValid (condition c) → Fits base setup → IsState (start_state base setup)
+        → Satisfies (rights_of setup) (start_regs setup) (start_state base setup).memory c.pre
+        → PartFits c (all_steps c.bound) (part_at_start base setup) (rights_of setup) }
+    ensures unblocked { (c : AnnotatedCode) (p : PartView) (n left : ℕ) (rights : Rights)
+        → IsAnnotated c → IsValid (condition c) → PartFits c left p rights
+        → EndsUnblocked (run_of c.code n (open_state p)).0 }
+    ensures run { (c : AnnotatedCode) (p : PartView) (n left : ℕ) (result : Ended) (q : PartView)
+        → IsAnnotated c → IsValid (condition c) → IsPartRun c p n result q
+        → (rights : Rights) → PartFits c left p rights
+        → IsPartRunUnder c p n left result q rights }
+    ensures unwritten { (c : AnnotatedCode) (p : PartView) (n left : ℕ) (result : Ended)
+        → (q : PartView) (rights : Rights) (end : ℕ)
+        → IsAnnotated c → IsValid (condition c) → IsPartRun c p n result q
+        → PartFits c left p rights → EndBy p.base end rights.writes → IsZeroFrom end p.words
+        → IsZeroFrom end q.words }
+{}
