@@ -5,14 +5,15 @@ use Rattle.word_ops.specs.Rights.{Rights, allowed}
 use Rattle.word_ops.specs.Registers.{read_reg, write_reg}
 use Rattle.word_ops.proofs.Memories.{read-write_other}
 use Rattle.alpha_words.specs.declared.insn.Insn.{Insn}
-use Rattle.alpha_words.specs.declared.insn.Insn.TheVariants.{Lda, Ldq, Stq, Oper, Branch, Br, Ret}
+use Rattle.alpha_cfg.specs.Actions.{Action, action_of}
+use Rattle.alpha_cfg.specs.Actions as actions
 use Rattle.alpha_cfg.specs.Flow.{jump_of}
 use Rattle.alpha_cfg.specs.declared.outcome.Kind.{Kind}
 use Rattle.alpha_cfg.specs.declared.outcome.Kind.TheVariants.{Load, Store}
 use Rattle.alpha_cfg.specs.declared.outcome.Step.{Step}
 use Rattle.alpha_cfg.specs.declared.outcome.Step.TheVariants as steps
 use Rattle.alpha_cfg.specs.declared.outcome.Outcome.{Outcome}
-use Rattle.alpha_cfg.specs.Machine.{State, address_of, takes, access_outcome, state_at, insn_outcome, step_at, step_of, ends_with, run_of}
+use Rattle.alpha_cfg.specs.Machine.{State, address_of, passes, access_outcome, state_at, action_outcome, step_at, step_of, ends_with, run_of}
 use Rattle.alpha_cfg.proofs.States.{insn_outcome-rights, run_of-rights}
 use Rattle.alpha_cfg.specs.Isolation.{ChangesWritable}
 
@@ -29,23 +30,22 @@ module _ (q : ℕ) where
   state_at-same s None = refl
   state_at-same s (Some j) = refl
 
-  insn-same : (insn : Insn) (s : State) → allowed s.rights.writes q ≡ false → Same s (insn_outcome insn s).1
-  insn-same (Lda ra rb disp) s not_may = refl
-  insn-same (Ldq ra rb disp) s not_may =
-      let a = address_of s.regs rb disp in
-      access-same Load (allowed s.rights.reads a) a s (record s { index = s.index + 1; regs = write_reg s.regs ra (read s.memory a) }) (λ may_be. refl)
-  insn-same (Stq ra rb disp) s not_may =
-      let a = address_of s.regs rb disp in
-      access-same Store (allowed s.rights.writes a) a s (record s { index = s.index + 1; memory = write s.memory a (read_reg s.regs ra) })
-      (λ may_be. read-write_other s.memory a (read_reg s.regs ra) q (λ e. true≢false (sym may_be ∙ ap (λ x. allowed s.rights.writes x) (sym e) ∙ not_may)))
-  insn-same (Oper op ra rhs rc) s not_may = refl
-  insn-same (Branch cond ra disp) s not_may = state_at-same s (if takes cond (read_reg s.regs ra) then jump_of s.index (Branch cond ra disp) else Some (s.index + 1))
-  insn-same (Br disp) s not_may = state_at-same s (jump_of s.index (Br disp))
-  insn-same Ret s not_may = refl
+  action-same : (e : Action) (jump : Option ℕ) (s : State) → allowed s.rights.writes q ≡ false → Same s (action_outcome e jump s).1
+  action-same (actions.Compute to word) jump s not_may = refl
+  action-same (actions.Load to base disp) jump s not_may =
+      let a = address_of s.regs base disp in
+      access-same Load (allowed s.rights.reads a) a s (record s { index = s.index + 1; regs = write_reg s.regs to (read s.memory a) }) (λ may_be. refl)
+  action-same (actions.Store from base disp) jump s not_may =
+      let a = address_of s.regs base disp in
+      let word = read_reg s.regs from in
+      access-same Store (allowed s.rights.writes a) a s (record s { index = s.index + 1; memory = write s.memory a word })
+      (λ may_be. read-write_other s.memory a word q (λ e. true≢false (sym may_be ∙ ap (λ x. allowed s.rights.writes x) (sym e) ∙ not_may)))
+  action-same (actions.Branching test) jump s not_may = state_at-same s (if passes s.regs test then jump else Some (s.index + 1))
+  action-same actions.Return jump s not_may = refl
 
   step-same : (insn : Option Insn) (s : State) → allowed s.rights.writes q ≡ false → Same s (step_at insn s).1
   step-same None s not_may = refl
-  step-same (Some insn) s not_may = insn-same insn s not_may
+  step-same (Some insn) s not_may = action-same (action_of insn) (jump_of s.index insn) s not_may
 
   step-rights : (insn : Option Insn) (s : State) → (step_at insn s).1.rights ≡ s.rights
   step-rights None s = refl

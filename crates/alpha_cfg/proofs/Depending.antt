@@ -4,17 +4,17 @@ use Rattle.std.proofs.lemmas.Bool.{cases_eq}
 use Rattle.word_ops.specs.Memory.{Memory, read, write}
 use Rattle.word_ops.specs.Rights.{Rights, allowed}
 use Rattle.word_ops.specs.Registers.{read_reg, write_reg}
-use Rattle.word_ops.specs.Words.{word_of}
 use Rattle.word_ops.proofs.Memories.{read-write_other, read-write_same}
 use Rattle.alpha_words.specs.declared.insn.Insn.{Insn}
-use Rattle.alpha_words.specs.declared.insn.Insn.TheVariants.{Lda, Ldq, Stq, Oper, Branch, Br, Ret}
+use Rattle.alpha_cfg.specs.Actions.{Action, action_of}
+use Rattle.alpha_cfg.specs.Actions as actions
 use Rattle.alpha_cfg.specs.Flow.{jump_of}
 use Rattle.alpha_cfg.specs.declared.outcome.Kind.{Kind}
 use Rattle.alpha_cfg.specs.declared.outcome.Kind.TheVariants.{Load, Store}
 use Rattle.alpha_cfg.specs.declared.outcome.Step.{Step}
 use Rattle.alpha_cfg.specs.declared.outcome.Step.TheVariants as steps
 use Rattle.alpha_cfg.specs.declared.outcome.Outcome.{Outcome}
-use Rattle.alpha_cfg.specs.Machine.{State, rhs_word, address_of, takes, access_outcome, state_at, insn_outcome, step_at, step_of, ends_with, run_of}
+use Rattle.alpha_cfg.specs.Machine.{State, address_of, passes, access_outcome, state_at, action_outcome, step_at, step_of, ends_with, run_of}
 use Rattle.alpha_cfg.specs.Isolation.{LooksAlike, DependsOnReadable}
 
 -- the state with another memory
@@ -49,18 +49,16 @@ state_at_alike : (to : Option ℕ) (s : State) (l : Memory) → LooksAlike s.rig
 state_at_alike None s l looks = record { first = refl; other = l; is = refl; rights_are = refl; looks = looks }
 state_at_alike (Some j) s l looks = record { first = refl; other = l; is = refl; rights_are = refl; looks = looks }
 
-insn_alike : (insn : Insn) (s : State) (l : Memory) → LooksAlike s.rights s.memory l → Alike s.rights (insn_outcome insn s) (insn_outcome insn (with_mem s l))
-insn_alike (Lda ra rb disp) s l looks = record { first = refl; other = l; is = refl; rights_are = refl; looks = looks }
-insn_alike (Ldq ra rb disp) s l looks = load_alike (allowed s.rights.reads (address_of s.regs rb disp)) (address_of s.regs rb disp) ra s l refl looks
-insn_alike (Stq ra rb disp) s l looks = store_alike (allowed s.rights.writes (address_of s.regs rb disp)) (address_of s.regs rb disp) (read_reg s.regs ra) s l looks
-insn_alike (Oper op ra rhs rc) s l looks = record { first = refl; other = l; is = refl; rights_are = refl; looks = looks }
-insn_alike (Branch cond ra disp) s l looks = state_at_alike (if takes cond (read_reg s.regs ra) then jump_of s.index (Branch cond ra disp) else Some (s.index + 1)) s l looks
-insn_alike (Br disp) s l looks = state_at_alike (jump_of s.index (Br disp)) s l looks
-insn_alike Ret s l looks = record { first = refl; other = l; is = refl; rights_are = refl; looks = looks }
+action_alike : (e : Action) (jump : Option ℕ) (s : State) (l : Memory) → LooksAlike s.rights s.memory l → Alike s.rights (action_outcome e jump s) (action_outcome e jump (with_mem s l))
+action_alike (actions.Compute to word) jump s l looks = record { first = refl; other = l; is = refl; rights_are = refl; looks = looks }
+action_alike (actions.Load to base disp) jump s l looks = load_alike (allowed s.rights.reads (address_of s.regs base disp)) (address_of s.regs base disp) to s l refl looks
+action_alike (actions.Store from base disp) jump s l looks = store_alike (allowed s.rights.writes (address_of s.regs base disp)) (address_of s.regs base disp) (read_reg s.regs from) s l looks
+action_alike (actions.Branching test) jump s l looks = state_at_alike (if passes s.regs test then jump else Some (s.index + 1)) s l looks
+action_alike actions.Return jump s l looks = record { first = refl; other = l; is = refl; rights_are = refl; looks = looks }
 
 step_alike : (insn : Option Insn) (s : State) (l : Memory) → LooksAlike s.rights s.memory l → Alike s.rights (step_at insn s) (step_at insn (with_mem s l))
 step_alike None s l looks = record { first = refl; other = l; is = refl; rights_are = refl; looks = looks }
-step_alike (Some insn) s l looks = insn_alike insn s l looks
+step_alike (Some insn) s l looks = action_alike (action_of insn) (jump_of s.index insn) s l looks
 
 -- the end of a run that begins with a step
 module _ (code : List Insn) (n : ℕ) (rights : Rights) (more : (s : State) (l : Memory) → LooksAlike s.rights s.memory l → Alike s.rights (run_of code n s) (run_of code n (with_mem s l))) where

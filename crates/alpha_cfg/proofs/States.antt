@@ -1,5 +1,5 @@
 -- A step keeps a state one, and its index inside the code.
-use Rattle.std.proofs.Common.{◌≡◌, ℕ, zero, suc, ◌+◌, ◌^◌, ◌<◌, Bool, true, false, List, length, slice_get, Option, Some, None, IsSome, refl, ◌∙◌, arith, ℤ, if◌then◌else◌}
+use Rattle.std.proofs.Common.{◌≡◌, ℕ, zero, suc, ◌+◌, ◌^◌, ◌<◌, Bool, true, false, List, length, slice_get, Option, Some, None, IsSome, refl, ◌∙◌, arith, ℤ, pos, negsuc, if◌then◌else◌}
 use Rattle.std.proofs.lemmas.Nat.{mod_below}
 use Rattle.std.specs.Int.{cast_unsigned, w64}
 use Rattle.word_ops.proofs.Bounds.{word_of-below}
@@ -13,8 +13,10 @@ use Rattle.alpha_words.specs.declared.insn.Rhs.{Rhs}
 use Rattle.alpha_words.specs.declared.insn.Rhs.TheVariants.{Reg, Lit}
 use Rattle.alpha_words.specs.declared.insn.Insn.{Insn}
 use Rattle.alpha_words.specs.declared.insn.Insn.TheVariants.{Lda, Ldq, Stq, Oper, Branch, Br, Ret}
-use Rattle.alpha_words.specs.Encoding.{IsRhs}
+use Rattle.alpha_words.specs.Encoding.{IsRhs, HasBits}
 use Rattle.alpha_words.specs.Lawful.{target_of}
+use Rattle.alpha_cfg.specs.Actions.{Computed, Sum, Applied, Always, When, Action, action_of, HasOperands, next_after}
+use Rattle.alpha_cfg.specs.Actions as actions
 use Rattle.alpha_cfg.specs.Flow.{IsCode, IsInsn, jump_of, next_of}
 use Rattle.alpha_cfg.proofs.FreeWalks.{landing_within, next_within}
 use Rattle.alpha_cfg.specs.declared.outcome.Kind.{Kind}
@@ -22,7 +24,7 @@ use Rattle.alpha_cfg.specs.declared.outcome.Kind.TheVariants.{Load, Store}
 use Rattle.alpha_cfg.specs.declared.outcome.Step.{Step}
 use Rattle.alpha_cfg.specs.declared.outcome.Step.TheVariants as steps
 use Rattle.alpha_cfg.specs.declared.outcome.Outcome.{Outcome}
-use Rattle.alpha_cfg.specs.Machine.{State, IsState, rhs_word, address_of, access_outcome, state_at, insn_outcome, takes, step_at, step_of, ends_with, run_of}
+use Rattle.alpha_cfg.specs.Machine.{State, IsState, rhs_word, address_of, access_outcome, state_at, word_computed, passes, action_outcome, insn_outcome, takes, step_at, step_of, ends_with, run_of}
 
 -- a state whose index is below n
 pub record IsAt (n : ℕ) (s : State) : Type 0 where
@@ -36,17 +38,34 @@ rhs_word-below regs (Lit n) h is = omega arith
 address_of-below : (regs : List ℕ) (rb : ℕ) (disp : ℤ) → address_of regs rb disp < 2 ^ 64
 address_of-below regs rb disp = mod_below (read_reg regs rb + cast_unsigned w64 disp) (2 ^ 64) (omega arith)
 
+wider : (z : ℤ) → HasBits 15 z → HasBits 31 z
+wider (pos n) h = omega (arith, h)
+wider (negsuc n) h = omega (arith, h)
+
+-- an instruction that a word encodes has operands in their ranges
+pub action_of-operands : (insn : Insn) → IsInsn insn → HasOperands (action_of insn)
+action_of-operands (Lda ra rb disp) byte = (byte.1.1, wider disp byte.1.2)
+action_of-operands (Ldq ra rb disp) byte = (byte.1.2, wider disp byte.1.3)
+action_of-operands (Stq ra rb disp) byte = (byte.1.1, wider disp byte.1.2, byte.1.0)
+action_of-operands (Oper op ra rhs rc) byte = (byte.1.0, byte.1.1)
+action_of-operands (Branch cond ra disp) byte = byte.1.0
+action_of-operands (Br disp) byte = tt
+action_of-operands Ret byte = tt
+
+word_computed-below : (regs : List ℕ) (to : ℕ) (word : Computed) → AreRegs regs → HasOperands (actions.Compute to word) → word_computed regs word < 2 ^ 64
+word_computed-below regs to (Sum base disp) h is = address_of-below regs base disp
+word_computed-below regs to (Applied op left right) h is = word_of-below op (read_reg regs left) (rhs_word regs right) (read_reg-below regs left h) (rhs_word-below regs right h is.1)
+
 -- ---- where it goes on
+
+next_after_some : (i : ℕ) (e : Action) → IsSome (next_after i e) → next_after i e ≡ Some (i + 1)
+next_after_some i (actions.Branching Always) on = cc
+next_after_some i actions.Return on = cc
+next_after_some i e on = refl
 
 -- where an instruction goes on, code has one more
 pub next_within_some : (code : List Insn) (i : ℕ) (insn : Insn) → IsCode code → slice_get code i ≡ Some insn → IsSome (next_of i insn) → i + 1 < length code
-next_within_some code i (Lda ra rb disp) is at on = next_within code is i (Lda ra rb disp) at (i + 1) refl
-next_within_some code i (Ldq ra rb disp) is at on = next_within code is i (Ldq ra rb disp) at (i + 1) refl
-next_within_some code i (Stq ra rb disp) is at on = next_within code is i (Stq ra rb disp) at (i + 1) refl
-next_within_some code i (Oper op ra rhs rc) is at on = next_within code is i (Oper op ra rhs rc) at (i + 1) refl
-next_within_some code i (Branch cond ra disp) is at on = next_within code is i (Branch cond ra disp) at (i + 1) refl
-next_within_some code i (Br disp) is at on = cc
-next_within_some code i Ret is at on = cc
+next_within_some code i insn is at on = next_within code is i insn at (i + 1) (next_after_some i (action_of insn) on)
 
 -- ---- a state with other parts
 
@@ -69,26 +88,31 @@ access_outcome-keeps n kind false a s u is after = is
 
 -- ---- steps and runs
 
-pub insn_outcome-keeps : (code : List Insn) (insn : Insn) (s : State) → IsCode code → slice_get code s.index ≡ Some insn → IsInsn insn → IsAt (length code) s → IsAt (length code) (insn_outcome insn s).1
-insn_outcome-keeps code (Lda ra rb disp) s ok at byte is = set_reg-keeps (length code) s ra (address_of s.regs rb disp) is (next_within code ok s.index (Lda ra rb disp) at (s.index + 1) refl) (address_of-below s.regs rb disp)
-insn_outcome-keeps code (Ldq ra rb disp) s ok at byte is =
-    let a = address_of s.regs rb disp in
-    access_outcome-keeps (length code) Load (allowed s.rights.reads a) a s (record s { index = s.index + 1; regs = write_reg s.regs ra (read s.memory a) }) is (set_reg-keeps (length code) s ra (read s.memory a) is (next_within code ok s.index (Ldq ra rb disp) at (s.index + 1) refl) (read-below s.memory a is.state.memory))
-insn_outcome-keeps code (Stq ra rb disp) s ok at byte is =
-    let a = address_of s.regs rb disp in
-    access_outcome-keeps (length code) Store (allowed s.rights.writes a) a s (record s { index = s.index + 1; memory = write s.memory a (read_reg s.regs ra) }) is (store-keeps (length code) s a (read_reg s.regs ra) is (next_within code ok s.index (Stq ra rb disp) at (s.index + 1) refl) (address_of-below s.regs rb disp) (read_reg-below s.regs ra is.state.regs))
-insn_outcome-keeps code (Oper op ra rhs rc) s ok at byte is =
-    let regs : AreRegs s.regs = is.state.regs in
-    set_reg-keeps (length code) s rc (word_of op (read_reg s.regs ra) (rhs_word s.regs rhs)) is (next_within code ok s.index (Oper op ra rhs rc) at (s.index + 1) refl) (word_of-below op (read_reg s.regs ra) (rhs_word s.regs rhs) (read_reg-below s.regs ra regs) (rhs_word-below s.regs rhs regs byte.1.1))
-insn_outcome-keeps code (Branch cond ra disp) s ok at byte is =
-    let jump = jump_of s.index (Branch cond ra disp) in
-    let on : s.index + 1 < length code = next_within code ok s.index (Branch cond ra disp) at (s.index + 1) refl in
-    elim (takes cond (read_reg s.regs ra)) as (λ b. IsAt (length code) (state_at s (if b then jump else Some (s.index + 1)))) [
-      | true ↦ state_at-keeps (length code) s jump is (landing_within (length code) (target_of s.index (Branch cond ra disp)) (ok.inside s.index (Branch cond ra disp) at))
-      | false ↦ moved (length code) s (s.index + 1) is on
+action-keeps : (n : ℕ) (e : Action) (jump : Option ℕ) (s : State) → HasOperands e → (IsSome (next_after s.index e) → s.index + 1 < n) → ((j : ℕ) → jump ≡ Some j → j < n) → IsAt n s →
+    IsAt n (action_outcome e jump s).1
+action-keeps n (actions.Compute to word) jump s operands on lands is = set_reg-keeps n s to (word_computed s.regs word) is (on refl) (word_computed-below s.regs to word is.state.regs operands)
+action-keeps n (actions.Load to base disp) jump s operands on lands is =
+    let a = address_of s.regs base disp in
+    let u : State = record s { index = s.index + 1; regs = write_reg s.regs to (read s.memory a) } in
+    access_outcome-keeps n Load (allowed s.rights.reads a) a s u is (set_reg-keeps n s to (read s.memory a) is (on refl) (read-below s.memory a is.state.memory))
+action-keeps n (actions.Store from base disp) jump s operands on lands is =
+    let a = address_of s.regs base disp in
+    let word = read_reg s.regs from in
+    let u : State = record s { index = s.index + 1; memory = write s.memory a word } in
+    access_outcome-keeps n Store (allowed s.rights.writes a) a s u is
+    (store-keeps n s a word is (on refl) (address_of-below s.regs base disp) (read_reg-below s.regs from is.state.regs))
+action-keeps n (actions.Branching Always) jump s operands on lands is = state_at-keeps n s jump is lands
+action-keeps n (actions.Branching (When cond reg)) jump s operands on lands is =
+    elim (takes cond (read_reg s.regs reg)) as (λ b. IsAt n (state_at s (if b then jump else Some (s.index + 1)))) [
+      | true ↦ state_at-keeps n s jump is lands
+      | false ↦ moved n s (s.index + 1) is (on refl)
     ]
-insn_outcome-keeps code (Br disp) s ok at byte is = state_at-keeps (length code) s (jump_of s.index (Br disp)) is (landing_within (length code) (target_of s.index (Br disp)) (ok.inside s.index (Br disp) at))
-insn_outcome-keeps code Ret s ok at byte is = is
+action-keeps n actions.Return jump s operands on lands is = is
+
+pub insn_outcome-keeps : (code : List Insn) (insn : Insn) (s : State) → IsCode code → slice_get code s.index ≡ Some insn → IsInsn insn → IsAt (length code) s → IsAt (length code) (insn_outcome insn s).1
+insn_outcome-keeps code insn s ok at byte is =
+    action-keeps (length code) (action_of insn) (jump_of s.index insn) s (action_of-operands insn byte) (next_within_some code s.index insn ok at)
+    (landing_within (length code) (target_of s.index insn) (ok.inside s.index insn at)) is
 
 step_at-keeps : (code : List Insn) (insn : Option Insn) (s : State) → IsCode code → slice_get code s.index ≡ insn → IsAt (length code) s → IsAt (length code) (step_at insn s).1
 step_at-keeps code None s ok at is = is
@@ -119,18 +143,19 @@ state_at-rights : (s : State) (to : Option ℕ) → (state_at s to).rights ≡ s
 state_at-rights s None = refl
 state_at-rights s (Some j) = refl
 
+pub action-rights : (e : Action) (jump : Option ℕ) (s : State) → (action_outcome e jump s).1.rights ≡ s.rights
+action-rights (actions.Compute to word) jump s = refl
+action-rights (actions.Load to base disp) jump s =
+    let a = address_of s.regs base disp in
+    access_outcome-rights Load (allowed s.rights.reads a) a s (record s { index = s.index + 1; regs = write_reg s.regs to (read s.memory a) }) refl
+action-rights (actions.Store from base disp) jump s =
+    let a = address_of s.regs base disp in
+    access_outcome-rights Store (allowed s.rights.writes a) a s (record s { index = s.index + 1; memory = write s.memory a (read_reg s.regs from) }) refl
+action-rights (actions.Branching test) jump s = state_at-rights s (if passes s.regs test then jump else Some (s.index + 1))
+action-rights actions.Return jump s = refl
+
 pub insn_outcome-rights : (insn : Insn) (s : State) → (insn_outcome insn s).1.rights ≡ s.rights
-insn_outcome-rights (Lda ra rb disp) s = refl
-insn_outcome-rights (Ldq ra rb disp) s =
-    let a = address_of s.regs rb disp in
-    access_outcome-rights Load (allowed s.rights.reads a) a s (record s { index = s.index + 1; regs = write_reg s.regs ra (read s.memory a) }) refl
-insn_outcome-rights (Stq ra rb disp) s =
-    let a = address_of s.regs rb disp in
-    access_outcome-rights Store (allowed s.rights.writes a) a s (record s { index = s.index + 1; memory = write s.memory a (read_reg s.regs ra) }) refl
-insn_outcome-rights (Oper op ra rhs rc) s = refl
-insn_outcome-rights (Branch cond ra disp) s = state_at-rights s (if takes cond (read_reg s.regs ra) then jump_of s.index (Branch cond ra disp) else Some (s.index + 1))
-insn_outcome-rights (Br disp) s = state_at-rights s (jump_of s.index (Br disp))
-insn_outcome-rights Ret s = refl
+insn_outcome-rights insn s = action-rights (action_of insn) (jump_of s.index insn) s
 
 step_at-rights : (insn : Option Insn) (s : State) → (step_at insn s).1.rights ≡ s.rights
 step_at-rights None s = refl

@@ -1,9 +1,9 @@
 -- Where an instruction leads, and what code is. Alpha Architecture Handbook, "Control Instructions".
 use Rattle.std.specs.Prelude.{◌≡◌, ℕ, ◌+◌, ◌-◌, ◌<◌, ◌≤◌, List, length, slice_get, Option, Some, None, ℤ, pos, negsuc}
 use Rattle.alpha_words.specs.declared.insn.Insn.{Insn}
-use Rattle.alpha_words.specs.declared.insn.Insn.TheVariants.{Lda, Ldq, Stq, Oper, Branch, Br, Ret}
 use Rattle.alpha_words.specs.Encoding.{Encodes}
 use Rattle.alpha_words.specs.Lawful.{target_of}
+use Rattle.alpha_cfg.specs.Actions.{action_of, next_after}
 use Rattle.alpha_cfg.specs.declared.code.TheConstants.{MAX_WORDS}
 
 -- a number that is an index
@@ -18,13 +18,7 @@ landing (Some z) = index_of z
 
 -- the index after the instruction, where it may go on there
 abbrev pub next_of : ℕ → Insn → Option ℕ
-next_of i (Lda ra rb disp) = Some (i + 1)
-next_of i (Ldq ra rb disp) = Some (i + 1)
-next_of i (Stq ra rb disp) = Some (i + 1)
-next_of i (Oper op ra rhs rc) = Some (i + 1)
-next_of i (Branch cond ra disp) = Some (i + 1)
-next_of i (Br disp) = None
-next_of i Ret = None
+next_of i insn = next_after i (action_of insn)
 
 -- the index that the instruction branches to
 abbrev pub jump_of : ℕ → Insn → Option ℕ

@@ -1,6 +1,6 @@
 -- States of the machine, its steps and its runs, with a test at each access.
 -- Alpha Architecture Handbook, the instruction descriptions.
-use Rattle.std.specs.Prelude.{ℕ, zero, suc, ◌+◌, ◌%◌, ◌^◌, Bool, not, ◌==◌, if◌then◌else◌, List, slice_get, slice_index, Option, Some, None, bit_and, ℤ}
+use Rattle.std.specs.Prelude.{ℕ, zero, suc, ◌+◌, ◌%◌, ◌^◌, Bool, true, not, ◌==◌, if◌then◌else◌, List, slice_get, slice_index, Option, Some, None, bit_and, ℤ}
 use Rattle.std.specs.Int.{cast_unsigned, w64}
 use Rattle.word_ops.specs.declared.Rel.TheVariants.{Slt, Sle}
 use Rattle.word_ops.specs.Words.{word_of, test_of}
@@ -12,7 +12,8 @@ use Rattle.alpha_words.specs.declared.insn.Rhs.TheVariants.{Reg, Lit}
 use Rattle.alpha_words.specs.declared.insn.Cond.{Cond}
 use Rattle.alpha_words.specs.declared.insn.Cond.TheVariants.{LowClear, Zero, Negative, NotPositive, LowSet, NotZero, NotNegative, Positive}
 use Rattle.alpha_words.specs.declared.insn.Insn.{Insn}
-use Rattle.alpha_words.specs.declared.insn.Insn.TheVariants.{Lda, Ldq, Stq, Oper, Branch, Br, Ret}
+use Rattle.alpha_cfg.specs.Actions.{Computed, Sum, Applied, Test, Always, When, Action, action_of}
+use Rattle.alpha_cfg.specs.Actions as actions
 use Rattle.alpha_cfg.specs.Flow.{jump_of}
 use Rattle.alpha_cfg.specs.declared.outcome.Kind.{Kind}
 use Rattle.alpha_cfg.specs.declared.outcome.Kind.TheVariants.{Load, Store}
@@ -63,19 +64,31 @@ abbrev pub state_at : State → Option ℕ → State
 state_at s None = s
 state_at s (Some j) = record s { index = j }
 
+-- the word that is computed
+abbrev pub word_computed : List ℕ → Computed → ℕ
+word_computed regs (Sum base disp) = address_of regs base disp
+word_computed regs (Applied op left right) = word_of op (read_reg regs left) (rhs_word regs right)
+
+-- whether a branch is taken
+abbrev pub passes : List ℕ → Test → Bool
+passes regs Always = true
+passes regs (When cond reg) = takes cond (read_reg regs reg)
+
+-- what an action answers, and what it makes of s; a branch leads to `jump`
+abbrev pub action_outcome : Action → Option ℕ → State → Step × State
+action_outcome (actions.Compute to word) jump s = (steps.Moved, record s { index = s.index + 1; regs = write_reg s.regs to (word_computed s.regs word) })
+action_outcome (actions.Load to base disp) jump s =
+    let a = address_of s.regs base disp in
+    access_outcome Load (allowed s.rights.reads a) a s (record s { index = s.index + 1; regs = write_reg s.regs to (read s.memory a) })
+action_outcome (actions.Store from base disp) jump s =
+    let a = address_of s.regs base disp in
+    access_outcome Store (allowed s.rights.writes a) a s (record s { index = s.index + 1; memory = write s.memory a (read_reg s.regs from) })
+action_outcome (actions.Branching test) jump s = (steps.Moved, state_at s (if passes s.regs test then jump else Some (s.index + 1)))
+action_outcome actions.Return jump s = (steps.Returned, s)
+
 -- what the instruction answers, and what it makes of s
 abbrev pub insn_outcome : Insn → State → Step × State
-insn_outcome (Lda ra rb disp) s = (steps.Moved, record s { index = s.index + 1; regs = write_reg s.regs ra (address_of s.regs rb disp) })
-insn_outcome (Ldq ra rb disp) s =
-    let a = address_of s.regs rb disp in
-    access_outcome Load (allowed s.rights.reads a) a s (record s { index = s.index + 1; regs = write_reg s.regs ra (read s.memory a) })
-insn_outcome (Stq ra rb disp) s =
-    let a = address_of s.regs rb disp in
-    access_outcome Store (allowed s.rights.writes a) a s (record s { index = s.index + 1; memory = write s.memory a (read_reg s.regs ra) })
-insn_outcome (Oper op ra rhs rc) s = (steps.Moved, record s { index = s.index + 1; regs = write_reg s.regs rc (word_of op (read_reg s.regs ra) (rhs_word s.regs rhs)) })
-insn_outcome (Branch cond ra disp) s = (steps.Moved, state_at s (if takes cond (read_reg s.regs ra) then jump_of s.index (Branch cond ra disp) else Some (s.index + 1)))
-insn_outcome (Br disp) s = (steps.Moved, state_at s (jump_of s.index (Br disp)))
-insn_outcome Ret s = (steps.Returned, s)
+insn_outcome insn s = action_outcome (action_of insn) (jump_of s.index insn) s
 
 -- outside the code nothing is done
 abbrev pub step_at : Option Insn → State → Step × State

@@ -1,6 +1,6 @@
 -- What a word reads as is what it encodes.
-use Rattle.std.proofs.Common.{◌≡◌, ◌≢◌, ℕ, ◌+◌, ◌*◌, ◌/◌, ◌%◌, ◌^◌, ◌<◌, true, false, cond, not, leb, eqb, ◌&&◌, arith, refl, ◌∙◌, sym, Option, Some, None, Result, Ok, Err, IfOk, IfSome, ◌↔◌, lit<, List, [], ◌∷◌, find}
-use Rattle.std.proofs.lemmas.Bool.{cond_both, eqb-true, eqb-false, ne_eqb, and_parts, not_from_false, not-true}
+use Rattle.std.proofs.Common.{◌≡◌, ◌≢◌, ℕ, ◌+◌, ◌*◌, ◌/◌, ◌%◌, ◌^◌, ◌<◌, true, false, cond, not, leb, ltb, eqb, ◌&&◌, arith, refl, ◌∙◌, sym, Option, Some, None, Result, Ok, Err, IfOk, IfSome, ◌↔◌, List, [], ◌∷◌, find}
+use Rattle.std.proofs.lemmas.Bool.{cond_both, ltb-true, eqb-true, eqb-false, ne_eqb, and_parts, not_from_false, not-true}
 use Rattle.std.proofs.lemmas.Bool.Decides.{nat_tests}
 use Rattle.word_ops.specs.declared.Op.{Op}
 use Rattle.word_ops.specs.declared.Op.TheVariants.{Add, Sub, Band, Bis, Sll, Srl, Cmpeq, Cmplt, Cmple, Cmpult, Cmpule}
@@ -12,7 +12,9 @@ use Rattle.alpha_words.specs.declared.insn.Insn.{Insn}
 use Rattle.alpha_words.specs.declared.insn.Insn.TheVariants.{Lda, Ldq, Stq, Oper, Branch, Br, Ret}
 use Rattle.alpha_words.specs.declared.fault.BadWord.{BadWord}
 use Rattle.alpha_words.specs.declared.fault.BadWord.TheVariants.{KeptRegister, LoadToZero}
-use Rattle.alpha_words.specs.Opcodes.{operate_operators, opcode_of, function_of, operator_at, conditions, cond_opcode_of, cond_at}
+use Rattle.word_ops.specs.Operators.{operators, op_opcode, op_function, op_of_code}
+use Rattle.word_ops.proofs.EachOp.{each_op, op_of_code-op_code}
+use Rattle.alpha_words.specs.Opcodes.{conditions, cond_opcode_of, cond_at}
 use Rattle.alpha_words.specs.Lawful.{fault_of, kept_fault, HasFormat}
 use Rattle.alpha_words.specs.Encoding.{is_kept, bits_of, HasBits, rhs_bits, IsRhs, operate_word, HasFields, Encodes}
 use Rattle.alpha_words.specs.Decoding.{signed_of, reg_at, unless_kept, rhs_at, has_reserved, decoded_operate, decoded_branch, is_return, decoded}
@@ -45,30 +47,17 @@ pick : {A : Type 0} (P : A → Type 0) (n m : ℕ) (x y : A) → (n ≡ m → P 
 pick P n m x y h k = cond_both (eqb n m) x y P (λ e. h (eqb-true n m e)) (λ _. k)
 
 abbrev IsOperator : ℕ → ℕ → Option Op → Type 0
-IsOperator o f r = IfSome r (λ op. (opcode_of op ≡ o) × (function_of op ≡ f))
+IsOperator o f r = IfSome r (λ op. (op_opcode op ≡ o) × (op_function op ≡ f))
 
-found_operator : (o f : ℕ) (ops : List Op) → IsOperator o f (find (λ op. eqb (opcode_of op) o && eqb (function_of op) f) ops)
+found_operator : (o f : ℕ) (ops : List Op) → IsOperator o f (find (λ op. eqb (op_opcode op) o && eqb (op_function op) f) ops)
 found_operator o f [] = tt
 found_operator o f (op ∷ ops) =
-    cond_both (eqb (opcode_of op) o && eqb (function_of op) f) _ _ (IsOperator o f)
-    (λ e. let p = and_parts (eqb (opcode_of op) o) (eqb (function_of op) f) e in (eqb-true (opcode_of op) o p.0, eqb-true (function_of op) f p.1))
+    cond_both (eqb (op_opcode op) o && eqb (op_function op) f) _ _ (IsOperator o f)
+    (λ e. let p = and_parts (eqb (op_opcode op) o) (eqb (op_function op) f) e in (eqb-true (op_opcode op) o p.0, eqb-true (op_function op) f p.1))
     (λ _. found_operator o f ops)
 
-operator_sound : (o f : ℕ) → IsOperator o f (operator_at o f)
-operator_sound o f = found_operator o f operate_operators
-
-operator_complete : (op : Op) → operator_at (opcode_of op) (function_of op) ≡ Some op
-operator_complete Add = refl
-operator_complete Sub = refl
-operator_complete Band = refl
-operator_complete Bis = refl
-operator_complete Sll = refl
-operator_complete Srl = refl
-operator_complete Cmpeq = refl
-operator_complete Cmplt = refl
-operator_complete Cmple = refl
-operator_complete Cmpult = refl
-operator_complete Cmpule = refl
+operator_sound : (o f : ℕ) → IsOperator o f (op_of_code o f)
+operator_sound o f = found_operator o f operators
 
 abbrev IsCond : ℕ → Option Cond → Type 0
 IsCond o r = IfSome r (λ c. cond_opcode_of c ≡ o)
@@ -105,7 +94,7 @@ operating_sound w (Some op) h =
     cond_both (has_reserved w) _ _ (Sound w) (λ _. tt)
     (λ z. let r = rhs_sound w z in writing_sound w (reg_at w 0) _ (λ k. (omega arith, r.0, (omega arith, written (reg_at w 0) k), omega (arith, r.1, h.0, h.1))))
 
-oper_sound : (w : ℕ) → Sound w (decoded_operate w (operator_at (w / 2 ^ 26) (w / 2 ^ 5 % 128)))
+oper_sound : (w : ℕ) → Sound w (decoded_operate w (op_of_code (w / 2 ^ 26) (w / 2 ^ 5 % 128)))
 oper_sound w = operating_sound w _ (operator_sound (w / 2 ^ 26) (w / 2 ^ 5 % 128))
 
 branching_sound : (w : ℕ) (o : Option Cond) → IsCond (w / 2 ^ 26) o → Sound w (decoded_branch w o)
@@ -143,20 +132,10 @@ reading_sound w =
 unkept : (r : ℕ) → not (is_kept r) ≡ true → is_kept r ≡ false
 unkept r e = not-true (is_kept r) e
 
-function_below : (op : Op) → function_of op < 128
-function_below Add = lit< tt
-function_below Sub = lit< tt
-function_below Band = lit< tt
-function_below Bis = lit< tt
-function_below Sll = lit< tt
-function_below Srl = lit< tt
-function_below Cmpeq = lit< tt
-function_below Cmplt = lit< tt
-function_below Cmple = lit< tt
-function_below Cmpult = lit< tt
-function_below Cmpule = lit< tt
+function_below : (op : Op) → op_function op < 128
+function_below op = ltb-true (op_function op) 128 (each_op (λ o. ltb (op_function o) 128) refl op)
 
-reading_oper : (w : ℕ) (op : Op) → w / 2 ^ 26 ≡ opcode_of op → decoded w ≡ decoded_operate w (operator_at (opcode_of op) (w / 2 ^ 5 % 128))
+reading_oper : (w : ℕ) (op : Op) → w / 2 ^ 26 ≡ op_opcode op → decoded w ≡ decoded_operate w (op_of_code (op_opcode op) (w / 2 ^ 5 % 128))
 reading_oper w Add e = rw e refl
 reading_oper w Sub e = rw e refl
 reading_oper w Band e = rw e refl
@@ -241,12 +220,12 @@ reading_fields w (Oper op ra rhs rc) h =
     let rb = rhs_below rhs h.1 in
     let m = rhs_whole rhs in
     let e : w ≡ operate_word op ra rhs rc = h.3 in
-    let o : w / 2 ^ 26 ≡ opcode_of op = omega (arith, fb, rb) in
-    let f : w / 2 ^ 5 % 128 ≡ function_of op = omega (arith, fb, rb, m.1) in
+    let o : w / 2 ^ 26 ≡ op_opcode op = omega (arith, fb, rb) in
+    let f : w / 2 ^ 5 % 128 ≡ op_function op = omega (arith, fb, rb, m.1) in
     let a : w / 2 ^ 21 % 32 ≡ ra = omega (arith, fb, rb) in
     let c : w / 2 ^ 0 % 32 ≡ rc = omega (arith, m.1) in
-    let r = rhs_complete w (opcode_of op) ra (function_of op) rc rhs e h.0 fb h.2 h.1 in
-    reading_oper w op o ∙ rw (f, operator_complete op, r.0, r.1, a, c) (unless_kept-judged rc (Oper op ra rhs rc))
+    let r = rhs_complete w (op_opcode op) ra (op_function op) rc rhs e h.0 fb h.2 h.1 in
+    reading_oper w op o ∙ rw (f, op_of_code-op_code op, r.0, r.1, a, c) (unless_kept-judged rc (Oper op ra rhs rc))
 reading_fields w (Branch c ra disp) h =
     let below : bits_of 20 disp < 2 ^ 21 = bits_of-below 20 disp h.1 in
     let o : w / 2 ^ 26 ≡ cond_opcode_of c = omega (arith, h.2) in

@@ -8,7 +8,8 @@ use Rattle.alpha_words.specs.declared.insn.Insn.{Insn}
 use Rattle.alpha_words.specs.declared.insn.Insn.TheVariants.{Lda, Ldq, Stq, Oper, Branch, Br, Ret}
 use Rattle.alpha_words.specs.declared.fault.BadWord.{BadWord}
 use Rattle.alpha_words.specs.declared.fault.BadWord.TheVariants.{Opcode, Function, Reserved, KeptRegister, LoadToZero, BadReturn, BadLink}
-use Rattle.alpha_words.specs.Opcodes.{operator_at, cond_at}
+use Rattle.word_ops.specs.Operators.{op_of_code}
+use Rattle.alpha_words.specs.Opcodes.{cond_at}
 use Rattle.alpha_words.specs.Encoding.{is_kept}
 
 -- the number whose k + 1 bits of two's complement are n
@@ -55,7 +56,7 @@ decoded w =
     if opcode == 0x08 then unless_kept ra (Lda ra rb disp) else
     if opcode == 0x29 then (if ra == 31 then Err LoadToZero else unless_kept ra (Ldq ra rb disp)) else
     if opcode == 0x2D then Ok (Stq ra rb disp) else
-    if nat_le 0x10 opcode && nat_le opcode 0x12 then decoded_operate w (operator_at opcode (w / 2 ^ 5 % 128)) else
+    if nat_le 0x10 opcode && nat_le opcode 0x12 then decoded_operate w (op_of_code opcode (w / 2 ^ 5 % 128)) else
     if opcode == 0x1A then (if is_return w then Ok Ret else Err BadReturn) else
     if opcode == 0x30 then (if ra == 31 then Ok (Br (signed_of 20 (w % 2 ^ 21))) else Err BadLink) else
     decoded_branch w (cond_at opcode)

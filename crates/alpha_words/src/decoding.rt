@@ -3,14 +3,16 @@
 ghost use Rattle.std.specs.Prelude.{◌≡◌, ◌+◌, ◌/◌, ◌%◌, ◌^◌, ◌≤◌, ◌<◌, ◌↔◌, IfOk, None};
 ghost use Rattle.alpha_words.specs.Lawful.{fault_of, HasFormat};
 ghost use Rattle.alpha_words.specs.declared.insn.Insn.{Insn};
-ghost use Rattle.alpha_words.specs.Opcodes.{operator_at, cond_at};
+ghost use Rattle.word_ops.specs.Operators.{op_of_code};
+ghost use Rattle.alpha_words.specs.Opcodes.{cond_at};
 ghost use Rattle.alpha_words.specs.Decoding as decoding;
 ghost use Rattle.alpha_words.specs.Encoding as encoding;
 
 use crate::fault::BadWord;
 use crate::insn::{Insn, Rhs};
-use crate::opcodes::{cond_at, operator_at};
+use crate::opcodes::cond_at;
 use crate::reg::Reg;
+use word_ops::op_of_code;
 
 /// The register whose number stands in the five bits from `low` on.
 fn reg_at(word: u32, low: u32) -> Reg
@@ -71,9 +73,9 @@ fn has_reserved(word: u32) -> bool
 /// A word of the operate format.
 fn operate(word: u32) -> Result<Insn, BadWord>
     ensures { result ≡ decoding.decoded_operate word
-        (operator_at (word / 2 ^ 26) (word / 2 ^ 5 % 128)) }
+        (op_of_code (word / 2 ^ 26) (word / 2 ^ 5 % 128)) }
 {
-    let Some(op) = operator_at(word >> 26, (word >> 5) & 0x7f) else {
+    let Some(op) = op_of_code(word >> 26, (word >> 5) & 0x7f) else {
         return Err(BadWord::Function);
     };
     if has_reserved(word) {

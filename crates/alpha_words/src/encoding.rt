@@ -7,9 +7,9 @@ ghost use Rattle.alpha_words.specs.Lawful.{fault_of, kept_fault, HasFormat, targ
 
 use crate::fault::BadWord;
 use crate::insn::{Insn, Rhs};
-use crate::opcodes::{cond_opcode_of, operate_code};
+use crate::opcodes::cond_opcode_of;
 use crate::reg::Reg;
-use word_ops::Op;
+use word_ops::{Op, op_code};
 
 /// Whether the profile has the instruction: KeptRegister where it would write a kept register,
 /// LoadToZero where it would load into register 31.
@@ -87,7 +87,7 @@ fn rhs_bits(rhs: Rhs) -> u32
 fn operate(op: Op, ra: Reg, rhs: Rhs, rc: Reg) -> u32
     ensures { result ≡ encoding.operate_word op ra rhs rc }
 {
-    let (opcode, function) = operate_code(op);
+    let (opcode, function) = op_code(op);
     (opcode << 26) + (ra.number() << 21) + rhs_bits(rhs) + (function << 5) + rc.number()
 }
 

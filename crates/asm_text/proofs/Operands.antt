@@ -5,7 +5,8 @@ use Rattle.std.specs.Option.{option_map}
 use Rattle.std.specs.Str.{bytes_eq}
 use Rattle.std.proofs.lemmas.Bool.{false≢true, not-true, and_parts, cond-true, cond-false, eqb-true, eq-eqb, leb-true, le-leb, ltb-true, lt-ltb, false_from_ne_true}
 use Rattle.word_ops.specs.declared.Op.{Op}
-use Rattle.word_ops.specs.declared.Op.TheVariants as O
+use Rattle.word_ops.specs.Operators.{op_mnemonic, op_of_mnemonic}
+use Rattle.word_ops.proofs.EachOp.{op_of_mnemonic-op_mnemonic, op_mnemonic_is}
 use Rattle.alpha_words.specs.declared.insn.Cond.{Cond}
 use Rattle.alpha_words.specs.declared.insn.Cond.TheVariants as J
 use Rattle.alpha_words.specs.declared.insn.Insn.{Insn}
@@ -26,7 +27,7 @@ use Rattle.asm_text.specs.declared.mnemonics.Mnemonic.TheVariants as N
 use Rattle.asm_text.specs.Marks.{same_mark}
 use Rattle.asm_text.specs.Labels.{is_label}
 use Rattle.asm_text.specs.Integers.{Integer, IsInteger, lexeme_integer, is_integer, integer_value}
-use Rattle.asm_text.specs.Mnemonics.{operator_mnemonic, branch_mnemonic, mnemonic_text, mnemonics, mnemonic_in, mnemonic_of}
+use Rattle.asm_text.specs.Mnemonics.{branch_mnemonic, mnemonic_text, mnemonics, mnemonic_in, mnemonic_or, mnemonic_of}
 use Rattle.asm_text.specs.Insns.{SourceInsn, Plain, BranchTo, BrTo, IsDisplacement, IsCount, SpellsMemory, SpellsRhs, SpellsOperate, SpellsBranch, SpellsBr, SpellsReturn, IsNop, Begins, SpellsInsn}
 use Rattle.asm_text.specs.InsnParsing.{next_lexeme, behind, at_end, displacement_at, memory_form, operate_form, last_label, branch_form, label_form, integer_or_flaw, return_form, some_register, register_at, fixed_register, is_displacement, in_displacement, displacement_of, in_count, count_of, memory_operands, parsed_memory, rhs_by, parsed_operate, parsed_branch, br_by, parsed_br, parsed_return, nop, parsed_operands, by_mnemonic, parsed_insn}
 
@@ -453,21 +454,11 @@ return_of ts h = ⊎_elim (λ e. ap parsed_return e) (λ g. return_long ts g.0 g
 -- ---- mnemonics
 
 pub mnemonic_found : (m : Mnemonic) → mnemonic_of (mnemonic_text m) ≡ Some m
-unfolding mnemonic_of mnemonics
+unfolding mnemonic_of mnemonics op_of_mnemonic
 mnemonic_found N.Lda = refl
 mnemonic_found N.Ldq = refl
 mnemonic_found N.Stq = refl
-mnemonic_found (N.Oper O.Add) = refl
-mnemonic_found (N.Oper O.Sub) = refl
-mnemonic_found (N.Oper O.Band) = refl
-mnemonic_found (N.Oper O.Bis) = refl
-mnemonic_found (N.Oper O.Sll) = refl
-mnemonic_found (N.Oper O.Srl) = refl
-mnemonic_found (N.Oper O.Cmpeq) = refl
-mnemonic_found (N.Oper O.Cmplt) = refl
-mnemonic_found (N.Oper O.Cmple) = refl
-mnemonic_found (N.Oper O.Cmpult) = refl
-mnemonic_found (N.Oper O.Cmpule) = refl
+mnemonic_found (N.Oper o) = ap (λ p. mnemonic_or p (mnemonic_in mnemonics (op_mnemonic o))) (op_of_mnemonic-op_mnemonic o)
 mnemonic_found (N.Branch J.LowClear) = refl
 mnemonic_found (N.Branch J.Zero) = refl
 mnemonic_found (N.Branch J.Negative) = refl
@@ -488,9 +479,13 @@ mnemonic_in_is : (ms : List Mnemonic) (w : List ℕ) (m : Mnemonic) → mnemonic
 mnemonic_in_is [] w m e = cc
 mnemonic_in_is (k ∷ ms) w m e = mnemonic_by m k ms w (bytes_eq w (mnemonic_text k)) refl e (λ f. mnemonic_in_is ms w m f)
 
+operator_by : (w : List ℕ) (m : Mnemonic) (o : Option Op) → op_of_mnemonic w ≡ o → mnemonic_or o (mnemonic_in mnemonics w) ≡ Some m → w ≡ mnemonic_text m
+operator_by w m (Some p) e f = op_mnemonic_is w p e ∙ ap mnemonic_text (some_same _ _ f)
+operator_by w m None e f = mnemonic_in_is mnemonics w m f
+
 pub mnemonic_is : (w : List ℕ) (m : Mnemonic) → mnemonic_of w ≡ Some m → w ≡ mnemonic_text m
 unfolding mnemonic_of
-mnemonic_is w m e = mnemonic_in_is mnemonics w m e
+mnemonic_is w m e = operator_by w m (op_of_mnemonic w) refl e
 
 -- ---- instructions
 
@@ -498,7 +493,7 @@ insn_ok : (m : Mnemonic) (ts : List (Token Punct)) (i : SourceInsn) → parsed_o
 insn_ok N.Lda ts i e = let a = bind_ok (memory_operands ts) _ i e in subst (λ j. SpellsInsn j (Lexeme (codes "lda") ∷ ts)) (same_Ok _ _ a.2) (ts, operands_ok ts a.0 a.1, refl)
 insn_ok N.Ldq ts i e = let a = bind_ok (memory_operands ts) _ i e in subst (λ j. SpellsInsn j (Lexeme (codes "ldq") ∷ ts)) (same_Ok _ _ a.2) (ts, operands_ok ts a.0 a.1, refl)
 insn_ok N.Stq ts i e = let a = bind_ok (memory_operands ts) _ i e in subst (λ j. SpellsInsn j (Lexeme (codes "stq") ∷ ts)) (same_Ok _ _ a.2) (ts, operands_ok ts a.0 a.1, refl)
-insn_ok (N.Oper op) ts i e = let f = operate_ok op ts i e in subst (λ j. SpellsInsn j (Lexeme (operator_mnemonic op) ∷ ts)) (sym f.4) (inl (ts, f.3, refl))
+insn_ok (N.Oper op) ts i e = let f = operate_ok op ts i e in subst (λ j. SpellsInsn j (Lexeme (op_mnemonic op) ∷ ts)) (sym f.4) (inl (ts, f.3, refl))
 insn_ok (N.Branch j) ts i e = let f = branch_ok j ts i e in subst (λ k. SpellsInsn k (Lexeme (branch_mnemonic j) ∷ ts)) (sym f.3) (ts, f.2, refl)
 insn_ok N.Br ts i e = let f = br_ok ts i e in subst (λ j. SpellsInsn j (Lexeme (codes "br") ∷ ts)) (sym f.2) (ts, f.1, refl)
 insn_ok N.Ret ts i e = let f = return_ok ts i e in subst (λ j. SpellsInsn j (Lexeme (codes "ret") ∷ ts)) (sym f.1) (ts, f.0, refl)

@@ -20,7 +20,8 @@ use Rattle.asm_text.specs.declared.marks.Punct.TheVariants as M
 use Rattle.alpha_words.specs.declared.insn.Insn.TheVariants as I
 use Rattle.asm_text.specs.Marks.{source_class, AreBlanks, same_mark}
 use Rattle.asm_text.specs.Labels.{is_label}
-use Rattle.asm_text.specs.Mnemonics.{operator_mnemonic, branch_mnemonic, mnemonic_of, mnemonics}
+use Rattle.word_ops.specs.Operators.{op_mnemonic, op_of_mnemonic}
+use Rattle.asm_text.specs.Mnemonics.{branch_mnemonic, mnemonic_of, mnemonics}
 use Rattle.asm_text.specs.Insns.{SourceInsn, Plain, BranchTo, BrTo, SpellsMemory, SpellsInsn}
 use Rattle.asm_text.specs.InsnParsing.{by_mnemonic, parsed_insn}
 use Rattle.asm_text.specs.Statements.{Statement, NoStatement, AnInsn, AnInv, Content, HasInv, SpellsStatement, HasLabel, SpellsBody, before_comment, are_printable, SpellsLine}
@@ -128,7 +129,7 @@ insn_plain : (i : SourceInsn) (ts : List (Token Punct)) → SpellsInsn i ts → 
 insn_plain (Plain (I.Lda ra rb disp)) ts h = (codes "lda", h.0, h.2, no_colon_memory ra rb disp h.0 h.1)
 insn_plain (Plain (I.Ldq ra rb disp)) ts h = (codes "ldq", h.0, h.2, no_colon_memory ra rb disp h.0 h.1)
 insn_plain (Plain (I.Stq ra rb disp)) ts h = (codes "stq", h.0, h.2, no_colon_memory ra rb disp h.0 h.1)
-insn_plain (Plain (I.Oper op ra rhs rc)) ts h = ⊎_elim (λ p. (operator_mnemonic op, p.0, p.2, ap colon_next p.1.6)) (λ p. (codes "nop", [], p.1, refl)) h
+insn_plain (Plain (I.Oper op ra rhs rc)) ts h = ⊎_elim (λ p. (op_mnemonic op, p.0, p.2, ap colon_next p.1.6)) (λ p. (codes "nop", [], p.1, refl)) h
 insn_plain (Plain (I.Branch j ra disp)) ts h = absurd h
 insn_plain (Plain (I.Br disp)) ts h = absurd h
 insn_plain (Plain I.Ret) ts h = (codes "ret", h.0, h.2, ⊎_elim (λ e. ap colon_next e) (λ g. ap colon_next g.9) h.1)
@@ -136,7 +137,7 @@ insn_plain (BranchTo j ra l) ts h = (branch_mnemonic j, h.0, h.2, ap colon_next 
 insn_plain (BrTo l) ts h = (codes "br", h.0, h.2, ⊎_elim (λ e. ap colon_next e) (λ g. ap colon_next g.2) h.1.1)
 
 pub no_inv_mnemonic : mnemonic_of (codes ".inv") ≡ None
-unfolding mnemonic_of mnemonics
+unfolding mnemonic_of mnemonics op_of_mnemonic
 no_inv_mnemonic = refl
 
 inv_no_insn : (us : List (Token Punct)) (i : SourceInsn) → parsed_insn (Lexeme (codes ".inv") ∷ us) ≡ Ok i → ⊥

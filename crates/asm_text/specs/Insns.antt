@@ -13,7 +13,8 @@ use Rattle.asm_text.specs.declared.marks.Punct.{Punct}
 use Rattle.asm_text.specs.declared.marks.Punct.TheVariants as M
 use Rattle.asm_text.specs.Labels.{is_label}
 use Rattle.asm_text.specs.Integers.{Integer, IsInteger, integer_value}
-use Rattle.asm_text.specs.Mnemonics.{operator_mnemonic, branch_mnemonic}
+use Rattle.word_ops.specs.Operators.{op_mnemonic}
+use Rattle.asm_text.specs.Mnemonics.{branch_mnemonic}
 
 -- an instruction of a source; a branch goes to a label
 pub data SourceInsn : Type 0 where
@@ -74,7 +75,7 @@ abbrev pub SpellsInsn : SourceInsn → List (Token Punct) → Type 0
 SpellsInsn (Plain (I.Lda ra rb disp)) ts = Begins (codes "lda") (SpellsMemory ra rb disp) ts
 SpellsInsn (Plain (I.Ldq ra rb disp)) ts = Begins (codes "ldq") (SpellsMemory ra rb disp) ts
 SpellsInsn (Plain (I.Stq ra rb disp)) ts = Begins (codes "stq") (SpellsMemory ra rb disp) ts
-SpellsInsn (Plain (I.Oper op ra rhs rc)) ts = Begins (operator_mnemonic op) (SpellsOperate ra rhs rc) ts ⊎ (IsNop op ra rhs rc × (ts ≡ Lexeme (codes "nop") ∷ []))
+SpellsInsn (Plain (I.Oper op ra rhs rc)) ts = Begins (op_mnemonic op) (SpellsOperate ra rhs rc) ts ⊎ (IsNop op ra rhs rc × (ts ≡ Lexeme (codes "nop") ∷ []))
 SpellsInsn (Plain (I.Branch j ra disp)) ts = ⊥
 SpellsInsn (Plain (I.Br disp)) ts = ⊥
 SpellsInsn (Plain I.Ret) ts = Begins (codes "ret") SpellsReturn ts

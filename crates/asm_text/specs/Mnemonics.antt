@@ -3,25 +3,11 @@
 use Rattle.std.specs.Prelude.{ℕ, if◌then◌else◌, List, [], ◌∷◌, codes, Option, Some, None}
 use Rattle.std.specs.Str.{bytes_eq}
 use Rattle.word_ops.specs.declared.Op.{Op}
-use Rattle.word_ops.specs.declared.Op.TheVariants as O
+use Rattle.word_ops.specs.Operators.{op_mnemonic, op_of_mnemonic}
 use Rattle.alpha_words.specs.declared.insn.Cond.{Cond}
 use Rattle.alpha_words.specs.declared.insn.Cond.TheVariants as J
 use Rattle.asm_text.specs.declared.mnemonics.Mnemonic.{Mnemonic}
 use Rattle.asm_text.specs.declared.mnemonics.Mnemonic.TheVariants as N
-
--- the word operators; `and` is the one of words
-abbrev pub operator_mnemonic : Op → List ℕ
-operator_mnemonic O.Add = codes "addq"
-operator_mnemonic O.Sub = codes "subq"
-operator_mnemonic O.Band = codes "and"
-operator_mnemonic O.Bis = codes "bis"
-operator_mnemonic O.Sll = codes "sll"
-operator_mnemonic O.Srl = codes "srl"
-operator_mnemonic O.Cmpeq = codes "cmpeq"
-operator_mnemonic O.Cmplt = codes "cmplt"
-operator_mnemonic O.Cmple = codes "cmple"
-operator_mnemonic O.Cmpult = codes "cmpult"
-operator_mnemonic O.Cmpule = codes "cmpule"
 
 -- that of a conditional branch
 abbrev pub branch_mnemonic : Cond → List ℕ
@@ -39,17 +25,16 @@ abbrev pub mnemonic_text : Mnemonic → List ℕ
 mnemonic_text N.Lda = codes "lda"
 mnemonic_text N.Ldq = codes "ldq"
 mnemonic_text N.Stq = codes "stq"
-mnemonic_text (N.Oper o) = operator_mnemonic o
+mnemonic_text (N.Oper o) = op_mnemonic o
 mnemonic_text (N.Branch j) = branch_mnemonic j
 mnemonic_text N.Br = codes "br"
 mnemonic_text N.Ret = codes "ret"
 mnemonic_text N.Nop = codes "nop"
 
--- all of them, by opcode and function
+-- all but the operators, which word_ops names (specs/Operators), by opcode and function
 unfoldable pub mnemonics : List Mnemonic
 mnemonics =
-    N.Lda ∷ N.Oper O.Cmpult ∷ N.Oper O.Add ∷ N.Oper O.Sub ∷ N.Oper O.Cmpeq ∷ N.Oper O.Cmpule ∷ N.Oper O.Cmplt ∷ N.Oper O.Cmple ∷
-    N.Oper O.Band ∷ N.Oper O.Bis ∷ N.Nop ∷ N.Oper O.Srl ∷ N.Oper O.Sll ∷ N.Ret ∷ N.Ldq ∷ N.Stq ∷ N.Br ∷
+    N.Lda ∷ N.Nop ∷ N.Ret ∷ N.Ldq ∷ N.Stq ∷ N.Br ∷
     N.Branch J.LowClear ∷ N.Branch J.Zero ∷ N.Branch J.Negative ∷ N.Branch J.NotPositive ∷
     N.Branch J.LowSet ∷ N.Branch J.NotZero ∷ N.Branch J.NotNegative ∷ N.Branch J.Positive ∷ []
 
@@ -58,6 +43,11 @@ abbrev pub mnemonic_in : List Mnemonic → List ℕ → Option Mnemonic
 mnemonic_in [] w = None
 mnemonic_in (m ∷ ms) w = if bytes_eq w (mnemonic_text m) then Some m else mnemonic_in ms w
 
+-- the operator, if there is one, else another mnemonic
+abbrev pub mnemonic_or : Option Op → Option Mnemonic → Option Mnemonic
+mnemonic_or (Some o) other = Some (N.Oper o)
+mnemonic_or None other = other
+
 -- the mnemonic that the lexeme is
 unfoldable pub mnemonic_of : List ℕ → Option Mnemonic
-mnemonic_of w = mnemonic_in mnemonics w
+mnemonic_of w = mnemonic_or (op_of_mnemonic w) (mnemonic_in mnemonics w)

@@ -1,11 +1,11 @@
 //! Mnemonics.
 
 ghost use Rattle.std.specs.Prelude.{◌≡◌};
-ghost use Rattle.asm_text.specs.Mnemonics.{operator_mnemonic, branch_mnemonic, mnemonic_text};
+ghost use Rattle.asm_text.specs.Mnemonics.{branch_mnemonic, mnemonic_text};
 ghost use Rattle.asm_text.specs.Mnemonics.{mnemonic_in, mnemonic_of};
 
 use alpha_words::Cond;
-use word_ops::Op;
+use word_ops::{Op, op_mnemonic, op_of_mnemonic};
 
 /// What the first lexeme of an instruction names.
 #[derive(Clone, Copy, Debug, PartialEq, Eq)]
@@ -28,21 +28,10 @@ pub enum Mnemonic {
     Nop,
 }
 
-/// The mnemonics by opcode and function.
-static MNEMONICS: [Mnemonic; 25] = [
+/// The mnemonics that are no operators', by opcode and function.
+static MNEMONICS: [Mnemonic; 14] = [
     Mnemonic::Lda,
-    Mnemonic::Oper(Op::Cmpult),
-    Mnemonic::Oper(Op::Add),
-    Mnemonic::Oper(Op::Sub),
-    Mnemonic::Oper(Op::Cmpeq),
-    Mnemonic::Oper(Op::Cmpule),
-    Mnemonic::Oper(Op::Cmplt),
-    Mnemonic::Oper(Op::Cmple),
-    Mnemonic::Oper(Op::Band),
-    Mnemonic::Oper(Op::Bis),
     Mnemonic::Nop,
-    Mnemonic::Oper(Op::Srl),
-    Mnemonic::Oper(Op::Sll),
     Mnemonic::Ret,
     Mnemonic::Ldq,
     Mnemonic::Stq,
@@ -56,24 +45,6 @@ static MNEMONICS: [Mnemonic; 25] = [
     Mnemonic::Branch(Cond::NotNegative),
     Mnemonic::Branch(Cond::Positive),
 ];
-
-fn operator_mnemonic(op: Op) -> &'static str
-    ensures { result.now ≡ operator_mnemonic op }
-{
-    match op {
-        Op::Add => "addq",
-        Op::Sub => "subq",
-        Op::Band => "and",
-        Op::Bis => "bis",
-        Op::Sll => "sll",
-        Op::Srl => "srl",
-        Op::Cmpeq => "cmpeq",
-        Op::Cmplt => "cmplt",
-        Op::Cmple => "cmple",
-        Op::Cmpult => "cmpult",
-        Op::Cmpule => "cmpule",
-    }
-}
 
 fn branch_mnemonic(cond: Cond) -> &'static str
     ensures { result.now ≡ branch_mnemonic cond }
@@ -97,7 +68,7 @@ fn mnemonic_text(mnemonic: Mnemonic) -> &'static str
         Mnemonic::Lda => "lda",
         Mnemonic::Ldq => "ldq",
         Mnemonic::Stq => "stq",
-        Mnemonic::Oper(op) => operator_mnemonic(op),
+        Mnemonic::Oper(op) => op_mnemonic(op),
         Mnemonic::Branch(cond) => branch_mnemonic(cond),
         Mnemonic::Br => "br",
         Mnemonic::Ret => "ret",
@@ -122,5 +93,8 @@ fn mnemonic_in(mnemonics: &[Mnemonic], lexeme: &[u8]) -> Option<Mnemonic>
 pub fn mnemonic_named(lexeme: &[u8]) -> Option<Mnemonic>
     ensures { result ≡ mnemonic_of lexeme.now }
 {
-    mnemonic_in(&MNEMONICS, lexeme)
+    match op_of_mnemonic(lexeme) {
+        Some(op) => Some(Mnemonic::Oper(op)),
+        None => mnemonic_in(&MNEMONICS, lexeme),
+    }
 }

@@ -34,8 +34,8 @@ use Rattle.pcc_gate.specs.declared.refusal.Refusal.{Refusal}
 use Rattle.pcc_gate.proofs.First.{formulas-encoded, vc_of-encodes, condition-one}
 use Rattle.pcc_gate.proofs.FirstFront.{none-passed}
 use Rattle.pcc_gate.proofs.Safe.{formulas-over}
-use Rattle.easy_class.specs.Parts.{conjoined, condition_proof, first_not_easy}
-use Rattle.easy_class.specs.Access.{by_all_means}
+use Rattle.prover_class.specs.Parts.{conjoined, condition_proof, first_not_easy}
+use Rattle.prover_class.specs.Access.{by_all_means}
 use Rattle.bounds_prover.specs.declared.fault.ProveFault.{ProveFault}
 use Rattle.bounds_prover.specs.declared.fault.ProveFault.TheVariants.{Refused, NotEasy}
 use Rattle.condition_prover.specs.Conditions.{condition_parts}

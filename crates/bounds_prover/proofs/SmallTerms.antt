@@ -1,11 +1,13 @@
 -- A term that has a type and isn't high has small numbers.
-use Rattle.std.proofs.Common.{◌≡◌, ℕ, zero, suc, ◌+◌, ◌<◌, ◌≤◌, ◌^◌, Bool, true, false, ◌&&◌, cond, ltb-true, not, Some, None, List, [], ◌∷◌, length, refl, arith}
+use Rattle.std.proofs.Common.{◌≡◌, ℕ, zero, suc, ◌+◌, ◌<◌, ◌≤◌, ◌^◌, Bool, true, false, ◌&&◌, cond, ltb, ltb-true, not, Some, None, List, [], ◌∷◌, length, refl, arith}
 use Rattle.word_ops.specs.Words.{test_of}
 use Rattle.term_table.specs.Tree.{Tree, Const, Num, Lit, Calc, Fact, Deny, at}
 use Rattle.term_table.specs.Table.{IsSmallConst, IsSmall}
 use Rattle.term_table.specs.Measures.{height_of}
 use Rattle.term_table.proofs.Options.{bind_some}
-use Rattle.lf_signature.specs.Numbers.{operators, relations, op_of, rel_of}
+use Rattle.word_ops.specs.Operators.{op_number, op_of}
+use Rattle.word_ops.proofs.EachOp.{each_op, op_number_is}
+use Rattle.lf_signature.specs.Numbers.{relations, rel_of}
 use Rattle.lf_signature.specs.Sigma1.{constant_types, the_rules, number_types, is_word, calc_type, fact_type, deny_type, declared}
 use Rattle.lf_signature.specs.Typing.{Checks, Synth, lam_checks, atom_checks, var_synth, con_synth, app_synth}
 
@@ -43,7 +45,8 @@ const-small (Lit w) a e = word-small w (tested (is_word w) _ a e)
 const-small (Calc o x y) a e =
     let p = bind_some (op_of o) (λ p. cond (is_word x && is_word y) (Some (calc_type p x y)) None) a e in
     let w = words-small x y (tested (is_word x && is_word y) _ a p.2) in
-    (omega (arith, at-below operators o p.0 p.1), w.0, w.1)
+    let small = ltb-true (op_number p.0) (2 ^ 32) (each_op (λ q. ltb (op_number q) (2 ^ 32)) refl p.0) in
+    (omega (arith, op_number_is o p.0 p.1, small), w.0, w.1)
 const-small (Fact r x y) a e =
     let p = bind_some (rel_of r) (λ p. cond ((is_word x && is_word y) && test_of p x y) (Some (fact_type p x y)) None) a e in
     let t = both (is_word x && is_word y) (test_of p.0 x y) (tested ((is_word x && is_word y) && test_of p.0 x y) _ a p.2) in

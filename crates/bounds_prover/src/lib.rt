@@ -2,7 +2,7 @@
 //!
 //! The layer above uses that `prove` answers the container in the bytes with a proof of its
 //! verification condition in place of its own, where the class of easy conditions gives one
-//! (`condition_prover`, `easy_class`), or else the first reason why not (`specs/Proving`); and that
+//! (`condition_prover`, `prover_class`), or else the first reason why not (`specs/Proving`); and that
 //! the gate accepts it (`specs/ProvedLaws`). Source: Necula, Proof-Carrying Code, POPL 1997 (the
 //! rules); the search is this project's own.
 #![tactic(auto)]

@@ -19,11 +19,11 @@ ghost use Rattle.bounds_prover.specs.Proving.{proved_contents, IsMadeAnswer, IsP
 use crate::fault::{Measure, ProveFault};
 use crate::theorems::prove_laws;
 use condition_prover::{ConditionProof, prove_condition};
-use easy_class::class_laws;
 use hereditary_subst::Exhausted;
 use pcc_gate::{GateFault, MAX_WEIGHT, Passed, front};
 use policy_set::Policy;
 use proof_container::{MAX_BYTES, MAX_ENTRIES, View, extent, write};
+use prover_class::class_laws;
 use std::alloc::{AllocError, Global};
 use term_table::Id;
 use vcgen::MAX_HEIGHT;
@@ -130,7 +130,7 @@ fn made(alloc: Global, policy: &Policy, bytes: &[u8]) -> Result<Vec<u8>, ProveFa
 }
 
 /// Encodes the container in `bytes` with a proof of its verification condition under `policy` in place
-/// of its own proof, where the class of easy conditions gives one (`easy_class`). What is answered is
+/// of its own proof, where the class of easy conditions gives one (`prover_class`). What is answered is
 /// accepted by the gate.
 ///
 /// Errors, in their order: `Refused` names the first clause before the proof that fails

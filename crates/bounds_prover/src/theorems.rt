@@ -2,7 +2,7 @@
 
 ghost use Rattle.bounds_prover.specs.ProvedLaws.{ProvedAccepted};
 
-use easy_class::class_laws;
+use prover_class::class_laws;
 
 /// What `prove` makes of bytes is accepted by the gate.
 pub fn prove_laws()

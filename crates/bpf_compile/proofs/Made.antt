@@ -16,14 +16,14 @@ use Rattle.proof_container.specs.Contents.{roots}
 use Rattle.proof_container.specs.Encoding.{AreTerms, IsContents, encoding_of}
 use Rattle.proof_container.specs.Views.{AllTerms, IsWritable, view_contents}
 use Rattle.proof_container.specs.declared.container.View.{View}
-use Rattle.easy_class.specs.Access.{by_all_means}
-use Rattle.easy_class.specs.Parts.{condition_proof}
+use Rattle.prover_class.specs.Access.{by_all_means}
+use Rattle.prover_class.specs.Parts.{condition_proof}
 use Rattle.pcc_asm.specs.Words.{code_bytes}
 use Rattle.bounds_prover.specs.declared.fault.ProveFault.{ProveFault}
 use Rattle.bounds_prover.specs.Proving.{with_proof, proved_container, IsProveAnswer}
 use Rattle.bpf_words.specs.declared.insn.Bpf.{Bpf}
 use Rattle.bpf_code.specs.Blocks.{bpf_code}
-use Rattle.bpf_vc.specs.Condition.{HasEasyProof, bpf_parts}
+use Rattle.bpf_vc.specs.Condition.{HasClassProof, bpf_parts}
 use Rattle.bpf_container.specs.Compiled.{IsCompiled}
 use Rattle.bpf_container.specs.Contents.{AreCodeBytes, bpf_contents}
 use Rattle.bpf_compile.specs.Compilation.{bare_contents, compiled_container, IsCompilation}
@@ -86,7 +86,7 @@ at-program program policy bytes is bare r given = sym (ap (λ p. proved_containe
 one : (r : Result (List ℕ) ProveFault) (a b : List ℕ) → r ≡ Ok a → r ≡ Ok b → a ≡ b
 one r a b p q = cc
 
-pub compilation-is : (program : List Bpf) (out : List ℕ) → AreCodeBytes program (code_bytes (bpf_code program)) → HasEasyProof program
+pub compilation-is : (program : List Bpf) (out : List ℕ) → AreCodeBytes program (code_bytes (bpf_code program)) → HasClassProof program
     → Makes program → compiled_container program ≡ Ok out → IsCompilation program out
 unfolding compiled_container
 compilation-is program out holds easy makes given = record {

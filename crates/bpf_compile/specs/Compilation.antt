@@ -4,8 +4,8 @@ use Rattle.policy_set.specs.declared.kind.PolicyKind.TheVariants.{Filter}
 use Rattle.term_table.specs.Tree.{Tree}
 use Rattle.proof_container.specs.Contents.{Contents}
 use Rattle.proof_container.specs.Encoding.{encoding_of}
-use Rattle.easy_class.specs.Access.{by_all_means}
-use Rattle.easy_class.specs.Parts.{condition_proof}
+use Rattle.prover_class.specs.Access.{by_all_means}
+use Rattle.prover_class.specs.Parts.{condition_proof}
 use Rattle.pcc_asm.specs.Assembling.{plain_contents}
 use Rattle.bounds_prover.specs.declared.fault.ProveFault.{ProveFault}
 use Rattle.bounds_prover.specs.Proving.{proved_container, with_proof}

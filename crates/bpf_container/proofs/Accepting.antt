@@ -20,8 +20,8 @@ use Rattle.vcgen.specs.Conditions.{condition}
 use Rattle.vcgen.specs.Encoded.{annotated, AreEncodings}
 use Rattle.vcgen.specs.declared.condition.TheConstants.{MAX_HEIGHT}
 use Rattle.vcgen.proofs.Scopes.{condition-closed}
-use Rattle.easy_class.specs.Parts.{conjoined, condition_proof}
-use Rattle.easy_class.specs.Access.{by_all_means}
+use Rattle.prover_class.specs.Parts.{conjoined, condition_proof}
+use Rattle.prover_class.specs.Access.{by_all_means}
 use Rattle.pcc_gate.specs.Accepted.{Accepts, IsAccepted}
 use Rattle.pcc_gate.specs.First.{formulas, vc_of}
 use Rattle.pcc_gate.specs.Passing.{AreLow, Passes}
@@ -38,7 +38,7 @@ use Rattle.bpf_code.specs.Blocks.{bpf_code}
 use Rattle.bpf_filter.proofs.FilterStarts.{outcome}
 use Rattle.bpf_filter.proofs.Shapes.{code-is}
 use Rattle.bpf_vc.specs.Invariants.{bpf_invariants}
-use Rattle.bpf_vc.specs.Condition.{annotated_bpf, bpf_flags, bpf_parts, HasEasyProof}
+use Rattle.bpf_vc.specs.Condition.{annotated_bpf, bpf_flags, bpf_parts, HasClassProof}
 use Rattle.bpf_vc.proofs.Whole.{program-annotated, program-condition, program-proved}
 use Rattle.bpf_container.specs.Contents.{AreCodeBytes, invariant_terms, bpf_contents}
 use Rattle.bpf_container.specs.Compiled.{GivesValues, IsCompiled}
@@ -46,7 +46,7 @@ use Rattle.condition_prover.proofs.Heights.{form-low}
 use Rattle.bounds_prover.proofs.SmallTerms.{checks-small}
 use Rattle.bpf_container.proofs.Known.{AreInvariants, inv_encodings, all-invariants, are-forms, formulas-again}
 use Rattle.bpf_container.proofs.Passing.{IsFit, contents-pass}
-use Rattle.bpf_container.proofs.Made.{IsEasyProof, easy-proof, entries-few, container-made}
+use Rattle.bpf_container.proofs.Made.{IsClassProof, class-proof, entries-few, container-made}
 
 -- what the class gives a closed condition is a proof
 abbrev pub IsSoundClass : Type 0
@@ -70,7 +70,7 @@ parts-closed program is = subst (λ F. IsOver 0 F []) (sym (program-condition pr
 
 parts-low : (program : List Bpf) → IsProgram program → form_height (conjoined (bpf_parts program)) ≤ 2 ^ 29
 parts-low program is =
-    let easy : HasEasyProof program = program-proved program is in
+    let easy : HasClassProof program = program-proved program is in
     let low = form-low (conjoined (bpf_parts program)) in
     let height = easy.formula in
     let few = is.few in
@@ -89,7 +89,7 @@ module _ (sound : IsSoundClass) (program : List Bpf) (code : List ℕ) (is : IsP
 
   proof-fits : IsFit program code (Some p)
   proof-fits =
-      let easy : IsEasyProof program p = easy-proof program p is given in
+      let easy : IsClassProof program p = class-proof program p is given in
       let low = easy.low in
       record {
         terms = (is_term proof-checks, checks-small proof-checks (omega (arith, low)), tt);
@@ -110,7 +110,7 @@ module _ (sound : IsSoundClass) (program : List Bpf) (code : List ℕ) (is : IsP
 
   made-accepts : Accepts Filter made (with_proof (bpf_contents program code) p) (bpf_code program) (bpf_flags program)
   made-accepts =
-      let easy : IsEasyProof program p = easy-proof program p is given in
+      let easy : IsClassProof program p = class-proof program p is given in
       record {
         passes = made-passes;
         proof = p;
@@ -141,7 +141,7 @@ module _ (sound : IsSoundClass) (program : List Bpf) (code : List ℕ) (is : IsP
 pub container-compiles : IsSoundClass → (program : List Bpf) (code : List ℕ) → IsProgram program → AreCodeBytes program code
     → (out : List ℕ) × (proved_container Filter (encoding_of (bpf_contents program code)) ≡ Ok out) × IsCompiled program out
 container-compiles sound program code is holds =
-    let easy : HasEasyProof program = program-proved program is in (
+    let easy : HasClassProof program = program-proved program is in (
       encoding_of (with_proof (bpf_contents program code) easy.proof),
       container-made program code is holds easy.proof easy.given,
       made-compiled sound program code is holds easy.proof easy.given,

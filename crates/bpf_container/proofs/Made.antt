@@ -13,8 +13,8 @@ use Rattle.proof_container.proofs.Whole.{container_again}
 use Rattle.vcgen.specs.Conditions.{entry_part, inv_part}
 use Rattle.vcgen.specs.Encoded.{annotated}
 use Rattle.vcgen.specs.declared.condition.TheConstants.{MAX_HEIGHT}
-use Rattle.easy_class.specs.Parts.{condition_proof}
-use Rattle.easy_class.specs.Access.{by_all_means}
+use Rattle.prover_class.specs.Parts.{condition_proof}
+use Rattle.prover_class.specs.Access.{by_all_means}
 use Rattle.pcc_gate.specs.First.{front_refusal}
 use Rattle.pcc_gate.specs.Passing.{Passes}
 use Rattle.pcc_gate.specs.declared.limits.TheConstants.{MAX_WEIGHT}
@@ -30,7 +30,7 @@ use Rattle.bpf_words.specs.Programs.{IsProgram}
 use Rattle.bpf_code.specs.Blocks.{bpf_code}
 use Rattle.bpf_filter.proofs.Shapes.{code-is}
 use Rattle.bpf_vc.specs.Invariants.{bpf_invariants}
-use Rattle.bpf_vc.specs.Condition.{bpf_flags, bpf_parts, HasEasyProof}
+use Rattle.bpf_vc.specs.Condition.{bpf_flags, bpf_parts, HasClassProof}
 use Rattle.bpf_vc.proofs.Whole.{program-easy, program-proved}
 use Rattle.bpf_limits.proofs.Bounded.{proof-few}
 use Rattle.bpf_container.specs.Contents.{AreCodeBytes, invariant_terms, bpf_contents}
@@ -56,18 +56,18 @@ nothing-past c p light low few short =
 -- ---- the proof
 
 -- what is asked of the class's proof of a program's condition
-pub record IsEasyProof (program : List Bpf) (p : Tree) : Type 0 where
+pub record IsClassProof (program : List Bpf) (p : Tree) : Type 0 where
   pub light : weight_of sigma1_places p ≤ MAX_WEIGHT
   pub low : height_of p ≤ MAX_HEIGHT
 
-pub easy-proof : (program : List Bpf) (p : Tree) → IsProgram program → condition_proof by_all_means (bpf_parts program) ≡ Some p → IsEasyProof program p
-easy-proof program p is given =
-    let easy : HasEasyProof program = program-proved program is in
+pub class-proof : (program : List Bpf) (p : Tree) → IsProgram program → condition_proof by_all_means (bpf_parts program) ≡ Some p → IsClassProof program p
+class-proof program p is given =
+    let easy : HasClassProof program = program-proved program is in
     let same : easy.proof ≡ p = same_Some easy.proof p (sym easy.given ∙ given) in
     let weight = easy.weight in
     let height = easy.height in
     let few = is.few in
-    subst (IsEasyProof program) same (record { light = omega (arith, weight, few); low = omega (arith, height, few) })
+    subst (IsClassProof program) same (record { light = omega (arith, weight, few); low = omega (arith, height, few) })
 
 -- ---- what is made
 
@@ -107,7 +107,7 @@ module _ (program : List Bpf) (code : List ℕ) (is : IsProgram program) (holds 
 
     within-limits : excess (with_proof (bpf_contents program code) p) p ≡ None
     within-limits =
-        let easy : IsEasyProof program p = easy-proof program p is given in
+        let easy : IsClassProof program p = class-proof program p is given in
         let few = entries-few in
         nothing-past (with_proof (bpf_contents program code) p) p easy.light easy.low (omega (arith, few)) bytes-short
 

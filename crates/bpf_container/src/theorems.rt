@@ -5,8 +5,8 @@ ghost use Rattle.policy_set.specs.declared.kind.PolicyKind.TheVariants.{Filter};
 ghost use Rattle.term_table.specs.Tree.{Tree};
 ghost use Rattle.proof_container.specs.Encoding.{IsContents, encoding_of};
 ghost use Rattle.pcc_gate.specs.Passing.{Passes};
-ghost use Rattle.easy_class.specs.Access.{by_all_means};
-ghost use Rattle.easy_class.specs.Parts.{condition_proof};
+ghost use Rattle.prover_class.specs.Access.{by_all_means};
+ghost use Rattle.prover_class.specs.Parts.{condition_proof};
 ghost use Rattle.bounds_prover.specs.Proving.{proved_container, with_proof};
 ghost use Rattle.pcc_asm.specs.Assembling.{plain_contents};
 ghost use Rattle.bpf_words.specs.declared.insn.Bpf.{Bpf};
@@ -17,7 +17,7 @@ ghost use Rattle.bpf_vc.specs.Condition.{bpf_flags, bpf_parts};
 ghost use Rattle.bpf_container.specs.Compiled.{IsCompiled};
 ghost use Rattle.bpf_container.specs.Contents.{AreCodeBytes, bpf_contents};
 
-use easy_class::class_laws;
+use prover_class::class_laws;
 
 /// What the container of a program holds, with any bytes that encode its code, are contents. Their
 /// encoding passes the clauses of the gate before the proof, with the program's code and the flags

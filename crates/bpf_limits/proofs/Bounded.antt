@@ -5,8 +5,8 @@ use Rattle.std.proofs.lemmas.Option.{same_Some}
 use Rattle.term_table.specs.Tree.{Tree}
 use Rattle.proof_container.specs.Postorder.{is_emitted, entries, AreEmitted}
 use Rattle.proof_container.proofs.Walks.{listed-left, listed-right}
-use Rattle.easy_class.specs.Parts.{condition_proof}
-use Rattle.easy_class.specs.Access.{by_all_means}
+use Rattle.prover_class.specs.Parts.{condition_proof}
+use Rattle.prover_class.specs.Access.{by_all_means}
 use Rattle.bpf_words.specs.declared.insn.Bpf.{Bpf}
 use Rattle.bpf_words.specs.Programs.{IsProgram}
 use Rattle.bpf_code.specs.Blocks.{bpf_code}

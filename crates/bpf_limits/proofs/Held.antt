@@ -11,9 +11,9 @@ use Rattle.formula_terms.specs.ProofTerms.{tt_i}
 use Rattle.lf_encode.specs.Contexts.{machine_names}
 use Rattle.proof_container.specs.Postorder.{is_emitted}
 use Rattle.proof_container.proofs.Walks.{listed-left, listed-right, listed-last}
-use Rattle.easy_class.specs.NormalForms.{normalized}
-use Rattle.easy_class.specs.Parts.{part_proof}
-use Rattle.easy_class.specs.Access.{by_all_means}
+use Rattle.prover_class.specs.NormalForms.{normalized}
+use Rattle.prover_class.specs.Parts.{part_proof}
+use Rattle.prover_class.specs.Access.{by_all_means}
 use Rattle.bpf_vc.specs.PartForms.{part_forms}
 use Rattle.entry_limits.specs.Parts.{HoldsParts, subtrees, node_count}
 use Rattle.entry_limits.proofs.Subtrees.{subtrees-hold, root-listed, length-subtrees, holds-both, holds-one_more}

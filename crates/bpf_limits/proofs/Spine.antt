@@ -11,8 +11,8 @@ use Rattle.formula_terms.specs.Encoding.{form_encoding}
 use Rattle.formula_terms.specs.ProofTerms.{tt_i, and_i}
 use Rattle.proof_container.specs.Postorder.{is_emitted}
 use Rattle.proof_container.proofs.Walks.{listed-right}
-use Rattle.easy_class.specs.Parts.{conjoined, condition_proof}
-use Rattle.easy_class.specs.Access.{by_all_means}
+use Rattle.prover_class.specs.Parts.{conjoined, condition_proof}
+use Rattle.prover_class.specs.Access.{by_all_means}
 use Rattle.bpf_vc.specs.PartForms.{part_forms}
 use Rattle.bpf_vc.proofs.Evaluated.{LightProof, IsPartForm, part-proof}
 use Rattle.entry_limits.specs.Parts.{HoldsParts}

@@ -3,8 +3,8 @@
 ghost use Rattle.std.specs.Prelude.{◌≡◌, ◌+◌, ◌≤◌, ◌++◌, ◌∷◌, [], List, length, Some};
 ghost use Rattle.term_table.specs.Tree.{Tree};
 ghost use Rattle.proof_container.specs.Postorder.{AreEmitted, entries};
-ghost use Rattle.easy_class.specs.Parts.{condition_proof};
-ghost use Rattle.easy_class.specs.Access.{by_all_means};
+ghost use Rattle.prover_class.specs.Parts.{condition_proof};
+ghost use Rattle.prover_class.specs.Access.{by_all_means};
 ghost use Rattle.bpf_words.specs.declared.insn.Bpf.{Bpf};
 ghost use Rattle.bpf_words.specs.Programs.{IsProgram};
 ghost use Rattle.bpf_vc.specs.Condition.{bpf_parts};

@@ -11,9 +11,9 @@ use Rattle.term_table.specs.Measures.{weight_of, height_of, sigma1_places}
 use Rattle.formula_terms.specs.Encoding.{form_encoding}
 use Rattle.formula_terms.specs.ProofTerms.{tt_i, and_i}
 use Rattle.lf_encode.specs.Contexts.{machine_names}
-use Rattle.easy_class.specs.NormalForms.{normalized}
-use Rattle.easy_class.specs.Parts.{part_proof, conjoined, condition_proof, first_not_easy, refused_at}
-use Rattle.easy_class.specs.Access.{by_all_means}
+use Rattle.prover_class.specs.NormalForms.{normalized}
+use Rattle.prover_class.specs.Parts.{part_proof, conjoined, condition_proof, first_not_easy, refused_at}
+use Rattle.prover_class.specs.Access.{by_all_means}
 use Rattle.bpf_vc.specs.PartForms.{part_forms}
 
 -- ---- light parts

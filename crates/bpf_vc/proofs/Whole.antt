@@ -7,8 +7,8 @@ use Rattle.formula_tree.specs.Formulas.{Form, FAnd}
 use Rattle.vcgen.specs.Conditions.{AnnotatedCode, entry_part, inv_part, inv_parts, condition}
 use Rattle.vcgen.specs.Safety.{IsAnnotated}
 use Rattle.vcgen.specs.declared.condition.TheConstants.{MAX_HEIGHT, MAX_UNFOLDED}
-use Rattle.easy_class.specs.Parts.{conjoined, first_not_easy}
-use Rattle.easy_class.specs.Access.{by_all_means}
+use Rattle.prover_class.specs.Parts.{conjoined, first_not_easy}
+use Rattle.prover_class.specs.Access.{by_all_means}
 use Rattle.bpf_words.specs.declared.insn.Bpf.{Bpf}
 use Rattle.bpf_words.specs.declared.insn.BpfOp.{BpfOp}
 use Rattle.bpf_words.specs.declared.insn.TheConstants.{MAX_PROGRAM}
@@ -16,7 +16,7 @@ use Rattle.bpf_words.specs.Programs.{bpf_op, IsSoundAt, IsProgram}
 use Rattle.bpf_code.specs.Blocks.{bpf_code}
 use Rattle.bpf_vc.specs.Invariants.{invariants_of, invariants_from, bpf_invariants, annotated_words}
 use Rattle.bpf_vc.specs.PartForms.{part_forms}
-use Rattle.bpf_vc.specs.Condition.{annotated_bpf, bpf_flags, bpf_parts, most_height, HasEasyProof}
+use Rattle.bpf_vc.specs.Condition.{annotated_bpf, bpf_flags, bpf_parts, most_height, HasClassProof}
 use Rattle.bpf_vc.proofs.Annotating.{flags-are}
 use Rattle.bpf_vc.proofs.Cutting.{blocks-cut, blocks-unfolded}
 use Rattle.bpf_vc.proofs.Evaluated.{IsPartForm, AreProved, parts-proved, none-refused}
@@ -83,7 +83,7 @@ pub program-easy : (program : List Bpf) (n : ℕ) → IsProgram program → firs
 unfolding bpf_code
 program-easy program n is = none-refused n (bpf_parts program) (parts-known program is)
 
-pub program-proved : (program : List Bpf) → IsProgram program → HasEasyProof program
+pub program-proved : (program : List Bpf) → IsProgram program → HasClassProof program
 unfolding bpf_code
 program-proved program is =
     let all : AreProved (bpf_parts program) = parts-proved (bpf_parts program) (parts-known program is) in

@@ -8,8 +8,8 @@ use Rattle.formula_terms.specs.Encoding.{form_encoding}
 use Rattle.policy_set.specs.declared.kind.PolicyKind.TheVariants.{Filter}
 use Rattle.vcgen.specs.Conditions.{AnnotatedCode, entry_part, inv_part}
 use Rattle.vcgen.specs.Encoded.{annotated}
-use Rattle.easy_class.specs.Parts.{conjoined, condition_proof}
-use Rattle.easy_class.specs.Access.{by_all_means}
+use Rattle.prover_class.specs.Parts.{conjoined, condition_proof}
+use Rattle.prover_class.specs.Access.{by_all_means}
 use Rattle.bpf_words.specs.declared.insn.Bpf.{Bpf}
 use Rattle.bpf_code.specs.Blocks.{bpf_code}
 use Rattle.bpf_vc.specs.Invariants.{bpf_invariants, annotated_words}
@@ -35,7 +35,7 @@ abbrev pub most_height : ℕ → ℕ
 most_height n = 112 + 8 * n
 
 -- The class proves all parts, by a proof that is neither heavier nor higher than this; the condition's encoding isn't higher either.
-pub record HasEasyProof (program : List Bpf) : Type 0 where
+pub record HasClassProof (program : List Bpf) : Type 0 where
   pub proof : Tree
   pub given : condition_proof by_all_means (bpf_parts program) ≡ Some proof
   pub weight : weight_of sigma1_places proof ≤ most_weight (length program)

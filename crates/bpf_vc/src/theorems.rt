@@ -5,15 +5,15 @@ ghost use Rattle.alpha_cfg.specs.Cuts.{AreFlags, IsCut, unfolded_of};
 ghost use Rattle.vcgen.specs.Conditions.{condition};
 ghost use Rattle.vcgen.specs.Safety.{IsAnnotated};
 ghost use Rattle.vcgen.specs.declared.condition.TheConstants.{MAX_HEIGHT, MAX_UNFOLDED};
-ghost use Rattle.easy_class.specs.Parts.{conjoined, first_not_easy};
-ghost use Rattle.easy_class.specs.Access.{by_all_means};
+ghost use Rattle.prover_class.specs.Parts.{conjoined, first_not_easy};
+ghost use Rattle.prover_class.specs.Access.{by_all_means};
 ghost use Rattle.bpf_words.specs.declared.insn.Bpf.{Bpf};
 ghost use Rattle.bpf_words.specs.declared.insn.TheConstants.{MAX_PROGRAM};
 ghost use Rattle.bpf_words.specs.Programs.{IsProgram};
 ghost use Rattle.bpf_code.specs.Blocks.{bpf_code};
 ghost use Rattle.bpf_vc.specs.Invariants.{annotated_words};
 ghost use Rattle.bpf_vc.specs.PartForms.{part_forms};
-ghost use Rattle.bpf_vc.specs.Condition.{HasEasyProof, annotated_bpf, bpf_flags, bpf_parts};
+ghost use Rattle.bpf_vc.specs.Condition.{HasClassProof, annotated_bpf, bpf_flags, bpf_parts};
 ghost use Rattle.bpf_vc.specs.Condition.{most_height};
 
 /// The code of a program with its invariants is annotated code: the flags are those of the words
@@ -39,6 +39,6 @@ pub fn laws()
         → All (Contains part_forms) (bpf_parts program) }
     ensures easy { (program : List Bpf) (n : ℕ) → IsProgram program
         → first_not_easy by_all_means n (bpf_parts program) ≡ None }
-    ensures proved { (program : List Bpf) → IsProgram program → HasEasyProof program }
+    ensures proved { (program : List Bpf) → IsProgram program → HasClassProof program }
     ensures low { (n : ℕ) → n ≤ MAX_PROGRAM → most_height n ≤ MAX_HEIGHT }
 {}

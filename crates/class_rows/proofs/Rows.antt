@@ -1,6 +1,6 @@
 -- The class gives the worked goals their proofs.
 use Rattle.std.proofs.Common.{refl}
-use Rattle.easy_class.specs.NormalForms.{normalized}
+use Rattle.prover_class.specs.NormalForms.{normalized}
 use Rattle.class_rows.specs.Small.{AreWorked, small_rows}
 use Rattle.class_rows.specs.Returns.{return_rows, t0_part, row_18_part, row_1_part}
 use Rattle.class_rows.specs.Loads.{load_rows, row_6_part, row_5_part, row_19_0_part, row_19_1_part, row_21_part}

@@ -4,8 +4,8 @@ use Rattle.term_table.specs.Tree.{Tree, Var, Con, App, Lam, Num, Lit, Calc, Fact
 use Rattle.word_ops.specs.declared.Op.TheVariants.{Add, Sub, Band, Sll, Cmpeq, Cmpult}
 use Rattle.word_ops.specs.declared.Rel.TheVariants.{Eq, Ult, Ule}
 use Rattle.formula_tree.specs.Formulas.{EVar, ELit, EOp, Form, FFalse, FRel, FRd, FWr, FAnd, FImp, FAll, FAllm}
-use Rattle.easy_class.specs.Parts.{part_proof}
-use Rattle.easy_class.specs.Access.{by_all_means}
+use Rattle.prover_class.specs.Parts.{part_proof}
+use Rattle.prover_class.specs.Access.{by_all_means}
 
 -- the class gives each goal its proof, or none
 abbrev pub AreWorked : List (Form × Option Tree) → Type 0

@@ -1,7 +1,7 @@
 //! Worked rows of the class of easy conditions: goals with the proofs that another implementation
 //! gives them.
 //!
-//! Nothing stands on this crate. Its definitions are rows (`specs/`), which `easy_class` is held
+//! Nothing stands on this crate. Its definitions are rows (`specs/`), which `prover_class` is held
 //! against by the prover; they say nothing of what the class is.
 #![tactic(auto)]
 

@@ -14,22 +14,23 @@ use Rattle.formula_ids.specs.Nodes.{right_form}
 use Rattle.formula_ids.specs.declared.forms.Access.{Access}
 use Rattle.formula_ids.specs.declared.forms.Access.TheVariants.{Load, Store}
 use Rattle.formula_ids.specs.PutRows.{ArePuts}
-use Rattle.formula_ids.specs.declared.puts.Puts.{Puts}
+use Rattle.formula_ids.specs.declared.kept.Kept.{Kept}
+use Rattle.formula_ids.specs.declared.puts.Put.{Put}
 use Rattle.formula_ids.specs.declared.hypotheses.Hypothesis.{Hypothesis}
 use Rattle.formula_ids.specs.Hypotheses.{AreHyps}
-use Rattle.easy_class.specs.Hypotheses.{Hyps}
-use Rattle.easy_class.specs.Access.{Opened, opened_at, from_side, first_way, first_opened}
-use Rattle.easy_class.specs.Access as class
+use Rattle.prover_class.specs.Hypotheses.{Hyps}
+use Rattle.prover_class.specs.Access.{Opened, opened_at, from_side, first_way, first_opened}
+use Rattle.prover_class.specs.Access as class
 use Rattle.condition_prover.specs.Inside.Instances.{variable_index}
-use Rattle.easy_class.specs.Goals.{Prover, first_of}
+use Rattle.prover_class.specs.Goals.{Prover, first_of}
 use Rattle.formula_terms.specs.Encoding.{exp_encoding, form_encoding}
 use Rattle.lf_signature.specs.Nodes.{IsIdOf}
-use Rattle.easy_forms.specs.Sums.{IsExpOption}
-use Rattle.easy_bounds.proofs.Scans.{IsHypAt, hyp_at}
+use Rattle.sum_proofs.specs.Sums.{IsExpOption}
+use Rattle.bound_proofs.proofs.Scans.{IsHypAt, hyp_at}
 use Rattle.formula_ids.proofs.HypRows.{hyps-before, hyps-after}
-use Rattle.easy_goals.specs.Search.{IsSearch, IsContext, IsAfter}
-use Rattle.easy_goals.specs.declared.search.Search.{Search}
-use Rattle.easy_goals.specs.declared.search.Context.{Context}
+use Rattle.goal_proofs.specs.Search.{IsSearch, IsContext, IsAfter}
+use Rattle.goal_proofs.specs.declared.search.Search.{Search}
+use Rattle.goal_proofs.specs.declared.search.Context.{Context}
 use Rattle.condition_prover.specs.Inside.AccessIds.{access_of, side_of, way_back, IsKnownGrant, IsOpening, IfFound, AreMeant, IsWalk, AreMisses}
 use Rattle.condition_prover.specs.declared.access_walks.Asked.{Asked}
 use Rattle.condition_prover.specs.declared.access_walks.Grant.{Grant}
@@ -38,12 +39,12 @@ use Rattle.condition_prover.specs.declared.access_walks.Side.{Side}
 use Rattle.condition_prover.specs.declared.access_walks.Found.{Found}
 use Rattle.condition_prover.specs.declared.access_walks.Part.{Part}
 use Rattle.condition_prover.specs.contracts.access_walks.PartOrd.TheImpl as block
-use Rattle.easy_goals.proofs.Kept.{search-more}
+use Rattle.goal_proofs.proofs.Kept.{search-more}
 
 -- ---- what is kept
 
 -- with another memo and other results of substitutions
-pub with_puts : (t u : TableView) (s : Search) (m : Memo) (p : Puts) → IsSearch t s → Extends t u → IsMemo u m → ArePuts u p → IsSearch u (record { memo = m; forms = s.forms; puts = p; occurrences = s.occurrences; counted = s.counted })
+pub with_puts : (t u : TableView) (s : Search) (m : Memo) (p : Kept Put ℕ) → IsSearch t s → Extends t u → IsMemo u m → ArePuts u p → IsSearch u (record { memo = m; forms = s.forms; puts = p; occurrences = s.occurrences; counted = s.counted })
 with_puts t u s m p h x k l =
     let g = search-more s t u h x in
     record { memo = k; forms = g.forms; puts = l; occurrences = g.occurrences }

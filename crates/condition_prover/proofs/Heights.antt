@@ -8,8 +8,8 @@ use Rattle.formula_tree.specs.Sizes.{exp_height, mem_height, form_height}
 use Rattle.formula_terms.specs.Encoding.{exp_encoding, mem_encoding, form_encoding}
 use Rattle.vcgen.specs.declared.condition.TheConstants.{MAX_HEIGHT}
 use Rattle.formula_terms.specs.ProofTerms.{and_i}
-use Rattle.easy_class.specs.Goals.{Prover}
-use Rattle.easy_class.specs.Parts.{conjoined, part_proof, condition_proof}
+use Rattle.prover_class.specs.Goals.{Prover}
+use Rattle.prover_class.specs.Parts.{conjoined, part_proof, condition_proof}
 
 mutual
   exp-low : (e : Exp) → exp_height e ≤ height_of (exp_encoding e)

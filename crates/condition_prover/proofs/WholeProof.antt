@@ -19,8 +19,8 @@ use Rattle.vcgen.proofs.Encodings.{encoded-annotates}
 use Rattle.pcc_gate.specs.First.{formulas}
 use Rattle.pcc_gate.proofs.First.{formulas-encoded, condition-one}
 use Rattle.pcc_gate.proofs.Safe.{formulas-over}
-use Rattle.easy_class.specs.Parts.{conjoined, condition_proof}
-use Rattle.easy_class.specs.Access.{by_all_means}
+use Rattle.prover_class.specs.Parts.{conjoined, condition_proof}
+use Rattle.prover_class.specs.Access.{by_all_means}
 use Rattle.term_table.specs.Table.{TableView, tree_at}
 use Rattle.condition_prover.specs.declared.parts.ConditionProof.{ConditionProof}
 use Rattle.condition_prover.specs.declared.parts.ConditionProof.TheVariants.{Proved, NotEasy}

@@ -14,8 +14,8 @@ use Rattle.vcgen.specs.Conditions.{entry_part, inv_part}
 use Rattle.vcgen.specs.Encoded.{annotated}
 use Rattle.vcgen.specs.declared.condition.TheConstants.{MAX_HEIGHT}
 use Rattle.pcc_gate.specs.First.{formulas}
-use Rattle.easy_class.specs.Parts.{conjoined, condition_proof, first_not_easy}
-use Rattle.easy_class.specs.Access.{by_all_means}
+use Rattle.prover_class.specs.Parts.{conjoined, condition_proof, first_not_easy}
+use Rattle.prover_class.specs.Access.{by_all_means}
 use Rattle.condition_prover.specs.declared.parts.ConditionProof.{ConditionProof}
 use Rattle.condition_prover.specs.declared.parts.ConditionProof.TheVariants.{Proved, NotEasy}
 

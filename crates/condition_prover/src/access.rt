@@ -10,17 +10,17 @@ ghost use Rattle.formula_terms.specs.Encoding.{exp_encoding};
 ghost use Rattle.term_table.specs.Subst.{bind};
 ghost use Rattle.formula_ids.specs.Nodes.{right_form};
 ghost use Rattle.formula_ids.specs.Hypotheses.{AreKnownHyps, AreHyps};
-ghost use Rattle.easy_class.specs.Hypotheses.{Hyps};
-ghost use Rattle.easy_class.specs.Access.{right_address, moved, without_access, by_hyps, by_access};
-ghost use Rattle.easy_goals.specs.Provers.{IsProofBy};
-ghost use Rattle.easy_goals.specs.Search.{IsSearch, IsContext, IsAfter};
+ghost use Rattle.prover_class.specs.Hypotheses.{Hyps};
+ghost use Rattle.prover_class.specs.Access.{right_address, moved, without_access, by_hyps, by_access};
+ghost use Rattle.goal_proofs.specs.Provers.{IsProofBy};
+ghost use Rattle.goal_proofs.specs.Search.{IsSearch, IsContext, IsAfter};
 ghost use Rattle.condition_prover.specs.Inside.AccessIds.{access_of, IsHypProof, IsBodyProof};
 
 use crate::access_grants::by_grant;
 use crate::access_moves::{is_asked, moved_access};
 use crate::access_walks::{Asked, Grant};
-use easy_goals::{Context, Search};
 use formula_ids::{Access, FormNode, Hypothesis, form_node};
+use goal_proofs::{Context, Search};
 use hereditary_subst::Exhausted;
 use term_table::{Id, Table};
 
@@ -70,7 +70,7 @@ fn by_quantified(
 }
 
 /// Access by a hypothesis that is a right at the address `z`.
-#[tactic(auto, using(easy_goals::proofs::WordRows::rows))]
+#[tactic(auto, using(goal_proofs::proofs::WordRows::rows))]
 fn by_right(
     table: &mut Table,
     search: &mut Search,
@@ -102,7 +102,7 @@ fn by_right(
 }
 
 /// Access by one hypothesis: as it stands, from an implication, or from an instance.
-#[tactic(auto, using(easy_goals::proofs::WordRows::rows))]
+#[tactic(auto, using(goal_proofs::proofs::WordRows::rows))]
 fn by_hyp(
     table: &mut Table,
     search: &mut Search,

@@ -9,15 +9,15 @@ ghost use Rattle.lf_signature.specs.Nodes.{IsIdOf};
 ghost use Rattle.formula_tree.specs.Formulas.{Exp, Form, FImp};
 ghost use Rattle.formula_terms.specs.Encoding.{exp_encoding, form_encoding};
 ghost use Rattle.formula_terms.specs.ProofTerms.{all_e};
-ghost use Rattle.easy_class.specs.Access.{down, Opened, granted, granted_by};
-ghost use Rattle.easy_class.specs.Access as class;
-ghost use Rattle.easy_goals.specs.Search.{IsSearch, IsContext, IsAfter};
+ghost use Rattle.prover_class.specs.Access.{down, Opened, granted, granted_by};
+ghost use Rattle.prover_class.specs.Access as class;
+ghost use Rattle.goal_proofs.specs.Search.{IsSearch, IsContext, IsAfter};
 ghost use Rattle.condition_prover.specs.Inside.AccessIds.{access_of, way_back, IsKnownGrant, IsKnownFound, IsFoundAt, IsGranted};
 
 use crate::access_moves::{access_move, form_with};
 use crate::access_walks::{Asked, Found, Grant, Side, walk};
-use easy_goals::{Context, Search};
 use formula_ids::{FormNode, form_node};
+use goal_proofs::{Context, Search};
 use hereditary_subst::Exhausted;
 use lf_rules::numbers::{ALL_E, AND_L, AND_R, IMP_E};
 use lf_rules::rule_term;
@@ -57,7 +57,7 @@ fn down(table: &mut Table, form: Id, way: &[Side], proof: Id) -> Result<Id, Allo
 }
 
 /// The proof of the access that is asked for, from an implication by `proof`, by what was found.
-#[tactic(auto, using(easy_goals::proofs::Kept::rows))]
+#[tactic(auto, using(goal_proofs::proofs::Kept::rows))]
 fn granted(
     table: &mut Table,
     search: &mut Search,
@@ -117,7 +117,7 @@ fn instance_proof(
 }
 
 /// The proof of the access that is asked for, from a quantified implication.
-#[tactic(auto, using(easy_goals::proofs::Kept::rows))]
+#[tactic(auto, using(goal_proofs::proofs::Kept::rows))]
 fn granted_instance(
     table: &mut Table,
     search: &mut Search,
@@ -152,7 +152,7 @@ fn granted_instance(
 }
 
 /// The proof of the access that is asked for, from the hypothesis, by what was found.
-#[tactic(auto, using(easy_goals::proofs::Kept::rows))]
+#[tactic(auto, using(goal_proofs::proofs::Kept::rows))]
 fn granted_by(
     table: &mut Table,
     search: &mut Search,
@@ -188,7 +188,7 @@ fn granted_by(
 
 /// The proof of the access that is asked for, from the hypothesis; none where no address of its
 /// conclusion gives it.
-#[tactic(auto, using(easy_goals::proofs::WordRows::rows))]
+#[tactic(auto, using(goal_proofs::proofs::WordRows::rows))]
 pub(crate) fn by_grant(
     table: &mut Table,
     search: &mut Search,

@@ -9,18 +9,18 @@ ghost use Rattle.std.specs.Bool.{Decides};
 ghost use Rattle.term_table.specs.Table.{IsKnown, tree_at, Extends};
 ghost use Rattle.formula_tree.specs.Formulas.{Exp, EVar};
 ghost use Rattle.formula_terms.specs.Encoding.{exp_encoding};
-ghost use Rattle.easy_forms.specs.Sums.{IsExpOption, OccursInExp};
-ghost use Rattle.easy_class.specs.Access.{instance_of};
-ghost use Rattle.easy_goals.specs.Search.{IsSearch};
+ghost use Rattle.sum_proofs.specs.Sums.{IsExpOption, OccursInExp};
+ghost use Rattle.prover_class.specs.Access.{instance_of};
+ghost use Rattle.goal_proofs.specs.Search.{IsSearch};
 ghost use Rattle.condition_prover.specs.Inside.Instances.{variable_index, rest_at, scaled_rest, index_at};
 ghost use Rattle.condition_prover.specs.Inside.AccessIds.{IfIndexed};
 
 use crate::access_moves::exp_with;
-use easy_forms::{eighth, occurs, rest_of, summand_count};
-use easy_goals::{Search, normal};
 use formula_ids::{ExpNode, exp_node, literal, operands};
+use goal_proofs::{Search, normal};
 use hereditary_subst::Exhausted;
 use std::alloc::AllocError;
+use sum_proofs::{eighth, occurs, rest_of, summand_count};
 use term_table::{Id, Node, Table};
 use word_ops::Op;
 
@@ -95,7 +95,7 @@ fn split_address(table: &Table, z: Id) -> Option<Indexed>
 }
 
 /// Whether variable 0 stands in the expression.
-#[tactic(auto, using(easy_goals::proofs::Kept::rows))]
+#[tactic(auto, using(goal_proofs::proofs::Kept::rows))]
 fn has_variable(table: &Table, search: &mut Search, e: Id) -> Result<bool, Exhausted>
     requires e { IsKnown table.now e }
     requires search { IsSearch table.now search.old }
@@ -106,7 +106,7 @@ fn has_variable(table: &Table, search: &mut Search, e: Id) -> Result<bool, Exhau
 }
 
 /// What is left of the address `a` without the base, where 0 is put for the variable.
-#[tactic(auto, using(easy_goals::proofs::Kept::rows))]
+#[tactic(auto, using(goal_proofs::proofs::Kept::rows))]
 fn rest_at(
     table: &mut Table,
     search: &mut Search,
@@ -156,7 +156,7 @@ fn scaled_rest(table: &mut Table, scaled: bool, rest: Option<Id>) -> Result<Opti
 }
 
 /// What is put for the variable of an address with this base.
-#[tactic(auto, using(easy_goals::proofs::Kept::rows))]
+#[tactic(auto, using(goal_proofs::proofs::Kept::rows))]
 fn index_at(
     table: &mut Table,
     search: &mut Search,
@@ -185,7 +185,7 @@ fn index_at(
 
 /// What is put for variable 0 of the address `z`, so that it means the address `a`. None where `z`
 /// is no base and variable 0, plain or times 8, or where `a` hasn't all summands of the base.
-#[tactic(auto, using(easy_goals::proofs::Kept::rows))]
+#[tactic(auto, using(goal_proofs::proofs::Kept::rows))]
 pub(crate) fn instance_of(
     table: &mut Table,
     search: &mut Search,

@@ -10,15 +10,15 @@ ghost use Rattle.formula_tree.specs.Formulas.{Exp, EVar};
 ghost use Rattle.formula_terms.specs.Encoding.{exp_encoding, form_encoding};
 ghost use Rattle.formula_ids.specs.Nodes.{right_form};
 ghost use Rattle.formula_ids.specs.Puts.{IsExpPut, IsFormPut};
-ghost use Rattle.easy_class.specs.Access.{access_form, right_address, moved, same_address, access_move};
-ghost use Rattle.easy_goals.specs.Search.{IsSearch};
+ghost use Rattle.prover_class.specs.Access.{access_form, right_address, moved, same_address, access_move};
+ghost use Rattle.goal_proofs.specs.Search.{IsSearch};
 ghost use Rattle.condition_prover.specs.Inside.AccessIds.{access_of};
 
-use easy_forms::equal_proof;
-use easy_goals::{Search, normal};
 use formula_ids::{Access, moved, put_word, put_word_exp, right};
+use goal_proofs::{Search, normal};
 use hereditary_subst::Exhausted;
 use std::alloc::AllocError;
+use sum_proofs::equal_proof;
 use term_table::{Id, Node, Table};
 
 /// Whether the access that is given is the one that is asked for.
@@ -33,7 +33,7 @@ pub(crate) fn is_asked(asked: Access, given: Access) -> bool
 }
 
 /// The expression with `arg` for variable 0.
-#[tactic(auto, using(easy_goals::proofs::Kept::rows))]
+#[tactic(auto, using(goal_proofs::proofs::Kept::rows))]
 pub(crate) fn exp_with(
     table: &mut Table,
     search: &mut Search,
@@ -51,7 +51,7 @@ pub(crate) fn exp_with(
 }
 
 /// The formula with `arg` for variable 0.
-#[tactic(auto, using(easy_goals::proofs::Kept::rows))]
+#[tactic(auto, using(goal_proofs::proofs::Kept::rows))]
 pub(crate) fn form_with(
     table: &mut Table,
     search: &mut Search,
@@ -69,7 +69,7 @@ pub(crate) fn form_with(
 }
 
 /// Whether two addresses have one normal form.
-#[tactic(auto, using(easy_goals::proofs::Kept::rows))]
+#[tactic(auto, using(goal_proofs::proofs::Kept::rows))]
 pub(crate) fn same_address(
     table: &mut Table,
     search: &mut Search,
@@ -103,7 +103,7 @@ fn place_form(table: &mut Table, access: Access) -> Result<Id, AllocError>
 }
 
 /// The proof of access to `a`, by that of access to `z`, which has its normal form.
-#[tactic(auto, using(easy_goals::proofs::Kept::rows))]
+#[tactic(auto, using(goal_proofs::proofs::Kept::rows))]
 pub(crate) fn access_move(
     table: &mut Table,
     search: &mut Search,
@@ -133,7 +133,7 @@ pub(crate) fn access_move(
 }
 
 /// The same where the normal forms are one, else none.
-#[tactic(auto, using(easy_goals::proofs::Kept::rows))]
+#[tactic(auto, using(goal_proofs::proofs::Kept::rows))]
 pub(crate) fn moved_access(
     table: &mut Table,
     search: &mut Search,

@@ -10,16 +10,16 @@ ghost use Rattle.term_table.specs.Table.{TableView, IsKnown, tree_at, Extends};
 ghost use Rattle.formula_tree.specs.Formulas.{Exp, Form};
 ghost use Rattle.formula_terms.specs.Encoding.{exp_encoding, form_encoding};
 ghost use Rattle.formula_ids.specs.Hypotheses.{AreHyps};
-ghost use Rattle.easy_class.specs.Hypotheses.{Hyps};
-ghost use Rattle.easy_class.specs.Access.{without_access, Opened, opening_of, opened_by, opened_with, opened_at, from_side};
-ghost use Rattle.easy_class.specs.Access as class;
-ghost use Rattle.easy_goals.specs.Search.{IsSearch, IsContext, IsAfter};
+ghost use Rattle.prover_class.specs.Hypotheses.{Hyps};
+ghost use Rattle.prover_class.specs.Access.{without_access, Opened, opening_of, opened_by, opened_with, opened_at, from_side};
+ghost use Rattle.prover_class.specs.Access as class;
+ghost use Rattle.goal_proofs.specs.Search.{IsSearch, IsContext, IsAfter};
 ghost use Rattle.condition_prover.specs.Inside.AccessIds.{access_of, side_of, IsKnownGrant, IsKnownOpening, IsKnownFound, IfOpened, IfFound, IsOpeningAt, IsFoundHere, IsWalk, IsBothWalk, AreMisses};
 
 use crate::access_instances::instance_of;
 use crate::access_moves::{exp_with, form_with, is_asked, same_address};
-use easy_goals::{Context, Search, proof_without_access};
 use formula_ids::{Access, FormNode, form_node};
+use goal_proofs::{Context, Search, proof_without_access};
 use hereditary_subst::Exhausted;
 use std::alloc::AllocError;
 use std::collections::BTreeSet;
@@ -118,7 +118,7 @@ fn opened(
 }
 
 /// What the address gives where it has the normal form of `a` and the premise is proved.
-#[tactic(auto, using(easy_goals::proofs::WordRows::rows))]
+#[tactic(auto, using(goal_proofs::proofs::WordRows::rows))]
 fn opened_by(
     table: &mut Table,
     search: &mut Search,
@@ -150,7 +150,7 @@ fn opened_by(
 }
 
 /// The same where `put` is still to be put for the variable.
-#[tactic(auto, using(easy_goals::proofs::WordRows::rows))]
+#[tactic(auto, using(goal_proofs::proofs::WordRows::rows))]
 fn opened_with(
     table: &mut Table,
     search: &mut Search,
@@ -187,7 +187,7 @@ fn opened_with(
 }
 
 /// What the address gives of a quantified hypothesis.
-#[tactic(auto, using(easy_goals::proofs::WordRows::rows))]
+#[tactic(auto, using(goal_proofs::proofs::WordRows::rows))]
 fn opened_instance(
     table: &mut Table,
     search: &mut Search,
@@ -221,7 +221,7 @@ fn opened_instance(
 }
 
 /// What the address of the conclusion gives.
-#[tactic(auto, using(easy_goals::proofs::WordRows::rows))]
+#[tactic(auto, using(goal_proofs::proofs::WordRows::rows))]
 fn opening_at(
     table: &mut Table,
     search: &mut Search,
@@ -254,7 +254,7 @@ fn opening_at(
 
 /// The same, with the way from the address to itself. Kept out of the walk's frames.
 #[inline(never)]
-#[tactic(auto, using(easy_goals::proofs::WordRows::rows))]
+#[tactic(auto, using(goal_proofs::proofs::WordRows::rows))]
 fn found_at(
     table: &mut Table,
     search: &mut Search,
@@ -301,7 +301,7 @@ fn from_side(found: Found, side: Side) -> Result<Option<Found>, AllocError>
 
 /// The first address of the part that gives access. Nothing does in the parts of `misses`.
 #[cycle(walking)]
-#[tactic(auto, using(easy_goals::proofs::WordRows::rows))]
+#[tactic(auto, using(goal_proofs::proofs::WordRows::rows))]
 pub(crate) fn walk(
     table: &mut Table,
     search: &mut Search,
@@ -342,7 +342,7 @@ pub(crate) fn walk(
 
 /// The same of a part that wasn't gone through.
 #[cycle(walking)]
-#[tactic(auto, using(easy_goals::proofs::WordRows::rows))]
+#[tactic(auto, using(goal_proofs::proofs::WordRows::rows))]
 fn walk_parts(
     table: &mut Table,
     search: &mut Search,
@@ -391,7 +391,7 @@ fn walk_parts(
 
 /// The same of a conjunction.
 #[cycle(walking)]
-#[tactic(auto, using(easy_goals::proofs::WordRows::rows))]
+#[tactic(auto, using(goal_proofs::proofs::WordRows::rows))]
 fn walk_both(
     table: &mut Table,
     search: &mut Search,

@@ -5,12 +5,12 @@
 
 ghost use Rattle.std.specs.Prelude.{◌≡◌, IfOk, IfSome, OnOk};
 ghost use Rattle.term_table.specs.Table.{IsKnown, Extends};
-ghost use Rattle.easy_class.specs.Access.{by_all_means};
-ghost use Rattle.easy_goals.specs.Provers.{IsProofBy, whole_proof, prover_of};
-ghost use Rattle.easy_goals.specs.Search.{IsSearch, IsContext, IsAfter};
+ghost use Rattle.prover_class.specs.Access.{by_all_means};
+ghost use Rattle.goal_proofs.specs.Provers.{IsProofBy, whole_proof, prover_of};
+ghost use Rattle.goal_proofs.specs.Search.{IsSearch, IsContext, IsAfter};
 
 use crate::access::proof_by_access;
-use easy_goals::{Context, Leaf, Means, Search, goal_proof, proof_by_words};
+use goal_proofs::{Context, Leaf, Means, Search, goal_proof, proof_by_words};
 use hereditary_subst::Exhausted;
 use term_table::{Id, Table};
 
@@ -19,7 +19,7 @@ use term_table::{Id, Table};
 pub(crate) struct ByAllMeans;
 
 impl Leaf for ByAllMeans {
-    ghost use Rattle.easy_goals.specs.declared.answers.Means.TheVariants.{WordsAndAccess};
+    ghost use Rattle.goal_proofs.specs.declared.answers.Means.TheVariants.{WordsAndAccess};
 
     ghost by = { λ _. WordsAndAccess };
 
@@ -39,7 +39,7 @@ impl Leaf for ByAllMeans {
 }
 
 /// The proof of a goal that has no connective, by words or else by access.
-#[tactic(auto, using(easy_goals::proofs::WordRows::rows))]
+#[tactic(auto, using(goal_proofs::proofs::WordRows::rows))]
 fn by_all_means(
     table: &mut Table,
     search: &mut Search,

@@ -12,16 +12,16 @@ ghost use Rattle.formula_terms.specs.Encoding.{form_encoding};
 ghost use Rattle.vcgen.specs.Answers.{AreLowInvs};
 ghost use Rattle.vcgen.specs.Encoded.{AreForms};
 ghost use Rattle.vcgen.specs.declared.condition.TheConstants.{MAX_UNFOLDED};
-ghost use Rattle.easy_class.specs.Parts.{conjoined};
+ghost use Rattle.prover_class.specs.Parts.{conjoined};
 ghost use Rattle.condition_prover.specs.Conditions.{condition_parts};
 ghost use Rattle.condition_prover.specs.Conditions.{IsKnownAnswer, IsPartsAnswer, IsProofOfParts};
 
 use crate::parts::{ConditionProof, proof_of_parts};
 use alpha_cfg::Cut;
-use easy_class::class_laws;
-use easy_goals::Search;
+use goal_proofs::Search;
 use hereditary_subst::Exhausted;
 use policy_set::Policy;
+use prover_class::class_laws;
 use term_table::{Id, Table};
 use vcgen::{VcFault, vc};
 
@@ -62,7 +62,7 @@ fn condition_in(
 }
 
 /// Proves the verification condition of cut code under a policy, part by part, where each is easy
-/// (`easy_class`), or names the first part that isn't. `invs` are the annotated indices with the ids
+/// (`prover_class`), or names the first part that isn't. `invs` are the annotated indices with the ids
 /// of their invariants, whose terms are formulas and no higher than `vcgen::MAX_HEIGHT`. A proof that
 /// is no higher than that checks at the condition; its weight and height are the table's
 /// (`Table::weight`, `Table::height`).

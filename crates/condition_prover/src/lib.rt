@@ -1,7 +1,7 @@
 //! The prover of easy conditions, on ids of a table.
 //!
 //! The layer above uses that `prove_condition` answers, for cut code under a policy, the proof of its
-//! verification condition that the class of easy conditions gives (`easy_class`), which checks at the
+//! verification condition that the class of easy conditions gives (`prover_class`), which checks at the
 //! condition, or the first part that isn't easy (`specs/Conditions`). Below, `proof_by_access`
 //! answers, for whatever hypotheses and goal the ids stand for, what the class's definition gives of
 //! the right to load or store: a proof as a term, or none. Source: Necula, Proof-Carrying Code, POPL

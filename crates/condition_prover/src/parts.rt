@@ -7,17 +7,17 @@ ghost use Rattle.std.specs.Prelude.{◌≡◌, ◌<◌, List, IfOk, IfSome, OnOk
 ghost use Rattle.term_table.specs.Table.{IsKnown, tree_at, Extends, Stands};
 ghost use Rattle.formula_tree.specs.Formulas.{Form};
 ghost use Rattle.formula_terms.specs.Encoding.{form_encoding};
-ghost use Rattle.easy_class.specs.Parts.{conjoined, part_proof};
-ghost use Rattle.easy_class.specs.Access.{by_all_means};
-ghost use Rattle.easy_goals.specs.Search.{IsSearch};
+ghost use Rattle.prover_class.specs.Parts.{conjoined, part_proof};
+ghost use Rattle.prover_class.specs.Access.{by_all_means};
+ghost use Rattle.goal_proofs.specs.Search.{IsSearch};
 ghost use Rattle.condition_prover.specs.Conditions.{IsKnownAnswer, IsPartsAnswer};
 ghost use Rattle.condition_prover.specs.Inside.Parts.{AreFirstAndRest};
 
 use crate::all_means::proof_by_all_means;
-use easy_goals::{Context, Search};
-use easy_hyps::Hypotheses;
 use formula_ids::{FormNode, form_node};
+use goal_proofs::{Context, Search};
 use hereditary_subst::Exhausted;
+use hyp_proofs::Hypotheses;
 use lf_rules::numbers::{AND_I, TT_I};
 use lf_rules::rule_term;
 use term_table::{Id, Table};
@@ -53,7 +53,7 @@ fn first_and_rest(table: &Table, condition: Id) -> Option<Conjunction>
 }
 
 /// The proof of a part from no hypotheses.
-#[tactic(auto, using(easy_goals::proofs::Kept::rows))]
+#[tactic(auto, using(goal_proofs::proofs::Kept::rows))]
 fn part_proof(table: &mut Table, search: &mut Search, part: Id) -> Result<Option<Id>, Exhausted>
     requires part { IsKnown table.old part }
     requires search { IsSearch table.old search.old }
@@ -72,7 +72,7 @@ fn part_proof(table: &mut Table, search: &mut Search, part: Id) -> Result<Option
 /// The proof of a condition, part by part, or the number of the first part that isn't easy, where the
 /// parts' numbers begin at `number`. It says so of whatever parts the id is the conjunction of, one
 /// after another and ended by truth. Fails where a number would be 2^32, and where memory does.
-#[tactic(auto, using(easy_goals::proofs::Kept::rows))]
+#[tactic(auto, using(goal_proofs::proofs::Kept::rows))]
 pub(crate) fn proof_of_parts(
     table: &mut Table,
     search: &mut Search,

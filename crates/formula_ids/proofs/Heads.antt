@@ -4,8 +4,10 @@ use Rattle.word_ops.specs.declared.Op.{Op}
 use Rattle.word_ops.specs.declared.Rel.{Rel}
 use Rattle.term_table.specs.Tree.{Tree, Var, Con, App, Lam, Num, Lit}
 use Rattle.term_table.specs.Table.{TableView, tree_at}
-use Rattle.lf_signature.specs.Numbers.{op_of_constant, rel_of_constant, op_constant, rel_constant}
-use Rattle.lf_signature.specs.Laws.Numbered.{op_of_constant-op_constant, rel_of_constant-rel_constant}
+use Rattle.word_ops.specs.Operators.{op_of_constant, op_constant}
+use Rattle.lf_signature.specs.Numbers.{rel_of_constant, rel_constant}
+use Rattle.word_ops.proofs.EachOp.{op_of_constant-op_constant}
+use Rattle.lf_signature.specs.Laws.Numbered.{rel_of_constant-rel_constant}
 use Rattle.formula_tree.specs.Formulas.{Exp, EReg, ELeft, EVar, ELit, EOp, ESel, MemExp, MMem, MVar, MUpd, Form, FTrue, FFalse, FRel, FRd, FWr, FAnd, FOr, FImp, FAll, FAllm}
 use Rattle.formula_terms.specs.Encoding.{exp_encoding, mem_encoding, form_encoding}
 use Rattle.term_table.specs.Measures.{height_of}

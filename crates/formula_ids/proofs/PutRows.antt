@@ -1,9 +1,7 @@
--- Kept results of substitutions, as the table grows and as they become more; a result by those of the parts.
-use Rattle.std.proofs.Common.{◌≡◌, ℕ, zero, suc, ◌+◌, ◌-◌, ◌<◌, Option, Some, Result, Ok, Err, IfOk, Bool, true, false, cond, refl, sym, ◌∙◌, ap, subst, arith}
-use Rattle.std.specs.Bool.{Decides}
+-- Kept results of substitutions as the table grows, and a result by those of the parts.
+use Rattle.std.proofs.Common.{◌≡◌, ℕ, zero, suc, ◌+◌, ◌-◌, ◌<◌, Result, Ok, Err, IfOk, refl, sym, ◌∙◌, ap, subst, arith}
 use Rattle.term_table.specs.Tree.{Tree, Var, Con, Deny, Lam, spot, shift, Here, Other, Spot, later}
 use Rattle.term_table.specs.Table.{TableView, IsKnown, tree_at, Extends}
-use Rattle.term_table.proofs.Options.{some_injective}
 use Rattle.lf_signature.specs.Nodes.{IsIdOf}
 use Rattle.lf_signature.specs.Terms.{app1}
 use Rattle.formula_tree.specs.Formulas.{Exp, Form, shift_exp}
@@ -16,59 +14,14 @@ use Rattle.formula_ids.specs.declared.forms.Access.TheVariants.{Load, Store}
 use Rattle.formula_ids.specs.Nodes.{right_form, IsRight}
 use Rattle.formula_ids.specs.Puts.{IsExpPut, IsMemPut, IsFormPut}
 use Rattle.formula_ids.specs.PutRows.{IsPutAt, ArePuts, IsUnderPut}
-use Rattle.formula_ids.specs.declared.puts.Question.{Question}
-use Rattle.formula_ids.specs.declared.puts.Question.TheVariants as Q
-use Rattle.formula_ids.specs.declared.puts.Puts.{Puts}
+use Rattle.formula_ids.specs.Lasting.{put-lasts}
+use Rattle.formula_ids.specs.declared.puts.Put.{Put}
+use Rattle.formula_ids.specs.declared.kept.Kept.{Kept}
+use Rattle.formula_ids.proofs.KeptRows.{right-more}
 
--- what was put in an earlier table is put in the later one
-pub exp_put-now : (t u v : TableView) (id x arg r : ℕ) → IsKnown t id → IsKnown t arg → Extends t u → Extends u v → IsExpPut t u id x arg r → IsExpPut v v id x arg r
-exp_put-now t u v id x arg r i a tu uv p = record {
-  known = omega (arith, p.known, uv.longer);
-  is = λ e o q w.
-      let early : tree_at v id ≡ tree_at t id = uv.same id (omega (arith, i, tu.longer)) ∙ tu.same id i in
-      let put : tree_at v arg ≡ tree_at t arg = uv.same arg (omega (arith, a, tu.longer)) ∙ tu.same arg a in
-      uv.same r p.known ∙ p.is e o (sym early ∙ q) (sym put ∙ w);
-}
-
-pub mem_put-now : (t u v : TableView) (id x arg r : ℕ) → IsKnown t id → IsKnown t arg → Extends t u → Extends u v → IsMemPut t u id x arg r → IsMemPut v v id x arg r
-mem_put-now t u v id x arg r i a tu uv p = record {
-  known = omega (arith, p.known, uv.longer);
-  is = λ e o q w.
-      let early : tree_at v id ≡ tree_at t id = uv.same id (omega (arith, i, tu.longer)) ∙ tu.same id i in
-      let put : tree_at v arg ≡ tree_at t arg = uv.same arg (omega (arith, a, tu.longer)) ∙ tu.same arg a in
-      uv.same r p.known ∙ p.is e o (sym early ∙ q) (sym put ∙ w);
-}
-
-pub form_put-now : (t u v : TableView) (id x arg r : ℕ) → IsKnown t id → IsKnown t arg → Extends t u → Extends u v → IsFormPut t u id x arg r → IsFormPut v v id x arg r
-form_put-now t u v id x arg r i a tu uv p = record {
-  known = omega (arith, p.known, uv.longer);
-  is = λ e o q w.
-      let early : tree_at v id ≡ tree_at t id = uv.same id (omega (arith, i, tu.longer)) ∙ tu.same id i in
-      let put : tree_at v arg ≡ tree_at t arg = uv.same arg (omega (arith, a, tu.longer)) ∙ tu.same arg a in
-      uv.same r p.known ∙ p.is e o (sym early ∙ q) (sym put ∙ w);
-}
-
-extends_refl : (t : TableView) → Extends t t
-extends_refl t = record { longer = omega arith; same = λ id h. refl; places = refl }
-
-put_at-more : (t u : TableView) (q : Question) (r : ℕ) → Extends t u → IsPutAt t q r → IsPutAt u q r
-put_at-more t u (Q.Exp id x arg) r e h = (omega (arith, h.0, e.longer), omega (arith, h.1, e.longer), exp_put-now t t u id x arg r h.0 h.1 (extends_refl t) e h.2)
-put_at-more t u (Q.Mem id x arg) r e h = (omega (arith, h.0, e.longer), omega (arith, h.1, e.longer), mem_put-now t t u id x arg r h.0 h.1 (extends_refl t) e h.2)
-put_at-more t u (Q.Form id x arg) r e h = (omega (arith, h.0, e.longer), omega (arith, h.1, e.longer), form_put-now t t u id x arg r h.0 h.1 (extends_refl t) e h.2)
-
-pub puts-more : (kept : Puts) (t u : TableView) → ArePuts t kept → Extends t u → ArePuts u kept
-puts-more kept t u h e = record { each = λ q r i. put_at-more t u q r e (h.each q r i) }
-
-pub puts-keep : (t : TableView) (old after : Question → Option ℕ) (eq : Question → Question → Bool) (q : Question) (row : ℕ) → ((a b : Question) → Decides (eq a b) (a ≡ b)) → ((p : Question) (r : ℕ) → old p ≡ Some r → IsPutAt t p r) → IsPutAt t q row →
-    ((p : Question) → after p ≡ cond (eq q p) (Some row) (old p)) → (p : Question) (r : ℕ) → after p ≡ Some r → IsPutAt t p r
-puts-keep t old after eq q row same h new up p r i = go (eq q p) refl
-  where
-    go : (b : Bool) → eq q p ≡ b → IsPutAt t p r
-    go true e =
-        let s : q ≡ p = (same q p).0 e in
-        let k : row ≡ r = some_injective (sym (up p ∙ ap (λ b. cond b (Some row) (old p)) e) ∙ i) in
-        subst (λ z. IsPutAt t z r) s (subst (λ (z : ℕ). IsPutAt t q z) k new)
-    go false e = h p r (sym (up p ∙ ap (λ b. cond b (Some row) (old p)) e) ∙ i)
+-- what is kept of substitutions, as the table grows
+pub puts-more : (kept : Kept Put ℕ) (t u : TableView) → ArePuts t kept → Extends t u → ArePuts u kept
+puts-more kept t u h e = right-more IsPutAt t u (λ q r i. put-lasts t u q r e i) h
 
 pub ruleset rows = (puts-more, memo-more)
 

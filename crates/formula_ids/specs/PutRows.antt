@@ -1,6 +1,5 @@
 -- What kept results of substitutions say of a table's trees.
-use Rattle.std.specs.Prelude.{◌≡◌, ℕ, suc, Some}
-use Rattle.std.specs.BTreeMap.{get}
+use Rattle.std.specs.Prelude.{◌≡◌, ℕ, suc}
 use Rattle.term_table.specs.Tree.{Lam}
 use Rattle.term_table.specs.Table.{TableView, IsKnown, tree_at}
 use Rattle.lf_signature.specs.Terms.{app1, app2}
@@ -8,20 +7,21 @@ use Rattle.formula_tree.specs.Formulas.{Exp, Form}
 use Rattle.formula_tree.specs.Variables.{PExp, subst_var, shift_part}
 use Rattle.formula_terms.specs.Encoding.{exp_encoding, form_encoding}
 use Rattle.formula_ids.specs.Puts.{IsExpPut, IsMemPut, IsFormPut}
-use Rattle.formula_ids.specs.declared.puts.Question.{Question}
-use Rattle.formula_ids.specs.declared.puts.Question.TheVariants as Q
-use Rattle.formula_ids.specs.declared.puts.Puts.{Puts}
-use Rattle.formula_ids.specs.contracts.puts.QuestionOrd.TheImpl as block
+use Rattle.formula_ids.specs.declared.puts.Put.{Put}
+use Rattle.formula_ids.specs.declared.puts.Put.TheVariants as Q
+use Rattle.formula_ids.specs.declared.kept.Kept.{Kept}
+use Rattle.formula_ids.specs.Kept.{AreRight}
+use Rattle.formula_ids.specs.contracts.puts.PutOrd.TheImpl as block
 
 -- the answer is right of the question
-abbrev pub IsPutAt : TableView → Question → ℕ → Type 0
+abbrev pub IsPutAt : TableView → Put → ℕ → Type 0
 IsPutAt t (Q.Exp id x arg) r = IsKnown t id × IsKnown t arg × IsExpPut t t id x arg r
 IsPutAt t (Q.Mem id x arg) r = IsKnown t id × IsKnown t arg × IsMemPut t t id x arg r
 IsPutAt t (Q.Form id x arg) r = IsKnown t id × IsKnown t arg × IsFormPut t t id x arg r
 
 -- each kept result is right
-pub record ArePuts (t : TableView) (kept : Puts) : Type 0 where
-  pub each : (q : Question) (r : ℕ) → get block.ghosts.cmp kept.rows q ≡ Some r → IsPutAt t q r
+abbrev pub ArePuts : TableView → Kept Put ℕ → Type 0
+ArePuts t kept = AreRight block.ghosts.cmp IsPutAt t kept
 
 -- the connective of both formulas with what is put
 pub record IsJoinPut (t u : TableView) (connective a b x arg r : ℕ) : Type 0 where

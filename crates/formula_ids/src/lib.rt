@@ -9,6 +9,7 @@
 
 mod forms;
 mod hypotheses;
+mod kept;
 mod nodes;
 mod put_forms;
 mod puts;
@@ -16,7 +17,8 @@ mod steps;
 
 pub use forms::{Access, FormNode, form_node};
 pub use hypotheses::{Hypothesis, raised};
+pub use kept::{Kept, Question, number};
 pub use nodes::{ExpNode, MemNode, Sides, exp_node, literal, mem_node, operands};
 pub use put_forms::{put_word, put_word_exp};
-pub use puts::Puts;
+pub use puts::{Put, Puts};
 pub use steps::{calc, fact, moved, oper, reflexive, relation, right, swapped};

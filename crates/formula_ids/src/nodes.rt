@@ -8,9 +8,8 @@ ghost use Rattle.formula_ids.specs.Nodes.{IsExpNode, AreExpPartsBelow, IsMemNode
 ghost use Rattle.formula_ids.specs.Operands.{AreOperands, IsLiteral};
 ghost use Rattle.formula_ids.specs.Inside.Heads.{applied_node};
 
-use lf_signature::op_of_constant;
 use term_table::{Id, Node, Table};
-use word_ops::Op;
+use word_ops::{Op, op_of_constant};
 
 /// An expression by its head, its parts as ids.
 #[derive(Clone, Copy)]

@@ -8,7 +8,8 @@ ghost use Rattle.formula_ids.specs.PutRows.{ArePuts, IsJoinPut, IsUnderPut};
 
 use crate::forms::{FormNode, form_node};
 use crate::hypotheses::raised;
-use crate::puts::{Puts, Question, number, put_exp};
+use crate::kept::number;
+use crate::puts::{Put, Puts, put_exp};
 use crate::steps::right;
 use hereditary_subst::{Exhausted, Memo};
 use lf_signature::numbers::{ALL, ALLM, AND, IMP, OR, rel_constant};
@@ -36,12 +37,12 @@ pub(crate) fn put_form(
     ensures memo { IsMemo table.new memo.new }
     ensures kept { ArePuts table.new kept.new }
 {
-    let question = Question::Form(number(id), x, number(arg));
-    if let Some(put) = kept.find(table, &question) {
+    let question = Put::Form(number(id), x, number(arg));
+    if let Some(put) = kept.get(table, &[], &question) {
         return Ok(put);
     }
     let put = put_form_parts(table, memo, kept, id, x, arg)?;
-    kept.keep(memo, table, question, put)?;
+    kept.keep(memo, table, &[], question, put)?;
     Ok(put)
 }
 

@@ -3,28 +3,29 @@
 //! Results are kept by the entry, the variable and what is put for it, so no part of a formula is gone
 //! through twice under as many binders.
 
-ghost use Rattle.std.specs.Prelude.{◌≡◌, IfOk, IfSome};
+ghost use Rattle.std.specs.Prelude.{◌≡◌, IfOk};
 ghost use Rattle.term_table.specs.Tree.{Var, spot};
-ghost use Rattle.term_table.specs.Table.{TableView, IsKnown, tree_at, Extends};
+ghost use Rattle.term_table.specs.Table.{IsKnown, tree_at, Extends};
 ghost use Rattle.hereditary_subst.specs.Kept.{IsMemo};
 ghost use Rattle.lf_signature.specs.Nodes.{IsIdOf};
 ghost use Rattle.formula_tree.specs.Formulas.{Exp};
 ghost use Rattle.formula_tree.specs.Variables.{PExp, exp_at, mem_at};
 ghost use Rattle.formula_terms.specs.Encoding.{exp_encoding, mem_encoding};
 ghost use Rattle.formula_ids.specs.Puts.{IsExpPut, IsMemPut};
-ghost use Rattle.formula_ids.specs.PutRows.{IsPutAt, ArePuts};
+ghost use Rattle.formula_ids.specs.PutRows.{ArePuts};
 
+use crate::kept::{Kept, Question, number};
 use crate::nodes::{ExpNode, MemNode, exp_node, mem_node};
 use hereditary_subst::{Exhausted, Memo};
-use lf_signature::numbers::{SEL, UPD, op_constant};
+use lf_signature::numbers::{SEL, UPD};
 use lf_signature::{app2, app3};
-use std::alloc::{AllocError, Global};
-use std::collections::BTreeMap;
+use std::alloc::AllocError;
 use term_table::{Id, Node, Table};
+use word_ops::op_constant;
 
 /// What is asked: an entry, a variable, and what is put for it.
 #[derive(Clone, Copy, PartialEq, Eq, PartialOrd, Ord)]
-pub(crate) enum Question {
+pub enum Put {
     /// Of an expression.
     Exp(u64, u64, u64),
     /// Of a memory.
@@ -33,69 +34,22 @@ pub(crate) enum Question {
     Form(u64, u64, u64),
 }
 
+impl Question for Put {
+    ghost use Rattle.std.proofs.Common.{rules};
+    ghost use Rattle.formula_ids.specs.PutRows.{IsPutAt};
+    ghost use Rattle.formula_ids.specs.Lasting.{put-lasts};
+
+    type Answer = Id;
+
+    ghost is_right = { λ _. IsPutAt };
+
+    ghost same = { Prim.search rules };
+
+    ghost lasts = { λ _ t u q r e _ h. put-lasts t u q r e h };
+}
+
 /// Results of substitutions on one table.
-#[derive(Drop)]
-pub struct Puts {
-    rows: BTreeMap<Question, u64>,
-}
-
-/// The id as a number.
-pub(crate) fn number(id: Id) -> u64
-    ensures { result ≡ id }
-{
-    id.index() as u64
-}
-
-impl Puts {
-    /// Without results, which takes no memory yet.
-    pub fn new(alloc: Global) -> Puts
-        ensures { (t : TableView) → ArePuts t result }
-    {
-        Puts {
-            rows: BTreeMap::new(alloc),
-        }
-    }
-
-    /// What is kept of the question, as a number.
-    fn row(&self, table: &Table, question: &Question) -> Option<u64>
-        requires { ArePuts table.now self.now }
-        ensures { IfSome result (IsPutAt table.now question.now) }
-    {
-        let _ = table; // only the clauses speak of it
-        self.rows.get(question).copied()
-    }
-
-    /// What is kept of the question.
-    pub(crate) fn find(&self, table: &Table, question: &Question) -> Option<Id>
-        requires { ArePuts table.now self.now }
-        ensures { IfSome result (IsPutAt table.now question.now) }
-    {
-        match self.row(table, question) {
-            None => None,
-            Some(row) => Some(table.id(row)),
-        }
-    }
-
-    /// Keeps a result. Fails past the limit of `memo`, and where memory does.
-    pub(crate) fn keep(
-        &mut self,
-        memo: &mut Memo,
-        table: &Table,
-        question: Question,
-        put: Id,
-    ) -> Result<(), Exhausted>
-        requires memo { IsMemo table.now memo.old }
-        requires kept { ArePuts table.now self.old }
-        requires put { IsPutAt table.now question put }
-        ensures memo { IsMemo table.now memo.new }
-        ensures kept { ArePuts table.now self.new }
-    {
-        let _ = table; // only the clauses speak of it
-        memo.spend()?;
-        self.rows.insert(question, number(put))?;
-        Ok(())
-    }
-}
+pub type Puts = Kept<Put>;
 
 /// The word variable `n`, whose id is `id`, with what is put for the variable `x`; variables past it
 /// are one less.
@@ -155,12 +109,12 @@ pub(crate) fn put_exp(
     ensures memo { IsMemo table.new memo.new }
     ensures kept { ArePuts table.new kept.new }
 {
-    let question = Question::Exp(number(id), x, number(arg));
-    if let Some(put) = kept.find(table, &question) {
+    let question = Put::Exp(number(id), x, number(arg));
+    if let Some(put) = kept.get(table, &[], &question) {
         return Ok(put);
     }
     let put = put_exp_parts(table, memo, kept, id, x, arg)?;
-    kept.keep(memo, table, question, put)?;
+    kept.keep(memo, table, &[], question, put)?;
     Ok(put)
 }
 
@@ -220,12 +174,12 @@ fn put_mem(
     ensures memo { IsMemo table.new memo.new }
     ensures kept { ArePuts table.new kept.new }
 {
-    let question = Question::Mem(number(id), x, number(arg));
-    if let Some(put) = kept.find(table, &question) {
+    let question = Put::Mem(number(id), x, number(arg));
+    if let Some(put) = kept.get(table, &[], &question) {
         return Ok(put);
     }
     let put = put_mem_parts(table, memo, kept, id, x, arg)?;
-    kept.keep(memo, table, question, put)?;
+    kept.keep(memo, table, &[], question, put)?;
     Ok(put)
 }
 

@@ -17,11 +17,11 @@ use crate::hypotheses::raised;
 use hereditary_subst::{Exhausted, Memo};
 use lf_rules::numbers::{EQ_REFL, EQ_SUB};
 use lf_rules::rule_term;
-use lf_signature::numbers::{RD, WR, op_constant, op_number, rel_constant, rel_number};
+use lf_signature::numbers::{RD, WR, rel_constant, rel_number};
 use lf_signature::{app1, app2};
 use std::alloc::AllocError;
 use term_table::{Id, Node, Table};
-use word_ops::{Op, Rel};
+use word_ops::{Op, Rel, op_constant, op_number};
 
 /// The operator at two expressions.
 pub fn oper(table: &mut Table, op: Op, a: Id, b: Id) -> Result<Id, AllocError>

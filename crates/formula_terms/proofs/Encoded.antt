@@ -1,9 +1,9 @@
 -- Encodings are one to one, and shifts of them are encodings of shifts.
 use Rattle.word_ops.specs.declared.Op.{Op}
-use Rattle.word_ops.specs.declared.Op.TheVariants.{Add, Sub, Band, Bis, Sll, Srl, Cmpeq, Cmplt, Cmple, Cmpult, Cmpule}
 use Rattle.word_ops.specs.declared.Rel.{Rel}
 use Rattle.word_ops.specs.declared.Rel.TheVariants.{Eq, Ult, Ule, Slt, Sle}
-use Rattle.lf_signature.specs.Numbers.{op_of_constant, op_constant, rel_constant}
+use Rattle.word_ops.specs.Operators.{op_of_constant, op_constant}
+use Rattle.lf_signature.specs.Numbers.{rel_constant}
 use Rattle.lf_signature.specs.Terms.{app2}
 use Rattle.std.proofs.Common.{◌≡◌, ℕ, zero, suc, Some, List, [], ◌∷◌, refl, ◌∙◌, ap, arith}
 use Rattle.term_table.specs.Tree.{Tree, Var, Con, App, Lam, Fam, Num, at, shift}
@@ -12,9 +12,11 @@ use Rattle.formula_tree.specs.Formulas.{Exp, EReg, ELeft, EVar, ELit, EOp, ESel,
 use Rattle.formula_terms.specs.Encoding.{exp_encoding, mem_encoding, form_encoding}
 use Rattle.term_table.specs.Tree.{raise}
 use Rattle.formula_tree.specs.Scope.{VarSort, sort_at, OfWord, OfMem, OfProof}
-use Rattle.std.proofs.Common.{◌<◌, ◌≤◌, sym}
+use Rattle.std.proofs.Common.{◌≢◌, ◌==◌, not, ◌<◌, ◌≤◌, sym}
+use Rattle.std.proofs.lemmas.Bool.{eqb-false, not-true}
+use Rattle.lf_signature.specs.declared.numbers.TheConstants.{SEL}
 use Rattle.term_table.proofs.Options.{some_injective}
-use Rattle.lf_signature.specs.Laws.Numbered.{op_of_constant-op_constant}
+use Rattle.word_ops.proofs.EachOp.{each_op, op_of_constant-op_constant}
 use Rattle.formula_terms.specs.Encoding.{var_types}
 
 op_same : (o p : Op) → op_constant o ≡ op_constant p → o ≡ p
@@ -47,18 +49,9 @@ rel_same Sle Ule q = cc
 rel_same Sle Slt q = cc
 rel_same Sle Sle q = refl
 
-op_low : (o : Op) → op_constant o < 11
-op_low Add = omega arith
-op_low Sub = omega arith
-op_low Band = omega arith
-op_low Bis = omega arith
-op_low Sll = omega arith
-op_low Srl = omega arith
-op_low Cmpeq = omega arith
-op_low Cmplt = omega arith
-op_low Cmple = omega arith
-op_low Cmpult = omega arith
-op_low Cmpule = omega arith
+-- no operator's constant is `sel`'s
+op_no_sel : (o : Op) → op_constant o ≢ SEL
+op_no_sel o = eqb-false (op_constant o) SEL (not-true (op_constant o == SEL) (each_op (λ p. not (op_constant p == SEL)) refl o))
 
 rel_high : (r : Rel) → (15 ≤ rel_constant r) × (rel_constant r ≤ 19)
 rel_high Eq = (omega arith, omega arith)
@@ -83,8 +76,8 @@ mutual
   exp_encoding-injective (EOp o a b) (EOp p c d) q =
       let h = op_same o p cc in let k = exp_encoding-injective a c cc in let l = exp_encoding-injective b d cc in λ i. EOp (h i) (k i) (l i)
   exp_encoding-injective (ESel m a) (ESel n b) q = let h = mem_encoding-injective m n cc in let k = exp_encoding-injective a b cc in λ i. ESel (h i) (k i)
-  exp_encoding-injective (EOp o a b) (ESel n c) q = let h = op_low o in absurd (omega (arith, h, ap outer q))
-  exp_encoding-injective (ESel n c) (EOp o a b) q = let h = op_low o in absurd (omega (arith, h, ap outer q))
+  exp_encoding-injective (EOp o a b) (ESel n c) q = absurd (op_no_sel o (ap outer q))
+  exp_encoding-injective (ESel n c) (EOp o a b) q = absurd (op_no_sel o (sym (ap outer q)))
   exp_encoding-injective _ _ q = cc
 
   pub mem_encoding-injective : (m n : MemExp) → mem_encoding m ≡ mem_encoding n → m ≡ n

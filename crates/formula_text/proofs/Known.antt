@@ -3,20 +3,23 @@ use Rattle.std.proofs.Common.{◌≡◌, ℕ, Bool, true, false, cond, List, [],
 use Rattle.std.specs.Prelude.{◌&&◌, not, is_some, codes}
 use Rattle.std.specs.Str.{bytes_eq}
 use Rattle.std.proofs.lemmas.Bool.{true≢false, and_parts, or_parts, leb-true, false_from_ne_true, not-true}
-use Rattle.word_ops.specs.declared.Op.TheVariants as O
+use Rattle.std.proofs.lemmas.Option.{same_Some}
+use Rattle.word_ops.specs.declared.Op.{Op}
+use Rattle.word_ops.specs.Operators.{op_keyword, op_of_keyword}
+use Rattle.word_ops.proofs.EachOp.{op_of_keyword-op_keyword, op_keyword_is}
 use Rattle.word_ops.specs.declared.Rel.TheVariants as R
 use Rattle.text_tokens.specs.Registers.{register_of}
 use Rattle.text_tokens.specs.Numbers.{is_digit, begins_with_digit}
 use Rattle.text_tokens.proofs.Known.{same_bytes}
 use Rattle.formula_text.specs.declared.keywords.Keyword.{Keyword}
 use Rattle.formula_text.specs.declared.keywords.Keyword.TheVariants as K
-use Rattle.formula_text.specs.Keywords.{keyword_text, keywords, keyword_in, keyword_of}
+use Rattle.formula_text.specs.Keywords.{keyword_text, keywords, keyword_in, keyword_or, keyword_of}
 use Rattle.formula_text.specs.Bindings.{is_lower, are_lower_or_digits, is_identifier, is_reserved, is_name}
 
 -- ---- keywords
 
 pub keyword_found : (h : Keyword) → keyword_of (keyword_text h) ≡ Some h
-unfolding keyword_of keywords
+unfolding keyword_of keywords op_of_keyword
 keyword_found (K.Rel R.Eq) = refl
 keyword_found (K.Rel R.Ult) = refl
 keyword_found (K.Rel R.Ule) = refl
@@ -29,17 +32,7 @@ keyword_found K.Or = refl
 keyword_found K.Imp = refl
 keyword_found K.All = refl
 keyword_found K.Allm = refl
-keyword_found (K.Oper O.Add) = refl
-keyword_found (K.Oper O.Sub) = refl
-keyword_found (K.Oper O.Band) = refl
-keyword_found (K.Oper O.Bis) = refl
-keyword_found (K.Oper O.Sll) = refl
-keyword_found (K.Oper O.Srl) = refl
-keyword_found (K.Oper O.Cmpeq) = refl
-keyword_found (K.Oper O.Cmplt) = refl
-keyword_found (K.Oper O.Cmple) = refl
-keyword_found (K.Oper O.Cmpult) = refl
-keyword_found (K.Oper O.Cmpule) = refl
+keyword_found (K.Oper o) = ap (λ p. keyword_or p (keyword_in keywords (op_keyword o))) (op_of_keyword-op_keyword o)
 keyword_found K.Sel = refl
 keyword_found K.Upd = refl
 
@@ -51,9 +44,13 @@ keyword_in_is : (hs : List Keyword) (w : List ℕ) (h : Keyword) → keyword_in 
 keyword_in_is [] w h e = cc
 keyword_in_is (g ∷ hs) w h e = keyword_by h g hs w (bytes_eq w (keyword_text g)) refl e (λ f. keyword_in_is hs w h f)
 
+operator_by : (w : List ℕ) (h : Keyword) (o : Option Op) → op_of_keyword w ≡ o → keyword_or o (keyword_in keywords w) ≡ Some h → w ≡ keyword_text h
+operator_by w h (Some p) e f = op_keyword_is w p e ∙ ap keyword_text (same_Some (K.Oper p) h f)
+operator_by w h None e f = keyword_in_is keywords w h f
+
 pub keyword_is : (w : List ℕ) (h : Keyword) → keyword_of w ≡ Some h → w ≡ keyword_text h
 unfolding keyword_of
-keyword_is w h e = keyword_in_is keywords w h e
+keyword_is w h e = operator_by w h (op_of_keyword w) refl e
 
 -- ---- names
 

@@ -1,16 +1,17 @@
 -- What is printed spells the formula.
-use Rattle.std.proofs.Common.{◌≡◌, ◌⊎◌, ⊎_elim, ℕ, zero, suc, ◌+◌, ◌-◌, ◌^◌, ◌<◌, ◌≤◌, Bool, true, false, List, [], ◌∷◌, ◌++◌, length, Some, None, inl, inr, refl, sym, ap, ◌∙◌, subst, append_assoc, arith}
+use Rattle.std.proofs.Common.{◌≡◌, ◌⊎◌, ⊎_elim, ℕ, zero, suc, ◌+◌, ◌-◌, ◌^◌, ◌<◌, ◌≤◌, Bool, true, false, ltb, List, [], ◌∷◌, ◌++◌, length, Some, None, inl, inr, refl, sym, ap, ◌∙◌, subst, append_assoc, arith}
 use Rattle.std.specs.Prelude.{◌&&◌, ◌==◌, codes, slice_get, decimal}
 use Rattle.std.specs.Fmt.{digits}
 use Rattle.std.specs.Str.{bytes_eq}
 use Rattle.std.specs.Str.Parse.{AllDigits}
 use Rattle.std.specs.Option.{option_map}
-use Rattle.std.specs.List.{AllByRecursion}
-use Rattle.std.proofs.lemmas.Bool.{and_parts, and_from, or_right, eqb-true, le-leb, cond-true, cond-false, false_from_ne_true}
+use Rattle.std.specs.List.{AllByRecursion, list_all}
+use Rattle.std.proofs.lemmas.Bool.{and_parts, and_from, or_right, ltb-true, eqb-true, le-leb, cond-true, cond-false, false_from_ne_true}
 use Rattle.std.proofs.lemmas.List.{append-nil}
 use Rattle.std.proofs.lemmas.Str.Parse.{digit_from_value}
 use Rattle.std.proofs.lemmas.Fmt.{decimal_is_IsNumeral, decimal_injective}
-use Rattle.word_ops.specs.declared.Op.TheVariants as O
+use Rattle.word_ops.specs.Operators.{op_keyword, op_of_keyword}
+use Rattle.word_ops.proofs.EachOp.{each_op}
 use Rattle.word_ops.specs.declared.Rel.TheVariants as R
 use Rattle.formula_tree.specs.Formulas.{Exp, EReg, ELeft, EVar, ELit, EOp, ESel, MemExp, MMem, MVar, MUpd, Form, FTrue, FFalse, FRel, FRd, FWr, FAnd, FOr, FImp, FAll, FAllm}
 use Rattle.formula_tree.specs.Scope.{VarSort, OfWord, OfMem, OfProof, sort_at, IsOverExp, IsOverMem, IsOver}
@@ -79,33 +80,36 @@ spaced_prints (p ∷ ps) us h rest ts d =
     let words : h.0 ++ (h.1 ++ ((Mark P.Close) ∷ ts)) ≡ us ++ ((Mark P.Close) ∷ ts) = sym (append_assoc h.0 h.1 ((Mark P.Close) ∷ ts)) ∙ ap (λ l. l ++ ((Mark P.Close) ∷ ts)) (sym h.4) in
     blank blank_class (subst (λ l. Consists paren_class l (us ++ ((Mark P.Close) ∷ ts))) (sym (append_assoc p (spaced ps) rest)) (subst (λ l. Consists paren_class (p ++ (spaced ps ++ rest)) l) words inner))
 
+-- a text with bytes past 41 alone
+abbrev is_plain : List ℕ → Bool
+is_plain w = ltb 0 (length w) && list_all (λ b. ltb 41 b) w
+
+plain_bytes : (w : List ℕ) → list_all (λ b. ltb 41 b) w ≡ true → AllByRecursion (λ b. paren_class b ≡ C.Ordinary) w
+plain_bytes [] h = tt
+plain_bytes (b ∷ bs) h = let p = and_parts (ltb 41 b) (list_all (λ b. ltb 41 b) bs) h in (ordinary_byte b (ltb-true 41 b p.0), plain_bytes bs p.1)
+
+plain_lexeme : (w : List ℕ) → is_plain w ≡ true → IsLexeme paren_class w
+plain_lexeme w h = let p = and_parts (ltb 0 (length w)) (list_all (λ b. ltb 41 b) w) h in record { some = ltb-true 0 (length w) p.0; whole = plain_bytes w p.1 }
+
+keyword_plain : (h : Keyword) → is_plain (keyword_text h) ≡ true
+keyword_plain (K.Rel R.Eq) = refl
+keyword_plain (K.Rel R.Ult) = refl
+keyword_plain (K.Rel R.Ule) = refl
+keyword_plain (K.Rel R.Slt) = refl
+keyword_plain (K.Rel R.Sle) = refl
+keyword_plain (K.Oper o) = each_op (λ p. is_plain (op_keyword p)) refl o
+keyword_plain K.Rd = refl
+keyword_plain K.Wr = refl
+keyword_plain K.And = refl
+keyword_plain K.Or = refl
+keyword_plain K.Imp = refl
+keyword_plain K.All = refl
+keyword_plain K.Allm = refl
+keyword_plain K.Sel = refl
+keyword_plain K.Upd = refl
+
 keyword_lexeme : (h : Keyword) → IsLexeme paren_class (keyword_text h)
-unfolding paren_class
-keyword_lexeme (K.Rel R.Eq) = record { some = omega arith; whole = (refl, (refl, tt)) }
-keyword_lexeme (K.Rel R.Ult) = record { some = omega arith; whole = (refl, (refl, (refl, tt))) }
-keyword_lexeme (K.Rel R.Ule) = record { some = omega arith; whole = (refl, (refl, (refl, tt))) }
-keyword_lexeme (K.Rel R.Slt) = record { some = omega arith; whole = (refl, (refl, (refl, tt))) }
-keyword_lexeme (K.Rel R.Sle) = record { some = omega arith; whole = (refl, (refl, (refl, tt))) }
-keyword_lexeme K.Rd = record { some = omega arith; whole = (refl, (refl, tt)) }
-keyword_lexeme K.Wr = record { some = omega arith; whole = (refl, (refl, tt)) }
-keyword_lexeme K.And = record { some = omega arith; whole = (refl, (refl, (refl, tt))) }
-keyword_lexeme K.Or = record { some = omega arith; whole = (refl, (refl, tt)) }
-keyword_lexeme K.Imp = record { some = omega arith; whole = (refl, (refl, (refl, tt))) }
-keyword_lexeme K.All = record { some = omega arith; whole = (refl, (refl, (refl, tt))) }
-keyword_lexeme K.Allm = record { some = omega arith; whole = (refl, (refl, (refl, (refl, tt)))) }
-keyword_lexeme (K.Oper O.Add) = record { some = omega arith; whole = (refl, (refl, (refl, tt))) }
-keyword_lexeme (K.Oper O.Sub) = record { some = omega arith; whole = (refl, (refl, (refl, tt))) }
-keyword_lexeme (K.Oper O.Band) = record { some = omega arith; whole = (refl, (refl, (refl, (refl, tt)))) }
-keyword_lexeme (K.Oper O.Bis) = record { some = omega arith; whole = (refl, (refl, (refl, tt))) }
-keyword_lexeme (K.Oper O.Sll) = record { some = omega arith; whole = (refl, (refl, (refl, tt))) }
-keyword_lexeme (K.Oper O.Srl) = record { some = omega arith; whole = (refl, (refl, (refl, tt))) }
-keyword_lexeme (K.Oper O.Cmpeq) = record { some = omega arith; whole = (refl, (refl, (refl, (refl, (refl, tt))))) }
-keyword_lexeme (K.Oper O.Cmplt) = record { some = omega arith; whole = (refl, (refl, (refl, (refl, (refl, tt))))) }
-keyword_lexeme (K.Oper O.Cmple) = record { some = omega arith; whole = (refl, (refl, (refl, (refl, (refl, tt))))) }
-keyword_lexeme (K.Oper O.Cmpult) = record { some = omega arith; whole = (refl, (refl, (refl, (refl, (refl, (refl, tt)))))) }
-keyword_lexeme (K.Oper O.Cmpule) = record { some = omega arith; whole = (refl, (refl, (refl, (refl, (refl, (refl, tt)))))) }
-keyword_lexeme K.Sel = record { some = omega arith; whole = (refl, (refl, (refl, tt))) }
-keyword_lexeme K.Upd = record { some = omega arith; whole = (refl, (refl, (refl, tt))) }
+keyword_lexeme h = plain_lexeme (keyword_text h) (keyword_plain h)
 
 group_prints : (h : Keyword) (ps : List (List ℕ)) (us : List (Token Paren)) → AllPrint ps us → Prints (group_text h ps) (group h us)
 group_prints h ps us a rest ts g d =
@@ -165,7 +169,7 @@ unfolding register_of registers
 no_register ds = refl
 
 no_keyword : (ds : List ℕ) → keyword_of (120 ∷ ds) ≡ None
-unfolding keyword_of keywords
+unfolding keyword_of keywords op_of_keyword
 no_keyword ds = refl
 
 name_is : (d : ℕ) → d < 2 ^ 64 → is_name (name_of d) ≡ true

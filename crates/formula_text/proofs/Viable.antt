@@ -15,6 +15,7 @@ use Rattle.formula_text.specs.declared.keywords.PhraseSort.TheVariants as S
 use Rattle.formula_text.specs.declared.keywords.Keyword.{Keyword}
 use Rattle.formula_text.specs.declared.keywords.Keyword.TheVariants as K
 use Rattle.formula_text.specs.declared.fault.TextFlaw.{TextFlaw}
+use Rattle.word_ops.specs.Operators.{op_of_keyword}
 use Rattle.formula_text.specs.Keywords.{phrase_sort, part_sorts, binder_sort, keyword_of, keywords}
 use Rattle.formula_text.specs.Bindings.{is_name, Bindings, nearest_binding}
 use Rattle.formula_text.specs.Grammar.{SpellsForm}
@@ -289,13 +290,13 @@ run_good (t ∷ ts) n s h e = good_from ts s (parse_step t n) (λ m f. step_good
 -- ---- and can be completed
 
 opened_completes : (fs : List Frame) (q : PhraseSort) → IsNest fs → awaited_sort fs ≡ Some q → Completes (Opened q, fs)
-unfolding parse_step keyword_of keywords
+unfolding parse_step keyword_of keywords op_of_keyword
 opened_completes fs S.Form g a = step_on (Lexeme (codes "rd")) (Opened S.Form, fs) ((Inside, record { keyword = K.Rd; name = []; parts = [] } ∷ fs), refl, inside_completes _ (new_nest K.Rd [] fs g a))
 opened_completes fs S.Exp g a = step_on (Lexeme (codes "sel")) (Opened S.Exp, fs) ((Inside, record { keyword = K.Sel; name = []; parts = [] } ∷ fs), refl, inside_completes _ (new_nest K.Sel [] fs g a))
 opened_completes fs S.Mem g a = step_on (Lexeme (codes "upd")) (Opened S.Mem, fs) ((Inside, record { keyword = K.Upd; name = []; parts = [] } ∷ fs), refl, inside_completes _ (new_nest K.Upd [] fs g a))
 
 x_is_name : is_name (codes "x") ≡ true
-unfolding is_name register_of registers keyword_of keywords
+unfolding is_name register_of registers keyword_of keywords op_of_keyword
 x_is_name = refl
 
 good_completes : (st : Expected) (fs : List Frame) → IsGood st fs → Completes (st, fs)

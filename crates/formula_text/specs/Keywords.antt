@@ -2,7 +2,7 @@
 use Rattle.std.specs.Prelude.{ℕ, if◌then◌else◌, List, [], ◌∷◌, codes, Option, Some, None}
 use Rattle.std.specs.Str.{bytes_eq}
 use Rattle.word_ops.specs.declared.Op.{Op}
-use Rattle.word_ops.specs.declared.Op.TheVariants as O
+use Rattle.word_ops.specs.Operators.{op_keyword, op_of_keyword}
 use Rattle.word_ops.specs.declared.Rel.{Rel}
 use Rattle.word_ops.specs.declared.Rel.TheVariants as R
 use Rattle.formula_text.specs.declared.keywords.PhraseSort.{PhraseSort}
@@ -18,20 +18,6 @@ relation_text R.Ule = codes "ule"
 relation_text R.Slt = codes "slt"
 relation_text R.Sle = codes "sle"
 
--- the name of an operator
-abbrev pub operator_text : Op → List ℕ
-operator_text O.Add = codes "add"
-operator_text O.Sub = codes "sub"
-operator_text O.Band = codes "band"
-operator_text O.Bis = codes "bis"
-operator_text O.Sll = codes "sll"
-operator_text O.Srl = codes "srl"
-operator_text O.Cmpeq = codes "cmpeq"
-operator_text O.Cmplt = codes "cmplt"
-operator_text O.Cmple = codes "cmple"
-operator_text O.Cmpult = codes "cmpult"
-operator_text O.Cmpule = codes "cmpule"
-
 -- the lexeme that stands first in parentheses
 abbrev pub keyword_text : Keyword → List ℕ
 keyword_text (K.Rel p) = relation_text p
@@ -42,7 +28,7 @@ keyword_text K.Or = codes "or"
 keyword_text K.Imp = codes "imp"
 keyword_text K.All = codes "all"
 keyword_text K.Allm = codes "allm"
-keyword_text (K.Oper o) = operator_text o
+keyword_text (K.Oper o) = op_keyword o
 keyword_text K.Sel = codes "sel"
 keyword_text K.Upd = codes "upd"
 
@@ -73,18 +59,22 @@ binder_sort K.All = Some S.Exp
 binder_sort K.Allm = Some S.Mem
 binder_sort k = None
 
--- all of them
+-- all but the operators, which word_ops names (specs/Operators)
 unfoldable pub keywords : List Keyword
 keywords =
     K.Rel R.Eq ∷ K.Rel R.Ult ∷ K.Rel R.Ule ∷ K.Rel R.Slt ∷ K.Rel R.Sle ∷ K.Rd ∷ K.Wr ∷ K.And ∷ K.Or ∷ K.Imp ∷ K.All ∷ K.Allm ∷
-    K.Oper O.Add ∷ K.Oper O.Sub ∷ K.Oper O.Band ∷ K.Oper O.Bis ∷ K.Oper O.Sll ∷ K.Oper O.Srl ∷
-    K.Oper O.Cmpeq ∷ K.Oper O.Cmplt ∷ K.Oper O.Cmple ∷ K.Oper O.Cmpult ∷ K.Oper O.Cmpule ∷ K.Sel ∷ K.Upd ∷ []
+    K.Sel ∷ K.Upd ∷ []
 
 -- the first of these keywords that the lexeme is
 abbrev pub keyword_in : List Keyword → List ℕ → Option Keyword
 keyword_in [] w = None
 keyword_in (k ∷ ks) w = if bytes_eq w (keyword_text k) then Some k else keyword_in ks w
 
+-- the operator, if there is one, else another keyword
+abbrev pub keyword_or : Option Op → Option Keyword → Option Keyword
+keyword_or (Some o) other = Some (K.Oper o)
+keyword_or None other = other
+
 -- the keyword that the lexeme is
 unfoldable pub keyword_of : List ℕ → Option Keyword
-keyword_of w = keyword_in keywords w
+keyword_of w = keyword_or (op_of_keyword w) (keyword_in keywords w)

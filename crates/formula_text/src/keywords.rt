@@ -1,12 +1,12 @@
 //! Keywords, and what stands behind them.
 
 ghost use Rattle.std.specs.Prelude.{◌≡◌, slice_get};
-ghost use Rattle.formula_text.specs.Keywords.{relation_text, operator_text, keyword_text};
+ghost use Rattle.formula_text.specs.Keywords.{relation_text, keyword_text};
 ghost use Rattle.formula_text.specs.Keywords.{phrase_sort, part_sorts, binder_sort};
 ghost use Rattle.formula_text.specs.Keywords.{keyword_in, keyword_of};
 ghost use Rattle.formula_text.specs.Parsing.{same_sort};
 
-use word_ops::{Op, Rel};
+use word_ops::{Op, Rel, op_keyword, op_of_keyword};
 
 /// What a part of a text stands for.
 #[derive(Clone, Copy, Debug, PartialEq, Eq)]
@@ -46,7 +46,8 @@ pub enum Keyword {
     Upd,
 }
 
-static KEYWORDS: [Keyword; 25] = [
+/// The keywords that are no operators.
+static KEYWORDS: [Keyword; 14] = [
     Keyword::Rel(Rel::Eq),
     Keyword::Rel(Rel::Ult),
     Keyword::Rel(Rel::Ule),
@@ -59,17 +60,6 @@ static KEYWORDS: [Keyword; 25] = [
     Keyword::Imp,
     Keyword::All,
     Keyword::Allm,
-    Keyword::Oper(Op::Add),
-    Keyword::Oper(Op::Sub),
-    Keyword::Oper(Op::Band),
-    Keyword::Oper(Op::Bis),
-    Keyword::Oper(Op::Sll),
-    Keyword::Oper(Op::Srl),
-    Keyword::Oper(Op::Cmpeq),
-    Keyword::Oper(Op::Cmplt),
-    Keyword::Oper(Op::Cmple),
-    Keyword::Oper(Op::Cmpult),
-    Keyword::Oper(Op::Cmpule),
     Keyword::Sel,
     Keyword::Upd,
 ];
@@ -86,24 +76,6 @@ fn relation_text(rel: Rel) -> &'static str
     }
 }
 
-fn operator_text(op: Op) -> &'static str
-    ensures { result.now ≡ operator_text op }
-{
-    match op {
-        Op::Add => "add",
-        Op::Sub => "sub",
-        Op::Band => "band",
-        Op::Bis => "bis",
-        Op::Sll => "sll",
-        Op::Srl => "srl",
-        Op::Cmpeq => "cmpeq",
-        Op::Cmplt => "cmplt",
-        Op::Cmple => "cmple",
-        Op::Cmpult => "cmpult",
-        Op::Cmpule => "cmpule",
-    }
-}
-
 /// The lexeme that the keyword is.
 pub fn keyword_text(keyword: Keyword) -> &'static str
     ensures { result.now ≡ keyword_text keyword }
@@ -117,7 +89,7 @@ pub fn keyword_text(keyword: Keyword) -> &'static str
         Keyword::Imp => "imp",
         Keyword::All => "all",
         Keyword::Allm => "allm",
-        Keyword::Oper(op) => operator_text(op),
+        Keyword::Oper(op) => op_keyword(op),
         Keyword::Sel => "sel",
         Keyword::Upd => "upd",
     }
@@ -190,5 +162,8 @@ fn keyword_in(keywords: &[Keyword], lexeme: &[u8]) -> Option<Keyword>
 pub fn keyword_named(lexeme: &[u8]) -> Option<Keyword>
     ensures { result ≡ keyword_of lexeme.now }
 {
-    keyword_in(&KEYWORDS, lexeme)
+    match op_of_keyword(lexeme) {
+        Some(op) => Some(Keyword::Oper(op)),
+        None => keyword_in(&KEYWORDS, lexeme),
+    }
 }

@@ -6,8 +6,10 @@ use Rattle.word_ops.specs.Memory.{read, write}
 use Rattle.word_ops.specs.Registers.{read_reg, write_reg}
 use Rattle.word_ops.proofs.Spans.{allowed-from}
 use Rattle.alpha_words.specs.declared.insn.Insn.{Insn}
-use Rattle.alpha_words.specs.declared.insn.Insn.TheVariants.{Lda, Ldq, Stq, Oper, Branch, Br, Ret}
-use Rattle.alpha_cfg.specs.Machine.{State, address_of, access_outcome, state_at, insn_outcome, step_at, step_of, ends_with, run_of}
+use Rattle.alpha_cfg.specs.Actions.{Action, action_of}
+use Rattle.alpha_cfg.specs.Actions as actions
+use Rattle.alpha_cfg.specs.Flow.{jump_of}
+use Rattle.alpha_cfg.specs.Machine.{State, address_of, access_outcome, state_at, action_outcome, step_at, step_of, ends_with, run_of}
 use Rattle.alpha_cfg.specs.declared.outcome.Kind.{Kind}
 use Rattle.alpha_cfg.specs.declared.outcome.Kind.TheVariants.{Load, Store}
 use Rattle.alpha_cfg.specs.declared.outcome.Step.{Step}
@@ -64,24 +66,22 @@ module _ (base : ℕ) (r : Rights) (reads : AreInArena base r.reads) (writes : A
   state-same None s = refl
   state-same (Some i) s = refl
 
-  insn-same : (insn : Insn) (s : State) → IsUnblocked (insn_outcome insn (with_rights r s)).0 →
-      insn_outcome insn (with_rights r s) ≡ under r (insn_outcome insn (open_all base s))
-  insn-same (Lda ra rb disp) s h = refl
-  insn-same (Ldq ra rb disp) s h =
-      let a = address_of s.regs rb disp in
-      access-same Load r.reads a s (record s { index = s.index + 1; regs = write_reg s.regs ra (read s.memory a) }) reads h
-  insn-same (Stq ra rb disp) s h =
-      let a = address_of s.regs rb disp in
-      access-same Store r.writes a s (record s { index = s.index + 1; memory = write s.memory a (read_reg s.regs ra) }) writes h
-  insn-same (Oper op ra rhs rc) s h = refl
-  insn-same (Branch cond ra disp) s h = ap (λ t. (steps.Moved, t)) (state-same _ s)
-  insn-same (Br disp) s h = ap (λ t. (steps.Moved, t)) (state-same _ s)
-  insn-same Ret s h = refl
+  action-same : (e : Action) (jump : Option ℕ) (s : State) → IsUnblocked (action_outcome e jump (with_rights r s)).0 →
+      action_outcome e jump (with_rights r s) ≡ under r (action_outcome e jump (open_all base s))
+  action-same (actions.Compute to word) jump s h = refl
+  action-same (actions.Load to at disp) jump s h =
+      let a = address_of s.regs at disp in
+      access-same Load r.reads a s (record s { index = s.index + 1; regs = write_reg s.regs to (read s.memory a) }) reads h
+  action-same (actions.Store from at disp) jump s h =
+      let a = address_of s.regs at disp in
+      access-same Store r.writes a s (record s { index = s.index + 1; memory = write s.memory a (read_reg s.regs from) }) writes h
+  action-same (actions.Branching test) jump s h = ap (λ t. (steps.Moved, t)) (state-same _ s)
+  action-same actions.Return jump s h = refl
 
   step-same-at : (o : Option Insn) (s : State) → IsUnblocked (step_at o (with_rights r s)).0 →
       step_at o (with_rights r s) ≡ under r (step_at o (open_all base s))
   step-same-at None s h = refl
-  step-same-at (Some insn) s h = insn-same insn s h
+  step-same-at (Some insn) s h = action-same (action_of insn) (jump_of s.index insn) s h
 
   step-same : (code : List Insn) (s : State) → IsUnblocked (step_of code (with_rights r s)).0 →
       step_of code (with_rights r s) ≡ under r (step_of code (open_all base s))

@@ -6,9 +6,10 @@ use Rattle.word_ops.specs.Memory.{Memory, read, write}
 use Rattle.word_ops.specs.Registers.{read_reg, write_reg}
 use Rattle.word_ops.proofs.Memories.{read-write_other}
 use Rattle.alpha_words.specs.declared.insn.Insn.{Insn}
-use Rattle.alpha_words.specs.declared.insn.Insn.TheVariants.{Lda, Ldq, Stq, Oper, Branch, Br, Ret}
+use Rattle.alpha_cfg.specs.Actions.{Action, action_of}
+use Rattle.alpha_cfg.specs.Actions as actions
 use Rattle.alpha_cfg.specs.Flow.{jump_of}
-use Rattle.alpha_cfg.specs.Machine.{State, takes, address_of, access_outcome, state_at, insn_outcome, step_at, step_of, ends_with, run_of}
+use Rattle.alpha_cfg.specs.Machine.{State, passes, address_of, access_outcome, state_at, action_outcome, step_at, step_of, ends_with, run_of}
 use Rattle.alpha_cfg.specs.declared.outcome.Kind.{Kind}
 use Rattle.alpha_cfg.specs.declared.outcome.Kind.TheVariants.{Load, Store}
 use Rattle.alpha_cfg.specs.declared.outcome.Step.{Step}
@@ -33,27 +34,24 @@ module _ (a : ℕ) where
   apart : (spans : List (ℕ × ℕ)) (x : ℕ) → allowed spans a ≡ false → allowed spans x ≡ true → a ≡ x → ⊥
   apart spans x closed allows same = true≢false (sym allows ∙ ap (allowed spans) (sym same) ∙ closed)
 
-  insn-left : (insn : Insn) (s : State) → allowed s.rights.writes a ≡ false → IsLeft a s (insn_outcome insn s).1
-  insn-left (Lda ra rb disp) s closed = record { rights = refl; word = refl }
-  insn-left (Ldq ra rb disp) s closed =
-      let x = address_of s.regs rb disp in
-      let u : State = record s { index = s.index + 1; regs = write_reg s.regs ra (read s.memory x) } in
+  action-left : (e : Action) (jump : Option ℕ) (s : State) → allowed s.rights.writes a ≡ false → IsLeft a s (action_outcome e jump s).1
+  action-left (actions.Compute to word) jump s closed = record { rights = refl; word = refl }
+  action-left (actions.Load to base disp) jump s closed =
+      let x = address_of s.regs base disp in
+      let u : State = record s { index = s.index + 1; regs = write_reg s.regs to (read s.memory x) } in
       access-left Load (allowed s.rights.reads x) x s u (λ _. record { rights = refl; word = refl })
-  insn-left (Stq ra rb disp) s closed =
-      let x = address_of s.regs rb disp in
-      let word = read_reg s.regs ra in
+  action-left (actions.Store from base disp) jump s closed =
+      let x = address_of s.regs base disp in
+      let word = read_reg s.regs from in
       let u : State = record s { index = s.index + 1; memory = write s.memory x word } in
       access-left Store (allowed s.rights.writes x) x s u
       (λ allows. record { rights = refl; word = read-write_other s.memory x word a (apart s.rights.writes x closed allows) })
-  insn-left (Oper op ra rhs rc) s closed = record { rights = refl; word = refl }
-  insn-left (Branch cond ra disp) s closed =
-      state-left (if takes cond (read_reg s.regs ra) then jump_of s.index (Branch cond ra disp) else Some (s.index + 1)) s
-  insn-left (Br disp) s closed = state-left (jump_of s.index (Br disp)) s
-  insn-left Ret s closed = record { rights = refl; word = refl }
+  action-left (actions.Branching test) jump s closed = state-left (if passes s.regs test then jump else Some (s.index + 1)) s
+  action-left actions.Return jump s closed = record { rights = refl; word = refl }
 
   step-left-at : (o : Option Insn) (s : State) → allowed s.rights.writes a ≡ false → IsLeft a s (step_at o s).1
   step-left-at None s closed = record { rights = refl; word = refl }
-  step-left-at (Some insn) s closed = insn-left insn s closed
+  step-left-at (Some insn) s closed = action-left (action_of insn) (jump_of s.index insn) s closed
 
   step-left : (code : List Insn) (s : State) → allowed s.rights.writes a ≡ false → IsLeft a s (step_of code s).1
   step-left code s closed = step-left-at (slice_get code s.index) s closed

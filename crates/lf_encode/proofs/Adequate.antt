@@ -1,11 +1,11 @@
 -- A term that is simply typed at form, in a context of words, memories and proofs, is the encoding of one formula.
 use Rattle.word_ops.specs.declared.Op.{Op}
-use Rattle.word_ops.specs.declared.Op.TheVariants.{Add, Sub, Band, Bis, Sll, Srl, Cmpeq, Cmplt, Cmple, Cmpult, Cmpule}
 use Rattle.word_ops.specs.declared.Rel.{Rel}
 use Rattle.word_ops.specs.declared.Rel.TheVariants.{Eq, Ult, Ule, Slt, Sle}
-use Rattle.lf_signature.specs.Numbers.{op_of, rel_of, op_constant, rel_constant}
+use Rattle.word_ops.specs.Operators.{operators, op_of, op_constant}
+use Rattle.lf_signature.specs.Numbers.{rel_of, rel_constant}
 use Rattle.lf_signature.specs.Terms.{exp, app1, app2}
-use Rattle.std.proofs.Common.{◌≡◌, ℕ, zero, suc, ◌^◌, Bool, true, false, cond, ◌&&◌, Option, Some, None, List, [], ◌∷◌, refl, sym, ◌∙◌, ap, subst, ltb-true}
+use Rattle.std.proofs.Common.{◌≡◌, ℕ, zero, suc, ◌^◌, Bool, true, false, cond, ◌&&◌, ◌==◌, Option, Some, None, List, [], ◌∷◌, ◌++◌, map, drop, eqb-true, refl, sym, ◌∙◌, ap, subst, ltb-true}
 use Rattle.term_table.specs.Tree.{Tree, Var, Con, App, Lam, Fam, Pi, Const, Num, Lit, Calc, Fact, Deny, at}
 use Rattle.term_table.specs.Subst.{Simple, Base, Arrow, erase}
 use Rattle.formula_tree.specs.Formulas.{Exp, EVar, ELit, EOp, ESel, MemExp, MVar, MUpd, Form, FTrue, FFalse, FRel, FRd, FWr, FAnd, FOr, FImp, FAll, FAllm}
@@ -20,7 +20,7 @@ use Rattle.word_ops.specs.Words.{test_of}
 use Rattle.lf_signature.specs.Rules.{rule_type}
 use Rattle.lf_signature.specs.Sigma1.{constant_types, the_rules, rule_at, calc_type, fact_type, deny_type}
 use Rattle.lf_signature.specs.Simply.{simply, erased}
-use Rattle.lf_signature.specs.Laws.Booleans.{every, every-at, cond_is}
+use Rattle.lf_signature.specs.Laws.Booleans.{both, every, every-at, cond_is}
 use Rattle.lf_signature.specs.Laws.Simple.{checks_simply}
 use Rattle.lf_signature.proofs.Lookup.{declared-constant, declared-from, rule_at-from}
 use Rattle.formula_terms.specs.Encoding.{var_types}
@@ -114,74 +114,57 @@ abbrev Knowns : ℕ → List Tree → Type 1
 Knowns n [] = Unit {1}
 Knowns n (A ∷ l) = Known n A × Knowns (suc n) l
 
+-- operators one by one, whose constants follow each other
+
+abbrev consecutive : List Op → ℕ → Bool
+consecutive [] n = true
+consecutive (o ∷ os) n = op_constant o == n && consecutive os (suc n)
+
+abbrev behind : List Op → ℕ → ℕ
+behind [] n = n
+behind (o ∷ os) n = behind os (suc n)
+
+ops_known : (os : List Op) (n : ℕ) (l : List Tree) → consecutive os n ≡ true → Knowns (behind os n) l → Knowns n (map (λ o. Pi (Fam 0) (Pi (Fam 0) (Fam 0))) os ++ l)
+ops_known [] n l h k = k
+ops_known (o ∷ os) n l h k =
+    let p = both (op_constant o == n) (consecutive os (suc n)) h in
+    (subst (λ z. Known z (Pi (Fam 0) (Pi (Fam 0) (Fam 0)))) (eqb-true (op_constant o) n p.0) (op_known o), ops_known os (suc n) l p.1 k)
+
 all_known : Knowns 0 constant_types
 unfolding constant_types
-all_known = (
-  op_known Add,
+all_known = ops_known operators 0 (drop 11 constant_types) refl (
+  record { out = λ G a h b k. record { form = ESel h.form k.form; over = (h.over, k.over); is = λ i. app2 11 (h.is i) (k.is i) } },
   (
-    op_known Sub,
+    record { out = λ G a h b k v l. record { form = MUpd h.form k.form l.form; over = (h.over, k.over, l.over); is = λ i. App (app2 12 (h.is i) (k.is i)) (l.is i) } },
     (
-      op_known Band,
+      record { out = λ G. record { form = FTrue; over = tt; is = refl } },
       (
-        op_known Bis,
+        record { out = λ G. record { form = FFalse; over = tt; is = refl } },
         (
-          op_known Sll,
+          rel_known Eq,
           (
-            op_known Srl,
+            rel_known Ult,
             (
-              op_known Cmpeq,
+              rel_known Ule,
               (
-                op_known Cmplt,
+                rel_known Slt,
                 (
-                  op_known Cmple,
+                  rel_known Sle,
                   (
-                    op_known Cmpult,
+                    record { out = λ G a h. record { form = FRd h.form; over = h.over; is = ap (app1 20) h.is } },
                     (
-                      op_known Cmpule,
+                      record { out = λ G a h. record { form = FWr h.form; over = h.over; is = ap (app1 21) h.is } },
                       (
-                        record { out = λ G a h b k. record { form = ESel h.form k.form; over = (h.over, k.over); is = λ i. app2 11 (h.is i) (k.is i) } },
+                        join_known FAnd 22 (λ A B G h k. (h, k)) (λ A B. refl),
                         (
-                          record { out = λ G a h b k v l. record { form = MUpd h.form k.form l.form; over = (h.over, k.over, l.over); is = λ i. App (app2 12 (h.is i) (k.is i)) (l.is i) } },
+                          join_known FOr 23 (λ A B G h k. (h, k)) (λ A B. refl),
                           (
-                            record { out = λ G. record { form = FTrue; over = tt; is = refl } },
+                            join_known FImp 24 (λ A B G h k. (h, k)) (λ A B. refl),
                             (
-                              record { out = λ G. record { form = FFalse; over = tt; is = refl } },
+                              record { out = λ G a h. record { form = FAll h.2.form; over = h.2.over; is = ap (λ z. app1 25 (Lam z)) h.2.is ∙ ap (app1 25) h.1 } },
                               (
-                                rel_known Eq,
-                                (
-                                  rel_known Ult,
-                                  (
-                                    rel_known Ule,
-                                    (
-                                      rel_known Slt,
-                                      (
-                                        rel_known Sle,
-                                        (
-                                          record { out = λ G a h. record { form = FRd h.form; over = h.over; is = ap (app1 20) h.is } },
-                                          (
-                                            record { out = λ G a h. record { form = FWr h.form; over = h.over; is = ap (app1 21) h.is } },
-                                            (
-                                              join_known FAnd 22 (λ A B G h k. (h, k)) (λ A B. refl),
-                                              (
-                                                join_known FOr 23 (λ A B G h k. (h, k)) (λ A B. refl),
-                                                (
-                                                  join_known FImp 24 (λ A B G h k. (h, k)) (λ A B. refl),
-                                                  (
-                                                    record { out = λ G a h. record { form = FAll h.2.form; over = h.2.over; is = ap (λ z. app1 25 (Lam z)) h.2.is ∙ ap (app1 25) h.1 } },
-                                                    (
-                                                      record { out = λ G a h. record { form = FAllm h.2.form; over = h.2.over; is = ap (λ z. app1 26 (Lam z)) h.2.is ∙ ap (app1 26) h.1 } },
-                                                      tt,
-                                                    ),
-                                                  ),
-                                                ),
-                                              ),
-                                            ),
-                                          ),
-                                        ),
-                                      ),
-                                    ),
-                                  ),
-                                ),
+                                record { out = λ G a h. record { form = FAllm h.2.form; over = h.2.over; is = ap (λ z. app1 26 (Lam z)) h.2.is ∙ ap (app1 26) h.1 } },
+                                tt,
                               ),
                             ),
                           ),

@@ -1,5 +1,6 @@
 -- The encoding of a formula over a context checks at form, where its variables have room below 2 ^ 32.
-use Rattle.lf_signature.specs.Numbers.{op_constant, rel_constant}
+use Rattle.word_ops.specs.Operators.{op_constant}
+use Rattle.lf_signature.specs.Numbers.{rel_constant}
 use Rattle.lf_signature.specs.Terms.{app1, app2}
 use Rattle.std.proofs.Common.{◌≡◌, ℕ, zero, suc, ◌+◌, ◌^◌, ◌<◌, ◌≤◌, Bool, true, cond, ◌&&◌, ltb, Some, None, List, [], ◌∷◌, length, refl, sym, ◌∙◌, ap, subst, lt-ltb, arith, one-add}
 use Rattle.term_table.specs.Tree.{Tree, Fam, Pi, Num, shift, raise, fits}

@@ -17,9 +17,10 @@ use crate::contexts::{Sort, bound_count};
 use formula_tree::{Exp, Form, MemExp};
 use lf_check::check_term;
 use lf_signature::numbers::{ALL, AND, EXP, FORM, MEM, OR, RD, TT, WR};
-use lf_signature::{Sigma1, op_of_constant, rel_of_constant};
+use lf_signature::{Sigma1, rel_of_constant};
 use std::alloc::{AllocError, Global};
 use term_table::{Id, Node, Table};
+use word_ops::op_of_constant;
 
 /// The type of a variable, by the ids of both types.
 fn id_of_sort(sort: Sort, word: Id, memory: Id) -> Id

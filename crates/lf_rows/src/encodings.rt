@@ -10,7 +10,7 @@ use crate::answers::{constant_number, decided, made};
 use formula_tree::{Exp, Form};
 use hereditary_subst::{Exhausted, Memo};
 use lf_encode::{PutMemo, form_of, is_form, is_put_with, put, quantified};
-use lf_signature::{op_number, rel_number};
+use lf_signature::rel_number;
 use std::alloc::AllocError;
 use term_table::{Id, Node, Table};
 use test_inputs::cursors::Cursor;
@@ -18,7 +18,7 @@ use test_inputs::faults::{Read, RowFault};
 use test_inputs::names::Names;
 use test_inputs::rows::Answer;
 use test_inputs::term_text::{known, read_term};
-use word_ops::{Op, Rel};
+use word_ops::{Op, Rel, op_number};
 
 /// The formula that the next term encodes, if it encodes one.
 fn read_form(table: &mut Table, names: &Names, cursor: &mut Cursor<'_>) -> Read<Option<Form>> {

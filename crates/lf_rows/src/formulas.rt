@@ -9,7 +9,6 @@ use hereditary_subst::{MOST_RESULTS, Memo};
 use lf_signature::numbers::{
     ALL, ALLM, AND, EQ, FF, IMP, OR, RD, SEL, SLE, SLT, TT, ULE, ULT, UPD, WR,
 };
-use lf_signature::{op_constant, op_of_constant};
 use std::alloc::Global;
 use term_table::{Node, Table};
 use test_inputs::cursors::Cursor;
@@ -17,7 +16,7 @@ use test_inputs::faults::{Read, RowFault};
 use test_inputs::names::Names;
 use test_inputs::rows::Answer;
 use test_inputs::term_text::{known, read_term};
-use word_ops::{Op, Rel};
+use word_ops::{Op, Rel, op_constant, op_of_constant};
 
 /// The constant at the head of a formula.
 fn form_constant(table: &mut Table, names: &Names, cursor: &mut Cursor<'_>) -> Read<Answer> {

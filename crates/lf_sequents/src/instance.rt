@@ -13,13 +13,12 @@ ghost use Rattle.lf_sequents.specs.Room.{raised_by};
 
 use crate::kept::{beta_id, raised};
 use lf_check::Kept;
-use lf_signature::numbers::{
-    ALL, ALLM, AND, EXP, FF, IMP, MEM, OR, SEL, TT, UPD, op_constant, rel_constant,
-};
+use lf_signature::numbers::{ALL, ALLM, AND, EXP, FF, IMP, MEM, OR, SEL, TT, UPD, rel_constant};
 use lf_signature::schema::{Connective, Exp, Form, Mem};
 use lf_signature::{app1, app2, app3};
 use std::alloc::AllocError;
 use term_table::{Id, Node, Table};
+use word_ops::op_constant;
 
 /// The term for a parameter, under so many binders.
 #[tactic(auto, using(lf_rules::proofs::Grown::grown))]

@@ -9,7 +9,8 @@ use Rattle.word_ops.specs.declared.Op.TheVariants.{Add, Sub, Band, Bis, Sll, Srl
 use Rattle.word_ops.specs.declared.Rel.{Rel}
 use Rattle.word_ops.specs.declared.Rel.TheVariants.{Eq, Ult, Ule, Slt, Sle}
 use Rattle.word_ops.specs.Words.{word_of, test_of}
-use Rattle.lf_signature.specs.Numbers.{op_of, rel_of}
+use Rattle.word_ops.specs.Operators.{op_of}
+use Rattle.lf_signature.specs.Numbers.{rel_of}
 use Rattle.lf_signature.specs.declared.numbers.TheConstants.{FIRST_RULE}
 use Rattle.lf_signature.specs.Terms.{exp, mem, form, pf, lit, op_term, rel_term, not_term}
 use Rattle.lf_signature.specs.Rules.{Sort, OfExp, OfMem, OfForm, OfExpForm, OfMemForm, SExp, SPar, SOwn, SLit, SOp, SSel, MPar, MOwn, SUpd, SForm, STrue, SFalse, FPar, FOf, FOfMem, SRel, SAnd, SOr, SImp, SAll, SAllm, Premise, Plain, Under, ForExp, ForMem, Rule, rule_type}

@@ -8,12 +8,12 @@ ghost use Rattle.lf_signature.specs.Nodes.{IsIdOf, type_at};
 ghost use Rattle.lf_signature.specs.Sigma1.{declared};
 
 use crate::build::{constant_id, rule_id};
-use crate::numbers::{EXP, FF, IMP, op_constant, op_of, rel_constant, rel_of};
+use crate::numbers::{EXP, FF, IMP, rel_constant, rel_of};
 use crate::tables::{constant_at, rule_at};
 use crate::terms::{app2, pf};
 use std::alloc::AllocError;
 use term_table::{Id, Node, Table};
-use word_ops::{Rel, apply, holds};
+use word_ops::{Rel, apply, holds, op_constant, op_of};
 
 /// The type of a numbered constant.
 fn numbered(table: &mut Table, number: u32) -> Result<Option<Id>, AllocError>

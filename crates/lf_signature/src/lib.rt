@@ -27,10 +27,7 @@ ghost use Rattle.lf_signature.specs.Sigma1.{declared};
 ghost use Rattle.lf_signature.specs.Laws.WellFormed.{declared_formed};
 
 pub use declare::declared;
-pub use numbers::{
-    op_constant, op_number, op_of, op_of_constant, rel_constant, rel_number, rel_of,
-    rel_of_constant,
-};
+pub use numbers::{rel_constant, rel_number, rel_of, rel_of_constant};
 use std::alloc::AllocError;
 pub use tables::rule_at;
 use term_table::{Id, Node, Table};

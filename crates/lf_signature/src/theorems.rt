@@ -9,7 +9,7 @@ ghost use Rattle.term_table.specs.Tree.{Tree, Const, Num, at};
 ghost use Rattle.term_table.specs.Subst.{erase};
 ghost use Rattle.term_table.specs.Scope.{is_over};
 ghost use Rattle.term_table.specs.Measures.{sigma1_places};
-ghost use Rattle.lf_signature.specs.Numbers.{op_of, op_number, op_of_constant, op_constant};
+ghost use Rattle.word_ops.specs.Operators.{op_of, op_number, op_of_constant, op_constant};
 ghost use Rattle.lf_signature.specs.Numbers.{rel_of, rel_number, rel_of_constant, rel_constant};
 ghost use Rattle.lf_signature.specs.Typing.{Checks, Synth, Kind, HasKind, IsType};
 ghost use Rattle.lf_signature.specs.Simply.{simply, erased, SChecks, SSynth, SType};

@@ -1,8 +1,7 @@
 -- The declared type of each constant is true of its value; so the signature of word arithmetic is sound.
-use Rattle.std.proofs.Common.{◌≡◌, ℕ, ◌-◌, ◌^◌, ◌<◌, ◌≤◌, Bool, true, false, cond, ◌&&◌, not, Option, Some, None, List, [], ◌∷◌, length, refl, sym, ◌∙◌, ap, subst, eq-eqb, true≢false, arith, inl, inr, suc, zero}
+use Rattle.std.proofs.Common.{◌≡◌, ℕ, ◌-◌, ◌^◌, ◌<◌, ◌≤◌, Bool, true, false, cond, ◌&&◌, not, Option, Some, None, List, [], ◌∷◌, ◌++◌, map, length, refl, sym, ◌∙◌, ap, subst, eq-eqb, true≢false, arith, inl, inr, suc, zero}
 use Rattle.std.proofs.lemmas.Bool.{ltb-true, lt-ltb, cases_lt}
 use Rattle.word_ops.specs.declared.Op.{Op}
-use Rattle.word_ops.specs.declared.Op.TheVariants.{Add, Sub, Band, Bis, Sll, Srl, Cmpeq, Cmplt, Cmple, Cmpult, Cmpule}
 use Rattle.word_ops.specs.declared.Rel.{Rel}
 use Rattle.word_ops.specs.declared.Rel.TheVariants.{Eq, Ult, Ule, Slt, Sle}
 use Rattle.word_ops.specs.Words.{word_of, test_of}
@@ -14,7 +13,8 @@ use Rattle.term_table.specs.Tree.{Tree, Fam, Pi, Const, Num, Lit, Calc, Fact, De
 use Rattle.term_table.specs.Subst.{erase}
 use Rattle.term_table.proofs.Options.{bind_some, some_injective, map_some}
 use Rattle.formula_tree.specs.Formulas.{FRel, FImp, FFalse, EOp, ELit}
-use Rattle.lf_signature.specs.Numbers.{op_of, rel_of}
+use Rattle.word_ops.specs.Operators.{operators, op_of}
+use Rattle.lf_signature.specs.Numbers.{rel_of}
 use Rattle.lf_signature.specs.Terms.{exp, pf, falsity}
 use Rattle.lf_signature.specs.Typing.{Checks}
 use Rattle.lf_signature.specs.Order.{IsSignature}
@@ -78,20 +78,15 @@ module _ (R : Rights) (sig : Const → Option Tree) where
   rel_true : (p : Rel) → IsTrueOf (of_rel p) (Pi (Fam 0) (Pi (Fam 0) (Fam 2)))
   rel_true p ρ = ((of_rel p).1, refl, λ a ha b hb. record { out = stable_true (test_of p a.word b.word) })
 
+  -- operators one by one
+  ops_true : (os : List Op) {l : List AnyValue} {m : List Tree} → AreTrueOf l m → AreTrueOf (map of_op os ++ l) (map (λ o. Pi (Fam 0) (Pi (Fam 0) (Fam 0))) os ++ m)
+  ops_true [] h = h
+  ops_true (o ∷ os) h = op_true o ⊗ ops_true os h
+
   all_constants : AreTrueOf (values R) constant_types
   unfolding constant_types
   all_constants =
-      op_true Add ⊗
-      op_true Sub ⊗
-      op_true Band ⊗
-      op_true Bis ⊗
-      op_true Sll ⊗
-      op_true Srl ⊗
-      op_true Cmpeq ⊗
-      op_true Cmplt ⊗
-      op_true Cmple ⊗
-      op_true Cmpult ⊗
-      op_true Cmpule ⊗
+      ops_true operators (
       -- sel, upd
       (λ ρ. (_, refl, λ m hm a ha. word_means _ (read-below m.memory a.word hm.1.out))) ⊗
       (λ ρ. (_, refl, λ m hm a ha v hv. (refl, record { out = IsMemory-write m.memory a.word v.word hm.1.out ha.1.out hv.1.out }))) ⊗
@@ -113,7 +108,7 @@ module _ (R : Rights) (sig : Const → Option Tree) where
       -- all, allm
       (λ ρ. (_, refl, λ g hg. record { out = stable_all ℕ (λ w. w < 2 ^ 64) (λ w. (g (word_value w)).prop) (λ w h. (hg (word_value w) (word_means w h)).out) })) ⊗
       (λ ρ. (_, refl, λ g hg. record { out = stable_all Memory IsMemory (λ m. (g (memory_value m)).prop) (λ m h. (hg (memory_value m) (refl, record { out = h })).out) })) ⊗
-      end
+      end)
 
   find_constant : {l : List AnyValue} {m : List Tree} → AreTrueOf l m → (n : ℕ) (d : AnyValue) (A : Tree) → at m n ≡ Some A → IsTrueOf (value_in l d n) A
   find_constant end n d A q = cc

@@ -1,10 +1,11 @@
 -- The values of the constants of word arithmetic under rights, whatever the signature. A proof's value says nothing.
-use Rattle.std.proofs.Common.{◌≡◌, ℕ, zero, suc, ◌^◌, ◌<◌, ◌≤◌, true, Option, Some, None, List, [], ◌∷◌, length, refl, arith}
+use Rattle.std.proofs.Common.{◌≡◌, ℕ, zero, suc, ◌^◌, ◌<◌, ◌≤◌, true, Option, Some, None, List, [], ◌∷◌, ◌++◌, map, length, refl, arith}
 use Rattle.word_ops.specs.declared.Op.{Op}
 use Rattle.word_ops.specs.declared.Op.TheVariants.{Add, Sub, Band, Bis, Sll, Srl, Cmpeq, Cmplt, Cmple, Cmpult, Cmpule}
 use Rattle.word_ops.specs.declared.Rel.{Rel}
 use Rattle.word_ops.specs.declared.Rel.TheVariants.{Eq, Ult, Ule, Slt, Sle}
 use Rattle.word_ops.specs.Words.{word_of, test_of}
+use Rattle.word_ops.specs.Operators.{operators}
 use Rattle.word_ops.specs.Memory.{Memory, read, write, IsMemory}
 use Rattle.word_ops.specs.Rights.{Rights, allowed}
 use Rattle.term_table.specs.Tree.{Tree, Const, Num, Lit, Calc, Fact, Deny}
@@ -36,17 +37,7 @@ of_rel p = (Arrow e (Arrow e f), λ a b. prop_value (test_of p a.word b.word ≡
 -- the numbered constants of which formulas are made
 abbrev pub values : Rights → List AnyValue
 values R =
-    of_op Add ∷
-    of_op Sub ∷
-    of_op Band ∷
-    of_op Bis ∷
-    of_op Sll ∷
-    of_op Srl ∷
-    of_op Cmpeq ∷
-    of_op Cmplt ∷
-    of_op Cmple ∷
-    of_op Cmpult ∷
-    of_op Cmpule ∷
+    map of_op operators ++
     -- sel, upd
     (Arrow m (Arrow e e), λ b a. word_value (read b.memory a.word)) ∷
     (Arrow m (Arrow e (Arrow e m)), λ b a w. memory_value (write b.memory a.word w.word)) ∷

@@ -1,16 +1,15 @@
 -- The container of a source has few entries. A leaf with a number below 499 of its own can stand there once; each other entry
 -- costs two bytes of the invariants' texts.
-use Rattle.std.proofs.Common.{◌≡◌, ⊎_elim, ℕ, zero, suc, ◌+◌, ◌-◌, ◌*◌, ◌<◌, ◌≤◌, Bool, true, false, cond, List, [], ◌∷◌, ◌++◌, length, map, Option, Some, None, refl, sym, ap, ◌∙◌, subst, arith}
+use Rattle.std.proofs.Common.{◌≡◌, ⊎_elim, ℕ, zero, suc, ◌+◌, ◌-◌, ◌*◌, ◌<◌, ◌≤◌, Bool, true, false, leb, cond, List, [], ◌∷◌, ◌++◌, length, map, Option, Some, None, refl, sym, ap, ◌∙◌, subst, arith}
 use Rattle.std.specs.Prelude.{◌||◌, ◌&&◌, nat_lt, ◌==◌, slice_get}
 use Rattle.std.specs.Option.{option_map}
 use Rattle.std.specs.List.{AllByRecursion, list_any, IsDistinct}
 use Rattle.std.specs.Str.{bytes_eq}
-use Rattle.std.proofs.lemmas.Bool.{lt-ltb, le-ltb, ltb-true, ltb-false, eqb-true, and_parts, false_from_ne_true}
+use Rattle.std.proofs.lemmas.Bool.{lt-ltb, le-ltb, leb-true, ltb-true, ltb-false, eqb-true, and_parts, false_from_ne_true}
 use Rattle.std.proofs.lemmas.Option.{same_Some}
 use Rattle.std.proofs.lemmas.Int.Digits.{digits_value-lt}
 use Rattle.std.proofs.lemmas.Map.Steps.{length-le_from_distinct_below}
 use Rattle.word_ops.specs.declared.Op.{Op}
-use Rattle.word_ops.specs.declared.Op.TheVariants as O
 use Rattle.word_ops.specs.declared.Rel.{Rel}
 use Rattle.word_ops.specs.declared.Rel.TheVariants as R
 use Rattle.formula_tree.specs.Formulas.{Exp, EReg, ELeft, EVar, ELit, EOp, ESel, MemExp, MMem, MVar, MUpd, Form, FTrue, FFalse, FRel, FRd, FWr, FAnd, FOr, FImp, FAll, FAllm}
@@ -22,13 +21,15 @@ use Rattle.text_tokens.specs.Registers.{registers, IsRegister}
 use Rattle.formula_text.specs.declared.keywords.PhraseSort.{PhraseSort}
 use Rattle.formula_text.specs.declared.keywords.PhraseSort.TheVariants as S
 use Rattle.formula_text.specs.declared.keywords.Keyword.TheVariants as K
-use Rattle.formula_text.specs.Keywords.{relation_text, operator_text}
+use Rattle.formula_text.specs.Keywords.{relation_text}
 use Rattle.formula_text.specs.Bindings.{is_name, Bindings, nearest_binding}
 use Rattle.formula_text.specs.Grammar.{SpellsExp, SpellsMem, SpellsForm}
 use Rattle.term_table.specs.Tree.{Tree, Var, Con, App, Lam, Fam, TApp, Pi, Const, Num, Lit, Calc, Fact, Deny}
 use Rattle.term_table.specs.Table.{tree_in, AreDifferent}
 use Rattle.lf_signature.specs.declared.numbers.TheConstants.{SEL, UPD, RD, WR, AND, OR, IMP, ALL, ALLM}
-use Rattle.lf_signature.specs.Numbers.{op_constant, rel_constant}
+use Rattle.word_ops.specs.Operators.{op_constant, op_keyword}
+use Rattle.word_ops.proofs.EachOp.{each_op, each_op_same}
+use Rattle.lf_signature.specs.Numbers.{rel_constant}
 use Rattle.lf_encode.specs.Encoding.{exp_encoding, mem_encoding, form_encoding}
 use Rattle.lf_encode.specs.Contexts.{machine_context, machine_names, encoding_in}
 use Rattle.lf_encode.specs.Naming.{named_exp, named_mem, named_form}
@@ -238,17 +239,7 @@ roots_few rs h n =
 -- ---- an encoding costs two bytes for each that has none
 
 op_light : (o : Op) → heavy (Con (Num (op_constant o))) ≡ 0
-op_light O.Add = refl
-op_light O.Sub = refl
-op_light O.Band = refl
-op_light O.Bis = refl
-op_light O.Sll = refl
-op_light O.Srl = refl
-op_light O.Cmpeq = refl
-op_light O.Cmplt = refl
-op_light O.Cmple = refl
-op_light O.Cmpult = refl
-op_light O.Cmpule = refl
+op_light = each_op_same (λ o. heavy (Con (Num (op_constant o)))) (λ o. 0) refl
 
 rel_light : (p : Rel) → heavy (Con (Num (rel_constant p))) ≡ 0
 rel_light R.Eq = refl
@@ -257,18 +248,8 @@ rel_light R.Ule = refl
 rel_light R.Slt = refl
 rel_light R.Sle = refl
 
-op_long : (o : Op) → 2 ≤ length (operator_text o)
-op_long O.Add = omega arith
-op_long O.Sub = omega arith
-op_long O.Band = omega arith
-op_long O.Bis = omega arith
-op_long O.Sll = omega arith
-op_long O.Srl = omega arith
-op_long O.Cmpeq = omega arith
-op_long O.Cmplt = omega arith
-op_long O.Cmple = omega arith
-op_long O.Cmpult = omega arith
-op_long O.Cmpule = omega arith
+op_long : (o : Op) → 2 ≤ length (op_keyword o)
+op_long o = leb-true 2 (length (op_keyword o)) (each_op (λ p. leb 2 (length (op_keyword p))) refl o)
 
 rel_long : (p : Rel) → 2 ≤ length (relation_text p)
 rel_long R.Eq = omega arith
@@ -378,7 +359,7 @@ mutual
       let z = size-two (K.Oper o) h.0 h.1 ts h.4 in
       let l = exp_cost a s h.0 h.2 (omega (arith, z, room)) in
       let r = exp_cost b s h.1 h.3 (omega (arith, z, room)) in
-      two_heavy _ _ _ (length (operator_text o)) (size h.0) (size h.1) (size ts) (op_light o) (op_long o) l r z
+      two_heavy _ _ _ (length (op_keyword o)) (size h.0) (size h.1) (size ts) (op_light o) (op_long o) l r z
   exp_cost (ESel m a) s ts h room =
       let z = size-two K.Sel h.0 h.1 ts h.4 in
       let l = mem_cost m s h.0 h.2 (omega (arith, z, room)) in

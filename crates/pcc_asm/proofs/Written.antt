@@ -1,5 +1,5 @@
 -- Words put into bytes are found there.
-use Rattle.std.proofs.Common.{◌≡◌, ℕ, zero, suc, ◌+◌, ◌*◌, ◌^◌, ◌<◌, ◌≤◌, List, [], ◌∷◌, ◌++◌, length, take, get_or, slice_get, Some, refl, sym, ap, ◌∙◌, subst, arith, length-append}
+use Rattle.std.proofs.Common.{◌≡◌, ℕ, zero, suc, ◌+◌, ◌*◌, ◌^◌, ◌<◌, ◌≤◌, ltb, ltb-true, List, [], ◌∷◌, ◌++◌, length, take, get_or, slice_get, Some, refl, sym, ap, ◌∙◌, subst, arith, length-append}
 use Rattle.std.specs.Prelude.{ℤ}
 use Rattle.std.specs.Int.{w32, to_le_bytes, from_le_bytes}
 use Rattle.std.specs.List.{AllByRecursion, flat_map}
@@ -8,14 +8,15 @@ use Rattle.std.proofs.lemmas.List.{take_more, take_all, append-nil, get_or_appen
 use Rattle.std.proofs.lemmas.Option.{same_Some}
 use Rattle.std.proofs.lemmas.Nat.{from_le_bytes-to_le_bytes_4}
 use Rattle.word_ops.specs.declared.Op.{Op}
-use Rattle.word_ops.specs.declared.Op.TheVariants as O
 use Rattle.alpha_words.specs.declared.insn.Insn.{Insn}
 use Rattle.alpha_words.specs.declared.insn.Insn.TheVariants as I
 use Rattle.alpha_words.specs.declared.insn.Cond.{Cond}
 use Rattle.alpha_words.specs.declared.insn.Cond.TheVariants as K
 use Rattle.alpha_words.specs.declared.insn.Rhs.{Rhs}
 use Rattle.alpha_words.specs.declared.insn.Rhs.TheVariants as R
-use Rattle.alpha_words.specs.Opcodes.{opcode_of, function_of, cond_opcode_of}
+use Rattle.word_ops.specs.Operators.{op_opcode, op_function}
+use Rattle.word_ops.proofs.EachOp.{each_op}
+use Rattle.alpha_words.specs.Opcodes.{cond_opcode_of}
 use Rattle.alpha_words.specs.Encoding.{HasBits, rhs_bits, IsRhs, memory_word, branch_word, operate_word, Encodes}
 use Rattle.alpha_words.specs.Lawful.{HasFormat}
 use Rattle.alpha_words.proofs.Fields.{bits_of-below}
@@ -46,18 +47,11 @@ rhs_small : (rhs : Rhs) → IsRhs rhs → rhs_bits rhs + 4096 ≤ 2 ^ 21
 rhs_small (R.Reg r) h = omega (arith, h)
 rhs_small (R.Lit n) h = omega (arith, h)
 
-code_small : (op : Op) → (opcode_of op < 64) × (function_of op < 128)
-code_small O.Add = (omega arith, omega arith)
-code_small O.Sub = (omega arith, omega arith)
-code_small O.Band = (omega arith, omega arith)
-code_small O.Bis = (omega arith, omega arith)
-code_small O.Sll = (omega arith, omega arith)
-code_small O.Srl = (omega arith, omega arith)
-code_small O.Cmpeq = (omega arith, omega arith)
-code_small O.Cmplt = (omega arith, omega arith)
-code_small O.Cmple = (omega arith, omega arith)
-code_small O.Cmpult = (omega arith, omega arith)
-code_small O.Cmpule = (omega arith, omega arith)
+code_small : (op : Op) → (op_opcode op < 64) × (op_function op < 128)
+code_small o = (
+  ltb-true (op_opcode o) 64 (each_op (λ p. ltb (op_opcode p) 64) refl o),
+  ltb-true (op_function o) 128 (each_op (λ p. ltb (op_function p) 128) refl o),
+)
 
 cond_small : (c : Cond) → cond_opcode_of c < 64
 cond_small K.LowClear = omega arith

@@ -6,7 +6,8 @@ use Rattle.term_table.proofs.Options.{some_injective}
 use Rattle.word_ops.specs.declared.Op.{Op}
 use Rattle.word_ops.specs.declared.Rel.{Rel}
 use Rattle.word_ops.specs.Words.{test_of}
-use Rattle.lf_signature.specs.Numbers.{op_of, rel_of}
+use Rattle.word_ops.specs.Operators.{op_of}
+use Rattle.lf_signature.specs.Numbers.{rel_of}
 use Rattle.lf_signature.specs.Terms.{pf}
 use Rattle.lf_signature.specs.Sigma1.{declared, is_word, calc_type, fact_type, deny_type}
 use Rattle.proof_kit.specs.Constants.{IsEvaluation}

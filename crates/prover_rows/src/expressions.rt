@@ -1,11 +1,11 @@
 //! Questions on bounds and normal forms of expressions.
 
-use easy_bounds::{UpperBounds, lower_bound, upper_bound};
-use easy_forms::{NormalForms, Occurrences, eighth, normal_form, occurs, rest_of};
-use easy_goals::{Search, normal};
+use bound_proofs::{UpperBounds, lower_bound, upper_bound};
 use formula_ids::Hypothesis;
+use goal_proofs::{Search, normal};
 use hereditary_subst::{MOST_RESULTS, Memo};
 use std::alloc::Global;
+use sum_proofs::{NormalForms, Occurrences, eighth, normal_form, occurs, rest_of};
 use term_table::{Id, Node, Table};
 use test_inputs::cursors::Cursor;
 use test_inputs::faults::Read;

@@ -1,11 +1,11 @@
 //! Questions on goals under a hypothesis.
 
 ghost use Rattle.std.specs.Prelude.{IfOk};
-ghost use Rattle.easy_goals.specs.Search.{IsContext};
+ghost use Rattle.goal_proofs.specs.Search.{IsContext};
 
 use crate::hypotheses::split;
 use condition_prover::proof_by_access;
-use easy_goals::{Context, Search, proof_by_words, proof_without_access};
+use goal_proofs::{Context, Search, proof_by_words, proof_without_access};
 use hereditary_subst::MOST_RESULTS;
 use term_table::{Id, Table};
 use test_inputs::cursors::Cursor;

@@ -4,11 +4,11 @@ ghost use Rattle.std.specs.Prelude.{IfOk, IfSome};
 ghost use Rattle.term_table.specs.Table.{Extends, IsKnown};
 ghost use Rattle.formula_ids.specs.Hypotheses.{AreKnownHyps};
 
-use easy_hyps::{
-    Alignments, Hypotheses, absurdity, add_split, alignment_proof, find_hyp, raised_hyps,
-};
 use formula_ids::Hypothesis;
 use hereditary_subst::{MOST_RESULTS, Memo};
+use hyp_proofs::{
+    Alignments, Hypotheses, absurdity, add_split, alignment_proof, find_hyp, raised_hyps,
+};
 use std::alloc::Global;
 use term_table::{Id, Node, Table};
 use test_inputs::cursors::Cursor;

@@ -4,14 +4,11 @@ ghost use Rattle.std.specs.Prelude.{IfOk};
 ghost use Rattle.term_table.specs.Table.{Stands};
 ghost use Rattle.lf_signature.specs.Nodes.{type_at};
 
-use lf_signature::{
-    Sigma1, Signature, op_constant, op_number, op_of, op_of_constant, rel_constant, rel_number,
-    rel_of, rel_of_constant,
-};
+use lf_signature::{Sigma1, Signature, rel_constant, rel_number, rel_of, rel_of_constant};
 use std::alloc::AllocError;
 use std::test::Fail;
 use term_table::{Id, Node, Places, Table};
-use word_ops::{Op, Rel};
+use word_ops::{Op, Rel, op_constant, op_number, op_of, op_of_constant};
 
 /// The type of a literal, asked after that of another constant.
 fn asked_later<S: Signature>(

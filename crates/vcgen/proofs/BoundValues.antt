@@ -12,7 +12,8 @@ use Rattle.alpha_words.specs.declared.insn.Rhs.TheVariants.{Reg, Lit}
 use Rattle.alpha_words.specs.declared.insn.Cond.{Cond}
 use Rattle.alpha_words.specs.declared.insn.Cond.TheVariants.{LowClear, Zero, Negative, NotPositive, LowSet, NotZero, NotNegative, Positive}
 use Rattle.alpha_words.specs.declared.insn.Insn.{Insn}
-use Rattle.alpha_words.specs.declared.insn.Insn.TheVariants.{Lda, Ldq, Stq, Oper, Branch, Br, Ret}
+use Rattle.alpha_cfg.specs.Actions.{Computed, Sum, Applied, Always, When, Action, action_of}
+use Rattle.alpha_cfg.specs.Actions as actions
 use Rattle.alpha_cfg.specs.Flow.{jump_of}
 use Rattle.formula_tree.specs.Formulas.{Exp, EReg, ELeft, EVar, ELit, EOp, ESel, MemExp, MMem, MVar, MUpd, Form, FTrue, FFalse, FRel, FRd, FWr, FAnd, FOr, FImp, FAll, FAllm}
 use Rattle.formula_tree.specs.Substitution.{Substitution, subst_form}
@@ -22,7 +23,7 @@ use Rattle.formula_tree.proofs.Meaning.{both_ways, subst-truth}
 use Rattle.lf_encode.proofs.Naming.{below}
 use Rattle.vcgen.specs.Variables.{HasVarsBelowExp, HasVarsBelowMem, HasVarsBelow}
 use Rattle.vcgen.specs.Assignments.{unchanged, for_reg, for_memory, for_left}
-use Rattle.vcgen.specs.Conditions.{AnnotatedCode, reg_exp, rhs_exp, address_exp, taken_if, passed_if, at_target, insn_condition, one_step_less, condition_at, invariant_at, or_else, wp_within, wp, body, entered}
+use Rattle.vcgen.specs.Conditions.{AnnotatedCode, reg_exp, rhs_exp, address_exp, taken_if, passed_if, at_target, computed_exp, action_condition, insn_condition, one_step_less, condition_at, invariant_at, or_else, wp_within, wp, body, entered}
 use Rattle.vcgen.specs.Safety.{IsAnnotated}
 use Rattle.vcgen.proofs.Substitutions.{length-unchanged}
 use Rattle.vcgen.proofs.Values.{for_reg-value, for_memory-value, for_left-value}
@@ -176,23 +177,32 @@ ignores-target : (next : ℕ → Form) (o : Option ℕ) → ((j : ℕ) → Ignor
 ignores-target next None h = ignores-closed FFalse tt
 ignores-target next (Some j) h = h j
 
+vars-computed_exp : (word : Computed) → HasVarsBelowExp 0 (computed_exp word)
+vars-computed_exp (Sum base disp) = (vars-reg_exp base, tt)
+vars-computed_exp (Applied op left right) = (vars-reg_exp left, vars-rhs_exp right)
+
+ignores-action : (next : ℕ → Form) (post : Form) (i : ℕ) (jump : Option ℕ) (e : Action) → ((j : ℕ) → IgnoresBound (next j)) → IgnoresBound post → IgnoresBound (action_condition next post i jump e)
+ignores-action next post i jump (actions.Compute to word) h p = ignores-for_reg (next (i + 1)) to (computed_exp word) (vars-computed_exp word) (h (i + 1))
+ignores-action next post i jump (actions.Load to base disp) h p =
+    let a = address_exp base disp in
+    ignores-and (FRd a) (subst_form (next (i + 1)) (for_reg to (ESel MMem a))) (ignores-closed (FRd a) (vars-reg_exp base, tt))
+    (ignores-for_reg (next (i + 1)) to (ESel MMem a) (tt, (vars-reg_exp base, tt)) (h (i + 1)))
+ignores-action next post i jump (actions.Store from base disp) h p =
+    let a = address_exp base disp in
+    let m = MUpd MMem a (reg_exp from) in
+    ignores-and (FWr a) (subst_form (next (i + 1)) (for_memory m)) (ignores-closed (FWr a) (vars-reg_exp base, tt))
+    (ignores-for_memory (next (i + 1)) m (tt, (vars-reg_exp base, tt), vars-reg_exp from) (h (i + 1)))
+ignores-action next post i jump (actions.Branching Always) h p = ignores-target next jump h
+ignores-action next post i jump (actions.Branching (When c reg)) h p =
+    let taken = ignores-closed (taken_if c (reg_exp reg)) (vars-taken_if c (reg_exp reg) (vars-reg_exp reg)) in
+    let passed = ignores-closed (passed_if c (reg_exp reg)) (vars-passed_if c (reg_exp reg) (vars-reg_exp reg)) in
+    let there = at_target next jump in
+    ignores-and (FImp (taken_if c (reg_exp reg)) there) (FImp (passed_if c (reg_exp reg)) (next (i + 1))) (ignores-imp (taken_if c (reg_exp reg)) there taken (ignores-target next jump h))
+    (ignores-imp (passed_if c (reg_exp reg)) (next (i + 1)) passed (h (i + 1)))
+ignores-action next post i jump actions.Return h p = p
+
 ignores-insn : (next : ℕ → Form) (post : Form) (i : ℕ) (insn : Insn) → ((j : ℕ) → IgnoresBound (next j)) → IgnoresBound post → IgnoresBound (insn_condition next post i insn)
-ignores-insn next post i (Lda ra rb disp) h p = ignores-for_reg (next (i + 1)) ra (address_exp rb disp) (vars-reg_exp rb, tt) (h (i + 1))
-ignores-insn next post i (Ldq ra rb disp) h p =
-    ignores-and (FRd (address_exp rb disp)) (subst_form (next (i + 1)) (for_reg ra (ESel MMem (address_exp rb disp)))) (ignores-closed (FRd (address_exp rb disp)) (vars-reg_exp rb, tt))
-    (ignores-for_reg (next (i + 1)) ra (ESel MMem (address_exp rb disp)) (tt, (vars-reg_exp rb, tt)) (h (i + 1)))
-ignores-insn next post i (Stq ra rb disp) h p =
-    ignores-and (FWr (address_exp rb disp)) (subst_form (next (i + 1)) (for_memory (MUpd MMem (address_exp rb disp) (reg_exp ra)))) (ignores-closed (FWr (address_exp rb disp)) (vars-reg_exp rb, tt))
-    (ignores-for_memory (next (i + 1)) (MUpd MMem (address_exp rb disp) (reg_exp ra)) (tt, (vars-reg_exp rb, tt), vars-reg_exp ra) (h (i + 1)))
-ignores-insn next post i (Oper op ra rhs rc) h p = ignores-for_reg (next (i + 1)) rc (EOp op (reg_exp ra) (rhs_exp rhs)) (vars-reg_exp ra, vars-rhs_exp rhs) (h (i + 1))
-ignores-insn next post i (Branch c ra disp) h p =
-    let taken = ignores-closed (taken_if c (reg_exp ra)) (vars-taken_if c (reg_exp ra) (vars-reg_exp ra)) in
-    let passed = ignores-closed (passed_if c (reg_exp ra)) (vars-passed_if c (reg_exp ra) (vars-reg_exp ra)) in
-    let jump = at_target next (jump_of i (Branch c ra disp)) in
-    ignores-and (FImp (taken_if c (reg_exp ra)) jump) (FImp (passed_if c (reg_exp ra)) (next (i + 1))) (ignores-imp (taken_if c (reg_exp ra)) jump taken (ignores-target next (jump_of i (Branch c ra disp)) h))
-    (ignores-imp (passed_if c (reg_exp ra)) (next (i + 1)) passed (h (i + 1)))
-ignores-insn next post i (Br disp) h p = ignores-target next (jump_of i (Br disp)) h
-ignores-insn next post i Ret h p = p
+ignores-insn next post i insn h p = ignores-action next post i (jump_of i insn) (action_of insn) h p
 
 ignores-less : (F : Form) → IgnoresBound F → IgnoresBound (one_step_less F)
 ignores-less F h = ignores-for_left F (EOp Sub ELeft (ELit 1)) (tt, tt) h

@@ -4,7 +4,8 @@ use Rattle.std.proofs.lemmas.Bool.{cases_Bool, eq-eqb}
 use Rattle.std.proofs.lemmas.Option.{none-some}
 use Rattle.word_ops.specs.declared.Rel.TheVariants.{Ult}
 use Rattle.alpha_words.specs.declared.insn.Insn.{Insn}
-use Rattle.alpha_words.specs.declared.insn.Insn.TheVariants.{Lda, Ldq, Stq, Oper, Branch, Br, Ret}
+use Rattle.alpha_cfg.specs.Actions.{Always, When, Action, action_of, next_after}
+use Rattle.alpha_cfg.specs.Actions as actions
 use Rattle.alpha_cfg.specs.Flow.{jump_of, next_of}
 use Rattle.alpha_cfg.specs.Graph.{IsMarked, Walk, IsAcyclic}
 use Rattle.alpha_cfg.specs.Cuts.{graph_of}
@@ -13,7 +14,7 @@ use Rattle.alpha_cfg.proofs.FreeWalks.{steps_edge, graph_closed, cycle_free, len
 use Rattle.formula_tree.specs.Formulas.{ELeft, ELit, EOp, ESel, MMem, MUpd, Form, FRel, FRd, FWr, FAnd, FImp}
 use Rattle.formula_tree.specs.Substitution.{subst_form}
 use Rattle.vcgen.specs.Assignments.{for_reg, for_memory}
-use Rattle.vcgen.specs.Conditions.{AnnotatedCode, reg_exp, rhs_exp, address_exp, taken_if, passed_if, at_target, insn_condition, one_step_less, counted_condition, condition_at, invariant_at, or_else, wp_within, wp, body}
+use Rattle.vcgen.specs.Conditions.{AnnotatedCode, reg_exp, rhs_exp, address_exp, taken_if, passed_if, at_target, computed_exp, action_condition, insn_condition, one_step_less, counted_condition, condition_at, invariant_at, or_else, wp_within, wp, body}
 use Rattle.vcgen.specs.Safety.{IsAnnotated}
 
 -- ---- what has to hold before an instruction asks for what has to hold where it leads, and for nothing else
@@ -26,17 +27,21 @@ same_target : (f h : ℕ → Form) (o : Option ℕ) → ((j : ℕ) → o ≡ Som
 same_target f h None same = refl
 same_target f h (Some j) same = same j refl
 
-same_insn : (f h : ℕ → Form) (post : Form) (i : ℕ) (insn : Insn) → ((j : ℕ) → Leads i insn j → f j ≡ h j) → insn_condition f post i insn ≡ insn_condition h post i insn
-same_insn f h post i (Lda ra rb disp) same = ap (λ F. subst_form F (for_reg ra (address_exp rb disp))) (same (i + 1) (inr refl))
-same_insn f h post i (Ldq ra rb disp) same = ap (λ F. FAnd (FRd (address_exp rb disp)) (subst_form F (for_reg ra (ESel MMem (address_exp rb disp))))) (same (i + 1) (inr refl))
-same_insn f h post i (Stq ra rb disp) same = ap (λ F. FAnd (FWr (address_exp rb disp)) (subst_form F (for_memory (MUpd MMem (address_exp rb disp) (reg_exp ra))))) (same (i + 1) (inr refl))
-same_insn f h post i (Oper op ra rhs rc) same = ap (λ F. subst_form F (for_reg rc (EOp op (reg_exp ra) (rhs_exp rhs)))) (same (i + 1) (inr refl))
-same_insn f h post i (Branch c ra disp) same =
-    let a = same_target f h (jump_of i (Branch c ra disp)) (λ j e. same j (inl e)) in
+same_action : (f h : ℕ → Form) (post : Form) (i : ℕ) (jump : Option ℕ) (e : Action) → ((j : ℕ) → (jump ≡ Some j) ⊎ (next_after i e ≡ Some j) → f j ≡ h j) → action_condition f post i jump e ≡ action_condition h post i jump e
+same_action f h post i jump (actions.Compute to word) same = ap (λ F. subst_form F (for_reg to (computed_exp word))) (same (i + 1) (inr refl))
+same_action f h post i jump (actions.Load to base disp) same =
+    ap (λ F. FAnd (FRd (address_exp base disp)) (subst_form F (for_reg to (ESel MMem (address_exp base disp))))) (same (i + 1) (inr refl))
+same_action f h post i jump (actions.Store from base disp) same =
+    ap (λ F. FAnd (FWr (address_exp base disp)) (subst_form F (for_memory (MUpd MMem (address_exp base disp) (reg_exp from))))) (same (i + 1) (inr refl))
+same_action f h post i jump (actions.Branching Always) same = same_target f h jump (λ j e. same j (inl e))
+same_action f h post i jump (actions.Branching (When c reg)) same =
+    let a = same_target f h jump (λ j e. same j (inl e)) in
     let b = same (i + 1) (inr refl) in
-    λ k. FAnd (FImp (taken_if c (reg_exp ra)) (a k)) (FImp (passed_if c (reg_exp ra)) (b k))
-same_insn f h post i (Br disp) same = same_target f h (jump_of i (Br disp)) (λ j e. same j (inl e))
-same_insn f h post i Ret same = refl
+    λ k. FAnd (FImp (taken_if c (reg_exp reg)) (a k)) (FImp (passed_if c (reg_exp reg)) (b k))
+same_action f h post i jump actions.Return same = refl
+
+same_insn : (f h : ℕ → Form) (post : Form) (i : ℕ) (insn : Insn) → ((j : ℕ) → Leads i insn j → f j ≡ h j) → insn_condition f post i insn ≡ insn_condition h post i insn
+same_insn f h post i insn same = same_action f h post i (jump_of i insn) (action_of insn) same
 
 same_counted : (bound : Option ℕ) (f h : ℕ → Form) (post : Form) (i : ℕ) (insn : Insn) → ((j : ℕ) → Leads i insn j → f j ≡ h j) → counted_condition bound f post i insn ≡ counted_condition bound h post i insn
 same_counted None f h post i insn same = same_insn f h post i insn same

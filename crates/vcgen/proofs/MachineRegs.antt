@@ -9,7 +9,7 @@ use Rattle.term_table.specs.Tree.{Tree, Var, shift, fits}
 use Rattle.term_table.specs.Table.{TableView, IsKnown, AllKnown, tree_at, Extends, id_trees}
 use Rattle.lf_signature.specs.Laws.Booleans.{and_of}
 use Rattle.lf_signature.specs.Nodes.{IsIdOf}
-use Rattle.lf_signature.specs.Numbers.{op_constant}
+use Rattle.word_ops.specs.Operators.{op_constant}
 use Rattle.lf_signature.specs.Terms.{lit, app2, app3, op_term, upd}
 use Rattle.hereditary_subst.proofs.Rows.{grows_more}
 use Rattle.lf_encode.proofs.KeptRows.{ready-same}

@@ -9,9 +9,10 @@ use Rattle.word_ops.specs.Rights.{Rights, allowed}
 use Rattle.alpha_words.specs.declared.insn.Cond.{Cond}
 use Rattle.alpha_words.specs.declared.insn.Cond.TheVariants.{LowClear, Zero, Negative, NotPositive, LowSet, NotZero, NotNegative, Positive}
 use Rattle.alpha_words.specs.declared.insn.Insn.{Insn}
-use Rattle.alpha_words.specs.declared.insn.Insn.TheVariants.{Lda, Ldq, Stq, Oper, Branch, Br, Ret}
+use Rattle.alpha_cfg.specs.Actions.{Computed, Sum, Applied, Always, When, Action, action_of}
+use Rattle.alpha_cfg.specs.Actions as actions
 use Rattle.alpha_cfg.specs.Flow.{jump_of}
-use Rattle.alpha_cfg.specs.Machine.{State, rhs_word, address_of, takes, access_outcome, state_at, insn_outcome}
+use Rattle.alpha_cfg.specs.Machine.{State, rhs_word, address_of, takes, access_outcome, state_at, word_computed, action_outcome, insn_outcome}
 use Rattle.alpha_cfg.specs.declared.outcome.Kind.{Kind}
 use Rattle.alpha_cfg.specs.declared.outcome.Kind.TheVariants.{Load, Store}
 use Rattle.alpha_cfg.specs.declared.outcome.Step.{Step}
@@ -21,7 +22,7 @@ use Rattle.formula_tree.specs.Substitution.{subst_form}
 use Rattle.formula_tree.specs.Truth.{Valuation, Bound, exp_value, mem_value, IsTrueIn}
 use Rattle.formula_tree.proofs.Meaning.{subst-truth}
 use Rattle.vcgen.specs.Assignments.{unchanged, for_reg, for_memory}
-use Rattle.vcgen.specs.Conditions.{reg_exp, rhs_exp, address_exp, taken_if, passed_if, at_target, insn_condition}
+use Rattle.vcgen.specs.Conditions.{reg_exp, rhs_exp, address_exp, taken_if, passed_if, at_target, computed_exp, action_condition, insn_condition}
 use Rattle.vcgen.proofs.Substitutions.{length-unchanged}
 use Rattle.vcgen.proofs.Values.{reg_exp-value, rhs_exp-value, address_exp-value, for_reg-value, for_memory-value, write_reg-set}
 
@@ -101,28 +102,37 @@ module _ (next : ℕ → Form) (post : Form) (left : ℕ) (s : State) (len : len
       let same = for_memory-value m now [] len ∙ (λ i. record now { memory = is i }) in
       subst (λ (u : Valuation). IsTrueIn s.rights (next (s.index + 1)) u []) same ((subst-truth s.rights (next (s.index + 1)) (for_memory m) now [] length-unchanged).0 t)
 
-  pub insn-leaves : (insn : Insn) → IsTrueOf (insn_condition next post s.index insn) left s → Leaves (IsTrueAt next left) (IsTrueOf post left) (insn_outcome insn s)
-  insn-leaves (Lda ra rb disp) t = true-for_reg ra (address_of s.regs rb disp) (address_exp rb disp) (address_exp-value rb disp now []) t
-  insn-leaves (Ldq ra rb disp) t =
-      let a : ℕ = address_of s.regs rb disp in
-      let e : exp_value (address_exp rb disp) now [] ≡ a = address_exp-value rb disp now [] in
-      leaves-access (IsTrueAt next left) (IsTrueOf post left) Load (allowed s.rights.reads a) a s (record s { index = s.index + 1; regs = write_reg s.regs ra (read s.memory a) }) (subst (λ w. allowed s.rights.reads w ≡ true) e t.0)
-      (true-for_reg ra (read s.memory a) (ESel MMem (address_exp rb disp)) (ap (read s.memory) e) t.1)
-  insn-leaves (Stq ra rb disp) t =
-      let a : ℕ = address_of s.regs rb disp in
-      let e : exp_value (address_exp rb disp) now [] ≡ a = address_exp-value rb disp now [] in
-      let x : exp_value (reg_exp ra) now [] ≡ read_reg s.regs ra = reg_exp-value ra now [] in
-      leaves-access (IsTrueAt next left) (IsTrueOf post left) Store (allowed s.rights.writes a) a s (record s { index = s.index + 1; memory = write s.memory a (read_reg s.regs ra) }) (subst (λ w. allowed s.rights.writes w ≡ true) e t.0)
-      (true-for_memory (MUpd MMem (address_exp rb disp) (reg_exp ra)) (write s.memory a (read_reg s.regs ra)) (λ i. write s.memory (e i) (x i)) t.1)
-  insn-leaves (Oper op ra rhs rc) t =
-      let x : exp_value (reg_exp ra) now [] ≡ read_reg s.regs ra = reg_exp-value ra now [] in
-      let y : exp_value (rhs_exp rhs) now [] ≡ rhs_word s.regs rhs = rhs_exp-value rhs now [] in
-      true-for_reg rc (word_of op (read_reg s.regs ra) (rhs_word s.regs rhs)) (EOp op (reg_exp ra) (rhs_exp rhs)) (λ i. word_of op (x i) (y i)) t
-  insn-leaves (Branch c ra disp) t =
-      let x : exp_value (reg_exp ra) now [] ≡ read_reg s.regs ra = reg_exp-value ra now [] in
-      elim (cases_Bool (takes c (read_reg s.regs ra))) [
-        | inl e ↦ rw e (true-target next left s (jump_of s.index (Branch c ra disp)) (t.0 (taken_if-true s.rights c (reg_exp ra) now [] (ap (takes c) x ∙ e))))
-        | inr e ↦ rw e (t.1 (passed_if-true s.rights c (reg_exp ra) now [] (ap (takes c) x ∙ e)))
+  -- a word that is computed is the value of its expression
+  computed_exp-value : (word : Computed) → exp_value (computed_exp word) now [] ≡ word_computed s.regs word
+  computed_exp-value (Sum base disp) = address_exp-value base disp now []
+  computed_exp-value (Applied op left right) =
+      let x : exp_value (reg_exp left) now [] ≡ read_reg s.regs left = reg_exp-value left now [] in
+      let y : exp_value (rhs_exp right) now [] ≡ rhs_word s.regs right = rhs_exp-value right now [] in
+      λ i. word_of op (x i) (y i)
+
+  action-leaves : (e : Action) (jump : Option ℕ) → IsTrueOf (action_condition next post s.index jump e) left s → Leaves (IsTrueAt next left) (IsTrueOf post left) (action_outcome e jump s)
+  action-leaves (actions.Compute to word) jump t = true-for_reg to (word_computed s.regs word) (computed_exp word) (computed_exp-value word) t
+  action-leaves (actions.Load to base disp) jump t =
+      let a : ℕ = address_of s.regs base disp in
+      let e : exp_value (address_exp base disp) now [] ≡ a = address_exp-value base disp now [] in
+      let u : State = record s { index = s.index + 1; regs = write_reg s.regs to (read s.memory a) } in
+      leaves-access (IsTrueAt next left) (IsTrueOf post left) Load (allowed s.rights.reads a) a s u (subst (λ w. allowed s.rights.reads w ≡ true) e t.0)
+      (true-for_reg to (read s.memory a) (ESel MMem (address_exp base disp)) (ap (read s.memory) e) t.1)
+  action-leaves (actions.Store from base disp) jump t =
+      let a : ℕ = address_of s.regs base disp in
+      let e : exp_value (address_exp base disp) now [] ≡ a = address_exp-value base disp now [] in
+      let x : exp_value (reg_exp from) now [] ≡ read_reg s.regs from = reg_exp-value from now [] in
+      let u : State = record s { index = s.index + 1; memory = write s.memory a (read_reg s.regs from) } in
+      leaves-access (IsTrueAt next left) (IsTrueOf post left) Store (allowed s.rights.writes a) a s u (subst (λ w. allowed s.rights.writes w ≡ true) e t.0)
+      (true-for_memory (MUpd MMem (address_exp base disp) (reg_exp from)) (write s.memory a (read_reg s.regs from)) (λ i. write s.memory (e i) (x i)) t.1)
+  action-leaves (actions.Branching Always) jump t = true-target next left s jump t
+  action-leaves (actions.Branching (When c reg)) jump t =
+      let x : exp_value (reg_exp reg) now [] ≡ read_reg s.regs reg = reg_exp-value reg now [] in
+      elim (cases_Bool (takes c (read_reg s.regs reg))) [
+        | inl e ↦ rw e (true-target next left s jump (t.0 (taken_if-true s.rights c (reg_exp reg) now [] (ap (takes c) x ∙ e))))
+        | inr e ↦ rw e (t.1 (passed_if-true s.rights c (reg_exp reg) now [] (ap (takes c) x ∙ e)))
       ]
-  insn-leaves (Br disp) t = true-target next left s (jump_of s.index (Br disp)) t
-  insn-leaves Ret t = t
+  action-leaves actions.Return jump t = t
+
+  pub insn-leaves : (insn : Insn) → IsTrueOf (insn_condition next post s.index insn) left s → Leaves (IsTrueAt next left) (IsTrueOf post left) (insn_outcome insn s)
+  insn-leaves insn t = action-leaves (action_of insn) (jump_of s.index insn) t

@@ -9,8 +9,10 @@ use Rattle.alpha_words.specs.declared.insn.Rhs.TheVariants.{Reg, Lit}
 use Rattle.alpha_words.specs.declared.insn.Cond.{Cond}
 use Rattle.alpha_words.specs.declared.insn.Cond.TheVariants.{LowClear, Zero, Negative, NotPositive, LowSet, NotZero, NotNegative, Positive}
 use Rattle.alpha_words.specs.declared.insn.Insn.{Insn}
-use Rattle.alpha_words.specs.declared.insn.Insn.TheVariants.{Lda, Ldq, Stq, Oper, Branch, Br, Ret}
 use Rattle.alpha_words.specs.Encoding.{IsRhs, HasBits}
+use Rattle.alpha_cfg.specs.Actions.{Computed, Sum, Applied, Always, When, Action, action_of, HasOperands}
+use Rattle.alpha_cfg.specs.Actions as actions
+use Rattle.alpha_cfg.proofs.States.{action_of-operands}
 use Rattle.alpha_cfg.specs.Flow.{jump_of, IsInsn}
 use Rattle.formula_tree.specs.Formulas.{Exp, EReg, ELit, EOp, ESel, MemExp, MMem, MUpd, Form, FFalse, FImp}
 use Rattle.formula_tree.specs.Substitution.{subst_form}
@@ -20,7 +22,7 @@ use Rattle.lf_encode.specs.Contexts.{machine_names}
 use Rattle.lf_encode.specs.Naming.{words}
 use Rattle.lf_encode.proofs.Naming.{named_form-over}
 use Rattle.vcgen.specs.Assignments.{regs_from, unchanged, for_reg, for_memory}
-use Rattle.vcgen.specs.Conditions.{AnnotatedCode, reg_exp, rhs_exp, address_exp, taken_if, passed_if, at_target, insn_condition, condition_at, invariant_at, or_else, wp_within, wp, body, alls, close, entered, inv_parts, condition}
+use Rattle.vcgen.specs.Conditions.{AnnotatedCode, reg_exp, rhs_exp, address_exp, taken_if, passed_if, at_target, computed_exp, action_condition, insn_condition, condition_at, invariant_at, or_else, wp_within, wp, body, alls, close, entered, inv_parts, condition}
 use Rattle.vcgen.specs.Safety.{IsAnnotated}
 use Rattle.vcgen.proofs.Substitutions.{unchanged-regs, unchanged-memory, length-unchanged}
 use Rattle.vcgen.proofs.WalkTrees.{subst-names}
@@ -34,11 +36,11 @@ over-rhs_exp : (rhs : Rhs) → IsRhs rhs → IsOverExp 31 (rhs_exp rhs) []
 over-rhs_exp (Reg r) h = over-reg_exp r h
 over-rhs_exp (Lit n) h = omega (arith, h)
 
-disp-word : (z : ℤ) → HasBits 15 z → cast_unsigned w64 z < 2 ^ 64
+disp-word : (z : ℤ) → HasBits 31 z → cast_unsigned w64 z < 2 ^ 64
 disp-word (pos n) h = omega (arith, h)
 disp-word (negsuc n) h = omega (arith, h)
 
-over-address_exp : (rb : ℕ) (disp : ℤ) → rb < 32 → HasBits 15 disp → IsOverExp 31 (address_exp rb disp) []
+over-address_exp : (rb : ℕ) (disp : ℤ) → rb < 32 → HasBits 31 disp → IsOverExp 31 (address_exp rb disp) []
 over-address_exp rb disp h b = (over-reg_exp rb h, disp-word disp b)
 
 over-taken_if : (c : Cond) (x : Exp) → IsOverExp 31 x [] → IsOver 31 (taken_if c x) []
@@ -98,21 +100,27 @@ over-target : (next : ℕ → Form) (o : Option ℕ) → ((j : ℕ) → IsOver 3
 over-target next None h = tt
 over-target next (Some j) h = h j
 
+over-computed_exp : (to : ℕ) (word : Computed) → HasOperands (actions.Compute to word) → IsOverExp 31 (computed_exp word) []
+over-computed_exp to (Sum base disp) w = over-address_exp base disp w.0 w.1
+over-computed_exp to (Applied op left right) w = (over-reg_exp left w.0, over-rhs_exp right w.1)
+
+over-action : (next : ℕ → Form) (post : Form) (i : ℕ) (jump : Option ℕ) (e : Action) → HasOperands e → ((j : ℕ) → IsOver 31 (next j) []) → IsOver 31 post [] → IsOver 31 (action_condition next post i jump e) []
+over-action next post i jump (actions.Compute to word) w h p = over-subst-reg (next (i + 1)) to (computed_exp word) (h (i + 1)) (over-computed_exp to word w)
+over-action next post i jump (actions.Load to base disp) w h p =
+    let o = over-address_exp base disp w.0 w.1 in
+    (o, over-subst-reg (next (i + 1)) to (ESel MMem (address_exp base disp)) (h (i + 1)) (omega arith, o))
+over-action next post i jump (actions.Store from base disp) w h p =
+    let o = over-address_exp base disp w.0 w.1 in
+    let m : MemExp = MUpd MMem (address_exp base disp) (reg_exp from) in
+    (o, scope-subst 31 31 (next (i + 1)) (for_memory m) [] [] (h (i + 1)) same-scope (over-for_memory m (omega arith, o, over-reg_exp from w.2)))
+over-action next post i jump (actions.Branching Always) w h p = over-target next jump h
+over-action next post i jump (actions.Branching (When c reg)) w h p =
+    let o = over-reg_exp reg w in
+    ((over-taken_if c (reg_exp reg) o, over-target next jump h), (over-passed_if c (reg_exp reg) o, h (i + 1)))
+over-action next post i jump actions.Return w h p = p
+
 over-insn : (next : ℕ → Form) (post : Form) (i : ℕ) (insn : Insn) → IsInsn insn → ((j : ℕ) → IsOver 31 (next j) []) → IsOver 31 post [] → IsOver 31 (insn_condition next post i insn) []
-over-insn next post i (Lda ra rb disp) w h p = over-subst-reg (next (i + 1)) ra (address_exp rb disp) (h (i + 1)) (over-address_exp rb disp w.1.1 w.1.2)
-over-insn next post i (Ldq ra rb disp) w h p =
-    let o = over-address_exp rb disp w.1.2 w.1.3 in
-    (o, over-subst-reg (next (i + 1)) ra (ESel MMem (address_exp rb disp)) (h (i + 1)) (omega arith, o))
-over-insn next post i (Stq ra rb disp) w h p =
-    let o = over-address_exp rb disp w.1.1 w.1.2 in
-    let m : MemExp = MUpd MMem (address_exp rb disp) (reg_exp ra) in
-    (o, scope-subst 31 31 (next (i + 1)) (for_memory m) [] [] (h (i + 1)) same-scope (over-for_memory m (omega arith, o, over-reg_exp ra w.1.0)))
-over-insn next post i (Oper op ra rhs rc) w h p = over-subst-reg (next (i + 1)) rc (EOp op (reg_exp ra) (rhs_exp rhs)) (h (i + 1)) (over-reg_exp ra w.1.0, over-rhs_exp rhs w.1.1)
-over-insn next post i (Branch c ra disp) w h p =
-    let o = over-reg_exp ra w.1.0 in
-    ((over-taken_if c (reg_exp ra) o, over-target next (jump_of i (Branch c ra disp)) h), (over-passed_if c (reg_exp ra) o, h (i + 1)))
-over-insn next post i (Br disp) w h p = over-target next (jump_of i (Br disp)) h
-over-insn next post i Ret w h p = p
+over-insn next post i insn w h p = over-action next post i (jump_of i insn) (action_of insn) (action_of-operands insn w) h p
 
 over-condition_at : (next : ℕ → Form) (post : Form) (i : ℕ) (o : Option Insn) → ((insn : Insn) → o ≡ Some insn → IsInsn insn) → ((j : ℕ) → IsOver 31 (next j) []) → IsOver 31 post [] → IsOver 31 (condition_at None next post i o) []
 over-condition_at next post i None w h p = tt

@@ -11,7 +11,8 @@ use Rattle.alpha_words.specs.declared.insn.Rhs.TheVariants.{Reg, Lit}
 use Rattle.alpha_words.specs.declared.insn.Cond.{Cond}
 use Rattle.alpha_words.specs.declared.insn.Cond.TheVariants.{LowClear, Zero, Negative, NotPositive, LowSet, NotZero, NotNegative, Positive}
 use Rattle.alpha_words.specs.declared.insn.Insn.{Insn}
-use Rattle.alpha_words.specs.declared.insn.Insn.TheVariants.{Lda, Ldq, Stq, Oper, Branch, Br, Ret}
+use Rattle.alpha_cfg.specs.Actions.{Computed, Sum, Applied, Always, When, Action, action_of}
+use Rattle.alpha_cfg.specs.Actions as actions
 use Rattle.alpha_cfg.specs.Flow.{jump_of}
 use Rattle.term_table.specs.Tree.{Tree, Var}
 use Rattle.lf_signature.specs.Terms.{lit, op_term, sel, upd, falsity, rd, wr, and_term, imp_term, all_term, allm_term}
@@ -27,9 +28,9 @@ use Rattle.lf_encode.proofs.Naming.{named_form-is}
 use Rattle.lf_encode.proofs.MachineContext.{bound_sorts-machine, registers_in-machine, names_in-machine}
 use Rattle.lf_encode.proofs.PutTree.{put-encoding}
 use Rattle.vcgen.specs.Assignments.{for_reg, for_memory}
-use Rattle.vcgen.specs.Conditions.{AnnotatedCode, reg_exp, rhs_exp, address_exp, taken_if, passed_if, at_target, insn_condition, condition_at, invariant_at, or_else, wp_within, wp, body, alls, close, inv_parts, condition}
+use Rattle.vcgen.specs.Conditions.{AnnotatedCode, reg_exp, rhs_exp, address_exp, taken_if, passed_if, at_target, computed_exp, action_condition, condition_at, invariant_at, or_else, wp_within, wp, body, alls, close, inv_parts, condition}
 use Rattle.vcgen.specs.Encoded.{AreEncodings}
-use Rattle.vcgen.specs.Inside.WalkTree.{reg_term, rhs_term, address_term, tested_term, taken_term, passed_term, with_reg, with_memory, walked_to, insn_effect, walked_on, walked_at, inv_term, ended, walked, walked_from, var_terms, start_terms, all_terms, closed_term, part_terms, condition_term}
+use Rattle.vcgen.specs.Inside.WalkTree.{reg_term, rhs_term, address_term, tested_term, taken_term, passed_term, with_reg, with_memory, walked_to, computed_term, terms_effect, walked_on, walked_at, inv_term, ended, walked, walked_from, var_terms, start_terms, all_terms, closed_term, part_terms, condition_term}
 use Rattle.vcgen.proofs.Substitutions.{subst-for_reg, subst-for_memory}
 
 -- ---- formulas in the context m, r0 to r30
@@ -68,6 +69,10 @@ rhs_term-is t (Lit n) = refl
 
 address_term-is : (t : Substitution) (rb : ℕ) (disp : ℤ) → address_term (machine_terms_of t) rb disp ≡ exp_encoding (subst_exp (address_exp rb disp) t)
 address_term-is t rb disp = ap (λ x. op_term Add x (lit (cast_unsigned w64 disp))) (reg_term-is t rb)
+
+computed_term-is : (t : Substitution) (word : Computed) → computed_term (machine_terms_of t) word ≡ exp_encoding (subst_exp (computed_exp word) t)
+computed_term-is t (Sum base disp) = address_term-is t base disp
+computed_term-is t (Applied op left right) = let a = reg_term-is t left in let b = rhs_term-is t right in λ k. op_term op (a k) (b k)
 
 taken_term-is : (c : Cond) (x : Exp) (t : Substitution) → taken_term c (tested_term c (exp_encoding (subst_exp x t))) ≡ form_encoding (subst_form (taken_if c x) t)
 taken_term-is LowClear x t = refl
@@ -112,33 +117,31 @@ module _ (next : ℕ → MachineTerms → Tree) (F : ℕ → Form) (makes : Make
   walked_to-is None t len = refl
   walked_to-is (Some j) t len = makes j t len
 
-  insn-is : (i : ℕ) (insn : Insn) (t : Substitution) → length t.regs ≡ 31 → walked_on next (form_encoding (subst_form post machine_names)) i (machine_terms_of t) (insn_effect i insn (machine_terms_of t)) ≡ form_encoding (subst_form (insn_condition F post i insn) t)
-  insn-is i (Lda ra rb disp) t len = reg-set (i + 1) ra (address_term (machine_terms_of t) rb disp) (address_exp rb disp) t len (address_term-is t rb disp)
-  insn-is i (Ldq ra rb disp) t len =
-      let a = address_term-is t rb disp in
-      let on = reg-set (i + 1) ra (sel (mem_encoding t.memory) (address_term (machine_terms_of t) rb disp)) (ESel MMem (address_exp rb disp)) t len (ap (sel (mem_encoding t.memory)) a) in
+  action-is : (i : ℕ) (jump : Option ℕ) (e : Action) (t : Substitution) → length t.regs ≡ 31 →
+      walked_on next (form_encoding (subst_form post machine_names)) i (machine_terms_of t) (terms_effect jump e (machine_terms_of t)) ≡ form_encoding (subst_form (action_condition F post i jump e) t)
+  action-is i jump (actions.Compute to word) t len = reg-set (i + 1) to (computed_term (machine_terms_of t) word) (computed_exp word) t len (computed_term-is t word)
+  action-is i jump (actions.Load to base disp) t len =
+      let a = address_term-is t base disp in
+      let on = reg-set (i + 1) to (sel (mem_encoding t.memory) (address_term (machine_terms_of t) base disp)) (ESel MMem (address_exp base disp)) t len (ap (sel (mem_encoding t.memory)) a) in
       λ k. and_term (rd (a k)) (on k)
-  insn-is i (Stq ra rb disp) t len =
-      let a = address_term-is t rb disp in
-      let v = reg_term-is t ra in
-      let on = memory-set (i + 1) (upd (mem_encoding t.memory) (address_term (machine_terms_of t) rb disp) (reg_term (machine_terms_of t) ra)) (MUpd MMem (address_exp rb disp) (reg_exp ra)) t len (λ k. upd (mem_encoding t.memory) (a k) (v k)) in
+  action-is i jump (actions.Store from base disp) t len =
+      let a = address_term-is t base disp in
+      let v = reg_term-is t from in
+      let after = upd (mem_encoding t.memory) (address_term (machine_terms_of t) base disp) (reg_term (machine_terms_of t) from) in
+      let on = memory-set (i + 1) after (MUpd MMem (address_exp base disp) (reg_exp from)) t len (λ k. upd (mem_encoding t.memory) (a k) (v k)) in
       λ k. and_term (wr (a k)) (on k)
-  insn-is i (Oper op ra rhs rc) t len =
-      let a = reg_term-is t ra in
-      let b = rhs_term-is t rhs in
-      reg-set (i + 1) rc (op_term op (reg_term (machine_terms_of t) ra) (rhs_term (machine_terms_of t) rhs)) (EOp op (reg_exp ra) (rhs_exp rhs)) t len (λ k. op_term op (a k) (b k))
-  insn-is i (Branch c ra disp) t len =
-      let x = ap (λ u. taken_term c (tested_term c u)) (reg_term-is t ra) ∙ taken_term-is c (reg_exp ra) t in
-      let y = ap (λ u. passed_term c (tested_term c u)) (reg_term-is t ra) ∙ passed_term-is c (reg_exp ra) t in
-      let a = walked_to-is (jump_of i (Branch c ra disp)) t len in
+  action-is i jump (actions.Branching Always) t len = walked_to-is jump t len
+  action-is i jump (actions.Branching (When c reg)) t len =
+      let x = ap (λ u. taken_term c (tested_term c u)) (reg_term-is t reg) ∙ taken_term-is c (reg_exp reg) t in
+      let y = ap (λ u. passed_term c (tested_term c u)) (reg_term-is t reg) ∙ passed_term-is c (reg_exp reg) t in
+      let a = walked_to-is jump t len in
       let b = makes (i + 1) t len in
       λ k. and_term (imp_term (x k) (a k)) (imp_term (y k) (b k))
-  insn-is i (Br disp) t len = walked_to-is (jump_of i (Br disp)) t len
-  insn-is i Ret t len = put-names post t len over
+  action-is i jump actions.Return t len = put-names post t len over
 
   walked_at-is : (i : ℕ) (o : Option Insn) (t : Substitution) → length t.regs ≡ 31 → walked_at next (form_encoding (subst_form post machine_names)) i o (machine_terms_of t) ≡ form_encoding (subst_form (condition_at None F post i o) t)
   walked_at-is i None t len = refl
-  walked_at-is i (Some insn) t len = insn-is i insn t len
+  walked_at-is i (Some insn) t len = action-is i (jump_of i insn) (action_of insn) t len
 
 -- ---- all of the code
 

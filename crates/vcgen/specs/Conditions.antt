@@ -9,7 +9,8 @@ use Rattle.alpha_words.specs.declared.insn.Rhs.TheVariants.{Reg, Lit}
 use Rattle.alpha_words.specs.declared.insn.Cond.{Cond}
 use Rattle.alpha_words.specs.declared.insn.Cond.TheVariants.{LowClear, Zero, Negative, NotPositive, LowSet, NotZero, NotNegative, Positive}
 use Rattle.alpha_words.specs.declared.insn.Insn.{Insn}
-use Rattle.alpha_words.specs.declared.insn.Insn.TheVariants.{Lda, Ldq, Stq, Oper, Branch, Br, Ret}
+use Rattle.alpha_cfg.specs.Actions.{Computed, Sum, Applied, Always, When, Action, action_of}
+use Rattle.alpha_cfg.specs.Actions as actions
 use Rattle.alpha_cfg.specs.Flow.{jump_of}
 use Rattle.formula_tree.specs.Formulas.{Exp, EReg, ELeft, EVar, ELit, EOp, ESel, MMem, MUpd, Form, FTrue, FFalse, FRel, FRd, FWr, FAnd, FImp, FAll, FAllm}
 use Rattle.formula_tree.specs.Substitution.{subst_form}
@@ -72,15 +73,24 @@ abbrev pub at_target : (ℕ → Form) → Option ℕ → Form
 at_target next None = FFalse
 at_target next (Some j) = next j
 
--- What has to hold before the instruction at i, `next` being what has to hold at an index.
+-- a word that is computed, as an expression
+abbrev pub computed_exp : Computed → Exp
+computed_exp (Sum base disp) = address_exp base disp
+computed_exp (Applied op left right) = EOp op (reg_exp left) (rhs_exp right)
+
+-- What has to hold before an action at i, which branches to `jump`, `next` being what has to hold at an index.
+abbrev pub action_condition : (ℕ → Form) → Form → ℕ → Option ℕ → Action → Form
+action_condition next post i jump (actions.Compute to word) = subst_form (next (i + 1)) (for_reg to (computed_exp word))
+action_condition next post i jump (actions.Load to base disp) = FAnd (FRd (address_exp base disp)) (subst_form (next (i + 1)) (for_reg to (ESel MMem (address_exp base disp))))
+action_condition next post i jump (actions.Store from base disp) =
+    FAnd (FWr (address_exp base disp)) (subst_form (next (i + 1)) (for_memory (MUpd MMem (address_exp base disp) (reg_exp from))))
+action_condition next post i jump (actions.Branching Always) = at_target next jump
+action_condition next post i jump (actions.Branching (When cond reg)) = FAnd (FImp (taken_if cond (reg_exp reg)) (at_target next jump)) (FImp (passed_if cond (reg_exp reg)) (next (i + 1)))
+action_condition next post i jump actions.Return = post
+
+-- the same before the instruction at i
 abbrev pub insn_condition : (ℕ → Form) → Form → ℕ → Insn → Form
-insn_condition next post i (Lda ra rb disp) = subst_form (next (i + 1)) (for_reg ra (address_exp rb disp))
-insn_condition next post i (Ldq ra rb disp) = FAnd (FRd (address_exp rb disp)) (subst_form (next (i + 1)) (for_reg ra (ESel MMem (address_exp rb disp))))
-insn_condition next post i (Stq ra rb disp) = FAnd (FWr (address_exp rb disp)) (subst_form (next (i + 1)) (for_memory (MUpd MMem (address_exp rb disp) (reg_exp ra))))
-insn_condition next post i (Oper op ra rhs rc) = subst_form (next (i + 1)) (for_reg rc (EOp op (reg_exp ra) (rhs_exp rhs)))
-insn_condition next post i (Branch cond ra disp) = FAnd (FImp (taken_if cond (reg_exp ra)) (at_target next (jump_of i (Branch cond ra disp)))) (FImp (passed_if cond (reg_exp ra)) (next (i + 1)))
-insn_condition next post i (Br disp) = at_target next (jump_of i (Br disp))
-insn_condition next post i Ret = post
+insn_condition next post i insn = action_condition next post i (jump_of i insn) (action_of insn)
 
 -- with one step less
 abbrev pub one_step_less : Form → Form

@@ -9,10 +9,10 @@ ghost use Rattle.vcgen.specs.Inside.WalkTree.{tested_term, taken_term, passed_te
 
 use alpha_words::Cond;
 use lf_signature::numbers::{FF, IMP};
-use lf_signature::{app2, op_constant, rel_constant};
+use lf_signature::{app2, rel_constant};
 use std::alloc::AllocError;
 use term_table::{Id, Node, Table};
-use word_ops::{Op, Rel};
+use word_ops::{Op, Rel, op_constant};
 
 /// That the relation holds of the term and 0.
 fn against_zero(table: &mut Table, rel: Rel, x: Id) -> Result<Id, AllocError>

@@ -12,10 +12,10 @@ ghost use Rattle.vcgen.specs.Inside.Symbols.{IsTermFor};
 
 use alpha_words::{Reg, Rhs};
 use lf_signature::numbers::{SEL, UPD};
-use lf_signature::{app2, app3, op_constant};
+use lf_signature::{app2, app3};
 use std::alloc::AllocError;
 use term_table::{Id, Node, Table};
-use word_ops::Op;
+use word_ops::{Op, op_constant};
 
 /// Terms for r0 to r30 and for m, in the context m, r0 to r30.
 #[derive(Clone, Copy, PartialEq, Eq)]

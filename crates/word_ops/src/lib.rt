@@ -1,19 +1,24 @@
 //! Arithmetic and comparisons of 64-bit words.
 //!
 //! What every layer above shares stands in this crate's definitions: the operators and relations
-//! (`specs/Words`), memories (`specs/Memory`), rights to load and store (`specs/Rights`) and the
+//! (`specs/Words`), what names an operator (`specs/Operators`, one table for all), memories (`specs/Memory`), rights to load and store (`specs/Rights`) and the
 //! registers' words (`specs/Registers`). The layers use that `apply` and `holds` are the
 //! definitions' `word_of` and `test_of`. Source: Alpha Architecture Handbook, "Integer Arithmetic
 //! Instructions" and "Logical and Shift Instructions".
 
 #![tactic(auto)]
 
+mod operators;
 mod theorems;
 
 ghost use Rattle.std.specs.Prelude.{◌≡◌};
 ghost use Rattle.word_ops.specs.Words.{word_of, test_of};
 
-pub use theorems::{laws, order_laws};
+pub use operators::{
+    OPERATORS, op_code, op_constant, op_keyword, op_mnemonic, op_number, op_of, op_of_code,
+    op_of_constant, op_of_keyword, op_of_mnemonic,
+};
+pub use theorems::{laws, operator_laws, order_laws};
 
 /// An operator of two words.
 #[derive(Clone, Copy, Debug, PartialEq, Eq)]

@@ -9,9 +9,9 @@ use Rattle.formula_ids.specs.Hypotheses.{AreHyps}
 use Rattle.formula_ids.specs.declared.forms.Access.{Access}
 use Rattle.formula_ids.specs.declared.forms.Access.TheVariants.{Load, Store}
 use Rattle.formula_ids.specs.declared.hypotheses.Hypothesis.{Hypothesis}
-use Rattle.easy_class.specs.Hypotheses.{Hyps}
-use Rattle.easy_class.specs.Access.{Opened, opened_at, no_way, first_opened, by_grant}
-use Rattle.easy_class.specs.Access as class
+use Rattle.prover_class.specs.Hypotheses.{Hyps}
+use Rattle.prover_class.specs.Access.{Opened, opened_at, no_way, first_opened, by_grant}
+use Rattle.prover_class.specs.Access as class
 use Rattle.condition_prover.specs.Inside.Instances.{variable_index}
 use Rattle.condition_prover.specs.declared.access_instances.Indexed.{Indexed}
 use Rattle.condition_prover.specs.declared.access_walks.Asked.{Asked}

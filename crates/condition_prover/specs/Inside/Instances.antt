@@ -4,8 +4,8 @@ use Rattle.term_table.specs.Subst.{bind}
 use Rattle.word_ops.specs.declared.Op.TheVariants.{Sll}
 use Rattle.formula_tree.specs.Formulas.{Exp, EVar, ELit, EOp}
 use Rattle.formula_tree.specs.Variables.{PExp, subst_var_exp}
-use Rattle.easy_class.specs.NormalForms.{normal_form}
-use Rattle.easy_class.specs.Access.{has_var, rest_of, eighth}
+use Rattle.prover_class.specs.NormalForms.{normal_form}
+use Rattle.prover_class.specs.Access.{has_var, rest_of, eighth}
 
 -- variable 0, or 8 times it where scaled
 abbrev pub variable_index : Bool → Exp

@@ -3,7 +3,7 @@ use Rattle.std.specs.Prelude.{◌≡◌, List, [], ◌∷◌, Option, Some, None
 use Rattle.term_table.specs.Table.{TableView, tree_at}
 use Rattle.formula_tree.specs.Formulas.{Form}
 use Rattle.formula_terms.specs.Encoding.{form_encoding}
-use Rattle.easy_class.specs.Parts.{conjoined}
+use Rattle.prover_class.specs.Parts.{conjoined}
 use Rattle.condition_prover.specs.declared.parts.Conjunction.{Conjunction}
 
 -- the first of the parts and the rest; none where there are none

@@ -4,7 +4,8 @@ use Rattle.word_ops.specs.declared.Op.{Op}
 use Rattle.word_ops.specs.declared.Rel.{Rel}
 use Rattle.term_table.specs.Tree.{Tree, Lam}
 use Rattle.term_table.specs.Table.{TableView, tree_at}
-use Rattle.lf_signature.specs.Numbers.{op_of_constant, rel_of_constant}
+use Rattle.word_ops.specs.Operators.{op_of_constant}
+use Rattle.lf_signature.specs.Numbers.{rel_of_constant}
 use Rattle.lf_signature.specs.declared.numbers.TheConstants.{RD, WR, AND, OR, ALL}
 use Rattle.formula_ids.specs.declared.nodes.ExpNode.{ExpNode}
 use Rattle.formula_ids.specs.declared.nodes.ExpNode.TheVariants as E

@@ -8,7 +8,8 @@ use Rattle.word_ops.specs.Words.{word_of, test_of}
 use Rattle.word_ops.proofs.Bounds.{word_of-below}
 use Rattle.term_table.specs.Tree.{Tree, Fam, Const, Num, Lit, Calc, Fact, Deny}
 use Rattle.term_table.proofs.Options.{bind_some, some_injective}
-use Rattle.lf_signature.specs.Numbers.{op_of, rel_of, op_constant, rel_constant}
+use Rattle.word_ops.specs.Operators.{op_of, op_constant}
+use Rattle.lf_signature.specs.Numbers.{rel_of, rel_constant}
 use Rattle.lf_signature.specs.Terms.{exp, lit, rel_term}
 use Rattle.lf_signature.specs.Typing.{Checks, con_synth, IsType, atomic_type, fam_kind}
 use Rattle.lf_signature.specs.Simply.{simply, SType}

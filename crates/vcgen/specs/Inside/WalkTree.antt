@@ -8,7 +8,8 @@ use Rattle.alpha_words.specs.declared.insn.Rhs.TheVariants.{Reg, Lit}
 use Rattle.alpha_words.specs.declared.insn.Cond.{Cond}
 use Rattle.alpha_words.specs.declared.insn.Cond.TheVariants.{LowClear, Zero, Negative, NotPositive, LowSet, NotZero, NotNegative, Positive}
 use Rattle.alpha_words.specs.declared.insn.Insn.{Insn}
-use Rattle.alpha_words.specs.declared.insn.Insn.TheVariants.{Lda, Ldq, Stq, Oper, Branch, Br, Ret}
+use Rattle.alpha_cfg.specs.Actions.{Sum, Applied, Always, When, Action, action_of}
+use Rattle.alpha_cfg.specs.Actions as actions
 use Rattle.alpha_cfg.specs.Flow.{jump_of}
 use Rattle.term_table.specs.Tree.{Tree, Var}
 use Rattle.lf_signature.specs.Terms.{lit, op_term, sel, upd, truth, falsity, rel_term, rd, wr, and_term, imp_term, not_term, all_term, allm_term}
@@ -81,15 +82,23 @@ pub data InsnEffect : Type 0 where
   Jump : Option ℕ → InsnEffect
   Return : InsnEffect
 
--- the effect of the instruction at i
+-- the term of a word that is computed
+abbrev pub computed_term : MachineTerms → actions.Computed → Tree
+computed_term s (Sum base disp) = address_term s base disp
+computed_term s (Applied op left right) = op_term op (reg_term s left) (rhs_term s right)
+
+-- what an action that branches to `jump` does to the terms
+abbrev pub terms_effect : Option ℕ → Action → MachineTerms → InsnEffect
+terms_effect jump (actions.Compute to word) s = Computed (with_reg s to (computed_term s word))
+terms_effect jump (actions.Load to base disp) s = Access (rd (address_term s base disp)) (with_reg s to (sel s.memory (address_term s base disp)))
+terms_effect jump (actions.Store from base disp) s = Access (wr (address_term s base disp)) (with_memory s (upd s.memory (address_term s base disp) (reg_term s from)))
+terms_effect jump (actions.Branching Always) s = Jump jump
+terms_effect jump (actions.Branching (When c reg)) s = Split (taken_term c (tested_term c (reg_term s reg))) (passed_term c (tested_term c (reg_term s reg))) jump
+terms_effect jump actions.Return s = Return
+
+-- the same of the instruction at i
 abbrev pub insn_effect : ℕ → Insn → MachineTerms → InsnEffect
-insn_effect i (Lda ra rb disp) s = Computed (with_reg s ra (address_term s rb disp))
-insn_effect i (Ldq ra rb disp) s = Access (rd (address_term s rb disp)) (with_reg s ra (sel s.memory (address_term s rb disp)))
-insn_effect i (Stq ra rb disp) s = Access (wr (address_term s rb disp)) (with_memory s (upd s.memory (address_term s rb disp) (reg_term s ra)))
-insn_effect i (Oper op ra rhs rc) s = Computed (with_reg s rc (op_term op (reg_term s ra) (rhs_term s rhs)))
-insn_effect i (Branch c ra disp) s = Split (taken_term c (tested_term c (reg_term s ra))) (passed_term c (tested_term c (reg_term s ra))) (jump_of i (Branch c ra disp))
-insn_effect i (Br disp) s = Jump (jump_of i (Br disp))
-insn_effect i Ret s = Return
+insn_effect i insn s = terms_effect (jump_of i insn) (action_of insn) s
 
 -- the walk on from a target
 abbrev pub walked_to : (ℕ → MachineTerms → Tree) → Option ℕ → MachineTerms → Tree

@@ -11,8 +11,8 @@ use Rattle.vcgen.specs.Answers.{AreLowInvs}
 use Rattle.pcc_gate.proofs.Kept.{known-more, trees-same}
 use Rattle.pcc_gate.proofs.Refusing.{keys}
 use Rattle.pcc_gate.proofs.Stages.{low-invs}
-use Rattle.easy_class.specs.Parts.{condition_proof, first_not_easy}
-use Rattle.easy_class.specs.Access.{by_all_means}
+use Rattle.prover_class.specs.Parts.{condition_proof, first_not_easy}
+use Rattle.prover_class.specs.Access.{by_all_means}
 use Rattle.condition_prover.specs.Conditions.{condition_parts, IsKnownAnswer, IsPartsAnswer}
 use Rattle.bounds_prover.specs.Proving.{excess, encoded_unless, IsMadeAnswer}
 use Rattle.bounds_prover.proofs.Making.{same_invs, made-contents, not_easy-made, proof-made}

@@ -2,10 +2,10 @@ use Rattle.std.proofs.Common.{Option, sym, ◌∙◌, ap, subst}
 use Rattle.term_table.specs.Tree.{Tree}
 use Rattle.term_table.specs.Table.{tree_at, Stands}
 use Rattle.formula_tree.specs.Formulas.{Form}
-use Rattle.easy_class.specs.Access.{without_access, by_hyp}
+use Rattle.prover_class.specs.Access.{without_access, by_hyp}
 use Rattle.condition_prover.specs.Inside.AccessIds.{access_of}
-use Rattle.easy_goals.proofs.Kept.{context-more}
-use Rattle.easy_goals.proofs.WordRows.{after_now}
+use Rattle.goal_proofs.proofs.Kept.{context-more}
+use Rattle.goal_proofs.proofs.WordRows.{after_now}
 use Rattle.condition_prover.proofs.AccessRows.{hyp-right}
 use Rattle.condition_prover.proofs.access.by_hyp.Goals as goal
 

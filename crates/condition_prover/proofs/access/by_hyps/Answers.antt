@@ -1,8 +1,8 @@
 use Rattle.std.proofs.Common.{◌<◌, ◌≤◌, ◌+◌, length, drop, Option, Some, None, ◌∙◌, ap, subst, arith}
 use Rattle.term_table.specs.Tree.{Tree}
 use Rattle.term_table.specs.Table.{Stands}
-use Rattle.easy_class.specs.Goals.{first_of}
-use Rattle.easy_class.specs.Access.{without_access, by_hyps}
+use Rattle.prover_class.specs.Goals.{first_of}
+use Rattle.prover_class.specs.Access.{without_access, by_hyps}
 use Rattle.formula_ids.proofs.Standing.{twice}
 use Rattle.condition_prover.specs.Inside.AccessIds.{access_of}
 use Rattle.condition_prover.proofs.AccessRows.{after_twice, hyps_then, hyps_step, hyps_end}

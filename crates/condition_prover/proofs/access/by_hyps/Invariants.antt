@@ -3,9 +3,9 @@ use Rattle.term_table.specs.Table.{tree_at, Extends}
 use Rattle.formula_tree.specs.Formulas.{Exp}
 use Rattle.formula_terms.specs.Encoding.{exp_encoding}
 use Rattle.formula_ids.specs.Hypotheses.{AreHyps}
-use Rattle.easy_class.specs.Hypotheses.{Hyps}
-use Rattle.easy_class.specs.Access.{without_access, by_hyps}
-use Rattle.easy_goals.specs.Search.{IsAfter}
+use Rattle.prover_class.specs.Hypotheses.{Hyps}
+use Rattle.prover_class.specs.Access.{without_access, by_hyps}
+use Rattle.goal_proofs.specs.Search.{IsAfter}
 use Rattle.condition_prover.specs.Inside.AccessIds.{access_of}
 use Rattle.condition_prover.proofs.access.by_hyps.Given as goal
 

@@ -2,7 +2,7 @@ use Rattle.std.proofs.Common.{Option, sym, ap, subst}
 use Rattle.term_table.specs.Tree.{Tree}
 use Rattle.term_table.specs.Table.{tree_at, Stands}
 use Rattle.formula_tree.specs.Formulas.{Form, FAll}
-use Rattle.easy_class.specs.Access.{without_access, by_hyp}
+use Rattle.prover_class.specs.Access.{without_access, by_hyp}
 use Rattle.condition_prover.specs.Inside.AccessIds.{access_of}
 use Rattle.condition_prover.proofs.access.by_quantified.Goals as goal
 

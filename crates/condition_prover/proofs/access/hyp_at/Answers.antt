@@ -1,7 +1,7 @@
 use Rattle.std.proofs.Common.{◌≡◌, List, get_or, sym, subst}
 use Rattle.term_table.specs.Table.{IsKnown}
 use Rattle.formula_ids.specs.declared.hypotheses.Hypothesis.{Hypothesis}
-use Rattle.easy_bounds.proofs.Scans.{hyp_known}
+use Rattle.bound_proofs.proofs.Scans.{hyp_known}
 use Rattle.condition_prover.proofs.access.hyp_at.Goals as goal
 
 pub returns-clause-known : goal.returns-clause-known

@@ -5,7 +5,7 @@ use Rattle.formula_tree.specs.Formulas.{Form}
 use Rattle.lf_signature.specs.Nodes.{IsIdOf}
 use Rattle.lf_rules.proofs.Slices.{ended}
 use Rattle.formula_terms.specs.ProofTerms.{and_l, and_r}
-use Rattle.easy_class.specs.Access as class
+use Rattle.prover_class.specs.Access as class
 use Rattle.formula_ids.proofs.Standing.{own, ruled}
 use Rattle.condition_prover.specs.Inside.AccessIds.{way_back}
 use Rattle.condition_prover.specs.declared.access_walks.Side.TheVariants.{Left, Right}

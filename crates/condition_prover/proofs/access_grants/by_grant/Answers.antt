@@ -1,4 +1,4 @@
-use Rattle.easy_goals.proofs.WordRows.{after_search}
+use Rattle.goal_proofs.proofs.WordRows.{after_search}
 use Rattle.condition_prover.proofs.access_grants.by_grant.Goals as goal
 
 pub returns-clause-after : goal.returns-clause-after

@@ -1,5 +1,5 @@
 use Rattle.formula_ids.proofs.Standing.{twice}
-use Rattle.easy_goals.proofs.Kept.{search-more}
+use Rattle.goal_proofs.proofs.Kept.{search-more}
 use Rattle.condition_prover.proofs.access_grants.granted.Goals as goal
 
 pub access_move-requires-clause-search : goal.access_move-requires-clause-search

@@ -1,4 +1,4 @@
-use Rattle.easy_goals.proofs.Kept.{search-more}
+use Rattle.goal_proofs.proofs.Kept.{search-more}
 use Rattle.condition_prover.proofs.access_grants.granted_instance.Goals as goal
 
 pub granted-requires-clause-search : goal.granted-requires-clause-search

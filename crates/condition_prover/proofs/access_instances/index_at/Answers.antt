@@ -1,8 +1,8 @@
 use Rattle.std.proofs.Common.{◌≡◌, Bool, false, None, cond, sym, ◌∙◌, subst}
-use Rattle.easy_class.specs.Access.{has_var}
-use Rattle.easy_forms.specs.Sums.{IsExpOption}
+use Rattle.prover_class.specs.Access.{has_var}
+use Rattle.sum_proofs.specs.Sums.{IsExpOption}
 use Rattle.condition_prover.specs.Inside.Instances.{rest_at, scaled_rest}
-use Rattle.easy_goals.proofs.Kept.{search-more}
+use Rattle.goal_proofs.proofs.Kept.{search-more}
 use Rattle.condition_prover.proofs.access_instances.index_at.Goals as goal
 
 pub returns-clause-exact : goal.returns-clause-exact

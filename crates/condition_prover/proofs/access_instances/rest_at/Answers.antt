@@ -1,4 +1,4 @@
-use Rattle.easy_goals.proofs.Kept.{search-more}
+use Rattle.goal_proofs.proofs.Kept.{search-more}
 use Rattle.condition_prover.proofs.access_instances.rest_at.Goals as goal
 
 pub exp_with-requires-clause-search : goal.exp_with-requires-clause-search

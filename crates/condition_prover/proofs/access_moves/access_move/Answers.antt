@@ -1,5 +1,5 @@
-use Rattle.easy_goals.proofs.Kept.{search-more}
-use Rattle.easy_goals.proofs.WordRows.{with_memo}
+use Rattle.goal_proofs.proofs.Kept.{search-more}
+use Rattle.goal_proofs.proofs.WordRows.{with_memo}
 use Rattle.condition_prover.proofs.access_moves.access_move.Goals as goal
 
 pub normal-requires-clause-search : goal.normal-requires-clause-search

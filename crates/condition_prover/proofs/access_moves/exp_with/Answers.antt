@@ -1,4 +1,4 @@
-use Rattle.easy_goals.proofs.WordRows.{on_ok}
+use Rattle.goal_proofs.proofs.WordRows.{on_ok}
 use Rattle.condition_prover.proofs.AccessRows.{with_puts}
 use Rattle.condition_prover.proofs.access_moves.exp_with.Goals as goal
 

@@ -2,8 +2,8 @@ use Rattle.std.proofs.Common.{rules, ◌≡◌, ◌==◌, ℕ, Option, Some, Non
 use Rattle.std.specs.Ordering.{eq_by_cmp}
 use Rattle.term_table.specs.Table.{IsKnown}
 use Rattle.formula_tree.specs.Formulas.{Exp}
-use Rattle.easy_class.specs.Access.{Opened, opened_at, from_side, first_opened}
-use Rattle.easy_class.specs.Access as class
+use Rattle.prover_class.specs.Access.{Opened, opened_at, from_side, first_opened}
+use Rattle.prover_class.specs.Access as class
 use Rattle.condition_prover.specs.Inside.AccessIds.{access_of, IfFound, IsWalk}
 use Rattle.condition_prover.specs.declared.access_walks.Found.{Found}
 use Rattle.condition_prover.specs.declared.access_walks.Part.{Part}

@@ -1,9 +1,9 @@
 use Rattle.std.proofs.Common.{◌≡◌, Bool, true, None, cond, option_map, sym, ◌∙◌, subst}
-use Rattle.easy_class.specs.Access.{without_access, same_address, opening_of}
+use Rattle.prover_class.specs.Access.{without_access, same_address, opening_of}
 use Rattle.formula_ids.proofs.HypRows.{hyps-after}
 use Rattle.condition_prover.specs.Inside.AccessIds.{IfOpened}
-use Rattle.easy_goals.proofs.Kept.{context-more}
-use Rattle.easy_goals.proofs.WordRows.{after_now}
+use Rattle.goal_proofs.proofs.Kept.{context-more}
+use Rattle.goal_proofs.proofs.WordRows.{after_now}
 use Rattle.condition_prover.proofs.access_walks.opened_by.Goals as goal
 
 pub returns-then-not-branch-clause-after : goal.returns-then-not-branch-clause-after

@@ -1,12 +1,12 @@
 use Rattle.std.proofs.Common.{Option, Some, sym, ◌∙◌, subst}
 use Rattle.term_table.specs.Subst.{bind}
 use Rattle.formula_tree.specs.Formulas.{Exp}
-use Rattle.easy_class.specs.Access.{without_access, instance_of, opened_with}
+use Rattle.prover_class.specs.Access.{without_access, instance_of, opened_with}
 use Rattle.formula_ids.proofs.HypRows.{hyps-after}
-use Rattle.easy_forms.specs.Sums.{IsExpOption}
+use Rattle.sum_proofs.specs.Sums.{IsExpOption}
 use Rattle.condition_prover.specs.Inside.AccessIds.{IfOpened}
-use Rattle.easy_goals.proofs.Kept.{context-more}
-use Rattle.easy_goals.proofs.WordRows.{after_now}
+use Rattle.goal_proofs.proofs.Kept.{context-more}
+use Rattle.goal_proofs.proofs.WordRows.{after_now}
 use Rattle.condition_prover.proofs.AccessRows.{option_some}
 use Rattle.condition_prover.proofs.access_walks.opened_instance.Goals as goal
 

@@ -2,12 +2,12 @@ use Rattle.std.proofs.Common.{◌≡◌, Bool, true, None, cond, option_map, sym
 use Rattle.term_table.specs.Table.{IsKnown, tree_at}
 use Rattle.formula_tree.specs.Variables.{PExp, subst_var_exp, subst_var}
 use Rattle.formula_terms.specs.Encoding.{exp_encoding, form_encoding}
-use Rattle.easy_class.specs.Access.{without_access, same_address, opening_of}
+use Rattle.prover_class.specs.Access.{without_access, same_address, opening_of}
 use Rattle.formula_ids.proofs.Standing.{twice}
 use Rattle.formula_ids.proofs.HypRows.{hyps-after}
 use Rattle.condition_prover.specs.Inside.AccessIds.{IfOpened}
-use Rattle.easy_goals.proofs.Kept.{context-more}
-use Rattle.easy_goals.proofs.WordRows.{after_now}
+use Rattle.goal_proofs.proofs.Kept.{context-more}
+use Rattle.goal_proofs.proofs.WordRows.{after_now}
 use Rattle.condition_prover.proofs.access_walks.opened_with.Goals as goal
 
 pub returns-then-not-branch-clause-after : goal.returns-then-not-branch-clause-after

@@ -1,9 +1,9 @@
 use Rattle.std.proofs.Common.{◌≡◌, ℕ, Option, None, sym, ◌∙◌, subst}
 use Rattle.term_table.specs.Tree.{Tree}
 use Rattle.term_table.specs.Table.{Stands}
-use Rattle.easy_class.specs.Goals.{first_of, by_words_alone}
-use Rattle.easy_class.specs.Access.{without_access, by_access}
-use Rattle.easy_hyps.proofs.AlignmentRows.{stands_at}
+use Rattle.prover_class.specs.Goals.{first_of, by_words_alone}
+use Rattle.prover_class.specs.Access.{without_access, by_access}
+use Rattle.hyp_proofs.proofs.AlignmentRows.{stands_at}
 use Rattle.condition_prover.proofs.AccessRows.{hyps_then}
 use Rattle.condition_prover.proofs.all_means.by_all_means.Goals as goal
 

@@ -1,4 +1,4 @@
-use Rattle.easy_goals.proofs.Kept.{search-more}
+use Rattle.goal_proofs.proofs.Kept.{search-more}
 use Rattle.condition_prover.proofs.parts.+proof_of_parts.Goals as goal
 
 pub returns-in_default-clause-search : goal.returns-in_default-clause-search

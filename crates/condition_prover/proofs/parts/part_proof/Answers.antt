@@ -1,4 +1,4 @@
-use Rattle.easy_goals.proofs.Kept.{search-more}
+use Rattle.goal_proofs.proofs.Kept.{search-more}
 use Rattle.condition_prover.proofs.parts.part_proof.Goals as goal
 
 pub proof_by_all_means-requires-clause-search : goal.proof_by_all_means-requires-clause-search

@@ -1,6 +1,8 @@
 use Rattle.std.proofs.Common.{ap, ◌∙◌, sym}
-use Rattle.lf_signature.specs.Numbers.{op_of, rel_of, op_of_constant, rel_of_constant}
-use Rattle.lf_signature.specs.Laws.Numbered.{op_of-op_number, op_number_is, rel_of-rel_number, rel_number_is, op_of_constant-op_constant, op_constant_is, rel_of_constant-rel_constant, rel_constant_is}
+use Rattle.word_ops.specs.Operators.{op_of, op_of_constant}
+use Rattle.lf_signature.specs.Numbers.{rel_of, rel_of_constant}
+use Rattle.word_ops.proofs.EachOp.{op_of-op_number, op_number_is, op_of_constant-op_constant, op_constant_is}
+use Rattle.lf_signature.specs.Laws.Numbered.{rel_of-rel_number, rel_number_is, rel_of_constant-rel_constant, rel_constant_is}
 use Rattle.lf_signature.specs.Laws.WellFormed.{declared_formed, declared_simply}
 use Rattle.lf_signature.proofs.Lookup.{declared-constant, declared-rule}
 use Rattle.lf_signature.proofs.theorems.signature_laws.Goals as goal

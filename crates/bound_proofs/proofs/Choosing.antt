@@ -1,0 +1,57 @@
+-- What is chosen from where an expression is a word, an operator or neither.
+use Rattle.std.proofs.Common.{◌≡◌, ℕ, None, [], ◌++◌, refl}
+use Rattle.word_ops.specs.declared.Op.{Op}
+use Rattle.word_ops.specs.declared.Op.TheVariants.{Add, Band, Sll, Srl, Cmpeq, Cmplt, Cmple, Cmpult, Cmpule}
+use Rattle.formula_tree.specs.Formulas.{Exp, EReg, ELeft, EVar, ELit, EOp, ESel}
+use Rattle.formula_ids.specs.Operands.{IsLiteral}
+use Rattle.prover_class.specs.Hypotheses.{Hyps}
+use Rattle.prover_class.specs.Bounds.{WordBound, least_bound, own_bounds, op_bounds, uppers, upper_bound}
+use Rattle.bound_proofs.specs.declared.bounds.Side.TheVariants.{Upper}
+use Rattle.bound_proofs.specs.declared.parts.How.{How}
+use Rattle.bound_proofs.specs.Candidates.{limit, by_parts}
+use Rattle.bound_proofs.specs.declared.choices.Choice.{Choice}
+use Rattle.bound_proofs.specs.Choices.{IsChoice}
+
+-- what is no word has no bound of its own
+pub own_none : (x : Exp) → ((w : ℕ) → x ≡ ELit w → ⊥) → own_bounds x ≡ []
+own_none (ELit w) n = absurd (n w refl)
+own_none x n = refl
+
+-- what is no operator has no parts
+abbrev pub IsNoOp : Exp → Type 0
+IsNoOp x = (o : Op) (a b : Exp) → x ≡ EOp o a b → ⊥
+
+pub upper_alone : (Γ : Hyps) (x : Exp) → IsNoOp x → least_bound (own_bounds x ++ uppers x Γ) (limit Upper x) ≡ upper_bound Γ x
+upper_alone Γ (EOp o a b) n = absurd (n o a b refl)
+upper_alone Γ x n = refl
+
+pub no_parts : (Γ : Hyps) (x : Exp) (c : How) → IsNoOp x → limit Upper x ≡ by_parts Γ x c
+no_parts Γ (EOp o a b) c n = absurd (n o a b refl)
+no_parts Γ x c n = refl
+
+-- a shift by what is no word has none
+pub right_none : (a b : Exp) (v w : WordBound) → IsLiteral b None → op_bounds Srl a b v w ≡ []
+right_none a (ELit w) v u n = absurd (n w refl)
+right_none a b v u n = refl
+
+pub left_none : (a b : Exp) (v w : WordBound) → IsLiteral b None → op_bounds Sll a b v w ≡ []
+left_none a (ELit w) v u n = absurd (n w refl)
+left_none a b v u n = refl
+
+-- an operator of whose parts no bound is known
+pub no_bounds : (o : Op) (a b : Exp) (v w : WordBound) → (o ≡ Band → ⊥) → (o ≡ Srl → ⊥) → (o ≡ Sll → ⊥) → (o ≡ Add → ⊥) →
+    (o ≡ Cmpeq → ⊥) → (o ≡ Cmplt → ⊥) → (o ≡ Cmple → ⊥) → (o ≡ Cmpult → ⊥) → (o ≡ Cmpule → ⊥) → op_bounds o a b v w ≡ []
+no_bounds Band a b v w p q r s c d e f g = absurd (p refl)
+no_bounds Srl a b v w p q r s c d e f g = absurd (q refl)
+no_bounds Sll a b v w p q r s c d e f g = absurd (r refl)
+no_bounds Add a b v w p q r s c d e f g = absurd (s refl)
+no_bounds Cmpeq a b v w p q r s c d e f g = absurd (c refl)
+no_bounds Cmplt a b v w p q r s c d e f g = absurd (d refl)
+no_bounds Cmple a b v w p q r s c d e f g = absurd (e refl)
+no_bounds Cmpult a b v w p q r s c d e f g = absurd (f refl)
+no_bounds Cmpule a b v w p q r s c d e f g = absurd (g refl)
+no_bounds o a b v w p q r s c d e f g = refl
+
+-- the choice is the least of what the parts of this operator say
+abbrev pub IsPartChoice : Hyps → Exp → Exp → Choice → Op → Type 0
+IsPartChoice Γ x y c o = IsChoice Upper Γ (EOp o x y) (least_bound (op_bounds o x y (upper_bound Γ x) (upper_bound Γ y)) (limit Upper (EOp o x y))) c

@@ -1,0 +1,243 @@
+//! Which candidate is the best bound: no term is made, and the table stays as it is.
+
+ghost use Rattle.std.specs.Prelude.{◌≡◌, ◌<◌, ◌+◌, ◌^◌, ◌++◌, [], ◌∷◌, if◌then◌else◌, nat_lt, nat_le, suc, drop, length};
+ghost use Rattle.term_table.specs.Table.{IsKnown, tree_at};
+ghost use Rattle.word_ops.specs.declared.Op.TheVariants.{Srl};
+ghost use Rattle.word_ops.specs.Words.{word_of};
+ghost use Rattle.formula_tree.specs.Formulas.{Exp, EOp};
+ghost use Rattle.formula_terms.specs.Encoding.{exp_encoding};
+ghost use Rattle.formula_ids.specs.Hypotheses.{AreKnownHyps, AreHyps};
+ghost use Rattle.formula_ids.specs.Nodes.{IsApply};
+ghost use Rattle.prover_class.specs.Hypotheses.{Hyps};
+ghost use Rattle.prover_class.specs.Bounds.{WordBound, max_word, least_bound, op_bounds, own_bounds, upper_bound};
+ghost use Rattle.bound_proofs.specs.declared.bounds.Side.TheVariants.{Upper};
+ghost use Rattle.bound_proofs.specs.Candidates.{limit};
+ghost use Rattle.bound_proofs.specs.Choices.{better, best, all_say, chosen, IsChoice};
+
+use crate::bounds::Side;
+use crate::parts::{How, Parts};
+use crate::relations::{bound_word, relation_of};
+use formula_ids::{Hypothesis, literal};
+use lf_rules::numbers::CMP_LE1;
+use term_table::{Id, Table};
+use word_ops::{Op, apply};
+
+/// What a bound holds by.
+#[derive(Clone, Copy)]
+pub(crate) enum By {
+    /// No word is more than the greatest, and none is less than 0.
+    Limit,
+    /// It is a word itself.
+    Itself,
+    /// The hypothesis at this place, which relates it to a word.
+    Hypothesis(usize),
+    /// Its operator's parts.
+    Parts(How),
+}
+
+/// A bound that was chosen: its word, and what it holds by.
+#[derive(Clone, Copy)]
+pub(crate) struct Choice {
+    pub(crate) value: u64,
+    pub(crate) by: By,
+}
+
+/// The first, unless the second is strictly better.
+fn better(side: Side, first: Choice, second: Choice) -> Choice
+    ensures { (Γ : Hyps) (x : Exp) (v w : WordBound) → IsChoice side Γ x v first
+        → IsChoice side Γ x w second → IsChoice side Γ x (better side v w) result }
+{
+    match side {
+        Side::Upper => {
+            if second.value < first.value {
+                second
+            } else {
+                first
+            }
+        }
+        Side::Lower => {
+            if first.value < second.value {
+                second
+            } else {
+                first
+            }
+        }
+    }
+}
+
+/// This candidate, unless the last is strictly better.
+fn or_last(side: Side, by: By, value: u64, last: Choice) -> Choice
+    ensures { (Γ : Hyps) (x : Exp) (w : WordBound) → value ≡ (chosen side Γ x by).value
+        → IsChoice side Γ x w last
+        → IsChoice side Γ x (better side (chosen side Γ x by) w) result }
+{
+    better(side, Choice { value, by }, last)
+}
+
+/// The limit of words.
+fn limited(side: Side) -> Choice
+    ensures { (Γ : Hyps) (x : Exp) → IsChoice side Γ x (limit side x) result }
+{
+    match side {
+        Side::Upper => Choice {
+            value: u64::MAX,
+            by: By::Limit,
+        },
+        Side::Lower => Choice {
+            value: 0,
+            by: By::Limit,
+        },
+    }
+}
+
+/// The best of what the hypothesis at this place says of the expression, and what later ones say.
+fn with_hyp(
+    table: &Table,
+    side: Side,
+    hyps: &[Hypothesis],
+    at: usize,
+    e: Id,
+    later: Choice,
+) -> Choice
+    requires hyps { AreKnownHyps table.now hyps.now }
+    requires at { at < length hyps.now }
+    requires e { IsKnown table.now e }
+    ensures { (Γ : Hyps) (x : Exp) (w : WordBound) → AreHyps table.now hyps.now Γ
+        → tree_at table.now e ≡ exp_encoding x
+        → IsChoice side Γ x (best side (all_say side x (drop (suc at) Γ)) w) later
+        → IsChoice side Γ x (best side (all_say side x (drop at Γ)) w) result }
+{
+    match relation_of(table, side, hyps[at].form, e) {
+        None => later,
+        Some(r) => or_last(
+            side,
+            By::Hypothesis(at),
+            bound_word(side, r.kind, r.value),
+            later,
+        ),
+    }
+}
+
+/// The best of what the hypotheses say of the expression, and the last. They are taken from the last
+/// to the first, so that of equal bounds the first hypothesis' stays.
+fn by_hyps(table: &Table, side: Side, hyps: &[Hypothesis], e: Id, last: Choice) -> Choice
+    requires hyps { AreKnownHyps table.now hyps.now }
+    requires e { IsKnown table.now e }
+    ensures { (Γ : Hyps) (x : Exp) (w : WordBound) → AreHyps table.now hyps.now Γ
+        → tree_at table.now e ≡ exp_encoding x → IsChoice side Γ x w last
+        → IsChoice side Γ x (best side (all_say side x Γ) w) result }
+{
+    let count = hyps.len();
+    let mut best = last;
+    for i in 0..count {
+        best = with_hyp(table, side, hyps, count - 1 - i, e, best);
+    }
+    best
+}
+
+/// The best bound of an expression by the hypotheses and by being a word.
+pub(crate) fn choice_alone(table: &Table, side: Side, hyps: &[Hypothesis], e: Id) -> Choice
+    requires hyps { AreKnownHyps table.now hyps.now }
+    requires e { IsKnown table.now e }
+    ensures { (Γ : Hyps) (x : Exp) → AreHyps table.now hyps.now Γ
+        → tree_at table.now e ≡ exp_encoding x → IsChoice side Γ x
+        (best side (own_bounds x ++ all_say side x Γ) (limit side x)) result }
+{
+    let best = by_hyps(table, side, hyps, e, limited(side));
+    match literal(table, e) {
+        None => best,
+        Some(word) => or_last(side, By::Itself, word, best),
+    }
+}
+
+/// This candidate for an upper bound where `fits`, unless the last is strictly better.
+fn or_last_if(fits: bool, by: By, value: u64, last: Choice) -> Choice
+    ensures { (Γ : Hyps) (x : Exp) (w : WordBound) → value ≡ (chosen Upper Γ x by).value
+        → IsChoice Upper Γ x w last → IsChoice Upper Γ x
+        (least_bound (if fits then chosen Upper Γ x by ∷ [] else []) w) result }
+{
+    if fits {
+        or_last(Side::Upper, by, value, last)
+    } else {
+        last
+    }
+}
+
+/// Whether the sum of two words doesn't wrap.
+fn fits_sum(v: u64, w: u64) -> bool
+    ensures { result ≡ nat_lt (v + w) (2 ^ 64) }
+{
+    v.checked_add(w).is_some()
+}
+
+/// Whether no bit is lost where the word is shifted to the left.
+fn fits_shift(v: u64, count: u64) -> bool
+    ensures { result ≡ nat_le v (word_of Srl max_word count) }
+{
+    v <= apply(Op::Srl, u64::MAX, count)
+}
+
+/// The least of what the operator's parts, whose upper bounds have the words `v` and `w`, say of it.
+fn by_parts(table: &Table, op: Op, b: Id, v: u64, w: u64) -> Choice
+    requires { IsKnown table.now b }
+    ensures { (Γ : Hyps) (x y : Exp) → tree_at table.now b ≡ exp_encoding y
+        → v ≡ (upper_bound Γ x).value → w ≡ (upper_bound Γ y).value
+        → IsChoice Upper Γ (EOp op x y) (least_bound
+        (op_bounds op x y (upper_bound Γ x) (upper_bound Γ y)) (limit Upper (EOp op x y))) result }
+{
+    let last = limited(Side::Upper);
+    match op {
+        Op::Band => {
+            let left = or_last(Side::Upper, By::Parts(How::AndLeft), v, last);
+            or_last(Side::Upper, By::Parts(How::AndRight), w, left)
+        }
+        Op::Srl => match literal(table, b) {
+            None => last,
+            Some(n) => {
+                let by = By::Parts(How::ShiftRight(n));
+                or_last(Side::Upper, by, apply(Op::Srl, v, n), last)
+            }
+        },
+        Op::Sll => match literal(table, b) {
+            None => last,
+            Some(n) => {
+                let by = By::Parts(How::ShiftLeft(n));
+                or_last_if(fits_shift(v, n), by, apply(Op::Sll, v, n), last)
+            }
+        },
+        Op::Add => or_last_if(
+            fits_sum(v, w),
+            By::Parts(How::Sum),
+            apply(Op::Add, v, w),
+            last,
+        ),
+        Op::Cmpeq => or_last(Side::Upper, By::Parts(How::Compared(CMP_LE1)), 1, last),
+        Op::Cmplt => or_last(Side::Upper, By::Parts(How::Compared(CMP_LE1 + 1)), 1, last),
+        Op::Cmple => or_last(Side::Upper, By::Parts(How::Compared(CMP_LE1 + 2)), 1, last),
+        Op::Cmpult => or_last(Side::Upper, By::Parts(How::Compared(CMP_LE1 + 3)), 1, last),
+        Op::Cmpule => or_last(Side::Upper, By::Parts(How::Compared(CMP_LE1 + 4)), 1, last),
+        _ => last,
+    }
+}
+
+/// The least upper bound of an operator at two expressions, whose upper bounds have the words `v` and
+/// `w`.
+pub(crate) fn choice_of_parts(
+    table: &Table,
+    hyps: &[Hypothesis],
+    e: Id,
+    parts: &Parts,
+    v: u64,
+    w: u64,
+) -> Choice
+    requires hyps { AreKnownHyps table.now hyps.now }
+    requires e { IsKnown table.now e }
+    requires right { IsKnown table.now parts.now.right }
+    ensures { let q = parts.now in (Γ : Hyps) (x : Exp)
+        (p : IsApply table.now x q.op q.left q.right) → AreHyps table.now hyps.now Γ
+        → tree_at table.now e ≡ exp_encoding x → v ≡ (upper_bound Γ p.left).value
+        → w ≡ (upper_bound Γ p.right).value → IsChoice Upper Γ x (upper_bound Γ x) result }
+{
+    let best = by_parts(table, parts.op, parts.right, v, w);
+    by_hyps(table, Side::Upper, hyps, e, best)
+}

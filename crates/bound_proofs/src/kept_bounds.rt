@@ -1,0 +1,120 @@
+//! Upper bounds that are kept, so that an expression that stands in many places is gone through
+//! once, and the proof of its bound made once.
+
+ghost use Rattle.std.specs.Prelude.{◌≡◌, IfOk, IfSome, List};
+ghost use Rattle.term_table.specs.Table.{TableView, IsKnown, tree_at};
+ghost use Rattle.hereditary_subst.specs.Kept.{IsMemo};
+ghost use Rattle.formula_tree.specs.Formulas.{Exp};
+ghost use Rattle.formula_terms.specs.Encoding.{exp_encoding};
+ghost use Rattle.formula_ids.specs.declared.hypotheses.Hypothesis.{Hypothesis as H};
+ghost use Rattle.formula_ids.specs.Hypotheses.{AreHyps};
+ghost use Rattle.prover_class.specs.Hypotheses.{Hyps};
+ghost use Rattle.prover_class.specs.Bounds.{upper_bound};
+ghost use Rattle.bound_proofs.specs.declared.bounds.Side.TheVariants.{Upper};
+ghost use Rattle.bound_proofs.specs.Choices.{IsChoice};
+ghost use Rattle.bound_proofs.specs.KeptBounds.{AreUppers, IsKept};
+
+use crate::choices::Choice;
+use formula_ids::{Hypothesis, Kept, Question, number};
+use hereditary_subst::{Exhausted, Memo};
+use std::alloc::Global;
+use term_table::{Id, Table};
+
+/// The expression that a row is of.
+#[derive(Clone, Copy, PartialEq, Eq, PartialOrd, Ord)]
+struct Subject {
+    exp: u64,
+}
+
+/// What was chosen as a bound, and the proof's id where it was made.
+#[derive(Clone, Copy)]
+struct Row {
+    choice: Choice,
+    proof: Option<Id>,
+}
+
+impl Question for Subject {
+    ghost use Rattle.std.proofs.Common.{rules};
+    ghost use Rattle.bound_proofs.specs.KeptBounds.{IsUpper};
+    ghost use Rattle.bound_proofs.specs.Lasting.{upper-lasts};
+
+    type Answer = Row;
+
+    ghost is_right = { λ l t. IsUpper t l };
+
+    ghost same = { Prim.search rules };
+
+    ghost lasts = { λ l t u s r e k h. upper-lasts t u l s r k e h };
+}
+
+/// Upper bounds that were found, of expressions under one list of hypotheses. They count in the
+/// limit of the `Memo` that keeps the shifts.
+#[derive(Drop)]
+pub struct UpperBounds {
+    rows: Kept<Subject>,
+}
+
+impl UpperBounds {
+    /// None yet, which takes no memory, for any hypotheses.
+    pub fn new(alloc: Global) -> UpperBounds
+        ensures { (t : TableView) (hyps : List H) → AreUppers t hyps result }
+    {
+        UpperBounds {
+            rows: Kept::new(alloc),
+        }
+    }
+
+    /// The choice that is kept of the expression.
+    pub(crate) fn choice(&self, table: &Table, hyps: &[Hypothesis], e: Id) -> Option<Choice>
+        requires { AreUppers table.now hyps.now self.now }
+        ensures { (Γ : Hyps) (x : Exp) → AreHyps table.now hyps.now Γ
+            → tree_at table.now e ≡ exp_encoding x
+            → IfSome result (IsChoice Upper Γ x (upper_bound Γ x)) }
+    {
+        let subject = Subject { exp: number(e) };
+        match self.rows.get(table, hyps, &subject) {
+            None => None,
+            Some(row) => Some(row.choice),
+        }
+    }
+
+    /// The proof that is kept of the expression.
+    pub(crate) fn proof(&self, table: &Table, hyps: &[Hypothesis], e: Id) -> Option<Id>
+        requires { AreUppers table.now hyps.now self.now }
+        ensures known { IfSome result (IsKnown table.now) }
+        ensures is { (Γ : Hyps) (x : Exp) → AreHyps table.now hyps.now Γ
+            → tree_at table.now e ≡ exp_encoding x
+            → IfSome result (λ p. tree_at table.now p ≡ (upper_bound Γ x).proof) }
+    {
+        let subject = Subject { exp: number(e) };
+        match self.rows.get(table, hyps, &subject) {
+            None => None,
+            Some(row) => row.proof,
+        }
+    }
+
+    /// Keeps what was chosen of the expression, and the proof where it was made. Fails past the limit
+    /// of `memo`, and where memory does.
+    pub(crate) fn keep(
+        &mut self,
+        memo: &mut Memo,
+        table: &Table,
+        hyps: &[Hypothesis],
+        e: Id,
+        choice: Choice,
+        proof: Option<Id>,
+    ) -> Result<(), Exhausted>
+        requires memo { IsMemo table.now memo.old }
+        requires kept { AreUppers table.now hyps.now self.old }
+        requires e { IsKnown table.now e }
+        requires known { IfSome proof (IsKnown table.now) }
+        requires is { (Γ : Hyps) (x : Exp) → AreHyps table.now hyps.now Γ
+            → tree_at table.now e ≡ exp_encoding x → IsKept table.now Γ x choice proof }
+        ensures memo { IsMemo table.now memo.new }
+        ensures kept { IfOk result (λ _. AreUppers table.now hyps.now self.new) }
+    {
+        let subject = Subject { exp: number(e) };
+        let row = Row { choice, proof };
+        self.rows.keep(memo, table, hyps, subject, row)
+    }
+}

@@ -1,0 +1,272 @@
+//! The parts of an operator, and what they say of it from above, bounded themselves.
+//!
+//! Errors: want of memory alone; each id keeps its tree.
+
+ghost use Rattle.std.specs.Prelude.{◌≡◌, ◌<◌, IfOk, IfSome};
+ghost use Rattle.term_table.specs.Table.{IsKnown, tree_at, Extends};
+ghost use Rattle.hereditary_subst.specs.Kept.{IsMemo};
+ghost use Rattle.formula_tree.specs.Formulas.{Exp, ELit};
+ghost use Rattle.formula_terms.specs.Encoding.{exp_encoding};
+ghost use Rattle.bound_proofs.specs.BoundIds.{IsBoundOf, bound_by_ids};
+ghost use Rattle.bound_proofs.specs.Candidates.{limit, by_word, by_itself, by_right, by_left, by_right_shift, by_left_shift, by_sum, by_comparison};
+ghost use Rattle.bound_proofs.specs.Choices.{AreParts};
+
+use crate::bounds::{Bound, Side, fit_proof, folded, placed, word};
+use formula_ids::{ExpNode, exp_node, literal, moved, oper};
+use hereditary_subst::{Exhausted, Memo};
+use lf_rules::numbers::{
+    ADD_LE, AND_COMM, AND_LE, MAX_LE, SLL_MONO, SRL_MONO, ULE_REFL, ULE_TRANS, ZERO_LE,
+};
+use lf_rules::rule_term;
+use std::alloc::AllocError;
+use term_table::{Id, Table};
+use word_ops::Op;
+
+/// An operator and its two sides.
+#[derive(Clone, Copy)]
+pub(crate) struct Parts {
+    pub(crate) op: Op,
+    pub(crate) left: Id,
+    pub(crate) right: Id,
+}
+
+/// How an operator is bounded from above by upper bounds of its parts.
+#[derive(Clone, Copy)]
+pub(crate) enum How {
+    /// Bitwise and is at most its left side.
+    AndLeft,
+    /// Bitwise and is at most its right side.
+    AndRight,
+    /// A shift of its left side to the right by so many bits.
+    ShiftRight(u64),
+    /// A shift of its left side to the left by so many bits, where none is lost.
+    ShiftLeft(u64),
+    /// A sum of both, where it doesn't wrap.
+    Sum,
+    /// A comparison is at most 1, by the rule of this number.
+    Compared(u32),
+}
+
+/// The operator and the sides of the expression that `e` encodes; none where it is no operator. Of an
+/// id that encodes none it says nothing, but that the sides' ids are lower.
+pub(crate) fn parts_of(table: &Table, e: Id) -> Option<Parts>
+    requires { IsKnown table.now e }
+    ensures is { (x : Exp) → tree_at table.now e ≡ exp_encoding x → AreParts table.now x result }
+    ensures below { IfSome result (λ p. (p.left < e) × (p.right < e)) }
+{
+    match exp_node(table, e) {
+        ExpNode::Apply(op, left, right) => Some(Parts { op, left, right }),
+        _ => None,
+    }
+}
+
+/// No word is more than the greatest, and none is less than 0.
+pub(crate) fn limit(table: &mut Table, side: Side, e: Id) -> Result<Bound, Exhausted>
+    requires { IsKnown table.old e }
+    ensures known { IfOk result (λ b. IsKnown table.new b.proof) }
+    ensures is { (x : Exp) → tree_at table.old e ≡ exp_encoding x
+        → IfOk result (IsBoundOf table.new (limit side x)) }
+    ensures extends { Extends table.old table.new }
+{
+    match side {
+        Side::Upper => {
+            let proof = rule_term(table, MAX_LE, &[e])?;
+            Ok(Bound {
+                value: u64::MAX,
+                proof,
+            })
+        }
+        Side::Lower => {
+            let proof = rule_term(table, ZERO_LE, &[e])?;
+            Ok(Bound { value: 0, proof })
+        }
+    }
+}
+
+/// A word is its own bound.
+fn by_word(table: &mut Table, e: Id, w: u64) -> Result<Bound, Exhausted>
+    requires { IsKnown table.old e }
+    ensures known { IfOk result (λ b. IsKnown table.new b.proof) }
+    ensures is { tree_at table.old e ≡ exp_encoding (ELit w)
+        → IfOk result (IsBoundOf table.new (by_word w)) }
+    ensures extends { Extends table.old table.new }
+{
+    let proof = rule_term(table, ULE_REFL, &[e])?;
+    Ok(Bound { value: w, proof })
+}
+
+/// A word by itself.
+pub(crate) fn by_itself(table: &mut Table, side: Side, e: Id) -> Result<Bound, Exhausted>
+    requires { IsKnown table.old e }
+    ensures known { IfOk result (λ b. IsKnown table.new b.proof) }
+    ensures is { (x : Exp) → tree_at table.old e ≡ exp_encoding x
+        → IfOk result (IsBoundOf table.new (by_itself side x)) }
+    ensures extends { Extends table.old table.new }
+{
+    match literal(table, e) {
+        None => limit(table, side, e),
+        Some(w) => by_word(table, e, w),
+    }
+}
+
+/// A comparison is at most 1, by the rule of this number.
+pub(crate) fn by_comparison(
+    table: &mut Table,
+    number: u32,
+    a: Id,
+    b: Id,
+) -> Result<Bound, Exhausted>
+    requires a { IsKnown table.old a }
+    requires b { IsKnown table.old b }
+    ensures known { IfOk result (λ b. IsKnown table.new b.proof) }
+    ensures is { (x y : Exp) → tree_at table.old a ≡ exp_encoding x
+        → tree_at table.old b ≡ exp_encoding y
+        → IfOk result (IsBoundOf table.new (by_comparison number x y)) }
+    ensures extends { Extends table.old table.new }
+{
+    let proof = rule_term(table, number, &[a, b])?;
+    Ok(Bound { value: 1, proof })
+}
+
+/// Bitwise and is at most what its right side is.
+pub(crate) fn by_right(table: &mut Table, e: Id, a: Id, b: Id, w: Bound) -> Result<Bound, Exhausted>
+    requires e { IsKnown table.old e }
+    requires a { IsKnown table.old a }
+    requires b { IsKnown table.old b }
+    requires w { IsKnown table.old w.proof }
+    ensures known { IfOk result (λ b. IsKnown table.new b.proof) }
+    ensures is { (x y z : Exp) → tree_at table.old e ≡ exp_encoding x
+        → tree_at table.old a ≡ exp_encoding y → tree_at table.old b ≡ exp_encoding z
+        → IfOk result (IsBoundOf table.new (by_right x y z (bound_by_ids table.old w))) }
+    ensures extends { Extends table.old table.new }
+{
+    let least = rule_term(table, AND_LE, &[a, b])?;
+    let value = word(table, w.value)?;
+    let proof = rule_term(table, ULE_TRANS, &[e, b, value, least, w.proof])?;
+    Ok(Bound {
+        value: w.value,
+        proof,
+    })
+}
+
+/// Bitwise and is at most what its left side is.
+#[tactic(auto, using(hereditary_subst::proofs::Rows::rows))]
+pub(crate) fn by_left(
+    table: &mut Table,
+    memo: &mut Memo,
+    e: Id,
+    a: Id,
+    b: Id,
+    v: Bound,
+) -> Result<Bound, Exhausted>
+    requires e { IsKnown table.old e }
+    requires a { IsKnown table.old a }
+    requires b { IsKnown table.old b }
+    requires v { IsKnown table.old v.proof }
+    requires memo { IsMemo table.old memo.old }
+    ensures known { IfOk result (λ b. IsKnown table.new b.proof) }
+    ensures is { (x y z : Exp) → tree_at table.old e ≡ exp_encoding x
+        → tree_at table.old a ≡ exp_encoding y → tree_at table.old b ≡ exp_encoding z
+        → IfOk result (IsBoundOf table.new (by_left x y z (bound_by_ids table.old v))) }
+    ensures extends { Extends table.old table.new }
+    ensures memo { IsMemo table.new memo.new }
+{
+    let form = placed(table, memo, Side::Lower, a)?;
+    let turned = oper(table, Op::Band, b, a)?;
+    let equal = rule_term(table, AND_COMM, &[b, a])?;
+    let least = rule_term(table, AND_LE, &[b, a])?;
+    let back = moved(table, form, turned, e, equal, least)?;
+    let value = word(table, v.value)?;
+    let proof = rule_term(table, ULE_TRANS, &[e, a, value, back, v.proof])?;
+    Ok(Bound {
+        value: v.value,
+        proof,
+    })
+}
+
+/// A right shift by a word.
+#[tactic(auto, using(hereditary_subst::proofs::Rows::rows))]
+pub(crate) fn by_right_shift(
+    table: &mut Table,
+    memo: &mut Memo,
+    e: Id,
+    a: Id,
+    count: u64,
+    v: Bound,
+) -> Result<Bound, Exhausted>
+    requires e { IsKnown table.old e }
+    requires a { IsKnown table.old a }
+    requires v { IsKnown table.old v.proof }
+    requires memo { IsMemo table.old memo.old }
+    ensures known { IfOk result (λ b. IsKnown table.new b.proof) }
+    ensures is { (x y : Exp) → tree_at table.old e ≡ exp_encoding x
+        → tree_at table.old a ≡ exp_encoding y → IfOk result
+        (IsBoundOf table.new (by_right_shift x y count (bound_by_ids table.old v))) }
+    ensures extends { Extends table.old table.new }
+    ensures memo { IsMemo table.new memo.new }
+{
+    let value = word(table, v.value)?;
+    let by = word(table, count)?;
+    let proof = rule_term(table, SRL_MONO, &[a, value, by, v.proof])?;
+    folded(table, memo, e, Op::Srl, v.value, count, proof)
+}
+
+/// A left shift by a word, where no bit is lost.
+#[tactic(auto, using(hereditary_subst::proofs::Rows::rows))]
+pub(crate) fn by_left_shift(
+    table: &mut Table,
+    memo: &mut Memo,
+    e: Id,
+    a: Id,
+    count: u64,
+    v: Bound,
+) -> Result<Bound, Exhausted>
+    requires e { IsKnown table.old e }
+    requires a { IsKnown table.old a }
+    requires v { IsKnown table.old v.proof }
+    requires memo { IsMemo table.old memo.old }
+    ensures known { IfOk result (λ b. IsKnown table.new b.proof) }
+    ensures is { (x y : Exp) → tree_at table.old e ≡ exp_encoding x
+        → tree_at table.old a ≡ exp_encoding y → IfOk result
+        (IsBoundOf table.new (by_left_shift x y count (bound_by_ids table.old v))) }
+    ensures extends { Extends table.old table.new }
+    ensures memo { IsMemo table.new memo.new }
+{
+    let fits = fit_proof(table, memo, v.value, Op::Srl, u64::MAX, count)?;
+    let value = word(table, v.value)?;
+    let by = word(table, count)?;
+    let proof = rule_term(table, SLL_MONO, &[a, value, by, v.proof, fits])?;
+    folded(table, memo, e, Op::Sll, v.value, count, proof)
+}
+
+/// A sum, where it doesn't wrap.
+#[tactic(auto, using(hereditary_subst::proofs::Rows::rows))]
+pub(crate) fn by_sum(
+    table: &mut Table,
+    memo: &mut Memo,
+    e: Id,
+    a: Id,
+    b: Id,
+    v: Bound,
+    w: Bound,
+) -> Result<Bound, Exhausted>
+    requires e { IsKnown table.old e }
+    requires a { IsKnown table.old a }
+    requires b { IsKnown table.old b }
+    requires v { IsKnown table.old v.proof }
+    requires w { IsKnown table.old w.proof }
+    requires memo { IsMemo table.old memo.old }
+    ensures known { IfOk result (λ b. IsKnown table.new b.proof) }
+    ensures is { (x y z : Exp) → tree_at table.old e ≡ exp_encoding x
+        → tree_at table.old a ≡ exp_encoding y → tree_at table.old b ≡ exp_encoding z
+        → IfOk result (IsBoundOf table.new
+        (by_sum x y z (bound_by_ids table.old v) (bound_by_ids table.old w))) }
+    ensures extends { Extends table.old table.new }
+    ensures memo { IsMemo table.new memo.new }
+{
+    let fits = fit_proof(table, memo, v.value, Op::Add, v.value, w.value)?;
+    let left = word(table, v.value)?;
+    let right = word(table, w.value)?;
+    let proof = rule_term(table, ADD_LE, &[a, b, left, right, v.proof, w.proof, fits])?;
+    folded(table, memo, e, Op::Add, v.value, w.value, proof)
+}

@@ -1,0 +1,207 @@
+//! Upper bounds of expressions: chosen first, by words alone, and made where the proof is asked for.
+//!
+//! Errors: want of memory alone; each id keeps its tree.
+
+ghost use Rattle.std.specs.Prelude.{◌≡◌, IfOk};
+ghost use Rattle.term_table.specs.Table.{IsKnown, tree_at, Extends};
+ghost use Rattle.hereditary_subst.specs.Kept.{IsMemo};
+ghost use Rattle.formula_tree.specs.Formulas.{Exp};
+ghost use Rattle.formula_terms.specs.Encoding.{exp_encoding};
+ghost use Rattle.formula_ids.specs.Hypotheses.{AreKnownHyps, AreHyps};
+ghost use Rattle.prover_class.specs.Hypotheses.{Hyps};
+ghost use Rattle.prover_class.specs.Bounds.{upper_bound};
+ghost use Rattle.bound_proofs.specs.declared.bounds.Side.TheVariants.{Upper};
+ghost use Rattle.bound_proofs.specs.BoundIds.{IsBoundOf};
+ghost use Rattle.bound_proofs.specs.Candidates.{by_parts};
+ghost use Rattle.bound_proofs.specs.Choices.{IsChoice, chosen};
+ghost use Rattle.bound_proofs.specs.KeptBounds.{AreUppers};
+
+use crate::bounds::{Bound, Side};
+use crate::choices::{By, Choice, choice_alone, choice_of_parts};
+use crate::kept_bounds::UpperBounds;
+use crate::parts::{
+    How, by_comparison, by_itself, by_left, by_left_shift, by_right, by_right_shift, by_sum, limit,
+    parts_of,
+};
+use crate::relations::by_hypothesis;
+use formula_ids::Hypothesis;
+use hereditary_subst::{Exhausted, Memo};
+use term_table::{Id, Table};
+
+/// What is chosen as the upper bound of the expression, which is kept.
+#[cycle(choosing)]
+pub(crate) fn choice_of(
+    table: &Table,
+    memo: &mut Memo,
+    kept: &mut UpperBounds,
+    hyps: &[Hypothesis],
+    e: Id,
+) -> Result<Choice, Exhausted>
+    requires hyps { AreKnownHyps table.now hyps.now }
+    requires e { IsKnown table.now e }
+    requires memo { IsMemo table.now memo.old }
+    requires kept { AreUppers table.now hyps.now kept.old }
+    ensures exact { (Γ : Hyps) (x : Exp) → AreHyps table.now hyps.now Γ
+        → tree_at table.now e ≡ exp_encoding x
+        → IfOk result (IsChoice Upper Γ x (upper_bound Γ x)) }
+    ensures memo { IsMemo table.now memo.new }
+    ensures kept { IfOk result (λ _. AreUppers table.now hyps.now kept.new) }
+{
+    if let Some(choice) = kept.choice(table, hyps, e) {
+        return Ok(choice);
+    }
+    let choice = choice_anew(table, memo, kept, hyps, e)?;
+    kept.keep(memo, table, hyps, e, choice, None)?;
+    Ok(choice)
+}
+
+/// The same, which isn't kept yet.
+#[cycle(choosing)]
+fn choice_anew(
+    table: &Table,
+    memo: &mut Memo,
+    kept: &mut UpperBounds,
+    hyps: &[Hypothesis],
+    e: Id,
+) -> Result<Choice, Exhausted>
+    requires hyps { AreKnownHyps table.now hyps.now }
+    requires e { IsKnown table.now e }
+    requires memo { IsMemo table.now memo.old }
+    requires kept { AreUppers table.now hyps.now kept.old }
+    ensures exact { (Γ : Hyps) (x : Exp) → AreHyps table.now hyps.now Γ
+        → tree_at table.now e ≡ exp_encoding x
+        → IfOk result (IsChoice Upper Γ x (upper_bound Γ x)) }
+    ensures memo { IsMemo table.now memo.new }
+    ensures kept { IfOk result (λ _. AreUppers table.now hyps.now kept.new) }
+{
+    memo.spend_steps(hyps.len() as u64)?;
+    match parts_of(table, e) {
+        None => Ok(choice_alone(table, Side::Upper, hyps, e)),
+        Some(p) => {
+            let v = choice_of(table, memo, kept, hyps, p.left)?;
+            let w = choice_of(table, memo, kept, hyps, p.right)?;
+            Ok(choice_of_parts(table, hyps, e, &p, v.value, w.value))
+        }
+    }
+}
+
+/// The least upper bound of the expression that is found by the hypotheses and by its operators,
+/// with a proof: what the definition gives of the formulas and the expression that the ids stand
+/// for. `kept` has what was found under the same hypotheses.
+///
+/// Errors: want of memory alone, which more results than `memo` may keep are too; each id keeps its
+/// tree, and nothing is promised of `kept`.
+#[cycle(bounding)]
+#[tactic(auto, using(crate::proofs::UpperRows::rows))]
+pub fn upper_bound(
+    table: &mut Table,
+    memo: &mut Memo,
+    kept: &mut UpperBounds,
+    hyps: &[Hypothesis],
+    e: Id,
+) -> Result<Bound, Exhausted>
+    requires hyps { AreKnownHyps table.old hyps.now }
+    requires e { IsKnown table.old e }
+    requires memo { IsMemo table.old memo.old }
+    requires kept { AreUppers table.old hyps.now kept.old }
+    ensures known { IfOk result (λ b. IsKnown table.new b.proof) }
+    ensures exact { (Γ : Hyps) (x : Exp) → AreHyps table.old hyps.now Γ
+        → tree_at table.old e ≡ exp_encoding x
+        → IfOk result (IsBoundOf table.new (upper_bound Γ x)) }
+    ensures extends { Extends table.old table.new }
+    ensures memo { IsMemo table.new memo.new }
+    ensures kept { IfOk result (λ _. AreUppers table.new hyps.now kept.new) }
+{
+    let choice = choice_of(table, memo, kept, hyps, e)?;
+    let value = choice.value;
+    if let Some(proof) = kept.proof(table, hyps, e) {
+        return Ok(Bound { value, proof });
+    }
+    let made = made(table, memo, kept, hyps, choice.by, e)?;
+    let proof = made.proof;
+    kept.keep(memo, table, hyps, e, choice, Some(proof))?;
+    Ok(Bound { value, proof })
+}
+
+/// The bound that a choice names.
+#[cycle(bounding)]
+#[tactic(auto, using(crate::proofs::UpperRows::rows))]
+fn made(
+    table: &mut Table,
+    memo: &mut Memo,
+    kept: &mut UpperBounds,
+    hyps: &[Hypothesis],
+    by: By,
+    e: Id,
+) -> Result<Bound, Exhausted>
+    requires hyps { AreKnownHyps table.old hyps.now }
+    requires e { IsKnown table.old e }
+    requires memo { IsMemo table.old memo.old }
+    requires kept { AreUppers table.old hyps.now kept.old }
+    ensures known { IfOk result (λ b. IsKnown table.new b.proof) }
+    ensures exact { (Γ : Hyps) (x : Exp) → AreHyps table.old hyps.now Γ
+        → tree_at table.old e ≡ exp_encoding x
+        → IfOk result (IsBoundOf table.new (chosen Upper Γ x by)) }
+    ensures extends { Extends table.old table.new }
+    ensures memo { IsMemo table.new memo.new }
+    ensures kept { IfOk result (λ _. AreUppers table.new hyps.now kept.new) }
+{
+    match by {
+        By::Limit => limit(table, Side::Upper, e),
+        By::Itself => by_itself(table, Side::Upper, e),
+        By::Hypothesis(at) => by_hypothesis(table, memo, Side::Upper, hyps, at, e),
+        By::Parts(how) => made_by_parts(table, memo, kept, hyps, how, e),
+    }
+}
+
+/// The bound of an operator by those of its parts that it needs.
+#[cycle(bounding)]
+#[tactic(auto, using(crate::proofs::UpperRows::rows))]
+fn made_by_parts(
+    table: &mut Table,
+    memo: &mut Memo,
+    kept: &mut UpperBounds,
+    hyps: &[Hypothesis],
+    how: How,
+    e: Id,
+) -> Result<Bound, Exhausted>
+    requires hyps { AreKnownHyps table.old hyps.now }
+    requires e { IsKnown table.old e }
+    requires memo { IsMemo table.old memo.old }
+    requires kept { AreUppers table.old hyps.now kept.old }
+    ensures known { IfOk result (λ b. IsKnown table.new b.proof) }
+    ensures exact { (Γ : Hyps) (x : Exp) → AreHyps table.old hyps.now Γ
+        → tree_at table.old e ≡ exp_encoding x
+        → IfOk result (IsBoundOf table.new (by_parts Γ x how)) }
+    ensures extends { Extends table.old table.new }
+    ensures memo { IsMemo table.new memo.new }
+    ensures kept { IfOk result (λ _. AreUppers table.new hyps.now kept.new) }
+{
+    let Some(p) = parts_of(table, e) else {
+        return limit(table, Side::Upper, e);
+    };
+    match how {
+        How::AndLeft => {
+            let v = upper_bound(table, memo, kept, hyps, p.left)?;
+            by_left(table, memo, e, p.left, p.right, v)
+        }
+        How::AndRight => {
+            let w = upper_bound(table, memo, kept, hyps, p.right)?;
+            by_right(table, e, p.left, p.right, w)
+        }
+        How::ShiftRight(count) => {
+            let v = upper_bound(table, memo, kept, hyps, p.left)?;
+            by_right_shift(table, memo, e, p.left, count, v)
+        }
+        How::ShiftLeft(count) => {
+            let v = upper_bound(table, memo, kept, hyps, p.left)?;
+            by_left_shift(table, memo, e, p.left, count, v)
+        }
+        How::Sum => {
+            let v = upper_bound(table, memo, kept, hyps, p.left)?;
+            let w = upper_bound(table, memo, kept, hyps, p.right)?;
+            by_sum(table, memo, e, p.left, p.right, v, w)
+        }
+        How::Compared(number) => by_comparison(table, number, p.left, p.right),
+    }
+}

@@ -1,4 +1,0 @@
-pub mod BoundIds
-pub mod Candidates
-pub mod Choices
-pub mod KeptBounds

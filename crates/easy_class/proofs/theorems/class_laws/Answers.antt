@@ -1,9 +1,0 @@
-use Rattle.easy_class.specs.Access.{by_all_means}
-use Rattle.easy_class.proofs.Laws.{sound, exact}
-use Rattle.easy_class.proofs.theorems.class_laws.Goals as goal
-
-pub returns : goal.returns
-returns c = record {
-  sound = sound;
-  exact = exact by_all_means;
-}

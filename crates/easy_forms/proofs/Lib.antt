@@ -1,7 +1,0 @@
-pub mod Growing
-mod Equations
-mod Rewrites
-pub mod Rounds
-mod Rules
-mod Summing
-mod Occurring

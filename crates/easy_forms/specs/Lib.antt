@@ -1,4 +1,0 @@
-pub mod NormalForms
-pub mod Sums
-pub mod Inside
-pub mod Occurrences

@@ -1,4 +1,0 @@
-pub mod Provers
-pub mod Answers
-pub mod Search
-pub mod Inside

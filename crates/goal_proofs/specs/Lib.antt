@@ -1,0 +1,5 @@
+pub mod Provers
+pub mod Answers
+pub mod Search
+pub mod Inside
+pub mod Lasting

@@ -1,0 +1,73 @@
+//! What proves goals that have no connective.
+
+ghost use Rattle.std.specs.Prelude.{◌≡◌, IfOk, IfSome, OnOk};
+ghost use Rattle.term_table.specs.Table.{IsKnown, Extends};
+ghost use Rattle.goal_proofs.specs.Provers.{IsProofBy, prover_of};
+ghost use Rattle.goal_proofs.specs.Search.{IsSearch, IsContext, IsAfter};
+
+use crate::answers::Means;
+use crate::search::{Context, Search};
+use crate::words::proof_by_words;
+use hereditary_subst::Exhausted;
+use term_table::{Id, Table};
+
+/// What proves goals that have no connective. The search by connectives is the same for each.
+pub trait Leaf {
+    ghost use Rattle.std.specs.Prelude.{◌≡◌, IfOk, IfSome, OnOk};
+    ghost use Rattle.term_table.specs.Table.{IsKnown, Extends};
+    ghost use Rattle.goal_proofs.specs.Provers.{IsProofBy, prover_of};
+    ghost use Rattle.goal_proofs.specs.Search.{IsSearch, IsContext, IsAfter};
+    ghost use Rattle.goal_proofs.specs.declared.answers.Means.{Means};
+
+    // By which means.
+    ghost by: { Self → Means };
+
+    /// By which means.
+    fn means(&self) -> Means
+        ensures { result ≡ by self.now };
+
+    /// The proof of a goal that has no connective, under the hypotheses of the context; none of any
+    /// other.
+    ///
+    /// Errors: want of memory alone, which more results than the search may keep are too; each id
+    /// keeps its tree.
+    fn leaf_proof(
+        &self,
+        table: &mut Table,
+        search: &mut Search,
+        context: &mut Context,
+        goal: Id,
+    ) -> Result<Option<Id>, Exhausted>
+        requires goal { IsKnown table.old goal }
+        requires search { IsSearch table.old search.old }
+        requires context { IsContext table.old context.old }
+        ensures known { IfOk result (λ o. IfSome o (IsKnown table.new)) }
+        ensures exact { let c = context.old in let p = prover_of (by self.now) in
+            IfOk result (IsProofBy p table.old table.new c.hyps c.outside goal) }
+        ensures extends { Extends table.old table.new }
+        ensures after { OnOk result (IsAfter table.new search.new context.old context.new) };
+}
+
+/// Alignment, normal forms and bounds.
+#[derive(Clone, Copy)]
+pub(crate) struct WordsAlone;
+
+impl Leaf for WordsAlone {
+    ghost use Rattle.goal_proofs.specs.declared.answers.Means.TheVariants.{Words};
+
+    ghost by = { λ _. Words };
+
+    fn means(&self) -> Means {
+        Means::Words
+    }
+
+    fn leaf_proof(
+        &self,
+        table: &mut Table,
+        search: &mut Search,
+        context: &mut Context,
+        goal: Id,
+    ) -> Result<Option<Id>, Exhausted> {
+        proof_by_words(table, search, context, goal)
+    }
+}

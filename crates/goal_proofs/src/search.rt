@@ -1,0 +1,173 @@
+//! What is kept while a proof is looked for.
+
+ghost use Rattle.std.specs.Prelude.{◌≡◌, IfOk, IfSome, OnOk};
+ghost use Rattle.term_table.specs.Table.{TableView, IsKnown, Extends};
+ghost use Rattle.formula_ids.specs.Hypotheses.{AreKnownHyps};
+ghost use Rattle.goal_proofs.specs.Answers.{IsFoundProof};
+ghost use Rattle.goal_proofs.specs.Search.{IsSearch, IsContext, IsAfter};
+
+use crate::answers::{Answers, Means, question_of};
+use bound_proofs::UpperBounds;
+use formula_ids::Puts;
+use hereditary_subst::{Exhausted, Memo};
+use hyp_proofs::{Hypotheses, absurdity};
+use sum_proofs::{NormalForms, Occurrences};
+use term_table::{Id, Table};
+
+/// As so many steps a term counts, which are three results: it takes as much time and memory, since more
+/// terms are looked up than made.
+const STEPS_A_TERM: u64 = 48;
+
+/// What is kept of all contexts, on one table. All that is kept counts in the limit of the memo, and so
+/// does each term that comes to the table.
+#[derive(Drop)]
+pub struct Search {
+    /// Results of shifts, and the limit.
+    pub memo: Memo,
+    pub(crate) forms: NormalForms,
+    /// What words put into formulas give.
+    pub puts: Puts,
+    /// Where variable 0 stands.
+    pub occurrences: Occurrences,
+    // how many terms the table had when they were counted last
+    counted: u64,
+}
+
+impl Search {
+    /// Nothing yet, which takes no memory. A call that would keep more than `most` results answers
+    /// `Results`; each term that comes to `table` from now on counts as three.
+    pub fn new(table: &Table, most: usize) -> Search
+        ensures { (t : TableView) → IsSearch t result }
+    {
+        let alloc = table.allocator();
+        Search {
+            memo: Memo::new(alloc, most),
+            forms: NormalForms::new(alloc),
+            puts: Puts::new(alloc),
+            occurrences: Occurrences::new(alloc),
+            counted: table.count(),
+        }
+    }
+
+    /// Counts steps that keep nothing in the limit of the memo. Fails past it.
+    pub fn spend_steps(&mut self, steps: u64) -> Result<(), Exhausted>
+        ensures { (t : TableView) → IsSearch t self.old → IsSearch t self.new }
+    {
+        self.memo.spend_steps(steps)
+    }
+
+    /// Counts each term that came to the table since the last call, whoever made it. Fails past the
+    /// limit of the memo.
+    pub(crate) fn spend_terms(&mut self, table: &Table) -> Result<(), Exhausted>
+        ensures { (t : TableView) → IsSearch t self.old → IsSearch t self.new }
+    {
+        let count = table.count();
+        let terms = count.saturating_sub(self.counted);
+        if terms == 0 {
+            return Ok(());
+        }
+        self.counted = count;
+        self.memo
+            .spend_steps(terms.saturating_mul(STEPS_A_TERM).saturating_sub(1))
+    }
+}
+
+/// Hypotheses, so many binders outside, and what is kept under them.
+#[derive(Drop)]
+pub struct Context {
+    /// How many binders stand outside.
+    pub outside: u32,
+    /// The hypotheses.
+    pub hyps: Hypotheses,
+    pub(crate) bounds: UpperBounds,
+    // a proof of falsity, where the hypotheses are absurd
+    pub(crate) absurd: Option<Id>,
+    pub(crate) answers: Answers,
+}
+
+impl Context {
+    /// The hypotheses `hyps`, where `outside` binders stand outside and nothing was asked yet.
+    ///
+    /// Errors: want of memory alone; each id keeps its tree.
+    #[tactic(auto, using(crate::proofs::Kept::rows))]
+    pub fn new(table: &mut Table, outside: u32, hyps: Hypotheses) -> Result<Context, Exhausted>
+        requires { AreKnownHyps table.old hyps }
+        ensures context { IfOk result (IsContext table.new) }
+        ensures hyps { IfOk result (λ c. c.hyps ≡ hyps) }
+        ensures outside { IfOk result (λ c. c.outside ≡ outside) }
+        ensures extends { Extends table.old table.new }
+    {
+        let absurd = absurdity(table, &hyps)?;
+        let alloc = table.allocator();
+        Ok(Context {
+            outside,
+            hyps,
+            bounds: UpperBounds::new(alloc),
+            absurd,
+            answers: Answers::new(alloc),
+        })
+    }
+
+    /// What is kept of the goal, searched for by these means.
+    pub(crate) fn found(&self, table: &Table, means: Means, goal: Id) -> Option<Option<Id>>
+        requires { IsContext table.now self.now }
+        ensures { let c = self.now in
+            IfSome result (IsFoundProof table.now c.hyps c.outside means goal) }
+    {
+        let question = question_of(means, self.outside, goal);
+        self.answers.get(table, self.hyps.as_slice(), &question)
+    }
+}
+
+/// Keeps what was found of the goal, and answers it.
+fn keep_row(
+    table: &Table,
+    search: &mut Search,
+    context: &mut Context,
+    means: Means,
+    goal: Id,
+    proof: Option<Id>,
+) -> Result<Option<Id>, Exhausted>
+    requires search { IsSearch table.now search.old }
+    requires context { IsContext table.now context.old }
+    requires proof { let c = context.old in
+        IsFoundProof table.now c.hyps c.outside means goal proof }
+    ensures same { IfOk result (λ o. o ≡ proof) }
+    ensures after { OnOk result (IsAfter table.now search.new context.old context.new) }
+{
+    let question = question_of(means, context.outside, goal);
+    let hyps = context.hyps.as_slice();
+    match proof {
+        None => {
+            let memo = &mut search.memo;
+            context.answers.keep(memo, table, hyps, question, None)?;
+            Ok(None)
+        }
+        Some(id) => {
+            let memo = &mut search.memo;
+            context.answers.keep(memo, table, hyps, question, Some(id))?;
+            Ok(Some(id))
+        }
+    }
+}
+
+/// Keeps what was found of the goal, and answers it; what was made for it is counted. Fails past the
+/// limit of what is kept, and where memory does.
+pub(crate) fn keep_answer(
+    table: &Table,
+    search: &mut Search,
+    context: &mut Context,
+    means: Means,
+    goal: Id,
+    proof: Option<Id>,
+) -> Result<Option<Id>, Exhausted>
+    requires search { IsSearch table.now search.old }
+    requires context { IsContext table.now context.old }
+    requires proof { let c = context.old in
+        IsFoundProof table.now c.hyps c.outside means goal proof }
+    ensures same { IfOk result (λ o. o ≡ proof) }
+    ensures after { OnOk result (IsAfter table.now search.new context.old context.new) }
+{
+    search.spend_terms(table)?;
+    keep_row(table, search, context, means, goal, proof)
+}

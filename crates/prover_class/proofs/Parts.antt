@@ -1,0 +1,53 @@
+-- The proof of a condition is one.
+use Rattle.std.proofs.Common.{◌≡◌, ℕ, suc, ◌+◌, ◌*◌, ◌^◌, ◌<◌, ◌≤◌, Some, List, [], ◌∷◌, ◌⊎◌, inl, inr, refl, subst, option_map, arith}
+use Rattle.term_table.specs.Tree.{Tree}
+use Rattle.term_table.proofs.Options.{bind_some, map_some, some_injective}
+use Rattle.lf_signature.specs.Terms.{pf}
+use Rattle.lf_signature.specs.Typing.{Checks}
+use Rattle.lf_signature.specs.Sigma1.{declared, the_rules}
+use Rattle.formula_tree.specs.Formulas.{Form, FTrue}
+use Rattle.formula_terms.specs.Encoding.{form_encoding}
+use Rattle.prover_class.proofs.Scope.{Over, nesting}
+use Rattle.formula_terms.specs.ProofTerms.{AForm, and_i}
+use Rattle.prover_class.specs.Goals.{first_of, Prover, by_aligned, by_normal, by_bounds, by_words_alone}
+use Rattle.prover_class.specs.Parts.{conjoined, levels, part_proof, condition_proof}
+use Rattle.prover_class.proofs.Proved.{Proves}
+use Rattle.prover_class.proofs.Uses.{rule_proves}
+use Rattle.prover_class.proofs.Shapes.{else_some, IsSound, goal_sound}
+use Rattle.prover_class.proofs.Goals.{by_aligned_says, by_bounds_says}
+use Rattle.prover_class.proofs.NormalForms.{by_normal_says}
+use Rattle.prover_class.proofs.Access.{all_sound}
+use Rattle.prover_class.specs.Access.{by_all_means}
+
+module _ (e d : ℕ) (room : e + (d + d + d) + 16 ≤ 2 ^ 32) (some : 0 < d) (s : ℕ) where
+  pub words_sound : IsSound e d room some s by_words_alone
+  words_sound k out ctx Γ A p w g o nk nd q = go (else_some (by_aligned Γ A) (first_of (by_normal out Γ A) (by_bounds Γ A)) p q)
+    where
+      rest : (by_normal out Γ A ≡ Some p) ⊎ (by_bounds Γ A ≡ Some p) → Proves (e + d) ctx (pf (form_encoding A)) p
+      rest (inl f) = by_normal_says e d room some k ctx w out Γ A p o f
+      rest (inr f) = by_bounds_says e d room some k ctx w Γ g A p o f
+
+      go : (by_aligned Γ A ≡ Some p) ⊎ (first_of (by_normal out Γ A) (by_bounds Γ A) ≡ Some p) → Proves (e + d) ctx (pf (form_encoding A)) p
+      go (inl f) = by_aligned_says e d room some k ctx w Γ g A p o f
+      go (inr f) = rest (else_some (by_normal out Γ A) (by_bounds Γ A) p f)
+
+  module _ (leaf : Prover) (sl : IsSound e d room some s leaf) where
+    part_says : (A : Form) (p : Tree) → Over A [] → nesting A + s ≤ e → nesting A ≤ d → part_proof leaf A ≡ Some p → Proves (e + d) [] (pf (form_encoding A)) p
+    part_says A p o ne nd q = goal_sound e d room some s leaf sl (levels A) e 0 [] [] A p (omega arith) tt o ne nd q
+
+    pub proof_says : (l : List Form) (p : Tree) → Over (conjoined l) [] → nesting (conjoined l) + s ≤ e → nesting (conjoined l) ≤ d → condition_proof leaf l ≡ Some p → Proves (e + d) [] (pf (form_encoding (conjoined l))) p
+    unfolding the_rules
+    proof_says [] p o ne nd q = subst (λ z. Proves (e + d) [] (pf (form_encoding FTrue)) z) (some_injective q) (rule_proves e d room 27 _ refl [] (omega arith) [] [] tt tt)
+    proof_says (A ∷ l) p o ne nd q =
+        let a = bind_some (part_proof leaf A) (λ p. option_map (and_i A (conjoined l) p) (condition_proof leaf l)) p q in
+        let b = map_some (condition_proof leaf l) (and_i A (conjoined l) a.0) p a.2 in
+        subst (λ z. Proves (e + d) [] (pf (form_encoding (conjoined (A ∷ l)))) z) b.2
+        (rule_proves e d room 29 _ refl [] (omega arith) (AForm A ∷ AForm (conjoined l) ∷ []) (a.0 ∷ b.0 ∷ []) ((o.0, omega (arith, nd)), ((o.1, omega (arith, nd)), tt))
+        (part_says A a.0 o.0 (omega (arith, ne)) (omega (arith, nd)) a.1, (proof_says l b.0 o.1 (omega (arith, ne)) (omega (arith, nd)) b.1, tt)))
+
+pub class_checks : (l : List Form) (p : Tree) → Over (conjoined l) [] → 5 * nesting (conjoined l) + 20 ≤ 2 ^ 32 → condition_proof by_all_means l ≡ Some p → Checks declared [] p (pf (form_encoding (conjoined l)))
+class_checks l p o r q =
+    let n = nesting (conjoined l) in
+    let room : (n + suc n) + (suc n + suc n + suc n) + 16 ≤ 2 ^ 32 = omega (arith, r) in
+    let some : 0 < suc n = omega arith in
+    (proof_says (n + suc n) (suc n) room some (suc n) by_all_means (all_sound (n + suc n) (suc n) room some (words_sound (n + suc n) (suc n) room some 0) (words_sound (n + suc n) (suc n) room some (suc n))) l p o (omega arith) (omega arith) q).checks

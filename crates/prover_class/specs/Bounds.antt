@@ -1,0 +1,114 @@
+-- Upper and lower bounds of expressions under hypotheses, each with its proof.
+use Rattle.std.specs.Prelude.{ℕ, suc, ◌+◌, ◌^◌, if◌then◌else◌, nat_lt, nat_le, List, [], ◌∷◌, ◌++◌}
+use Rattle.term_table.specs.Tree.{Tree}
+use Rattle.word_ops.specs.declared.Op.{Op}
+use Rattle.word_ops.specs.declared.Op.TheVariants.{Add, Sub, Band, Sll, Srl, Cmpeq, Cmplt, Cmple, Cmpult, Cmpule}
+use Rattle.word_ops.specs.declared.Rel.TheVariants.{Eq, Ult, Ule}
+use Rattle.word_ops.specs.Words.{word_of}
+use Rattle.formula_tree.specs.Formulas.{Exp, EReg, ELeft, EVar, ELit, EOp, ESel, Form, FRel}
+use Rattle.formula_terms.specs.ProofTerms.{word_rule, move, swap, up, calc, fact}
+use Rattle.prover_class.specs.Hypotheses.{Hyps, same_exp}
+
+-- a word, and a proof that it is a bound
+pub record WordBound : Type 0 where
+  pub value : ℕ
+  pub proof : Tree
+
+-- the bound v by p
+abbrev pub word_bound : ℕ → Tree → WordBound
+word_bound v p = record { value = v; proof = p }
+
+-- the second where it is less; of equal ones the first
+abbrev pub lesser : WordBound → WordBound → WordBound
+lesser b c = if nat_lt c.value b.value then c else b
+
+-- the second where it is greater
+abbrev pub greater : WordBound → WordBound → WordBound
+greater b c = if nat_lt b.value c.value then c else b
+
+-- the least of the list and the last
+abbrev pub least_bound : List WordBound → WordBound → WordBound
+least_bound [] last = last
+least_bound (b ∷ l) last = lesser b (least_bound l last)
+
+-- the greatest of the list and the last
+abbrev pub greatest_bound : List WordBound → WordBound → WordBound
+greatest_bound [] last = last
+greatest_bound (b ∷ l) last = greater b (greatest_bound l last)
+
+-- 2^64 - 1
+abbrev pub max_word : ℕ
+max_word = 18446744073709551615
+
+-- from (ule e (o v w)) to (ule e value)
+abbrev pub folded : Exp → Op → ℕ → ℕ → Tree → WordBound
+folded e o v w p = word_bound (word_of o v w) (move (FRel Ule (up e) (EVar 0)) (EOp o (ELit v) (ELit w)) (ELit (word_of o v w)) (calc o v w) p)
+
+-- (ule v (o a b))
+abbrev pub fit_proof : ℕ → Op → ℕ → ℕ → Tree
+fit_proof v o a b =
+    move (FRel Ule (ELit v) (EVar 0)) (ELit (word_of o a b)) (EOp o (ELit a) (ELit b)) (swap (EOp o (ELit a) (ELit b)) (ELit (word_of o a b)) (calc o a b)) (fact Ule v (word_of o a b))
+
+-- what a hypothesis says of e from above
+abbrev pub upper_of : Exp → Form → Tree → List WordBound
+upper_of e (FRel Ule a (ELit w)) h = if same_exp a e then word_bound w h ∷ [] else []
+upper_of e (FRel Ult a (ELit (suc w))) h = if same_exp a e then folded e Sub (suc w) 1 (word_rule 68 (e ∷ ELit (suc w) ∷ []) (h ∷ [])) ∷ [] else []
+upper_of e (FRel Eq a (ELit w)) h = if same_exp a e then word_bound w (move (FRel Ule (up e) (EVar 0)) e (ELit w) h (word_rule 63 (e ∷ []) [])) ∷ [] else []
+upper_of e A h = []
+
+-- what each hypothesis says of e from above, in order
+abbrev pub uppers : Exp → Hyps → List WordBound
+uppers e [] = []
+uppers e (h ∷ l) = upper_of e h.0 h.1 ++ uppers e l
+
+-- what an operator's parts, bounded by v and w, say of it from above
+abbrev pub op_bounds : Op → Exp → Exp → WordBound → WordBound → List WordBound
+op_bounds Band a b v w =
+    word_bound w.value (word_rule 64 (EOp Band a b ∷ b ∷ ELit w.value ∷ []) (word_rule 54 (a ∷ b ∷ []) [] ∷ w.proof ∷ []))
+    ∷ word_bound v.value
+    (word_rule 64 (EOp Band a b ∷ a ∷ ELit v.value ∷ [])
+    (move (FRel Ule (EVar 0) (up a)) (EOp Band b a) (EOp Band a b) (word_rule 51 (b ∷ a ∷ []) []) (word_rule 54 (b ∷ a ∷ []) []) ∷ v.proof ∷ []))
+    ∷ []
+op_bounds Srl a (ELit c) v w = folded (EOp Srl a (ELit c)) Srl v.value c (word_rule 59 (a ∷ ELit v.value ∷ ELit c ∷ []) (v.proof ∷ [])) ∷ []
+op_bounds Sll a (ELit c) v w =
+    if nat_le v.value (word_of Srl max_word c) then folded (EOp Sll a (ELit c)) Sll v.value c (word_rule 60 (a ∷ ELit v.value ∷ ELit c ∷ []) (v.proof ∷ fit_proof v.value Srl max_word c ∷ [])) ∷ [] else []
+op_bounds Add a b v w =
+    if nat_lt (v.value + w.value) (2 ^ 64) then
+    folded (EOp Add a b) Add v.value w.value (word_rule 72 (a ∷ b ∷ ELit v.value ∷ ELit w.value ∷ []) (v.proof ∷ w.proof ∷ fit_proof v.value Add v.value w.value ∷ [])) ∷ []
+    else []
+op_bounds Cmpeq a b v w = word_bound 1 (word_rule 83 (a ∷ b ∷ []) []) ∷ []
+op_bounds Cmplt a b v w = word_bound 1 (word_rule 84 (a ∷ b ∷ []) []) ∷ []
+op_bounds Cmple a b v w = word_bound 1 (word_rule 85 (a ∷ b ∷ []) []) ∷ []
+op_bounds Cmpult a b v w = word_bound 1 (word_rule 86 (a ∷ b ∷ []) []) ∷ []
+op_bounds Cmpule a b v w = word_bound 1 (word_rule 87 (a ∷ b ∷ []) []) ∷ []
+op_bounds o a b v w = []
+
+-- a literal is its own bound
+abbrev pub own_bounds : Exp → List WordBound
+own_bounds (ELit w) = word_bound w (word_rule 63 (ELit w ∷ []) []) ∷ []
+own_bounds _ = []
+
+-- the least upper bound that is found: (ule e value)
+abbrev pub upper_bound : Hyps → Exp → WordBound
+upper_bound Γ (EReg r) = least_bound (uppers (EReg r) Γ) (word_bound max_word (word_rule 62 (EReg r ∷ []) []))
+upper_bound Γ ELeft = least_bound (uppers ELeft Γ) (word_bound max_word (word_rule 62 (ELeft ∷ []) []))
+upper_bound Γ (EVar n) = least_bound (uppers (EVar n) Γ) (word_bound max_word (word_rule 62 (EVar n ∷ []) []))
+upper_bound Γ (ELit w) = least_bound (own_bounds (ELit w) ++ uppers (ELit w) Γ) (word_bound max_word (word_rule 62 (ELit w ∷ []) []))
+upper_bound Γ (EOp o a b) = least_bound (uppers (EOp o a b) Γ ++ op_bounds o a b (upper_bound Γ a) (upper_bound Γ b)) (word_bound max_word (word_rule 62 (EOp o a b ∷ []) []))
+upper_bound Γ (ESel m a) = least_bound (uppers (ESel m a) Γ) (word_bound max_word (word_rule 62 (ESel m a ∷ []) []))
+
+-- what a hypothesis says of e from below
+abbrev pub lower_of : Exp → Form → Tree → List WordBound
+lower_of e (FRel Ule (ELit w) a) h = if same_exp a e then word_bound w h ∷ [] else []
+lower_of e (FRel Ult (ELit w) a) h = if same_exp a e then word_bound w (word_rule 65 (ELit w ∷ e ∷ []) (h ∷ [])) ∷ [] else []
+lower_of e (FRel Eq a (ELit w)) h = if same_exp a e then word_bound w (move (FRel Ule (EVar 0) (up e)) e (ELit w) h (word_rule 63 (e ∷ []) [])) ∷ [] else []
+lower_of e A h = []
+
+-- the same from below
+abbrev pub lowers : Exp → Hyps → List WordBound
+lowers e [] = []
+lowers e (h ∷ l) = lower_of e h.0 h.1 ++ lowers e l
+
+-- the greatest lower bound that is found: (ule value e)
+abbrev pub lower_bound : Hyps → Exp → WordBound
+lower_bound Γ e = greatest_bound (own_bounds e ++ lowers e Γ) (word_bound 0 (word_rule 61 (e ∷ []) []))

@@ -1,0 +1,38 @@
+//! What the class gives: proofs, the same ones where hypotheses are repeated.
+
+ghost use Rattle.std.specs.Prelude.{◌≡◌, ◌≤◌, ◌^◌, ◌↔◌, ℕ, List, [], Some, None};
+ghost use Rattle.term_table.specs.Tree.{Tree};
+ghost use Rattle.lf_signature.specs.Terms.{pf};
+ghost use Rattle.lf_signature.specs.Typing.{Checks};
+ghost use Rattle.lf_signature.specs.Sigma1.{declared};
+ghost use Rattle.formula_tree.specs.Formulas.{Form};
+ghost use Rattle.formula_tree.specs.Scope.{IsOver};
+ghost use Rattle.formula_tree.specs.Sizes.{form_height};
+ghost use Rattle.formula_terms.specs.Encoding.{form_encoding};
+ghost use Rattle.prover_class.specs.Parts.{conjoined, part_proof, condition_proof, first_not_easy};
+ghost use Rattle.prover_class.specs.Hypotheses.{with_new};
+ghost use Rattle.prover_class.specs.Access.{by_all_means};
+ghost use Rattle.prover_class.specs.Repeats.{part_proof_adding, with_repeats};
+
+/// The class is sound: what it gives a closed condition is a proof of it, a term of that type by the
+/// typing derivations, where the condition's height is at most 2^29. It gives one exactly where no
+/// part is the first that isn't easy, wherever their numbers begin.
+pub fn class_laws()
+    ensures sound { (parts : List Form) (p : Tree) → IsOver 0 (conjoined parts) []
+        → form_height (conjoined parts) ≤ 2 ^ 29
+        → condition_proof by_all_means parts ≡ Some p
+        → Checks declared [] p (pf (form_encoding (conjoined parts))) }
+    ensures exact { (parts : List Form) (n : ℕ) →
+        (first_not_easy by_all_means n parts ≡ None)
+        ↔ ((p : Tree) × (condition_proof by_all_means parts ≡ Some p)) }
+{}
+
+/// Repeats change no proof: where an implication adds all its hypotheses, also those whose formula is
+/// one already, and all else is alike, a part of a condition has the same proof, or none. Both are one
+/// search with its way of adding as a parameter; with the class's way it is the class's.
+pub fn repeat_laws()
+    ensures unchanged { (part : Form) →
+        part_proof_adding with_new part ≡ part_proof by_all_means part }
+    ensures repeats { (part : Form) →
+        part_proof_adding with_repeats part ≡ part_proof by_all_means part }
+{}

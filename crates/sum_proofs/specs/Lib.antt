@@ -1,0 +1,5 @@
+pub mod NormalForms
+pub mod Sums
+pub mod Inside
+pub mod Occurrences
+pub mod Lasting

@@ -1,0 +1,586 @@
+//! Single rewritings of expressions, with the proofs of their equations.
+//!
+//! Errors: want of memory alone; each id keeps its tree.
+
+ghost use Rattle.std.specs.Prelude.{◌≡◌, ◌<◌, ℕ, IfOk, List};
+ghost use Rattle.term_table.specs.Table.{IsKnown, tree_at, Extends};
+ghost use Rattle.hereditary_subst.specs.Kept.{IsMemo};
+ghost use Rattle.word_ops.specs.Words.{word_of};
+ghost use Rattle.word_ops.specs.declared.Op.TheVariants.{Add};
+ghost use Rattle.formula_tree.specs.Formulas.{Exp, ELit, EOp};
+ghost use Rattle.formula_terms.specs.Encoding.{exp_encoding};
+ghost use Rattle.formula_terms.specs.ProofTerms.{up, calc};
+ghost use Rattle.prover_class.specs.NormalForms.{Rewriting, summand_key, turned, rewrite_at, in_left, in_right, redex};
+ghost use Rattle.sum_proofs.specs.Inside.Rewrites.{IsKnownRewrite, IsRewrite, AreKnownRewrites, AreRewrites, IsSummand, IsKnownSummand, IsRule, IsKnownRule, applied_summand, rule_at_word, rule_before, whole_of, negated_of, operand_of, regrouped_of, commuted_of, ungrouped_of, left_of, right_of, has_rewrites};
+
+use formula_ids::{ExpNode, calc, exp_node, oper, raised, swapped};
+use hereditary_subst::{Exhausted, Memo};
+use lf_rules::numbers::{ADD_ASSOC, ADD_COMM, ADD_ZERO, BIS_ZERO, BIS_ZERO_L, SUB_NEG};
+use lf_rules::rule_term;
+use term_table::{Id, Node, Table};
+use word_ops::{Op, apply};
+
+/// One rewriting: `into` is the expression with variable 0 in the place of what is rewritten, where
+/// `from` becomes `to` by the proof; `after` is the whole expression then.
+#[derive(Clone, Copy)]
+pub(crate) struct Rewrite {
+    pub(crate) into: Id,
+    pub(crate) from: Id,
+    pub(crate) to: Id,
+    pub(crate) proof: Id,
+    pub(crate) after: Id,
+}
+
+/// What is rewritten at one place, one after another.
+#[derive(Clone, Copy)]
+pub(crate) enum Rewrites {
+    /// There is nothing to rewrite.
+    Nothing,
+    /// One rewriting.
+    One(Rewrite),
+    /// Three.
+    Three(Rewrite, Rewrite, Rewrite),
+}
+
+/// An operand, as far as the choice of a rule needs it.
+#[derive(Clone, Copy)]
+enum Summand {
+    /// A word.
+    Word(u64),
+    /// A sum, by the ids of its parts.
+    Sum(Id, Id),
+    /// Neither.
+    Other,
+}
+
+/// The rule by which an operator at two operands is rewritten.
+#[derive(Clone, Copy)]
+enum Rule {
+    /// There is none.
+    Nothing,
+    /// The operands are these words: to what the operator gives of them.
+    Value(u64, u64),
+    /// The difference to the sum with what is negative.
+    Negated,
+    /// To the first operand, by the rule of this number.
+    First(u32),
+    /// To the second operand.
+    Second(u32),
+    /// The first operand is a sum of these: to the sum with their second inside.
+    Regrouped(Id, Id),
+    /// The second operand is a sum of these: to the sum that begins with their first.
+    Turned(Id, Id),
+    /// The operands change places.
+    Swapped,
+}
+
+/// The order of summands, where `outside` binders stand outside.
+fn summand_key(table: &Table, outside: u32, e: Id) -> u32
+    requires { IsKnown table.now e }
+    ensures { (x : Exp) → tree_at table.now e ≡ exp_encoding x → result ≡ summand_key outside x }
+{
+    match table.node(e) {
+        Node::Var(n) => {
+            let inward = outside.saturating_sub(n);
+            if 2 <= inward && inward <= 32 {
+                inward - 2
+            } else {
+                31
+            }
+        }
+        Node::Calc(register, _, _) => register,
+        Node::Lit(_) => 32,
+        _ => 31,
+    }
+}
+
+/// What the operator at two operands is as an operand.
+fn applied_summand(op: Op, a: Id, b: Id) -> Summand
+    ensures { result ≡ applied_summand op a b }
+{
+    match op {
+        Op::Add => Summand::Sum(a, b),
+        _ => Summand::Other,
+    }
+}
+
+/// What the operand is.
+fn operand(table: &Table, e: Id) -> Summand
+    requires { IsKnown table.now e }
+    ensures known { IsKnownSummand table.now result }
+    ensures is { (x : Exp) → tree_at table.now e ≡ exp_encoding x → IsSummand table.now x result }
+{
+    match exp_node(table, e) {
+        ExpNode::Word(w) => Summand::Word(w),
+        ExpNode::Apply(op, a, b) => applied_summand(op, a, b),
+        ExpNode::Var(_) => Summand::Other,
+        ExpNode::Sel(_, _) => Summand::Other,
+        ExpNode::Unbound => Summand::Other,
+    }
+}
+
+/// The rule of an operator whose second operand is the word.
+fn rule_at_word(op: Op, first: Summand, w: u64, comes: bool) -> Rule
+    ensures { result ≡ rule_at_word op first w comes }
+{
+    match first {
+        Summand::Word(v) => Rule::Value(v, w),
+        Summand::Sum(p, q) => match op {
+            Op::Sub => Rule::Negated,
+            Op::Add if w == 0 => Rule::First(ADD_ZERO),
+            Op::Add => Rule::Regrouped(p, q),
+            Op::Bis if w == 0 => Rule::First(BIS_ZERO),
+            _ => Rule::Nothing,
+        },
+        Summand::Other => match op {
+            Op::Sub => Rule::Negated,
+            Op::Add if w == 0 => Rule::First(ADD_ZERO),
+            Op::Add if comes => Rule::Swapped,
+            Op::Bis if w == 0 => Rule::First(BIS_ZERO),
+            _ => Rule::Nothing,
+        },
+    }
+}
+
+/// The rule of an operator whose second operand is no word. `turn` has the parts of the second, if
+/// it is a sum whose first part comes before the first operand.
+fn rule_before(op: Op, first: Summand, turn: Option<(Id, Id)>, comes: bool) -> Rule
+    ensures { result ≡ rule_before op first turn comes }
+{
+    match op {
+        Op::Add => match first {
+            Summand::Sum(p, q) => Rule::Regrouped(p, q),
+            _ => match turn {
+                Some((p, q)) => Rule::Turned(p, q),
+                None if comes => Rule::Swapped,
+                None => Rule::Nothing,
+            },
+        },
+        Op::Bis => match first {
+            Summand::Word(0) => Rule::Second(BIS_ZERO_L),
+            _ => Rule::Nothing,
+        },
+        _ => Rule::Nothing,
+    }
+}
+
+/// The rule by which the operator at the operands is rewritten, `outside` binders standing outside.
+fn rule_at(table: &Table, outside: u32, op: Op, a: Id, b: Id) -> Rule
+    requires a { IsKnown table.now a }
+    requires b { IsKnown table.now b }
+    ensures known { IsKnownRule table.now result }
+    ensures is { (x y : Exp) → tree_at table.now a ≡ exp_encoding x
+        → tree_at table.now b ≡ exp_encoding y → IsRule table.now outside op x y result }
+{
+    let key = summand_key(table, outside, a);
+    let comes = summand_key(table, outside, b) < key;
+    let first = operand(table, a);
+    match operand(table, b) {
+        Summand::Word(w) => rule_at_word(op, first, w, comes),
+        Summand::Sum(p, q) => {
+            if summand_key(table, outside, p) < key {
+                rule_before(op, first, Some((p, q)), comes)
+            } else {
+                rule_before(op, first, None, comes)
+            }
+        }
+        Summand::Other => rule_before(op, first, None, comes),
+    }
+}
+
+/// The rewriting of the whole expression.
+fn whole(table: &mut Table, from: Id, to: Id, proof: Id) -> Result<Rewrite, Exhausted>
+    requires from { IsKnown table.old from }
+    requires to { IsKnown table.old to }
+    requires proof { IsKnown table.old proof }
+    ensures known { IfOk result (IsKnownRewrite table.new) }
+    ensures exact { (f g : Exp) → tree_at table.old from ≡ exp_encoding f
+        → tree_at table.old to ≡ exp_encoding g
+        → IfOk result (λ s. IsRewrite table.new s (whole_of f g (tree_at table.old proof))) }
+    ensures extends { Extends table.old table.new }
+{
+    let into = table.intern(Node::Var(0))?;
+    Ok(Rewrite {
+        into,
+        from,
+        to,
+        proof,
+        after: to,
+    })
+}
+
+/// To what the operator gives of two words.
+fn to_value(table: &mut Table, e: Id, op: Op, v: u64, w: u64) -> Result<Rewrite, Exhausted>
+    requires { IsKnown table.old e }
+    ensures known { IfOk result (IsKnownRewrite table.new) }
+    ensures exact { (f : Exp) → tree_at table.old e ≡ exp_encoding f
+        → IfOk result (λ s.
+        IsRewrite table.new s (whole_of f (ELit (word_of op v w)) (calc op v w))) }
+    ensures extends { Extends table.old table.new }
+{
+    let value = table.intern(Node::Lit(apply(op, v, w)))?;
+    let proof = calc(table, op, v, w)?;
+    whole(table, e, value, proof)
+}
+
+/// From a difference to the sum with what is negative.
+fn to_sum(table: &mut Table, e: Id, a: Id, b: Id) -> Result<Rewrite, Exhausted>
+    requires e { IsKnown table.old e }
+    requires a { IsKnown table.old a }
+    requires b { IsKnown table.old b }
+    ensures known { IfOk result (IsKnownRewrite table.new) }
+    ensures exact { (f x y : Exp) → tree_at table.old e ≡ exp_encoding f
+        → tree_at table.old a ≡ exp_encoding x → tree_at table.old b ≡ exp_encoding y
+        → IfOk result (λ s. IsRewrite table.new s (negated_of f x y)) }
+    ensures extends { Extends table.old table.new }
+{
+    let zero = table.intern(Node::Lit(0))?;
+    let negative = oper(table, Op::Sub, zero, b)?;
+    let sum = oper(table, Op::Add, a, negative)?;
+    let proof = rule_term(table, SUB_NEG, &[a, b])?;
+    whole(table, e, sum, proof)
+}
+
+/// To an operand, by the rule of this number.
+fn to_operand(table: &mut Table, e: Id, a: Id, number: u32) -> Result<Rewrite, Exhausted>
+    requires e { IsKnown table.old e }
+    requires a { IsKnown table.old a }
+    ensures known { IfOk result (IsKnownRewrite table.new) }
+    ensures exact { (f x : Exp) → tree_at table.old e ≡ exp_encoding f
+        → tree_at table.old a ≡ exp_encoding x
+        → IfOk result (λ s. IsRewrite table.new s (operand_of number f x)) }
+    ensures extends { Extends table.old table.new }
+{
+    let proof = rule_term(table, number, &[a])?;
+    whole(table, e, a, proof)
+}
+
+/// From the sum of a sum of `a` and `b` with `c` to that of `a` with a sum.
+fn regrouped(table: &mut Table, e: Id, a: Id, b: Id, c: Id) -> Result<Rewrite, Exhausted>
+    requires e { IsKnown table.old e }
+    requires a { IsKnown table.old a }
+    requires b { IsKnown table.old b }
+    requires c { IsKnown table.old c }
+    ensures known { IfOk result (IsKnownRewrite table.new) }
+    ensures exact { (f x y z : Exp) → tree_at table.old e ≡ exp_encoding f
+        → tree_at table.old a ≡ exp_encoding x → tree_at table.old b ≡ exp_encoding y
+        → tree_at table.old c ≡ exp_encoding z
+        → IfOk result (λ s. IsRewrite table.new s (regrouped_of f x y z)) }
+    ensures extends { Extends table.old table.new }
+{
+    let inner = oper(table, Op::Add, b, c)?;
+    let sum = oper(table, Op::Add, a, inner)?;
+    let proof = rule_term(table, ADD_ASSOC, &[a, b, c])?;
+    whole(table, e, sum, proof)
+}
+
+/// From a sum to that of its parts in the other order.
+fn commuted(table: &mut Table, e: Id, a: Id, b: Id) -> Result<Rewrite, Exhausted>
+    requires e { IsKnown table.old e }
+    requires a { IsKnown table.old a }
+    requires b { IsKnown table.old b }
+    ensures known { IfOk result (IsKnownRewrite table.new) }
+    ensures exact { (f x y : Exp) → tree_at table.old e ≡ exp_encoding f
+        → tree_at table.old a ≡ exp_encoding x → tree_at table.old b ≡ exp_encoding y
+        → IfOk result (λ s. IsRewrite table.new s (commuted_of f x y)) }
+    ensures extends { Extends table.old table.new }
+{
+    let sum = oper(table, Op::Add, b, a)?;
+    let proof = rule_term(table, ADD_COMM, &[a, b])?;
+    whole(table, e, sum, proof)
+}
+
+/// From the sum `e` of `a` with a sum of `b` and `c` to that of `b` with a sum of `a` and `c`.
+#[tactic(auto, using(hereditary_subst::proofs::Rows::rows))]
+fn turned(
+    table: &mut Table,
+    memo: &mut Memo,
+    e: Id,
+    a: Id,
+    b: Id,
+    c: Id,
+) -> Result<Rewrites, Exhausted>
+    requires e { IsKnown table.old e }
+    requires a { IsKnown table.old a }
+    requires b { IsKnown table.old b }
+    requires c { IsKnown table.old c }
+    requires memo { IsMemo table.old memo.old }
+    ensures known { IfOk result (AreKnownRewrites table.new) }
+    ensures exact { (x y z : Exp)
+        → tree_at table.old e ≡ exp_encoding (EOp Add x (EOp Add y z))
+        → tree_at table.old a ≡ exp_encoding x → tree_at table.old b ≡ exp_encoding y
+        → tree_at table.old c ≡ exp_encoding z
+        → IfOk result (λ s. AreRewrites table.new s (turned x y z)) }
+    ensures extends { Extends table.old table.new }
+    ensures memo { IsMemo table.new memo.new }
+{
+    let first = ungrouped(table, memo, e, a, b, c)?;
+    let above = raised(table, memo, c)?;
+    let sum = oper(table, Op::Add, a, b)?;
+    let step = commuted(table, sum, a, b)?;
+    let second = under_left(table, Op::Add, c, above, step)?;
+    let third = regrouped(table, second.after, b, a, c)?;
+    Ok(Rewrites::Three(first, second, third))
+}
+
+/// From the sum `e` of `a` with a sum of `b` and `c` to that of a sum with `c`.
+#[tactic(auto, using(hereditary_subst::proofs::Rows::rows))]
+fn ungrouped(
+    table: &mut Table,
+    memo: &mut Memo,
+    e: Id,
+    a: Id,
+    b: Id,
+    c: Id,
+) -> Result<Rewrite, Exhausted>
+    requires e { IsKnown table.old e }
+    requires a { IsKnown table.old a }
+    requires b { IsKnown table.old b }
+    requires c { IsKnown table.old c }
+    requires memo { IsMemo table.old memo.old }
+    ensures known { IfOk result (IsKnownRewrite table.new) }
+    ensures exact { (x y z : Exp)
+        → tree_at table.old e ≡ exp_encoding (EOp Add x (EOp Add y z))
+        → tree_at table.old a ≡ exp_encoding x → tree_at table.old b ≡ exp_encoding y
+        → tree_at table.old c ≡ exp_encoding z
+        → IfOk result (λ s. IsRewrite table.new s (ungrouped_of x y z)) }
+    ensures extends { Extends table.old table.new }
+    ensures memo { IsMemo table.new memo.new }
+{
+    let sum = oper(table, Op::Add, a, b)?;
+    let grouped = oper(table, Op::Add, sum, c)?;
+    let equal = rule_term(table, ADD_ASSOC, &[a, b, c])?;
+    let proof = swapped(table, memo, grouped, e, equal)?;
+    whole(table, e, grouped, proof)
+}
+
+/// The rewriting in the left part, beside `right`, which is `above` under one more binder.
+fn under_left(
+    table: &mut Table,
+    op: Op,
+    right: Id,
+    above: Id,
+    step: Rewrite,
+) -> Result<Rewrite, Exhausted>
+    requires right { IsKnown table.old right }
+    requires above { IsKnown table.old above }
+    requires step { IsKnownRewrite table.old step }
+    ensures known { IfOk result (IsKnownRewrite table.new) }
+    ensures exact { (y : Exp) (s : Rewriting) → tree_at table.old right ≡ exp_encoding y
+        → tree_at table.old above ≡ exp_encoding (up y) → IsRewrite table.old step s
+        → IfOk result (λ r. IsRewrite table.new r (left_of op y s)) }
+    ensures extends { Extends table.old table.new }
+{
+    let into = oper(table, op, step.into, above)?;
+    let after = oper(table, op, step.after, right)?;
+    Ok(Rewrite {
+        into,
+        from: step.from,
+        to: step.to,
+        proof: step.proof,
+        after,
+    })
+}
+
+/// The rewriting in the right part, beside `left`, which is `above` under one more binder.
+fn under_right(
+    table: &mut Table,
+    op: Op,
+    left: Id,
+    above: Id,
+    step: Rewrite,
+) -> Result<Rewrite, Exhausted>
+    requires left { IsKnown table.old left }
+    requires above { IsKnown table.old above }
+    requires step { IsKnownRewrite table.old step }
+    ensures known { IfOk result (IsKnownRewrite table.new) }
+    ensures exact { (y : Exp) (s : Rewriting) → tree_at table.old left ≡ exp_encoding y
+        → tree_at table.old above ≡ exp_encoding (up y) → IsRewrite table.old step s
+        → IfOk result (λ r. IsRewrite table.new r (right_of op y s)) }
+    ensures extends { Extends table.old table.new }
+{
+    let into = oper(table, op, above, step.into)?;
+    let after = oper(table, op, left, step.after)?;
+    Ok(Rewrite {
+        into,
+        from: step.from,
+        to: step.to,
+        proof: step.proof,
+        after,
+    })
+}
+
+/// The rewritings in the left part, beside `right`.
+#[tactic(auto, using(hereditary_subst::proofs::Rows::rows))]
+fn all_under_left(
+    table: &mut Table,
+    memo: &mut Memo,
+    op: Op,
+    right: Id,
+    steps: Rewrites,
+) -> Result<Rewrites, Exhausted>
+    requires right { IsKnown table.old right }
+    requires steps { AreKnownRewrites table.old steps }
+    requires memo { IsMemo table.old memo.old }
+    ensures known { IfOk result (AreKnownRewrites table.new) }
+    ensures exact { (y : Exp) (l : List Rewriting) → tree_at table.old right ≡ exp_encoding y
+        → AreRewrites table.old steps l
+        → IfOk result (λ s. AreRewrites table.new s (in_left op y l)) }
+    ensures extends { Extends table.old table.new }
+    ensures memo { IsMemo table.new memo.new }
+{
+    let above = raised(table, memo, right)?;
+    match steps {
+        Rewrites::Nothing => Ok(Rewrites::Nothing),
+        Rewrites::One(step) => {
+            let step = under_left(table, op, right, above, step)?;
+            Ok(Rewrites::One(step))
+        }
+        Rewrites::Three(first, second, third) => {
+            let first = under_left(table, op, right, above, first)?;
+            let second = under_left(table, op, right, above, second)?;
+            let third = under_left(table, op, right, above, third)?;
+            Ok(Rewrites::Three(first, second, third))
+        }
+    }
+}
+
+/// The rewritings in the right part, beside `left`.
+#[tactic(auto, using(hereditary_subst::proofs::Rows::rows))]
+fn all_under_right(
+    table: &mut Table,
+    memo: &mut Memo,
+    op: Op,
+    left: Id,
+    steps: Rewrites,
+) -> Result<Rewrites, Exhausted>
+    requires left { IsKnown table.old left }
+    requires steps { AreKnownRewrites table.old steps }
+    requires memo { IsMemo table.old memo.old }
+    ensures known { IfOk result (AreKnownRewrites table.new) }
+    ensures exact { (y : Exp) (l : List Rewriting) → tree_at table.old left ≡ exp_encoding y
+        → AreRewrites table.old steps l
+        → IfOk result (λ s. AreRewrites table.new s (in_right op y l)) }
+    ensures extends { Extends table.old table.new }
+    ensures memo { IsMemo table.new memo.new }
+{
+    let above = raised(table, memo, left)?;
+    match steps {
+        Rewrites::Nothing => Ok(Rewrites::Nothing),
+        Rewrites::One(step) => {
+            let step = under_right(table, op, left, above, step)?;
+            Ok(Rewrites::One(step))
+        }
+        Rewrites::Three(first, second, third) => {
+            let first = under_right(table, op, left, above, first)?;
+            let second = under_right(table, op, left, above, second)?;
+            let third = under_right(table, op, left, above, third)?;
+            Ok(Rewrites::Three(first, second, third))
+        }
+    }
+}
+
+/// What the operator `op` at `a` and `b`, which is `e`, is rewritten to by the rule.
+#[tactic(auto, using(hereditary_subst::proofs::Rows::rows))]
+fn rewrites_by(
+    table: &mut Table,
+    memo: &mut Memo,
+    rule: Rule,
+    op: Op,
+    e: Id,
+    a: Id,
+    b: Id,
+) -> Result<Rewrites, Exhausted>
+    requires rule { IsKnownRule table.old rule }
+    requires e { IsKnown table.old e }
+    requires a { IsKnown table.old a }
+    requires b { IsKnown table.old b }
+    requires memo { IsMemo table.old memo.old }
+    ensures known { IfOk result (AreKnownRewrites table.new) }
+    ensures exact { (out : ℕ) (x y : Exp) → tree_at table.old e ≡ exp_encoding (EOp op x y)
+        → tree_at table.old a ≡ exp_encoding x → tree_at table.old b ≡ exp_encoding y
+        → IsRule table.old out op x y rule
+        → IfOk result (λ s. AreRewrites table.new s (rewrite_at out op x y)) }
+    ensures extends { Extends table.old table.new }
+    ensures memo { IsMemo table.new memo.new }
+{
+    match rule {
+        Rule::Nothing => Ok(Rewrites::Nothing),
+        Rule::Turned(p, q) => turned(table, memo, e, a, p, q),
+        Rule::Value(v, w) => Ok(Rewrites::One(to_value(table, e, op, v, w)?)),
+        Rule::Negated => Ok(Rewrites::One(to_sum(table, e, a, b)?)),
+        Rule::First(number) => Ok(Rewrites::One(to_operand(table, e, a, number)?)),
+        Rule::Second(number) => Ok(Rewrites::One(to_operand(table, e, b, number)?)),
+        Rule::Regrouped(p, q) => Ok(Rewrites::One(regrouped(table, e, p, q, b)?)),
+        Rule::Swapped => Ok(Rewrites::One(commuted(table, e, a, b)?)),
+    }
+}
+
+/// What is rewritten first in the expression, if anything is.
+#[cycle(redex)]
+#[tactic(auto, using(hereditary_subst::proofs::Rows::rows))]
+pub(crate) fn redex(
+    table: &mut Table,
+    memo: &mut Memo,
+    outside: u32,
+    e: Id,
+) -> Result<Rewrites, Exhausted>
+    requires e { IsKnown table.old e }
+    requires memo { IsMemo table.old memo.old }
+    ensures known { IfOk result (AreKnownRewrites table.new) }
+    ensures exact { (x : Exp) → tree_at table.old e ≡ exp_encoding x
+        → IfOk result (λ s. AreRewrites table.new s (redex outside x)) }
+    ensures extends { Extends table.old table.new }
+    ensures memo { IsMemo table.new memo.new }
+{
+    match exp_node(table, e) {
+        ExpNode::Apply(op, a, b) => redex_of_parts(table, memo, outside, op, e, a, b),
+        _ => Ok(Rewrites::Nothing),
+    }
+}
+
+/// What is rewritten first in the operator at `a` and `b`, which is `e`.
+#[cycle(redex)]
+#[tactic(auto, using(hereditary_subst::proofs::Rows::rows))]
+fn redex_of_parts(
+    table: &mut Table,
+    memo: &mut Memo,
+    outside: u32,
+    op: Op,
+    e: Id,
+    a: Id,
+    b: Id,
+) -> Result<Rewrites, Exhausted>
+    requires e { IsKnown table.old e }
+    requires a { a < e }
+    requires b { b < e }
+    requires memo { IsMemo table.old memo.old }
+    ensures known { IfOk result (AreKnownRewrites table.new) }
+    ensures exact { (x y : Exp) → tree_at table.old e ≡ exp_encoding (EOp op x y)
+        → tree_at table.old a ≡ exp_encoding x → tree_at table.old b ≡ exp_encoding y
+        → IfOk result (λ s. AreRewrites table.new s (redex outside (EOp op x y))) }
+    ensures extends { Extends table.old table.new }
+    ensures memo { IsMemo table.new memo.new }
+{
+    let left = redex(table, memo, outside, a)?;
+    if has_rewrites(&left) {
+        return all_under_left(table, memo, op, b, left);
+    }
+    let right = redex(table, memo, outside, b)?;
+    if has_rewrites(&right) {
+        return all_under_right(table, memo, op, a, right);
+    }
+    let rule = rule_at(table, outside, op, a, b);
+    rewrites_by(table, memo, rule, op, e, a, b)
+}
+
+/// Whether there is something to rewrite.
+pub(crate) fn has_rewrites(steps: &Rewrites) -> bool
+    ensures { result ≡ has_rewrites steps.now }
+{
+    match steps {
+        Rewrites::Nothing => false,
+        Rewrites::One(_) => true,
+        Rewrites::Three(_, _, _) => true,
+    }
+}

@@ -1,0 +1,160 @@
+//! The table of operators: what names each one in terms, formulas, sources and code words.
+//!
+//! A new operator is a row here, and one in `specs/Operators`; the crates above look it up.
+//! Source of mnemonics, opcodes and functions: Alpha Architecture Handbook, the opcode tables.
+
+ghost use Rattle.std.specs.Prelude.{◌≡◌, ◌<◌, ◌==◌, ◌&&◌};
+ghost use Rattle.std.specs.Str.{bytes_eq};
+ghost use Rattle.word_ops.specs.Operators as operators;
+
+use crate::Op;
+
+/// All operators, by their numbers.
+pub const OPERATORS: [Op; 11] = [
+    Op::Add,
+    Op::Sub,
+    Op::Band,
+    Op::Bis,
+    Op::Sll,
+    Op::Srl,
+    Op::Cmpeq,
+    Op::Cmplt,
+    Op::Cmple,
+    Op::Cmpult,
+    Op::Cmpule,
+];
+
+/// Number, constant, keyword, mnemonic, opcode and function of an operator.
+#[derive(Clone, Copy)]
+struct Row(u32, u32, &'static str, &'static str, u32, u32);
+
+/// The operator's row of the table.
+fn op_row(op: Op) -> Row
+    ensures number { result.0 ≡ operators.op_number op }
+    ensures constant { result.1 ≡ operators.op_constant op }
+    ensures keyword { result.2.now ≡ operators.op_keyword op }
+    ensures mnemonic { result.3.now ≡ operators.op_mnemonic op }
+    ensures opcode { result.4 ≡ operators.op_opcode op }
+    ensures function { result.5 ≡ operators.op_function op }
+{
+    match op {
+        Op::Add => Row(0, 0, "add", "addq", 0x10, 0x20),
+        Op::Sub => Row(1, 1, "sub", "subq", 0x10, 0x29),
+        Op::Band => Row(2, 2, "band", "and", 0x11, 0x00),
+        Op::Bis => Row(3, 3, "bis", "bis", 0x11, 0x20),
+        Op::Sll => Row(4, 4, "sll", "sll", 0x12, 0x39),
+        Op::Srl => Row(5, 5, "srl", "srl", 0x12, 0x34),
+        Op::Cmpeq => Row(6, 6, "cmpeq", "cmpeq", 0x10, 0x2d),
+        Op::Cmplt => Row(7, 7, "cmplt", "cmplt", 0x10, 0x4d),
+        Op::Cmple => Row(8, 8, "cmple", "cmple", 0x10, 0x6d),
+        Op::Cmpult => Row(9, 9, "cmpult", "cmpult", 0x10, 0x1d),
+        Op::Cmpule => Row(10, 10, "cmpule", "cmpule", 0x10, 0x3d),
+    }
+}
+
+/// Answers the number by which evaluations name an operator: its place in `OPERATORS`, 0 to 10.
+pub fn op_number(op: Op) -> u32
+    ensures { result ≡ operators.op_number op }
+{
+    op_row(op).0
+}
+
+/// Answers the constant that stands for an operator in terms.
+pub fn op_constant(op: Op) -> u32
+    ensures { result ≡ operators.op_constant op }
+{
+    op_row(op).1
+}
+
+/// Answers the name of an operator in formulas.
+pub fn op_keyword(op: Op) -> &'static str
+    ensures { result.now ≡ operators.op_keyword op }
+{
+    op_row(op).2
+}
+
+/// Answers the name of an operator in sources: its instruction's mnemonic.
+pub fn op_mnemonic(op: Op) -> &'static str
+    ensures { result.now ≡ operators.op_mnemonic op }
+{
+    op_row(op).3
+}
+
+/// Answers the opcode, below 64, and the function, below 128, of an operator's instruction.
+pub fn op_code(op: Op) -> (u32, u32)
+    ensures opcode { result.0 ≡ operators.op_opcode op }
+    ensures function { result.1 ≡ operators.op_function op }
+    ensures short { result.0 < 64 }
+    ensures below { result.1 < 128 }
+{
+    let row = op_row(op);
+    (row.4, row.5)
+}
+
+/// Answers the operator that evaluations name by `number`: None past 10.
+pub fn op_of(number: u32) -> Option<Op>
+    ensures { result ≡ operators.op_of number }
+{
+    OPERATORS
+        .iter()
+        .copied()
+        .find(|op| op_number(*op) == number)
+}
+
+/// Answers the operator that a constant stands for in terms: None where it is no operator's.
+pub fn op_of_constant(constant: u32) -> Option<Op>
+    ensures { result ≡ operators.op_of_constant constant }
+{
+    OPERATORS
+        .iter()
+        .copied()
+        .find(|op| op_constant(*op) == constant)
+}
+
+/// Whether the operator has this name in formulas.
+fn has_keyword(op: Op, text: &[u8]) -> bool
+    ensures { result ≡ bytes_eq text.now (operators.op_keyword op) }
+{
+    text == op_keyword(op).as_bytes()
+}
+
+/// Answers the operator with this name in formulas: None where no operator has it.
+#[tactic(auto, unfolding(crate::specs::Operators::op_of_keyword))]
+pub fn op_of_keyword(text: &[u8]) -> Option<Op>
+    ensures { result ≡ operators.op_of_keyword text.now }
+{
+    OPERATORS.iter().copied().find(|op| has_keyword(*op, text))
+}
+
+/// Whether the operator has this name in sources.
+fn has_mnemonic(op: Op, text: &[u8]) -> bool
+    ensures { result ≡ bytes_eq text.now (operators.op_mnemonic op) }
+{
+    text == op_mnemonic(op).as_bytes()
+}
+
+/// Answers the operator with this mnemonic: None where no operator has it.
+#[tactic(auto, unfolding(crate::specs::Operators::op_of_mnemonic))]
+pub fn op_of_mnemonic(text: &[u8]) -> Option<Op>
+    ensures { result ≡ operators.op_of_mnemonic text.now }
+{
+    OPERATORS.iter().copied().find(|op| has_mnemonic(*op, text))
+}
+
+/// Whether the operator has this opcode and this function.
+fn has_code(op: Op, opcode: u32, function: u32) -> bool
+    ensures { result ≡ (operators.op_opcode op == opcode && operators.op_function op == function) }
+{
+    let code = op_code(op);
+    code.0 == opcode && code.1 == function
+}
+
+/// Answers the operator of an opcode and a function: None where no operator has these.
+pub fn op_of_code(opcode: u32, function: u32) -> Option<Op>
+    ensures { result ≡ operators.op_of_code opcode function }
+{
+    OPERATORS
+        .iter()
+        .copied()
+        .find(|op| has_code(*op, opcode, function))
+}
