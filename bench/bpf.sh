@@ -51,9 +51,9 @@ def median(words, times=5):
 
 # ---- bpf
 
-def compiled(name, program):
-    """Compiles a program, checks the container, and prints the row of it; the container's path."""
-    source, target = write(name + ".bpf", tcpdump.bytes_of(program)), work + "/" + name
+def compiled(name, program, file="forty"):
+    """Compiles a program in a file, checks the container, and prints the row of it; the container's path."""
+    source, target = write(file + ".bpf", tcpdump.bytes_of(program)), work + "/" + file
     first, seconds, megabytes = median(["bpf", source, target])
     expect("bpf of " + name, first.line, "written %d" % (os.path.getsize(target) if os.path.exists(target) else 0))
     second, check_seconds, _ = median(["check", "filter", target])
@@ -175,7 +175,7 @@ print("\nexpressions of tcpdump beside the same filter by hand, %d packets of 64
 print("(taken: `port` also takes the packet with IP options, which the program for headers of 20 bytes leaves out)")
 for expression, example, text in EXPRESSIONS:
     program = tcpdump.converted(text.replace(",", "\n"), True)[0]
-    container, by_hand = compiled(expression, program), "examples/%s/container" % example
+    container, by_hand = compiled(expression, program, example), "examples/%s/container" % example
     ways = {packet: way_of(program, packet) for packet in set(many)}
     steps = {packet: steps_of(container, packet) for packet in ways}
     for packet, way in ways.items():
@@ -190,7 +190,7 @@ for expression, example, text in EXPRESSIONS:
     print("  run: %.0f k packets/s, %d taken; by hand %.0f k packets/s, %.2f times as fast, %d taken"
           % (speed(seconds), taken, speed(hand_seconds), seconds / hand_seconds, hand_taken), flush=True)
     if native:
-        name, pcap_seconds, pcap_taken = subprocess.run([native, many_file, "20", work + "/" + expression + ".bpf"],
+        name, pcap_seconds, pcap_taken = subprocess.run([native, many_file, "20", work + "/" + example + ".bpf"],
                                                         stdout=subprocess.PIPE, check=True).stdout.decode().split()
         expect("packets that libpcap takes", int(pcap_taken), taken)
         print("  libpcap's bpf_filter on the program: %.0f k packets/s, %.2f times as fast as run"
