@@ -1,4 +1,4 @@
-//! Tests of the words, the code, the testing machine, the policies and the packets, by public calls.
+//! Tests of the words, the code, turns, the testing machine, the policies and the packets, by public calls.
 //!
 //! They stand in a crate of their own, since the gate proves all of a crate once more with its tests.
 #![tactic(auto)]
@@ -15,5 +15,7 @@ mod packet_store_tests;
 mod policy_set_tests;
 #[cfg(test)]
 mod reference_machine_tests;
+#[cfg(test)]
+mod turn_laws_tests;
 #[cfg(test)]
 mod word_ops_tests;

@@ -3,7 +3,7 @@
 
 use crate::codes::{RETURN, code_of};
 use alpha_cfg::{CodeFault, Kind, Outcome};
-use packet_store::{PacketResult, PacketRunner, TestingRunner};
+use packet_store::{PacketResult, PacketRunner, TestingRunner, start_at};
 use policy_set::Policy;
 use policy_set::PolicyKind::{self, Filter};
 use std::alloc::Global;
@@ -44,5 +44,18 @@ fn an_unaligned_load_is_blocked(rt: HostRuntime) -> Result<(), Fail> {
     let unaligned = [0xa430_0004, RETURN];
     let found = ran(&rt, rt.alloc(), Filter, &unaligned, &[0; 64])?;
     assert!(rt; found == PacketResult::Ran(blocked, 0));
+    Ok(())
+}
+
+/// The part of the second of several agents begins 65,552 bytes behind the first.
+#[test]
+fn a_start_lies_where_its_arena_begins(rt: HostRuntime) -> Result<(), Fail> {
+    let policy = Policy::of(rt.alloc(), Filter)?;
+    let packet = [0; 64];
+    let r16 = match start_at(&policy, &packet, 131_088) {
+        Some(start) => start.r16,
+        None => 0,
+    };
+    assert!(rt; r16 == 131_104);
     Ok(())
 }

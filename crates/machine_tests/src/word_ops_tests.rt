@@ -1,6 +1,8 @@
-//! An operator, and relations at edge words.
+//! An operator, what names it, and relations at edge words.
 
-use word_ops::{Op, Rel, apply, holds};
+use word_ops::{
+    Op, Rel, apply, holds, op_code, op_number, op_of, op_of_code, op_of_keyword, op_of_mnemonic,
+};
 
 const TOP: u64 = 0xffff_ffff_ffff_ffff;
 
@@ -11,6 +13,24 @@ const HALF: u64 = 0x8000_0000_0000_0000;
 fn an_operator_gives_what_qemu_gives(rt: HostRuntime) {
     let shifted = apply(Op::Srl, 0x8b2b_8834_1419_1342, 0x5555_5555_5555_5555);
     assert!(rt; shifted == 0x459_5c41_a0a0);
+}
+
+/// Opcode and function of `and` as the Handbook's opcode tables have them.
+#[test]
+fn an_operator_is_found_by_what_names_it(rt: HostRuntime) {
+    assert!(rt; op_of(op_number(Op::Band)) == Some(Op::Band));
+    assert!(rt; op_of_keyword(b"band") == Some(Op::Band));
+    assert!(rt; op_of_mnemonic(b"and") == Some(Op::Band));
+    assert!(rt; op_code(Op::Band) == (0x11, 0x00));
+    assert!(rt; op_of_code(0x11, 0x00) == Some(Op::Band));
+}
+
+/// What the table says of all operators holds of each, and orders of words are the relations'.
+#[test]
+fn laws_of_words_and_operators_hold(_rt: HostRuntime) {
+    word_ops::laws();
+    word_ops::order_laws();
+    word_ops::operator_laws();
 }
 
 /// Expected values from the Handbook's descriptions of the compare instructions.
