@@ -13,7 +13,7 @@ use Rattle.alpha_cfg.specs.declared.outcome.Kind.TheVariants.{Load, Store}
 use Rattle.alpha_cfg.specs.declared.outcome.Step.{Step}
 use Rattle.alpha_cfg.specs.declared.outcome.Step.TheVariants as steps
 use Rattle.alpha_cfg.specs.declared.outcome.Outcome.{Outcome}
-use Rattle.alpha_cfg.specs.Machine.{State, address_of, passes, access_outcome, state_at, action_outcome, step_at, step_of, ends_with, run_of}
+use Rattle.alpha_cfg.specs.Machine.{State, address_of, passes, access_outcome, state_at, action_outcome, step_at, step_of, ends_with, run_of, aligned}
 use Rattle.alpha_cfg.proofs.States.{insn_outcome-rights, run_of-rights}
 use Rattle.alpha_cfg.specs.Isolation.{ChangesWritable}
 
@@ -34,6 +34,9 @@ module _ (q : ℕ) where
   action-same (actions.Compute to word) jump s not_may = refl
   action-same (actions.Load to base disp) jump s not_may =
       let a = address_of s.regs base disp in
+      access-same Load (allowed s.rights.reads a) a s (record s { index = s.index + 1; regs = write_reg s.regs to (read s.memory a) }) (λ may_be. refl)
+  action-same (actions.LoadAround to base disp) jump s not_may =
+      let a = aligned (address_of s.regs base disp) in
       access-same Load (allowed s.rights.reads a) a s (record s { index = s.index + 1; regs = write_reg s.regs to (read s.memory a) }) (λ may_be. refl)
   action-same (actions.Store from base disp) jump s not_may =
       let a = address_of s.regs base disp in

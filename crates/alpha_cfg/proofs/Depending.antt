@@ -14,7 +14,7 @@ use Rattle.alpha_cfg.specs.declared.outcome.Kind.TheVariants.{Load, Store}
 use Rattle.alpha_cfg.specs.declared.outcome.Step.{Step}
 use Rattle.alpha_cfg.specs.declared.outcome.Step.TheVariants as steps
 use Rattle.alpha_cfg.specs.declared.outcome.Outcome.{Outcome}
-use Rattle.alpha_cfg.specs.Machine.{State, address_of, passes, access_outcome, state_at, action_outcome, step_at, step_of, ends_with, run_of}
+use Rattle.alpha_cfg.specs.Machine.{State, address_of, passes, access_outcome, state_at, action_outcome, step_at, step_of, ends_with, run_of, aligned}
 use Rattle.alpha_cfg.specs.Isolation.{LooksAlike, DependsOnReadable}
 
 -- the state with another memory
@@ -52,6 +52,9 @@ state_at_alike (Some j) s l looks = record { first = refl; other = l; is = refl;
 action_alike : (e : Action) (jump : Option ℕ) (s : State) (l : Memory) → LooksAlike s.rights s.memory l → Alike s.rights (action_outcome e jump s) (action_outcome e jump (with_mem s l))
 action_alike (actions.Compute to word) jump s l looks = record { first = refl; other = l; is = refl; rights_are = refl; looks = looks }
 action_alike (actions.Load to base disp) jump s l looks = load_alike (allowed s.rights.reads (address_of s.regs base disp)) (address_of s.regs base disp) to s l refl looks
+action_alike (actions.LoadAround to base disp) jump s l looks =
+    let a = aligned (address_of s.regs base disp) in
+    load_alike (allowed s.rights.reads a) a to s l refl looks
 action_alike (actions.Store from base disp) jump s l looks = store_alike (allowed s.rights.writes (address_of s.regs base disp)) (address_of s.regs base disp) (read_reg s.regs from) s l looks
 action_alike (actions.Branching test) jump s l looks = state_at_alike (if passes s.regs test then jump else Some (s.index + 1)) s l looks
 action_alike actions.Return jump s l looks = record { first = refl; other = l; is = refl; rights_are = refl; looks = looks }

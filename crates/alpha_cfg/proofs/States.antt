@@ -1,5 +1,5 @@
 -- A step keeps a state one, and its index inside the code.
-use Rattle.std.proofs.Common.{◌≡◌, ℕ, zero, suc, ◌+◌, ◌^◌, ◌<◌, Bool, true, false, List, length, slice_get, Option, Some, None, IsSome, refl, ◌∙◌, arith, ℤ, pos, negsuc, if◌then◌else◌}
+use Rattle.std.proofs.Common.{◌≡◌, ℕ, zero, suc, ◌+◌, ◌^◌, ◌<◌, Bool, true, false, List, length, slice_get, Option, Some, None, IsSome, refl, ◌∙◌, arith, ℤ, pos, negsuc, if◌then◌else◌, subst, sym, neg_ℤ, ◌*◌}
 use Rattle.std.proofs.lemmas.Nat.{mod_below}
 use Rattle.std.specs.Int.{cast_unsigned, w64}
 use Rattle.word_ops.proofs.Bounds.{word_of-below}
@@ -12,7 +12,7 @@ use Rattle.word_ops.specs.Registers.{read_reg, write_reg, AreRegs}
 use Rattle.alpha_words.specs.declared.insn.Rhs.{Rhs}
 use Rattle.alpha_words.specs.declared.insn.Rhs.TheVariants.{Reg, Lit}
 use Rattle.alpha_words.specs.declared.insn.Insn.{Insn}
-use Rattle.alpha_words.specs.declared.insn.Insn.TheVariants.{Lda, Ldq, Stq, Oper, Branch, Br, Ret}
+use Rattle.alpha_words.specs.declared.insn.Insn.TheVariants.{Lda, Ldq, Ldah, LdqU, Stq, Oper, Branch, Br, Ret}
 use Rattle.alpha_words.specs.Encoding.{IsRhs, HasBits}
 use Rattle.alpha_words.specs.Lawful.{target_of}
 use Rattle.alpha_cfg.specs.Actions.{Computed, Sum, Applied, Always, When, Action, action_of, HasOperands, next_after}
@@ -24,7 +24,8 @@ use Rattle.alpha_cfg.specs.declared.outcome.Kind.TheVariants.{Load, Store}
 use Rattle.alpha_cfg.specs.declared.outcome.Step.{Step}
 use Rattle.alpha_cfg.specs.declared.outcome.Step.TheVariants as steps
 use Rattle.alpha_cfg.specs.declared.outcome.Outcome.{Outcome}
-use Rattle.alpha_cfg.specs.Machine.{State, IsState, rhs_word, address_of, access_outcome, state_at, word_computed, passes, action_outcome, insn_outcome, takes, step_at, step_of, ends_with, run_of}
+use Rattle.alpha_cfg.specs.Machine.{State, IsState, rhs_word, address_of, access_outcome, state_at, word_computed, passes, action_outcome, insn_outcome, takes, step_at, step_of, ends_with, run_of, aligned}
+use Rattle.std.specs.Prelude.{◌*ℤ◌}
 
 -- a state whose index is below n
 pub record IsAt (n : ℕ) (s : State) : Type 0 where
@@ -42,10 +43,20 @@ wider : (z : ℤ) → HasBits 15 z → HasBits 31 z
 wider (pos n) h = omega (arith, h)
 wider (negsuc n) h = omega (arith, h)
 
+-- a displacement in units of 65,536
+far : (z : ℤ) → HasBits 15 z → HasBits 31 (z *ℤ pos 65536)
+far (pos n) h = omega (arith, h)
+far (negsuc n) h =
+    let shown : suc n * 65536 ≡ suc (n * 65536 + 65535) = omega arith in
+    let low : n * 65536 + 65535 < 2 ^ 31 = omega (arith, h) in
+    subst (λ k. HasBits 31 (neg_ℤ (pos k))) (sym shown) low
+
 -- an instruction that a word encodes has operands in their ranges
 pub action_of-operands : (insn : Insn) → IsInsn insn → HasOperands (action_of insn)
 action_of-operands (Lda ra rb disp) byte = (byte.1.1, wider disp byte.1.2)
 action_of-operands (Ldq ra rb disp) byte = (byte.1.2, wider disp byte.1.3)
+action_of-operands (Ldah ra rb disp) byte = (byte.1.1, far disp byte.1.2)
+action_of-operands (LdqU ra rb disp) byte = (byte.1.2, wider disp byte.1.3)
 action_of-operands (Stq ra rb disp) byte = (byte.1.1, wider disp byte.1.2, byte.1.0)
 action_of-operands (Oper op ra rhs rc) byte = (byte.1.0, byte.1.1)
 action_of-operands (Branch cond ra disp) byte = byte.1.0
@@ -93,6 +104,10 @@ action-keeps : (n : ℕ) (e : Action) (jump : Option ℕ) (s : State) → HasOpe
 action-keeps n (actions.Compute to word) jump s operands on lands is = set_reg-keeps n s to (word_computed s.regs word) is (on refl) (word_computed-below s.regs to word is.state.regs operands)
 action-keeps n (actions.Load to base disp) jump s operands on lands is =
     let a = address_of s.regs base disp in
+    let u : State = record s { index = s.index + 1; regs = write_reg s.regs to (read s.memory a) } in
+    access_outcome-keeps n Load (allowed s.rights.reads a) a s u is (set_reg-keeps n s to (read s.memory a) is (on refl) (read-below s.memory a is.state.memory))
+action-keeps n (actions.LoadAround to base disp) jump s operands on lands is =
+    let a = aligned (address_of s.regs base disp) in
     let u : State = record s { index = s.index + 1; regs = write_reg s.regs to (read s.memory a) } in
     access_outcome-keeps n Load (allowed s.rights.reads a) a s u is (set_reg-keeps n s to (read s.memory a) is (on refl) (read-below s.memory a is.state.memory))
 action-keeps n (actions.Store from base disp) jump s operands on lands is =
@@ -147,6 +162,9 @@ pub action-rights : (e : Action) (jump : Option ℕ) (s : State) → (action_out
 action-rights (actions.Compute to word) jump s = refl
 action-rights (actions.Load to base disp) jump s =
     let a = address_of s.regs base disp in
+    access_outcome-rights Load (allowed s.rights.reads a) a s (record s { index = s.index + 1; regs = write_reg s.regs to (read s.memory a) }) refl
+action-rights (actions.LoadAround to base disp) jump s =
+    let a = aligned (address_of s.regs base disp) in
     access_outcome-rights Load (allowed s.rights.reads a) a s (record s { index = s.index + 1; regs = write_reg s.regs to (read s.memory a) }) refl
 action-rights (actions.Store from base disp) jump s =
     let a = address_of s.regs base disp in

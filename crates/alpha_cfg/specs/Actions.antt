@@ -1,11 +1,12 @@
--- What an instruction does, as a value of five kinds: a register gets a word that is computed, or one from memory; memory gets one; a branch; a return.
+-- What an instruction does, as a value of six kinds: a register gets a word that is computed, or one from memory, at an address or around it;
+-- memory gets one; a branch; a return.
 -- Machine, condition and hosts go by the kinds. Alpha Architecture Handbook, the instruction descriptions.
-use Rattle.std.specs.Prelude.{ℕ, ◌+◌, ◌<◌, Option, Some, None, ℤ}
+use Rattle.std.specs.Prelude.{ℕ, ◌+◌, ◌<◌, Option, Some, None, ℤ, pos, ◌*ℤ◌}
 use Rattle.word_ops.specs.declared.Op.{Op}
 use Rattle.alpha_words.specs.declared.insn.Rhs.{Rhs}
 use Rattle.alpha_words.specs.declared.insn.Cond.{Cond}
 use Rattle.alpha_words.specs.declared.insn.Insn.{Insn}
-use Rattle.alpha_words.specs.declared.insn.Insn.TheVariants.{Lda, Ldq, Stq, Oper, Branch, Br, Ret}
+use Rattle.alpha_words.specs.declared.insn.Insn.TheVariants.{Lda, Ldq, Ldah, LdqU, Stq, Oper, Branch, Br, Ret}
 use Rattle.alpha_words.specs.Encoding.{IsRhs, HasBits}
 
 -- a word that is computed: the sum of a register and a displacement in bytes, or what an operator gives of a register and a second operand
@@ -18,11 +19,12 @@ pub data Test : Type 0 where
   Always : Test
   When : Cond → ℕ → Test
 
--- A register gets a computed word; a register gets the quadword at a register and a displacement; that quadword gets a register's word; to the
--- target where the test passes, else to the next instruction; the run ends.
+-- A register gets a computed word; a register gets the quadword at a register and a displacement, or the one that holds the byte there; the
+-- quadword gets a register's word; to the target where the test passes, else to the next instruction; the run ends.
 pub data Action : Type 0 where
   Compute : ℕ → Computed → Action
   Load : ℕ → ℕ → ℤ → Action
+  LoadAround : ℕ → ℕ → ℤ → Action
   Store : ℕ → ℕ → ℤ → Action
   Branching : Test → Action
   Return : Action
@@ -31,6 +33,8 @@ pub data Action : Type 0 where
 abbrev pub action_of : Insn → Action
 action_of (Lda ra rb disp) = Compute ra (Sum rb disp)
 action_of (Ldq ra rb disp) = Load ra rb disp
+action_of (Ldah ra rb disp) = Compute ra (Sum rb (disp *ℤ pos 65536))
+action_of (LdqU ra rb disp) = LoadAround ra rb disp
 action_of (Stq ra rb disp) = Store ra rb disp
 action_of (Oper op ra rhs rc) = Compute rc (Applied op ra rhs)
 action_of (Branch cond ra disp) = Branching (When cond ra)
@@ -42,6 +46,7 @@ abbrev pub HasOperands : Action → Type 0
 HasOperands (Compute to (Sum base disp)) = (base < 32) × HasBits 31 disp
 HasOperands (Compute to (Applied op left right)) = (left < 32) × IsRhs right
 HasOperands (Load to base disp) = (base < 32) × HasBits 31 disp
+HasOperands (LoadAround to base disp) = (base < 32) × HasBits 31 disp
 HasOperands (Store from base disp) = (base < 32) × HasBits 31 disp × (from < 32)
 HasOperands (Branching Always) = Unit {0}
 HasOperands (Branching (When cond reg)) = reg < 32

@@ -1,10 +1,11 @@
 -- Where an instruction leads, and what code is. Alpha Architecture Handbook, "Control Instructions".
-use Rattle.std.specs.Prelude.{◌≡◌, ℕ, ◌+◌, ◌-◌, ◌<◌, ◌≤◌, List, length, slice_get, Option, Some, None, ℤ, pos, negsuc}
+use Rattle.std.specs.Prelude.{◌≡◌, ℕ, ◌+◌, ◌-◌, ◌<◌, ◌≤◌, List, length, slice_get, Option, Some, None, ℤ, pos, negsuc, true}
 use Rattle.alpha_words.specs.declared.insn.Insn.{Insn}
-use Rattle.alpha_words.specs.Encoding.{Encodes}
+use Rattle.alpha_words.specs.Encoding.{EncodesAny, has_insn}
 use Rattle.alpha_words.specs.Lawful.{target_of}
 use Rattle.alpha_cfg.specs.Actions.{action_of, next_after}
 use Rattle.alpha_cfg.specs.declared.code.TheConstants.{MAX_WORDS}
+use Rattle.word_ops.specs.declared.Profile.{Profile}
 
 -- a number that is an index
 abbrev pub index_of : ℤ → Option ℕ
@@ -44,7 +45,11 @@ IsFinalAt code i = (insn : Insn) → slice_get code i ≡ Some insn → IsFinal 
 
 -- an instruction that some word encodes
 abbrev pub IsInsn : Insn → Type 0
-IsInsn insn = (word : ℕ) × Encodes word insn
+IsInsn insn = (word : ℕ) × EncodesAny word insn
+
+-- the profile has each instruction
+abbrev pub AreOfProfile : Profile → List Insn → Type 0
+AreOfProfile p code = (i : ℕ) (insn : Insn) → slice_get code i ≡ Some insn → has_insn p insn ≡ true
 
 -- each instruction is encoded by some word
 abbrev pub AreInsns : List Insn → Type 0

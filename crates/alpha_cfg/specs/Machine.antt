@@ -1,6 +1,6 @@
 -- States of the machine, its steps and its runs, with a test at each access.
 -- Alpha Architecture Handbook, the instruction descriptions.
-use Rattle.std.specs.Prelude.{ℕ, zero, suc, ◌+◌, ◌%◌, ◌^◌, Bool, true, not, ◌==◌, if◌then◌else◌, List, slice_get, slice_index, Option, Some, None, bit_and, ℤ}
+use Rattle.std.specs.Prelude.{ℕ, zero, suc, ◌+◌, ◌%◌, ◌^◌, Bool, true, not, ◌==◌, if◌then◌else◌, List, slice_get, slice_index, Option, Some, None, bit_and, ℤ, ◌-◌}
 use Rattle.std.specs.Int.{cast_unsigned, w64}
 use Rattle.word_ops.specs.declared.Rel.TheVariants.{Slt, Sle}
 use Rattle.word_ops.specs.Words.{word_of, test_of}
@@ -44,6 +44,10 @@ rhs_word regs (Lit n) = n
 abbrev pub address_of : List ℕ → ℕ → ℤ → ℕ
 address_of regs rb disp = (read_reg regs rb + cast_unsigned w64 disp) % 2 ^ 64
 
+-- the address of the quadword that holds the byte
+abbrev pub aligned : ℕ → ℕ
+aligned a = a - a % 8
+
 -- whether a conditional branch is taken
 abbrev pub takes : Cond → ℕ → Bool
 takes LowClear x = bit_and x 1 == 0
@@ -79,6 +83,9 @@ abbrev pub action_outcome : Action → Option ℕ → State → Step × State
 action_outcome (actions.Compute to word) jump s = (steps.Moved, record s { index = s.index + 1; regs = write_reg s.regs to (word_computed s.regs word) })
 action_outcome (actions.Load to base disp) jump s =
     let a = address_of s.regs base disp in
+    access_outcome Load (allowed s.rights.reads a) a s (record s { index = s.index + 1; regs = write_reg s.regs to (read s.memory a) })
+action_outcome (actions.LoadAround to base disp) jump s =
+    let a = aligned (address_of s.regs base disp) in
     access_outcome Load (allowed s.rights.reads a) a s (record s { index = s.index + 1; regs = write_reg s.regs to (read s.memory a) })
 action_outcome (actions.Store from base disp) jump s =
     let a = address_of s.regs base disp in

@@ -13,12 +13,13 @@ use crate::fault::{CodeFault, CodeFlaw};
 use alpha_words::{Insn, Rhs, decode, target};
 use std::alloc::Global;
 use std::marker::Model;
+use word_ops::Profile;
 
 /// How many instructions code has at most.
 pub const MAX_WORDS: usize = 1024;
 
-/// Code: 1 to 1,024 instructions of profile 1 whose branches stay inside it and which can't run
-/// off its end. Contracts see the list of its instructions.
+/// Code: 1 to 1,024 instructions whose branches stay inside it and which can't run off its end.
+/// Contracts see the list of its instructions.
 #[derive(Debug, Drop)]
 pub struct Code {
     insns: Vec<Insn>,
@@ -101,30 +102,30 @@ fn word_of(code: &[u8], i: usize) -> u32
 }
 
 /// The instruction that a word encodes.
-fn decode_at(code: &[u8], i: usize) -> Result<Insn, CodeFlaw>
+fn decode_at(code: &[u8], i: usize, profile: Profile) -> Result<Insn, CodeFlaw>
     requires within { 4 * i + 4 ≤ length code.now }
     requires short { i < MAX_WORDS }
-    ensures encodes { IfOk result (λ insn. Encodes (code_word_at code.now i) insn) }
-    ensures flaw { IfErr result (λ e. IsFlawAt code.now i e) }
+    ensures encodes { IfOk result (λ insn. Encodes profile (code_word_at code.now i) insn) }
+    ensures flaw { IfErr result (λ e. IsFlawAt profile code.now i e) }
 {
     let word = word_of(code, i);
-    match decode(word) {
+    match decode(word, profile) {
         Ok(insn) => Ok(insn),
         Err(bad) => Err(CodeFlaw::BadWord(i as u32, word, bad)),
     }
 }
 
 /// The instructions that the words encode, or the first word that encodes none.
-fn decode_all(alloc: Global, code: &[u8]) -> Result<Vec<Insn>, CodeFault>
+fn decode_all(alloc: Global, code: &[u8], profile: Profile) -> Result<Vec<Insn>, CodeFault>
     requires whole { length code.now % 4 ≡ 0 }
     requires short { length code.now ≤ 4 * MAX_WORDS }
-    ensures encodes { IfOk result (λ v. EncodesCode code.now v.items) }
-    ensures fault { IfErr result (λ e. IsCodeAnswer code.now (Err e)) }
+    ensures encodes { IfOk result (λ v. EncodesCode profile code.now v.items) }
+    ensures fault { IfErr result (λ e. IsCodeAnswer profile code.now (Err e)) }
 {
     let _no_operand: Option<Rhs> = None;
     let mut insns = Vec::new(alloc);
     for i in 0..code.len() / 4 {
-        insns.push(decode_at(code, i)?)?;
+        insns.push(decode_at(code, i, profile)?)?;
     }
     Ok(insns)
 }
@@ -183,13 +184,13 @@ fn shape_flaw(insns: &[Insn]) -> Option<CodeFlaw>
 }
 
 /// The code that the bytes encode, or the first fault.
-fn make(alloc: Global, code: &[u8]) -> Result<Code, CodeFault>
+fn make(alloc: Global, code: &[u8], profile: Profile) -> Result<Code, CodeFault>
     requires whole { length code.now % 4 ≡ 0 }
     requires some { 0 < length code.now }
     requires short { length code.now ≤ 4 * MAX_WORDS }
-    ensures { IsCodeAnswer code.now result }
+    ensures { IsCodeAnswer profile code.now result }
 {
-    let insns = decode_all(alloc, code)?;
+    let insns = decode_all(alloc, code, profile)?;
     match shape_flaw(&insns) {
         Some(flaw) => Err(CodeFault::At(flaw)),
         None => Ok(Code { insns }),
@@ -197,18 +198,18 @@ fn make(alloc: Global, code: &[u8]) -> Result<Code, CodeFault>
 }
 
 impl Code {
-    /// The code that the bytes, 1 to 1,024 words of four bytes, encode.
+    /// The code that the bytes, 1 to 1,024 words of four bytes, encode in the profile.
     ///
     /// Else the least index whose word is no instruction; else the least index that branches
     /// outside; else the last index, where it isn't a return or a branch that is always taken.
     /// Words that no walk reaches count as others do.
-    pub fn of(alloc: Global, code: &[u8]) -> Result<Code, CodeFault>
+    pub fn of(alloc: Global, code: &[u8], profile: Profile) -> Result<Code, CodeFault>
         requires whole { length code.now % 4 ≡ 0 }
         requires some { 0 < length code.now }
         requires short { length code.now ≤ 4 * MAX_WORDS }
-        ensures decodes { IsCodeAnswer code.now result }
-        ensures exact { IsDecoded code.now result }
+        ensures decodes { IsCodeAnswer profile code.now result }
+        ensures exact { IsDecoded profile code.now result }
     {
-        make(alloc, code)
+        make(alloc, code, profile)
     }
 }

@@ -1,6 +1,7 @@
 //! What holds of the definitions, with nothing to run.
 
 ghost use Rattle.std.specs.Prelude.{◌≡◌, ℕ, ◌<◌, ◌≤◌, ◌*◌, ◌↔◌, Bool, List, length, Some, None, Ok, All};
+ghost use Rattle.word_ops.specs.declared.Profile.{Profile};
 ghost use Rattle.alpha_words.specs.declared.insn.Insn.{Insn};
 ghost use Rattle.alpha_cfg.specs.declared.code.TheConstants.{MAX_WORDS};
 ghost use Rattle.alpha_cfg.specs.Flow.{IsCode};
@@ -38,8 +39,8 @@ pub fn isolation_laws()
 /// indices have one list of flags; `uncut_of` gives none exactly where they cut code, and else
 /// exactly the least index on a cycle without one.
 pub fn decision_laws()
-    ensures read { (bytes : List ℕ) (code : List Insn) → 4 ≤ length bytes
-        → length bytes ≤ 4 * MAX_WORDS → decoded_code bytes ≡ Ok code → IsReadCode bytes code }
+    ensures read { (p : Profile) (bytes : List ℕ) (code : List Insn) → 4 ≤ length bytes
+        → length bytes ≤ 4 * MAX_WORDS → decoded_code p bytes ≡ Ok code → IsReadCode bytes code }
     ensures flags { (annotated : List ℕ) (count : ℕ) → All (λ i. i < count) annotated
         → AreFlags annotated count (flags_of annotated count) }
     ensures only_flags { (annotated : List ℕ) (count : ℕ) (marks : List Bool)

@@ -1,28 +1,29 @@
 -- What a word reads as is what it encodes.
-use Rattle.std.proofs.Common.{◌≡◌, ◌≢◌, ℕ, ◌+◌, ◌*◌, ◌/◌, ◌%◌, ◌^◌, ◌<◌, true, false, cond, not, leb, ltb, eqb, ◌&&◌, arith, refl, ◌∙◌, sym, Option, Some, None, Result, Ok, Err, IfOk, IfSome, ◌↔◌, List, [], ◌∷◌, find}
+use Rattle.std.proofs.Common.{◌≡◌, ◌≢◌, ℕ, ◌+◌, ◌*◌, ◌/◌, ◌%◌, ◌^◌, ◌<◌, true, false, cond, not, leb, ltb, eqb, ◌&&◌, arith, refl, ◌∙◌, sym, ap, subst, Bool, if◌then◌else◌, Option, Some, None, Result, Ok, Err, IfOk, IfSome, ◌↔◌, List, [], ◌∷◌, find}
 use Rattle.std.proofs.lemmas.Bool.{cond_both, ltb-true, eqb-true, eqb-false, ne_eqb, and_parts, not_from_false, not-true}
 use Rattle.std.proofs.lemmas.Bool.Decides.{nat_tests}
 use Rattle.word_ops.specs.declared.Op.{Op}
-use Rattle.word_ops.specs.declared.Op.TheVariants.{Add, Sub, Band, Bis, Sll, Srl, Cmpeq, Cmplt, Cmple, Cmpult, Cmpule}
+use Rattle.word_ops.specs.declared.Op.TheVariants.{Add, Sub, Band, Bis, Sll, Srl, Cmpeq, Cmplt, Cmple, Cmpult, Cmpule, Xor, Bic, S4add, S8add, Sra, Extb, Extw, Extl}
+use Rattle.word_ops.specs.declared.Profile.{Profile}
 use Rattle.alpha_words.specs.declared.insn.Rhs.{Rhs}
 use Rattle.alpha_words.specs.declared.insn.Rhs.TheVariants.{Reg, Lit}
 use Rattle.alpha_words.specs.declared.insn.Cond.{Cond}
 use Rattle.alpha_words.specs.declared.insn.Cond.TheVariants.{LowClear, Zero, Negative, NotPositive, LowSet, NotZero, NotNegative, Positive}
 use Rattle.alpha_words.specs.declared.insn.Insn.{Insn}
-use Rattle.alpha_words.specs.declared.insn.Insn.TheVariants.{Lda, Ldq, Stq, Oper, Branch, Br, Ret}
+use Rattle.alpha_words.specs.declared.insn.Insn.TheVariants.{Lda, Ldq, Ldah, LdqU, Stq, Oper, Branch, Br, Ret}
 use Rattle.alpha_words.specs.declared.fault.BadWord.{BadWord}
-use Rattle.alpha_words.specs.declared.fault.BadWord.TheVariants.{KeptRegister, LoadToZero}
-use Rattle.word_ops.specs.Operators.{operators, op_opcode, op_function, op_of_code}
-use Rattle.word_ops.proofs.EachOp.{each_op, op_of_code-op_code}
+use Rattle.alpha_words.specs.declared.fault.BadWord.TheVariants.{Opcode, Function, KeptRegister, LoadToZero}
+use Rattle.word_ops.specs.Operators.{op_opcode, op_function, op_of_code, has_op, of_profile}
+use Rattle.word_ops.proofs.EachOp.{each_op, op_of_code-op_code, op_code_is}
 use Rattle.alpha_words.specs.Opcodes.{conditions, cond_opcode_of, cond_at}
-use Rattle.alpha_words.specs.Lawful.{fault_of, kept_fault, HasFormat}
-use Rattle.alpha_words.specs.Encoding.{is_kept, bits_of, HasBits, rhs_bits, IsRhs, operate_word, HasFields, Encodes}
+use Rattle.alpha_words.specs.Lawful.{fault_of, any_fault, missing_fault, kept_fault, HasFormat}
+use Rattle.alpha_words.specs.Encoding.{is_kept, bits_of, HasBits, rhs_bits, IsRhs, operate_word, HasFields, is_two, has_insn, EncodesAny, Encodes}
 use Rattle.alpha_words.specs.Decoding.{signed_of, reg_at, unless_kept, rhs_at, has_reserved, decoded_operate, decoded_branch, is_return, decoded}
 use Rattle.alpha_words.proofs.Fields.{HasBits-signed_of, bits_of-signed_of, signed_of-bits_of, bits_of-below}
 
 -- what reads, encodes
-abbrev Sound : ℕ → Result Insn BadWord → Type 0
-Sound w r = IfOk r (Encodes w)
+abbrev Sound : Profile → ℕ → Result Insn BadWord → Type 0
+Sound p w r = IfOk r (Encodes p w)
 
 short_has : (w : ℕ) → HasBits 15 (signed_of 15 (w % 2 ^ 16))
 short_has w = HasBits-signed_of 15 (w % 2 ^ 16) (omega arith)
@@ -36,8 +37,8 @@ long_has w = HasBits-signed_of 20 (w % 2 ^ 21) (omega arith)
 long_bits : (w : ℕ) → bits_of 20 (signed_of 20 (w % 2 ^ 21)) ≡ w % 2 ^ 21
 long_bits w = bits_of-signed_of 20 (w % 2 ^ 21) (omega arith)
 
-writing_sound : (w r : ℕ) (i : Insn) → (is_kept r ≡ false → Encodes w i) → Sound w (unless_kept r i)
-writing_sound w r i h = cond_both (is_kept r) (Err KeptRegister) (Ok i) (Sound w) (λ _. tt) h
+writing_sound : (p : Profile) (w r : ℕ) (i : Insn) → has_insn p i ≡ true → (is_kept r ≡ false → EncodesAny w i) → Sound p w (unless_kept r i)
+writing_sound p w r i l h = cond_both (is_kept r) (Err KeptRegister) (Ok i) (Sound p w) (λ _. tt) (λ k. (l, h k))
 
 written : (r : ℕ) → is_kept r ≡ false → not (is_kept r) ≡ true
 written r e = not_from_false (is_kept r) e
@@ -46,18 +47,23 @@ written r e = not_from_false (is_kept r) e
 pick : {A : Type 0} (P : A → Type 0) (n m : ℕ) (x y : A) → (n ≡ m → P x) → P y → P (cond (eqb n m) x y)
 pick P n m x y h k = cond_both (eqb n m) x y P (λ e. h (eqb-true n m e)) (λ _. k)
 
-abbrev IsOperator : ℕ → ℕ → Option Op → Type 0
-IsOperator o f r = IfSome r (λ op. (op_opcode op ≡ o) × (op_function op ≡ f))
+abbrev IsOperator : Profile → ℕ → ℕ → Option Op → Type 0
+IsOperator p o f r = IfSome r (λ op. (has_op p op ≡ true) × (op_opcode op ≡ o) × (op_function op ≡ f))
 
-found_operator : (o f : ℕ) (ops : List Op) → IsOperator o f (find (λ op. eqb (op_opcode op) o && eqb (op_function op) f) ops)
-found_operator o f [] = tt
-found_operator o f (op ∷ ops) =
-    cond_both (eqb (op_opcode op) o && eqb (op_function op) f) _ _ (IsOperator o f)
-    (λ e. let p = and_parts (eqb (op_opcode op) o) (eqb (op_function op) f) e in (eqb-true (op_opcode op) o p.0, eqb-true (op_function op) f p.1))
-    (λ _. found_operator o f ops)
+operator_kept : (p : Profile) (o f : ℕ) (r : Option Op) → op_of_code o f ≡ r → IsOperator p o f (of_profile p r)
+operator_kept p o f None e = tt
+operator_kept p o f (Some op) e =
+    cond_both (has_op p op) _ _ (IsOperator p o f) (λ h. let code = op_code_is o f op e in (h, code.0, code.1)) (λ _. tt)
 
-operator_sound : (o f : ℕ) → IsOperator o f (op_of_code o f)
-operator_sound o f = found_operator o f operators
+operator_sound : (p : Profile) (o f : ℕ) → IsOperator p o f (of_profile p (op_of_code o f))
+operator_sound p o f = operator_kept p o f (op_of_code o f) refl
+
+-- an operator that the profile has, or none
+abbrev had : Bool → Op → Option Op
+had b op = if b then Some op else None
+
+operator_complete : (p : Profile) (op : Op) → of_profile p (op_of_code (op_opcode op) (op_function op)) ≡ had (has_op p op) op
+operator_complete p op = ap (of_profile p) (op_of_code-op_code op)
 
 abbrev IsCond : ℕ → Option Cond → Type 0
 IsCond o r = IfSome r (λ c. cond_opcode_of c ≡ o)
@@ -69,13 +75,19 @@ found_cond o (c ∷ cs) = cond_both (eqb (cond_opcode_of c) o) _ _ (IsCond o) (�
 cond_sound : (o : ℕ) → IsCond o (cond_at o)
 cond_sound o = found_cond o conditions
 
-lda_sound : (w : ℕ) → w / 2 ^ 26 ≡ 8 → Sound w (unless_kept (reg_at w 21) (Lda (reg_at w 21) (reg_at w 16) (signed_of 15 (w % 2 ^ 16))))
-lda_sound w o = writing_sound w (reg_at w 21) _ (λ k. ((omega arith, written (reg_at w 21) k), omega arith, short_has w, omega (arith, short_bits w)))
+lda_sound : (p : Profile) (w : ℕ) → w / 2 ^ 26 ≡ 8 → Sound p w (unless_kept (reg_at w 21) (Lda (reg_at w 21) (reg_at w 16) (signed_of 15 (w % 2 ^ 16))))
+lda_sound p w o = writing_sound p w (reg_at w 21) _ refl (λ k. ((omega arith, written (reg_at w 21) k), omega arith, short_has w, omega (arith, short_bits w)))
 
-ldq_sound : (w : ℕ) → w / 2 ^ 26 ≡ 0x29 → reg_at w 21 ≢ 31 → Sound w (unless_kept (reg_at w 21) (Ldq (reg_at w 21) (reg_at w 16) (signed_of 15 (w % 2 ^ 16))))
-ldq_sound w o n = writing_sound w (reg_at w 21) _ (λ k. ((omega arith, written (reg_at w 21) k), omega arith, omega arith, short_has w, omega (arith, short_bits w)))
+ldq_sound : (p : Profile) (w : ℕ) → w / 2 ^ 26 ≡ 0x29 → reg_at w 21 ≢ 31 → Sound p w (unless_kept (reg_at w 21) (Ldq (reg_at w 21) (reg_at w 16) (signed_of 15 (w % 2 ^ 16))))
+ldq_sound p w o n = writing_sound p w (reg_at w 21) _ refl (λ k. ((omega arith, written (reg_at w 21) k), omega arith, omega arith, short_has w, omega (arith, short_bits w)))
 
-stq_sound : (w : ℕ) → w / 2 ^ 26 ≡ 0x2D → Encodes w (Stq (reg_at w 21) (reg_at w 16) (signed_of 15 (w % 2 ^ 16)))
+ldah_sound : (p : Profile) (w : ℕ) → w / 2 ^ 26 ≡ 9 → is_two p ≡ true → Sound p w (unless_kept (reg_at w 21) (Ldah (reg_at w 21) (reg_at w 16) (signed_of 15 (w % 2 ^ 16))))
+ldah_sound p w o t = writing_sound p w (reg_at w 21) _ t (λ k. ((omega arith, written (reg_at w 21) k), omega arith, short_has w, omega (arith, short_bits w)))
+
+ldq_u_sound : (p : Profile) (w : ℕ) → w / 2 ^ 26 ≡ 11 → is_two p ≡ true → reg_at w 21 ≢ 31 → Sound p w (unless_kept (reg_at w 21) (LdqU (reg_at w 21) (reg_at w 16) (signed_of 15 (w % 2 ^ 16))))
+ldq_u_sound p w o t n = writing_sound p w (reg_at w 21) _ t (λ k. ((omega arith, written (reg_at w 21) k), omega arith, omega arith, short_has w, omega (arith, short_bits w)))
+
+stq_sound : (w : ℕ) → w / 2 ^ 26 ≡ 0x2D → EncodesAny w (Stq (reg_at w 21) (reg_at w 16) (signed_of 15 (w % 2 ^ 16)))
 stq_sound w o = (omega arith, omega arith, short_has w, omega (arith, short_bits w))
 
 unreserved : (w : ℕ) → eqb (w / 2 ^ 12 % 2) 1 ≡ false → has_reserved w ≡ false → w / 2 ^ 13 % 8 ≡ 0
@@ -88,23 +100,23 @@ rhs_sound w h =
     (λ e. let one : w / 2 ^ 12 % 2 ≡ 1 = eqb-true (w / 2 ^ 12 % 2) 1 e in (omega arith, omega arith))
     (λ e. let zero : w / 2 ^ 13 % 8 ≡ 0 = unreserved w e h in let none : w / 2 ^ 12 % 2 ≢ 1 = eqb-false (w / 2 ^ 12 % 2) 1 e in (omega arith, omega arith))
 
-operating_sound : (w : ℕ) (o : Option Op) → IsOperator (w / 2 ^ 26) (w / 2 ^ 5 % 128) o → Sound w (decoded_operate w o)
-operating_sound w None h = tt
-operating_sound w (Some op) h =
-    cond_both (has_reserved w) _ _ (Sound w) (λ _. tt)
-    (λ z. let r = rhs_sound w z in writing_sound w (reg_at w 0) _ (λ k. (omega arith, r.0, (omega arith, written (reg_at w 0) k), omega (arith, r.1, h.0, h.1))))
+operating_sound : (p : Profile) (w : ℕ) (o : Option Op) → IsOperator p (w / 2 ^ 26) (w / 2 ^ 5 % 128) o → Sound p w (decoded_operate w o)
+operating_sound p w None h = tt
+operating_sound p w (Some op) h =
+    cond_both (has_reserved w) _ _ (Sound p w) (λ _. tt)
+    (λ z. let r = rhs_sound w z in writing_sound p w (reg_at w 0) _ h.0 (λ k. (omega arith, r.0, (omega arith, written (reg_at w 0) k), omega (arith, r.1, h.1, h.2))))
 
-oper_sound : (w : ℕ) → Sound w (decoded_operate w (op_of_code (w / 2 ^ 26) (w / 2 ^ 5 % 128)))
-oper_sound w = operating_sound w _ (operator_sound (w / 2 ^ 26) (w / 2 ^ 5 % 128))
+oper_sound : (p : Profile) (w : ℕ) → Sound p w (decoded_operate w (of_profile p (op_of_code (w / 2 ^ 26) (w / 2 ^ 5 % 128))))
+oper_sound p w = operating_sound p w _ (operator_sound p (w / 2 ^ 26) (w / 2 ^ 5 % 128))
 
-branching_sound : (w : ℕ) (o : Option Cond) → IsCond (w / 2 ^ 26) o → Sound w (decoded_branch w o)
-branching_sound w None h = tt
-branching_sound w (Some c) h = (omega arith, long_has w, omega (arith, long_bits w, h))
+branching_sound : (p : Profile) (w : ℕ) (o : Option Cond) → IsCond (w / 2 ^ 26) o → Sound p w (decoded_branch w o)
+branching_sound p w None h = tt
+branching_sound p w (Some c) h = (refl, (omega arith, long_has w, omega (arith, long_bits w, h)))
 
-branch_sound : (w : ℕ) → Sound w (decoded_branch w (cond_at (w / 2 ^ 26)))
-branch_sound w = branching_sound w _ (cond_sound (w / 2 ^ 26))
+branch_sound : (p : Profile) (w : ℕ) → Sound p w (decoded_branch w (cond_at (w / 2 ^ 26)))
+branch_sound p w = branching_sound p w _ (cond_sound (w / 2 ^ 26))
 
-ret_sound : (w : ℕ) → w / 2 ^ 26 ≡ 0x1A → is_return w ≡ true → Encodes w Ret
+ret_sound : (w : ℕ) → w / 2 ^ 26 ≡ 0x1A → is_return w ≡ true → EncodesAny w Ret
 ret_sound w o r =
     let p = and_parts (eqb (reg_at w 21) 31 && eqb (reg_at w 16) 26) (eqb (w / 2 ^ 14 % 4) 2) r in
     let q = and_parts (eqb (reg_at w 21) 31) (eqb (reg_at w 16) 26) p.0 in
@@ -113,20 +125,22 @@ ret_sound w o r =
     let j : w / 2 ^ 14 % 4 ≡ 2 = eqb-true _ _ p.1 in
     (w % 2 ^ 14, omega arith, omega arith)
 
-br_sound : (w : ℕ) → w / 2 ^ 26 ≡ 0x30 → reg_at w 21 ≡ 31 → Encodes w (Br (signed_of 20 (w % 2 ^ 21)))
+br_sound : (w : ℕ) → w / 2 ^ 26 ≡ 0x30 → reg_at w 21 ≡ 31 → EncodesAny w (Br (signed_of 20 (w % 2 ^ 21)))
 br_sound w o r = (long_has w, omega (arith, long_bits w))
 
-reading_sound : (w : ℕ) → Sound w (decoded w)
-reading_sound w =
-    let P : Result Insn BadWord → Type 0 = Sound w in
+reading_sound : (p : Profile) (w : ℕ) → Sound p w (decoded p w)
+reading_sound p w =
+    let P : Result Insn BadWord → Type 0 = Sound p w in
     let o : ℕ = w / 2 ^ 26 in
-    pick P o 8 _ _ (lda_sound w)
-    (pick P o 41 _ _ (λ e. cond_both (eqb (reg_at w 21) 31) _ _ P (λ _. tt) (λ n. ldq_sound w e (eqb-false (reg_at w 21) 31 n)))
-    (pick P o 45 _ _ (stq_sound w)
-    (cond_both (leb 16 o && leb o 18) _ _ P (λ _. oper_sound w)
-    (λ _. pick P o 26 _ _ (λ e. cond_both (is_return w) _ _ P (ret_sound w e) (λ _. tt))
-    (pick P o 48 _ _ (λ e. pick P (reg_at w 21) 31 _ _ (br_sound w e) tt)
-    (branch_sound w))))))
+    pick P o 8 _ _ (lda_sound p w)
+    (pick P o 41 _ _ (λ e. cond_both (eqb (reg_at w 21) 31) _ _ P (λ _. tt) (λ n. ldq_sound p w e (eqb-false (reg_at w 21) 31 n)))
+    (pick P o 9 _ _ (λ e. cond_both (is_two p) _ _ P (ldah_sound p w e) (λ _. tt))
+    (pick P o 11 _ _ (λ e. cond_both (is_two p) _ _ P (λ t. cond_both (eqb (reg_at w 21) 31) _ _ P (λ _. tt) (λ n. ldq_u_sound p w e t (eqb-false (reg_at w 21) 31 n))) (λ _. tt))
+    (pick P o 45 _ _ (λ e. (refl, stq_sound w e))
+    (cond_both (leb 16 o && leb o 18) _ _ P (λ _. oper_sound p w)
+    (λ _. pick P o 26 _ _ (λ e. cond_both (is_return w) _ _ P (λ r. (refl, ret_sound w e r)) (λ _. tt))
+    (pick P o 48 _ _ (λ e. pick P (reg_at w 21) 31 _ _ (λ r. (refl, br_sound w e r)) tt)
+    (branch_sound p w))))))))
 
 -- what encodes, reads
 unkept : (r : ℕ) → not (is_kept r) ≡ true → is_kept r ≡ false
@@ -135,28 +149,36 @@ unkept r e = not-true (is_kept r) e
 function_below : (op : Op) → op_function op < 128
 function_below op = ltb-true (op_function op) 128 (each_op (λ o. ltb (op_function o) 128) refl op)
 
-reading_oper : (w : ℕ) (op : Op) → w / 2 ^ 26 ≡ op_opcode op → decoded w ≡ decoded_operate w (op_of_code (op_opcode op) (w / 2 ^ 5 % 128))
-reading_oper w Add e = rw e refl
-reading_oper w Sub e = rw e refl
-reading_oper w Band e = rw e refl
-reading_oper w Bis e = rw e refl
-reading_oper w Sll e = rw e refl
-reading_oper w Srl e = rw e refl
-reading_oper w Cmpeq e = rw e refl
-reading_oper w Cmplt e = rw e refl
-reading_oper w Cmple e = rw e refl
-reading_oper w Cmpult e = rw e refl
-reading_oper w Cmpule e = rw e refl
+reading_oper : (p : Profile) (w : ℕ) (op : Op) → w / 2 ^ 26 ≡ op_opcode op → decoded p w ≡ decoded_operate w (of_profile p (op_of_code (op_opcode op) (w / 2 ^ 5 % 128)))
+reading_oper p w Add e = rw e refl
+reading_oper p w Sub e = rw e refl
+reading_oper p w Band e = rw e refl
+reading_oper p w Bis e = rw e refl
+reading_oper p w Sll e = rw e refl
+reading_oper p w Srl e = rw e refl
+reading_oper p w Cmpeq e = rw e refl
+reading_oper p w Cmplt e = rw e refl
+reading_oper p w Cmple e = rw e refl
+reading_oper p w Cmpult e = rw e refl
+reading_oper p w Cmpule e = rw e refl
+reading_oper p w Xor e = rw e refl
+reading_oper p w Bic e = rw e refl
+reading_oper p w S4add e = rw e refl
+reading_oper p w S8add e = rw e refl
+reading_oper p w Sra e = rw e refl
+reading_oper p w Extb e = rw e refl
+reading_oper p w Extw e = rw e refl
+reading_oper p w Extl e = rw e refl
 
-reading_branch : (w : ℕ) (c : Cond) → w / 2 ^ 26 ≡ cond_opcode_of c → decoded w ≡ Ok (Branch c (reg_at w 21) (signed_of 20 (w % 2 ^ 21)))
-reading_branch w LowClear e = rw e refl
-reading_branch w Zero e = rw e refl
-reading_branch w Negative e = rw e refl
-reading_branch w NotPositive e = rw e refl
-reading_branch w LowSet e = rw e refl
-reading_branch w NotZero e = rw e refl
-reading_branch w NotNegative e = rw e refl
-reading_branch w Positive e = rw e refl
+reading_branch : (p : Profile) (w : ℕ) (c : Cond) → w / 2 ^ 26 ≡ cond_opcode_of c → decoded p w ≡ Ok (Branch c (reg_at w 21) (signed_of 20 (w % 2 ^ 21)))
+reading_branch p w LowClear e = rw e refl
+reading_branch p w Zero e = rw e refl
+reading_branch p w Negative e = rw e refl
+reading_branch p w NotPositive e = rw e refl
+reading_branch p w LowSet e = rw e refl
+reading_branch p w NotZero e = rw e refl
+reading_branch p w NotNegative e = rw e refl
+reading_branch p w Positive e = rw e refl
 
 -- the second operand of a word of the operate format
 rhs_complete : (w o ra f rc : ℕ) (rhs : Rhs) → w ≡ o * 2 ^ 26 + ra * 2 ^ 21 + rhs_bits rhs + f * 2 ^ 5 + rc → ra < 32 → f < 128 → rc < 32 → IsRhs rhs → (has_reserved w ≡ false) × (rhs_at w ≡ rhs)
@@ -189,9 +211,19 @@ unless_kept-judged r i = elim (is_kept r) as (λ b. cond b (Err KeptRegister) (O
 loading-judged : (r : ℕ) (i : Insn) → cond (eqb r 31) (Err LoadToZero) (unless_kept r i) ≡ judged i (cond (eqb r 31) (Some LoadToZero) (kept_fault r))
 loading-judged r i = elim (eqb r 31) as (λ b. cond b (Err LoadToZero) (unless_kept r i) ≡ judged i (cond b (Some LoadToZero) (kept_fault r))) [ true ↦ refl | false ↦ unless_kept-judged r i ]
 
+-- an instruction that a profile may lack
+two-judged : (b : Bool) (r : Result Insn BadWord) (i : Insn) (f : Option BadWord) (bad : BadWord) → r ≡ judged i f → cond b r (Err bad) ≡ judged i (cond b f (Some bad))
+two-judged true r i f bad e = e
+two-judged false r i f bad e = refl
+
+oper-judged : (b : Bool) (w : ℕ) (op : Op) (ra : ℕ) (rhs : Rhs) (rc : ℕ) → has_reserved w ≡ false → rhs_at w ≡ rhs → reg_at w 21 ≡ ra → reg_at w 0 ≡ rc →
+    decoded_operate w (had b op) ≡ judged (Oper op ra rhs rc) (cond b (kept_fault rc) (Some Function))
+oper-judged true w op ra rhs rc z r a c = rw (z, r, a, c) (unless_kept-judged rc (Oper op ra rhs rc))
+oper-judged false w op ra rhs rc z r a c = refl
+
 -- a word with the fields of an instruction reads as it, or as why the profile refuses it
-reading_fields : (w : ℕ) (i : Insn) → HasFields w i → decoded w ≡ judged i (fault_of i)
-reading_fields w (Lda ra rb disp) h =
+reading_fields : (p : Profile) (w : ℕ) (i : Insn) → HasFields w i → decoded p w ≡ judged i (fault_of p i)
+reading_fields p w (Lda ra rb disp) h =
     let below : bits_of 15 disp < 2 ^ 16 = bits_of-below 15 disp h.2 in
     let o : w / 2 ^ 26 ≡ 8 = omega (arith, h.3) in
     let a : w / 2 ^ 21 % 32 ≡ ra = omega (arith, h.3) in
@@ -199,7 +231,7 @@ reading_fields w (Lda ra rb disp) h =
     let d : w % 2 ^ 16 ≡ bits_of 15 disp = omega (arith, h.3) in
     let n : signed_of 15 (bits_of 15 disp) ≡ disp = signed_of-bits_of 15 disp h.2 in
     rw (o, a, b, d, n) (unless_kept-judged ra (Lda ra rb disp))
-reading_fields w (Ldq ra rb disp) h =
+reading_fields p w (Ldq ra rb disp) h =
     let below : bits_of 15 disp < 2 ^ 16 = bits_of-below 15 disp h.2 in
     let o : w / 2 ^ 26 ≡ 0x29 = omega (arith, h.3) in
     let a : w / 2 ^ 21 % 32 ≡ ra = omega (arith, h.3) in
@@ -207,7 +239,23 @@ reading_fields w (Ldq ra rb disp) h =
     let d : w % 2 ^ 16 ≡ bits_of 15 disp = omega (arith, h.3) in
     let n : signed_of 15 (bits_of 15 disp) ≡ disp = signed_of-bits_of 15 disp h.2 in
     rw (o, a, b, d, n) (loading-judged ra (Ldq ra rb disp))
-reading_fields w (Stq ra rb disp) h =
+reading_fields p w (Ldah ra rb disp) h =
+    let below : bits_of 15 disp < 2 ^ 16 = bits_of-below 15 disp h.2 in
+    let o : w / 2 ^ 26 ≡ 9 = omega (arith, h.3) in
+    let a : w / 2 ^ 21 % 32 ≡ ra = omega (arith, h.3) in
+    let b : w / 2 ^ 16 % 32 ≡ rb = omega (arith, h.3) in
+    let d : w % 2 ^ 16 ≡ bits_of 15 disp = omega (arith, h.3) in
+    let n : signed_of 15 (bits_of 15 disp) ≡ disp = signed_of-bits_of 15 disp h.2 in
+    rw (o, a, b, d, n) (two-judged (is_two p) (unless_kept ra (Ldah ra rb disp)) (Ldah ra rb disp) (kept_fault ra) Opcode (unless_kept-judged ra (Ldah ra rb disp)))
+reading_fields p w (LdqU ra rb disp) h =
+    let below : bits_of 15 disp < 2 ^ 16 = bits_of-below 15 disp h.2 in
+    let o : w / 2 ^ 26 ≡ 0x0B = omega (arith, h.3) in
+    let a : w / 2 ^ 21 % 32 ≡ ra = omega (arith, h.3) in
+    let b : w / 2 ^ 16 % 32 ≡ rb = omega (arith, h.3) in
+    let d : w % 2 ^ 16 ≡ bits_of 15 disp = omega (arith, h.3) in
+    let n : signed_of 15 (bits_of 15 disp) ≡ disp = signed_of-bits_of 15 disp h.2 in
+    rw (o, a, b, d, n) (two-judged (is_two p) (cond (eqb ra 31) (Err LoadToZero) (unless_kept ra (LdqU ra rb disp))) (LdqU ra rb disp) (cond (eqb ra 31) (Some LoadToZero) (kept_fault ra)) Opcode (loading-judged ra (LdqU ra rb disp)))
+reading_fields p w (Stq ra rb disp) h =
     let below : bits_of 15 disp < 2 ^ 16 = bits_of-below 15 disp h.2 in
     let o : w / 2 ^ 26 ≡ 0x2D = omega (arith, h.3) in
     let a : w / 2 ^ 21 % 32 ≡ ra = omega (arith, h.3) in
@@ -215,7 +263,7 @@ reading_fields w (Stq ra rb disp) h =
     let d : w % 2 ^ 16 ≡ bits_of 15 disp = omega (arith, h.3) in
     let n : signed_of 15 (bits_of 15 disp) ≡ disp = signed_of-bits_of 15 disp h.2 in
     rw (o, a, b, d, n) refl
-reading_fields w (Oper op ra rhs rc) h =
+reading_fields p w (Oper op ra rhs rc) h =
     let fb = function_below op in
     let rb = rhs_below rhs h.1 in
     let m = rhs_whole rhs in
@@ -225,22 +273,22 @@ reading_fields w (Oper op ra rhs rc) h =
     let a : w / 2 ^ 21 % 32 ≡ ra = omega (arith, fb, rb) in
     let c : w / 2 ^ 0 % 32 ≡ rc = omega (arith, m.1) in
     let r = rhs_complete w (op_opcode op) ra (op_function op) rc rhs e h.0 fb h.2 h.1 in
-    reading_oper w op o ∙ rw (f, op_of_code-op_code op, r.0, r.1, a, c) (unless_kept-judged rc (Oper op ra rhs rc))
-reading_fields w (Branch c ra disp) h =
+    reading_oper p w op o ∙ rw (f, operator_complete p op) (oper-judged (has_op p op) w op ra rhs rc r.0 r.1 a c)
+reading_fields p w (Branch c ra disp) h =
     let below : bits_of 20 disp < 2 ^ 21 = bits_of-below 20 disp h.1 in
     let o : w / 2 ^ 26 ≡ cond_opcode_of c = omega (arith, h.2) in
     let a : w / 2 ^ 21 % 32 ≡ ra = omega (arith, h.2) in
     let d : w % 2 ^ 21 ≡ bits_of 20 disp = omega (arith, h.2) in
     let n : signed_of 20 (bits_of 20 disp) ≡ disp = signed_of-bits_of 20 disp h.1 in
-    reading_branch w c o ∙ rw (a, d, n) refl
-reading_fields w (Br disp) h =
+    reading_branch p w c o ∙ rw (a, d, n) refl
+reading_fields p w (Br disp) h =
     let below : bits_of 20 disp < 2 ^ 21 = bits_of-below 20 disp h.0 in
     let o : w / 2 ^ 26 ≡ 0x30 = omega (arith, h.1) in
     let a : w / 2 ^ 21 % 32 ≡ 31 = omega (arith, h.1) in
     let d : w % 2 ^ 21 ≡ bits_of 20 disp = omega (arith, h.1) in
     let n : signed_of 20 (bits_of 20 disp) ≡ disp = signed_of-bits_of 20 disp h.0 in
     rw (o, a, d, n) refl
-reading_fields w Ret h =
+reading_fields p w Ret h =
     let o : w / 2 ^ 26 ≡ 0x1A = omega (arith, h.2) in
     let a : w / 2 ^ 21 % 32 ≡ 31 = omega (arith, h.2) in
     let b : w / 2 ^ 16 % 32 ≡ 26 = omega (arith, h.2) in
@@ -251,41 +299,56 @@ kept_fault-none : (r : ℕ) → not (is_kept r) ≡ true → kept_fault r ≡ No
 kept_fault-none r h = rw (unkept r h) refl
 
 -- what a word encodes, the profile has
-pub Lawful-Encodes : (w : ℕ) (i : Insn) → Encodes w i → (fault_of i ≡ None) × HasFormat i
-Lawful-Encodes w (Lda ra rb disp) h = (kept_fault-none ra h.0.1, tt)
-Lawful-Encodes w (Ldq ra rb disp) h = (rw (ne_eqb ra 31 (omega (arith, h.1))) (kept_fault-none ra h.0.1), tt)
-Lawful-Encodes w (Stq ra rb disp) h = (refl, tt)
-Lawful-Encodes w (Oper op ra rhs rc) h = (kept_fault-none rc h.2.1, tt)
-Lawful-Encodes w (Branch cond ra disp) h = (refl, h.1)
-Lawful-Encodes w (Br disp) h = (refl, h.0)
-Lawful-Encodes w Ret h = (refl, tt)
+any-Encodes : (w : ℕ) (i : Insn) → EncodesAny w i → (any_fault i ≡ None) × HasFormat i
+any-Encodes w (Lda ra rb disp) h = (kept_fault-none ra h.0.1, tt)
+any-Encodes w (Ldq ra rb disp) h = (rw (ne_eqb ra 31 (omega (arith, h.1))) (kept_fault-none ra h.0.1), tt)
+any-Encodes w (Ldah ra rb disp) h = (kept_fault-none ra h.0.1, tt)
+any-Encodes w (LdqU ra rb disp) h = (rw (ne_eqb ra 31 (omega (arith, h.1))) (kept_fault-none ra h.0.1), tt)
+any-Encodes w (Stq ra rb disp) h = (refl, tt)
+any-Encodes w (Oper op ra rhs rc) h = (kept_fault-none rc h.2.1, tt)
+any-Encodes w (Branch cond ra disp) h = (refl, h.1)
+any-Encodes w (Br disp) h = (refl, h.0)
+any-Encodes w Ret h = (refl, tt)
+
+pub Lawful-Encodes : (p : Profile) (w : ℕ) (i : Insn) → Encodes p w i → (fault_of p i ≡ None) × HasFormat i
+Lawful-Encodes p w i h = let a = any-Encodes w i h.1 in (ap (λ b. cond b (any_fault i) (Some (missing_fault i))) h.0 ∙ a.0, a.1)
+
+-- where the profile refuses nothing it has the instruction, and refuses nothing of each profile
+pub has-unrefused : (p : Profile) (i : Insn) → fault_of p i ≡ None → (has_insn p i ≡ true) × (any_fault i ≡ None)
+has-unrefused p i h = go (has_insn p i) h
+  where
+    go : (b : Bool) → cond b (any_fault i) (Some (missing_fault i)) ≡ None → (b ≡ true) × (any_fault i ≡ None)
+    go true e = (refl, e)
+    go false e = cc
 
 -- what a word encodes has its fields
-HasFields-Encodes : (w : ℕ) (i : Insn) → Encodes w i → HasFields w i
+HasFields-Encodes : (w : ℕ) (i : Insn) → EncodesAny w i → HasFields w i
 HasFields-Encodes w (Lda ra rb disp) h = (h.0.0, h.1, h.2, h.3)
 HasFields-Encodes w (Ldq ra rb disp) h = (h.0.0, h.2, h.3, h.4)
+HasFields-Encodes w (Ldah ra rb disp) h = (h.0.0, h.1, h.2, h.3)
+HasFields-Encodes w (LdqU ra rb disp) h = (h.0.0, h.2, h.3, h.4)
 HasFields-Encodes w (Stq ra rb disp) h = h
 HasFields-Encodes w (Oper op ra rhs rc) h = (h.0, h.1, h.2.0, h.3)
 HasFields-Encodes w (Branch cond ra disp) h = h
 HasFields-Encodes w (Br disp) h = h
 HasFields-Encodes w Ret h = h
 
-reading_complete : (w : ℕ) (i : Insn) → Encodes w i → decoded w ≡ Ok i
-reading_complete w i h = let lawful : fault_of i ≡ None = (Lawful-Encodes w i h).0 in reading_fields w i (HasFields-Encodes w i h) ∙ rw lawful refl
+reading_complete : (p : Profile) (w : ℕ) (i : Insn) → Encodes p w i → decoded p w ≡ Ok i
+reading_complete p w i h = let lawful : fault_of p i ≡ None = (Lawful-Encodes p w i h).0 in reading_fields p w i (HasFields-Encodes w i h.1) ∙ rw lawful refl
 
-pub decoded-Encodes : (w : ℕ) (i : Insn) → (decoded w ≡ Ok i) ↔ Encodes w i
-decoded-Encodes w i = (λ e. let s = reading_sound w in rw e at s, reading_complete w i)
+pub decoded-Encodes : (p : Profile) (w : ℕ) (i : Insn) → (decoded p w ≡ Ok i) ↔ Encodes p w i
+decoded-Encodes p w i = (λ e. let s = reading_sound p w in subst (λ r. IfOk r (Encodes p w)) e s, reading_complete p w i)
 
-pub Lawful-decoded : (w : ℕ) (r : Result Insn BadWord) → r ≡ decoded w → IfOk r (λ i. (fault_of i ≡ None) × HasFormat i)
-Lawful-decoded w (Ok i) e = Lawful-Encodes w i ((decoded-Encodes w i).0 (sym e))
-Lawful-decoded w (Err bad) e = tt
+pub Lawful-decoded : (p : Profile) (w : ℕ) (r : Result Insn BadWord) → r ≡ decoded p w → IfOk r (λ i. (fault_of p i ≡ None) × HasFormat i)
+Lawful-decoded p w (Ok i) e = Lawful-Encodes p w i ((decoded-Encodes p w i).0 (sym e))
+Lawful-decoded p w (Err bad) e = tt
 
 -- ---- the profile
 
 -- the fault of a word with the fields of a refused instruction is the instruction's
-pub decoded-refused : (w : ℕ) (i : Insn) (bad : BadWord) → HasFields w i → fault_of i ≡ Some bad → decoded w ≡ Err bad
-decoded-refused w i bad h refused = reading_fields w i h ∙ rw refused refl
+pub decoded-refused : (p : Profile) (w : ℕ) (i : Insn) (bad : BadWord) → HasFields w i → fault_of p i ≡ Some bad → decoded p w ≡ Err bad
+decoded-refused p w i bad h refused = reading_fields p w i h ∙ rw refused refl
 
 -- a word encodes the instruction whose fields it has, where the profile has that
-pub Encodes-exactly : (w : ℕ) (i : Insn) → Encodes w i ↔ (HasFields w i × (fault_of i ≡ None))
-Encodes-exactly w i = (λ h. (HasFields-Encodes w i h, (Lawful-Encodes w i h).0), λ p. (decoded-Encodes w i).0 (reading_fields w i p.0 ∙ rw p.1 refl))
+pub Encodes-exactly : (p : Profile) (w : ℕ) (i : Insn) → Encodes p w i ↔ (HasFields w i × (fault_of p i ≡ None))
+Encodes-exactly p w i = (λ h. (HasFields-Encodes w i h.1, (Lawful-Encodes p w i h).0), λ q. (decoded-Encodes p w i).0 (reading_fields p w i q.0 ∙ rw q.1 refl))

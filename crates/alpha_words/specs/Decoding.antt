@@ -1,16 +1,17 @@
 -- The tests that a word meets, in their order, and the fields that are read.
 use Rattle.std.specs.Prelude.{ℕ, ◌+◌, ◌-◌, ◌/◌, ◌%◌, ◌^◌, Bool, ◌&&◌, not, ◌==◌, nat_le, nat_lt, if◌then◌else◌, ℤ, pos, negsuc, suc, Option, Some, None, Result, Ok, Err}
 use Rattle.word_ops.specs.declared.Op.{Op}
+use Rattle.word_ops.specs.declared.Profile.{Profile}
 use Rattle.alpha_words.specs.declared.insn.Rhs.{Rhs}
 use Rattle.alpha_words.specs.declared.insn.Rhs.TheVariants.{Reg, Lit}
 use Rattle.alpha_words.specs.declared.insn.Cond.{Cond}
 use Rattle.alpha_words.specs.declared.insn.Insn.{Insn}
-use Rattle.alpha_words.specs.declared.insn.Insn.TheVariants.{Lda, Ldq, Stq, Oper, Branch, Br, Ret}
+use Rattle.alpha_words.specs.declared.insn.Insn.TheVariants.{Lda, Ldq, Ldah, LdqU, Stq, Oper, Branch, Br, Ret}
 use Rattle.alpha_words.specs.declared.fault.BadWord.{BadWord}
 use Rattle.alpha_words.specs.declared.fault.BadWord.TheVariants.{Opcode, Function, Reserved, KeptRegister, LoadToZero, BadReturn, BadLink}
-use Rattle.word_ops.specs.Operators.{op_of_code}
+use Rattle.word_ops.specs.Operators.{op_of_code, of_profile}
 use Rattle.alpha_words.specs.Opcodes.{cond_at}
-use Rattle.alpha_words.specs.Encoding.{is_kept}
+use Rattle.alpha_words.specs.Encoding.{is_two, is_kept}
 
 -- the number whose k + 1 bits of two's complement are n
 abbrev pub signed_of : ℕ → ℕ → ℤ
@@ -47,16 +48,18 @@ abbrev pub is_return : ℕ → Bool
 is_return w = (reg_at w 21 == 31) && (reg_at w 16 == 26) && (w / 2 ^ 14 % 4 == 2)
 
 -- What the word reads as, or the first test that it fails.
-abbrev pub decoded : ℕ → Result Insn BadWord
-decoded w =
+abbrev pub decoded : Profile → ℕ → Result Insn BadWord
+decoded p w =
     let opcode = w / 2 ^ 26 in
     let ra = reg_at w 21 in
     let rb = reg_at w 16 in
     let disp = signed_of 15 (w % 2 ^ 16) in
     if opcode == 0x08 then unless_kept ra (Lda ra rb disp) else
     if opcode == 0x29 then (if ra == 31 then Err LoadToZero else unless_kept ra (Ldq ra rb disp)) else
+    if opcode == 0x09 then (if is_two p then unless_kept ra (Ldah ra rb disp) else Err Opcode) else
+    if opcode == 0x0B then (if is_two p then (if ra == 31 then Err LoadToZero else unless_kept ra (LdqU ra rb disp)) else Err Opcode) else
     if opcode == 0x2D then Ok (Stq ra rb disp) else
-    if nat_le 0x10 opcode && nat_le opcode 0x12 then decoded_operate w (op_of_code opcode (w / 2 ^ 5 % 128)) else
+    if nat_le 0x10 opcode && nat_le opcode 0x12 then decoded_operate w (of_profile p (op_of_code opcode (w / 2 ^ 5 % 128))) else
     if opcode == 0x1A then (if is_return w then Ok Ret else Err BadReturn) else
     if opcode == 0x30 then (if ra == 31 then Ok (Br (signed_of 20 (w % 2 ^ 21))) else Err BadLink) else
     decoded_branch w (cond_at opcode)

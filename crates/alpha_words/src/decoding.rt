@@ -3,7 +3,7 @@
 ghost use Rattle.std.specs.Prelude.{◌≡◌, ◌+◌, ◌/◌, ◌%◌, ◌^◌, ◌≤◌, ◌<◌, ◌↔◌, IfOk, None};
 ghost use Rattle.alpha_words.specs.Lawful.{fault_of, HasFormat};
 ghost use Rattle.alpha_words.specs.declared.insn.Insn.{Insn};
-ghost use Rattle.word_ops.specs.Operators.{op_of_code};
+ghost use Rattle.word_ops.specs.Operators.{op_of_code, of_profile};
 ghost use Rattle.alpha_words.specs.Opcodes.{cond_at};
 ghost use Rattle.alpha_words.specs.Decoding as decoding;
 ghost use Rattle.alpha_words.specs.Encoding as encoding;
@@ -12,7 +12,7 @@ use crate::fault::BadWord;
 use crate::insn::{Insn, Rhs};
 use crate::opcodes::cond_at;
 use crate::reg::Reg;
-use word_ops::op_of_code;
+use word_ops::{Profile, of_profile, op_of_code};
 
 /// The register whose number stands in the five bits from `low` on.
 fn reg_at(word: u32, low: u32) -> Reg
@@ -71,11 +71,12 @@ fn has_reserved(word: u32) -> bool
 }
 
 /// A word of the operate format.
-fn operate(word: u32) -> Result<Insn, BadWord>
+fn operate(profile: Profile, word: u32) -> Result<Insn, BadWord>
     ensures { result ≡ decoding.decoded_operate word
-        (op_of_code (word / 2 ^ 26) (word / 2 ^ 5 % 128)) }
+        (of_profile profile (op_of_code (word / 2 ^ 26) (word / 2 ^ 5 % 128))) }
 {
-    let Some(op) = op_of_code(word >> 26, (word >> 5) & 0x7f) else {
+    let named = op_of_code(word >> 26, (word >> 5) & 0x7f);
+    let Some(op) = of_profile(profile, named) else {
         return Err(BadWord::Function);
     };
     if has_reserved(word) {
@@ -114,9 +115,19 @@ fn branch(word: u32) -> Result<Insn, BadWord>
     }
 }
 
+/// Whether the profile is the second.
+pub fn is_two(profile: Profile) -> bool
+    ensures { result ≡ encoding.is_two profile }
+{
+    match profile {
+        Profile::One => false,
+        Profile::Two => true,
+    }
+}
+
 /// What the word reads as, or the first test that it fails.
-fn read(word: u32) -> Result<Insn, BadWord>
-    ensures { result ≡ decoding.decoded word }
+fn read(profile: Profile, word: u32) -> Result<Insn, BadWord>
+    ensures { result ≡ decoding.decoded profile word }
 {
     let ra = reg_at(word, 21);
     let rb = reg_at(word, 16);
@@ -130,8 +141,24 @@ fn read(word: u32) -> Result<Insn, BadWord>
                 writing(ra, Insn::Ldq { ra, rb, disp })
             }
         }
+        0x09 => {
+            if is_two(profile) {
+                writing(ra, Insn::Ldah { ra, rb, disp })
+            } else {
+                Err(BadWord::Opcode)
+            }
+        }
+        0x0b => {
+            if !is_two(profile) {
+                Err(BadWord::Opcode)
+            } else if ra.number() == 31 {
+                Err(BadWord::LoadToZero)
+            } else {
+                writing(ra, Insn::LdqU { ra, rb, disp })
+            }
+        }
         0x2d => Ok(Insn::Stq { ra, rb, disp }),
-        0x10..=0x12 => operate(word),
+        0x10..=0x12 => operate(profile, word),
         0x1a => {
             if is_return(word) {
                 Ok(Insn::Ret)
@@ -154,13 +181,14 @@ fn read(word: u32) -> Result<Insn, BadWord>
 
 /// The instruction that a word encodes, or the first test that the word fails.
 ///
-/// The tests come in this order: an opcode that isn't listed; for operate words the function, the
-/// reserved bits, a kept register; for `lda` a kept register; for `ldq` a load into register 31,
-/// then a kept register; for the jump opcode a form other than the return's; for `br` a register.
-pub fn decode(word: u32) -> Result<Insn, BadWord>
-    ensures decodes { (i : Insn) → (result ≡ Ok i) ↔ encoding.Encodes word i }
-    ensures exact { result ≡ decoding.decoded word }
-    ensures lawful { IfOk result (λ i. (fault_of i ≡ None) × HasFormat i) }
+/// The tests come in this order: an opcode that the profile hasn't; for operate words a function
+/// that it hasn't, the reserved bits, a kept register; for `lda` and `ldah` a kept register; for
+/// `ldq` and `ldq_u` a load into register 31, then a kept register; for the jump opcode a form other
+/// than the return's; for `br` a register.
+pub fn decode(word: u32, profile: Profile) -> Result<Insn, BadWord>
+    ensures decodes { (i : Insn) → (result ≡ Ok i) ↔ encoding.Encodes profile word i }
+    ensures exact { result ≡ decoding.decoded profile word }
+    ensures lawful { IfOk result (λ i. (fault_of profile i ≡ None) × HasFormat i) }
 {
-    read(word)
+    read(profile, word)
 }

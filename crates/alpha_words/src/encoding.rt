@@ -3,22 +3,49 @@
 ghost use Rattle.std.specs.Prelude.{◌≡◌, ◌+◌, ◌*◌, ◌^◌, ◌≤◌, ◌<◌, MatchResult, Some, None, Ok};
 ghost use Rattle.alpha_words.specs.Encoding as encoding;
 ghost use Rattle.alpha_words.specs.Decoding.{decoded};
-ghost use Rattle.alpha_words.specs.Lawful.{fault_of, kept_fault, HasFormat, target_of};
+ghost use Rattle.alpha_words.specs.Lawful.{fault_of, any_fault, missing_fault, kept_fault};
+ghost use Rattle.alpha_words.specs.Lawful.{HasFormat, target_of};
 
+use crate::decoding::is_two;
 use crate::fault::BadWord;
 use crate::insn::{Insn, Rhs};
 use crate::opcodes::cond_opcode_of;
 use crate::reg::Reg;
-use word_ops::{Op, op_code};
+use word_ops::{Op, Profile, has_op, op_code};
 
-/// Whether the profile has the instruction: KeptRegister where it would write a kept register,
-/// LoadToZero where it would load into register 31.
-pub fn lawful(insn: Insn) -> Result<(), BadWord>
-    ensures { MatchResult result (λ _. fault_of insn ≡ None) (λ e. fault_of insn ≡ Some e) }
+/// Whether the profile has an instruction of the kind.
+fn has_insn(insn: &Insn, profile: Profile) -> bool
+    ensures { result ≡ encoding.has_insn profile insn.now }
 {
     match insn {
-        Insn::Lda { ra, .. } => unkept(ra),
-        Insn::Ldq { ra, .. } => {
+        Insn::Oper { op, .. } => has_op(profile, *op),
+        Insn::Ldah { .. } | Insn::LdqU { .. } => is_two(profile),
+        Insn::Lda { .. }
+        | Insn::Ldq { .. }
+        | Insn::Stq { .. }
+        | Insn::Branch { .. }
+        | Insn::Br { .. }
+        | Insn::Ret => true,
+    }
+}
+
+/// Why a profile has no instruction of the kind.
+fn missing_fault(insn: &Insn) -> BadWord
+    ensures { result ≡ missing_fault insn.now }
+{
+    match insn {
+        Insn::Oper { .. } => BadWord::Function,
+        _ => BadWord::Opcode,
+    }
+}
+
+/// What each profile refuses.
+fn any_lawful(insn: Insn) -> Result<(), BadWord>
+    ensures { MatchResult result (λ _. any_fault insn ≡ None) (λ e. any_fault insn ≡ Some e) }
+{
+    match insn {
+        Insn::Lda { ra, .. } | Insn::Ldah { ra, .. } => unkept(ra),
+        Insn::Ldq { ra, .. } | Insn::LdqU { ra, .. } => {
             if ra.number() == 31 {
                 Err(BadWord::LoadToZero)
             } else {
@@ -28,6 +55,19 @@ pub fn lawful(insn: Insn) -> Result<(), BadWord>
         Insn::Oper { rc, .. } => unkept(rc),
         Insn::Stq { .. } | Insn::Branch { .. } | Insn::Br { .. } | Insn::Ret => Ok(()),
     }
+}
+
+/// Whether code of the profile may have the instruction: Opcode or Function where the profile has
+/// none of its kind, KeptRegister where it would write a kept register, LoadToZero where it would
+/// load into register 31.
+pub fn lawful(insn: Insn, profile: Profile) -> Result<(), BadWord>
+    ensures { MatchResult result
+        (λ _. fault_of profile insn ≡ None) (λ e. fault_of profile insn ≡ Some e) }
+{
+    if !has_insn(&insn, profile) {
+        return Err(missing_fault(&insn));
+    }
+    any_lawful(insn)
 }
 
 /// Whether the profile lets an instruction write the register.
@@ -93,14 +133,16 @@ fn operate(op: Op, ra: Reg, rhs: Rhs, rc: Reg) -> u32
 
 /// The word of a lawful instruction.
 fn write(insn: Insn) -> u32
-    requires lawful { fault_of insn ≡ None }
+    requires lawful { any_fault insn ≡ None }
     requires reaches { HasFormat insn }
-    ensures encodes { encoding.Encodes result insn }
+    ensures encodes { encoding.EncodesAny result insn }
     ensures hint { insn ≡ Insn.Ret → result ≡ 0x6BFA8001 }
 {
     match insn {
         Insn::Lda { ra, rb, disp } => memory(0x08, ra, rb, disp),
         Insn::Ldq { ra, rb, disp } => memory(0x29, ra, rb, disp),
+        Insn::Ldah { ra, rb, disp } => memory(0x09, ra, rb, disp),
+        Insn::LdqU { ra, rb, disp } => memory(0x0b, ra, rb, disp),
         Insn::Stq { ra, rb, disp } => memory(0x2d, ra, rb, disp),
         Insn::Oper { op, ra, rhs, rc } => operate(op, ra, rhs, rc),
         Insn::Branch { cond, ra, disp } => branch(cond_opcode_of(cond), ra.number(), disp),
@@ -111,12 +153,13 @@ fn write(insn: Insn) -> u32
 
 /// The word of an instruction that the profile has, whose displacement has 21 bits where it
 /// branches. A return is written with hint 1.
-pub fn encode(insn: Insn) -> u32
-    requires lawful { fault_of insn ≡ None }
+pub fn encode(insn: Insn, profile: Profile) -> u32
+    requires lawful { fault_of profile insn ≡ None }
     requires reaches { HasFormat insn }
-    ensures encodes { encoding.Encodes result insn }
-    ensures round_trip { decoded result ≡ Ok insn }
+    ensures encodes { encoding.Encodes profile result insn }
+    ensures round_trip { decoded profile result ≡ Ok insn }
     ensures hint { insn ≡ Insn.Ret → result ≡ 0x6BFA8001 }
 {
+    let _ = profile; // only the clauses speak of it
     write(insn)
 }

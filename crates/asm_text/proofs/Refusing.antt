@@ -441,6 +441,8 @@ nop_refuses (t ∷ ts) = refuses_all (λ os. HasOperandForm N.Nop os (t ∷ ts))
 pub operands_refuse : (m : Mnemonic) (ts : List (Token Punct)) → Refuses (λ os. HasOperandForm m os ts) (parsed_operands m ts)
 operands_refuse N.Lda ts = wrapped (λ os. HasMemoryForm os ts) (memory_operands ts) (λ m. Plain (I.Lda m.0 m.2 m.1)) (memory_refuses ts)
 operands_refuse N.Ldq ts = wrapped (λ os. HasMemoryForm os ts) (memory_operands ts) (λ m. Plain (I.Ldq m.0 m.2 m.1)) (memory_refuses ts)
+operands_refuse N.Ldah ts = wrapped (λ os. HasMemoryForm os ts) (memory_operands ts) (λ m. Plain (I.Ldah m.0 m.2 m.1)) (memory_refuses ts)
+operands_refuse N.LdqU ts = wrapped (λ os. HasMemoryForm os ts) (memory_operands ts) (λ m. Plain (I.LdqU m.0 m.2 m.1)) (memory_refuses ts)
 operands_refuse N.Stq ts = wrapped (λ os. HasMemoryForm os ts) (memory_operands ts) (λ m. Plain (I.Stq m.0 m.2 m.1)) (memory_refuses ts)
 operands_refuse (N.Oper op) ts = operate_refuses op ts
 operands_refuse (N.Branch j) ts = branch_refuses j ts

@@ -30,6 +30,7 @@ use Rattle.asm_text.specs.Inside.Views.{progress_view, IsSoundProgress, TakesOnL
 use Rattle.asm_text.proofs.Cutting.{not_same}
 use Rattle.asm_text.proofs.Found.{known_after}
 use Rattle.asm_text.proofs.Collected.{spelled_parsed, parsed_spelled}
+use Rattle.word_ops.specs.declared.Profile.{Profile}
 
 progress_same : (a b : Progress) → a.source.insns ≡ b.source.insns → a.source.labels ≡ b.source.labels → a.source.invs ≡ b.source.invs → a.waiting ≡ b.waiting → a ≡ b
 progress_same a b e f g h =
@@ -169,38 +170,38 @@ ends_with p w h =
 
 -- ---- one turn of the loop
 
-pub line_turn : (n : ℕ) (line : List ℕ) (all more : List (List ℕ)) (p q : Progress) (r : Result Source (ℕ × LineFlaw)) → all ≡ line ∷ more → take_line n line p ≡ Ok q → take_lines n all p ≡ r → take_lines (n + 1) more q ≡ r
+pub line_turn : (profile : Profile) (n : ℕ) (line : List ℕ) (all more : List (List ℕ)) (p q : Progress) (r : Result Source (ℕ × LineFlaw)) → all ≡ line ∷ more → take_line profile n line p ≡ Ok q → take_lines profile n all p ≡ r → take_lines profile (n + 1) more q ≡ r
 unfolding take_lines
-line_turn n line all more p q r a e h =
+line_turn profile n line all more p q r a e h =
     let z : n + 1 ≡ suc n = omega arith in
-    ap (λ k. take_lines k more q) z ∙ sym (ap (λ l. take_lines n l p) a ∙ ap (λ x. at_line n x >>= λ y. take_lines (suc n) more y) e) ∙ h
+    ap (λ k. take_lines profile k more q) z ∙ sym (ap (λ l. take_lines profile n l p) a ∙ ap (λ x. at_line n x >>= λ y. take_lines profile (suc n) more y) e) ∙ h
 
-line_err : (n : ℕ) (line : List ℕ) (all more : List (List ℕ)) (p : Progress) (flaw : LineFlaw) (r : Result Source (ℕ × LineFlaw)) → all ≡ line ∷ more → take_line n line p ≡ Err flaw → take_lines n all p ≡ r → r ≡ Err (n, flaw)
+line_err : (profile : Profile) (n : ℕ) (line : List ℕ) (all more : List (List ℕ)) (p : Progress) (flaw : LineFlaw) (r : Result Source (ℕ × LineFlaw)) → all ≡ line ∷ more → take_line profile n line p ≡ Err flaw → take_lines profile n all p ≡ r → r ≡ Err (n, flaw)
 unfolding take_lines
-line_err n line all more p flaw r a e h = sym h ∙ ap (λ l. take_lines n l p) a ∙ ap (λ x. at_line n x >>= λ y. take_lines (suc n) more y) e
+line_err profile n line all more p flaw r a e h = sym h ∙ ap (λ l. take_lines profile n l p) a ∙ ap (λ x. at_line n x >>= λ y. take_lines profile (suc n) more y) e
 
-pub line_stops : (n : ℕ) (line : List ℕ) (all more : List (List ℕ)) (p q : Progress) (e : LineFault) (r : Result Source (ℕ × LineFlaw)) → all ≡ line ∷ more → take_lines n all p ≡ r → TakesOnLine {X = Unit {0}} n (take_line n line p) q (Err e) → ParsesSource source_view r (Err e)
-line_stops n line all more p q F.Memory r a h m = tt
-line_stops n line all more p q (F.At k flaw) r a h m = line_err n line all more p flaw r a m.1 h ∙ ap (λ x. Err (x, flaw)) (sym m.0)
+pub line_stops : (profile : Profile) (n : ℕ) (line : List ℕ) (all more : List (List ℕ)) (p q : Progress) (e : LineFault) (r : Result Source (ℕ × LineFlaw)) → all ≡ line ∷ more → take_lines profile n all p ≡ r → TakesOnLine {X = Unit {0}} n (take_line profile n line p) q (Err e) → ParsesSource source_view r (Err e)
+line_stops profile n line all more p q F.Memory r a h m = tt
+line_stops profile n line all more p q (F.At k flaw) r a h m = line_err profile n line all more p flaw r a m.1 h ∙ ap (λ x. Err (x, flaw)) (sym m.0)
 
-pub lines_end : (n : ℕ) (all : List (List ℕ)) (p : Progress) (r : Result Source (ℕ × LineFlaw)) → all ≡ [] → take_lines n all p ≡ r → r ≡ source_end p p.waiting
+pub lines_end : (profile : Profile) (n : ℕ) (all : List (List ℕ)) (p : Progress) (r : Result Source (ℕ × LineFlaw)) → all ≡ [] → take_lines profile n all p ≡ r → r ≡ source_end p p.waiting
 unfolding take_lines
-lines_end n all p r a h = sym h ∙ ap (λ l. take_lines n l p) a
+lines_end profile n all p r a h = sym h ∙ ap (λ l. take_lines profile n l p) a
 
-pub first_lines : (text : List ℕ) (p : Progress) → p ≡ no_progress → take_lines 1 (lines_of text) p ≡ parsed_source text
+pub first_lines : (profile : Profile) (text : List ℕ) (p : Progress) → p ≡ no_progress → take_lines profile 1 (lines_of text) p ≡ parsed_source profile text
 unfolding parsed_source
-first_lines text p e = ap (take_lines 1 (lines_of text)) e
+first_lines profile text p e = ap (take_lines profile 1 (lines_of text)) e
 
 -- ---- what the answer says
 
-pub spelled_if : (text : List ℕ) (x : Result lists.Source LineFault) → ParsesSource source_view (parsed_source text) x → IfOk x (λ s. SpellsSource text (source_view s))
-spelled_if text (Ok s) h = parsed_spelled text (source_view s) h
-spelled_if text (Err e) h = tt
+pub spelled_if : (profile : Profile) (text : List ℕ) (x : Result lists.Source LineFault) → ParsesSource source_view (parsed_source profile text) x → IfOk x (λ s. SpellsSource profile text (source_view s))
+spelled_if profile text (Ok s) h = parsed_spelled profile text (source_view s) h
+spelled_if profile text (Err e) h = tt
 
-none_by : (text : List ℕ) (n : ℕ) (flaw : LineFlaw) → parsed_source text ≡ Err (n, flaw) → (s : Source) → SpellsSource text s → ⊥
-none_by text n flaw e s h = let g : parsed_source text ≡ Ok s = spelled_parsed text s h in cc
+none_by : (profile : Profile) (text : List ℕ) (n : ℕ) (flaw : LineFlaw) → parsed_source profile text ≡ Err (n, flaw) → (s : Source) → SpellsSource profile text s → ⊥
+none_by profile text n flaw e s h = let g : parsed_source profile text ≡ Ok s = spelled_parsed profile text s h in cc
 
-pub none_if : (text : List ℕ) (x : Result lists.Source LineFault) → ParsesSource source_view (parsed_source text) x → IfErr x (λ e. SpellsNoSource text e)
-none_if text (Ok s) h = tt
-none_if text (Err F.Memory) h = tt
-none_if text (Err (F.At n flaw)) h = none_by text n flaw h
+pub none_if : (profile : Profile) (text : List ℕ) (x : Result lists.Source LineFault) → ParsesSource source_view (parsed_source profile text) x → IfErr x (λ e. SpellsNoSource profile text e)
+none_if profile text (Ok s) h = tt
+none_if profile text (Err F.Memory) h = tt
+none_if profile text (Err (F.At n flaw)) h = none_by profile text n flaw h

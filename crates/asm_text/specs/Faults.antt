@@ -2,6 +2,7 @@
 use Rattle.std.specs.Prelude.{◌≡◌, ℕ, suc, ◌<◌, ◌≤◌, ◌⊎◌, true, false, List, [], ◌∷◌, ◌++◌, codes, length, Option, Some, None}
 use Rattle.std.specs.List.{AllByRecursion}
 use Rattle.std.specs.Str.{bytes_eq}
+use Rattle.word_ops.specs.declared.Profile.{Profile}
 use Rattle.formula_tree.specs.Formulas.{Form}
 use Rattle.text_tokens.specs.Tokens.{Token, Mark, Lexeme, Consists}
 use Rattle.formula_text.specs.Grammar.{Spells}
@@ -11,7 +12,7 @@ use Rattle.asm_text.specs.declared.limits.TheConstants.{MAX_LINE, MAX_INSNS, MAX
 use Rattle.asm_text.specs.declared.marks.Punct.{Punct}
 use Rattle.asm_text.specs.declared.mnemonics.Mnemonic.{Mnemonic}
 use Rattle.asm_text.specs.Marks.{source_class}
-use Rattle.asm_text.specs.Mnemonics.{mnemonic_text}
+use Rattle.asm_text.specs.Mnemonics.{mnemonic_text, has_mnemonic}
 use Rattle.asm_text.specs.Operands.{AreNoOperands}
 use Rattle.asm_text.specs.Lines.{AreLines}
 use Rattle.asm_text.specs.Statements.{Statement, NoStatement, AnInsn, AnInv, Content, HasLabel, HasInv, before_comment, are_printable, SpellsLine}
@@ -47,18 +48,18 @@ abbrev pub IsParted : List ℕ → Option (List ℕ) → List ℕ → Type 0
 IsParted text None rest = (text ≡ rest) × ((l more : List ℕ) → HasLabel text l more → ⊥)
 IsParted text (Some l) rest = HasLabel text l rest
 
--- the token begins no statement: it is neither `.inv` nor a mnemonic
-abbrev pub BeginsNoStatement : Token Punct → Type 0
-BeginsNoStatement (Mark m) = Unit {0}
-BeginsNoStatement (Lexeme w) = (w ≡ codes ".inv" → ⊥) × ((m : Mnemonic) → w ≡ mnemonic_text m → ⊥)
+-- the token begins no statement: it is neither `.inv` nor a mnemonic of the profile
+abbrev pub BeginsNoStatement : Profile → Token Punct → Type 0
+BeginsNoStatement profile (Mark m) = Unit {0}
+BeginsNoStatement profile (Lexeme w) = (w ≡ codes ".inv" → ⊥) × ((m : Mnemonic) → has_mnemonic profile m ≡ true → w ≡ mnemonic_text m → ⊥)
 
 -- The text spells no statement, and why: no formula stands behind `.inv`, the first token begins none, or the tokens behind the
--- mnemonic are not its operands.
-pub data SpellsNoStatement (text : List ℕ) : LineFlaw → Type 0 where
-  no_formula : {rest : List ℕ} → HasInv text rest → ((F : Form) → Spells rest F → ⊥) → SpellsNoStatement text L.Formula
-  no_mnemonic : {t : Token Punct} {ts : List (Token Punct)} → Consists source_class text (t ∷ ts) → BeginsNoStatement t → SpellsNoStatement text L.Mnemonic
-  no_operands : (m : Mnemonic) {ts : List (Token Punct)} {flaw : LineFlaw} →
-      Consists source_class text (Lexeme (mnemonic_text m) ∷ ts) → AreNoOperands m ts flaw → SpellsNoStatement text flaw
+-- profile's mnemonic are not its operands.
+pub data SpellsNoStatement (profile : Profile) (text : List ℕ) : LineFlaw → Type 0 where
+  no_formula : {rest : List ℕ} → HasInv text rest → ((F : Form) → Spells profile rest F → ⊥) → SpellsNoStatement profile text L.Formula
+  no_mnemonic : {t : Token Punct} {ts : List (Token Punct)} → Consists source_class text (t ∷ ts) → BeginsNoStatement profile t → SpellsNoStatement profile text L.Mnemonic
+  no_operands : (m : Mnemonic) {ts : List (Token Punct)} {flaw : LineFlaw} → has_mnemonic profile m ≡ true →
+      Consists source_class text (Lexeme (mnemonic_text m) ∷ ts) → AreNoOperands m ts flaw → SpellsNoStatement profile text flaw
 
 -- the statement is an invariant
 abbrev pub IsInv : Statement → Type 0
@@ -73,42 +74,42 @@ PassesLimit (AnInsn i) s = MAX_INSNS ≤ length s.insns
 PassesLimit (AnInv F) s = MAX_INVS ≤ length s.invs
 
 -- The line can't stand behind lines that come to s, and why. Each kind asks that those before it don't apply.
-pub data FailsBehind (s : Source) (line : List ℕ) : LineFlaw → Type 0 where
-  long : MAX_LINE < length line → FailsBehind s line L.Length
-  unprintable : length line ≤ MAX_LINE → are_printable line ≡ false → FailsBehind s line L.Character
-  label_again : (l rest : List ℕ) → IsReadable line → HasLabel (before_comment line) l rest → (IsNew (Some l) s → ⊥) → FailsBehind s line L.DoubleLabel
+pub data FailsBehind (profile : Profile) (s : Source) (line : List ℕ) : LineFlaw → Type 0 where
+  long : MAX_LINE < length line → FailsBehind profile s line L.Length
+  unprintable : length line ≤ MAX_LINE → are_printable line ≡ false → FailsBehind profile s line L.Character
+  label_again : (l rest : List ℕ) → IsReadable line → HasLabel (before_comment line) l rest → (IsNew (Some l) s → ⊥) → FailsBehind profile s line L.DoubleLabel
   no_statement : (o : Option (List ℕ)) (rest : List ℕ) {flaw : LineFlaw} →
-      IsReadable line → IsParted (before_comment line) o rest → IsNew o s → SpellsNoStatement rest flaw → FailsBehind s line flaw
-  inv_again : {c : Content} → SpellsLine line c → IsNew c.label s → IsInv c.statement → Waits s → FailsBehind s line L.DoubleInvariant
-  past_limit : {c : Content} → SpellsLine line c → IsNew c.label s → (IsInv c.statement → Waits s → ⊥) →
-      PassesLimit c.statement s → FailsBehind s line L.Length
+      IsReadable line → IsParted (before_comment line) o rest → IsNew o s → SpellsNoStatement profile rest flaw → FailsBehind profile s line flaw
+  inv_again : {c : Content} → SpellsLine profile line c → IsNew c.label s → IsInv c.statement → Waits s → FailsBehind profile s line L.DoubleInvariant
+  past_limit : {c : Content} → SpellsLine profile line c → IsNew c.label s → (IsInv c.statement → Waits s → ⊥) →
+      PassesLimit c.statement s → FailsBehind profile s line L.Length
 
 -- ---- the text
 
 -- line n of the text can't stand behind the lines before it, which begin a source
-pub record FailsAt (text : List ℕ) (n : ℕ) (flaw : LineFlaw) : Type 0 where
+pub record FailsAt (profile : Profile) (text : List ℕ) (n : ℕ) (flaw : LineFlaw) : Type 0 where
   pub front : List (List ℕ)
   pub line : List ℕ
   pub rest : List (List ℕ)
   pub contents : List Content
   pub lines : AreLines text (front ++ (line ∷ rest))
   pub number : n ≡ suc (length front)
-  pub spelled : AreSpelled front contents
+  pub spelled : AreSpelled profile front contents
   pub begun : IsBegun (source_of contents)
-  pub fails : FailsBehind (source_of contents) line flaw
+  pub fails : FailsBehind profile (source_of contents) line flaw
 
 -- All lines of the text begin a source, and the text is none: behind the invariant of line n stands no instruction, or there is
 -- neither an instruction nor an invariant, and n is 0.
-pub data Lacks (text : List ℕ) : ℕ → LineFlaw → Type 0 where
-  loose : {lines : List (List ℕ)} (front rest : List Content) (c : Content) → AreLines text lines → AreSpelled lines (front ++ (c ∷ rest)) →
-      IsBegun (source_of (front ++ (c ∷ rest))) → IsInv c.statement → (source_of rest).insns ≡ [] → Lacks text (suc (length front)) L.LooseInvariant
-  empty : {lines : List (List ℕ)} (contents : List Content) → AreLines text lines → AreSpelled lines contents →
-      IsBegun (source_of contents) → (source_of contents).insns ≡ [] → (source_of contents).invs ≡ [] → Lacks text 0 L.Length
+pub data Lacks (profile : Profile) (text : List ℕ) : ℕ → LineFlaw → Type 0 where
+  loose : {lines : List (List ℕ)} (front rest : List Content) (c : Content) → AreLines text lines → AreSpelled profile lines (front ++ (c ∷ rest)) →
+      IsBegun (source_of (front ++ (c ∷ rest))) → IsInv c.statement → (source_of rest).insns ≡ [] → Lacks profile text (suc (length front)) L.LooseInvariant
+  empty : {lines : List (List ℕ)} (contents : List Content) → AreLines text lines → AreSpelled profile lines contents →
+      IsBegun (source_of contents) → (source_of contents).insns ≡ [] → (source_of contents).invs ≡ [] → Lacks profile text 0 L.Length
 
 -- the text is no source, the first line that is wrong is line n, and this is why
-abbrev pub IsSourceFault : List ℕ → ℕ → LineFlaw → Type 0
-IsSourceFault text n flaw = FailsAt text n flaw ⊎ Lacks text n flaw
+abbrev pub IsSourceFault : Profile → List ℕ → ℕ → LineFlaw → Type 0
+IsSourceFault profile text n flaw = FailsAt profile text n flaw ⊎ Lacks profile text n flaw
 
 -- no source's text begins with these lines
-abbrev pub BeginsNoSource : List (List ℕ) → Type 0
-BeginsNoSource lines = (text : List ℕ) (more : List (List ℕ)) (s : Source) → AreLines text (lines ++ more) → SpellsSource text s → ⊥
+abbrev pub BeginsNoSource : Profile → List (List ℕ) → Type 0
+BeginsNoSource profile lines = (text : List ℕ) (more : List (List ℕ)) (s : Source) → AreLines text (lines ++ more) → SpellsSource profile text s → ⊥

@@ -2,6 +2,7 @@
 use Rattle.std.specs.Prelude.{ℕ, Bool, ◌==◌, nat_le, nat_lt, if◌then◌else◌, List, [], ◌∷◌, Option, Some, None, Result, Ok, Err, ℤ, pos}
 use Rattle.word_ops.specs.declared.Op.{Op}
 use Rattle.word_ops.specs.declared.Op.TheVariants as O
+use Rattle.word_ops.specs.declared.Profile.{Profile}
 use Rattle.alpha_words.specs.declared.insn.Cond.{Cond}
 use Rattle.alpha_words.specs.declared.insn.Insn.{Insn}
 use Rattle.alpha_words.specs.declared.insn.Insn.TheVariants as I
@@ -207,6 +208,8 @@ nop = Plain (I.Oper O.Bis 31 (R.Reg 31) 31)
 abbrev pub parsed_operands : Mnemonic → List (Token Punct) → Result SourceInsn LineFlaw
 parsed_operands N.Lda ts = parsed_memory I.Lda ts
 parsed_operands N.Ldq ts = parsed_memory I.Ldq ts
+parsed_operands N.Ldah ts = parsed_memory I.Ldah ts
+parsed_operands N.LdqU ts = parsed_memory I.LdqU ts
 parsed_operands N.Stq ts = parsed_memory I.Stq ts
 parsed_operands (N.Oper op) ts = parsed_operate op ts
 parsed_operands (N.Branch j) ts = parsed_branch j ts
@@ -219,7 +222,7 @@ abbrev pub by_mnemonic : Option Mnemonic → List (Token Punct) → Result Sourc
 by_mnemonic None ts = Err L.Mnemonic
 by_mnemonic (Some m) ts = parsed_operands m ts
 
--- the instruction that the tokens are parsed as, or the first flaw
-unfoldable pub parsed_insn : List (Token Punct) → Result SourceInsn LineFlaw
-parsed_insn (Lexeme w ∷ ts) = by_mnemonic (mnemonic_of w) ts
-parsed_insn ts = Err L.Mnemonic
+-- the profile's instruction that the tokens are parsed as, or the first flaw
+unfoldable pub parsed_insn : Profile → List (Token Punct) → Result SourceInsn LineFlaw
+parsed_insn profile (Lexeme w ∷ ts) = by_mnemonic (mnemonic_of profile w) ts
+parsed_insn profile ts = Err L.Mnemonic

@@ -13,7 +13,9 @@ use Rattle.asm_text.specs.declared.marks.Punct.{Punct}
 use Rattle.asm_text.specs.declared.marks.Punct.TheVariants as M
 use Rattle.asm_text.specs.Labels.{is_label}
 use Rattle.asm_text.specs.Integers.{Integer, IsInteger, integer_value}
-use Rattle.word_ops.specs.Operators.{op_mnemonic}
+use Rattle.word_ops.specs.declared.Profile.{Profile}
+use Rattle.word_ops.specs.Operators.{op_mnemonic, has_op}
+use Rattle.alpha_words.specs.Encoding.{is_two}
 use Rattle.asm_text.specs.Mnemonics.{branch_mnemonic}
 
 -- an instruction of a source; a branch goes to a label
@@ -70,14 +72,17 @@ IsNop op ra rhs rc = (op ≡ O.Bis) × (ra ≡ 31) × (rhs ≡ R.Reg 31) × (rc 
 abbrev pub Begins : List ℕ → (List (Token Punct) → Type 0) → List (Token Punct) → Type 0
 Begins name P ts = (us : List (Token Punct)) × P us × (ts ≡ Lexeme name ∷ us)
 
--- the tokens spell the instruction
-abbrev pub SpellsInsn : SourceInsn → List (Token Punct) → Type 0
-SpellsInsn (Plain (I.Lda ra rb disp)) ts = Begins (codes "lda") (SpellsMemory ra rb disp) ts
-SpellsInsn (Plain (I.Ldq ra rb disp)) ts = Begins (codes "ldq") (SpellsMemory ra rb disp) ts
-SpellsInsn (Plain (I.Stq ra rb disp)) ts = Begins (codes "stq") (SpellsMemory ra rb disp) ts
-SpellsInsn (Plain (I.Oper op ra rhs rc)) ts = Begins (op_mnemonic op) (SpellsOperate ra rhs rc) ts ⊎ (IsNop op ra rhs rc × (ts ≡ Lexeme (codes "nop") ∷ []))
-SpellsInsn (Plain (I.Branch j ra disp)) ts = ⊥
-SpellsInsn (Plain (I.Br disp)) ts = ⊥
-SpellsInsn (Plain I.Ret) ts = Begins (codes "ret") SpellsReturn ts
-SpellsInsn (BranchTo j ra l) ts = Begins (branch_mnemonic j) (SpellsBranch ra l) ts
-SpellsInsn (BrTo l) ts = Begins (codes "br") (SpellsBr l) ts
+-- the tokens spell the instruction, which the profile has
+abbrev pub SpellsInsn : Profile → SourceInsn → List (Token Punct) → Type 0
+SpellsInsn profile (Plain (I.Lda ra rb disp)) ts = Begins (codes "lda") (SpellsMemory ra rb disp) ts
+SpellsInsn profile (Plain (I.Ldq ra rb disp)) ts = Begins (codes "ldq") (SpellsMemory ra rb disp) ts
+SpellsInsn profile (Plain (I.Ldah ra rb disp)) ts = (is_two profile ≡ true) × Begins (codes "ldah") (SpellsMemory ra rb disp) ts
+SpellsInsn profile (Plain (I.LdqU ra rb disp)) ts = (is_two profile ≡ true) × Begins (codes "ldq_u") (SpellsMemory ra rb disp) ts
+SpellsInsn profile (Plain (I.Stq ra rb disp)) ts = Begins (codes "stq") (SpellsMemory ra rb disp) ts
+SpellsInsn profile (Plain (I.Oper op ra rhs rc)) ts =
+    ((has_op profile op ≡ true) × Begins (op_mnemonic op) (SpellsOperate ra rhs rc) ts) ⊎ (IsNop op ra rhs rc × (ts ≡ Lexeme (codes "nop") ∷ []))
+SpellsInsn profile (Plain (I.Branch j ra disp)) ts = ⊥
+SpellsInsn profile (Plain (I.Br disp)) ts = ⊥
+SpellsInsn profile (Plain I.Ret) ts = Begins (codes "ret") SpellsReturn ts
+SpellsInsn profile (BranchTo j ra l) ts = Begins (branch_mnemonic j) (SpellsBranch ra l) ts
+SpellsInsn profile (BrTo l) ts = Begins (codes "br") (SpellsBr l) ts

@@ -2,6 +2,7 @@
 use Rattle.std.specs.Prelude.{ℕ, suc, Bool, false, not, ◌&&◌, ◌||◌, ◌==◌, nat_lt, if◌then◌else◌, List, [], ◌∷◌, ◌++◌, codes, length, Option, Some, None, Result, Ok, Err}
 use Rattle.std.specs.Option.{option_map}
 use Rattle.std.specs.Str.{bytes_eq}
+use Rattle.word_ops.specs.declared.Profile.{Profile}
 use Rattle.formula_tree.specs.Formulas.{Form}
 use Rattle.text_tokens.specs.Tokens.{Token, Mark, Lexeme, tokens_of, front_token}
 use Rattle.formula_text.specs.declared.fault.TextFlaw.{TextFlaw}
@@ -50,18 +51,18 @@ inv_or_flaw (Ok F) = Ok (AnInv F)
 inv_or_flaw (Err e) = Err L.Formula
 
 -- an instruction
-abbrev pub insn_statement : List ℕ → Result Statement LineFlaw
-insn_statement text = parsed_insn (tokens_of source_class text) >>= λ i. Ok (AnInsn i)
+abbrev pub insn_statement : Profile → List ℕ → Result Statement LineFlaw
+insn_statement profile text = parsed_insn profile (tokens_of source_class text) >>= λ i. Ok (AnInsn i)
 
 -- a statement, by the first token
-abbrev pub statement_by : List ℕ → Option (Token Punct × List ℕ) → Result Statement LineFlaw
-statement_by text None = Ok NoStatement
-statement_by text (Some (Mark m, rest)) = Err L.Mnemonic
-statement_by text (Some (Lexeme w, rest)) = if bytes_eq w (codes ".inv") then inv_or_flaw (parsed_form rest) else insn_statement text
+abbrev pub statement_by : Profile → List ℕ → Option (Token Punct × List ℕ) → Result Statement LineFlaw
+statement_by profile text None = Ok NoStatement
+statement_by profile text (Some (Mark m, rest)) = Err L.Mnemonic
+statement_by profile text (Some (Lexeme w, rest)) = if bytes_eq w (codes ".inv") then inv_or_flaw (parsed_form profile rest) else insn_statement profile text
 
 -- the statement of a line, behind its label
-unfoldable pub parsed_statement : List ℕ → Result Statement LineFlaw
-parsed_statement text = statement_by text (front_token source_class text)
+unfoldable pub parsed_statement : Profile → List ℕ → Result Statement LineFlaw
+parsed_statement profile text = statement_by profile text (front_token source_class text)
 
 -- ---- the lines in order
 
@@ -100,21 +101,21 @@ take_statement n (AnInsn i) p =
 take_statement n (AnInv F) p = take_inv n F p p.waiting
 
 -- what stands behind the label of line n
-abbrev pub take_text : ℕ → List ℕ → Progress → Result Progress LineFlaw
-take_text n text p = parsed_statement text >>= λ s. take_statement n s p
+abbrev pub take_text : Profile → ℕ → List ℕ → Progress → Result Progress LineFlaw
+take_text profile n text p = parsed_statement profile text >>= λ s. take_statement n s p
 
 -- what stands before the comment of line n
-abbrev pub take_body : ℕ → List ℕ → Progress → Result Progress LineFlaw
-take_body n body p =
+abbrev pub take_body : Profile → ℕ → List ℕ → Progress → Result Progress LineFlaw
+take_body profile n body p =
     take_label (label_of (label_split body)) p >>= λ q.
-    take_text n (behind_label body (label_split body)) q
+    take_text profile n (behind_label body (label_split body)) q
 
 -- line n
-unfoldable pub take_line : ℕ → List ℕ → Progress → Result Progress LineFlaw
-take_line n line p =
+unfoldable pub take_line : Profile → ℕ → List ℕ → Progress → Result Progress LineFlaw
+take_line profile n line p =
     if nat_lt MAX_LINE (length line) then Err L.Length else
     if not (are_printable line) then Err L.Character else
-    take_body n (before_comment line) p
+    take_body profile n (before_comment line) p
 
 -- a flaw with its line
 abbrev pub at_line : {A : Type 0} → ℕ → Result A LineFlaw → Result A (ℕ × LineFlaw)
@@ -127,14 +128,14 @@ source_end p (Some n) = Err (n, L.LooseInvariant)
 source_end p None = if length p.source.insns == 0 then Err (0, L.Length) else Ok p.source
 
 -- the lines from line n on
-unfoldable pub take_lines : ℕ → List (List ℕ) → Progress → Result Source (ℕ × LineFlaw)
-take_lines n [] p = source_end p p.waiting
-take_lines n (l ∷ ls) p = at_line n (take_line n l p) >>= λ q. take_lines (suc n) ls q
+unfoldable pub take_lines : Profile → ℕ → List (List ℕ) → Progress → Result Source (ℕ × LineFlaw)
+take_lines profile n [] p = source_end p p.waiting
+take_lines profile n (l ∷ ls) p = at_line n (take_line profile n l p) >>= λ q. take_lines profile (suc n) ls q
 
 -- nothing read yet
 abbrev pub no_progress : Progress
 no_progress = record { source = record { insns = []; labels = []; invs = [] }; waiting = None }
 
--- the source that the text is parsed as, or the number of the first line that is wrong and what is wrong with it
-unfoldable pub parsed_source : List ℕ → Result Source (ℕ × LineFlaw)
-parsed_source text = take_lines 1 (lines_of text) no_progress
+-- the profile's source that the text is parsed as, or the number of the first line that is wrong and what is wrong with it
+unfoldable pub parsed_source : Profile → List ℕ → Result Source (ℕ × LineFlaw)
+parsed_source profile text = take_lines profile 1 (lines_of text) no_progress

@@ -2,6 +2,7 @@
 use Rattle.std.specs.Prelude.{◌≡◌, ℕ, suc, ◌+◌, ◌<◌, ◌≤◌, false, List, [], ◌∷◌, length, Option, Some, None}
 use Rattle.std.specs.List.{AllByRecursion}
 use Rattle.std.specs.Str.{bytes_eq}
+use Rattle.word_ops.specs.declared.Profile.{Profile}
 use Rattle.formula_tree.specs.Formulas.{Form}
 use Rattle.asm_text.specs.declared.limits.TheConstants.{MAX_INSNS, MAX_INVS}
 use Rattle.asm_text.specs.Insns.{SourceInsn}
@@ -15,11 +16,11 @@ pub record Source : Type 0 where
   pub invs : List (ℕ × Form)
 
 -- the lines spell these contents, one each
-abbrev pub AreSpelled : List (List ℕ) → List Content → Type 0
-AreSpelled [] [] = Unit {0}
-AreSpelled [] (c ∷ cs) = ⊥
-AreSpelled (l ∷ ls) [] = ⊥
-AreSpelled (l ∷ ls) (c ∷ cs) = SpellsLine l c × AreSpelled ls cs
+abbrev pub AreSpelled : Profile → List (List ℕ) → List Content → Type 0
+AreSpelled profile [] [] = Unit {0}
+AreSpelled profile [] (c ∷ cs) = ⊥
+AreSpelled profile (l ∷ ls) [] = ⊥
+AreSpelled profile (l ∷ ls) (c ∷ cs) = SpellsLine profile l c × AreSpelled profile ls cs
 
 -- ---- what the contents come to
 
@@ -85,11 +86,11 @@ pub record IsSource (s : Source) : Type 0 where
   pub labels : AreDistinct s.labels
   pub belong : HaveInsns 0 (length s.insns) s.invs
 
--- the text spells the source
-pub record SpellsSource (text : List ℕ) (s : Source) : Type 0 where
+-- the text spells the source, whose instructions and operators are the profile's
+pub record SpellsSource (profile : Profile) (text : List ℕ) (s : Source) : Type 0 where
   pub lines : List (List ℕ)
   pub contents : List Content
   pub are_lines : AreLines text lines
-  pub spelled : AreSpelled lines contents
+  pub spelled : AreSpelled profile lines contents
   pub collected : s ≡ source_of contents
   pub sound : IsSource s

@@ -1,5 +1,6 @@
 -- The lines of a source: `[label:] [statement]`, and a comment from `#` on.
 use Rattle.std.specs.Prelude.{◌≡◌, ℕ, ◌≤◌, Bool, true, false, ◌||◌, ◌&&◌, ◌==◌, nat_le, if◌then◌else◌, List, [], ◌∷◌, ◌++◌, codes, length, Option, Some, None}
+use Rattle.word_ops.specs.declared.Profile.{Profile}
 use Rattle.formula_tree.specs.Formulas.{Form}
 use Rattle.text_tokens.specs.Tokens.{Token, goes_on, Consists}
 use Rattle.formula_text.specs.Grammar.{Spells}
@@ -25,19 +26,19 @@ abbrev pub HasInv : List ℕ → List ℕ → Type 0
 HasInv text rest = (bs : List ℕ) × AreBlanks bs × (goes_on source_class rest ≡ false) × (text ≡ bs ++ (codes ".inv" ++ rest))
 
 -- the text spells the statement; an invariant is `.inv` and a formula to the end of the line
-abbrev pub SpellsStatement : Statement → List ℕ → Type 0
-SpellsStatement NoStatement text = Consists source_class text []
-SpellsStatement (AnInsn i) text = (ts : List (Token Punct)) × Consists source_class text ts × SpellsInsn i ts
-SpellsStatement (AnInv F) text = (rest : List ℕ) × HasInv text rest × Spells rest F
+abbrev pub SpellsStatement : Profile → Statement → List ℕ → Type 0
+SpellsStatement profile NoStatement text = Consists source_class text []
+SpellsStatement profile (AnInsn i) text = (ts : List (Token Punct)) × Consists source_class text ts × SpellsInsn profile i ts
+SpellsStatement profile (AnInv F) text = (rest : List ℕ) × HasInv text rest × Spells profile rest F
 
 -- the text begins with the label and its colon, and goes on so
 abbrev pub HasLabel : List ℕ → List ℕ → List ℕ → Type 0
 HasLabel text l rest = (bs cs : List ℕ) × AreBlanks bs × AreBlanks cs × (is_label l ≡ true) × (text ≡ bs ++ (l ++ (cs ++ (58 ∷ rest))))
 
 -- the text spells a label with its colon, if there is one, and the statement
-abbrev pub SpellsBody : Option (List ℕ) → Statement → List ℕ → Type 0
-SpellsBody None s text = SpellsStatement s text
-SpellsBody (Some l) s text = (rest : List ℕ) × HasLabel text l rest × SpellsStatement s rest
+abbrev pub SpellsBody : Profile → Option (List ℕ) → Statement → List ℕ → Type 0
+SpellsBody profile None s text = SpellsStatement profile s text
+SpellsBody profile (Some l) s text = (rest : List ℕ) × HasLabel text l rest × SpellsStatement profile s rest
 
 -- what stands before `#`
 abbrev pub before_comment : List ℕ → List ℕ
@@ -54,7 +55,7 @@ are_printable [] = true
 are_printable (b ∷ bs) = is_printable b && are_printable bs
 
 -- the line says this
-pub record SpellsLine (line : List ℕ) (c : Content) : Type 0 where
+pub record SpellsLine (profile : Profile) (line : List ℕ) (c : Content) : Type 0 where
   pub short : length line ≤ MAX_LINE
   pub printable : are_printable line ≡ true
-  pub body : SpellsBody c.label c.statement (before_comment line)
+  pub body : SpellsBody profile c.label c.statement (before_comment line)

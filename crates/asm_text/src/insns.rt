@@ -7,7 +7,7 @@ ghost use Rattle.asm_text.specs.Marks.{source_class};
 ghost use Rattle.asm_text.specs.InsnParsing.{next_lexeme, behind, at_end, displacement_at};
 ghost use Rattle.asm_text.specs.InsnParsing.{memory_form, operate_form, last_label};
 ghost use Rattle.asm_text.specs.InsnParsing.{branch_form, label_form, return_form};
-ghost use Rattle.alpha_words.specs.declared.insn.Insn.TheVariants.{Lda, Ldq, Stq};
+ghost use Rattle.alpha_words.specs.declared.insn.Insn.TheVariants.{Lda, Ldq, Ldah, LdqU, Stq};
 ghost use Rattle.asm_text.specs.InsnParsing.{memory_operands, parsed_memory, parsed_operate};
 ghost use Rattle.asm_text.specs.InsnParsing.{parsed_branch, br_by, parsed_br, parsed_return};
 ghost use Rattle.asm_text.specs.Insns.{BrTo};
@@ -24,7 +24,7 @@ use crate::registers::{fixed_register, register_at};
 use alpha_words::{Cond, Insn, Reg, Rhs};
 use std::alloc::{AllocError, Global};
 use text_tokens::Token;
-use word_ops::Op;
+use word_ops::{Op, Profile};
 
 /// An instruction of a source; a branch goes to a label.
 #[derive(Debug, PartialEq, Eq, Drop)]
@@ -304,6 +304,24 @@ fn ldq(text: &[u8]) -> Result<SrcInsn, LineFlaw>
     Ok(SrcInsn::Plain(Insn::Ldq { ra, rb, disp }))
 }
 
+/// `ldah`, from the text behind its mnemonic.
+fn ldah(text: &[u8]) -> Result<SrcInsn, LineFlaw>
+    ensures { Yields source_insn_view
+        (parsed_memory Ldah (tokens_of source_class text.now)) result }
+{
+    let MemoryOperands { ra, disp, rb } = memory_operands(text)?;
+    Ok(SrcInsn::Plain(Insn::Ldah { ra, rb, disp }))
+}
+
+/// `ldq_u`, from the text behind its mnemonic.
+fn ldq_u(text: &[u8]) -> Result<SrcInsn, LineFlaw>
+    ensures { Yields source_insn_view
+        (parsed_memory LdqU (tokens_of source_class text.now)) result }
+{
+    let MemoryOperands { ra, disp, rb } = memory_operands(text)?;
+    Ok(SrcInsn::Plain(Insn::LdqU { ra, rb, disp }))
+}
+
 /// `stq`, from the text behind its mnemonic.
 fn stq(text: &[u8]) -> Result<SrcInsn, LineFlaw>
     ensures { Yields source_insn_view (parsed_memory Stq (tokens_of source_class text.now)) result }
@@ -320,6 +338,8 @@ fn operands(alloc: Global, mnemonic: Mnemonic, text: &[u8]) -> Result<SrcInsn, R
     match mnemonic {
         Mnemonic::Lda => Ok(lda(text)?),
         Mnemonic::Ldq => Ok(ldq(text)?),
+        Mnemonic::Ldah => Ok(ldah(text)?),
+        Mnemonic::LdqU => Ok(ldq_u(text)?),
         Mnemonic::Stq => Ok(stq(text)?),
         Mnemonic::Oper(op) => Ok(operate(op, text)?),
         Mnemonic::Branch(cond) => branch(alloc, cond, text),
@@ -329,14 +349,14 @@ fn operands(alloc: Global, mnemonic: Mnemonic, text: &[u8]) -> Result<SrcInsn, R
     }
 }
 
-/// The instruction that the text spells, or the first thing that is wrong.
+/// The profile's instruction that the text spells, or the first thing that is wrong.
 #[tactic(auto, unfolding(crate::specs::InsnParsing::parsed_insn))]
-pub fn read_insn(alloc: Global, text: &[u8]) -> Result<SrcInsn, Refused>
+pub fn read_insn(alloc: Global, text: &[u8], profile: Profile) -> Result<SrcInsn, Refused>
     ensures { YieldsOrMemory source_insn_view
-        (parsed_insn (tokens_of source_class text.now)) result }
+        (parsed_insn profile (tokens_of source_class text.now)) result }
 {
     match front(text) {
-        Some((Token::Lexeme(lexeme), rest)) => match mnemonic_named(lexeme) {
+        Some((Token::Lexeme(lexeme), rest)) => match mnemonic_named(lexeme, profile) {
             Some(mnemonic) => operands(alloc, mnemonic, rest),
             None => Err(Refused::Flaw(LineFlaw::Mnemonic)),
         },

@@ -2,10 +2,10 @@
 
 ghost use Rattle.std.specs.Prelude.{◌≡◌};
 ghost use Rattle.asm_text.specs.Mnemonics.{branch_mnemonic, mnemonic_text};
-ghost use Rattle.asm_text.specs.Mnemonics.{mnemonic_in, mnemonic_of};
+ghost use Rattle.asm_text.specs.Mnemonics.{mnemonics_of, mnemonic_in, mnemonic_of};
 
 use alpha_words::Cond;
-use word_ops::{Op, op_mnemonic, op_of_mnemonic};
+use word_ops::{Op, Profile, of_profile, op_mnemonic, op_of_mnemonic};
 
 /// What the first lexeme of an instruction names.
 #[derive(Clone, Copy, Debug, PartialEq, Eq)]
@@ -14,6 +14,10 @@ pub enum Mnemonic {
     Lda,
     /// `ldq`.
     Ldq,
+    /// `ldah`.
+    Ldah,
+    /// `ldq_u`.
+    LdqU,
     /// `stq`.
     Stq,
     /// An operator.
@@ -28,8 +32,10 @@ pub enum Mnemonic {
     Nop,
 }
 
-/// The mnemonics that are no operators', by opcode and function.
-static MNEMONICS: [Mnemonic; 14] = [
+/// The mnemonics that are no operators': those of profile 2 alone, and then the others by opcode.
+static MNEMONICS: [Mnemonic; 16] = [
+    Mnemonic::Ldah,
+    Mnemonic::LdqU,
     Mnemonic::Lda,
     Mnemonic::Nop,
     Mnemonic::Ret,
@@ -67,6 +73,8 @@ fn mnemonic_text(mnemonic: Mnemonic) -> &'static str
     match mnemonic {
         Mnemonic::Lda => "lda",
         Mnemonic::Ldq => "ldq",
+        Mnemonic::Ldah => "ldah",
+        Mnemonic::LdqU => "ldq_u",
         Mnemonic::Stq => "stq",
         Mnemonic::Oper(op) => op_mnemonic(op),
         Mnemonic::Branch(cond) => branch_mnemonic(cond),
@@ -88,13 +96,24 @@ fn mnemonic_in(mnemonics: &[Mnemonic], lexeme: &[u8]) -> Option<Mnemonic>
     None
 }
 
-/// The mnemonic that the lexeme is.
-#[tactic(auto, unfolding(crate::specs::Mnemonics::mnemonic_of, crate::specs::Mnemonics::mnemonics))]
-pub fn mnemonic_named(lexeme: &[u8]) -> Option<Mnemonic>
-    ensures { result ≡ mnemonic_of lexeme.now }
+/// The mnemonics of a profile that are no operators'.
+#[tactic(auto, unfolding(crate::specs::Mnemonics::mnemonics))]
+fn mnemonics_of(profile: Profile) -> &'static [Mnemonic]
+    ensures { result.now ≡ mnemonics_of profile }
 {
-    match op_of_mnemonic(lexeme) {
+    match profile {
+        Profile::One => &MNEMONICS[2..],
+        Profile::Two => &MNEMONICS,
+    }
+}
+
+/// The profile's mnemonic that the lexeme is.
+#[tactic(auto, unfolding(crate::specs::Mnemonics::mnemonic_of))]
+pub fn mnemonic_named(lexeme: &[u8], profile: Profile) -> Option<Mnemonic>
+    ensures { result ≡ mnemonic_of profile lexeme.now }
+{
+    match of_profile(profile, op_of_mnemonic(lexeme)) {
         Some(op) => Some(Mnemonic::Oper(op)),
-        None => mnemonic_in(&MNEMONICS, lexeme),
+        None => mnemonic_in(mnemonics_of(profile), lexeme),
     }
 }

@@ -18,6 +18,7 @@ use crate::statements::{Statement, are_printable, before_comment, read_statement
 use formula_tree::Form;
 use std::alloc::Global;
 use std::collections::BTreeSet;
+use word_ops::Profile;
 
 /// What has been read, and the line of an invariant whose instruction is still to come.
 #[derive(Drop)]
@@ -104,13 +105,14 @@ fn take_statement(
     progress: &mut Progress<'_>,
     n: u32,
     text: &[u8],
+    profile: Profile,
 ) -> Result<(), Refused>
     requires sound { IsSoundProgress progress.old }
-    ensures takes { TakesOn (take_text n text.now (progress_view progress.old))
+    ensures takes { TakesOn (take_text profile n text.now (progress_view progress.old))
         (progress_view progress.new) result }
     ensures sound { OnOk result (IsSoundProgress progress.new) }
 {
-    match read_statement(alloc, text)? {
+    match read_statement(alloc, text, profile)? {
         Statement::NoStatement => Ok(()),
         Statement::Insn(insn) => take_insn(progress, n, insn),
         Statement::Inv(form) => take_inv(progress, n, form),
@@ -123,17 +125,18 @@ fn take_body<'t>(
     progress: &mut Progress<'t>,
     n: u32,
     body: &'t [u8],
+    profile: Profile,
 ) -> Result<(), Refused>
     requires sound { IsSoundProgress progress.old }
-    ensures takes { TakesOn (take_body n body.now (progress_view progress.old))
+    ensures takes { TakesOn (take_body profile n body.now (progress_view progress.old))
         (progress_view progress.new) result }
     ensures sound { OnOk result (IsSoundProgress progress.new) }
 {
     match split_label(body) {
-        None => take_statement(alloc, progress, n, body),
+        None => take_statement(alloc, progress, n, body, profile),
         Some((label, rest)) => {
             take_label(alloc, progress, label)?;
-            take_statement(alloc, progress, n, rest)
+            take_statement(alloc, progress, n, rest, profile)
         }
     }
 }
@@ -145,9 +148,10 @@ fn take_line<'t>(
     progress: &mut Progress<'t>,
     n: u32,
     line: &'t [u8],
+    profile: Profile,
 ) -> Result<(), Refused>
     requires sound { IsSoundProgress progress.old }
-    ensures takes { TakesOn (take_line n line.now (progress_view progress.old))
+    ensures takes { TakesOn (take_line profile n line.now (progress_view progress.old))
         (progress_view progress.new) result }
     ensures sound { OnOk result (IsSoundProgress progress.new) }
 {
@@ -157,7 +161,7 @@ fn take_line<'t>(
     if !are_printable(line) {
         return Err(Refused::Flaw(LineFlaw::Character));
     }
-    take_body(alloc, progress, n, before_comment(line))
+    take_body(alloc, progress, n, before_comment(line), profile)
 }
 
 /// Takes line `n`; a flaw is told with the line's number.
@@ -166,13 +170,14 @@ pub fn take_numbered<'t>(
     progress: &mut Progress<'t>,
     n: u32,
     line: &'t [u8],
+    profile: Profile,
 ) -> Result<(), LineFault>
     requires sound { IsSoundProgress progress.old }
-    ensures takes { TakesOnLine n (take_line n line.now (progress_view progress.old))
+    ensures takes { TakesOnLine n (take_line profile n line.now (progress_view progress.old))
         (progress_view progress.new) result }
     ensures sound { OnOk result (IsSoundProgress progress.new) }
 {
-    match take_line(alloc, progress, n, line) {
+    match take_line(alloc, progress, n, line, profile) {
         Ok(()) => Ok(()),
         Err(Refused::Flaw(flaw)) => Err(LineFault::At(n, flaw)),
         Err(Refused::Memory) => Err(LineFault::Memory),

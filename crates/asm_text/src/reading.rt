@@ -11,18 +11,19 @@ use crate::lines::split_line;
 use crate::progress::{no_progress, source_end, take_numbered};
 use crate::sources::Source;
 use std::alloc::Global;
+use word_ops::Profile;
 
 /// The source that the text is parsed as, or the first fault.
-fn parse(alloc: Global, text: &[u8]) -> Result<Source, LineFault>
+fn parse(alloc: Global, text: &[u8], profile: Profile) -> Result<Source, LineFault>
     requires short { length text.now ≤ MAX_SOURCE }
-    ensures { ParsesSource source_view (parsed_source text.now) result }
+    ensures { ParsesSource source_view (parsed_source profile text.now) result }
 {
     let mut progress = no_progress(alloc);
     let mut rest = text;
     let mut n = 1;
     'lines: while !rest.is_empty() {
         let (line, more) = split_line(rest);
-        match take_numbered(alloc, &mut progress, n, line) {
+        match take_numbered(alloc, &mut progress, n, line, profile) {
             Ok(()) => {}
             Err(fault) => return Err(fault),
         }
@@ -32,18 +33,18 @@ fn parse(alloc: Global, text: &[u8]) -> Result<Source, LineFault>
     source_end(progress)
 }
 
-/// Parses `text` as a source: its instructions, labels and invariants.
+/// Parses `text` as a source of the profile: its instructions, labels and invariants.
 ///
 /// Errors: the first line that is wrong, with its number and why (`specs/Faults`); `Memory` says
 /// nothing of `text`. The grammar is this project's own (`specs/Sources`, `specs/Statements`,
 /// `specs/Insns`).
 ///
 /// Asks that `text` has at most `MAX_SOURCE` bytes.
-pub fn read_source(alloc: Global, text: &[u8]) -> Result<Source, LineFault>
+pub fn read_source(alloc: Global, text: &[u8], profile: Profile) -> Result<Source, LineFault>
     requires short { length text.now ≤ MAX_SOURCE }
-    ensures spells { IfOk result (λ s. SpellsSource text.now (source_view s)) }
-    ensures none { IfErr result (λ e. SpellsNoSource text.now e) }
-    ensures exact { ParsesSource source_view (parsed_source text.now) result }
+    ensures spells { IfOk result (λ s. SpellsSource profile text.now (source_view s)) }
+    ensures none { IfErr result (λ e. SpellsNoSource profile text.now e) }
+    ensures exact { ParsesSource source_view (parsed_source profile text.now) result }
 {
-    parse(alloc, text)
+    parse(alloc, text, profile)
 }

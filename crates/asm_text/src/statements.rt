@@ -16,6 +16,7 @@ use formula_text::{TextFault, read_form};
 use formula_tree::Form;
 use std::alloc::Global;
 use text_tokens::Token;
+use word_ops::Profile;
 
 /// What a line says behind its label.
 #[derive(Drop)]
@@ -77,10 +78,10 @@ pub fn split_label(text: &[u8]) -> Option<(&[u8], &[u8])>
 }
 
 /// The invariant that the text spells.
-fn read_inv(alloc: Global, text: &[u8]) -> Result<Statement, Refused>
-    ensures { YieldsOrMemory statement_view (inv_or_flaw (parsed_form text.now)) result }
+fn read_inv(alloc: Global, text: &[u8], profile: Profile) -> Result<Statement, Refused>
+    ensures { YieldsOrMemory statement_view (inv_or_flaw (parsed_form profile text.now)) result }
 {
-    match read_form(alloc, text) {
+    match read_form(alloc, text, profile) {
         Ok(form) => Ok(Statement::Inv(form)),
         Err(TextFault::At(_, _)) => Err(Refused::Flaw(LineFlaw::Formula)),
         Err(TextFault::Memory) => Err(Refused::Memory),
@@ -88,26 +89,26 @@ fn read_inv(alloc: Global, text: &[u8]) -> Result<Statement, Refused>
 }
 
 /// The instruction that the text spells.
-fn insn_statement(alloc: Global, text: &[u8]) -> Result<Statement, Refused>
-    ensures { YieldsOrMemory statement_view (insn_statement text.now) result }
+fn insn_statement(alloc: Global, text: &[u8], profile: Profile) -> Result<Statement, Refused>
+    ensures { YieldsOrMemory statement_view (insn_statement profile text.now) result }
 {
-    let insn = read_insn(alloc, text)?;
+    let insn = read_insn(alloc, text, profile)?;
     Ok(Statement::Insn(insn))
 }
 
 /// The statement of a line, from the text behind its label.
 #[tactic(auto, unfolding(crate::specs::SourceParsing::parsed_statement))]
-pub fn read_statement(alloc: Global, text: &[u8]) -> Result<Statement, Refused>
-    ensures { YieldsOrMemory statement_view (parsed_statement text.now) result }
+pub fn read_statement(alloc: Global, text: &[u8], profile: Profile) -> Result<Statement, Refused>
+    ensures { YieldsOrMemory statement_view (parsed_statement profile text.now) result }
 {
     match front(text) {
         None => Ok(Statement::NoStatement),
         Some((Token::Mark(_), _)) => Err(Refused::Flaw(LineFlaw::Mnemonic)),
         Some((Token::Lexeme(lexeme), rest)) => {
             if lexeme == b".inv".as_slice() {
-                read_inv(alloc, rest)
+                read_inv(alloc, rest, profile)
             } else {
-                insn_statement(alloc, text)
+                insn_statement(alloc, text, profile)
             }
         }
     }

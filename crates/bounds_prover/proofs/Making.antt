@@ -2,23 +2,22 @@
 use Rattle.std.proofs.Common.{◌≡◌, ℕ, ◌≤◌, ◌^◌, Bool, List, [], ◌∷◌, ◌++◌, map, length, Option, Some, None, Ok, Err, refl, sym, ◌∙◌, ap, subst, arith}
 use Rattle.std.proofs.lemmas.List.Elements.{All-nil, All-cons, All-head, All-tail}
 use Rattle.alpha_words.specs.declared.insn.Insn.{Insn}
-use Rattle.alpha_cfg.proofs.Readings.{decoded_code-ok}
+use Rattle.alpha_cfg.proofs.Readings.{decoded_code-ok, AreOfProfile-EncodesCode}
 use Rattle.formula_tree.specs.Formulas.{Form, FAnd}
 use Rattle.formula_tree.specs.Scope.{IsOver}
 use Rattle.formula_tree.specs.Sizes.{form_height}
 use Rattle.policy_set.specs.declared.kind.PolicyKind.{PolicyKind}
-use Rattle.term_table.specs.Tree.{Tree, IsTerm}
+use Rattle.term_table.specs.Tree.{Tree}
 use Rattle.term_table.specs.Table.{IsSmall}
 use Rattle.term_table.specs.Measures.{height_of}
-use Rattle.lf_signature.specs.Sigma1.{declared}
+use Rattle.lf_signature.specs.Constants.{declared}
 use Rattle.lf_signature.specs.Terms.{pf}
 use Rattle.lf_signature.specs.Typing.{Checks}
 use Rattle.formula_terms.specs.Encoding.{form_encoding}
-use Rattle.lf_rules.proofs.Typed.{is_term}
 use Rattle.proof_container.specs.Contents.{Contents, one_or_none, roots}
 use Rattle.proof_container.specs.Postorder.{entries}
 use Rattle.term_table.specs.Bytes.{IsBytes}
-use Rattle.proof_container.specs.Encoding.{AreTerms, IsContents, encoding_of}
+use Rattle.proof_container.specs.Encoding.{IsEntryTerm, AreTerms, IsContents, encoding_of}
 use Rattle.proof_container.specs.declared.limits.TheConstants.{MAX_ENTRIES}
 use Rattle.proof_container.specs.Decoding.{decoded_container}
 use Rattle.proof_container.proofs.Whole.{container_again}
@@ -42,11 +41,13 @@ use Rattle.condition_prover.specs.Conditions.{condition_parts}
 use Rattle.condition_prover.proofs.WholeProof.{IsSoundClass, condition-parts, proof-checks}
 use Rattle.bounds_prover.specs.Proving.{with_proof, excess, encoded_unless, with_parts_proof, proved_contents, proved_code, proved_read, made_unless, proved_container}
 use Rattle.bounds_prover.proofs.Measures.{IsSmallEnough, small-enough}
-use Rattle.bounds_prover.proofs.SmallTerms.{checks-small}
+use Rattle.bounds_prover.proofs.SmallTerms.{checks-small, checks-entry}
+use Rattle.lf_signature.specs.declared.WordSignature.TheVariants.{Sigma1}
+use Rattle.word_ops.specs.declared.Profile.TheVariants.{One}
 
 -- ---- contents with another proof
 
-terms_with : (ts more : List Tree) (p : Tree) → AreTerms (ts ++ more) → IsTerm p → IsSmall p → AreTerms (ts ++ p ∷ [])
+terms_with : (ts more : List Tree) (p : Tree) → AreTerms (ts ++ more) → IsEntryTerm p → IsSmall p → AreTerms (ts ++ p ∷ [])
 terms_with [] more p h t s = (t, s, tt)
 terms_with (t ∷ ts) more p h i s = (h.0, h.1, terms_with ts more p h.2 i s)
 
@@ -65,9 +66,9 @@ same_invs c l p e = λ i. record { policy = c.policy; code = c.code; invs = e i;
 
 module _ (sound : IsSoundClass) (policy : PolicyKind) (bytes : List ℕ) (c : Contents) (code : List Insn) (marks : List Bool) (passes : Passes policy bytes c code marks) where
   module _ (p : Tree) (given : condition_proof by_all_means (condition_parts policy code c.invs) ≡ Some p) (low : height_of p ≤ MAX_HEIGHT) where
-    checks : Checks declared [] p (pf (form_encoding (conjoined (condition_parts policy code c.invs))))
+    checks : Checks (declared Sigma1) [] p (pf (form_encoding (conjoined (condition_parts policy code c.invs))))
     checks =
-        proof-checks sound policy code c.invs marks passes.forms passes.code passes.annotated passes.cut p given low
+        proof-checks sound policy code c.invs marks passes.forms passes.code passes.annotated passes.cut (AreOfProfile-EncodesCode One c.code code passes.encoded) p given low
 
     pub made-contents : length (entries (roots (with_proof c p))) ≤ MAX_ENTRIES → IsContents (with_proof c p)
     made-contents few =
@@ -79,7 +80,7 @@ module _ (sound : IsSoundClass) (policy : PolicyKind) (bytes : List ℕ) (c : Co
           whole = h.whole;
           some = h.some;
           short = h.short;
-          terms = terms_with (map (λ p. p.1) c.invs) (one_or_none c.proof) p h.terms (is_term checks) small;
+          terms = terms_with (map (λ p. p.1) c.invs) (one_or_none c.proof) p h.terms (checks-entry checks) small;
           entries = few;
           invs = h.invs;
           rising = h.rising;
@@ -106,7 +107,7 @@ module _ (sound : IsSoundClass) (policy : PolicyKind) (bytes : List ℕ) (c : Co
         given = refl;
         weight = s.weight;
         condition = vc_of-encodes policy code c.invs passes.forms;
-        proved = subst (λ F. Checks declared [] p (pf (form_encoding F))) (sym (condition-parts policy code c.invs)) proved;
+        proved = subst (λ F. Checks (declared Sigma1) [] p (pf (form_encoding F))) (sym (condition-parts policy code c.invs)) proved;
       }
 
 -- ---- what is made of parts
@@ -150,7 +151,7 @@ pub contents-made : (policy : PolicyKind) (bytes : List ℕ) (c : Contents) (cod
 unfolding proved_container
 contents-made policy bytes c code marks passes none =
     (λ i. made_unless (none i) (proved_read policy (container_again bytes c passes.container i)))
-    ∙ ap (proved_code policy c) (sym (decoded_code-ok c.code code passes.encoded passes.code))
+    ∙ ap (proved_code policy c) (sym (decoded_code-ok One c.code code passes.encoded passes.code))
 
 -- else it is refused
 pub refused-made : (policy : PolicyKind) (bytes : List ℕ) (r : Refusal) → front_refusal policy bytes ≡ Some r → proved_container policy bytes ≡ Err (Refused r)

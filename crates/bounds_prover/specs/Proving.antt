@@ -25,6 +25,7 @@ use Rattle.bounds_prover.specs.declared.fault.Measure.{Measure}
 use Rattle.bounds_prover.specs.declared.fault.Measure.TheVariants.{Weight, Height, Entries, Bytes}
 use Rattle.bounds_prover.specs.declared.fault.ProveFault.{ProveFault}
 use Rattle.bounds_prover.specs.declared.fault.ProveFault.TheVariants.{Refused, NotEasy, TooBig, Memory, Results}
+use Rattle.word_ops.specs.declared.Profile.TheVariants.{One}
 
 -- the contents with this proof in place of theirs
 abbrev pub with_proof : Contents → Tree → Contents
@@ -68,7 +69,7 @@ proved_code policy c (Err flaw) = Err (Refused (refusal.BadCode flaw))
 
 -- the same, where the bytes are a container
 abbrev pub proved_read : PolicyKind → Result Contents Fault → Result (List ℕ) ProveFault
-proved_read policy (Ok c) = proved_code policy c (decoded_code c.code)
+proved_read policy (Ok c) = proved_code policy c (decoded_code One c.code)
 proved_read policy (Err fault) = Err (Refused (refusal.Malformed fault.0 fault.1))
 
 -- what is made, unless there is a refusal

@@ -5,7 +5,7 @@ use Rattle.std.specs.Global.{Global}
 use Rattle.std.proofs.lemmas.List.{length-map}
 use Rattle.alpha_words.specs.declared.insn.Insn.{Insn}
 use Rattle.alpha_cfg.specs.CodeBytes.{EncodesCode}
-use Rattle.alpha_cfg.specs.Flow.{IsCode}
+use Rattle.alpha_cfg.specs.Flow.{IsCode, AreOfProfile}
 use Rattle.policy_set.specs.declared.kind.PolicyKind.{PolicyKind}
 use Rattle.policy_set.specs.declared.kind.PolicyKind.TheVariants.{Filter}
 use Rattle.policy_set.specs.Names.{policy_number}
@@ -28,11 +28,12 @@ use Rattle.bpf_container.specs.Compiled.{IsCompiled}
 use Rattle.bpf_container.specs.Contents.{AreCodeBytes, bpf_contents}
 use Rattle.bpf_compile.specs.Compilation.{bare_contents, compiled_container, IsCompilation}
 use Rattle.bpf_compile.specs.Inside.Ids.{AreInvIds}
+use Rattle.word_ops.specs.declared.Profile.TheVariants.{One}
 
 -- the words that are written encode the code
-pub code-bytes : (program : List Bpf) → ((code : List Insn) → IsBytes (code_bytes code)) → ((code : List Insn) → IsCode code → EncodesCode (code_bytes code) code)
-    → IsCode (bpf_code program) → AreCodeBytes program (code_bytes (bpf_code program))
-code-bytes program bytes encode is = record { bytes = bytes (bpf_code program); encode = encode (bpf_code program) is }
+pub code-bytes : (program : List Bpf) → ((code : List Insn) → IsBytes (code_bytes code)) → ((code : List Insn) → IsCode code → AreOfProfile One code → EncodesCode One (code_bytes code) code)
+    → IsCode (bpf_code program) → AreOfProfile One (bpf_code program) → AreCodeBytes program (code_bytes (bpf_code program))
+code-bytes program bytes encode is first = record { bytes = bytes (bpf_code program); encode = encode (bpf_code program) is first }
 
 terms-all : (ts : List Tree) → AreTerms ts → AllTerms ts
 terms-all [] h = tt

@@ -1,26 +1,27 @@
 //! The words of code.
 
 ghost use Rattle.std.specs.Prelude.{◌≡◌, IfOk};
-ghost use Rattle.alpha_cfg.specs.Flow.{AreInsns, IsInsn};
 ghost use Rattle.pcc_asm.specs.Words.{insn_word, code_bytes};
+ghost use Rattle.bpf_compile.specs.Inside.Insns.{IsOneInsn, AreOneInsns};
 
 use alpha_words::{Insn, encode};
 use std::alloc::{AllocError, Global};
+use word_ops::Profile;
 
 /// The word that is written for an instruction.
 #[tactic(auto, using(pcc_asm::proofs::Written::word_is))]
 fn word_of(insn: Insn) -> u32
-    requires { IsInsn insn }
+    requires { IsOneInsn insn }
     ensures { result ≡ insn_word insn }
 {
     alpha_words::laws();
-    encode(insn)
+    encode(insn, Profile::One)
 }
 
 /// The words of code, the lowest byte of each first. Fails only for want of memory.
 #[tactic(auto, using(pcc_asm::proofs::Written::all_written))]
 pub fn bytes_of(alloc: Global, code: &[Insn]) -> Result<Vec<u8>, AllocError>
-    requires { AreInsns code.now }
+    requires { AreOneInsns code.now }
     ensures { IfOk result (λ v. v.items ≡ code_bytes code.now) }
 {
     let mut bytes = Vec::new(alloc);

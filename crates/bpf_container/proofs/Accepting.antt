@@ -9,10 +9,9 @@ use Rattle.formula_terms.specs.Encoding.{form_encoding}
 use Rattle.policy_set.specs.declared.kind.PolicyKind.TheVariants.{Filter}
 use Rattle.term_table.specs.Tree.{Tree}
 use Rattle.term_table.specs.Measures.{height_of}
-use Rattle.lf_signature.specs.Sigma1.{declared}
+use Rattle.lf_signature.specs.Constants.{declared}
 use Rattle.lf_signature.specs.Terms.{pf}
 use Rattle.lf_signature.specs.Typing.{Checks}
-use Rattle.lf_rules.proofs.Typed.{is_term}
 use Rattle.packet_store.specs.Results.{packet_result}
 use Rattle.proof_container.specs.Contents.{Contents}
 use Rattle.proof_container.specs.Encoding.{encoding_of}
@@ -36,29 +35,42 @@ use Rattle.bpf_words.specs.declared.insn.Bpf.{Bpf}
 use Rattle.bpf_words.specs.Programs.{IsProgram}
 use Rattle.bpf_code.specs.Blocks.{bpf_code}
 use Rattle.bpf_filter.proofs.FilterStarts.{outcome}
-use Rattle.bpf_filter.proofs.Shapes.{code-is}
+use Rattle.bpf_filter.proofs.Shapes.{code-is, code-first}
 use Rattle.bpf_vc.specs.Invariants.{bpf_invariants}
 use Rattle.bpf_vc.specs.Condition.{annotated_bpf, bpf_flags, bpf_parts, HasClassProof}
 use Rattle.bpf_vc.proofs.Whole.{program-annotated, program-condition, program-proved}
 use Rattle.bpf_container.specs.Contents.{AreCodeBytes, invariant_terms, bpf_contents}
 use Rattle.bpf_container.specs.Compiled.{GivesValues, IsCompiled}
 use Rattle.condition_prover.proofs.Heights.{form-low}
-use Rattle.bounds_prover.proofs.SmallTerms.{checks-small}
+use Rattle.bounds_prover.proofs.SmallTerms.{checks-small, checks-entry}
 use Rattle.bpf_container.proofs.Known.{AreInvariants, inv_encodings, all-invariants, are-forms, formulas-again}
 use Rattle.bpf_container.proofs.Passing.{IsFit, contents-pass}
 use Rattle.bpf_container.proofs.Made.{IsClassProof, class-proof, entries-few, container-made}
+use Rattle.lf_signature.specs.declared.WordSignature.TheVariants.{Sigma1}
+use Rattle.formula_tree.specs.Operators.{Uses}
+use Rattle.std.proofs.lemmas.List.Elements.{All-nil, All-cons}
+use Rattle.policy_set.proofs.Closed.{pre-first, post-first}
+use Rattle.vcgen.proofs.Used.{first-operators, condition-uses}
+use Rattle.word_ops.specs.Operators.{IsFirstOp}
+use Rattle.word_ops.specs.declared.Profile.TheVariants.{One}
 
 -- what the class gives a closed condition is a proof
 abbrev pub IsSoundClass : Type 0
 IsSoundClass =
-    (parts : List Form) (p : Tree) → IsOver 0 (conjoined parts) [] → form_height (conjoined parts) ≤ 2 ^ 29
-    → condition_proof by_all_means parts ≡ Some p → Checks declared [] p (pf (form_encoding (conjoined parts)))
+    (parts : List Form) (p : Tree) → IsOver 0 (conjoined parts) [] → Uses IsFirstOp (conjoined parts)
+    → form_height (conjoined parts) ≤ 2 ^ 29 → condition_proof by_all_means parts ≡ Some p → Checks (declared Sigma1) [] p (pf (form_encoding (conjoined parts)))
 
 -- ---- the condition
 
 encode-invariants : (invs : List (ℕ × Form)) → AreInvariants invs → AreEncodings (inv_encodings invs) invs
 encode-invariants [] h = tt
 encode-invariants (q ∷ invs) h = (refl, h.0.over, encode-invariants invs h.1)
+
+invariants-first : (invs : List (ℕ × Form)) → AreInvariants invs
+    → All (λ (q : ℕ × Form). Uses IsFirstOp q.1) invs
+invariants-first [] h = All-nil (λ (q : ℕ × Form). Uses IsFirstOp q.1)
+invariants-first (q ∷ invs) h =
+    All-cons (λ (q : ℕ × Form). Uses IsFirstOp q.1) q invs h.0.first (invariants-first invs h.1)
 
 invariants-over : (program : List Bpf) → All (λ (q : ℕ × Form). IsOver 31 q.1 []) (bpf_invariants program)
 invariants-over program =
@@ -67,6 +79,13 @@ invariants-over program =
 parts-closed : (program : List Bpf) → IsProgram program → IsOver 0 (conjoined (bpf_parts program)) []
 parts-closed program is = subst (λ F. IsOver 0 F []) (sym (program-condition program))
     (condition-closed (annotated_bpf program) (program-annotated program is) refl (invariants-over program))
+
+parts-used : (program : List Bpf) → IsProgram program
+    → Uses IsFirstOp (conjoined (bpf_parts program))
+parts-used program is = subst (λ F. Uses IsFirstOp F) (sym (program-condition program))
+    (condition-uses IsFirstOp refl refl (annotated_bpf program)
+    (first-operators (bpf_code program) (code-first program is)) refl (pre-first Filter)
+    (post-first Filter) (invariants-first (bpf_invariants program) (all-invariants program)))
 
 parts-low : (program : List Bpf) → IsProgram program → form_height (conjoined (bpf_parts program)) ≤ 2 ^ 29
 parts-low program is =
@@ -84,15 +103,17 @@ one-low p low (suc k) d lt = absurd (omega (arith, lt))
 
 module _ (sound : IsSoundClass) (program : List Bpf) (code : List ℕ) (is : IsProgram program) (holds : AreCodeBytes program code)
     (p : Tree) (given : condition_proof by_all_means (bpf_parts program) ≡ Some p) where
-  proof-checks : Checks declared [] p (pf (form_encoding (conjoined (bpf_parts program))))
-  proof-checks = sound (bpf_parts program) p (parts-closed program is) (parts-low program is) given
+  proof-checks : Checks (declared Sigma1) [] p (pf (form_encoding (conjoined (bpf_parts program))))
+  proof-checks =
+      sound (bpf_parts program) p (parts-closed program is) (parts-used program is)
+      (parts-low program is) given
 
   proof-fits : IsFit program code (Some p)
   proof-fits =
       let easy : IsClassProof program p = class-proof program p is given in
       let low = easy.low in
       record {
-        terms = (is_term proof-checks, checks-small proof-checks (omega (arith, low)), tt);
+        terms = (checks-entry proof-checks, checks-small proof-checks (omega (arith, low)), tt);
         low = one-low p easy.low;
         few = entries-few program code is holds p given;
       }
@@ -118,7 +139,7 @@ module _ (sound : IsSoundClass) (program : List Bpf) (code : List ℕ) (is : IsP
         given = refl;
         weight = easy.light;
         condition = vc_of-encodes Filter (bpf_code program) (invariant_terms program) (are-forms (bpf_invariants program) (all-invariants program));
-        proved = subst (λ F. Checks declared [] p (pf (form_encoding F))) parts-are-condition proof-checks;
+        proved = subst (λ F. Checks (declared Sigma1) [] p (pf (form_encoding F))) parts-are-condition proof-checks;
       }
 
   pub made-accepted : IsAccepted Filter made
@@ -153,4 +174,4 @@ pub plain-compiles : IsSoundClass → (program : List Bpf) → IsProgram program
     × IsCompiled program out
 plain-compiles sound program is =
     let words : List ℕ = code_bytes (bpf_code program) in
-    container-compiles sound program words is (record { bytes = words-bytes (bpf_code program); encode = words-encode (bpf_code program) (code-is program is) })
+    container-compiles sound program words is (record { bytes = words-bytes (bpf_code program); encode = words-encode One (bpf_code program) (code-is program is) (code-first program is) })

@@ -8,10 +8,10 @@ use Rattle.formula_tree.specs.Scope.{IsOver}
 use Rattle.formula_tree.specs.Sizes.{binders}
 use Rattle.policy_set.specs.declared.kind.PolicyKind.TheVariants.{Filter}
 use Rattle.policy_set.specs.Policies.{filter_pre, filter_post}
-use Rattle.policy_set.proofs.Closed.{pre-over, post-over}
+use Rattle.policy_set.proofs.Closed.{pre-over, post-over, pre-first, post-first}
 use Rattle.term_table.specs.Tree.{Tree}
 use Rattle.term_table.specs.Measures.{height_of}
-use Rattle.lf_signature.specs.Sigma1.{declared}
+use Rattle.lf_signature.specs.Constants.{declared}
 use Rattle.lf_signature.specs.Terms.{form}
 use Rattle.lf_signature.specs.Typing.{Checks}
 use Rattle.lf_encode.specs.Contexts.{bound_sorts, machine_context, machine_names, sort_types, IsFormIn, EncodesForm, encoding_in}
@@ -20,7 +20,6 @@ use Rattle.lf_encode.specs.Reading.{form_of}
 use Rattle.lf_encode.proofs.Decoded.{form_of-encoding}
 use Rattle.lf_encode.proofs.MachineContext.{bound_sorts-machine, registers_in-machine}
 use Rattle.lf_encode.proofs.Named.{form_typed}
-use Rattle.lf_rules.proofs.Typed.{is_term}
 use Rattle.proof_container.specs.Encoding.{AreTerms}
 use Rattle.vcgen.specs.Encoded.{AreForms}
 use Rattle.pcc_gate.specs.First.{formula_of, formulas}
@@ -30,7 +29,13 @@ use Rattle.bpf_words.specs.declared.insn.BpfOp.TheVariants as ops
 use Rattle.bpf_words.specs.Programs.{bpf_op}
 use Rattle.bpf_vc.specs.Invariants.{packet_invariant, end_invariant, invariants_of, invariants_from, bpf_invariants}
 use Rattle.bpf_vc.proofs.Placed.{all-append}
-use Rattle.bounds_prover.proofs.SmallTerms.{checks-small}
+use Rattle.bounds_prover.proofs.SmallTerms.{checks-small, checks-entry}
+use Rattle.lf_signature.specs.declared.WordSignature.TheVariants.{Sigma1}
+use Rattle.lf_signature.specs.Known.{HasOp}
+use Rattle.lf_signature.specs.Laws.Within.{declared_known, first-declared}
+use Rattle.formula_tree.specs.Operators.{Uses}
+use Rattle.formula_tree.proofs.Used.{uses-more}
+use Rattle.word_ops.specs.Operators.{IsFirstOp}
 
 -- ---- one of two
 
@@ -82,10 +87,12 @@ context-few = refl
 machine-few : length (sort_types machine_context) ≤ 100
 machine-few = leb-true (length (sort_types machine_context)) 100 context-few
 
--- the term encodes the formula, has type form, and isn't high
+-- the term encodes the formula, whose operators are the first profile's, has type form, and isn't
+-- high
 pub record IsInvariant (F : Form) : Type 0 where
   pub over : EncodesForm machine_context F (term_of F)
-  pub checks : Checks declared (sort_types machine_context) (term_of F) form
+  pub first : Uses IsFirstOp F
+  pub checks : Checks (declared Sigma1) (sort_types machine_context) (term_of F) form
   pub low : height_of (term_of F) ≤ 100
 
 packet-room : nat_le (length machine_context + binders packet_invariant + 2) (2 ^ 32) ≡ true
@@ -104,10 +111,25 @@ last-low : nat_le (height_of (term_of filter_post)) 100 ≡ true
 unfolding machine_context machine_names
 last-low = refl
 
+packet-first : Uses IsFirstOp packet_invariant
+packet-first = let pre : Uses IsFirstOp filter_pre = pre-first Filter in (pre.0, pre.1.0)
+
+last-first : Uses IsFirstOp filter_post
+last-first = post-first Filter
+
+-- with the first profile's operators a formula is a term over the first signature
+typed : (F : Form) → IsFormIn machine_context 31 F → Uses IsFirstOp F
+    → length machine_context + binders F + 2 ≤ 2 ^ 32
+    → Checks (declared Sigma1) (sort_types machine_context) (term_of F) form
+typed F over first room =
+    form_typed (declared Sigma1) (declared_known Sigma1) machine_context 31 F over
+    (uses-more IsFirstOp (HasOp (declared Sigma1)) first-declared F first) room
+
 packet-is : IsInvariant packet_invariant
 packet-is = record {
   over = packet-over;
-  checks = form_typed machine_context 31 packet_invariant packet-over.over
+  first = packet-first;
+  checks = typed packet_invariant packet-over.over packet-first
       (leb-true (length machine_context + binders packet_invariant + 2) (2 ^ 32) packet-room);
   low = leb-true (height_of (term_of packet_invariant)) 100 packet-low;
 }
@@ -115,7 +137,8 @@ packet-is = record {
 last-is : IsInvariant filter_post
 last-is = record {
   over = last-over;
-  checks = form_typed machine_context 31 filter_post last-over.over
+  first = last-first;
+  checks = typed filter_post last-over.over last-first
       (leb-true (length machine_context + binders filter_post + 2) (2 ^ 32) last-room);
   low = leb-true (height_of (term_of filter_post)) 100 last-low;
 }
@@ -161,4 +184,4 @@ are-terms [] h = tt
 are-terms (q ∷ invs) h =
     let low = h.0.low in
     let few = machine-few in
-    (is_term h.0.checks, checks-small h.0.checks (omega (arith, low, few)), are-terms invs h.1)
+    (checks-entry h.0.checks, checks-small h.0.checks (omega (arith, low, few)), are-terms invs h.1)

@@ -37,6 +37,7 @@ use Rattle.bpf_container.specs.Contents.{AreCodeBytes, invariant_terms, bpf_cont
 use Rattle.bpf_container.proofs.Known.{all-invariants, formulas-again, terms_of}
 use Rattle.bpf_container.proofs.Sizes.{held_terms, held-parts, held-few, terms-listed, bytes-few}
 use Rattle.bpf_container.proofs.Passing.{invs-long, code-long, plain-passes}
+use Rattle.word_ops.specs.declared.Profile.TheVariants.{One}
 
 -- ---- measures
 
@@ -87,7 +88,7 @@ module _ (program : List Bpf) (code : List ℕ) (is : IsProgram program) (holds 
       let none : front_refusal Filter bytes ≡ None =
       passed-none Filter bytes (record { contents = c; code = bpf_code program; marks = bpf_flags program; passes = passes }) in
       (λ i. made_unless (none i) (proved_read Filter (container_again bytes c passes.container i)))
-      ∙ ap (proved_code Filter c) (sym (decoded_code-ok code (bpf_code program) holds.encode (code-is program is)))
+      ∙ ap (proved_code Filter c) (sym (decoded_code-ok One code (bpf_code program) holds.encode (code-is program is)))
       ∙ ap (proved_contents c) parts-are
 
   module _ (p : Tree) (given : condition_proof by_all_means (bpf_parts program) ≡ Some p) where

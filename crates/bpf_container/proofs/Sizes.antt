@@ -6,7 +6,7 @@ use Rattle.std.proofs.lemmas.Bool.{leb-true}
 use Rattle.std.proofs.lemmas.List.Sums.{sum_by-cons}
 use Rattle.formula_tree.specs.Formulas.{Form}
 use Rattle.policy_set.specs.Policies.{filter_post}
-use Rattle.term_table.specs.Tree.{Tree, Var, Con, App, Lam, Fam, TApp, Pi, Num, Lit, Calc, Fact, Deny}
+use Rattle.term_table.specs.Tree.{Tree, Var, Con, App, Lam, Fam, TApp, Pi, Num, Lit, Calc, Fact, Deny, Lemma}
 use Rattle.lf_encode.specs.Contexts.{machine_context, machine_names}
 use Rattle.proof_container.specs.Contents.{Contents, roots}
 use Rattle.proof_container.specs.Decoding.{entry_size}
@@ -72,6 +72,7 @@ fields-few (Con (Lit w)) = omega arith
 fields-few (Con (Calc o a b)) = omega arith
 fields-few (Con (Fact p a b)) = omega arith
 fields-few (Con (Deny p a b)) = omega arith
+fields-few (Con (Lemma n)) = omega arith
 fields-few (App f a) = omega arith
 fields-few (Lam b) = omega arith
 fields-few (Fam a) = omega arith

@@ -10,11 +10,12 @@ use Rattle.proof_container.specs.Contents.{Contents}
 use Rattle.bpf_words.specs.declared.insn.Bpf.{Bpf}
 use Rattle.bpf_code.specs.Blocks.{bpf_code}
 use Rattle.bpf_vc.specs.Invariants.{bpf_invariants}
+use Rattle.word_ops.specs.declared.Profile.TheVariants.{One}
 
 -- bytes that encode the code of the program
 pub record AreCodeBytes (program : List Bpf) (code : List ℕ) : Type 0 where
   pub bytes : IsBytes code
-  pub encode : EncodesCode code (bpf_code program)
+  pub encode : EncodesCode One code (bpf_code program)
 
 -- the invariants of the program's code, each as the term that encodes it over m and r0 to r30
 abbrev pub invariant_terms : List Bpf → List (ℕ × Tree)

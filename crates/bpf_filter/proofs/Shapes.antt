@@ -8,11 +8,11 @@ use Rattle.alpha_words.specs.declared.insn.Rhs.{Rhs}
 use Rattle.alpha_words.specs.declared.insn.Rhs.TheVariants.{Reg, Lit}
 use Rattle.alpha_words.specs.declared.insn.Cond.TheVariants.{NotZero}
 use Rattle.alpha_words.specs.declared.insn.Insn.{Insn}
-use Rattle.alpha_words.specs.declared.insn.Insn.TheVariants.{Lda, Ldq, Stq, Oper, Branch, Br, Ret}
+use Rattle.alpha_words.specs.declared.insn.Insn.TheVariants.{Ldq, Oper, Branch, Br, Ret}
 use Rattle.alpha_words.specs.Opcodes.{cond_opcode_of}
-use Rattle.alpha_words.specs.Encoding.{IsWritableRegister, IsRhs, HasBits, memory_word, branch_word, operate_word}
+use Rattle.alpha_words.specs.Encoding.{IsWritableRegister, IsRhs, HasBits, memory_word, branch_word, operate_word, Encodes}
 use Rattle.alpha_words.specs.Lawful.{target_of}
-use Rattle.alpha_cfg.specs.Flow.{landing, next_of, jump_of, InsideOf, IsFinal, IsInsn, IsCode}
+use Rattle.alpha_cfg.specs.Flow.{landing, next_of, jump_of, InsideOf, IsFinal, AreOfProfile, IsCode}
 use Rattle.alpha_cfg.specs.CodeBytes.{EncodesCode}
 use Rattle.alpha_cfg.specs.CodeDecoding.{decoded_code}
 use Rattle.alpha_cfg.proofs.Readings.{decoded_code-ok}
@@ -29,12 +29,18 @@ use Rattle.bpf_code.proofs.Straight.{onward, onward-is}
 use Rattle.bpf_code.proofs.Places.{length-block_of}
 use Rattle.bpf_code.proofs.Simulation.{IsGoing, LeadsInside, leads, fits-good, straight_code-short, end_code-going}
 use Rattle.bpf_code.proofs.Starting.{length-bpf_code}
+use Rattle.word_ops.specs.declared.Profile.TheVariants.{One}
+use Rattle.word_ops.specs.Operators.{has_op}
 
 -- ---- words that don't branch
 
--- some word encodes the instruction, and it doesn't branch
+-- some word encodes the instruction, which the first profile has
+abbrev IsOne : Insn → Type 0
+IsOne x = (word : ℕ) × Encodes One word x
+
+-- it is so, and doesn't branch
 record IsPlain (x : Insn) : Type 0 where
-  insn : IsInsn x
+  insn : IsOne x
   stays : (i : ℕ) → target_of i x ≡ None
 
 -- each of them is so
@@ -46,18 +52,18 @@ plain-append : (l k : List Insn) → ArePlain l → ArePlain k → ArePlain (l +
 plain-append [] k h g = g
 plain-append (x ∷ l) k h g = (h.0, plain-append l k h.1 g)
 
-plain-oper : (op : Op) (ra : ℕ) (rhs : Rhs) (rc : ℕ) → ra < 32 → IsRhs rhs → IsWritableRegister rc → IsPlain (Oper op ra rhs rc)
-plain-oper op ra rhs rc from operand to = record { insn = (operate_word op ra rhs rc, (from, operand, to, refl)); stays = λ i. refl }
+plain-oper : (op : Op) → has_op One op ≡ true → (ra : ℕ) (rhs : Rhs) (rc : ℕ) → ra < 32 → IsRhs rhs → IsWritableRegister rc → IsPlain (Oper op ra rhs rc)
+plain-oper op has ra rhs rc from operand to = record { insn = (operate_word op ra rhs rc, (has, (from, operand, to, refl))); stays = λ i. refl }
 
-by_literal : (op : Op) (ra n rc : ℕ) → ra < 32 → n < 256 → IsWritableRegister rc → IsPlain (Oper op ra (Lit n) rc)
-by_literal op ra n rc from small to = plain-oper op ra (Lit n) rc from small to
+by_literal : (op : Op) → has_op One op ≡ true → (ra n rc : ℕ) → ra < 32 → n < 256 → IsWritableRegister rc → IsPlain (Oper op ra (Lit n) rc)
+by_literal op has ra n rc from small to = plain-oper op has ra (Lit n) rc from small to
 
-by_register : (op : Op) (ra rb rc : ℕ) → ra < 32 → rb < 32 → IsWritableRegister rc → IsPlain (Oper op ra (Reg rb) rc)
-by_register op ra rb rc from other to = plain-oper op ra (Reg rb) rc from other to
+by_register : (op : Op) → has_op One op ≡ true → (ra rb rc : ℕ) → ra < 32 → rb < 32 → IsWritableRegister rc → IsPlain (Oper op ra (Reg rb) rc)
+by_register op has ra rb rc from other to = plain-oper op has ra (Reg rb) rc from other to
 
 load_quad : (ra quad : ℕ) → ra < 31 → IsWritableRegister ra → quad < 8 → IsPlain (Ldq ra 16 (pos (8 * quad)))
 load_quad ra quad low to inside = record {
-  insn = (memory_word 0x29 ra 16 (pos (8 * quad)), (to, low, omega arith, omega (arith, inside), refl));
+  insn = (memory_word 0x29 ra 16 (pos (8 * quad)), (refl, (to, low, omega arith, omega (arith, inside), refl)));
   stays = λ i. refl;
 }
 
@@ -79,17 +85,17 @@ writable-6 = (omega arith, refl)
 
 plain-constant : (r k : ℕ) → IsWritableRegister r → k < 2 ^ 32 → ArePlain (constant_code r k)
 plain-constant r k w small =
-    let shift : IsPlain (Oper Sll r (Lit 8) r) = by_literal Sll r 8 r w.0 (omega arith) w in (
-      by_literal Add 31 (k / 16777216) r (omega arith) (omega (arith, small)) w,
+    let shift : IsPlain (Oper Sll r (Lit 8) r) = by_literal Sll refl r 8 r w.0 (omega arith) w in (
+      by_literal Add refl 31 (k / 16777216) r (omega arith) (omega (arith, small)) w,
       (
         shift,
         (
-          by_literal Add r (k / 65536 % 256) r w.0 (omega arith) w,
+          by_literal Add refl r (k / 65536 % 256) r w.0 (omega arith) w,
           (
             shift,
             (
-              by_literal Add r (k / 256 % 256) r w.0 (omega arith) w,
-              (shift, (by_literal Add r (k % 256) r w.0 (omega arith) w, tt)),
+              by_literal Add refl r (k / 256 % 256) r w.0 (omega arith) w,
+              (shift, (by_literal Add refl r (k % 256) r w.0 (omega arith) w, tt)),
             ),
           ),
         ),
@@ -97,17 +103,17 @@ plain-constant r k w small =
     )
 
 plain-shift_in : (n : ℕ) → IsPlain (shift_in n 1)
-plain-shift_in zero = by_literal Add 31 0 1 (omega arith) (omega arith) writable-1
-plain-shift_in (suc n) = by_literal Sll 1 8 1 (omega arith) (omega arith) writable-1
+plain-shift_in zero = by_literal Add refl 31 0 1 (omega arith) (omega arith) writable-1
+plain-shift_in (suc n) = by_literal Sll refl 1 8 1 (omega arith) (omega arith) writable-1
 
 plain-byte : (n q at : ℕ) → q < 32 → at < 8 → ArePlain (byte_code n q at)
 plain-byte n q at low inside = (
   plain-shift_in n,
   (
-    by_literal Srl q (8 * at) 4 low (omega (arith, inside)) writable-4,
+    by_literal Srl refl q (8 * at) 4 low (omega (arith, inside)) writable-4,
     (
-      by_literal Band 4 255 4 (omega arith) (omega arith) writable-4,
-      (by_register Add 1 4 1 (omega arith) (omega arith) writable-1, tt),
+      by_literal Band refl 4 255 4 (omega arith) (omega arith) writable-4,
+      (by_register Add refl 1 4 1 (omega arith) (omega arith) writable-1, tt),
     ),
   ),
 )
@@ -127,10 +133,10 @@ plain-load k n inside = (
 )
 
 plain-test : (t : BpfTest) → IsPlain (test_code t)
-plain-test tests.Jeq = by_register Cmpeq 1 5 6 (omega arith) (omega arith) writable-6
-plain-test tests.Jgt = by_register Cmpult 5 1 6 (omega arith) (omega arith) writable-6
-plain-test tests.Jge = by_register Cmpule 5 1 6 (omega arith) (omega arith) writable-6
-plain-test tests.Jset = by_register Band 1 5 6 (omega arith) (omega arith) writable-6
+plain-test tests.Jeq = by_register Cmpeq refl 1 5 6 (omega arith) (omega arith) writable-6
+plain-test tests.Jgt = by_register Cmpult refl 5 1 6 (omega arith) (omega arith) writable-6
+plain-test tests.Jge = by_register Cmpule refl 5 1 6 (omega arith) (omega arith) writable-6
+plain-test tests.Jset = by_register Band refl 1 5 6 (omega arith) (omega arith) writable-6
 
 nonzero_flag-small : (k : ℕ) → nonzero_flag k < 256
 nonzero_flag-small k = elim (eqb k 0) as (λ b. cond b 0 1 < 256) [ true ↦ omega arith | false ↦ omega arith ]
@@ -145,16 +151,16 @@ plain-straight ops.Ldh k keeps small = plain-load k 1 keeps
 plain-straight ops.Ldb k keeps small = plain-load k 0 keeps
 plain-straight ops.LdImm k keeps small = plain-constant 1 k writable-1 small
 plain-straight ops.Add k keeps small = plain-behind k (Oper Add 1 (Reg 5) 1 ∷ Oper Sll 1 (Lit 32) 1 ∷ Oper Srl 1 (Lit 32) 1 ∷ []) small (
-  by_register Add 1 5 1 (omega arith) (omega arith) writable-1,
-  (by_literal Sll 1 32 1 (omega arith) (omega arith) writable-1, (by_literal Srl 1 32 1 (omega arith) (omega arith) writable-1, tt)),
+  by_register Add refl 1 5 1 (omega arith) (omega arith) writable-1,
+  (by_literal Sll refl 1 32 1 (omega arith) (omega arith) writable-1, (by_literal Srl refl 1 32 1 (omega arith) (omega arith) writable-1, tt)),
 )
-plain-straight ops.Or k keeps small = plain-behind k (Oper Bis 1 (Reg 5) 1 ∷ []) small (by_register Bis 1 5 1 (omega arith) (omega arith) writable-1, tt)
-plain-straight ops.And k keeps small = plain-behind k (Oper Band 1 (Reg 5) 1 ∷ []) small (by_register Band 1 5 1 (omega arith) (omega arith) writable-1, tt)
-plain-straight ops.Rsh k keeps small = let most : k ≤ 31 = keeps in (by_literal Srl 1 k 1 (omega arith) (omega (arith, most)) writable-1, tt)
-plain-straight ops.Ja k keeps small = (by_literal Add 31 0 6 (omega arith) (omega arith) writable-6, tt)
+plain-straight ops.Or k keeps small = plain-behind k (Oper Bis 1 (Reg 5) 1 ∷ []) small (by_register Bis refl 1 5 1 (omega arith) (omega arith) writable-1, tt)
+plain-straight ops.And k keeps small = plain-behind k (Oper Band 1 (Reg 5) 1 ∷ []) small (by_register Band refl 1 5 1 (omega arith) (omega arith) writable-1, tt)
+plain-straight ops.Rsh k keeps small = let most : k ≤ 31 = keeps in (by_literal Srl refl 1 k 1 (omega arith) (omega (arith, most)) writable-1, tt)
+plain-straight ops.Ja k keeps small = (by_literal Add refl 31 0 6 (omega arith) (omega arith) writable-6, tt)
 plain-straight (ops.Jump t) k keeps small = plain-behind k (test_code t ∷ []) small (plain-test t, tt)
-plain-straight ops.Ret k keeps small = (by_literal Add 31 (nonzero_flag k) 0 (omega arith) (nonzero_flag-small k) writable-0, tt)
-plain-straight ops.RetA k keeps small = (by_register Cmpult 31 1 0 (omega arith) (omega arith) writable-0, tt)
+plain-straight ops.Ret k keeps small = (by_literal Add refl 31 (nonzero_flag k) 0 (omega arith) (nonzero_flag-small k) writable-0, tt)
+plain-straight ops.RetA k keeps small = (by_register Cmpult refl 31 1 0 (omega arith) (omega arith) writable-0, tt)
 
 -- ---- words at their places
 
@@ -162,9 +168,9 @@ plain-straight ops.RetA k keeps small = (by_register Cmpult 31 1 0 (omega arith)
 abbrev pub IsBlockStart : ℕ → ℕ → Type 0
 IsBlockStart n j = (block : ℕ) × (20 * block < n) × (j ≡ 20 * block)
 
--- The instruction at index i of n: some word encodes it, its branch leads forward, to a block that is inside, and if it is the last, it doesn't go on.
+-- The instruction at index i of n: some word encodes it, the first profile has it, its branch leads forward, to a block that is inside, and if it is the last, it doesn't go on.
 pub record IsFit (n i : ℕ) (x : Insn) : Type 0 where
-  pub insn : IsInsn x
+  pub insn : IsOne x
   pub inside : InsideOf n (target_of i x)
   pub forward : (j : ℕ) → jump_of i x ≡ Some j → i < j
   pub lands : (j : ℕ) → jump_of i x ≡ Some j → IsBlockStart n j
@@ -190,7 +196,7 @@ fit-plains n i (x ∷ l) h within = (fit-plain n i x h.0 (omega (arith, within))
 
 fit-ret : (n i : ℕ) → IsFit n i Ret
 fit-ret n i = record {
-  insn = (0x6BFA8001, (1, omega arith, refl));
+  insn = (0x6BFA8001, (refl, (1, omega arith, refl)));
   inside = tt;
   forward = λ j e. absurd (none-some j e);
   lands = λ j e. absurd (none-some j e);
@@ -198,7 +204,7 @@ fit-ret n i = record {
 }
 
 -- a branch to a block further on
-fit-branch : (n at i : ℕ) (x : Insn) → IsInsn x → target_of at x ≡ Some (pos (20 * i)) → at < 20 * i → 20 * i < n → (at + 1 ≡ n → IsFinal x) → IsFit n at x
+fit-branch : (n at i : ℕ) (x : Insn) → IsOne x → target_of at x ≡ Some (pos (20 * i)) → at < 20 * i → 20 * i < n → (at + 1 ≡ n → IsFinal x) → IsFit n at x
 fit-branch n at i x insn target ahead below final =
     let there : (j : ℕ) → jump_of at x ≡ Some j → 20 * i ≡ j = λ j e. same_Some (20 * i) j (sym (ap landing target) ∙ e) in
     record {
@@ -216,10 +222,10 @@ fit-pair n at i j taken passed far near small =
     let one : at + 1 + (20 * i - (at + 1)) ≡ 20 * i = omega (arith, taken) in
     let two : at + 1 + 1 + (20 * j - (at + 1 + 1)) ≡ 20 * j = omega (arith, passed) in (
       fit-branch n at i (Branch NotZero 6 (block_distance at i))
-          (branch_word (cond_opcode_of NotZero) 6 (block_distance at i), (omega arith, first, refl))
+          (branch_word (cond_opcode_of NotZero) 6 (block_distance at i), (refl, (omega arith, first, refl)))
           (ap (λ k. Some (pos k)) one) (omega (arith, taken)) far (λ e. absurd (omega (arith, taken, far, e))),
       (
-        fit-branch n (at + 1) j (Br (block_distance (at + 1) j)) (branch_word 0x30 31 (block_distance (at + 1) j), (second, refl))
+        fit-branch n (at + 1) j (Br (block_distance (at + 1) j)) (branch_word 0x30 31 (block_distance (at + 1) j), (refl, (second, refl)))
             (ap (λ k. Some (pos k)) two) (omega (arith, passed)) near (λ e. refl),
         tt,
       ),
@@ -319,14 +325,17 @@ module _ (program : List Bpf) (is : IsProgram program) where
       record {
         nonempty = omega (arith, count, some);
         short = omega (arith, count, few);
-        encoded = λ i x e. (fit i x e).insn;
+        encoded = λ i x e. let one = (fit i x e).insn in (one.0, one.1.1);
         inside = λ i x e. subst (λ n. InsideOf n (target_of i x)) (sym count) (fit i x e).inside;
         ends = λ x e. (fit (length (bpf_code program) - 1) x e).final (omega (arith, count, some));
       }
 
+  pub code-first : AreOfProfile One (bpf_code program)
+  code-first i x e = (fit i x e).insn.1.0
+
 -- bytes that encode it are read as it
-pub read : (program : List Bpf) (bytes : List ℕ) → IsProgram program → EncodesCode bytes (bpf_code program) → decoded_code bytes ≡ Ok (bpf_code program)
-read program bytes is encodes = sym (decoded_code-ok bytes (bpf_code program) encodes (code-is program is))
+pub read : (program : List Bpf) (bytes : List ℕ) → IsProgram program → EncodesCode One bytes (bpf_code program) → decoded_code One bytes ≡ Ok (bpf_code program)
+read program bytes is encodes = sym (decoded_code-ok One bytes (bpf_code program) encodes (code-is program is))
 
 pub lands : (program : List Bpf) (i j : ℕ) (x : Insn) → IsProgram program → slice_get (bpf_code program) i ≡ Some x → jump_of i x ≡ Some j
     → (block : ℕ) × (block < length program) × (j ≡ 20 * block)
@@ -337,13 +346,9 @@ lands program i j x is at e =
 
 -- a word that may go on does so at the next index
 pub goes_next : (i : ℕ) (x : Insn) (j : ℕ) → next_of i x ≡ Some j → (j ≡ i + 1) × (IsFinal x → ⊥)
-goes_next i (Lda ra rb disp) j e = (sym (same_Some (i + 1) j e), λ none. cc)
-goes_next i (Ldq ra rb disp) j e = (sym (same_Some (i + 1) j e), λ none. cc)
-goes_next i (Stq ra rb disp) j e = (sym (same_Some (i + 1) j e), λ none. cc)
-goes_next i (Oper op ra rhs rc) j e = (sym (same_Some (i + 1) j e), λ none. cc)
-goes_next i (Branch c ra disp) j e = (sym (same_Some (i + 1) j e), λ none. cc)
 goes_next i (Br disp) j e = absurd (none-some j e)
 goes_next i Ret j e = absurd (none-some j e)
+goes_next i _ j e = (sym (same_Some (i + 1) j e), λ none. cc)
 
 pub ahead : (program : List Bpf) (i j : ℕ) → IsProgram program → StepsTo (bpf_code program) i j → i < j
 ahead program i j is step = elim step.2 [

@@ -5,7 +5,7 @@ ghost use Rattle.alpha_words.specs.declared.insn.Insn.{Insn};
 ghost use Rattle.alpha_cfg.specs.CodeBytes.{EncodesCode};
 ghost use Rattle.alpha_cfg.specs.CodeDecoding.{decoded_code};
 ghost use Rattle.alpha_cfg.specs.Cuts.{IsCut, StepsTo, unfolded_of};
-ghost use Rattle.alpha_cfg.specs.Flow.{IsCode, jump_of};
+ghost use Rattle.alpha_cfg.specs.Flow.{IsCode, jump_of, AreOfProfile};
 ghost use Rattle.alpha_cfg.specs.Graph.{IsMarked};
 ghost use Rattle.alpha_cfg.specs.declared.outcome.Kind.{Kind};
 ghost use Rattle.alpha_cfg.specs.declared.outcome.Outcome.TheVariants.{Blocked, Returned};
@@ -23,6 +23,7 @@ ghost use Rattle.bpf_words.specs.Values.{bpf_value};
 ghost use Rattle.bpf_code.specs.declared.blocks.TheConstants.{BLOCK};
 ghost use Rattle.bpf_code.specs.Blocks.{bpf_code, nonzero_flag};
 ghost use Rattle.bpf_code.specs.Simulation.{ReturnsValue, StartsOn};
+ghost use Rattle.word_ops.specs.declared.Profile.TheVariants.{One};
 
 /// The start of `filter` on a packet is a state from which the code of a program is run. So the
 /// code returns 0 where the program's value on the packet is 0, else 1, with 1,000 steps; and that
@@ -45,15 +46,18 @@ pub fn laws()
         → packet_result Filter code budget packet ≡ Short }
 {}
 
-/// The code of a program is code: at most 1,024 words, each of which some word encodes, branches
-/// inside, and an end that it can't run off; and bytes that encode it are read as it. Each branch
-/// leads to the first word of a block, and each step leads forward; so no cycle is left uncut,
-/// whichever indices are annotated. Where the first word of each block is annotated, the unfolded
-/// length is at most twenty for each flag.
+/// The code of a program is code of the first profile: at most 1,024 words, each of which some word
+/// encodes, branches inside, and an end that it can't run off; and bytes that encode it are read as
+/// it. Each branch leads to the first word of a block, and each step leads forward; so no cycle is
+/// left uncut, whichever indices are annotated. Where the first word of each block is annotated,
+/// the unfolded length is at most twenty for each flag.
 pub fn code_laws()
     ensures code { (program : List Bpf) → IsProgram program → IsCode (bpf_code program) }
+    ensures profile { (program : List Bpf) → IsProgram program
+        → AreOfProfile One (bpf_code program) }
     ensures read { (program : List Bpf) (bytes : List ℕ) → IsProgram program
-        → EncodesCode bytes (bpf_code program) → decoded_code bytes ≡ Ok (bpf_code program) }
+        → EncodesCode One bytes (bpf_code program)
+        → decoded_code One bytes ≡ Ok (bpf_code program) }
     ensures lands { (program : List Bpf) (i j : ℕ) (insn : Insn) → IsProgram program
         → slice_get (bpf_code program) i ≡ Some insn → jump_of i insn ≡ Some j
         → (block : ℕ) × (block < length program) × (j ≡ BLOCK * block) }

@@ -3,7 +3,7 @@ use Rattle.std.proofs.Common.{◌≡◌, ℕ, suc, ◌+◌, ◌*◌, ◌/◌, �
 use Rattle.std.specs.List.{AllByRecursion}
 use Rattle.std.proofs.lemmas.Option.{slice_get_within}
 use Rattle.alpha_words.specs.declared.insn.Insn.{Insn}
-use Rattle.alpha_words.specs.declared.insn.Insn.TheVariants.{Lda, Ldq, Stq, Oper, Branch, Br, Ret}
+use Rattle.alpha_words.specs.declared.insn.Insn.TheVariants.{Lda, Ldq, Oper, Branch, Br}
 use Rattle.alpha_words.specs.declared.insn.Cond.TheVariants.{NotZero}
 use Rattle.formula_tree.specs.Formulas.{EOp, ESel, MMem, Form, FRd, FAnd}
 use Rattle.formula_tree.specs.Substitution.{subst_form}
@@ -28,10 +28,7 @@ abbrev pub before : Insn → Form → Form
 before (Lda ra rb disp) F = subst_form F (for_reg ra (address_exp rb disp))
 before (Ldq ra rb disp) F = FAnd (FRd (address_exp rb disp)) (subst_form F (for_reg ra (ESel MMem (address_exp rb disp))))
 before (Oper op ra rhs rc) F = subst_form F (for_reg rc (EOp op (reg_exp ra) (rhs_exp rhs)))
-before (Stq ra rb disp) F = F
-before (Branch c ra disp) F = F
-before (Br disp) F = F
-before Ret F = F
+before _ F = F
 
 -- before words one behind the other
 abbrev pub before_all : List Insn → Form → Form
@@ -46,10 +43,7 @@ module _ (code : List Insn) (invs : List (ℕ × Form)) (unfolds : (i : ℕ) →
   linear-condition (Lda ra rb disp) i h = refl
   linear-condition (Ldq ra rb disp) i h = refl
   linear-condition (Oper op ra rhs rc) i h = refl
-  linear-condition (Stq ra rb disp) i h = absurd h
-  linear-condition (Branch c ra disp) i h = absurd h
-  linear-condition (Br disp) i h = absurd h
-  linear-condition Ret i h = absurd h
+  linear-condition _ i h = absurd h
 
   pub body-at : (i : ℕ) (x : Insn) → slice_get code i ≡ Some x → body (annotated Filter code invs) i ≡ insn_condition next filter_post i x
   body-at i x e = ap (condition_at None next filter_post i) e

@@ -4,7 +4,7 @@ use Rattle.std.specs.Prelude.{slice_index_or, ◌||◌}
 use Rattle.std.proofs.lemmas.Bool.{cases_Bool, ne_eqb, eqb-true}
 use Rattle.std.proofs.lemmas.Option.{same_Some, none-some, slice_get-get_or}
 use Rattle.alpha_words.specs.declared.insn.Insn.{Insn}
-use Rattle.alpha_words.specs.declared.insn.Insn.TheVariants.{Lda, Ldq, Stq, Oper, Branch, Br, Ret}
+use Rattle.alpha_words.specs.declared.insn.Insn.TheVariants.{Br, Ret}
 use Rattle.alpha_cfg.specs.declared.graph.Exits.{Exits}
 use Rattle.alpha_cfg.specs.Flow.{jump_of, next_of}
 use Rattle.alpha_cfg.specs.Graph.{IsMarked, share, no_exits, length_within, length_from}
@@ -26,13 +26,9 @@ use Rattle.bpf_vc.proofs.Annotating.{at-start, listed-at, flags-are}
 -- ---- code whose branches all lead to annotated words
 
 next-is : (i : ℕ) (x : Insn) (j : ℕ) → next_of i x ≡ Some j → j ≡ i + 1
-next-is i (Lda ra rb disp) j e = sym (same_Some (i + 1) j e)
-next-is i (Ldq ra rb disp) j e = sym (same_Some (i + 1) j e)
-next-is i (Stq ra rb disp) j e = sym (same_Some (i + 1) j e)
-next-is i (Oper op ra rhs rc) j e = sym (same_Some (i + 1) j e)
-next-is i (Branch c ra disp) j e = sym (same_Some (i + 1) j e)
 next-is i (Br disp) j e = absurd (none-some j e)
 next-is i Ret j e = absurd (none-some j e)
+next-is i _ j e = sym (same_Some (i + 1) j e)
 
 -- an unannotated word is reached from the word before it alone
 abbrev GoesOn : List Insn → List Bool → Type 0

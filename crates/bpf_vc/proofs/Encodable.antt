@@ -7,7 +7,7 @@ use Rattle.word_ops.specs.declared.Op.TheVariants.{Add, Band, Bis, Sll, Srl, Cmp
 use Rattle.alpha_words.specs.declared.insn.Rhs.TheVariants.{Reg, Lit}
 use Rattle.alpha_words.specs.declared.insn.Cond.TheVariants.{NotZero}
 use Rattle.alpha_words.specs.declared.insn.Insn.{Insn}
-use Rattle.alpha_words.specs.declared.insn.Insn.TheVariants.{Lda, Ldq, Stq, Oper, Branch, Br, Ret}
+use Rattle.alpha_words.specs.declared.insn.Insn.TheVariants.{Lda, Ldq, Oper, Branch, Br, Ret}
 use Rattle.alpha_words.specs.Encoding.{IsWritableRegister, memory_word, branch_word, operate_word}
 use Rattle.alpha_words.specs.Opcodes.{cond_opcode_of}
 use Rattle.alpha_cfg.specs.Flow.{IsInsn}
@@ -25,10 +25,7 @@ abbrev pub IsLinear : Insn → Type 0
 IsLinear (Lda ra rb disp) = Unit {0}
 IsLinear (Ldq ra rb disp) = Unit {0}
 IsLinear (Oper op ra rhs rc) = Unit {0}
-IsLinear (Stq ra rb disp) = ⊥
-IsLinear (Branch c ra disp) = ⊥
-IsLinear (Br disp) = ⊥
-IsLinear Ret = ⊥
+IsLinear _ = ⊥
 
 -- so it does, and has an encoding
 abbrev pub IsPlain : Insn → Type 0

@@ -2,7 +2,7 @@
 use Rattle.std.proofs.Common.{◌≡◌, ℕ, suc, ◌+◌, ◌-◌, ◌*◌, ◌<◌, ◌≤◌, ◌⊎◌, inl, inr, List, [], ◌∷◌, length, slice_get, Some, refl, sym, ap, ◌∙◌, subst, arith}
 use Rattle.std.proofs.lemmas.Option.{same_Some, none-some}
 use Rattle.alpha_words.specs.declared.insn.Insn.{Insn}
-use Rattle.alpha_words.specs.declared.insn.Insn.TheVariants.{Lda, Ldq, Stq, Oper, Branch, Br, Ret}
+use Rattle.alpha_words.specs.declared.insn.Insn.TheVariants.{Lda, Ldq, Oper, Branch, Br, Ret}
 use Rattle.alpha_words.specs.declared.insn.Cond.TheVariants.{NotZero}
 use Rattle.alpha_words.specs.Lawful.{target_of}
 use Rattle.alpha_cfg.specs.Flow.{jump_of, InsideOf, IsFinal, IsInsn, IsCode}
@@ -36,10 +36,7 @@ plain-word n i (Ldq ra rb disp) room h =
     record { insn = h.1; jump = λ j e. absurd (none-some j e); inside = tt; final = λ e. absurd (omega (arith, e, room)) }
 plain-word n i (Oper op ra rhs rc) room h =
     record { insn = h.1; jump = λ j e. absurd (none-some j e); inside = tt; final = λ e. absurd (omega (arith, e, room)) }
-plain-word n i (Stq ra rb disp) room h = absurd h.0
-plain-word n i (Branch c ra disp) room h = absurd h.0
-plain-word n i (Br disp) room h = absurd h.0
-plain-word n i Ret room h = absurd h.0
+plain-word n i _ room h = absurd h.0
 
 return-word : (n i : ℕ) → IsBlockWord n i Ret
 return-word n i = record { insn = return-insn; jump = λ j e. absurd (none-some j e); inside = tt; final = λ e. refl }

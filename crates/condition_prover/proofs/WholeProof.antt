@@ -1,14 +1,14 @@
 -- The condition is its parts, and what the class gives of them is a proof of it.
 use Rattle.std.proofs.Common.{◌≡◌, ℕ, ◌≤◌, ◌^◌, Bool, List, [], ◌∷◌, map, length, Some, refl, ◌∙◌, ap, subst}
 use Rattle.alpha_words.specs.declared.insn.Insn.{Insn}
-use Rattle.alpha_cfg.specs.Flow.{IsCode}
+use Rattle.alpha_cfg.specs.Flow.{IsCode, AreOfProfile}
 use Rattle.alpha_cfg.specs.Cuts.{AreFlags, IsCut}
 use Rattle.formula_tree.specs.Formulas.{Form, FAnd}
 use Rattle.formula_tree.specs.Scope.{IsOver}
 use Rattle.formula_tree.specs.Sizes.{form_height}
 use Rattle.policy_set.specs.declared.kind.PolicyKind.{PolicyKind}
 use Rattle.term_table.specs.Tree.{Tree}
-use Rattle.lf_signature.specs.Sigma1.{declared}
+use Rattle.lf_signature.specs.Constants.{declared}
 use Rattle.lf_signature.specs.Terms.{pf}
 use Rattle.lf_signature.specs.Typing.{Checks}
 use Rattle.formula_terms.specs.Encoding.{form_encoding}
@@ -17,7 +17,7 @@ use Rattle.vcgen.specs.Encoded.{annotated, AreForms, EncodesCondition}
 use Rattle.vcgen.proofs.Scopes.{condition-closed}
 use Rattle.vcgen.proofs.Encodings.{encoded-annotates}
 use Rattle.pcc_gate.specs.First.{formulas}
-use Rattle.pcc_gate.proofs.First.{formulas-encoded, condition-one}
+use Rattle.pcc_gate.proofs.First.{formulas-encoded, condition-one, formulas-first}
 use Rattle.pcc_gate.proofs.Safe.{formulas-over}
 use Rattle.prover_class.specs.Parts.{conjoined, condition_proof}
 use Rattle.prover_class.specs.Access.{by_all_means}
@@ -26,6 +26,12 @@ use Rattle.condition_prover.specs.declared.parts.ConditionProof.{ConditionProof}
 use Rattle.condition_prover.specs.declared.parts.ConditionProof.TheVariants.{Proved, NotEasy}
 use Rattle.condition_prover.specs.Conditions.{condition_parts, ProvesParts, IsPartsAnswer, IsProofOfParts}
 use Rattle.condition_prover.proofs.Heights.{parts-low}
+use Rattle.lf_signature.specs.declared.WordSignature.TheVariants.{Sigma1}
+use Rattle.formula_tree.specs.Operators.{Uses}
+use Rattle.policy_set.proofs.Closed.{pre-first, post-first}
+use Rattle.word_ops.specs.declared.Profile.TheVariants.{One}
+use Rattle.vcgen.proofs.Used.{first-operators, condition-uses}
+use Rattle.word_ops.specs.Operators.{IsFirstOp}
 
 -- ---- the condition is its parts
 
@@ -48,10 +54,11 @@ encodes-parts policy code invs vc forms e = condition-one policy code invs vc fo
 -- what the class gives a closed condition is a proof
 abbrev pub IsSoundClass : Type 0
 IsSoundClass =
-    (parts : List Form) (p : Tree) → IsOver 0 (conjoined parts) [] → form_height (conjoined parts) ≤ 2 ^ 29 → condition_proof by_all_means parts ≡ Some p → Checks declared [] p (pf (form_encoding (conjoined parts)))
+    (parts : List Form) (p : Tree) → IsOver 0 (conjoined parts) [] → Uses IsFirstOp (conjoined parts) → form_height (conjoined parts) ≤ 2 ^ 29 → condition_proof by_all_means parts ≡ Some p → Checks (declared Sigma1) [] p (pf (form_encoding (conjoined parts)))
 
 module _ (sound : IsSoundClass) (policy : PolicyKind) (code : List Insn) (invs : List (ℕ × Tree)) (marks : List Bool)
-    (forms : AreForms invs) (is : IsCode code) (flags : AreFlags (map (λ p. p.0) invs) (length code) marks) (cut : IsCut code marks) where
+    (forms : AreForms invs) (is : IsCode code) (flags : AreFlags (map (λ p. p.0) invs) (length code) marks) (cut : IsCut code marks)
+    (one : AreOfProfile One code) where
   parts-closed : IsOver 0 (conjoined (condition_parts policy code invs)) []
   parts-closed =
       let a = annotated policy code (formulas invs) in
@@ -59,10 +66,17 @@ module _ (sound : IsSoundClass) (policy : PolicyKind) (code : List Insn) (invs :
       let annotates = encoded-annotates policy code invs (formulas invs) marks encoded is flags cut in
       subst (λ F. IsOver 0 F []) (condition-parts policy code invs) (condition-closed a annotates refl (formulas-over invs (formulas invs) encoded))
 
+  parts-first : Uses IsFirstOp (conjoined (condition_parts policy code invs))
+  parts-first =
+      let a = annotated policy code (formulas invs) in
+      subst (λ F. Uses IsFirstOp F) (condition-parts policy code invs)
+      (condition-uses IsFirstOp refl refl a (first-operators code one) refl
+      (pre-first policy) (post-first policy) (formulas-first invs forms))
+
   pub proof-checks : (p : Tree) → condition_proof by_all_means (condition_parts policy code invs) ≡ Some p → ProvesParts (condition_parts policy code invs) p
   proof-checks p given low =
       let parts = condition_parts policy code invs in
-      sound parts p parts-closed (parts-low by_all_means parts p given low) given
+      sound parts p parts-closed parts-first (parts-low by_all_means parts p given low) given
 
   -- what is found is a proof
   pub found-proves : (t : TableView) (found : ConditionProof) → IsPartsAnswer t 0 (condition_parts policy code invs) found → IsProofOfParts t (condition_parts policy code invs) found

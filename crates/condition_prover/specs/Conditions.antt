@@ -4,7 +4,7 @@ use Rattle.alpha_words.specs.declared.insn.Insn.{Insn}
 use Rattle.term_table.specs.Tree.{Tree}
 use Rattle.term_table.specs.Table.{TableView, IsKnown, tree_at}
 use Rattle.term_table.specs.Measures.{height_of}
-use Rattle.lf_signature.specs.Sigma1.{declared}
+use Rattle.lf_signature.specs.Constants.{declared}
 use Rattle.lf_signature.specs.Terms.{pf}
 use Rattle.lf_signature.specs.Typing.{Checks}
 use Rattle.formula_tree.specs.Formulas.{Form}
@@ -18,6 +18,7 @@ use Rattle.prover_class.specs.Parts.{conjoined, condition_proof, first_not_easy}
 use Rattle.prover_class.specs.Access.{by_all_means}
 use Rattle.condition_prover.specs.declared.parts.ConditionProof.{ConditionProof}
 use Rattle.condition_prover.specs.declared.parts.ConditionProof.TheVariants.{Proved, NotEasy}
+use Rattle.lf_signature.specs.declared.WordSignature.TheVariants.{Sigma1}
 
 -- the parts of the verification condition: the entry's, then each invariant's
 unfoldable pub condition_parts : PolicyKind → List Insn → List (ℕ × Tree) → List Form
@@ -37,7 +38,8 @@ IsPartsAnswer t n l (NotEasy k) = first_not_easy by_all_means n l ≡ Some k
 
 -- the tree is a proof of the condition that has these parts, if it is no higher than a container's terms may be
 abbrev pub ProvesParts : List Form → Tree → Type 0
-ProvesParts l p = height_of p ≤ MAX_HEIGHT → Checks declared [] p (pf (form_encoding (conjoined l)))
+ProvesParts l p =
+    height_of p ≤ MAX_HEIGHT → Checks (declared Sigma1) [] p (pf (form_encoding (conjoined l)))
 
 -- so is the proof that is found, if one is
 abbrev pub IsProofOfParts : TableView → List Form → ConditionProof → Type 0

@@ -4,7 +4,7 @@
 //! makes are too; each id keeps its tree.
 
 ghost use Rattle.std.specs.Prelude.{◌≤◌, map, length, IfOk};
-ghost use Rattle.alpha_cfg.specs.Flow.{IsCode};
+ghost use Rattle.alpha_cfg.specs.Flow.{IsCode, AreOfProfile};
 ghost use Rattle.alpha_cfg.specs.Cuts.{AreFlags, IsCut, unfolded_of};
 ghost use Rattle.term_table.specs.Table.{Extends, id_trees};
 ghost use Rattle.lf_signature.specs.Nodes.{IsIdOf};
@@ -15,6 +15,7 @@ ghost use Rattle.vcgen.specs.declared.condition.TheConstants.{MAX_UNFOLDED};
 ghost use Rattle.prover_class.specs.Parts.{conjoined};
 ghost use Rattle.condition_prover.specs.Conditions.{condition_parts};
 ghost use Rattle.condition_prover.specs.Conditions.{IsKnownAnswer, IsPartsAnswer, IsProofOfParts};
+ghost use Rattle.word_ops.specs.declared.Profile.TheVariants.{One};
 
 use crate::parts::{ConditionProof, proof_of_parts};
 use alpha_cfg::Cut;
@@ -64,8 +65,8 @@ fn condition_in(
 /// Proves the verification condition of cut code under a policy, part by part, where each is easy
 /// (`prover_class`), or names the first part that isn't. `invs` are the annotated indices with the ids
 /// of their invariants, whose terms are formulas and no higher than `vcgen::MAX_HEIGHT`. A proof that
-/// is no higher than that checks at the condition; its weight and height are the table's
-/// (`Table::weight`, `Table::height`).
+/// is no higher than that checks at the condition where the code is the first profile's; its weight
+/// and height are the table's (`Table::weight`, `Table::height`).
 ///
 /// Fails for want of memory, and by `Results` where the results that the search keeps and the terms
 /// that it makes are more than `MOST_SEARCHED`.
@@ -82,7 +83,7 @@ pub fn prove_condition(
     ensures known { IfOk result (IsKnownAnswer table.new) }
     ensures exact { let invs = id_trees table.old invs.now in
         IfOk result (IsPartsAnswer table.new 0 (condition_parts policy.now cut.now.code invs)) }
-    ensures proves { let invs = id_trees table.old invs.now in
+    ensures proves { let invs = id_trees table.old invs.now in AreOfProfile One cut.now.code →
         IfOk result (IsProofOfParts table.new (condition_parts policy.now cut.now.code invs)) }
     ensures extends { Extends table.old table.new }
 {

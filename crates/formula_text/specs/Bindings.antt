@@ -2,6 +2,7 @@
 use Rattle.std.specs.Prelude.{ℕ, suc, Bool, true, false, not, ◌||◌, ◌&&◌, nat_le, is_some, if◌then◌else◌, List, [], ◌∷◌, codes, Option, Some, None}
 use Rattle.std.specs.Str.{bytes_eq}
 use Rattle.std.specs.Option.{option_map}
+use Rattle.word_ops.specs.declared.Profile.{Profile}
 use Rattle.text_tokens.specs.Registers.{register_of}
 use Rattle.text_tokens.specs.Numbers.{is_digit}
 use Rattle.formula_text.specs.declared.keywords.PhraseSort.{PhraseSort}
@@ -21,13 +22,13 @@ abbrev pub is_identifier : List ℕ → Bool
 is_identifier [] = false
 is_identifier (b ∷ bs) = is_lower b && are_lower_or_digits bs
 
--- a keyword, `tt`, `ff` or `m`
-abbrev pub is_reserved : List ℕ → Bool
-is_reserved w = is_some (keyword_of w) || (bytes_eq w (codes "tt") || (bytes_eq w (codes "ff") || bytes_eq w (codes "m")))
+-- a keyword of the profile, `tt`, `ff` or `m`
+abbrev pub is_reserved : Profile → List ℕ → Bool
+is_reserved profile w = is_some (keyword_of profile w) || (bytes_eq w (codes "tt") || (bytes_eq w (codes "ff") || bytes_eq w (codes "m")))
 
 -- a name that may be bound: an identifier that names no register and isn't reserved
-unfoldable pub is_name : List ℕ → Bool
-is_name w = is_identifier w && (not (is_some (register_of w)) && not (is_reserved w))
+unfoldable pub is_name : Profile → List ℕ → Bool
+is_name profile w = is_identifier w && (not (is_some (register_of w)) && not (is_reserved profile w))
 
 -- the names that are bound and what they stand for, the nearest binder first
 abbrev pub Bindings : Type 0

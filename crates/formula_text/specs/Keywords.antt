@@ -1,8 +1,9 @@
 -- Keywords, and what stands in parentheses behind each.
-use Rattle.std.specs.Prelude.{ℕ, if◌then◌else◌, List, [], ◌∷◌, codes, Option, Some, None}
+use Rattle.std.specs.Prelude.{ℕ, Bool, true, if◌then◌else◌, List, [], ◌∷◌, codes, Option, Some, None}
 use Rattle.std.specs.Str.{bytes_eq}
 use Rattle.word_ops.specs.declared.Op.{Op}
-use Rattle.word_ops.specs.Operators.{op_keyword, op_of_keyword}
+use Rattle.word_ops.specs.declared.Profile.{Profile}
+use Rattle.word_ops.specs.Operators.{op_keyword, op_of_keyword, has_op, of_profile}
 use Rattle.word_ops.specs.declared.Rel.{Rel}
 use Rattle.word_ops.specs.declared.Rel.TheVariants as R
 use Rattle.formula_text.specs.declared.keywords.PhraseSort.{PhraseSort}
@@ -75,6 +76,11 @@ abbrev pub keyword_or : Option Op → Option Keyword → Option Keyword
 keyword_or (Some o) other = Some (K.Oper o)
 keyword_or None other = other
 
--- the keyword that the lexeme is
-unfoldable pub keyword_of : List ℕ → Option Keyword
-keyword_of w = keyword_or (op_of_keyword w) (keyword_in keywords w)
+-- whether a profile has the keyword: it lacks none but operators
+abbrev pub has_keyword : Profile → Keyword → Bool
+has_keyword profile (K.Oper o) = has_op profile o
+has_keyword profile k = true
+
+-- the profile's keyword that the lexeme is
+unfoldable pub keyword_of : Profile → List ℕ → Option Keyword
+keyword_of profile w = keyword_or (of_profile profile (op_of_keyword w)) (keyword_in keywords w)

@@ -2,6 +2,7 @@
 use Rattle.term_table.specs.Steps.{◌>>=◌}
 use Rattle.std.specs.Prelude.{ℕ, ◌^◌, Bool, true, false, nat_lt, if◌then◌else◌, List, [], ◌∷◌, ◌++◌, codes, length, slice_get, Option, Some, None, Result, Ok, Err}
 use Rattle.std.specs.Str.{bytes_eq}
+use Rattle.word_ops.specs.declared.Profile.{Profile}
 use Rattle.formula_tree.specs.Formulas.{Exp, EReg, EVar, ELit, EOp, ESel, MemExp, MMem, MVar, MUpd, Form, FTrue, FFalse, FRel, FRd, FWr, FAnd, FOr, FImp, FAll, FAllm}
 use Rattle.text_tokens.specs.declared.parens.Paren.{Paren}
 use Rattle.text_tokens.specs.declared.parens.Paren.TheVariants as P
@@ -171,21 +172,21 @@ opened_keyword q fs None = Err Shape
 opened_keyword q fs (Some k) = if same_sort (phrase_sort k) q then Ok (opened k fs (binder_sort k)) else Err Shape
 
 -- a token where a keyword has to come
-abbrev pub keyword_step : PhraseSort → Token Paren → List Frame → Result ParseState TextFlaw
-keyword_step q (Mark p) fs = Err Shape
-keyword_step q (Lexeme w) fs = opened_keyword q fs (keyword_of w)
+abbrev pub keyword_step : Profile → PhraseSort → Token Paren → List Frame → Result ParseState TextFlaw
+keyword_step profile q (Mark p) fs = Err Shape
+keyword_step profile q (Lexeme w) fs = opened_keyword q fs (keyword_of profile w)
 
 -- a token where the name that is bound has to come
-abbrev pub binding_step : Keyword → Token Paren → List Frame → Result ParseState TextFlaw
-binding_step k (Mark p) fs = Err Shape
-binding_step k (Lexeme w) fs = if is_name w then Ok (Inside, record { keyword = k; name = w; parts = [] } ∷ fs) else Err Name
+abbrev pub binding_step : Profile → Keyword → Token Paren → List Frame → Result ParseState TextFlaw
+binding_step profile k (Mark p) fs = Err Shape
+binding_step profile k (Lexeme w) fs = if is_name profile w then Ok (Inside, record { keyword = k; name = w; parts = [] } ∷ fs) else Err Name
 
 -- the state behind one token, or what is wrong with it
-unfoldable pub parse_step : Token Paren → ParseState → Result ParseState TextFlaw
-parse_step t (Inside, fs) = inside_step t fs
-parse_step t (Opened q, fs) = keyword_step q t fs
-parse_step t (Binding k, fs) = binding_step k t fs
-parse_step t (Whole f, fs) = Err Trailing
+unfoldable pub parse_step : Profile → Token Paren → ParseState → Result ParseState TextFlaw
+parse_step profile t (Inside, fs) = inside_step t fs
+parse_step profile t (Opened q, fs) = keyword_step profile q t fs
+parse_step profile t (Binding k, fs) = binding_step profile k t fs
+parse_step profile t (Whole f, fs) = Err Trailing
 
 -- ---- all tokens
 
@@ -200,10 +201,10 @@ parse_end end (Whole f) = Ok f
 parse_end end next = Err (end, Shape)
 
 -- the formula of all tokens, or the first fault
-unfoldable pub parsed_tokens : ℕ → List (Placed Paren) → ParseState → Result Form FaultAt
-parsed_tokens end [] s = parse_end end s.0
-parsed_tokens end (t ∷ ts) s = at_position t.0 (parse_step t.1 s) >>= λ next. parsed_tokens end ts next
+unfoldable pub parsed_tokens : Profile → ℕ → List (Placed Paren) → ParseState → Result Form FaultAt
+parsed_tokens profile end [] s = parse_end end s.0
+parsed_tokens profile end (t ∷ ts) s = at_position t.0 (parse_step profile t.1 s) >>= λ next. parsed_tokens profile end ts next
 
--- the formula that the text is parsed as, or the first fault
-unfoldable pub parsed_form : List ℕ → Result Form FaultAt
-parsed_form text = parsed_tokens (length text) (tokens_at paren_class 0 text) (Inside, [])
+-- the formula over the profile's operators that the text is parsed as, or the first fault
+unfoldable pub parsed_form : Profile → List ℕ → Result Form FaultAt
+parsed_form profile text = parsed_tokens profile (length text) (tokens_at paren_class 0 text) (Inside, [])

@@ -6,7 +6,7 @@ ghost use Rattle.formula_text.specs.Keywords.{phrase_sort, part_sorts, binder_so
 ghost use Rattle.formula_text.specs.Keywords.{keyword_in, keyword_of};
 ghost use Rattle.formula_text.specs.Parsing.{same_sort};
 
-use word_ops::{Op, Rel, op_keyword, op_of_keyword};
+use word_ops::{Op, Profile, Rel, of_profile, op_keyword, op_of_keyword};
 
 /// What a part of a text stands for.
 #[derive(Clone, Copy, Debug, PartialEq, Eq)]
@@ -157,12 +157,12 @@ fn keyword_in(keywords: &[Keyword], lexeme: &[u8]) -> Option<Keyword>
     None
 }
 
-/// The keyword that the lexeme is.
+/// The profile's keyword that the lexeme is.
 #[tactic(auto, unfolding(crate::specs::Keywords::keyword_of, crate::specs::Keywords::keywords))]
-pub fn keyword_named(lexeme: &[u8]) -> Option<Keyword>
-    ensures { result ≡ keyword_of lexeme.now }
+pub fn keyword_named(lexeme: &[u8], profile: Profile) -> Option<Keyword>
+    ensures { result ≡ keyword_of profile lexeme.now }
 {
-    match op_of_keyword(lexeme) {
+    match of_profile(profile, op_of_keyword(lexeme)) {
         Some(op) => Some(Keyword::Oper(op)),
         None => keyword_in(&KEYWORDS, lexeme),
     }

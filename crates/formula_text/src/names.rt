@@ -6,6 +6,7 @@ ghost use Rattle.formula_text.specs.Bindings.{is_reserved, is_name};
 
 use crate::keywords::keyword_named;
 use text_tokens::{is_digit, register};
+use word_ops::Profile;
 
 fn is_lower(byte: u8) -> bool
     ensures { result ≡ is_lower byte }
@@ -34,20 +35,20 @@ fn is_identifier(lexeme: &[u8]) -> bool
     }
 }
 
-/// Whether the lexeme is a keyword, `tt`, `ff` or `m`.
-fn is_reserved(lexeme: &[u8]) -> bool
-    ensures { result ≡ is_reserved lexeme.now }
+/// Whether the lexeme is a keyword of the profile, `tt`, `ff` or `m`.
+fn is_reserved(lexeme: &[u8], profile: Profile) -> bool
+    ensures { result ≡ is_reserved profile lexeme.now }
 {
-    keyword_named(lexeme).is_some()
+    keyword_named(lexeme, profile).is_some()
         || lexeme == b"tt".as_slice()
         || lexeme == b"ff".as_slice()
         || lexeme == b"m".as_slice()
 }
 
-/// Whether the lexeme may be bound.
+/// Whether the lexeme may be bound under the profile.
 #[tactic(auto, unfolding(crate::specs::Bindings::is_name))]
-pub fn is_name(lexeme: &[u8]) -> bool
-    ensures { result ≡ is_name lexeme.now }
+pub fn is_name(lexeme: &[u8], profile: Profile) -> bool
+    ensures { result ≡ is_name profile lexeme.now }
 {
-    is_identifier(lexeme) && register(lexeme).is_none() && !is_reserved(lexeme)
+    is_identifier(lexeme) && register(lexeme).is_none() && !is_reserved(lexeme, profile)
 }

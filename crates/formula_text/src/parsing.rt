@@ -28,6 +28,7 @@ use std::alloc::Global;
 use text_tokens::{
     Number, Paren, Placed, Token, begins_with_digit, next_token, read_number, register,
 };
+use word_ops::Profile;
 
 /// Parentheses that are open: their keyword, the name that they bind, if they bind one, and the
 /// parts so far.
@@ -290,14 +291,16 @@ fn keyword_step<'t>(
     frames: &mut Vec<Frame<'t>>,
     wanted: PhraseSort,
     token: Token<'t, Paren>,
+    profile: Profile,
 ) -> Result<Expected, TokenFault>
-    ensures { Moves (keyword_step wanted (token_view token.entry) (frames_view frames.old.items))
+    ensures { Moves
+        (keyword_step profile wanted (token_view token.entry) (frames_view frames.old.items))
         (frames_view frames.new.items) result }
 {
     let Token::Lexeme(lexeme) = token else {
         return Err(TokenFault::Flaw(TextFlaw::Shape));
     };
-    let Some(keyword) = keyword_named(lexeme) else {
+    let Some(keyword) = keyword_named(lexeme, profile) else {
         return Err(TokenFault::Flaw(TextFlaw::Shape));
     };
     if !is_sort(phrase_sort(keyword), wanted) {
@@ -314,14 +317,16 @@ fn binding_step<'t>(
     frames: &mut Vec<Frame<'t>>,
     keyword: Keyword,
     token: Token<'t, Paren>,
+    profile: Profile,
 ) -> Result<Expected, TokenFault>
-    ensures { Moves (binding_step keyword (token_view token.entry) (frames_view frames.old.items))
+    ensures { Moves
+        (binding_step profile keyword (token_view token.entry) (frames_view frames.old.items))
         (frames_view frames.new.items) result }
 {
     let Token::Lexeme(lexeme) = token else {
         return Err(TokenFault::Flaw(TextFlaw::Shape));
     };
-    if is_name(lexeme) {
+    if is_name(lexeme, profile) {
         open_group(alloc, frames, keyword, lexeme)
     } else {
         Err(TokenFault::Flaw(TextFlaw::Name))
@@ -335,15 +340,16 @@ fn parse_step<'t>(
     frames: &mut Vec<Frame<'t>>,
     expected: Expected,
     token: Token<'t, Paren>,
+    profile: Profile,
 ) -> Result<Expected, TokenFault>
-    ensures { Moves (parse_step (token_view token.entry)
+    ensures { Moves (parse_step profile (token_view token.entry)
         (expected_view expected, frames_view frames.old.items)) (frames_view frames.new.items)
         result }
 {
     match expected {
         Expected::Inside => inside_step(alloc, frames, token),
-        Expected::Opened(sort) => keyword_step(alloc, frames, sort, token),
-        Expected::Binding(keyword) => binding_step(alloc, frames, keyword, token),
+        Expected::Opened(sort) => keyword_step(alloc, frames, sort, token, profile),
+        Expected::Binding(keyword) => binding_step(alloc, frames, keyword, token, profile),
         Expected::Whole(form) => {
             drop(form);
             Err(TokenFault::Flaw(TextFlaw::Trailing))
@@ -357,12 +363,13 @@ fn step_at<'t>(
     frames: &mut Vec<Frame<'t>>,
     expected: Expected,
     placed: Placed<'t, Paren>,
+    profile: Profile,
 ) -> Result<Expected, TextFault>
-    ensures { MovesAt placed.entry.at (parse_step (token_view placed.entry.token)
+    ensures { MovesAt placed.entry.at (parse_step profile (token_view placed.entry.token)
         (expected_view expected, frames_view frames.old.items)) (frames_view frames.new.items)
         result }
 {
-    match parse_step(alloc, frames, expected, placed.token) {
+    match parse_step(alloc, frames, expected, placed.token, profile) {
         Ok(next) => Ok(next),
         Err(TokenFault::Flaw(flaw)) => Err(TextFault::At(placed.at, flaw)),
         Err(TokenFault::Memory) => Err(TextFault::Memory),
@@ -382,14 +389,14 @@ fn parse_end(expected: Expected, end: usize) -> Result<Form, TextFault>
 }
 
 /// The formula that the text is parsed as, or the first fault.
-fn parse(alloc: Global, text: &[u8]) -> Result<Form, TextFault>
-    ensures { Parses form_view (parsed_form text.now) result }
+fn parse(alloc: Global, text: &[u8], profile: Profile) -> Result<Form, TextFault>
+    ensures { Parses form_view (parsed_form profile text.now) result }
 {
     let mut frames = Vec::new(alloc);
     let mut expected = Expected::Inside;
     let mut at = 0;
     while let Some(placed) = next_token::<Paren>(text, at) {
-        expected = match step_at(alloc, &mut frames, expected, placed) {
+        expected = match step_at(alloc, &mut frames, expected, placed, profile) {
             Ok(next) => next,
             Err(fault) => return Err(fault),
         };
@@ -398,17 +405,18 @@ fn parse(alloc: Global, text: &[u8]) -> Result<Form, TextFault>
     parse_end(expected, text.len())
 }
 
-/// Parses `text` as a formula, in which all variables are bound.
+/// Parses `text` as a formula over the operators of `profile`, in which all variables are bound.
+/// The words of operators that the profile lacks are no keywords, so they may be bound.
 ///
 /// Errors: the first token from the left that may not stand where it stands, or the end, with its
 /// position in bytes; `Memory` says nothing of `text`. The grammar is this project's own
 /// (`specs/Grammar`). It recurses only where it lets a formula go: texts of formulas that are some
 /// 20,000 high take 8 MiB of stack.
-pub fn read_form(alloc: Global, text: &[u8]) -> Result<Form, TextFault>
-    ensures spells { IfOk result (λ f. Spells text.now (form_view f)) }
+pub fn read_form(alloc: Global, text: &[u8], profile: Profile) -> Result<Form, TextFault>
+    ensures spells { IfOk result (λ f. Spells profile text.now (form_view f)) }
     ensures closed { IfOk result (λ f. IsOver 32 (form_view f) []) }
-    ensures none { IfErr result (λ e. SpellsNone text.now e) }
-    ensures exact { Parses form_view (parsed_form text.now) result }
+    ensures none { IfErr result (λ e. SpellsNone profile text.now e) }
+    ensures exact { Parses form_view (parsed_form profile text.now) result }
 {
-    parse(alloc, text)
+    parse(alloc, text, profile)
 }

@@ -1,6 +1,6 @@
 //! Printing a formula.
 
-ghost use Rattle.std.specs.Prelude.{◌≡◌, ◌+◌, ◌<◌, ◌^◌, suc, ◌++◌, ◌∷◌, [], Ok};
+ghost use Rattle.std.specs.Prelude.{◌≡◌, ◌+◌, ◌<◌, ◌^◌, suc, ◌++◌, ◌∷◌, [], Ok, true};
 ghost use Rattle.std.specs.Prelude.{OnOk, IfOk, decimal};
 ghost use Rattle.formula_tree.specs.Scope.{IsOver};
 ghost use Rattle.formula_tree.specs.Sizes.{binders};
@@ -9,6 +9,9 @@ ghost use Rattle.formula_text.specs.Keywords.{keyword_text};
 ghost use Rattle.formula_text.specs.Grammar.{Spells};
 ghost use Rattle.formula_text.specs.Parsing.{parsed_form};
 ghost use Rattle.formula_text.specs.Printing.{name_of, group_text, exp_text, mem_text, form_text};
+ghost use Rattle.word_ops.specs.declared.Profile.{Profile};
+ghost use Rattle.word_ops.specs.Operators.{has_op};
+ghost use Rattle.formula_tree.specs.Operators.{Uses};
 
 use crate::keywords::{Keyword, keyword_text};
 use formula_tree::{Exp, Form, MemExp};
@@ -251,8 +254,12 @@ fn push_form(out: &mut Vec<u8>, depth: u64, form: &Form) -> Result<(), AllocErro
 pub fn print_form(alloc: Global, form: &Form) -> Result<Vec<u8>, AllocError>
     requires closed { IsOver 32 (form_view form.now) [] }
     ensures exact { IfOk result (λ v. v.items ≡ form_text 0 (form_view form.now)) }
-    ensures spells { IfOk result (λ v. Spells v.items (form_view form.now)) }
-    ensures round_trip { IfOk result (λ v. parsed_form v.items ≡ Ok (form_view form.now)) }
+    ensures spells { IfOk result (λ v. (p : Profile) →
+        Uses (λ o. has_op p o ≡ true) (form_view form.now) →
+        Spells p v.items (form_view form.now)) }
+    ensures round_trip { IfOk result (λ v. (p : Profile) →
+        Uses (λ o. has_op p o ≡ true) (form_view form.now) →
+        parsed_form p v.items ≡ Ok (form_view form.now)) }
 {
     let mut out = Vec::new(alloc);
     push_form(&mut out, 0, form)?;

@@ -4,3 +4,4 @@ pub mod Putting
 pub mod Meaning
 pub mod Parts
 pub mod Scopes
+pub mod Used

@@ -1,4 +1,5 @@
 pub mod Formulas
+pub mod Operators
 pub mod Substitution
 pub mod Variables
 pub mod Scope

@@ -8,12 +8,14 @@ ghost use Rattle.term_table.specs.Table.{IsKnown, Extends};
 use alpha_cfg::{Code, Cut};
 use hereditary_subst::Memo;
 use lf_encode::{encode_form, form_of, machine_context};
+use lf_signature::Sigma1;
 use policy_set::{Policy, PolicyKind};
 use std::alloc::{AllocError, Global};
 use std::test::Fail;
 use term_table::{Id, Node, Places, Table};
 use test_inputs::terms::{Made, made};
 use vcgen::{VcFault, condition_laws, encoding_laws, is_condition_with, vc, worked_conditions};
+use word_ops::Profile;
 
 #[test]
 fn laws_of_conditions() {
@@ -29,7 +31,7 @@ const RETURNING: [u8; 8] = [0x01, 0x00, 0x1f, 0x20, 0x01, 0x80, 0xfa, 0x6b];
 fn cut_code(alloc: Global) -> Made<Cut>
     ensures { IfOk result (λ cut. AreFlags [] (length cut.code) cut.marks) }
 {
-    let Ok(code) = Code::of(alloc, &RETURNING) else {
+    let Ok(code) = Code::of(alloc, &RETURNING, Profile::One) else {
         return Err("no code");
     };
     match code.cut(alloc, &[]) {
@@ -97,7 +99,7 @@ fn a_limit(rt: HostRuntime) -> Result<(), Fail> {
 fn is_asked(table: &mut Table, policy: &Policy) -> Result<bool, AllocError> {
     let context = machine_context();
     let pre = encode_form(table, policy.pre(), &context)?;
-    let asked = form_of(table, pre, &context)?;
+    let asked = form_of(table, &Sigma1, pre, &context)?;
     Ok(asked == Some(policy.pre().copy(table.allocator())?))
 }
 
@@ -105,7 +107,7 @@ fn is_asked(table: &mut Table, policy: &Policy) -> Result<bool, AllocError> {
 fn is_promised(table: &mut Table, policy: &Policy) -> Result<bool, AllocError> {
     let context = machine_context();
     let post = encode_form(table, policy.post(), &context)?;
-    let promised = form_of(table, post, &context)?;
+    let promised = form_of(table, &Sigma1, post, &context)?;
     Ok(promised == Some(policy.post().copy(table.allocator())?))
 }
 

@@ -70,6 +70,7 @@ no_lam (N.Lit v) t g e h z q = let k : node_tree t (N.Lit v) ≡ Lam z = e ∙ q
 no_lam (N.Calc o v w) t g e h z q = let k : node_tree t (N.Calc o v w) ≡ Lam z = e ∙ q in cc
 no_lam (N.Fact o v w) t g e h z q = let k : node_tree t (N.Fact o v w) ≡ Lam z = e ∙ q in cc
 no_lam (N.Deny o v w) t g e h z q = let k : node_tree t (N.Deny o v w) ≡ Lam z = e ∙ q in cc
+no_lam (N.Lemma v) t g e h z q = let k : node_tree t (N.Lemma v) ≡ Lam z = e ∙ q in cc
 no_lam (N.App f x) t g e h z q = let k : node_tree t (N.App f x) ≡ Lam z = e ∙ q in cc
 no_lam (N.Lam x) t g e h z q = h x refl
 no_lam (N.Fam v) t g e h z q = let k : Fam v ≡ Lam z = e ∙ q in cc

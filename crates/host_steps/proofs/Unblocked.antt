@@ -9,7 +9,7 @@ use Rattle.alpha_words.specs.declared.insn.Insn.{Insn}
 use Rattle.alpha_cfg.specs.Actions.{Action, action_of}
 use Rattle.alpha_cfg.specs.Actions as actions
 use Rattle.alpha_cfg.specs.Flow.{jump_of}
-use Rattle.alpha_cfg.specs.Machine.{State, address_of, access_outcome, state_at, action_outcome, step_at, step_of, ends_with, run_of}
+use Rattle.alpha_cfg.specs.Machine.{State, address_of, access_outcome, state_at, action_outcome, step_at, step_of, ends_with, run_of, aligned}
 use Rattle.alpha_cfg.specs.declared.outcome.Kind.{Kind}
 use Rattle.alpha_cfg.specs.declared.outcome.Kind.TheVariants.{Load, Store}
 use Rattle.alpha_cfg.specs.declared.outcome.Step.{Step}
@@ -71,6 +71,9 @@ module _ (base : ℕ) (r : Rights) (reads : AreInArena base r.reads) (writes : A
   action-same (actions.Compute to word) jump s h = refl
   action-same (actions.Load to at disp) jump s h =
       let a = address_of s.regs at disp in
+      access-same Load r.reads a s (record s { index = s.index + 1; regs = write_reg s.regs to (read s.memory a) }) reads h
+  action-same (actions.LoadAround to at disp) jump s h =
+      let a = aligned (address_of s.regs at disp) in
       access-same Load r.reads a s (record s { index = s.index + 1; regs = write_reg s.regs to (read s.memory a) }) reads h
   action-same (actions.Store from at disp) jump s h =
       let a = address_of s.regs at disp in

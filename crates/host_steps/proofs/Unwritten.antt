@@ -9,7 +9,7 @@ use Rattle.alpha_words.specs.declared.insn.Insn.{Insn}
 use Rattle.alpha_cfg.specs.Actions.{Action, action_of}
 use Rattle.alpha_cfg.specs.Actions as actions
 use Rattle.alpha_cfg.specs.Flow.{jump_of}
-use Rattle.alpha_cfg.specs.Machine.{State, passes, address_of, access_outcome, state_at, action_outcome, step_at, step_of, ends_with, run_of}
+use Rattle.alpha_cfg.specs.Machine.{State, passes, address_of, access_outcome, state_at, action_outcome, step_at, step_of, ends_with, run_of, aligned}
 use Rattle.alpha_cfg.specs.declared.outcome.Kind.{Kind}
 use Rattle.alpha_cfg.specs.declared.outcome.Kind.TheVariants.{Load, Store}
 use Rattle.alpha_cfg.specs.declared.outcome.Step.{Step}
@@ -38,6 +38,10 @@ module _ (a : ℕ) where
   action-left (actions.Compute to word) jump s closed = record { rights = refl; word = refl }
   action-left (actions.Load to base disp) jump s closed =
       let x = address_of s.regs base disp in
+      let u : State = record s { index = s.index + 1; regs = write_reg s.regs to (read s.memory x) } in
+      access-left Load (allowed s.rights.reads x) x s u (λ _. record { rights = refl; word = refl })
+  action-left (actions.LoadAround to base disp) jump s closed =
+      let x = aligned (address_of s.regs base disp) in
       let u : State = record s { index = s.index + 1; regs = write_reg s.regs to (read s.memory x) } in
       access-left Load (allowed s.rights.reads x) x s u (λ _. record { rights = refl; word = refl })
   action-left (actions.Store from base disp) jump s closed =

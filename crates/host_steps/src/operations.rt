@@ -9,15 +9,19 @@ use alpha_words::{Cond, Insn, Reg, Rhs};
 use std::alloc::{AllocError, Global};
 use word_ops::Op;
 
-/// What an instruction does. An operator has one operation for a register as its second operand, and
-/// one, `..Lit`, for a literal; `to` is the index that a branch leads to. No operation writes register
-/// 31.
+/// What an instruction does. An operator of profile 1 has one operation for a register as its
+/// second operand, and one, `..Lit`, for a literal; the others share `Oper` and `OperLit`. `to` is
+/// the index that a branch leads to. No operation writes register 31.
 #[derive(Clone, Copy)]
 pub enum Operation {
     /// `ra := rb + disp`.
     Lda { ra: Reg, rb: Reg, disp: i16 },
     /// `ra :=` the quadword at `rb + disp`.
     Ldq { ra: Reg, rb: Reg, disp: i16 },
+    /// `ra := rb + 65536 * disp`.
+    Ldah { ra: Reg, rb: Reg, disp: i16 },
+    /// `ra :=` the quadword that holds the byte at `rb + disp`.
+    LdqU { ra: Reg, rb: Reg, disp: i16 },
     /// The quadword at `rb + disp := ra`.
     Stq { ra: Reg, rb: Reg, disp: i16 },
     /// `rc := ra + rb`.
@@ -42,6 +46,8 @@ pub enum Operation {
     Cmpult { ra: Reg, rb: Reg, rc: Reg },
     /// `rc :=` 1 where `ra ≤ rb`, else 0.
     Cmpule { ra: Reg, rb: Reg, rc: Reg },
+    /// `rc :=` what the operator gives of `ra` and `rb`.
+    Oper { op: Op, ra: Reg, rb: Reg, rc: Reg },
     /// `rc := ra + lit`.
     AddLit { ra: Reg, lit: u8, rc: Reg },
     /// `rc := ra - lit`.
@@ -64,6 +70,8 @@ pub enum Operation {
     CmpultLit { ra: Reg, lit: u8, rc: Reg },
     /// `rc :=` 1 where `ra ≤ lit`, else 0.
     CmpuleLit { ra: Reg, lit: u8, rc: Reg },
+    /// `rc :=` what the operator gives of `ra` and `lit`.
+    OperLit { op: Op, ra: Reg, lit: u8, rc: Reg },
     /// To `to` where the lowest bit of `ra` is 0.
     Blbc { ra: Reg, to: u32 },
     /// To `to` where `ra = 0`.
@@ -95,7 +103,7 @@ fn by_register(code: &Code, i: u32, op: Op, ra: Reg, rb: Reg, rc: Reg) -> Operat
     requires { IsWriteAt code.now i (Insn.Oper op ra (Rhs.Reg rb) rc) rc }
     ensures { IsOperationAt code.now i result }
 {
-    match op {
+    match &op {
         Op::Add => Operation::Add { ra, rb, rc },
         Op::Sub => Operation::Sub { ra, rb, rc },
         Op::Band => Operation::Band { ra, rb, rc },
@@ -107,6 +115,7 @@ fn by_register(code: &Code, i: u32, op: Op, ra: Reg, rb: Reg, rc: Reg) -> Operat
         Op::Cmple => Operation::Cmple { ra, rb, rc },
         Op::Cmpult => Operation::Cmpult { ra, rb, rc },
         Op::Cmpule => Operation::Cmpule { ra, rb, rc },
+        _ => Operation::Oper { op, ra, rb, rc },
     }
 }
 
@@ -115,7 +124,7 @@ fn by_literal(code: &Code, i: u32, op: Op, ra: Reg, lit: u8, rc: Reg) -> Operati
     requires { IsWriteAt code.now i (Insn.Oper op ra (Rhs.Lit lit) rc) rc }
     ensures { IsOperationAt code.now i result }
 {
-    match op {
+    match &op {
         Op::Add => Operation::AddLit { ra, lit, rc },
         Op::Sub => Operation::SubLit { ra, lit, rc },
         Op::Band => Operation::BandLit { ra, lit, rc },
@@ -127,6 +136,7 @@ fn by_literal(code: &Code, i: u32, op: Op, ra: Reg, lit: u8, rc: Reg) -> Operati
         Op::Cmple => Operation::CmpleLit { ra, lit, rc },
         Op::Cmpult => Operation::CmpultLit { ra, lit, rc },
         Op::Cmpule => Operation::CmpuleLit { ra, lit, rc },
+        _ => Operation::OperLit { op, ra, lit, rc },
     }
 }
 
@@ -163,6 +173,14 @@ fn operation_of(code: &Code, i: u32) -> Operation
             }
         }
         Insn::Ldq { ra, rb, disp } => Operation::Ldq { ra, rb, disp },
+        Insn::Ldah { ra, rb, disp } => {
+            if ra.number() == 31 {
+                Operation::Next
+            } else {
+                Operation::Ldah { ra, rb, disp }
+            }
+        }
+        Insn::LdqU { ra, rb, disp } => Operation::LdqU { ra, rb, disp },
         Insn::Stq { ra, rb, disp } => Operation::Stq { ra, rb, disp },
         Insn::Oper { op, ra, rhs, rc } => {
             if rc.number() == 31 {

@@ -1,6 +1,6 @@
 //! Steps and runs that test no access, over the parts of a host.
 
-ghost use Rattle.std.specs.Prelude.{◌≡◌, ◌+◌, ◌<◌, length, if◌then◌else◌};
+ghost use Rattle.std.specs.Prelude.{◌≡◌, ◌+◌, ◌<◌, length, if◌then◌else◌, pos, ◌*ℤ◌};
 ghost use Rattle.word_ops.specs.Memory as memory;
 ghost use Rattle.word_ops.specs.Registers.{read_reg, write_reg};
 ghost use Rattle.word_ops.specs.Words.{word_of};
@@ -20,7 +20,7 @@ use crate::operations::Operation;
 use crate::slots::Slots;
 use alpha_cfg::Code;
 use alpha_words::{Cond, Reg};
-use reference_machine::takes;
+use reference_machine::{aligned, takes};
 use word_ops::{Op, apply};
 
 /// What a step that tests no access answers.
@@ -38,6 +38,15 @@ fn address(slots: &Slots, rb: Reg, disp: i16) -> u64
     ensures { result ≡ address_of slots.now rb disp }
 {
     slots.read(rb).wrapping_add(i64::from(disp).cast_unsigned())
+}
+
+/// The sum of a register and 65,536 times a displacement.
+#[inline(always)]
+fn far_address(slots: &Slots, rb: Reg, disp: i16) -> u64
+    ensures { result ≡ address_of slots.now rb (disp *ℤ pos 65536) }
+{
+    let far = i64::from(disp) * 65_536;
+    slots.read(rb).wrapping_add(far.cast_unsigned())
 }
 
 /// The word at an address of the arena.
@@ -178,6 +187,11 @@ fn step(
             let word = word_at(base, words, address(slots, rb, disp));
             set_reg(word, ra, index, slots)
         }
+        Operation::Ldah { ra, rb, disp } => set_reg(far_address(slots, rb, disp), ra, index, slots),
+        Operation::LdqU { ra, rb, disp } => {
+            let word = word_at(base, words, aligned(address(slots, rb, disp)));
+            set_reg(word, ra, index, slots)
+        }
         Operation::Stq { ra, rb, disp } => {
             store(slots.read(ra), address(slots, rb, disp), index, base, words)
         }
@@ -192,6 +206,7 @@ fn step(
         Operation::Cmple { ra, rb, rc } => operate(Op::Cmple, ra, rb, rc, index, slots),
         Operation::Cmpult { ra, rb, rc } => operate(Op::Cmpult, ra, rb, rc, index, slots),
         Operation::Cmpule { ra, rb, rc } => operate(Op::Cmpule, ra, rb, rc, index, slots),
+        Operation::Oper { op, ra, rb, rc } => operate(op, ra, rb, rc, index, slots),
         Operation::AddLit { ra, lit, rc } => operate_lit(Op::Add, ra, lit, rc, index, slots),
         Operation::SubLit { ra, lit, rc } => operate_lit(Op::Sub, ra, lit, rc, index, slots),
         Operation::BandLit { ra, lit, rc } => operate_lit(Op::Band, ra, lit, rc, index, slots),
@@ -203,6 +218,7 @@ fn step(
         Operation::CmpleLit { ra, lit, rc } => operate_lit(Op::Cmple, ra, lit, rc, index, slots),
         Operation::CmpultLit { ra, lit, rc } => operate_lit(Op::Cmpult, ra, lit, rc, index, slots),
         Operation::CmpuleLit { ra, lit, rc } => operate_lit(Op::Cmpule, ra, lit, rc, index, slots),
+        Operation::OperLit { op, ra, lit, rc } => operate_lit(op, ra, lit, rc, index, slots),
         Operation::Blbc { ra, to } => branch(Cond::LowClear, slots.read(ra), to, index),
         Operation::Beq { ra, to } => branch(Cond::Zero, slots.read(ra), to, index),
         Operation::Blt { ra, to } => branch(Cond::Negative, slots.read(ra), to, index),

@@ -15,6 +15,7 @@ use policy_set::{Policy, PolicyKind};
 use std::alloc::{AllocError, Global};
 use term_table::{Id, Node, Table};
 use vcgen::vc;
+use word_ops::Profile;
 
 /// The formula that register `k % 31` and a word, added, are that word.
 fn leaf(table: &mut Table, k: u64) -> Made<Id> {
@@ -99,7 +100,7 @@ fn cut_of(alloc: Global, words: &[u32]) -> Made<Cut>
     if bytes.len() % 4 != 0 || bytes.is_empty() || bytes.len() > 4_096 {
         return Err("not so many words");
     }
-    let Ok(code) = Code::of(alloc, &bytes) else {
+    let Ok(code) = Code::of(alloc, &bytes, Profile::One) else {
         return Err("no code");
     };
     let Ok(cut) = code.cut(alloc, &[]) else {

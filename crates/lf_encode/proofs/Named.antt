@@ -1,10 +1,13 @@
 -- Encodings over a context of word and memory variables, the machine's among them.
-use Rattle.std.proofs.Common.{◌≡◌, ℕ, zero, suc, ◌+◌, ◌^◌, ◌<◌, ◌≤◌, max, Bool, true, false, cond, Some}
+use Rattle.std.proofs.Common.{◌≡◌, ℕ, zero, suc, ◌+◌, ◌^◌, ◌<◌, ◌≤◌, max, ◌-◌, nat_lt, Bool, true, false, cond, Option, Some}
 use Rattle.std.proofs.Common.{List, [], ◌∷◌, ◌++◌, length, drop, refl, sym, ◌∙◌, ap, subst, arith, append_assoc}
-use Rattle.term_table.specs.Tree.{Tree, Fam}
-use Rattle.lf_signature.specs.Sigma1.{declared}
+use Rattle.term_table.specs.Tree.{Tree, Fam, Const}
+use Rattle.word_ops.specs.declared.Op.{Op}
+use Rattle.lf_signature.specs.Known.{IsKnownSignature}
+use Rattle.formula_tree.specs.Operators.{UsesExp, UsesMem, Uses}
+use Rattle.lf_signature.specs.Known.{HasOp}
 use Rattle.lf_signature.specs.Typing.{Checks}
-use Rattle.formula_tree.specs.Formulas.{Exp, MemExp, Form, FTrue, FFalse, FRel, FRd, FWr, FAnd, FOr, FImp, FAll, FAllm}
+use Rattle.formula_tree.specs.Formulas.{Exp, EReg, ELeft, EVar, ELit, EOp, ESel, MemExp, MMem, MVar, MUpd, Form, FTrue, FFalse, FRel, FRd, FWr, FAnd, FOr, FImp, FAll, FAllm}
 use Rattle.formula_tree.specs.Scope.{VarSort, OfWord, OfMem, sort_at, IsOverExp, IsOverMem, IsOver}
 use Rattle.formula_tree.specs.Sizes.{binders, form_height}
 use Rattle.lf_encode.specs.declared.contexts.Sort as sort
@@ -149,22 +152,86 @@ form_over-in ctx F = go (has_machine ctx) refl
         let s = split ctx false q in let plain : IsOver 0 F s.near = subst (λ B. IsOver 0 F B) s.sorts h in
         (F, rw (s.registers 31, s.bound) plain, named_form-none F (count ctx) s.near plain)
 
+-- ---- operators
+
+-- names change no operator
+module _ (P : Op → Type 0) where
+  named_reg-uses : (d r : ℕ) → UsesExp P (named_exp d (EReg r))
+  named_reg-uses d r = go (nat_lt r 31)
+    where
+      go : (b : Bool) → UsesExp P (cond b (EVar ((30 - r) + d)) (ELit 0))
+      go true = tt
+      go false = tt
+
+  mutual
+    pub named_exp-uses : (d : ℕ) (a : Exp) → UsesExp P a → UsesExp P (named_exp d a)
+    named_exp-uses d (EReg r) h = named_reg-uses d r
+    named_exp-uses d ELeft h = tt
+    named_exp-uses d (EVar n) h = tt
+    named_exp-uses d (ELit w) h = tt
+    named_exp-uses d (EOp o a b) h = (h.0, named_exp-uses d a h.1, named_exp-uses d b h.2)
+    named_exp-uses d (ESel m a) h = (named_mem-uses d m h.0, named_exp-uses d a h.1)
+
+    pub named_mem-uses : (d : ℕ) (m : MemExp) → UsesMem P m → UsesMem P (named_mem d m)
+    named_mem-uses d MMem h = tt
+    named_mem-uses d (MVar n) h = tt
+    named_mem-uses d (MUpd m a v) h = (named_mem-uses d m h.0, named_exp-uses d a h.1, named_exp-uses d v h.2)
+
+  pub named_form-uses : (d : ℕ) (F : Form) → Uses P F → Uses P (named_form d F)
+  named_form-uses d FTrue h = tt
+  named_form-uses d FFalse h = tt
+  named_form-uses d (FRel p a b) h = (named_exp-uses d a h.0, named_exp-uses d b h.1)
+  named_form-uses d (FRd a) h = named_exp-uses d a h
+  named_form-uses d (FWr a) h = named_exp-uses d a h
+  named_form-uses d (FAnd A B) h = (named_form-uses d A h.0, named_form-uses d B h.1)
+  named_form-uses d (FOr A B) h = (named_form-uses d A h.0, named_form-uses d B h.1)
+  named_form-uses d (FImp A B) h = (named_form-uses d A h.0, named_form-uses d B h.1)
+  named_form-uses d (FAll A) h = named_form-uses (suc d) A h
+  named_form-uses d (FAllm A) h = named_form-uses (suc d) A h
+
+  mutual
+    named_exp-used : (d : ℕ) (a : Exp) → UsesExp P (named_exp d a) → UsesExp P a
+    named_exp-used d (EReg r) h = tt
+    named_exp-used d ELeft h = tt
+    named_exp-used d (EVar n) h = tt
+    named_exp-used d (ELit w) h = tt
+    named_exp-used d (EOp o a b) h = (h.0, named_exp-used d a h.1, named_exp-used d b h.2)
+    named_exp-used d (ESel m a) h = (named_mem-used d m h.0, named_exp-used d a h.1)
+
+    named_mem-used : (d : ℕ) (m : MemExp) → UsesMem P (named_mem d m) → UsesMem P m
+    named_mem-used d MMem h = tt
+    named_mem-used d (MVar n) h = tt
+    named_mem-used d (MUpd m a v) h = (named_mem-used d m h.0, named_exp-used d a h.1, named_exp-used d v h.2)
+
+  named_form-used : (d : ℕ) (F : Form) → Uses P (named_form d F) → Uses P F
+  named_form-used d FTrue h = tt
+  named_form-used d FFalse h = tt
+  named_form-used d (FRel p a b) h = (named_exp-used d a h.0, named_exp-used d b h.1)
+  named_form-used d (FRd a) h = named_exp-used d a h
+  named_form-used d (FWr a) h = named_exp-used d a h
+  named_form-used d (FAnd A B) h = (named_form-used d A h.0, named_form-used d B h.1)
+  named_form-used d (FOr A B) h = (named_form-used d A h.0, named_form-used d B h.1)
+  named_form-used d (FImp A B) h = (named_form-used d A h.0, named_form-used d B h.1)
+  named_form-used d (FAll A) h = named_form-used (suc d) A h
+  named_form-used d (FAllm A) h = named_form-used (suc d) A h
+
 -- ---- adequacy over a context
 
-pub form_encoded : (ctx : List sort.Sort) (t : Tree) → Checks declared (sort_types ctx) t (Fam 2) → (F : Form) × EncodesForm ctx F t
-form_encoded ctx t d =
-    let f = checked_form (sorts_of ctx) t d in let e = form_over-in ctx f.form f.over in
-    (e.0, record { over = e.1; is = ap form_encoding (named_form-is (count ctx) e.0 ∙ e.2) ∙ f.is })
+module _ (sig : Const → Option Tree) (known : IsKnownSignature sig) where
+  pub form_encoded : (ctx : List sort.Sort) (t : Tree) → Checks sig (sort_types ctx) t (Fam 2) → (F : Form) × EncodesForm ctx F t × Uses (HasOp sig) F
+  form_encoded ctx t d =
+      let f = checked_form sig known (sorts_of ctx) t d in let e = form_over-in ctx f.form f.over in
+      (e.0, record { over = e.1; is = ap form_encoding (named_form-is (count ctx) e.0 ∙ e.2) ∙ f.is }, named_form-used (HasOp sig) (count ctx) e.0 (subst (λ (z : Form). Uses (HasOp sig) z) (sym e.2) f.uses))
 
-pub exp_encoded : (ctx : List sort.Sort) (t : Tree) → Checks declared (sort_types ctx) t (Fam 0) → (e : Exp) × EncodesExp ctx e t
-exp_encoded ctx t d =
-    let f = checked_exp (sorts_of ctx) t d in let e = exp_over-in ctx f.form f.over in
-    (e.0, record { over = e.1; is = ap exp_encoding (named_exp-is (count ctx) e.0 ∙ e.2) ∙ f.is })
+  pub exp_encoded : (ctx : List sort.Sort) (t : Tree) → Checks sig (sort_types ctx) t (Fam 0) → (e : Exp) × EncodesExp ctx e t × UsesExp (HasOp sig) e
+  exp_encoded ctx t d =
+      let f = checked_exp sig known (sorts_of ctx) t d in let e = exp_over-in ctx f.form f.over in
+      (e.0, record { over = e.1; is = ap exp_encoding (named_exp-is (count ctx) e.0 ∙ e.2) ∙ f.is }, named_exp-used (HasOp sig) (count ctx) e.0 (subst (λ (z : Exp). UsesExp (HasOp sig) z) (sym e.2) f.uses))
 
-pub mem_encoded : (ctx : List sort.Sort) (t : Tree) → Checks declared (sort_types ctx) t (Fam 1) → (m : MemExp) × EncodesMem ctx m t
-mem_encoded ctx t d =
-    let f = checked_mem (sorts_of ctx) t d in let e = mem_over-in ctx f.form f.over in
-    (e.0, record { over = e.1; is = ap mem_encoding (named_mem-is (count ctx) e.0 ∙ e.2) ∙ f.is })
+  pub mem_encoded : (ctx : List sort.Sort) (t : Tree) → Checks sig (sort_types ctx) t (Fam 1) → (m : MemExp) × EncodesMem ctx m t × UsesMem (HasOp sig) m
+  mem_encoded ctx t d =
+      let f = checked_mem sig known (sorts_of ctx) t d in let e = mem_over-in ctx f.form f.over in
+      (e.0, record { over = e.1; is = ap mem_encoding (named_mem-is (count ctx) e.0 ∙ e.2) ∙ f.is }, named_mem-used (HasOp sig) (count ctx) e.0 (subst (λ (z : MemExp). UsesMem (HasOp sig) z) (sym e.2) f.uses))
 
 pub low : (ctx : List sort.Sort) → registers_in ctx 31 ≤ 31
 low ctx = go (has_machine ctx)
@@ -223,20 +290,21 @@ binders-height (FImp A B) = let a = binders-height A in let b = binders-height B
 binders-height (FAll A) = let a = binders-height A in omega (arith, a)
 binders-height (FAllm A) = let a = binders-height A in omega (arith, a)
 
-pub form_typed : (ctx : List sort.Sort) (r : ℕ) (F : Form) → IsFormIn ctx r F → length ctx + binders F + 2 ≤ 2 ^ 32 → Checks declared (sort_types ctx) (encoding_in ctx F) (Fam 2)
-form_typed ctx r F h small =
-    let many = length-sorts_of ctx in let deep = binders-named F (count ctx) in
-    subst (λ (z : Form). Checks declared (sort_types ctx) (form_encoding z) (Fam 2)) (sym (named_form-is (count ctx) F))
-    (form_checks (named_form (count ctx) F) (sorts_of ctx) (form_in-over ctx r F h) (omega (arith, many, deep, small)))
+module _ (sig : Const → Option Tree) (known : IsKnownSignature sig) where
+  pub form_typed : (ctx : List sort.Sort) (r : ℕ) (F : Form) → IsFormIn ctx r F → Uses (HasOp sig) F → length ctx + binders F + 2 ≤ 2 ^ 32 → Checks sig (sort_types ctx) (encoding_in ctx F) (Fam 2)
+  form_typed ctx r F h u small =
+      let many = length-sorts_of ctx in let deep = binders-named F (count ctx) in
+      subst (λ (z : Form). Checks sig (sort_types ctx) (form_encoding z) (Fam 2)) (sym (named_form-is (count ctx) F))
+      (form_checks sig known (named_form (count ctx) F) (sorts_of ctx) (form_in-over ctx r F h) (named_form-uses (HasOp sig) (count ctx) F u) (omega (arith, many, deep, small)))
 
-pub exp_typed : (ctx : List sort.Sort) (r : ℕ) (e : Exp) → IsExpIn ctx r e → length ctx + 2 ≤ 2 ^ 32 → Checks declared (sort_types ctx) (exp_encoding_in ctx e) (Fam 0)
-exp_typed ctx r e h small =
-    let many = length-sorts_of ctx in
-    subst (λ (z : Exp). Checks declared (sort_types ctx) (exp_encoding z) (Fam 0)) (sym (named_exp-is (count ctx) e))
-    (exp_checks (named_exp (count ctx) e) (sorts_of ctx) (exp_in-over ctx r e h) (omega (arith, many, small)))
+  pub exp_typed : (ctx : List sort.Sort) (r : ℕ) (e : Exp) → IsExpIn ctx r e → UsesExp (HasOp sig) e → length ctx + 2 ≤ 2 ^ 32 → Checks sig (sort_types ctx) (exp_encoding_in ctx e) (Fam 0)
+  exp_typed ctx r e h u small =
+      let many = length-sorts_of ctx in
+      subst (λ (z : Exp). Checks sig (sort_types ctx) (exp_encoding z) (Fam 0)) (sym (named_exp-is (count ctx) e))
+      (exp_checks sig known (named_exp (count ctx) e) (sorts_of ctx) (exp_in-over ctx r e h) (named_exp-uses (HasOp sig) (count ctx) e u) (omega (arith, many, small)))
 
-pub mem_typed : (ctx : List sort.Sort) (r : ℕ) (m : MemExp) → IsMemIn ctx r m → length ctx + 2 ≤ 2 ^ 32 → Checks declared (sort_types ctx) (mem_encoding_in ctx m) (Fam 1)
-mem_typed ctx r m h small =
-    let many = length-sorts_of ctx in
-    subst (λ (z : MemExp). Checks declared (sort_types ctx) (mem_encoding z) (Fam 1)) (sym (named_mem-is (count ctx) m))
-    (mem_checks (named_mem (count ctx) m) (sorts_of ctx) (mem_in-over ctx r m h) (omega (arith, many, small)))
+  pub mem_typed : (ctx : List sort.Sort) (r : ℕ) (m : MemExp) → IsMemIn ctx r m → UsesMem (HasOp sig) m → length ctx + 2 ≤ 2 ^ 32 → Checks sig (sort_types ctx) (mem_encoding_in ctx m) (Fam 1)
+  mem_typed ctx r m h u small =
+      let many = length-sorts_of ctx in
+      subst (λ (z : MemExp). Checks sig (sort_types ctx) (mem_encoding z) (Fam 1)) (sym (named_mem-is (count ctx) m))
+      (mem_checks sig known (named_mem (count ctx) m) (sorts_of ctx) (mem_in-over ctx r m h) (named_mem-uses (HasOp sig) (count ctx) m u) (omega (arith, many, small)))

@@ -3,7 +3,6 @@
 ghost use Rattle.std.specs.Prelude.{◌≡◌, ◌↔◌, suc, ◌+◌, ◌^◌, ◌<◌, max, IfOk, IsTrue, MatchOption};
 ghost use Rattle.term_table.specs.Tree.{App, Fam};
 ghost use Rattle.term_table.specs.Table.{IsKnown, AllKnown, tree_at, ctx_of, Extends};
-ghost use Rattle.lf_signature.specs.Sigma1.{declared};
 ghost use Rattle.lf_signature.specs.Terms.{form};
 ghost use Rattle.lf_signature.specs.Typing.{Checks};
 ghost use Rattle.formula_tree.specs.Formulas.{EVar, MVar};
@@ -12,12 +11,14 @@ ghost use Rattle.lf_encode.specs.Contexts.{sort_types, EncodesForm};
 ghost use Rattle.lf_encode.specs.Naming.{unnamed_exp, unnamed_mem, unnamed_form};
 ghost use Rattle.lf_encode.specs.Reading.{id_of_sort, exp_of, mem_of};
 ghost use Rattle.lf_encode.specs.Reading.{form_of, body_of, connected, unary};
+ghost use Rattle.lf_signature.specs.Known.{HasOp};
+ghost use Rattle.formula_tree.specs.Operators.{Uses};
 
 use crate::contexts::{Sort, bound_count};
 use formula_tree::{Exp, Form, MemExp};
 use lf_check::check_term;
 use lf_signature::numbers::{ALL, AND, EXP, FORM, MEM, OR, RD, TT, WR};
-use lf_signature::{Sigma1, rel_of_constant};
+use lf_signature::{Known, rel_of_constant};
 use std::alloc::{AllocError, Global};
 use term_table::{Id, Node, Table};
 use word_ops::op_of_constant;
@@ -51,16 +52,24 @@ fn context_types(alloc: Global, table: &mut Table, ctx: &[Sort]) -> Result<Vec<I
 /// the nearest last: whether it is the encoding of a formula over `ctx`.
 ///
 /// Errors: want of memory alone; each id keeps its tree.
-pub fn is_form(table: &mut Table, id: Id, ctx: &[Sort]) -> Result<bool, AllocError>
-    requires { IsKnown table.old id }
+pub fn is_form<S: Known>(
+    table: &mut Table,
+    sig: &S,
+    id: Id,
+    ctx: &[Sort],
+) -> Result<bool, AllocError>
+    requires holds { S.Signature.holds sig.now table.old }
+    requires id { IsKnown table.old id }
     ensures exact { let tree = tree_at table.old id in
-        IfOk result (λ b. IsTrue b ↔ Checks declared (sort_types ctx.now) tree form) }
+        let sig = S.Signature.declares sig.now table.old in
+        let typed = Checks sig (sort_types ctx.now) tree form in
+        IfOk result (λ b. IsTrue b ↔ typed) }
     ensures extends { Extends table.old table.new }
 {
     let alloc = table.allocator();
     let form = table.intern(Node::Fam(FORM))?;
     let types = context_types(alloc, table, ctx)?;
-    check_term(alloc, table, &Sigma1, types.as_slice(), id, form)
+    check_term(alloc, table, sig, types.as_slice(), id, form)
 }
 
 /// The expression that the variable `n` stands for, where `depth` variables are nearer than the
@@ -287,20 +296,27 @@ fn decode_joined(
     }
 }
 
-/// Answers the formula over `ctx`, without register 31, of which the term `id` is the encoding: None
-/// exactly where the term hasn't type form in that context of word and memory variables, the
-/// nearest last.
+/// Answers the formula over `ctx`, of the operators of `sig` and without register 31, of which the
+/// term `id` is the encoding: None exactly where the term hasn't type form over `sig` in that
+/// context of word and memory variables, the nearest last.
 ///
 /// Errors: want of memory alone; each id keeps its tree.
-pub fn form_of(table: &mut Table, id: Id, ctx: &[Sort]) -> Result<Option<Form>, AllocError>
-    requires { IsKnown table.old id }
+pub fn form_of<S: Known>(
+    table: &mut Table,
+    sig: &S,
+    id: Id,
+    ctx: &[Sort],
+) -> Result<Option<Form>, AllocError>
+    requires holds { S.Signature.holds sig.now table.old }
+    requires id { IsKnown table.old id }
     ensures exact { let tree = tree_at table.old id in
-        let typed = Checks declared (sort_types ctx.now) tree form in
+        let sig = S.Signature.declares sig.now table.old in
+        let typed = Checks sig (sort_types ctx.now) tree form in
         IfOk result (λ o. MatchOption o (typed → ⊥)
-        (λ f. typed × EncodesForm ctx.now (form_view f) tree)) }
+        (λ f. typed × EncodesForm ctx.now (form_view f) tree × Uses (HasOp sig) (form_view f))) }
     ensures extends { Extends table.old table.new }
 {
-    if !is_form(table, id, ctx)? {
+    if !is_form(table, sig, id, ctx)? {
         return Ok(None);
     }
     table.laws();

@@ -1,9 +1,11 @@
 //! What holds of encodings, with nothing to run.
 
-ghost use Rattle.std.specs.Prelude.{◌≡◌, ◌<◌, ◌^◌, ℕ, suc, Some, List, length, ◌++◌, take, drop};
-ghost use Rattle.term_table.specs.Tree.{Tree};
+ghost use Rattle.std.specs.Prelude.{◌≡◌, ◌<◌, ◌^◌, ℕ, suc, Option, Some};
+ghost use Rattle.std.specs.Prelude.{List, length, ◌++◌, take, drop};
+ghost use Rattle.term_table.specs.Tree.{Tree, Const};
 ghost use Rattle.term_table.specs.Subst.{Base, hsub};
-ghost use Rattle.lf_signature.specs.Sigma1.{declared};
+ghost use Rattle.lf_signature.specs.Known.{IsKnownSignature, HasOp};
+ghost use Rattle.formula_tree.specs.Operators.{UsesExp, UsesMem, Uses};
 ghost use Rattle.lf_signature.specs.Terms.{exp, mem, form};
 ghost use Rattle.lf_signature.specs.Typing.{Checks};
 ghost use Rattle.formula_tree.specs.Formulas.{Exp, MemExp, Form};
@@ -23,32 +25,39 @@ ghost use Rattle.lf_encode.specs.Contexts.{exp_encoding_in, mem_encoding_in, enc
 ghost use Rattle.lf_encode.specs.Contexts.{EncodesForm, EncodesExp, EncodesMem, machine_names};
 ghost use Rattle.lf_encode.specs.PutTree.{machine_terms_of, put_tree};
 
-/// A term of type form, exp or mem in a context of word and memory variables, whose nearest stands
-/// last, is the encoding of exactly one formula, expression or memory over the context without
-/// register 31. The other way, each over the context, also with register 31, has the type where its
-/// height and the context's length are below 2^31.
+/// Over a signature of word arithmetic, a term of type form, exp or mem in a context of word and
+/// memory variables, whose nearest stands last, is the encoding of exactly one formula, expression
+/// or memory over the context, of the signature's operators and without register 31. The other way,
+/// the encoding of each formula, expression or memory of these operators over the context, also with
+/// register 31, has the type where its height and the context's length are below 2^31.
 pub fn adequacy_laws()
-    ensures forms { (ctx : List Sort) (t : Tree) →
-        Checks declared (sort_types ctx) t form → (F : Form) × EncodesForm ctx F t }
-    ensures exps { (ctx : List Sort) (t : Tree) →
-        Checks declared (sort_types ctx) t exp → (e : Exp) × EncodesExp ctx e t }
-    ensures mems { (ctx : List Sort) (t : Tree) →
-        Checks declared (sort_types ctx) t mem → (m : MemExp) × EncodesMem ctx m t }
+    ensures forms { (sig : Const → Option Tree) → IsKnownSignature sig →
+        (ctx : List Sort) (t : Tree) → Checks sig (sort_types ctx) t form →
+        (F : Form) × EncodesForm ctx F t × Uses (HasOp sig) F }
+    ensures exps { (sig : Const → Option Tree) → IsKnownSignature sig →
+        (ctx : List Sort) (t : Tree) → Checks sig (sort_types ctx) t exp →
+        (e : Exp) × EncodesExp ctx e t × UsesExp (HasOp sig) e }
+    ensures mems { (sig : Const → Option Tree) → IsKnownSignature sig →
+        (ctx : List Sort) (t : Tree) → Checks sig (sort_types ctx) t mem →
+        (m : MemExp) × EncodesMem ctx m t × UsesMem (HasOp sig) m }
     ensures one_form { (ctx : List Sort) (t : Tree) (F G : Form) →
         EncodesForm ctx F t → EncodesForm ctx G t → F ≡ G }
     ensures one_exp { (ctx : List Sort) (t : Tree) (d e : Exp) →
         EncodesExp ctx d t → EncodesExp ctx e t → d ≡ e }
     ensures one_mem { (ctx : List Sort) (t : Tree) (m l : MemExp) →
         EncodesMem ctx m t → EncodesMem ctx l t → m ≡ l }
-    ensures form_typed { (ctx : List Sort) (F : Form) →
-        IsFormIn ctx 32 F → form_height F < 2 ^ 31 → length ctx < 2 ^ 31 →
-        Checks declared (sort_types ctx) (encoding_in ctx F) form }
-    ensures exp_typed { (ctx : List Sort) (e : Exp) →
-        IsExpIn ctx 32 e → length ctx < 2 ^ 31 →
-        Checks declared (sort_types ctx) (exp_encoding_in ctx e) exp }
-    ensures mem_typed { (ctx : List Sort) (m : MemExp) →
-        IsMemIn ctx 32 m → length ctx < 2 ^ 31 →
-        Checks declared (sort_types ctx) (mem_encoding_in ctx m) mem }
+    ensures form_typed { (sig : Const → Option Tree) → IsKnownSignature sig →
+        (ctx : List Sort) (F : Form) → IsFormIn ctx 32 F → Uses (HasOp sig) F →
+        form_height F < 2 ^ 31 → length ctx < 2 ^ 31 →
+        Checks sig (sort_types ctx) (encoding_in ctx F) form }
+    ensures exp_typed { (sig : Const → Option Tree) → IsKnownSignature sig →
+        (ctx : List Sort) (e : Exp) → IsExpIn ctx 32 e → UsesExp (HasOp sig) e →
+        length ctx < 2 ^ 31 →
+        Checks sig (sort_types ctx) (exp_encoding_in ctx e) exp }
+    ensures mem_typed { (sig : Const → Option Tree) → IsKnownSignature sig →
+        (ctx : List Sort) (m : MemExp) → IsMemIn ctx 32 m → UsesMem (HasOp sig) m →
+        length ctx < 2 ^ 31 →
+        Checks sig (sort_types ctx) (mem_encoding_in ctx m) mem }
 {}
 
 /// Where an expression or a memory over variables is put for a variable of its sort, the encoding

@@ -10,7 +10,7 @@ use crate::answers::{constant_number, decided, made};
 use formula_tree::{Exp, Form};
 use hereditary_subst::{Exhausted, Memo};
 use lf_encode::{PutMemo, form_of, is_form, is_put_with, put, quantified};
-use lf_signature::rel_number;
+use lf_signature::{Sigma1, rel_number};
 use std::alloc::AllocError;
 use term_table::{Id, Node, Table};
 use test_inputs::cursors::Cursor;
@@ -23,7 +23,7 @@ use word_ops::{Op, Rel, op_number};
 /// The formula that the next term encodes, if it encodes one.
 fn read_form(table: &mut Table, names: &Names, cursor: &mut Cursor<'_>) -> Read<Option<Form>> {
     let term = read_term(table, names, cursor)?;
-    Ok(form_of(table, term, &[])?)
+    Ok(form_of(table, &Sigma1, term, &[])?)
 }
 
 /// The word that an expression is.
@@ -83,7 +83,7 @@ fn formula_height(table: &mut Table, names: &Names, cursor: &mut Cursor<'_>) -> 
 /// Whether the next term encodes a formula.
 fn encodes(table: &mut Table, names: &Names, cursor: &mut Cursor<'_>) -> Read<Answer> {
     let term = read_term(table, names, cursor)?;
-    Ok(Answer::holds(is_form(table, term, &[])?))
+    Ok(Answer::holds(is_form(table, &Sigma1, term, &[])?))
 }
 
 /// The quantifier of a constant over the next term.

@@ -2,12 +2,14 @@
 
 ghost use Rattle.std.specs.Prelude.{[], ◌∷◌};
 ghost use Rattle.term_table.specs.Table.{AllKnown};
-ghost use Rattle.lf_signature.specs.Sigma1.{declared};
+ghost use Rattle.lf_signature.specs.Constants.{declared};
 ghost use Rattle.lf_check.specs.Kept.{AreKept};
 ghost use Rattle.lf_sequents.specs.Sequents.{AreSequents};
+ghost use Rattle.lf_signature.specs.declared.WordSignature.TheVariants.{Sigma1};
 
 use lf_check::Kept;
 use lf_sequents::Sequent;
+use lf_signature::Sigma1;
 use proof_kit::{
     add_al, add_assoc, add_comm, add_le, add_zero, all_e, all_i, allm_e, allm_i, and_assoc,
     and_comm, and_i, and_l, and_le, and_r, and_zero, bis_zero, bis_zero_l, cmp_le1, cmp_no,
@@ -38,21 +40,21 @@ fn of_connectives(
 ) -> KitAnswer
     requires hyps { AllKnown table.old hyps.now }
     requires params { AllKnown table.old (a ∷ b ∷ c ∷ d ∷ []) }
-    requires premises { AreSequents table.old (p.now ∷ q.now ∷ r.now ∷ []) }
-    requires kept { AreKept declared table.old kept.old }
+    requires premises { AreSequents (declared Sigma1) table.old (p.now ∷ q.now ∷ r.now ∷ []) }
+    requires kept { AreKept (declared Sigma1) table.old kept.old }
 {
     match rule {
-        27 => tt_i(alloc, table, kept, hyps),
-        28 => ff_e(alloc, table, kept, hyps, a, p),
-        29 => and_i(alloc, table, kept, hyps, a, b, p, q),
-        30 => and_l(alloc, table, kept, hyps, a, b, p),
-        31 => and_r(alloc, table, kept, hyps, a, b, p),
-        32 => or_l(alloc, table, kept, hyps, a, b, p),
-        33 => or_r(alloc, table, kept, hyps, a, b, p),
-        34 => or_e(alloc, table, kept, hyps, a, b, c, p, q, r),
-        35 => imp_i(alloc, table, kept, hyps, a, b, p),
-        36 => imp_e(alloc, table, kept, hyps, a, b, p, q),
-        37 => em(alloc, table, kept, hyps, a),
+        27 => tt_i(alloc, table, &Sigma1, kept, hyps),
+        28 => ff_e(alloc, table, &Sigma1, kept, hyps, a, p),
+        29 => and_i(alloc, table, &Sigma1, kept, hyps, a, b, p, q),
+        30 => and_l(alloc, table, &Sigma1, kept, hyps, a, b, p),
+        31 => and_r(alloc, table, &Sigma1, kept, hyps, a, b, p),
+        32 => or_l(alloc, table, &Sigma1, kept, hyps, a, b, p),
+        33 => or_r(alloc, table, &Sigma1, kept, hyps, a, b, p),
+        34 => or_e(alloc, table, &Sigma1, kept, hyps, a, b, c, p, q, r),
+        35 => imp_i(alloc, table, &Sigma1, kept, hyps, a, b, p),
+        36 => imp_e(alloc, table, &Sigma1, kept, hyps, a, b, p, q),
+        37 => em(alloc, table, &Sigma1, kept, hyps, a),
         _ => Ok(None),
     }
 }
@@ -74,18 +76,18 @@ fn of_functions(
 ) -> KitAnswer
     requires hyps { AllKnown table.old hyps.now }
     requires params { AllKnown table.old (a ∷ b ∷ c ∷ d ∷ []) }
-    requires premises { AreSequents table.old (p.now ∷ q.now ∷ r.now ∷ []) }
-    requires kept { AreKept declared table.old kept.old }
+    requires premises { AreSequents (declared Sigma1) table.old (p.now ∷ q.now ∷ r.now ∷ []) }
+    requires kept { AreKept (declared Sigma1) table.old kept.old }
 {
     match rule {
-        38 => all_i(alloc, table, kept, hyps, a, p),
-        39 => all_e(alloc, table, kept, hyps, a, b, p),
-        40 => allm_i(alloc, table, kept, hyps, a, p),
-        41 => allm_e(alloc, table, kept, hyps, a, b, p),
-        42 => eq_refl(alloc, table, kept, hyps, a),
-        43 => eq_sub(alloc, table, kept, hyps, a, b, c, p, q),
-        44 => sel_same(alloc, table, kept, hyps, a, b, c),
-        45 => sel_other(alloc, table, kept, hyps, a, b, c, d, p),
+        38 => all_i(alloc, table, &Sigma1, kept, hyps, a, p),
+        39 => all_e(alloc, table, &Sigma1, kept, hyps, a, b, p),
+        40 => allm_i(alloc, table, &Sigma1, kept, hyps, a, p),
+        41 => allm_e(alloc, table, &Sigma1, kept, hyps, a, b, p),
+        42 => eq_refl(alloc, table, &Sigma1, kept, hyps, a),
+        43 => eq_sub(alloc, table, &Sigma1, kept, hyps, a, b, c, p, q),
+        44 => sel_same(alloc, table, &Sigma1, kept, hyps, a, b, c),
+        45 => sel_other(alloc, table, &Sigma1, kept, hyps, a, b, c, d, p),
         _ => Ok(None),
     }
 }
@@ -107,23 +109,23 @@ fn of_arithmetic(
 ) -> KitAnswer
     requires hyps { AllKnown table.old hyps.now }
     requires params { AllKnown table.old (a ∷ b ∷ c ∷ d ∷ []) }
-    requires premises { AreSequents table.old (p.now ∷ q.now ∷ r.now ∷ []) }
-    requires kept { AreKept declared table.old kept.old }
+    requires premises { AreSequents (declared Sigma1) table.old (p.now ∷ q.now ∷ r.now ∷ []) }
+    requires kept { AreKept (declared Sigma1) table.old kept.old }
 {
     match rule {
-        46 => add_comm(alloc, table, kept, hyps, a, b),
-        47 => add_assoc(alloc, table, kept, hyps, a, b, c),
-        48 => add_zero(alloc, table, kept, hyps, a),
-        49 => sub_add(alloc, table, kept, hyps, a, b),
-        50 => sub_neg(alloc, table, kept, hyps, a, b),
-        51 => and_comm(alloc, table, kept, hyps, a, b),
-        52 => and_assoc(alloc, table, kept, hyps, a, b, c),
-        53 => and_zero(alloc, table, kept, hyps, a),
-        54 => and_le(alloc, table, kept, hyps, a, b),
-        55 => bis_zero(alloc, table, kept, hyps, a),
-        56 => bis_zero_l(alloc, table, kept, hyps, a),
-        57 => add_al(alloc, table, kept, hyps, a, b, p, q),
-        58 => sll_al(alloc, table, kept, hyps, a),
+        46 => add_comm(alloc, table, &Sigma1, kept, hyps, a, b),
+        47 => add_assoc(alloc, table, &Sigma1, kept, hyps, a, b, c),
+        48 => add_zero(alloc, table, &Sigma1, kept, hyps, a),
+        49 => sub_add(alloc, table, &Sigma1, kept, hyps, a, b),
+        50 => sub_neg(alloc, table, &Sigma1, kept, hyps, a, b),
+        51 => and_comm(alloc, table, &Sigma1, kept, hyps, a, b),
+        52 => and_assoc(alloc, table, &Sigma1, kept, hyps, a, b, c),
+        53 => and_zero(alloc, table, &Sigma1, kept, hyps, a),
+        54 => and_le(alloc, table, &Sigma1, kept, hyps, a, b),
+        55 => bis_zero(alloc, table, &Sigma1, kept, hyps, a),
+        56 => bis_zero_l(alloc, table, &Sigma1, kept, hyps, a),
+        57 => add_al(alloc, table, &Sigma1, kept, hyps, a, b, p, q),
+        58 => sll_al(alloc, table, &Sigma1, kept, hyps, a),
         _ => Ok(None),
     }
 }
@@ -145,24 +147,24 @@ fn of_order(
 ) -> KitAnswer
     requires hyps { AllKnown table.old hyps.now }
     requires params { AllKnown table.old (a ∷ b ∷ c ∷ d ∷ []) }
-    requires premises { AreSequents table.old (p.now ∷ q.now ∷ r.now ∷ []) }
-    requires kept { AreKept declared table.old kept.old }
+    requires premises { AreSequents (declared Sigma1) table.old (p.now ∷ q.now ∷ r.now ∷ []) }
+    requires kept { AreKept (declared Sigma1) table.old kept.old }
 {
     match rule {
-        59 => srl_mono(alloc, table, kept, hyps, a, b, c, p),
-        60 => sll_mono(alloc, table, kept, hyps, a, b, c, p, q),
-        61 => zero_le(alloc, table, kept, hyps, a),
-        62 => max_le(alloc, table, kept, hyps, a),
-        63 => ule_refl(alloc, table, kept, hyps, a),
-        64 => ule_trans(alloc, table, kept, hyps, a, b, c, p, q),
-        65 => ult_ule(alloc, table, kept, hyps, a, b, p),
-        66 => lt_le(alloc, table, kept, hyps, a, b, c, p, q),
-        67 => le_lt(alloc, table, kept, hyps, a, b, c, p, q),
-        68 => lt_pred(alloc, table, kept, hyps, a, b, p),
-        69 => le_anti(alloc, table, kept, hyps, a, b, p, q),
-        70 => not_lt(alloc, table, kept, hyps, a, b, p),
-        71 => lt_irr(alloc, table, kept, hyps, a, p),
-        72 => add_le(alloc, table, kept, hyps, a, b, c, d, p, q, r),
+        59 => srl_mono(alloc, table, &Sigma1, kept, hyps, a, b, c, p),
+        60 => sll_mono(alloc, table, &Sigma1, kept, hyps, a, b, c, p, q),
+        61 => zero_le(alloc, table, &Sigma1, kept, hyps, a),
+        62 => max_le(alloc, table, &Sigma1, kept, hyps, a),
+        63 => ule_refl(alloc, table, &Sigma1, kept, hyps, a),
+        64 => ule_trans(alloc, table, &Sigma1, kept, hyps, a, b, c, p, q),
+        65 => ult_ule(alloc, table, &Sigma1, kept, hyps, a, b, p),
+        66 => lt_le(alloc, table, &Sigma1, kept, hyps, a, b, c, p, q),
+        67 => le_lt(alloc, table, &Sigma1, kept, hyps, a, b, c, p, q),
+        68 => lt_pred(alloc, table, &Sigma1, kept, hyps, a, b, p),
+        69 => le_anti(alloc, table, &Sigma1, kept, hyps, a, b, p, q),
+        70 => not_lt(alloc, table, &Sigma1, kept, hyps, a, b, p),
+        71 => lt_irr(alloc, table, &Sigma1, kept, hyps, a, p),
+        72 => add_le(alloc, table, &Sigma1, kept, hyps, a, b, c, d, p, q, r),
         _ => Ok(None),
     }
 }
@@ -184,13 +186,13 @@ fn of_compares(
 ) -> KitAnswer
     requires hyps { AllKnown table.old hyps.now }
     requires params { AllKnown table.old (a ∷ b ∷ c ∷ d ∷ []) }
-    requires premises { AreSequents table.old (p.now ∷ q.now ∷ r.now ∷ []) }
-    requires kept { AreKept declared table.old kept.old }
+    requires premises { AreSequents (declared Sigma1) table.old (p.now ∷ q.now ∷ r.now ∷ []) }
+    requires kept { AreKept (declared Sigma1) table.old kept.old }
 {
     match rule {
-        73..=77 => cmp_yes(alloc, table, kept, hyps, rule - 73, a, b, p),
-        78..=82 => cmp_no(alloc, table, kept, hyps, rule - 78, a, b, p),
-        83..=87 => cmp_le1(alloc, table, kept, hyps, rule - 83, a, b),
+        73..=77 => cmp_yes(alloc, table, &Sigma1, kept, hyps, rule - 73, a, b, p),
+        78..=82 => cmp_no(alloc, table, &Sigma1, kept, hyps, rule - 78, a, b, p),
+        83..=87 => cmp_le1(alloc, table, &Sigma1, kept, hyps, rule - 83, a, b),
         _ => Ok(None),
     }
 }
@@ -212,8 +214,8 @@ pub fn by_number(
 ) -> KitAnswer
     requires hyps { AllKnown table.old hyps.now }
     requires params { AllKnown table.old (a ∷ b ∷ c ∷ d ∷ []) }
-    requires premises { AreSequents table.old (p.now ∷ q.now ∷ r.now ∷ []) }
-    requires kept { AreKept declared table.old kept.old }
+    requires premises { AreSequents (declared Sigma1) table.old (p.now ∷ q.now ∷ r.now ∷ []) }
+    requires kept { AreKept (declared Sigma1) table.old kept.old }
 {
     match rule {
         27..=37 => of_connectives(alloc, table, kept, hyps, rule, a, b, c, d, p, q, r),

@@ -5,7 +5,8 @@
 //! Of terms, the signature and substitution (`terms.txt`):
 //!
 //! - `height t`, `weight t`, `reach t`, and `same a b`: whether two trees have one id;
-//! - `declared c`: the type that the signature gives a constant; `parameters N` and `premises N`: how
+//! - `declared c`: the type that the first signature of word arithmetic gives a constant, and
+//!   `declared_in N c`: the one that signature N does, 1 to 3; `parameters N` and `premises N`: how
 //!   many the rule of this number has;
 //! - `shift BY FROM t`, and `weaken BY t`: from the nearest binder on, by up to 2^32;
 //! - `subst S t u`: u for variable 0 in t, S being a type with u's simple type; `subst_type S A u`: in
@@ -27,13 +28,14 @@
 //!   hypotheses A .. at the parameters a .. and the sequents P .. of its premises, R being a rule's
 //!   constant; the answer is tested to be a sequent under these hypotheses;
 //! - `constant c`: the goal of the sequent that is answered for an evaluation, a fact or a denial;
-//! - `by_rule N`: that of a rule's number without parameters and premises; `cmp_le1 N a b`: that of
-//!   the last family's pair N; both are tested too;
+//! - `cmp_le1 N a b`: that of the last family's pair N, which is tested too; `by_rule S N a ..`: that
+//!   of rule N over signature S at parameters, without hypotheses and premises;
 //! - `rule_term N a ..`: the term of a rule's number at terms.
 //!
 //! Of what proves a formula (`truths.txt`):
 //!
-//! - `proves t F`: whether the term t proves the formula F;
+//! - `proves t F`: whether the term t proves the formula F over the first signature, and
+//!   `proves_in N t F`: whether it does over signature N;
 //! - `proves_after u G t F`: whether it does, with what is kept of whether u proves G;
 //! - `proved t F`: whether F is the formula that t proves, which is found without F.
 //!

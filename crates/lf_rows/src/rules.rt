@@ -3,14 +3,17 @@
 ghost use Rattle.std.specs.Prelude.{OnOk};
 ghost use Rattle.term_table.specs.Table.{Extends};
 ghost use Rattle.lf_sequents.specs.Sequents.{IsSequent};
+ghost use Rattle.lf_signature.specs.Constants.{declared};
+ghost use Rattle.lf_signature.specs.declared.WordSignature.TheVariants.{Sigma1};
 
 use crate::answers::constant_number;
 use crate::functions::{KitAnswer, by_number};
 use crate::judgements::context;
+use crate::terms::signature_of;
 use lf_check::{Kept, check_term};
 use lf_rules::rule_term;
 use lf_sequents::{Sequent, by_rule};
-use lf_signature::{Sigma1, pf};
+use lf_signature::{Sigma1, WordSignature, pf};
 use proof_kit::{calc, cmp_le1, deny, fact};
 use std::alloc::Global;
 use term_table::{Id, Node, Table};
@@ -23,7 +26,7 @@ use test_inputs::term_text::{all_known, known, read_term, small_number};
 /// Tests that a sequent is one of the table.
 fn tested(alloc: Global, table: &mut Table, s: &Sequent) -> Read<()>
     ensures extends { Extends table.old table.new }
-    ensures sequent { OnOk result (IsSequent table.new s.now) }
+    ensures sequent { OnOk result (IsSequent (declared Sigma1) table.new s.now) }
 {
     known(table, s.goal)?;
     let Ok(kind) = pf(table, s.goal) else {
@@ -169,9 +172,9 @@ fn ruled(
 /// The sequent of a constant that proves something of two words.
 fn constant_sequent(alloc: Global, table: &mut Table, node: Node) -> Read<Option<Sequent>> {
     match node {
-        Node::Calc(op, a, b) => roomy(calc(alloc, table, &[], op, a, b)),
-        Node::Fact(rel, a, b) => roomy(fact(alloc, table, &[], rel, a, b)),
-        Node::Deny(rel, a, b) => roomy(deny(alloc, table, &[], rel, a, b)),
+        Node::Calc(op, a, b) => roomy(calc(alloc, table, &Sigma1, &[], op, a, b)),
+        Node::Fact(rel, a, b) => roomy(fact(alloc, table, &Sigma1, &[], rel, a, b)),
+        Node::Deny(rel, a, b) => roomy(deny(alloc, table, &Sigma1, &[], rel, a, b)),
         _ => Err(RowFault::Word),
     }
 }
@@ -189,12 +192,25 @@ fn constant_goal(
     goal_of(alloc, table, &[], answer)
 }
 
-/// The answer by a rule's number without parameters and premises.
-fn bare_rule(alloc: Global, table: &mut Table, cursor: &mut Cursor<'_>) -> Read<Answer> {
+/// What the rule of a number concludes over a signature at parameters, without hypotheses and
+/// premises.
+fn bare_rule(
+    alloc: Global,
+    table: &mut Table,
+    names: &Names,
+    cursor: &mut Cursor<'_>,
+    signature: &WordSignature,
+) -> Read<Answer> {
     let number = small_number(cursor)?;
+    let terms = parameters(alloc, table, names, cursor)?;
+    let params = terms.as_slice();
+    all_known(table, params)?;
     let mut kept = Kept::new(alloc, 1_000);
-    let answer = roomy(by_rule(alloc, table, &mut kept, &[], number, &[], &[]))?;
-    goal_of(alloc, table, &[], answer)
+    let answer = roomy(by_rule(alloc, table, signature, &mut kept, &[], number, params, &[]))?;
+    match answer {
+        Some(found) => Ok(Answer::Tree(found.goal)),
+        None => Ok(Answer::Nothing),
+    }
 }
 
 /// The answer of the last family of rules at a pair of this number and two terms.
@@ -209,7 +225,7 @@ fn paired(
     let b = read_term(table, names, cursor)?;
     known(table, a)?;
     let mut kept = Kept::new(alloc, 1_000);
-    let answer = roomy(cmp_le1(alloc, table, &mut kept, &[], pair, a, b))?;
+    let answer = roomy(cmp_le1(alloc, table, &Sigma1, &mut kept, &[], pair, a, b))?;
     goal_of(alloc, table, &[], answer)
 }
 
@@ -242,7 +258,8 @@ pub(crate) fn about_rules(
         return Ok(Some(constant_goal(alloc, table, names, cursor)?));
     }
     if question == b"by_rule".as_slice() {
-        return Ok(Some(bare_rule(alloc, table, cursor)?));
+        let signature = signature_of(cursor)?;
+        return Ok(Some(bare_rule(alloc, table, names, cursor, &signature)?));
     }
     if question == b"cmp_le1".as_slice() {
         return Ok(Some(paired(alloc, table, names, cursor)?));

@@ -4,7 +4,7 @@ use crate::answers::found;
 use hereditary_subst::{
     Memo, erase, shift, subst, subst_type, subst_type_with, weaken, weaken_with,
 };
-use lf_signature::{declared, rule_at};
+use lf_signature::{WordSignature, declared, rule_at};
 use std::alloc::Global;
 use term_table::Table;
 use test_inputs::cursors::Cursor;
@@ -44,11 +44,26 @@ fn same(table: &mut Table, names: &Names, cursor: &mut Cursor<'_>) -> Read<Answe
     Ok(Answer::holds(table.same(first, second)))
 }
 
-/// The type that the signature gives a constant.
-fn declared_type(table: &mut Table, names: &Names, cursor: &mut Cursor<'_>) -> Read<Answer> {
+/// The signature of word arithmetic that a number names: 1, 2 or 3.
+pub(crate) fn signature_of(cursor: &mut Cursor<'_>) -> Read<WordSignature> {
+    match small_number(cursor)? {
+        1 => Ok(WordSignature::Sigma1),
+        2 => Ok(WordSignature::Sigma2),
+        3 => Ok(WordSignature::Sigma3),
+        _ => Err(RowFault::Number),
+    }
+}
+
+/// The type that a signature gives a constant.
+fn declared_type(
+    table: &mut Table,
+    names: &Names,
+    signature: &WordSignature,
+    cursor: &mut Cursor<'_>,
+) -> Read<Answer> {
     let constant = read_either(table, names, cursor)?;
     let node = table.node(constant);
-    Ok(found(declared(table, node)))
+    Ok(found(declared(table, signature, node)))
 }
 
 /// How many parameters, or premises, the rule of a number has.
@@ -181,7 +196,11 @@ pub(crate) fn about_terms(
         return Ok(Some(same(table, names, cursor)?));
     }
     if question == b"declared".as_slice() {
-        return Ok(Some(declared_type(table, names, cursor)?));
+        return Ok(Some(declared_type(table, names, &WordSignature::Sigma1, cursor)?));
+    }
+    if question == b"declared_in".as_slice() {
+        let signature = signature_of(cursor)?;
+        return Ok(Some(declared_type(table, names, &signature, cursor)?));
     }
     if question == b"alike".as_slice() {
         return Ok(Some(alike(alloc, table, names, cursor)?));

@@ -1,7 +1,9 @@
 //! Questions on what proves a formula.
 
 use crate::answers::decided;
+use crate::terms::signature_of;
 use lf_check::{Kept, MOST_RESULTS};
+use lf_signature::{Sigma1, WordSignature};
 use lf_truth::{prove_true, prove_true_with, proved_formula_with};
 use std::alloc::Global;
 use term_table::{Id, Table};
@@ -18,12 +20,17 @@ fn claim(table: &mut Table, names: &Names, cursor: &mut Cursor<'_>) -> Read<(Id,
     Ok((proof, goal))
 }
 
-/// Whether a term proves a formula.
-fn proves(table: &mut Table, names: &Names, cursor: &mut Cursor<'_>) -> Read<Answer> {
+/// Whether a term proves a formula over a signature.
+fn proves(
+    table: &mut Table,
+    names: &Names,
+    signature: &WordSignature,
+    cursor: &mut Cursor<'_>,
+) -> Read<Answer> {
     let (proof, goal) = claim(table, names, cursor)?;
     known(table, proof)?;
     known(table, goal)?;
-    Ok(decided(prove_true(table, proof, goal)))
+    Ok(decided(prove_true(table, signature, proof, goal)))
 }
 
 /// Whether the second term proves the second formula, with what is kept of the first two.
@@ -38,12 +45,12 @@ fn proves_after(
     known(table, first)?;
     known(table, its_goal)?;
     let mut kept = Kept::new(alloc, MOST_RESULTS);
-    if prove_true_with(table, &mut kept, first, its_goal).is_err() {
+    if prove_true_with(table, &mut kept, &Sigma1, first, its_goal).is_err() {
         return Ok(Answer::Memory);
     }
     known(table, proof)?;
     known(table, goal)?;
-    Ok(decided(prove_true_with(table, &mut kept, proof, goal)))
+    Ok(decided(prove_true_with(table, &mut kept, &Sigma1, proof, goal)))
 }
 
 /// Whether the formula is the one that the term proves.
@@ -56,7 +63,7 @@ fn proved(
     let (proof, goal) = claim(table, names, cursor)?;
     known(table, proof)?;
     let mut kept = Kept::new(alloc, MOST_RESULTS);
-    match proved_formula_with(table, &mut kept, proof) {
+    match proved_formula_with(table, &mut kept, &Sigma1, proof) {
         Ok(Some(found)) => Ok(Answer::holds(found == goal)),
         Ok(None) => Ok(Answer::holds(false)),
         Err(_) => Ok(Answer::Memory),
@@ -72,7 +79,11 @@ pub(crate) fn about_truths(
     cursor: &mut Cursor<'_>,
 ) -> Read<Option<Answer>> {
     if question == b"proves".as_slice() {
-        return Ok(Some(proves(table, names, cursor)?));
+        return Ok(Some(proves(table, names, &Sigma1, cursor)?));
+    }
+    if question == b"proves_in".as_slice() {
+        let signature = signature_of(cursor)?;
+        return Ok(Some(proves(table, names, &signature, cursor)?));
     }
     if question == b"proves_after".as_slice() {
         return Ok(Some(proves_after(alloc, table, names, cursor)?));

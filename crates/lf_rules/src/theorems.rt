@@ -1,13 +1,13 @@
 //! Laws of rules at arguments, and of plain substitution.
 
-ghost use Rattle.std.specs.Prelude.{◌≡◌, ◌≤◌, ◌+◌, ◌^◌, ℕ, List, [], Some, length};
-ghost use Rattle.term_table.specs.Tree.{Tree, Fam, at};
+ghost use Rattle.std.specs.Prelude.{◌≡◌, ◌≤◌, ◌+◌, ◌^◌, ℕ, List, [], Option, Some, length};
+ghost use Rattle.term_table.specs.Tree.{Tree, Const, Num, Fam, at};
 ghost use Rattle.term_table.specs.Subst.{Base, hsub};
 ghost use Rattle.term_table.specs.Table.{TableView, tree_at, ctx_of, Extends};
 ghost use Rattle.lf_signature.specs.Terms.{pf};
-ghost use Rattle.lf_signature.specs.Rules.{Rule};
+ghost use Rattle.lf_signature.specs.Rules.{Rule, rule_type};
 ghost use Rattle.lf_signature.specs.Typing.{Checks};
-ghost use Rattle.lf_signature.specs.Sigma1.{declared, rule_at};
+ghost use Rattle.lf_signature.specs.Constants.{rule_at};
 ghost use Rattle.lf_rules.specs.Plain.{IsUnapplied, plain_subst, var_bound, binder_depth};
 ghost use Rattle.lf_rules.specs.Named.{AreNamed};
 ghost use Rattle.lf_rules.specs.Instance.{nth_arg, form_with, by_rule, AreArguments, AreProofs};
@@ -15,13 +15,13 @@ ghost use Rattle.lf_rules.specs.Instance.{nth_arg, form_with, by_rule, AreArgume
 /// Laws of the rules: at arguments and at proofs of its premises a rule's constant is a proof of its
 /// conclusion there. A term's variables are bounded by its context and its binders.
 pub fn rule_laws()
-    ensures sound { (n : ℕ) (r : Rule) → rule_at n ≡ Some r
-        → (ctx : List Tree) (d : ℕ) (args proofs : List Tree)
-        → AreArguments ctx d r.parameters args
-        → AreProofs ctx d (nth_arg args) r.premises proofs
-        → Checks declared ctx (by_rule n args proofs) (pf (form_with r.conclusion (nth_arg args))) }
-    ensures bounded { (ctx : List Tree) (t a : Tree) → Checks declared ctx t a
-        → var_bound t ≤ length ctx + binder_depth t }
+    ensures sound { (sig : Const → Option Tree) (n : ℕ) (r : Rule) → rule_at n ≡ Some r
+        → sig (Num n) ≡ Some (rule_type r) → (ctx : List Tree) (d : ℕ) (args proofs : List Tree)
+        → AreArguments sig ctx d r.parameters args
+        → AreProofs sig ctx d (nth_arg args) r.premises proofs
+        → Checks sig ctx (by_rule n args proofs) (pf (form_with r.conclusion (nth_arg args))) }
+    ensures bounded { (sig : Const → Option Tree) (ctx : List Tree) (t a : Tree)
+        → Checks sig ctx t a → var_bound t ≤ length ctx + binder_depth t }
 {}
 
 /// The rules' names: the rule at each named number is the one that its name stands for.
@@ -34,6 +34,6 @@ pub fn name_laws()
 pub fn plain_laws()
     ensures plain { (t : Tree) (x : ℕ) → IsUnapplied x t → (s : ℕ) (m : Tree)
         → var_bound m + binder_depth t ≤ 2 ^ 32 → hsub (Base s) m x t ≡ Some (plain_subst m x t) }
-    ensures unapplied { (ctx : List Tree) (x f : ℕ) (t a : Tree) → at ctx x ≡ Some (Fam f)
-        → Checks declared ctx t a → IsUnapplied x t }
+    ensures unapplied { (sig : Const → Option Tree) (ctx : List Tree) (x f : ℕ) (t a : Tree)
+        → at ctx x ≡ Some (Fam f) → Checks sig ctx t a → IsUnapplied x t }
 {}

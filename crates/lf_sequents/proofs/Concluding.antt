@@ -1,11 +1,11 @@
 -- The conclusion of a rule at parameters and premises that have its form.
-use Rattle.std.proofs.Common.{◌≡◌, ℕ, ◌+◌, ◌≤◌, ◌^◌, List, [], ◌∷◌, Some, sym, ◌∙◌, ap, subst, length, arith}
-use Rattle.term_table.specs.Tree.{Tree, Lam, Pi}
+use Rattle.std.proofs.Common.{◌≡◌, ℕ, ◌+◌, ◌≤◌, ◌^◌, List, [], ◌∷◌, Some, sym, ◌∙◌, ap, subst, length, Option, arith}
+use Rattle.term_table.specs.Tree.{Tree, Const, Num, Lam, Pi}
 use Rattle.term_table.specs.Table.{TableView, IsKnown, AllKnown, tree_at, put_last, ctx_of, Extends}
 use Rattle.lf_signature.specs.Terms.{exp, mem, pf}
-use Rattle.lf_signature.specs.Rules.{Sort, Premise, Plain, Under, ForExp, ForMem, Rule}
+use Rattle.lf_signature.specs.Rules.{Sort, Premise, Plain, Under, ForExp, ForMem, Rule, rule_type}
 use Rattle.lf_signature.specs.Typing.{Checks, lam_checks}
-use Rattle.lf_signature.specs.Sigma1.{declared, rule_at}
+use Rattle.lf_signature.specs.Constants.{rule_at}
 use Rattle.lf_check.proofs.TypeLists.{ctx-push}
 use Rattle.lf_rules.specs.Plain.{binder_depth}
 use Rattle.lf_rules.specs.Instance.{nth_arg, form_with, premise_with, under_binder, by_rule, AreArguments, IsProof, AreProofs}
@@ -26,59 +26,61 @@ ctx-length t ids = go ids [] ∙ omega arith
     go [] ctx = omega arith
     go (i ∷ ids) ctx = omega (arith, go ids (tree_at t i ∷ ctx))
 
-module _ (ctx : List Tree) (d : ℕ) (few : length ctx + (d + (d + d)) + 32 ≤ 2 ^ 32) where
-  arguments_ready : (ss : List Sort) (l : List Tree) → AreTyped ctx ss l → AreShallow d l → AreArguments ctx d ss l
+module _ (sig : Const → Option Tree) (ctx : List Tree) (d : ℕ) (few : length ctx + (d + (d + d)) + 32 ≤ 2 ^ 32) where
+  arguments_ready : (ss : List Sort) (l : List Tree) → AreTyped sig ctx ss l → AreShallow d l → AreArguments sig ctx d ss l
   arguments_ready [] [] h k = tt
   arguments_ready (s ∷ ss) (a ∷ l) h k =
       (record { checks = h.0; depth = k.0; room = omega (arith, bounded h.0, k.0, few) }, arguments_ready ss l h.1 k.1)
   arguments_ready [] (a ∷ l) h k = elim h [ ]
   arguments_ready (s ∷ ss) [] h k = elim h [ ]
 
-  under_ready : (a b p : Tree) → Checks declared (a ∷ ctx) p b → binder_depth p ≤ d → IsProof ctx d (Pi a b) (Lam p)
+  under_ready : (a b p : Tree) → Checks sig (a ∷ ctx) p b → binder_depth p ≤ d → IsProof sig ctx d (Pi a b) (Lam p)
   under_ready a b p h k = record { checks = lam_checks h; room = omega (arith, bounded h, k, few) }
 
-module _ (t : TableView) (hyps : List ℕ) (d : ℕ) (few : length (ctx_of t hyps) + (d + (d + d)) + 32 ≤ 2 ^ 32) (args : ℕ → Tree) where
+module _ (sig : Const → Option Tree) (t : TableView) (hyps : List ℕ) (d : ℕ) (few : length (ctx_of t hyps) + (d + (d + d)) + 32 ≤ 2 ^ 32) (args : ℕ → Tree) where
   -- under one more hypothesis
-  binder_ready : (type goal : Tree) (s : Sequent) → IsSequent t s → Binds t hyps type s.hyps.items → tree_at t s.goal ≡ goal → binder_depth (tree_at t s.term) ≤ d → IsProof (ctx_of t hyps) d (Pi type (pf goal)) (Lam (tree_at t s.term))
+  binder_ready : (type goal : Tree) (s : Sequent) → IsSequent sig t s → Binds t hyps type s.hyps.items → tree_at t s.goal ≡ goal → binder_depth (tree_at t s.term) ≤ d → IsProof sig (ctx_of t hyps) d (Pi type (pf goal)) (Lam (tree_at t s.term))
   binder_ready type goal s k b e low =
-      under_ready (ctx_of t hyps) d few type (pf goal) (tree_at t s.term)
-      (subst (λ (z : Type 0). z) (λ i. Checks declared ((ap (ctx_of t) b.all ∙ ctx-push t hyps b.last ∙ ap (λ z. z ∷ ctx_of t hyps) b.is) i) (tree_at t s.term) (pf (e i))) k.proves) low
+      under_ready sig (ctx_of t hyps) d few type (pf goal) (tree_at t s.term)
+      (subst (λ (z : Type 0). z) (λ i. Checks sig ((ap (ctx_of t) b.all ∙ ctx-push t hyps b.last ∙ ap (λ z. z ∷ ctx_of t hyps) b.is) i) (tree_at t s.term) (pf (e i))) k.proves) low
 
-  premise_ready : (q : Premise) (s : Sequent) → IsSequent t s → FitsPremise t hyps args q s → binder_depth (tree_at t s.term) ≤ d → IsProof (ctx_of t hyps) d (premise_with q args) (proof_taken q (tree_at t s.term))
+  premise_ready : (q : Premise) (s : Sequent) → IsSequent sig t s → FitsPremise t hyps args q s → binder_depth (tree_at t s.term) ≤ d → IsProof sig (ctx_of t hyps) d (premise_with q args) (proof_taken q (tree_at t s.term))
   premise_ready (Plain p) s k h low =
-      let proves : Checks declared (ctx_of t hyps) (tree_at t s.term) (pf (form_with p args)) = subst (λ (z : Type 0). z) (λ i. Checks declared (ctx_of t (h.0 i)) (tree_at t s.term) (pf (h.1 i))) k.proves in
+      let proves : Checks sig (ctx_of t hyps) (tree_at t s.term) (pf (form_with p args)) = subst (λ (z : Type 0). z) (λ i. Checks sig (ctx_of t (h.0 i)) (tree_at t s.term) (pf (h.1 i))) k.proves in
       record { checks = proves; room = omega (arith, bounded proves, low, few) }
   premise_ready (Under p q) s k h low = binder_ready (pf (form_with p args)) (form_with q (under_binder args)) s k h.0 h.1 low
   premise_ready (ForExp p) s k h low = binder_ready exp (form_with p (under_binder args)) s k h.0 h.1 low
   premise_ready (ForMem p) s k h low = binder_ready mem (form_with p (under_binder args)) s k h.0 h.1 low
 
-  proofs_ready : (qs : List Premise) (l : List Sequent) → AreSequents t l → FitPremises t hyps args qs l → AreShallow d (terms_of t l) → AreProofs (ctx_of t hyps) d args qs (proofs_taken t qs l)
+  proofs_ready : (qs : List Premise) (l : List Sequent) → AreSequents sig t l → FitPremises t hyps args qs l → AreShallow d (terms_of t l) → AreProofs sig (ctx_of t hyps) d args qs (proofs_taken t qs l)
   proofs_ready [] [] k h low = tt
   proofs_ready (q ∷ qs) (s ∷ l) k h low = (premise_ready q s k.0 h.0 low.0, proofs_ready qs l k.1 h.1 low.1)
   proofs_ready [] (s ∷ l) k h low = elim h [ ]
   proofs_ready (q ∷ qs) [] k h low = elim h [ ]
 
 -- the rule's constant at the parameters and the premises' proofs proves the conclusion
-pub proves_conclusion : (t : TableView) (hyps params : List ℕ) (n : ℕ) (r : Rule) (l : List Sequent) → rule_at n ≡ Some r → AreSequents t l → HasVarRoom t hyps params l → HasForm t hyps params r l →
-    Checks declared (ctx_of t hyps) (by_rule n (trees_of t params) (proofs_taken t r.premises l)) (pf (form_with r.conclusion (nth_arg (trees_of t params))))
-proves_conclusion t hyps params n r l e k room form =
+pub proves_conclusion : (sig : Const → Option Tree) (t : TableView) (hyps params : List ℕ) (n : ℕ) (r : Rule) (l : List Sequent) → rule_at n ≡ Some r → sig (Num n) ≡ Some (rule_type r) → AreSequents sig t l → HasVarRoom t hyps params l → HasForm sig t hyps params r l →
+    Checks sig (ctx_of t hyps) (by_rule n (trees_of t params) (proofs_taken t r.premises l)) (pf (form_with r.conclusion (nth_arg (trees_of t params))))
+proves_conclusion sig t hyps params n r l e has k room form =
     let few : length (ctx_of t hyps) + (room.depth + (room.depth + room.depth)) + 32 ≤ 2 ^ 32 = omega (arith, ctx-length t hyps, room.few) in
-    rule_checks n r e (ctx_of t hyps) room.depth (trees_of t params) (proofs_taken t r.premises l)
-    (arguments_ready (ctx_of t hyps) room.depth few r.parameters (trees_of t params) form.typed room.parameters)
-    (proofs_ready t hyps room.depth few (nth_arg (trees_of t params)) r.premises l k form.fit room.proofs)
+    rule_checks sig n r e has (ctx_of t hyps) room.depth (trees_of t params) (proofs_taken t r.premises l)
+    (arguments_ready sig (ctx_of t hyps) room.depth few r.parameters (trees_of t params) form.typed room.parameters)
+    (proofs_ready sig t hyps room.depth few (nth_arg (trees_of t params)) r.premises l k form.fit room.proofs)
 
-pub concluded : (t u : TableView) (hyps params : List ℕ) (n : ℕ) (r : Rule) (l : List Sequent) (s : Sequent) → rule_at n ≡ Some r → AllKnown t hyps → AreSequents t l → HasVarRoom t hyps params l → HasForm t hyps params r l →
-    Extends t u → s.hyps.items ≡ hyps → IsKnown u s.goal → tree_at u s.goal ≡ form_with r.conclusion (nth_arg (trees_of t params)) → IsKnown u s.term → tree_at u s.term ≡ by_rule n (trees_of t params) (proofs_taken t r.premises l) → Concludes t u hyps params n r l s
-concluded t u hyps params n r l s e known k room form x same goal-known goal term-known term =
+pub concluded : (sig : Const → Option Tree) (t u : TableView) (hyps params : List ℕ) (n : ℕ) (r : Rule) (l : List Sequent) (s : Sequent) → rule_at n ≡ Some r → sig (Num n) ≡ Some (rule_type r) → AllKnown t hyps → AreSequents sig t l → HasVarRoom t hyps params l → HasForm sig t hyps params r l →
+    Extends t u → s.hyps.items ≡ hyps → IsKnown u s.goal → tree_at u s.goal ≡ form_with r.conclusion (nth_arg (trees_of t params)) → IsKnown u s.term → tree_at u s.term ≡ by_rule n (trees_of t params) (proofs_taken t r.premises l) → Concludes sig t u hyps params n r l s
+concluded sig t u hyps params n r l s e has known k room form x same goal-known goal term-known term =
     let ctx : ctx_of t hyps ≡ ctx_of u s.hyps.items = sym (ap (ctx_of u) same ∙ ctx-same t u hyps known x) in
     record {
       hyps = same;
       goal = goal;
       term = term;
       sequent = record {
-        hyps = subst (λ z. AllKnown u z) (sym same) (known-more t u hyps known x);
-        goal = goal-known;
-        term = term-known;
-        proves = subst (λ (z : Type 0). z) (λ i. Checks declared (ctx i) (sym term i) (pf (sym goal i))) (proves_conclusion t hyps params n r l e k room form);
+        placed = record {
+          hyps = subst (λ z. AllKnown u z) (sym same) (known-more t u hyps known x);
+          goal = goal-known;
+          term = term-known;
+        };
+        proves = subst (λ (z : Type 0). z) (λ i. Checks sig (ctx i) (sym term i) (pf (sym goal i))) (proves_conclusion sig t hyps params n r l e has k room form);
       };
     }

@@ -1,16 +1,15 @@
 -- Hypotheses and premises as the table grows.
 use Rattle.std.specs.Prelude.{Result, Ok, Err}
-use Rattle.std.proofs.Common.{◌≡◌, ◌↔◌, ◌==◌, ◌<◌, Bool, IfOk, IsTrue, ℕ, suc, ◌++◌, List, [], ◌∷◌, refl, sym, ◌∙◌, ap, subst, length, eqb-true, arith}
-use Rattle.term_table.specs.Tree.{Tree}
+use Rattle.std.proofs.Common.{◌≡◌, ◌↔◌, ◌==◌, ◌<◌, Bool, IfOk, IsTrue, ℕ, suc, ◌++◌, List, [], ◌∷◌, Option, refl, sym, ◌∙◌, ap, subst, length, eqb-true, arith}
+use Rattle.term_table.specs.Tree.{Tree, Const}
 use Rattle.term_table.specs.Table.{TableView, IsKnown, AllKnown, tree_at, put_last, ctx_of, Extends}
 use Rattle.lf_signature.specs.Terms.{exp, mem, pf}
 use Rattle.lf_signature.specs.Rules.{Sort, sort_type, Premise, Plain, Under, ForExp, ForMem}
 use Rattle.lf_signature.specs.Typing.{Checks, atom_checks}
-use Rattle.lf_signature.specs.Sigma1.{declared}
 use Rattle.lf_signature.specs.Laws.Decided.{synth_unique}
 use Rattle.lf_rules.specs.Instance.{form_with}
 use Rattle.lf_sequents.specs.declared.sequent.Sequent.{Sequent}
-use Rattle.lf_sequents.specs.Sequents.{IsSequent, AreSequents}
+use Rattle.lf_sequents.specs.Sequents.{IsOfTable, AreOfTable, IsSequent, AreSequents}
 use Rattle.lf_sequents.specs.Answers.{AreTyped, Binds, FitsPremise, FitPremises, proof_taken, proofs_taken}
 use Rattle.lf_rules.proofs.Grown.{known-more}
 
@@ -35,79 +34,88 @@ binds-back t u hyps ids type x k b =
 pub binds-more : (t u : TableView) (hyps ids : List ℕ) (type : Tree) → Extends t u → Binds t hyps type ids → Binds u hyps type ids
 binds-more t u hyps ids type x b = record { last = b.last; known = omega (arith, b.known, x.longer); is = x.same b.last b.known ∙ b.is; all = b.all }
 
-pub sequent-more : (t u : TableView) (s : Sequent) → IsSequent t s → Extends t u → IsSequent u s
-sequent-more t u s h x =
+pub placed-more : (t u : TableView) (s : Sequent) → IsOfTable t s → Extends t u → IsOfTable u s
+placed-more t u s h x = record {
+  hyps = known-more t u s.hyps.items h.hyps x;
+  goal = omega (arith, h.goal, x.longer);
+  term = omega (arith, h.term, x.longer);
+}
+
+pub placeds-more : (t u : TableView) (l : List Sequent) → AreOfTable t l → Extends t u → AreOfTable u l
+placeds-more t u [] h x = tt
+placeds-more t u (s ∷ l) h x = (placed-more t u s h.0 x, placeds-more t u l h.1 x)
+
+pub are_placed : (sig : Const → Option Tree) (t : TableView) (l : List Sequent) → AreSequents sig t l → AreOfTable t l
+are_placed sig t [] h = tt
+are_placed sig t (s ∷ l) h = (h.0.placed, are_placed sig t l h.1)
+
+pub sequent-more : (sig : Const → Option Tree) (t u : TableView) (s : Sequent) → IsSequent sig t s → Extends t u → IsSequent sig u s
+sequent-more sig t u s h x =
     record {
-      hyps = known-more t u s.hyps.items h.hyps x;
-      goal = omega (arith, h.goal, x.longer);
-      term = omega (arith, h.term, x.longer);
-      proves = subst (λ (z : Type 0). z) (λ i. Checks declared (sym (ctx-same t u s.hyps.items h.hyps x) i) (sym (x.same s.term h.term) i) (pf (sym (x.same s.goal h.goal) i))) h.proves;
+      placed = placed-more t u s h.placed x;
+      proves = subst (λ (z : Type 0). z) (λ i. Checks sig (sym (ctx-same t u s.hyps.items h.placed.hyps x) i) (sym (x.same s.term h.placed.term) i) (pf (sym (x.same s.goal h.placed.goal) i))) h.proves;
     }
 
-pub sequents-more : (t u : TableView) (l : List Sequent) → AreSequents t l → Extends t u → AreSequents u l
-sequents-more t u [] h x = tt
-sequents-more t u (s ∷ l) h x = (sequent-more t u s h.0 x, sequents-more t u l h.1 x)
-
-pub proofs-same : (t u : TableView) (qs : List Premise) (l : List Sequent) → AreSequents t l → Extends t u → proofs_taken u qs l ≡ proofs_taken t qs l
+pub proofs-same : (t u : TableView) (qs : List Premise) (l : List Sequent) → AreOfTable t l → Extends t u → proofs_taken u qs l ≡ proofs_taken t qs l
 proofs-same t u [] l h x = refl
 proofs-same t u (q ∷ qs) [] h x = refl
 proofs-same t u (q ∷ qs) (s ∷ l) h x = λ i. proof_taken q (x.same s.term h.0.term i) ∷ proofs-same t u qs l h.1 x i
 
 -- no parameters, no terms
-pub typed-none : (ctx : List Tree) (ss : List Sort) (l : List Tree) (b : Bool) → length ss < 1 → b ≡ (length l == 0) → IsTrue b ↔ AreTyped ctx ss l
-typed-none ctx [] [] b h e = (λ q. tt, λ w. e)
-typed-none ctx [] (a ∷ l) b h e = (λ q. let no : suc (length l) ≡ 0 = eqb-true (suc (length l)) 0 (sym e ∙ q) in absurd (omega (arith, no)), λ w. elim w [ ])
-typed-none ctx (s ∷ ss) l b h e = absurd (omega (arith, h))
+pub typed-none : (sig : Const → Option Tree) (ctx : List Tree) (ss : List Sort) (l : List Tree) (b : Bool) → length ss < 1 → b ≡ (length l == 0) → IsTrue b ↔ AreTyped sig ctx ss l
+typed-none sig ctx [] [] b h e = (λ q. tt, λ w. e)
+typed-none sig ctx [] (a ∷ l) b h e = (λ q. let no : suc (length l) ≡ 0 = eqb-true (suc (length l)) 0 (sym e ∙ q) in absurd (omega (arith, no)), λ w. elim w [ ])
+typed-none sig ctx (s ∷ ss) l b h e = absurd (omega (arith, h))
 
 -- a parameter and more
-pub typed-next : (ctx : List Tree) (s : Sort) (ss : List Sort) (a : Tree) (l : List Tree) (b : Bool) → Checks declared ctx a (sort_type s) → IsTrue b ↔ AreTyped ctx ss l → IsTrue b ↔ AreTyped ctx (s ∷ ss) (a ∷ l)
-typed-next ctx s ss a l b h e = (λ q. (h, e.0 q), λ w. e.1 w.1)
+pub typed-next : (sig : Const → Option Tree) (ctx : List Tree) (s : Sort) (ss : List Sort) (a : Tree) (l : List Tree) (b : Bool) → Checks sig ctx a (sort_type s) → IsTrue b ↔ AreTyped sig ctx ss l → IsTrue b ↔ AreTyped sig ctx (s ∷ ss) (a ∷ l)
+typed-next sig ctx s ss a l b h e = (λ q. (h, e.0 q), λ w. e.1 w.1)
 
 pub if_ok_iff : {B : Type 0} (r : Result Bool B) (P Q : Type 0) → ((b : Bool) → IsTrue b ↔ P → IsTrue b ↔ Q) → IfOk r (λ b. IsTrue b ↔ P) → IfOk r (λ b. IsTrue b ↔ Q)
 if_ok_iff (Ok b) P Q f h = f b h
 if_ok_iff (Err e) P Q f h = h
 
 -- a premise fits as before once the table has grown
-pub fits-back : (t u : TableView) (hyps : List ℕ) (args : ℕ → Tree) (q : Premise) (s : Sequent) → IsSequent t s → Extends t u → FitsPremise u hyps args q s → FitsPremise t hyps args q s
+pub fits-back : (t u : TableView) (hyps : List ℕ) (args : ℕ → Tree) (q : Premise) (s : Sequent) → IsOfTable t s → Extends t u → FitsPremise u hyps args q s → FitsPremise t hyps args q s
 fits-back t u hyps args (Plain p) s k x h = (h.0, sym (x.same s.goal k.goal) ∙ h.1)
 fits-back t u hyps args (Under p q) s k x h = (binds-back t u hyps s.hyps.items (pf (form_with p args)) x k.hyps h.0, sym (x.same s.goal k.goal) ∙ h.1)
 fits-back t u hyps args (ForExp p) s k x h = (binds-back t u hyps s.hyps.items exp x k.hyps h.0, sym (x.same s.goal k.goal) ∙ h.1)
 fits-back t u hyps args (ForMem p) s k x h = (binds-back t u hyps s.hyps.items mem x k.hyps h.0, sym (x.same s.goal k.goal) ∙ h.1)
 
-pub fits-more : (t u : TableView) (hyps : List ℕ) (args : ℕ → Tree) (q : Premise) (s : Sequent) → IsSequent t s → Extends t u → FitsPremise t hyps args q s → FitsPremise u hyps args q s
+pub fits-more : (t u : TableView) (hyps : List ℕ) (args : ℕ → Tree) (q : Premise) (s : Sequent) → IsOfTable t s → Extends t u → FitsPremise t hyps args q s → FitsPremise u hyps args q s
 fits-more t u hyps args (Plain p) s k x h = (h.0, x.same s.goal k.goal ∙ h.1)
 fits-more t u hyps args (Under p q) s k x h = (binds-more t u hyps s.hyps.items (pf (form_with p args)) x h.0, x.same s.goal k.goal ∙ h.1)
 fits-more t u hyps args (ForExp p) s k x h = (binds-more t u hyps s.hyps.items exp x h.0, x.same s.goal k.goal ∙ h.1)
 fits-more t u hyps args (ForMem p) s k x h = (binds-more t u hyps s.hyps.items mem x h.0, x.same s.goal k.goal ∙ h.1)
 
-pub fit-back : (t u : TableView) (hyps : List ℕ) (args : ℕ → Tree) (qs : List Premise) (l : List Sequent) → AreSequents t l → Extends t u → FitPremises u hyps args qs l → FitPremises t hyps args qs l
+pub fit-back : (t u : TableView) (hyps : List ℕ) (args : ℕ → Tree) (qs : List Premise) (l : List Sequent) → AreOfTable t l → Extends t u → FitPremises u hyps args qs l → FitPremises t hyps args qs l
 fit-back t u hyps args [] [] k x h = tt
 fit-back t u hyps args (q ∷ qs) (s ∷ l) k x h = (fits-back t u hyps args q s k.0 x h.0, fit-back t u hyps args qs l k.1 x h.1)
 fit-back t u hyps args [] (s ∷ l) k x h = elim h [ ]
 fit-back t u hyps args (q ∷ qs) [] k x h = elim h [ ]
 
-pub fit-more : (t u : TableView) (hyps : List ℕ) (args : ℕ → Tree) (qs : List Premise) (l : List Sequent) → AreSequents t l → Extends t u → FitPremises t hyps args qs l → FitPremises u hyps args qs l
+pub fit-more : (t u : TableView) (hyps : List ℕ) (args : ℕ → Tree) (qs : List Premise) (l : List Sequent) → AreOfTable t l → Extends t u → FitPremises t hyps args qs l → FitPremises u hyps args qs l
 fit-more t u hyps args [] [] k x h = tt
 fit-more t u hyps args (q ∷ qs) (s ∷ l) k x h = (fits-more t u hyps args q s k.0 x h.0, fit-more t u hyps args qs l k.1 x h.1)
 fit-more t u hyps args [] (s ∷ l) k x h = elim h [ ]
 fit-more t u hyps args (q ∷ qs) [] k x h = elim h [ ]
 
 -- that a premise fits, by a test in a later table
-pub fits_later : {B : Type 0} (r : Result Bool B) (t u : TableView) (hyps : List ℕ) (args : ℕ → Tree) (q : Premise) (s : Sequent) (P : Type 0) → IsSequent t s → Extends t u → P ≡ FitsPremise u hyps args q s →
+pub fits_later : {B : Type 0} (r : Result Bool B) (t u : TableView) (hyps : List ℕ) (args : ℕ → Tree) (q : Premise) (s : Sequent) (P : Type 0) → IsOfTable t s → Extends t u → P ≡ FitsPremise u hyps args q s →
     IfOk r (λ b. IsTrue b ↔ P) → IfOk r (λ b. IsTrue b ↔ FitsPremise t hyps args q s)
 fits_later r t u hyps args q s P k x e h =
     if_ok_iff r (FitsPremise u hyps args q s) (FitsPremise t hyps args q s) (λ b g. (λ y. fits-back t u hyps args q s k x (g.0 y), λ w. g.1 (fits-more t u hyps args q s k x w)))
     (subst (λ (z : Type 0). IfOk r (λ b. IsTrue b ↔ z)) e h)
 
 -- the same of a premise and those after it
-pub fit_next : {B : Type 0} (r : Result Bool B) (t u : TableView) (hyps : List ℕ) (args : ℕ → Tree) (q : Premise) (qs : List Premise) (s : Sequent) (l : List Sequent) → FitsPremise t hyps args q s → AreSequents t l → Extends t u →
+pub fit_next : {B : Type 0} (r : Result Bool B) (t u : TableView) (hyps : List ℕ) (args : ℕ → Tree) (q : Premise) (qs : List Premise) (s : Sequent) (l : List Sequent) → FitsPremise t hyps args q s → AreOfTable t l → Extends t u →
     IfOk r (λ b. IsTrue b ↔ FitPremises u hyps args qs l) → IfOk r (λ b. IsTrue b ↔ FitPremises t hyps args (q ∷ qs) (s ∷ l))
 fit_next r t u hyps args q qs s l first k x h =
     if_ok_iff r (FitPremises u hyps args qs l) (FitPremises t hyps args (q ∷ qs) (s ∷ l)) (λ b g. (λ y. (first, fit-back t u hyps args qs l k x (g.0 y)), λ w. g.1 (fit-more t u hyps args qs l k x w.1))) h
 
 -- a term proves one formula at most
-pub one_formula : {ctx : List Tree} {p a b : Tree} → Checks declared ctx p (pf a) → Checks declared ctx p (pf b) → a ≡ b
-one_formula (atom_checks h i) (atom_checks k j) = same (synth_unique declared h k)
+pub one_formula : (sig : Const → Option Tree) {ctx : List Tree} {p a b : Tree} → Checks sig ctx p (pf a) → Checks sig ctx p (pf b) → a ≡ b
+one_formula sig (atom_checks h i) (atom_checks k j) = same (synth_unique sig h k)
   where
     same : {a b : Tree} → pf a ≡ pf b → a ≡ b
     same e = cc

@@ -1,21 +1,21 @@
 -- The answer of a rule: which parameters and premises have its form, and the sequent of its conclusion.
-use Rattle.std.specs.Prelude.{◌≡◌, ℕ, List, [], ◌∷◌, ◌++◌, Option, Some, None}
-use Rattle.term_table.specs.Tree.{Tree, Lam}
+use Rattle.std.specs.Prelude.{◌≡◌, ℕ, List, [], ◌∷◌, ◌++◌, Option, Some, None, is_some, if◌then◌else◌}
+use Rattle.term_table.specs.Tree.{Tree, Const, Num, Lam}
 use Rattle.term_table.specs.Table.{TableView, IsKnown, tree_at, ctx_of}
 use Rattle.lf_signature.specs.Terms.{exp, mem, pf}
 use Rattle.lf_signature.specs.Rules.{Sort, sort_type, Premise, Plain, Under, ForExp, ForMem, Rule}
 use Rattle.lf_signature.specs.Typing.{Checks}
-use Rattle.lf_signature.specs.Sigma1.{declared, rule_at}
+use Rattle.lf_signature.specs.Constants.{rule_at}
 use Rattle.lf_rules.specs.Instance.{nth_arg, form_with, under_binder, by_rule}
 use Rattle.lf_sequents.specs.declared.sequent.Sequent.{Sequent}
 use Rattle.lf_rules.specs.Instance.{trees_of}
 use Rattle.lf_sequents.specs.Sequents.{IsSequent}
 
 -- each term checks at its parameter's type
-abbrev pub AreTyped : List Tree → List Sort → List Tree → Type 0
-AreTyped ctx [] [] = Unit {0}
-AreTyped ctx (s ∷ ss) (a ∷ l) = Checks declared ctx a (sort_type s) × AreTyped ctx ss l
-AreTyped ctx _ _ = ⊥
+abbrev pub AreTyped : (Const → Option Tree) → List Tree → List Sort → List Tree → Type 0
+AreTyped sig ctx [] [] = Unit {0}
+AreTyped sig ctx (s ∷ ss) (a ∷ l) = Checks sig ctx a (sort_type s) × AreTyped sig ctx ss l
+AreTyped sig ctx _ _ = ⊥
 
 -- the ids are those of the hypotheses and one more, which stands for the type
 pub record Binds (t : TableView) (hyps : List ℕ) (type : Tree) (ids : List ℕ) : Type 0 where
@@ -50,23 +50,27 @@ proofs_taken t (q ∷ qs) (s ∷ l) = proof_taken q (tree_at t s.term) ∷ proof
 proofs_taken t _ _ = []
 
 -- parameters and premises have the rule's form
-pub record HasForm (t : TableView) (hyps params : List ℕ) (r : Rule) (premises : List Sequent) : Type 0 where
-  pub typed : AreTyped (ctx_of t hyps) r.parameters (trees_of t params)
+pub record HasForm (sig : Const → Option Tree) (t : TableView) (hyps params : List ℕ) (r : Rule) (premises : List Sequent) : Type 0 where
+  pub typed : AreTyped sig (ctx_of t hyps) r.parameters (trees_of t params)
   pub fit : FitPremises t hyps (nth_arg (trees_of t params)) r.premises premises
 
 -- the sequent of the rule's conclusion: its term is the rule's constant at the parameters and the premises' proofs
-pub record Concludes (before after : TableView) (ids params : List ℕ) (n : ℕ) (r : Rule) (premises : List Sequent) (s : Sequent) : Type 0 where
+pub record Concludes (sig : Const → Option Tree) (before after : TableView) (ids params : List ℕ) (n : ℕ) (r : Rule) (premises : List Sequent) (s : Sequent) : Type 0 where
   pub hyps : s.hyps.items ≡ ids
   pub goal : tree_at after s.goal ≡ form_with r.conclusion (nth_arg (trees_of before params))
   pub term : tree_at after s.term ≡ by_rule n (trees_of before params) (proofs_taken before r.premises premises)
-  pub sequent : IsSequent after s
+  pub sequent : IsSequent sig after s
 
 -- the answer by a row of the table of rules; where there is none, none
-abbrev pub IsRowAnswer : TableView → TableView → List ℕ → List ℕ → ℕ → Option Rule → List Sequent → Option Sequent → Type 0
-IsRowAnswer before after hyps params n None premises o = o ≡ None
-IsRowAnswer before after hyps params n (Some r) premises None = HasForm before hyps params r premises → ⊥
-IsRowAnswer before after hyps params n (Some r) premises (Some s) = HasForm before hyps params r premises × Concludes before after hyps params n r premises s
+abbrev pub IsRowAnswer : (Const → Option Tree) → TableView → TableView → List ℕ → List ℕ → ℕ → Option Rule → List Sequent → Option Sequent → Type 0
+IsRowAnswer sig before after hyps params n None premises o = o ≡ None
+IsRowAnswer sig before after hyps params n (Some r) premises None = HasForm sig before hyps params r premises → ⊥
+IsRowAnswer sig before after hyps params n (Some r) premises (Some s) = HasForm sig before hyps params r premises × Concludes sig before after hyps params n r premises s
 
--- the answer of rule n: the conclusion's sequent exactly where parameters and premises have the rule's form
-abbrev pub IsRuleAnswer : ℕ → TableView → TableView → List ℕ → List ℕ → List Sequent → Option Sequent → Type 0
-IsRuleAnswer n before after hyps params premises o = IsRowAnswer before after hyps params n (rule_at n) premises o
+-- the rule of a number that the signature has
+abbrev pub rule_in_signature : (Const → Option Tree) → ℕ → Option Rule
+rule_in_signature sig n = if is_some (sig (Num n)) then rule_at n else None
+
+-- the answer of rule n: the conclusion's sequent exactly where the signature has the rule, and parameters and premises have its form
+abbrev pub IsRuleAnswer : ℕ → (Const → Option Tree) → TableView → TableView → List ℕ → List ℕ → List Sequent → Option Sequent → Type 0
+IsRuleAnswer n sig before after hyps params premises o = IsRowAnswer sig before after hyps params n (rule_in_signature sig n) premises o

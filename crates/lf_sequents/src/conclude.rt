@@ -5,10 +5,9 @@ ghost use Rattle.term_table.specs.Tree.{apps};
 ghost use Rattle.term_table.specs.Table.{IsKnown, AllKnown, tree_at, Extends};
 ghost use Rattle.lf_signature.specs.Schemas.{premise_of};
 ghost use Rattle.lf_signature.specs.Nodes.{IsIdOf};
-ghost use Rattle.lf_signature.specs.Sigma1.{declared};
 ghost use Rattle.lf_check.specs.Kept.{AreKept};
 ghost use Rattle.lf_rules.specs.Instance.{trees_of};
-ghost use Rattle.lf_sequents.specs.Sequents.{AreSequents};
+ghost use Rattle.lf_sequents.specs.Sequents.{AreOfTable, AreSequents};
 ghost use Rattle.lf_sequents.specs.Answers.{proof_taken, proofs_taken, IsRuleAnswer};
 ghost use Rattle.lf_sequents.specs.Room.{sequents_of, terms_of, AreShallow, HasVarRoom};
 
@@ -17,8 +16,8 @@ use crate::premises::{are_typed, do_fit};
 use crate::sequent::Sequent;
 use lf_check::Kept;
 use lf_rules::rule_term;
-use lf_signature::rule_at;
 use lf_signature::schema::Premise;
+use lf_signature::{Known, declared, rule_at};
 use std::alloc::{AllocError, Global};
 use term_table::{Id, Node, Table};
 
@@ -36,7 +35,7 @@ fn highest(table: &Table, ids: &[Id], least: u32) -> u32
 
 /// The same of the proofs of sequents.
 fn highest_proof(table: &Table, premises: &[&Sequent], least: u32) -> u32
-    requires { AreSequents table.now (sequents_of premises.now) }
+    requires { AreOfTable table.now (sequents_of premises.now) }
     ensures least { least ≤ result }
     ensures shallow { result < 4294967295
         → AreShallow result (terms_of table.now (sequents_of premises.now)) }
@@ -51,7 +50,7 @@ fn highest_proof(table: &Table, premises: &[&Sequent], least: u32) -> u32
 /// rule at them reaches 2^32.
 fn has_room(table: &Table, hyps: &[Id], params: &[Id], premises: &[&Sequent]) -> bool
     requires params { AllKnown table.now params.now }
-    requires premises { AreSequents table.now (sequents_of premises.now) }
+    requires premises { AreOfTable table.now (sequents_of premises.now) }
     ensures { IsTrue result
         → HasVarRoom table.now hyps.now params.now (sequents_of premises.now) }
 {
@@ -80,7 +79,7 @@ fn with_proofs(
     premises: &[&Sequent],
 ) -> Result<Id, AllocError>
     requires head { IsKnown table.old head }
-    requires premises { AreSequents table.old (sequents_of premises.now) }
+    requires premises { AreOfTable table.old (sequents_of premises.now) }
     ensures id { let proofs =
         proofs_taken table.old (map premise_of rows.now) (sequents_of premises.now) in
         IfOk result (IsIdOf table.new (apps (tree_at table.old head) proofs)) }
@@ -100,23 +99,27 @@ fn with_proofs(
 }
 
 /// The sequent of the conclusion of the rule of this number, at these parameters and premises.
-pub fn by_rule(
+pub fn by_rule<S: Known>(
     alloc: Global,
     table: &mut Table,
+    sig: &S,
     kept: &mut Kept,
     hyps: &[Id],
     number: u32,
     params: &[Id],
     premises: &[&Sequent],
 ) -> Result<Option<Sequent>, AllocError>
+    requires holds { S.Signature.holds sig.now table.old }
     requires hyps { AllKnown table.old hyps.now }
     requires params { AllKnown table.old params.now }
-    requires premises { AreSequents table.old (sequents_of premises.now) }
-    requires kept { AreKept declared table.old kept.old }
-    ensures answer { IfOk result (IsRuleAnswer number table.old table.new hyps.now params.now
+    requires premises { AreSequents (S.Signature.declares sig.now table.old) table.old
+        (sequents_of premises.now) }
+    requires kept { AreKept (S.Signature.declares sig.now table.old) table.old kept.old }
+    ensures answer { let sig = S.Signature.declares sig.now table.old in
+        IfOk result (IsRuleAnswer number sig table.old table.new hyps.now params.now
         (sequents_of premises.now)) }
     ensures extends { Extends table.old table.new }
-    ensures kept { AreKept declared table.new kept.new }
+    ensures kept { AreKept (S.Signature.declares sig.now table.new) table.new kept.new }
 {
     let Some(rule) = rule_at(number) else {
         return Ok(None);
@@ -124,15 +127,18 @@ pub fn by_rule(
     if !has_room(table, hyps, params, premises) {
         return Err(AllocError);
     }
-    if !are_typed(table, kept, hyps, rule.parameters, params)? {
+    if !are_typed(table, kept, sig, hyps, rule.parameters, params)? {
         return Ok(None);
     }
-    if !do_fit(table, kept, hyps, params, rule.premises, premises)? {
+    if !do_fit(table, &mut kept.memo, hyps, params, rule.premises, premises)? {
         return Ok(None);
     }
-    let goal = form_id(table, kept, params, 0, &rule.conclusion)?;
+    let goal = form_id(table, &mut kept.memo, params, 0, &rule.conclusion)?;
     let head = rule_term(table, number, params)?;
     let term = with_proofs(table, head, rule.premises, premises)?;
+    if declared(table, sig, Node::Const(number))?.is_none() {
+        return Ok(None);
+    }
     let hyps = hyps.to_vec(alloc)?;
     Ok(Some(Sequent { hyps, goal, term }))
 }

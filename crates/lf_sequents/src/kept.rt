@@ -5,26 +5,24 @@ ghost use Rattle.term_table.specs.Tree.{shift};
 ghost use Rattle.term_table.specs.Subst.{erase, hsub_type};
 ghost use Rattle.term_table.specs.Table.{IsKnown, tree_at, Extends};
 ghost use Rattle.lf_signature.specs.Nodes.{IsIdOf};
-ghost use Rattle.lf_signature.specs.Sigma1.{declared};
-ghost use Rattle.lf_check.specs.Kept.{AreKept};
+ghost use Rattle.hereditary_subst.specs.Kept.{IsMemo};
 ghost use Rattle.lf_rules.specs.Plain.{beta};
 
-use hereditary_subst::{subst_type_with, weaken_with};
-use lf_check::Kept;
+use hereditary_subst::{Memo, subst_type_with, weaken_with};
 use lf_signature::pf;
 use std::alloc::AllocError;
 use term_table::{Id, Node, Table};
 
 /// The tree under so many more binders. Where a variable would reach 2^32, want of memory.
-pub fn raised(table: &mut Table, kept: &mut Kept, id: Id, by: u64) -> Result<Id, AllocError>
+pub fn raised(table: &mut Table, memo: &mut Memo, id: Id, by: u64) -> Result<Id, AllocError>
     requires small { by ≤ 2 ^ 32 }
     requires known { IsKnown table.old id }
-    requires kept { AreKept declared table.old kept.old }
+    requires kept { IsMemo table.old memo.old }
     ensures id { IfOk result (IsIdOf table.new (shift by 0 (tree_at table.old id))) }
     ensures extends { Extends table.old table.new }
-    ensures kept { AreKept declared table.new kept.new }
+    ensures kept { IsMemo table.new memo.new }
 {
-    match weaken_with(table, &mut kept.memo, id, by)? {
+    match weaken_with(table, memo, id, by)? {
         Some(raised) => Ok(raised),
         None => Err(AllocError),
     }
@@ -34,7 +32,7 @@ pub fn raised(table: &mut Table, kept: &mut Kept, id: Id, by: u64) -> Result<Id,
 /// result, want of memory.
 fn put(
     table: &mut Table,
-    kept: &mut Kept,
+    memo: &mut Memo,
     proofs: Id,
     arg: Id,
     family: Id,
@@ -42,14 +40,14 @@ fn put(
     requires proofs { IsKnown table.old proofs }
     requires arg { IsKnown table.old arg }
     requires family { IsKnown table.old family }
-    requires kept { AreKept declared table.old kept.old }
+    requires kept { IsMemo table.old memo.old }
     ensures known { IfOk result (IsKnown table.new) }
     ensures is { IfOk result (λ r. hsub_type (erase (tree_at table.old family))
         (tree_at table.old arg) 0 (tree_at table.old proofs) ≡ Some (tree_at table.new r)) }
     ensures extends { Extends table.old table.new }
-    ensures kept { AreKept declared table.new kept.new }
+    ensures kept { IsMemo table.new memo.new }
 {
-    match subst_type_with(table, &mut kept.memo, proofs, arg, family)? {
+    match subst_type_with(table, memo, proofs, arg, family)? {
         Some(put) => Ok(put),
         None => Err(AllocError),
     }
@@ -60,25 +58,25 @@ fn put(
 #[tactic(auto, using(lf_rules::proofs::Grown::grown))]
 pub fn beta_id(
     table: &mut Table,
-    kept: &mut Kept,
+    memo: &mut Memo,
     f: Id,
     arg: Id,
     family: u32,
 ) -> Result<Id, AllocError>
     requires f { IsKnown table.old f }
     requires arg { IsKnown table.old arg }
-    requires kept { AreKept declared table.old kept.old }
+    requires kept { IsMemo table.old memo.old }
     ensures id { IfOk result
         (IsIdOf table.new (beta (tree_at table.old f) (tree_at table.old arg))) }
     ensures extends { Extends table.old table.new }
-    ensures kept { AreKept declared table.new kept.new }
+    ensures kept { IsMemo table.new memo.new }
 {
     let Node::Lam(body) = table.node(f) else {
         return Ok(f);
     };
     let ty = table.intern(Node::Fam(family))?;
     let proofs = pf(table, body)?;
-    let put = put(table, kept, proofs, arg, ty)?;
+    let put = put(table, memo, proofs, arg, ty)?;
     match table.node(put) {
         Node::TApp(_, formula) => Ok(formula),
         _ => Err(AllocError),

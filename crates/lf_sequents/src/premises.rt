@@ -6,20 +6,21 @@ ghost use Rattle.lf_signature.specs.Rules.{sort_type};
 ghost use Rattle.lf_signature.specs.Schemas.{sort_of, form_of, premise_of};
 ghost use Rattle.lf_signature.specs.Nodes.{IsIdOf};
 ghost use Rattle.lf_signature.specs.Typing.{Checks};
-ghost use Rattle.lf_signature.specs.Sigma1.{declared};
+ghost use Rattle.hereditary_subst.specs.Kept.{IsMemo};
 ghost use Rattle.lf_check.specs.Kept.{AreKept};
 ghost use Rattle.lf_rules.specs.Instance.{nth_arg, form_with, under_binder};
 ghost use Rattle.lf_rules.specs.Instance.{trees_of};
-ghost use Rattle.lf_sequents.specs.Sequents.{IsSequent, AreSequents};
+ghost use Rattle.lf_sequents.specs.Sequents.{IsOfTable, AreOfTable};
 ghost use Rattle.lf_sequents.specs.Answers.{AreTyped, Binds, FitsPremise, FitPremises};
 ghost use Rattle.lf_sequents.specs.Room.{sequents_of};
 
 use crate::instance::form_id;
 use crate::sequent::Sequent;
+use hereditary_subst::Memo;
 use lf_check::{Kept, check_term_with};
 use lf_signature::numbers::{EXP, FORM, MEM};
 use lf_signature::schema::{Form, Premise, Sort};
-use lf_signature::{Sigma1, pf};
+use lf_signature::{Signature, pf};
 use std::alloc::AllocError;
 use term_table::{Id, Node, Table};
 
@@ -40,52 +41,58 @@ fn sort_id(table: &mut Table, sort: Sort) -> Result<Id, AllocError>
 }
 
 /// Whether the term checks at the parameter's type.
-fn is_typed(
+fn is_typed<S: Signature>(
     table: &mut Table,
     kept: &mut Kept,
+    sig: &S,
     hyps: &[Id],
     sort: &Sort,
     param: Id,
 ) -> Result<bool, AllocError>
+    requires holds { S.holds sig.now table.old }
     requires hyps { AllKnown table.old hyps.now }
     requires param { IsKnown table.old param }
-    requires kept { AreKept declared table.old kept.old }
+    requires kept { AreKept (S.declares sig.now table.old) table.old kept.old }
     ensures answer { let ctx = ctx_of table.old hyps.now in
-        let holds = Checks declared ctx (tree_at table.old param) (sort_type (sort_of sort.now)) in
+        let sig = S.declares sig.now table.old in
+        let holds = Checks sig ctx (tree_at table.old param) (sort_type (sort_of sort.now)) in
         IfOk result (λ b. IsTrue b ↔ holds) }
     ensures extends { Extends table.old table.new }
-    ensures kept { AreKept declared table.new kept.new }
+    ensures kept { AreKept (S.declares sig.now table.new) table.new kept.new }
 {
     let kind = sort_id(table, *sort)?;
-    Ok(check_term_with(table, kept, &Sigma1, hyps, param, kind)?)
+    Ok(check_term_with(table, kept, sig, hyps, param, kind)?)
 }
 
 /// Whether each term checks at its parameter's type.
-pub fn are_typed(
+pub fn are_typed<S: Signature>(
     table: &mut Table,
     kept: &mut Kept,
+    sig: &S,
     hyps: &[Id],
     sorts: &[Sort],
     params: &[Id],
 ) -> Result<bool, AllocError>
+    requires holds { S.holds sig.now table.old }
     requires hyps { AllKnown table.old hyps.now }
     requires params { AllKnown table.old params.now }
-    requires kept { AreKept declared table.old kept.old }
-    ensures answer { let holds = AreTyped (ctx_of table.old hyps.now) (map sort_of sorts.now)
-        (trees_of table.old params.now) in
+    requires kept { AreKept (S.declares sig.now table.old) table.old kept.old }
+    ensures answer { let sig = S.declares sig.now table.old in
+        let ctx = ctx_of table.old hyps.now in
+        let holds = AreTyped sig ctx (map sort_of sorts.now) (trees_of table.old params.now) in
         IfOk result (λ b. IsTrue b ↔ holds) }
     ensures extends { Extends table.old table.new }
-    ensures kept { AreKept declared table.new kept.new }
+    ensures kept { AreKept (S.declares sig.now table.new) table.new kept.new }
 {
     match sorts {
         [] => Ok(params.is_empty()),
         [sort, sorts @ ..] => match params {
             [] => Ok(false),
             [param, params @ ..] => {
-                if !is_typed(table, kept, hyps, sort, *param)? {
+                if !is_typed(table, kept, sig, hyps, sort, *param)? {
                     return Ok(false);
                 }
-                are_typed(table, kept, hyps, sorts, params)
+                are_typed(table, kept, sig, hyps, sorts, params)
             }
         },
     }
@@ -111,23 +118,23 @@ fn is_under(ids: &[Id], hyps: &[Id], last: Id) -> bool
 /// Whether the sequent proves the formula under the hypotheses.
 fn fits_plain(
     table: &mut Table,
-    kept: &mut Kept,
+    memo: &mut Memo,
     hyps: &[Id],
     params: &[Id],
     form: &Form,
     p: &Sequent,
 ) -> Result<bool, AllocError>
     requires params { AllKnown table.old params.now }
-    requires p { IsSequent table.old p.now }
-    requires kept { AreKept declared table.old kept.old }
+    requires p { IsOfTable table.old p.now }
+    requires kept { IsMemo table.old memo.old }
     ensures answer { let wanted =
         form_with (form_of form.now) (nth_arg (trees_of table.old params.now)) in
         let holds = (p.now.hyps.items ≡ hyps.now) × (tree_at table.old p.now.goal ≡ wanted) in
         IfOk result (λ b. IsTrue b ↔ holds) }
     ensures extends { Extends table.old table.new }
-    ensures kept { AreKept declared table.new kept.new }
+    ensures kept { IsMemo table.new memo.new }
 {
-    let goal = form_id(table, kept, params, 0, form)?;
+    let goal = form_id(table, memo, params, 0, form)?;
     Ok(are_same(p.hyps.as_slice(), hyps) && table.same(p.goal, goal))
 }
 
@@ -135,7 +142,7 @@ fn fits_plain(
 /// being taken under that binder.
 fn fits_under(
     table: &mut Table,
-    kept: &mut Kept,
+    memo: &mut Memo,
     hyps: &[Id],
     params: &[Id],
     kind: Id,
@@ -144,53 +151,53 @@ fn fits_under(
 ) -> Result<bool, AllocError>
     requires params { AllKnown table.old params.now }
     requires kind { IsKnown table.old kind }
-    requires p { IsSequent table.old p.now }
-    requires kept { AreKept declared table.old kept.old }
+    requires p { IsOfTable table.old p.now }
+    requires kept { IsMemo table.old memo.old }
     ensures answer { let args = nth_arg (trees_of table.old params.now) in
         let wanted = form_with (form_of form.now) (under_binder args) in
         let binds = Binds table.old hyps.now (tree_at table.old kind) p.now.hyps.items in
         let holds = binds × (tree_at table.old p.now.goal ≡ wanted) in
         IfOk result (λ b. IsTrue b ↔ holds) }
     ensures extends { Extends table.old table.new }
-    ensures kept { AreKept declared table.new kept.new }
+    ensures kept { IsMemo table.new memo.new }
 {
     table.laws();
-    let goal = form_id(table, kept, params, 1, form)?;
+    let goal = form_id(table, memo, params, 1, form)?;
     Ok(is_under(p.hyps.as_slice(), hyps, kind) && table.same(p.goal, goal))
 }
 
 /// Whether the sequent has the hypotheses and the goal of the premise.
 fn fits(
     table: &mut Table,
-    kept: &mut Kept,
+    memo: &mut Memo,
     hyps: &[Id],
     params: &[Id],
     premise: &Premise,
     p: &Sequent,
 ) -> Result<bool, AllocError>
     requires params { AllKnown table.old params.now }
-    requires p { IsSequent table.old p.now }
-    requires kept { AreKept declared table.old kept.old }
+    requires p { IsOfTable table.old p.now }
+    requires kept { IsMemo table.old memo.old }
     ensures answer { let holds = FitsPremise table.old hyps.now
         (nth_arg (trees_of table.old params.now)) (premise_of premise.now) p.now in
         IfOk result (λ b. IsTrue b ↔ holds) }
     ensures extends { Extends table.old table.new }
-    ensures kept { AreKept declared table.new kept.new }
+    ensures kept { IsMemo table.new memo.new }
 {
     match premise {
-        Premise::Plain(form) => fits_plain(table, kept, hyps, params, form, p),
+        Premise::Plain(form) => fits_plain(table, memo, hyps, params, form, p),
         Premise::Under(given, form) => {
-            let given = form_id(table, kept, params, 0, given)?;
+            let given = form_id(table, memo, params, 0, given)?;
             let kind = pf(table, given)?;
-            fits_under(table, kept, hyps, params, kind, form, p)
+            fits_under(table, memo, hyps, params, kind, form, p)
         }
         Premise::ForExp(form) => {
             let kind = table.intern(Node::Fam(EXP))?;
-            fits_under(table, kept, hyps, params, kind, form, p)
+            fits_under(table, memo, hyps, params, kind, form, p)
         }
         Premise::ForMem(form) => {
             let kind = table.intern(Node::Fam(MEM))?;
-            fits_under(table, kept, hyps, params, kind, form, p)
+            fits_under(table, memo, hyps, params, kind, form, p)
         }
     }
 }
@@ -198,31 +205,31 @@ fn fits(
 /// Whether each sequent has the hypotheses and the goal of its premise.
 pub fn do_fit(
     table: &mut Table,
-    kept: &mut Kept,
+    memo: &mut Memo,
     hyps: &[Id],
     params: &[Id],
     rows: &[Premise],
     premises: &[&Sequent],
 ) -> Result<bool, AllocError>
     requires params { AllKnown table.old params.now }
-    requires premises { AreSequents table.old (sequents_of premises.now) }
-    requires kept { AreKept declared table.old kept.old }
+    requires premises { AreOfTable table.old (sequents_of premises.now) }
+    requires kept { IsMemo table.old memo.old }
     ensures answer { let args = nth_arg (trees_of table.old params.now) in
         let holds = FitPremises table.old hyps.now args (map premise_of rows.now)
         (sequents_of premises.now) in
         IfOk result (λ b. IsTrue b ↔ holds) }
     ensures extends { Extends table.old table.new }
-    ensures kept { AreKept declared table.new kept.new }
+    ensures kept { IsMemo table.new memo.new }
 {
     match rows {
         [] => Ok(premises.is_empty()),
         [row, rows @ ..] => match premises {
             [] => Ok(false),
             [premise, premises @ ..] => {
-                if !fits(table, kept, hyps, params, row, premise)? {
+                if !fits(table, memo, hyps, params, row, premise)? {
                     return Ok(false);
                 }
-                do_fit(table, kept, hyps, params, rows, premises)
+                do_fit(table, memo, hyps, params, rows, premises)
             }
         },
     }

@@ -1,12 +1,12 @@
 //! Laws of sequents.
 
-ghost use Rattle.std.specs.Prelude.{◌≡◌, ℕ, List, [], Some};
-ghost use Rattle.term_table.specs.Tree.{Tree};
+ghost use Rattle.std.specs.Prelude.{◌≡◌, ℕ, List, [], Option, Some};
+ghost use Rattle.term_table.specs.Tree.{Tree, Const, Num};
 ghost use Rattle.term_table.specs.Table.{TableView, tree_at, ctx_of, Extends};
 ghost use Rattle.lf_signature.specs.Terms.{pf};
-ghost use Rattle.lf_signature.specs.Rules.{Rule};
+ghost use Rattle.lf_signature.specs.Rules.{Rule, rule_type};
 ghost use Rattle.lf_signature.specs.Typing.{Checks};
-ghost use Rattle.lf_signature.specs.Sigma1.{declared, rule_at};
+ghost use Rattle.lf_signature.specs.Constants.{rule_at};
 ghost use Rattle.lf_rules.specs.Instance.{trees_of, nth_arg, form_with, by_rule};
 ghost use Rattle.lf_sequents.specs.declared.sequent.Sequent.{Sequent};
 ghost use Rattle.lf_sequents.specs.Sequents.{IsSequent, AreSequents};
@@ -17,22 +17,23 @@ ghost use Rattle.lf_sequents.specs.Room.{HasVarRoom};
 /// the proofs of its goal in the empty context, also in a later table; and a term proves one formula
 /// at most.
 pub fn sequent_laws()
-    ensures lasts { (t u : TableView) (s : Sequent)
-        → Extends t u → IsSequent t s → IsSequent u s }
-    ensures closed { (t u : TableView) (s : Sequent)
-        → Extends t u → IsSequent t s → s.hyps.items ≡ []
-        → Checks declared [] (tree_at u s.term) (pf (tree_at u s.goal)) }
-    ensures unique { (ctx : List Tree) (p a b : Tree)
-        → Checks declared ctx p (pf a) → Checks declared ctx p (pf b) → a ≡ b }
+    ensures lasts { (sig : Const → Option Tree) (t u : TableView) (s : Sequent)
+        → Extends t u → IsSequent sig t s → IsSequent sig u s }
+    ensures closed { (sig : Const → Option Tree) (t u : TableView) (s : Sequent)
+        → Extends t u → IsSequent sig t s → s.hyps.items ≡ []
+        → Checks sig [] (tree_at u s.term) (pf (tree_at u s.goal)) }
+    ensures unique { (sig : Const → Option Tree) (ctx : List Tree) (p a b : Tree)
+        → Checks sig ctx p (pf a) → Checks sig ctx p (pf b) → a ≡ b }
 {}
 
 /// Of parameters and premises that have a rule's form, with room below 2^32: the rule's constant at
 /// them proves the conclusion.
 pub fn conclusion_laws()
-    ensures { (t : TableView) (hyps params : List ℕ) (n : ℕ) (r : Rule) (premises : List Sequent)
-        → rule_at n ≡ Some r → AreSequents t premises → HasVarRoom t hyps params premises
-        → HasForm t hyps params r premises
-        → Checks declared (ctx_of t hyps)
+    ensures { (sig : Const → Option Tree) (t : TableView) (hyps params : List ℕ) (n : ℕ) (r : Rule)
+        (premises : List Sequent) → rule_at n ≡ Some r → sig (Num n) ≡ Some (rule_type r)
+        → AreSequents sig t premises → HasVarRoom t hyps params premises
+        → HasForm sig t hyps params r premises
+        → Checks sig (ctx_of t hyps)
         (by_rule n (trees_of t params) (proofs_taken t r.premises premises))
         (pf (form_with r.conclusion (nth_arg (trees_of t params)))) }
 {}

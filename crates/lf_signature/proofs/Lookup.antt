@@ -1,12 +1,15 @@
 -- The entries of the tables of constants and rules.
-use Rattle.std.proofs.Common.{◌≡◌, ℕ, zero, suc, ◌-◌, ◌+◌, ◌≤◌, ◌<◌, Bool, true, false, cond, nat_le, nat_lt, Option, Some, None, List, [], ◌∷◌, ◌++◌, map, length, take, drop, get_or, ◌==◌, eqb-true, refl, sym, ◌∙◌, ap, arith, option_map}
-use Rattle.std.proofs.lemmas.Bool.{ltb-false, le-ltb, leb-true}
-use Rattle.std.specs.Option.{option_map_or}
-use Rattle.term_table.specs.Tree.{Tree, at, Num}
+use Rattle.std.proofs.Common.{◌≡◌, ℕ, zero, suc, ◌-◌, ◌+◌, ◌≤◌, ◌<◌, true, nat_le, Option, Some, None, List, [], ◌∷◌, ◌++◌, map, length, take, drop, get_or, ◌==◌, eqb-true, refl, ◌∙◌, ap, arith, option_map}
+use Rattle.std.proofs.lemmas.Bool.{leb-true}
+use Rattle.term_table.specs.Tree.{at, Num}
 use Rattle.term_table.specs.Measures.{sigma1_places}
 use Rattle.term_table.proofs.Options.{some_injective}
 use Rattle.lf_signature.specs.Rules.{Rule, rule_type}
-use Rattle.lf_signature.specs.Sigma1.{constant_types, the_rules, number_types, rule_at, parameters_of, declared}
+use Rattle.lf_signature.specs.Constants.{the_rules, place_of, rule_in, type_in, size_of, rule_at, parameters_of, declared}
+use Rattle.lf_signature.specs.declared.tables.Place.{Place}
+use Rattle.lf_signature.specs.declared.tables.Place.TheVariants.{Made, ByRule}
+use Rattle.lf_signature.specs.declared.WordSignature.{WordSignature}
+use Rattle.lf_signature.specs.Laws.Within.{declared-below}
 use Rattle.lf_signature.specs.Laws.Booleans.{every, every-at}
 
 pub at-map : {A B : Type 0} (f : A → B) (l : List A) (n : ℕ) → at (map f l) n ≡ option_map f (at l n)
@@ -50,58 +53,40 @@ at_some [] n a e = cc
 at_some (b ∷ l) zero a e = omega arith
 at_some (b ∷ l) (suc n) a e = let h = at_some l n a e in omega arith
 
-how_many : length constant_types ≡ 27
-unfolding constant_types
-how_many = refl
-
-pub declared-constant : (n : ℕ) → n < 27 → declared (Num n) ≡ at constant_types n
-unfolding number_types
-declared-constant n h = at-append_below constant_types (map rule_type the_rules) n (omega (arith, how_many))
-
-pub rule_at-from : (n : ℕ) → 27 ≤ n → rule_at n ≡ at the_rules (n - 27)
-rule_at-from n h = ap (λ b. cond b None (at the_rules (n - 27))) (le-ltb n 27 h)
-
-pub declared-from : (n : ℕ) → 27 ≤ n → declared (Num n) ≡ option_map rule_type (rule_at n)
-unfolding number_types
-declared-from n h =
-    at-append_from constant_types (map rule_type the_rules) n (omega (arith, how_many)) ∙ ap (λ k. at (map rule_type the_rules) (n - k)) how_many
-    ∙ at-map rule_type the_rules (n - 27) ∙ ap (option_map rule_type) (sym (rule_at-from n h))
-
-pub declared-rule : (n : ℕ) (r : Rule) → rule_at n ≡ Some r → declared (Num n) ≡ Some (rule_type r)
-declared-rule n r e = go (nat_lt n 27) refl
+-- a rule of a number stands among the rules
+pub rule_found : (n : ℕ) (r : Rule) → rule_at n ≡ Some r → (i : ℕ) × (at the_rules i ≡ Some r)
+rule_found n r e = go (place_of n) e
   where
-    go : (b : Bool) → nat_lt n 27 ≡ b → declared (Num n) ≡ Some (rule_type r)
-    go true h = cc (ap (λ b. cond b None (at the_rules (n - 27))) h, e)
-    go false h = declared-from n (ltb-false n 27 h) ∙ ap (option_map rule_type) e
+    go : (p : Place) → rule_in p ≡ Some r → (i : ℕ) × (at the_rules i ≡ Some r)
+    go (Made i) e = cc
+    go (ByRule i) e = (i, e)
 
--- what the code finds in the table of constants, and else in that of rules
-pub found_constant : (n : ℕ) (a : Tree) → at constant_types n ≡ Some a → declared (Num n) ≡ Some a
-found_constant n a e = declared-constant n (omega (arith, how_many, at_some constant_types n a e)) ∙ e
-
-pub found_none : (n : ℕ) → at constant_types n ≡ None → declared (Num n) ≡ option_map rule_type (rule_at n)
-found_none n e = declared-from n (omega (arith, how_many, at_none constant_types n e))
+pub declared-rule : (s : WordSignature) (n : ℕ) (r : Rule) → n < size_of s → rule_at n ≡ Some r → declared s (Num n) ≡ Some (rule_type r)
+declared-rule s n r h e = declared-below s n h ∙ go (place_of n) e
+  where
+    go : (p : Place) → rule_in p ≡ Some r → type_in p ≡ Some (rule_type r)
+    go (Made i) e = cc
+    go (ByRule i) e = ap (option_map rule_type) e
 
 all_short : every (λ n r. nat_le (length r.parameters + length r.premises) 7) the_rules ≡ true
 unfolding the_rules
 all_short = refl
 
 pub rule_at-short : (n : ℕ) (r : Rule) → rule_at n ≡ Some r → length r.parameters + length r.premises ≤ 7
-rule_at-short n r e = go (nat_lt n 27) refl
-  where
-    go : (b : Bool) → nat_lt n 27 ≡ b → length r.parameters + length r.premises ≤ 7
-    go true h = cc (ap (λ b. cond b None (at the_rules (n - 27))) h, e)
-    go false h = leb-true _ _ (every-at (λ n r. nat_le (length r.parameters + length r.premises) 7) the_rules (n - 27) r all_short (sym (rule_at-from n (ltb-false n 27 h)) ∙ e))
+rule_at-short n r e =
+    let f = rule_found n r e in
+    leb-true _ _ (every-at (λ n r. nat_le (length r.parameters + length r.premises) 7) the_rules f.0 r all_short f.1)
+
+pub rule_in-short : (i : ℕ) (r : Rule) → at the_rules i ≡ Some r → length r.parameters + length r.premises ≤ 7
+rule_in-short i r e = leb-true _ _ (every-at (λ n r. nat_le (length r.parameters + length r.premises) 7) the_rules i r all_short e)
 
 -- what the code finds in a part of the rules
-pub found_rule : (part : List Rule) (o : Option Rule) (number index from size : ℕ) → o ≡ at part (index - from) → part ≡ take size (drop from the_rules) →
-    number ≡ index + 27 → from ≤ index → index < from + size → o ≡ rule_at number
-found_rule part o number index from size e p n h w =
-    e ∙ ap (λ l. at l (index - from)) p ∙ at-part the_rules from size index h (omega arith) ∙ ap (at the_rules) (omega arith) ∙ sym (rule_at-from number (omega arith))
+pub found_rule : (part : List Rule) (o : Option Rule) (index from size : ℕ) → o ≡ at part (index - from) → part ≡ take size (drop from the_rules) →
+    from ≤ index → index < from + size → o ≡ at the_rules index
+found_rule part o index from size e p h w = e ∙ ap (λ l. at l (index - from)) p ∙ at-part the_rules from size index h (omega arith)
 
-pub found_last : (part : List Rule) (o : Option Rule) (number index from : ℕ) → o ≡ at part (index - from) → part ≡ drop from the_rules →
-    number ≡ index + 27 → from ≤ index → o ≡ rule_at number
-found_last part o number index from e p n h =
-    e ∙ ap (λ l. at l (index - from)) p ∙ at-drop the_rules from index h ∙ ap (at the_rules) (omega arith) ∙ sym (rule_at-from number (omega arith))
+pub found_last : (part : List Rule) (o : Option Rule) (index from : ℕ) → o ≡ at part (index - from) → part ≡ drop from the_rules → from ≤ index → o ≡ at the_rules index
+found_last part o index from e p h = e ∙ ap (λ l. at l (index - from)) p ∙ at-drop the_rules from index h
 
 get_or_some : {A : Type 0} (l : List A) (n : ℕ) (d a : A) → at l n ≡ Some a → get_or l n d ≡ a
 get_or_some [] n d a e = cc
@@ -113,26 +98,22 @@ get_or_none [] n d e = refl
 get_or_none (b ∷ l) zero d e = cc
 get_or_none (b ∷ l) (suc n) d e = get_or_none l n d e
 
-at_past : {A : Type 0} (l : List A) (n : ℕ) → length l ≤ n → at l n ≡ None
+pub at_past : {A : Type 0} (l : List A) (n : ℕ) → length l ≤ n → at l n ≡ None
 at_past [] n h = refl
 at_past (a ∷ l) zero h = absurd (omega arith)
 at_past (a ∷ l) (suc n) h = at_past l n (omega arith)
-
-how_many_rules : length the_rules ≡ 61
-unfolding the_rules
-how_many_rules = refl
-
-rule_at-past : (n : ℕ) → 88 ≤ n → rule_at n ≡ None
-rule_at-past n h = rule_at-from n (omega arith) ∙ at_past the_rules (n - 27) (omega (arith, how_many_rules))
 
 each_place : every (λ n k. k == parameters_of n) sigma1_places ≡ true
 unfolding the_rules
 each_place = refl
 
+places_end : length sigma1_places ≡ 88
+places_end = refl
+
 -- the counts that weights go by are the numbers of parameters
-pub places-parameters : (n : ℕ) → get_or sigma1_places n 0 ≡ parameters_of n
-places-parameters n = go (at sigma1_places n) refl
+pub places-parameters : (n : ℕ) → n < 88 → get_or sigma1_places n 0 ≡ parameters_of n
+places-parameters n h = go (at sigma1_places n) refl
   where
     go : (o : Option ℕ) → at sigma1_places n ≡ o → get_or sigma1_places n 0 ≡ parameters_of n
     go (Some k) e = get_or_some sigma1_places n 0 k e ∙ eqb-true k (parameters_of n) (every-at (λ n k. k == parameters_of n) sigma1_places n k each_place e)
-    go None e = get_or_none sigma1_places n 0 e ∙ ap (λ o. option_map_or (λ r. length r.parameters) o 0) (sym (rule_at-past n (at_none sigma1_places n e)))
+    go None e = absurd (omega (arith, h, places_end, at_none sigma1_places n e))

@@ -1,27 +1,57 @@
 -- The tables against the rows from outside, by computation.
-use Rattle.std.proofs.Common.{◌≡◌, ◌∙◌, ℕ, map, refl, ap, option_map}
-use Rattle.term_table.specs.Tree.{at, Num}
+use Rattle.std.proofs.Common.{◌≡◌, ◌∙◌, ℕ, zero, suc, ◌<◌, Option, Some, None, List, [], ◌∷◌, cond, length, map, take, refl, sym, ap, option_map, arith, inl, inr}
+use Rattle.std.proofs.lemmas.Bool.{le-ltb, cases_lt}
+use Rattle.term_table.specs.Tree.{Tree, at, Num}
 use Rattle.term_table.specs.Measures.{sigma1_places}
-use Rattle.lf_signature.specs.Sigma1.{constant_types, the_rules, number_types, declared}
+use Rattle.term_table.proofs.Options.{some_injective}
+use Rattle.lf_signature.specs.declared.WordSignature.TheVariants.{Sigma1, Sigma3}
+use Rattle.lf_signature.specs.Constants.{constant_types, the_rules, place_of, type_in, declared}
 use Rattle.lf_signature.specs.Outside.{numbered_rows, evaluated_rows, AreDeclared}
 use Rattle.lf_signature.specs.Worked.{synth_rows, check_rows, type_rows, AreVerdicts}
-use Rattle.lf_signature.proofs.Lookup.{at-map}
+use Rattle.lf_signature.specs.Laws.Within.{declared-below}
+use Rattle.lf_signature.proofs.Lookup.{at-map, at_past}
 
-types_listed : number_types ≡ map (λ r. r.1) numbered_rows
-unfolding constant_types the_rules number_types numbered_rows
+-- what a function gives for the first numbers
+abbrev upto : {A : Type 0} → (ℕ → A) → ℕ → List A
+upto f zero = []
+upto f (suc k) = f zero ∷ upto (λ n. f (suc n)) k
+
+at-upto : {A : Type 0} (f : ℕ → A) (k n : ℕ) → n < k → at (upto f k) n ≡ Some (f n)
+at-upto f zero n h = absurd (omega arith)
+at-upto f (suc k) zero h = refl
+at-upto f (suc k) (suc n) h = at-upto (λ m. f (suc m)) k n (omega arith)
+
+types_listed : upto (λ n. type_in (place_of n)) 105 ≡ map (λ r. Some r.1) numbered_rows
+unfolding constant_types the_rules numbered_rows
 types_listed = refl
 
-pub declared-numbered : (n : ℕ) → declared (Num n) ≡ option_map (λ r. r.1) (at numbered_rows n)
-declared-numbered n = ap (λ l. at l n) types_listed ∙ at-map (λ r. r.1) numbered_rows n
+rows_end : length numbered_rows ≡ 105
+unfolding numbered_rows
+rows_end = refl
 
-pub places_listed : sigma1_places ≡ map (λ r. r.0) numbered_rows
+row_type : (f : Option Tree) (o : Option (ℕ × Tree)) → Some f ≡ option_map (λ r. Some r.1) o → f ≡ option_map (λ r. r.1) o
+row_type f (Some r) e = some_injective e
+row_type f None e = cc
+
+pub declared-numbered : (n : ℕ) → declared Sigma3 (Num n) ≡ option_map (λ r. r.1) (at numbered_rows n)
+declared-numbered n = elim (cases_lt n 105) [
+  | inl h ↦
+      declared-below Sigma3 n h
+      ∙ row_type (type_in (place_of n)) (at numbered_rows n)
+      (sym (at-upto (λ k. type_in (place_of k)) 105 n h) ∙ ap (λ l. at l n) types_listed ∙ at-map (λ r. Some r.1) numbered_rows n)
+  | inr h ↦
+      ap (λ b. cond b (type_in (place_of n)) None) (le-ltb n 105 h)
+      ∙ ap (option_map (λ r. r.1)) (sym (at_past numbered_rows n (omega (arith, rows_end, h))))
+]
+
+pub places_listed : sigma1_places ≡ take 88 (map (λ r. r.0) numbered_rows)
 unfolding numbered_rows
 places_listed = refl
 
-pub evaluated_declared : AreDeclared declared evaluated_rows
+pub evaluated_declared : AreDeclared (declared Sigma1) evaluated_rows
 unfolding evaluated_rows
 evaluated_declared = refl
 
-pub verdicts : AreVerdicts declared
-unfolding constant_types the_rules number_types synth_rows check_rows type_rows
+pub verdicts : AreVerdicts (declared Sigma1)
+unfolding constant_types the_rules synth_rows check_rows type_rows
 verdicts = record { synthesised = refl; checked = refl; formed = refl }

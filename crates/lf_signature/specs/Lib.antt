@@ -4,7 +4,8 @@ pub mod Simply
 pub mod Decide
 pub mod Terms
 pub mod Rules
-pub mod Sigma1
+pub mod Constants
+pub mod Known
 pub mod Order
 pub mod Near
 pub mod Nodes

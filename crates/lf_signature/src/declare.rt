@@ -5,28 +5,48 @@ ghost use Rattle.term_table.specs.Table.{Extends, Stands};
 ghost use Rattle.term_table.specs.Tree.{Num, Lit, Calc, Fact, Deny};
 ghost use Rattle.lf_signature.specs.Terms.{lit, rel_term, form};
 ghost use Rattle.lf_signature.specs.Nodes.{IsIdOf, type_at};
-ghost use Rattle.lf_signature.specs.Sigma1.{declared};
+ghost use Rattle.lf_signature.specs.Constants.{type_in, declared};
+ghost use Rattle.lf_signature.specs.declared.WordSignature.TheVariants.{Sigma3};
 
+use crate::WordSignature;
 use crate::build::{constant_id, rule_id};
 use crate::numbers::{EXP, FF, IMP, rel_constant, rel_of};
-use crate::tables::{constant_at, rule_at};
+use crate::tables::{Place, constant_in, place_of, rule_in};
 use crate::terms::{app2, pf};
 use std::alloc::AllocError;
 use term_table::{Id, Node, Table};
-use word_ops::{Rel, apply, holds, op_constant, op_of};
+use word_ops::{Rel, apply, holds, op_constant};
 
-/// The type of a numbered constant.
-fn numbered(table: &mut Table, number: u32) -> Result<Option<Id>, AllocError>
-    ensures tree { IfOk result (Stands table.new (declared (Num number))) }
+/// The type of the constant at a place.
+fn placed(table: &mut Table, place: Place) -> Result<Option<Id>, AllocError>
+    ensures tree { IfOk result (Stands table.new (type_in place)) }
     ensures extends { Extends table.old table.new }
 {
-    if let Some(constant) = constant_at(number) {
-        return Ok(Some(constant_id(table, constant)?));
+    match place {
+        Place::Made(index) => match constant_in(index) {
+            Some(constant) => Ok(Some(constant_id(table, constant)?)),
+            None => Ok(None),
+        },
+        Place::ByRule(index) => match rule_in(index) {
+            Some(rule) => Ok(Some(rule_id(table, rule)?)),
+            None => Ok(None),
+        },
     }
-    match rule_at(number) {
-        Some(rule) => Ok(Some(rule_id(table, rule)?)),
-        None => Ok(None),
+}
+
+/// The type of a numbered constant.
+fn numbered(
+    table: &mut Table,
+    signature: WordSignature,
+    number: u32,
+) -> Result<Option<Id>, AllocError>
+    ensures tree { IfOk result (Stands table.new (declared signature (Num number))) }
+    ensures extends { Extends table.old table.new }
+{
+    if number >= signature.count() {
+        return Ok(None);
     }
+    placed(table, place_of(number))
 }
 
 /// A relation of two words.
@@ -40,11 +60,17 @@ fn relation(table: &mut Table, rel: Rel, a: u64, b: u64) -> Result<Id, AllocErro
 }
 
 /// That an operator of two words gives what it gives.
-fn evaluation(table: &mut Table, op: u32, a: u64, b: u64) -> Result<Option<Id>, AllocError>
-    ensures tree { IfOk result (Stands table.new (declared (Calc op a b))) }
+fn evaluation(
+    table: &mut Table,
+    signature: WordSignature,
+    op: u32,
+    a: u64,
+    b: u64,
+) -> Result<Option<Id>, AllocError>
+    ensures tree { IfOk result (Stands table.new (declared signature (Calc op a b))) }
     ensures extends { Extends table.old table.new }
 {
-    let Some(op) = op_of(op) else {
+    let Some(op) = signature.op(op) else {
         return Ok(None);
     };
     let left = table.intern(Node::Lit(a))?;
@@ -57,7 +83,7 @@ fn evaluation(table: &mut Table, op: u32, a: u64, b: u64) -> Result<Option<Id>, 
 
 /// That a relation of two words holds.
 fn fact(table: &mut Table, rel: u32, a: u64, b: u64) -> Result<Option<Id>, AllocError>
-    ensures tree { IfOk result (Stands table.new (declared (Fact rel a b))) }
+    ensures tree { IfOk result (Stands table.new (declared Sigma3 (Fact rel a b))) }
     ensures extends { Extends table.old table.new }
 {
     let Some(rel) = rel_of(rel) else {
@@ -72,7 +98,7 @@ fn fact(table: &mut Table, rel: u32, a: u64, b: u64) -> Result<Option<Id>, Alloc
 
 /// That a relation of two words doesn't hold.
 fn denial(table: &mut Table, rel: u32, a: u64, b: u64) -> Result<Option<Id>, AllocError>
-    ensures tree { IfOk result (Stands table.new (declared (Deny rel a b))) }
+    ensures tree { IfOk result (Stands table.new (declared Sigma3 (Deny rel a b))) }
     ensures extends { Extends table.old table.new }
 {
     let Some(rel) = rel_of(rel) else {
@@ -87,18 +113,22 @@ fn denial(table: &mut Table, rel: u32, a: u64, b: u64) -> Result<Option<Id>, All
     Ok(Some(pf(table, denied)?))
 }
 
-/// Answers the type of `constant` in the signature of word arithmetic: None exactly where it has
-/// none, or the node is no constant.
+/// Answers the type of `constant` in the signature: None exactly where it has none, or the node is
+/// no constant.
 ///
 /// Errors: want of memory alone; each id keeps its tree.
-pub fn declared(table: &mut Table, constant: Node) -> Result<Option<Id>, AllocError>
-    ensures tree { IfOk result (Stands table.new (type_at declared constant)) }
+pub(crate) fn word_type(
+    table: &mut Table,
+    signature: WordSignature,
+    constant: Node,
+) -> Result<Option<Id>, AllocError>
+    ensures tree { IfOk result (Stands table.new (type_at (declared signature) constant)) }
     ensures extends { Extends table.old table.new }
 {
     match constant {
-        Node::Const(number) => numbered(table, number),
+        Node::Const(number) => numbered(table, signature, number),
         Node::Lit(_) => Ok(Some(table.intern(Node::Fam(EXP))?)),
-        Node::Calc(op, a, b) => evaluation(table, op, a, b),
+        Node::Calc(op, a, b) => evaluation(table, signature, op, a, b),
         Node::Fact(rel, a, b) => fact(table, rel, a, b),
         Node::Deny(rel, a, b) => denial(table, rel, a, b),
         _ => Ok(None),

@@ -2,12 +2,14 @@
 //!
 //! The checker above is generic over [`Signature`] and uses its one call, `type_of`, with its laws:
 //! what a signature declares stays the same as the table grows, and each type is closed and well
-//! formed over the constants before it. [`Sigma1`] is the signature of word arithmetic. The
-//! definitions that all layers above share stand here: typing as derivations (`specs/Typing`), the
-//! same simply (`specs/Simply`) and as functions (`specs/Decide`), rules as data (`specs/Rules`),
-//! and the table of all constants (`specs/Sigma1`), which rows that were written elsewhere are held
-//! against (`specs/Outside`). What builds proofs reads a rule's row by [`rule_at`]. Sources: Harper, Honsell and Plotkin, A Framework for Defining
-//! Logics, JACM 1993, section 2 (typing); Necula, Proof-Carrying Code, POPL 1997.
+//! formed over the constants before it. [`WordSignature`] is the signature of word arithmetic, in
+//! three lengths, each the beginning of the next. The definitions that all layers above share stand
+//! here: typing as derivations (`specs/Typing`), the same simply (`specs/Simply`) and as functions
+//! (`specs/Decide`), rules as data (`specs/Rules`), the table of all constants
+//! (`specs/Constants`), which rows that were written elsewhere are held against (`specs/Outside`),
+//! and what a signature of word arithmetic is (`specs/Known`). What builds proofs reads a rule's
+//! row by [`rule_at`]. Sources: Harper, Honsell and Plotkin, A Framework for Defining Logics, JACM
+//! 1993, section 2 (typing); Necula, Proof-Carrying Code, POPL 1997.
 #![tactic(auto)]
 
 mod build;
@@ -23,10 +25,13 @@ ghost use Rattle.term_table.specs.Tree.{Tree, Const};
 ghost use Rattle.term_table.specs.Table.{TableView, Extends, Stands};
 ghost use Rattle.lf_signature.specs.Nodes.{type_at};
 ghost use Rattle.lf_signature.specs.Order.{IsSignature};
-ghost use Rattle.lf_signature.specs.Sigma1.{declared};
+ghost use Rattle.lf_signature.specs.Constants.{size_of, op_count_of, op_in, declared};
+ghost use Rattle.lf_signature.specs.Known.{IsKnownSignature};
+ghost use Rattle.lf_signature.specs.Laws.Within.{declared_known};
 ghost use Rattle.lf_signature.specs.Laws.WellFormed.{declared_formed};
 
-pub use declare::declared;
+pub use WordSignature::{Sigma1, Sigma2, Sigma3};
+use declare::word_type;
 pub use numbers::{rel_constant, rel_number, rel_of, rel_of_constant};
 use std::alloc::AllocError;
 pub use tables::rule_at;
@@ -35,6 +40,7 @@ pub use terms::{app1, app2, app3, pf};
 pub use theorems::{
     declared_rows, near_laws, places_laws, signature_laws, simple_laws, typing_laws,
 };
+use word_ops::{Op, op_of};
 
 /// What gives constants their types. A signature may keep ids of a table, and its types may name
 /// their trees: so a call wants a table that holds what the signature keeps.
@@ -66,23 +72,96 @@ pub trait Signature {
     ghost well_formed: { (s : Self) (t : TableView) → holds s t → IsSignature (declares s t) };
 }
 
-/// The signature of word arithmetic: constants 0 to 87, the 64-bit words, and what is evaluated of
-/// operators and relations at two words. It keeps no ids.
-#[derive(Clone, Copy, Debug)]
-pub struct Sigma1;
+/// A signature of whose constants formulas are made as in word arithmetic, and whose others are
+/// rules of it.
+pub trait Known: Signature {
+    // Words and the constants of formulas have their types, and each constant that has one has that
+    // of the longest signature of word arithmetic.
+    ghost known: { (s : Self) (t : TableView) → Self.Signature.holds s t →
+        IsKnownSignature (Self.Signature.declares s t) };
+}
 
-impl Signature for Sigma1 {
+/// A signature of word arithmetic: the first numbered constants of the table, the 64-bit words, and
+/// what is evaluated of operators and relations at two words. It keeps no ids.
+#[derive(Clone, Copy, Debug, PartialEq, Eq)]
+pub enum WordSignature {
+    /// Constants 0 to 87, operators 0 to 10.
+    Sigma1,
+    /// Constants 0 to 103, operators 0 to 18.
+    Sigma2,
+    /// Constants 0 to 104, operators 0 to 18.
+    Sigma3,
+}
+
+impl WordSignature {
+    /// How many numbered constants there are.
+    pub fn count(self) -> u32
+        ensures { result ≡ size_of self }
+    {
+        match self {
+            WordSignature::Sigma1 => 88,
+            WordSignature::Sigma2 => 104,
+            WordSignature::Sigma3 => 105,
+        }
+    }
+
+    /// How many operators there are.
+    fn op_count(self) -> u32
+        ensures { result ≡ op_count_of self }
+    {
+        match self {
+            WordSignature::Sigma1 => 11,
+            WordSignature::Sigma2 => 19,
+            WordSignature::Sigma3 => 19,
+        }
+    }
+
+    /// Answers the operator that evaluations name by `number`: None where it is none of the
+    /// signature's.
+    pub fn op(self, number: u32) -> Option<Op>
+        ensures { result ≡ op_in self number }
+    {
+        if number < self.op_count() {
+            op_of(number)
+        } else {
+            None
+        }
+    }
+}
+
+impl Signature for WordSignature {
     ghost holds = { λ _ _. Unit {0} };
 
-    ghost declares = { λ _ _. declared };
+    ghost declares = { λ s _. declared s };
 
     ghost still_holds = { λ s t u e h. h };
 
     ghost same_types = { λ s t u e h. refl };
 
-    ghost well_formed = { λ s t h. declared_formed };
+    ghost well_formed = { λ s t h. declared_formed s };
 
     fn type_of(&self, table: &mut Table, constant: Node) -> Result<Option<Id>, AllocError> {
-        declared(table, constant)
+        word_type(table, *self, constant)
     }
+}
+
+impl Known for WordSignature {
+    ghost known = { λ s t h. declared_known s };
+}
+
+/// Answers the type of `constant` in `sig`: None exactly where it has none, or the node is no
+/// constant.
+///
+/// Errors: want of memory alone; each id keeps its tree.
+pub fn declared<S: Signature>(
+    table: &mut Table,
+    sig: &S,
+    constant: Node,
+) -> Result<Option<Id>, AllocError>
+    requires { S.holds sig.now table.old }
+    ensures tree { IfOk result
+        (Stands table.new (type_at (S.declares sig.now table.old) constant)) }
+    ensures extends { Extends table.old table.new }
+{
+    sig.type_of(table, constant)
 }

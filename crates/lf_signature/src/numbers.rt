@@ -70,8 +70,35 @@ pub const ALL: u32 = 25;
 /// The constant of a formula for all memories.
 pub const ALLM: u32 = 26;
 
+/// The constant of exclusive disjunction.
+pub const XOR: u32 = 88;
+
+/// The constant of conjunction with a complement.
+pub const BIC: u32 = 89;
+
+/// The constant of four times the first and the second.
+pub const S4ADD: u32 = 90;
+
+/// The constant of eight times the first and the second.
+pub const S8ADD: u32 = 91;
+
+/// The constant of signed shifts to the right.
+pub const SRA: u32 = 92;
+
+/// The constant of a byte of a word.
+pub const EXTB: u32 = 93;
+
+/// The constant of two bytes of a word.
+pub const EXTW: u32 = 94;
+
+/// The constant of four bytes of a word.
+pub const EXTL: u32 = 95;
+
 /// The first constant that is a rule; those below it are what formulas are made of.
 pub const FIRST_RULE: u32 = 27;
+
+/// The first rule behind the later operators.
+pub const LATER_RULE: u32 = 96;
 
 /// Answers the relation that facts and denials name by `number`, its place in `Rel`: None past 4.
 pub fn rel_of(number: u32) -> Option<Rel>

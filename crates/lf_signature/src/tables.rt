@@ -1,19 +1,22 @@
-//! The types of the constants 0 to 87, in their order.
+//! The types of the constants 0 to 104, in their order.
 
 ghost use Rattle.std.specs.Prelude.{◌≡◌, map, take, drop};
 ghost use Rattle.std.specs.Option.{option_map};
 ghost use Rattle.term_table.specs.Tree.{at};
 ghost use Rattle.lf_signature.specs.Schemas.{constant_type, rule_of};
-ghost use Rattle.lf_signature.specs.Sigma1.{constant_types, the_rules, rule_at};
+ghost use Rattle.lf_signature.specs.Constants.{constant_types, the_rules, place_of, rule_at};
 
-use crate::numbers::{EXP, FIRST_RULE, FORM, MEM};
+use crate::numbers::{EXP, FIRST_RULE, FORM, LATER_RULE, MEM, XOR};
 use crate::schema::Connective::{And, Imp, Or};
 use crate::schema::Exp::{Apply, Own, Sel, Word};
 use crate::schema::Form::{All, Allm, False, Holds, Join, Of, OfMem, True};
 use crate::schema::Mem::Upd;
 use crate::schema::Premise::{ForExp, ForMem, Plain, Under};
 use crate::schema::{Constant, Exp, Form, Mem, Rule, Sort};
-use word_ops::Op::{Add, Band, Bis, Cmpeq, Cmple, Cmplt, Cmpule, Cmpult, Sll, Srl, Sub};
+use word_ops::Op::{
+    Add, Band, Bic, Bis, Cmpeq, Cmple, Cmplt, Cmpule, Cmpult, Extb, Extl, Extw, S4add, S8add, Sll,
+    Srl, Sub, Xor,
+};
 use word_ops::Rel::{Eq, Sle, Slt, Ule, Ult};
 
 /// One word.
@@ -64,7 +67,7 @@ const R: Form = Form::Par(2);
 /// The greatest word.
 const MAX: Exp = Word(u64::MAX);
 
-static CONSTANTS: [Constant; 27] = [
+static CONSTANTS: [Constant; 35] = [
     // 0 add
     Constant {
         arguments: WORDS2,
@@ -199,6 +202,46 @@ static CONSTANTS: [Constant; 27] = [
     Constant {
         arguments: &[Sort::MemForm],
         family: FORM,
+    },
+    // 88 xor
+    Constant {
+        arguments: WORDS2,
+        family: EXP,
+    },
+    // 89 bic
+    Constant {
+        arguments: WORDS2,
+        family: EXP,
+    },
+    // 90 s4add
+    Constant {
+        arguments: WORDS2,
+        family: EXP,
+    },
+    // 91 s8add
+    Constant {
+        arguments: WORDS2,
+        family: EXP,
+    },
+    // 92 sra
+    Constant {
+        arguments: WORDS2,
+        family: EXP,
+    },
+    // 93 extb
+    Constant {
+        arguments: WORDS2,
+        family: EXP,
+    },
+    // 94 extw
+    Constant {
+        arguments: WORDS2,
+        family: EXP,
+    },
+    // 95 extl
+    Constant {
+        arguments: WORDS2,
+        family: EXP,
     },
 ];
 
@@ -646,9 +689,110 @@ static COMPARISONS: [Rule; 15] = [
 
 /// The rules 73 to 87: the operators that compare.
 pub fn comparisons() -> &'static [Rule]
-    ensures { map rule_of result.now ≡ drop 46 the_rules }
+    ensures { map rule_of result.now ≡ take 15 (drop 46 the_rules) }
 {
     &COMPARISONS
+}
+
+static LATER: [Rule; 9] = [
+    // 96 xor_self
+    Rule {
+        parameters: WORDS1,
+        premises: &[],
+        conclusion: Holds(Eq, &Apply(Xor, &A, &A), &Word(0)),
+    },
+    // 97 bic_le
+    Rule {
+        parameters: WORDS2,
+        premises: &[],
+        conclusion: Holds(Ule, &Apply(Bic, &A, &B), &A),
+    },
+    // 98 s4_def
+    Rule {
+        parameters: WORDS2,
+        premises: &[],
+        conclusion: Holds(
+            Eq,
+            &Apply(S4add, &A, &B),
+            &Apply(Add, &Apply(Sll, &A, &Word(2)), &B),
+        ),
+    },
+    // 99 s8_def
+    Rule {
+        parameters: WORDS2,
+        premises: &[],
+        conclusion: Holds(
+            Eq,
+            &Apply(S8add, &A, &B),
+            &Apply(Add, &Apply(Sll, &A, &Word(3)), &B),
+        ),
+    },
+    // 100 extb_le
+    Rule {
+        parameters: WORDS2,
+        premises: &[],
+        conclusion: Holds(Ule, &Apply(Extb, &A, &B), &Word(255)),
+    },
+    // 101 extw_le
+    Rule {
+        parameters: WORDS2,
+        premises: &[],
+        conclusion: Holds(Ule, &Apply(Extw, &A, &B), &Word(65_535)),
+    },
+    // 102 extl_le
+    Rule {
+        parameters: WORDS2,
+        premises: &[],
+        conclusion: Holds(Ule, &Apply(Extl, &A, &B), &Word(4_294_967_295)),
+    },
+    // 103 bic_def
+    Rule {
+        parameters: WORDS2,
+        premises: &[],
+        conclusion: Holds(
+            Eq,
+            &Apply(Bic, &A, &B),
+            &Apply(Band, &A, &Apply(Xor, &B, &MAX)),
+        ),
+    },
+    // 104 sub_lo
+    Rule {
+        parameters: WORDS3,
+        premises: &[Plain(Holds(Ule, &B, &A)), Plain(Holds(Ule, &C, &B))],
+        conclusion: Holds(Ule, &Apply(Sub, &B, &C), &Apply(Sub, &A, &C)),
+    },
+];
+
+/// The rules 96 to 104: the later operators, and a difference from below.
+pub fn later() -> &'static [Rule]
+    ensures { map rule_of result.now ≡ drop 61 the_rules }
+{
+    &LATER
+}
+
+/// Where a numbered constant stands.
+#[derive(Clone, Copy)]
+pub enum Place {
+    /// Among those of which formulas are made.
+    Made(u32),
+    /// Among the rules.
+    ByRule(u32),
+}
+
+/// The place of the constant of this number.
+pub fn place_of(number: u32) -> Place
+    ensures { result ≡ place_of number }
+{
+    if number < FIRST_RULE {
+        return Place::Made(number);
+    }
+    if number < XOR {
+        return Place::ByRule(number - FIRST_RULE);
+    }
+    if number < LATER_RULE {
+        return Place::Made(number - 61);
+    }
+    Place::ByRule(number - 35)
 }
 
 /// The entry of a part of the rules.
@@ -658,23 +802,35 @@ fn entry(rules: &'static [Rule], index: usize) -> Option<&'static Rule>
     rules.get(index)
 }
 
-/// Answers the rule of the constant of this number: None below 27 and past 87.
-pub fn rule_at(number: u32) -> Option<&'static Rule>
-    ensures { option_map (λ r. rule_of r.now) result ≡ rule_at number }
+/// The rule at a place among the rules.
+pub fn rule_in(index: u32) -> Option<&'static Rule>
+    ensures { option_map (λ r. rule_of r.now) result ≡ at the_rules index }
 {
-    let index = number.checked_sub(FIRST_RULE)? as usize;
+    let index = index as usize;
     match index {
         0..=10 => entry(connectives(), index),
         11..=18 => entry(quantifiers(), index - 11),
         19..=31 => entry(arithmetic(), index - 19),
         32..=45 => entry(order(), index - 32),
-        _ => entry(comparisons(), index - 46),
+        46..=60 => entry(comparisons(), index - 46),
+        _ => entry(later(), index - 61),
     }
 }
 
-/// The type of a constant of which formulas are made: None past 26.
-pub fn constant_at(number: u32) -> Option<&'static Constant>
-    ensures { option_map (λ c. constant_type c.now) result ≡ at constant_types number }
+/// Answers the rule of the constant of this number: None of those of which formulas are made, and
+/// past 104.
+pub fn rule_at(number: u32) -> Option<&'static Rule>
+    ensures { option_map (λ r. rule_of r.now) result ≡ rule_at number }
 {
-    constants().get(number as usize)
+    match place_of(number) {
+        Place::Made(_) => None,
+        Place::ByRule(index) => rule_in(index),
+    }
+}
+
+/// The type of a constant of which formulas are made, by its place.
+pub fn constant_in(index: u32) -> Option<&'static Constant>
+    ensures { option_map (λ c. constant_type c.now) result ≡ at constant_types index }
+{
+    constants().get(index as usize)
 }

@@ -1,7 +1,7 @@
 //! What holds of the definitions, with nothing to run.
 
-ghost use Rattle.std.specs.Prelude.{◌≡◌, ◌<◌, ◌↔◌, ℕ, true, Option, Some, List, []};
-ghost use Rattle.std.specs.Prelude.{length, map, get_or};
+ghost use Rattle.std.specs.Prelude.{◌≡◌, ◌<◌, ◌≤◌, ◌↔◌, ℕ, true, Option, Some, List, []};
+ghost use Rattle.std.specs.Prelude.{length, map, take, get_or};
 ghost use Rattle.std.specs.Option.{option_map};
 ghost use Rattle.word_ops.specs.declared.Op.{Op};
 ghost use Rattle.word_ops.specs.declared.Rel.{Rel};
@@ -16,11 +16,14 @@ ghost use Rattle.lf_signature.specs.Simply.{simply, erased, SChecks, SSynth, STy
 ghost use Rattle.lf_signature.specs.Decide.{checks_of, synth_of, kind_of, is_type_of};
 ghost use Rattle.lf_signature.specs.Near.{AgreeOnNearest};
 ghost use Rattle.lf_signature.specs.Rules.{Rule, rule_type};
-ghost use Rattle.lf_signature.specs.Sigma1.{constant_types, rule_at, parameters_of, declared};
+ghost use Rattle.lf_signature.specs.Constants.{size_of, op_count_of, rule_at};
+ghost use Rattle.lf_signature.specs.Constants.{parameters_of, declared};
+ghost use Rattle.lf_signature.specs.Known.{IsKnownSignature};
+ghost use Rattle.lf_signature.specs.declared.WordSignature.{WordSignature};
+ghost use Rattle.lf_signature.specs.declared.WordSignature.TheVariants.{Sigma1, Sigma3};
 ghost use Rattle.lf_signature.specs.Outside.{numbered_rows, evaluated_rows, AreDeclared};
 ghost use Rattle.lf_signature.specs.Worked.{AreVerdicts};
 ghost use Rattle.lf_signature.specs.Order.{IsSignature};
-ghost use Rattle.lf_signature.specs.declared.numbers.TheConstants.{FIRST_RULE};
 
 /// The functions of typing decide its derivations, over any signature; a term synthesises at most
 /// one type.
@@ -69,15 +72,19 @@ pub fn simple_laws()
         IsType sig ctx a → is_over (length ctx) a ≡ true }
 {}
 
-/// Each type that the signature of word arithmetic declares is closed and well formed over the
-/// constants before it, and simply well formed; a rule's constant has the rule's type; operators
-/// and relations are found again by their numbers and by their constants.
+/// Each type that a signature of word arithmetic declares is closed and well formed over the
+/// constants before it, and simply well formed; a rule's constant has the rule's type; a longer
+/// signature has what a shorter one has; operators and relations are found again by their numbers
+/// and by their constants.
 pub fn signature_laws()
-    ensures formed { IsSignature declared }
-    ensures simply { (c : Const) (a : Tree) → declared c ≡ Some a → SType (simply declared) [] a }
-    ensures constants { (n : ℕ) → n < FIRST_RULE → declared (Num n) ≡ at constant_types n }
-    ensures rules { (n : ℕ) (r : Rule) →
-        rule_at n ≡ Some r → declared (Num n) ≡ Some (rule_type r) }
+    ensures formed { (s : WordSignature) → IsSignature (declared s) }
+    ensures simply { (s : WordSignature) (c : Const) (a : Tree) →
+        declared s c ≡ Some a → SType (simply (declared s)) [] a }
+    ensures known { (s : WordSignature) → IsKnownSignature (declared s) }
+    ensures more { (s u : WordSignature) (c : Const) (a : Tree) → size_of s ≤ size_of u →
+        op_count_of s ≤ op_count_of u → declared s c ≡ Some a → declared u c ≡ Some a }
+    ensures rules { (s : WordSignature) (n : ℕ) (r : Rule) →
+        n < size_of s → rule_at n ≡ Some r → declared s (Num n) ≡ Some (rule_type r) }
     ensures operators { (n : ℕ) (o : Op) → (op_of n ≡ Some o) ↔ (op_number o ≡ n) }
     ensures relations { (n : ℕ) (r : Rel) → (rel_of n ≡ Some r) ↔ (rel_number r ≡ n) }
     ensures op_constants { (c : ℕ) (o : Op) →
@@ -87,17 +94,18 @@ pub fn signature_laws()
 {}
 
 /// The types of the signature are those that a second, independent implementation writes out: of
-/// every number, none past 87, with how many parameters its constant has; and of worked constants
+/// every number, none past 104, with how many parameters its constant has; and of worked constants
 /// at words. Worked terms and types have the verdicts over it that they have by hand.
 pub fn declared_rows()
-    ensures numbered { (n : ℕ) → declared (Num n) ≡ option_map (λ r. r.1) (at numbered_rows n) }
-    ensures places { sigma1_places ≡ map (λ r. r.0) numbered_rows }
-    ensures evaluated { AreDeclared declared evaluated_rows }
-    ensures verdicts { AreVerdicts declared }
+    ensures numbered { (n : ℕ) →
+        declared Sigma3 (Num n) ≡ option_map (λ r. r.1) (at numbered_rows n) }
+    ensures places { sigma1_places ≡ take 88 (map (λ r. r.0) numbered_rows) }
+    ensures evaluated { AreDeclared (declared Sigma1) evaluated_rows }
+    ensures verdicts { AreVerdicts (declared Sigma1) }
 {}
 
 /// The counts of `Places::sigma1` are the signature's: how many parameters each numbered constant
 /// has.
 pub fn places_laws()
-    ensures { (n : ℕ) → get_or sigma1_places n 0 ≡ parameters_of n }
+    ensures { (n : ℕ) → n < 88 → get_or sigma1_places n 0 ≡ parameters_of n }
 {}

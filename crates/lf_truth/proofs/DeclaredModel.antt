@@ -1,6 +1,6 @@
 -- The declared type of each constant is true of its value; so the signature of word arithmetic is sound.
-use Rattle.std.proofs.Common.{◌≡◌, ℕ, ◌-◌, ◌^◌, ◌<◌, ◌≤◌, Bool, true, false, cond, ◌&&◌, not, Option, Some, None, List, [], ◌∷◌, ◌++◌, map, length, refl, sym, ◌∙◌, ap, subst, eq-eqb, true≢false, arith, inl, inr, suc, zero}
-use Rattle.std.proofs.lemmas.Bool.{ltb-true, lt-ltb, cases_lt}
+use Rattle.std.proofs.Common.{◌≡◌, ℕ, ◌-◌, ◌^◌, ◌<◌, ◌≤◌, Bool, true, false, cond, if◌then◌else◌, nat_lt, ◌&&◌, not, Option, Some, None, List, [], ◌∷◌, ◌++◌, map, length, refl, sym, ◌∙◌, ap, subst, eq-eqb, true≢false, arith, inl, inr, suc, zero, take, drop}
+use Rattle.std.proofs.lemmas.Bool.{ltb-true, le-ltb, cases_lt}
 use Rattle.word_ops.specs.declared.Op.{Op}
 use Rattle.word_ops.specs.declared.Rel.{Rel}
 use Rattle.word_ops.specs.declared.Rel.TheVariants.{Eq, Ult, Ule, Slt, Sle}
@@ -9,31 +9,34 @@ use Rattle.word_ops.specs.Memory.{Memory, IsMemory}
 use Rattle.word_ops.specs.Rights.{Rights, IsRights, allowed}
 use Rattle.word_ops.proofs.Bounds.{word_of-below}
 use Rattle.word_ops.proofs.Memories.{IsMemory-write, read-below}
-use Rattle.term_table.specs.Tree.{Tree, Fam, Pi, Const, Num, Lit, Calc, Fact, Deny, at}
+use Rattle.term_table.specs.Tree.{Tree, Fam, Pi, Const, Num, Lit, Calc, Fact, Deny, Lemma, at}
 use Rattle.term_table.specs.Subst.{erase}
-use Rattle.term_table.proofs.Options.{bind_some, some_injective, map_some}
+use Rattle.term_table.proofs.Options.{bind_some, some_injective}
 use Rattle.formula_tree.specs.Formulas.{FRel, FImp, FFalse, EOp, ELit}
-use Rattle.word_ops.specs.Operators.{operators, op_of}
+use Rattle.word_ops.specs.Operators.{operators}
 use Rattle.lf_signature.specs.Numbers.{rel_of}
 use Rattle.lf_signature.specs.Terms.{exp, pf, falsity}
 use Rattle.lf_signature.specs.Typing.{Checks}
 use Rattle.lf_signature.specs.Order.{IsSignature}
 use Rattle.lf_signature.specs.Rules.{Rule, rule_type}
-use Rattle.lf_signature.specs.Sigma1.{constant_types, the_rules, rule_at, is_word, calc_type, fact_type, deny_type, declared}
+use Rattle.lf_signature.specs.Constants.{constant_types, the_rules, rule_at, place_of, op_in, is_word, calc_type, fact_type, deny_type, declared, rule_in, type_in}
 use Rattle.lf_signature.specs.Laws.Booleans.{both, cond_is, every, every-at}
-use Rattle.lf_signature.specs.Laws.WellFormed.{declared_formed}
-use Rattle.lf_signature.proofs.Lookup.{declared-constant, declared-from, rule_at-from}
+use Rattle.lf_signature.proofs.Lookup.{rule_found, at_past}
+use Rattle.lf_signature.specs.declared.tables.Place.TheVariants.{Made, ByRule}
+use Rattle.lf_signature.specs.declared.WordSignature.TheVariants.{Sigma3}
+use Rattle.lf_signature.specs.Laws.Within.{Found, made, ruled, declared-number, declared-below}
 use Rattle.lf_encode.specs.Encoding.{form_encoding}
-use Rattle.lf_truth.specs.Validity.{IsSoundSignature, IsTrueType}
+use Rattle.lf_truth.specs.Validity.{IsSoundSignature, IsTrueType, IsGivenType, listed, valid, AreGivenTypes}
 use Rattle.lf_truth.specs.RuleTruth.{IsTrueRule}
 use Rattle.lf_truth.proofs.Values.{default, AnyValue}
 use Rattle.lf_truth.proofs.TypeMeaning.{Stable, word_value, memory_value, word_means, Means}
 use Rattle.lf_truth.proofs.Soundness.{Has, IsModel, proved_true}
-use Rattle.lf_truth.proofs.WordValues.{of_op, of_rel, values, of_type, value_in, value_in-past, meaning}
+use Rattle.lf_truth.proofs.WordValues.{of_op, of_rel, values, of_type, value_in, value_of, meaning}
 use Rattle.lf_truth.proofs.FormMeaning.{closed_means}
 use Rattle.lf_truth.proofs.WordRules.{RuleHolds, AllHold, none, ◌⊕◌, all_rules}
 use Rattle.lf_truth.specs.RuleSorts.{is_sorted}
 use Rattle.lf_truth.proofs.RuleMeaning.{rule_is_true}
+use Rattle.std.specs.Option.{option_map}
 
 -- ---- soundness, for any signature that has a model
 
@@ -86,7 +89,7 @@ module _ (R : Rights) (sig : Const → Option Tree) where
   all_constants : AreTrueOf (values R) constant_types
   unfolding constant_types
   all_constants =
-      ops_true operators (
+      ops_true (take 11 operators) (
       -- sel, upd
       (λ ρ. (_, refl, λ m hm a ha. word_means _ (read-below m.memory a.word hm.1.out))) ⊗
       (λ ρ. (_, refl, λ m hm a ha v hv. (refl, record { out = IsMemory-write m.memory a.word v.word hm.1.out ha.1.out hv.1.out }))) ⊗
@@ -108,7 +111,8 @@ module _ (R : Rights) (sig : Const → Option Tree) where
       -- all, allm
       (λ ρ. (_, refl, λ g hg. record { out = stable_all ℕ (λ w. w < 2 ^ 64) (λ w. (g (word_value w)).prop) (λ w h. (hg (word_value w) (word_means w h)).out) })) ⊗
       (λ ρ. (_, refl, λ g hg. record { out = stable_all Memory IsMemory (λ m. (g (memory_value m)).prop) (λ m h. (hg (memory_value m) (refl, record { out = h })).out) })) ⊗
-      end)
+      -- the later operators
+      ops_true (drop 11 operators) end)
 
   find_constant : {l : List AnyValue} {m : List Tree} → AreTrueOf l m → (n : ℕ) (d : AnyValue) (A : Tree) → at m n ≡ Some A → IsTrueOf (value_in l d n) A
   find_constant end n d A q = cc
@@ -121,13 +125,7 @@ module _ (R : Rights) (sig : Const → Option Tree) where
   find_rule (h ⊕ k) (suc n) r q = find_rule k n r q
 
   rule_holds : (n : ℕ) (r : Rule) → rule_at n ≡ Some r → RuleHolds R sig r
-  rule_holds n r q = elim (cases_lt n 27) [
-    | inl low ↦ cc (ap (λ b. cond b None (at the_rules (n - 27))) (lt-ltb n 27 low), q)
-    | inr from ↦ find_rule (all_rules R sig) (n - 27) r (sym (rule_at-from n from) ∙ q)
-  ]
-
-how_many : (R : Rights) → length (values R) ≡ 27
-how_many R = refl
+  rule_holds n r q = let f = rule_found n r q in find_rule (all_rules R sig) f.0 r f.1
 
 -- ---- what is evaluated of operators and relations at words
 
@@ -155,14 +153,14 @@ deny_true r x y p q h = record {
 }
 
 -- as they are declared
-pub declared_calc : (o x y : ℕ) (A : Tree) → declared (Calc o x y) ≡ Some A → IsTrueType A
+pub declared_calc : (o x y : ℕ) (A : Tree) → declared Sigma3 (Calc o x y) ≡ Some A → IsTrueType A
 declared_calc o x y A q =
-    let p = bind_some (op_of o) (λ p. cond (is_word x && is_word y) (Some (calc_type p x y)) None) A q in
+    let p = bind_some (op_in Sigma3 o) (λ p. cond (is_word x && is_word y) (Some (calc_type p x y)) None) A q in
     let h = cond_is (is_word x && is_word y) (Some (calc_type p.0 x y)) A p.2 in
     let w = both _ _ h.0 in
     subst (λ z. IsTrueType z) (some_injective h.1) (calc_true p.0 x y (ltb-true x (2 ^ 64) w.0) (ltb-true y (2 ^ 64) w.1))
 
-pub declared_fact : (r x y : ℕ) (A : Tree) → declared (Fact r x y) ≡ Some A → IsTrueType A
+pub declared_fact : (r x y : ℕ) (A : Tree) → declared Sigma3 (Fact r x y) ≡ Some A → IsTrueType A
 declared_fact r x y A q =
     let p = bind_some (rel_of r) (λ p. cond ((is_word x && is_word y) && test_of p x y) (Some (fact_type p x y)) None) A q in
     let h = cond_is ((is_word x && is_word y) && test_of p.0 x y) (Some (fact_type p.0 x y)) A p.2 in
@@ -170,7 +168,7 @@ declared_fact r x y A q =
     let w = both _ _ t.0 in
     subst (λ z. IsTrueType z) (some_injective h.1) (fact_true p.0 x y (ltb-true x (2 ^ 64) w.0) (ltb-true y (2 ^ 64) w.1) t.1)
 
-pub declared_deny : (r x y : ℕ) (A : Tree) → declared (Deny r x y) ≡ Some A → IsTrueType A
+pub declared_deny : (r x y : ℕ) (A : Tree) → declared Sigma3 (Deny r x y) ≡ Some A → IsTrueType A
 declared_deny r x y A q =
     let p = bind_some (rel_of r) (λ p. cond ((is_word x && is_word y) && not (test_of p x y)) (Some (deny_type p x y)) None) A q in
     let h = cond_is ((is_word x && is_word y) && not (test_of p.0 x y)) (Some (deny_type p.0 x y)) A p.2 in
@@ -180,37 +178,61 @@ declared_deny r x y A q =
 
 -- ---- the model
 
-module _ (R : Rights) (rights : IsRights R) where
+-- past the later operators there are rules alone
+place_of-past : (n : ℕ) → 96 ≤ n → place_of n ≡ ByRule (n - 35)
+place_of-past n h =
+    ap (λ b. if b then Made n else if nat_lt n 88 then ByRule (n - 27) else if nat_lt n 96 then Made (n - 61) else ByRule (n - 35)) (le-ltb n 27 (omega (arith, h)))
+    ∙ ap (λ b. if b then ByRule (n - 27) else if nat_lt n 96 then Made (n - 61) else ByRule (n - 35)) (le-ltb n 88 (omega (arith, h)))
+    ∙ ap (λ b. if b then Made (n - 61) else ByRule (n - 35)) (le-ltb n 96 h)
+
+-- over any signature whose types are those of word arithmetic, or of the proofs of valid formulas
+module _ (sig : Const → Option Tree) (given : AreGivenTypes sig) (R : Rights) (rights : IsRights R) where
   -- a proof's value says nothing, and of it its type is true
-  proof_true : (c : Const) (A : Tree) → of_type (declared c) ≡ meaning R declared c → declared c ≡ Some A →
-      ((ρ : List AnyValue) → Means (meaning R declared) A (erase A) ρ (default (erase A))) → IsTrueOf R declared (meaning R declared c) A
+  proof_true : (c : Const) (A : Tree) → of_type (sig c) ≡ meaning R sig c → sig c ≡ Some A →
+      ((ρ : List AnyValue) → Means (meaning R sig) A (erase A) ρ (default (erase A))) → IsTrueOf R sig (meaning R sig c) A
   proof_true c A same q h ρ = (default (erase A), sym same ∙ ap of_type q, h ρ)
 
-  valid_means : (A : Tree) → IsTrueType A → (ρ : List AnyValue) → Means (meaning R declared) A (erase A) ρ (default (erase A))
+  valid_means : (A : Tree) → IsTrueType A → (ρ : List AnyValue) → Means (meaning R sig) A (erase A) ρ (default (erase A))
   valid_means A t ρ =
-      subst (λ z. Means (meaning R declared) z (erase z) ρ (default (erase z))) t.is
-      (record { out = subst (λ P. P) (sym (closed_means R declared t.formula ρ t.over)) (t.valid R rights) })
+      subst (λ z. Means (meaning R sig) z (erase z) ρ (default (erase z))) t.is
+      (record { out = subst (λ P. P) (sym (closed_means R sig t.formula ρ t.over)) (t.valid R rights) })
 
-  number_true : (n : ℕ) (A : Tree) → declared (Num n) ≡ Some A → IsTrueOf R declared (meaning R declared (Num n)) A
-  number_true n A q = elim (cases_lt n 27) [
-    | inl low ↦ find_constant R declared (all_constants R declared) n (of_type (declared (Num n))) A (sym (declared-constant n low) ∙ q)
-    | inr from ↦
-        let w = map_some (rule_at n) rule_type A (sym (declared-from n from) ∙ q) in
-        proof_true (Num n) A (sym (value_in-past (values R) (of_type (declared (Num n))) n (omega (arith, how_many R, from)))) q
-        (subst (λ z. (ρ : List AnyValue) → Means (meaning R declared) z (erase z) ρ (default (erase z))) w.2 (rule_holds R declared n w.0 w.1))
-  ]
+  number_true : (n : ℕ) (A : Tree) → sig (Num n) ≡ Some A → Found n A → IsTrueOf R sig (meaning R sig (Num n)) A
+  number_true n A q (made i p e w) =
+      subst (λ z. IsTrueOf R sig z A) (sym (ap (value_of (values R) (of_type (sig (Num n)))) p)) (find_constant R sig (all_constants R sig) i (of_type (sig (Num n))) A w)
+  number_true n A q (ruled i r p e w v k) =
+      proof_true (Num n) A (sym (ap (value_of (values R) (of_type (sig (Num n)))) p)) q
+      (subst (λ z. (ρ : List AnyValue) → Means (meaning R sig) z (erase z) ρ (default (erase z))) k (rule_holds R sig n r w))
 
-  pub declared_model : IsModel declared (meaning R declared)
-  declared_model (Num n) A q = number_true n A q
-  declared_model (Lit w) A q =
-      let h = cond_is (is_word w) (Some exp) A q in
-      subst (λ z. IsTrueOf R declared (meaning R declared (Lit w)) z) (some_injective h.1) (λ ρ. (word_value w, refl, word_means w (ltb-true w (2 ^ 64) h.0)))
-  declared_model (Calc o x y) A q = proof_true (Calc o x y) A refl q (valid_means A (declared_calc o x y A q))
-  declared_model (Fact r x y) A q = proof_true (Fact r x y) A refl q (valid_means A (declared_fact r x y A q))
-  declared_model (Deny r x y) A q = proof_true (Deny r x y) A refl q (valid_means A (declared_deny r x y A q))
+  listed_true : (c : Const) (A : Tree) → sig c ≡ Some A → declared Sigma3 c ≡ Some A → IsTrueOf R sig (meaning R sig c) A
+  listed_true (Num n) A q e = number_true n A q (declared-number Sigma3 n A e).1
+  listed_true (Lit w) A q e =
+      let h = cond_is (is_word w) (Some exp) A e in
+      subst (λ z. IsTrueOf R sig (meaning R sig (Lit w)) z) (some_injective h.1) (λ ρ. (word_value w, refl, word_means w (ltb-true w (2 ^ 64) h.0)))
+  listed_true (Calc o x y) A q e = proof_true (Calc o x y) A refl q (valid_means A (declared_calc o x y A e))
+  listed_true (Fact r x y) A q e = proof_true (Fact r x y) A refl q (valid_means A (declared_fact r x y A e))
+  listed_true (Deny r x y) A q e = proof_true (Deny r x y) A refl q (valid_means A (declared_deny r x y A e))
+  listed_true (Lemma n) A q e = cc
 
-pub declared_sound : IsSoundSignature declared
-declared_sound = model_sound declared declared_formed declared_model
+  -- past the constants of word arithmetic a value says nothing
+  past_value : (n : ℕ) → 105 ≤ n → of_type (sig (Num n)) ≡ meaning R sig (Num n)
+  past_value n h = ap (value_of (values R) (of_type (sig (Num n)))) (sym (place_of-past n (omega (arith, h))))
+
+  given_true : (c : Const) (A : Tree) → sig c ≡ Some A → IsGivenType c A → IsTrueOf R sig (meaning R sig c) A
+  given_true c A q (listed e) = listed_true c A q e
+  given_true (Num n) A q (valid b t) = proof_true (Num n) A (past_value n b) q (valid_means A t)
+  given_true (Lit w) A q (valid b t) = absurd b
+  given_true (Calc o x y) A q (valid b t) = absurd b
+  given_true (Fact r x y) A q (valid b t) = absurd b
+  given_true (Deny r x y) A q (valid b t) = absurd b
+  given_true (Lemma n) A q (valid b t) = proof_true (Lemma n) A refl q (valid_means A t)
+
+  pub given_model : IsModel sig (meaning R sig)
+  given_model c A q = given_true c A q (given c A q)
+
+-- each lawful signature of word arithmetic, with proofs of valid formulas beside, is sound
+pub given_sound : (sig : Const → Option Tree) → IsSignature sig → AreGivenTypes sig → IsSoundSignature sig
+given_sound sig lawful given = model_sound sig lawful (given_model sig given)
 
 -- ---- the rules, by their parameters
 
@@ -219,13 +241,23 @@ unfolding the_rules
 all_sorted = refl
 
 pub rule_sorted : (n : ℕ) (r : Rule) → rule_at n ≡ Some r → is_sorted r ≡ true
-rule_sorted n r q = elim (cases_lt n 27) [
-  | inl low ↦ cc (ap (λ b. cond b None (at the_rules (n - 27))) (lt-ltb n 27 low), q)
-  | inr from ↦ every-at (λ n r. is_sorted r) the_rules (n - 27) r all_sorted (sym (rule_at-from n from) ∙ q)
+rule_sorted n r q = let f = rule_found n r q in every-at (λ n r. is_sorted r) the_rules f.0 r all_sorted f.1
+
+rules_end : length the_rules ≡ 70
+unfolding the_rules
+rules_end = refl
+
+-- where a rule may stand, the longest signature has the rule's type, or none
+pub declared_rules : (n i : ℕ) → place_of n ≡ ByRule i → declared Sigma3 (Num n) ≡ option_map rule_type (rule_at n)
+declared_rules n i e = elim (cases_lt n 105) [
+  | inl h ↦ declared-below Sigma3 n h ∙ ap type_in e ∙ sym (ap (λ p. option_map rule_type (rule_in p)) e)
+  | inr h ↦
+      let past = ap (λ p. rule_in p) (place_of-past n (omega (arith, h))) ∙ at_past the_rules (n - 35) (omega (arith, h, rules_end)) in
+      ap (λ b. cond b (type_in (place_of n)) None) (le-ltb n 105 h) ∙ ap (option_map rule_type) (sym past)
 ]
 
 pub rules_true : (n : ℕ) (r : Rule) → rule_at n ≡ Some r → IsTrueRule r
-rules_true n r q R v ρ = rule_is_true R declared v ρ r (rule_sorted n r q) (rule_holds R declared n r q [])
+rules_true n r q R v ρ = rule_is_true R (declared Sigma3) v ρ r (rule_sorted n r q) (rule_holds R (declared Sigma3) n r q [])
 
 -- ---- falsity has no proof
 
@@ -236,5 +268,5 @@ no_rights-rights : IsRights no_rights
 unfolding no_rights
 no_rights-rights = record { reads = λ span h. let low = h.1 in absurd (omega (arith, low)); writes = λ span h. let low = h.1 in absurd (omega (arith, low)) }
 
-pub falsity_unproved : (t : Tree) → Checks declared [] t (pf falsity) → ⊥
-falsity_unproved t d = declared_sound FFalse t tt d no_rights no_rights-rights
+pub falsity_unproved : (sig : Const → Option Tree) → IsSignature sig → AreGivenTypes sig → (t : Tree) → Checks sig [] t (pf falsity) → ⊥
+falsity_unproved sig lawful known t d = given_sound sig lawful known FFalse t tt d no_rights no_rights-rights

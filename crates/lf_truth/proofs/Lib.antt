@@ -1,3 +1,5 @@
+pub mod Judged
+pub mod LaterWords
 mod Values
 mod ValueSubst
 mod TypeMeaning

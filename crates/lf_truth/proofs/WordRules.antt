@@ -1,17 +1,18 @@
 -- Each rule holds over words: what its type says of proofs is true. A rule is a line.
 use Rattle.std.proofs.Common.{◌≡◌, ℕ, ◌%◌, ◌^◌, ◌<◌, ◌≤◌, ◌==◌, nat_le, nat_lt, true, Option, List, [], ◌∷◌, refl, sym, ◌∙◌, ap, subst, eqb-true, eq-eqb, add_comm, lt-ltb, arith}
 use Rattle.std.proofs.lemmas.Bool.{leb-true, le-leb, ltb-true}
-use Rattle.std.proofs.lemmas.Nat.{and_comm, and_assoc, and_le_r}
-use Rattle.std.specs.Int.Bits.{and_zero_r, or_zero_l, or_zero_r}
+use Rattle.std.proofs.lemmas.Nat.{and_comm, and_assoc, and_le_l, and_le_r}
+use Rattle.std.specs.Int.Bits.{and_zero_r, or_zero_l, or_zero_r, xor_self}
 use Rattle.word_ops.specs.declared.Rel.TheVariants.{Eq, Ult, Ule, Slt, Sle}
-use Rattle.word_ops.specs.Words.{test_of}
+use Rattle.word_ops.specs.Words.{test_of, from_byte}
+use Rattle.lf_truth.proofs.LaterWords.{s4_def, s8_def, rest_le, sub_lo}
 use Rattle.word_ops.specs.Rights.{Rights}
 use Rattle.word_ops.proofs.Memories.{read-write_same, read-write_other}
 use Rattle.word_ops.proofs.WordRules.{add_al, sll_al, add_assoc_true, add_zero_true, sub_neg, sub_add, add_le, lt_pred, srl_mono, sll_mono, flag_yes, flag_no, flag_le, not_less}
 use Rattle.term_table.specs.Tree.{Tree, Const}
 use Rattle.term_table.specs.Subst.{erase}
 use Rattle.lf_signature.specs.Rules.{Rule, rule_type}
-use Rattle.lf_signature.specs.Sigma1.{the_rules}
+use Rattle.lf_signature.specs.Constants.{the_rules}
 use Rattle.lf_encode.proofs.Adequate.{Lifted}
 use Rattle.lf_truth.proofs.Values.{blank, AnyValue, default}
 use Rattle.lf_truth.proofs.TypeMeaning.{word_value, memory_value, Means, word_means}
@@ -121,4 +122,14 @@ all_rules R sig =
     (λ ρ a ha b hb. record { out = flag_le (test_of Sle a.word b.word) }) ⊕
     (λ ρ a ha b hb. record { out = flag_le (test_of Ult a.word b.word) }) ⊕
     (λ ρ a ha b hb. record { out = flag_le (test_of Ule a.word b.word) }) ⊕
+    -- 96 xor_self, 97 bic_le, 98 s4_def, 99 s8_def, 100 extb_le, 101 extw_le, 102 extl_le, 103 bic_def, 104 sub_lo
+    (λ ρ a ha. same _ _ (xor_self a.word)) ⊕
+    (λ ρ a ha b hb. most _ _ (and_le_l a.word _)) ⊕
+    (λ ρ a ha b hb. same _ _ (s4_def a.word b.word)) ⊕
+    (λ ρ a ha b hb. same _ _ (s8_def a.word b.word)) ⊕
+    (λ ρ a ha b hb. most _ _ (rest_le (from_byte a.word b.word) (2 ^ 8) (omega arith))) ⊕
+    (λ ρ a ha b hb. most _ _ (rest_le (from_byte a.word b.word) (2 ^ 16) (omega arith))) ⊕
+    (λ ρ a ha b hb. most _ _ (rest_le (from_byte a.word b.word) (2 ^ 32) (omega arith))) ⊕
+    (λ ρ a ha b hb. same _ _ refl) ⊕
+    (λ ρ a ha b hb c hc p hp q hq. most _ _ (sub_lo a.word b.word c.word ha.1.out hb.1.out hc.1.out (le hp) (le hq))) ⊕
     none

@@ -1,16 +1,19 @@
 -- The values of the constants of word arithmetic under rights, whatever the signature. A proof's value says nothing.
-use Rattle.std.proofs.Common.{◌≡◌, ℕ, zero, suc, ◌^◌, ◌<◌, ◌≤◌, true, Option, Some, None, List, [], ◌∷◌, ◌++◌, map, length, refl, arith}
+use Rattle.std.proofs.Common.{◌≡◌, ℕ, zero, suc, ◌^◌, ◌<◌, true, Option, Some, None, List, [], ◌∷◌, ◌++◌, map, refl, take, drop}
 use Rattle.word_ops.specs.declared.Op.{Op}
-use Rattle.word_ops.specs.declared.Op.TheVariants.{Add, Sub, Band, Bis, Sll, Srl, Cmpeq, Cmplt, Cmple, Cmpult, Cmpule}
+use Rattle.word_ops.specs.declared.Op.TheVariants.{Add, Sub, Band, Bis, Sll, Srl, Cmpeq, Cmplt, Cmple, Cmpult, Cmpule, Xor, Bic, S4add, S8add, Sra, Extb, Extw, Extl}
 use Rattle.word_ops.specs.declared.Rel.{Rel}
 use Rattle.word_ops.specs.declared.Rel.TheVariants.{Eq, Ult, Ule, Slt, Sle}
 use Rattle.word_ops.specs.Words.{word_of, test_of}
 use Rattle.word_ops.specs.Operators.{operators}
 use Rattle.word_ops.specs.Memory.{Memory, read, write, IsMemory}
 use Rattle.word_ops.specs.Rights.{Rights, allowed}
-use Rattle.term_table.specs.Tree.{Tree, Const, Num, Lit, Calc, Fact, Deny}
+use Rattle.term_table.specs.Tree.{Tree, Const, Num, Lit, Calc, Fact, Deny, Lemma}
 use Rattle.term_table.specs.Subst.{Simple, Base, Arrow, erase}
 use Rattle.lf_signature.specs.Terms.{op_term, rel_term}
+use Rattle.lf_signature.specs.declared.tables.Place.{Place}
+use Rattle.lf_signature.specs.declared.tables.Place.TheVariants.{Made, ByRule}
+use Rattle.lf_signature.specs.Constants.{place_of}
 use Rattle.lf_truth.proofs.Values.{default, AnyValue, missing, term_value}
 use Rattle.lf_truth.proofs.TypeMeaning.{word_value, memory_value, prop_value}
 
@@ -37,7 +40,7 @@ of_rel p = (Arrow e (Arrow e f), λ a b. prop_value (test_of p a.word b.word ≡
 -- the numbered constants of which formulas are made
 abbrev pub values : Rights → List AnyValue
 values R =
-    map of_op operators ++
+    map of_op (take 11 operators) ++
     -- sel, upd
     (Arrow m (Arrow e e), λ b a. word_value (read b.memory a.word)) ∷
     (Arrow m (Arrow e (Arrow e m)), λ b a w. memory_value (write b.memory a.word w.word)) ∷
@@ -59,7 +62,8 @@ values R =
     -- all, allm
     (Arrow (Arrow e f) f, λ g. prop_value ((w : ℕ) → w < 2 ^ 64 → (g (word_value w)).prop)) ∷
     (Arrow (Arrow m f) f, λ g. prop_value ((b : Memory) → IsMemory b → (g (memory_value b)).prop)) ∷
-    []
+    -- the later operators
+    map of_op (drop 11 operators)
 
 -- a value that says nothing, of the simple type of a declared type
 abbrev pub of_type : Option Tree → AnyValue
@@ -72,19 +76,19 @@ value_in [] d n = d
 value_in (v ∷ l) d zero = v
 value_in (v ∷ l) d (suc n) = value_in l d n
 
+-- the value of a place: a proof's says nothing
+abbrev pub value_of : List AnyValue → AnyValue → Place → AnyValue
+value_of l d (Made i) = value_in l d i
+value_of l d (ByRule i) = d
+
 -- a constant's value, where the signature gives proofs their types
 abbrev pub meaning : Rights → (Const → Option Tree) → Const → AnyValue
-meaning R sig (Num n) = value_in (values R) (of_type (sig (Num n))) n
+meaning R sig (Num n) = value_of (values R) (of_type (sig (Num n))) (place_of n)
 meaning R sig (Lit w) = (e, word_value w)
 meaning R sig (Calc o x y) = of_type (sig (Calc o x y))
 meaning R sig (Fact r x y) = of_type (sig (Fact r x y))
 meaning R sig (Deny r x y) = of_type (sig (Deny r x y))
-
--- past the list
-pub value_in-past : (l : List AnyValue) (d : AnyValue) (n : ℕ) → length l ≤ n → value_in l d n ≡ d
-value_in-past [] d n h = refl
-value_in-past (v ∷ l) d zero h = absurd (omega (arith, h))
-value_in-past (v ∷ l) d (suc n) h = value_in-past l d n (omega (arith, h))
+meaning R sig (Lemma n) = of_type (sig (Lemma n))
 
 module _ (R : Rights) (sig : Const → Option Tree) where
   -- an operator's term
@@ -101,6 +105,14 @@ module _ (R : Rights) (sig : Const → Option Tree) where
   op_value Cmple a b ρ = refl
   op_value Cmpult a b ρ = refl
   op_value Cmpule a b ρ = refl
+  op_value Xor a b ρ = refl
+  op_value Bic a b ρ = refl
+  op_value S4add a b ρ = refl
+  op_value S8add a b ρ = refl
+  op_value Sra a b ρ = refl
+  op_value Extb a b ρ = refl
+  op_value Extw a b ρ = refl
+  op_value Extl a b ρ = refl
 
   -- a relation's term
   pub rel_value : (p : Rel) (a b : Tree) (ρ : List AnyValue) →

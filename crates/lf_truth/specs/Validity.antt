@@ -1,6 +1,8 @@
 -- What a proof is worth: the closed formula that a term encodes, and soundness of a signature.
-use Rattle.std.specs.Prelude.{◌≡◌, Option, []}
-use Rattle.term_table.specs.Tree.{Tree, Const}
+use Rattle.std.specs.Prelude.{◌≡◌, ◌≤◌, Option, Some, []}
+use Rattle.term_table.specs.Tree.{Tree, Const, Num, Lemma}
+use Rattle.lf_signature.specs.declared.WordSignature.TheVariants.{Sigma3}
+use Rattle.lf_signature.specs.Constants.{declared}
 use Rattle.lf_signature.specs.Typing.{Checks}
 use Rattle.lf_signature.specs.Terms.{pf}
 use Rattle.formula_tree.specs.Formulas.{Form}
@@ -24,3 +26,19 @@ pub record IsTrueType (type : Tree) : Type 0 where
   pub over : IsOver 0 formula []
   pub is : pf (form_encoding formula) ≡ type
   pub valid : IsValid formula
+
+-- constants past those of word arithmetic, and lemmas
+abbrev pub IsBeyond : Const → Type 0
+IsBeyond (Num n) = 105 ≤ n
+IsBeyond (Lemma n) = Unit {0}
+IsBeyond _ = ⊥
+
+-- a type of word arithmetic's own, or, of a constant past these or a lemma, that of the proofs of a
+-- closed formula that is valid
+pub data IsGivenType (c : Const) (type : Tree) : Type 0 where
+  listed : declared Sigma3 c ≡ Some type → IsGivenType c type
+  valid : IsBeyond c → IsTrueType type → IsGivenType c type
+
+-- each type of the signature is such a type
+abbrev pub AreGivenTypes : (Const → Option Tree) → Type 0
+AreGivenTypes sig = (c : Const) (type : Tree) → sig c ≡ Some type → IsGivenType c type

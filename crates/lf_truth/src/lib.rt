@@ -11,5 +11,5 @@
 mod proving;
 mod theorems;
 
-pub use proving::{prove_true, prove_true_with, proved_formula_with};
+pub use proving::{Truthful, prove_true, prove_true_with, proved_formula_with};
 pub use theorems::truth_laws;

@@ -2,6 +2,7 @@
 //! in rows of `check` and `asm` (command_rows: `words.rows`, `sources.rows`).
 
 use alpha_words::{BadWord, Cond, Insn, Reg, decode, encode, lawful, target};
+use word_ops::Profile;
 
 /// Conditional branches that GNU as 2.40 made of the text behind: word, condition, register and
 /// displacement. Most lead out of any code, so no row shows where they lead.
@@ -29,7 +30,7 @@ fn assembled_branches_read_as_their_text(rt: HostRuntime) {
     for (word, cond, a, disp) in BRANCHES {
         let ra = Reg::new(a % 32);
         assert!(rt;
-            decode(word) == Ok(Insn::Branch { cond, ra, disp }),
+            decode(word, Profile::One) == Ok(Insn::Branch { cond, ra, disp }),
             "{word:08x}"
         );
     }
@@ -38,8 +39,8 @@ fn assembled_branches_read_as_their_text(rt: HostRuntime) {
 /// `br r31,L+893` and `br L-534488`.
 #[test]
 fn assembled_jumps_read_as_their_text(rt: HostRuntime) {
-    assert!(rt; decode(0xc3e0_037d) == Ok(Insn::Br { disp: 893 }));
-    assert!(rt; decode(0xc3f7_d828) == Ok(Insn::Br { disp: -534_488 }));
+    assert!(rt; decode(0xc3e0_037d, Profile::One) == Ok(Insn::Br { disp: 893 }));
+    assert!(rt; decode(0xc3f7_d828, Profile::One) == Ok(Insn::Br { disp: -534_488 }));
 }
 
 /// The opcodes of profile 1 in the Handbook's tables; all others are refused.
@@ -50,7 +51,7 @@ fn all_opcodes_are_told(rt: HostRuntime) {
         0x3f,
     ];
     for opcode in 0..64u32 {
-        let refused = decode(opcode << 26) == Err(BadWord::Opcode);
+        let refused = decode(opcode << 26, Profile::One) == Err(BadWord::Opcode);
         assert!(rt; refused != opcodes.contains(&opcode), "{opcode:x}");
     }
 }
@@ -58,7 +59,8 @@ fn all_opcodes_are_told(rt: HostRuntime) {
 /// Whether of the functions of the opcode all but these are refused.
 fn are_told(opcode: u32, functions: &[u32]) -> bool {
     for function in 0..128u32 {
-        let refused = decode((opcode << 26) | (function << 5)) == Err(BadWord::Function);
+        let refused = decode((opcode << 26) | (function << 5), Profile::One)
+            == Err(BadWord::Function);
         if refused == functions.contains(&function) {
             return false;
         }
@@ -76,8 +78,8 @@ fn all_functions_are_told(rt: HostRuntime) {
 
 #[test]
 fn a_return_is_written(rt: HostRuntime) {
-    assert!(rt; encode(Insn::Ret) == 0x6bfa_8001);
-    assert!(rt; lawful(Insn::Ret) == Ok(()));
+    assert!(rt; encode(Insn::Ret, Profile::One) == 0x6bfa_8001);
+    assert!(rt; lawful(Insn::Ret, Profile::One) == Ok(()));
     assert!(rt; target(3, Insn::Ret).is_none());
 }
 
@@ -99,7 +101,7 @@ fn a_kept_register_is_unlawful(rt: HostRuntime) {
         rb: Reg::new(0),
         disp: 0,
     };
-    assert!(rt; lawful(kept) == Err(BadWord::KeptRegister));
+    assert!(rt; lawful(kept, Profile::One) == Err(BadWord::KeptRegister));
 }
 
 /// The caller's registers are kept: r9 to r15, r26, r29 and r30.

@@ -3,6 +3,7 @@
 use alpha_cfg::{Code, CodeFault};
 use std::alloc::Global;
 use std::process::Abort;
+use word_ops::Profile;
 
 /// An instruction that does nothing.
 pub(crate) const NOP: u32 = 0x47ff_041f;
@@ -19,5 +20,5 @@ pub(crate) fn code_of(rt: &impl Abort, alloc: Global, words: &[u32]) -> Result<C
     assert!(rt; bytes.len() % 4 == 0);
     assert!(rt; bytes.len() > 0);
     assert!(rt; bytes.len() <= 4096);
-    Code::of(alloc, &bytes)
+    Code::of(alloc, &bytes, Profile::One)
 }

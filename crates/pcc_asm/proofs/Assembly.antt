@@ -9,7 +9,7 @@ use Rattle.alpha_words.specs.declared.insn.Insn.TheVariants as I
 use Rattle.alpha_words.specs.Encoding.{HasBits, HasFields, Encodes}
 use Rattle.alpha_words.specs.Lawful.{HasFormat, target_of}
 use Rattle.alpha_words.proofs.Words.{Lawful-Encodes, Encodes-exactly}
-use Rattle.alpha_cfg.specs.Flow.{InsideOf, AreInsns, IsCode}
+use Rattle.alpha_cfg.specs.Flow.{InsideOf, AreInsns, IsCode, AreOfProfile}
 use Rattle.asm_text.specs.Insns.{SourceInsn, Plain, BranchTo, BrTo}
 use Rattle.asm_text.specs.Sources.{Source, SpellsSource}
 use Rattle.pcc_asm.specs.declared.fault.AsmFlaw.{AsmFlaw}
@@ -20,18 +20,21 @@ use Rattle.pcc_asm.specs.Inside.Views.{IsEncodable}
 use Rattle.pcc_asm.proofs.Resolved.{all-resolved, resolved-all, resolved-length}
 use Rattle.pcc_asm.proofs.Shaped.{IsLawful, unlawful-none, none-unlawful, AreInside, outside-none, inside-all, all-inside, off-false, false-off, Passes, passes, good_code}
 use Rattle.pcc_asm.proofs.Ranges.{HasRange, SaysRange, bounded}
+use Rattle.word_ops.specs.declared.Profile.TheVariants.{One}
 
--- ---- the profile has what some word encodes
+-- ---- what some word encodes is lawful where the profile has it
 
-all_lawful : (code : List Insn) → AreInsns code → AllByRecursion IsLawful code
-all_lawful [] h = tt
-all_lawful (x ∷ code) h = let first = h 0 x refl in ((Lawful-Encodes first.0 x first.1).0, all_lawful code (λ i insn e. h (suc i) insn e))
+all_lawful : (code : List Insn) → AreInsns code → AreOfProfile One code → AllByRecursion IsLawful code
+all_lawful [] h has = tt
+all_lawful (x ∷ code) h has =
+    let first = h 0 x refl in
+    ((Lawful-Encodes One first.0 x (has 0 x refl, first.1)).0, all_lawful code (λ i insn e. h (suc i) insn e) (λ i insn e. has (suc i) insn e))
 
 pub assembled-code : (s : Source) (insns : List Insn) → IsAssembled s insns → assembled_code s ≡ Ok insns
 unfolding assembled_code
 assembled-code s insns h =
     ap (as_code s.insns) (resolved-all s.labels 0 s.insns insns h.resolved)
-    ∙ good_code s.insns insns (none-unlawful s.insns insns (all_lawful insns h.code.encoded)) (all-inside insns h.code.inside) (false-off insns h.code.nonempty h.code.ends)
+    ∙ good_code s.insns insns (none-unlawful s.insns insns (all_lawful insns h.code.encoded h.profile)) (all-inside insns h.code.inside) (false-off insns h.code.nonempty h.code.ends)
 
 -- ---- the word that is written encodes the instruction
 
@@ -44,13 +47,9 @@ has_bits n i (pos m) a b h = let s = bounds_of n (pos (i + 1) +ℤ pos m) h in o
 has_bits n i (negsuc m) a b h = let s = bounds_of n (pos (i + 1) +ℤ negsuc m) h in omega (arith, ints, s.0, s.1)
 
 format_by : (n i : ℕ) (insn : Insn) → n ≤ 1024 → i < 1024 → InsideOf n (target_of i insn) → HasFormat insn
-format_by n i (I.Lda ra rb disp) a b h = tt
-format_by n i (I.Ldq ra rb disp) a b h = tt
-format_by n i (I.Stq ra rb disp) a b h = tt
-format_by n i (I.Oper op ra rhs rc) a b h = tt
 format_by n i (I.Branch c ra disp) a b h = has_bits n i disp a b h
 format_by n i (I.Br disp) a b h = has_bits n i disp a b h
-format_by n i I.Ret a b h = tt
+format_by n i _ a b h = tt
 
 pub all_encodable : (n i : ℕ) (code : List Insn) → n ≤ 1024 → i + length code ≤ 1024 → AllByRecursion IsLawful code → AreInside n i code → AllByRecursion IsEncodable code
 all_encodable n i [] a b l h = tt
@@ -59,14 +58,16 @@ all_encodable n i (x ∷ code) a b l h = ((l.0, format_by n i x a (omega arith) 
 has_fields : (insn : Insn) → HasRange insn → HasFormat insn → HasFields (insn_word insn) insn
 has_fields (I.Lda ra rb disp) r f = (r.0, r.1, r.2, refl)
 has_fields (I.Ldq ra rb disp) r f = (r.0, r.1, r.2, refl)
+has_fields (I.Ldah ra rb disp) r f = (r.0, r.1, r.2, refl)
+has_fields (I.LdqU ra rb disp) r f = (r.0, r.1, r.2, refl)
 has_fields (I.Stq ra rb disp) r f = (r.0, r.1, r.2, refl)
 has_fields (I.Oper op ra rhs rc) r f = (r.0, r.1, r.2, refl)
 has_fields (I.Branch c ra disp) r f = (r, f, refl)
 has_fields (I.Br disp) r f = (f, refl)
 has_fields I.Ret r f = (1, omega arith, refl)
 
-pub encodes_word : (insn : Insn) → HasRange insn → IsEncodable insn → Encodes (insn_word insn) insn
-encodes_word insn r e = (Encodes-exactly (insn_word insn) insn).1 (has_fields insn r e.1, e.0)
+pub encodes_word : (insn : Insn) → HasRange insn → IsEncodable insn → Encodes One (insn_word insn) insn
+encodes_word insn r e = (Encodes-exactly One (insn_word insn) insn).1 (has_fields insn r e.1, e.0)
 
 resolved_range : (labels : List (List ℕ × ℕ)) (i : ℕ) (x : SourceInsn) (insn : Insn) → IsResolved labels i x insn → SaysRange x → HasRange insn
 resolved_range labels i (Plain p) insn h r = subst HasRange (sym h) r
@@ -95,7 +96,7 @@ pub record IsSound (s : Source) (insns : List Insn) : Type 0 where
   pub encodable : AllByRecursion IsEncodable insns
   pub ranges : AllByRecursion HasRange insns
 
-pub sound_by : (text : List ℕ) (s : Source) (insns : List Insn) → SpellsSource text s → resolved_insns s.labels 0 s.insns ≡ Ok insns → Passes s.insns insns insns → IsSound s insns
+pub sound_by : (text : List ℕ) (s : Source) (insns : List Insn) → SpellsSource One text s → resolved_insns s.labels 0 s.insns ≡ Ok insns → Passes s.insns insns insns → IsSound s insns
 sound_by text s insns h e p =
     let resolved = all-resolved s.labels 0 s.insns insns e in
     let count = resolved-length s.labels 0 s.insns insns resolved in
@@ -109,26 +110,34 @@ sound_by text s insns h e p =
       ranges = all_ranges s.labels 0 s.insns insns resolved (bounded text s h).insns;
     }
 
-pub sound_code : (text : List ℕ) (s : Source) (insns : List Insn) → SpellsSource text s → IsSound s insns → IsCode insns
+-- what is written for an instruction encodes it
+sound_word : (s : Source) (insns : List Insn) → IsSound s insns → (i : ℕ) (insn : Insn) → slice_get insns i ≡ Some insn → Encodes One (insn_word insn) insn
+sound_word s insns k i insn e = encodes_word insn (at_index HasRange insns i insn k.ranges e) (at_index IsEncodable insns i insn k.encodable e)
+
+pub sound_code : (text : List ℕ) (s : Source) (insns : List Insn) → SpellsSource One text s → IsSound s insns → IsCode insns
 sound_code text s insns h k = record {
   nonempty = omega (arith, k.count, h.sound.some);
   short = omega (arith, k.count, h.sound.insns);
-  encoded = λ i insn e. (insn_word insn, encodes_word insn (at_index HasRange insns i insn k.ranges e) (at_index IsEncodable insns i insn k.encodable e));
+  encoded = λ i insn e. (insn_word insn, (sound_word s insns k i insn e).1);
   inside = inside-all insns k.inside;
   ends = off-false insns (omega (arith, k.count, h.sound.some)) k.passes.ends;
 }
 
-pub sound_assembled : (text : List ℕ) (s : Source) (insns : List Insn) → SpellsSource text s → IsSound s insns → IsAssembled s insns
-sound_assembled text s insns h k = record { resolved = k.resolved; code = sound_code text s insns h k }
+pub sound_assembled : (text : List ℕ) (s : Source) (insns : List Insn) → SpellsSource One text s → IsSound s insns → IsAssembled s insns
+sound_assembled text s insns h k = record {
+  resolved = k.resolved;
+  code = sound_code text s insns h k;
+  profile = λ i insn e. (sound_word s insns k i insn e).0;
+}
 
-code_by : (text : List ℕ) (s : Source) (insns : List Insn) (r : Result (List Insn) AsmFlaw) → SpellsSource text s → resolved_insns s.labels 0 s.insns ≡ r → as_code s.insns r ≡ Ok insns → IsSound s insns
+code_by : (text : List ℕ) (s : Source) (insns : List Insn) (r : Result (List Insn) AsmFlaw) → SpellsSource One text s → resolved_insns s.labels 0 s.insns ≡ r → as_code s.insns r ≡ Ok insns → IsSound s insns
 code_by text s insns (Err k) h e f = cc
 code_by text s insns (Ok all) h e f =
     let p = passes s.insns all insns f in
     let same : all ≡ insns = p.same in
     sound_by text s insns h (e ∙ ap Ok same) (subst (λ y. Passes s.insns y insns) same p)
 
-pub code_sound : (text : List ℕ) (s : Source) (insns : List Insn) → SpellsSource text s → assembled_code s ≡ Ok insns → IsSound s insns
+pub code_sound : (text : List ℕ) (s : Source) (insns : List Insn) → SpellsSource One text s → assembled_code s ≡ Ok insns → IsSound s insns
 unfolding assembled_code
 code_sound text s insns h e = code_by text s insns (resolved_insns s.labels 0 s.insns) h refl e
 

@@ -5,7 +5,7 @@ use Rattle.std.specs.Prelude.{◌||◌, ◌&&◌, nat_lt, ◌==◌, slice_get}
 use Rattle.std.specs.Option.{option_map}
 use Rattle.std.specs.List.{AllByRecursion, list_any, IsDistinct}
 use Rattle.std.specs.Str.{bytes_eq}
-use Rattle.std.proofs.lemmas.Bool.{lt-ltb, le-ltb, leb-true, ltb-true, ltb-false, eqb-true, and_parts, false_from_ne_true}
+use Rattle.std.proofs.lemmas.Bool.{cond-true, lt-ltb, le-ltb, leb-true, ltb-true, ltb-false, eqb-true, and_parts, false_from_ne_true}
 use Rattle.std.proofs.lemmas.Option.{same_Some}
 use Rattle.std.proofs.lemmas.Int.Digits.{digits_value-lt}
 use Rattle.std.proofs.lemmas.Map.Steps.{length-le_from_distinct_below}
@@ -24,10 +24,10 @@ use Rattle.formula_text.specs.declared.keywords.Keyword.TheVariants as K
 use Rattle.formula_text.specs.Keywords.{relation_text}
 use Rattle.formula_text.specs.Bindings.{is_name, Bindings, nearest_binding}
 use Rattle.formula_text.specs.Grammar.{SpellsExp, SpellsMem, SpellsForm}
-use Rattle.term_table.specs.Tree.{Tree, Var, Con, App, Lam, Fam, TApp, Pi, Const, Num, Lit, Calc, Fact, Deny}
+use Rattle.term_table.specs.Tree.{Tree, Var, Con, App, Lam, Fam, TApp, Pi, Const, Num, Lit, Calc, Fact, Deny, Lemma}
 use Rattle.term_table.specs.Table.{tree_in, AreDifferent}
 use Rattle.lf_signature.specs.declared.numbers.TheConstants.{SEL, UPD, RD, WR, AND, OR, IMP, ALL, ALLM}
-use Rattle.word_ops.specs.Operators.{op_constant, op_keyword}
+use Rattle.word_ops.specs.Operators.{op_constant, op_keyword, has_op}
 use Rattle.word_ops.proofs.EachOp.{each_op, each_op_same}
 use Rattle.lf_signature.specs.Numbers.{rel_constant}
 use Rattle.lf_encode.specs.Encoding.{exp_encoding, mem_encoding, form_encoding}
@@ -40,6 +40,7 @@ use Rattle.proof_container.proofs.Walks.{entries_grow, ArePostorder-different}
 use Rattle.pcc_asm.specs.Assembling.{inv_encodings}
 use Rattle.pcc_asm.proofs.Ranges.{IsTextual}
 use Rattle.pcc_asm.proofs.Heights.{size, size-append, size-two, size-one, size-within}
+use Rattle.word_ops.specs.declared.Profile.TheVariants.{One}
 
 -- ---- leaves with a number of their own, and what else there is
 
@@ -49,6 +50,7 @@ const_number (Lit w) = cond (nat_lt w 100) (Some (27 + w)) None
 const_number (Calc o a b) = None
 const_number (Fact p a b) = None
 const_number (Deny p a b) = None
+const_number (Lemma n) = None
 
 abbrev leaf_number : Tree → Option ℕ
 leaf_number (Var n) = cond (nat_lt n 372) (Some (127 + n)) None
@@ -174,6 +176,7 @@ const_leaf (Lit w) n e = lit_leaf w n (nat_lt w 100) refl e
 const_leaf (Calc o a b) n e = cc
 const_leaf (Fact p a b) n e = cc
 const_leaf (Deny p a b) n e = cc
+const_leaf (Lemma k) n e = cc
 
 is_leaf : (t : Tree) (n : ℕ) → leaf_number t ≡ Some n → IsLeafOf n t
 is_leaf (Var k) n e = var_leaf k n (nat_lt k 372) refl e
@@ -238,8 +241,10 @@ roots_few rs h n =
 
 -- ---- an encoding costs two bytes for each that has none
 
-op_light : (o : Op) → heavy (Con (Num (op_constant o))) ≡ 0
-op_light = each_op_same (λ o. heavy (Con (Num (op_constant o)))) (λ o. 0) refl
+op_light : (o : Op) → has_op One o ≡ true → heavy (Con (Num (op_constant o))) ≡ 0
+op_light o has =
+    sym (cond-true (has_op One o) (heavy (Con (Num (op_constant o)))) 0 has)
+    ∙ each_op_same (λ p. cond (has_op One p) (heavy (Con (Num (op_constant p)))) 0) (λ p. 0) refl o
 
 rel_light : (p : Rel) → heavy (Con (Num (rel_constant p))) ≡ 0
 rel_light R.Eq = refl
@@ -310,7 +315,7 @@ lit_by : (n m : ℕ) (b : Bool) → nat_lt n 100 ≡ b → 1 ≤ m → (100 ≤ 
 lit_by n m true e s h = omega (arith, s)
 lit_by n m false e s h = let l = h (ltb-false n 100 e) in omega (arith, l)
 
-name_some : (x : List ℕ) → is_name x ≡ true → 1 ≤ length x
+name_some : (x : List ℕ) → is_name One x ≡ true → 1 ≤ length x
 unfolding is_name
 name_some [] e = cc
 name_some (b ∷ x) e = omega arith
@@ -339,7 +344,7 @@ abbrev IsRoom : ℕ → ℕ → Type 0
 IsRoom d n = 6 * d + n ≤ 2044
 
 mutual
-  exp_cost : (a : Exp) (s : Bindings) (ts : List (Token Paren)) → SpellsExp a s ts → IsRoom (length s) (size ts) → 2 * heavy (exp_encoding (named_exp (length s) a)) < size ts
+  exp_cost : (a : Exp) (s : Bindings) (ts : List (Token Paren)) → SpellsExp One a s ts → IsRoom (length s) (size ts) → 2 * heavy (exp_encoding (named_exp (length s) a)) < size ts
   exp_cost (EReg r) s ts h room =
       let e = ap size h.2 in
       let l = register_some r h.0 h.1 in
@@ -359,14 +364,14 @@ mutual
       let z = size-two (K.Oper o) h.0 h.1 ts h.4 in
       let l = exp_cost a s h.0 h.2 (omega (arith, z, room)) in
       let r = exp_cost b s h.1 h.3 (omega (arith, z, room)) in
-      two_heavy _ _ _ (length (op_keyword o)) (size h.0) (size h.1) (size ts) (op_light o) (op_long o) l r z
+      two_heavy _ _ _ (length (op_keyword o)) (size h.0) (size h.1) (size ts) (op_light o h.5) (op_long o) l r z
   exp_cost (ESel m a) s ts h room =
       let z = size-two K.Sel h.0 h.1 ts h.4 in
       let l = mem_cost m s h.0 h.2 (omega (arith, z, room)) in
       let r = exp_cost a s h.1 h.3 (omega (arith, z, room)) in
       two_heavy _ _ (heavy (Con (Num SEL))) 3 (size h.0) (size h.1) (size ts) refl (omega arith) l r z
 
-  mem_cost : (m : MemExp) (s : Bindings) (ts : List (Token Paren)) → SpellsMem m s ts → IsRoom (length s) (size ts) → 2 * heavy (mem_encoding (named_mem (length s) m)) < size ts
+  mem_cost : (m : MemExp) (s : Bindings) (ts : List (Token Paren)) → SpellsMem One m s ts → IsRoom (length s) (size ts) → 2 * heavy (mem_encoding (named_mem (length s) m)) < size ts
   mem_cost MMem s ts h room = let e = ap size h in none_heavy (Var (31 + length s)) (size ts) (var_light (31 + length s) (omega (arith, room))) (omega (arith, e))
   mem_cost (MVar n) s ts h room =
       let e = ap size h.3 in
@@ -381,7 +386,7 @@ mutual
       let w = exp_cost v s h.2 h.5 (omega (arith, y, z, room)) in
       three_heavy _ _ _ (heavy (Con (Num UPD))) 3 (size h.0) (size h.1) (size h.2) (size ts) (size (h.0 ++ h.1)) refl (omega arith) l r w y z
 
-form_cost : (F : Form) (s : Bindings) (ts : List (Token Paren)) → SpellsForm F s ts → IsRoom (length s) (size ts) → 2 * heavy (form_encoding (named_form (length s) F)) ≤ size ts
+form_cost : (F : Form) (s : Bindings) (ts : List (Token Paren)) → SpellsForm One F s ts → IsRoom (length s) (size ts) → 2 * heavy (form_encoding (named_form (length s) F)) ≤ size ts
 form_cost FTrue s ts h room = omega arith
 form_cost FFalse s ts h room = omega arith
 form_cost (FRel p a b) s ts h room =

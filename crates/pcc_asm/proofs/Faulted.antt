@@ -16,6 +16,7 @@ use Rattle.pcc_asm.specs.Assembling.{IsResolved, AreResolved, resolved_insn, wit
 use Rattle.pcc_asm.specs.Faults.{FailsFirst, IsResolvable, IsLawfulAt, IsRefusedAt, IsAsmFault}
 use Rattle.pcc_asm.proofs.Resolved.{resolved-is, is-resolved, all-resolved, resolved-all, resolved-length}
 use Rattle.pcc_asm.proofs.Shaped.{IsLawful, unlawful-none, none-unlawful, inside_by, by_inside, outside-none, inside-all, all-inside, off-false, false-off, bad_word, bad_target, bad_end}
+use Rattle.word_ops.specs.declared.Profile.TheVariants.{One}
 
 same_Err : {X : Type 0} (j k : AsmFlaw) → ◌≡◌ {A = Result X AsmFlaw} (Err j) (Err k) → j ≡ k
 same_Err j k e = cc
@@ -152,13 +153,13 @@ IsBad xs code k =
     (i line : ℕ) × (bad : BadWord) × (said : SourceInsn) × (A.Word line bad ≡ k) × (slice_get xs i ≡ Some (line, said)) ×
     FailsFirst (IsLawfulAt code) i × IsRefusedAt code i bad
 
-lawful_here : (insn : Insn) (code : List Insn) → fault_of insn ≡ None → IsLawfulAt (insn ∷ code) 0
-lawful_here insn code e other g = ap fault_of (sym (same_Some insn other g)) ∙ e
+lawful_here : (insn : Insn) (code : List Insn) → fault_of One insn ≡ None → IsLawfulAt (insn ∷ code) 0
+lawful_here insn code e other g = ap (fault_of One) (sym (same_Some insn other g)) ∙ e
 
-refused_here : (insn : Insn) (code : List Insn) (bad : BadWord) → fault_of insn ≡ Some bad → IsLawfulAt (insn ∷ code) 0 → ⊥
-refused_here insn code bad e h = let g : fault_of insn ≡ None = h insn refl in cc
+refused_here : (insn : Insn) (code : List Insn) (bad : BadWord) → fault_of One insn ≡ Some bad → IsLawfulAt (insn ∷ code) 0 → ⊥
+refused_here insn code bad e h = let g : fault_of One insn ≡ None = h insn refl in cc
 
-bad_by : (x : ℕ × SourceInsn) (xs : List (ℕ × SourceInsn)) (insn : Insn) (code : List Insn) (k : AsmFlaw) (o : Option BadWord) → fault_of insn ≡ o →
+bad_by : (x : ℕ × SourceInsn) (xs : List (ℕ × SourceInsn)) (insn : Insn) (code : List Insn) (k : AsmFlaw) (o : Option BadWord) → fault_of One insn ≡ o →
     word_flaw x.0 o (first_unlawful xs code) ≡ Some k →
     (first_unlawful xs code ≡ Some k → IsBad xs code k) → IsBad (x ∷ xs) (insn ∷ code) k
 bad_by x xs insn code k None e h f =
@@ -170,14 +171,14 @@ bad_by x xs insn code k (Some bad) e h f =
 bad_is : (xs : List (ℕ × SourceInsn)) (code : List Insn) (k : AsmFlaw) → first_unlawful xs code ≡ Some k → IsBad xs code k
 bad_is [] code k e = cc
 bad_is (x ∷ xs) [] k e = cc
-bad_is (x ∷ xs) (insn ∷ code) k e = bad_by x xs insn code k (fault_of insn) refl e (λ f. bad_is xs code k f)
+bad_is (x ∷ xs) (insn ∷ code) k e = bad_by x xs insn code k (fault_of One insn) refl e (λ f. bad_is xs code k f)
 
 is_bad : (xs : List (ℕ × SourceInsn)) (code : List Insn) (i line : ℕ) (said : SourceInsn) (bad : BadWord) → slice_get xs i ≡ Some (line, said) →
     FailsFirst (IsLawfulAt code) i → IsRefusedAt code i bad → first_unlawful xs code ≡ Some (A.Word line bad)
 is_bad [] code i line said bad e h r = cc
 is_bad (x ∷ xs) [] i line said bad e h r = let l : i < 0 = within [] i r.0 r.1 in absurd (omega arith)
 is_bad (x ∷ xs) (insn ∷ code) zero line said bad e h r =
-    ap (λ o. word_flaw x.0 o (first_unlawful xs code)) (ap fault_of (same_Some insn r.0 r.1) ∙ r.2)
+    ap (λ o. word_flaw x.0 o (first_unlawful xs code)) (ap (fault_of One) (same_Some insn r.0 r.1) ∙ r.2)
     ∙ ap (λ y. Some (A.Word y.0 bad)) (same_Some x (line, said) e)
 is_bad (x ∷ xs) (insn ∷ code) (suc i) line said bad e h r =
     ap (λ o. word_flaw x.0 o (first_unlawful xs code)) (h.0 0 (omega arith) insn refl)
@@ -185,7 +186,7 @@ is_bad (x ∷ xs) (insn ∷ code) (suc i) line said bad e h r =
 
 each_lawful : (code : List Insn) → AllByRecursion IsLawful code → (i : ℕ) → IsLawfulAt code i
 each_lawful [] h i insn e = cc
-each_lawful (x ∷ code) h zero insn e = ap fault_of (sym (same_Some x insn e)) ∙ h.0
+each_lawful (x ∷ code) h zero insn e = ap (fault_of One) (sym (same_Some x insn e)) ∙ h.0
 each_lawful (x ∷ code) h (suc i) insn e = each_lawful code h.1 i insn e
 
 lawful_all : (code : List Insn) → ((i : ℕ) → IsLawfulAt code i) → AllByRecursion IsLawful code

@@ -15,6 +15,7 @@ use Rattle.formula_text.specs.Grammar.{group, SpellsExp, SpellsMem, SpellsForm}
 use Rattle.formula_text.proofs.Closed.{spelled_closed}
 use Rattle.pcc_asm.specs.Inside.Views.{IsEncodableForm}
 use Rattle.pcc_asm.proofs.Ranges.{IsTextual}
+use Rattle.word_ops.specs.declared.Profile.TheVariants.{One}
 
 -- how many bytes the tokens have
 abbrev pub size : List (Token Paren) → ℕ
@@ -44,7 +45,7 @@ high : (a b n : ℕ) → a ≤ 1 + n → b ≤ 1 + n → max a b ≤ 1 + n
 high a b n h g = omega (arith, h, g)
 
 mutual
-  exp_high : (a : Exp) (s : Bindings) (ts : List (Token Paren)) → SpellsExp a s ts → exp_height a ≤ 1 + size ts
+  exp_high : (a : Exp) (s : Bindings) (ts : List (Token Paren)) → SpellsExp One a s ts → exp_height a ≤ 1 + size ts
   exp_high (EReg r) s ts h = omega arith
   exp_high ELeft s ts h = absurd h
   exp_high (EVar n) s ts h = omega arith
@@ -60,7 +61,7 @@ mutual
       let r = exp_high a s h.1 h.3 in
       omega (arith, z, l, r)
 
-  mem_high : (m : MemExp) (s : Bindings) (ts : List (Token Paren)) → SpellsMem m s ts → mem_height m ≤ 1 + size ts
+  mem_high : (m : MemExp) (s : Bindings) (ts : List (Token Paren)) → SpellsMem One m s ts → mem_height m ≤ 1 + size ts
   mem_high MMem s ts h = omega arith
   mem_high (MVar n) s ts h = omega arith
   mem_high (MUpd m a v) s ts h =
@@ -71,7 +72,7 @@ mutual
       let w = exp_high v s h.2 h.5 in
       omega (arith, y, z, l, r, w)
 
-form_high : (F : Form) (s : Bindings) (ts : List (Token Paren)) → SpellsForm F s ts → form_height F ≤ 1 + size ts
+form_high : (F : Form) (s : Bindings) (ts : List (Token Paren)) → SpellsForm One F s ts → form_height F ≤ 1 + size ts
 form_high FTrue s ts h = omega arith
 form_high FFalse s ts h = omega arith
 form_high (FRel p a b) s ts h =
@@ -103,4 +104,4 @@ pub textual_closed : (F : Form) → IsTextual F → IsEncodableForm F
 textual_closed F h =
     let k = form_high F [] h.2.tokens h.2.spelled in
     let w = size-within h.0 h.2.tokens h.2.consists in
-    (spelled_closed h.0 F h.2, omega (arith, k, w, h.1))
+    (spelled_closed One h.0 F h.2, omega (arith, k, w, h.1))

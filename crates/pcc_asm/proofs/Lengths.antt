@@ -7,7 +7,7 @@ use Rattle.alpha_words.specs.declared.insn.Insn.{Insn}
 use Rattle.policy_set.specs.declared.kind.PolicyKind.{PolicyKind}
 use Rattle.formula_tree.specs.Formulas.{Exp, EReg, ELeft, EVar, ELit, EOp, ESel, MemExp, MMem, MVar, MUpd, Form, FTrue, FFalse, FRel, FRd, FWr, FAnd, FOr, FImp, FAll, FAllm}
 use Rattle.formula_tree.specs.Scope.{VarSort, OfWord, OfMem, IsOverExp, IsOverMem, IsOver}
-use Rattle.term_table.specs.Tree.{Tree, Var, Con, App, Lam, Fam, TApp, Pi, Const, Num, Lit, Calc, Fact, Deny}
+use Rattle.term_table.specs.Tree.{Tree, Var, Con, App, Lam, Fam, TApp, Pi, Const, Num, Lit, Calc, Fact, Deny, Lemma}
 use Rattle.term_table.specs.Measures.{height_of}
 use Rattle.lf_encode.specs.Encoding.{exp_encoding, mem_encoding, form_encoding}
 use Rattle.lf_encode.specs.Contexts.{machine_context, encoding_in}
@@ -52,8 +52,9 @@ IsPlainConst (Lit w) = Unit {0}
 IsPlainConst (Calc o a b) = ⊥
 IsPlainConst (Fact p a b) = ⊥
 IsPlainConst (Deny p a b) = ⊥
+IsPlainConst (Lemma n) = ⊥
 
--- a tree with no evaluation, fact or denial
+-- a tree with no evaluation, fact, denial or lemma
 abbrev IsPlain : Tree → Type 0
 IsPlain (Var n) = Unit {0}
 IsPlain (Con c) = IsPlainConst c
@@ -131,6 +132,7 @@ const_short es (Lit w) k = omega arith
 const_short es (Calc o a b) k = absurd k
 const_short es (Fact p a b) k = absurd k
 const_short es (Deny p a b) k = absurd k
+const_short es (Lemma n) k = absurd k
 
 fields_short : (es : List Tree) (t : Tree) → IsPlain t → length (entry_fields es t) ≤ 3
 fields_short es (Var n) k = omega arith

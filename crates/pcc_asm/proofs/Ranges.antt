@@ -20,6 +20,7 @@ use Rattle.asm_text.specs.Integers.{integer_value}
 use Rattle.asm_text.specs.Insns.{SourceInsn, Plain, BranchTo, BrTo, IsDisplacement, SpellsMemory, SpellsRhs, SpellsOperate, SpellsInsn}
 use Rattle.asm_text.specs.Statements.{Statement, NoStatement, AnInsn, AnInv, Content, SpellsStatement, SpellsBody, before_comment, SpellsLine}
 use Rattle.asm_text.specs.Sources.{Source, AreSpelled, insn_count, add_insn, add_label, add_inv, insns_from, labels_from, invs_from, SpellsSource}
+use Rattle.word_ops.specs.declared.Profile.TheVariants.{One}
 
 -- ---- one instruction
 
@@ -27,6 +28,8 @@ use Rattle.asm_text.specs.Sources.{Source, AreSpelled, insn_count, add_insn, add
 abbrev pub HasRange : Insn → Type 0
 HasRange (I.Lda ra rb disp) = (ra < 32) × (rb < 32) × HasBits 15 disp
 HasRange (I.Ldq ra rb disp) = (ra < 32) × (rb < 32) × HasBits 15 disp
+HasRange (I.Ldah ra rb disp) = (ra < 32) × (rb < 32) × HasBits 15 disp
+HasRange (I.LdqU ra rb disp) = (ra < 32) × (rb < 32) × HasBits 15 disp
 HasRange (I.Stq ra rb disp) = (ra < 32) × (rb < 32) × HasBits 15 disp
 HasRange (I.Oper op ra rhs rc) = (ra < 32) × IsRhs rhs × (rc < 32)
 HasRange (I.Branch c ra disp) = ra < 32
@@ -65,11 +68,13 @@ operate_range ra rc rhs ts h = (register_below ra h.0 h.3, rhs_range rhs h.1 h.4
 nop_range : (ra rc : ℕ) (rhs : Rhs) → ra ≡ 31 → rhs ≡ R.Reg 31 → rc ≡ 31 → (ra < 32) × IsRhs rhs × (rc < 32)
 nop_range ra rc rhs e f g = let low : IsRhs (R.Reg 31) = omega arith in (omega (arith, e), subst IsRhs (sym f) low, omega (arith, g))
 
-insn_range : (i : SourceInsn) (ts : List (Token Punct)) → SpellsInsn i ts → SaysRange i
+insn_range : (i : SourceInsn) (ts : List (Token Punct)) → SpellsInsn One i ts → SaysRange i
 insn_range (Plain (I.Lda ra rb disp)) ts h = memory_range ra rb disp h.0 h.1
 insn_range (Plain (I.Ldq ra rb disp)) ts h = memory_range ra rb disp h.0 h.1
+insn_range (Plain (I.Ldah ra rb disp)) ts h = memory_range ra rb disp h.1.0 h.1.1
+insn_range (Plain (I.LdqU ra rb disp)) ts h = memory_range ra rb disp h.1.0 h.1.1
 insn_range (Plain (I.Stq ra rb disp)) ts h = memory_range ra rb disp h.0 h.1
-insn_range (Plain (I.Oper op ra rhs rc)) ts h = ⊎_elim (λ p. operate_range ra rc rhs p.0 p.1) (λ p. nop_range ra rc rhs p.0.1 p.0.2 p.0.3) h
+insn_range (Plain (I.Oper op ra rhs rc)) ts h = ⊎_elim (λ p. operate_range ra rc rhs p.1.0 p.1.1) (λ p. nop_range ra rc rhs p.0.1 p.0.2 p.0.3) h
 insn_range (Plain (I.Branch c ra disp)) ts h = absurd h
 insn_range (Plain (I.Br disp)) ts h = absurd h
 insn_range (Plain I.Ret) ts h = tt
@@ -88,9 +93,9 @@ before-shorter (b ∷ bs) = shorter_by (b == 35) b (before_comment bs) bs (befor
 
 -- the statement of a line, in a text that isn't longer
 abbrev Says : Statement → ℕ → Type 0
-Says s n = (text : List ℕ) × (length text ≤ n) × SpellsStatement s text
+Says s n = (text : List ℕ) × (length text ≤ n) × SpellsStatement One s text
 
-behind_label : (l : Option (List ℕ)) (s : Statement) (text : List ℕ) → SpellsBody l s text → Says s (length text)
+behind_label : (l : Option (List ℕ)) (s : Statement) (text : List ℕ) → SpellsBody One l s text → Says s (length text)
 behind_label None s text h = (text, omega arith, h)
 behind_label (Some l) s text h =
     let p = h.1 in
@@ -99,14 +104,14 @@ behind_label (Some l) s text h =
     let d = length-append p.1 (58 ∷ h.0) in
     (h.0, omega (arith, a, b, d), h.2)
 
-line_says : (line : List ℕ) (c : Content) → SpellsLine line c → Says c.statement MAX_LINE
+line_says : (line : List ℕ) (c : Content) → SpellsLine One line c → Says c.statement MAX_LINE
 line_says line c h =
     let s = behind_label c.label c.statement (before_comment line) h.body in
     (s.0, omega (arith, s.1, before-shorter line, h.short), s.2)
 
 -- a text of at most 2,044 bytes spells the formula
 abbrev pub IsTextual : Form → Type 0
-IsTextual F = (text : List ℕ) × (length text ≤ 2044) × Spells text F
+IsTextual F = (text : List ℕ) × (length text ≤ 2044) × Spells One text F
 
 -- what a statement's numbers are
 abbrev Fits : Statement → Type 0
@@ -127,7 +132,7 @@ fits (AnInv F) h =
 abbrev AllFit : List Content → Type 0
 AllFit cs = AllByRecursion (λ c. Fits c.statement) cs
 
-all_fit : (lines : List (List ℕ)) (cs : List Content) → AreSpelled lines cs → AllFit cs
+all_fit : (lines : List (List ℕ)) (cs : List Content) → AreSpelled One lines cs → AllFit cs
 all_fit [] [] h = tt
 all_fit [] (c ∷ cs) h = absurd h
 all_fit (l ∷ lines) [] h = absurd h
@@ -178,7 +183,7 @@ pub record IsBounded (s : Source) : Type 0 where
   pub labels : AreUpTo MAX_INSNS s.labels
   pub invs : AllByRecursion (λ x. IsTextual x.1) s.invs
 
-pub bounded : (text : List ℕ) (s : Source) → SpellsSource text s → IsBounded s
+pub bounded : (text : List ℕ) (s : Source) → SpellsSource One text s → IsBounded s
 bounded text s h =
     let cs = h.contents in
     let fit = all_fit h.lines cs h.spelled in

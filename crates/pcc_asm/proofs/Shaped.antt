@@ -14,11 +14,12 @@ use Rattle.pcc_asm.specs.declared.fault.AsmFlaw.{AsmFlaw}
 use Rattle.pcc_asm.specs.declared.fault.AsmFlaw.TheVariants as A
 use Rattle.pcc_asm.specs.Assembling.{word_flaw, first_unlawful, line_at, in_shape, if_lawful, as_code}
 use Rattle.pcc_asm.proofs.Resolved.{same_Ok}
+use Rattle.word_ops.specs.declared.Profile.TheVariants.{One}
 
 -- ---- what the profile has
 
 abbrev pub IsLawful : Insn → Type 0
-IsLawful insn = fault_of insn ≡ None
+IsLawful insn = fault_of One insn ≡ None
 
 no_flaw : (line : ℕ) (o : Option BadWord) (r : Option AsmFlaw) → word_flaw line o r ≡ None → (o ≡ None) × (r ≡ None)
 no_flaw line None r e = (refl, e)
@@ -27,7 +28,7 @@ no_flaw line (Some bad) r e = cc
 pub unlawful-none : (xs : List (ℕ × SourceInsn)) (code : List Insn) → length code ≡ length xs → first_unlawful xs code ≡ None → AllByRecursion IsLawful code
 unlawful-none xs [] n e = tt
 unlawful-none [] (insn ∷ code) n e = absurd (omega arith)
-unlawful-none (x ∷ xs) (insn ∷ code) n e = let p = no_flaw x.0 (fault_of insn) (first_unlawful xs code) e in (p.0, unlawful-none xs code (omega arith) p.1)
+unlawful-none (x ∷ xs) (insn ∷ code) n e = let p = no_flaw x.0 (fault_of One insn) (first_unlawful xs code) e in (p.0, unlawful-none xs code (omega arith) p.1)
 
 pub none-unlawful : (xs : List (ℕ × SourceInsn)) (code : List Insn) → AllByRecursion IsLawful code → first_unlawful xs code ≡ None
 none-unlawful [] code h = refl

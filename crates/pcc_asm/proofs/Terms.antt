@@ -7,7 +7,6 @@ use Rattle.formula_tree.specs.Scope.{IsOver}
 use Rattle.formula_tree.specs.declared.form.Form as lent
 use Rattle.formula_tree.specs.Views.{form_view}
 use Rattle.formula_tree.specs.Substitution.{subst_form}
-use Rattle.term_table.specs.Tree.{IsTerm}
 use Rattle.term_table.specs.Table.{TableView, IsKnown, tree_at, Extends, id_trees}
 use Rattle.lf_signature.specs.Nodes.{IsIdOf}
 use Rattle.lf_encode.specs.declared.contexts.Sort.{Sort}
@@ -15,7 +14,7 @@ use Rattle.lf_encode.specs.Encoding.{exp_encoding, mem_encoding, form_encoding}
 use Rattle.lf_encode.specs.Contexts.{machine_context, registers_in, names_in, IsFormIn, encoding_in}
 use Rattle.lf_encode.proofs.MachineContext.{bound_sorts-machine, registers_in-machine}
 use Rattle.proof_container.specs.Views.{AllTerms}
-use Rattle.proof_container.specs.Encoding.{AreRising}
+use Rattle.proof_container.specs.Encoding.{AreRising, IsEntryTerm}
 use Rattle.asm_text.specs.Sources.{HaveInsns}
 use Rattle.pcc_asm.specs.Assembling.{inv_encodings}
 use Rattle.pcc_asm.specs.Inside.Views.{inv_views, IsEncodableForm, AreEncoded}
@@ -23,7 +22,7 @@ use Rattle.pcc_asm.specs.Inside.Views.{inv_views, IsEncodableForm, AreEncoded}
 -- ---- terms
 
 mutual
-  exp_term : (a : Exp) → IsTerm (exp_encoding a)
+  exp_term : (a : Exp) → IsEntryTerm (exp_encoding a)
   exp_term (EReg r) = tt
   exp_term ELeft = tt
   exp_term (EVar n) = tt
@@ -31,12 +30,12 @@ mutual
   exp_term (EOp o a b) = ((tt, tt, exp_term a), tt, exp_term b)
   exp_term (ESel m a) = ((tt, tt, mem_term m), tt, exp_term a)
 
-  mem_term : (m : MemExp) → IsTerm (mem_encoding m)
+  mem_term : (m : MemExp) → IsEntryTerm (mem_encoding m)
   mem_term MMem = tt
   mem_term (MVar n) = tt
   mem_term (MUpd m a v) = (((tt, tt, mem_term m), tt, exp_term a), tt, exp_term v)
 
-form_term : (F : Form) → IsTerm (form_encoding F)
+form_term : (F : Form) → IsEntryTerm (form_encoding F)
 form_term FTrue = tt
 form_term FFalse = tt
 form_term (FRel p a b) = ((tt, tt, exp_term a), tt, exp_term b)

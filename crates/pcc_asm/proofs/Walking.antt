@@ -15,6 +15,7 @@ use Rattle.pcc_asm.specs.declared.fault.AsmFlaw.{AsmFlaw}
 use Rattle.pcc_asm.specs.declared.fault.AsmFlaw.TheVariants as A
 use Rattle.pcc_asm.specs.Assembling.{resolved_insn, with_resolved, resolved_insns, word_flaw, first_unlawful, line_at}
 use Rattle.pcc_asm.specs.Inside.Views.{insn_views}
+use Rattle.word_ops.specs.declared.Profile.TheVariants.{One}
 
 -- ---- labels
 
@@ -61,7 +62,7 @@ insn_first labels xs code e = ap (λ l. with_front l (rest_of labels xs 0)) e �
 
 -- ---- what the profile refuses
 
-unlawful_step : (xs : List (ℕ × SrcInsn)) (code : List Insn) (i : ℕ) (d : ℕ × SrcInsn) (e : Insn) (o : Option BadWord) → i < length xs → i < length code → fault_of (get_or code i e) ≡ o →
+unlawful_step : (xs : List (ℕ × SrcInsn)) (code : List Insn) (i : ℕ) (d : ℕ × SrcInsn) (e : Insn) (o : Option BadWord) → i < length xs → i < length code → fault_of One (get_or code i e) ≡ o →
     first_unlawful (insn_views (drop i xs)) (drop i code) ≡ word_flaw (get_or xs i d).0 o (first_unlawful (insn_views (drop (i + 1) xs)) (drop (i + 1) code))
 unlawful_step xs code i d e o h k f =
     ap (λ l. first_unlawful (insn_views l) (drop i code)) (drop_more xs i d h)
@@ -76,13 +77,13 @@ line_here (x ∷ xs) (suc i) d h = line_here xs i d (omega arith)
 some_said : ℕ × SrcInsn
 some_said = (0, E.Plain I.Ret)
 
-pub unlawful_here : (xs : List (ℕ × SrcInsn)) (code : List Insn) (i line : ℕ) (e : Insn) (bad : BadWord) → i < length xs → i < length code → line ≡ line_at (insn_views xs) i → e ≡ get_or code i e → fault_of e ≡ Some bad →
+pub unlawful_here : (xs : List (ℕ × SrcInsn)) (code : List Insn) (i line : ℕ) (e : Insn) (bad : BadWord) → i < length xs → i < length code → line ≡ line_at (insn_views xs) i → e ≡ get_or code i e → fault_of One e ≡ Some bad →
     first_unlawful (insn_views (drop i xs)) (drop i code) ≡ Some (A.Word line bad)
-unlawful_here xs code i line e bad h k l s f = unlawful_step xs code i some_said e (Some bad) h k (ap fault_of (sym s) ∙ f) ∙ ap (λ n. Some (A.Word n bad)) (line_here xs i some_said h ∙ sym l)
+unlawful_here xs code i line e bad h k l s f = unlawful_step xs code i some_said e (Some bad) h k (ap (fault_of One) (sym s) ∙ f) ∙ ap (λ n. Some (A.Word n bad)) (line_here xs i some_said h ∙ sym l)
 
-pub unlawful_more : (xs : List (ℕ × SrcInsn)) (code : List Insn) (i : ℕ) (e : Insn) → i < length xs → i < length code → e ≡ get_or code i e → fault_of e ≡ None →
+pub unlawful_more : (xs : List (ℕ × SrcInsn)) (code : List Insn) (i : ℕ) (e : Insn) → i < length xs → i < length code → e ≡ get_or code i e → fault_of One e ≡ None →
     first_unlawful (insn_views (drop (i + 1) xs)) (drop (i + 1) code) ≡ first_unlawful (insn_views (drop i xs)) (drop i code)
-unlawful_more xs code i e h k s f = sym (unlawful_step xs code i some_said e None h k (ap fault_of (sym s) ∙ f))
+unlawful_more xs code i e h k s f = sym (unlawful_step xs code i some_said e None h k (ap (fault_of One) (sym s) ∙ f))
 
 none_past : (xs : List (ℕ × SourceInsn)) → first_unlawful xs [] ≡ None
 none_past [] = refl

@@ -17,7 +17,7 @@ use Rattle.alpha_words.specs.declared.insn.Rhs.TheVariants as R
 use Rattle.word_ops.specs.Operators.{op_opcode, op_function}
 use Rattle.word_ops.proofs.EachOp.{each_op}
 use Rattle.alpha_words.specs.Opcodes.{cond_opcode_of}
-use Rattle.alpha_words.specs.Encoding.{HasBits, rhs_bits, IsRhs, memory_word, branch_word, operate_word, Encodes}
+use Rattle.alpha_words.specs.Encoding.{HasBits, rhs_bits, IsRhs, memory_word, branch_word, operate_word, Encodes, EncodesAny}
 use Rattle.alpha_words.specs.Lawful.{HasFormat}
 use Rattle.alpha_words.proofs.Fields.{bits_of-below}
 use Rattle.alpha_cfg.specs.CodeBytes.{code_word_at, EncodesCode}
@@ -25,12 +25,15 @@ use Rattle.pcc_asm.specs.Words.{insn_word, code_bytes}
 use Rattle.pcc_asm.specs.Inside.Views.{IsEncodable}
 use Rattle.pcc_asm.proofs.Ranges.{HasRange}
 use Rattle.pcc_asm.proofs.Assembly.{encodes_word, at_index}
+use Rattle.word_ops.specs.declared.Profile.TheVariants.{One}
 
 -- ---- one word
 
-pub word_is : (w : ℕ) (insn : Insn) → Encodes w insn → (insn ≡ I.Ret → w ≡ 0x6BFA8001) → w ≡ insn_word insn
+pub word_is : (w : ℕ) (insn : Insn) → EncodesAny w insn → (insn ≡ I.Ret → w ≡ 0x6BFA8001) → w ≡ insn_word insn
 word_is w (I.Lda ra rb disp) h e = h.3
 word_is w (I.Ldq ra rb disp) h e = h.4
+word_is w (I.Ldah ra rb disp) h e = h.3
+word_is w (I.LdqU ra rb disp) h e = h.4
 word_is w (I.Stq ra rb disp) h e = h.3
 word_is w (I.Oper op ra rhs rc) h e = h.3
 word_is w (I.Branch c ra disp) h e = h.2
@@ -69,6 +72,8 @@ operate_small op ra rc rhs a r c = let k = code_small op in let b = rhs_small rh
 word_small : (insn : Insn) → HasRange insn → HasFormat insn → insn_word insn < 2 ^ 32
 word_small (I.Lda ra rb disp) r f = memory_small 0x08 ra rb disp (omega arith) r.0 r.1 r.2
 word_small (I.Ldq ra rb disp) r f = memory_small 0x29 ra rb disp (omega arith) r.0 r.1 r.2
+word_small (I.Ldah ra rb disp) r f = memory_small 0x09 ra rb disp (omega arith) r.0 r.1 r.2
+word_small (I.LdqU ra rb disp) r f = memory_small 0x0B ra rb disp (omega arith) r.0 r.1 r.2
 word_small (I.Stq ra rb disp) r f = memory_small 0x2D ra rb disp (omega arith) r.0 r.1 r.2
 word_small (I.Oper op ra rhs rc) r f = operate_small op ra rc rhs r.0 r.1 r.2
 word_small (I.Branch c ra disp) r f = branch_small (cond_opcode_of c) ra disp (cond_small c) r f
@@ -124,18 +129,22 @@ later_word : (bs rest : List ℕ) (k : ℕ) → length bs ≡ 4 → code_word_at
 later_word bs rest k n =
     rw (first_behind bs rest k n, behind bs rest k 1 (4 * suc k + 1) n (omega arith), behind bs rest k 2 (4 * suc k + 2) n (omega arith), behind bs rest k 3 (4 * suc k + 3) n (omega arith)) refl
 
-word_at : (code : List Insn) (k : ℕ) (insn : Insn) → AllByRecursion HasRange code → AllByRecursion IsEncodable code → slice_get code k ≡ Some insn → code_word_at (code_bytes code) k ≡ insn_word insn
+pub word_at : (code : List Insn) (k : ℕ) (insn : Insn) → AllByRecursion HasRange code → AllByRecursion HasFormat code → slice_get code k ≡ Some insn → code_word_at (code_bytes code) k ≡ insn_word insn
 unfolding code_bytes
 word_at [] k insn r e s = cc
 word_at (x ∷ code) zero insn r e s =
-    first_word (to_le_bytes w32 (insn_word x)) (code_bytes code) (insn_word x) (word_length (insn_word x)) (from_le_bytes-to_le_bytes_4 (insn_word x) (word_small x r.0 e.0.1)) ∙ ap insn_word (same_Some x insn s)
+    first_word (to_le_bytes w32 (insn_word x)) (code_bytes code) (insn_word x) (word_length (insn_word x)) (from_le_bytes-to_le_bytes_4 (insn_word x) (word_small x r.0 e.0)) ∙ ap insn_word (same_Some x insn s)
 word_at (x ∷ code) (suc k) insn r e s = later_word (to_le_bytes w32 (insn_word x)) (code_bytes code) k (word_length (insn_word x)) ∙ word_at code k insn r.1 e.1 s
 
-pub bytes_encode : (code : List Insn) → AllByRecursion HasRange code → AllByRecursion IsEncodable code → EncodesCode (code_bytes code) code
+all_formats : (code : List Insn) → AllByRecursion IsEncodable code → AllByRecursion HasFormat code
+all_formats [] e = tt
+all_formats (x ∷ code) e = (e.0.1, all_formats code e.1)
+
+pub bytes_encode : (code : List Insn) → AllByRecursion HasRange code → AllByRecursion IsEncodable code → EncodesCode One (code_bytes code) code
 bytes_encode code r e = record {
   whole = sym (bytes_length code);
   first = record {
     count = refl;
-    each = λ k insn s. subst (λ w. Encodes w insn) (sym (word_at code k insn r e s)) (encodes_word insn (at_index HasRange code k insn r s) (at_index IsEncodable code k insn e s));
+    each = λ k insn s. subst (λ w. Encodes One w insn) (sym (word_at code k insn r (all_formats code e) s)) (encodes_word insn (at_index HasRange code k insn r s) (at_index IsEncodable code k insn e s));
   };
 }

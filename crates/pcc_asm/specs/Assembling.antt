@@ -7,7 +7,7 @@ use Rattle.alpha_words.specs.declared.insn.Insn.{Insn}
 use Rattle.alpha_words.specs.declared.insn.Insn.TheVariants as I
 use Rattle.alpha_words.specs.declared.fault.BadWord.{BadWord}
 use Rattle.alpha_words.specs.Lawful.{fault_of, target_of}
-use Rattle.alpha_cfg.specs.Flow.{IsCode}
+use Rattle.alpha_cfg.specs.Flow.{IsCode, AreOfProfile}
 use Rattle.alpha_cfg.specs.CodeBytes.{EncodesCode}
 use Rattle.alpha_cfg.specs.CodeDecoding.{first_outside, runs_off}
 use Rattle.formula_tree.specs.Formulas.{Form}
@@ -21,6 +21,7 @@ use Rattle.asm_text.specs.Sources.{Source}
 use Rattle.pcc_asm.specs.declared.fault.AsmFlaw.{AsmFlaw}
 use Rattle.pcc_asm.specs.declared.fault.AsmFlaw.TheVariants as A
 use Rattle.pcc_asm.specs.Words.{code_bytes}
+use Rattle.word_ops.specs.declared.Profile.TheVariants.{One}
 
 -- the index that a label names
 abbrev pub label_index : List (List ℕ × ℕ) → List ℕ → Option ℕ
@@ -46,16 +47,17 @@ AreResolved labels i [] (insn ∷ code) = ⊥
 AreResolved labels i (x ∷ xs) [] = ⊥
 AreResolved labels i (x ∷ xs) (insn ∷ code) = IsResolved labels i x.1 insn × AreResolved labels (suc i) xs code
 
--- the instructions are what the source says, and are code
+-- the instructions are what the source says, are code, and are the first profile's
 pub record IsAssembled (s : Source) (insns : List Insn) : Type 0 where
   pub resolved : AreResolved s.labels 0 s.insns insns
   pub code : IsCode insns
+  pub profile : AreOfProfile One insns
 
 -- The contents are those of the source for the policy: words that encode its instructions, the encodings of its invariants, and no proof.
 pub record Assembles (policy : PolicyKind) (s : Source) (c : Contents) : Type 0 where
   pub insns : List Insn
   pub assembled : IsAssembled s insns
-  pub code : EncodesCode c.code insns
+  pub code : EncodesCode One c.code insns
   pub policy_is : c.policy ≡ policy_number policy
   pub invs : c.invs ≡ inv_encodings s.invs
   pub no_proof : c.proof ≡ None
@@ -88,7 +90,7 @@ word_flaw line (Some bad) next = Some (A.Word line bad)
 abbrev pub first_unlawful : List (ℕ × SourceInsn) → List Insn → Option AsmFlaw
 first_unlawful [] code = None
 first_unlawful (x ∷ xs) [] = None
-first_unlawful (x ∷ xs) (insn ∷ code) = word_flaw x.0 (fault_of insn) (first_unlawful xs code)
+first_unlawful (x ∷ xs) (insn ∷ code) = word_flaw x.0 (fault_of One insn) (first_unlawful xs code)
 
 -- the line of the instruction at an index
 abbrev pub line_at : List (ℕ × SourceInsn) → ℕ → ℕ

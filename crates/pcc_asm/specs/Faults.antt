@@ -9,6 +9,7 @@ use Rattle.asm_text.specs.Sources.{Source}
 use Rattle.pcc_asm.specs.declared.fault.AsmFlaw.{AsmFlaw}
 use Rattle.pcc_asm.specs.declared.fault.AsmFlaw.TheVariants as A
 use Rattle.pcc_asm.specs.Assembling.{IsResolved, AreResolved}
+use Rattle.word_ops.specs.declared.Profile.TheVariants.{One}
 
 -- what holds at each index below i doesn't hold at i
 abbrev pub FailsFirst : (ℕ → Type 0) → ℕ → Type 0
@@ -24,11 +25,11 @@ IsResolvable s i = (line : ℕ) (said : SourceInsn) → slice_get s.insns i ≡ 
 
 -- the profile has the instruction at index i, if there is one
 abbrev pub IsLawfulAt : List Insn → ℕ → Type 0
-IsLawfulAt code i = (insn : Insn) → slice_get code i ≡ Some insn → fault_of insn ≡ None
+IsLawfulAt code i = (insn : Insn) → slice_get code i ≡ Some insn → fault_of One insn ≡ None
 
 -- the profile refuses the instruction at index i, and why
 abbrev pub IsRefusedAt : List Insn → ℕ → BadWord → Type 0
-IsRefusedAt code i bad = (insn : Insn) × (slice_get code i ≡ Some insn) × (fault_of insn ≡ Some bad)
+IsRefusedAt code i bad = (insn : Insn) × (slice_get code i ≡ Some insn) × (fault_of One insn ≡ Some bad)
 
 -- The instructions of the source can't be code, and why, with the line: one can't be resolved; else, of those that they are
 -- resolved to, the profile refuses one; else one branches outside; else the code may go on after the last.

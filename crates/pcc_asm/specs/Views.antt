@@ -6,10 +6,11 @@ use Rattle.asm_text.specs.Sources.{Source, SpellsSource}
 use Rattle.pcc_asm.specs.declared.fault.AsmFault.{AsmFault}
 use Rattle.pcc_asm.specs.declared.fault.AsmFault.TheVariants as F
 use Rattle.pcc_asm.specs.Assembling.{Assembles, assembled_contents}
+use Rattle.word_ops.specs.declared.Profile.TheVariants.{One}
 
 -- some text spells the source
 abbrev pub IsSpelled : Source → Type 0
-IsSpelled s = (text : List ℕ) × SpellsSource text s
+IsSpelled s = (text : List ℕ) × SpellsSource One text s
 
 -- the contents that are assembled, or the first line that is wrong; want of memory says nothing of the source
 abbrev pub IsAsmAnswer : PolicyKind → Source → Result Contents AsmFault → Type 0

@@ -1,6 +1,7 @@
 //! Whether instructions are code, and the first line that is wrong.
 
 ghost use Rattle.std.specs.Prelude.{◌≡◌, ◌<◌, ◌≤◌, length, is_some, IfSome, MatchResult, Ok, Err};
+ghost use Rattle.word_ops.specs.declared.Profile.TheVariants.{One};
 ghost use Rattle.alpha_words.specs.Lawful.{fault_of, target_of};
 ghost use Rattle.alpha_cfg.specs.Flow.{next_of};
 ghost use Rattle.alpha_cfg.specs.CodeDecoding.{is_inside, first_outside, runs_off};
@@ -11,12 +12,13 @@ ghost use Rattle.pcc_asm.specs.Inside.Views.{insn_views};
 use crate::fault::AsmFlaw;
 use alpha_words::{BadWord, Insn, lawful, target};
 use asm_text::SrcInsn;
+use word_ops::Profile;
 
 /// Why the profile refuses the instruction, if it does.
 fn refusal(insn: Insn) -> Option<BadWord>
-    ensures { result ≡ fault_of insn }
+    ensures { result ≡ fault_of One insn }
 {
-    match lawful(insn) {
+    match lawful(insn, Profile::One) {
         Ok(()) => None,
         Err(bad) => Some(bad),
     }
@@ -79,6 +81,8 @@ fn goes_on(insn: Insn) -> bool
         Insn::Br { .. } | Insn::Ret => false,
         Insn::Lda { .. }
         | Insn::Ldq { .. }
+        | Insn::Ldah { .. }
+        | Insn::LdqU { .. }
         | Insn::Stq { .. }
         | Insn::Oper { .. }
         | Insn::Branch { .. } => true,

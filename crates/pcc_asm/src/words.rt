@@ -7,6 +7,7 @@ ghost use Rattle.pcc_asm.specs.Words.{insn_word, code_bytes};
 
 use alpha_words::{Insn, encode};
 use std::alloc::{AllocError, Global};
+use word_ops::Profile;
 
 /// The word that is written for an instruction.
 #[tactic(auto, using(crate::proofs::Written::word_is))]
@@ -14,7 +15,7 @@ fn word_of(insn: Insn) -> u32
     requires { IsEncodable insn }
     ensures { result ≡ insn_word insn }
 {
-    encode(insn)
+    encode(insn, Profile::One)
 }
 
 /// The words of instructions, the lowest byte of each first. Fails only for want of memory.

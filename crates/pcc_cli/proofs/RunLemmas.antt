@@ -20,6 +20,7 @@ use Rattle.pcc_cli.specs.Inside.Shows.{shown_by}
 use Rattle.term_table.specs.Tree.{Tree}
 use Rattle.pcc_cli.specs.declared.stop.Stop.{Stop}
 use Rattle.pcc_cli.proofs.StageLemmas.{pure_stops}
+use Rattle.word_ops.specs.declared.Profile.TheVariants.{One}
 
 module _ (policy : PolicyKind) (bytes : List ℕ) (contents : Contents) (code : List Insn) (marks : List Bool) (passes : Passes policy bytes contents code marks) where
   container_given : container_in policy bytes ≡ gives contents
@@ -29,8 +30,8 @@ module _ (policy : PolicyKind) (bytes : List ℕ) (contents : Contents) (code : 
   pub code_given : code_in policy bytes ≡ gives code
   unfolding code_in
   code_given =
-      ap (λ c. c >>= λ container. code_found (decoded_code container.code)) container_given
-      ∙ ap code_found (sym (decoded_code-ok contents.code code passes.encoded passes.code))
+      ap (λ c. c >>= λ container. code_found (decoded_code One container.code)) container_given
+      ∙ ap code_found (sym (decoded_code-ok One contents.code code passes.encoded passes.code))
 
   -- what is accepted has the code that the bytes hold
   pub accepted_code_of_bytes : first_refusal policy bytes ≡ None → accepted_code_in policy bytes ≡ gives code

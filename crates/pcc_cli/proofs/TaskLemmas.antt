@@ -63,6 +63,7 @@ use Rattle.pcc_cli.specs.Commands.Reference.{ref_command}
 use Rattle.pcc_cli.specs.Commands.Running.{run_command}
 use Rattle.pcc_cli.specs.Commands.Demo.{summary_of, demo_container, demo_told, demo_effect, demo_policy, demo_command}
 use Rattle.pcc_cli.specs.Tasks.{standing_on, task_of_command}
+use Rattle.word_ops.specs.declared.Profile.TheVariants.{One}
 
 -- ---- lines
 
@@ -166,7 +167,7 @@ module _ (names : List (List ℕ)) where
 
   code_in-fits : (policy : PolicyKind) (bytes : List ℕ) → Fits (code_in policy bytes)
   unfolding code_in
-  code_in-fits policy bytes = behind (λ container. code_found (decoded_code container.code)) (container_in policy bytes) (container_in-fits policy bytes) (λ c. code_found-fits (decoded_code c.code))
+  code_in-fits policy bytes = behind (λ container. code_found (decoded_code One container.code)) (container_in policy bytes) (container_in-fits policy bytes) (λ c. code_found-fits (decoded_code One c.code))
 
   unless_refused-fits : (r : Option Refusal) → Fits (unless_refused r)
   unless_refused-fits None = refl
@@ -205,7 +206,7 @@ module _ (names : List (List ℕ)) where
   assembled_in-fits : (policy : PolicyKind) (text : List ℕ) → Fits (assembled_in policy text)
   unfolding assembled_in source_in assembled_as
   assembled_in-fits policy text =
-      behind (λ source. assembled_as policy source) (source_in text) (source_found-fits (parsed_source text)) (λ source. container_made-fits (assembled_contents policy source))
+      behind (λ source. assembled_as policy source) (source_in text) (source_found-fits (parsed_source One text)) (λ source. container_made-fits (assembled_contents policy source))
 
   container_proved-fits : (r : Result (List ℕ) ProveFault) → Fits (container_proved r)
   container_proved-fits (Ok bytes) = refl

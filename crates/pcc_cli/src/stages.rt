@@ -34,6 +34,7 @@ use pcc_gate::{Accepted, GateFault, Refusal, gate};
 use policy_set::{Policy, PolicyKind, by_name};
 use proof_container::{Container, Malformed, read, write};
 use std::alloc::Global;
+use word_ops::Profile;
 
 /// The most bytes of a container and of a packet file.
 pub const MAX_FILE: u32 = 4_194_304;
@@ -111,7 +112,7 @@ fn code_in<'a>(alloc: Global, policy: PolicyKind, bytes: &[u8]) -> Result<Code, 
         Ok(container) => container,
         Err(stop) => return Err(stop),
     };
-    match Code::of(alloc, container.code) {
+    match Code::of(alloc, container.code, Profile::One) {
         Ok(code) => Ok(code),
         Err(CodeFault::At(flaw)) => Err(Stop::Refused(Refusal::BadCode(flaw))),
         Err(CodeFault::Memory) => Err(Stop::Memory),
@@ -161,7 +162,7 @@ fn source_in<'a>(alloc: Global, text: &[u8]) -> Result<Source, Stop<'a>>
     ensures exact { GivesPure source_view (assembling.source_in text.now) result }
     ensures spelled { IfOk result (λ s. IsSpelled (source_view s)) }
 {
-    match read_source(alloc, text) {
+    match read_source(alloc, text, Profile::One) {
         Ok(source) => Ok(source),
         Err(LineFault::At(line, flaw)) => Err(Stop::BadLine(line, flaw)),
         Err(LineFault::Memory) => Err(Stop::Memory),

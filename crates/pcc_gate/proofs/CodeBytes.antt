@@ -16,6 +16,7 @@ use Rattle.alpha_cfg.specs.Flow.{InsideOf, IsInside, IsFinal, AreInsns, IsCode, 
 use Rattle.alpha_cfg.specs.CodeBytes.{code_word_at, EncodesFirst, EncodesCode, IsFlaw}
 use Rattle.alpha_cfg.specs.CodeDecoding.{decoded_code}
 use Rattle.alpha_cfg.proofs.Readings.{decoded_code-ok, AreInsns-EncodesCode}
+use Rattle.word_ops.specs.declared.Profile.TheVariants.{One}
 
 -- ---- what holds of each element, or not of the first of some
 
@@ -75,34 +76,34 @@ or_last (z ∷ zs) y zero x e = inl e
 or_last (z ∷ zs) y (suc k) x e = elim (or_last zs y k x e) [ inl before ↦ inl before | inr last ↦ inr (ap suc last.0, last.1) ]
 
 module _ (bytes : List ℕ) where
-  one_more : (n : ℕ) (code : List Insn) (insn : Insn) → EncodesFirst bytes n code → decoded (code_word_at bytes n) ≡ Ok insn →
-      EncodesFirst bytes (suc n) (code ++ insn ∷ [])
+  one_more : (n : ℕ) (code : List Insn) (insn : Insn) → EncodesFirst One bytes n code → decoded One (code_word_at bytes n) ≡ Ok insn →
+      EncodesFirst One bytes (suc n) (code ++ insn ∷ [])
   one_more n code insn first read =
       let one : length (insn ∷ []) ≡ 1 = refl in
-      let here : Encodes (code_word_at bytes n) insn = (decoded-Encodes (code_word_at bytes n) insn).0 read in
-      let moved : (k : ℕ) → n ≡ k → Encodes (code_word_at bytes k) insn = λ k e. subst (λ j. Encodes (code_word_at bytes j) insn) e here in
+      let here : Encodes One (code_word_at bytes n) insn = (decoded-Encodes One (code_word_at bytes n) insn).0 read in
+      let moved : (k : ℕ) → n ≡ k → Encodes One (code_word_at bytes k) insn = λ k e. subst (λ j. Encodes One (code_word_at bytes j) insn) e here in
       record {
         count = omega (arith, length-append code (insn ∷ []), first.count, one);
         each = λ k x at. elim (or_last code insn k x at) [
           | inl before ↦ first.each k x before
-          | inr last ↦ subst (Encodes (code_word_at bytes k)) last.1 (moved k (sym (last.0 ∙ first.count)))
+          | inr last ↦ subst (Encodes One (code_word_at bytes k)) last.1 (moved k (sym (last.0 ∙ first.count)))
         ];
       }
 
   -- instructions that the first n words encode
   record AreFirst (n : ℕ) : Type 0 where
     insns : List Insn
-    first : EncodesFirst bytes n insns
+    first : EncodesFirst One bytes n insns
 
   -- the first of n words that encodes no instruction
   record IsBadWord (n : ℕ) : Type 0 where
     at : ℕ
     within : at < n
     bad : BadWord
-    read : decoded (code_word_at bytes at) ≡ Err bad
+    read : decoded One (code_word_at bytes at) ≡ Err bad
     front : AreFirst at
 
-  word_decided : (n : ℕ) → AreFirst n → (r : Result Insn BadWord) → decoded (code_word_at bytes n) ≡ r → AreFirst (suc n) ⊎ IsBadWord (suc n)
+  word_decided : (n : ℕ) → AreFirst n → (r : Result Insn BadWord) → decoded One (code_word_at bytes n) ≡ r → AreFirst (suc n) ⊎ IsBadWord (suc n)
   word_decided n f (Ok insn) e = inl (record { insns = f.insns ++ insn ∷ []; first = one_more n f.insns insn f.first e })
   word_decided n f (Err bad) e = inr (record { at = n; within = omega arith; bad = bad; read = e; front = f })
 
@@ -110,7 +111,7 @@ module _ (bytes : List ℕ) where
   words_decided zero = inl (record { insns = []; first = record { count = refl; each = λ k x at. absurd (none-some x at) } })
   words_decided (suc n) =
       elim (words_decided n) [
-        | inl f ↦ word_decided n f (decoded (code_word_at bytes n)) refl
+        | inl f ↦ word_decided n f (decoded One (code_word_at bytes n)) refl
         | inr b ↦ inr (record { at = b.at; within = omega (arith, b.within); bad = b.bad; read = b.read; front = b.front })
       ]
 
@@ -119,15 +120,15 @@ module _ (bytes : List ℕ) where
 -- code that the bytes encode
 pub record IsEncoded (bytes : List ℕ) : Type 0 where
   pub insns : List Insn
-  pub encoded : EncodesCode bytes insns
+  pub encoded : EncodesCode One bytes insns
   pub code : IsCode insns
 
 -- the first flaw of the bytes
 pub record HasFlaw (bytes : List ℕ) : Type 0 where
   pub which : CodeFlaw
-  pub is : IsFlaw bytes which
+  pub is : IsFlaw One bytes which
 
-shape_decided : (bytes : List ℕ) (code : List Insn) → EncodesCode bytes code → 0 < length code → length code ≤ MAX_WORDS → IsEncoded bytes ⊎ HasFlaw bytes
+shape_decided : (bytes : List ℕ) (code : List Insn) → EncodesCode One bytes code → 0 < length code → length code ≤ MAX_WORDS → IsEncoded bytes ⊎ HasFlaw bytes
 shape_decided bytes code encoded some short =
     let last : length code - 1 + 1 ≡ length code = omega (arith, some) in
     elim (least_decided (IsInside code) (branch_decided code) (length code)) [
@@ -137,7 +138,7 @@ shape_decided bytes code encoded some short =
           elim (at_decided IsFinal code (length code - 1) final_decided) [
             | inr on ↦ inr (record { which = flaw.FallsOff (length code - 1); is = (code, encoded, (last, on, inside)) })
             | inl ends ↦
-                let each : AreInsns code = AreInsns-EncodesCode bytes code encoded in
+                let each : AreInsns code = AreInsns-EncodesCode One bytes code encoded in
                 let are : IsCode code = record { nonempty = some; short = short; encoded = each; inside = inside; ends = ends } in
                 inl (record { insns = code; encoded = encoded; code = are })
           ]
@@ -152,7 +153,7 @@ code_decided bytes whole some short =
       | inl f ↦
           let count : length f.insns ≡ length bytes / 4 = f.first.count in
           let all : 4 * length f.insns ≡ length bytes = ap (λ n. 4 * n) count ∙ whole in
-          let encoded : EncodesCode bytes f.insns = record { whole = all; first = subst (λ n. EncodesFirst bytes n f.insns) (sym count) f.first } in
+          let encoded : EncodesCode One bytes f.insns = record { whole = all; first = subst (λ n. EncodesFirst One bytes n f.insns) (sym count) f.first } in
           shape_decided bytes f.insns encoded (omega (arith, all, some)) (omega (arith, all, short))
     ]
 
@@ -164,6 +165,6 @@ got code = Ok code
 ok_list : (a b : List Insn) → got a ≡ got b → a ≡ b
 ok_list a b e = cc
 
-pub code-one : (bytes other : List ℕ) (code out : List Insn) → bytes ≡ other → EncodesCode bytes code → IsCode code → EncodesCode other out → IsCode out →
+pub code-one : (bytes other : List ℕ) (code out : List Insn) → bytes ≡ other → EncodesCode One bytes code → IsCode code → EncodesCode One other out → IsCode out →
     code ≡ out
-code-one bytes other code out e h is g are = ok_list code out (decoded_code-ok bytes code h is ∙ ap decoded_code e ∙ sym (decoded_code-ok other out g are))
+code-one bytes other code out e h is g are = ok_list code out (decoded_code-ok One bytes code h is ∙ ap (decoded_code One) e ∙ sym (decoded_code-ok One other out g are))

@@ -1,12 +1,12 @@
 -- The eleven clauses hold, or a refusal is the first: the tests find which.
-use Rattle.std.proofs.Common.{◌≡◌, ℕ, ◌⊎◌, inl, inr, ◌↔◌, Bool, true, false, cond, List, [], ◌∷◌, length, Option, Some, None, refl, sym, ◌∙◌, ap, subst}
+use Rattle.std.proofs.Common.{◌≡◌, ℕ, ◌⊎◌, inl, inr, ◌↔◌, Bool, true, false, cond, List, [], ◌∷◌, length, Option, Some, None, refl, sym, ◌∙◌, ap, subst, All}
 use Rattle.std.proofs.lemmas.Bool.{cases_Bool, cases_lt, cond-true, cond-false, false≢true}
 use Rattle.std.proofs.lemmas.Option.{same_Some, none-some}
 use Rattle.alpha_words.specs.declared.insn.Insn.{Insn}
 use Rattle.policy_set.specs.declared.kind.PolicyKind.{PolicyKind}
 use Rattle.term_table.specs.Tree.{Tree}
 use Rattle.term_table.specs.Measures.{weight_of, sigma1_places, capped}
-use Rattle.lf_signature.specs.Sigma1.{declared}
+use Rattle.lf_signature.specs.Constants.{declared}
 use Rattle.lf_signature.specs.Terms.{pf}
 use Rattle.lf_signature.specs.Typing.{Checks}
 use Rattle.lf_signature.specs.Laws.Decided.{checks_is, checks_follows}
@@ -30,6 +30,13 @@ use Rattle.pcc_gate.specs.First.{formula_of, formulas, vc_of, proves, first_fron
 use Rattle.pcc_gate.specs.Refusals.{HasProof, HasLightProof, IsPastWeight, IsNoProof, IsFirstRefusal}
 use Rattle.pcc_gate.proofs.Searches.{past, within}
 use Rattle.pcc_gate.proofs.FirstFront.{told, after_all, front_finds, front_decided}
+use Rattle.lf_signature.specs.declared.WordSignature.TheVariants.{Sigma1}
+use Rattle.std.proofs.lemmas.List.Elements.{All-nil, All-cons}
+use Rattle.lf_signature.specs.Known.{HasOp}
+use Rattle.lf_signature.specs.Laws.Within.{declared_known, declared-first}
+use Rattle.formula_tree.specs.Operators.{Uses}
+use Rattle.formula_tree.proofs.Used.{uses-more}
+use Rattle.word_ops.specs.Operators.{IsFirstOp}
 
 -- ---- the condition's term
 
@@ -39,8 +46,17 @@ formula_of-encoding t F e = ap (λ B. unnamed_form (length B) (form_of t)) (sym 
 pub formulas-encoded : (ps : List (ℕ × Tree)) → AreForms ps → AreEncodings ps (formulas ps)
 formulas-encoded [] h = tt
 formulas-encoded (p ∷ ps) h =
-    let f = form_encoded machine_context p.1 h.0 in
+    let f = form_encoded (declared Sigma1) (declared_known Sigma1) machine_context p.1 h.0 in
     (refl, subst (λ F. EncodesForm machine_context F p.1) (sym (formula_of-encoding p.1 f.0 f.1)) f.1, formulas-encoded ps h.1)
+
+-- their operators are the first profile's
+pub formulas-first : (ps : List (ℕ × Tree)) → AreForms ps → All (λ q. Uses IsFirstOp q.1) (formulas ps)
+formulas-first [] h = All-nil (λ (q : ℕ × Form). Uses IsFirstOp q.1)
+formulas-first (p ∷ ps) h =
+    let f = form_encoded (declared Sigma1) (declared_known Sigma1) machine_context p.1 h.0 in
+    let used = subst (λ F. Uses (HasOp (declared Sigma1)) F) (sym (formula_of-encoding p.1 f.0 f.1)) f.2 in
+    All-cons (λ (q : ℕ × Form). Uses IsFirstOp q.1) (p.0, formula_of p.1) (formulas ps)
+    (uses-more (HasOp (declared Sigma1)) IsFirstOp declared-first (formula_of p.1) used) (formulas-first ps h.1)
 
 pub vc_of-encodes : (policy : PolicyKind) (code : List Insn) (ps : List (ℕ × Tree)) → AreForms ps → EncodesCondition policy code ps (vc_of policy code ps)
 vc_of-encodes policy code ps h = record { formulas = formulas ps; encoded = formulas-encoded ps h; is = refl }
@@ -52,21 +68,21 @@ pub condition-one : (policy : PolicyKind) (code : List Insn) (ps : List (ℕ × 
 condition-one policy code ps vc h e = encoding-unique policy code ps vc (vc_of policy code ps) e (vc_of-encodes policy code ps h)
 
 -- whether it proves it, by an answer to words
-pub proves-true : (proof vc : Tree) → Checks declared [] proof (pf vc) → proves proof vc ≡ true
-proves-true proof vc h = checks_is declared h
+pub proves-true : (proof vc : Tree) → Checks (declared Sigma1) [] proof (pf vc) → proves proof vc ≡ true
+proves-true proof vc h = checks_is (declared Sigma1) h
 
-pub proves-false : (proof vc : Tree) → (Checks declared [] proof (pf vc) → ⊥) → proves proof vc ≡ false
-proves-false proof vc h = not-true (proves proof vc) (λ e. h (checks_follows declared proof [] (pf vc) e))
+pub proves-false : (proof vc : Tree) → (Checks (declared Sigma1) [] proof (pf vc) → ⊥) → proves proof vc ≡ false
+proves-false proof vc h = not-true (proves proof vc) (λ e. h (checks_follows (declared Sigma1) proof [] (pf vc) e))
   where
     not-true : (b : Bool) → (b ≡ true → ⊥) → b ≡ false
     not-true true n = absurd (n refl)
     not-true false n = refl
 
 module _ (policy : PolicyKind) (code : List Insn) (ps : List (ℕ × Tree)) (proof vc : Tree) (h : AreForms ps) (e : EncodesCondition policy code ps vc) where
-  pub judged-true : Checks declared [] proof (pf vc) → proves proof (vc_of policy code ps) ≡ true
+  pub judged-true : Checks (declared Sigma1) [] proof (pf vc) → proves proof (vc_of policy code ps) ≡ true
   judged-true k = subst (λ x. proves proof x ≡ true) (condition-one policy code ps vc h e) (proves-true proof vc k)
 
-  pub judged-false : (Checks declared [] proof (pf vc) → ⊥) → proves proof (vc_of policy code ps) ≡ false
+  pub judged-false : (Checks (declared Sigma1) [] proof (pf vc) → ⊥) → proves proof (vc_of policy code ps) ≡ false
   judged-false k = subst (λ x. proves proof x ≡ false) (condition-one policy code ps vc h e) (proves-false proof vc k)
 
 -- ---- clauses 9 to 11
@@ -127,7 +143,7 @@ module _ (policy : PolicyKind) (bytes : List ℕ) where
         let encodes : EncodesCondition policy code c.invs vc = vc_of-encodes policy code c.invs given.passes.forms in
         elim (cases_Bool (proves proof vc)) [
           | inl right ↦
-              let proved : Checks declared [] proof (pf vc) = checks_follows declared proof [] (pf vc) right in
+              let proved : Checks (declared Sigma1) [] proof (pf vc) = checks_follows (declared Sigma1) proof [] (pf vc) right in
               let accepts : Accepts policy bytes c code flags = record {
                 passes = given.passes;
                 proof = proof;
@@ -139,7 +155,7 @@ module _ (policy : PolicyKind) (bytes : List ℕ) where
               } in
               inl (record { contents = c; code = code; marks = flags; accepts = accepts })
           | inr wrong ↦
-              let unproved : Checks declared [] proof (pf vc) → ⊥ = λ k. false≢true (sym wrong ∙ proves-true proof vc k) in
+              let unproved : Checks (declared Sigma1) [] proof (pf vc) → ⊥ = λ k. false≢true (sym wrong ∙ proves-true proof vc k) in
               inr (refusal.NotProof, (c, code, flags, proof, h, record { vc = vc; condition = encodes; unproved = unproved }))
         ]
 

@@ -30,6 +30,7 @@ use Rattle.pcc_gate.specs.Refusals.{HasContents, IsForPolicy, HasCode, HasLowRoo
 use Rattle.pcc_gate.specs.Laws.{HasPassed}
 use Rattle.pcc_gate.proofs.CodeBytes.{code_decided, code-one}
 use Rattle.pcc_gate.proofs.Searches.{past, within, low_none, first_high, low_decided, forms_none, first_no_form, forms_decided}
+use Rattle.word_ops.specs.declared.Profile.TheVariants.{One}
 
 -- ---- clauses 1 to 8 by the clauses up to each
 
@@ -74,7 +75,7 @@ key_rises (p ∷ q ∷ ps) low words (suc k) r h =
     subst (λ j. slice_index keys (suc k) < slice_index keys j) (sym one) (key_rises (q ∷ ps) (suc p.0) words k r.2 (omega (arith, h)))
 
 -- the annotated indices lie in the code
-pub annotated_flags : (c : Contents) (code : List Insn) → IsContents c → EncodesCode c.code code → AreFlags (map (λ p. p.0) c.invs) (length code) (marks_of c code)
+pub annotated_flags : (c : Contents) (code : List Insn) → IsContents c → EncodesCode One c.code code → AreFlags (map (λ p. p.0) c.invs) (length code) (marks_of c code)
 annotated_flags c code s encoded =
     let words : ℕ = length c.code / 4 in
     let count : words ≡ length code = omega (arith, encoded.whole) in
@@ -100,15 +101,15 @@ module _ (policy : PolicyKind) (bytes : List ℕ) (next : Contents → List Insn
   after_contents : (c : Contents) → HasContents bytes c → first_front policy bytes next ≡ first_read policy (Ok c) next
   after_contents c h = after_size h.size ∙ ap (λ r. first_read policy r next) (container_again bytes c h.container)
 
-  pub after_policy : (c : Contents) → IsForPolicy policy bytes c → first_front policy bytes next ≡ first_code c (decoded_code c.code) (next c)
+  pub after_policy : (c : Contents) → IsForPolicy policy bytes c → first_front policy bytes next ≡ first_code c (decoded_code One c.code) (next c)
   after_policy c h =
       let number : ℕ = policy_number policy in
       let same : eqb c.policy number ≡ true = eq-eqb c.policy number h.number in
-      after_contents c h.held ∙ cond-true (eqb c.policy number) (first_code c (decoded_code c.code) (next c)) (told (refusal.OtherPolicy c.policy)) same
+      after_contents c h.held ∙ cond-true (eqb c.policy number) (first_code c (decoded_code One c.code) (next c)) (told (refusal.OtherPolicy c.policy)) same
 
   module _ (c : Contents) (code : List Insn) where
     after_code : HasCode policy bytes c code → first_front policy bytes next ≡ first_shape c code (next c code)
-    after_code h = after_policy c h.before ∙ ap (λ r. first_code c r (next c)) (sym (decoded_code-ok c.code code h.encoded h.code))
+    after_code h = after_policy c h.before ∙ ap (λ r. first_code c r (next c)) (sym (decoded_code-ok One c.code code h.encoded h.code))
 
     after_roots : HasLowRoots policy bytes c code → first_front policy bytes next ≡ from_forms c code (next c code)
     after_roots h =
@@ -148,11 +149,11 @@ module _ (policy : PolicyKind) (bytes : List ℕ) (next : Contents → List Insn
       let c : Contents = h.0 in
       let number : ℕ = policy_number policy in
       after_contents c h.1
-      ∙ cond-false (eqb c.policy number) (first_code c (decoded_code c.code) (next c)) (told (refusal.OtherPolicy c.policy)) (ne_eqb c.policy number h.2)
+      ∙ cond-false (eqb c.policy number) (first_code c (decoded_code One c.code) (next c)) (told (refusal.OtherPolicy c.policy)) (ne_eqb c.policy number h.2)
       ∙ ap (λ k. told (refusal.OtherPolicy k)) (sym h.3)
   front_finds (refusal.BadCode flaw) h b =
       let c : Contents = h.0 in
-      after_policy c h.1 ∙ ap (λ r. first_code c r (next c)) (sym (IsDecoded-IsCodeAnswer c.code (Err (fault.At flaw)) h.2))
+      after_policy c h.1 ∙ ap (λ r. first_code c r (next c)) (sym (IsDecoded-IsCodeAnswer One c.code (Err (fault.At flaw)) h.2))
   front_finds (refusal.Height x) h b =
       let c : Contents = h.0 in
       let rest : Option Refusal = from_forms c h.1 (next c h.1) in

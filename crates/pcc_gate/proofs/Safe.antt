@@ -1,5 +1,5 @@
 -- The code of accepted bytes is safe.
-use Rattle.std.proofs.Common.{◌≡◌, ℕ, Bool, List, [], ◌∷◌, All, refl, sym, subst}
+use Rattle.std.proofs.Common.{◌≡◌, ℕ, Bool, List, [], ◌∷◌, All, Option, refl, sym, subst}
 use Rattle.std.proofs.lemmas.List.Elements.{All-nil, All-cons}
 use Rattle.alpha_words.specs.declared.insn.Insn.{Insn}
 use Rattle.formula_tree.specs.Formulas.{Form}
@@ -7,12 +7,15 @@ use Rattle.formula_tree.specs.Truth.{IsValid}
 use Rattle.formula_tree.specs.Scope.{IsOver}
 use Rattle.policy_set.specs.declared.kind.PolicyKind.{PolicyKind}
 use Rattle.policy_set.specs.Policies.{pre_of, post_of}
-use Rattle.term_table.specs.Tree.{Tree}
-use Rattle.lf_signature.specs.Sigma1.{declared}
+use Rattle.term_table.specs.Tree.{Tree, Const}
+use Rattle.lf_signature.specs.Constants.{declared}
 use Rattle.lf_signature.specs.Terms.{pf}
 use Rattle.lf_signature.specs.Typing.{Checks}
+use Rattle.lf_signature.specs.Order.{IsSignature}
+use Rattle.lf_signature.specs.Laws.WellFormed.{declared_formed}
+use Rattle.lf_signature.specs.Laws.Within.{declared_known}
 use Rattle.lf_encode.specs.Encoding.{form_encoding}
-use Rattle.lf_truth.specs.Validity.{IsSoundSignature}
+use Rattle.lf_truth.specs.Validity.{IsSoundSignature, AreGivenTypes, listed}
 use Rattle.proof_container.specs.Contents.{Contents}
 use Rattle.vcgen.specs.Conditions.{condition}
 use Rattle.vcgen.specs.Safety.{IsAnnotated, IsSafe}
@@ -21,6 +24,7 @@ use Rattle.vcgen.proofs.WalkTrees.{encodes-over}
 use Rattle.vcgen.proofs.Scopes.{condition-closed}
 use Rattle.vcgen.proofs.Encodings.{encoded-annotates, encoding-unique, policy-safe}
 use Rattle.pcc_gate.specs.Accepted.{Accepts}
+use Rattle.lf_signature.specs.declared.WordSignature.TheVariants.{Sigma1}
 
 -- the formulas of invariants are over m and r0 to r30
 pub formulas-over : (ps : List (ℕ × Tree)) (qs : List (ℕ × Form)) → AreEncodings ps qs → All (λ (q : ℕ × Form). IsOver 31 q.1 []) qs
@@ -29,18 +33,22 @@ formulas-over [] (q ∷ qs) f = absurd f
 formulas-over (p ∷ ps) [] f = absurd f
 formulas-over (p ∷ ps) (q ∷ qs) f = All-cons (λ (q : ℕ × Form). IsOver 31 q.1 []) q qs (encodes-over q.1 p.1 f.1) (formulas-over ps qs f.2)
 
-pub accepted-safe : IsSoundSignature declared → (policy : PolicyKind) (bytes : List ℕ) (contents : Contents) (code : List Insn) (marks : List Bool) → Accepts policy bytes contents code marks → IsSafe code (pre_of policy) (post_of policy)
+-- the first signature is sound, where each lawful signature of word arithmetic is
+pub first-sound : ((sig : Const → Option Tree) → IsSignature sig → AreGivenTypes sig → IsSoundSignature sig) → IsSoundSignature (declared Sigma1)
+first-sound sound = sound (declared Sigma1) (declared_formed Sigma1) (λ k a e. listed ((declared_known Sigma1).within k a e))
+
+pub accepted-safe : IsSoundSignature (declared Sigma1) → (policy : PolicyKind) (bytes : List ℕ) (contents : Contents) (code : List Insn) (marks : List Bool) → Accepts policy bytes contents code marks → IsSafe code (pre_of policy) (post_of policy)
 accepted-safe sound policy bytes contents code marks a =
     let p = a.passes in
     let e = a.condition in
     let fs : List (ℕ × Form) = e.formulas in
     let is : IsAnnotated (annotated policy code fs) = encoded-annotates policy code contents.invs fs marks e.encoded p.code p.annotated p.cut in
     let over : IsOver 0 (condition (annotated policy code fs)) [] = condition-closed (annotated policy code fs) is refl (formulas-over contents.invs fs e.encoded) in
-    let proved : Checks declared [] a.proof (pf (form_encoding (condition (annotated policy code fs)))) = subst (λ t. Checks declared [] a.proof (pf t)) (sym e.is) a.proved in
+    let proved : Checks (declared Sigma1) [] a.proof (pf (form_encoding (condition (annotated policy code fs)))) = subst (λ t. Checks (declared Sigma1) [] a.proof (pf t)) (sym e.is) a.proved in
     policy-safe policy code contents.invs fs marks e.encoded p.code p.annotated p.cut (sound (condition (annotated policy code fs)) a.proof over proved)
 
 -- The condition of any formulas that the invariants encode is true in every structure.
-pub accepted-valid : IsSoundSignature declared → (policy : PolicyKind) (bytes : List ℕ) (contents : Contents) (code : List Insn) (marks : List Bool) → Accepts policy bytes contents code marks →
+pub accepted-valid : IsSoundSignature (declared Sigma1) → (policy : PolicyKind) (bytes : List ℕ) (contents : Contents) (code : List Insn) (marks : List Bool) → Accepts policy bytes contents code marks →
     (fs : List (ℕ × Form)) → AreEncodings contents.invs fs → IsValid (condition (annotated policy code fs))
 accepted-valid sound policy bytes contents code marks a fs enc =
     let p = a.passes in
@@ -49,4 +57,4 @@ accepted-valid sound policy bytes contents code marks a fs enc =
     let same : a.vc ≡ form_encoding f = encoding-unique policy code contents.invs a.vc (form_encoding f) a.condition mine in
     let is : IsAnnotated (annotated policy code fs) = encoded-annotates policy code contents.invs fs marks enc p.code p.annotated p.cut in
     let over : IsOver 0 f [] = condition-closed (annotated policy code fs) is refl (formulas-over contents.invs fs enc) in
-    sound f a.proof over (subst (λ t. Checks declared [] a.proof (pf t)) same a.proved)
+    sound f a.proof over (subst (λ t. Checks (declared Sigma1) [] a.proof (pf t)) same a.proved)

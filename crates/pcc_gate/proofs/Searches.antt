@@ -6,7 +6,7 @@ use Rattle.std.proofs.lemmas.Option.{none-some}
 use Rattle.std.proofs.lemmas.List.Elements.{All-nil, All-cons, All-head, All-tail}
 use Rattle.term_table.specs.Tree.{Tree}
 use Rattle.term_table.specs.Measures.{height_of, capped}
-use Rattle.lf_signature.specs.Sigma1.{declared}
+use Rattle.lf_signature.specs.Constants.{declared}
 use Rattle.lf_signature.specs.Terms.{form}
 use Rattle.lf_signature.specs.Typing.{Checks}
 use Rattle.lf_signature.specs.Laws.Decided.{checks_is, checks_follows}
@@ -16,6 +16,7 @@ use Rattle.vcgen.specs.Encoded.{AreForms}
 use Rattle.pcc_gate.specs.Passing.{AreLow}
 use Rattle.pcc_gate.specs.First.{has_form, too_high, formless}
 use Rattle.pcc_gate.specs.Refusals.{IsFirstHeight, IsFirstNoForm}
+use Rattle.lf_signature.specs.declared.WordSignature.TheVariants.{Sigma1}
 
 -- ---- a limit
 
@@ -69,25 +70,25 @@ none_low ts e = elim (low_decided ts) [ inl low ↦ low | inr f ↦ absurd (none
 -- ---- forms
 
 abbrev IsForm : Tree → Type 0
-IsForm t = Checks declared (sort_types machine_context) t form
+IsForm t = Checks (declared Sigma1) (sort_types machine_context) t form
 
 form_decided : (t : Tree) → IsForm t ⊎ (IsForm t → ⊥)
 form_decided t =
     elim (cases_Bool (has_form t)) [
-      | inl right ↦ inl (checks_follows declared t (sort_types machine_context) form right)
-      | inr wrong ↦ inr (λ h. false≢true (sym wrong ∙ checks_is declared h))
+      | inl right ↦ inl (checks_follows (declared Sigma1) t (sort_types machine_context) form right)
+      | inr wrong ↦ inr (λ h. false≢true (sym wrong ∙ checks_is (declared Sigma1) h))
     ]
 
 -- what isn't derived fails the test
 not_form : (t : Tree) → (IsForm t → ⊥) → has_form t ≡ false
 not_form t wrong = go (has_form t) refl where
   go : (b : Bool) → has_form t ≡ b → has_form t ≡ false
-  go true e = absurd (wrong (checks_follows declared t (sort_types machine_context) form e))
+  go true e = absurd (wrong (checks_follows (declared Sigma1) t (sort_types machine_context) form e))
   go false e = e
 
 pub forms_none : (ps : List (ℕ × Tree)) (k : ℕ) → AreForms ps → formless k ps ≡ None
 forms_none [] k h = refl
-forms_none (p ∷ ps) k h = cond-true (has_form p.1) (formless (suc k) ps) (Some k) (checks_is declared h.0) ∙ forms_none ps (suc k) h.1
+forms_none (p ∷ ps) k h = cond-true (has_form p.1) (formless (suc k) ps) (Some k) (checks_is (declared Sigma1) h.0) ∙ forms_none ps (suc k) h.1
 
 no_form_found : (front : List (ℕ × Tree)) (p : ℕ × Tree) (rest : List (ℕ × Tree)) (k : ℕ) → AreForms front → (IsForm p.1 → ⊥) →
     formless k (front ++ p ∷ rest) ≡ Some (k + length front)
@@ -96,7 +97,7 @@ no_form_found [] p rest k forms wrong =
     cond-false (has_form p.1) (formless (suc k) rest) (Some k) (not_form p.1 wrong) ∙ ap Some e
 no_form_found (q ∷ qs) p rest k forms wrong =
     let e : suc k + length qs ≡ k + suc (length qs) = omega arith in
-    cond-true (has_form q.1) (formless (suc k) (qs ++ p ∷ rest)) (Some k) (checks_is declared forms.0)
+    cond-true (has_form q.1) (formless (suc k) (qs ++ p ∷ rest)) (Some k) (checks_is (declared Sigma1) forms.0)
     ∙ no_form_found qs p rest (suc k) forms.1 wrong ∙ ap Some e
 
 pub first_no_form : (ps : List (ℕ × Tree)) (k : ℕ) → IsFirstNoForm ps k → formless 0 ps ≡ Some k

@@ -13,7 +13,7 @@ use Rattle.pcc_gate.proofs.Safe.{accepted-safe, accepted-valid}
 use Rattle.vcgen.specs.Answers.{AreLowInvs}
 use Rattle.term_table.specs.Tree.{Tree}
 use Rattle.term_table.specs.Measures.{height_of, weight_of, sigma1_places, capped}
-use Rattle.lf_signature.specs.Sigma1.{declared}
+use Rattle.lf_signature.specs.Constants.{declared}
 use Rattle.lf_signature.specs.Terms.{pf}
 use Rattle.lf_signature.specs.Laws.Decided.{checks_follows}
 use Rattle.vcgen.specs.declared.condition.TheConstants.{MAX_HEIGHT}
@@ -37,10 +37,12 @@ use Rattle.pcc_gate.specs.Inside.Passed.{IsRest, IsRestAnswer, IsPassedAnswer}
 use Rattle.pcc_gate.proofs.Searches.{within, none_low, none_forms}
 use Rattle.pcc_gate.proofs.FirstFront.{front-none, after_policy, after_all}
 use Rattle.pcc_gate.proofs.Refusing.{refuses-into}
+use Rattle.lf_signature.specs.declared.WordSignature.TheVariants.{Sigma1}
+use Rattle.word_ops.specs.declared.Profile.TheVariants.{One}
 
 module _ (policy : PolicyKind) (bytes : List ℕ) where
   read-first : (c : Contents) → IsRead policy bytes c → (next : Contents → List Insn → Option Refusal) →
-      first_front policy bytes next ≡ first_code c (decoded_code c.code) (next c)
+      first_front policy bytes next ≡ first_code c (decoded_code One c.code) (next c)
   read-first c r next = after_policy policy bytes next c (record { held = record { size = r.size; container = r.encoded }; number = r.number })
 
   rest-passes : (c : Contents) → IsRead policy bytes c → (p : Passed) → IsRest c p → Passes policy bytes c p.cut.code p.cut.marks
@@ -64,8 +66,8 @@ module _ (policy : PolicyKind) (bytes : List ℕ) where
   rest-passed c r (Err fault.Results) k = r.size
 
 -- clause 4 passes
-pub code-refuses : (c : Contents) (code : List Insn) → decoded_code c.code ≡ Ok code → (e : GateFault) → Refuses (first_shape c code) e → Refuses (first_code c (decoded_code c.code)) e
-code-refuses c code h e k = refuses-into (first_code c (decoded_code c.code)) (first_shape c code) (λ next. next code) (λ next. ap (λ r. first_code c r next) h) e k
+pub code-refuses : (c : Contents) (code : List Insn) → decoded_code One c.code ≡ Ok code → (e : GateFault) → Refuses (first_shape c code) e → Refuses (first_code c (decoded_code One c.code)) e
+code-refuses c code h e k = refuses-into (first_code c (decoded_code One c.code)) (first_shape c code) (λ next. next code) (λ next. ap (λ r. first_code c r next) h) e k
 
 -- the container that passed
 pub front-held : (policy : PolicyKind) (bytes : List ℕ) (a : Result Passed GateFault) → IsPassedAnswer policy bytes a → IfOk a (λ p. IsHeld p.container)
@@ -119,7 +121,7 @@ module _ (policy : PolicyKind) (bytes : List ℕ) (c : Contents) (code : List In
       given = given;
       weight = weight;
       condition = vc_of-encodes policy code c.invs p.forms;
-      proved = checks_follows declared proof [] (pf (vc_of policy code c.invs)) h;
+      proved = checks_follows (declared Sigma1) proof [] (pf (vc_of policy code c.invs)) h;
     }
 
 -- what is refused by clauses 1 to 8 is refused by the gate
@@ -137,7 +139,7 @@ low-invs t (p ∷ ps) more k l =
     (k.0, All-head (λ x. height_of x ≤ MAX_HEIGHT) (tree_at t p.1) rest l, low-invs t ps more k.1 (All-tail (λ x. height_of x ≤ MAX_HEIGHT) (tree_at t p.1) rest l))
 
 -- accepted code is safe, and its condition true, also over a later table
-pub proved-by : IsSoundSignature declared → (policy : PolicyKind) (bytes : List ℕ) (c : Contents) (cut : CutView) (t u : TableView) (ps : List (ℕ × ℕ)) → Extends t u → AllByRecursion (λ (inv : ℕ × ℕ). IsKnown t inv.1) ps → c.invs ≡ id_trees t ps → Accepts policy bytes c cut.code cut.marks → IsProved policy cut u ps
+pub proved-by : IsSoundSignature (declared Sigma1) → (policy : PolicyKind) (bytes : List ℕ) (c : Contents) (cut : CutView) (t u : TableView) (ps : List (ℕ × ℕ)) → Extends t u → AllByRecursion (λ (inv : ℕ × ℕ). IsKnown t inv.1) ps → c.invs ≡ id_trees t ps → Accepts policy bytes c cut.code cut.marks → IsProved policy cut u ps
 proved-by sound policy bytes c cut t u ps grown known is a =
     let same : c.invs ≡ id_trees u ps = is ∙ trees-same t u ps grown known in
     record {

@@ -20,19 +20,19 @@ use Rattle.formula_tree.specs.Formulas.{Exp, EReg, EVar, ELit, EOp, ESel, MVar, 
 use Rattle.formula_terms.specs.Encoding.{form_encoding}
 use Rattle.formula_terms.specs.ProofTerms.{tt_i, and_i, and_l, and_r, imp_i, imp_e, all_i, allm_i}
 use Rattle.lf_encode.specs.Contexts.{machine_context, machine_names, sort_types, IsFormIn}
-use Rattle.lf_signature.specs.Sigma1.{declared, number_types, constant_types, the_rules}
+use Rattle.lf_signature.specs.Constants.{declared, constant_types, the_rules}
 use Rattle.lf_signature.specs.Terms.{form, pf}
 use Rattle.lf_signature.specs.Decide.{checks_of}
 use Rattle.lf_signature.specs.Laws.Decided.{checks_follows}
 use Rattle.policy_set.specs.declared.kind.PolicyKind.TheVariants.{Tag}
 use Rattle.proof_container.specs.Contents.{Contents, roots}
 use Rattle.term_table.specs.Bytes.{IsBytes}
-use Rattle.proof_container.specs.Encoding.{IsContents, AreTerms, encoding_of}
+use Rattle.proof_container.specs.Encoding.{IsContents, IsEntryTerm, AreTerms, encoding_of}
 use Rattle.proof_container.specs.Postorder.{is_emitted, unless_emitted, emitted_with, entries}
 use Rattle.proof_container.specs.Inside.Walked.{nodes}
 use Rattle.proof_container.specs.Decoding.{entry_size}
 use Rattle.proof_container.proofs.Written.{length-encoding_of}
-use Rattle.term_table.specs.Tree.{Tree, Const, Var, Con, App, Lam, Fam, TApp, Pi, Num, Lit, Calc, Fact, Deny, IsTerm, IsAtomic}
+use Rattle.term_table.specs.Tree.{Tree, Const, Var, Con, App, Lam, Fam, TApp, Pi, Num, Lit, Calc, Fact, Deny, Lemma, IsAtomic}
 use Rattle.term_table.specs.Table.{IsSmall, IsSmallConst}
 use Rattle.term_table.specs.Measures.{weight_of, height_of, sigma1_places}
 use Rattle.vcgen.specs.Assignments.{unchanged}
@@ -43,6 +43,8 @@ use Rattle.pcc_gate.specs.Witness.{loop_code, LoopIsAccepted}
 use Rattle.pcc_gate.proofs.Searches.{low_decided, first_high}
 use Rattle.pcc_gate.proofs.CodeBytes.{code_decided}
 use Rattle.pcc_gate.proofs.FirstFront.{annotated_flags}
+use Rattle.lf_signature.specs.declared.WordSignature.TheVariants.{Sigma1}
+use Rattle.word_ops.specs.declared.Profile.TheVariants.{One}
 
 -- ---- formulas, under so many binders besides those of m and r0 to r30
 
@@ -178,6 +180,15 @@ small_const (Lit w) e = ltb-true w (2 ^ 64) e
 small_const (Calc o a b) e = absurd (false≢true e)
 small_const (Fact p a b) e = absurd (false≢true e)
 small_const (Deny p a b) e = absurd (false≢true e)
+small_const (Lemma n) e = absurd (false≢true e)
+
+entry_const : (c : Const) → is_small_const c ≡ true → IsEntryTerm (Con c)
+entry_const (Num n) e = tt
+entry_const (Lit w) e = tt
+entry_const (Calc o a b) e = tt
+entry_const (Fact p a b) e = tt
+entry_const (Deny p a b) e = tt
+entry_const (Lemma n) e = absurd (false≢true e)
 
 atomic : (t : Tree) → is_head t ≡ true → IsAtomic t
 atomic (Var n) e = tt
@@ -188,9 +199,9 @@ atomic (Fam a) e = absurd (false≢true e)
 atomic (TApp p a) e = absurd (false≢true e)
 atomic (Pi a b) e = absurd (false≢true e)
 
-ready : (t : Tree) → is_ready t ≡ true → IsTerm t × IsSmall t
+ready : (t : Tree) → is_ready t ≡ true → IsEntryTerm t × IsSmall t
 ready (Var n) e = (tt, ltb-true n (2 ^ 32) e)
-ready (Con c) e = (tt, small_const c e)
+ready (Con c) e = (entry_const c e, small_const c e)
 ready (App f a) e =
     let q = and_parts (is_ready f) (is_head f && is_ready a) e in
     let r = and_parts (is_head f) (is_ready a) q.1 in
@@ -246,6 +257,7 @@ fields_few (Con (Lit w)) = omega arith
 fields_few (Con (Calc o a b)) = omega arith
 fields_few (Con (Fact p a b)) = omega arith
 fields_few (Con (Deny p a b)) = omega arith
+fields_few (Con (Lemma n)) = omega arith
 fields_few (App f a) = omega arith
 fields_few (Lam b) = omega arith
 fields_few (Fam a) = omega arith
@@ -304,7 +316,7 @@ told code = Ok code
 abbrev flawed : CodeFlaw → Result (List Insn) CodeFlaw
 flawed f = Err f
 
-decoded : decoded_code code_bytes ≡ told loop_code
+decoded : decoded_code One code_bytes ≡ told loop_code
 unfolding decoded_code
 decoded = refl
 
@@ -312,13 +324,13 @@ same_code : (a b : List Insn) → told a ≡ told b → a ≡ b
 same_code a b e = cc
 
 -- the bytes are those of the code, and it is code
-encoded : EncodesCode code_bytes loop_code × IsCode loop_code
+encoded : EncodesCode One code_bytes loop_code × IsCode loop_code
 encoded =
     elim (code_decided code_bytes refl (omega arith) (omega arith)) [
       | inl e ↦
-          let same : e.insns ≡ loop_code = same_code e.insns loop_code (decoded_code-ok code_bytes e.insns e.encoded e.code ∙ decoded) in
-          (subst (EncodesCode code_bytes) same e.encoded, subst IsCode same e.code)
-      | inr f ↦ absurd (differ f.which (IsDecoded-IsCodeAnswer code_bytes (Err (fault.At f.which)) f.is ∙ decoded))
+          let same : e.insns ≡ loop_code = same_code e.insns loop_code (decoded_code-ok One code_bytes e.insns e.encoded e.code ∙ decoded) in
+          (subst (EncodesCode One code_bytes) same e.encoded, subst IsCode same e.code)
+      | inr f ↦ absurd (differ f.which (IsDecoded-IsCodeAnswer One code_bytes (Err (fault.At f.which)) f.is ∙ decoded))
     ]
   where
     differ : (f : CodeFlaw) → flawed f ≡ told loop_code → ⊥
@@ -335,12 +347,12 @@ low =
       | inr f ↦ absurd (none-some (height_of f.1.tree) (sym none_high ∙ first_high (roots contents) f.0 f.1))
     ]
 
-inv_formed : checks_of declared inv_term (sort_types machine_context) form ≡ true
-unfolding number_types constant_types the_rules machine_context
+inv_formed : checks_of (declared Sigma1) inv_term (sort_types machine_context) form ≡ true
+unfolding constant_types the_rules machine_context
 inv_formed = refl
 
 forms : AreForms ((2, inv_term) ∷ [])
-forms = (checks_follows declared inv_term (sort_types machine_context) form inv_formed, tt)
+forms = (checks_follows (declared Sigma1) inv_term (sort_types machine_context) form inv_formed, tt)
 
 abbrev said : Form
 said = FAnd (closed entry_part) (FAnd (closed loop_part) FTrue)
@@ -349,8 +361,8 @@ is_said : form_encoding (condition (annotated Tag loop_code ((2, invariant) ∷ 
 unfolding machine_names unchanged
 is_said = refl
 
-checked : checks_of declared whole_proof [] (pf (form_encoding said)) ≡ true
-unfolding whole_proof number_types constant_types the_rules
+checked : checks_of (declared Sigma1) whole_proof [] (pf (form_encoding said)) ≡ true
+unfolding whole_proof constant_types the_rules
 checked = refl
 
 light : nat_le (weight_of sigma1_places whole_proof) 1048576 ≡ true
@@ -385,6 +397,6 @@ loop_is_accepted = record {
     given = refl;
     weight = leb-true (weight_of sigma1_places whole_proof) 1048576 light;
     condition = record { formulas = (2, invariant) ∷ []; encoded = (refl, record { over = over; is = refl }, tt); is = is_said };
-    proved = checks_follows declared whole_proof [] (pf (form_encoding said)) checked;
+    proved = checks_follows (declared Sigma1) whole_proof [] (pf (form_encoding said)) checked;
   };
 }

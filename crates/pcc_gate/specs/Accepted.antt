@@ -4,13 +4,14 @@ use Rattle.alpha_words.specs.declared.insn.Insn.{Insn}
 use Rattle.policy_set.specs.declared.kind.PolicyKind.{PolicyKind}
 use Rattle.term_table.specs.Tree.{Tree}
 use Rattle.term_table.specs.Measures.{weight_of, sigma1_places}
-use Rattle.lf_signature.specs.Sigma1.{declared}
+use Rattle.lf_signature.specs.Constants.{declared}
 use Rattle.lf_signature.specs.Terms.{pf}
 use Rattle.lf_signature.specs.Typing.{Checks}
 use Rattle.proof_container.specs.Contents.{Contents}
 use Rattle.vcgen.specs.Encoded.{EncodesCondition}
 use Rattle.pcc_gate.specs.declared.limits.TheConstants.{MAX_WEIGHT}
 use Rattle.pcc_gate.specs.Passing.{Passes}
+use Rattle.lf_signature.specs.declared.WordSignature.TheVariants.{Sigma1}
 
 -- The eleven clauses: clauses 1 to 8, and those of the proof, in their order.
 pub record Accepts (policy : PolicyKind) (bytes : List ℕ) (contents : Contents) (insns : List Insn) (flags : List Bool) : Type 0 where
@@ -23,7 +24,7 @@ pub record Accepts (policy : PolicyKind) (bytes : List ℕ) (contents : Contents
   pub weight : weight_of sigma1_places proof ≤ MAX_WEIGHT
   -- 11: it proves the verification condition of the policy, the code and the invariants
   pub condition : EncodesCondition policy insns contents.invs vc
-  pub proved : Checks declared [] proof (pf vc)
+  pub proved : Checks (declared Sigma1) [] proof (pf vc)
 
 -- the bytes are accepted under the policy
 pub record IsAccepted (policy : PolicyKind) (bytes : List ℕ) : Type 0 where

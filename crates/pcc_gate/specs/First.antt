@@ -11,7 +11,7 @@ use Rattle.policy_set.specs.declared.kind.PolicyKind.{PolicyKind}
 use Rattle.policy_set.specs.Names.{policy_number}
 use Rattle.term_table.specs.Tree.{Tree}
 use Rattle.term_table.specs.Measures.{height_of, weight_of, sigma1_places, capped}
-use Rattle.lf_signature.specs.Sigma1.{declared}
+use Rattle.lf_signature.specs.Constants.{declared}
 use Rattle.lf_signature.specs.Terms.{form, pf}
 use Rattle.lf_signature.specs.Decide.{checks_of}
 use Rattle.lf_encode.specs.Encoding.{form_encoding}
@@ -27,12 +27,14 @@ use Rattle.vcgen.specs.declared.condition.TheConstants.{MAX_HEIGHT, MAX_UNFOLDED
 use Rattle.pcc_gate.specs.declared.limits.TheConstants.{MAX_WEIGHT}
 use Rattle.pcc_gate.specs.declared.refusal.Refusal.{Refusal}
 use Rattle.pcc_gate.specs.declared.refusal.Refusal.TheVariants as refusal
+use Rattle.lf_signature.specs.declared.WordSignature.TheVariants.{Sigma1}
+use Rattle.word_ops.specs.declared.Profile.TheVariants.{One}
 
 -- ---- the questions
 
 -- whether a term has type form in the context m, r0 to r30
 abbrev pub has_form : Tree → Bool
-has_form t = checks_of declared t (sort_types machine_context) form
+has_form t = checks_of (declared Sigma1) t (sort_types machine_context) form
 
 -- the formula over m and r0 to r30 that a term of type form encodes
 abbrev pub formula_of : Tree → Form
@@ -48,7 +50,7 @@ vc_of policy code invs = form_encoding (condition (annotated policy code (formul
 
 -- whether a term is a proof of it
 abbrev pub proves : Tree → Tree → Bool
-proves proof vc = checks_of declared proof [] (pf vc)
+proves proof vc = checks_of (declared Sigma1) proof [] (pf vc)
 
 -- the flags of the annotated indices
 abbrev pub marks_of : Contents → List Insn → List Bool
@@ -91,7 +93,7 @@ first_code c (Ok code) next = first_shape c code (next code)
 -- clauses 2 to 8, and what comes after, by the contents and the code
 abbrev pub first_read : PolicyKind → Result Contents Fault → (Contents → List Insn → Option Refusal) → Option Refusal
 first_read policy (Err fault) next = Some (refusal.Malformed fault.0 fault.1)
-first_read policy (Ok c) next = if c.policy == policy_number policy then first_code c (decoded_code c.code) (next c) else Some (refusal.OtherPolicy c.policy)
+first_read policy (Ok c) next = if c.policy == policy_number policy then first_code c (decoded_code One c.code) (next c) else Some (refusal.OtherPolicy c.policy)
 
 -- clauses 1 to 8, and what comes after
 abbrev pub first_front : PolicyKind → List ℕ → (Contents → List Insn → Option Refusal) → Option Refusal

@@ -14,6 +14,7 @@ use Rattle.proof_container.specs.Encoding.{EncodesContents}
 use Rattle.proof_container.specs.declared.limits.TheConstants.{MAX_BYTES}
 use Rattle.vcgen.specs.declared.condition.TheConstants.{MAX_HEIGHT, MAX_UNFOLDED}
 use Rattle.vcgen.specs.Encoded.{AreForms}
+use Rattle.word_ops.specs.declared.Profile.TheVariants.{One}
 
 -- no root is higher than the limit
 abbrev pub AreLow : List Tree → Type 0
@@ -28,7 +29,7 @@ pub record Passes (policy : PolicyKind) (bytes : List ℕ) (contents : Contents)
   -- 3: which are for the policy
   pub number : contents.policy ≡ policy_number policy
   -- 4: the code bytes encode code
-  pub encoded : EncodesCode contents.code insns
+  pub encoded : EncodesCode One contents.code insns
   pub code : IsCode insns
   -- 5: no root is too high
   pub heights : AreLow (roots contents)

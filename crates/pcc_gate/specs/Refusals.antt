@@ -9,7 +9,7 @@ use Rattle.policy_set.specs.declared.kind.PolicyKind.{PolicyKind}
 use Rattle.policy_set.specs.Names.{policy_number}
 use Rattle.term_table.specs.Tree.{Tree}
 use Rattle.term_table.specs.Measures.{height_of, weight_of, sigma1_places, capped}
-use Rattle.lf_signature.specs.Sigma1.{declared}
+use Rattle.lf_signature.specs.Constants.{declared}
 use Rattle.lf_signature.specs.Terms.{form, pf}
 use Rattle.lf_signature.specs.Typing.{Checks}
 use Rattle.lf_encode.specs.Contexts.{machine_context, sort_types}
@@ -24,6 +24,8 @@ use Rattle.pcc_gate.specs.declared.limits.TheConstants.{MAX_WEIGHT}
 use Rattle.pcc_gate.specs.declared.refusal.Refusal.{Refusal}
 use Rattle.pcc_gate.specs.declared.refusal.Refusal.TheVariants as refusal
 use Rattle.pcc_gate.specs.Passing.{AreLow, Passes}
+use Rattle.lf_signature.specs.declared.WordSignature.TheVariants.{Sigma1}
+use Rattle.word_ops.specs.declared.Profile.TheVariants.{One}
 
 -- ---- the clauses up to each, in their order
 
@@ -40,7 +42,7 @@ pub record IsForPolicy (policy : PolicyKind) (bytes : List ℕ) (contents : Cont
 -- clauses 1 to 4: the code bytes encode code
 pub record HasCode (policy : PolicyKind) (bytes : List ℕ) (contents : Contents) (insns : List Insn) : Type 0 where
   pub before : IsForPolicy policy bytes contents
-  pub encoded : EncodesCode contents.code insns
+  pub encoded : EncodesCode One contents.code insns
   pub code : IsCode insns
 
 -- clauses 1 to 5: no root is too high
@@ -98,7 +100,7 @@ pub record IsFirstNoForm (invs : List (ℕ × Tree)) (place : ℕ) : Type 0 wher
   pub rest : List (ℕ × Tree)
   pub split : invs ≡ front ++ inv ∷ rest
   pub forms : AreForms front
-  pub no_form : Checks declared (sort_types machine_context) inv.1 form → ⊥
+  pub no_form : Checks (declared Sigma1) (sort_types machine_context) inv.1 form → ⊥
   pub is : place ≡ length front
 
 -- the unfolded length is past its limit
@@ -115,7 +117,7 @@ pub record IsPastWeight (proof : Tree) (weight : ℕ) : Type 0 where
 pub record IsNoProof (policy : PolicyKind) (insns : List Insn) (invs : List (ℕ × Tree)) (proof : Tree) : Type 0 where
   pub vc : Tree
   pub condition : EncodesCondition policy insns invs vc
-  pub unproved : Checks declared [] proof (pf vc) → ⊥
+  pub unproved : Checks (declared Sigma1) [] proof (pf vc) → ⊥
 
 -- ---- the refusals
 
@@ -124,7 +126,7 @@ abbrev pub IsFirstRefusal : PolicyKind → List ℕ → Refusal → Type 0
 IsFirstRefusal policy bytes (refusal.TooLong n) = (MAX_BYTES < length bytes) × (n ≡ length bytes)
 IsFirstRefusal policy bytes (refusal.Malformed at flaw) = IsMalformed bytes at flaw
 IsFirstRefusal policy bytes (refusal.OtherPolicy n) = (c : Contents) × HasContents bytes c × (c.policy ≡ policy_number policy → ⊥) × (n ≡ c.policy)
-IsFirstRefusal policy bytes (refusal.BadCode flaw) = (c : Contents) × IsForPolicy policy bytes c × IsFlaw c.code flaw
+IsFirstRefusal policy bytes (refusal.BadCode flaw) = (c : Contents) × IsForPolicy policy bytes c × IsFlaw One c.code flaw
 IsFirstRefusal policy bytes (refusal.Height h) = (c : Contents) × (code : List Insn) × HasCode policy bytes c code × IsFirstHeight (roots c) h
 IsFirstRefusal policy bytes (refusal.InvNotForm k) = (c : Contents) × (code : List Insn) × HasLowRoots policy bytes c code × IsFirstNoForm c.invs k
 IsFirstRefusal policy bytes (refusal.Uncut i) =

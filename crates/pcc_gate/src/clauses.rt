@@ -8,7 +8,7 @@ ghost use Rattle.alpha_cfg.specs.declared.code.TheConstants.{MAX_WORDS};
 ghost use Rattle.term_table.specs.Table.{IsKnown, AllKnown, tree_at, ctx_of, Extends, id_trees};
 ghost use Rattle.term_table.specs.Measures.{capped};
 ghost use Rattle.lf_signature.specs.Nodes.{IsIdOf};
-ghost use Rattle.lf_signature.specs.Sigma1.{declared};
+ghost use Rattle.lf_signature.specs.Constants.{declared};
 ghost use Rattle.term_table.specs.Tree.{Fam};
 ghost use Rattle.lf_check.specs.Kept.{AreKept};
 ghost use Rattle.lf_encode.specs.Contexts.{machine_context, sort_types};
@@ -17,6 +17,7 @@ ghost use Rattle.proof_container.specs.declared.limits.TheConstants.{MAX_INVS};
 ghost use Rattle.pcc_gate.specs.First.{too_high, has_form, formless};
 ghost use Rattle.pcc_gate.specs.Inside.Stages.{IsContainerAnswer, IsCodeRead, measured_trees};
 ghost use Rattle.pcc_gate.specs.Inside.Stages.{IsCutMade, IsLengthAnswer};
+ghost use Rattle.lf_signature.specs.declared.WordSignature.TheVariants.{Sigma1};
 
 use crate::fault::GateFault;
 use crate::refusal::Refusal;
@@ -29,6 +30,7 @@ use proof_container::{Container, MAX_BYTES, Malformed, read};
 use std::alloc::{AllocError, Global};
 use term_table::{Id, Node, Table};
 use vcgen::{MAX_HEIGHT, MAX_UNFOLDED};
+use word_ops::Profile;
 
 /// Clauses 1 to 3: the container in the bytes, which is for the policy.
 pub(crate) fn container_for<'b>(
@@ -63,7 +65,7 @@ pub(crate) fn code_in(alloc: Global, bytes: &[u8]) -> Result<Code, GateFault>
     requires short { length bytes.now ≤ 4 * MAX_WORDS }
     ensures { IsCodeRead bytes.now result }
 {
-    match Code::of(alloc, bytes) {
+    match Code::of(alloc, bytes, Profile::One) {
         Ok(code) => Ok(code),
         Err(CodeFault::At(flaw)) => Err(GateFault::Refused(Refusal::BadCode(flaw))),
         Err(CodeFault::Memory) => Err(GateFault::Memory),
@@ -134,10 +136,10 @@ fn has_form(
     requires form { IsIdOf table.old (Fam 2) form }
     requires context { AllKnown table.old context.now }
     requires types { ctx_of table.old context.now ≡ sort_types machine_context }
-    requires kept { AreKept declared table.old kept.old }
+    requires kept { AreKept (declared Sigma1) table.old kept.old }
     ensures exact { IfOk result (λ b. b ≡ has_form (tree_at table.old id)) }
     ensures extends { Extends table.old table.new }
-    ensures kept { AreKept declared table.new kept.new }
+    ensures kept { AreKept (declared Sigma1) table.new kept.new }
 {
     typing_laws();
     check_term_with(table, kept, &Sigma1, context, id, form)
@@ -158,11 +160,11 @@ pub(crate) fn first_formless(
     requires form { IsIdOf table.old (Fam 2) form }
     requires context { AllKnown table.old context.now }
     requires types { ctx_of table.old context.now ≡ sort_types machine_context }
-    requires kept { AreKept declared table.old kept.old }
+    requires kept { AreKept (declared Sigma1) table.old kept.old }
     ensures exact { let rest = id_trees table.old (drop from invs.now) in
         IfOk result (λ found. found ≡ formless from rest) }
     ensures extends { Extends table.old table.new }
-    ensures kept { AreKept declared table.new kept.new }
+    ensures kept { AreKept (declared Sigma1) table.new kept.new }
 {
     if from == invs.len() {
         return Ok(None);

@@ -2,10 +2,11 @@
 
 ghost use Rattle.proof_container.specs.Views.{contents_of};
 ghost use Rattle.term_table.specs.Table.{TableView};
-ghost use Rattle.lf_signature.specs.Sigma1.{declared};
+ghost use Rattle.lf_signature.specs.Constants.{declared};
 ghost use Rattle.lf_check.specs.Kept.{AreKept};
 ghost use Rattle.pcc_gate.specs.Answers.{IsHeld, IsGateAnswer};
 ghost use Rattle.pcc_gate.specs.Passing.{Passes};
+ghost use Rattle.lf_signature.specs.declared.WordSignature.TheVariants.{Sigma1};
 
 use crate::acceptance::Accepted;
 use crate::fault::GateFault;
@@ -27,7 +28,7 @@ fn judge(
     requires passes { let contents = contents_of passed.container in
         Passes policy.now bytes.now contents passed.cut.code passed.cut.marks }
     requires held { IsHeld passed.container }
-    requires kept { AreKept declared passed.container.table kept.old }
+    requires kept { AreKept (declared Sigma1) passed.container.table kept.old }
     ensures { IsGateAnswer policy.now bytes.now result }
 {
     let _ = bytes; // only the clauses speak of it

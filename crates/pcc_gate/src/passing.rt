@@ -4,7 +4,7 @@ ghost use Rattle.std.specs.Prelude.{◌≡◌, ◌≤◌, ◌<◌, length, map, 
 ghost use Rattle.std.specs.List.{AllByRecursion};
 ghost use Rattle.std.specs.List.Sorted.{IsStrictlyIncreasing};
 ghost use Rattle.term_table.specs.Table.{TableView, IsKnown, Extends, id_trees};
-ghost use Rattle.lf_signature.specs.Sigma1.{declared};
+ghost use Rattle.lf_signature.specs.Constants.{declared};
 ghost use Rattle.lf_check.specs.Kept.{AreKept};
 ghost use Rattle.proof_container.specs.Views.{AreKnown, contents_of};
 ghost use Rattle.proof_container.specs.Encoding.{IsContents};
@@ -12,6 +12,7 @@ ghost use Rattle.proof_container.specs.declared.limits.TheConstants.{MAX_INVS};
 ghost use Rattle.pcc_gate.specs.Answers.{IsHeld, IsFrontAnswer};
 ghost use Rattle.pcc_gate.specs.Inside.Stages.{with_roots, AreFormed, IsShapeAnswer};
 ghost use Rattle.pcc_gate.specs.Inside.Passed.{IsRestAnswer, IsPassedAnswer};
+ghost use Rattle.lf_signature.specs.declared.WordSignature.TheVariants.{Sigma1};
 
 use crate::clauses::{
     code_in, container_for, cut_at, first_formless, first_too_high, machine_types, short,
@@ -44,10 +45,10 @@ fn formed(
 ) -> Result<(), GateFault>
     requires known { AllByRecursion (λ inv. IsKnown table.old inv.1) invs.now }
     requires few { length invs.now ≤ MAX_INVS }
-    requires kept { (t : TableView) → AreKept declared t kept.old }
+    requires kept { (t : TableView) → AreKept (declared Sigma1) t kept.old }
     ensures answer { AreFormed (id_trees table.old invs.now) result }
     ensures extends { Extends table.old table.new }
-    ensures kept { OnOk result (AreKept declared table.new kept.new) }
+    ensures kept { OnOk result (AreKept (declared Sigma1) table.new kept.new) }
 {
     let context = machine_types(alloc, table)?;
     let form = table.intern(Node::Fam(FORM))?;
@@ -70,10 +71,10 @@ fn shaped(
     requires few { length invs.now ≤ MAX_INVS }
     requires rising { IsStrictlyIncreasing (map (λ p. p.0) invs.now) }
     requires below { All (λ k. k < length code) (map (λ p. p.0) invs.now) }
-    requires kept { (t : TableView) → AreKept declared t kept.old }
+    requires kept { (t : TableView) → AreKept (declared Sigma1) t kept.old }
     ensures answer { IsShapeAnswer (with_roots table.old invs.now proof) code result }
     ensures extends { Extends table.old table.new }
-    ensures kept { OnOk result (AreKept declared table.new kept.new) }
+    ensures kept { OnOk result (AreKept (declared Sigma1) table.new kept.new) }
 {
     if let Some(height) = first_too_high(table, invs, proof, 0) {
         return Err(GateFault::Refused(Refusal::Height(height)));
@@ -92,9 +93,9 @@ fn rest<'b>(
 ) -> Result<Passed<'b>, GateFault>
     requires contents { IsContents (contents_of container) }
     requires held { IsHeld container }
-    requires kept { (t : TableView) → AreKept declared t kept.old }
+    requires kept { (t : TableView) → AreKept (declared Sigma1) t kept.old }
     ensures answer { IsRestAnswer (contents_of container.entry) result }
-    ensures kept { IfOk result (λ p. AreKept declared p.container.table kept.new) }
+    ensures kept { IfOk result (λ p. AreKept (declared Sigma1) p.container.table kept.new) }
 {
     let mut container = container;
     let insns = code_in(alloc, container.code)?;
@@ -110,9 +111,9 @@ pub(crate) fn pass<'b>(
     policy: &Policy,
     bytes: &'b [u8],
 ) -> Result<Passed<'b>, GateFault>
-    requires kept { (t : TableView) → AreKept declared t kept.old }
+    requires kept { (t : TableView) → AreKept (declared Sigma1) t kept.old }
     ensures answer { IsPassedAnswer policy.now bytes.now result }
-    ensures kept { IfOk result (λ p. AreKept declared p.container.table kept.new) }
+    ensures kept { IfOk result (λ p. AreKept (declared Sigma1) p.container.table kept.new) }
 {
     match container_for(alloc, policy, bytes) {
         Err(fault) => Err(fault),

@@ -4,18 +4,20 @@ ghost use Rattle.std.specs.Prelude.{◌≡◌, ◌≤◌, IfSome, length, map};
 ghost use Rattle.alpha_cfg.specs.Cuts.{AreFlags, unfolded_of};
 ghost use Rattle.term_table.specs.Table.{IsKnown, Extends, tree_at, id_trees};
 ghost use Rattle.term_table.specs.Measures.{sigma1_places};
-ghost use Rattle.lf_signature.specs.Sigma1.{declared};
+ghost use Rattle.lf_signature.specs.Constants.{declared};
 ghost use Rattle.lf_check.specs.Kept.{AreKept};
 ghost use Rattle.vcgen.specs.Answers.{AreLowInvs};
 ghost use Rattle.vcgen.specs.Encoded.{AreForms};
 ghost use Rattle.vcgen.specs.declared.condition.TheConstants.{MAX_UNFOLDED};
 ghost use Rattle.pcc_gate.specs.Inside.Acceptance.{IsProofFound, IsProofAnswer};
+ghost use Rattle.lf_signature.specs.declared.WordSignature.TheVariants.{Sigma1};
 
 use crate::fault::GateFault;
 use crate::limits::MAX_WEIGHT;
 use crate::refusal::Refusal;
 use alpha_cfg::Cut;
 use lf_check::Kept;
+use lf_signature::Sigma1;
 use lf_truth::proved_formula_with;
 use policy_set::Policy;
 use term_table::{Id, Table};
@@ -54,12 +56,12 @@ pub(crate) fn proved(
     requires marks { AreFlags (map (λ p. p.0) invs.now) (length cut.now.code) cut.now.marks }
     requires short { unfolded_of cut.now.code cut.now.marks ≤ MAX_UNFOLDED }
     requires proof { IsKnown table.old proof }
-    requires kept { AreKept declared table.old kept.old }
+    requires kept { AreKept (declared Sigma1) table.old kept.old }
     ensures answer { let invs = id_trees table.old invs.now in
         IsProofAnswer policy.now cut.now.code invs (tree_at table.old proof) result }
     ensures extends { Extends table.old table.new }
 {
-    let Some(formula) = proved_formula_with(table, kept, proof)? else {
+    let Some(formula) = proved_formula_with(table, kept, &Sigma1, proof)? else {
         return Err(GateFault::Refused(Refusal::NotProof));
     };
     let equal = match is_condition_with(table, &mut kept.memo, cut, policy, invs, formula) {

@@ -4,6 +4,8 @@ use Rattle.formula_tree.specs.Scope.{IsOver}
 use Rattle.policy_set.specs.declared.kind.PolicyKind.{PolicyKind}
 use Rattle.policy_set.specs.declared.kind.PolicyKind.TheVariants.{Filter, Tag, Table}
 use Rattle.policy_set.specs.Policies.{pre_of, post_of, long_packet, readable_packet, usable_scratch, separate_scratch}
+use Rattle.word_ops.specs.Operators.{IsFirstOp}
+use Rattle.formula_tree.specs.Operators.{Uses}
 
 long_packet-over : IsOver 31 long_packet []
 long_packet-over = (omega arith, omega arith)
@@ -26,3 +28,25 @@ pub post-over : (kind : PolicyKind) → IsOver 31 (post_of kind) []
 post-over Filter = (omega arith, omega arith)
 post-over Tag = tt
 post-over Table = tt
+
+-- ---- operators
+
+-- the policies' formulas have the first profile's alone
+pub pre-first : (kind : PolicyKind) → Uses IsFirstOp (pre_of kind)
+pre-first Filter = (
+  (tt, tt),
+  (
+    (((tt, tt), ((refl, tt, tt), tt)), (refl, tt, tt)),
+    (
+      (((tt, tt), ((refl, tt, tt), tt)), ((refl, tt, tt), (refl, tt, tt))),
+      ((((tt, tt), ((refl, tt, tt), tt)), ((tt, tt), ((refl, tt, tt), tt))), (((refl, tt, tt), (refl, tt, tt)), tt)),
+    ),
+  ),
+)
+pre-first Tag = ((refl, tt, tt), ((refl, tt, tt), ((((tt, (refl, tt, tt)), tt), tt), (refl, tt, tt))))
+pre-first Table = ((tt, tt), ((tt, tt), ((refl, tt, (refl, tt, tt)), (refl, tt, (refl, tt, tt)))))
+
+pub post-first : (kind : PolicyKind) → Uses IsFirstOp (post_of kind)
+post-first Filter = (tt, tt)
+post-first Tag = tt
+post-first Table = tt

@@ -1,12 +1,12 @@
 -- An entry that is read stands there as its fields, and where its fields stand it is read.
 use Rattle.std.proofs.Common.{◌≡◌, ℕ, zero, suc, ◌+◌, ◌*◌, ◌^◌, ◌<◌, true, false, ltb, eqb, List, [], ◌∷◌, ◌++◌, length, Ok, Err, refl, sym, ap, ap₂, subst, ◌∙◌, arith, inl, inr}
 use Rattle.std.proofs.lemmas.Bool.{ltb-true, lt-ltb, eqb-true}
-use Rattle.term_table.specs.Tree.{Tree, Var, Con, App, Lam, Fam, TApp, Pi, Num, Lit, Calc, Fact, Deny, IsTerm, IsAtomic}
+use Rattle.term_table.specs.Tree.{Tree, Var, Con, App, Lam, Fam, TApp, Pi, Num, Lit, Calc, Fact, Deny, Lemma, IsAtomic}
 use Rattle.term_table.specs.Table.{tree_in, IsSmall, AreDifferent}
 use Rattle.proof_container.specs.declared.fault.Flaw.TheVariants.{EntryKind}
 use Rattle.proof_container.specs.Postorder.{is_emitted, HasPartsFirst}
 use Rattle.term_table.specs.Bytes.{IsBytes}
-use Rattle.proof_container.specs.Encoding.{word_fields, entry_number, entry_fields, AreTerms}
+use Rattle.proof_container.specs.Encoding.{word_fields, entry_number, entry_fields, IsEntryTerm, AreTerms}
 use Rattle.term_table.specs.Steps.{◌>>=◌}
 use Rattle.proof_container.specs.Decoding.{field_at, word_at, triple_at, is_lam, part_at, head_at, application_at, kind_at, entry_at, entry_size}
 use Rattle.proof_container.proofs.Walks.{number_is, number-append, number-at, listed-at}
@@ -44,15 +44,15 @@ triple_again bytes i n a b p =
 -- ---- parts
 
 -- a listed tree is a term if all are
-pub AreTerms-at : (ts : List Tree) (i : ℕ) → AreTerms ts → i < length ts → IsTerm (tree_in ts i) × IsSmall (tree_in ts i)
+pub AreTerms-at : (ts : List Tree) (i : ℕ) → AreTerms ts → i < length ts → IsEntryTerm (tree_in ts i) × IsSmall (tree_in ts i)
 AreTerms-at [] i p lt = absurd (omega arith)
 AreTerms-at (t ∷ ts) zero p lt = (p.0, p.1)
 AreTerms-at (t ∷ ts) (suc i) p lt = AreTerms-at ts i p.2 (omega arith)
 
-pub AreTerms-listed : (ts : List Tree) (t : Tree) → AreTerms ts → is_emitted t ts ≡ true → IsTerm t × IsSmall t
+pub AreTerms-listed : (ts : List Tree) (t : Tree) → AreTerms ts → is_emitted t ts ≡ true → IsEntryTerm t × IsSmall t
 AreTerms-listed ts t p l =
     let n = number_is ts t l in
-    subst (λ (x : Tree). IsTerm x × IsSmall x) n.1 (AreTerms-at ts (entry_number ts t) p n.0)
+    subst (λ (x : Tree). IsEntryTerm x × IsSmall x) n.1 (AreTerms-at ts (entry_number ts t) p n.0)
 
 pub part_takes : (bytes : List ℕ) (i : ℕ) (ts : List Tree) (t : Tree) → AreDifferent ts → part_at bytes i ts ≡ Ok t → (field_at bytes i ≡ Ok (entry_number ts t)) × (is_emitted t ts ≡ true)
 part_takes bytes i ts t different e =
@@ -68,7 +68,7 @@ part_again bytes i ts t l e =
     let below : ltb (entry_number ts t) (length ts) ≡ true = lt-ltb _ _ n.0 in
     rw (e, below, n.1) refl
 
-atomic_is : (t : Tree) → IsTerm t → is_lam t ≡ false → IsAtomic t
+atomic_is : (t : Tree) → IsEntryTerm t → is_lam t ≡ false → IsAtomic t
 atomic_is (Var n) term e = tt
 atomic_is (Con c) term e = tt
 atomic_is (App f a) term e = tt
@@ -105,7 +105,7 @@ head_again bytes i ts t l atomic e =
 pub record IsEntry (bytes : List ℕ) (i : ℕ) (ts : List Tree) (t : Tree) : Type 0 where
   pub stands : Stands bytes i (entry_fields ts t)
   pub parts : HasPartsFirst ts t
-  pub term : IsTerm t
+  pub term : IsEntryTerm t
   pub small : IsSmall t
 
 kind_is : (bytes : List ℕ) (i kind n : ℕ) → field_at bytes i ≡ Ok kind → eqb kind n ≡ true → field_at bytes i ≡ Ok n
@@ -203,7 +203,7 @@ module _ (bytes : List ℕ) (i : ℕ) (ts : List Tree) (fits : IsBytes bytes) (d
   pub entry_takes : (t : Tree) → entry_at bytes i ts ≡ Ok t → IsEntry bytes i ts t
   entry_takes t e = let a = bind_ok (field_at bytes i) (λ kind. kind_at bytes i ts kind) t e in kind_takes a.0 t a.1 a.2
 
-pub entry_again : (bytes : List ℕ) (i : ℕ) (ts : List Tree) (t : Tree) → IsTerm t → HasPartsFirst ts t → Stands bytes i (entry_fields ts t) → entry_at bytes i ts ≡ Ok t
+pub entry_again : (bytes : List ℕ) (i : ℕ) (ts : List Tree) (t : Tree) → IsEntryTerm t → HasPartsFirst ts t → Stands bytes i (entry_fields ts t) → entry_at bytes i ts ≡ Ok t
 unfolding kind_at
 entry_again bytes i ts (Var n) term parts p =
     let number : field_at bytes (i + 1) ≡ Ok n = field_there bytes (suc i) (i + 1) n (omega arith) p.1.0 in
@@ -223,6 +223,7 @@ entry_again bytes i ts (Con (Fact o a b)) term parts p =
 entry_again bytes i ts (Con (Deny o a b)) term parts p =
     let triple : triple_at bytes (i + 1) ≡ Ok (o, a, b) = triple_again bytes (i + 1) o a b (Stands-there bytes (suc i) (i + 1) (triple_fields (o, a, b)) (omega arith) p.1) in
     rw (p.0, triple) refl
+entry_again bytes i ts (Con (Lemma n)) term parts p = absurd term
 entry_again bytes i ts (App f a) term parts p =
     let head : head_at bytes (i + 1) ts ≡ Ok f = head_again bytes (i + 1) ts f parts.0 term.1 (field_there bytes (suc i) (i + 1) (entry_number ts f) (omega arith) p.1.0) in
     let part : part_at bytes (i + 1 + 1) ts ≡ Ok a = part_again bytes (i + 1 + 1) ts a parts.1 (field_there bytes (suc (suc i)) (i + 1 + 1) (entry_number ts a) (omega arith) p.1.1.0) in
@@ -253,6 +254,7 @@ entry_size_is ts (Con (Lit w)) = refl
 entry_size_is ts (Con (Calc o a b)) = refl
 entry_size_is ts (Con (Fact p a b)) = refl
 entry_size_is ts (Con (Deny p a b)) = refl
+entry_size_is ts (Con (Lemma n)) = refl
 entry_size_is ts (App f a) = refl
 entry_size_is ts (Lam b) = refl
 entry_size_is ts (Fam a) = refl

@@ -1,7 +1,7 @@
 -- What stands in a container's fields is below 2 ^ 32.
 use Rattle.std.proofs.Common.{◌≡◌, ℕ, suc, ◌+◌, ◌/◌, ◌^◌, ◌<◌, ◌≤◌, List, [], ◌∷◌, ◌++◌, length, Option, Some, None, sym, ap, subst, append_assoc, length-append, arith}
 use Rattle.std.specs.List.{flat_map}
-use Rattle.term_table.specs.Tree.{Tree, Var, Con, App, Lam, Fam, TApp, Pi, Num, Lit, Calc, Fact, Deny}
+use Rattle.term_table.specs.Tree.{Tree, Var, Con, App, Lam, Fam, TApp, Pi, Num, Lit, Calc, Fact, Deny, Lemma}
 use Rattle.term_table.specs.Table.{IsSmall}
 use Rattle.proof_container.specs.Contents.{Contents, one_or_none, roots}
 use Rattle.proof_container.specs.Postorder.{entries, HasPartsFirst, ArePostorder, AreEmitted}
@@ -17,6 +17,7 @@ entry_small ts (Con (Lit w)) few parts small = (omega arith, word_small w small)
 entry_small ts (Con (Calc o a b)) few parts small = (omega arith, (small.0, AreFields-append (word_fields a) (word_fields b) (word_small a small.1) (word_small b small.2)))
 entry_small ts (Con (Fact p a b)) few parts small = (omega arith, (small.0, AreFields-append (word_fields a) (word_fields b) (word_small a small.1) (word_small b small.2)))
 entry_small ts (Con (Deny p a b)) few parts small = (omega arith, (small.0, AreFields-append (word_fields a) (word_fields b) (word_small a small.1) (word_small b small.2)))
+entry_small ts (Con (Lemma n)) few parts small = tt
 entry_small ts (App f a) few parts small =
     let first = number_is ts f parts.0 in
     let second = number_is ts a parts.1 in

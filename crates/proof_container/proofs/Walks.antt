@@ -1,12 +1,12 @@
 -- What the walk leaves: each tree once, behind its parts, and nothing but the roots and what they are made of.
 use Rattle.std.proofs.Common.{◌≡◌, ℕ, zero, suc, ◌+◌, ◌<◌, ◌≤◌, Bool, true, false, ◌||◌, cond, Option, Some, None, List, [], ◌∷◌, ◌++◌, length, take, drop, refl, sym, ◌∙◌, ap, subst, append_assoc, append-nil, arith, take-append-drop, ◌⊎◌, inl, inr, option_map}
 use Rattle.std.proofs.lemmas.List.Folds.{list_any-append}
-use Rattle.term_table.specs.Tree.{Tree, Var, Con, App, Lam, Fam, TApp, Pi, IsTerm}
+use Rattle.term_table.specs.Tree.{Tree, Var, Con, App, Lam, Fam, TApp, Pi}
 use Rattle.term_table.specs.Equality.{tree_eq}
 use Rattle.term_table.specs.Table.{tree_in, AreDifferent, IsSmall}
 use Rattle.term_table.proofs.Equality.{tree_eq_refl, tree_eq-true}
 use Rattle.proof_container.specs.Postorder.{is_emitted, unless_emitted, emitted_with, emitted_with_all, entries, HasPartsFirst, ArePostorder, AreEmitted}
-use Rattle.proof_container.specs.Encoding.{entry_number, AreTerms}
+use Rattle.proof_container.specs.Encoding.{entry_number, IsEntryTerm, AreTerms}
 use Rattle.proof_container.specs.Decoding.{first_misplaced}
 use Rattle.proof_container.specs.Inside.Walked.{nodes}
 
@@ -265,18 +265,18 @@ entries_listed rs = walk_listed rs []
 
 -- terms made of terms
 
-terms_push : (ts : List Tree) (t : Tree) → AreTerms ts → IsTerm t → IsSmall t → AreTerms (ts ++ t ∷ [])
+terms_push : (ts : List Tree) (t : Tree) → AreTerms ts → IsEntryTerm t → IsSmall t → AreTerms (ts ++ t ∷ [])
 terms_push [] t h a b = (a, b, tt)
 terms_push (u ∷ ts) t h a b = (h.0, h.1, terms_push ts t h.2 a b)
 
-terms_once : (t : Tree) (ts us : List Tree) → AreTerms ts → AreTerms us → IsTerm t → IsSmall t → AreTerms (unless_emitted t ts us)
+terms_once : (t : Tree) (ts us : List Tree) → AreTerms ts → AreTerms us → IsEntryTerm t → IsSmall t → AreTerms (unless_emitted t ts us)
 terms_once t ts us h k a b = go (is_emitted t ts)
   where
     go : (c : Bool) → AreTerms (cond c ts (us ++ t ∷ []))
     go true = h
     go false = terms_push us t k a b
 
-terms_visit : (t : Tree) (ts : List Tree) → IsTerm t → IsSmall t → AreTerms ts → AreTerms (emitted_with t ts)
+terms_visit : (t : Tree) (ts : List Tree) → IsEntryTerm t → IsSmall t → AreTerms ts → AreTerms (emitted_with t ts)
 terms_visit (Var n) ts a b h = terms_once (Var n) ts ts h h a b
 terms_visit (Con c) ts a b h = terms_once (Con c) ts ts h h a b
 terms_visit (App f x) ts a b h = terms_once (App f x) ts (emitted_with x (emitted_with f ts)) h (terms_visit x (emitted_with f ts) a.2 b.1 (terms_visit f ts a.0 b.0 h)) a b

@@ -3,7 +3,7 @@ use Rattle.term_table.specs.Steps.{◌>>=◌}
 use Rattle.std.specs.Prelude.{ℕ, zero, suc, ◌+◌, ◌*◌, ◌/◌, ◌-◌, Bool, true, false, ◌||◌, ◌==◌, nat_lt, if◌then◌else◌, List, [], ◌∷◌, ◌++◌, length, take, drop, slice_range, sum_by, Option, Some, None, Result, Ok, Err}
 use Rattle.std.specs.Option.{option_map}
 use Rattle.std.specs.Int.{w32, from_le_bytes}
-use Rattle.term_table.specs.Tree.{Tree, Var, Con, App, Lam, Fam, TApp, Pi, Num, Lit, Calc, Fact, Deny}
+use Rattle.term_table.specs.Tree.{Tree, Var, Con, App, Lam, Fam, TApp, Pi, Num, Lit, Calc, Fact, Deny, Lemma}
 use Rattle.term_table.specs.Equality.{tree_eq}
 use Rattle.term_table.specs.Table.{tree_in}
 use Rattle.proof_container.specs.declared.fault.Flaw.{Flaw}
@@ -101,6 +101,7 @@ abbrev pub entry_size : Tree → ℕ
 entry_size (Var n) = 2
 entry_size (Con (Num n)) = 2
 entry_size (Con (Lit w)) = 3
+entry_size (Con (Lemma n)) = 0
 entry_size (Con c) = 6
 entry_size (App f a) = 3
 entry_size (Lam b) = 2

@@ -4,7 +4,7 @@ use Rattle.term_table.specs.Bytes.{IsBytes}
 use Rattle.std.specs.Prelude.{◌≡◌, ℕ, suc, ◌+◌, ◌*◌, ◌/◌, ◌%◌, ◌^◌, ◌<◌, ◌≤◌, if◌then◌else◌, List, [], ◌∷◌, ◌++◌, length, slice_index, Option, Some, None}
 use Rattle.std.specs.List.{flat_map}
 use Rattle.std.specs.Int.{w32, to_le_bytes}
-use Rattle.term_table.specs.Tree.{Tree, Var, Con, App, Lam, Fam, TApp, Pi, Const, Num, Lit, Calc, Fact, Deny, IsTerm}
+use Rattle.term_table.specs.Tree.{Tree, Var, Con, App, Lam, Fam, TApp, Pi, Const, Num, Lit, Calc, Fact, Deny, Lemma, IsAtomic}
 use Rattle.term_table.specs.Equality.{tree_eq}
 use Rattle.term_table.specs.Table.{IsSmall}
 use Rattle.proof_container.specs.declared.limits.TheConstants.{MAX_WORDS, MAX_ENTRIES, MAX_INVS}
@@ -24,13 +24,14 @@ abbrev pub entry_number : List Tree → Tree → ℕ
 entry_number [] t = 0
 entry_number (u ∷ us) t = if tree_eq t u then 0 else suc (entry_number us t)
 
--- an entry is its kind and what follows it
+-- an entry is its kind and what follows it; a lemma has no kind of entry
 abbrev pub const_fields : Const → List ℕ
 const_fields (Num n) = 1 ∷ n ∷ []
 const_fields (Lit w) = 2 ∷ word_fields w
 const_fields (Calc o a b) = 3 ∷ o ∷ word_fields a ++ word_fields b
 const_fields (Fact p a b) = 4 ∷ p ∷ word_fields a ++ word_fields b
 const_fields (Deny p a b) = 5 ∷ p ∷ word_fields a ++ word_fields b
+const_fields (Lemma n) = []
 
 -- a part is the number of its entry
 abbrev pub entry_fields : List Tree → Tree → List ℕ
@@ -70,10 +71,21 @@ abbrev pub AreRising : ℕ → ℕ → List (ℕ × Tree) → Type 0
 AreRising low words [] = Unit {0}
 AreRising low words (inv ∷ invs) = (low ≤ inv.0) × (inv.0 < words) × AreRising (suc inv.0) words invs
 
--- terms whose numbers fit their fields
+-- a canonical term each part of which has a kind of entry: none is a lemma
+abbrev pub IsEntryTerm : Tree → Type 0
+IsEntryTerm (Var n) = Unit {0}
+IsEntryTerm (Con (Lemma n)) = ⊥
+IsEntryTerm (Con c) = Unit {0}
+IsEntryTerm (App f a) = IsEntryTerm f × IsAtomic f × IsEntryTerm a
+IsEntryTerm (Lam b) = IsEntryTerm b
+IsEntryTerm (Fam a) = ⊥
+IsEntryTerm (TApp p a) = ⊥
+IsEntryTerm (Pi a b) = ⊥
+
+-- such terms, whose numbers fit their fields
 abbrev pub AreTerms : List Tree → Type 0
 AreTerms [] = Unit {0}
-AreTerms (t ∷ ts) = IsTerm t × IsSmall t × AreTerms ts
+AreTerms (t ∷ ts) = IsEntryTerm t × IsSmall t × AreTerms ts
 
 -- what a container may hold
 pub record IsContents (c : Contents) : Type 0 where

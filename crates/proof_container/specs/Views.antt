@@ -3,7 +3,7 @@ use Rattle.term_table.specs.Table.{id_trees}
 use Rattle.std.specs.Prelude.{◌≡◌, ℕ, ◌*◌, ◌/◌, ◌<◌, ◌≤◌, List, [], ◌∷◌, length, map, Option, Result, Ok, Err, IfSome}
 use Rattle.std.specs.List.{AllByRecursion}
 use Rattle.std.specs.Option.{option_map}
-use Rattle.term_table.specs.Tree.{Tree, IsTerm}
+use Rattle.term_table.specs.Tree.{Tree}
 use Rattle.term_table.specs.Table.{TableView, IsKnown, tree_at}
 use Rattle.term_table.specs.Measures.{sigma1_places}
 use Rattle.proof_container.specs.declared.container.Container.{Container}
@@ -13,7 +13,7 @@ use Rattle.proof_container.specs.declared.fault.Malformed.TheVariants as malform
 use Rattle.proof_container.specs.declared.limits.TheConstants.{MAX_WORDS, MAX_ENTRIES, MAX_INVS}
 use Rattle.proof_container.specs.Contents.{Contents, roots}
 use Rattle.proof_container.specs.Postorder.{entries}
-use Rattle.proof_container.specs.Encoding.{AreRising, EncodesContents}
+use Rattle.proof_container.specs.Encoding.{AreRising, IsEntryTerm, EncodesContents}
 use Rattle.proof_container.specs.Decoding.{Fault}
 
 -- what a container holds
@@ -67,13 +67,13 @@ pub record IsCanonical (c : Container) : Type 0 where
   pub trees : c.table.trees ≡ entries (roots (contents_of c))
   pub places : c.table.places ≡ sigma1_places
 
--- each of these trees is a term
+-- each of these trees is a term that cites no lemma
 abbrev pub AllTerms : List Tree → Type 0
 AllTerms [] = Unit {0}
-AllTerms (t ∷ ts) = IsTerm t × AllTerms ts
+AllTerms (t ∷ ts) = IsEntryTerm t × AllTerms ts
 
--- a view that can be written: its roots are terms of its table, its code is whole words, its counts are within the limits,
--- and its indices rise below the count of words
+-- a view that can be written: its roots are terms of its table that cite no lemma, its code is whole
+-- words, its counts are within the limits, and its indices rise below the count of words
 pub record IsWritable (v : View) : Type 0 where
   pub known : AreKnown v.table.now v.invs.now v.proof
   pub terms : AllTerms (roots (view_contents v))

@@ -102,7 +102,7 @@ pub fn size(table: &Table, node: &Node) -> usize
         Node::Var(_) | Node::Const(_) | Node::Lam(_) => 2,
         Node::Lit(_) | Node::App(_, _) => 3,
         Node::Calc(_, _, _) | Node::Fact(_, _, _) | Node::Deny(_, _, _) => 6,
-        Node::Fam(_) | Node::TApp(_, _) | Node::Pi(_, _) => 0,
+        Node::Lemma(_) | Node::Fam(_) | Node::TApp(_, _) | Node::Pi(_, _) => 0,
     }
 }
 

@@ -88,7 +88,7 @@ fn put_entry(out: &mut Vec<u8>, table: &Table, walk: &Walk, id: Id) -> Result<()
             put(out, &[6, f, a])
         }
         Node::Lam(b) => put(out, &[7, number(table, walk, b)]),
-        Node::Fam(_) | Node::TApp(_, _) | Node::Pi(_, _) => Ok(()),
+        Node::Lemma(_) | Node::Fam(_) | Node::TApp(_, _) | Node::Pi(_, _) => Ok(()),
     }
 }
 
@@ -170,7 +170,8 @@ fn limits(policy: u32, code: &[u8])
 }
 
 /// Encodes the contents of `view`: the entries stand in the order of the walk from the invariants
-/// and then the proof, whatever other terms the table has.
+/// and then the proof, whatever other terms the table has. The roots are terms that cite no lemma,
+/// since version 1 has no kind of entry for one.
 ///
 /// Errors: want of memory alone.
 pub fn write(alloc: Global, view: &View<'_>) -> Result<Vec<u8>, AllocError>

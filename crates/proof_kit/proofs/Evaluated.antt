@@ -1,15 +1,18 @@
 -- Constants that are proofs.
-use Rattle.std.proofs.Common.{◌≡◌, ◌&&◌, Bool, true, false, cond, Option, Some, None, sym, not}
-use Rattle.term_table.specs.Tree.{Tree, Const, Num, Lit, Calc, Fact, Deny, TApp}
+use Rattle.std.proofs.Common.{◌≡◌, ◌&&◌, Bool, true, false, cond, Option, Some, None, refl, sym, ◌∙◌, ap, ℕ, arith, not}
+use Rattle.term_table.specs.Tree.{Tree, Const, Num, Lit, Calc, Fact, Deny, Lemma, TApp}
 use Rattle.term_table.specs.Subst.{bind}
+use Rattle.term_table.specs.Table.{TableView, Extends, Stands, node_tree}
+use Rattle.term_table.specs.declared.Node.{Node}
+use Rattle.term_table.specs.declared.Node.TheVariants as N
 use Rattle.term_table.proofs.Options.{some_injective}
 use Rattle.word_ops.specs.declared.Op.{Op}
 use Rattle.word_ops.specs.declared.Rel.{Rel}
 use Rattle.word_ops.specs.Words.{test_of}
-use Rattle.word_ops.specs.Operators.{op_of}
+use Rattle.lf_signature.specs.declared.WordSignature.TheVariants.{Sigma3}
 use Rattle.lf_signature.specs.Numbers.{rel_of}
 use Rattle.lf_signature.specs.Terms.{pf}
-use Rattle.lf_signature.specs.Sigma1.{declared, is_word, calc_type, fact_type, deny_type}
+use Rattle.lf_signature.specs.Constants.{declared, op_in, is_word, calc_type, fact_type, deny_type}
 use Rattle.proof_kit.specs.Constants.{IsEvaluation}
 
 -- what may be a proof, or nothing, is the proof of a formula where it is something
@@ -17,8 +20,8 @@ guarded : (b : Bool) (g a : Tree) → cond b (Some (pf g)) None ≡ Some a → (
 guarded true g a e = (g, sym (some_injective e))
 guarded false g a e = cc
 
-pub evaluation_pf : (c : Const) (a : Tree) → IsEvaluation c → declared c ≡ Some a → (f : Tree) × (a ≡ pf f)
-evaluation_pf (Calc o x y) a h e = by_op (op_of o) e
+pub evaluation_pf : (c : Const) (a : Tree) → IsEvaluation c → declared Sigma3 c ≡ Some a → (f : Tree) × (a ≡ pf f)
+evaluation_pf (Calc o x y) a h e = by_op (op_in Sigma3 o) e
   where
     by_op : (p : Option Op) → bind p (λ p. cond (is_word x && is_word y) (Some (calc_type p x y)) None) ≡ Some a → (f : Tree) × (a ≡ pf f)
     by_op (Some p) e = guarded (is_word x && is_word y) _ a e
@@ -35,9 +38,29 @@ evaluation_pf (Deny r x y) a h e = by_rel (rel_of r) e
     by_rel None e = cc
 evaluation_pf (Num n) a h e = elim h [ ]
 evaluation_pf (Lit w) a h e = elim h [ ]
+evaluation_pf (Lemma n) a h e = elim h [ ]
 
 pub goal_of : (p g f : Tree) → TApp p g ≡ pf f → pf f ≡ pf g
 goal_of p g f e = same e
   where
     same : TApp p g ≡ pf f → pf f ≡ pf g
     same e = cc
+
+-- a node that is no applied family isn't the proofs of a formula
+pub not_proofs : (t : TableView) (node : Node) (f : Tree) → ((p a : ℕ) → node ≡ N.TApp p a → ⊥) → node_tree t node ≡ pf f → ⊥
+not_proofs t (N.Var n) f h e = cc
+not_proofs t (N.Const n) f h e = cc
+not_proofs t (N.Lit w) f h e = cc
+not_proofs t (N.Calc o x y) f h e = cc
+not_proofs t (N.Fact r x y) f h e = cc
+not_proofs t (N.Deny r x y) f h e = cc
+not_proofs t (N.Lemma n) f h e = cc
+not_proofs t (N.App g a) f h e = cc
+not_proofs t (N.Lam b) f h e = cc
+not_proofs t (N.Fam a) f h e = cc
+not_proofs t (N.TApp p a) f h e = h p a refl
+not_proofs t (N.Pi a b) f h e = cc
+
+pub stands-more : (t u : TableView) (o : Option Tree) (k : Option ℕ) → Extends t u → Stands t o k → Stands u o k
+stands-more t u o None x h = h
+stands-more t u o (Some id) x h = (omega (arith, h.0, x.longer), h.1 ∙ ap Some (sym (x.same id h.0)))

@@ -5,7 +5,6 @@
 
 ghost use Rattle.std.specs.Prelude.{◌≡◌, [], ◌∷◌, IfOk};
 ghost use Rattle.term_table.specs.Table.{AllKnown, Extends};
-ghost use Rattle.lf_signature.specs.Sigma1.{declared};
 ghost use Rattle.lf_check.specs.Kept.{AreKept};
 ghost use Rattle.lf_sequents.specs.Sequents.{AreSequents};
 ghost use Rattle.lf_sequents.specs.Answers.{IsRuleAnswer};
@@ -17,255 +16,290 @@ use lf_rules::numbers::{
     BIS_ZERO_L, SLL_AL, SUB_ADD, SUB_NEG,
 };
 use lf_sequents::{Sequent, by_rule};
+use lf_signature::Known;
 use std::alloc::{AllocError, Global};
 use term_table::{Id, Table};
 
 /// Sums commute.
 ///
 /// `add_comm a b ; |- (eq (add a b) (add b a))`
-pub fn add_comm(
+pub fn add_comm<S: Known>(
     alloc: Global,
     table: &mut Table,
+    sig: &S,
     kept: &mut Kept,
     hyps: &[Id],
     a: Id,
     b: Id,
 ) -> Result<Option<Sequent>, AllocError>
+    requires holds { S.Signature.holds sig.now table.old }
     requires hyps { AllKnown table.old hyps.now }
     requires params { AllKnown table.old (a ∷ b ∷ []) }
-    requires kept { AreKept declared table.old kept.old }
-    ensures exact { IfOk result (IsRuleAnswer ADD_COMM table.old table.new hyps.now
+    requires kept { AreKept (S.Signature.declares sig.now table.old) table.old kept.old }
+    ensures exact { let sig = S.Signature.declares sig.now table.old in
+        IfOk result (IsRuleAnswer ADD_COMM sig table.old table.new hyps.now
         (a ∷ b ∷ []) []) }
     ensures extends { Extends table.old table.new }
-    ensures kept { AreKept declared table.new kept.new }
+    ensures kept { AreKept (S.Signature.declares sig.now table.new) table.new kept.new }
 {
-    by_rule(alloc, table, kept, hyps, ADD_COMM, &[a, b], &[])
+    by_rule(alloc, table, sig, kept, hyps, ADD_COMM, &[a, b], &[])
 }
 
 /// Sums associate.
 ///
 /// `add_assoc a b c ; |- (eq (add (add a b) c) (add a (add b c)))`
-pub fn add_assoc(
+pub fn add_assoc<S: Known>(
     alloc: Global,
     table: &mut Table,
+    sig: &S,
     kept: &mut Kept,
     hyps: &[Id],
     a: Id,
     b: Id,
     c: Id,
 ) -> Result<Option<Sequent>, AllocError>
+    requires holds { S.Signature.holds sig.now table.old }
     requires hyps { AllKnown table.old hyps.now }
     requires params { AllKnown table.old (a ∷ b ∷ c ∷ []) }
-    requires kept { AreKept declared table.old kept.old }
-    ensures exact { IfOk result (IsRuleAnswer ADD_ASSOC table.old table.new hyps.now
+    requires kept { AreKept (S.Signature.declares sig.now table.old) table.old kept.old }
+    ensures exact { let sig = S.Signature.declares sig.now table.old in
+        IfOk result (IsRuleAnswer ADD_ASSOC sig table.old table.new hyps.now
         (a ∷ b ∷ c ∷ []) []) }
     ensures extends { Extends table.old table.new }
-    ensures kept { AreKept declared table.new kept.new }
+    ensures kept { AreKept (S.Signature.declares sig.now table.new) table.new kept.new }
 {
-    by_rule(alloc, table, kept, hyps, ADD_ASSOC, &[a, b, c], &[])
+    by_rule(alloc, table, sig, kept, hyps, ADD_ASSOC, &[a, b, c], &[])
 }
 
 /// 0 adds nothing.
 ///
 /// `add_zero a ; |- (eq (add a 0) a)`
-pub fn add_zero(
+pub fn add_zero<S: Known>(
     alloc: Global,
     table: &mut Table,
+    sig: &S,
     kept: &mut Kept,
     hyps: &[Id],
     a: Id,
 ) -> Result<Option<Sequent>, AllocError>
+    requires holds { S.Signature.holds sig.now table.old }
     requires hyps { AllKnown table.old hyps.now }
     requires params { AllKnown table.old (a ∷ []) }
-    requires kept { AreKept declared table.old kept.old }
-    ensures exact { IfOk result (IsRuleAnswer ADD_ZERO table.old table.new hyps.now
+    requires kept { AreKept (S.Signature.declares sig.now table.old) table.old kept.old }
+    ensures exact { let sig = S.Signature.declares sig.now table.old in
+        IfOk result (IsRuleAnswer ADD_ZERO sig table.old table.new hyps.now
         (a ∷ []) []) }
     ensures extends { Extends table.old table.new }
-    ensures kept { AreKept declared table.new kept.new }
+    ensures kept { AreKept (S.Signature.declares sig.now table.new) table.new kept.new }
 {
-    by_rule(alloc, table, kept, hyps, ADD_ZERO, &[a], &[])
+    by_rule(alloc, table, sig, kept, hyps, ADD_ZERO, &[a], &[])
 }
 
 /// What was taken away comes back.
 ///
 /// `sub_add a b ; |- (eq (add (sub a b) b) a)`
-pub fn sub_add(
+pub fn sub_add<S: Known>(
     alloc: Global,
     table: &mut Table,
+    sig: &S,
     kept: &mut Kept,
     hyps: &[Id],
     a: Id,
     b: Id,
 ) -> Result<Option<Sequent>, AllocError>
+    requires holds { S.Signature.holds sig.now table.old }
     requires hyps { AllKnown table.old hyps.now }
     requires params { AllKnown table.old (a ∷ b ∷ []) }
-    requires kept { AreKept declared table.old kept.old }
-    ensures exact { IfOk result (IsRuleAnswer SUB_ADD table.old table.new hyps.now
+    requires kept { AreKept (S.Signature.declares sig.now table.old) table.old kept.old }
+    ensures exact { let sig = S.Signature.declares sig.now table.old in
+        IfOk result (IsRuleAnswer SUB_ADD sig table.old table.new hyps.now
         (a ∷ b ∷ []) []) }
     ensures extends { Extends table.old table.new }
-    ensures kept { AreKept declared table.new kept.new }
+    ensures kept { AreKept (S.Signature.declares sig.now table.new) table.new kept.new }
 {
-    by_rule(alloc, table, kept, hyps, SUB_ADD, &[a, b], &[])
+    by_rule(alloc, table, sig, kept, hyps, SUB_ADD, &[a, b], &[])
 }
 
 /// A difference is a sum with the negated word.
 ///
 /// `sub_neg a b ; |- (eq (sub a b) (add a (sub 0 b)))`
-pub fn sub_neg(
+pub fn sub_neg<S: Known>(
     alloc: Global,
     table: &mut Table,
+    sig: &S,
     kept: &mut Kept,
     hyps: &[Id],
     a: Id,
     b: Id,
 ) -> Result<Option<Sequent>, AllocError>
+    requires holds { S.Signature.holds sig.now table.old }
     requires hyps { AllKnown table.old hyps.now }
     requires params { AllKnown table.old (a ∷ b ∷ []) }
-    requires kept { AreKept declared table.old kept.old }
-    ensures exact { IfOk result (IsRuleAnswer SUB_NEG table.old table.new hyps.now
+    requires kept { AreKept (S.Signature.declares sig.now table.old) table.old kept.old }
+    ensures exact { let sig = S.Signature.declares sig.now table.old in
+        IfOk result (IsRuleAnswer SUB_NEG sig table.old table.new hyps.now
         (a ∷ b ∷ []) []) }
     ensures extends { Extends table.old table.new }
-    ensures kept { AreKept declared table.new kept.new }
+    ensures kept { AreKept (S.Signature.declares sig.now table.new) table.new kept.new }
 {
-    by_rule(alloc, table, kept, hyps, SUB_NEG, &[a, b], &[])
+    by_rule(alloc, table, sig, kept, hyps, SUB_NEG, &[a, b], &[])
 }
 
 /// Bitwise and commutes.
 ///
 /// `and_comm a b ; |- (eq (band a b) (band b a))`
-pub fn and_comm(
+pub fn and_comm<S: Known>(
     alloc: Global,
     table: &mut Table,
+    sig: &S,
     kept: &mut Kept,
     hyps: &[Id],
     a: Id,
     b: Id,
 ) -> Result<Option<Sequent>, AllocError>
+    requires holds { S.Signature.holds sig.now table.old }
     requires hyps { AllKnown table.old hyps.now }
     requires params { AllKnown table.old (a ∷ b ∷ []) }
-    requires kept { AreKept declared table.old kept.old }
-    ensures exact { IfOk result (IsRuleAnswer AND_COMM table.old table.new hyps.now
+    requires kept { AreKept (S.Signature.declares sig.now table.old) table.old kept.old }
+    ensures exact { let sig = S.Signature.declares sig.now table.old in
+        IfOk result (IsRuleAnswer AND_COMM sig table.old table.new hyps.now
         (a ∷ b ∷ []) []) }
     ensures extends { Extends table.old table.new }
-    ensures kept { AreKept declared table.new kept.new }
+    ensures kept { AreKept (S.Signature.declares sig.now table.new) table.new kept.new }
 {
-    by_rule(alloc, table, kept, hyps, AND_COMM, &[a, b], &[])
+    by_rule(alloc, table, sig, kept, hyps, AND_COMM, &[a, b], &[])
 }
 
 /// Bitwise and associates.
 ///
 /// `and_assoc a b c ; |- (eq (band (band a b) c) (band a (band b c)))`
-pub fn and_assoc(
+pub fn and_assoc<S: Known>(
     alloc: Global,
     table: &mut Table,
+    sig: &S,
     kept: &mut Kept,
     hyps: &[Id],
     a: Id,
     b: Id,
     c: Id,
 ) -> Result<Option<Sequent>, AllocError>
+    requires holds { S.Signature.holds sig.now table.old }
     requires hyps { AllKnown table.old hyps.now }
     requires params { AllKnown table.old (a ∷ b ∷ c ∷ []) }
-    requires kept { AreKept declared table.old kept.old }
-    ensures exact { IfOk result (IsRuleAnswer AND_ASSOC table.old table.new hyps.now
+    requires kept { AreKept (S.Signature.declares sig.now table.old) table.old kept.old }
+    ensures exact { let sig = S.Signature.declares sig.now table.old in
+        IfOk result (IsRuleAnswer AND_ASSOC sig table.old table.new hyps.now
         (a ∷ b ∷ c ∷ []) []) }
     ensures extends { Extends table.old table.new }
-    ensures kept { AreKept declared table.new kept.new }
+    ensures kept { AreKept (S.Signature.declares sig.now table.new) table.new kept.new }
 {
-    by_rule(alloc, table, kept, hyps, AND_ASSOC, &[a, b, c], &[])
+    by_rule(alloc, table, sig, kept, hyps, AND_ASSOC, &[a, b, c], &[])
 }
 
 /// Bitwise and with 0 is 0.
 ///
 /// `and_zero a ; |- (eq (band a 0) 0)`
-pub fn and_zero(
+pub fn and_zero<S: Known>(
     alloc: Global,
     table: &mut Table,
+    sig: &S,
     kept: &mut Kept,
     hyps: &[Id],
     a: Id,
 ) -> Result<Option<Sequent>, AllocError>
+    requires holds { S.Signature.holds sig.now table.old }
     requires hyps { AllKnown table.old hyps.now }
     requires params { AllKnown table.old (a ∷ []) }
-    requires kept { AreKept declared table.old kept.old }
-    ensures exact { IfOk result (IsRuleAnswer AND_ZERO table.old table.new hyps.now
+    requires kept { AreKept (S.Signature.declares sig.now table.old) table.old kept.old }
+    ensures exact { let sig = S.Signature.declares sig.now table.old in
+        IfOk result (IsRuleAnswer AND_ZERO sig table.old table.new hyps.now
         (a ∷ []) []) }
     ensures extends { Extends table.old table.new }
-    ensures kept { AreKept declared table.new kept.new }
+    ensures kept { AreKept (S.Signature.declares sig.now table.new) table.new kept.new }
 {
-    by_rule(alloc, table, kept, hyps, AND_ZERO, &[a], &[])
+    by_rule(alloc, table, sig, kept, hyps, AND_ZERO, &[a], &[])
 }
 
 /// Bitwise and is at most its right side.
 ///
 /// `and_le a b ; |- (ule (band a b) b)`
-pub fn and_le(
+pub fn and_le<S: Known>(
     alloc: Global,
     table: &mut Table,
+    sig: &S,
     kept: &mut Kept,
     hyps: &[Id],
     a: Id,
     b: Id,
 ) -> Result<Option<Sequent>, AllocError>
+    requires holds { S.Signature.holds sig.now table.old }
     requires hyps { AllKnown table.old hyps.now }
     requires params { AllKnown table.old (a ∷ b ∷ []) }
-    requires kept { AreKept declared table.old kept.old }
-    ensures exact { IfOk result (IsRuleAnswer AND_LE table.old table.new hyps.now
+    requires kept { AreKept (S.Signature.declares sig.now table.old) table.old kept.old }
+    ensures exact { let sig = S.Signature.declares sig.now table.old in
+        IfOk result (IsRuleAnswer AND_LE sig table.old table.new hyps.now
         (a ∷ b ∷ []) []) }
     ensures extends { Extends table.old table.new }
-    ensures kept { AreKept declared table.new kept.new }
+    ensures kept { AreKept (S.Signature.declares sig.now table.new) table.new kept.new }
 {
-    by_rule(alloc, table, kept, hyps, AND_LE, &[a, b], &[])
+    by_rule(alloc, table, sig, kept, hyps, AND_LE, &[a, b], &[])
 }
 
 /// Bitwise or with 0 on the right.
 ///
 /// `bis_zero a ; |- (eq (bis a 0) a)`
-pub fn bis_zero(
+pub fn bis_zero<S: Known>(
     alloc: Global,
     table: &mut Table,
+    sig: &S,
     kept: &mut Kept,
     hyps: &[Id],
     a: Id,
 ) -> Result<Option<Sequent>, AllocError>
+    requires holds { S.Signature.holds sig.now table.old }
     requires hyps { AllKnown table.old hyps.now }
     requires params { AllKnown table.old (a ∷ []) }
-    requires kept { AreKept declared table.old kept.old }
-    ensures exact { IfOk result (IsRuleAnswer BIS_ZERO table.old table.new hyps.now
+    requires kept { AreKept (S.Signature.declares sig.now table.old) table.old kept.old }
+    ensures exact { let sig = S.Signature.declares sig.now table.old in
+        IfOk result (IsRuleAnswer BIS_ZERO sig table.old table.new hyps.now
         (a ∷ []) []) }
     ensures extends { Extends table.old table.new }
-    ensures kept { AreKept declared table.new kept.new }
+    ensures kept { AreKept (S.Signature.declares sig.now table.new) table.new kept.new }
 {
-    by_rule(alloc, table, kept, hyps, BIS_ZERO, &[a], &[])
+    by_rule(alloc, table, sig, kept, hyps, BIS_ZERO, &[a], &[])
 }
 
 /// Bitwise or with 0 on the left.
 ///
 /// `bis_zero_l a ; |- (eq (bis 0 a) a)`
-pub fn bis_zero_l(
+pub fn bis_zero_l<S: Known>(
     alloc: Global,
     table: &mut Table,
+    sig: &S,
     kept: &mut Kept,
     hyps: &[Id],
     a: Id,
 ) -> Result<Option<Sequent>, AllocError>
+    requires holds { S.Signature.holds sig.now table.old }
     requires hyps { AllKnown table.old hyps.now }
     requires params { AllKnown table.old (a ∷ []) }
-    requires kept { AreKept declared table.old kept.old }
-    ensures exact { IfOk result (IsRuleAnswer BIS_ZERO_L table.old table.new hyps.now
+    requires kept { AreKept (S.Signature.declares sig.now table.old) table.old kept.old }
+    ensures exact { let sig = S.Signature.declares sig.now table.old in
+        IfOk result (IsRuleAnswer BIS_ZERO_L sig table.old table.new hyps.now
         (a ∷ []) []) }
     ensures extends { Extends table.old table.new }
-    ensures kept { AreKept declared table.new kept.new }
+    ensures kept { AreKept (S.Signature.declares sig.now table.new) table.new kept.new }
 {
-    by_rule(alloc, table, kept, hyps, BIS_ZERO_L, &[a], &[])
+    by_rule(alloc, table, sig, kept, hyps, BIS_ZERO_L, &[a], &[])
 }
 
 /// The sum of two multiples of 8 is one.
 ///
 /// `add_al a b ; (eq (band a 7) 0), (eq (band b 7) 0) |- (eq (band (add a b) 7) 0)`
-pub fn add_al(
+pub fn add_al<S: Known>(
     alloc: Global,
     table: &mut Table,
+    sig: &S,
     kept: &mut Kept,
     hyps: &[Id],
     a: Id,
@@ -273,35 +307,41 @@ pub fn add_al(
     p: &Sequent,
     q: &Sequent,
 ) -> Result<Option<Sequent>, AllocError>
+    requires holds { S.Signature.holds sig.now table.old }
     requires hyps { AllKnown table.old hyps.now }
     requires params { AllKnown table.old (a ∷ b ∷ []) }
-    requires premises { AreSequents table.old (p.now ∷ q.now ∷ []) }
-    requires kept { AreKept declared table.old kept.old }
-    ensures exact { IfOk result (IsRuleAnswer ADD_AL table.old table.new hyps.now
+    requires premises { AreSequents (S.Signature.declares sig.now table.old) table.old
+        (p.now ∷ q.now ∷ []) }
+    requires kept { AreKept (S.Signature.declares sig.now table.old) table.old kept.old }
+    ensures exact { let sig = S.Signature.declares sig.now table.old in
+        IfOk result (IsRuleAnswer ADD_AL sig table.old table.new hyps.now
         (a ∷ b ∷ []) (p.now ∷ q.now ∷ [])) }
     ensures extends { Extends table.old table.new }
-    ensures kept { AreKept declared table.new kept.new }
+    ensures kept { AreKept (S.Signature.declares sig.now table.new) table.new kept.new }
 {
-    by_rule(alloc, table, kept, hyps, ADD_AL, &[a, b], &[p, q])
+    by_rule(alloc, table, sig, kept, hyps, ADD_AL, &[a, b], &[p, q])
 }
 
 /// A word shifted left by 3 is a multiple of 8.
 ///
 /// `sll_al a ; |- (eq (band (sll a 3) 7) 0)`
-pub fn sll_al(
+pub fn sll_al<S: Known>(
     alloc: Global,
     table: &mut Table,
+    sig: &S,
     kept: &mut Kept,
     hyps: &[Id],
     a: Id,
 ) -> Result<Option<Sequent>, AllocError>
+    requires holds { S.Signature.holds sig.now table.old }
     requires hyps { AllKnown table.old hyps.now }
     requires params { AllKnown table.old (a ∷ []) }
-    requires kept { AreKept declared table.old kept.old }
-    ensures exact { IfOk result (IsRuleAnswer SLL_AL table.old table.new hyps.now
+    requires kept { AreKept (S.Signature.declares sig.now table.old) table.old kept.old }
+    ensures exact { let sig = S.Signature.declares sig.now table.old in
+        IfOk result (IsRuleAnswer SLL_AL sig table.old table.new hyps.now
         (a ∷ []) []) }
     ensures extends { Extends table.old table.new }
-    ensures kept { AreKept declared table.new kept.new }
+    ensures kept { AreKept (S.Signature.declares sig.now table.new) table.new kept.new }
 {
-    by_rule(alloc, table, kept, hyps, SLL_AL, &[a], &[])
+    by_rule(alloc, table, sig, kept, hyps, SLL_AL, &[a], &[])
 }

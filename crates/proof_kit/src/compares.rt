@@ -5,7 +5,6 @@
 
 ghost use Rattle.std.specs.Prelude.{◌≡◌, ◌≤◌, [], ◌∷◌, IfOk};
 ghost use Rattle.term_table.specs.Table.{AllKnown, Extends};
-ghost use Rattle.lf_signature.specs.Sigma1.{declared};
 ghost use Rattle.lf_check.specs.Kept.{AreKept};
 ghost use Rattle.lf_sequents.specs.Sequents.{AreSequents};
 ghost use Rattle.proof_kit.specs.Pairs.{of_pair, IsPairAnswer};
@@ -14,6 +13,7 @@ ghost use Rattle.lf_rules.specs.declared.numbers.TheConstants.{CMP_LE1, CMP_NO, 
 use lf_check::Kept;
 use lf_rules::numbers::{CMP_LE1, CMP_NO, CMP_YES};
 use lf_sequents::{Sequent, by_rule};
+use lf_signature::Known;
 use std::alloc::{AllocError, Global};
 use term_table::{Id, Table};
 
@@ -31,9 +31,10 @@ fn of_pair(first: u32, pair: u32) -> Option<u32>
 ///
 /// `pair` is 0 to 4, for cmpeq and eq, cmplt and slt, cmple and sle, cmpult and ult, cmpule and ule;
 /// a greater one hasn't the rule's form.
-pub fn cmp_yes(
+pub fn cmp_yes<S: Known>(
     alloc: Global,
     table: &mut Table,
+    sig: &S,
     kept: &mut Kept,
     hyps: &[Id],
     pair: u32,
@@ -41,17 +42,20 @@ pub fn cmp_yes(
     b: Id,
     p: &Sequent,
 ) -> Result<Option<Sequent>, AllocError>
+    requires holds { S.Signature.holds sig.now table.old }
     requires hyps { AllKnown table.old hyps.now }
     requires params { AllKnown table.old (a ∷ b ∷ []) }
-    requires premises { AreSequents table.old (p.now ∷ []) }
-    requires kept { AreKept declared table.old kept.old }
-    ensures exact { IfOk result (IsPairAnswer (of_pair CMP_YES pair) table.old table.new hyps.now
+    requires premises { AreSequents (S.Signature.declares sig.now table.old) table.old
+        (p.now ∷ []) }
+    requires kept { AreKept (S.Signature.declares sig.now table.old) table.old kept.old }
+    ensures exact { let sig = S.Signature.declares sig.now table.old in
+        IfOk result (IsPairAnswer (of_pair CMP_YES pair) sig table.old table.new hyps.now
         (a ∷ b ∷ []) (p.now ∷ [])) }
     ensures extends { Extends table.old table.new }
-    ensures kept { AreKept declared table.new kept.new }
+    ensures kept { AreKept (S.Signature.declares sig.now table.new) table.new kept.new }
 {
     match of_pair(CMP_YES, pair) {
-        Some(number) => by_rule(alloc, table, kept, hyps, number, &[a, b], &[p]),
+        Some(number) => by_rule(alloc, table, sig, kept, hyps, number, &[a, b], &[p]),
         None => Ok(None),
     }
 }
@@ -62,9 +66,10 @@ pub fn cmp_yes(
 ///
 /// `pair` is 0 to 4, for cmpeq and eq, cmplt and slt, cmple and sle, cmpult and ult, cmpule and ule;
 /// a greater one hasn't the rule's form.
-pub fn cmp_no(
+pub fn cmp_no<S: Known>(
     alloc: Global,
     table: &mut Table,
+    sig: &S,
     kept: &mut Kept,
     hyps: &[Id],
     pair: u32,
@@ -72,17 +77,20 @@ pub fn cmp_no(
     b: Id,
     p: &Sequent,
 ) -> Result<Option<Sequent>, AllocError>
+    requires holds { S.Signature.holds sig.now table.old }
     requires hyps { AllKnown table.old hyps.now }
     requires params { AllKnown table.old (a ∷ b ∷ []) }
-    requires premises { AreSequents table.old (p.now ∷ []) }
-    requires kept { AreKept declared table.old kept.old }
-    ensures exact { IfOk result (IsPairAnswer (of_pair CMP_NO pair) table.old table.new hyps.now
+    requires premises { AreSequents (S.Signature.declares sig.now table.old) table.old
+        (p.now ∷ []) }
+    requires kept { AreKept (S.Signature.declares sig.now table.old) table.old kept.old }
+    ensures exact { let sig = S.Signature.declares sig.now table.old in
+        IfOk result (IsPairAnswer (of_pair CMP_NO pair) sig table.old table.new hyps.now
         (a ∷ b ∷ []) (p.now ∷ [])) }
     ensures extends { Extends table.old table.new }
-    ensures kept { AreKept declared table.new kept.new }
+    ensures kept { AreKept (S.Signature.declares sig.now table.new) table.new kept.new }
 {
     match of_pair(CMP_NO, pair) {
-        Some(number) => by_rule(alloc, table, kept, hyps, number, &[a, b], &[p]),
+        Some(number) => by_rule(alloc, table, sig, kept, hyps, number, &[a, b], &[p]),
         None => Ok(None),
     }
 }
@@ -93,25 +101,28 @@ pub fn cmp_no(
 ///
 /// `pair` is 0 to 4, for cmpeq and eq, cmplt and slt, cmple and sle, cmpult and ult, cmpule and ule;
 /// a greater one hasn't the rule's form.
-pub fn cmp_le1(
+pub fn cmp_le1<S: Known>(
     alloc: Global,
     table: &mut Table,
+    sig: &S,
     kept: &mut Kept,
     hyps: &[Id],
     pair: u32,
     a: Id,
     b: Id,
 ) -> Result<Option<Sequent>, AllocError>
+    requires holds { S.Signature.holds sig.now table.old }
     requires hyps { AllKnown table.old hyps.now }
     requires params { AllKnown table.old (a ∷ b ∷ []) }
-    requires kept { AreKept declared table.old kept.old }
-    ensures exact { IfOk result (IsPairAnswer (of_pair CMP_LE1 pair) table.old table.new hyps.now
+    requires kept { AreKept (S.Signature.declares sig.now table.old) table.old kept.old }
+    ensures exact { let sig = S.Signature.declares sig.now table.old in
+        IfOk result (IsPairAnswer (of_pair CMP_LE1 pair) sig table.old table.new hyps.now
         (a ∷ b ∷ []) []) }
     ensures extends { Extends table.old table.new }
-    ensures kept { AreKept declared table.new kept.new }
+    ensures kept { AreKept (S.Signature.declares sig.now table.new) table.new kept.new }
 {
     match of_pair(CMP_LE1, pair) {
-        Some(number) => by_rule(alloc, table, kept, hyps, number, &[a, b], &[]),
+        Some(number) => by_rule(alloc, table, sig, kept, hyps, number, &[a, b], &[]),
         None => Ok(None),
     }
 }

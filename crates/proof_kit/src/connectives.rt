@@ -5,7 +5,6 @@
 
 ghost use Rattle.std.specs.Prelude.{◌≡◌, [], ◌∷◌, IfOk};
 ghost use Rattle.term_table.specs.Table.{AllKnown, Extends};
-ghost use Rattle.lf_signature.specs.Sigma1.{declared};
 ghost use Rattle.lf_check.specs.Kept.{AreKept};
 ghost use Rattle.lf_sequents.specs.Sequents.{AreSequents};
 ghost use Rattle.lf_sequents.specs.Answers.{IsRuleAnswer};
@@ -14,57 +13,66 @@ ghost use Rattle.lf_rules.specs.declared.numbers.TheConstants.{AND_I, AND_L, AND
 use lf_check::Kept;
 use lf_rules::numbers::{AND_I, AND_L, AND_R, EM, FF_E, IMP_E, IMP_I, OR_E, OR_L, OR_R, TT_I};
 use lf_sequents::{Sequent, by_rule};
+use lf_signature::Known;
 use std::alloc::{AllocError, Global};
 use term_table::{Id, Table};
 
 /// Truth holds.
 ///
 /// `tt_i ; |- tt`
-pub fn tt_i(
+pub fn tt_i<S: Known>(
     alloc: Global,
     table: &mut Table,
+    sig: &S,
     kept: &mut Kept,
     hyps: &[Id],
 ) -> Result<Option<Sequent>, AllocError>
+    requires holds { S.Signature.holds sig.now table.old }
     requires hyps { AllKnown table.old hyps.now }
-    requires kept { AreKept declared table.old kept.old }
-    ensures exact { IfOk result (IsRuleAnswer TT_I table.old table.new hyps.now
+    requires kept { AreKept (S.Signature.declares sig.now table.old) table.old kept.old }
+    ensures exact { let sig = S.Signature.declares sig.now table.old in
+        IfOk result (IsRuleAnswer TT_I sig table.old table.new hyps.now
         [] []) }
     ensures extends { Extends table.old table.new }
-    ensures kept { AreKept declared table.new kept.new }
+    ensures kept { AreKept (S.Signature.declares sig.now table.new) table.new kept.new }
 {
-    by_rule(alloc, table, kept, hyps, TT_I, &[], &[])
+    by_rule(alloc, table, sig, kept, hyps, TT_I, &[], &[])
 }
 
 /// From falsity follows any formula.
 ///
 /// `ff_e A ; ff |- A`
-pub fn ff_e(
+pub fn ff_e<S: Known>(
     alloc: Global,
     table: &mut Table,
+    sig: &S,
     kept: &mut Kept,
     hyps: &[Id],
     a: Id,
     p: &Sequent,
 ) -> Result<Option<Sequent>, AllocError>
+    requires holds { S.Signature.holds sig.now table.old }
     requires hyps { AllKnown table.old hyps.now }
     requires params { AllKnown table.old (a ∷ []) }
-    requires premises { AreSequents table.old (p.now ∷ []) }
-    requires kept { AreKept declared table.old kept.old }
-    ensures exact { IfOk result (IsRuleAnswer FF_E table.old table.new hyps.now
+    requires premises { AreSequents (S.Signature.declares sig.now table.old) table.old
+        (p.now ∷ []) }
+    requires kept { AreKept (S.Signature.declares sig.now table.old) table.old kept.old }
+    ensures exact { let sig = S.Signature.declares sig.now table.old in
+        IfOk result (IsRuleAnswer FF_E sig table.old table.new hyps.now
         (a ∷ []) (p.now ∷ [])) }
     ensures extends { Extends table.old table.new }
-    ensures kept { AreKept declared table.new kept.new }
+    ensures kept { AreKept (S.Signature.declares sig.now table.new) table.new kept.new }
 {
-    by_rule(alloc, table, kept, hyps, FF_E, &[a], &[p])
+    by_rule(alloc, table, sig, kept, hyps, FF_E, &[a], &[p])
 }
 
 /// Two proofs give one of both.
 ///
 /// `and_i A B ; A, B |- (and A B)`
-pub fn and_i(
+pub fn and_i<S: Known>(
     alloc: Global,
     table: &mut Table,
+    sig: &S,
     kept: &mut Kept,
     hyps: &[Id],
     a: Id,
@@ -72,120 +80,140 @@ pub fn and_i(
     p: &Sequent,
     q: &Sequent,
 ) -> Result<Option<Sequent>, AllocError>
+    requires holds { S.Signature.holds sig.now table.old }
     requires hyps { AllKnown table.old hyps.now }
     requires params { AllKnown table.old (a ∷ b ∷ []) }
-    requires premises { AreSequents table.old (p.now ∷ q.now ∷ []) }
-    requires kept { AreKept declared table.old kept.old }
-    ensures exact { IfOk result (IsRuleAnswer AND_I table.old table.new hyps.now
+    requires premises { AreSequents (S.Signature.declares sig.now table.old) table.old
+        (p.now ∷ q.now ∷ []) }
+    requires kept { AreKept (S.Signature.declares sig.now table.old) table.old kept.old }
+    ensures exact { let sig = S.Signature.declares sig.now table.old in
+        IfOk result (IsRuleAnswer AND_I sig table.old table.new hyps.now
         (a ∷ b ∷ []) (p.now ∷ q.now ∷ [])) }
     ensures extends { Extends table.old table.new }
-    ensures kept { AreKept declared table.new kept.new }
+    ensures kept { AreKept (S.Signature.declares sig.now table.new) table.new kept.new }
 {
-    by_rule(alloc, table, kept, hyps, AND_I, &[a, b], &[p, q])
+    by_rule(alloc, table, sig, kept, hyps, AND_I, &[a, b], &[p, q])
 }
 
 /// The left of both.
 ///
 /// `and_l A B ; (and A B) |- A`
-pub fn and_l(
+pub fn and_l<S: Known>(
     alloc: Global,
     table: &mut Table,
+    sig: &S,
     kept: &mut Kept,
     hyps: &[Id],
     a: Id,
     b: Id,
     p: &Sequent,
 ) -> Result<Option<Sequent>, AllocError>
+    requires holds { S.Signature.holds sig.now table.old }
     requires hyps { AllKnown table.old hyps.now }
     requires params { AllKnown table.old (a ∷ b ∷ []) }
-    requires premises { AreSequents table.old (p.now ∷ []) }
-    requires kept { AreKept declared table.old kept.old }
-    ensures exact { IfOk result (IsRuleAnswer AND_L table.old table.new hyps.now
+    requires premises { AreSequents (S.Signature.declares sig.now table.old) table.old
+        (p.now ∷ []) }
+    requires kept { AreKept (S.Signature.declares sig.now table.old) table.old kept.old }
+    ensures exact { let sig = S.Signature.declares sig.now table.old in
+        IfOk result (IsRuleAnswer AND_L sig table.old table.new hyps.now
         (a ∷ b ∷ []) (p.now ∷ [])) }
     ensures extends { Extends table.old table.new }
-    ensures kept { AreKept declared table.new kept.new }
+    ensures kept { AreKept (S.Signature.declares sig.now table.new) table.new kept.new }
 {
-    by_rule(alloc, table, kept, hyps, AND_L, &[a, b], &[p])
+    by_rule(alloc, table, sig, kept, hyps, AND_L, &[a, b], &[p])
 }
 
 /// The right of both.
 ///
 /// `and_r A B ; (and A B) |- B`
-pub fn and_r(
+pub fn and_r<S: Known>(
     alloc: Global,
     table: &mut Table,
+    sig: &S,
     kept: &mut Kept,
     hyps: &[Id],
     a: Id,
     b: Id,
     p: &Sequent,
 ) -> Result<Option<Sequent>, AllocError>
+    requires holds { S.Signature.holds sig.now table.old }
     requires hyps { AllKnown table.old hyps.now }
     requires params { AllKnown table.old (a ∷ b ∷ []) }
-    requires premises { AreSequents table.old (p.now ∷ []) }
-    requires kept { AreKept declared table.old kept.old }
-    ensures exact { IfOk result (IsRuleAnswer AND_R table.old table.new hyps.now
+    requires premises { AreSequents (S.Signature.declares sig.now table.old) table.old
+        (p.now ∷ []) }
+    requires kept { AreKept (S.Signature.declares sig.now table.old) table.old kept.old }
+    ensures exact { let sig = S.Signature.declares sig.now table.old in
+        IfOk result (IsRuleAnswer AND_R sig table.old table.new hyps.now
         (a ∷ b ∷ []) (p.now ∷ [])) }
     ensures extends { Extends table.old table.new }
-    ensures kept { AreKept declared table.new kept.new }
+    ensures kept { AreKept (S.Signature.declares sig.now table.new) table.new kept.new }
 {
-    by_rule(alloc, table, kept, hyps, AND_R, &[a, b], &[p])
+    by_rule(alloc, table, sig, kept, hyps, AND_R, &[a, b], &[p])
 }
 
 /// One of two, from the left.
 ///
 /// `or_l A B ; A |- (or A B)`
-pub fn or_l(
+pub fn or_l<S: Known>(
     alloc: Global,
     table: &mut Table,
+    sig: &S,
     kept: &mut Kept,
     hyps: &[Id],
     a: Id,
     b: Id,
     p: &Sequent,
 ) -> Result<Option<Sequent>, AllocError>
+    requires holds { S.Signature.holds sig.now table.old }
     requires hyps { AllKnown table.old hyps.now }
     requires params { AllKnown table.old (a ∷ b ∷ []) }
-    requires premises { AreSequents table.old (p.now ∷ []) }
-    requires kept { AreKept declared table.old kept.old }
-    ensures exact { IfOk result (IsRuleAnswer OR_L table.old table.new hyps.now
+    requires premises { AreSequents (S.Signature.declares sig.now table.old) table.old
+        (p.now ∷ []) }
+    requires kept { AreKept (S.Signature.declares sig.now table.old) table.old kept.old }
+    ensures exact { let sig = S.Signature.declares sig.now table.old in
+        IfOk result (IsRuleAnswer OR_L sig table.old table.new hyps.now
         (a ∷ b ∷ []) (p.now ∷ [])) }
     ensures extends { Extends table.old table.new }
-    ensures kept { AreKept declared table.new kept.new }
+    ensures kept { AreKept (S.Signature.declares sig.now table.new) table.new kept.new }
 {
-    by_rule(alloc, table, kept, hyps, OR_L, &[a, b], &[p])
+    by_rule(alloc, table, sig, kept, hyps, OR_L, &[a, b], &[p])
 }
 
 /// One of two, from the right.
 ///
 /// `or_r A B ; B |- (or A B)`
-pub fn or_r(
+pub fn or_r<S: Known>(
     alloc: Global,
     table: &mut Table,
+    sig: &S,
     kept: &mut Kept,
     hyps: &[Id],
     a: Id,
     b: Id,
     p: &Sequent,
 ) -> Result<Option<Sequent>, AllocError>
+    requires holds { S.Signature.holds sig.now table.old }
     requires hyps { AllKnown table.old hyps.now }
     requires params { AllKnown table.old (a ∷ b ∷ []) }
-    requires premises { AreSequents table.old (p.now ∷ []) }
-    requires kept { AreKept declared table.old kept.old }
-    ensures exact { IfOk result (IsRuleAnswer OR_R table.old table.new hyps.now
+    requires premises { AreSequents (S.Signature.declares sig.now table.old) table.old
+        (p.now ∷ []) }
+    requires kept { AreKept (S.Signature.declares sig.now table.old) table.old kept.old }
+    ensures exact { let sig = S.Signature.declares sig.now table.old in
+        IfOk result (IsRuleAnswer OR_R sig table.old table.new hyps.now
         (a ∷ b ∷ []) (p.now ∷ [])) }
     ensures extends { Extends table.old table.new }
-    ensures kept { AreKept declared table.new kept.new }
+    ensures kept { AreKept (S.Signature.declares sig.now table.new) table.new kept.new }
 {
-    by_rule(alloc, table, kept, hyps, OR_R, &[a, b], &[p])
+    by_rule(alloc, table, sig, kept, hyps, OR_R, &[a, b], &[p])
 }
 
 /// What follows from either follows from one of two.
 ///
 /// `or_e A B C ; (or A B), [A] C, [B] C |- C`
-pub fn or_e(
+pub fn or_e<S: Known>(
     alloc: Global,
     table: &mut Table,
+    sig: &S,
     kept: &mut Kept,
     hyps: &[Id],
     a: Id,
@@ -195,48 +223,56 @@ pub fn or_e(
     q: &Sequent,
     r: &Sequent,
 ) -> Result<Option<Sequent>, AllocError>
+    requires holds { S.Signature.holds sig.now table.old }
     requires hyps { AllKnown table.old hyps.now }
     requires params { AllKnown table.old (a ∷ b ∷ c ∷ []) }
-    requires premises { AreSequents table.old (p.now ∷ q.now ∷ r.now ∷ []) }
-    requires kept { AreKept declared table.old kept.old }
-    ensures exact { IfOk result (IsRuleAnswer OR_E table.old table.new hyps.now
+    requires premises { AreSequents (S.Signature.declares sig.now table.old) table.old
+        (p.now ∷ q.now ∷ r.now ∷ []) }
+    requires kept { AreKept (S.Signature.declares sig.now table.old) table.old kept.old }
+    ensures exact { let sig = S.Signature.declares sig.now table.old in
+        IfOk result (IsRuleAnswer OR_E sig table.old table.new hyps.now
         (a ∷ b ∷ c ∷ []) (p.now ∷ q.now ∷ r.now ∷ [])) }
     ensures extends { Extends table.old table.new }
-    ensures kept { AreKept declared table.new kept.new }
+    ensures kept { AreKept (S.Signature.declares sig.now table.new) table.new kept.new }
 {
-    by_rule(alloc, table, kept, hyps, OR_E, &[a, b, c], &[p, q, r])
+    by_rule(alloc, table, sig, kept, hyps, OR_E, &[a, b, c], &[p, q, r])
 }
 
 /// What is proved under a hypothesis follows from it.
 ///
 /// `imp_i A B ; [A] B |- (imp A B)`
-pub fn imp_i(
+pub fn imp_i<S: Known>(
     alloc: Global,
     table: &mut Table,
+    sig: &S,
     kept: &mut Kept,
     hyps: &[Id],
     a: Id,
     b: Id,
     p: &Sequent,
 ) -> Result<Option<Sequent>, AllocError>
+    requires holds { S.Signature.holds sig.now table.old }
     requires hyps { AllKnown table.old hyps.now }
     requires params { AllKnown table.old (a ∷ b ∷ []) }
-    requires premises { AreSequents table.old (p.now ∷ []) }
-    requires kept { AreKept declared table.old kept.old }
-    ensures exact { IfOk result (IsRuleAnswer IMP_I table.old table.new hyps.now
+    requires premises { AreSequents (S.Signature.declares sig.now table.old) table.old
+        (p.now ∷ []) }
+    requires kept { AreKept (S.Signature.declares sig.now table.old) table.old kept.old }
+    ensures exact { let sig = S.Signature.declares sig.now table.old in
+        IfOk result (IsRuleAnswer IMP_I sig table.old table.new hyps.now
         (a ∷ b ∷ []) (p.now ∷ [])) }
     ensures extends { Extends table.old table.new }
-    ensures kept { AreKept declared table.new kept.new }
+    ensures kept { AreKept (S.Signature.declares sig.now table.new) table.new kept.new }
 {
-    by_rule(alloc, table, kept, hyps, IMP_I, &[a, b], &[p])
+    by_rule(alloc, table, sig, kept, hyps, IMP_I, &[a, b], &[p])
 }
 
 /// What follows from what is proved is proved.
 ///
 /// `imp_e A B ; (imp A B), A |- B`
-pub fn imp_e(
+pub fn imp_e<S: Known>(
     alloc: Global,
     table: &mut Table,
+    sig: &S,
     kept: &mut Kept,
     hyps: &[Id],
     a: Id,
@@ -244,35 +280,41 @@ pub fn imp_e(
     p: &Sequent,
     q: &Sequent,
 ) -> Result<Option<Sequent>, AllocError>
+    requires holds { S.Signature.holds sig.now table.old }
     requires hyps { AllKnown table.old hyps.now }
     requires params { AllKnown table.old (a ∷ b ∷ []) }
-    requires premises { AreSequents table.old (p.now ∷ q.now ∷ []) }
-    requires kept { AreKept declared table.old kept.old }
-    ensures exact { IfOk result (IsRuleAnswer IMP_E table.old table.new hyps.now
+    requires premises { AreSequents (S.Signature.declares sig.now table.old) table.old
+        (p.now ∷ q.now ∷ []) }
+    requires kept { AreKept (S.Signature.declares sig.now table.old) table.old kept.old }
+    ensures exact { let sig = S.Signature.declares sig.now table.old in
+        IfOk result (IsRuleAnswer IMP_E sig table.old table.new hyps.now
         (a ∷ b ∷ []) (p.now ∷ q.now ∷ [])) }
     ensures extends { Extends table.old table.new }
-    ensures kept { AreKept declared table.new kept.new }
+    ensures kept { AreKept (S.Signature.declares sig.now table.new) table.new kept.new }
 {
-    by_rule(alloc, table, kept, hyps, IMP_E, &[a, b], &[p, q])
+    by_rule(alloc, table, sig, kept, hyps, IMP_E, &[a, b], &[p, q])
 }
 
 /// A formula or its denial.
 ///
 /// `em A ; |- (or A (not A))`
-pub fn em(
+pub fn em<S: Known>(
     alloc: Global,
     table: &mut Table,
+    sig: &S,
     kept: &mut Kept,
     hyps: &[Id],
     a: Id,
 ) -> Result<Option<Sequent>, AllocError>
+    requires holds { S.Signature.holds sig.now table.old }
     requires hyps { AllKnown table.old hyps.now }
     requires params { AllKnown table.old (a ∷ []) }
-    requires kept { AreKept declared table.old kept.old }
-    ensures exact { IfOk result (IsRuleAnswer EM table.old table.new hyps.now
+    requires kept { AreKept (S.Signature.declares sig.now table.old) table.old kept.old }
+    ensures exact { let sig = S.Signature.declares sig.now table.old in
+        IfOk result (IsRuleAnswer EM sig table.old table.new hyps.now
         (a ∷ []) []) }
     ensures extends { Extends table.old table.new }
-    ensures kept { AreKept declared table.new kept.new }
+    ensures kept { AreKept (S.Signature.declares sig.now table.new) table.new kept.new }
 {
-    by_rule(alloc, table, kept, hyps, EM, &[a], &[])
+    by_rule(alloc, table, sig, kept, hyps, EM, &[a], &[])
 }

@@ -5,7 +5,6 @@
 
 ghost use Rattle.std.specs.Prelude.{◌≡◌, [], ◌∷◌, IfOk};
 ghost use Rattle.term_table.specs.Table.{AllKnown, Extends};
-ghost use Rattle.lf_signature.specs.Sigma1.{declared};
 ghost use Rattle.lf_check.specs.Kept.{AreKept};
 ghost use Rattle.lf_sequents.specs.Sequents.{AreSequents};
 ghost use Rattle.lf_sequents.specs.Answers.{IsRuleAnswer};
@@ -17,15 +16,17 @@ use lf_rules::numbers::{
     ULE_TRANS, ULT_ULE, ZERO_LE,
 };
 use lf_sequents::{Sequent, by_rule};
+use lf_signature::Known;
 use std::alloc::{AllocError, Global};
 use term_table::{Id, Table};
 
 /// Right shifts keep the order.
 ///
 /// `srl_mono a b c ; (ule a b) |- (ule (srl a c) (srl b c))`
-pub fn srl_mono(
+pub fn srl_mono<S: Known>(
     alloc: Global,
     table: &mut Table,
+    sig: &S,
     kept: &mut Kept,
     hyps: &[Id],
     a: Id,
@@ -33,24 +34,28 @@ pub fn srl_mono(
     c: Id,
     p: &Sequent,
 ) -> Result<Option<Sequent>, AllocError>
+    requires holds { S.Signature.holds sig.now table.old }
     requires hyps { AllKnown table.old hyps.now }
     requires params { AllKnown table.old (a ∷ b ∷ c ∷ []) }
-    requires premises { AreSequents table.old (p.now ∷ []) }
-    requires kept { AreKept declared table.old kept.old }
-    ensures exact { IfOk result (IsRuleAnswer SRL_MONO table.old table.new hyps.now
+    requires premises { AreSequents (S.Signature.declares sig.now table.old) table.old
+        (p.now ∷ []) }
+    requires kept { AreKept (S.Signature.declares sig.now table.old) table.old kept.old }
+    ensures exact { let sig = S.Signature.declares sig.now table.old in
+        IfOk result (IsRuleAnswer SRL_MONO sig table.old table.new hyps.now
         (a ∷ b ∷ c ∷ []) (p.now ∷ [])) }
     ensures extends { Extends table.old table.new }
-    ensures kept { AreKept declared table.new kept.new }
+    ensures kept { AreKept (S.Signature.declares sig.now table.new) table.new kept.new }
 {
-    by_rule(alloc, table, kept, hyps, SRL_MONO, &[a, b, c], &[p])
+    by_rule(alloc, table, sig, kept, hyps, SRL_MONO, &[a, b, c], &[p])
 }
 
 /// Left shifts keep the order where no bit is lost.
 ///
 /// `sll_mono a b c ; (ule a b), (ule b (srl MAX c)) |- (ule (sll a c) (sll b c))`
-pub fn sll_mono(
+pub fn sll_mono<S: Known>(
     alloc: Global,
     table: &mut Table,
+    sig: &S,
     kept: &mut Kept,
     hyps: &[Id],
     a: Id,
@@ -59,87 +64,100 @@ pub fn sll_mono(
     p: &Sequent,
     q: &Sequent,
 ) -> Result<Option<Sequent>, AllocError>
+    requires holds { S.Signature.holds sig.now table.old }
     requires hyps { AllKnown table.old hyps.now }
     requires params { AllKnown table.old (a ∷ b ∷ c ∷ []) }
-    requires premises { AreSequents table.old (p.now ∷ q.now ∷ []) }
-    requires kept { AreKept declared table.old kept.old }
-    ensures exact { IfOk result (IsRuleAnswer SLL_MONO table.old table.new hyps.now
+    requires premises { AreSequents (S.Signature.declares sig.now table.old) table.old
+        (p.now ∷ q.now ∷ []) }
+    requires kept { AreKept (S.Signature.declares sig.now table.old) table.old kept.old }
+    ensures exact { let sig = S.Signature.declares sig.now table.old in
+        IfOk result (IsRuleAnswer SLL_MONO sig table.old table.new hyps.now
         (a ∷ b ∷ c ∷ []) (p.now ∷ q.now ∷ [])) }
     ensures extends { Extends table.old table.new }
-    ensures kept { AreKept declared table.new kept.new }
+    ensures kept { AreKept (S.Signature.declares sig.now table.new) table.new kept.new }
 {
-    by_rule(alloc, table, kept, hyps, SLL_MONO, &[a, b, c], &[p, q])
+    by_rule(alloc, table, sig, kept, hyps, SLL_MONO, &[a, b, c], &[p, q])
 }
 
 /// 0 is least.
 ///
 /// `zero_le a ; |- (ule 0 a)`
-pub fn zero_le(
+pub fn zero_le<S: Known>(
     alloc: Global,
     table: &mut Table,
+    sig: &S,
     kept: &mut Kept,
     hyps: &[Id],
     a: Id,
 ) -> Result<Option<Sequent>, AllocError>
+    requires holds { S.Signature.holds sig.now table.old }
     requires hyps { AllKnown table.old hyps.now }
     requires params { AllKnown table.old (a ∷ []) }
-    requires kept { AreKept declared table.old kept.old }
-    ensures exact { IfOk result (IsRuleAnswer ZERO_LE table.old table.new hyps.now
+    requires kept { AreKept (S.Signature.declares sig.now table.old) table.old kept.old }
+    ensures exact { let sig = S.Signature.declares sig.now table.old in
+        IfOk result (IsRuleAnswer ZERO_LE sig table.old table.new hyps.now
         (a ∷ []) []) }
     ensures extends { Extends table.old table.new }
-    ensures kept { AreKept declared table.new kept.new }
+    ensures kept { AreKept (S.Signature.declares sig.now table.new) table.new kept.new }
 {
-    by_rule(alloc, table, kept, hyps, ZERO_LE, &[a], &[])
+    by_rule(alloc, table, sig, kept, hyps, ZERO_LE, &[a], &[])
 }
 
 /// MAX, 2^64 - 1, is greatest.
 ///
 /// `max_le a ; |- (ule a MAX)`
-pub fn max_le(
+pub fn max_le<S: Known>(
     alloc: Global,
     table: &mut Table,
+    sig: &S,
     kept: &mut Kept,
     hyps: &[Id],
     a: Id,
 ) -> Result<Option<Sequent>, AllocError>
+    requires holds { S.Signature.holds sig.now table.old }
     requires hyps { AllKnown table.old hyps.now }
     requires params { AllKnown table.old (a ∷ []) }
-    requires kept { AreKept declared table.old kept.old }
-    ensures exact { IfOk result (IsRuleAnswer MAX_LE table.old table.new hyps.now
+    requires kept { AreKept (S.Signature.declares sig.now table.old) table.old kept.old }
+    ensures exact { let sig = S.Signature.declares sig.now table.old in
+        IfOk result (IsRuleAnswer MAX_LE sig table.old table.new hyps.now
         (a ∷ []) []) }
     ensures extends { Extends table.old table.new }
-    ensures kept { AreKept declared table.new kept.new }
+    ensures kept { AreKept (S.Signature.declares sig.now table.new) table.new kept.new }
 {
-    by_rule(alloc, table, kept, hyps, MAX_LE, &[a], &[])
+    by_rule(alloc, table, sig, kept, hyps, MAX_LE, &[a], &[])
 }
 
 /// A word is at most itself.
 ///
 /// `ule_refl a ; |- (ule a a)`
-pub fn ule_refl(
+pub fn ule_refl<S: Known>(
     alloc: Global,
     table: &mut Table,
+    sig: &S,
     kept: &mut Kept,
     hyps: &[Id],
     a: Id,
 ) -> Result<Option<Sequent>, AllocError>
+    requires holds { S.Signature.holds sig.now table.old }
     requires hyps { AllKnown table.old hyps.now }
     requires params { AllKnown table.old (a ∷ []) }
-    requires kept { AreKept declared table.old kept.old }
-    ensures exact { IfOk result (IsRuleAnswer ULE_REFL table.old table.new hyps.now
+    requires kept { AreKept (S.Signature.declares sig.now table.old) table.old kept.old }
+    ensures exact { let sig = S.Signature.declares sig.now table.old in
+        IfOk result (IsRuleAnswer ULE_REFL sig table.old table.new hyps.now
         (a ∷ []) []) }
     ensures extends { Extends table.old table.new }
-    ensures kept { AreKept declared table.new kept.new }
+    ensures kept { AreKept (S.Signature.declares sig.now table.new) table.new kept.new }
 {
-    by_rule(alloc, table, kept, hyps, ULE_REFL, &[a], &[])
+    by_rule(alloc, table, sig, kept, hyps, ULE_REFL, &[a], &[])
 }
 
 /// At most, through a third word.
 ///
 /// `ule_trans a b c ; (ule a b), (ule b c) |- (ule a c)`
-pub fn ule_trans(
+pub fn ule_trans<S: Known>(
     alloc: Global,
     table: &mut Table,
+    sig: &S,
     kept: &mut Kept,
     hyps: &[Id],
     a: Id,
@@ -148,48 +166,65 @@ pub fn ule_trans(
     p: &Sequent,
     q: &Sequent,
 ) -> Result<Option<Sequent>, AllocError>
+    requires holds { S.Signature.holds sig.now table.old }
     requires hyps { AllKnown table.old hyps.now }
     requires params { AllKnown table.old (a ∷ b ∷ c ∷ []) }
-    requires premises { AreSequents table.old (p.now ∷ q.now ∷ []) }
-    requires kept { AreKept declared table.old kept.old }
-    ensures exact { IfOk result (IsRuleAnswer ULE_TRANS table.old table.new hyps.now
+    requires premises { AreSequents (S.Signature.declares sig.now table.old) table.old
+        (p.now ∷ q.now ∷ []) }
+    requires kept { AreKept (S.Signature.declares sig.now table.old) table.old kept.old }
+    ensures exact { let sig = S.Signature.declares sig.now table.old in
+        IfOk result (IsRuleAnswer ULE_TRANS sig table.old table.new hyps.now
         (a ∷ b ∷ c ∷ []) (p.now ∷ q.now ∷ [])) }
     ensures extends { Extends table.old table.new }
-    ensures kept { AreKept declared table.new kept.new }
+    ensures kept { AreKept (S.Signature.declares sig.now table.new) table.new kept.new }
 {
-    by_rule(alloc, table, kept, hyps, ULE_TRANS, &[a, b, c], &[p, q])
+    by_rule(
+        alloc,
+        table,
+        sig,
+        kept,
+        hyps,
+        ULE_TRANS,
+        &[a, b, c],
+        &[p, q],
+    )
 }
 
 /// Less is at most.
 ///
 /// `ult_ule a b ; (ult a b) |- (ule a b)`
-pub fn ult_ule(
+pub fn ult_ule<S: Known>(
     alloc: Global,
     table: &mut Table,
+    sig: &S,
     kept: &mut Kept,
     hyps: &[Id],
     a: Id,
     b: Id,
     p: &Sequent,
 ) -> Result<Option<Sequent>, AllocError>
+    requires holds { S.Signature.holds sig.now table.old }
     requires hyps { AllKnown table.old hyps.now }
     requires params { AllKnown table.old (a ∷ b ∷ []) }
-    requires premises { AreSequents table.old (p.now ∷ []) }
-    requires kept { AreKept declared table.old kept.old }
-    ensures exact { IfOk result (IsRuleAnswer ULT_ULE table.old table.new hyps.now
+    requires premises { AreSequents (S.Signature.declares sig.now table.old) table.old
+        (p.now ∷ []) }
+    requires kept { AreKept (S.Signature.declares sig.now table.old) table.old kept.old }
+    ensures exact { let sig = S.Signature.declares sig.now table.old in
+        IfOk result (IsRuleAnswer ULT_ULE sig table.old table.new hyps.now
         (a ∷ b ∷ []) (p.now ∷ [])) }
     ensures extends { Extends table.old table.new }
-    ensures kept { AreKept declared table.new kept.new }
+    ensures kept { AreKept (S.Signature.declares sig.now table.new) table.new kept.new }
 {
-    by_rule(alloc, table, kept, hyps, ULT_ULE, &[a, b], &[p])
+    by_rule(alloc, table, sig, kept, hyps, ULT_ULE, &[a, b], &[p])
 }
 
 /// Less, then at most.
 ///
 /// `lt_le a b c ; (ult a b), (ule b c) |- (ult a c)`
-pub fn lt_le(
+pub fn lt_le<S: Known>(
     alloc: Global,
     table: &mut Table,
+    sig: &S,
     kept: &mut Kept,
     hyps: &[Id],
     a: Id,
@@ -198,24 +233,28 @@ pub fn lt_le(
     p: &Sequent,
     q: &Sequent,
 ) -> Result<Option<Sequent>, AllocError>
+    requires holds { S.Signature.holds sig.now table.old }
     requires hyps { AllKnown table.old hyps.now }
     requires params { AllKnown table.old (a ∷ b ∷ c ∷ []) }
-    requires premises { AreSequents table.old (p.now ∷ q.now ∷ []) }
-    requires kept { AreKept declared table.old kept.old }
-    ensures exact { IfOk result (IsRuleAnswer LT_LE table.old table.new hyps.now
+    requires premises { AreSequents (S.Signature.declares sig.now table.old) table.old
+        (p.now ∷ q.now ∷ []) }
+    requires kept { AreKept (S.Signature.declares sig.now table.old) table.old kept.old }
+    ensures exact { let sig = S.Signature.declares sig.now table.old in
+        IfOk result (IsRuleAnswer LT_LE sig table.old table.new hyps.now
         (a ∷ b ∷ c ∷ []) (p.now ∷ q.now ∷ [])) }
     ensures extends { Extends table.old table.new }
-    ensures kept { AreKept declared table.new kept.new }
+    ensures kept { AreKept (S.Signature.declares sig.now table.new) table.new kept.new }
 {
-    by_rule(alloc, table, kept, hyps, LT_LE, &[a, b, c], &[p, q])
+    by_rule(alloc, table, sig, kept, hyps, LT_LE, &[a, b, c], &[p, q])
 }
 
 /// At most, then less.
 ///
 /// `le_lt a b c ; (ule a b), (ult b c) |- (ult a c)`
-pub fn le_lt(
+pub fn le_lt<S: Known>(
     alloc: Global,
     table: &mut Table,
+    sig: &S,
     kept: &mut Kept,
     hyps: &[Id],
     a: Id,
@@ -224,48 +263,56 @@ pub fn le_lt(
     p: &Sequent,
     q: &Sequent,
 ) -> Result<Option<Sequent>, AllocError>
+    requires holds { S.Signature.holds sig.now table.old }
     requires hyps { AllKnown table.old hyps.now }
     requires params { AllKnown table.old (a ∷ b ∷ c ∷ []) }
-    requires premises { AreSequents table.old (p.now ∷ q.now ∷ []) }
-    requires kept { AreKept declared table.old kept.old }
-    ensures exact { IfOk result (IsRuleAnswer LE_LT table.old table.new hyps.now
+    requires premises { AreSequents (S.Signature.declares sig.now table.old) table.old
+        (p.now ∷ q.now ∷ []) }
+    requires kept { AreKept (S.Signature.declares sig.now table.old) table.old kept.old }
+    ensures exact { let sig = S.Signature.declares sig.now table.old in
+        IfOk result (IsRuleAnswer LE_LT sig table.old table.new hyps.now
         (a ∷ b ∷ c ∷ []) (p.now ∷ q.now ∷ [])) }
     ensures extends { Extends table.old table.new }
-    ensures kept { AreKept declared table.new kept.new }
+    ensures kept { AreKept (S.Signature.declares sig.now table.new) table.new kept.new }
 {
-    by_rule(alloc, table, kept, hyps, LE_LT, &[a, b, c], &[p, q])
+    by_rule(alloc, table, sig, kept, hyps, LE_LT, &[a, b, c], &[p, q])
 }
 
 /// Less is at most the word before.
 ///
 /// `lt_pred a b ; (ult a b) |- (ule a (sub b 1))`
-pub fn lt_pred(
+pub fn lt_pred<S: Known>(
     alloc: Global,
     table: &mut Table,
+    sig: &S,
     kept: &mut Kept,
     hyps: &[Id],
     a: Id,
     b: Id,
     p: &Sequent,
 ) -> Result<Option<Sequent>, AllocError>
+    requires holds { S.Signature.holds sig.now table.old }
     requires hyps { AllKnown table.old hyps.now }
     requires params { AllKnown table.old (a ∷ b ∷ []) }
-    requires premises { AreSequents table.old (p.now ∷ []) }
-    requires kept { AreKept declared table.old kept.old }
-    ensures exact { IfOk result (IsRuleAnswer LT_PRED table.old table.new hyps.now
+    requires premises { AreSequents (S.Signature.declares sig.now table.old) table.old
+        (p.now ∷ []) }
+    requires kept { AreKept (S.Signature.declares sig.now table.old) table.old kept.old }
+    ensures exact { let sig = S.Signature.declares sig.now table.old in
+        IfOk result (IsRuleAnswer LT_PRED sig table.old table.new hyps.now
         (a ∷ b ∷ []) (p.now ∷ [])) }
     ensures extends { Extends table.old table.new }
-    ensures kept { AreKept declared table.new kept.new }
+    ensures kept { AreKept (S.Signature.declares sig.now table.new) table.new kept.new }
 {
-    by_rule(alloc, table, kept, hyps, LT_PRED, &[a, b], &[p])
+    by_rule(alloc, table, sig, kept, hyps, LT_PRED, &[a, b], &[p])
 }
 
 /// Words at most each other are equal.
 ///
 /// `le_anti a b ; (ule a b), (ule b a) |- (eq a b)`
-pub fn le_anti(
+pub fn le_anti<S: Known>(
     alloc: Global,
     table: &mut Table,
+    sig: &S,
     kept: &mut Kept,
     hyps: &[Id],
     a: Id,
@@ -273,71 +320,83 @@ pub fn le_anti(
     p: &Sequent,
     q: &Sequent,
 ) -> Result<Option<Sequent>, AllocError>
+    requires holds { S.Signature.holds sig.now table.old }
     requires hyps { AllKnown table.old hyps.now }
     requires params { AllKnown table.old (a ∷ b ∷ []) }
-    requires premises { AreSequents table.old (p.now ∷ q.now ∷ []) }
-    requires kept { AreKept declared table.old kept.old }
-    ensures exact { IfOk result (IsRuleAnswer LE_ANTI table.old table.new hyps.now
+    requires premises { AreSequents (S.Signature.declares sig.now table.old) table.old
+        (p.now ∷ q.now ∷ []) }
+    requires kept { AreKept (S.Signature.declares sig.now table.old) table.old kept.old }
+    ensures exact { let sig = S.Signature.declares sig.now table.old in
+        IfOk result (IsRuleAnswer LE_ANTI sig table.old table.new hyps.now
         (a ∷ b ∷ []) (p.now ∷ q.now ∷ [])) }
     ensures extends { Extends table.old table.new }
-    ensures kept { AreKept declared table.new kept.new }
+    ensures kept { AreKept (S.Signature.declares sig.now table.new) table.new kept.new }
 {
-    by_rule(alloc, table, kept, hyps, LE_ANTI, &[a, b], &[p, q])
+    by_rule(alloc, table, sig, kept, hyps, LE_ANTI, &[a, b], &[p, q])
 }
 
 /// What is not less is at least.
 ///
 /// `not_lt a b ; (not (ult a b)) |- (ule b a)`
-pub fn not_lt(
+pub fn not_lt<S: Known>(
     alloc: Global,
     table: &mut Table,
+    sig: &S,
     kept: &mut Kept,
     hyps: &[Id],
     a: Id,
     b: Id,
     p: &Sequent,
 ) -> Result<Option<Sequent>, AllocError>
+    requires holds { S.Signature.holds sig.now table.old }
     requires hyps { AllKnown table.old hyps.now }
     requires params { AllKnown table.old (a ∷ b ∷ []) }
-    requires premises { AreSequents table.old (p.now ∷ []) }
-    requires kept { AreKept declared table.old kept.old }
-    ensures exact { IfOk result (IsRuleAnswer NOT_LT table.old table.new hyps.now
+    requires premises { AreSequents (S.Signature.declares sig.now table.old) table.old
+        (p.now ∷ []) }
+    requires kept { AreKept (S.Signature.declares sig.now table.old) table.old kept.old }
+    ensures exact { let sig = S.Signature.declares sig.now table.old in
+        IfOk result (IsRuleAnswer NOT_LT sig table.old table.new hyps.now
         (a ∷ b ∷ []) (p.now ∷ [])) }
     ensures extends { Extends table.old table.new }
-    ensures kept { AreKept declared table.new kept.new }
+    ensures kept { AreKept (S.Signature.declares sig.now table.new) table.new kept.new }
 {
-    by_rule(alloc, table, kept, hyps, NOT_LT, &[a, b], &[p])
+    by_rule(alloc, table, sig, kept, hyps, NOT_LT, &[a, b], &[p])
 }
 
 /// No word is less than itself.
 ///
 /// `lt_irr a ; (ult a a) |- ff`
-pub fn lt_irr(
+pub fn lt_irr<S: Known>(
     alloc: Global,
     table: &mut Table,
+    sig: &S,
     kept: &mut Kept,
     hyps: &[Id],
     a: Id,
     p: &Sequent,
 ) -> Result<Option<Sequent>, AllocError>
+    requires holds { S.Signature.holds sig.now table.old }
     requires hyps { AllKnown table.old hyps.now }
     requires params { AllKnown table.old (a ∷ []) }
-    requires premises { AreSequents table.old (p.now ∷ []) }
-    requires kept { AreKept declared table.old kept.old }
-    ensures exact { IfOk result (IsRuleAnswer LT_IRR table.old table.new hyps.now
+    requires premises { AreSequents (S.Signature.declares sig.now table.old) table.old
+        (p.now ∷ []) }
+    requires kept { AreKept (S.Signature.declares sig.now table.old) table.old kept.old }
+    ensures exact { let sig = S.Signature.declares sig.now table.old in
+        IfOk result (IsRuleAnswer LT_IRR sig table.old table.new hyps.now
         (a ∷ []) (p.now ∷ [])) }
     ensures extends { Extends table.old table.new }
-    ensures kept { AreKept declared table.new kept.new }
+    ensures kept { AreKept (S.Signature.declares sig.now table.new) table.new kept.new }
 {
-    by_rule(alloc, table, kept, hyps, LT_IRR, &[a], &[p])
+    by_rule(alloc, table, sig, kept, hyps, LT_IRR, &[a], &[p])
 }
 
 /// Sums keep the order where the greater one does not wrap.
 ///
 /// `add_le a b c d ; (ule a c), (ule b d), (ule c (add c d)) |- (ule (add a b) (add c d))`
-pub fn add_le(
+pub fn add_le<S: Known>(
     alloc: Global,
     table: &mut Table,
+    sig: &S,
     kept: &mut Kept,
     hyps: &[Id],
     a: Id,
@@ -348,14 +407,26 @@ pub fn add_le(
     q: &Sequent,
     r: &Sequent,
 ) -> Result<Option<Sequent>, AllocError>
+    requires holds { S.Signature.holds sig.now table.old }
     requires hyps { AllKnown table.old hyps.now }
     requires params { AllKnown table.old (a ∷ b ∷ c ∷ d ∷ []) }
-    requires premises { AreSequents table.old (p.now ∷ q.now ∷ r.now ∷ []) }
-    requires kept { AreKept declared table.old kept.old }
-    ensures exact { IfOk result (IsRuleAnswer ADD_LE table.old table.new hyps.now
+    requires premises { AreSequents (S.Signature.declares sig.now table.old) table.old
+        (p.now ∷ q.now ∷ r.now ∷ []) }
+    requires kept { AreKept (S.Signature.declares sig.now table.old) table.old kept.old }
+    ensures exact { let sig = S.Signature.declares sig.now table.old in
+        IfOk result (IsRuleAnswer ADD_LE sig table.old table.new hyps.now
         (a ∷ b ∷ c ∷ d ∷ []) (p.now ∷ q.now ∷ r.now ∷ [])) }
     ensures extends { Extends table.old table.new }
-    ensures kept { AreKept declared table.new kept.new }
+    ensures kept { AreKept (S.Signature.declares sig.now table.new) table.new kept.new }
 {
-    by_rule(alloc, table, kept, hyps, ADD_LE, &[a, b, c, d], &[p, q, r])
+    by_rule(
+        alloc,
+        table,
+        sig,
+        kept,
+        hyps,
+        ADD_LE,
+        &[a, b, c, d],
+        &[p, q, r],
+    )
 }

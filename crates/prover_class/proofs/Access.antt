@@ -8,7 +8,7 @@ use Rattle.word_ops.specs.declared.Op.TheVariants.{Add, Sub, Sll, Srl}
 use Rattle.word_ops.specs.Words.{word_of}
 use Rattle.word_ops.proofs.Bounds.{word_of-below}
 use Rattle.lf_signature.specs.Terms.{exp, pf, rd, wr}
-use Rattle.lf_signature.specs.Sigma1.{the_rules}
+use Rattle.lf_signature.specs.Constants.{the_rules}
 use Rattle.formula_tree.specs.Formulas.{Exp, EVar, ELit, EOp, Form, FTrue, FFalse, FRel, FRd, FWr, FAnd, FOr, FImp, FAll, FAllm, shift_exp}
 use Rattle.formula_tree.specs.Variables.{PExp, subst_var_exp, subst_var}
 use Rattle.formula_terms.specs.Encoding.{form_encoding, exp_encoding}
@@ -171,8 +171,8 @@ module _ (e d : ℕ) (room : e + (d + d + d) + 16 ≤ 2 ^ 32) (some : 0 < d) (k 
     where
       go : (t : Bool) → OverExp (cond t a (EOp Add a (ELit v))) ctx
       go true = h.0
-      go false = (h.0, b)
-  sum_over (a ∷ c ∷ l) v h b = (h.0, sum_over (c ∷ l) v h.1 b)
+      go false = (h.0, b, refl)
+  sum_over (a ∷ c ∷ l) v h b = (h.0, sum_over (c ∷ l) v h.1 b, refl)
 
   rest_over : (a b o : Exp) → OverExp a ctx → OverExp b ctx → rest_of a b ≡ Some o → OverExp o ctx
   rest_over a b o oa ob q =

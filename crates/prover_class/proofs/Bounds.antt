@@ -10,7 +10,7 @@ use Rattle.word_ops.specs.declared.Rel.TheVariants.{Eq, Ult, Ule}
 use Rattle.word_ops.specs.Words.{word_of}
 use Rattle.word_ops.proofs.Bounds.{word_of-below}
 use Rattle.lf_signature.specs.Terms.{exp, pf, lit, rel_term}
-use Rattle.lf_signature.specs.Sigma1.{the_rules}
+use Rattle.lf_signature.specs.Constants.{the_rules}
 use Rattle.formula_tree.specs.Formulas.{Exp, EVar, ELit, EOp, ESel, Form, FRel, EReg, ELeft}
 use Rattle.formula_terms.specs.Encoding.{exp_encoding, form_encoding}
 use Rattle.prover_class.proofs.Scope.{OverExp}
@@ -20,6 +20,8 @@ use Rattle.prover_class.specs.Bounds.{WordBound, word_bound, least_bound, greate
 use Rattle.prover_class.proofs.Proved.{Proves, IsHyp, AreHyps}
 use Rattle.prover_class.proofs.Uses.{rule_proves, stays_now}
 use Rattle.prover_class.proofs.Named.{move_proves, swap_proves, calc_proves, fact_proves, plain_subst-up, over-up}
+use Rattle.word_ops.specs.Operators.{has_op}
+use Rattle.word_ops.specs.declared.Profile.TheVariants.{One}
 
 module _ (e d : ℕ) (room : e + (d + d + d) + 16 ≤ 2 ^ 32) (some : 0 < d) (k : ℕ) (ctx : List Tree) (w : length ctx + k ≤ e) where
   abbrev wide : length ctx ≤ e
@@ -88,15 +90,15 @@ module _ (e d : ℕ) (room : e + (d + d + d) + 16 ≤ 2 ^ 32) (some : 0 < d) (k 
       move_proves e d room ctx wide (FRel Ule (EVar 0) (up a)) x y (refl, over-up a ctx exp oa) some ox oy (rel_term Ule (exp_encoding x) (exp_encoding a)) (rel_term Ule (exp_encoding y) (exp_encoding a)) p q
       (ap (λ z. rel_term Ule (exp_encoding x) z) (plain_subst-up a (exp_encoding x))) (ap (λ z. rel_term Ule (exp_encoding y) z) (plain_subst-up a (exp_encoding y))) hp hq
 
-  folded_is : (a : Exp) → OverExp a ctx → (o : Op) (x y : ℕ) → x < 2 ^ 64 → y < 2 ^ 64 → (p : Tree) → Has Ule a (EOp o (ELit x) (ELit y)) p → IsUpper a (folded a o x y p)
-  folded_is a oa o x y hx hy p h =
-      record { word = word_of-below o x y hx hy; proved = move_right a (EOp o (ELit x) (ELit y)) (ELit (word_of o x y)) oa (hx, hy) (word_of-below o x y hx hy) (calc o x y) p (calc_proves (e + d) ctx o x y hx hy) h }
+  folded_is : (a : Exp) → OverExp a ctx → (o : Op) → has_op One o ≡ true → (x y : ℕ) → x < 2 ^ 64 → y < 2 ^ 64 → (p : Tree) → Has Ule a (EOp o (ELit x) (ELit y)) p → IsUpper a (folded a o x y p)
+  folded_is a oa o has x y hx hy p h =
+      record { word = word_of-below o x y hx hy; proved = move_right a (EOp o (ELit x) (ELit y)) (ELit (word_of o x y)) oa (hx, hy, has) (word_of-below o x y hx hy) (calc o x y) p (calc_proves (e + d) ctx o has x y hx hy) h }
 
-  fit_proof_is : (v : ℕ) (o : Op) (x y : ℕ) → v < 2 ^ 64 → x < 2 ^ 64 → y < 2 ^ 64 → v ≤ word_of o x y → Has Ule (ELit v) (EOp o (ELit x) (ELit y)) (fit_proof v o x y)
-  fit_proof_is v o x y hv hx hy h =
+  fit_proof_is : (v : ℕ) (o : Op) → has_op One o ≡ true → (x y : ℕ) → v < 2 ^ 64 → x < 2 ^ 64 → y < 2 ^ 64 → v ≤ word_of o x y → Has Ule (ELit v) (EOp o (ELit x) (ELit y)) (fit_proof v o x y)
+  fit_proof_is v o has x y hv hx hy h =
       let b = word_of-below o x y hx hy in
-      move_right (ELit v) (ELit (word_of o x y)) (EOp o (ELit x) (ELit y)) hv b (hx, hy) (swap (EOp o (ELit x) (ELit y)) (ELit (word_of o x y)) (calc o x y)) (fact Ule v (word_of o x y))
-      (swap_proves e d room some ctx wide (EOp o (ELit x) (ELit y)) (ELit (word_of o x y)) (hx, hy) b (calc o x y) (calc_proves (e + d) ctx o x y hx hy))
+      move_right (ELit v) (ELit (word_of o x y)) (EOp o (ELit x) (ELit y)) hv b (hx, hy, has) (swap (EOp o (ELit x) (ELit y)) (ELit (word_of o x y)) (calc o x y)) (fact Ule v (word_of o x y))
+      (swap_proves e d room some ctx wide (EOp o (ELit x) (ELit y)) (ELit (word_of o x y)) (hx, hy, has) b (calc o x y) (calc_proves (e + d) ctx o has x y hx hy))
       (fact_proves (e + d) ctx Ule v (word_of o x y) hv b (le-leb v (word_of o x y) h))
 
   now : (A : Form) (h : Tree) → IsHyp (e + d) d k ctx (A, h) → Proves (e + d) ctx (pf (form_encoding A)) h
@@ -110,7 +112,7 @@ module _ (e d : ℕ) (room : e + (d + d + d) + 16 ≤ 2 ^ 32) (some : 0 < d) (k 
       upper_if a (same_exp b a) (folded a Sub (suc v) 1 (word_rule 68 (a ∷ ELit (suc v) ∷ []) (h ∷ [])))
       (λ t.
       let g : Has Ult a (ELit (suc v)) h = subst (λ z. Proves (e + d) ctx (pf (rel_term Ult z (lit (suc v)))) h) (tree_eq-true (exp_encoding b) (exp_encoding a) t) (now (FRel Ult b (ELit (suc v))) h i) in
-      folded_is a oa Sub (suc v) 1 i.over.1 (omega arith) (word_rule 68 (a ∷ ELit (suc v) ∷ []) (h ∷ []))
+      folded_is a oa Sub refl (suc v) 1 i.over.1 (omega arith) (word_rule 68 (a ∷ ELit (suc v) ∷ []) (h ∷ []))
       (rule_proves e d room 68 _ refl ctx wide (AExp a ∷ AExp (ELit (suc v)) ∷ []) (h ∷ []) (oa, (i.over.1, tt)) (g, tt)))
   upper_of_are a oa (FRel Eq b (ELit v)) h i =
       upper_if a (same_exp b a) (word_bound v (move (FRel Ule (up a) (EVar 0)) a (ELit v) h (word_rule 63 (a ∷ []) [])))
@@ -160,7 +162,7 @@ module _ (e d : ℕ) (room : e + (d + d + d) + 16 ≤ 2 ^ 32) (some : 0 < d) (k 
     record {
       word = hu.word;
       proved =
-          rule_proves e d room 64 _ refl ctx wide (AExp (EOp Band a b) ∷ AExp b ∷ AExp (ELit u.value) ∷ []) (word_rule 54 (a ∷ b ∷ []) [] ∷ u.proof ∷ []) ((oa, ob), (ob, (hu.word, tt)))
+          rule_proves e d room 64 _ refl ctx wide (AExp (EOp Band a b) ∷ AExp b ∷ AExp (ELit u.value) ∷ []) (word_rule 54 (a ∷ b ∷ []) [] ∷ u.proof ∷ []) ((oa, ob, refl), (ob, (hu.word, tt)))
           (rule_proves e d room 54 _ refl ctx wide (AExp a ∷ AExp b ∷ []) [] (oa, (ob, tt)) tt, (hu.proved, tt));
     },
     (
@@ -168,8 +170,8 @@ module _ (e d : ℕ) (room : e + (d + d + d) + 16 ≤ 2 ^ 32) (some : 0 < d) (k 
         word = hv.word;
         proved =
             rule_proves e d room 64 _ refl ctx wide (AExp (EOp Band a b) ∷ AExp a ∷ AExp (ELit v.value) ∷ [])
-            (move (FRel Ule (EVar 0) (up a)) (EOp Band b a) (EOp Band a b) (word_rule 51 (b ∷ a ∷ []) []) (word_rule 54 (b ∷ a ∷ []) []) ∷ v.proof ∷ []) ((oa, ob), (oa, (hv.word, tt))) (
-              move_left a (EOp Band b a) (EOp Band a b) oa (ob, oa) (oa, ob) (word_rule 51 (b ∷ a ∷ []) []) (word_rule 54 (b ∷ a ∷ []) [])
+            (move (FRel Ule (EVar 0) (up a)) (EOp Band b a) (EOp Band a b) (word_rule 51 (b ∷ a ∷ []) []) (word_rule 54 (b ∷ a ∷ []) []) ∷ v.proof ∷ []) ((oa, ob, refl), (oa, (hv.word, tt))) (
+              move_left a (EOp Band b a) (EOp Band a b) oa (ob, oa, refl) (oa, ob, refl) (word_rule 51 (b ∷ a ∷ []) []) (word_rule 54 (b ∷ a ∷ []) [])
                   (rule_proves e d room 51 _ refl ctx wide (AExp b ∷ AExp a ∷ []) [] (ob, (oa, tt)) tt) (rule_proves e d room 54 _ refl ctx wide (AExp b ∷ AExp a ∷ []) [] (ob, (oa, tt)) tt),
               (hv.proved, tt),
             );
@@ -178,22 +180,22 @@ module _ (e d : ℕ) (room : e + (d + d + d) + 16 ≤ 2 ^ 32) (some : 0 < d) (k 
     ),
   )
   op_bounds_are Srl a (ELit c) v u oa ob hv hu = (
-    folded_is (EOp Srl a (ELit c)) (oa, ob) Srl v.value c hv.word ob (word_rule 59 (a ∷ ELit v.value ∷ ELit c ∷ []) (v.proof ∷ []))
+    folded_is (EOp Srl a (ELit c)) (oa, ob, refl) Srl refl v.value c hv.word ob (word_rule 59 (a ∷ ELit v.value ∷ ELit c ∷ []) (v.proof ∷ []))
         (rule_proves e d room 59 _ refl ctx wide (AExp a ∷ AExp (ELit v.value) ∷ AExp (ELit c) ∷ []) (v.proof ∷ []) (oa, (hv.word, (ob, tt))) (hv.proved, tt)),
     tt,
   )
   op_bounds_are Sll a (ELit c) v u oa ob hv hu =
       upper_if (EOp Sll a (ELit c)) (nat_le v.value (word_of Srl max_word c)) (folded (EOp Sll a (ELit c)) Sll v.value c (word_rule 60 (a ∷ ELit v.value ∷ ELit c ∷ []) (v.proof ∷ fit_proof v.value Srl max_word c ∷ [])))
-      (λ t. folded_is (EOp Sll a (ELit c)) (oa, ob) Sll v.value c hv.word ob (word_rule 60 (a ∷ ELit v.value ∷ ELit c ∷ []) (v.proof ∷ fit_proof v.value Srl max_word c ∷ []))
+      (λ t. folded_is (EOp Sll a (ELit c)) (oa, ob, refl) Sll refl v.value c hv.word ob (word_rule 60 (a ∷ ELit v.value ∷ ELit c ∷ []) (v.proof ∷ fit_proof v.value Srl max_word c ∷ []))
       (rule_proves e d room 60 _ refl ctx wide (AExp a ∷ AExp (ELit v.value) ∷ AExp (ELit c) ∷ []) (v.proof ∷ fit_proof v.value Srl max_word c ∷ []) (oa, (hv.word, (ob, tt)))
-      (hv.proved, (fit_proof_is v.value Srl max_word c hv.word (omega arith) ob (leb-true v.value (word_of Srl max_word c) t), tt))))
+      (hv.proved, (fit_proof_is v.value Srl refl max_word c hv.word (omega arith) ob (leb-true v.value (word_of Srl max_word c) t), tt))))
   op_bounds_are Add a b v u oa ob hv hu =
       upper_if (EOp Add a b) (nat_lt (v.value + u.value) (2 ^ 64)) (folded (EOp Add a b) Add v.value u.value (word_rule 72 (a ∷ b ∷ ELit v.value ∷ ELit u.value ∷ []) (v.proof ∷ u.proof ∷ fit_proof v.value Add v.value u.value ∷ [])))
       (λ t.
       let s : (v.value + u.value) % 2 ^ 64 ≡ v.value + u.value = mod-eq_of_lt (ltb-true (v.value + u.value) (2 ^ 64) t) in
-      folded_is (EOp Add a b) (oa, ob) Add v.value u.value hv.word hu.word (word_rule 72 (a ∷ b ∷ ELit v.value ∷ ELit u.value ∷ []) (v.proof ∷ u.proof ∷ fit_proof v.value Add v.value u.value ∷ []))
+      folded_is (EOp Add a b) (oa, ob, refl) Add refl v.value u.value hv.word hu.word (word_rule 72 (a ∷ b ∷ ELit v.value ∷ ELit u.value ∷ []) (v.proof ∷ u.proof ∷ fit_proof v.value Add v.value u.value ∷ []))
       (rule_proves e d room 72 _ refl ctx wide (AExp a ∷ AExp b ∷ AExp (ELit v.value) ∷ AExp (ELit u.value) ∷ []) (v.proof ∷ u.proof ∷ fit_proof v.value Add v.value u.value ∷ []) (oa, (ob, (hv.word, (hu.word, tt))))
-      (hv.proved, (hu.proved, (fit_proof_is v.value Add v.value u.value hv.word hv.word hu.word (omega (arith, s)), tt)))))
+      (hv.proved, (hu.proved, (fit_proof_is v.value Add refl v.value u.value hv.word hv.word hu.word (omega (arith, s)), tt)))))
   op_bounds_are Cmpeq a b v u oa ob hv hu = one_is 83 a b (EOp Cmpeq a b) (rule_proves e d room 83 _ refl ctx wide (AExp a ∷ AExp b ∷ []) [] (oa, (ob, tt)) tt)
   op_bounds_are Cmplt a b v u oa ob hv hu = one_is 84 a b (EOp Cmplt a b) (rule_proves e d room 84 _ refl ctx wide (AExp a ∷ AExp b ∷ []) [] (oa, (ob, tt)) tt)
   op_bounds_are Cmple a b v u oa ob hv hu = one_is 85 a b (EOp Cmple a b) (rule_proves e d room 85 _ refl ctx wide (AExp a ∷ AExp b ∷ []) [] (oa, (ob, tt)) tt)

@@ -51,7 +51,7 @@ mutual
   over_exp_wider ELeft c ctx wide w h = h
   over_exp_wider (EVar n) c ctx wide w h = w n ∙ h
   over_exp_wider (ELit v) c ctx wide w h = h
-  over_exp_wider (EOp o a b) c ctx wide w h = (over_exp_wider a c ctx wide w h.0, over_exp_wider b c ctx wide w h.1)
+  over_exp_wider (EOp o a b) c ctx wide w h = (over_exp_wider a c ctx wide w h.0, over_exp_wider b c ctx wide w h.1, h.2)
   over_exp_wider (ESel m a) c ctx wide w h = (over_mem_wider m c ctx wide w h.0, over_exp_wider a c ctx wide w h.1)
 
   pub over_mem_wider : (m : MemExp) (c : ℕ) (ctx wide : List Tree) → Wider c ctx wide → OverMem m ctx → OverMem (shift_mem 1 c m) wide
@@ -141,7 +141,7 @@ mutual
   over_put_exp ELeft x e ctx with w g h = h
   over_put_exp (EVar n) x e ctx with w g h = exp_entry e ctx g (spot x n) (sym (w n) ∙ h)
   over_put_exp (ELit v) x e ctx with w g h = h
-  over_put_exp (EOp o a b) x e ctx with w g h = (over_put_exp a x e ctx with w g h.0, over_put_exp b x e ctx with w g h.1)
+  over_put_exp (EOp o a b) x e ctx with w g h = (over_put_exp a x e ctx with w g h.0, over_put_exp b x e ctx with w g h.1, h.2)
   over_put_exp (ESel m a) x e ctx with w g h = (over_put_mem m x e ctx with w g h.0, over_put_exp a x e ctx with w g h.1)
 
   pub over_put_mem : (m : MemExp) (x : ℕ) (e : Exp) (ctx with : List Tree) → Splits x ctx with → OverExp e ctx → OverMem m with → OverMem (subst_var_mem m x (PExp e)) ctx

@@ -6,7 +6,7 @@ use Rattle.term_table.proofs.Options.{bind_some, map_some, some_injective}
 use Rattle.word_ops.specs.declared.Op.TheVariants.{Add, Band, Sll}
 use Rattle.word_ops.specs.declared.Rel.TheVariants.{Eq, Ult, Ule}
 use Rattle.lf_signature.specs.Terms.{exp, pf, lit, rel_term, op_term}
-use Rattle.lf_signature.specs.Sigma1.{the_rules}
+use Rattle.lf_signature.specs.Constants.{the_rules}
 use Rattle.formula_tree.specs.Formulas.{Exp, EVar, ELit, EOp, Form, FRel}
 use Rattle.formula_terms.specs.Encoding.{exp_encoding, form_encoding}
 use Rattle.prover_class.proofs.Scope.{OverExp, Over}
@@ -44,7 +44,7 @@ module _ (e d : ℕ) (room : e + (d + d + d) + 16 ≤ 2 ^ 32) (some : 0 < d) (k 
       (λ i. rel_term Eq (plain_subst-up a (exp_encoding x) i) (ef i)) (λ i. rel_term Eq (plain_subst-up a (exp_encoding y) i) (et i)) hp hq
 
   calc_zero : (v : ℕ) → OverExp (ELit v) ctx → (v % 8 == 0) ≡ true → Says (FRel Eq (EOp Band (ELit v) (ELit 7)) (ELit 0)) (calc Band v 7)
-  calc_zero v h q = subst (λ z. Proves (e + d) ctx (pf (rel_term Eq (op_term Band (lit v) (lit 7)) (lit z))) (calc Band v 7)) (mask v q) (calc_proves (e + d) ctx Band v 7 h (omega arith))
+  calc_zero v h q = subst (λ z. Proves (e + d) ctx (pf (rel_term Eq (op_term Band (lit v) (lit 7)) (lit z))) (calc Band v 7)) (mask v q) (calc_proves (e + d) ctx Band refl v 7 h (omega arith))
 
   masked_says : (a : Exp) (v : ℕ) → OverExp a ctx → OverExp (ELit v) ctx → (v % 8 == 0) ≡ true → Says (aligned_form (EOp Band a (ELit v))) (masked a v)
   unfolding the_rules
@@ -53,16 +53,16 @@ module _ (e d : ℕ) (room : e + (d + d + d) + 16 ≤ 2 ^ 32) (some : 0 < d) (k 
       let inner = EOp Band (ELit v) (ELit 7) in
       let seven : 7 < 2 ^ 64 = omega arith in
       let none : 0 < 2 ^ 64 = omega arith in
-      let oall : OverExp all ctx = ((oa, ov), seven) in
+      let oall : OverExp all ctx = ((oa, ov, refl), seven, refl) in
       let first = move (FRel Eq (up all) (EVar 0)) all (EOp Band a inner) (word_rule 52 (a ∷ ELit v ∷ ELit 7 ∷ []) []) (eq_refl all) in
       let second = move (FRel Eq (up all) (EOp Band (up a) (EVar 0))) inner (ELit 0) (calc Band v 7) first in
       let p1 : Says (FRel Eq all (EOp Band a inner)) first =
-      move_eq all (EVar 0) all (EOp Band a inner) oall refl oall (oa, (ov, seven)) (exp_encoding all) (exp_encoding (EOp Band a inner)) refl refl (word_rule 52 (a ∷ ELit v ∷ ELit 7 ∷ []) []) (eq_refl all)
+      move_eq all (EVar 0) all (EOp Band a inner) oall refl oall (oa, (ov, seven, refl), refl) (exp_encoding all) (exp_encoding (EOp Band a inner)) refl refl (word_rule 52 (a ∷ ELit v ∷ ELit 7 ∷ []) []) (eq_refl all)
       (rule_proves e d room 52 _ refl ctx wide (AExp a ∷ AExp (ELit v) ∷ AExp (ELit 7) ∷ []) [] (oa, (ov, (seven, tt))) tt) (refl_proves e d room ctx wide all oall) in
       let p2 : Says (FRel Eq all (EOp Band a (ELit 0))) second =
-      move_eq all (EOp Band (up a) (EVar 0)) inner (ELit 0) oall (over-up a ctx exp oa, refl) (ov, seven) none (exp_encoding (EOp Band a inner)) (exp_encoding (EOp Band a (ELit 0)))
+      move_eq all (EOp Band (up a) (EVar 0)) inner (ELit 0) oall (over-up a ctx exp oa, refl, refl) (ov, seven, refl) none (exp_encoding (EOp Band a inner)) (exp_encoding (EOp Band a (ELit 0)))
       (ap (λ z. op_term Band z (exp_encoding inner)) (plain_subst-up a (exp_encoding inner))) (ap (λ z. op_term Band z (lit 0)) (plain_subst-up a (lit 0))) (calc Band v 7) first (calc_zero v ov q) p1 in
-      move_eq all (EVar 0) (EOp Band a (ELit 0)) (ELit 0) oall refl (oa, none) none (exp_encoding (EOp Band a (ELit 0))) (lit 0) refl refl (word_rule 53 (a ∷ []) []) second
+      move_eq all (EVar 0) (EOp Band a (ELit 0)) (ELit 0) oall refl (oa, none, refl) none (exp_encoding (EOp Band a (ELit 0))) (lit 0) refl refl (word_rule 53 (a ∷ []) []) second
       (rule_proves e d room 53 _ refl ctx wide (AExp a ∷ []) [] (oa, tt) tt) p2
 
   module _ (Γ : Hyps) (are : AreHyps (e + d) d k ctx Γ) where

@@ -10,7 +10,7 @@ use Rattle.word_ops.specs.declared.Rel.TheVariants.{Eq, Ult, Ule, Slt, Sle}
 use Rattle.lf_signature.specs.Terms.{pf}
 use Rattle.lf_signature.specs.Typing.{atom_checks, var_synth}
 use Rattle.lf_signature.specs.Rules.{SPar, SLit, SOp, FPar, SAnd, SRel, SImp, SFalse}
-use Rattle.lf_signature.specs.Sigma1.{the_rules}
+use Rattle.lf_signature.specs.Constants.{the_rules}
 use Rattle.lf_rules.specs.Plain.{var_bound}
 use Rattle.lf_rules.proofs.Room.{fits_shift, var_bound_shift}
 use Rattle.lf_rules.proofs.Shifts.{shift-more}
@@ -117,7 +117,8 @@ module _ (e d : ℕ) (room : e + (d + d + d) + 16 ≤ 2 ^ 32) (some : 0 < d) whe
       where
         at_op : (o : Op) (r : Rel) (j : ℕ) → Stays (e + d) k ctx (form_encoding (FImp (FRel r a b) FFalse)) (word_rule j (a ∷ b ∷ []) (h ∷ [])) → Hyp (FRel Eq (EOp o a b) (ELit 0)) h →
             Hyp (FImp (FRel r a b) FFalse) (word_rule j (a ∷ b ∷ []) (h ∷ []))
-        at_op o r j s i = record { over = (i.over.0, tt); nesting = omega (arith, some); stays = s }
+        at_op o r j s i =
+            record { over = ((i.over.0.0, i.over.0.1), tt); nesting = omega (arith, some); stays = s }
 
         move_to : (o : Op) (p u : Rel × ℕ) → Some u ≡ Some p → Hyp (FImp (FRel u.0 a b) FFalse) (word_rule (78 + u.1) (a ∷ b ∷ []) (h ∷ [])) → Hyp (FImp (FRel p.0 a b) FFalse) (word_rule (78 + p.1) (a ∷ b ∷ []) (h ∷ []))
         move_to o p u q g = subst (λ z. Hyp (FImp (FRel z.0 a b) FFalse) (word_rule (78 + z.1) (a ∷ b ∷ []) (h ∷ []))) (some_injective q) g
@@ -135,7 +136,8 @@ module _ (e d : ℕ) (room : e + (d + d + d) + 16 ≤ 2 ^ 32) (some : 0 < d) whe
     yes_hyp o p q a b h i = go o p q i
       where
         at_op : (o : Op) (r : Rel) (j : ℕ) → Stays (e + d) k ctx (form_encoding (FRel r a b)) (word_rule j (a ∷ b ∷ []) (h ∷ [])) → Hyp (FImp (FRel Eq (EOp o a b) (ELit 0)) FFalse) h → Hyp (FRel r a b) (word_rule j (a ∷ b ∷ []) (h ∷ []))
-        at_op o r j s i = record { over = i.over.0.0; nesting = omega arith; stays = s }
+        at_op o r j s i =
+            record { over = (i.over.0.0.0, i.over.0.0.1); nesting = omega arith; stays = s }
 
         move_to : (o : Op) (p u : Rel × ℕ) → Some u ≡ Some p → Hyp (FRel u.0 a b) (word_rule (73 + u.1) (a ∷ b ∷ []) (h ∷ [])) → Hyp (FRel p.0 a b) (word_rule (73 + p.1) (a ∷ b ∷ []) (h ∷ []))
         move_to o p u q g = subst (λ z. Hyp (FRel z.0 a b) (word_rule (73 + z.1) (a ∷ b ∷ []) (h ∷ []))) (some_injective q) g

@@ -7,11 +7,11 @@ use Rattle.word_ops.specs.declared.Op.{Op}
 use Rattle.word_ops.specs.declared.Rel.{Rel}
 use Rattle.word_ops.specs.declared.Rel.TheVariants.{Eq, Ult, Ule, Slt, Sle}
 use Rattle.word_ops.specs.Words.{test_of}
-use Rattle.word_ops.specs.Operators.{op_number}
+use Rattle.word_ops.specs.Operators.{op_number, has_op, op_of}
 use Rattle.lf_signature.specs.Numbers.{rel_of, rel_number}
 use Rattle.lf_signature.specs.Terms.{exp, mem, pf, rel_term}
 use Rattle.lf_signature.specs.Typing.{Checks, lam_checks, atom_checks, con_synth}
-use Rattle.lf_signature.specs.Sigma1.{declared, the_rules, is_word, calc_type, fact_type}
+use Rattle.lf_signature.specs.Constants.{declared, the_rules, is_word, calc_type, fact_type, op_in}
 use Rattle.lf_signature.specs.Laws.Booleans.{and_of}
 use Rattle.word_ops.proofs.EachOp.{op_of-op_number}
 use Rattle.lf_rules.specs.Plain.{plain_subst, plain_spot}
@@ -25,6 +25,8 @@ use Rattle.prover_class.proofs.Encoded.{shift-form_encoding, plain_subst-shift, 
 use Rattle.formula_terms.specs.ProofTerms.{AExp, AForm, AAll, AAllm, imp_i, all_i, all_e, allm_i, eq_refl, move, up, swap, calc, fact}
 use Rattle.prover_class.proofs.Proved.{Proves}
 use Rattle.prover_class.proofs.Uses.{rule_proves}
+use Rattle.lf_signature.specs.declared.WordSignature.TheVariants.{Sigma1}
+use Rattle.word_ops.specs.declared.Profile.TheVariants.{One}
 
 raise-step : (c n : ℕ) → c ≤ n → raise 1 c n ≡ suc n
 raise-step zero n h = one-add n
@@ -72,18 +74,19 @@ rel_of-number Sle = refl
 word_is : (v : ℕ) → v < 2 ^ 64 → is_word v ≡ true
 word_is v h = lt-ltb v (2 ^ 64) h
 
-declared-calc : (o : Op) (v w : ℕ) → v < 2 ^ 64 → w < 2 ^ 64 → declared (Calc (op_number o) v w) ≡ Some (calc_type o v w)
-declared-calc o v w h g =
-    ap (λ z. bind z (λ p. cond (is_word v && is_word w) (Some (calc_type p v w)) None)) (op_of-op_number o)
+declared-calc : (o : Op) → has_op One o ≡ true → (v w : ℕ) → v < 2 ^ 64 → w < 2 ^ 64 → declared Sigma1 (Calc (op_number o) v w) ≡ Some (calc_type o v w)
+declared-calc o has v w h g =
+    let named : op_in Sigma1 (op_number o) ≡ Some o = ap (λ b. cond b (op_of (op_number o)) None) has ∙ op_of-op_number o in
+    ap (λ z. bind z (λ p. cond (is_word v && is_word w) (Some (calc_type p v w)) None)) named
     ∙ ap (λ b. cond b (Some (calc_type o v w)) None) (and_of _ _ (word_is v h) (word_is w g))
 
-declared-fact : (r : Rel) (v w : ℕ) → v < 2 ^ 64 → w < 2 ^ 64 → test_of r v w ≡ true → declared (Fact (rel_number r) v w) ≡ Some (fact_type r v w)
+declared-fact : (r : Rel) (v w : ℕ) → v < 2 ^ 64 → w < 2 ^ 64 → test_of r v w ≡ true → declared Sigma1 (Fact (rel_number r) v w) ≡ Some (fact_type r v w)
 declared-fact r v w h g t =
     ap (λ z. bind z (λ p. cond ((is_word v && is_word w) && test_of p v w) (Some (fact_type p v w)) None)) (rel_of-number r)
     ∙ ap (λ b. cond b (Some (fact_type r v w)) None) (and_of _ _ (and_of _ _ (word_is v h) (word_is w g)) t)
 
-pub calc_proves : (bound : ℕ) (ctx : List Tree) (o : Op) (v w : ℕ) → v < 2 ^ 64 → w < 2 ^ 64 → Proves bound ctx (calc_type o v w) (calc o v w)
-calc_proves bound ctx o v w h g = record { checks = atom_checks (con_synth (declared-calc o v w h g)) tt; room = omega arith }
+pub calc_proves : (bound : ℕ) (ctx : List Tree) (o : Op) → has_op One o ≡ true → (v w : ℕ) → v < 2 ^ 64 → w < 2 ^ 64 → Proves bound ctx (calc_type o v w) (calc o v w)
+calc_proves bound ctx o has v w h g = record { checks = atom_checks (con_synth (declared-calc o has v w h g)) tt; room = omega arith }
 
 pub fact_proves : (bound : ℕ) (ctx : List Tree) (r : Rel) (v w : ℕ) → v < 2 ^ 64 → w < 2 ^ 64 → test_of r v w ≡ true → Proves bound ctx (fact_type r v w) (fact r v w)
 fact_proves bound ctx r v w h g t = record { checks = atom_checks (con_synth (declared-fact r v w h g t)) tt; room = omega arith }
@@ -94,21 +97,21 @@ module _ (e d : ℕ) (room : e + (d + d + d) + 16 ≤ 2 ^ 32) where
   unfolding the_rules
   imp_i_proves ctx w A B oA nA oB nB p h =
       rule_proves e d room 35 _ refl ctx w (AForm A ∷ AForm B ∷ []) (Lam p ∷ []) ((oA, nA), ((oB, nB), tt))
-      (record { checks = lam_checks (subst (λ z. Checks declared (pf (form_encoding A) ∷ ctx) p (pf z)) (sym (shift-form_encoding B 1 0)) h.checks); room = h.room }, tt)
+      (record { checks = lam_checks (subst (λ z. Checks (declared Sigma1) (pf (form_encoding A) ∷ ctx) p (pf z)) (sym (shift-form_encoding B 1 0)) h.checks); room = h.room }, tt)
 
   pub all_i_proves : (ctx : List Tree) → length ctx ≤ e → (A : Form) → Over A (exp ∷ ctx) → nesting A < d → (p : Tree) →
       Proves (e + d) (exp ∷ ctx) (pf (form_encoding A)) p → Proves (e + d) ctx (pf (form_encoding (FAll A))) (all_i A p)
   unfolding the_rules
   all_i_proves ctx w A oA nA p h =
       rule_proves e d room 38 _ refl ctx w (AAll A ∷ []) (Lam p ∷ []) ((oA, nA), tt)
-      (record { checks = lam_checks (subst (λ z. Checks declared (exp ∷ ctx) p (pf z)) (sym (plain_subst-own (form_encoding A) 0)) h.checks); room = h.room }, tt)
+      (record { checks = lam_checks (subst (λ z. Checks (declared Sigma1) (exp ∷ ctx) p (pf z)) (sym (plain_subst-own (form_encoding A) 0)) h.checks); room = h.room }, tt)
 
   pub allm_i_proves : (ctx : List Tree) → length ctx ≤ e → (A : Form) → Over A (mem ∷ ctx) → nesting A < d → (p : Tree) →
       Proves (e + d) (mem ∷ ctx) (pf (form_encoding A)) p → Proves (e + d) ctx (pf (form_encoding (FAllm A))) (allm_i A p)
   unfolding the_rules
   allm_i_proves ctx w A oA nA p h =
       rule_proves e d room 40 _ refl ctx w (AAllm A ∷ []) (Lam p ∷ []) ((oA, nA), tt)
-      (record { checks = lam_checks (subst (λ z. Checks declared (mem ∷ ctx) p (pf z)) (sym (plain_subst-own (form_encoding A) 0)) h.checks); room = h.room }, tt)
+      (record { checks = lam_checks (subst (λ z. Checks (declared Sigma1) (mem ∷ ctx) p (pf z)) (sym (plain_subst-own (form_encoding A) 0)) h.checks); room = h.room }, tt)
 
   pub all_e_proves : (ctx : List Tree) → length ctx ≤ e → (A : Form) (a : Exp) → Over A (exp ∷ ctx) → nesting A < d → OverExp a ctx → (p : Tree) →
       Proves (e + d) ctx (pf (form_encoding (FAll A))) p → Proves (e + d) ctx (pf (form_encoding (subst_var A 0 (PExp a)))) (all_e A a p)

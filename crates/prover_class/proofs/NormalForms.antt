@@ -9,7 +9,7 @@ use Rattle.word_ops.specs.declared.Rel.TheVariants.{Eq, Ult, Ule, Slt, Sle}
 use Rattle.word_ops.specs.Words.{word_of, test_of}
 use Rattle.word_ops.proofs.Bounds.{word_of-below}
 use Rattle.lf_signature.specs.Terms.{exp, pf, lit, rel_term}
-use Rattle.lf_signature.specs.Sigma1.{the_rules}
+use Rattle.lf_signature.specs.Constants.{the_rules}
 use Rattle.lf_rules.proofs.Shifts.{spot-raise}
 use Rattle.formula_tree.specs.Formulas.{Exp, EVar, ELit, EOp, ESel, MemExp, MVar, MUpd, Form, FRel, shift_exp, shift_mem, EReg, ELeft, MMem}
 use Rattle.formula_tree.specs.Variables.{PExp, exp_at, mem_at, subst_var_exp, subst_var_mem}
@@ -25,6 +25,8 @@ use Rattle.prover_class.proofs.Uses.{rule_proves}
 use Rattle.prover_class.proofs.Named.{move_proves, swap_proves, calc_proves, fact_proves, refl_proves, plain_subst-up, over-up}
 use Rattle.prover_class.proofs.Shapes.{else_some}
 use Rattle.prover_class.proofs.Goals.{if_some, move_eq}
+use Rattle.word_ops.specs.Operators.{has_op}
+use Rattle.word_ops.specs.declared.Profile.TheVariants.{One}
 
 mutual
   subst-up_exp : (b x : Exp) (c : ℕ) → subst_var_exp (shift_exp 1 c b) c (PExp x) ≡ b
@@ -61,20 +63,20 @@ module _ (e d : ℕ) (room : e + (d + d + d) + 16 ≤ 2 ^ 32) (some : 0 < d) (k 
   whole_step_are : (f t : Exp) (p : Tree) → OverExp f ctx → OverExp t ctx → Eqs f t p → AreSteps f (whole_step f t p)
   whole_step_are f t p of ot h = (record { into = refl; from = of; to = ot; proof = h }, refl, tt)
 
-  in_left_are : (o : Op) (a b : Exp) → OverExp b ctx → (l : List Rewriting) → AreSteps a l → AreSteps (EOp o a b) (in_left o b l)
-  in_left_are o a b ob [] h = tt
-  in_left_are o a b ob (s ∷ l) h = (
-    record { into = (h.0.into, over-up b ctx exp ob); from = h.0.from; to = h.0.to; proof = h.0.proof },
+  in_left_are : (o : Op) (a b : Exp) → has_op One o ≡ true → OverExp b ctx → (l : List Rewriting) → AreSteps a l → AreSteps (EOp o a b) (in_left o b l)
+  in_left_are o a b has ob [] h = tt
+  in_left_are o a b has ob (s ∷ l) h = (
+    record { into = (h.0.into, over-up b ctx exp ob, has); from = h.0.from; to = h.0.to; proof = h.0.proof },
     λ i. EOp o (h.1 i) (subst-up_exp b s.from 0 i),
-    subst (λ z. AreSteps (EOp o (subst_var_exp s.into 0 (PExp s.to)) z) (in_left o b l)) (sym (subst-up_exp b s.to 0)) (in_left_are o (subst_var_exp s.into 0 (PExp s.to)) b ob l h.2),
+    subst (λ z. AreSteps (EOp o (subst_var_exp s.into 0 (PExp s.to)) z) (in_left o b l)) (sym (subst-up_exp b s.to 0)) (in_left_are o (subst_var_exp s.into 0 (PExp s.to)) b has ob l h.2),
   )
 
-  in_right_are : (o : Op) (a b : Exp) → OverExp a ctx → (l : List Rewriting) → AreSteps b l → AreSteps (EOp o a b) (in_right o a l)
-  in_right_are o a b oa [] h = tt
-  in_right_are o a b oa (s ∷ l) h = (
-    record { into = (over-up a ctx exp oa, h.0.into); from = h.0.from; to = h.0.to; proof = h.0.proof },
+  in_right_are : (o : Op) (a b : Exp) → has_op One o ≡ true → OverExp a ctx → (l : List Rewriting) → AreSteps b l → AreSteps (EOp o a b) (in_right o a l)
+  in_right_are o a b has oa [] h = tt
+  in_right_are o a b has oa (s ∷ l) h = (
+    record { into = (over-up a ctx exp oa, h.0.into, has); from = h.0.from; to = h.0.to; proof = h.0.proof },
     λ i. EOp o (subst-up_exp a s.from 0 i) (h.1 i),
-    subst (λ z. AreSteps (EOp o z (subst_var_exp s.into 0 (PExp s.to))) (in_right o a l)) (sym (subst-up_exp a s.to 0)) (in_right_are o a (subst_var_exp s.into 0 (PExp s.to)) oa l h.2),
+    subst (λ z. AreSteps (EOp o z (subst_var_exp s.into 0 (PExp s.to))) (in_right o a l)) (sym (subst-up_exp a s.to 0)) (in_right_are o a (subst_var_exp s.into 0 (PExp s.to)) has oa l h.2),
   )
 
   first_nonempty_are : (a : Exp) (l m : List Rewriting) → AreSteps a l → AreSteps a m → AreSteps a (first_nonempty l m)
@@ -112,44 +114,44 @@ module _ (e d : ℕ) (room : e + (d + d + d) + 16 ≤ 2 ^ 32) (some : 0 < d) (k 
   swapped_are : (out : ℕ) (a b : Exp) → OverExp a ctx → OverExp b ctx → AreSteps (EOp Add a b) (swapped out a b)
   swapped_are out a b oa ob =
       if_are (EOp Add a b) (nat_lt (summand_key out b) (summand_key out a)) (whole_step (EOp Add a b) (EOp Add b a) (word_rule 46 (a ∷ b ∷ []) [])) []
-      (whole_step_are (EOp Add a b) (EOp Add b a) (word_rule 46 (a ∷ b ∷ []) []) (oa, ob) (ob, oa) (comm a b oa ob)) tt
+      (whole_step_are (EOp Add a b) (EOp Add b a) (word_rule 46 (a ∷ b ∷ []) []) (oa, ob, refl) (ob, oa, refl) (comm a b oa ob)) tt
 
   turned_are : (a b c : Exp) → OverExp a ctx → OverExp b ctx → OverExp c ctx → AreSteps (EOp Add a (EOp Add b c)) (turned a b c)
   turned_are a b c oa ob oc = (
     record {
       into = refl;
-      from = (oa, (ob, oc));
-      to = ((oa, ob), oc);
-      proof = swap_proves e d room some ctx wide (EOp Add (EOp Add a b) c) (EOp Add a (EOp Add b c)) ((oa, ob), oc) (oa, (ob, oc)) (word_rule 47 (a ∷ b ∷ c ∷ []) []) (assoc a b c oa ob oc);
+      from = (oa, (ob, oc, refl), refl);
+      to = ((oa, ob, refl), oc, refl);
+      proof = swap_proves e d room some ctx wide (EOp Add (EOp Add a b) c) (EOp Add a (EOp Add b c)) ((oa, ob, refl), oc, refl) (oa, (ob, oc, refl), refl) (word_rule 47 (a ∷ b ∷ c ∷ []) []) (assoc a b c oa ob oc);
     },
     refl,
     (
-      record { into = (refl, over-up c ctx exp oc); from = (oa, ob); to = (ob, oa); proof = comm a b oa ob },
+      record { into = (refl, over-up c ctx exp oc, refl); from = (oa, ob, refl); to = (ob, oa, refl); proof = comm a b oa ob },
       (λ i. EOp Add (EOp Add a b) (subst-up_exp c (EOp Add a b) 0 i)),
-      (record { into = refl; from = ((ob, oa), oc); to = (ob, (oa, oc)); proof = assoc b a c ob oa oc }, (λ i. EOp Add (EOp Add b a) (sym (subst-up_exp c (EOp Add b a) 0) i)), tt),
+      (record { into = refl; from = ((ob, oa, refl), oc, refl); to = (ob, (oa, oc, refl), refl); proof = assoc b a c ob oa oc }, (λ i. EOp Add (EOp Add b a) (sym (subst-up_exp c (EOp Add b a) 0) i)), tt),
     ),
   )
 
-  rewrite_at_are : (out : ℕ) (o : Op) (a b : Exp) → OverExp a ctx → OverExp b ctx → AreSteps (EOp o a b) (rewrite_at out o a b)
-  rewrite_at_are out o (ELit v) (ELit u) oa ob =
-      whole_step_are (EOp o (ELit v) (ELit u)) (ELit (word_of o v u)) (calc o v u) (oa, ob) (word_of-below o v u oa ob) (calc_proves (e + d) ctx o v u oa ob)
-  rewrite_at_are out Sub a (ELit u) oa ob =
+  rewrite_at_are : (out : ℕ) (o : Op) (a b : Exp) → has_op One o ≡ true → OverExp a ctx → OverExp b ctx → AreSteps (EOp o a b) (rewrite_at out o a b)
+  rewrite_at_are out o (ELit v) (ELit u) has oa ob =
+      whole_step_are (EOp o (ELit v) (ELit u)) (ELit (word_of o v u)) (calc o v u) (oa, ob, has) (word_of-below o v u oa ob) (calc_proves (e + d) ctx o has v u oa ob)
+  rewrite_at_are out Sub a (ELit u) has oa ob =
       let none : 0 < 2 ^ 64 = omega arith in
-      whole_step_are (EOp Sub a (ELit u)) (EOp Add a (EOp Sub (ELit 0) (ELit u))) (word_rule 50 (a ∷ ELit u ∷ []) []) (oa, ob) (oa, (none, ob)) (negated a u oa ob)
-  rewrite_at_are out Add a (ELit zero) oa ob = whole_step_are (EOp Add a (ELit 0)) a (word_rule 48 (a ∷ []) []) (oa, ob) oa (add_none a oa)
-  rewrite_at_are out Bis a (ELit zero) oa ob = whole_step_are (EOp Bis a (ELit 0)) a (word_rule 55 (a ∷ []) []) (oa, ob) oa (bis_none a oa)
-  rewrite_at_are out Bis (ELit zero) a oa ob = whole_step_are (EOp Bis (ELit 0) a) a (word_rule 56 (a ∷ []) []) (oa, ob) ob (none_bis a ob)
-  rewrite_at_are out Add (EOp Add a b) c oa ob =
-      whole_step_are (EOp Add (EOp Add a b) c) (EOp Add a (EOp Add b c)) (word_rule 47 (a ∷ b ∷ c ∷ []) []) (oa, ob) (oa.0, (oa.1, ob)) (assoc a b c oa.0 oa.1 ob)
-  rewrite_at_are out Add a (EOp Add b c) oa ob =
+      whole_step_are (EOp Sub a (ELit u)) (EOp Add a (EOp Sub (ELit 0) (ELit u))) (word_rule 50 (a ∷ ELit u ∷ []) []) (oa, ob, refl) (oa, (none, ob, refl), refl) (negated a u oa ob)
+  rewrite_at_are out Add a (ELit zero) has oa ob = whole_step_are (EOp Add a (ELit 0)) a (word_rule 48 (a ∷ []) []) (oa, ob, refl) oa (add_none a oa)
+  rewrite_at_are out Bis a (ELit zero) has oa ob = whole_step_are (EOp Bis a (ELit 0)) a (word_rule 55 (a ∷ []) []) (oa, ob, refl) oa (bis_none a oa)
+  rewrite_at_are out Bis (ELit zero) a has oa ob = whole_step_are (EOp Bis (ELit 0) a) a (word_rule 56 (a ∷ []) []) (oa, ob, refl) ob (none_bis a ob)
+  rewrite_at_are out Add (EOp Add a b) c has oa ob =
+      whole_step_are (EOp Add (EOp Add a b) c) (EOp Add a (EOp Add b c)) (word_rule 47 (a ∷ b ∷ c ∷ []) []) (oa, ob, refl) (oa.0, (oa.1, ob, refl), refl) (assoc a b c oa.0 oa.1 ob)
+  rewrite_at_are out Add a (EOp Add b c) has oa ob =
       if_are (EOp Add a (EOp Add b c)) (nat_lt (summand_key out b) (summand_key out a)) (turned a b c) (swapped out a (EOp Add b c)) (turned_are a b c oa ob.0 ob.1) (swapped_are out a (EOp Add b c) oa ob)
-  rewrite_at_are out Add a b oa ob = swapped_are out a b oa ob
-  rewrite_at_are out o a b oa ob = tt
+  rewrite_at_are out Add a b has oa ob = swapped_are out a b oa ob
+  rewrite_at_are out o a b has oa ob = tt
 
   redex_are : (out : ℕ) (a : Exp) → OverExp a ctx → AreSteps a (redex out a)
   redex_are out (EOp o a b) h =
-      first_nonempty_are (EOp o a b) (in_left o b (redex out a)) (first_nonempty (in_right o a (redex out b)) (rewrite_at out o a b)) (in_left_are o a b h.1 (redex out a) (redex_are out a h.0))
-      (first_nonempty_are (EOp o a b) (in_right o a (redex out b)) (rewrite_at out o a b) (in_right_are o a b h.0 (redex out b) (redex_are out b h.1)) (rewrite_at_are out o a b h.0 h.1))
+      first_nonempty_are (EOp o a b) (in_left o b (redex out a)) (first_nonempty (in_right o a (redex out b)) (rewrite_at out o a b)) (in_left_are o a b h.2 h.1 (redex out a) (redex_are out a h.0))
+      (first_nonempty_are (EOp o a b) (in_right o a (redex out b)) (rewrite_at out o a b) (in_right_are o a b h.2 h.0 (redex out b) (redex_are out b h.1)) (rewrite_at_are out o a b h.2 h.0 h.1))
   redex_are out (EReg r) h = elim h [ ]
   redex_are out ELeft h = elim h [ ]
   redex_are out (EVar n) h = tt

@@ -4,7 +4,7 @@ use Rattle.term_table.specs.Tree.{Tree}
 use Rattle.term_table.proofs.Options.{bind_some, map_some, some_injective}
 use Rattle.lf_signature.specs.Terms.{pf}
 use Rattle.lf_signature.specs.Typing.{Checks}
-use Rattle.lf_signature.specs.Sigma1.{declared, the_rules}
+use Rattle.lf_signature.specs.Constants.{declared, the_rules}
 use Rattle.formula_tree.specs.Formulas.{Form, FTrue}
 use Rattle.formula_terms.specs.Encoding.{form_encoding}
 use Rattle.prover_class.proofs.Scope.{Over, nesting}
@@ -18,6 +18,7 @@ use Rattle.prover_class.proofs.Goals.{by_aligned_says, by_bounds_says}
 use Rattle.prover_class.proofs.NormalForms.{by_normal_says}
 use Rattle.prover_class.proofs.Access.{all_sound}
 use Rattle.prover_class.specs.Access.{by_all_means}
+use Rattle.lf_signature.specs.declared.WordSignature.TheVariants.{Sigma1}
 
 module _ (e d : ℕ) (room : e + (d + d + d) + 16 ≤ 2 ^ 32) (some : 0 < d) (s : ℕ) where
   pub words_sound : IsSound e d room some s by_words_alone
@@ -45,7 +46,7 @@ module _ (e d : ℕ) (room : e + (d + d + d) + 16 ≤ 2 ^ 32) (some : 0 < d) (s 
         (rule_proves e d room 29 _ refl [] (omega arith) (AForm A ∷ AForm (conjoined l) ∷ []) (a.0 ∷ b.0 ∷ []) ((o.0, omega (arith, nd)), ((o.1, omega (arith, nd)), tt))
         (part_says A a.0 o.0 (omega (arith, ne)) (omega (arith, nd)) a.1, (proof_says l b.0 o.1 (omega (arith, ne)) (omega (arith, nd)) b.1, tt)))
 
-pub class_checks : (l : List Form) (p : Tree) → Over (conjoined l) [] → 5 * nesting (conjoined l) + 20 ≤ 2 ^ 32 → condition_proof by_all_means l ≡ Some p → Checks declared [] p (pf (form_encoding (conjoined l)))
+pub class_checks : (l : List Form) (p : Tree) → Over (conjoined l) [] → 5 * nesting (conjoined l) + 20 ≤ 2 ^ 32 → condition_proof by_all_means l ≡ Some p → Checks (declared Sigma1) [] p (pf (form_encoding (conjoined l)))
 class_checks l p o r q =
     let n = nesting (conjoined l) in
     let room : (n + suc n) + (suc n + suc n + suc n) + 16 ≤ 2 ^ 32 = omega (arith, r) in

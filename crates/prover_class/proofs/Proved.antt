@@ -2,7 +2,7 @@
 use Rattle.std.specs.Prelude.{ℕ, zero, suc, ◌≤◌, List, [], ◌∷◌}
 use Rattle.term_table.specs.Tree.{Tree, shift}
 use Rattle.lf_signature.specs.Typing.{Checks}
-use Rattle.lf_signature.specs.Sigma1.{declared}
+use Rattle.lf_signature.specs.Constants.{declared}
 use Rattle.lf_signature.specs.Terms.{pf}
 use Rattle.lf_signature.specs.Rules.{Premise}
 use Rattle.lf_rules.specs.Plain.{var_bound}
@@ -11,10 +11,11 @@ use Rattle.formula_tree.specs.Formulas.{Form}
 use Rattle.formula_terms.specs.Encoding.{form_encoding}
 use Rattle.prover_class.proofs.Scope.{Over, nesting}
 use Rattle.prover_class.specs.Hypotheses.{Hyps}
+use Rattle.lf_signature.specs.declared.WordSignature.TheVariants.{Sigma1}
 
 -- the term is of the type, and no variable of it passes the bound
 pub record Proves (bound : ℕ) (ctx : List Tree) (type p : Tree) : Type 0 where
-  pub checks : Checks declared ctx p type
+  pub checks : Checks (declared Sigma1) ctx p type
   pub room : var_bound p ≤ bound
 
 -- one proof for each premise

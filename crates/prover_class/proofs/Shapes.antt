@@ -4,7 +4,7 @@ use Rattle.term_table.specs.Tree.{Tree, Var}
 use Rattle.term_table.specs.Subst.{bind}
 use Rattle.term_table.proofs.Options.{bind_some, map_some, some_injective}
 use Rattle.lf_signature.specs.Terms.{exp, mem, pf, falsity}
-use Rattle.lf_signature.specs.Sigma1.{the_rules}
+use Rattle.lf_signature.specs.Constants.{the_rules}
 use Rattle.formula_tree.specs.Formulas.{Form, FTrue, FFalse, FRel, FRd, FWr, FAnd, FOr, FImp, FAll, FAllm, shift_form}
 use Rattle.formula_terms.specs.Encoding.{form_encoding}
 use Rattle.prover_class.proofs.Scope.{Over, nesting}

@@ -7,15 +7,17 @@ use Rattle.word_ops.specs.Operators.{op_constant}
 use Rattle.lf_signature.specs.Numbers.{rel_constant}
 use Rattle.lf_signature.specs.Terms.{exp, mem, form, app1, app2}
 use Rattle.lf_signature.specs.Rules.{OfExp, OfMem, OfForm, OfExpForm, OfMemForm}
-use Rattle.lf_signature.specs.Sigma1.{constant_types, the_rules, number_types, declared}
+use Rattle.lf_signature.specs.Constants.{constant_types, the_rules, declared}
 use Rattle.lf_signature.specs.Typing.{Checks, lam_checks, atom_checks, var_synth, con_synth, app_synth}
-use Rattle.lf_signature.specs.Laws.Numbered.{declared-op, declared-rel}
+use Rattle.lf_signature.specs.Laws.Numbered.{declared-rel}
 use Rattle.lf_rules.specs.Plain.{var_bound, binder_depth}
 use Rattle.lf_rules.specs.Instance.{IsArgument}
 use Rattle.lf_rules.proofs.Room.{fits_shift, var_bound_shift}
 use Rattle.formula_tree.specs.Formulas.{Exp, EVar, ELit, EOp, ESel, MemExp, MVar, MUpd, Form, FTrue, FFalse, FRel, FRd, FWr, FAnd, FOr, FImp, FAll, FAllm, EReg, ELeft, MMem}
 use Rattle.formula_terms.specs.Encoding.{exp_encoding, mem_encoding, form_encoding}
 use Rattle.prover_class.proofs.Scope.{OverExp, OverMem, Over, nesting}
+use Rattle.lf_signature.specs.declared.WordSignature.TheVariants.{Sigma1}
+use Rattle.lf_signature.specs.Laws.Within.{first-declared}
 
 at_below : (ctx : List Tree) (n : ℕ) (t : Tree) → at ctx n ≡ Some t → n < length ctx
 at_below [] n t q = cc
@@ -74,70 +76,70 @@ binders_form (FImp A B) = omega (arith, binders_form A, binders_form B)
 binders_form (FAll A) = omega (arith, binders_form A)
 binders_form (FAllm A) = omega (arith, binders_form A)
 
-two : {ctx : List Tree} {a b : Tree} {s u t : ℕ} (n : ℕ) → declared (Num n) ≡ Some (Pi (Fam s) (Pi (Fam u) (Fam t))) → Checks declared ctx a (Fam s) → Checks declared ctx b (Fam u) →
-    fits (shift 1 0 a) ≡ true → Checks declared ctx (app2 n a b) (Fam t)
+two : {ctx : List Tree} {a b : Tree} {s u t : ℕ} (n : ℕ) → declared Sigma1 (Num n) ≡ Some (Pi (Fam s) (Pi (Fam u) (Fam t))) → Checks (declared Sigma1) ctx a (Fam s) → Checks (declared Sigma1) ctx b (Fam u) →
+    fits (shift 1 0 a) ≡ true → Checks (declared Sigma1) ctx (app2 n a b) (Fam t)
 two n q d g f = atom_checks (app_synth (app_synth (con_synth q) d (in_pi in_fam f in_fam)) g in_fam) tt
 
-one : {ctx : List Tree} {a : Tree} {s t : ℕ} (n : ℕ) → declared (Num n) ≡ Some (Pi (Fam s) (Fam t)) → Checks declared ctx a (Fam s) → Checks declared ctx (app1 n a) (Fam t)
+one : {ctx : List Tree} {a : Tree} {s t : ℕ} (n : ℕ) → declared Sigma1 (Num n) ≡ Some (Pi (Fam s) (Fam t)) → Checks (declared Sigma1) ctx a (Fam s) → Checks (declared Sigma1) ctx (app1 n a) (Fam t)
 one n q d = atom_checks (app_synth (con_synth q) d in_fam) tt
 
-sel_declared : declared (Num 11) ≡ Some (Pi mem (Pi exp exp))
-unfolding constant_types the_rules number_types
+sel_declared : declared Sigma1 (Num 11) ≡ Some (Pi mem (Pi exp exp))
+unfolding constant_types the_rules
 sel_declared = refl
 
-upd_declared : declared (Num 12) ≡ Some (Pi mem (Pi exp (Pi exp mem)))
-unfolding constant_types the_rules number_types
+upd_declared : declared Sigma1 (Num 12) ≡ Some (Pi mem (Pi exp (Pi exp mem)))
+unfolding constant_types the_rules
 upd_declared = refl
 
-truth_declared : declared (Num 13) ≡ Some form
-unfolding constant_types the_rules number_types
+truth_declared : declared Sigma1 (Num 13) ≡ Some form
+unfolding constant_types the_rules
 truth_declared = refl
 
-falsity_declared : declared (Num 14) ≡ Some form
-unfolding constant_types the_rules number_types
+falsity_declared : declared Sigma1 (Num 14) ≡ Some form
+unfolding constant_types the_rules
 falsity_declared = refl
 
-rd_declared : declared (Num 20) ≡ Some (Pi exp form)
-unfolding constant_types the_rules number_types
+rd_declared : declared Sigma1 (Num 20) ≡ Some (Pi exp form)
+unfolding constant_types the_rules
 rd_declared = refl
 
-wr_declared : declared (Num 21) ≡ Some (Pi exp form)
-unfolding constant_types the_rules number_types
+wr_declared : declared Sigma1 (Num 21) ≡ Some (Pi exp form)
+unfolding constant_types the_rules
 wr_declared = refl
 
-and_declared : declared (Num 22) ≡ Some (Pi form (Pi form form))
-unfolding constant_types the_rules number_types
+and_declared : declared Sigma1 (Num 22) ≡ Some (Pi form (Pi form form))
+unfolding constant_types the_rules
 and_declared = refl
 
-or_declared : declared (Num 23) ≡ Some (Pi form (Pi form form))
-unfolding constant_types the_rules number_types
+or_declared : declared Sigma1 (Num 23) ≡ Some (Pi form (Pi form form))
+unfolding constant_types the_rules
 or_declared = refl
 
-imp_declared : declared (Num 24) ≡ Some (Pi form (Pi form form))
-unfolding constant_types the_rules number_types
+imp_declared : declared Sigma1 (Num 24) ≡ Some (Pi form (Pi form form))
+unfolding constant_types the_rules
 imp_declared = refl
 
-all_declared : declared (Num 25) ≡ Some (Pi (Pi exp form) form)
-unfolding constant_types the_rules number_types
+all_declared : declared Sigma1 (Num 25) ≡ Some (Pi (Pi exp form) form)
+unfolding constant_types the_rules
 all_declared = refl
 
-allm_declared : declared (Num 26) ≡ Some (Pi (Pi mem form) form)
-unfolding constant_types the_rules number_types
+allm_declared : declared Sigma1 (Num 26) ≡ Some (Pi (Pi mem form) form)
+unfolding constant_types the_rules
 allm_declared = refl
 
-lit_declared : (w : ℕ) → w < 2 ^ 64 → declared (Lit w) ≡ Some exp
+lit_declared : (w : ℕ) → w < 2 ^ 64 → declared Sigma1 (Lit w) ≡ Some exp
 lit_declared w h = ap (λ b. cond b (Some exp) None) (lt-ltb w (2 ^ 64) h)
 
 mutual
-  pub exp_checks : (a : Exp) (ctx : List Tree) → OverExp a ctx → length ctx + 2 ≤ 2 ^ 32 → Checks declared ctx (exp_encoding a) exp
+  pub exp_checks : (a : Exp) (ctx : List Tree) → OverExp a ctx → length ctx + 2 ≤ 2 ^ 32 → Checks (declared Sigma1) ctx (exp_encoding a) exp
   exp_checks (EReg r) ctx h q = elim h [ ]
   exp_checks ELeft ctx h q = elim h [ ]
   exp_checks (EVar n) ctx h r = atom_checks (var_synth h refl) tt
   exp_checks (ELit w) ctx h r = atom_checks (con_synth (lit_declared w h)) tt
-  exp_checks (EOp o a b) ctx h r = two (op_constant o) (declared-op o) (exp_checks a ctx h.0 r) (exp_checks b ctx h.1 r) (fits_shift (exp_encoding a) 1 0 (omega (arith, r, exp_bound a ctx h.0)))
+  exp_checks (EOp o a b) ctx h r = two (op_constant o) (first-declared o h.2) (exp_checks a ctx h.0 r) (exp_checks b ctx h.1 r) (fits_shift (exp_encoding a) 1 0 (omega (arith, r, exp_bound a ctx h.0)))
   exp_checks (ESel m a) ctx h r = two 11 sel_declared (mem_checks m ctx h.0 r) (exp_checks a ctx h.1 r) (fits_shift (mem_encoding m) 1 0 (omega (arith, r, mem_bound m ctx h.0)))
 
-  pub mem_checks : (m : MemExp) (ctx : List Tree) → OverMem m ctx → length ctx + 2 ≤ 2 ^ 32 → Checks declared ctx (mem_encoding m) mem
+  pub mem_checks : (m : MemExp) (ctx : List Tree) → OverMem m ctx → length ctx + 2 ≤ 2 ^ 32 → Checks (declared Sigma1) ctx (mem_encoding m) mem
   mem_checks MMem ctx h q = elim h [ ]
   mem_checks (MVar n) ctx h r = atom_checks (var_synth h refl) tt
   mem_checks (MUpd m a v) ctx h r =
@@ -150,11 +152,11 @@ mutual
       (exp_checks v ctx h.2 r) in_fam)
       tt
 
-pub form_checks : (A : Form) (ctx : List Tree) → Over A ctx → length ctx + nesting A + 2 ≤ 2 ^ 32 → Checks declared ctx (form_encoding A) form
+pub form_checks : (A : Form) (ctx : List Tree) → Over A ctx → length ctx + nesting A + 2 ≤ 2 ^ 32 → Checks (declared Sigma1) ctx (form_encoding A) form
 form_checks FTrue ctx h r = atom_checks (con_synth truth_declared) tt
 form_checks FFalse ctx h r = atom_checks (con_synth falsity_declared) tt
 form_checks (FRel p a b) ctx h r =
-    two (rel_constant p) (declared-rel p) (exp_checks a ctx h.0 (omega (arith, r))) (exp_checks b ctx h.1 (omega (arith, r))) (fits_shift (exp_encoding a) 1 0 (omega (arith, r, exp_bound a ctx h.0)))
+    two (rel_constant p) (declared-rel Sigma1 p) (exp_checks a ctx h.0 (omega (arith, r))) (exp_checks b ctx h.1 (omega (arith, r))) (fits_shift (exp_encoding a) 1 0 (omega (arith, r, exp_bound a ctx h.0)))
 form_checks (FRd a) ctx h r = one 20 rd_declared (exp_checks a ctx h (omega (arith, r)))
 form_checks (FWr a) ctx h r = one 21 wr_declared (exp_checks a ctx h (omega (arith, r)))
 form_checks (FAnd A B) ctx h r = two 22 and_declared (form_checks A ctx h.0 (omega (arith, r))) (form_checks B ctx h.1 (omega (arith, r))) (fits_shift (form_encoding A) 1 0 (omega (arith, r, form_bound A ctx h.0)))
@@ -164,22 +166,22 @@ form_checks (FAll A) ctx h r = atom_checks (app_synth (con_synth all_declared) (
 form_checks (FAllm A) ctx h r = atom_checks (app_synth (con_synth allm_declared) (lam_checks (form_checks A (mem ∷ ctx) h (omega (arith, r)))) in_fam) tt
 
 -- what serves a rule as an argument
-pub exp_argument : (a : Exp) (ctx : List Tree) (d : ℕ) → OverExp a ctx → length ctx + (d + d) + 16 ≤ 2 ^ 32 → IsArgument ctx d OfExp (exp_encoding a)
+pub exp_argument : (a : Exp) (ctx : List Tree) (d : ℕ) → OverExp a ctx → length ctx + (d + d) + 16 ≤ 2 ^ 32 → IsArgument (declared Sigma1) ctx d OfExp (exp_encoding a)
 exp_argument a ctx d h r =
     record { checks = exp_checks a ctx h (omega (arith, r)); depth = omega (arith, binders_exp a); room = omega (arith, r, exp_bound a ctx h) }
 
-pub mem_argument : (m : MemExp) (ctx : List Tree) (d : ℕ) → OverMem m ctx → length ctx + (d + d) + 16 ≤ 2 ^ 32 → IsArgument ctx d OfMem (mem_encoding m)
+pub mem_argument : (m : MemExp) (ctx : List Tree) (d : ℕ) → OverMem m ctx → length ctx + (d + d) + 16 ≤ 2 ^ 32 → IsArgument (declared Sigma1) ctx d OfMem (mem_encoding m)
 mem_argument m ctx d h r =
     record { checks = mem_checks m ctx h (omega (arith, r)); depth = omega (arith, binders_mem m); room = omega (arith, r, mem_bound m ctx h) }
 
-pub form_argument : (A : Form) (ctx : List Tree) (d : ℕ) → Over A ctx → nesting A ≤ d → length ctx + (d + d + d) + 16 ≤ 2 ^ 32 → IsArgument ctx d OfForm (form_encoding A)
+pub form_argument : (A : Form) (ctx : List Tree) (d : ℕ) → Over A ctx → nesting A ≤ d → length ctx + (d + d + d) + 16 ≤ 2 ^ 32 → IsArgument (declared Sigma1) ctx d OfForm (form_encoding A)
 form_argument A ctx d h n r =
     record { checks = form_checks A ctx h (omega (arith, n, r)); depth = omega (arith, n, binders_form A); room = omega (arith, n, r, form_bound A ctx h) }
 
-pub all_argument : (A : Form) (ctx : List Tree) (d : ℕ) → Over A (exp ∷ ctx) → nesting A < d → length ctx + (d + d + d) + 16 ≤ 2 ^ 32 → IsArgument ctx d OfExpForm (Lam (form_encoding A))
+pub all_argument : (A : Form) (ctx : List Tree) (d : ℕ) → Over A (exp ∷ ctx) → nesting A < d → length ctx + (d + d + d) + 16 ≤ 2 ^ 32 → IsArgument (declared Sigma1) ctx d OfExpForm (Lam (form_encoding A))
 all_argument A ctx d h n r =
     record { checks = lam_checks (form_checks A (exp ∷ ctx) h (omega (arith, n, r))); depth = omega (arith, n, binders_form A); room = omega (arith, n, r, form_bound A (exp ∷ ctx) h) }
 
-pub allm_argument : (A : Form) (ctx : List Tree) (d : ℕ) → Over A (mem ∷ ctx) → nesting A < d → length ctx + (d + d + d) + 16 ≤ 2 ^ 32 → IsArgument ctx d OfMemForm (Lam (form_encoding A))
+pub allm_argument : (A : Form) (ctx : List Tree) (d : ℕ) → Over A (mem ∷ ctx) → nesting A < d → length ctx + (d + d + d) + 16 ≤ 2 ^ 32 → IsArgument (declared Sigma1) ctx d OfMemForm (Lam (form_encoding A))
 allm_argument A ctx d h n r =
     record { checks = lam_checks (form_checks A (mem ∷ ctx) h (omega (arith, n, r))); depth = omega (arith, n, binders_form A); room = omega (arith, n, r, form_bound A (mem ∷ ctx) h) }

@@ -1,10 +1,13 @@
 -- Rules at formulas, expressions and proofs: typed, and still so under further binders.
-use Rattle.std.proofs.Common.{◌≡◌, ℕ, zero, suc, ◌+◌, ◌^◌, ◌≤◌, max, Bool, true, false, ◌&&◌, Some, List, [], ◌∷◌, length, refl, sym, ◌∙◌, ap, subst, arith}
+use Rattle.std.proofs.Common.{◌≡◌, ℕ, zero, suc, ◌+◌, ◌^◌, ◌≤◌, max, Bool, true, false, cond, nat_lt, ◌&&◌, Option, Some, None, List, [], ◌∷◌, length, refl, sym, ◌∙◌, ap, subst, arith}
+use Rattle.std.proofs.lemmas.Bool.{ltb-true}
 use Rattle.term_table.specs.Tree.{Tree, Con, App, Lam, Num, shift, apps}
 use Rattle.lf_signature.specs.Terms.{exp, mem, pf, op_term, sel, upd, rel_term, and_term, or_term, imp_term}
 use Rattle.lf_signature.specs.Rules.{Sort, OfExp, OfMem, OfForm, OfExpForm, OfMemForm, SExp, SPar, SOwn, SLit, SOp, SSel, SMem, MPar, MOwn, SUpd, SForm, STrue, SFalse, FPar, FOf, FOfMem, SRel, SAnd, SOr, SImp, SAll, SAllm, Premise, Plain, Rule}
-use Rattle.lf_signature.specs.Sigma1.{rule_at}
-use Rattle.lf_signature.specs.Laws.Booleans.{both}
+use Rattle.lf_signature.specs.Constants.{declared, rule_at}
+use Rattle.lf_signature.specs.declared.WordSignature.TheVariants.{Sigma1}
+use Rattle.lf_signature.specs.Laws.Booleans.{both, cond_is}
+use Rattle.lf_signature.proofs.Lookup.{declared-rule}
 use Rattle.lf_rules.specs.Plain.{var_bound}
 use Rattle.lf_rules.specs.Instance.{nth_arg, exp_with, mem_with, form_with, IsArgument, AreArguments, AreProofs}
 use Rattle.lf_rules.proofs.Use.{rule_checks}
@@ -16,9 +19,13 @@ use Rattle.prover_class.proofs.Typed.{exp_argument, mem_argument, form_argument,
 use Rattle.formula_terms.specs.ProofTerms.{Argument, AExp, AMem, AForm, AAll, AAllm, arg_encoding, args_encoding, rule_proof}
 use Rattle.prover_class.proofs.Proved.{Proves, AllProve, Stays}
 
+-- the rule at a number, where the first signature declares it
+abbrev pub first_rule : ℕ → Option Rule
+first_rule n = cond (nat_lt n 88) (rule_at n) None
+
 -- contexts have at most e entries, and terms at most d binders in one another
 module _ (e d : ℕ) (room : e + (d + d + d) + 16 ≤ 2 ^ 32) where
-  arg_is : (ctx : List Tree) → length ctx ≤ e → (s : Sort) (a : Argument) → Serves ctx d s a → IsArgument ctx d s (arg_encoding a)
+  arg_is : (ctx : List Tree) → length ctx ≤ e → (s : Sort) (a : Argument) → Serves ctx d s a → IsArgument (declared Sigma1) ctx d s (arg_encoding a)
   arg_is ctx w OfExp (AExp x) h = exp_argument x ctx d h (omega (arith, room, w))
   arg_is ctx w OfMem (AMem x) h = mem_argument x ctx d h (omega (arith, room, w))
   arg_is ctx w OfForm (AForm x) h = form_argument x ctx d h.0 h.1 (omega (arith, room, w))
@@ -34,13 +41,13 @@ module _ (e d : ℕ) (room : e + (d + d + d) + 16 ≤ 2 ^ 32) where
   arg_reach ctx w OfMemForm (AAllm x) h = omega (arith, w, form_bound x (mem ∷ ctx) h.0, h.1)
   arg_reach ctx w _ _ h = elim h [ ]
 
-  args_are : (ctx : List Tree) → length ctx ≤ e → (ss : List Sort) (l : List Argument) → AllServe ctx d ss l → AreArguments ctx d ss (args_encoding l)
+  args_are : (ctx : List Tree) → length ctx ≤ e → (ss : List Sort) (l : List Argument) → AllServe ctx d ss l → AreArguments (declared Sigma1) ctx d ss (args_encoding l)
   args_are ctx w [] [] h = tt
   args_are ctx w (s ∷ ss) (a ∷ l) h = (arg_is ctx w s a h.0, args_are ctx w ss l h.1)
   args_are ctx w [] (a ∷ l) h = elim h [ ]
   args_are ctx w (s ∷ ss) [] h = elim h [ ]
 
-  proofs_are : (ctx : List Tree) (args : ℕ → Tree) (qs : List Premise) (l : List Tree) → AllProve (e + d) ctx args qs l → AreProofs ctx d args qs l
+  proofs_are : (ctx : List Tree) (args : ℕ → Tree) (qs : List Premise) (l : List Tree) → AllProve (e + d) ctx args qs l → AreProofs (declared Sigma1) ctx d args qs l
   proofs_are ctx args [] [] h = tt
   proofs_are ctx args (q ∷ qs) (p ∷ l) h = (record { checks = h.0.checks; room = omega (arith, room, h.0.room) }, proofs_are ctx args qs l h.1)
   proofs_are ctx args [] (p ∷ l) h = elim h [ ]
@@ -59,11 +66,12 @@ module _ (e d : ℕ) (room : e + (d + d + d) + 16 ≤ 2 ^ 32) where
   proofs_reach ctx args (q ∷ qs) [] h f r = elim h [ ]
 
   -- a rule at arguments that serve it and at proofs of its premises proves its conclusion
-  pub rule_proves : (n : ℕ) (r : Rule) → rule_at n ≡ Some r → (ctx : List Tree) → length ctx ≤ e → (args : List Argument) (proofs : List Tree) → AllServe ctx d r.parameters args →
+  pub rule_proves : (n : ℕ) (r : Rule) → first_rule n ≡ Some r → (ctx : List Tree) → length ctx ≤ e → (args : List Argument) (proofs : List Tree) → AllServe ctx d r.parameters args →
       AllProve (e + d) ctx (nth_arg (args_encoding args)) r.premises proofs → Proves (e + d) ctx (pf (form_with r.conclusion (nth_arg (args_encoding args)))) (rule_proof n args proofs)
   rule_proves n r q ctx w args proofs h g =
+      let f : (nat_lt n 88 ≡ true) × (rule_at n ≡ Some r) = cond_is (nat_lt n 88) (rule_at n) r q in
       record {
-        checks = rule_checks n r q ctx d (args_encoding args) proofs (args_are ctx w r.parameters args h) (proofs_are ctx (nth_arg (args_encoding args)) r.premises proofs g);
+        checks = rule_checks (declared Sigma1) n r f.1 (declared-rule Sigma1 n r (ltb-true n 88 f.0) f.1) ctx d (args_encoding args) proofs (args_are ctx w r.parameters args h) (proofs_are ctx (nth_arg (args_encoding args)) r.premises proofs g);
         room = proofs_reach ctx (nth_arg (args_encoding args)) r.premises proofs g (apps (Con (Num n)) (args_encoding args)) (args_reach ctx w r.parameters args h (Con (Num n)) (omega arith));
       }
 
@@ -201,7 +209,7 @@ stays_now bound zero ctx a p h = h
 stays_now bound (suc k) ctx a p h = h.0
 
 -- a rule of one plain premise carries over what stays
-module _ (e d : ℕ) (room : e + (d + d + d) + 16 ≤ 2 ^ 32) (n : ℕ) (r : Rule) (q : rule_at n ≡ Some r) (p : SForm) (only : r.premises ≡ Plain p ∷ [])
+module _ (e d : ℕ) (room : e + (d + d + d) + 16 ≤ 2 ^ 32) (n : ℕ) (r : Rule) (q : first_rule n ≡ Some r) (p : SForm) (only : r.premises ≡ Plain p ∷ [])
     (simple : (is_simple r.parameters && (simple_form p && simple_form r.conclusion)) ≡ true) where
   now : (ctx : List Tree) → length ctx ≤ e → (l : List Argument) → AllServe ctx d r.parameters l → (h : Tree) → Proves (e + d) ctx (pf (form_with p (nth_arg (args_encoding l)))) h →
       Proves (e + d) ctx (pf (form_with r.conclusion (nth_arg (args_encoding l)))) (rule_proof n l (h ∷ []))

@@ -1,6 +1,7 @@
 //! An agent: a state in an arena.
 
 ghost use Rattle.std.specs.Prelude.{◌≡◌, ◌+◌, ◌<◌, ◌≤◌, length, IfOk, true, if◌then◌else◌, Some, None, slice_index, ◌%◌, ◌^◌};
+ghost use Rattle.std.specs.Prelude.{pos, ◌*ℤ◌};
 ghost use Rattle.word_ops.specs.Memory as memory;
 ghost use Rattle.word_ops.specs.Rights.{allowed};
 ghost use Rattle.word_ops.specs.Registers.{read_reg, write_reg};
@@ -14,7 +15,9 @@ ghost use Rattle.alpha_cfg.specs.declared.code.TheConstants.{MAX_WORDS};
 
 use crate::layout::{ARENA, QUADWORDS};
 use crate::loading::{reach, refill};
-use crate::parts::{address_of, is_allowed, read_reg, rhs_word, takes, write_reg};
+use crate::parts::{
+    address_of, aligned, far_address_of, is_allowed, read_reg, rhs_word, takes, write_reg,
+};
 use crate::start::Start;
 use alpha_cfg::{Code, Kind, Outcome, Step};
 use alpha_words::{Insn, Reg, Rhs};
@@ -112,6 +115,13 @@ impl Agent {
         ensures { result ≡ machine.address_of self.now.state.regs rb disp }
     {
         address_of(&self.regs, rb, disp)
+    }
+
+    /// The sum of a register and 65,536 times a displacement.
+    fn far_address(&self, rb: Reg, disp: i16) -> u64
+        ensures { result ≡ machine.address_of self.now.state.regs rb (disp *ℤ pos 65536) }
+    {
+        far_address_of(&self.regs, rb, disp)
     }
 
     /// The word at an address, where it may be loaded.
@@ -253,6 +263,14 @@ impl Agent {
             }
             Insn::Ldq { ra, rb, disp } => {
                 let addr = self.address(rb, disp);
+                self.load_word(ra, addr)
+            }
+            Insn::Ldah { ra, rb, disp } => {
+                let addr = self.far_address(rb, disp);
+                self.set_reg(ra, addr)
+            }
+            Insn::LdqU { ra, rb, disp } => {
+                let addr = aligned(self.address(rb, disp));
                 self.load_word(ra, addr)
             }
             Insn::Stq { ra, rb, disp } => {

@@ -18,6 +18,8 @@ pub use agent::Agent;
 pub use alpha_cfg::{Kind, Outcome, Step};
 pub use layout::{ARENA, QUADWORDS};
 pub use loading::{fill, reach, refill};
-pub use parts::{address_of, is_allowed, read_reg, rhs_word, takes, write_reg};
+pub use parts::{
+    address_of, aligned, far_address_of, is_allowed, read_reg, rhs_word, takes, write_reg,
+};
 pub use start::Start;
 pub use theorems::laws;

@@ -1,6 +1,6 @@
 //! Registers, operands and spans.
 
-ghost use Rattle.std.specs.Prelude.{◌≡◌, ◌↔◌, IsTrue, length};
+ghost use Rattle.std.specs.Prelude.{◌≡◌, ◌↔◌, IsTrue, length, pos, ◌*ℤ◌};
 ghost use Rattle.alpha_cfg.specs.Machine as machine;
 ghost use Rattle.word_ops.specs.Registers as registers;
 ghost use Rattle.word_ops.specs.Rights as rights;
@@ -45,6 +45,21 @@ pub fn address_of(regs: &[u64; 31], rb: Reg, disp: i16) -> u64
     ensures { result ≡ machine.address_of regs.now rb disp }
 {
     read_reg(regs, rb).wrapping_add(i64::from(disp).cast_unsigned())
+}
+
+/// The sum of register `rb` and 65,536 times the sign-extended displacement, modulo 2^64.
+pub fn far_address_of(regs: &[u64; 31], rb: Reg, disp: i16) -> u64
+    ensures { result ≡ machine.address_of regs.now rb (disp *ℤ pos 65536) }
+{
+    let far = i64::from(disp) * 65_536;
+    read_reg(regs, rb).wrapping_add(far.cast_unsigned())
+}
+
+/// The address of the quadword that holds the byte.
+pub fn aligned(addr: u64) -> u64
+    ensures { result ≡ machine.aligned addr }
+{
+    addr - addr % 8
 }
 
 /// Whether a conditional branch is taken, by the word of its register.

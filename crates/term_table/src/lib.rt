@@ -61,6 +61,8 @@ pub enum Node {
     Fact(u32, u64, u64),
     /// A relation at two words: that it doesn't hold.
     Deny(u32, u64, u64),
+    /// The lemma of a number: a proof of its formula, where a signature has one.
+    Lemma(u32),
     /// A term applied to a term.
     App(Id, Id),
     /// A term under a binder.
@@ -280,7 +282,7 @@ fn numbers(node: Node)
     ensures { IsSmallNode node }
 {
     match node {
-        Node::Var(_) | Node::Const(_) | Node::Fam(_) | Node::Lit(_) => {}
+        Node::Var(_) | Node::Const(_) | Node::Lemma(_) | Node::Fam(_) | Node::Lit(_) => {}
         Node::Calc(_, _, _) | Node::Fact(_, _, _) | Node::Deny(_, _, _) => {}
         Node::App(_, _) | Node::Lam(_) | Node::TApp(_, _) | Node::Pi(_, _) => {}
     }

@@ -10,7 +10,7 @@ use lf_encode::{
     adequacy_laws, encode_form, form_of, machine_context, put_laws, scope_laws,
     substitution_in_contexts, substitution_on_encodings,
 };
-use lf_signature::app2;
+use lf_signature::{Sigma1, app2};
 use std::alloc::{AllocError, Global};
 use std::test::Fail;
 use term_table::{Id, Node, Places, Table};
@@ -49,7 +49,7 @@ fn laws_of_encodings() {
 fn is_read_as(table: &mut Table, id: Id, form: Form) -> Result<bool, AllocError>
     requires { IsKnown table.old id }
 {
-    Ok(form_of(table, id, &[])? == Some(form))
+    Ok(form_of(table, &Sigma1, id, &[])? == Some(form))
 }
 
 #[test]
@@ -91,7 +91,7 @@ fn register_31_is_encoded_as_0(rt: HostRuntime) -> Result<(), Fail> {
 fn zero_is_read_back(rt: HostRuntime) -> Result<(), Fail> {
     let mut table = Table::new(rt.alloc(), Places::sigma1());
     let term = zero_term(&mut table)?;
-    let read = form_of(&mut table, term, &machine_context())?;
+    let read = form_of(&mut table, &Sigma1, term, &machine_context())?;
     assert!(rt; read == Some(Form::Rel(Rel::Eq, Exp::Lit(0), Exp::Lit(0))));
     Ok(())
 }

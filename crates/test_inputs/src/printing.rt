@@ -54,6 +54,10 @@ fn put_leaf(text: &mut String, node: Node) -> Result<(), AllocError> {
         Node::Calc(o, a, b) => put_evaluated(text, "(calc ", (u64::from(o), a, b)),
         Node::Fact(o, a, b) => put_evaluated(text, "(fact ", (u64::from(o), a, b)),
         Node::Deny(o, a, b) => put_evaluated(text, "(deny ", (u64::from(o), a, b)),
+        Node::Lemma(n) => {
+            put_number(text, "(lemma ", u64::from(n))?;
+            text.push_str(")")
+        }
         Node::App(_, _) | Node::Lam(_) | Node::TApp(_, _) | Node::Pi(_, _) => Ok(()),
     }
 }

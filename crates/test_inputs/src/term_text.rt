@@ -15,7 +15,7 @@ use term_table::{Id, Node, Table};
 use text_tokens::{Number, Token, begins_with_digit, read_number};
 
 /// The names of the constants, by their numbers.
-pub static CONSTANTS: [&str; 88] = [
+pub static CONSTANTS: [&str; 105] = [
     "add",
     "sub",
     "band",
@@ -104,14 +104,32 @@ pub static CONSTANTS: [&str; 88] = [
     "cmp_le1_2",
     "cmp_le1_3",
     "cmp_le1_4",
+    "xor",
+    "bic",
+    "s4add",
+    "s8add",
+    "sra",
+    "extb",
+    "extw",
+    "extl",
+    "xor_self",
+    "bic_le",
+    "s4_def",
+    "s8_def",
+    "extb_le",
+    "extw_le",
+    "extl_le",
+    "bic_def",
+    "sub_lo",
 ];
 
 /// The names of the families, by their numbers.
 pub static FAMILIES: [&str; 4] = ["exp", "mem", "form", "pf"];
 
 /// The names of the operators, by their places in `Op`.
-static OPERATORS: [&str; 11] = [
+static OPERATORS: [&str; 19] = [
     "add", "sub", "band", "bis", "sll", "srl", "cmpeq", "cmplt", "cmple", "cmpult", "cmpule",
+    "xor", "bic", "s4add", "s8add", "sra", "extb", "extw", "extl",
 ];
 
 /// The names of the relations, by their places in `Rel`.
@@ -361,6 +379,9 @@ fn numbered(cursor: &mut Cursor<'_>, keyword: &[u8]) -> Read<Option<Node>> {
     }
     if keyword == b"fam".as_slice() {
         return Ok(Some(Node::Fam(named_number(cursor, &FAMILIES)?)));
+    }
+    if keyword == b"lemma".as_slice() {
+        return Ok(Some(Node::Lemma(small_number(cursor)?)));
     }
     evaluated(cursor, keyword)
 }

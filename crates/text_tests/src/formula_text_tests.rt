@@ -5,7 +5,7 @@ use formula_tree::{Exp, Form};
 use std::alloc::{AllocError, Global};
 use std::process::Abort;
 use std::test::Fail;
-use word_ops::Rel;
+use word_ops::{Profile, Rel};
 
 /// Texts with what is printed of their formulas; the last five are what policies ask for.
 static READ: [(&str, &str); 19] = [
@@ -67,7 +67,7 @@ static READ: [(&str, &str); 19] = [
 ];
 
 /// Texts with their first fault, by its position.
-static SHAPE: [(&str, usize); 18] = [
+static SHAPE: [(&str, usize); 19] = [
     ("", 0),
     (" \t ", 3),
     (")", 0),
@@ -80,6 +80,7 @@ static SHAPE: [(&str, usize); 18] = [
     ("(xor r1 r2)", 1),
     ("(add r1 r2)", 1),
     ("(rd (foo r1))", 5),
+    ("(rd (xor r1 r2))", 5),
     ("(rd (eq 0 0))", 5),
     ("(rd (sel (add 0 0) 0))", 10),
     ("(eq r1)", 6),
@@ -132,7 +133,7 @@ static TRAILING: [(&str, usize); 5] = [
 
 /// Reads the text and prints its formula.
 fn printed(alloc: Global, text: &[u8]) -> Result<Vec<u8>, TextFault> {
-    let form = read_form(alloc, text)?;
+    let form = read_form(alloc, text, Profile::One)?;
     match print_form(alloc, &form) {
         Ok(out) => Ok(out),
         Err(_) => Err(TextFault::Memory),
@@ -159,9 +160,9 @@ fn what_is_read_is_printed(rt: HostRuntime) {
     }
 }
 
-/// Whether the text is refused by this flaw at this position.
-fn is_refused(alloc: Global, text: &str, at: usize, flaw: TextFlaw) -> bool {
-    match read_form(alloc, text.as_bytes()) {
+/// Whether the profile refuses the text by this flaw at this position.
+fn is_refused(alloc: Global, profile: Profile, text: &str, at: usize, flaw: TextFlaw) -> bool {
+    match read_form(alloc, text.as_bytes(), profile) {
         Err(fault) => fault == TextFault::At(at, flaw),
         Ok(_) => false,
     }
@@ -169,7 +170,7 @@ fn is_refused(alloc: Global, text: &str, at: usize, flaw: TextFlaw) -> bool {
 
 fn test_faults(rt: &impl Abort, alloc: Global, rows: &[(&str, usize)], flaw: TextFlaw) {
     for &(text, at) in rows.iter() {
-        assert!(rt; is_refused(alloc, text, at, flaw), "{text}");
+        assert!(rt; is_refused(alloc, Profile::One, text, at, flaw), "{text}");
     }
 }
 
@@ -191,10 +192,17 @@ fn flaws_have_names(rt: HostRuntime) {
 
 #[test]
 fn the_tree_of_a_text(rt: HostRuntime) {
-    match read_form(rt.alloc(), b"(eq r31 0)") {
+    match read_form(rt.alloc(), b"(eq r31 0)", Profile::One) {
         Ok(form) => assert!(rt; form == Form::Rel(Rel::Eq, Exp::Reg(31), Exp::Lit(0))),
         Err(fault) => assert!(rt; false, "{fault}"),
     }
+}
+
+#[test]
+fn the_second_profile_has_more_operators(rt: HostRuntime) {
+    assert!(rt; read_form(rt.alloc(), b"(rd (xor r1 r2))", Profile::Two).is_ok());
+    assert!(rt; is_refused(rt.alloc(), Profile::Two, "(xor r1 r2)", 1, TextFlaw::Shape));
+    assert!(rt; is_refused(rt.alloc(), Profile::Two, "(all xor tt)", 5, TextFlaw::Name));
 }
 
 /// `front` so often, `inner`, and `back` as often.
@@ -219,8 +227,8 @@ fn nested(
 /// Whether what is printed of the text's formula is read as that formula.
 fn is_read_back(alloc: Global, text: &[u8]) -> Result<bool, TextFault> {
     let again = printed(alloc, text)?;
-    let form = read_form(alloc, text)?;
-    Ok(read_form(alloc, &again)? == form)
+    let form = read_form(alloc, text, Profile::One)?;
+    Ok(read_form(alloc, &again, Profile::One)? == form)
 }
 
 /// Whether the text is as long as it can be, and its formula is printed and read back.

@@ -7,12 +7,13 @@ use Rattle.word_ops.specs.Rights.{Rights, allowed}
 use Rattle.word_ops.specs.Registers.{read_reg, write_reg}
 use Rattle.word_ops.proofs.Memories.{read-write_other, read-write_same}
 use Rattle.alpha_words.specs.declared.insn.Insn.{Insn}
-use Rattle.alpha_words.specs.declared.insn.Insn.TheVariants.{Lda, Ldq, Stq, Oper, Branch, Br, Ret}
+use Rattle.alpha_cfg.specs.Actions.{Action, action_of}
+use Rattle.alpha_cfg.specs.Actions as actions
 use Rattle.alpha_cfg.specs.Flow.{jump_of}
 use Rattle.alpha_cfg.specs.declared.outcome.Kind.TheVariants.{Load, Store}
 use Rattle.alpha_cfg.specs.declared.outcome.Step.{Step}
 use Rattle.alpha_cfg.specs.declared.outcome.Step.TheVariants as steps
-use Rattle.alpha_cfg.specs.Machine.{State, address_of, takes, access_outcome, state_at, insn_outcome, step_at, step_of, ends_with, run_of}
+use Rattle.alpha_cfg.specs.Machine.{State, address_of, aligned, passes, access_outcome, state_at, action_outcome, step_at, step_of, ends_with, run_of}
 use Rattle.turn_laws.specs.Parts.{LooksAlikeIn}
 
 -- the state with another memory
@@ -59,25 +60,25 @@ module _ (part : ℕ → Bool) (rights : Rights) (within : (a : ℕ) → allowed
   state_at_alike None s l are looks = record { first = refl; other = l; is = refl; rights_are = are; looks = looks }
   state_at_alike (Some j) s l are looks = record { first = refl; other = l; is = refl; rights_are = are; looks = looks }
 
-  insn_alike : (insn : Insn) (s : State) (l : Memory) → s.rights ≡ rights → LooksAlikeIn part s.memory l →
-      Alike (insn_outcome insn s) (insn_outcome insn (with_memory s l))
-  insn_alike (Lda ra rb disp) s l are looks = record { first = refl; other = l; is = refl; rights_are = are; looks = looks }
-  insn_alike (Ldq ra rb disp) s l are looks =
-      let a = address_of s.regs rb disp in
-      load_alike (allowed s.rights.reads a) a ra s l are refl looks
-  insn_alike (Stq ra rb disp) s l are looks =
-      let a = address_of s.regs rb disp in
-      store_alike (allowed s.rights.writes a) a (read_reg s.regs ra) s l are looks
-  insn_alike (Oper op ra rhs rc) s l are looks = record { first = refl; other = l; is = refl; rights_are = are; looks = looks }
-  insn_alike (Branch cond ra disp) s l are looks =
-      state_at_alike (if takes cond (read_reg s.regs ra) then jump_of s.index (Branch cond ra disp) else Some (s.index + 1)) s l are looks
-  insn_alike (Br disp) s l are looks = state_at_alike (jump_of s.index (Br disp)) s l are looks
-  insn_alike Ret s l are looks = record { first = refl; other = l; is = refl; rights_are = are; looks = looks }
+  action_alike : (e : Action) (jump : Option ℕ) (s : State) (l : Memory) → s.rights ≡ rights → LooksAlikeIn part s.memory l →
+      Alike (action_outcome e jump s) (action_outcome e jump (with_memory s l))
+  action_alike (actions.Compute to word) jump s l are looks = record { first = refl; other = l; is = refl; rights_are = are; looks = looks }
+  action_alike (actions.Load to base disp) jump s l are looks =
+      let a = address_of s.regs base disp in
+      load_alike (allowed s.rights.reads a) a to s l are refl looks
+  action_alike (actions.LoadAround to base disp) jump s l are looks =
+      let a = aligned (address_of s.regs base disp) in
+      load_alike (allowed s.rights.reads a) a to s l are refl looks
+  action_alike (actions.Store from base disp) jump s l are looks =
+      let a = address_of s.regs base disp in
+      store_alike (allowed s.rights.writes a) a (read_reg s.regs from) s l are looks
+  action_alike (actions.Branching test) jump s l are looks = state_at_alike (if passes s.regs test then jump else Some (s.index + 1)) s l are looks
+  action_alike actions.Return jump s l are looks = record { first = refl; other = l; is = refl; rights_are = are; looks = looks }
 
   step_alike : (insn : Option Insn) (s : State) (l : Memory) → s.rights ≡ rights → LooksAlikeIn part s.memory l →
       Alike (step_at insn s) (step_at insn (with_memory s l))
   step_alike None s l are looks = record { first = refl; other = l; is = refl; rights_are = are; looks = looks }
-  step_alike (Some insn) s l are looks = insn_alike insn s l are looks
+  step_alike (Some insn) s l are looks = action_alike (action_of insn) (jump_of s.index insn) s l are looks
 
   -- the end of a run that begins with a step
   module _ (code : List Insn) (n : ℕ)

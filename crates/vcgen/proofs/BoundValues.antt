@@ -23,7 +23,7 @@ use Rattle.formula_tree.proofs.Meaning.{both_ways, subst-truth}
 use Rattle.lf_encode.proofs.Naming.{below}
 use Rattle.vcgen.specs.Variables.{HasVarsBelowExp, HasVarsBelowMem, HasVarsBelow}
 use Rattle.vcgen.specs.Assignments.{unchanged, for_reg, for_memory, for_left}
-use Rattle.vcgen.specs.Conditions.{AnnotatedCode, reg_exp, rhs_exp, address_exp, taken_if, passed_if, at_target, computed_exp, action_condition, insn_condition, one_step_less, condition_at, invariant_at, or_else, wp_within, wp, body, entered}
+use Rattle.vcgen.specs.Conditions.{AnnotatedCode, reg_exp, rhs_exp, address_exp, taken_if, passed_if, at_target, computed_exp, action_condition, insn_condition, one_step_less, condition_at, invariant_at, or_else, wp_within, wp, body, entered, aligned_exp}
 use Rattle.vcgen.specs.Safety.{IsAnnotated}
 use Rattle.vcgen.proofs.Substitutions.{length-unchanged}
 use Rattle.vcgen.proofs.Values.{for_reg-value, for_memory-value, for_left-value}
@@ -187,6 +187,11 @@ ignores-action next post i jump (actions.Load to base disp) h p =
     let a = address_exp base disp in
     ignores-and (FRd a) (subst_form (next (i + 1)) (for_reg to (ESel MMem a))) (ignores-closed (FRd a) (vars-reg_exp base, tt))
     (ignores-for_reg (next (i + 1)) to (ESel MMem a) (tt, (vars-reg_exp base, tt)) (h (i + 1)))
+ignores-action next post i jump (actions.LoadAround to base disp) h p =
+    let a : Exp = aligned_exp (address_exp base disp) in
+    let vars : HasVarsBelowExp 0 a = ((vars-reg_exp base, tt), tt) in
+    ignores-and (FRd a) (subst_form (next (i + 1)) (for_reg to (ESel MMem a))) (ignores-closed (FRd a) vars)
+    (ignores-for_reg (next (i + 1)) to (ESel MMem a) (tt, vars) (h (i + 1)))
 ignores-action next post i jump (actions.Store from base disp) h p =
     let a = address_exp base disp in
     let m = MUpd MMem a (reg_exp from) in

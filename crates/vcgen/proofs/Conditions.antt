@@ -14,7 +14,7 @@ use Rattle.alpha_cfg.proofs.FreeWalks.{steps_edge, graph_closed, cycle_free, len
 use Rattle.formula_tree.specs.Formulas.{ELeft, ELit, EOp, ESel, MMem, MUpd, Form, FRel, FRd, FWr, FAnd, FImp}
 use Rattle.formula_tree.specs.Substitution.{subst_form}
 use Rattle.vcgen.specs.Assignments.{for_reg, for_memory}
-use Rattle.vcgen.specs.Conditions.{AnnotatedCode, reg_exp, rhs_exp, address_exp, taken_if, passed_if, at_target, computed_exp, action_condition, insn_condition, one_step_less, counted_condition, condition_at, invariant_at, or_else, wp_within, wp, body}
+use Rattle.vcgen.specs.Conditions.{AnnotatedCode, reg_exp, rhs_exp, address_exp, taken_if, passed_if, at_target, computed_exp, action_condition, insn_condition, one_step_less, counted_condition, condition_at, invariant_at, or_else, wp_within, wp, body, aligned_exp}
 use Rattle.vcgen.specs.Safety.{IsAnnotated}
 
 -- ---- what has to hold before an instruction asks for what has to hold where it leads, and for nothing else
@@ -31,6 +31,9 @@ same_action : (f h : ℕ → Form) (post : Form) (i : ℕ) (jump : Option ℕ) (
 same_action f h post i jump (actions.Compute to word) same = ap (λ F. subst_form F (for_reg to (computed_exp word))) (same (i + 1) (inr refl))
 same_action f h post i jump (actions.Load to base disp) same =
     ap (λ F. FAnd (FRd (address_exp base disp)) (subst_form F (for_reg to (ESel MMem (address_exp base disp))))) (same (i + 1) (inr refl))
+same_action f h post i jump (actions.LoadAround to base disp) same =
+    let a = aligned_exp (address_exp base disp) in
+    ap (λ F. FAnd (FRd a) (subst_form F (for_reg to (ESel MMem a)))) (same (i + 1) (inr refl))
 same_action f h post i jump (actions.Store from base disp) same =
     ap (λ F. FAnd (FWr (address_exp base disp)) (subst_form F (for_memory (MUpd MMem (address_exp base disp) (reg_exp from))))) (same (i + 1) (inr refl))
 same_action f h post i jump (actions.Branching Always) same = same_target f h jump (λ j e. same j (inl e))

@@ -21,12 +21,15 @@ use Rattle.vcgen.specs.Encoded.{annotated, AreForms, AreEncodings, EncodesCondit
 use Rattle.vcgen.proofs.WalkTrees.{encodes-over}
 use Rattle.vcgen.proofs.BoundValues.{vars-form}
 use Rattle.vcgen.proofs.Steps.{condition-safe}
+use Rattle.lf_signature.specs.Constants.{declared}
+use Rattle.lf_signature.specs.declared.WordSignature.TheVariants.{Sigma1}
+use Rattle.lf_signature.specs.Laws.Within.{declared_known}
 
 -- invariants that are forms have formulas
 formulas-of : (ps : List (ℕ × Tree)) → AreForms ps → (qs : List (ℕ × Form)) × AreEncodings ps qs
 formulas-of [] h = ([], tt)
 formulas-of (p ∷ ps) h =
-    let f = form_encoded machine_context p.1 h.0 in
+    let f = form_encoded (declared Sigma1) (declared_known Sigma1) machine_context p.1 h.0 in
     let r = formulas-of ps h.1 in
     ((p.0, f.0) ∷ r.0, (refl, f.1, r.1))
 

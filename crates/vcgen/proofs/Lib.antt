@@ -15,3 +15,4 @@ pub mod Walking
 pub mod Parts
 pub mod Sides
 pub mod Lacking
+pub mod Used

@@ -12,7 +12,7 @@ use Rattle.alpha_words.specs.declared.insn.Insn.{Insn}
 use Rattle.alpha_cfg.specs.Actions.{Computed, Sum, Applied, Always, When, Action, action_of}
 use Rattle.alpha_cfg.specs.Actions as actions
 use Rattle.alpha_cfg.specs.Flow.{jump_of}
-use Rattle.alpha_cfg.specs.Machine.{State, rhs_word, address_of, takes, access_outcome, state_at, word_computed, action_outcome, insn_outcome}
+use Rattle.alpha_cfg.specs.Machine.{State, rhs_word, address_of, takes, access_outcome, state_at, word_computed, action_outcome, insn_outcome, aligned}
 use Rattle.alpha_cfg.specs.declared.outcome.Kind.{Kind}
 use Rattle.alpha_cfg.specs.declared.outcome.Kind.TheVariants.{Load, Store}
 use Rattle.alpha_cfg.specs.declared.outcome.Step.{Step}
@@ -22,9 +22,9 @@ use Rattle.formula_tree.specs.Substitution.{subst_form}
 use Rattle.formula_tree.specs.Truth.{Valuation, Bound, exp_value, mem_value, IsTrueIn}
 use Rattle.formula_tree.proofs.Meaning.{subst-truth}
 use Rattle.vcgen.specs.Assignments.{unchanged, for_reg, for_memory}
-use Rattle.vcgen.specs.Conditions.{reg_exp, rhs_exp, address_exp, taken_if, passed_if, at_target, computed_exp, action_condition, insn_condition}
+use Rattle.vcgen.specs.Conditions.{reg_exp, rhs_exp, address_exp, taken_if, passed_if, at_target, computed_exp, action_condition, insn_condition, aligned_exp}
 use Rattle.vcgen.proofs.Substitutions.{length-unchanged}
-use Rattle.vcgen.proofs.Values.{reg_exp-value, rhs_exp-value, address_exp-value, for_reg-value, for_memory-value, write_reg-set}
+use Rattle.vcgen.proofs.Values.{reg_exp-value, rhs_exp-value, address_exp-value, for_reg-value, for_memory-value, write_reg-set, aligned_exp-value}
 
 -- ---- what a branch tests
 
@@ -118,6 +118,12 @@ module _ (next : ℕ → Form) (post : Form) (left : ℕ) (s : State) (len : len
       let u : State = record s { index = s.index + 1; regs = write_reg s.regs to (read s.memory a) } in
       leaves-access (IsTrueAt next left) (IsTrueOf post left) Load (allowed s.rights.reads a) a s u (subst (λ w. allowed s.rights.reads w ≡ true) e t.0)
       (true-for_reg to (read s.memory a) (ESel MMem (address_exp base disp)) (ap (read s.memory) e) t.1)
+  action-leaves (actions.LoadAround to base disp) jump t =
+      let a : ℕ = aligned (address_of s.regs base disp) in
+      let e : exp_value (aligned_exp (address_exp base disp)) now [] ≡ a = aligned_exp-value base disp now [] in
+      let u : State = record s { index = s.index + 1; regs = write_reg s.regs to (read s.memory a) } in
+      leaves-access (IsTrueAt next left) (IsTrueOf post left) Load (allowed s.rights.reads a) a s u (subst (λ w. allowed s.rights.reads w ≡ true) e t.0)
+      (true-for_reg to (read s.memory a) (ESel MMem (aligned_exp (address_exp base disp))) (ap (read s.memory) e) t.1)
   action-leaves (actions.Store from base disp) jump t =
       let a : ℕ = address_of s.regs base disp in
       let e : exp_value (address_exp base disp) now [] ≡ a = address_exp-value base disp now [] in

@@ -22,7 +22,7 @@ use Rattle.lf_encode.specs.Contexts.{machine_names}
 use Rattle.lf_encode.specs.Naming.{words}
 use Rattle.lf_encode.proofs.Naming.{named_form-over}
 use Rattle.vcgen.specs.Assignments.{regs_from, unchanged, for_reg, for_memory}
-use Rattle.vcgen.specs.Conditions.{AnnotatedCode, reg_exp, rhs_exp, address_exp, taken_if, passed_if, at_target, computed_exp, action_condition, insn_condition, condition_at, invariant_at, or_else, wp_within, wp, body, alls, close, entered, inv_parts, condition}
+use Rattle.vcgen.specs.Conditions.{AnnotatedCode, reg_exp, rhs_exp, address_exp, taken_if, passed_if, at_target, computed_exp, action_condition, insn_condition, condition_at, invariant_at, or_else, wp_within, wp, body, alls, close, entered, inv_parts, condition, aligned_exp}
 use Rattle.vcgen.specs.Safety.{IsAnnotated}
 use Rattle.vcgen.proofs.Substitutions.{unchanged-regs, unchanged-memory, length-unchanged}
 use Rattle.vcgen.proofs.WalkTrees.{subst-names}
@@ -109,6 +109,10 @@ over-action next post i jump (actions.Compute to word) w h p = over-subst-reg (n
 over-action next post i jump (actions.Load to base disp) w h p =
     let o = over-address_exp base disp w.0 w.1 in
     (o, over-subst-reg (next (i + 1)) to (ESel MMem (address_exp base disp)) (h (i + 1)) (omega arith, o))
+over-action next post i jump (actions.LoadAround to base disp) w h p =
+    let a : Exp = aligned_exp (address_exp base disp) in
+    let o : IsOverExp 31 a [] = (over-address_exp base disp w.0 w.1, omega arith) in
+    (o, over-subst-reg (next (i + 1)) to (ESel MMem a) (h (i + 1)) (omega arith, o))
 over-action next post i jump (actions.Store from base disp) w h p =
     let o = over-address_exp base disp w.0 w.1 in
     let m : MemExp = MUpd MMem (address_exp base disp) (reg_exp from) in

@@ -1,17 +1,19 @@
 -- What expressions of an instruction stand for, and what an assignment makes of a valuation.
-use Rattle.std.proofs.Common.{◌≡◌, ℕ, zero, suc, ◌+◌, ◌%◌, ◌^◌, ◌≤◌, List, [], ◌∷◌, map, length, get_or, set, refl, sym, ◌∙◌, ap, arith, inl, inr, ℤ}
+use Rattle.std.proofs.Common.{◌≡◌, ℕ, zero, suc, ◌+◌, ◌%◌, ◌^◌, ◌≤◌, List, [], ◌∷◌, map, length, get_or, set, refl, sym, ◌∙◌, ap, arith, inl, inr, ℤ, ◌-◌, ◌<◌, bit_and}
 use Rattle.std.proofs.lemmas.Bool.{eq-eqb, ne_eqb, cases_eq}
 use Rattle.std.proofs.lemmas.List.{map-set, set_past}
 use Rattle.std.specs.Int.{cast_unsigned, w64}
 use Rattle.word_ops.specs.Registers.{read_reg, write_reg}
 use Rattle.alpha_words.specs.declared.insn.Rhs.{Rhs}
 use Rattle.alpha_words.specs.declared.insn.Rhs.TheVariants.{Reg, Lit}
-use Rattle.alpha_cfg.specs.Machine.{rhs_word, address_of}
+use Rattle.alpha_cfg.specs.Machine.{rhs_word, address_of, aligned}
 use Rattle.formula_tree.specs.Formulas.{Exp, MemExp}
 use Rattle.formula_tree.specs.Truth.{Valuation, Bound, exp_value, mem_value, substitution_value}
 use Rattle.vcgen.specs.Assignments.{regs_from, unchanged, for_reg, for_memory, for_left}
-use Rattle.vcgen.specs.Conditions.{reg_exp, rhs_exp, address_exp}
+use Rattle.vcgen.specs.Conditions.{reg_exp, rhs_exp, address_exp, aligned_exp}
 use Rattle.vcgen.proofs.Substitutions.{unchanged-regs, unchanged-memory, unchanged-left}
+use Rattle.std.proofs.lemmas.Nat.{mod_below}
+use Rattle.std.proofs.lemmas.Nat.Bits.{and_high_mask}
 
 -- ---- operands
 
@@ -24,6 +26,15 @@ rhs_exp-value (Lit n) v ρ = refl
 
 pub address_exp-value : (rb : ℕ) (disp : ℤ) (v : Valuation) (ρ : List Bound) → exp_value (address_exp rb disp) v ρ ≡ address_of v.regs rb disp
 address_exp-value rb disp v ρ = ap (λ x. (x + cast_unsigned w64 disp) % 2 ^ 64) (reg_exp-value rb v ρ)
+
+-- the low three bits of a word cleared
+cleared : (a : ℕ) → a < 2 ^ 64 → bit_and a (2 ^ 64 - 8) ≡ aligned a
+cleared a h = and_high_mask 64 3 (omega arith) a h ∙ omega arith
+
+pub aligned_exp-value : (rb : ℕ) (disp : ℤ) (v : Valuation) (ρ : List Bound) → exp_value (aligned_exp (address_exp rb disp)) v ρ ≡ aligned (address_of v.regs rb disp)
+aligned_exp-value rb disp v ρ =
+    let a : ℕ = address_of v.regs rb disp in
+    ap (λ x. bit_and x (2 ^ 64 - 8)) (address_exp-value rb disp v ρ) ∙ cleared a (mod_below (read_reg v.regs rb + cast_unsigned w64 disp) (2 ^ 64) (omega arith))
 
 -- ---- the registers, each for itself
 

@@ -28,9 +28,9 @@ use Rattle.lf_encode.proofs.Naming.{named_form-is}
 use Rattle.lf_encode.proofs.MachineContext.{bound_sorts-machine, registers_in-machine, names_in-machine}
 use Rattle.lf_encode.proofs.PutTree.{put-encoding}
 use Rattle.vcgen.specs.Assignments.{for_reg, for_memory}
-use Rattle.vcgen.specs.Conditions.{AnnotatedCode, reg_exp, rhs_exp, address_exp, taken_if, passed_if, at_target, computed_exp, action_condition, condition_at, invariant_at, or_else, wp_within, wp, body, alls, close, inv_parts, condition}
+use Rattle.vcgen.specs.Conditions.{AnnotatedCode, reg_exp, rhs_exp, address_exp, taken_if, passed_if, at_target, computed_exp, action_condition, condition_at, invariant_at, or_else, wp_within, wp, body, alls, close, inv_parts, condition, aligned_exp}
 use Rattle.vcgen.specs.Encoded.{AreEncodings}
-use Rattle.vcgen.specs.Inside.WalkTree.{reg_term, rhs_term, address_term, tested_term, taken_term, passed_term, with_reg, with_memory, walked_to, computed_term, terms_effect, walked_on, walked_at, inv_term, ended, walked, walked_from, var_terms, start_terms, all_terms, closed_term, part_terms, condition_term}
+use Rattle.vcgen.specs.Inside.WalkTree.{reg_term, rhs_term, address_term, tested_term, taken_term, passed_term, with_reg, with_memory, walked_to, computed_term, terms_effect, walked_on, walked_at, inv_term, ended, walked, walked_from, var_terms, start_terms, all_terms, closed_term, part_terms, condition_term, aligned_term}
 use Rattle.vcgen.proofs.Substitutions.{subst-for_reg, subst-for_memory}
 
 -- ---- formulas in the context m, r0 to r30
@@ -69,6 +69,9 @@ rhs_term-is t (Lit n) = refl
 
 address_term-is : (t : Substitution) (rb : ℕ) (disp : ℤ) → address_term (machine_terms_of t) rb disp ≡ exp_encoding (subst_exp (address_exp rb disp) t)
 address_term-is t rb disp = ap (λ x. op_term Add x (lit (cast_unsigned w64 disp))) (reg_term-is t rb)
+
+aligned_term-is : (t : Substitution) (rb : ℕ) (disp : ℤ) → aligned_term (address_term (machine_terms_of t) rb disp) ≡ exp_encoding (subst_exp (aligned_exp (address_exp rb disp)) t)
+aligned_term-is t rb disp = ap aligned_term (address_term-is t rb disp)
 
 computed_term-is : (t : Substitution) (word : Computed) → computed_term (machine_terms_of t) word ≡ exp_encoding (subst_exp (computed_exp word) t)
 computed_term-is t (Sum base disp) = address_term-is t base disp
@@ -123,6 +126,11 @@ module _ (next : ℕ → MachineTerms → Tree) (F : ℕ → Form) (makes : Make
   action-is i jump (actions.Load to base disp) t len =
       let a = address_term-is t base disp in
       let on = reg-set (i + 1) to (sel (mem_encoding t.memory) (address_term (machine_terms_of t) base disp)) (ESel MMem (address_exp base disp)) t len (ap (sel (mem_encoding t.memory)) a) in
+      λ k. and_term (rd (a k)) (on k)
+  action-is i jump (actions.LoadAround to base disp) t len =
+      let a = aligned_term-is t base disp in
+      let word = sel (mem_encoding t.memory) (aligned_term (address_term (machine_terms_of t) base disp)) in
+      let on = reg-set (i + 1) to word (ESel MMem (aligned_exp (address_exp base disp))) t len (ap (sel (mem_encoding t.memory)) a) in
       λ k. and_term (rd (a k)) (on k)
   action-is i jump (actions.Store from base disp) t len =
       let a = address_term-is t base disp in

@@ -1,6 +1,6 @@
 -- The verification condition of annotated code.
 -- Necula, POPL 1997, section 3, and Necula and Lee, OSDI 1996, section 2 (the verification-condition generator).
-use Rattle.std.specs.Prelude.{ℕ, zero, suc, ◌+◌, ◌==◌, if◌then◌else◌, List, [], ◌∷◌, length, slice_get, Option, Some, None, ℤ}
+use Rattle.std.specs.Prelude.{ℕ, zero, suc, ◌+◌, ◌==◌, if◌then◌else◌, List, [], ◌∷◌, length, slice_get, Option, Some, None, ℤ, ◌-◌, ◌^◌}
 use Rattle.std.specs.Int.{cast_unsigned, w64}
 use Rattle.word_ops.specs.declared.Op.TheVariants.{Add, Sub, Band}
 use Rattle.word_ops.specs.declared.Rel.TheVariants.{Eq, Ult, Slt, Sle}
@@ -39,6 +39,10 @@ rhs_exp (Lit n) = ELit n
 -- the address of a load or store, and what `lda` computes
 abbrev pub address_exp : ℕ → ℤ → Exp
 address_exp rb disp = EOp Add (reg_exp rb) (ELit (cast_unsigned w64 disp))
+
+-- the address of the quadword that holds the byte: the low three bits cleared
+abbrev pub aligned_exp : Exp → Exp
+aligned_exp a = EOp Band a (ELit (2 ^ 64 - 8))
 
 -- that a formula doesn't hold
 abbrev pub negated : Form → Form
@@ -82,6 +86,9 @@ computed_exp (Applied op left right) = EOp op (reg_exp left) (rhs_exp right)
 abbrev pub action_condition : (ℕ → Form) → Form → ℕ → Option ℕ → Action → Form
 action_condition next post i jump (actions.Compute to word) = subst_form (next (i + 1)) (for_reg to (computed_exp word))
 action_condition next post i jump (actions.Load to base disp) = FAnd (FRd (address_exp base disp)) (subst_form (next (i + 1)) (for_reg to (ESel MMem (address_exp base disp))))
+action_condition next post i jump (actions.LoadAround to base disp) =
+    let a = aligned_exp (address_exp base disp) in
+    FAnd (FRd a) (subst_form (next (i + 1)) (for_reg to (ESel MMem a)))
 action_condition next post i jump (actions.Store from base disp) =
     FAnd (FWr (address_exp base disp)) (subst_form (next (i + 1)) (for_memory (MUpd MMem (address_exp base disp) (reg_exp from))))
 action_condition next post i jump (actions.Branching Always) = at_target next jump

@@ -4,13 +4,14 @@ use Rattle.alpha_words.specs.declared.insn.Insn.{Insn}
 use Rattle.policy_set.specs.declared.kind.PolicyKind.{PolicyKind}
 use Rattle.policy_set.specs.Policies.{pre_of, post_of}
 use Rattle.term_table.specs.Tree.{Tree}
-use Rattle.lf_signature.specs.Sigma1.{declared}
+use Rattle.lf_signature.specs.Constants.{declared}
 use Rattle.lf_signature.specs.Terms.{form}
 use Rattle.lf_signature.specs.Typing.{Checks}
 use Rattle.formula_tree.specs.Formulas.{Form}
 use Rattle.lf_encode.specs.Encoding.{form_encoding}
 use Rattle.lf_encode.specs.Contexts.{machine_context, sort_types, EncodesForm}
 use Rattle.vcgen.specs.Conditions.{AnnotatedCode, condition}
+use Rattle.lf_signature.specs.declared.WordSignature.TheVariants.{Sigma1}
 
 -- code with invariants, under a policy; its steps aren't counted
 abbrev pub annotated : PolicyKind → List Insn → List (ℕ × Form) → AnnotatedCode
@@ -19,7 +20,7 @@ annotated policy code invs = record { code = code; invs = invs; pre = pre_of pol
 -- each invariant has type form in the context m, r0 to r30
 abbrev pub AreForms : List (ℕ × Tree) → Type 0
 AreForms [] = Unit {0}
-AreForms (p ∷ ps) = Checks declared (sort_types machine_context) p.1 form × AreForms ps
+AreForms (p ∷ ps) = Checks (declared Sigma1) (sort_types machine_context) p.1 form × AreForms ps
 
 -- the terms encode the formulas over m and r0 to r30, index by index
 abbrev pub AreEncodings : List (ℕ × Tree) → List (ℕ × Form) → Type 0

@@ -19,8 +19,8 @@ abbrev pub plus : Exp → Exp → Exp
 plus a b = EOp Add a b
 
 -- (and (ult e bound) (eq (band e 7) 0))
-abbrev pub aligned : Exp → Exp → Form
-aligned e bound = FAnd (FRel Ult e bound) (FRel Eq (EOp Band e (ELit 7)) (ELit 0))
+abbrev pub multiple_below : Exp → Exp → Form
+multiple_below e bound = FAnd (FRel Ult e bound) (FRel Eq (EOp Band e (ELit 7)) (ELit 0))
 
 -- ---- `ret` alone
 
@@ -32,9 +32,9 @@ ret_alone = Ret ∷ []
 abbrev pub filter_asks : Form
 filter_asks =
     FAnd (FRel Ule (ELit 64) (EVar 13))
-    (FAnd (FAll (FImp (aligned (EVar 0) (EVar 14)) (FRd (plus (EVar 15) (EVar 0)))))
-    (FAnd (FAll (FImp (aligned (EVar 0) (ELit 16)) (FAnd (FRd (plus (EVar 13) (EVar 0))) (FWr (plus (EVar 13) (EVar 0))))))
-    (FAll (FAll (FImp (FAnd (aligned (EVar 1) (EVar 15)) (aligned (EVar 0) (ELit 16))) (FImp (FRel Eq (plus (EVar 16) (EVar 1)) (plus (EVar 14) (EVar 0))) FFalse))))))
+    (FAnd (FAll (FImp (multiple_below (EVar 0) (EVar 14)) (FRd (plus (EVar 15) (EVar 0)))))
+    (FAnd (FAll (FImp (multiple_below (EVar 0) (ELit 16)) (FAnd (FRd (plus (EVar 13) (EVar 0))) (FWr (plus (EVar 13) (EVar 0))))))
+    (FAll (FAll (FImp (FAnd (multiple_below (EVar 1) (EVar 15)) (multiple_below (EVar 0) (ELit 16))) (FImp (FRel Eq (plus (EVar 16) (EVar 1)) (plus (EVar 14) (EVar 0))) FFalse))))))
 
 -- what `tag` asks
 abbrev pub tag_asks : Form

@@ -7,7 +7,8 @@ ghost use Rattle.lf_encode.specs.PutTree.{machine_terms_at};
 ghost use Rattle.lf_encode.specs.Kept.{AreMachineTerms};
 ghost use Rattle.lf_signature.specs.Nodes.{IsIdOf};
 ghost use Rattle.lf_signature.specs.Terms.{rd, wr, sel, upd};
-ghost use Rattle.vcgen.specs.Inside.WalkTree.{insn_effect, reg_term, address_term, with_reg, with_memory};
+ghost use Rattle.vcgen.specs.Inside.WalkTree.{insn_effect, reg_term, address_term, aligned_term};
+ghost use Rattle.vcgen.specs.Inside.WalkTree.{with_reg, with_memory};
 ghost use Rattle.vcgen.specs.Inside.WalkTree.{tested_term, taken_term, passed_term};
 ghost use Rattle.vcgen.specs.Inside.Symbols.{IsEffect, StandFor};
 
@@ -54,6 +55,28 @@ fn load(
     let address = symbols.address(table, rb, disp)?;
     let word = symbols.loaded(table, address)?;
     let allowed = app1(table, RD, address)?;
+    Ok((allowed, symbols.with_reg(table, ra, word)))
+}
+
+/// A load of the quadword that holds the byte at an address: as a load, at that quadword's address.
+fn load_aligned(
+    table: &mut Table,
+    symbols: &Symbols,
+    ra: Reg,
+    rb: Reg,
+    disp: i16,
+) -> Result<(Id, Symbols), AllocError>
+    requires ready { AreMachineTerms table.old symbols.now.regs symbols.now.memory }
+    ensures allowed { let terms = machine_terms_at table.old symbols.now.regs symbols.now.memory in
+        IfOk result (λ r. IsIdOf table.new (rd (aligned_term (address_term terms rb disp))) r.0) }
+    ensures after { let terms = machine_terms_at table.old symbols.now.regs symbols.now.memory in
+        IfOk result (λ r. StandFor table.new r.1
+        (with_reg terms ra (sel terms.memory (aligned_term (address_term terms rb disp))))) }
+    ensures extends { Extends table.old table.new }
+{
+    let quad = symbols.aligned_address(table, rb, disp)?;
+    let word = symbols.loaded(table, quad)?;
+    let allowed = app1(table, RD, quad)?;
     Ok((allowed, symbols.with_reg(table, ra, word)))
 }
 
@@ -119,6 +142,14 @@ pub(crate) fn effect_at(
         }
         Insn::Ldq { ra, rb, disp } => {
             let (allowed, after) = load(table, symbols, ra, rb, disp)?;
+            Ok(Effect::Access(allowed, after))
+        }
+        Insn::Ldah { ra, rb, disp } => {
+            let far = symbols.far_address(table, rb, disp)?;
+            Ok(Effect::Computed(symbols.with_reg(table, ra, far)))
+        }
+        Insn::LdqU { ra, rb, disp } => {
+            let (allowed, after) = load_aligned(table, symbols, ra, rb, disp)?;
             Ok(Effect::Access(allowed, after))
         }
         Insn::Stq { ra, rb, disp } => {

@@ -1,12 +1,13 @@
 //! What stands for registers and memory on a walk, and the terms of operands.
 
-ghost use Rattle.std.specs.Prelude.{◌≡◌, ◌<◌, ◌≤◌, ◌^◌, true, IfOk};
+ghost use Rattle.std.specs.Prelude.{◌≡◌, ◌<◌, ◌≤◌, ◌^◌, true, IfOk, pos, ◌*ℤ◌};
 ghost use Rattle.term_table.specs.Tree.{shift, fits};
 ghost use Rattle.term_table.specs.Table.{IsKnown, tree_at, Extends};
 ghost use Rattle.lf_encode.specs.PutTree.{machine_terms_at, put_for};
 ghost use Rattle.lf_encode.specs.Kept.{AreMachineTerms};
 ghost use Rattle.lf_signature.specs.Terms.{sel, upd, op_term};
 ghost use Rattle.vcgen.specs.Inside.WalkTree.{reg_term, rhs_term, address_term};
+ghost use Rattle.vcgen.specs.Inside.WalkTree.{aligned_term};
 ghost use Rattle.vcgen.specs.Inside.WalkTree.{with_reg, with_memory, start_terms};
 ghost use Rattle.vcgen.specs.Inside.Symbols.{IsTermFor};
 
@@ -16,6 +17,9 @@ use lf_signature::{app2, app3};
 use std::alloc::AllocError;
 use term_table::{Id, Node, Table};
 use word_ops::{Op, op_constant};
+
+/// All bits of a word but the low three.
+const HIGH_BITS: u64 = u64::MAX - 7;
 
 /// Terms for r0 to r30 and for m, in the context m, r0 to r30.
 #[derive(Clone, Copy, PartialEq, Eq)]
@@ -152,6 +156,42 @@ impl Symbols {
         let base = self.reg(table, rb)?;
         let offset = table.intern(Node::Lit(i64::from(disp).cast_unsigned()))?;
         app2(table, op_constant(Op::Add), base, offset)
+    }
+
+    /// The term of a register and 65,536 times a displacement.
+    pub(crate) fn far_address(
+        &self,
+        table: &mut Table,
+        rb: Reg,
+        disp: i16,
+    ) -> Result<Id, AllocError>
+        requires { AreMachineTerms table.old self.now.regs self.now.memory }
+        ensures id { let terms = machine_terms_at table.old self.now.regs self.now.memory in
+            IfOk result (IsTermFor table.new (address_term terms rb (disp *ℤ pos 65536))) }
+        ensures extends { Extends table.old table.new }
+    {
+        let base = self.reg(table, rb)?;
+        let far = i64::from(disp) * 65_536;
+        let offset = table.intern(Node::Lit(far.cast_unsigned()))?;
+        app2(table, op_constant(Op::Add), base, offset)
+    }
+
+    /// The term of the address of the quadword that holds the byte at a register and a
+    /// displacement.
+    pub(crate) fn aligned_address(
+        &self,
+        table: &mut Table,
+        rb: Reg,
+        disp: i16,
+    ) -> Result<Id, AllocError>
+        requires { AreMachineTerms table.old self.now.regs self.now.memory }
+        ensures id { let terms = machine_terms_at table.old self.now.regs self.now.memory in
+            IfOk result (IsTermFor table.new (aligned_term (address_term terms rb disp))) }
+        ensures extends { Extends table.old table.new }
+    {
+        let address = self.address(table, rb, disp)?;
+        let mask = table.intern(Node::Lit(HIGH_BITS))?;
+        app2(table, op_constant(Op::Band), address, mask)
     }
 
     /// The term of what m has at an address.

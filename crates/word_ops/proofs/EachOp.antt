@@ -7,7 +7,7 @@ use Rattle.std.proofs.lemmas.Slice.Eq.{bytes_eq-Decides}
 use Rattle.std.proofs.lemmas.Bool.{and_parts}
 use Rattle.std.proofs.lemmas.Option.{same_Some, slice_get-map}
 use Rattle.word_ops.specs.declared.Op.{Op}
-use Rattle.word_ops.specs.declared.Op.TheVariants.{Add, Sub, Band, Bis, Sll, Srl, Cmpeq, Cmplt, Cmple, Cmpult, Cmpule}
+use Rattle.word_ops.specs.declared.Op.TheVariants.{Add, Sub, Band, Bis, Sll, Srl, Cmpeq, Cmplt, Cmple, Cmpult, Cmpule, Xor, Bic, S4add, S8add, Sra, Extb, Extw, Extl}
 use Rattle.word_ops.specs.Operators.{operators, op_number, op_constant, op_keyword, op_mnemonic, op_opcode, op_function, op_of, op_of_constant, op_of_keyword, op_of_mnemonic, op_of_code}
 
 -- ---- every operator is listed
@@ -24,6 +24,14 @@ listed Cmplt = refl
 listed Cmple = refl
 listed Cmpult = refl
 listed Cmpule = refl
+listed Xor = refl
+listed Bic = refl
+listed S4add = refl
+listed S8add = refl
+listed Sra = refl
+listed Extb = refl
+listed Extw = refl
+listed Extl = refl
 
 -- a test that each entry of a list passes
 list_all-get : {X : Type 0} (test : X → Bool) (xs : List X) (n : ℕ) (x : X) → list_all test xs ≡ true → slice_get xs n ≡ Some x → test x ≡ true

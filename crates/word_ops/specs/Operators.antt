@@ -1,10 +1,12 @@
 -- The operators, a row each, and what names them: numbers in proofs, keywords in formulas, mnemonics in sources, codes in instructions.
 -- Opcodes, functions and mnemonics: Alpha Architecture Handbook, "Integer Arithmetic Instructions", "Logical and Shift Instructions" and
 -- the opcode tables. Numbers, constants and keywords are this project's own.
-use Rattle.std.specs.Prelude.{ℕ, ◌&&◌, ◌==◌, List, [], ◌∷◌, codes, Option, find}
+use Rattle.std.specs.Prelude.{ℕ, Bool, true, ◌&&◌, ◌==◌, nat_lt, if◌then◌else◌, List, [], ◌∷◌, codes, Option, Some, None, find, ◌≡◌}
 use Rattle.std.specs.Str.{bytes_eq}
 use Rattle.word_ops.specs.declared.Op.{Op}
-use Rattle.word_ops.specs.declared.Op.TheVariants.{Add, Sub, Band, Bis, Sll, Srl, Cmpeq, Cmplt, Cmple, Cmpult, Cmpule}
+use Rattle.word_ops.specs.declared.Op.TheVariants.{Add, Sub, Band, Bis, Sll, Srl, Cmpeq, Cmplt, Cmple, Cmpult, Cmpule, Xor, Bic, S4add, S8add, Sra, Extb, Extw, Extl}
+use Rattle.word_ops.specs.declared.Profile.{Profile}
+use Rattle.word_ops.specs.declared.Profile.TheVariants.{One, Two}
 
 -- what names an operator: its number in evaluations, its constant in terms, its keyword, its mnemonic, its opcode and its function
 pub record OpRow : Type 0 where
@@ -32,10 +34,18 @@ op_row Cmplt = row 7 7 (codes "cmplt") (codes "cmplt") 0x10 0x4D
 op_row Cmple = row 8 8 (codes "cmple") (codes "cmple") 0x10 0x6D
 op_row Cmpult = row 9 9 (codes "cmpult") (codes "cmpult") 0x10 0x1D
 op_row Cmpule = row 10 10 (codes "cmpule") (codes "cmpule") 0x10 0x3D
+op_row Xor = row 11 88 (codes "xor") (codes "xor") 0x11 0x40
+op_row Bic = row 12 89 (codes "bic") (codes "bic") 0x11 0x08
+op_row S4add = row 13 90 (codes "s4add") (codes "s4addq") 0x10 0x22
+op_row S8add = row 14 91 (codes "s8add") (codes "s8addq") 0x10 0x32
+op_row Sra = row 15 92 (codes "sra") (codes "sra") 0x12 0x3C
+op_row Extb = row 16 93 (codes "extb") (codes "extbl") 0x12 0x06
+op_row Extw = row 17 94 (codes "extw") (codes "extwl") 0x12 0x16
+op_row Extl = row 18 95 (codes "extl") (codes "extll") 0x12 0x26
 
 -- all operators, by their numbers
 abbrev pub operators : List Op
-operators = Add ∷ Sub ∷ Band ∷ Bis ∷ Sll ∷ Srl ∷ Cmpeq ∷ Cmplt ∷ Cmple ∷ Cmpult ∷ Cmpule ∷ []
+operators = Add ∷ Sub ∷ Band ∷ Bis ∷ Sll ∷ Srl ∷ Cmpeq ∷ Cmplt ∷ Cmple ∷ Cmpult ∷ Cmpule ∷ Xor ∷ Bic ∷ S4add ∷ S8add ∷ Sra ∷ Extb ∷ Extw ∷ Extl ∷ []
 
 -- the number by which evaluations name an operator
 abbrev pub op_number : Op → ℕ
@@ -80,3 +90,17 @@ op_of_mnemonic w = find (λ o. bytes_eq w (op_mnemonic o)) operators
 -- the operator of an opcode and a function
 abbrev pub op_of_code : ℕ → ℕ → Option Op
 op_of_code opcode function = find (λ o. op_opcode o == opcode && op_function o == function) operators
+
+-- whether a profile has the operator: the first has those to cmpule, the second all
+abbrev pub has_op : Profile → Op → Bool
+has_op One o = nat_lt (op_number o) 11
+has_op Two o = true
+
+-- the operator, where there is one and the profile has it
+abbrev pub of_profile : Profile → Option Op → Option Op
+of_profile p None = None
+of_profile p (Some o) = if has_op p o then Some o else None
+
+-- an operator of the first profile
+abbrev pub IsFirstOp : Op → Type 0
+IsFirstOp o = has_op One o ≡ true

@@ -2,8 +2,9 @@
 -- Alpha Architecture Handbook, "Integer Arithmetic Instructions" and "Logical and Shift Instructions".
 use Rattle.std.specs.Prelude.{◌≡◌, ◌↔◌, ℕ, ◌+◌, ◌-◌, ◌*◌, ◌/◌, ◌%◌, ◌^◌, Bool, if◌then◌else◌, ◌==◌, nat_lt, nat_le, bit_and, bit_or, int_lt, int_le, ℤ}
 use Rattle.std.specs.Int.{cast_signed, w64}
+use Rattle.std.specs.Int.Bits.{bit_xor}
 use Rattle.word_ops.specs.declared.Op.{Op}
-use Rattle.word_ops.specs.declared.Op.TheVariants.{Add, Sub, Band, Bis, Sll, Srl, Cmpeq, Cmplt, Cmple, Cmpult, Cmpule}
+use Rattle.word_ops.specs.declared.Op.TheVariants.{Add, Sub, Band, Bis, Sll, Srl, Cmpeq, Cmplt, Cmple, Cmpult, Cmpule, Xor, Bic, S4add, S8add, Sra, Extb, Extw, Extl}
 use Rattle.word_ops.specs.declared.Rel.{Rel}
 use Rattle.word_ops.specs.declared.Rel.TheVariants.{Eq, Ult, Ule, Slt, Sle}
 
@@ -32,6 +33,14 @@ pub record IsFlagOf (word : ℕ) (P : Type 0) : Type 0 where
 abbrev pub flag_of : Bool → ℕ
 flag_of b = if b then 1 else 0
 
+-- A word shifted to the right by a count, copies of its sign in: as the number it stands for in two's complement, rounded down.
+abbrev pub shifted_signed : ℕ → ℕ → ℕ
+shifted_signed a k = if nat_lt a (2 ^ 63) then a / 2 ^ k else 2 ^ 64 - 1 - (2 ^ 64 - 1 - a) / 2 ^ k
+
+-- the bits of a word from a byte's place on, where the second word names the place modulo 8
+abbrev pub from_byte : ℕ → ℕ → ℕ
+from_byte a b = a / 2 ^ (8 * (b % 8))
+
 -- What the operator gives: sums and differences wrap, and a shift takes its count modulo 64.
 abbrev pub word_of : Op → ℕ → ℕ → ℕ
 word_of Add a b = (a + b) % 2 ^ 64
@@ -45,3 +54,11 @@ word_of Cmplt a b = flag_of (test_of Slt a b)
 word_of Cmple a b = flag_of (test_of Sle a b)
 word_of Cmpult a b = flag_of (test_of Ult a b)
 word_of Cmpule a b = flag_of (test_of Ule a b)
+word_of Xor a b = bit_xor a b
+word_of Bic a b = bit_and a (bit_xor b (2 ^ 64 - 1))
+word_of S4add a b = (a * 4 + b) % 2 ^ 64
+word_of S8add a b = (a * 8 + b) % 2 ^ 64
+word_of Sra a b = shifted_signed a (b % 64)
+word_of Extb a b = from_byte a b % 2 ^ 8
+word_of Extw a b = from_byte a b % 2 ^ 16
+word_of Extl a b = from_byte a b % 2 ^ 32

@@ -7,10 +7,10 @@ ghost use Rattle.std.specs.Prelude.{◌≡◌, ◌<◌, ◌==◌, ◌&&◌};
 ghost use Rattle.std.specs.Str.{bytes_eq};
 ghost use Rattle.word_ops.specs.Operators as operators;
 
-use crate::Op;
+use crate::{Op, Profile};
 
 /// All operators, by their numbers.
-pub const OPERATORS: [Op; 11] = [
+pub const OPERATORS: [Op; 19] = [
     Op::Add,
     Op::Sub,
     Op::Band,
@@ -22,6 +22,14 @@ pub const OPERATORS: [Op; 11] = [
     Op::Cmple,
     Op::Cmpult,
     Op::Cmpule,
+    Op::Xor,
+    Op::Bic,
+    Op::S4add,
+    Op::S8add,
+    Op::Sra,
+    Op::Extb,
+    Op::Extw,
+    Op::Extl,
 ];
 
 /// Number, constant, keyword, mnemonic, opcode and function of an operator.
@@ -49,10 +57,18 @@ fn op_row(op: Op) -> Row
         Op::Cmple => Row(8, 8, "cmple", "cmple", 0x10, 0x6d),
         Op::Cmpult => Row(9, 9, "cmpult", "cmpult", 0x10, 0x1d),
         Op::Cmpule => Row(10, 10, "cmpule", "cmpule", 0x10, 0x3d),
+        Op::Xor => Row(11, 88, "xor", "xor", 0x11, 0x40),
+        Op::Bic => Row(12, 89, "bic", "bic", 0x11, 0x08),
+        Op::S4add => Row(13, 90, "s4add", "s4addq", 0x10, 0x22),
+        Op::S8add => Row(14, 91, "s8add", "s8addq", 0x10, 0x32),
+        Op::Sra => Row(15, 92, "sra", "sra", 0x12, 0x3c),
+        Op::Extb => Row(16, 93, "extb", "extbl", 0x12, 0x06),
+        Op::Extw => Row(17, 94, "extw", "extwl", 0x12, 0x16),
+        Op::Extl => Row(18, 95, "extl", "extll", 0x12, 0x26),
     }
 }
 
-/// Answers the number by which evaluations name an operator: its place in `OPERATORS`, 0 to 10.
+/// Answers the number by which evaluations name an operator: its place in `OPERATORS`, 0 to 18.
 pub fn op_number(op: Op) -> u32
     ensures { result ≡ operators.op_number op }
 {
@@ -91,7 +107,7 @@ pub fn op_code(op: Op) -> (u32, u32)
     (row.4, row.5)
 }
 
-/// Answers the operator that evaluations name by `number`: None past 10.
+/// Answers the operator that evaluations name by `number`: None past 18.
 pub fn op_of(number: u32) -> Option<Op>
     ensures { result ≡ operators.op_of number }
 {
@@ -157,4 +173,24 @@ pub fn op_of_code(opcode: u32, function: u32) -> Option<Op>
         .iter()
         .copied()
         .find(|op| has_code(*op, opcode, function))
+}
+
+/// Whether the profile has the operator.
+pub fn has_op(profile: Profile, op: Op) -> bool
+    ensures { result ≡ operators.has_op profile op }
+{
+    match profile {
+        Profile::One => op_number(op) < 11,
+        Profile::Two => true,
+    }
+}
+
+/// The operator, where there is one and the profile has it.
+pub fn of_profile(profile: Profile, op: Option<Op>) -> Option<Op>
+    ensures { result ≡ operators.of_profile profile op }
+{
+    let Some(op) = op else {
+        return None;
+    };
+    if has_op(profile, op) { Some(op) } else { None }
 }

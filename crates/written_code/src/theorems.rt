@@ -4,14 +4,17 @@ ghost use Rattle.std.specs.Prelude.{◌≡◌, List, Ok};
 ghost use Rattle.alpha_words.specs.declared.insn.Insn.{Insn};
 ghost use Rattle.alpha_cfg.specs.CodeBytes.{EncodesCode};
 ghost use Rattle.alpha_cfg.specs.CodeDecoding.{decoded_code};
-ghost use Rattle.alpha_cfg.specs.Flow.{IsCode};
+ghost use Rattle.alpha_cfg.specs.Flow.{IsCode, AreOfProfile};
 ghost use Rattle.term_table.specs.Bytes.{IsBytes};
 ghost use Rattle.pcc_asm.specs.Words.{code_bytes};
+ghost use Rattle.word_ops.specs.declared.Profile.{Profile};
 
-/// What is written for instructions is bytes; where they are code, the bytes encode it, and are
-/// read as it.
+/// What is written for instructions is bytes; where they are code of a profile, the bytes encode it
+/// under that, and are read as it.
 pub fn laws()
     ensures bytes { (code : List Insn) → IsBytes (code_bytes code) }
-    ensures encode { (code : List Insn) → IsCode code → EncodesCode (code_bytes code) code }
-    ensures read { (code : List Insn) → IsCode code → decoded_code (code_bytes code) ≡ Ok code }
+    ensures encode { (p : Profile) (code : List Insn) → IsCode code → AreOfProfile p code
+        → EncodesCode p (code_bytes code) code }
+    ensures read { (p : Profile) (code : List Insn) → IsCode code → AreOfProfile p code
+        → decoded_code p (code_bytes code) ≡ Ok code }
 {}

@@ -1,15 +1,14 @@
 -- The constants by number: relations, and what the others are declared at.
 use Rattle.std.proofs.Common.{◌≡◌, ℕ, ◌+◌, ◌-◌, ◌≤◌, ◌==◌, Bool, true, false, cond, nat_lt, Some, None, refl, eqb-true, arith}
 use Rattle.std.proofs.lemmas.Bool.{ltb-false}
-use Rattle.word_ops.specs.declared.Op.{Op}
 use Rattle.word_ops.specs.declared.Rel.{Rel}
 use Rattle.word_ops.specs.declared.Rel.TheVariants.{Eq, Ult, Ule, Slt, Sle}
 use Rattle.term_table.specs.Tree.{Pi, Num, at}
-use Rattle.word_ops.specs.Operators.{op_constant}
-use Rattle.word_ops.proofs.EachOp.{each_op_same}
 use Rattle.lf_signature.specs.Numbers.{relations, rel_of, rel_number, rel_constant, rel_of_constant}
 use Rattle.lf_signature.specs.Terms.{exp, form}
-use Rattle.lf_signature.specs.Sigma1.{constant_types, the_rules, number_types, declared}
+use Rattle.lf_signature.specs.declared.WordSignature.{WordSignature}
+use Rattle.lf_signature.specs.declared.WordSignature.TheVariants.{Sigma1, Sigma2, Sigma3}
+use Rattle.lf_signature.specs.Constants.{constant_types, the_rules, declared}
 use Rattle.lf_signature.specs.Laws.Booleans.{every-at}
 
 -- a relation is found by its number
@@ -43,26 +42,35 @@ rel_constant_is c r e = go (nat_lt c 15) refl e
         let found : rel_constant r ≡ 15 + (c - 15) = eqb-true (rel_constant r) (15 + (c - 15)) (every-at (λ k p. rel_constant p == 15 + k) relations (c - 15) r refl q) in
         omega arith
 
--- operators are declared at words
-pub declared-op : (o : Op) → declared (Num (op_constant o)) ≡ Some (Pi exp (Pi exp exp))
-unfolding constant_types the_rules number_types
-declared-op = each_op_same (λ o. declared (Num (op_constant o))) (λ o. Some (Pi exp (Pi exp exp))) refl
-
 -- relations are declared at words
-pub declared-rel : (r : Rel) → declared (Num (rel_constant r)) ≡ Some (Pi exp (Pi exp form))
-unfolding constant_types the_rules number_types
-declared-rel Eq = refl
-declared-rel Ult = refl
-declared-rel Ule = refl
-declared-rel Slt = refl
-declared-rel Sle = refl
+pub declared-rel : (s : WordSignature) (r : Rel) → declared s (Num (rel_constant r)) ≡ Some (Pi exp (Pi exp form))
+unfolding constant_types the_rules
+declared-rel Sigma1 Eq = refl
+declared-rel Sigma1 Ult = refl
+declared-rel Sigma1 Ule = refl
+declared-rel Sigma1 Slt = refl
+declared-rel Sigma1 Sle = refl
+declared-rel Sigma2 Eq = refl
+declared-rel Sigma2 Ult = refl
+declared-rel Sigma2 Ule = refl
+declared-rel Sigma2 Slt = refl
+declared-rel Sigma2 Sle = refl
+declared-rel Sigma3 Eq = refl
+declared-rel Sigma3 Ult = refl
+declared-rel Sigma3 Ule = refl
+declared-rel Sigma3 Slt = refl
+declared-rel Sigma3 Sle = refl
 
 -- falsity is declared a formula
-pub declared-falsity : declared (Num 14) ≡ Some form
-unfolding constant_types the_rules number_types
-declared-falsity = refl
+pub declared-falsity : (s : WordSignature) → declared s (Num 14) ≡ Some form
+unfolding constant_types the_rules
+declared-falsity Sigma1 = refl
+declared-falsity Sigma2 = refl
+declared-falsity Sigma3 = refl
 
 -- implication is declared at formulas
-pub declared-imp : declared (Num 24) ≡ Some (Pi form (Pi form form))
-unfolding constant_types the_rules number_types
-declared-imp = refl
+pub declared-imp : (s : WordSignature) → declared s (Num 24) ≡ Some (Pi form (Pi form form))
+unfolding constant_types the_rules
+declared-imp Sigma1 = refl
+declared-imp Sigma2 = refl
+declared-imp Sigma3 = refl

@@ -25,6 +25,7 @@ use Rattle.pcc_asm.specs.declared.fault.AsmFault.TheVariants as F
 use Rattle.pcc_asm.specs.declared.labels.Labels.{Labels}
 use Rattle.pcc_asm.specs.Assembling.{label_index, inv_encodings}
 use Rattle.pcc_asm.specs.Words.{code_bytes}
+use Rattle.word_ops.specs.declared.Profile.TheVariants.{One}
 
 -- instructions with their lines, without addresses
 abbrev pub insn_views : List (ℕ × SrcInsn) → List (ℕ × SourceInsn)
@@ -59,7 +60,7 @@ pub record AreIndexed (labels : Labels) : Type 0 where
 
 -- the profile has the instruction, and where it branches its displacement has 21 bits
 abbrev pub IsEncodable : Insn → Type 0
-IsEncodable insn = (fault_of insn ≡ None) × HasFormat insn
+IsEncodable insn = (fault_of One insn ≡ None) × HasFormat insn
 
 -- the bytes of code, or the first line that is wrong
 abbrev pub bytes_or_flaw : Result (List Insn) AsmFlaw → Result (List ℕ) AsmFlaw

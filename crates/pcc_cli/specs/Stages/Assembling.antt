@@ -15,6 +15,7 @@ use Rattle.pcc_lines.specs.Fixed.{source_too_long_line}
 use Rattle.pcc_lines.specs.Sources.{source_fault_line}
 use Rattle.pcc_exit.specs.Stages.{Stage, stops, gives, reads, ◌>>=◌}
 use Rattle.pcc_cli.specs.Stages.Common.{refused}
+use Rattle.word_ops.specs.declared.Profile.TheVariants.{One}
 
 -- what was read as a source
 abbrev pub source_found : Result Source (ℕ × LineFlaw) → Stage Source
@@ -23,7 +24,7 @@ source_found (Err fault) = stops (refused (source_fault_line fault.0 (line_flaw_
 
 -- the source that the text spells
 unfoldable pub source_in : List ℕ → Stage Source
-source_in text = source_found (parsed_source text)
+source_in text = source_found (parsed_source One text)
 
 -- the bytes of a container of what was assembled
 abbrev pub container_made : Result Contents AsmFlaw → Stage (List ℕ)

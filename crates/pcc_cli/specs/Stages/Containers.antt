@@ -13,6 +13,7 @@ use Rattle.pcc_gate.specs.declared.refusal.Refusal.TheVariants as refusal
 use Rattle.pcc_exit.specs.Stages.{Stage, stops, gives, reads, ◌>>=◌}
 use Rattle.pcc_cli.specs.Stages.Common.{refused}
 use Rattle.pcc_cli.specs.declared.stages.TheConstants.{MAX_FILE}
+use Rattle.word_ops.specs.declared.Profile.TheVariants.{One}
 
 -- what was read as a container, where it is for the policy
 abbrev pub container_for : PolicyKind → Result Contents Fault → Stage Contents
@@ -32,7 +33,7 @@ code_found (Err flaw) = stops (refused (refusal_line (refusal.BadCode flaw)))
 unfoldable pub code_in : PolicyKind → List ℕ → Stage (List Insn)
 code_in policy bytes = do
   container ← container_in policy bytes
-  code_found (decoded_code container.code)
+  code_found (decoded_code One container.code)
 
 -- the bytes of the container's file of the name
 abbrev pub container_bytes_of : List ℕ → Stage (List ℕ)

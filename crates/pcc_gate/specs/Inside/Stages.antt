@@ -23,6 +23,7 @@ use Rattle.pcc_gate.specs.declared.refusal.Refusal.TheVariants as refusal
 use Rattle.vcgen.specs.declared.condition.TheConstants.{MAX_UNFOLDED}
 use Rattle.pcc_gate.specs.Answers.{IsHeld}
 use Rattle.pcc_gate.specs.First.{too_high, formless, first_code, first_front, first_long, first_shape, refused_by}
+use Rattle.word_ops.specs.declared.Profile.TheVariants.{One}
 
 -- the trees of the roots, by their ids
 abbrev pub measured_trees : TableView → List (ℕ × ℕ) → Option ℕ → List Tree
@@ -53,8 +54,8 @@ IsContainerAnswer policy bytes (Err e) = RefusesBytes policy bytes e
 
 -- clause 4
 abbrev pub IsCodeRead : List ℕ → Result (List Insn) GateFault → Type 0
-IsCodeRead bytes (Ok code) = (decoded_code bytes ≡ Ok code) × EncodesCode bytes code × IsCode code
-IsCodeRead bytes (Err e) = (c : Contents) → Refuses (first_code c (decoded_code bytes)) e
+IsCodeRead bytes (Ok code) = (decoded_code One bytes ≡ Ok code) × EncodesCode One bytes code × IsCode code
+IsCodeRead bytes (Err e) = (c : Contents) → Refuses (first_code c (decoded_code One bytes)) e
 
 -- the first refusal by clause 7, and what comes after
 abbrev pub first_uncut : List Insn → List ℕ → Option Refusal → Option Refusal

@@ -35,6 +35,7 @@ IsSmallNode (N.Lit w) = w < 2 ^ 64
 IsSmallNode (N.Calc o a b) = (o < 2 ^ 32) × (a < 2 ^ 64) × (b < 2 ^ 64)
 IsSmallNode (N.Fact p a b) = (p < 2 ^ 32) × (a < 2 ^ 64) × (b < 2 ^ 64)
 IsSmallNode (N.Deny p a b) = (p < 2 ^ 32) × (a < 2 ^ 64) × (b < 2 ^ 64)
+IsSmallNode (N.Lemma n) = n < 2 ^ 32
 IsSmallNode (N.App f a) = Unit {0}
 IsSmallNode (N.Lam b) = Unit {0}
 IsSmallNode (N.Fam a) = a < 2 ^ 32

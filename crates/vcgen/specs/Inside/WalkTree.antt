@@ -1,5 +1,5 @@
 -- The term of the verification condition by a walk forward on terms: what stands for r0 to r30 and m are terms in the context m, r0 to r30.
-use Rattle.std.specs.Prelude.{ℕ, zero, suc, ◌+◌, ◌==◌, if◌then◌else◌, List, [], ◌∷◌, length, slice_get, slice_index_or, slice_set, Option, Some, None, ℤ}
+use Rattle.std.specs.Prelude.{ℕ, zero, suc, ◌+◌, ◌==◌, if◌then◌else◌, List, [], ◌∷◌, length, slice_get, slice_index_or, slice_set, Option, Some, None, ℤ, ◌-◌, ◌^◌}
 use Rattle.std.specs.Int.{cast_unsigned, w64}
 use Rattle.word_ops.specs.declared.Op.TheVariants.{Add, Band}
 use Rattle.word_ops.specs.declared.Rel.TheVariants.{Eq, Slt, Sle}
@@ -29,6 +29,10 @@ rhs_term s (Lit n) = lit n
 -- an address
 abbrev pub address_term : MachineTerms → ℕ → ℤ → Tree
 address_term s rb disp = op_term Add (reg_term s rb) (lit (cast_unsigned w64 disp))
+
+-- the address of the quadword that holds the byte
+abbrev pub aligned_term : Tree → Tree
+aligned_term a = op_term Band a (lit (2 ^ 64 - 8))
 
 -- what a conditional branch tests, which holds or doesn't where it is taken
 abbrev pub tested_term : Cond → Tree → Tree
@@ -91,6 +95,9 @@ computed_term s (Applied op left right) = op_term op (reg_term s left) (rhs_term
 abbrev pub terms_effect : Option ℕ → Action → MachineTerms → InsnEffect
 terms_effect jump (actions.Compute to word) s = Computed (with_reg s to (computed_term s word))
 terms_effect jump (actions.Load to base disp) s = Access (rd (address_term s base disp)) (with_reg s to (sel s.memory (address_term s base disp)))
+terms_effect jump (actions.LoadAround to base disp) s =
+    let a = aligned_term (address_term s base disp) in
+    Access (rd a) (with_reg s to (sel s.memory a))
 terms_effect jump (actions.Store from base disp) s = Access (wr (address_term s base disp)) (with_memory s (upd s.memory (address_term s base disp) (reg_term s from)))
 terms_effect jump (actions.Branching Always) s = Jump jump
 terms_effect jump (actions.Branching (When c reg)) s = Split (taken_term c (tested_term c (reg_term s reg))) (passed_term c (tested_term c (reg_term s reg))) jump

@@ -2,7 +2,7 @@ use Rattle.alpha_words.proofs.Words.{decoded-Encodes, Lawful-decoded}
 use Rattle.alpha_words.proofs.decoding.decode.Goals as goal
 
 pub returns-clause-decodes : goal.returns-clause-decodes
-returns-clause-decodes c i = rw c.read.ensures (decoded-Encodes c.args.word i)
+returns-clause-decodes c i = rw c.read.ensures (decoded-Encodes c.args.profile c.args.word i)
 
 pub returns-clause-lawful : goal.returns-clause-lawful
-returns-clause-lawful c = Lawful-decoded c.args.word c.read.result c.read.ensures
+returns-clause-lawful c = Lawful-decoded c.args.profile c.args.word c.read.result c.read.ensures

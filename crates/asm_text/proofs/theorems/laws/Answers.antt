@@ -8,9 +8,9 @@ use Rattle.asm_text.proofs.theorems.laws.Goals as goal
 
 pub returns : goal.returns
 returns c = record {
-  insns = λ ts i. (insn.spelled_parsed ts i, insn.parsed_spelled ts i);
+  insns = λ p ts i. (insn.spelled_parsed p ts i, insn.parsed_spelled p ts i);
   lines = λ text ls. (lines_are text ls, λ e. subst (λ l. AreLines text l) e (are_lines text));
-  sources = λ text s. (source.spelled_parsed text s, source.parsed_spelled text s);
-  faults = λ text n flaw. (fault_is text n flaw, is_fault text n flaw);
-  begins = λ text n flaw lines h a. none_begins text n flaw lines h a;
+  sources = λ p text s. (source.spelled_parsed p text s, source.parsed_spelled p text s);
+  faults = λ p text n flaw. (fault_is p text n flaw, is_fault p text n flaw);
+  begins = λ p text n flaw lines h a. none_begins p text n flaw lines h a;
 }

@@ -1,9 +1,12 @@
-use Rattle.bpf_filter.proofs.Shapes.{code-is, read, lands, ahead, cut}
+use Rattle.bpf_filter.proofs.Shapes.{code-is, code-first, read, lands, ahead, cut}
 use Rattle.bpf_filter.proofs.Unfolded.{unfolded-most}
 use Rattle.bpf_filter.proofs.theorems.code_laws.Goals as goal
 
 pub returns-clause-code : goal.returns-clause-code
 returns-clause-code c = code-is
+
+pub returns-clause-profile : goal.returns-clause-profile
+returns-clause-profile c = code-first
 
 pub returns-clause-read : goal.returns-clause-read
 returns-clause-read c = read

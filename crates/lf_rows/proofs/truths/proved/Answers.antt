@@ -1,5 +1,6 @@
-use Rattle.lf_signature.specs.Sigma1.{declared}
+use Rattle.lf_signature.specs.Constants.{declared}
 use Rattle.lf_rows.proofs.truths.proved.Goals as goal
+use Rattle.lf_signature.specs.declared.WordSignature.TheVariants.{Sigma1}
 
 pub proved_formula_with-requires-clause-kept : goal.proved_formula_with-requires-clause-kept
-proved_formula_with-requires-clause-kept c = c.new-kept.ensures declared _
+proved_formula_with-requires-clause-kept c = c.new-kept.ensures (declared Sigma1) _

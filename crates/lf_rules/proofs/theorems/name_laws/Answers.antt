@@ -1,5 +1,5 @@
 use Rattle.std.proofs.Common.{refl}
-use Rattle.lf_signature.specs.Sigma1.{the_rules}
+use Rattle.lf_signature.specs.Constants.{the_rules}
 use Rattle.lf_rules.specs.Named.{named_rules}
 use Rattle.lf_rules.proofs.theorems.name_laws.Goals as goal
 

@@ -3,11 +3,11 @@ use Rattle.term_table.specs.Tree.{App, apps}
 use Rattle.term_table.specs.Table.{tree_at, Extends}
 use Rattle.lf_signature.specs.Schemas.{premise_of}
 use Rattle.lf_signature.specs.Nodes.{IsIdOf}
-use Rattle.lf_sequents.specs.Sequents.{AreSequents}
+use Rattle.lf_sequents.specs.Sequents.{AreOfTable}
 use Rattle.lf_sequents.specs.Answers.{proof_taken, proofs_taken}
 use Rattle.lf_sequents.specs.Room.{sequents_of}
 use Rattle.lf_rules.proofs.Grown.{extends_trans}
-use Rattle.lf_sequents.proofs.Fitting.{sequents-more, proofs-same}
+use Rattle.lf_sequents.proofs.Fitting.{placeds-more, proofs-same}
 use Rattle.lf_rules.proofs.Slices.{parted}
 use Rattle.lf_sequents.proofs.conclude.+with_proofs.Goals as goal
 
@@ -18,9 +18,9 @@ with_proofs-requires t c =
     let t₂ = c.intern.new.self in
     let rows : c.args.rows.now ≡ c.row-item.result ∷ take (length c.args.rows.now - 1) (drop 1 c.args.rows.now) = parted c.args.rows.now c.row-item.result c.row-item.result c.in-len1-up.len_at_least c.row-item.is in
     let parts : c.args.premises.now ≡ c.premise-item.result ∷ take (length c.args.premises.now - 1) (drop 1 c.args.premises.now) = parted c.args.premises.now c.premise-item.result c.premise-item.result c.in-len1-up-premises.len_at_least c.premise-item.is in
-    let known = subst (λ l. AreSequents t₀ (sequents_of l)) parts c.requires.premises in
+    let known = subst (λ l. AreOfTable t₀ (sequents_of l)) parts c.requires.premises in
     let grown : Extends t₀ t₂ = extends_trans t₀ t₁ t₂ c.in_ok-proof-in-len1-up-premises.ensures.extends c.in_ok-next-in-len1-up-premises.ensures.extends in
-    (omega (arith, ap length rows, c.decreases), (c.in_ok-next-in-len1-up-premises.ensures.id.0, sequents-more t₀ t₂ _ known.1 grown))
+    (omega (arith, ap length rows, c.decreases), (c.in_ok-next-in-len1-up-premises.ensures.id.0, placeds-more t₀ t₂ _ known.1 grown))
 
 pub returns-in_ok-next-in-len1-up-premises-clause-id : goal.returns-in_ok-next-in-len1-up-premises-clause-id
 returns-in_ok-next-in-len1-up-premises-clause-id t c =
@@ -31,7 +31,7 @@ returns-in_ok-next-in-len1-up-premises-clause-id t c =
     let rest = take (length c.args.premises.now - 1) (drop 1 c.args.premises.now) in
     let rows : c.args.rows.now ≡ c.row-item.result ∷ rows-rest = parted c.args.rows.now c.row-item.result c.row-item.result c.in-len1-up.len_at_least c.row-item.is in
     let parts : c.args.premises.now ≡ c.premise-item.result ∷ rest = parted c.args.premises.now c.premise-item.result c.premise-item.result c.in-len1-up-premises.len_at_least c.premise-item.is in
-    let known = subst (λ l. AreSequents t₀ (sequents_of l)) parts c.requires.premises in
+    let known = subst (λ l. AreOfTable t₀ (sequents_of l)) parts c.requires.premises in
     let x : Extends t₀ t₁ = c.in_ok-proof-in-len1-up-premises.ensures.extends in
     let grown : Extends t₀ t₂ = extends_trans t₀ t₁ t₂ x c.in_ok-next-in-len1-up-premises.ensures.extends in
     let proof = c.in_ok-proof-in-len1-up-premises.ensures.id.is in

@@ -13,6 +13,7 @@ use Rattle.pcc_gate.proofs.Kept.{known-more, option-more, trees-same, option-sam
 use Rattle.pcc_gate.proofs.Refusing.{carries, keys}
 use Rattle.pcc_gate.proofs.Stages.{code-refuses}
 use Rattle.pcc_gate.proofs.passing.rest.Goals as goal
+use Rattle.word_ops.specs.declared.Profile.TheVariants.{One}
 
 pub returns-in_err-insns-clause-answer : goal.returns-in_err-insns-clause-answer
 returns-in_err-insns-clause-answer c =
@@ -64,7 +65,7 @@ returns-clause-answer c =
     record {
       contents = λ i. record { policy = c.args.container.policy; code = c.args.container.code.now; invs = sym (trees-same t u ps grown known.0) i; proof = sym (option-same t u proof grown known.1) i };
       held = record { known = (known-more t u ps grown known.0, option-more t u proof grown known.1); places = grown.places ∙ c.requires.held.places };
-      encoded = subst (λ x. EncodesCode c.args.container.code.now x) (sym code) c.in_ok-insns.ensures.1;
+      encoded = subst (λ x. EncodesCode One c.args.container.code.now x) (sym code) c.in_ok-insns.ensures.1;
       is = subst (λ x. IsCode x) (sym code) c.in_ok-insns.ensures.2;
       shaped = record { low = mine.low; forms = mine.forms; made = mine.made; short = mine.short };
     }

@@ -1,7 +1,7 @@
 use Rattle.std.proofs.Common.{◌≡◌, [], refl, sym, subst}
 use Rattle.term_table.specs.Table.{tree_at, id_trees}
 use Rattle.hereditary_subst.specs.Simples.{IsResult}
-use Rattle.lf_signature.specs.Sigma1.{declared}
+use Rattle.lf_signature.specs.Constants.{declared}
 use Rattle.lf_signature.specs.Terms.{pf}
 use Rattle.lf_signature.specs.Typing.{Checks}
 use Rattle.lf_truth.proofs.Proved.{one-formula}
@@ -11,6 +11,7 @@ use Rattle.pcc_gate.proofs.First.{judged-true, vc_of-encodes, proves-false}
 use Rattle.pcc_gate.proofs.Kept.{low-more, low-same}
 use Rattle.pcc_gate.proofs.Refusing.{not-both}
 use Rattle.pcc_gate.proofs.proving.proved.Goals as goal
+use Rattle.lf_signature.specs.declared.WordSignature.TheVariants.{Sigma1}
 
 pub is_condition_with-requires-clause-invs : goal.is_condition_with-requires-clause-invs
 is_condition_with-requires-clause-invs c = low-more c.args.table.now c.proved_formula_with.new.table c.args.invs.now c.requires.invs
@@ -26,7 +27,7 @@ returns-in_default-clause-answer c =
     let u = c.proved_formula_with.new.table in
     let proof = tree_at o c.args.proof in
     let vc = vc_of c.args.policy.now c.args.cut.now.code (id_trees o c.args.invs.now) in
-    let none = subst (λ z. IsResult u (λ g. Checks declared [] proof (pf g)) z) c.in_default.is c.in_ok-formula.ensures.exact in
+    let none = subst (λ z. IsResult u (λ g. Checks (declared Sigma1) [] proof (pf g)) z) c.in_default.is c.in_ok-formula.ensures.exact in
     (proves-false proof vc (none vc), refl)
 
 pub returns-then-not-equal-clause-answer : goal.returns-then-not-equal-clause-answer
@@ -39,13 +40,13 @@ returns-then-not-equal-clause-answer c =
     let invs = id_trees o c.args.invs.now in
     let vc = vc_of policy code invs in
     let found = tree_at u c.in-Some.formula in
-    let has = subst (λ z. IsResult u (λ g. Checks declared [] proof (pf g)) z) c.in-Some.is c.in_ok-formula.ensures.exact in
+    let has = subst (λ z. IsResult u (λ g. Checks (declared Sigma1) [] proof (pf g)) z) c.in-Some.is c.in_ok-formula.ensures.exact in
     let same = low-same o u c.args.invs.now c.requires.invs c.in_ok-formula.ensures.extends in
     let is : EncodesCondition policy code (id_trees u c.args.invs.now) vc = subst (λ l. EncodesCondition policy code l vc) same
     (vc_of-encodes policy code invs c.requires.forms) in
-    let other : Checks declared [] proof (pf vc) → ⊥ =
+    let other : Checks (declared Sigma1) [] proof (pf vc) → ⊥ =
     λ k. not-both _ c.if-not-equal.true (c.in-Ok.ensures.exact.1.1 (subst (λ z. EncodesCondition policy code (id_trees u c.args.invs.now) z)
-    (one-formula proof vc found k has.1) is)) in
+    (one-formula (declared Sigma1) proof vc found k has.1) is)) in
     (proves-false proof vc other, refl)
 
 pub returns-clause-answer : goal.returns-clause-answer
@@ -57,7 +58,7 @@ returns-clause-answer c =
     let proof = tree_at o c.args.proof in
     let invs = id_trees o c.args.invs.now in
     let found = tree_at u c.in-Some.formula in
-    let has = subst (λ z. IsResult u (λ g. Checks declared [] proof (pf g)) z) c.in-Some.is c.in_ok-formula.ensures.exact in
+    let has = subst (λ z. IsResult u (λ g. Checks (declared Sigma1) [] proof (pf g)) z) c.in-Some.is c.in_ok-formula.ensures.exact in
     let same = low-same o u c.args.invs.now c.requires.invs c.in_ok-formula.ensures.extends in
     let is : EncodesCondition policy code invs found = subst (λ l. EncodesCondition policy code l found) (sym same)
     (c.in-Ok.ensures.exact.1.0 c.if-not-equal.false) in

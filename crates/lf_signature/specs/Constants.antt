@@ -1,17 +1,21 @@
 -- The signature of word arithmetic: the declared type of each constant.
 -- Rules as constants: Harper, Honsell and Plotkin, A Framework for Defining Logics, JACM 1993. A logic of words and memories for code: Necula, Proof-Carrying Code, POPL 1997.
 use Rattle.std.specs.Prelude.{ℕ, ◌-◌, ◌^◌, Bool, ◌&&◌, not, nat_lt, if◌then◌else◌, Option, Some, None, List, [], ◌∷◌, ◌++◌, map, length}
-use Rattle.std.specs.Option.{option_map_or}
-use Rattle.term_table.specs.Tree.{Tree, Pi, Const, Num, Lit, Calc, Fact, Deny, at}
+use Rattle.std.specs.Option.{option_map, option_map_or}
+use Rattle.term_table.specs.Tree.{Tree, Pi, Const, Num, Lit, Calc, Fact, Deny, Lemma, at}
 use Rattle.term_table.specs.Subst.{bind}
 use Rattle.word_ops.specs.declared.Op.{Op}
-use Rattle.word_ops.specs.declared.Op.TheVariants.{Add, Sub, Band, Bis, Sll, Srl, Cmpeq, Cmplt, Cmple, Cmpult, Cmpule}
+use Rattle.word_ops.specs.declared.Op.TheVariants.{Add, Sub, Band, Bis, Sll, Srl, Cmpeq, Cmplt, Cmple, Cmpult, Cmpule, Xor, Bic, S4add, S8add, Sra, Extb, Extw, Extl}
 use Rattle.word_ops.specs.declared.Rel.{Rel}
 use Rattle.word_ops.specs.declared.Rel.TheVariants.{Eq, Ult, Ule, Slt, Sle}
 use Rattle.word_ops.specs.Words.{word_of, test_of}
 use Rattle.word_ops.specs.Operators.{op_of}
 use Rattle.lf_signature.specs.Numbers.{rel_of}
-use Rattle.lf_signature.specs.declared.numbers.TheConstants.{FIRST_RULE}
+use Rattle.lf_signature.specs.declared.numbers.TheConstants.{FIRST_RULE, XOR, LATER_RULE}
+use Rattle.lf_signature.specs.declared.tables.Place.{Place}
+use Rattle.lf_signature.specs.declared.tables.Place.TheVariants.{Made, ByRule}
+use Rattle.lf_signature.specs.declared.WordSignature.{WordSignature}
+use Rattle.lf_signature.specs.declared.WordSignature.TheVariants.{Sigma1, Sigma2, Sigma3}
 use Rattle.lf_signature.specs.Terms.{exp, mem, form, pf, lit, op_term, rel_term, not_term}
 use Rattle.lf_signature.specs.Rules.{Sort, OfExp, OfMem, OfForm, OfExpForm, OfMemForm, SExp, SPar, SOwn, SLit, SOp, SSel, MPar, MOwn, SUpd, SForm, STrue, SFalse, FPar, FOf, FOfMem, SRel, SAnd, SOr, SImp, SAll, SAllm, Premise, Plain, Under, ForExp, ForMem, Rule, rule_type}
 
@@ -52,6 +56,15 @@ constant_types =
     -- 25 all, 26 allm
     Pi (Pi exp form) form ∷
     Pi (Pi mem form) form ∷
+    -- 88 to 95: xor, bic, s4add, s8add, sra, extb, extw, extl
+    Pi exp (Pi exp exp) ∷
+    Pi exp (Pi exp exp) ∷
+    Pi exp (Pi exp exp) ∷
+    Pi exp (Pi exp exp) ∷
+    Pi exp (Pi exp exp) ∷
+    Pi exp (Pi exp exp) ∷
+    Pi exp (Pi exp exp) ∷
+    Pi exp (Pi exp exp) ∷
     []
 
 -- The words of the table of rules below.
@@ -176,7 +189,30 @@ cmp_no p = rule words2 (Plain (eq (SOp p.0 a b) (SLit 0)) ∷ []) (no (SRel p.1 
 abbrev cmp_le1 : Op × Rel → Rule
 cmp_le1 p = rule words2 [] (ule (SOp p.0 a b) (SLit 1))
 
--- The rules, constants 27 to 87. A comment has the rule's name and says it: parameters ; premises |- conclusion.
+-- The rules 96 to 104.
+abbrev later_rules : List Rule
+later_rules =
+    -- 96 xor_self   a ; |- (eq (xor a a) 0)
+    rule words1 [] (eq (SOp Xor a a) (SLit 0)) ∷
+    -- 97 bic_le     a b ; |- (ule (bic a b) a)
+    rule words2 [] (ule (SOp Bic a b) a) ∷
+    -- 98 s4_def     a b ; |- (eq (s4add a b) (add (sll a 2) b))
+    rule words2 [] (eq (SOp S4add a b) (add (sll a (SLit 2)) b)) ∷
+    -- 99 s8_def     a b ; |- (eq (s8add a b) (add (sll a 3) b))
+    rule words2 [] (eq (SOp S8add a b) (add (sll a (SLit 3)) b)) ∷
+    -- 100 extb_le   a b ; |- (ule (extb a b) 255)
+    rule words2 [] (ule (SOp Extb a b) (SLit 255)) ∷
+    -- 101 extw_le   a b ; |- (ule (extw a b) 65535)
+    rule words2 [] (ule (SOp Extw a b) (SLit 65535)) ∷
+    -- 102 extl_le   a b ; |- (ule (extl a b) 4294967295)
+    rule words2 [] (ule (SOp Extl a b) (SLit 4294967295)) ∷
+    -- 103 bic_def   a b ; |- (eq (bic a b) (band a (xor b MAX)))
+    rule words2 [] (eq (SOp Bic a b) (band a (SOp Xor b max))) ∷
+    -- 104 sub_lo    a b c ; (ule b a), (ule c b) |- (ule (sub b c) (sub a c))
+    rule words3 (Plain (ule b a) ∷ Plain (ule c b) ∷ []) (ule (sub b c) (sub a c)) ∷
+    []
+
+-- The rules, constants 27 to 87 and 96 to 104. A comment has the rule's name and says it: parameters ; premises |- conclusion.
 -- A, B, C are formulas, a, b, c, d, v words, m a memory, F a formula over a word, G one over a memory; [A], [x], [m] is what a premise binds.
 unfoldable pub the_rules : List Rule
 the_rules =
@@ -277,19 +313,49 @@ the_rules =
     -- 73 to 77 cmp_yes  a b ; (not (eq (o a b) 0)) |- (p a b)
     -- 78 to 82 cmp_no   a b ; (eq (o a b) 0) |- (not (p a b))
     -- 83 to 87 cmp_le1  a b ; |- (ule (o a b) 1)
-    map cmp_yes pairs ++ (map cmp_no pairs ++ map cmp_le1 pairs)
+    map cmp_yes pairs ++ (map cmp_no pairs ++ (map cmp_le1 pairs ++ later_rules))
+
+-- where a numbered constant stands: among those of which formulas are made, or among the rules
+abbrev pub place_of : ℕ → Place
+place_of n =
+    if nat_lt n FIRST_RULE then Made n else
+    if nat_lt n XOR then ByRule (n - FIRST_RULE) else
+    if nat_lt n LATER_RULE then Made (n - 61) else
+    ByRule (n - 35)
+
+-- the rule at a place
+abbrev pub rule_in : Place → Option Rule
+rule_in (Made i) = None
+rule_in (ByRule i) = at the_rules i
+
+-- the type at a place
+abbrev pub type_in : Place → Option Tree
+type_in (Made i) = at constant_types i
+type_in (ByRule i) = option_map rule_type (at the_rules i)
 
 -- the rule of a number
 abbrev pub rule_at : ℕ → Option Rule
-rule_at n = if nat_lt n FIRST_RULE then None else at the_rules (n - FIRST_RULE)
+rule_at n = rule_in (place_of n)
 
 -- how many parameters a numbered constant has; those that are no rules have none
 abbrev pub parameters_of : ℕ → ℕ
 parameters_of n = option_map_or (λ r. length r.parameters) (rule_at n) 0
 
--- the types of the numbered constants, in order
-unfoldable pub number_types : List Tree
-number_types = constant_types ++ map rule_type the_rules
+-- how many numbered constants a signature has: it has the first ones
+abbrev pub size_of : WordSignature → ℕ
+size_of Sigma1 = 88
+size_of Sigma2 = 104
+size_of Sigma3 = 105
+
+-- how many operators: it has the first ones
+abbrev pub op_count_of : WordSignature → ℕ
+op_count_of Sigma1 = 11
+op_count_of Sigma2 = 19
+op_count_of Sigma3 = 19
+
+-- the operator that evaluations name by a number
+abbrev pub op_in : WordSignature → ℕ → Option Op
+op_in s o = if nat_lt o (op_count_of s) then op_of o else None
 
 -- whether a number is a 64-bit word
 abbrev pub is_word : ℕ → Bool
@@ -307,11 +373,12 @@ fact_type r x y = pf (rel_term r (lit x) (lit y))
 abbrev pub deny_type : Rel → ℕ → ℕ → Tree
 deny_type r x y = pf (not_term (rel_term r (lit x) (lit y)))
 
--- The declared type of a constant. Numbers past 87 have none, nor have a literal that is no word, an operator or relation that is none,
--- and what is claimed wrongly of a relation.
-abbrev pub declared : Const → Option Tree
-declared (Num n) = at number_types n
-declared (Lit w) = if is_word w then Some exp else None
-declared (Calc o x y) = bind (op_of o) (λ p. if is_word x && is_word y then Some (calc_type p x y) else None)
-declared (Fact r x y) = bind (rel_of r) (λ p. if (is_word x && is_word y) && test_of p x y then Some (fact_type p x y) else None)
-declared (Deny r x y) = bind (rel_of r) (λ p. if (is_word x && is_word y) && not (test_of p x y) then Some (deny_type p x y) else None)
+-- The type that a signature declares for a constant. Numbers past its last have none, nor have a literal that is no word, an operator or relation
+-- that is none of it, what is claimed wrongly of a relation, and a lemma.
+abbrev pub declared : WordSignature → Const → Option Tree
+declared s (Num n) = if nat_lt n (size_of s) then type_in (place_of n) else None
+declared s (Lit w) = if is_word w then Some exp else None
+declared s (Calc o x y) = bind (op_in s o) (λ p. if is_word x && is_word y then Some (calc_type p x y) else None)
+declared s (Fact r x y) = bind (rel_of r) (λ p. if (is_word x && is_word y) && test_of p x y then Some (fact_type p x y) else None)
+declared s (Deny r x y) = bind (rel_of r) (λ p. if (is_word x && is_word y) && not (test_of p x y) then Some (deny_type p x y) else None)
+declared s (Lemma n) = None

@@ -1,0 +1,171 @@
+-- The condition's operators are those of the code, of its formulas, and of addresses and tests.
+use Rattle.std.proofs.Common.{◌≡◌, ℕ, zero, suc, ◌+◌, All, List, [], ◌∷◌, length, slice_get, Option, Some, None, refl, sym, subst, inl, inr, eqb, cond, true, false}
+use Rattle.std.proofs.lemmas.Bool.{cases_Bool}
+use Rattle.std.proofs.lemmas.Option.{same_Some}
+use Rattle.std.proofs.lemmas.List.Elements.{All-head, All-tail}
+use Rattle.word_ops.specs.declared.Op.{Op}
+use Rattle.word_ops.specs.declared.Op.TheVariants.{Add, Band}
+use Rattle.alpha_words.specs.declared.insn.Rhs.{Rhs}
+use Rattle.alpha_words.specs.declared.insn.Rhs.TheVariants.{Reg, Lit}
+use Rattle.alpha_words.specs.declared.insn.Cond.{Cond}
+use Rattle.alpha_words.specs.declared.insn.Cond.TheVariants.{LowClear, Zero, Negative, NotPositive, LowSet, NotZero, NotNegative, Positive}
+use Rattle.alpha_words.specs.declared.insn.Insn.{Insn}
+use Rattle.alpha_words.specs.declared.insn.Insn.TheVariants.{Oper}
+use Rattle.alpha_cfg.specs.Flow.{jump_of, AreOfProfile}
+use Rattle.formula_tree.specs.Formulas.{Exp, EReg, ELit, ESel, MemExp, MMem, MUpd, Form, FFalse, FImp}
+use Rattle.formula_tree.specs.Substitution.{subst_form}
+use Rattle.formula_tree.specs.Operators.{UsesExp, UsesMem, Uses}
+use Rattle.formula_tree.proofs.Used.{AllUse, all-set, PutsIn, subst_form-uses}
+use Rattle.lf_encode.specs.Contexts.{machine_names}
+use Rattle.lf_encode.proofs.Named.{named_form-uses}
+use Rattle.vcgen.specs.Assignments.{regs_from, unchanged, for_reg, for_memory}
+use Rattle.vcgen.specs.Conditions.{AnnotatedCode, reg_exp, rhs_exp, address_exp, aligned_exp, taken_if, passed_if, at_target, computed_exp, action_condition, condition_at, invariant_at, or_else, wp_within, wp, body, alls, close, entered, inv_parts, condition}
+use Rattle.vcgen.proofs.WalkTrees.{subst-names}
+use Rattle.word_ops.specs.declared.Profile.TheVariants.{One}
+use Rattle.alpha_words.specs.Encoding.{has_insn}
+use Rattle.alpha_cfg.specs.Actions as actions
+use Rattle.alpha_cfg.specs.Actions.{Computed, Sum, Applied, Always, When, Action, action_of}
+use Rattle.word_ops.specs.Operators.{IsFirstOp}
+
+-- the effect's operator, if it has one, is among these
+abbrev pub HasOperator : (Op → Type 0) → Action → Type 0
+HasOperator P (actions.Compute to (Applied op left right)) = P op
+HasOperator P e = Unit {0}
+
+-- code of the first profile has that profile's operators alone
+pub first-operators : (code : List Insn) → AreOfProfile One code → (i : ℕ) (insn : Insn) → slice_get code i ≡ Some insn → HasOperator IsFirstOp (action_of insn)
+first-operators code one i insn e = go insn (one i insn e)
+  where
+    go : (x : Insn) → has_insn One x ≡ true → HasOperator IsFirstOp (action_of x)
+    go (Oper op ra rhs rc) h = h
+    go _ h = tt
+
+-- addresses and tests take sums and conjunctions
+module _ (P : Op → Type 0) (sums : P Add) (ands : P Band) where
+  uses-reg : (r : ℕ) → UsesExp P (reg_exp r)
+  uses-reg r = elim (eqb r 31) as (λ b. UsesExp P (cond b (ELit 0) (EReg r))) [ true ↦ tt | false ↦ tt ]
+
+  uses-rhs : (rhs : Rhs) → UsesExp P (rhs_exp rhs)
+  uses-rhs (Reg r) = uses-reg r
+  uses-rhs (Lit n) = tt
+
+  uses-taken : (c : Cond) (x : Exp) → UsesExp P x → Uses P (taken_if c x)
+  uses-taken LowClear x u = ((ands, u, tt), tt)
+  uses-taken Zero x u = (u, tt)
+  uses-taken Negative x u = (u, tt)
+  uses-taken NotPositive x u = (u, tt)
+  uses-taken LowSet x u = (((ands, u, tt), tt), tt)
+  uses-taken NotZero x u = ((u, tt), tt)
+  uses-taken NotNegative x u = ((u, tt), tt)
+  uses-taken Positive x u = ((u, tt), tt)
+
+  uses-passed : (c : Cond) (x : Exp) → UsesExp P x → Uses P (passed_if c x)
+  uses-passed LowClear x u = (((ands, u, tt), tt), tt)
+  uses-passed Zero x u = ((u, tt), tt)
+  uses-passed Negative x u = ((u, tt), tt)
+  uses-passed NotPositive x u = ((u, tt), tt)
+  uses-passed LowSet x u = ((ands, u, tt), tt)
+  uses-passed NotZero x u = (u, tt)
+  uses-passed NotNegative x u = (u, tt)
+  uses-passed Positive x u = (u, tt)
+
+  -- ---- assignments
+
+  all-from : (n r : ℕ) → AllUse P (regs_from n r)
+  all-from zero r = tt
+  all-from (suc n) r = (tt, all-from n (suc r))
+
+  puts-unchanged : PutsIn P unchanged
+  unfolding unchanged
+  puts-unchanged = record { regs = all-from 31 0; memory = tt; left = tt }
+
+  uses-assigned : (F : Form) (r : ℕ) (e : Exp) → Uses P F → UsesExp P e → Uses P (subst_form F (for_reg r e))
+  uses-assigned F r e h u = subst_form-uses P F (for_reg r e) h
+      (record { regs = all-set P unchanged.regs r e puts-unchanged.regs u; memory = puts-unchanged.memory; left = puts-unchanged.left })
+
+  uses-stored : (F : Form) (m : MemExp) → Uses P F → UsesMem P m → Uses P (subst_form F (for_memory m))
+  uses-stored F m h u = subst_form-uses P F (for_memory m) h (record { regs = puts-unchanged.regs; memory = u; left = puts-unchanged.left })
+
+  -- ---- what has to hold
+
+  uses-target : (next : ℕ → Form) (o : Option ℕ) → ((j : ℕ) → Uses P (next j)) → Uses P (at_target next o)
+  uses-target next None h = tt
+  uses-target next (Some j) h = h j
+
+  uses-computed : (to : ℕ) (word : Computed) → HasOperator P (actions.Compute to word) → UsesExp P (computed_exp word)
+  uses-computed to (Sum base disp) o = (sums, uses-reg base, tt)
+  uses-computed to (Applied op left right) o = (o, uses-reg left, uses-rhs right)
+
+  uses-action : (next : ℕ → Form) (post : Form) (i : ℕ) (jump : Option ℕ) (e : Action) → HasOperator P e → ((j : ℕ) → Uses P (next j)) → Uses P post → Uses P (action_condition next post i jump e)
+  uses-action next post i jump (actions.Compute to word) o h p = uses-assigned (next (i + 1)) to (computed_exp word) (h (i + 1)) (uses-computed to word o)
+  uses-action next post i jump (actions.Load to base disp) o h p =
+      let a : UsesExp P (address_exp base disp) = (sums, uses-reg base, tt) in
+      (a, uses-assigned (next (i + 1)) to (ESel MMem (address_exp base disp)) (h (i + 1)) (tt, a))
+  uses-action next post i jump (actions.LoadAround to base disp) o h p =
+      let a : UsesExp P (aligned_exp (address_exp base disp)) = (ands, (sums, uses-reg base, tt), tt) in
+      (a, uses-assigned (next (i + 1)) to (ESel MMem (aligned_exp (address_exp base disp))) (h (i + 1)) (tt, a))
+  uses-action next post i jump (actions.Store from base disp) o h p =
+      let a : UsesExp P (address_exp base disp) = (sums, uses-reg base, tt) in
+      (a, uses-stored (next (i + 1)) (MUpd MMem (address_exp base disp) (reg_exp from)) (h (i + 1)) (tt, a, uses-reg from))
+  uses-action next post i jump (actions.Branching Always) o h p = uses-target next jump h
+  uses-action next post i jump (actions.Branching (When c reg)) o h p =
+      ((uses-taken c (reg_exp reg) (uses-reg reg), uses-target next jump h), (uses-passed c (reg_exp reg) (uses-reg reg), h (i + 1)))
+  uses-action next post i jump actions.Return o h p = p
+
+  uses-at : (next : ℕ → Form) (post : Form) (i : ℕ) (found : Option Insn) → ((insn : Insn) → found ≡ Some insn → HasOperator P (action_of insn)) → ((j : ℕ) → Uses P (next j)) → Uses P post →
+      Uses P (condition_at None next post i found)
+  uses-at next post i None o h p = tt
+  uses-at next post i (Some insn) o h p = uses-action next post i (jump_of i insn) (action_of insn) (o insn refl) h p
+
+  uses-else : (o : Option Form) (F : Form) → ((I : Form) → o ≡ Some I → Uses P I) → Uses P F → Uses P (or_else o F)
+  uses-else None F k h = h
+  uses-else (Some I) F k h = k I refl
+
+  uses-inv : (ps : List (ℕ × Form)) → All (λ p. Uses P p.1) ps → (i : ℕ) (F : Form) → invariant_at ps i ≡ Some F → Uses P F
+  uses-inv [] h i F q = cc
+  uses-inv (p ∷ ps) h i F q =
+      elim (cases_Bool (eqb p.0 i)) [
+        | inl e ↦ subst (λ G. Uses P G) (same_Some p.1 F (rw e at q)) (All-head (λ (p : ℕ × Form). Uses P p.1) p ps h)
+        | inr e ↦ uses-inv ps (All-tail (λ (p : ℕ × Form). Uses P p.1) p ps h) i F (rw e at q)
+      ]
+
+  -- ---- closing
+
+  uses-alls : (n : ℕ) (F : Form) → Uses P F → Uses P (alls n F)
+  uses-alls zero F h = h
+  uses-alls (suc n) F h = uses-alls n F h
+
+  uses-close : (F : Form) → Uses P F → Uses P (close None F)
+  uses-close F h = uses-alls 31 (subst_form F machine_names) (subst (λ E. Uses P E) (sym (subst-names F)) (named_form-uses P 0 F h))
+
+  -- ---- the condition
+
+  module _ (c : AnnotatedCode) (code : (i : ℕ) (insn : Insn) → slice_get c.code i ≡ Some insn → HasOperator P (action_of insn)) (uncounted : c.bound ≡ None)
+      (pre : Uses P c.pre) (post : Uses P c.post) (invs : All (λ p. Uses P p.1) c.invs) where
+    uses-index : (next : ℕ → Form) (i : ℕ) → ((j : ℕ) → Uses P (next j)) → Uses P (condition_at c.bound next c.post i (slice_get c.code i))
+    uses-index next i h =
+        subst (λ b. Uses P (condition_at b next c.post i (slice_get c.code i))) (sym uncounted) (uses-at next c.post i (slice_get c.code i) (code i) h post)
+
+    uses-wp_within : (n i : ℕ) → Uses P (wp_within c n i)
+    uses-wp_within zero i = uses-else (invariant_at c.invs i) FFalse (uses-inv c.invs invs i) tt
+    uses-wp_within (suc n) i =
+        uses-else (invariant_at c.invs i) (condition_at c.bound (wp_within c n) c.post i (slice_get c.code i)) (uses-inv c.invs invs i) (uses-index (wp_within c n) i (uses-wp_within n))
+
+    uses-body : (i : ℕ) → Uses P (body c i)
+    uses-body i = uses-index (wp c) i (uses-wp_within (length c.code))
+
+    uses-closed : (F : Form) → Uses P F → Uses P (close c.bound F)
+    uses-closed F h = subst (λ b. Uses P (close b F)) (sym uncounted) (uses-close F h)
+
+    uses-parts : (ps : List (ℕ × Form)) → All (λ p. Uses P p.1) ps → Uses P (inv_parts c ps)
+    uses-parts [] h = tt
+    uses-parts (p ∷ ps) h = (
+      uses-closed (FImp p.1 (body c p.0)) (All-head (λ (q : ℕ × Form). Uses P q.1) p ps h, uses-body p.0),
+      uses-parts ps (All-tail (λ (q : ℕ × Form). Uses P q.1) p ps h),
+    )
+
+    uses-entered : Uses P (entered c.bound (wp c 0))
+    uses-entered = subst (λ b. Uses P (entered b (wp c 0))) (sym uncounted) (uses-wp_within (length c.code) 0)
+
+    pub condition-uses : Uses P (condition c)
+    condition-uses = (uses-closed (FImp c.pre (entered c.bound (wp c 0))) (pre, uses-entered), uses-parts c.invs invs)
