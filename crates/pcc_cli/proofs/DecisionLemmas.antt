@@ -62,30 +62,9 @@ wrote_ends : (stage : Stage Effect) (asked : List Event) (name bytes : List ℕ)
     → EndsWith stage (asked ++ was_written name bytes answer ∷ []) (end_of_decision d)
 wrote_ends stage asked name bytes put.Done (Ok (report.Written count)) follows is =
     wrote asked (written_line (length bytes)) name bytes put.Done refl follows (ap (λ n. done_exit (written_line n)) is)
-wrote_ends stage asked name bytes put.Done (Ok report.Accepted) follows is = absurd is
-wrote_ends stage asked name bytes put.Done (Ok (report.Results job)) follows is = absurd is
-wrote_ends stage asked name bytes put.Done (Ok (report.Hosted job)) follows is = absurd is
-wrote_ends stage asked name bytes put.Done (Ok (report.Demo summary)) follows is = absurd is
-wrote_ends stage asked name bytes put.Done (Err why) follows is = absurd is
-wrote_ends stage asked name bytes put.Failed (Ok report) follows is = absurd is
 wrote_ends stage asked name bytes put.Failed (Err (stop.WriteFault other)) follows is =
     wrote asked (written_line (length bytes)) name bytes put.Failed refl follows (ap (λ n. written_exit texts n (written_line (length bytes)) put.Failed) is)
-wrote_ends stage asked name bytes put.Failed (Err stop.Usage) follows is = absurd is
-wrote_ends stage asked name bytes put.Failed (Err stop.UnknownPolicy) follows is = absurd is
-wrote_ends stage asked name bytes put.Failed (Err (stop.Refused refusal)) follows is = absurd is
-wrote_ends stage asked name bytes put.Failed (Err stop.ContainerTooLong) follows is = absurd is
-wrote_ends stage asked name bytes put.Failed (Err (stop.NotEasy part)) follows is = absurd is
-wrote_ends stage asked name bytes put.Failed (Err (stop.TooBig measure number)) follows is = absurd is
-wrote_ends stage asked name bytes put.Failed (Err stop.SourceTooLong) follows is = absurd is
-wrote_ends stage asked name bytes put.Failed (Err (stop.BadLine line flaw)) follows is = absurd is
-wrote_ends stage asked name bytes put.Failed (Err (stop.BadSource flaw)) follows is = absurd is
-wrote_ends stage asked name bytes put.Failed (Err stop.PacketsTooLong) follows is = absurd is
-wrote_ends stage asked name bytes put.Failed (Err (stop.BadPackets fault)) follows is = absurd is
-wrote_ends stage asked name bytes put.Failed (Err stop.ProgramTooLong) follows is = absurd is
-wrote_ends stage asked name bytes put.Failed (Err (stop.BadProgram flaw)) follows is = absurd is
-wrote_ends stage asked name bytes put.Failed (Err (stop.Missing other)) follows is = absurd is
-wrote_ends stage asked name bytes put.Failed (Err (stop.ReadFault other)) follows is = absurd is
-wrote_ends stage asked name bytes put.Failed (Err stop.Memory) follows is = absurd is
+wrote_ends stage asked name bytes answer d follows is = absurd is
 
 -- where a stage gives an effect with a write, and the bytes are written
 pub decides_written : (stage : Stage Effect) (name bytes : List ℕ) (e m e' : List Event) (f n g : FilesState) (asked : List Event) → m ≡ e ++ asked → Happens asked f n

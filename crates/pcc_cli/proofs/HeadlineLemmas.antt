@@ -1,7 +1,7 @@
 -- What a run means, by its events and its exit.
-use Rattle.std.proofs.Common.{◌≡◌, ℕ, ◌≤◌, ◌⊎◌, inl, inr, false, true≢false, List, [], ◌∷◌, ◌++◌, length, Option, Some, None, is_some, unwrap_or, Result, Ok, Err, refl, sym, ap, ◌∙◌, subst, arith}
+use Rattle.std.proofs.Common.{◌≡◌, ℕ, suc, ◌+◌, ◌*◌, ◌%◌, ◌^◌, ◌<◌, ◌≤◌, ◌⊎◌, inl, inr, false, true≢false, List, [], ◌∷◌, ◌++◌, length, Option, Some, None, is_some, unwrap_or, Result, Ok, Err, refl, sym, ap, ◌∙◌, subst, arith}
 use Rattle.std.proofs.lemmas.List.{append-nil}
-use Rattle.file_port.specs.Events.{Given, whole, missing, too_long, failed, no_memory, Event, was_read, was_written, was_put}
+use Rattle.file_port.specs.Events.{Given, whole, missing, too_long, failed, no_memory, Event, was_read, was_written}
 use Rattle.file_port.specs.Files.{FilesState}
 use Rattle.file_port.specs.Sink.{SinkState}
 use Rattle.file_port.specs.declared.Put.{Put}
@@ -16,7 +16,7 @@ use Rattle.reference_machine.specs.Starts.{StartView, start_state}
 use Rattle.packet_store.specs.declared.fault.PacketFault.{PacketFault}
 use Rattle.packet_store.specs.declared.reader.TheConstants.{MAX_PACKET}
 use Rattle.packet_store.specs.PacketDecoding.{decoded_packets}
-use Rattle.packet_store.specs.PolicyStarts.{start_of}
+use Rattle.packet_store.specs.PolicyStarts.{start_from, start_of}
 use Rattle.packet_store.specs.Results.{packet_result}
 use Rattle.packet_store.specs.StartMeets.{StartMeets}
 use Rattle.term_table.specs.Bytes.{IsBytes}
@@ -29,15 +29,15 @@ use Rattle.pcc_gate.specs.Safe.{AcceptedSafe}
 use Rattle.bounds_prover.specs.declared.fault.ProveFault.{ProveFault}
 use Rattle.bounds_prover.specs.Proving.{proved_container}
 use Rattle.bounds_prover.specs.ProvedLaws.{ProvedAccepted}
-use Rattle.pcc_words.specs.Invocations.{Invocation, asm, prove, check, run, ref, demo, bpf}
+use Rattle.pcc_words.specs.Invocations.{Invocation, asm, prove, check, run, ref, demo, host, bpf}
 use Rattle.pcc_lines.specs.Fixed.{accepted_line, bpf_too_long_line, unknown_policy_line, container_too_long_line, packets_too_long_line, source_too_long_line}
 use Rattle.pcc_lines.specs.Refusals.{refusal_line}
 use Rattle.pcc_lines.specs.Results.{result_lines}
 use Rattle.pcc_lines.specs.Sources.{written_line}
 use Rattle.pcc_exit.specs.Exits.{Exit, Change}
-use Rattle.pcc_exit.specs.Requests.{missing_exit, no_memory_exit}
-use Rattle.pcc_exit.specs.Stages.{Stage, stops, gives, reads, ◌>>=◌, went_on, Asks, Follows}
-use Rattle.pcc_exit.specs.Runs.{Effect, AreOctets, Happens, Comes, stopped, printed, wrote, done_exit, written_exit, EndsRun, decided, out_of_memory as ran_out, Runs}
+use Rattle.pcc_exit.specs.Requests.{missing_exit}
+use Rattle.pcc_exit.specs.Stages.{Stage, stops, gives, reads, ◌>>=◌, went_on, Follows}
+use Rattle.pcc_exit.specs.Runs.{Effect, Happens, written_exit, EndsRun, decided, out_of_memory as ran_out, Runs}
 use Rattle.pcc_exit.proofs.RunLemmas.{is_stop, is_read}
 use Rattle.pcc_cli.specs.declared.stages.TheConstants.{MAX_FILE, MAX_PROGRAM_FILE}
 use Rattle.pcc_cli.specs.Texts.{texts}
@@ -49,208 +49,28 @@ use Rattle.pcc_cli.specs.Stages.Assembling.{assembled_in, assembled_of}
 use Rattle.pcc_cli.specs.Stages.Proving.{container_proved, proved_in, proved_of}
 use Rattle.pcc_cli.specs.Stages.Compiling.{compiled_in, compiled_of}
 use Rattle.pcc_cli.specs.Commands.Assemble.{asm_command}
+use Rattle.pcc_cli.specs.Stages.Hosting.{script_of}
 use Rattle.pcc_cli.specs.Commands.Bpf.{bpf_command}
+use Rattle.pcc_cli.specs.Commands.Host.{host_command}
 use Rattle.pcc_cli.specs.Commands.Check.{check_command}
 use Rattle.pcc_cli.specs.Commands.Prove.{prove_command}
 use Rattle.pcc_cli.specs.Commands.Reference.{ref_command}
 use Rattle.pcc_cli.specs.Commands.Running.{run_command}
 use Rattle.pcc_cli.specs.Commands.Demo.{demo_effect, demo_policy, demo_command}
 use Rattle.pcc_cli.specs.Tasks.{stage_of, policy_name_of, task_of_command}
-use Rattle.pcc_cli.specs.Headline.{IsVerdict, IsJudged, lines_exit, run_exit, Checks, RunsCode, not_accepted, accepted, Refs, no_code, ran, Makes, not_made, made, StopsWith, AssemblesTo, ProvesTo, CompilesTo, IsToldOf, DoesUnder, Does, Means, came, out_of_memory, MeansIfCommand, AcceptedRunsSafely}
+use Rattle.packet_store.proofs.StartLemmas.{start_from-good, start_from-state}
+use Rattle.packet_store.proofs.Meeting.{start_from-meets}
+use Rattle.reference_machine.specs.Agents.{IsInArena, AreInArena}
+use Rattle.word_ops.specs.Rights.{Rights}
+use Rattle.turn_laws.specs.Parts.{AreApart, LieIn, LieBetween, part_from}
+use Rattle.agent_host.specs.declared.host.TheConstants.{MAX_AGENTS}
+use Rattle.agent_host.specs.Agents.{base_of}
+use Rattle.pcc_cli.specs.Headline.{agent_part, StaysInPart, AgentsStayInParts, IsJudged, lines_exit, run_exit, RunsCode, not_accepted, accepted, Refs, no_code, ran, Makes, not_made, made, StopsWith, AssemblesTo, ProvesTo, CompilesTo, IsToldOf, DoesUnder, Does, Means, came, out_of_memory, MeansIfCommand, AcceptedRunsSafely}
 use Rattle.pcc_cli.proofs.RunLemmas.{code_given, accepted_code_of_bytes}
 use Rattle.pcc_cli.proofs.CompileLemmas.{ReadsPrograms, CompilesPrograms, compiles, told}
 use Rattle.pcc_cli.proofs.TaskLemmas.{code_in-ends, assembled_in-ends, proved_in-ends, compiled_in-ends, demo_ends}
-
--- ---- what follows a stage
-
--- a stage that asks for nothing
-no_read : {A : Type 0} (s : Stage A) → is_read s ≡ false → (events : List Event) (later : Stage A) → Follows texts events s later → (events ≡ []) × (later ≡ s)
-no_read s none [] later h = (refl, h)
-no_read s none (was_read name max given ∷ events) later h = absurd (true≢false (sym (ap is_read h.1.asks) ∙ none))
-no_read s none (was_written name bytes answer ∷ events) later h = absurd h
-no_read s none (was_put piece answer ∷ events) later h = absurd h
-
--- where a stage that reads goes on, and the event
-abbrev went_at : {A : Type 0} → Stage A → Given → Stage A
-went_at (stops exit) given = stops exit
-went_at (gives x) given = gives x
-went_at (reads name max more on) given = went_on texts name more on given
-
-abbrev event_at : {A : Type 0} → Stage A → Given → Event
-event_at (stops exit) given = was_read [] 0 given
-event_at (gives x) given = was_read [] 0 given
-event_at (reads name max more on) given = was_read name max given
-
--- a stage that reads a file has read it, where it is at one that doesn't read
-record HasRead {A : Type 0} (name : List ℕ) (max : ℕ) (more : Exit) (on : List ℕ → Stage A) (events : List Event) (later : Stage A) : Type 0 where
-  given : Given
-  rest : List Event
-  is : events ≡ was_read name max given ∷ rest
-  follows : Follows texts rest (went_on texts name more on given) later
-
-first_read : {A : Type 0} (name : List ℕ) (max : ℕ) (more : Exit) (on : List ℕ → Stage A) (events : List Event) (later : Stage A) → is_read later ≡ false
-    → Follows texts events (reads name max more on) later → HasRead name max more on events later
-first_read name max more on [] later ended h = absurd (true≢false (sym (ap is_read h) ∙ ended))
-first_read {A = A} name max more on (was_read n m given ∷ events) later ended h =
-    let asks : Asks texts n m given (reads name max more on) h.0 = h.1 in
-    record {
-      given = given;
-      rest = events;
-      is = ap (λ (s : Stage A). event_at s given ∷ events) (sym asks.asks);
-      follows = subst (λ (s : Stage A). Follows texts events s later) (asks.goes ∙ ap (λ (s : Stage A). went_at s given) (sym asks.asks)) h.2;
-    }
-first_read name max more on (was_written n bytes answer ∷ events) later ended h = absurd h
-first_read name max more on (was_put piece answer ∷ events) later ended h = absurd h
-
--- one read, behind which nothing is asked
-record ReadOnce {A : Type 0} (name : List ℕ) (max : ℕ) (more : Exit) (on : List ℕ → Stage A) (events : List Event) (later : Stage A) : Type 0 where
-  given : Given
-  is : events ≡ was_read name max given ∷ []
-  goes : later ≡ went_on texts name more on given
-
-went_on-ended : {A : Type 0} (name : List ℕ) (more : Exit) (on : List ℕ → Stage A) → ((b : List ℕ) → is_read (on b) ≡ false) → (given : Given) → is_read (went_on texts name more on given) ≡ false
-went_on-ended name more on each (whole b) = each b
-went_on-ended name more on each missing = refl
-went_on-ended name more on each too_long = refl
-went_on-ended name more on each failed = refl
-went_on-ended name more on each no_memory = refl
-
-read_once : {A : Type 0} (name : List ℕ) (max : ℕ) (more : Exit) (on : List ℕ → Stage A) → ((b : List ℕ) → is_read (on b) ≡ false) → (events : List Event) (later : Stage A) → is_read later ≡ false
-    → Follows texts events (reads name max more on) later → ReadOnce name max more on events later
-read_once name max more on each events later ended h =
-    let r = first_read name max more on events later ended h in
-    let last = no_read (went_on texts name more on r.given) (went_on-ended name more on each r.given) r.rest later r.follows in
-    record { given = r.given; is = r.is ∙ ap (λ es. was_read name max r.given ∷ es) last.0; goes = last.1 }
-
--- ---- how a command ends
-
--- the exit of a stage that prints, and the change of one that gives an effect
-abbrev end_at : Stage Effect → Exit
-end_at (stops exit) = exit
-end_at (gives effect) = done_exit effect.text
-end_at (reads name max more on) = no_memory_exit
-
-abbrev change_at : Stage Effect → Change
-change_at (stops exit) = None
-change_at (gives effect) = effect.change
-change_at (reads name max more on) = None
-
--- the reads of a command, where it ends, and what it then does
-record Ended (stage : Stage Effect) (events : List Event) (exit : Exit) : Type 0 where
-  asked : List Event
-  later : Stage Effect
-  follows : Follows texts asked stage later
-  ended : is_read later ≡ false
-  does : ((events ≡ asked) × (exit ≡ end_at later) × (change_at later ≡ None))
-      ⊎ ((text : List ℕ) × (name : List ℕ) × (bytes : List ℕ) × (answer : Put) × (later ≡ gives (record { text = text; change = Some (name, bytes) }))
-      × (events ≡ asked ++ was_written name bytes answer ∷ []) × (exit ≡ written_exit texts name text answer))
-
-ended_of : (stage : Stage Effect) (events : List Event) (exit : Exit) → Comes texts stage events exit → Ended stage events exit
-ended_of stage events exit (stopped follows) = record { asked = events; later = stops exit; follows = follows; ended = refl; does = inl (refl, refl, refl) }
-ended_of stage events exit (printed text follows is) =
-    record { asked = events; later = gives (record { text = text; change = None }); follows = follows; ended = refl; does = inl (refl, is, refl) }
-ended_of stage events exit (wrote asked text name bytes answer split follows is) = record {
-  asked = asked;
-  later = gives (record { text = text; change = Some (name, bytes) });
-  follows = follows;
-  ended = refl;
-  does = inr (text, name, bytes, answer, refl, split, is);
-}
-
--- a command that ends at once
-ended_at_once : (exit' : Exit) (events : List Event) (exit : Exit) → Ended (stops exit') events exit → (events ≡ []) × (exit ≡ exit')
-ended_at_once exit' events exit e = by e.does
-  where
-    last : (e.asked ≡ []) × (e.later ≡ stops exit')
-    last = no_read (stops exit') refl e.asked e.later e.follows
-
-    by : ((events ≡ e.asked) × (exit ≡ end_at e.later) × (change_at e.later ≡ None))
-        ⊎ ((text : List ℕ) × (name : List ℕ) × (bytes : List ℕ) × (answer : Put) × (e.later ≡ gives (record { text = text; change = Some (name, bytes) }))
-        × (events ≡ e.asked ++ was_written name bytes answer ∷ []) × (exit ≡ written_exit texts name text answer)) → (events ≡ []) × (exit ≡ exit')
-    by (inl d) = (d.0 ∙ last.0, d.1 ∙ ap end_at last.1)
-    by (inr d) = absurd (true≢false (ap is_stop (sym last.1 ∙ d.4)))
-
--- a command that reads once, and writes nothing
-module _ (name : List ℕ) (max : ℕ) (more : Exit) (on : List ℕ → Stage Effect) (each : (b : List ℕ) → is_read (on b) ≡ false) (silent : (b : List ℕ) → change_at (on b) ≡ None) where
-  went_on-silent : (given : Given) → change_at (went_on texts name more on given) ≡ None
-  went_on-silent (whole b) = silent b
-  went_on-silent missing = refl
-  went_on-silent too_long = refl
-  went_on-silent failed = refl
-  went_on-silent no_memory = refl
-
-  record EndedOnce (events : List Event) (exit : Exit) : Type 0 where
-    given : Given
-    is : events ≡ was_read name max given ∷ []
-    ends : exit ≡ end_at (went_on texts name more on given)
-
-  ended_once : (asked : List Event) (later : Stage Effect) (events : List Event) (exit : Exit) → Follows texts asked (reads name max more on) later → is_read later ≡ false
-      → ((events ≡ asked) × (exit ≡ end_at later) × (change_at later ≡ None))
-      ⊎ ((text : List ℕ) × (to : List ℕ) × (bytes : List ℕ) × (answer : Put) × (later ≡ gives (record { text = text; change = Some (to, bytes) }))
-      × (events ≡ asked ++ was_written to bytes answer ∷ []) × (exit ≡ written_exit texts to text answer)) → EndedOnce events exit
-  ended_once asked later events exit follows ended (inl d) =
-      let r = read_once name max more on each asked later ended follows in
-      record { given = r.given; is = d.0 ∙ r.is; ends = d.1 ∙ ap end_at r.goes }
-  ended_once asked later events exit follows ended (inr d) =
-      let r = read_once name max more on each asked later ended follows in
-      let none : None ≡ Some (d.1, d.2) = sym (went_on-silent r.given) ∙ ap change_at (sym r.goes) ∙ ap change_at d.4 in
-      absurd (true≢false (sym (ap is_some none)))
-
--- a stage that reads nothing gives a value, or stops
-shape : {A : Type 0} (s : Stage A) → is_read s ≡ false → ((x : A) × (s ≡ gives x)) ⊎ ((exit : Exit) × (s ≡ stops exit))
-shape (stops exit) none = inr (exit, refl)
-shape (gives x) none = inl (x, refl)
-shape (reads name max more on) none = absurd (true≢false none)
-
--- what the only read gave are bytes
-given_bytes : (name : List ℕ) (max : ℕ) (given : Given) (rest events : List Event) (f g : FilesState) → events ≡ was_read name max given ∷ rest → Happens events f g → AreOctets given
-given_bytes name max given rest events f g is h = let at : Happens (was_read name max given ∷ rest) f g = subst (λ es. Happens es f g) is h in at.2
-
--- ---- check
-
-module _ (accepted_first : AcceptedFirst) (kind : PolicyKind) where
-  -- what `check` goes on with
-  abbrev judged_by : Option Refusal → Stage Effect
-  judged_by r = unless_refused r >>= λ accepted. printing accepted_line
-
-  judged_by-ended : (r : Option Refusal) → is_read (judged_by r) ≡ false
-  judged_by-ended None = refl
-  judged_by-ended (Some refusal) = refl
-
-  judged_by-silent : (r : Option Refusal) → change_at (judged_by r) ≡ None
-  judged_by-silent None = refl
-  judged_by-silent (Some refusal) = refl
-
-  verdict : (b : List ℕ) → IsBytes b → (r : Option Refusal) → first_refusal kind b ≡ r → IsVerdict kind b (end_at (judged_by r))
-  verdict b held None is =
-      let a : IsAccepted kind b = (accepted_first kind b held).1 is in
-      record { accepted = (λ e. a, λ a. refl); refused = λ r some. let none : None ≡ Some r = sym is ∙ some in absurd (cc); judged = inl a }
-  verdict b held (Some r) is = record {
-    accepted = (
-      λ e. let wrong : 1 ≡ 0 = ap (λ (x : Exit). x.status) e in absurd (omega arith),
-      λ a. let none : Some r ≡ None = sym is ∙ (accepted_first kind b held).0 a in absurd (cc),
-    );
-    refused = λ other some. ap (λ (x : Option Refusal). end_at (judged_by x)) (sym is ∙ some);
-    judged = inr (r, is);
-  }
-
-  judged_as : (file : List ℕ) (given : Given) → AreOctets given → IsJudged kind file given (end_at (went_on texts file (refused container_too_long_line) (λ b. judged_by (first_refusal kind b)) given))
-  judged_as file (whole b) held = verdict b held (first_refusal kind b) refl
-  judged_as file missing held = refl
-  judged_as file too_long held = refl
-  judged_as file failed held = refl
-  judged_as file no_memory held = refl
-
-  checks : (file : List ℕ) (events : List Event) (exit : Exit) (f g : FilesState) → Happens events f g
-      → Ended (reads file MAX_FILE (refused container_too_long_line) (λ b. judged_by (first_refusal kind b))) events exit → Checks kind file events exit
-  checks file events exit f g happened e =
-      let once = ended_once file MAX_FILE (refused container_too_long_line) (λ b. judged_by (first_refusal kind b)) (λ b. judged_by-ended (first_refusal kind b)) (λ b. judged_by-silent (first_refusal kind b))
-      e.asked e.later events exit e.follows e.ended e.does in
-      record {
-        given = once.given;
-        one_read = once.is;
-        judged = subst (IsJudged kind file once.given) (sym once.ends) (judged_as file once.given (given_bytes file MAX_FILE once.given [] events f g once.is happened));
-      }
+use Rattle.pcc_cli.proofs.EndLemmas.{Ended, change_at, checks, end_at, ended_at_once, ended_of, ended_once, first_read, given_bytes, no_read, read_once, shape, verdict, went_on-silent}
+use Rattle.pcc_cli.proofs.HostLemmas.{hosts}
 
 -- ---- run and ref
 
@@ -299,7 +119,7 @@ module _ (kind : PolicyKind) (code : List Insn) (steps : ℕ) (packets : List �
       record { given = once.given; is = once.is; ends = once.ends ∙ run-exit once.given }
 
 -- where the command stops behind its first read
-stopped_there : (exit' : Exit) (rest : List Event) (later : Stage Effect) (first : Event) (events asked : List Event) (exit : Exit) → asked ≡ first ∷ rest
+pub stopped_there : (exit' : Exit) (rest : List Event) (later : Stage Effect) (first : Event) (events asked : List Event) (exit : Exit) → asked ≡ first ∷ rest
     → (s : Stage Effect) → s ≡ stops exit' → Follows texts rest s later
     → ((events ≡ asked) × (exit ≡ end_at later) × (change_at later ≡ None))
     ⊎ ((text : List ℕ) × (to : List ℕ) × (bytes : List ℕ) × (answer : Put) × (later ≡ gives (record { text = text; change = Some (to, bytes) }))
@@ -559,7 +379,7 @@ module _ (accepted_first : AcceptedFirst) (proved_accepted : ProvedAccepted) (re
 
   does : (invocation : Invocation) (events : List Event) (exit : Exit) (f g : FilesState) → Happens events f g → Ended (stage_of invocation) events exit
       → Does (policy_of (policy_name_of invocation)) invocation events exit
-  unfolding asm_command prove_command check_command run_command ref_command demo_command bpf_command assembled_of proved_of accepted_of accepted_code_of code_of compiled_of accepted_in demo_effect
+  unfolding asm_command prove_command check_command run_command ref_command demo_command host_command script_of bpf_command assembled_of proved_of accepted_of accepted_code_of code_of compiled_of accepted_in demo_effect
   does (asm policy input output) events exit f g happened e =
       does_by (asm policy input output) (λ kind. reads input MAX_SOURCE (refused source_too_long_line) (λ b. assembled_in kind b >>= λ out. writing output out)) events exit
       (λ kind e. makes input output MAX_SOURCE (refused source_too_long_line) (assembled_in kind) (assembled_in-ends kind) (AssemblesTo kind)
@@ -580,6 +400,7 @@ module _ (accepted_first : AcceptedFirst) (proved_accepted : ProvedAccepted) (re
       (λ kind e. refs kind file packets steps events exit e) (policy_of policy) e
   does (demo n) events exit f g happened e =
       does_by (demo n) (λ kind. demo_effect kind n) events exit (λ kind e. asks_nothing (demo_effect kind n) (demo_ends kind n) (demo-silent _ _) events exit e) (policy_of demo_policy) e
+  does (host script) events exit f g happened e = hosts accepted_first script events exit f g happened e
   does (bpf input output) events exit f g happened e =
       makes input output MAX_PROGRAM_FILE (refused bpf_too_long_line) compiled_in compiled_in-ends CompilesTo (IsToldOf input) events exit
       (λ b out rest split is. compiles reads_programs compiles_programs b out (given_bytes input MAX_PROGRAM_FILE (whole b) rest events f g split happened) is)
@@ -615,3 +436,35 @@ runs_safely accepted_safe state meets changes depends kind bytes a packet setup 
   changes = changes a.code budget (start_state ARENA setup);
   depends = depends a.code budget (start_state ARENA setup);
 }
+
+-- ---- agents of a host
+
+-- the spans of a part lie in it
+lie_between : (a : ℕ) (spans : List (ℕ × ℕ)) → AreInArena (base_of a) spans → LieBetween (65536 + 65552 * a) (65536 + 65552 * suc a) spans
+lie_between a spans inside span has =
+    let i : IsInArena (base_of a) span = inside span has in
+    (omega (arith, i.from), omega (arith, i.to))
+
+pub stays_in_parts : AcceptedSafe → ((code : List Insn) (n : ℕ) (s : State) → ChangesWritable code n s) → ((code : List Insn) (n : ℕ) (s : State) → DependsOnReadable code n s)
+    → AreApart agent_part
+    → ((base size i : ℕ) (rights : Rights) → LieBetween (base + size * i) (base + size * suc i) rights.reads → LieBetween (base + size * i) (base + size * suc i) rights.writes
+    → LieIn (part_from base size i) rights)
+    → AgentsStayInParts
+stays_in_parts accepted_safe changes depends apart spans = record { parts = apart; stays = stays_in }
+  where
+    stays_in : (kind : PolicyKind) (bytes : List ℕ) (it : IsAccepted kind bytes) (a : ℕ) (packet : List ℕ) (setup : StartView) (budget : ℕ) → a < MAX_AGENTS → IsBytes packet → length packet ≤ MAX_PACKET
+        → start_from (base_of a) kind packet ≡ Some setup → StaysInPart a kind it.code budget setup
+    stays_in kind bytes it a packet setup budget few held short is =
+        let low : base_of a < 2 ^ 32 = omega (arith, few) in
+        let aligned : base_of a % 8 ≡ 0 = omega arith in
+        let start : State = start_state (base_of a) setup in
+        let good = start_from-good (base_of a) kind packet setup low short held is in
+        record {
+          lie = spans 65536 65552 a start.rights (lie_between a setup.reads good.fits.reads_in) (lie_between a setup.writes good.fits.writes_in);
+          safe = record {
+            good = accepted_safe kind bytes it.contents it.code it.marks it.accepts start (start_from-state (base_of a) kind packet setup aligned low short held is) refl
+                (start_from-meets (base_of a) kind packet setup low short is) budget;
+            changes = changes it.code budget start;
+            depends = depends it.code budget start;
+          };
+        }

@@ -4,4 +4,10 @@ pub mod TaskLemmas
 pub mod CountLemmas
 pub mod RunLemmas
 pub mod CompileLemmas
+pub mod EndLemmas
+pub mod HostLemmas
 pub mod HeadlineLemmas
+pub mod TurnLemmas
+pub mod AgentLemmas
+pub mod StandingLemmas
+pub mod MemberLemmas

@@ -1,6 +1,7 @@
 -- What the code of stages answers, one behind another.
 use Rattle.std.proofs.Common.{◌≡◌, ℕ, List, [], ◌∷◌, ◌++◌, Option, Some, None, Result, Ok, Err, refl, sym, ap, ◌∙◌, subst, append_assoc}
 use Rattle.std.proofs.lemmas.List.{append-nil}
+use mathlib.Core.Path.{fun_ext}
 use Rattle.std.specs.Result.{IsErrAnd}
 use Rattle.file_port.specs.Events.{Given, whole, missing, too_long, failed, no_memory, Event, was_read, was_written, was_put}
 use Rattle.file_port.specs.Files.{FilesState}
@@ -40,8 +41,18 @@ none_failed-join (was_put piece answer ∷ first) rest p h = absurd p
 
 -- ---- a stage, and what comes after its value
 
+pub bind-assoc : {A B C : Type 0} (s : Stage A) (f : A → Stage B) (g : B → Stage C) → ((s >>= f) >>= g) ≡ (s >>= λ x. f x >>= g)
+bind-assoc (stops exit) f g = refl
+bind-assoc (gives x) f g = refl
+bind-assoc (reads name max more on) f g = ap (reads name max more) (fun_ext (λ b. bind-assoc (on b) f g))
+
+pub bind-gives : {A : Type 0} (s : Stage A) → (s >>= λ x. gives x) ≡ s
+bind-gives (stops exit) = refl
+bind-gives (gives x) = refl
+bind-gives (reads name max more on) = ap (reads name max more) (fun_ext (λ b. bind-gives (on b)))
+
 module _ {A B : Type 0} (next : A → Stage B) where
-  went_on-bind : (name : List ℕ) (more : Exit) (on : List ℕ → Stage A) (given : Given)
+  pub went_on-bind : (name : List ℕ) (more : Exit) (on : List ℕ → Stage A) (given : Given)
       → (went_on texts name more on given >>= next) ≡ went_on texts name more (λ b. on b >>= next) given
   went_on-bind name more on (whole b) = refl
   went_on-bind name more on missing = refl
@@ -135,6 +146,13 @@ lifted view s e f r h = record {
         ended (Some exit) = tt
         ended None = tt
 
+-- where a stage that reads no file stops, so do both
+pub pure_stops_first : {A B D : Type 0} (next : A → Stage B) (later_view : D → B) (s : Stage A) (e : List Event) (f : FilesState) (why : Stop) (r : Result D Stop) → StopsAs s (end_of why)
+    → IsErrAnd r (λ y. y ≡ why) → Gives later_view (s >>= next) e e f f r
+pure_stops_first next later_view s e f why (Ok x) h is = absurd is
+pure_stops_first next later_view s e f why (Err other) h is =
+    lifted later_view (s >>= next) e f (Err other) (subst (λ y. StopsAs (s >>= next) (end_of y)) (sym is) (pure_stops next s why h))
+
 -- one read
 pub read_gives : {A C : Type 0} (view : C → A) (name : List ℕ) (max : ℕ) (more : Exit) (on : List ℕ → Stage A) (given : Given) (e e' : List Event) (f g : FilesState) (r : Result C Stop)
     → e' ≡ e ++ was_read name max given ∷ [] → Reads name max f g given → AreOctets given → GivesPure view (went_on texts name more on given) r
@@ -152,23 +170,8 @@ read_gives view name max more on given e e' f g r logged read octets is clean = 
 -- ---- a file that is too long
 
 too_long_ends : (s : Stop) → IsTooLong s → end_of s ≡ Some (stop_exit s)
-too_long_ends stop.Usage h = refl
-too_long_ends stop.UnknownPolicy h = refl
-too_long_ends (stop.Refused refusal) h = refl
-too_long_ends stop.ContainerTooLong h = refl
-too_long_ends (stop.NotEasy part) h = refl
-too_long_ends (stop.TooBig measure number) h = refl
-too_long_ends stop.SourceTooLong h = refl
-too_long_ends (stop.BadLine line flaw) h = refl
-too_long_ends (stop.BadSource flaw) h = refl
-too_long_ends stop.PacketsTooLong h = refl
-too_long_ends (stop.BadPackets fault) h = refl
-too_long_ends stop.ProgramTooLong h = refl
-too_long_ends (stop.BadProgram flaw) h = refl
-too_long_ends (stop.Missing name) h = refl
-too_long_ends (stop.ReadFault name) h = refl
-too_long_ends (stop.WriteFault name) h = refl
 too_long_ends stop.Memory h = absurd h
+too_long_ends other h = refl
 
 pub too_long-stops : (A : Type 0) (s : Stop) → IsTooLong s → StopsAs {A = A} (stops (stop_exit s)) (end_of s)
 too_long-stops A s h = subst (λ end. StopsAs {A = A} (stops (stop_exit s)) end) (sym (too_long_ends s h)) refl

@@ -1,5 +1,5 @@
 -- What the arguments ask for is suited: the stages stop with refusals that go with what the arguments are, and read the named files.
-use Rattle.std.proofs.Common.{◌≡◌, ◌≢◌, ℕ, ◌<◌, Bool, true, false, List, [], ◌∷◌, length, ◌==◌, if◌then◌else◌, get_or, Option, Some, None, Result, Ok, Err, Contains, refl, ap, arith, inl, inr}
+use Rattle.std.proofs.Common.{◌≡◌, ◌≢◌, ◌⊎◌, ℕ, suc, ◌<◌, Bool, true, false, List, [], ◌∷◌, length, ◌==◌, if◌then◌else◌, get_or, Option, Some, None, Result, Ok, Err, Contains, IfSome, refl, ap, arith, inl, inr}
 use Rattle.packet_store.specs.declared.fault.PacketFault.{PacketFault}
 use Rattle.packet_store.specs.declared.fault.PacketFault.TheVariants as packet
 use Rattle.packet_store.specs.PacketDecoding.{decoded_packets}
@@ -32,17 +32,27 @@ use Rattle.demo_input.specs.Sources.{demo_source}
 use Rattle.pcc_gate.specs.declared.refusal.Refusal.{Refusal}
 use Rattle.pcc_gate.specs.declared.refusal.Refusal.TheVariants as refusal
 use Rattle.pcc_gate.specs.First.{first_refusal}
-use Rattle.pcc_words.specs.Invocations.{Invocation, asm, prove, check, run, ref, demo, bpf}
+use Rattle.pcc_words.specs.Invocations.{Invocation, asm, prove, check, run, ref, demo, host, bpf}
+use Rattle.reference_machine.specs.Starts.{StartView}
+use Rattle.packet_store.specs.PolicyStarts.{start_from}
+use Rattle.agent_script.specs.declared.fault.ScriptFlaw.{ScriptFlaw}
+use Rattle.agent_script.specs.declared.script.TheConstants.{MAX_SCRIPT}
+use Rattle.agent_script.specs.Names.{script_flaw_name}
+use Rattle.agent_script.specs.Statements.{LoadView}
+use Rattle.agent_script.specs.Scripts.{ScriptView, parsed_script}
+use Rattle.agent_host.specs.Agents.{base_of}
+use Rattle.pcc_lines.specs.Agents.{agent_line}
+use Rattle.pcc_lines.specs.Scripts.{script_fault_line}
 use Rattle.pcc_lines.specs.Bpf.{bpf_measure_line, bpf_insn_line, bpf_flaw_line}
 use Rattle.pcc_lines.specs.Demo.{demo_lines}
-use Rattle.pcc_lines.specs.Fixed.{accepted_line, bpf_too_long_line, unknown_policy_line, container_too_long_line, packets_too_long_line, source_too_long_line}
+use Rattle.pcc_lines.specs.Fixed.{accepted_line, bpf_too_long_line, unknown_policy_line, container_too_long_line, packets_too_long_line, script_too_long_line, source_too_long_line}
 use Rattle.pcc_lines.specs.PacketFaults.{packet_fault_line}
 use Rattle.pcc_lines.specs.Proving.{not_easy_line, too_big_line}
 use Rattle.pcc_lines.specs.Refusals.{refusal_line}
 use Rattle.pcc_lines.specs.Results.{result_lines}
 use Rattle.pcc_lines.specs.Sources.{source_fault_line}
 use Rattle.pcc_exit.specs.Exits.{Exit}
-use Rattle.pcc_exit.specs.Requests.{Standing, command}
+use Rattle.pcc_exit.specs.Requests.{Standing, command, no_memory_exit}
 use Rattle.pcc_exit.specs.Stages.{Stage, stops, gives, reads, ◌>>=◌}
 use Rattle.pcc_exit.specs.Runs.{Effect, IsStop, IsSuited}
 use Rattle.pcc_exit.proofs.RunLemmas.{is_read}
@@ -55,6 +65,8 @@ use Rattle.pcc_cli.specs.Stages.Packets.{packets_found, packets_in, packets_of}
 use Rattle.pcc_cli.specs.Stages.Assembling.{source_found, source_in, container_made, assembled_as, assembled_in, assembled_of}
 use Rattle.pcc_cli.specs.Stages.Proving.{container_proved, proved_in, proved_of}
 use Rattle.pcc_cli.specs.Stages.Compiling.{program_found, program_in, compiled_as, compiled_in, compiled_of}
+use Rattle.pcc_cli.specs.Stages.Hosting.{script_found, script_in, script_of, Member, unless_short, first_packet, packet_of, load_of, told_of, for_agent, agents_from}
+use Rattle.pcc_cli.specs.Commands.Host.{turn_lines, host_command}
 use Rattle.pcc_cli.specs.Commands.Assemble.{asm_command}
 use Rattle.pcc_cli.specs.Commands.Bpf.{bpf_command}
 use Rattle.pcc_cli.specs.Commands.Check.{check_command}
@@ -130,13 +142,13 @@ source_stop number kind = let first : get_or (source_fault_line number kind) 0 0
 
 -- ---- stages
 
-suited-bind : {A B : Type 0} (standing : Standing) (names : List (List ℕ)) (next : A → Stage B) (s : Stage A)
+suited-bind : {A B : Type 0} (standing : Standing) (names : Option (List (List ℕ))) (next : A → Stage B) (s : Stage A)
     → IsSuited texts standing names s → ((x : A) → IsSuited texts standing names (next x)) → IsSuited texts standing names (s >>= next)
 suited-bind standing names next (stops exit) h k = h
 suited-bind standing names next (gives x) h k = k x
 suited-bind standing names next (reads name max more on) h k = (h.0, h.1, h.2, λ b. suited-bind standing names next (on b) (h.3 b) k)
 
-module _ (names : List (List ℕ)) where
+module _ (names : Option (List (List ℕ))) where
   -- a stage of a command
   abbrev Fits : {A : Type 0} → Stage A → Type 0
   Fits s = IsSuited texts command names s
@@ -145,7 +157,7 @@ module _ (names : List (List ℕ)) where
   behind next s h k = suited-bind command names next s h k
 
   -- the file of a name is read
-  read : {A : Type 0} (name : List ℕ) (max : ℕ) (line : List ℕ) (on : List ℕ → Stage A) → Contains names name → get_or line 0 0 < 117 → ((b : List ℕ) → Fits (on b))
+  read : {A : Type 0} (name : List ℕ) (max : ℕ) (line : List ℕ) (on : List ℕ → Stage A) → IfSome names (λ all. Contains all name) → get_or line 0 0 < 117 → ((b : List ℕ) → Fits (on b))
       → Fits (reads name max (refused line) on)
   read name max line on named less each = (refl, named, stop_line line less, each)
 
@@ -232,7 +244,7 @@ module _ (names : List (List ℕ)) where
   compiled_in-fits bytes = behind (λ program. compiled_as program) (program_in bytes) (program_found-fits (program_of bytes)) (λ program. container_proved-fits (compiled_container program))
 
   -- stages that read
-  packets_of-fits : {B : Type 0} (name : List ℕ) (next : List (List ℕ) → Stage B) → Contains names name → ((all : List (List ℕ)) → Fits (next all)) → Fits (packets_of name >>= next)
+  packets_of-fits : {B : Type 0} (name : List ℕ) (next : List (List ℕ) → Stage B) → IfSome names (λ all. Contains all name) → ((all : List (List ℕ)) → Fits (next all)) → Fits (packets_of name >>= next)
   unfolding packets_of
   packets_of-fits name next named each =
       behind next (packets_of name) (read name MAX_FILE packets_too_long_line (λ b. packets_in b) named (omega arith) (λ b. packets_found-fits (decoded_packets b))) each
@@ -249,30 +261,128 @@ module _ (names : List (List ℕ)) where
 -- ---- stages that ask for nothing
 
 -- what reads no file of none
-no_reads : {A : Type 0} (s : Stage A) → IsSuited texts command [] s → is_read s ≡ false
+no_reads : {A : Type 0} (s : Stage A) → IsSuited texts command (Some []) s → is_read s ≡ false
 no_reads (stops exit) h = refl
 no_reads (gives x) h = refl
 no_reads (reads name max more on) h = let none = h.1.1 in absurd (omega arith)
 
 pub code_in-ends : (policy : PolicyKind) (bytes : List ℕ) → is_read (code_in policy bytes) ≡ false
-code_in-ends policy bytes = no_reads (code_in policy bytes) (code_in-fits [] policy bytes)
+code_in-ends policy bytes = no_reads (code_in policy bytes) (code_in-fits (Some []) policy bytes)
 
 pub assembled_in-ends : (policy : PolicyKind) (text : List ℕ) → is_read (assembled_in policy text) ≡ false
-assembled_in-ends policy text = no_reads (assembled_in policy text) (assembled_in-fits [] policy text)
+assembled_in-ends policy text = no_reads (assembled_in policy text) (assembled_in-fits (Some []) policy text)
 
 pub proved_in-ends : (policy : PolicyKind) (bytes : List ℕ) → is_read (proved_in policy bytes) ≡ false
-proved_in-ends policy bytes = no_reads (proved_in policy bytes) (proved_in-fits [] policy bytes)
+proved_in-ends policy bytes = no_reads (proved_in policy bytes) (proved_in-fits (Some []) policy bytes)
 
 pub compiled_in-ends : (bytes : List ℕ) → is_read (compiled_in bytes) ≡ false
-compiled_in-ends bytes = no_reads (compiled_in bytes) (compiled_in-fits [] bytes)
+compiled_in-ends bytes = no_reads (compiled_in bytes) (compiled_in-fits (Some []) bytes)
 
 pub demo_ends : (policy : PolicyKind) (n : ℕ) → is_read (demo_effect policy n) ≡ false
-demo_ends policy n = no_reads (demo_effect policy n) (demo_effect-fits [] policy n)
+demo_ends policy n = no_reads (demo_effect policy n) (demo_effect-fits (Some []) policy n)
+
+-- ---- `host`
+
+-- what may be told of an agent: a refusal, or want of memory
+abbrev IsTellable : Exit → Type 0
+IsTellable exit = (exit.status ≡ 1) ⊎ (exit ≡ no_memory_exit)
+
+-- a stage whose refusals may be told of an agent
+abbrev Tells : {A : Type 0} → Stage A → Type 0
+Tells (stops exit) = IsTellable exit
+Tells (gives x) = Unit {0}
+Tells (reads name max more on) = (more.status ≡ 1) × ((b : List ℕ) → Tells (on b))
+
+tells-bind : {A B : Type 0} (next : A → Stage B) (s : Stage A) → Tells s → ((x : A) → Tells (next x)) → Tells (s >>= next)
+tells-bind next (stops exit) h k = h
+tells-bind next (gives x) h k = k x
+tells-bind next (reads name max more on) h k = (h.0, λ b. tells-bind next (on b) (h.1 b) k)
+
+-- a refusal that goes with a command has status 1
+stop-refused : (exit : Exit) → IsStop texts command exit → exit.status ≡ 1
+stop-refused exit h =
+    let two : exit.status ≢ 2 = h.suits.0 in
+    omega (arith, h.some, h.in_range, two)
+
+fits-tells : {A : Type 0} (names : Option (List (List ℕ))) (s : Stage A) → IsSuited texts command names s → Tells s
+fits-tells names (stops exit) (inl h) = inl (stop-refused exit h)
+fits-tells names (stops exit) (inr h) = inr h
+fits-tells names (gives x) h = tt
+fits-tells names (reads name max more on) h = (stop-refused more h.2, λ b. fits-tells names (on b) (h.3 b))
+
+agent_line-first : (a : ℕ) (line : List ℕ) → get_or (agent_line a line) 0 0 ≡ 97
+agent_line-first a line = refl
+
+-- what is told of an agent goes with a command
+told_stop : (a : ℕ) (exit : Exit) → exit.status ≡ 1 → IsStop texts command (told_of a exit)
+told_stop a exit one =
+    let first : get_or (agent_line a exit.text) 0 0 ≡ 97 = agent_line-first a exit.text in
+    let test : (exit.status == 1) ≡ true = ap (λ k. k == 1) one in
+    rw test (stop_line (agent_line a exit.text) (omega (arith, first)))
+
+told_end : (a : ℕ) (exit : Exit) → IsTellable exit → IsStop texts command (told_of a exit) ⊎ (told_of a exit ≡ no_memory_exit)
+told_end a exit (inl one) = inl (told_stop a exit one)
+told_end a exit (inr none) = inr (ap (told_of a) none)
+
+for_agent-fits : {A : Type 0} (a : ℕ) (s : Stage A) → Tells s → IsSuited texts command None (for_agent a s)
+for_agent-fits a (stops exit) h = told_end a exit h
+for_agent-fits a (gives x) h = refl
+for_agent-fits a (reads name max more on) h = (refl, tt, told_stop a more h.0, λ b. for_agent-fits a (on b) (h.1 b))
+
+policy_found-tells : (p : Option PolicyKind) → Tells (policy_found p)
+policy_found-tells None = inl refl
+policy_found-tells (Some kind) = tt
+
+accepted_code_of-tells : (policy : PolicyKind) (name : List ℕ) → Tells (accepted_code_of policy name)
+unfolding accepted_code_of
+accepted_code_of-tells policy name = (refl, λ b. fits-tells (Some []) (accepted_code_in policy b) (accepted_code_in-fits (Some []) policy b))
+
+unless_short-tells : (packet : List ℕ) (o : Option StartView) → Tells (unless_short packet o)
+unless_short-tells packet None = inl refl
+unless_short-tells packet (Some setup) = tt
+
+first_packet-tells : (a : ℕ) (policy : PolicyKind) (packets : List (List ℕ)) → Tells (first_packet a policy packets)
+first_packet-tells a policy [] = inl refl
+first_packet-tells a policy (packet ∷ packets) = unless_short-tells packet (start_from (base_of a) policy packet)
+
+packet_of-tells : (a : ℕ) (policy : PolicyKind) (name : List ℕ) → Tells (packet_of a policy name)
+unfolding packet_of packets_of
+packet_of-tells a policy name = (
+  refl,
+  λ b. tells-bind (first_packet a policy) (packets_found (decoded_packets b)) (fits-tells (Some []) (packets_found (decoded_packets b)) (packets_found-fits (Some []) (decoded_packets b)))
+      (λ packets. first_packet-tells a policy packets),
+)
+
+load_of-tells : (a : ℕ) (one : LoadView) → Tells (load_of a one)
+unfolding load_of
+load_of-tells a one =
+    tells-bind (λ policy. accepted_code_of policy one.file >>= λ code. packet_of a policy one.packets >>= λ packet. gives (member policy code packet)) (policy_found (policy_of one.policy)) (policy_found-tells (policy_of one.policy)) (λ policy.
+    tells-bind (λ code. packet_of a policy one.packets >>= λ packet. gives (member policy code packet)) (accepted_code_of policy one.file) (accepted_code_of-tells policy one.file) (λ code.
+    tells-bind (λ packet. gives (member policy code packet)) (packet_of a policy one.packets) (packet_of-tells a policy one.packets) (λ packet. tt)))
+  where
+    member : PolicyKind → List Insn → List ℕ → Member
+    member policy code packet = record { policy = policy; code = code; packet = packet }
+
+agents_from-fits : (a : ℕ) (loads : List LoadView) → IsSuited texts command None (agents_from a loads)
+agents_from-fits a [] = refl
+agents_from-fits a (one ∷ loads) =
+    behind None (λ agent. agents_from (suc a) loads >>= λ agents. gives (agent ∷ agents)) (for_agent a (load_of a one)) (for_agent-fits a (load_of a one) (load_of-tells a one)) (λ agent.
+    behind None (λ agents. gives (agent ∷ agents)) (agents_from (suc a) loads) (agents_from-fits (suc a) loads) (λ agents. refl))
+
+script_fault-first : (number : ℕ) (kind : List ℕ) → get_or (script_fault_line number kind) 0 0 ≡ 115
+unfolding script_fault_line
+script_fault-first number kind = refl
+
+script_found-fits : (r : Result ScriptView (ℕ × ScriptFlaw)) → IsSuited texts command None (script_found r)
+script_found-fits (Ok script) = refl
+script_found-fits (Err fault) =
+    inl (let first : get_or (script_fault_line fault.0 (script_flaw_name fault.1)) 0 0 ≡ 115 = script_fault-first fault.0 (script_flaw_name fault.1) in
+    stop_line (script_fault_line fault.0 (script_flaw_name fault.1)) (omega arith))
 
 -- ---- commands
 
 -- a command that begins with a policy
-begins : (names : List (List ℕ)) (next : PolicyKind → Stage Effect) (p : Option PolicyKind) → ((kind : PolicyKind) → IsSuited texts command names (next kind))
+begins : (names : Option (List (List ℕ))) (next : PolicyKind → Stage Effect) (p : Option PolicyKind) → ((kind : PolicyKind) → IsSuited texts command names (next kind))
     → IsSuited texts (standing_on p) names (policy_found p >>= next)
 begins names next None each = inl (record { suits = refl; some = omega arith; in_range = omega arith })
 begins names next (Some kind) each = each kind
@@ -288,33 +398,37 @@ second_name : (a b : List ℕ) → Contains (a ∷ b ∷ []) b
 second_name a b = (1, omega arith, refl)
 
 pub suited : (o : Option Invocation) → let task = task_of_command o in IsSuited texts task.standing task.names task.stage
-unfolding asm_command prove_command check_command run_command ref_command demo_command bpf_command assembled_of proved_of accepted_of accepted_code_of code_of compiled_of
+unfolding asm_command prove_command check_command run_command ref_command demo_command host_command bpf_command script_of script_in assembled_of proved_of accepted_of accepted_code_of code_of compiled_of
 suited None = inl (record { suits = refl; some = omega arith; in_range = omega arith })
 suited (Some (asm policy input output)) =
-    begins (input ∷ []) (λ under. assembled_of under input >>= λ container. writing output container) (policy_of policy) (λ kind.
-    read (input ∷ []) input MAX_SOURCE source_too_long_line (λ b. assembled_in kind b >>= λ container. writing output container) (only input) (omega arith) (λ b.
-    behind (input ∷ []) (λ container. writing output container) (assembled_in kind b) (assembled_in-fits (input ∷ []) kind b) (λ container. refl)))
+    begins (Some (input ∷ [])) (λ under. assembled_of under input >>= λ container. writing output container) (policy_of policy) (λ kind.
+    read (Some (input ∷ [])) input MAX_SOURCE source_too_long_line (λ b. assembled_in kind b >>= λ container. writing output container) (only input) (omega arith) (λ b.
+    behind (Some (input ∷ [])) (λ container. writing output container) (assembled_in kind b) (assembled_in-fits (Some (input ∷ [])) kind b) (λ container. refl)))
 suited (Some (prove policy input output)) =
-    begins (input ∷ []) (λ under. proved_of under input >>= λ container. writing output container) (policy_of policy) (λ kind.
-    read (input ∷ []) input MAX_FILE container_too_long_line (λ b. proved_in kind b >>= λ container. writing output container) (only input) (omega arith) (λ b.
-    behind (input ∷ []) (λ container. writing output container) (proved_in kind b) (proved_in-fits (input ∷ []) kind b) (λ container. refl)))
+    begins (Some (input ∷ [])) (λ under. proved_of under input >>= λ container. writing output container) (policy_of policy) (λ kind.
+    read (Some (input ∷ [])) input MAX_FILE container_too_long_line (λ b. proved_in kind b >>= λ container. writing output container) (only input) (omega arith) (λ b.
+    behind (Some (input ∷ [])) (λ container. writing output container) (proved_in kind b) (proved_in-fits (Some (input ∷ [])) kind b) (λ container. refl)))
 suited (Some (check policy file)) =
-    begins (file ∷ []) (λ under. accepted_of under file >>= λ accepted. printing accepted_line) (policy_of policy) (λ kind.
-    read (file ∷ []) file MAX_FILE container_too_long_line (λ b. accepted_in kind b >>= λ accepted. printing accepted_line) (only file) (omega arith) (λ b.
-    behind (file ∷ []) (λ accepted. printing accepted_line) (accepted_in kind b) (accepted_in-fits (file ∷ []) kind b) (λ accepted. refl)))
+    begins (Some (file ∷ [])) (λ under. accepted_of under file >>= λ accepted. printing accepted_line) (policy_of policy) (λ kind.
+    read (Some (file ∷ [])) file MAX_FILE container_too_long_line (λ b. accepted_in kind b >>= λ accepted. printing accepted_line) (only file) (omega arith) (λ b.
+    behind (Some (file ∷ [])) (λ accepted. printing accepted_line) (accepted_in kind b) (accepted_in-fits (Some (file ∷ [])) kind b) (λ accepted. refl)))
 suited (Some (run policy file packets steps)) =
-    let names = file ∷ packets ∷ [] in
+    let names = Some (file ∷ packets ∷ []) in
     begins names (λ under. accepted_code_of under file >>= λ code. packets_of packets >>= λ all. printing (result_lines under (packet_result under code steps) 0 all)) (policy_of policy) (λ kind.
     read names file MAX_FILE container_too_long_line (λ b. accepted_code_in kind b >>= λ code. packets_of packets >>= λ all. printing (result_lines kind (packet_result kind code steps) 0 all)) (first_name file packets) (omega arith) (λ b.
     behind names (λ code. packets_of packets >>= λ all. printing (result_lines kind (packet_result kind code steps) 0 all)) (accepted_code_in kind b) (accepted_code_in-fits names kind b) (λ code.
     packets_of-fits names packets (λ all. printing (result_lines kind (packet_result kind code steps) 0 all)) (second_name file packets) (λ all. refl))))
 suited (Some (ref policy file packets steps)) =
-    let names = file ∷ packets ∷ [] in
+    let names = Some (file ∷ packets ∷ []) in
     begins names (λ under. code_of under file >>= λ code. packets_of packets >>= λ all. printing (result_lines under (packet_result under code steps) 0 all)) (policy_of policy) (λ kind.
     read names file MAX_FILE container_too_long_line (λ b. code_in kind b >>= λ code. packets_of packets >>= λ all. printing (result_lines kind (packet_result kind code steps) 0 all)) (first_name file packets) (omega arith) (λ b.
     behind names (λ code. packets_of packets >>= λ all. printing (result_lines kind (packet_result kind code steps) 0 all)) (code_in kind b) (code_in-fits names kind b) (λ code.
     packets_of-fits names packets (λ all. printing (result_lines kind (packet_result kind code steps) 0 all)) (second_name file packets) (λ all. refl))))
-suited (Some (demo n)) = begins [] (λ under. demo_effect under n) (policy_of demo_policy) (λ kind. demo_effect-fits [] kind n)
+suited (Some (demo n)) = begins (Some []) (λ under. demo_effect under n) (policy_of demo_policy) (λ kind. demo_effect-fits (Some []) kind n)
+suited (Some (host script)) =
+    read None script MAX_SCRIPT script_too_long_line (λ b. script_in b >>= λ said. agents_from 0 said.loads >>= λ agents. printing (turn_lines agents 0 [] said.turns)) tt (omega arith) (λ b.
+    behind None (λ said. agents_from 0 said.loads >>= λ agents. printing (turn_lines agents 0 [] said.turns)) (script_in b) (script_found-fits (parsed_script b)) (λ said.
+    behind None (λ agents. printing (turn_lines agents 0 [] said.turns)) (agents_from 0 said.loads) (agents_from-fits 0 said.loads) (λ agents. refl)))
 suited (Some (bpf input output)) =
-    read (input ∷ []) input MAX_PROGRAM_FILE bpf_too_long_line (λ b. compiled_in b >>= λ container. writing output container) (only input) (omega arith) (λ b.
-    behind (input ∷ []) (λ container. writing output container) (compiled_in b) (compiled_in-fits (input ∷ []) b) (λ container. refl))
+    read (Some (input ∷ [])) input MAX_PROGRAM_FILE bpf_too_long_line (λ b. compiled_in b >>= λ container. writing output container) (only input) (omega arith) (λ b.
+    behind (Some (input ∷ [])) (λ container. writing output container) (compiled_in b) (compiled_in-fits (Some (input ∷ [])) b) (λ container. refl))

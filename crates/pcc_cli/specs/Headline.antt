@@ -1,5 +1,5 @@
--- What a run of `check`, `run`, `ref`, `prove`, `asm` and `bpf` means, whatever the files hold, by what it read; and what accepted code is worth.
-use Rattle.std.specs.Prelude.{◌≡◌, ℕ, ◌≤◌, ◌↔◌, ◌⊎◌, List, [], ◌∷◌, ◌++◌, length, Option, None, Some, Result, Ok, Err}
+-- What a run of `check`, `run`, `ref`, `prove`, `asm`, `host` and `bpf` means, whatever the files hold, by what it read; and what accepted code is worth.
+use Rattle.std.specs.Prelude.{◌≡◌, ℕ, suc, Bool, ◌*◌, ◌<◌, ◌≤◌, ◌↔◌, ◌⊎◌, List, [], ◌∷◌, ◌++◌, length, Option, None, Some, Result, Ok, Err}
 use Rattle.file_port.specs.Events.{Given, whole, missing, too_long, failed, no_memory, Event, was_read, was_written}
 use Rattle.file_port.specs.Sink.{SinkState}
 use Rattle.file_port.specs.declared.port.Put.{Put}
@@ -11,13 +11,13 @@ use Rattle.policy_set.specs.declared.kind.PolicyKind.{PolicyKind}
 use Rattle.policy_set.specs.declared.kind.PolicyKind.TheVariants.{Filter}
 use Rattle.policy_set.specs.Names.{policy_of}
 use Rattle.policy_set.specs.Policies.{post_of}
-use Rattle.reference_machine.specs.declared.layout.TheConstants.{ARENA}
+use Rattle.reference_machine.specs.declared.layout.TheConstants.{ARENA, QUADWORDS}
 use Rattle.reference_machine.specs.Starts.{StartView, start_state}
 use Rattle.packet_store.specs.declared.reader.TheConstants.{MAX_PACKET}
 use Rattle.packet_store.specs.declared.fault.PacketFault.{PacketFault}
 use Rattle.packet_store.specs.declared.results.PacketResult.TheVariants.{Ran}
 use Rattle.packet_store.specs.PacketDecoding.{decoded_packets}
-use Rattle.packet_store.specs.PolicyStarts.{start_of}
+use Rattle.packet_store.specs.PolicyStarts.{start_from, start_of}
 use Rattle.packet_store.specs.Results.{packet_result}
 use Rattle.term_table.specs.Bytes.{IsBytes}
 use Rattle.vcgen.specs.Safety.{IsGoodEnd}
@@ -31,9 +31,19 @@ use Rattle.bpf_words.specs.Reading.{program_of}
 use Rattle.bpf_words.specs.Values.{bpf_value}
 use Rattle.bpf_code.specs.Blocks.{nonzero_flag}
 use Rattle.bpf_compile.specs.Compilation.{compiled_container}
-use Rattle.pcc_words.specs.Invocations.{Invocation, asm, prove, check, run, ref, demo, bpf}
+use Rattle.pcc_words.specs.Invocations.{Invocation, asm, prove, check, run, ref, demo, host, bpf}
+use Rattle.turn_laws.specs.Parts.{AreApart, LieIn, part_from}
+use Rattle.agent_script.specs.declared.fault.ScriptFlaw.{ScriptFlaw}
+use Rattle.agent_script.specs.declared.script.TheConstants.{MAX_SCRIPT}
+use Rattle.agent_script.specs.Names.{script_flaw_name}
+use Rattle.agent_script.specs.Statements.{LoadView}
+use Rattle.agent_script.specs.Scripts.{ScriptView, parsed_script}
+use Rattle.agent_host.specs.declared.host.TheConstants.{MAX_AGENTS}
+use Rattle.agent_host.specs.Agents.{base_of}
+use Rattle.pcc_lines.specs.Agents.{agent_line, no_packet_line, short_line}
+use Rattle.pcc_lines.specs.Scripts.{script_fault_line}
 use Rattle.pcc_lines.specs.Bpf.{bpf_flaw_line}
-use Rattle.pcc_lines.specs.Fixed.{accepted_line, bpf_too_long_line, unknown_policy_line, container_too_long_line, packets_too_long_line, source_too_long_line}
+use Rattle.pcc_lines.specs.Fixed.{accepted_line, bpf_too_long_line, unknown_policy_line, container_too_long_line, packets_too_long_line, script_too_long_line, source_too_long_line}
 use Rattle.pcc_lines.specs.PacketFaults.{packet_fault_line}
 use Rattle.pcc_lines.specs.Refusals.{refusal_line}
 use Rattle.pcc_lines.specs.Results.{result_lines}
@@ -48,7 +58,9 @@ use Rattle.pcc_cli.specs.Texts.{texts}
 use Rattle.pcc_cli.specs.Tasks.{policy_name_of}
 use Rattle.pcc_cli.specs.Stages.Assembling.{assembled_in}
 use Rattle.pcc_cli.specs.Stages.Common.{refused}
+use Rattle.pcc_cli.specs.Stages.Hosting.{Member, told_of}
 use Rattle.pcc_cli.specs.Stages.Proving.{proved_in}
+use Rattle.pcc_cli.specs.Commands.Host.{turn_lines}
 use Rattle.pcc_cli.specs.declared.stages.TheConstants.{MAX_FILE, MAX_PROGRAM_FILE}
 
 -- ---- the verdict on what was read
@@ -152,6 +164,77 @@ IsToldOf input too_long exit = exit ≡ refused bpf_too_long_line
 IsToldOf input failed exit = exit ≡ read_fault_exit texts input
 IsToldOf input no_memory exit = exit ≡ no_memory_exit
 
+-- ---- `host`
+
+-- what is printed of a load that is refused, told of agent a
+abbrev pub agent_exit : ℕ → List ℕ → Exit
+agent_exit a line = refused (agent_line a line)
+
+-- the packet, where it has a start in the part of agent a
+abbrev pub unless_short_of : ℕ → List ℕ → Option StartView → Result (List ℕ) Exit
+unless_short_of a packet None = Err (agent_exit a short_line)
+unless_short_of a packet (Some setup) = Ok packet
+
+-- the first packet of those that were read, or what is wrong with them
+abbrev pub first_packet_of : ℕ → PolicyKind → Result (List (List ℕ)) PacketFault → Result (List ℕ) Exit
+first_packet_of a policy (Err fault) = Err (agent_exit a (packet_fault_line fault))
+first_packet_of a policy (Ok []) = Err (agent_exit a no_packet_line)
+first_packet_of a policy (Ok (packet ∷ packets)) = unless_short_of a packet (start_from (base_of a) policy packet)
+
+-- what the read of the packet file of agent a gave
+abbrev pub packet_given : ℕ → PolicyKind → List ℕ → Given → Result (List ℕ) Exit
+packet_given a policy packets (whole bytes) = first_packet_of a policy (decoded_packets bytes)
+packet_given a policy packets missing = Err (missing_exit texts packets)
+packet_given a policy packets too_long = Err (agent_exit a packets_too_long_line)
+packet_given a policy packets failed = Err (read_fault_exit texts packets)
+packet_given a policy packets no_memory = Err no_memory_exit
+
+-- the agent of accepted code with its packet, or what is wrong with that
+abbrev pub member_with : PolicyKind → List Insn → Result (List ℕ) Exit → Result Member Exit
+member_with policy code (Ok packet) = Ok (record { policy = policy; code = code; packet = packet })
+member_with policy code (Err exit) = Err exit
+
+-- A load of agent a: no policy has its name, and nothing is read; or FILE is read, which is not accepted, and what `check` prints of
+-- it is told of the agent; or it is accepted, and PACKETS is read behind it.
+pub data LoadsMember (a : ℕ) (one : LoadView) (events : List Event) (found : Result Member Exit) : Type 0 where
+  no_policy : policy_of one.policy ≡ None → events ≡ [] → found ≡ Err (agent_exit a unknown_policy_line) → LoadsMember a one events found
+  no_container : (policy : PolicyKind) (given : Given) (exit : Exit) → policy_of one.policy ≡ Some policy
+      → events ≡ was_read one.file MAX_FILE given ∷ [] → IsJudged policy one.file given exit → 0 < exit.status → found ≡ Err (told_of a exit)
+      → LoadsMember a one events found
+  has_container : (policy : PolicyKind) (bytes : List ℕ) (it : IsAccepted policy bytes) (given : Given) → policy_of one.policy ≡ Some policy
+      → events ≡ was_read one.file MAX_FILE (whole bytes) ∷ was_read one.packets MAX_FILE given ∷ []
+      → found ≡ member_with policy it.code (packet_given a policy one.packets given) → LoadsMember a one events found
+
+-- loads in order, the first of which is agent a, up to the first that ends the command
+pub data LoadsMembers : ℕ → List LoadView → List Event → Result (List Member) Exit → Type 0 where
+  all : {a : ℕ} → LoadsMembers a [] [] (Ok [])
+  ended : {a : ℕ} {one : LoadView} {loads : List LoadView} {events : List Event} {exit : Exit} → LoadsMember a one events (Err exit)
+      → LoadsMembers a (one ∷ loads) events (Err exit)
+  ended_later : {a : ℕ} {one : LoadView} {loads : List LoadView} {first events : List Event} {agent : Member} {exit : Exit}
+      → LoadsMember a one first (Ok agent) → LoadsMembers (suc a) loads events (Err exit) → LoadsMembers a (one ∷ loads) (first ++ events) (Err exit)
+  loaded : {a : ℕ} {one : LoadView} {loads : List LoadView} {first events : List Event} {agent : Member} {agents : List Member}
+      → LoadsMember a one first (Ok agent) → LoadsMembers (suc a) loads events (Ok agents) → LoadsMembers a (one ∷ loads) (first ++ events) (Ok (agent ∷ agents))
+
+-- what `host` prints of what its read of SCRIPT gave, where there is no script: the line of the first fault
+abbrev pub IsFaultTold : List ℕ → Given → Exit → Type 0
+IsFaultTold name (whole text) exit =
+    (line : ℕ) × (flaw : ScriptFlaw) × (parsed_script text ≡ Err (line, flaw)) × (exit ≡ refused (script_fault_line line (script_flaw_name flaw)))
+IsFaultTold name missing exit = exit ≡ missing_exit texts name
+IsFaultTold name too_long exit = exit ≡ refused script_too_long_line
+IsFaultTold name failed exit = exit ≡ read_fault_exit texts name
+IsFaultTold name no_memory exit = exit ≡ no_memory_exit
+
+-- `host`: one read, of SCRIPT, and what is wrong with it; or then the reads of its loads in order, up to the first that ends the
+-- command; or of all, and the line of each turn says what the agent comes to alone, by the machine that tests every access, with the
+-- sum of its own budgets so far: no other agent has a part in it.
+pub data Hosts (name : List ℕ) (events : List Event) (exit : Exit) : Type 0 where
+  no_script : (given : Given) → events ≡ was_read name MAX_SCRIPT given ∷ [] → IsFaultTold name given exit → Hosts name events exit
+  not_loaded : (text : List ℕ) (script : ScriptView) (reads : List Event) → events ≡ was_read name MAX_SCRIPT (whole text) ∷ reads
+      → parsed_script text ≡ Ok script → LoadsMembers 0 script.loads reads (Err exit) → Hosts name events exit
+  took_turns : (text : List ℕ) (script : ScriptView) (agents : List Member) (reads : List Event) → events ≡ was_read name MAX_SCRIPT (whole text) ∷ reads
+      → parsed_script text ≡ Ok script → LoadsMembers 0 script.loads reads (Ok agents) → exit ≡ done_exit (turn_lines agents 0 [] script.turns)
+      → Hosts name events exit
+
 -- ---- by what the arguments are
 
 -- what a command under a policy did that came to an exit
@@ -164,6 +247,7 @@ DoesUnder kind (check policy file) events exit = Checks kind file events exit
 DoesUnder kind (run policy file packets steps) events exit = RunsCode kind file packets steps events exit
 DoesUnder kind (ref policy file packets steps) events exit = Refs kind file packets steps events exit
 DoesUnder kind (demo n) events exit = events ≡ []
+DoesUnder kind (host script) events exit = Hosts script events exit
 DoesUnder kind (bpf input output) events exit = Makes input output MAX_PROGRAM_FILE CompilesTo (IsToldOf input) events exit
 
 -- what a command did whose policy was found, or wasn't
@@ -201,3 +285,21 @@ RunsSafely policy code =
 -- accepted code runs safely
 abbrev pub AcceptedRunsSafely : Type 0
 AcceptedRunsSafely = (policy : PolicyKind) (bytes : List ℕ) (a : IsAccepted policy bytes) → RunsSafely policy a.code
+
+-- the part of the arena that is agent a's
+abbrev pub agent_part : ℕ → ℕ → Bool
+agent_part = part_from ARENA (8 * QUADWORDS)
+
+-- The rights of agent a at a start lie in its own part of the arena, and no run of its accepted code from there is blocked; so it
+-- changes nothing outside its part, and depends on nothing outside it.
+pub record StaysInPart (a : ℕ) (policy : PolicyKind) (code : List Insn) (budget : ℕ) (setup : StartView) : Type 0 where
+  pub lie : LieIn (agent_part a) (start_state (base_of a) setup).rights
+  pub safe : IsSafeRun policy code budget (start_state (base_of a) setup)
+
+-- No address is in the parts of two agents, and every agent that a host may have stays in its own; so none changes or learns
+-- anything of another's.
+pub record AgentsStayInParts : Type 0 where
+  pub parts : AreApart agent_part
+  pub stays : (policy : PolicyKind) (bytes : List ℕ) (it : IsAccepted policy bytes) (a : ℕ) (packet : List ℕ) (setup : StartView) (budget : ℕ)
+      → a < MAX_AGENTS → IsBytes packet → length packet ≤ MAX_PACKET → start_from (base_of a) policy packet ≡ Some setup
+      → StaysInPart a policy it.code budget setup

@@ -5,3 +5,4 @@ pub mod Packets
 pub mod Assembling
 pub mod Proving
 pub mod Compiling
+pub mod Hosting

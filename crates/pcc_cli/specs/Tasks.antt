@@ -2,7 +2,7 @@
 use Rattle.std.specs.Prelude.{ℕ, List, [], ◌∷◌, Option, Some, None}
 use Rattle.policy_set.specs.declared.kind.PolicyKind.{PolicyKind}
 use Rattle.policy_set.specs.Names.{policy_of}
-use Rattle.pcc_words.specs.Invocations.{Invocation, asm, prove, check, run, ref, demo, bpf, command_of}
+use Rattle.pcc_words.specs.Invocations.{Invocation, asm, prove, check, run, ref, demo, host, bpf, command_of}
 use Rattle.pcc_exit.specs.Requests.{Request, Standing, no_command, unknown_policy, command, usage_exit}
 use Rattle.pcc_exit.specs.Stages.{Stage, stops}
 use Rattle.pcc_exit.specs.Runs.{Effect, Task, request_of_task}
@@ -14,6 +14,7 @@ use Rattle.pcc_cli.specs.Commands.Reference.{ref_command}
 use Rattle.pcc_cli.specs.Commands.Demo.{demo_policy, demo_command}
 use Rattle.pcc_cli.specs.Commands.Running.{run_command}
 use Rattle.pcc_cli.specs.Commands.Bpf.{bpf_policy, bpf_command}
+use Rattle.pcc_cli.specs.Commands.Host.{host_policy, host_command}
 
 -- ---- each command
 
@@ -25,24 +26,26 @@ stage_of (check policy file) = check_command policy file
 stage_of (run policy file packets steps) = run_command policy file packets steps
 stage_of (ref policy file packets steps) = ref_command policy file packets steps
 stage_of (demo n) = demo_command n
+stage_of (host script) = host_command script
 stage_of (bpf input output) = bpf_command input output
 
--- the files that a command reads, whatever they hold
-abbrev pub names_of : Invocation → List (List ℕ)
-names_of (asm policy input output) = input ∷ []
-names_of (prove policy input output) = input ∷ []
-names_of (check policy file) = file ∷ []
-names_of (run policy file packets steps) = file ∷ packets ∷ []
-names_of (ref policy file packets steps) = file ∷ packets ∷ []
-names_of (demo n) = []
-names_of (bpf input output) = input ∷ []
+-- the files that a command reads, whatever they hold; none where they come from what a file holds
+abbrev pub names_of : Invocation → Option (List (List ℕ))
+names_of (asm policy input output) = Some (input ∷ [])
+names_of (prove policy input output) = Some (input ∷ [])
+names_of (check policy file) = Some (file ∷ [])
+names_of (run policy file packets steps) = Some (file ∷ packets ∷ [])
+names_of (ref policy file packets steps) = Some (file ∷ packets ∷ [])
+names_of (demo n) = Some []
+names_of (host script) = None
+names_of (bpf input output) = Some (input ∷ [])
 
 -- what a command on this policy is
 abbrev pub standing_on : Option PolicyKind → Standing
 standing_on None = unknown_policy
 standing_on (Some policy) = command
 
--- the policy that a command names, or is always under
+-- the policy that a command names, or is always under; `host` is a command whatever policies its script names
 abbrev pub policy_name_of : Invocation → List ℕ
 policy_name_of (asm policy input output) = policy
 policy_name_of (prove policy input output) = policy
@@ -50,6 +53,7 @@ policy_name_of (check policy file) = policy
 policy_name_of (run policy file packets steps) = policy
 policy_name_of (ref policy file packets steps) = policy
 policy_name_of (demo n) = demo_policy
+policy_name_of (host script) = host_policy
 policy_name_of (bpf input output) = bpf_policy
 
 -- what a command is
@@ -60,7 +64,7 @@ standing_of invocation = standing_on (policy_of (policy_name_of invocation))
 
 -- what a command asks for, or arguments that are none
 abbrev pub task_of_command : Option Invocation → Task
-task_of_command None = record { standing = no_command; names = []; stage = stops (usage_exit texts) }
+task_of_command None = record { standing = no_command; names = Some []; stage = stops (usage_exit texts) }
 task_of_command (Some invocation) = record { standing = standing_of invocation; names = names_of invocation; stage = stage_of invocation }
 
 -- what the arguments ask for

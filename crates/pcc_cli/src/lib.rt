@@ -7,10 +7,13 @@
 //! pcc_exit.
 #![tactic(auto)]
 
+mod agent_stop;
 mod commands;
 mod report;
 mod stages;
 mod stop;
 mod top_call;
+mod turning;
+mod turns;
 
 pub use top_call::{laws, pcc};

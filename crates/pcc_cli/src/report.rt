@@ -4,6 +4,7 @@ ghost use Rattle.file_port.specs.Sink.{Puts};
 ghost use Rattle.pcc_lines.specs.Results.{result_lines};
 ghost use Rattle.pcc_cli.specs.Inside.Decisions.{report_text};
 
+use crate::turns::TurnJob;
 use file_port::{Put, Sink};
 use packet_store::{PacketFile, PacketRunner, TestingRunner};
 use pcc_lines::{DemoSummary, print_accepted, print_demo, print_results, print_written};
@@ -45,6 +46,8 @@ pub enum Report {
     Results(Job<TestingRunner>),
     /// The result line of each packet, by the host that tests none.
     Hosted(Job<HostRunner>),
+    /// The line of each turn of agents, by the host that tests no access.
+    Turns(TurnJob),
     /// What the runs of `demo` came to.
     Demo(DemoSummary),
 }
@@ -59,6 +62,7 @@ impl Report {
             Report::Written(count) => print_written(count, out),
             Report::Results(job) => job.print(out),
             Report::Hosted(job) => job.print(out),
+            Report::Turns(job) => job.print(out),
             Report::Demo(summary) => print_demo(summary, out),
         }
     }

@@ -1,7 +1,7 @@
 //! The stages of commands: each gives its value, or what ends the command there. A stage stands in
 //! `specs/Stages` under the same name.
 
-ghost use Rattle.std.specs.Prelude.{◌≡◌, ◌≤◌, ◌<◌, ℕ, length, slice_index, IfOk};
+ghost use Rattle.std.specs.Prelude.{◌≡◌, ◌≤◌, ◌<◌, ℕ, length, slice_index, IfOk, IfErr};
 ghost use Rattle.proof_container.specs.Views.{contents_of};
 ghost use Rattle.asm_text.specs.declared.limits.TheConstants.{MAX_SOURCE};
 ghost use Rattle.asm_text.specs.Views.{source_view};
@@ -16,12 +16,16 @@ ghost use Rattle.pcc_cli.specs.Stages.Packets as packets;
 ghost use Rattle.pcc_cli.specs.Stages.Assembling as assembling;
 ghost use Rattle.pcc_cli.specs.Stages.Proving as proving;
 ghost use Rattle.pcc_cli.specs.Stages.Compiling as compiling;
-ghost use Rattle.pcc_cli.specs.Inside.Gives.{Gives, GivesPure, IsTooLong, HasWholeCode, Wrote};
+ghost use Rattle.pcc_cli.specs.Stages.Hosting as hosting;
+ghost use Rattle.agent_script.specs.declared.script.TheConstants.{MAX_SCRIPT};
+ghost use Rattle.agent_script.specs.Scripts.{IsScript, script_view};
+ghost use Rattle.pcc_cli.specs.Inside.Gives.{Gives, GivesPure, IsTooLong, IsOfGate, HasWholeCode, Wrote};
 ghost use Rattle.pcc_cli.specs.Inside.Decisions.{stop_exit};
 ghost use Rattle.pcc_cli.specs.Inside.Shows.{shown_by};
 
 use crate::report::Report;
 use crate::stop::Stop;
+use agent_script::{MAX_SCRIPT, Script, ScriptFault, read_script};
 use alpha_cfg::{Code, CodeFault};
 use asm_text::{LineFault, MAX_SOURCE, Source, read_source};
 use bounds_prover::{ProveFault, prove};
@@ -54,7 +58,7 @@ pub fn policy_named<'a>(alloc: Global, name: &str) -> Result<Policy, Stop<'a>>
 }
 
 /// Opens the range of bytes for the prover.
-fn octets(bytes: &[u8])
+pub fn octets(bytes: &[u8])
     ensures { (i : ℕ) → slice_index bytes.now i < 256 }
 {
     let _ = bytes;
@@ -124,6 +128,7 @@ fn code_in<'a>(alloc: Global, policy: PolicyKind, bytes: &[u8]) -> Result<Code, 
 fn judged<'a>(alloc: Global, policy: &Policy, bytes: &[u8]) -> Result<Accepted, Stop<'a>>
     ensures exact { GivesPure (λ a. tt) (judging.accepted_in policy.now bytes.now) result }
     ensures accepted { IfOk result (λ a. IsAcceptedBy policy.now bytes.now a) }
+    ensures refused { IfErr result IsOfGate }
 {
     match gate(alloc, policy, bytes) {
         Ok(accepted) => Ok(accepted),
@@ -138,6 +143,7 @@ pub fn accepted_in<'a>(alloc: Global, policy: &Policy, bytes: &[u8]) -> Result<A
     ensures code { GivesPure (λ a. a.code) (judging.accepted_code_in policy.now bytes.now) result }
     ensures shown { GivesPure shown_by (judging.shown_in policy.now bytes.now) result }
     ensures policy { IfOk result (λ a. a.policy ≡ policy.now) }
+    ensures refused { IfErr result IsOfGate }
 {
     judged(alloc, policy, bytes)
 }
@@ -340,6 +346,34 @@ pub fn compiled_of<'a, F: Files>(
 {
     let bytes = bytes_of(alloc, name, MAX_PROGRAM_FILE, Stop::ProgramTooLong, files)?;
     compiled_in(alloc, &bytes)
+}
+
+/// The script that the text says.
+#[tactic(auto, unfolding(crate::specs::Stages::Hosting::script_in))]
+fn script_in<'a>(alloc: Global, text: &[u8]) -> Result<Script, Stop<'a>>
+    requires { length text.now ≤ MAX_SCRIPT }
+    ensures exact { GivesPure script_view (hosting.script_in text.now) result }
+    ensures script { IfOk result (λ script. IsScript (script_view script)) }
+{
+    match read_script(alloc, text) {
+        Ok(script) => Ok(script),
+        Err(ScriptFault::At(line, flaw)) => Err(Stop::BadScript(line, flaw)),
+        Err(ScriptFault::Memory) => Err(Stop::Memory),
+    }
+}
+
+/// The script in the file of the name.
+pub fn script_of<'a, F: Files>(
+    alloc: Global,
+    name: &'a str,
+    files: &mut F,
+) -> Result<Script, Stop<'a>>
+    ensures exact { Gives script_view (hosting.script_of name.entry.now)
+        (F.log files.old) (F.log files.new) (F.state files.old) (F.state files.new) result }
+    ensures script { IfOk result (λ script. IsScript (script_view script)) }
+{
+    let text = bytes_of(alloc, name, MAX_SCRIPT as u32, Stop::ScriptTooLong, files)?;
+    script_in(alloc, &text)
 }
 
 /// Writes the bytes to the file of the name, and reports how many they are.

@@ -4,6 +4,8 @@ ghost use Rattle.std.specs.Prelude.{◌≡◌};
 ghost use Rattle.file_port.specs.Sink.{Puts};
 ghost use Rattle.pcc_cli.specs.Inside.Decisions.{stop_exit};
 
+use crate::agent_stop::AgentStop;
+use agent_script::ScriptFlaw;
 use asm_text::LineFlaw;
 use bounds_prover::Measure;
 use bpf_words::BpfFlaw;
@@ -14,8 +16,8 @@ use pcc_gate::Refusal;
 use pcc_lines::{
     print_bpf_flaw, print_bpf_too_long, print_container_too_long, print_missing, print_not_easy,
     print_packet_fault, print_packets_too_long, print_read_fault, print_refusal,
-    print_source_fault, print_source_too_long, print_too_big, print_unknown_policy, print_usage,
-    print_write_fault,
+    print_script_fault, print_script_too_long, print_source_fault, print_source_too_long,
+    print_too_big, print_unknown_policy, print_usage, print_write_fault,
 };
 
 /// What ends a command before it is done.
@@ -48,6 +50,17 @@ pub enum Stop<'a> {
     ProgramTooLong,
     /// The bytes are no program of classic BPF: the first thing that is wrong with them.
     BadProgram(BpfFlaw),
+    /// The script's file is longer than a script may be.
+    ScriptTooLong,
+    /// The line of this number, from 1, is the first of the script that is wrong; 0 where none loads
+    /// an agent.
+    BadScript(u32, ScriptFlaw),
+    /// The agent of this number isn't loaded.
+    OfAgent(u32, AgentStop),
+    /// There is no file of this name, which a script has.
+    MissingOfScript(String),
+    /// The read of the file of this name, which a script has, failed.
+    ReadFaultOfScript(String),
     /// There is no file of this name.
     Missing(&'a str),
     /// The read of the file of this name failed.
@@ -75,9 +88,15 @@ impl Stop<'_> {
             | Stop::PacketsTooLong
             | Stop::BadPackets(_)
             | Stop::ProgramTooLong
-            | Stop::BadProgram(_) => 1,
+            | Stop::BadProgram(_)
+            | Stop::ScriptTooLong
+            | Stop::BadScript(_, _)
+            | Stop::OfAgent(_, _) => 1,
             Stop::Usage => 2,
-            Stop::Missing(_) | Stop::ReadFault(_) => 3,
+            Stop::Missing(_)
+            | Stop::ReadFault(_)
+            | Stop::MissingOfScript(_)
+            | Stop::ReadFaultOfScript(_) => 3,
             Stop::WriteFault(_) => 4,
             Stop::Memory => 5,
         }
@@ -101,8 +120,13 @@ impl Stop<'_> {
             Stop::BadPackets(fault) => print_packet_fault(*fault, out),
             Stop::ProgramTooLong => print_bpf_too_long(out),
             Stop::BadProgram(flaw) => print_bpf_flaw(*flaw, out),
+            Stop::ScriptTooLong => print_script_too_long(out),
+            Stop::BadScript(line, flaw) => print_script_fault(*line, flaw.name(), out),
+            Stop::OfAgent(agent, why) => why.print(*agent, out),
             Stop::Missing(name) => print_missing(name, out),
+            Stop::MissingOfScript(name) => print_missing(name.as_str(), out),
             Stop::ReadFault(name) => print_read_fault(name, out),
+            Stop::ReadFaultOfScript(name) => print_read_fault(name.as_str(), out),
             Stop::WriteFault(name) => print_write_fault(name, out),
             Stop::Memory => Put::Done,
         }

@@ -10,11 +10,12 @@ ghost use Rattle.pcc_exit.specs.Ends.{Ends};
 ghost use Rattle.pcc_exit.specs.Accounts.{Accounts};
 ghost use Rattle.pcc_cli.specs.Texts.{texts};
 ghost use Rattle.pcc_cli.specs.Tasks.{task_of, request_of};
-ghost use Rattle.pcc_cli.specs.Headline.{MeansIfCommand, AcceptedRunsSafely};
+ghost use Rattle.pcc_cli.specs.Headline.{MeansIfCommand, AcceptedRunsSafely, AgentsStayInParts};
 ghost use Rattle.pcc_cli.specs.Inside.Decisions.{Decides, exit_of};
 
 use crate::commands::{
-    asm_command, bpf_command, check_command, demo_command, prove_command, ref_command, run_command,
+    asm_command, bpf_command, check_command, demo_command, host_command, prove_command,
+    ref_command, run_command,
 };
 use crate::report::Report;
 use crate::stop::Stop;
@@ -38,6 +39,7 @@ fn decide<'a, F: Files>(
         Ok(Some(Command::Run(args))) => run_command(alloc, args, files),
         Ok(Some(Command::Ref(args))) => ref_command(alloc, args, files),
         Ok(Some(Command::Demo(n))) => demo_command(alloc, n, files),
+        Ok(Some(Command::Host(script))) => host_command(alloc, script, files),
         Ok(Some(Command::Bpf(args))) => bpf_command(alloc, args, files),
         Ok(None) => Err(Stop::Usage),
         Err(_) => Err(Stop::Memory),
@@ -78,9 +80,14 @@ fn print<S: Sink>(decision: Result<Report, Stop<'_>>, out: &mut S) -> u8
 /// read are accepted under the policy; `run` runs the code that was accepted of these bytes alone,
 /// and puts the lines of the machine that tests every access; what `prove` writes is accepted; and
 /// so is what `bpf` writes, whose runs return 0 on a packet where the program's value is 0, else 1,
-/// and what it says where IN is no program is the first thing that is wrong with it. By `safe`, no run of accepted code from a start of the policy is blocked, whatever the budget, what
-/// it returns satisfies the postcondition, and it neither changes nor depends on anything outside
-/// its rights.
+/// and what it says where IN is no program is the first thing that is wrong with it; and `host`
+/// puts for each turn what its agent comes to alone, with its own budgets, whatever the other
+/// agents do.
+/// By `safe`, no run of accepted code from a start of the policy is blocked, whatever the budget,
+/// what it returns satisfies the postcondition, and it neither changes nor depends on anything
+/// outside its rights; by `apart`, no address is in the parts of two agents of a host, and the
+/// rights of each agent at its start lie in its own part, from where the same holds: so none
+/// changes or learns anything of another's.
 pub fn pcc<F: Files, S: Sink>(alloc: Global, words: Vec<String>, files: &mut F, out: &mut S) -> u8
     ensures runs { Runs texts (task_of (map string_bytes words.items)).stage
         (F.log files.old) (F.log files.new) (F.state files.old) (F.state files.new)
@@ -88,6 +95,7 @@ pub fn pcc<F: Files, S: Sink>(alloc: Global, words: Vec<String>, files: &mut F, 
     ensures means { MeansIfCommand (command_of (map string_bytes words.items))
         (F.log files.old) (F.log files.new) (S.state out.old) (S.state out.new) result }
     ensures safe { AcceptedRunsSafely }
+    ensures apart { AgentsStayInParts }
 {
     pcc_gate::laws();
     packet_store::laws();
@@ -95,6 +103,7 @@ pub fn pcc<F: Files, S: Sink>(alloc: Global, words: Vec<String>, files: &mut F, 
     bpf_words::laws();
     bpf_container::laws();
     alpha_cfg::isolation_laws();
+    turn_laws::part_laws();
     let decision = decide(alloc, words.as_slice(), files);
     print(decision, out)
 }

@@ -68,13 +68,13 @@ none_failed (was_put piece answer ∷ events) o n clean h = absurd clean
 
 -- ---- what reads come to
 
-module _ (texts : Texts) (standing : Standing) (names : List (List ℕ)) {A : Type 0} where
+module _ (texts : Texts) (standing : Standing) (names : Option (List (List ℕ))) {A : Type 0} where
   -- From a stage to a later one files go from o to n: all is as it was, and over known files both come to one result; or a read
   -- failed, found nothing, or had no memory, and there the later stage stops.
   data Walked (stage later : Stage A) (o n : FilesState) : Type 0 where
     fine : n ≡ o → IfSome o.contents (λ files. result_over texts files stage ≡ result_over texts files later) → IsSuited texts standing names later
         → Walked stage later o n
-    fault : (name : List ℕ) → IfSome o.contents (λ files. Contains (names_over files stage) name) → Contains names name → standing ≡ command
+    fault : (name : List ℕ) → IfSome o.contents (λ files. Contains (names_over files stage) name) → IfSome names (λ all. Contains all name) → standing ≡ command
         → ReadFails o n → later ≡ stops (read_fault_exit texts name) → Walked stage later o n
     missed : (name : List ℕ) → n ≡ o → IfSome o.contents (λ files. result_over texts files stage ≡ Err (missing_exit texts name)) → standing ≡ command
         → later ≡ stops (missing_exit texts name) → Walked stage later o n

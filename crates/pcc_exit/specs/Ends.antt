@@ -22,7 +22,7 @@ pub record IsReadFault (request : Request) (old new : FilesState) (exit : Exit) 
   pub name : List ℕ
   pub asked : IfSome old.contents (λ files. Contains (request.reads files) name)
   -- also where the files are not known
-  pub named : Contains request.names name
+  pub named : IfSome request.names (λ names. Contains names name)
   pub command : request.standing ≡ command
   pub fails : ReadFails old new
   pub line : exit ≡ read_fault_exit request.texts name

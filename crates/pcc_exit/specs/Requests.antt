@@ -1,5 +1,5 @@
 -- What the arguments of a program ask for.
-use Rattle.std.specs.Prelude.{◌≡◌, ◌≢◌, ℕ, List, []}
+use Rattle.std.specs.Prelude.{◌≡◌, ◌≢◌, ℕ, List, [], Option}
 use Rattle.file_port.specs.Files.{FileMap}
 use Rattle.pcc_exit.specs.Exits.{Exit, Answer}
 
@@ -27,8 +27,8 @@ pub record Request : Type 0 where
   pub answer : FileMap → Answer
   -- the names of the files that are read on the way to it, in order
   pub reads : FileMap → List (List ℕ)
-  -- the names of the files that are read, whatever they hold
-  pub names : List (List ℕ)
+  -- the names of the files that are read, whatever they hold; none where they come from what a file holds
+  pub names : Option (List (List ℕ))
   pub texts : Texts
 
 -- the arguments are no command

@@ -1,6 +1,6 @@
 -- What a run did, whatever the files hold: its reads and its write, in their order, are what the command asks for, and what it
 -- prints, and its status, go by what the reads gave.
-use Rattle.std.specs.Prelude.{◌≡◌, ◌⊎◌, ℕ, ◌<◌, ◌≤◌, List, [], ◌∷◌, ◌++◌, slice_index, Contains, Option, Some, None, Result, Ok, Err}
+use Rattle.std.specs.Prelude.{◌≡◌, ◌⊎◌, ℕ, ◌<◌, ◌≤◌, List, [], ◌∷◌, ◌++◌, slice_index, Contains, IfSome, Option, Some, None, Result, Ok, Err}
 use Rattle.file_port.specs.Files.{FileMap, FilesState, Reads, Writes}
 use Rattle.file_port.specs.Events.{Given, whole, missing, too_long, failed, no_memory, Event, was_read, was_written, was_put}
 use Rattle.file_port.specs.Sink.{SinkState, Puts}
@@ -19,8 +19,8 @@ pub record Effect : Type 0 where
 pub record Task : Type 0 where
   -- what they are by themselves
   pub standing : Standing
-  -- the names of the files that are read, whatever they hold
-  pub names : List (List ℕ)
+  -- the names of the files that are read, whatever they hold; none where they come from what a file holds
+  pub names : Option (List (List ℕ))
   pub stage : Stage Effect
 
 -- ---- what the events do
@@ -119,8 +119,8 @@ pub record IsStop (texts : Texts) (standing : Standing) (exit : Exit) : Type 0 w
   pub in_range : exit.status ≤ 2
 
 -- Where the stage stops, that is a refusal, or there was no memory; it reads the named files alone, and reads and gives only where the arguments are a command.
-abbrev pub IsSuited : {A : Type 0} → Texts → Standing → List (List ℕ) → Stage A → Type 0
+abbrev pub IsSuited : {A : Type 0} → Texts → Standing → Option (List (List ℕ)) → Stage A → Type 0
 IsSuited texts standing names (stops exit) = IsStop texts standing exit ⊎ (exit ≡ no_memory_exit)
 IsSuited texts standing names (gives x) = standing ≡ command
 IsSuited texts standing names (reads name max more on) =
-    (standing ≡ command) × Contains names name × IsStop texts standing more × ((b : List ℕ) → IsSuited texts standing names (on b))
+    (standing ≡ command) × IfSome names (λ all. Contains all name) × IsStop texts standing more × ((b : List ℕ) → IsSuited texts standing names (on b))

@@ -3,7 +3,7 @@ use Rattle.std.specs.Prelude.{ℕ, List, codes}
 
 -- the arguments are no command
 abbrev pub usage_line : List ℕ
-usage_line = codes "usage: pcc asm|prove|check|run|ref|demo|bpf\n"
+usage_line = codes "usage: pcc asm|prove|check|run|ref|demo|host|bpf\n"
 
 -- no policy has the name
 abbrev pub unknown_policy_line : List ℕ
@@ -28,3 +28,7 @@ bpf_too_long_line = codes "bpf TooLong\n"
 -- the source's file is longer than a source may be
 abbrev pub source_too_long_line : List ℕ
 source_too_long_line = codes "source TooLong\n"
+
+-- the script is longer than a script may be
+abbrev pub script_too_long_line : List ℕ
+script_too_long_line = codes "script TooLong\n"

@@ -8,3 +8,5 @@ pub mod Results
 pub mod Sources
 pub mod Bpf
 pub mod Demo
+pub mod Scripts
+pub mod Agents

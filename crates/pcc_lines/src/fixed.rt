@@ -3,7 +3,7 @@
 ghost use Rattle.file_port.specs.Sink.{Puts};
 ghost use Rattle.pcc_lines.specs.Fixed.{usage_line, unknown_policy_line, packets_too_long_line};
 ghost use Rattle.pcc_lines.specs.Fixed.{accepted_line, container_too_long_line};
-ghost use Rattle.pcc_lines.specs.Fixed.{source_too_long_line, bpf_too_long_line};
+ghost use Rattle.pcc_lines.specs.Fixed.{source_too_long_line, bpf_too_long_line, script_too_long_line};
 
 use file_port::{Put, Sink};
 
@@ -11,7 +11,7 @@ use file_port::{Put, Sink};
 pub fn print_usage<S: Sink>(out: &mut S) -> Put
     ensures { Puts usage_line (S.state out.old) (S.state out.new) result }
 {
-    out.put(b"usage: pcc asm|prove|check|run|ref|demo|bpf\n")
+    out.put(b"usage: pcc asm|prove|check|run|ref|demo|host|bpf\n")
 }
 
 /// Prints that no policy has the name.
@@ -54,4 +54,11 @@ pub fn print_bpf_too_long<S: Sink>(out: &mut S) -> Put
     ensures { Puts bpf_too_long_line (S.state out.old) (S.state out.new) result }
 {
     out.put(b"bpf TooLong\n")
+}
+
+/// Prints that the script is longer than a script may be.
+pub fn print_script_too_long<S: Sink>(out: &mut S) -> Put
+    ensures { Puts script_too_long_line (S.state out.old) (S.state out.new) result }
+{
+    out.put(b"script TooLong\n")
 }

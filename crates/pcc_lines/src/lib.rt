@@ -6,9 +6,11 @@
 //! `specs/` with the same name: lines that are always the same (`Fixed`), lines with a name
 //! (`Named`), faults of packet files (`PacketFaults`), why there is no proof (`Proving`), refusals
 //! (`Refusals`), result lines (`Results`), what is said of a source (`Sources`), faults
-//! of programs of classic BPF (`Bpf`), and the lines of `demo` (`Demo`). The names of the kinds of faults, and of measures, come from the crates that have them.
+//! of programs of classic BPF (`Bpf`), faults of scripts (`Scripts`), lines of agents (`Agents`), and the lines
+//! of `demo` (`Demo`). The names of the kinds of faults, and of measures, come from the crates that have them.
 #![tactic(auto)]
 
+mod agents;
 mod bpf;
 mod demo;
 mod fixed;
@@ -18,17 +20,24 @@ mod packet_faults;
 mod proving;
 mod refusals;
 mod results;
+mod scripts;
 mod sources;
 
+pub use agents::{
+    print_agent_no_packet, print_agent_packet_fault, print_agent_packets_too_long,
+    print_agent_refusal, print_agent_short, print_agent_too_long, print_agent_unknown_policy,
+    print_turn,
+};
 pub use bpf::print_bpf_flaw;
 pub use demo::{DemoSummary, print_demo};
 pub use fixed::{
     print_accepted, print_bpf_too_long, print_container_too_long, print_packets_too_long,
-    print_source_too_long, print_unknown_policy, print_usage,
+    print_script_too_long, print_source_too_long, print_unknown_policy, print_usage,
 };
 pub use named::{print_missing, print_read_fault, print_write_fault};
 pub use packet_faults::print_packet_fault;
 pub use proving::{MAX_MEASURE, print_not_easy, print_too_big};
 pub use refusals::print_refusal;
 pub use results::print_results;
+pub use scripts::{MAX_SCRIPT_KIND, print_script_fault};
 pub use sources::{MAX_SOURCE_KIND, print_source_fault, print_written};

@@ -20,7 +20,7 @@ const BAD_WORD: usize = 42;
 const MALFORMED: usize = 32;
 
 /// Room for a refusal's text, in bytes.
-const REFUSAL: usize = 62;
+pub const REFUSAL: usize = 62;
 
 /// Adds a word that is no instruction: its index, the kind of fault, and the word.
 fn push_bad_word(line: &mut Line, index: u32, word: u32, bad: BadWord)
@@ -76,7 +76,7 @@ fn push_numbered(line: &mut Line, text: &str, number: u32)
 }
 
 /// Adds why a container is refused.
-fn push_refusal(line: &mut Line, refusal: Refusal)
+pub fn push_refusal(line: &mut Line, refusal: Refusal)
     requires { array_vec_len line.old + REFUSAL ≤ LINE }
     ensures items { line.new.items ≡ line.old.items ++ refusal_text refusal }
     ensures len { array_vec_len line.new ≤ array_vec_len line.old + REFUSAL }

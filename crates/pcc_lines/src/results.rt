@@ -17,7 +17,7 @@ use policy_set::PolicyKind;
 const KIND: usize = 7;
 
 /// The most bytes of a result without its number: those of a blocked access.
-const RESULT: usize = 51;
+pub const RESULT: usize = 51;
 
 /// Adds the kind of an access.
 fn push_kind(line: &mut Line, kind: Kind)
@@ -60,7 +60,7 @@ fn push_blocked(line: &mut Line, index: u32, kind: Kind, addr: u64)
 }
 
 /// Adds how a run ended.
-fn push_outcome(line: &mut Line, policy: PolicyKind, outcome: Outcome, sum: u64)
+pub fn push_outcome(line: &mut Line, policy: PolicyKind, outcome: Outcome, sum: u64)
     requires { array_vec_len line.old + RESULT ≤ LINE }
     ensures items { line.new.items ≡ line.old.items ++ outcome_text policy outcome sum }
     ensures len { array_vec_len line.new ≤ array_vec_len line.old + RESULT }

@@ -1,6 +1,6 @@
 -- Commands without where their values lie in memory.
 use Rattle.std.specs.Prelude.{◌≤◌}
-use Rattle.pcc_words.specs.Invocations.{Invocation, asm, prove, check, run, ref, demo, bpf}
+use Rattle.pcc_words.specs.Invocations.{Invocation, asm, prove, check, run, ref, demo, host, bpf}
 use Rattle.pcc_words.specs.declared.commands.Command.{Command}
 use Rattle.pcc_words.specs.declared.limits.TheConstants.{MAX_DEMO, MAX_STEPS}
 use Rattle.pcc_words.specs.declared.commands.Command.TheVariants as command
@@ -13,6 +13,7 @@ invocation_of (command.Check args) = check args.policy.now args.file.now
 invocation_of (command.Run args) = run args.policy.now args.file.now args.packets.now args.steps
 invocation_of (command.Ref args) = ref args.policy.now args.file.now args.packets.now args.steps
 invocation_of (command.Demo n) = demo n
+invocation_of (command.Host script) = host script.now
 invocation_of (command.Bpf args) = bpf args.input.now args.output.now
 
 -- The numbers of a command are in their ranges.
@@ -23,4 +24,5 @@ IsInRange (command.Check args) = Unit {0}
 IsInRange (command.Run args) = (1 ≤ args.steps) × (args.steps ≤ MAX_STEPS)
 IsInRange (command.Ref args) = (1 ≤ args.steps) × (args.steps ≤ MAX_STEPS)
 IsInRange (command.Demo n) = (1 ≤ n) × (n ≤ MAX_DEMO)
+IsInRange (command.Host script) = Unit {0}
 IsInRange (command.Bpf args) = Unit {0}

@@ -43,6 +43,10 @@ input_app name = with_rule (policy_app name) (positional (codes "IN"))
 abbrev pub copy_app : Text → App
 copy_app name = with_rule (input_app name) (positional (codes "OUT"))
 
+-- `NAME SCRIPT`
+abbrev pub script_app : Text → App
+script_app name = with_rule (new_app name) (positional (codes "SCRIPT"))
+
 -- `NAME IN`
 abbrev pub path_app : Text → App
 path_app name = with_rule (new_app name) (positional (codes "IN"))
@@ -87,9 +91,13 @@ named_files_app = with_subcommand runs_app (run_app (codes "ref")).top
 abbrev pub demos_app : App
 demos_app = with_subcommand named_files_app (number_app (codes "demo")).top
 
+-- with `host`
+abbrev pub hosts_app : App
+hosts_app = with_subcommand demos_app (script_app (codes "host")).top
+
 -- the program
 abbrev pub pcc_app : App
-pcc_app = with_subcommand demos_app (paths_app (codes "bpf")).top
+pcc_app = with_subcommand hosts_app (paths_app (codes "bpf")).top
 
 -- ---- the values
 
@@ -107,6 +115,8 @@ pub data Invocation : Type 0 where
   ref : Text → Text → Text → ℕ → Invocation
   -- `demo N`
   demo : ℕ → Invocation
+  -- `host SCRIPT`
+  host : Text → Invocation
   -- `bpf IN OUT`
   bpf : Text → Text → Invocation
 
@@ -169,6 +179,7 @@ invocation_at name rows =
     if bytes_eq name (codes "run") then run_invocation run rows else
     if bytes_eq name (codes "ref") then run_invocation ref rows else
     if bytes_eq name (codes "demo") then demo_invocation rows else
+    if bytes_eq name (codes "host") then Some (host (value_of (codes "SCRIPT") rows)) else
     if bytes_eq name (codes "bpf") then Some (path_invocation bpf rows) else
     None
 

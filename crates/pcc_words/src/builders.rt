@@ -6,7 +6,7 @@ ghost use Rattle.pcc_words.specs.Invocations.{policy_app, file_app, input_app, c
 ghost use Rattle.pcc_words.specs.Invocations.{packets_app, run_app, number_app, steps_rule};
 ghost use Rattle.pcc_words.specs.Invocations.{asm_app, copies_app, file_commands_app};
 ghost use Rattle.pcc_words.specs.Invocations.{runs_app, named_files_app, demos_app, pcc_app};
-ghost use Rattle.pcc_words.specs.Invocations.{path_app, paths_app};
+ghost use Rattle.pcc_words.specs.Invocations.{path_app, paths_app, script_app, hosts_app};
 ghost use Rattle.pcc_words.specs.Invocations.{positional as positional_rule};
 
 use crate::limits::{MAX_DEMO, MAX_STEPS};
@@ -71,6 +71,14 @@ fn copy_command<'a>(alloc: Global, name: &'a str) -> Result<Command<'a>, AllocEr
     ensures local { IfOk result (λ c. (fields_of c).has_globals ≡ false) }
 {
     input_command(alloc, name)?.arg(positional(alloc, "OUT"))
+}
+
+/// `NAME SCRIPT`
+fn script_command<'a>(alloc: Global, name: &'a str) -> Result<Command<'a>, AllocError>
+    ensures app { IfOk result (λ c. app_of c ≡ script_app name.entry.now) }
+    ensures local { IfOk result (λ c. (fields_of c).has_globals ≡ false) }
+{
+    Command::new(alloc, name).arg(positional(alloc, "SCRIPT"))
 }
 
 /// `NAME IN`
@@ -154,10 +162,18 @@ fn demos_command<'a>(alloc: Global) -> Result<Command<'a>, AllocError>
     named_files_command(alloc)?.subcommand(number_command(alloc, "demo")?)
 }
 
+/// The same with `host`.
+fn hosts_command<'a>(alloc: Global) -> Result<Command<'a>, AllocError>
+    ensures app { IfOk result (λ c. app_of c ≡ hosts_app) }
+{
+    let added = script_command(alloc, "host")?;
+    demos_command(alloc)?.subcommand(added)
+}
+
 /// The whole command line.
 pub fn pcc_command<'a>(alloc: Global) -> Result<Command<'a>, AllocError>
     ensures app { IfOk result (λ c. app_of c ≡ pcc_app) }
 {
     let added = paths_command(alloc, "bpf")?;
-    demos_command(alloc)?.subcommand(added)
+    hosts_command(alloc)?.subcommand(added)
 }

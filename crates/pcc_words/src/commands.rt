@@ -57,6 +57,8 @@ pub enum Command<'a> {
     Ref(RunArgs<'a>),
     /// Makes a source of so many loads, proves it, judges it and runs it.
     Demo(u64),
+    /// Runs the agents that the script of this name loads, by turns, by the host that tests no access.
+    Host(&'a str),
     /// Compiles a program of classic BPF to an accepted container.
     Bpf(PathArgs<'a>),
 }

@@ -1,6 +1,6 @@
 //! What the definition of the command line says of some arguments, with nothing to run.
 ghost use Rattle.std.specs.Prelude.{◌≡◌, Some, None, [], ◌∷◌, codes};
-ghost use Rattle.pcc_words.specs.Invocations.{command_of, asm, prove, check, run, ref, demo, bpf};
+ghost use Rattle.pcc_words.specs.Invocations.{command_of, asm, prove, check, run, ref, demo, host, bpf};
 
 /// Arguments that are a command.
 pub fn worked_commands()
@@ -37,6 +37,7 @@ pub fn worked_commands()
     ensures demo_three { command_of (codes "demo" ∷ codes "3" ∷ []) ≡ Some (demo 3) }
     ensures demo_most { command_of (codes "demo" ∷ codes "400" ∷ []) ≡ Some (demo 400) }
     ensures demo_plus { command_of (codes "demo" ∷ codes "+007" ∷ []) ≡ Some (demo 7) }
+    ensures host { command_of (codes "host" ∷ codes "S" ∷ []) ≡ Some (host (codes "S")) }
     ensures bpf { command_of (codes "bpf" ∷ codes "B1" ∷ codes "C1" ∷ [])
         ≡ Some (bpf (codes "B1") (codes "C1")) }
     ensures bpf_in_place { command_of (codes "bpf" ∷ codes "B1" ∷ codes "B1" ∷ [])
@@ -86,6 +87,10 @@ pub fn worked_faults()
     ensures demo_above { command_of (codes "demo" ∷ codes "401" ∷ []) ≡ None }
     ensures demo_letters { command_of (codes "demo" ∷ codes "x" ∷ []) ≡ None }
     ensures demo_too_few { command_of (codes "demo" ∷ []) ≡ None }
+    ensures host_too_few { command_of (codes "host" ∷ []) ≡ None }
+    ensures host_too_many { command_of (codes "host" ∷ codes "S" ∷ codes "more" ∷ []) ≡ None }
+    ensures host_has_no_steps { command_of (codes "host" ∷ codes "S" ∷ codes "--steps=1" ∷ [])
+        ≡ None }
     ensures bpf_too_few { command_of (codes "bpf" ∷ codes "B1" ∷ []) ≡ None }
     ensures bpf_too_many { command_of (codes "bpf" ∷ codes "filter" ∷ codes "B1" ∷ codes "C1" ∷ [])
         ≡ None }

@@ -121,6 +121,7 @@ fn command_given<'a>(name: &str, matches: &ArgMatches<'a>) -> Option<Command<'a>
         "run" => Some(Command::Run(with_steps_in_range(run_args_given(matches))?)),
         "ref" => Some(Command::Ref(with_steps_in_range(run_args_given(matches))?)),
         "demo" => Some(Command::Demo(demo_size_given(matches)?)),
+        "host" => Some(Command::Host(text_given(matches, "SCRIPT"))),
         "bpf" => Some(Command::Bpf(path_args_given(matches))),
         _ => None,
     }

@@ -1,10 +1,13 @@
 -- What was decided once the files were read and written.
-use Rattle.std.specs.Prelude.{◌≡◌, ℕ, List, ◌++◌, Option, Some, None, unwrap_or, Result, Ok, Err}
+use Rattle.std.specs.Prelude.{◌≡◌, ℕ, List, ◌++◌, Option, Some, None, unwrap_or, Result, Ok, Err, string_bytes}
 use Rattle.file_port.specs.Events.{Event}
 use Rattle.file_port.specs.Files.{FilesState}
 use Rattle.packet_store.specs.Runners.{testing_results}
 use Rattle.pcc_lines.specs.Bpf.{bpf_flaw_line}
-use Rattle.pcc_lines.specs.Fixed.{accepted_line, bpf_too_long_line, container_too_long_line, packets_too_long_line, source_too_long_line, unknown_policy_line}
+use Rattle.pcc_lines.specs.Fixed.{accepted_line, bpf_too_long_line, container_too_long_line, packets_too_long_line, script_too_long_line, source_too_long_line, unknown_policy_line}
+use Rattle.agent_script.specs.Names.{script_flaw_name}
+use Rattle.pcc_lines.specs.Agents.{agent_line, no_packet_line, short_line}
+use Rattle.pcc_lines.specs.Scripts.{script_fault_line}
 use Rattle.pcc_lines.specs.PacketFaults.{packet_fault_line}
 use Rattle.pcc_lines.specs.Proving.{not_easy_line, too_big_line}
 use Rattle.asm_text.specs.Names.{line_flaw_name}
@@ -21,10 +24,23 @@ use Rattle.pcc_exit.specs.Stages.{Stage, Follows}
 use Rattle.pcc_exit.specs.Runs.{Effect, Happens, NoneFailed, Comes, done_exit}
 use Rattle.pcc_cli.specs.Stages.Common.{refused}
 use Rattle.pcc_cli.specs.Texts.{texts}
+use Rattle.pcc_cli.specs.declared.agent_stop.AgentStop.{AgentStop}
+use Rattle.pcc_cli.specs.declared.agent_stop.AgentStop.TheVariants as agent_stop
+use Rattle.pcc_cli.specs.Inside.Turning.{job_lines}
 use Rattle.pcc_cli.specs.declared.stop.Stop.{Stop}
 use Rattle.pcc_cli.specs.declared.stop.Stop.TheVariants as stop
 use Rattle.pcc_cli.specs.declared.report.Report.{Report}
 use Rattle.pcc_cli.specs.declared.report.Report.TheVariants as report
+
+-- the line of a load that is refused, without its agent
+abbrev pub agent_text : AgentStop → List ℕ
+agent_text agent_stop.UnknownPolicy = unknown_policy_line
+agent_text agent_stop.ContainerTooLong = container_too_long_line
+agent_text (agent_stop.Refused refusal) = refusal_line refusal
+agent_text agent_stop.PacketsTooLong = packets_too_long_line
+agent_text (agent_stop.BadPackets fault) = packet_fault_line fault
+agent_text agent_stop.NoPacket = no_packet_line
+agent_text agent_stop.Short = short_line
 
 -- the exit of a stop, if its line is put; none of want of memory
 abbrev pub end_of : Stop → Option Exit
@@ -41,6 +57,11 @@ end_of stop.PacketsTooLong = Some (refused packets_too_long_line)
 end_of (stop.BadPackets fault) = Some (refused (packet_fault_line fault))
 end_of stop.ProgramTooLong = Some (refused bpf_too_long_line)
 end_of (stop.BadProgram flaw) = Some (refused (bpf_flaw_line flaw))
+end_of stop.ScriptTooLong = Some (refused script_too_long_line)
+end_of (stop.BadScript line flaw) = Some (refused (script_fault_line line (script_flaw_name flaw)))
+end_of (stop.OfAgent a why) = Some (refused (agent_line a (agent_text why)))
+end_of (stop.MissingOfScript name) = Some (missing_exit texts (string_bytes name))
+end_of (stop.ReadFaultOfScript name) = Some (read_fault_exit texts (string_bytes name))
 end_of (stop.Missing name) = Some (missing_exit texts name.now)
 end_of (stop.ReadFault name) = Some (read_fault_exit texts name.now)
 end_of (stop.WriteFault name) = Some (write_fault_exit texts name.now)
@@ -56,6 +77,7 @@ report_text report.Accepted = accepted_line
 report_text (report.Written count) = written_line count
 report_text (report.Results job) = result_lines job.policy (testing_results job.runner) 0 job.packets
 report_text (report.Hosted job) = result_lines job.policy (host_results job.runner) 0 job.packets
+report_text (report.Turns job) = job_lines job
 report_text (report.Demo summary) = demo_lines summary
 
 -- what a command does that ends with a report, and writes nothing

@@ -20,7 +20,14 @@ IsTooLong stop.ContainerTooLong = Unit {0}
 IsTooLong stop.SourceTooLong = Unit {0}
 IsTooLong stop.PacketsTooLong = Unit {0}
 IsTooLong stop.ProgramTooLong = Unit {0}
+IsTooLong stop.ScriptTooLong = Unit {0}
 IsTooLong other = ⊥
+
+-- a stop of the gate
+abbrev pub IsOfGate : Stop → Type 0
+IsOfGate (stop.Refused refusal) = Unit {0}
+IsOfGate stop.Memory = Unit {0}
+IsOfGate other = ⊥
 
 -- whole words of code, 1 to 1,024 of them
 pub record HasWholeCode (code : List ℕ) : Type 0 where

@@ -10,6 +10,6 @@ returns-in-TooLong-clause-exact g c =
     read_gives (λ (v : Vec ℕ Global). v.items) c.args.name.now c.args.max (stop_exit c.args.too_long) gives too_long _ _ _ _ _ c.in-TooLong.ensures.logged c.in-TooLong.ensures.meaning tt
     (too_long-stops (List ℕ) c.args.too_long c.requires) (too_long-clean c.args.too_long c.requires (was_read c.args.name.now c.args.max too_long ∷ []))
 
-pub returns-in-Memory-clause-exact : goal.returns-in-Memory-clause-exact
-returns-in-Memory-clause-exact g c =
+pub returns-clause-exact : goal.returns-clause-exact
+returns-clause-exact g c =
     read_gives (λ (v : Vec ℕ Global). v.items) c.args.name.now c.args.max (stop_exit c.args.too_long) gives no_memory _ _ _ _ _ c.in-Memory.ensures.logged c.in-Memory.ensures.meaning tt tt tt

@@ -22,6 +22,7 @@ returns c = record {
   demo_three = refl;
   demo_most = refl;
   demo_plus = refl;
+  host = refl;
   bpf = refl;
   bpf_in_place = refl;
 }

@@ -1,0 +1,124 @@
+-- Agents with rights that fit: at a start, and after a run.
+use Rattle.std.proofs.Common.{◌≡◌, ℕ, ◌-◌, ◌/◌, List, true, refl, sym, ◌∙◌, ap, subst, arith}
+use Rattle.word_ops.specs.Rights.{Rights}
+use Rattle.alpha_words.specs.declared.insn.Insn.{Insn}
+use Rattle.alpha_cfg.specs.Machine.{IsState, run_of}
+use Rattle.formula_tree.specs.Truth.{IsValid}
+use Rattle.policy_set.specs.declared.kind.PolicyKind.{PolicyKind}
+use Rattle.policy_set.specs.Policies.{pre_of}
+use Rattle.reference_machine.specs.Arena.{placed_words}
+use Rattle.reference_machine.specs.Starts.{StartView, Fits, start_regs, start_state}
+use Rattle.packet_store.specs.StartMeets.{StartMeetsIn}
+use Rattle.vcgen.specs.Conditions.{condition}
+use Rattle.term_table.specs.Table.{id_trees}
+use Rattle.vcgen.specs.Encoded.{AreForms, AreEncodings}
+use Rattle.vcgen.specs.Safety.{IsAnnotated, Holds}
+use Rattle.pcc_gate.specs.First.{formulas}
+use Rattle.pcc_gate.specs.Views.{AcceptedView, AreAnnotations, IsConditionTrue}
+use Rattle.pcc_gate.proofs.First.{formulas-encoded}
+use Rattle.host_steps.specs.declared.ended.Ended.{Ended}
+use Rattle.host_steps.specs.declared.ended.Ended.TheVariants as ended
+use Rattle.host_steps.specs.Stepping.{arena_state, EndsUnblocked}
+use Rattle.host_steps.specs.RunEnds.{outcome_of}
+use Rattle.part_runs.specs.Parts.{PartView, part_state, part_at_start, rights_of, PartFits}
+use Rattle.part_runs.specs.Parts.{IsPartRun, IsPartRunUnder}
+use Rattle.part_runs.proofs.Fitting.{start-part-fits, part-unblocked, part-run}
+use Rattle.agent_host.specs.declared.phase.Phase.{Phase}
+use Rattle.agent_host.specs.declared.phase.Phase.TheVariants as phases
+use Rattle.agent_host.specs.Agents.{HostedView, annotated_code, part_of, RightsFitAgent}
+use Rattle.agent_host.specs.Agents.{SomeRightsFit, agent_at}
+use Rattle.agent_host.specs.Turns.{phase_after}
+
+-- an agent that may go on is out of steps
+pub goes-on : (result : Ended) → phase_after result ≡ phases.Ready → result ≡ ended.OutOfSteps
+goes-on ended.OutOfSteps e = refl
+goes-on (ended.Returned word) e = absurd (cc)
+
+-- an agent at a start, whose rights fit
+pub record HasBegun (was : HostedView) (setup : StartView) (is : HostedView) : Type 0 where
+  pub is_at : is ≡ agent_at was setup
+  pub meets : StartMeetsIn was.base setup (pre_of was.accepted.policy)
+  pub fits : RightsFitAgent is (rights_of setup)
+
+module _ (m : HostedView) (forms : AreForms (id_trees m.accepted.table m.accepted.invs))
+    (annotates : AreAnnotations m.accepted) (valid : IsConditionTrue m.accepted) where
+  encoded : AreEncodings (id_trees m.accepted.table m.accepted.invs)
+      (formulas (id_trees m.accepted.table m.accepted.invs))
+  encoded = formulas-encoded (id_trees m.accepted.table m.accepted.invs) forms
+
+  is-annotated : IsAnnotated (annotated_code m.accepted)
+  is-annotated = annotates (formulas (id_trees m.accepted.table m.accepted.invs)) encoded
+
+  is-valid : IsValid (condition (annotated_code m.accepted))
+  is-valid = valid (formulas (id_trees m.accepted.table m.accepted.invs)) encoded
+
+  start-fits : (setup : StartView) → Fits m.base setup → IsState (start_state m.base setup)
+      → StartMeetsIn m.base setup (pre_of m.accepted.policy)
+      → RightsFitAgent (agent_at m setup) (rights_of setup)
+  start-fits setup fits state meets =
+      let f = start-part-fits (annotated_code m.accepted) m.base setup is-annotated is-valid fits
+      state meets in
+      record { reads = f.reads; writes = f.writes; holds = f.holds }
+
+  -- the bytes of a start that meets the precondition stand in the part
+  pub begins : (policy : PolicyKind) (setup : StartView) (regs words : List ℕ)
+      → regs ≡ start_regs setup → policy ≡ m.accepted.policy
+      → Fits m.base setup → IsState (start_state m.base setup)
+      → StartMeetsIn m.base setup (pre_of policy)
+      → words ≡ placed_words ((setup.at - m.base) / 8) setup.bytes
+      → HasBegun m setup (record (agent_at m setup) { regs = regs; words = words })
+  begins policy setup regs words set same fits state meets placed =
+      let is : record (agent_at m setup) { regs = regs; words = words } ≡ agent_at m setup =
+      ap (λ (l : List ℕ). record (agent_at m setup) { regs = regs; words = l }) placed
+      ∙ ap (λ (l : List ℕ). record (agent_at m setup) { regs = l }) set in
+      let start : StartMeetsIn m.base setup (pre_of m.accepted.policy) =
+      subst (λ (p : PolicyKind). StartMeetsIn m.base setup (pre_of p)) same meets in
+      record {
+        is_at = is;
+        meets = start;
+        fits =
+            subst (λ (h : HostedView). RightsFitAgent h (rights_of setup)) (sym is)
+            (start-fits setup fits state start);
+      }
+
+  module _ (n : ℕ) where
+    -- no access of its run is blocked
+    pub runs-unblocked : (code : List Insn) → code ≡ m.accepted.code → SomeRightsFit m
+        → EndsUnblocked (run_of code n (arena_state m.base m.index m.regs m.words)).0
+    runs-unblocked code is f =
+        subst (λ (l : List Insn). EndsUnblocked
+        (run_of l n (arena_state m.base m.index m.regs m.words)).0) (sym is)
+        (part-unblocked (annotated_code m.accepted) is-annotated is-valid (part_of m) n 0 f.0 f.1)
+
+    module _
+        (code : List Insn)
+        (is : code ≡ m.accepted.code)
+        (result : Ended)
+        (new : HostedView)
+        (base : new.base ≡ m.base)
+        (ran : (outcome_of result, arena_state new.base new.index new.regs new.words) ≡ run_of code
+        n (arena_state m.base m.index m.regs m.words))
+      where
+        ran-part : IsPartRun (annotated_code m.accepted) (part_of m) n result (part_of new)
+        ran-part = record {
+          base = base;
+          run = ran
+              ∙ ap (λ (l : List Insn). run_of l n (arena_state m.base m.index m.regs m.words)) is;
+        }
+
+        -- under rights that fit, the run is that of the machine that tests
+        pub ran-under : (r : Rights) → RightsFitAgent m r
+            → IsPartRunUnder (annotated_code m.accepted) (part_of m) n 0 result (part_of new) r
+        ran-under r f =
+            part-run (annotated_code m.accepted) is-annotated is-valid (part_of m) n 0 r f result
+            (part_of new) ran-part
+
+        -- where it may go on, some fit
+        pub still-fits : new.accepted ≡ m.accepted → SomeRightsFit m
+            → phase_after result ≡ phases.Ready → SomeRightsFit new
+        still-fits kept f on =
+            let g = (ran-under f.0 f.1).fits (goes-on result on) in (
+              f.0,
+              subst (λ (a : AcceptedView). PartFits (annotated_code a) 0 (part_of new) f.0)
+                  (sym kept) (record { reads = g.reads; writes = g.writes; holds = g.holds }),
+            )

@@ -1,0 +1,2 @@
+-- Words of invariants.
+pub mod Fields

@@ -1,0 +1,4 @@
+pub mod Agents
+pub mod Hosts
+pub mod Turns
+pub mod Inside

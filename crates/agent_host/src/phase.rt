@@ -1,0 +1,29 @@
+//! Whether an agent may run.
+
+ghost use Rattle.std.specs.Prelude.{◌≡◌};
+ghost use Rattle.agent_host.specs.Turns.{phase_after};
+
+use host_steps::Ended;
+
+/// Whether an agent may run.
+#[derive(Clone, Copy, Debug, PartialEq, Eq)]
+pub enum Phase {
+    /// No packet is loaded.
+    Unloaded,
+    /// It hasn't returned since its last load.
+    Ready,
+    /// It has returned since its last load.
+    Returned,
+}
+
+impl Phase {
+    /// The phase behind a run that ended so.
+    pub fn after(ended: Ended) -> Phase
+        ensures { result ≡ phase_after ended }
+    {
+        match ended {
+            Ended::Returned(_) => Phase::Returned,
+            Ended::OutOfSteps => Phase::Ready,
+        }
+    }
+}

@@ -1,0 +1,5 @@
+pub mod Lines
+pub mod Statements
+pub mod Scripts
+pub mod Names
+pub mod Inside
