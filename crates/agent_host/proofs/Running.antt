@@ -4,8 +4,7 @@ use Rattle.word_ops.specs.Rights.{Rights}
 use Rattle.alpha_words.specs.declared.insn.Insn.{Insn}
 use Rattle.alpha_cfg.specs.Machine.{IsState, run_of}
 use Rattle.formula_tree.specs.Truth.{IsValid}
-use Rattle.policy_set.specs.declared.kind.PolicyKind.{PolicyKind}
-use Rattle.policy_set.specs.Policies.{pre_of}
+use Rattle.policy_set.specs.Views.{PolicyView}
 use Rattle.reference_machine.specs.Arena.{placed_words}
 use Rattle.reference_machine.specs.Starts.{StartView, Fits, start_regs, start_state}
 use Rattle.packet_store.specs.StartMeets.{StartMeetsIn}
@@ -37,7 +36,7 @@ goes-on (ended.Returned word) e = absurd (cc)
 -- an agent at a start, whose rights fit
 pub record HasBegun (was : HostedView) (setup : StartView) (is : HostedView) : Type 0 where
   pub is_at : is ≡ agent_at was setup
-  pub meets : StartMeetsIn was.base setup (pre_of was.accepted.policy)
+  pub meets : StartMeetsIn was.base setup was.accepted.policy.pre
   pub fits : RightsFitAgent is (rights_of setup)
 
 module _ (m : HostedView) (forms : AreForms (id_trees m.accepted.table m.accepted.invs))
@@ -53,7 +52,7 @@ module _ (m : HostedView) (forms : AreForms (id_trees m.accepted.table m.accepte
   is-valid = valid (formulas (id_trees m.accepted.table m.accepted.invs)) encoded
 
   start-fits : (setup : StartView) → Fits m.base setup → IsState (start_state m.base setup)
-      → StartMeetsIn m.base setup (pre_of m.accepted.policy)
+      → StartMeetsIn m.base setup m.accepted.policy.pre
       → RightsFitAgent (agent_at m setup) (rights_of setup)
   start-fits setup fits state meets =
       let f = start-part-fits (annotated_code m.accepted) m.base setup is-annotated is-valid fits
@@ -61,18 +60,18 @@ module _ (m : HostedView) (forms : AreForms (id_trees m.accepted.table m.accepte
       record { reads = f.reads; writes = f.writes; holds = f.holds }
 
   -- the bytes of a start that meets the precondition stand in the part
-  pub begins : (policy : PolicyKind) (setup : StartView) (regs words : List ℕ)
+  pub begins : (policy : PolicyView) (setup : StartView) (regs words : List ℕ)
       → regs ≡ start_regs setup → policy ≡ m.accepted.policy
       → Fits m.base setup → IsState (start_state m.base setup)
-      → StartMeetsIn m.base setup (pre_of policy)
+      → StartMeetsIn m.base setup policy.pre
       → words ≡ placed_words ((setup.at - m.base) / 8) setup.bytes
       → HasBegun m setup (record (agent_at m setup) { regs = regs; words = words })
   begins policy setup regs words set same fits state meets placed =
       let is : record (agent_at m setup) { regs = regs; words = words } ≡ agent_at m setup =
       ap (λ (l : List ℕ). record (agent_at m setup) { regs = regs; words = l }) placed
       ∙ ap (λ (l : List ℕ). record (agent_at m setup) { regs = l }) set in
-      let start : StartMeetsIn m.base setup (pre_of m.accepted.policy) =
-      subst (λ (p : PolicyKind). StartMeetsIn m.base setup (pre_of p)) same meets in
+      let start : StartMeetsIn m.base setup m.accepted.policy.pre =
+      subst (λ (p : PolicyView). StartMeetsIn m.base setup p.pre) same meets in
       record {
         is_at = is;
         meets = start;

@@ -1,7 +1,6 @@
 -- What a host of many agents holds, and what loading one comes to.
 use Rattle.std.specs.Prelude.{◌≡◌, ◌≢◌, ◌%◌, ◌^◌, ℕ, List, slice_get, slice_set, Bool, true, false}
 use Rattle.std.specs.Prelude.{Option, Some, None}
-use Rattle.policy_set.specs.Policies.{pre_of}
 use Rattle.reference_machine.specs.Arena.{map_of, sum_of}
 use Rattle.reference_machine.specs.Starts.{StartView}
 use Rattle.packet_store.specs.PolicyStarts.{start_from}
@@ -26,13 +25,13 @@ pub record Replaces (Known : HostedView → HostedView
 abbrev pub LoadsAt : Option StartView → Bool → HostedView → HostedView → Type 0
 LoadsAt None loaded was is = (loaded ≡ false) × (is ≡ was)
 LoadsAt (Some setup) loaded was is =
-    (loaded ≡ true) × (is ≡ agent_at was setup) × StartMeetsIn was.base setup
-    (pre_of was.accepted.policy) × RightsFitAgent is (rights_of setup)
+    (loaded ≡ true) × (is ≡ agent_at was setup)
+    × StartMeetsIn was.base setup was.accepted.policy.pre × RightsFitAgent is (rights_of setup)
 
 -- the same of the start on a packet
 abbrev pub LoadsPacket : List ℕ → Bool → HostedView → HostedView → Type 0
 LoadsPacket packet loaded was is =
-    LoadsAt (start_from was.base was.accepted.policy packet) loaded was is
+    LoadsAt (start_from was.base was.accepted.policy.kind packet) loaded was is
 
 -- what holds of each agent of a host, by its place: where its part begins, and that some rights fit
 -- while it may run

@@ -38,8 +38,9 @@ impl Model for Hosted {
 
     ghost use Rattle.std.specs.Coded.{codes};
     ghost use Rattle.term_table.specs.Table.{table_view_code};
+    ghost use Rattle.policy_set.specs.Inside.Code.{form_code};
 
-    ghost coded = { Prim.hlevel (codes, table_view_code) };
+    ghost coded = { Prim.hlevel (codes, table_view_code, form_code) };
 
     ghost use Rattle.agent_host.specs.Inside.Fields.{hosted_view, IsHosted};
 

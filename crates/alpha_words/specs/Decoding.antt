@@ -25,6 +25,10 @@ reg_at w low = w / 2 ^ low % 32
 abbrev pub unless_kept : ℕ → Insn → Result Insn BadWord
 unless_kept r i = if is_kept r then Err KeptRegister else Ok i
 
+-- a load, which is refused to register 31
+abbrev pub loaded : ℕ → Insn → Result Insn BadWord
+loaded r i = if r == 31 then Err LoadToZero else unless_kept r i
+
 -- the second operand: bit 12 tells a literal from a register
 abbrev pub rhs_at : ℕ → Rhs
 rhs_at w = if w / 2 ^ 12 % 2 == 1 then Lit (w / 2 ^ 13 % 256) else Reg (reg_at w 16)
@@ -55,9 +59,9 @@ decoded p w =
     let rb = reg_at w 16 in
     let disp = signed_of 15 (w % 2 ^ 16) in
     if opcode == 0x08 then unless_kept ra (Lda ra rb disp) else
-    if opcode == 0x29 then (if ra == 31 then Err LoadToZero else unless_kept ra (Ldq ra rb disp)) else
+    if opcode == 0x29 then loaded ra (Ldq ra rb disp) else
     if opcode == 0x09 then (if is_two p then unless_kept ra (Ldah ra rb disp) else Err Opcode) else
-    if opcode == 0x0B then (if is_two p then (if ra == 31 then Err LoadToZero else unless_kept ra (LdqU ra rb disp)) else Err Opcode) else
+    if opcode == 0x0B then (if is_two p then loaded ra (LdqU ra rb disp) else Err Opcode) else
     if opcode == 0x2D then Ok (Stq ra rb disp) else
     if nat_le 0x10 opcode && nat_le opcode 0x12 then decoded_operate w (of_profile p (op_of_code opcode (w / 2 ^ 5 % 128))) else
     if opcode == 0x1A then (if is_return w then Ok Ret else Err BadReturn) else

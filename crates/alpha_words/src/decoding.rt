@@ -52,6 +52,17 @@ fn writing(written: Reg, insn: Insn) -> Result<Insn, BadWord>
     }
 }
 
+/// The load, unless it is to register 31 or the register that it writes is kept.
+fn loading(written: Reg, insn: Insn) -> Result<Insn, BadWord>
+    ensures { result ≡ decoding.loaded written insn }
+{
+    if written.number() == 31 {
+        Err(BadWord::LoadToZero)
+    } else {
+        writing(written, insn)
+    }
+}
+
 /// The second operand of the operate format.
 fn rhs_at(word: u32) -> Rhs
     ensures { result ≡ decoding.rhs_at word }
@@ -134,47 +145,18 @@ fn read(profile: Profile, word: u32) -> Result<Insn, BadWord>
     let disp = short_displacement(word);
     match word >> 26 {
         0x08 => writing(ra, Insn::Lda { ra, rb, disp }),
-        0x29 => {
-            if ra.number() == 31 {
-                Err(BadWord::LoadToZero)
-            } else {
-                writing(ra, Insn::Ldq { ra, rb, disp })
-            }
-        }
-        0x09 => {
-            if is_two(profile) {
-                writing(ra, Insn::Ldah { ra, rb, disp })
-            } else {
-                Err(BadWord::Opcode)
-            }
-        }
-        0x0b => {
-            if !is_two(profile) {
-                Err(BadWord::Opcode)
-            } else if ra.number() == 31 {
-                Err(BadWord::LoadToZero)
-            } else {
-                writing(ra, Insn::LdqU { ra, rb, disp })
-            }
-        }
+        0x29 => loading(ra, Insn::Ldq { ra, rb, disp }),
+        0x09 if is_two(profile) => writing(ra, Insn::Ldah { ra, rb, disp }),
+        0x0b if is_two(profile) => loading(ra, Insn::LdqU { ra, rb, disp }),
+        0x09 | 0x0b => Err(BadWord::Opcode),
         0x2d => Ok(Insn::Stq { ra, rb, disp }),
         0x10..=0x12 => operate(profile, word),
-        0x1a => {
-            if is_return(word) {
-                Ok(Insn::Ret)
-            } else {
-                Err(BadWord::BadReturn)
-            }
-        }
-        0x30 => {
-            if ra.number() == 31 {
-                Ok(Insn::Br {
-                    disp: long_displacement(word),
-                })
-            } else {
-                Err(BadWord::BadLink)
-            }
-        }
+        0x1a if is_return(word) => Ok(Insn::Ret),
+        0x1a => Err(BadWord::BadReturn),
+        0x30 if ra.number() == 31 => Ok(Insn::Br {
+            disp: long_displacement(word),
+        }),
+        0x30 => Err(BadWord::BadLink),
         _ => branch(word),
     }
 }

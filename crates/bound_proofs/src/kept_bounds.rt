@@ -1,9 +1,10 @@
 //! Upper bounds that are kept, so that an expression that stands in many places is gone through
 //! once, and the proof of its bound made once.
 
-ghost use Rattle.std.specs.Prelude.{◌≡◌, IfOk, IfSome, List};
+ghost use Rattle.std.specs.Prelude.{◌≡◌, ◌+◌, IfOk, IfSome, List, OnOk};
 ghost use Rattle.term_table.specs.Table.{TableView, IsKnown, tree_at};
 ghost use Rattle.hereditary_subst.specs.Kept.{IsMemo};
+ghost use Rattle.hereditary_subst.specs.Limits.{left_of};
 ghost use Rattle.formula_tree.specs.Formulas.{Exp};
 ghost use Rattle.formula_terms.specs.Encoding.{exp_encoding};
 ghost use Rattle.formula_ids.specs.declared.hypotheses.Hypothesis.{Hypothesis as H};
@@ -111,6 +112,7 @@ impl UpperBounds {
         requires is { (Γ : Hyps) (x : Exp) → AreHyps table.now hyps.now Γ
             → tree_at table.now e ≡ exp_encoding x → IsKept table.now Γ x choice proof }
         ensures memo { IsMemo table.now memo.new }
+        ensures left { OnOk result (left_of memo.old ≡ left_of memo.new + 1) }
         ensures kept { IfOk result (λ _. AreUppers table.now hyps.now self.new) }
     {
         let subject = Subject { exp: number(e) };

@@ -2,9 +2,10 @@
 //!
 //! Errors: want of memory alone; each id keeps its tree.
 
-ghost use Rattle.std.specs.Prelude.{◌≡◌, IfOk};
+ghost use Rattle.std.specs.Prelude.{◌≡◌, ◌≤◌, ◌+◌, IfOk, OnOk, length};
 ghost use Rattle.term_table.specs.Table.{IsKnown, tree_at, Extends};
 ghost use Rattle.hereditary_subst.specs.Kept.{IsMemo};
+ghost use Rattle.hereditary_subst.specs.Limits.{left_of, results_of};
 ghost use Rattle.formula_tree.specs.Formulas.{Exp};
 ghost use Rattle.formula_terms.specs.Encoding.{exp_encoding};
 ghost use Rattle.formula_ids.specs.Hypotheses.{AreKnownHyps, AreHyps};
@@ -55,6 +56,8 @@ pub fn bound_words(
         → IfOk result (λ w. (w.upper ≡ (upper_bound Γ x).value)
         × (w.lower ≡ (lower_bound Γ y).value)) }
     ensures memo { IsMemo table.now memo.new }
+    ensures left { let steps = length hyps.now in
+        OnOk result (left_of memo.new + results_of steps ≤ left_of memo.old) }
     ensures kept { IfOk result (λ _. AreUppers table.now hyps.now kept.new) }
 {
     memo.spend_steps(hyps.len() as u64)?;
@@ -87,6 +90,8 @@ pub fn lower_bound(
         → IfOk result (IsBoundOf table.new (lower_bound Γ x)) }
     ensures extends { Extends table.old table.new }
     ensures memo { IsMemo table.new memo.new }
+    ensures left { let steps = length hyps.now in
+        OnOk result (left_of memo.new + results_of steps ≤ left_of memo.old) }
 {
     memo.spend_steps(hyps.len() as u64)?;
     let choice = choice_alone(table, Side::Lower, hyps, e);

@@ -2,9 +2,10 @@
 //!
 //! Errors: want of memory alone; each id keeps its tree.
 
-ghost use Rattle.std.specs.Prelude.{◌≡◌, ◌<◌, IfOk, IfSome};
+ghost use Rattle.std.specs.Prelude.{◌≡◌, ◌<◌, ◌≤◌, IfOk, IfSome, OnOk};
 ghost use Rattle.term_table.specs.Table.{IsKnown, tree_at, Extends};
 ghost use Rattle.hereditary_subst.specs.Kept.{IsMemo};
+ghost use Rattle.hereditary_subst.specs.Limits.{left_of};
 ghost use Rattle.formula_tree.specs.Formulas.{Exp, ELit};
 ghost use Rattle.formula_terms.specs.Encoding.{exp_encoding};
 ghost use Rattle.bound_proofs.specs.BoundIds.{IsBoundOf, bound_by_ids};
@@ -170,6 +171,7 @@ pub(crate) fn by_left(
         → IfOk result (IsBoundOf table.new (by_left x y z (bound_by_ids table.old v))) }
     ensures extends { Extends table.old table.new }
     ensures memo { IsMemo table.new memo.new }
+    ensures left { OnOk result (left_of memo.new ≤ left_of memo.old) }
 {
     let form = placed(table, memo, Side::Lower, a)?;
     let turned = oper(table, Op::Band, b, a)?;
@@ -204,6 +206,7 @@ pub(crate) fn by_right_shift(
         (IsBoundOf table.new (by_right_shift x y count (bound_by_ids table.old v))) }
     ensures extends { Extends table.old table.new }
     ensures memo { IsMemo table.new memo.new }
+    ensures left { OnOk result (left_of memo.new ≤ left_of memo.old) }
 {
     let value = word(table, v.value)?;
     let by = word(table, count)?;
@@ -231,6 +234,7 @@ pub(crate) fn by_left_shift(
         (IsBoundOf table.new (by_left_shift x y count (bound_by_ids table.old v))) }
     ensures extends { Extends table.old table.new }
     ensures memo { IsMemo table.new memo.new }
+    ensures left { OnOk result (left_of memo.new ≤ left_of memo.old) }
 {
     let fits = fit_proof(table, memo, v.value, Op::Srl, u64::MAX, count)?;
     let value = word(table, v.value)?;
@@ -263,6 +267,7 @@ pub(crate) fn by_sum(
         (by_sum x y z (bound_by_ids table.old v) (bound_by_ids table.old w))) }
     ensures extends { Extends table.old table.new }
     ensures memo { IsMemo table.new memo.new }
+    ensures left { OnOk result (left_of memo.new ≤ left_of memo.old) }
 {
     let fits = fit_proof(table, memo, v.value, Op::Add, v.value, w.value)?;
     let left = word(table, v.value)?;

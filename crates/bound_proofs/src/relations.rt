@@ -1,9 +1,10 @@
 //! What a hypothesis says of an expression that it relates to a word.
 
-ghost use Rattle.std.specs.Prelude.{◌≡◌, IfOk, drop};
+ghost use Rattle.std.specs.Prelude.{◌≡◌, ◌≤◌, IfOk, drop, OnOk};
 ghost use Rattle.term_table.specs.Tree.{Tree};
 ghost use Rattle.term_table.specs.Table.{IsKnown, tree_at, Extends};
 ghost use Rattle.hereditary_subst.specs.Kept.{IsMemo};
+ghost use Rattle.hereditary_subst.specs.Limits.{left_of};
 ghost use Rattle.word_ops.specs.declared.Rel.TheVariants.{Ult};
 ghost use Rattle.formula_tree.specs.Formulas.{Exp, ELit, Form, FRel};
 ghost use Rattle.formula_terms.specs.Encoding.{exp_encoding, form_encoding};
@@ -158,6 +159,7 @@ fn by_less(
         → IfOk result (IsBoundOf table.new (by_less x w (tree_at table.old proof))) }
     ensures extends { Extends table.old table.new }
     ensures memo { IsMemo table.new memo.new }
+    ensures left { OnOk result (left_of memo.new ≤ left_of memo.old) }
 {
     let before = rule_term(table, LT_PRED, &[e, word, proof])?;
     folded(table, memo, e, Op::Sub, w, 1, before)
@@ -202,6 +204,7 @@ fn by_equal(
         → IfOk result (IsBoundOf table.new (by_equal side x w (tree_at table.old proof))) }
     ensures extends { Extends table.old table.new }
     ensures memo { IsMemo table.new memo.new }
+    ensures left { OnOk result (left_of memo.new ≤ left_of memo.old) }
 {
     let form = placed(table, memo, side, e)?;
     let itself = rule_term(table, ULE_REFL, &[e])?;
@@ -234,6 +237,7 @@ fn by_relation(
         (by_relation side related.kind x related.value (tree_at table.old proof))) }
     ensures extends { Extends table.old table.new }
     ensures memo { IsMemo table.new memo.new }
+    ensures left { OnOk result (left_of memo.new ≤ left_of memo.old) }
 {
     let value = related.value;
     match related.kind {
@@ -265,6 +269,7 @@ pub(crate) fn by_hypothesis(
         → IfOk result (IsBoundOf table.new (by_first side x (drop at Γ))) }
     ensures extends { Extends table.old table.new }
     ensures memo { IsMemo table.new memo.new }
+    ensures left { OnOk result (left_of memo.new ≤ left_of memo.old) }
 {
     if hyps.len() <= at {
         return limit(table, side, e);

@@ -2,9 +2,10 @@
 //!
 //! Errors: want of memory alone; each id keeps its tree.
 
-ghost use Rattle.std.specs.Prelude.{◌≡◌, IfOk};
+ghost use Rattle.std.specs.Prelude.{◌≡◌, ◌≤◌, ◌+◌, IfOk, OnOk, length};
 ghost use Rattle.term_table.specs.Table.{IsKnown, tree_at, Extends};
 ghost use Rattle.hereditary_subst.specs.Kept.{IsMemo};
+ghost use Rattle.hereditary_subst.specs.Limits.{left_of, results_of};
 ghost use Rattle.formula_tree.specs.Formulas.{Exp};
 ghost use Rattle.formula_terms.specs.Encoding.{exp_encoding};
 ghost use Rattle.formula_ids.specs.Hypotheses.{AreKnownHyps, AreHyps};
@@ -45,6 +46,7 @@ pub(crate) fn choice_of(
         → tree_at table.now e ≡ exp_encoding x
         → IfOk result (IsChoice Upper Γ x (upper_bound Γ x)) }
     ensures memo { IsMemo table.now memo.new }
+    ensures left { OnOk result (left_of memo.new ≤ left_of memo.old) }
     ensures kept { IfOk result (λ _. AreUppers table.now hyps.now kept.new) }
 {
     if let Some(choice) = kept.choice(table, hyps, e) {
@@ -72,6 +74,8 @@ fn choice_anew(
         → tree_at table.now e ≡ exp_encoding x
         → IfOk result (IsChoice Upper Γ x (upper_bound Γ x)) }
     ensures memo { IsMemo table.now memo.new }
+    ensures left { let steps = length hyps.now in
+        OnOk result (left_of memo.new + results_of steps ≤ left_of memo.old) }
     ensures kept { IfOk result (λ _. AreUppers table.now hyps.now kept.new) }
 {
     memo.spend_steps(hyps.len() as u64)?;
@@ -110,6 +114,7 @@ pub fn upper_bound(
         → IfOk result (IsBoundOf table.new (upper_bound Γ x)) }
     ensures extends { Extends table.old table.new }
     ensures memo { IsMemo table.new memo.new }
+    ensures left { OnOk result (left_of memo.new ≤ left_of memo.old) }
     ensures kept { IfOk result (λ _. AreUppers table.new hyps.now kept.new) }
 {
     let choice = choice_of(table, memo, kept, hyps, e)?;
@@ -144,6 +149,7 @@ fn made(
         → IfOk result (IsBoundOf table.new (chosen Upper Γ x by)) }
     ensures extends { Extends table.old table.new }
     ensures memo { IsMemo table.new memo.new }
+    ensures left { OnOk result (left_of memo.new ≤ left_of memo.old) }
     ensures kept { IfOk result (λ _. AreUppers table.new hyps.now kept.new) }
 {
     match by {
@@ -175,6 +181,7 @@ fn made_by_parts(
         → IfOk result (IsBoundOf table.new (by_parts Γ x how)) }
     ensures extends { Extends table.old table.new }
     ensures memo { IsMemo table.new memo.new }
+    ensures left { OnOk result (left_of memo.new ≤ left_of memo.old) }
     ensures kept { IfOk result (λ _. AreUppers table.new hyps.now kept.new) }
 {
     let Some(p) = parts_of(table, e) else {

@@ -6,7 +6,8 @@ use Rattle.alpha_cfg.proofs.Readings.{decoded_code-ok, AreOfProfile-EncodesCode}
 use Rattle.formula_tree.specs.Formulas.{Form, FAnd}
 use Rattle.formula_tree.specs.Scope.{IsOver}
 use Rattle.formula_tree.specs.Sizes.{form_height}
-use Rattle.policy_set.specs.declared.kind.PolicyKind.{PolicyKind}
+use Rattle.policy_set.specs.Views.{PolicyView, IsPolicy}
+use Rattle.policy_set.proofs.Closed.{kind-first}
 use Rattle.term_table.specs.Tree.{Tree}
 use Rattle.term_table.specs.Table.{IsSmall}
 use Rattle.term_table.specs.Measures.{height_of}
@@ -64,11 +65,15 @@ same_invs c l p e = λ i. record { policy = c.policy; code = c.code; invs = e i;
 
 -- ---- the proof of a condition that passed
 
-module _ (sound : IsSoundClass) (policy : PolicyKind) (bytes : List ℕ) (c : Contents) (code : List Insn) (marks : List Bool) (passes : Passes policy bytes c code marks) where
+module _ (sound : IsSoundClass) (policy : PolicyView) (kept : IsPolicy policy) (bytes : List ℕ)
+    (c : Contents) (code : List Insn) (marks : List Bool)
+    (passes : Passes policy bytes c code marks) where
   module _ (p : Tree) (given : condition_proof by_all_means (condition_parts policy code c.invs) ≡ Some p) (low : height_of p ≤ MAX_HEIGHT) where
     checks : Checks (declared Sigma1) [] p (pf (form_encoding (conjoined (condition_parts policy code c.invs))))
     checks =
-        proof-checks sound policy code c.invs marks passes.forms passes.code passes.annotated passes.cut (AreOfProfile-EncodesCode One c.code code passes.encoded) p given low
+        proof-checks sound policy code c.invs marks passes.forms passes.code passes.annotated
+        passes.cut (AreOfProfile-EncodesCode One c.code code passes.encoded)
+        kept (kind-first policy passes.number.0 kept passes.number.1) p given low
 
     pub made-contents : length (entries (roots (with_proof c p))) ≤ MAX_ENTRIES → IsContents (with_proof c p)
     made-contents few =
@@ -146,7 +151,8 @@ module _ (c : Contents) (parts : List Form) where
 -- ---- what is made of bytes
 
 -- where no clause before the proof fails, it is made of their contents
-pub contents-made : (policy : PolicyKind) (bytes : List ℕ) (c : Contents) (code : List Insn) (marks : List Bool) → Passes policy bytes c code marks → front_refusal policy bytes ≡ None →
+pub contents-made : (policy : PolicyView) (bytes : List ℕ) (c : Contents) (code : List Insn)
+    (marks : List Bool) → Passes policy bytes c code marks → front_refusal policy bytes ≡ None →
     proved_container policy bytes ≡ proved_contents c (condition_parts policy code c.invs)
 unfolding proved_container
 contents-made policy bytes c code marks passes none =
@@ -154,12 +160,14 @@ contents-made policy bytes c code marks passes none =
     ∙ ap (proved_code policy c) (sym (decoded_code-ok One c.code code passes.encoded passes.code))
 
 -- else it is refused
-pub refused-made : (policy : PolicyKind) (bytes : List ℕ) (r : Refusal) → front_refusal policy bytes ≡ Some r → proved_container policy bytes ≡ Err (Refused r)
+pub refused-made : (policy : PolicyView) (bytes : List ℕ) (r : Refusal) → front_refusal policy bytes
+    ≡ Some r → proved_container policy bytes ≡ Err (Refused r)
 unfolding proved_container
 refused-made policy bytes r e = ap (λ o. made_unless o (proved_read policy (decoded_container bytes))) e
 
 -- where something is made, none fails
-none-refused : (policy : PolicyKind) (bytes out : List ℕ) → proved_container policy bytes ≡ Ok out → front_refusal policy bytes ≡ None
+none-refused : (policy : PolicyView) (bytes out : List ℕ) → proved_container policy bytes ≡ Ok out
+    → front_refusal policy bytes ≡ None
 unfolding proved_container
 none-refused policy bytes out e = go (front_refusal policy bytes) e
   where
@@ -167,8 +175,9 @@ none-refused policy bytes out e = go (front_refusal policy bytes) e
     go None e = refl
     go (Some r) e = absurd cc
 
-pub made-accepted : IsSoundClass → (policy : PolicyKind) (bytes out : List ℕ) → IsBytes bytes → proved_container policy bytes ≡ Ok out → IsAccepted policy out
-made-accepted sound policy bytes out fits e =
+pub made-accepted : IsSoundClass → (policy : PolicyView) (bytes out : List ℕ) → IsPolicy policy
+    → IsBytes bytes → proved_container policy bytes ≡ Ok out → IsAccepted policy out
+made-accepted sound policy bytes out kept fits e =
     let none = none-refused policy bytes out e in
     let h = none-passed policy bytes fits none in
     let parts = condition_parts policy h.code h.contents.invs in
@@ -179,5 +188,6 @@ made-accepted sound policy bytes out fits e =
       code = h.code;
       marks = h.marks;
       accepts = subst (λ b. Accepts policy b c h.code h.marks) (sym m.out_is)
-          (made-accepts sound policy bytes h.contents h.code h.marks h.passes m.proof m.given (small-enough c m.proof m.small));
+          (made-accepts sound policy kept bytes h.contents h.code h.marks h.passes m.proof m.given
+          (small-enough c m.proof m.small));
     }

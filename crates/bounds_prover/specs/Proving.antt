@@ -7,7 +7,7 @@ use Rattle.alpha_cfg.specs.CodeDecoding.{decoded_code}
 use Rattle.term_table.specs.Tree.{Tree}
 use Rattle.term_table.specs.Measures.{height_of, weight_of, sigma1_places, capped}
 use Rattle.formula_tree.specs.Formulas.{Form}
-use Rattle.policy_set.specs.declared.kind.PolicyKind.{PolicyKind}
+use Rattle.policy_set.specs.Views.{PolicyView}
 use Rattle.proof_container.specs.Contents.{Contents, roots}
 use Rattle.proof_container.specs.Postorder.{entries}
 use Rattle.proof_container.specs.Encoding.{encoding_of}
@@ -63,12 +63,13 @@ unfoldable pub proved_contents : Contents → List Form → Result (List ℕ) Pr
 proved_contents c parts = with_parts_proof c (first_not_easy by_all_means 0 parts) (condition_proof by_all_means parts)
 
 -- the same, where the code bytes are code
-abbrev pub proved_code : PolicyKind → Contents → Result (List Insn) CodeFlaw → Result (List ℕ) ProveFault
+abbrev pub proved_code : PolicyView → Contents → Result (List Insn) CodeFlaw
+    → Result (List ℕ) ProveFault
 proved_code policy c (Ok code) = proved_contents c (condition_parts policy code c.invs)
 proved_code policy c (Err flaw) = Err (Refused (refusal.BadCode flaw))
 
 -- the same, where the bytes are a container
-abbrev pub proved_read : PolicyKind → Result Contents Fault → Result (List ℕ) ProveFault
+abbrev pub proved_read : PolicyView → Result Contents Fault → Result (List ℕ) ProveFault
 proved_read policy (Ok c) = proved_code policy c (decoded_code One c.code)
 proved_read policy (Err fault) = Err (Refused (refusal.Malformed fault.0 fault.1))
 
@@ -79,7 +80,7 @@ made_unless (Some r) made = Err (Refused r)
 
 -- The bytes of the container with a proof in place of its own, where clauses 1 to 8 hold, each part of the condition is easy, and
 -- the class's proof is within the limits; else the first of these that fails.
-unfoldable pub proved_container : PolicyKind → List ℕ → Result (List ℕ) ProveFault
+unfoldable pub proved_container : PolicyView → List ℕ → Result (List ℕ) ProveFault
 proved_container policy bytes = made_unless (front_refusal policy bytes) (proved_read policy (decoded_container bytes))
 
 -- ---- answers
@@ -92,5 +93,5 @@ IsMadeAnswer made (Err Results) = Unit {0}
 IsMadeAnswer made (Err fault) = made ≡ Err fault
 
 -- what `prove` answers
-abbrev pub IsProveAnswer : PolicyKind → List ℕ → Result (Vec ℕ Global) ProveFault → Type 0
+abbrev pub IsProveAnswer : PolicyView → List ℕ → Result (Vec ℕ Global) ProveFault → Type 0
 IsProveAnswer policy bytes result = IsMadeAnswer (proved_container policy bytes) result

@@ -91,6 +91,7 @@ fn proved(
 {
     let _ = bytes; // only the clauses speak of it
     class_laws();
+    policy.laws(); // tells the prover what the formulas name
     let container = passed.container;
     let cut = passed.cut;
     let number = container.policy;
@@ -145,5 +146,6 @@ pub fn prove(alloc: Global, policy: &Policy, bytes: &[u8]) -> Result<Vec<u8>, Pr
     ensures accepted { IfOk result (λ out. IsAccepted policy.now out.items) }
 {
     prove_laws();
+    policy.laws(); // tells the prover what the formulas name
     made(alloc, policy, bytes)
 }

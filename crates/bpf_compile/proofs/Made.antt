@@ -6,8 +6,8 @@ use Rattle.std.proofs.lemmas.List.{length-map}
 use Rattle.alpha_words.specs.declared.insn.Insn.{Insn}
 use Rattle.alpha_cfg.specs.CodeBytes.{EncodesCode}
 use Rattle.alpha_cfg.specs.Flow.{IsCode, AreOfProfile}
-use Rattle.policy_set.specs.declared.kind.PolicyKind.{PolicyKind}
 use Rattle.policy_set.specs.declared.kind.PolicyKind.TheVariants.{Filter}
+use Rattle.policy_set.specs.Views.{PolicyView, built_in}
 use Rattle.policy_set.specs.Names.{policy_number}
 use Rattle.term_table.specs.Bytes.{IsBytes}
 use Rattle.term_table.specs.Tree.{Tree}
@@ -40,7 +40,8 @@ terms-all [] h = tt
 terms-all (t ∷ ts) h = (h.0, terms-all ts h.2)
 
 -- contents that are the program's, part by part
-pub contents-are : (program : List Bpf) (policy : ℕ) (shown : List ℕ) (t : TableView) (ids : List (ℕ × ℕ)) → policy ≡ policy_number Filter
+pub contents-are : (program : List Bpf) (policy : ℕ) (shown : List ℕ) (t : TableView)
+    (ids : List (ℕ × ℕ)) → policy ≡ policy_number (built_in Filter)
     → shown ≡ code_bytes (bpf_code program) → AreInvIds t program ids → record { policy = policy; code = shown; invs = id_trees t ids; proof = None } ≡ bare_contents program
 contents-are program policy shown t ids number same are = let trees = are.trees in λ j. record {
   policy = number j;
@@ -72,17 +73,24 @@ view-writable program v contents shown none ids =
 -- what `prove` makes of containers of programs, by the laws
 abbrev pub Makes : List Bpf → Type 0
 Makes program = (code : List ℕ) (proof : Tree) → AreCodeBytes program code → condition_proof by_all_means (bpf_parts program) ≡ Some proof
-    → proved_container Filter (encoding_of (bpf_contents program code)) ≡ Ok (encoding_of (with_proof (bpf_contents program code) proof))
+    → proved_container (built_in Filter) (encoding_of (bpf_contents program code))
+    ≡ Ok (encoding_of (with_proof (bpf_contents program code) proof))
 
 -- that it makes one, which is accepted
 abbrev pub Compiles : List Bpf → Type 0
-Compiles program = (out : List ℕ) × (proved_container Filter (encoding_of (bare_contents program)) ≡ Ok out) × IsCompiled program out
+Compiles program =
+    (out : List ℕ)
+    × (proved_container (built_in Filter) (encoding_of (bare_contents program)) ≡ Ok out)
+    × IsCompiled program out
 
 -- the bytes of the program under `filter`
-pub at-program : (program : List Bpf) (policy : PolicyKind) (bytes : List ℕ) → policy ≡ Filter → bytes ≡ encoding_of (bare_contents program)
+pub at-program : (program : List Bpf) (policy : PolicyView) (bytes : List ℕ) → policy
+    ≡ built_in Filter → bytes ≡ encoding_of (bare_contents program)
     → (r : Result (List ℕ) ProveFault) → proved_container policy bytes ≡ r → compiled_container program ≡ r
 unfolding compiled_container
-at-program program policy bytes is bare r given = sym (ap (λ p. proved_container p bytes) is ∙ ap (proved_container Filter) bare) ∙ given
+at-program program policy bytes is bare r given =
+    sym (ap (λ p. proved_container p bytes) is ∙ ap (proved_container (built_in Filter)) bare)
+    ∙ given
 
 one : (r : Result (List ℕ) ProveFault) (a b : List ℕ) → r ≡ Ok a → r ≡ Ok b → a ≡ b
 one r a b p q = cc
@@ -109,10 +117,12 @@ no-fault program fault compiles given = apart (compiled_container program) compi
     apart r a f p q = cc
 
 -- what `prove` answers, where the answer is known
-pub fault-given : (policy : PolicyKind) (bytes : List ℕ) (r : Result (Vec ℕ Global) ProveFault) (e f : ProveFault) → r ≡ Err e → e ≡ f
+pub fault-given : (policy : PolicyView) (bytes : List ℕ) (r : Result (Vec ℕ Global) ProveFault)
+    (e f : ProveFault) → r ≡ Err e → e ≡ f
     → IsProveAnswer policy bytes r → IsProveAnswer policy bytes (Err f)
 fault-given policy bytes r e f is same h = subst (IsProveAnswer policy bytes) (is ∙ ap Err same) h
 
-pub bytes-given : (policy : PolicyKind) (bytes : List ℕ) (r : Result (Vec ℕ Global) ProveFault) (out : Vec ℕ Global) → r ≡ Ok out → IsProveAnswer policy bytes r
+pub bytes-given : (policy : PolicyView) (bytes : List ℕ) (r : Result (Vec ℕ Global) ProveFault)
+    (out : Vec ℕ Global) → r ≡ Ok out → IsProveAnswer policy bytes r
     → proved_container policy bytes ≡ Ok out.items
 bytes-given policy bytes r out is h = subst (IsProveAnswer policy bytes) is h

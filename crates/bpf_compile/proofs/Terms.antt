@@ -4,13 +4,12 @@ use Rattle.formula_tree.specs.Formulas.{Form}
 use Rattle.formula_tree.specs.Scope.{IsOver}
 use Rattle.policy_set.specs.Policies.{filter_post}
 use Rattle.lf_encode.specs.declared.contexts.Sort.{Sort}
-use Rattle.lf_encode.specs.Contexts.{bound_sorts, machine_context, IsFormIn}
-use Rattle.lf_encode.proofs.MachineContext.{bound_sorts-machine, registers_in-machine}
+use Rattle.lf_encode.specs.Contexts.{machine_context, IsFormIn}
+use Rattle.lf_encode.proofs.MachineContext.{in-machine}
 use Rattle.bpf_vc.specs.Invariants.{packet_invariant}
 
 over-machine : (F : Form) → IsOver 32 F [] → IsFormIn machine_context 32 F
-over-machine F h =
-    subst (λ r. IsOver r F (bound_sorts machine_context)) (sym (registers_in-machine 32)) (subst (λ B. IsOver 32 F B) (sym bound_sorts-machine) h)
+over-machine F h = in-machine F h
 
 over-context : (ctx : List Sort) (F G : Form) → ctx ≡ machine_context → F ≡ G → IsOver 32 G [] → IsFormIn ctx 32 F
 over-context ctx F G c e h = subst (λ x. IsFormIn x 32 F) (sym c) (over-machine F (subst (λ X. IsOver 32 X []) (sym e) h))

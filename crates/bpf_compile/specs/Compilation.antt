@@ -1,6 +1,7 @@
 -- What a program is compiled to.
 use Rattle.std.specs.Prelude.{◌≡◌, ℕ, List, Some, Result}
 use Rattle.policy_set.specs.declared.kind.PolicyKind.TheVariants.{Filter}
+use Rattle.policy_set.specs.Views.{built_in}
 use Rattle.term_table.specs.Tree.{Tree}
 use Rattle.proof_container.specs.Contents.{Contents}
 use Rattle.proof_container.specs.Encoding.{encoding_of}
@@ -16,11 +17,12 @@ use Rattle.bpf_vc.specs.Condition.{bpf_parts}
 
 -- what the program's container holds before it has a proof: the words that the assembler writes for its code, and its invariants
 abbrev pub bare_contents : List Bpf → Contents
-bare_contents program = plain_contents Filter (bpf_invariants program) (bpf_code program)
+bare_contents program = plain_contents (built_in Filter) (bpf_invariants program) (bpf_code program)
 
 -- the program's container: what `prove` makes of the one without a proof
 unfoldable pub compiled_container : List Bpf → Result (List ℕ) ProveFault
-compiled_container program = proved_container Filter (encoding_of (bare_contents program))
+compiled_container program =
+    proved_container (built_in Filter) (encoding_of (bare_contents program))
 
 -- The bytes are the program's container with the class's proof of its condition.
 pub record IsCompilation (program : List Bpf) (bytes : List ℕ) : Type 0 where

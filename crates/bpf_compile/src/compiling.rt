@@ -3,6 +3,7 @@
 ghost use Rattle.std.specs.Prelude.{◌≡◌, IfOk, Ok};
 ghost use Rattle.proof_container.specs.Encoding.{encoding_of};
 ghost use Rattle.policy_set.specs.declared.kind.PolicyKind.TheVariants.{Filter};
+ghost use Rattle.policy_set.specs.Views.{built_in};
 ghost use Rattle.bpf_words.specs.Programs.{IsProgram};
 ghost use Rattle.bpf_container.specs.Compiled.{IsCompiled};
 ghost use Rattle.bpf_compile.specs.Compilation.{bare_contents, compiled_container, IsCompilation};
@@ -20,7 +21,7 @@ use term_table::{Places, Table};
 
 /// The container of a program without a proof. Fails only for want of memory.
 fn bare(alloc: Global, policy: &Policy, program: &[Bpf]) -> Result<Vec<u8>, AllocError>
-    requires policy { policy.now ≡ Filter }
+    requires policy { policy.now ≡ built_in Filter }
     requires program { IsProgram program.now }
     ensures { IfOk result (λ v. v.items ≡ encoding_of (bare_contents program.now)) }
 {
@@ -49,7 +50,7 @@ fn with_proof(
     program: &[Bpf],
     bytes: &[u8],
 ) -> Result<Vec<u8>, Exhausted>
-    requires policy { policy.now ≡ Filter }
+    requires policy { policy.now ≡ built_in Filter }
     requires program { IsProgram program.now }
     requires bare { bytes.now ≡ encoding_of (bare_contents program.now) }
     ensures made { IfOk result (λ out. compiled_container program.now ≡ Ok out.items) }

@@ -4,6 +4,7 @@ ghost use Rattle.std.specs.Prelude.{◌≡◌, ℕ, ◌*◌, ◌<◌, ◌≤◌,
 ghost use Rattle.formula_tree.specs.Formulas.{FAnd};
 ghost use Rattle.formula_tree.specs.Views.{form_view};
 ghost use Rattle.policy_set.specs.declared.kind.PolicyKind.TheVariants.{Filter};
+ghost use Rattle.policy_set.specs.Views.{built_in};
 ghost use Rattle.policy_set.specs.Policies.{filter_pre, filter_post};
 ghost use Rattle.term_table.specs.Table.{TableView, Extends};
 ghost use Rattle.lf_signature.specs.Nodes.{IsIdOf};
@@ -49,7 +50,7 @@ fn packet_form(alloc: Global, pre: &Form) -> Result<Form, AllocError>
 
 /// The term of the packet's invariant.
 fn packet_term(alloc: Global, table: &mut Table, policy: &Policy) -> Result<Id, AllocError>
-    requires { policy.now ≡ Filter }
+    requires { policy.now ≡ built_in Filter }
     ensures exact { IfOk result
         (IsIdOf table.new (encoding_in machine_context packet_invariant)) }
     ensures extends { Extends table.old table.new }
@@ -60,7 +61,7 @@ fn packet_term(alloc: Global, table: &mut Table, policy: &Policy) -> Result<Id, 
 
 /// The term of what `filter` promises.
 fn last_term(table: &mut Table, policy: &Policy) -> Result<Id, AllocError>
-    requires { policy.now ≡ Filter }
+    requires { policy.now ≡ built_in Filter }
     ensures exact { IfOk result (IsIdOf table.new (encoding_in machine_context filter_post)) }
     ensures extends { Extends table.old table.new }
 {
@@ -157,7 +158,7 @@ pub fn encode_invs(
     policy: &Policy,
     program: &[Bpf],
 ) -> Result<Vec<(u32, Id)>, AllocError>
-    requires policy { policy.now ≡ Filter }
+    requires policy { policy.now ≡ built_in Filter }
     requires program { IsProgram program.now }
     ensures { IfOk result (λ v. AreInvIds table.new program.now v.items) }
 {

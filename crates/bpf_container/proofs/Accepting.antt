@@ -7,6 +7,7 @@ use Rattle.formula_tree.specs.Scope.{IsOver}
 use Rattle.formula_tree.specs.Sizes.{form_height}
 use Rattle.formula_terms.specs.Encoding.{form_encoding}
 use Rattle.policy_set.specs.declared.kind.PolicyKind.TheVariants.{Filter}
+use Rattle.policy_set.specs.Views.{built_in}
 use Rattle.term_table.specs.Tree.{Tree}
 use Rattle.term_table.specs.Measures.{height_of}
 use Rattle.lf_signature.specs.Constants.{declared}
@@ -122,45 +123,59 @@ module _ (sound : IsSoundClass) (program : List Bpf) (code : List ℕ) (is : IsP
   abbrev made : List ℕ
   made = encoding_of (with_proof (bpf_contents program code) p)
 
-  made-passes : Passes Filter made (with_proof (bpf_contents program code) p) (bpf_code program) (bpf_flags program)
+  made-passes : Passes (built_in Filter) made (with_proof (bpf_contents program code) p)
+      (bpf_code program) (bpf_flags program)
   made-passes = contents-pass program code is holds (Some p) proof-fits
 
-  parts-are-condition : conjoined (bpf_parts program) ≡ condition (annotated Filter (bpf_code program) (formulas (invariant_terms program)))
+  parts-are-condition : conjoined (bpf_parts program)
+      ≡ condition
+      (annotated (built_in Filter) (bpf_code program) (formulas (invariant_terms program)))
   parts-are-condition = program-condition program
-      ∙ ap (λ invs. condition (annotated Filter (bpf_code program) invs)) (sym (formulas-again (bpf_invariants program) (all-invariants program)))
+      ∙ ap (λ invs. condition (annotated (built_in Filter) (bpf_code program) invs))
+      (sym (formulas-again (bpf_invariants program) (all-invariants program)))
 
-  made-accepts : Accepts Filter made (with_proof (bpf_contents program code) p) (bpf_code program) (bpf_flags program)
+  made-accepts : Accepts (built_in Filter) made (with_proof (bpf_contents program code) p)
+      (bpf_code program) (bpf_flags program)
   made-accepts =
       let easy : IsClassProof program p = class-proof program p is given in
       record {
         passes = made-passes;
         proof = p;
-        vc = vc_of Filter (bpf_code program) (invariant_terms program);
+        vc = vc_of (built_in Filter) (bpf_code program) (invariant_terms program);
         given = refl;
         weight = easy.light;
-        condition = vc_of-encodes Filter (bpf_code program) (invariant_terms program) (are-forms (bpf_invariants program) (all-invariants program));
+        condition =
+            vc_of-encodes (built_in Filter) (bpf_code program) (invariant_terms program)
+            (are-forms (bpf_invariants program) (all-invariants program));
         proved = subst (λ F. Checks (declared Sigma1) [] p (pf (form_encoding F))) parts-are-condition proof-checks;
       }
 
-  pub made-accepted : IsAccepted Filter made
+  pub made-accepted : IsAccepted (built_in Filter) made
   made-accepted = record { contents = with_proof (bpf_contents program code) p; code = bpf_code program; marks = bpf_flags program; accepts = made-accepts }
 
   -- whatever code it is accepted with is the program's
-  code-one : (contents : Contents) (insns : List Insn) (marks : List Bool) → Accepts Filter made contents insns marks → bpf_code program ≡ insns
+  code-one : (contents : Contents) (insns : List Insn) (marks : List Bool)
+      → Accepts (built_in Filter) made contents insns marks → bpf_code program ≡ insns
   code-one contents insns marks h =
-      (passed-one Filter made (with_proof (bpf_contents program code) p) contents (bpf_code program) insns (bpf_flags program) marks
+      (passed-one (built_in Filter) made (with_proof (bpf_contents program code) p) contents
+      (bpf_code program) insns (bpf_flags program) marks
       made-passes h.passes).1
 
-  made-values : (contents : Contents) (insns : List Insn) (marks : List Bool) → Accepts Filter made contents insns marks → GivesValues program insns
+  made-values : (contents : Contents) (insns : List Insn) (marks : List Bool)
+      → Accepts (built_in Filter) made contents insns marks → GivesValues program insns
   made-values contents insns marks h packet budget fits long enough =
-      ap (λ l. packet_result Filter l budget packet) (sym (code-one contents insns marks h)) ∙ outcome program packet budget is fits long enough
+      ap (λ l. packet_result (built_in Filter) l budget packet)
+      (sym (code-one contents insns marks h))
+      ∙ outcome program packet budget is fits long enough
 
   pub made-compiled : IsCompiled program made
   made-compiled = record { accepted = made-accepted; values = made-values }
 
 -- of each program some bytes are made, and they are all this
 pub container-compiles : IsSoundClass → (program : List Bpf) (code : List ℕ) → IsProgram program → AreCodeBytes program code
-    → (out : List ℕ) × (proved_container Filter (encoding_of (bpf_contents program code)) ≡ Ok out) × IsCompiled program out
+    → (out : List ℕ)
+    × (proved_container (built_in Filter) (encoding_of (bpf_contents program code)) ≡ Ok out)
+    × IsCompiled program out
 container-compiles sound program code is holds =
     let easy : HasClassProof program = program-proved program is in (
       encoding_of (with_proof (bpf_contents program code) easy.proof),
@@ -170,7 +185,10 @@ container-compiles sound program code is holds =
 
 -- so they are with the bytes that the assembler writes
 pub plain-compiles : IsSoundClass → (program : List Bpf) → IsProgram program
-    → (out : List ℕ) × (proved_container Filter (encoding_of (plain_contents Filter (bpf_invariants program) (bpf_code program))) ≡ Ok out)
+    → (out : List ℕ)
+    × (proved_container (built_in Filter)
+    (encoding_of (plain_contents (built_in Filter) (bpf_invariants program) (bpf_code program)))
+    ≡ Ok out)
     × IsCompiled program out
 plain-compiles sound program is =
     let words : List ℕ = code_bytes (bpf_code program) in

@@ -14,11 +14,11 @@ use Rattle.term_table.specs.Measures.{height_of}
 use Rattle.lf_signature.specs.Constants.{declared}
 use Rattle.lf_signature.specs.Terms.{form}
 use Rattle.lf_signature.specs.Typing.{Checks}
-use Rattle.lf_encode.specs.Contexts.{bound_sorts, machine_context, machine_names, sort_types, IsFormIn, EncodesForm, encoding_in}
+use Rattle.lf_encode.specs.Contexts.{machine_context, machine_names, sort_types, IsFormIn, EncodesForm, encoding_in}
 use Rattle.lf_encode.specs.Naming.{unnamed_form}
 use Rattle.lf_encode.specs.Reading.{form_of}
 use Rattle.lf_encode.proofs.Decoded.{form_of-encoding}
-use Rattle.lf_encode.proofs.MachineContext.{bound_sorts-machine, registers_in-machine}
+use Rattle.lf_encode.proofs.MachineContext.{bound_sorts-machine, in-context-of}
 use Rattle.lf_encode.proofs.Named.{form_typed}
 use Rattle.proof_container.specs.Encoding.{AreTerms}
 use Rattle.vcgen.specs.Encoded.{AreForms}
@@ -64,7 +64,7 @@ abbrev pub term_of : Form → Tree
 term_of F = encoding_in machine_context F
 
 in-context : (F : Form) → IsOver 31 F [] → IsFormIn machine_context 31 F
-in-context F o = subst (λ r. IsOver r F (bound_sorts machine_context)) (sym (registers_in-machine 31)) (subst (λ B. IsOver 31 F B) (sym bound_sorts-machine) o)
+in-context F o = in-context-of 31 F o
 
 abbrev IsOverMachine : Form → Type 0
 IsOverMachine F = EncodesForm machine_context F (term_of F)

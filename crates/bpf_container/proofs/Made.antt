@@ -3,6 +3,7 @@ use Rattle.std.proofs.Common.{◌≡◌, ℕ, ◌≤◌, ◌^◌, ◌-◌, min, 
 use Rattle.std.proofs.lemmas.Option.{same_Some}
 use Rattle.alpha_cfg.proofs.Readings.{decoded_code-ok}
 use Rattle.policy_set.specs.declared.kind.PolicyKind.TheVariants.{Filter}
+use Rattle.policy_set.specs.Views.{built_in}
 use Rattle.term_table.specs.Tree.{Tree}
 use Rattle.term_table.specs.Measures.{height_of, weight_of, sigma1_places, capped}
 use Rattle.proof_container.specs.Contents.{Contents, roots}
@@ -73,22 +74,36 @@ class-proof program p is given =
 -- ---- what is made
 
 module _ (program : List Bpf) (code : List ℕ) (is : IsProgram program) (holds : AreCodeBytes program code) where
-  parts-are : condition_parts Filter (bpf_code program) (invariant_terms program) ≡ bpf_parts program
+  parts-are : condition_parts (built_in Filter) (bpf_code program) (invariant_terms program)
+      ≡ bpf_parts program
   unfolding condition_parts
-  parts-are = ap (λ invs. entry_part (annotated Filter (bpf_code program) invs) ∷ map (inv_part (annotated Filter (bpf_code program) invs)) invs)
+  parts-are =
+      ap
+      (λ invs. entry_part (annotated (built_in Filter) (bpf_code program) invs) ∷ map
+      (inv_part (annotated (built_in Filter) (bpf_code program) invs)) invs)
       (formulas-again (bpf_invariants program) (all-invariants program))
 
   -- no clause before the proof fails, so it is made of the contents
-  contents-made : proved_container Filter (encoding_of (bpf_contents program code)) ≡ proved_contents (bpf_contents program code) (bpf_parts program)
+  contents-made : proved_container (built_in Filter) (encoding_of (bpf_contents program code))
+      ≡ proved_contents (bpf_contents program code) (bpf_parts program)
   unfolding proved_container
   contents-made =
       let c : Contents = bpf_contents program code in
       let bytes : List ℕ = encoding_of c in
-      let passes : Passes Filter bytes c (bpf_code program) (bpf_flags program) = plain-passes program code is holds in
-      let none : front_refusal Filter bytes ≡ None =
-      passed-none Filter bytes (record { contents = c; code = bpf_code program; marks = bpf_flags program; passes = passes }) in
-      (λ i. made_unless (none i) (proved_read Filter (container_again bytes c passes.container i)))
-      ∙ ap (proved_code Filter c) (sym (decoded_code-ok One code (bpf_code program) holds.encode (code-is program is)))
+      let passes : Passes (built_in Filter) bytes c (bpf_code program) (bpf_flags program) =
+      plain-passes program code is holds in
+      let none : front_refusal (built_in Filter) bytes ≡ None =
+      passed-none (built_in Filter) bytes
+      (record {
+        contents = c;
+        code = bpf_code program;
+        marks = bpf_flags program;
+        passes = passes;
+      }) in
+      (λ i. made_unless (none i)
+      (proved_read (built_in Filter) (container_again bytes c passes.container i)))
+      ∙ ap (proved_code (built_in Filter) c)
+      (sym (decoded_code-ok One code (bpf_code program) holds.encode (code-is program is)))
       ∙ ap (proved_contents c) parts-are
 
   module _ (p : Tree) (given : condition_proof by_all_means (bpf_parts program) ≡ Some p) where
@@ -117,5 +132,7 @@ module _ (program : List Bpf) (code : List ℕ) (is : IsProgram program) (holds 
     unfolding proved_contents
     proof-put = let easy = program-easy program 0 is in λ i. with_parts_proof (bpf_contents program code) (easy i) (given i)
 
-    pub container-made : proved_container Filter (encoding_of (bpf_contents program code)) ≡ Ok (encoding_of (with_proof (bpf_contents program code) p))
+    pub container-made : proved_container (built_in Filter)
+        (encoding_of (bpf_contents program code))
+        ≡ Ok (encoding_of (with_proof (bpf_contents program code) p))
     container-made = contents-made ∙ proof-put ∙ ap (λ o. encoded_unless o (with_proof (bpf_contents program code) p)) within-limits

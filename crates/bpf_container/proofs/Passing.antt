@@ -5,6 +5,7 @@ use Rattle.std.proofs.lemmas.List.{length-map, append-nil}
 use Rattle.alpha_cfg.specs.Cuts.{AreFlags}
 use Rattle.formula_tree.specs.Formulas.{Form}
 use Rattle.policy_set.specs.declared.kind.PolicyKind.TheVariants.{Filter}
+use Rattle.policy_set.specs.Views.{built_in}
 use Rattle.policy_set.specs.Names.{policy_number}
 use Rattle.term_table.specs.Tree.{Tree}
 use Rattle.term_table.specs.Measures.{height_of}
@@ -59,7 +60,7 @@ invs-long program is =
 -- a program's container with a proof or without one
 abbrev pub contents_with : List Bpf → List ℕ → Option Tree → Contents
 contents_with program code proof = record {
-  policy = policy_number Filter;
+  policy = policy_number (built_in Filter);
   code = code;
   invs = inv_encodings (bpf_invariants program);
   proof = proof;
@@ -95,7 +96,8 @@ module _ (program : List Bpf) (code : List ℕ) (is : IsProgram program) (holds 
             (blocks-rising (20 * length program) 0 0 program (omega arith) (omega arith));
       }
 
-  pub contents-pass : Passes Filter (encoding_of (contents_with program code proof)) (contents_with program code proof) (bpf_code program) (bpf_flags program)
+  pub contents-pass : Passes (built_in Filter) (encoding_of (contents_with program code proof))
+      (contents_with program code proof) (bpf_code program) (bpf_flags program)
   contents-pass =
       let long = code-long program in
       let size = holds.encode.whole in
@@ -104,7 +106,7 @@ module _ (program : List Bpf) (code : List ℕ) (is : IsProgram program) (holds 
       record {
         size = bytes-few (contents_with program code proof) fit.few (omega (arith, invs, few)) (omega (arith, size, long, few));
         container = record { contents = contents-hold; encoded = refl };
-        number = refl;
+        number = (Filter, refl, refl);
         encoded = holds.encode;
         code = code-is program is;
         heights = low-and (terms_of (bpf_invariants program)) (one_or_none proof) (are-low (bpf_invariants program) (all-invariants program)) fit.low;
@@ -128,5 +130,6 @@ pub plain-contents : (program : List Bpf) (code : List ℕ) → IsProgram progra
 plain-contents program code is holds = contents-hold program code is holds None (none-fits program code)
 
 pub plain-passes : (program : List Bpf) (code : List ℕ) → IsProgram program → AreCodeBytes program code
-    → Passes Filter (encoding_of (bpf_contents program code)) (bpf_contents program code) (bpf_code program) (bpf_flags program)
+    → Passes (built_in Filter) (encoding_of (bpf_contents program code)) (bpf_contents program code)
+    (bpf_code program) (bpf_flags program)
 plain-passes program code is holds = contents-pass program code is holds None (none-fits program code)

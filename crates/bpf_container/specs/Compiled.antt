@@ -3,6 +3,7 @@ use Rattle.std.specs.Prelude.{◌≡◌, ℕ, ◌*◌, ◌≤◌, Bool, List, le
 use Rattle.alpha_words.specs.declared.insn.Insn.{Insn}
 use Rattle.alpha_cfg.specs.declared.outcome.Outcome.TheVariants.{Returned}
 use Rattle.policy_set.specs.declared.kind.PolicyKind.TheVariants.{Filter}
+use Rattle.policy_set.specs.Views.{built_in}
 use Rattle.packet_store.specs.declared.results.PacketResult.TheVariants.{Ran}
 use Rattle.packet_store.specs.Results.{packet_result}
 use Rattle.proof_container.specs.Contents.{Contents}
@@ -17,9 +18,11 @@ use Rattle.bpf_code.specs.Blocks.{nonzero_flag}
 -- With twenty steps an instruction or more, each packet that isn't short comes to 0 where the program's value is 0, else to 1.
 abbrev pub GivesValues : List Bpf → List Insn → Type 0
 GivesValues program code = (packet : List ℕ) (budget : ℕ) → AreBytes packet → LOADABLE ≤ length packet → BLOCK * length program ≤ budget
-    → packet_result Filter code budget packet ≡ Ran (Returned (nonzero_flag (bpf_value program packet))) 0
+    → packet_result (built_in Filter) code budget packet
+    ≡ Ran (Returned (nonzero_flag (bpf_value program packet))) 0
 
 -- The gate accepts the bytes, and whatever code it accepts them with gives the program's values.
 pub record IsCompiled (program : List Bpf) (bytes : List ℕ) : Type 0 where
-  pub accepted : IsAccepted Filter bytes
-  pub values : (contents : Contents) (code : List Insn) (marks : List Bool) → Accepts Filter bytes contents code marks → GivesValues program code
+  pub accepted : IsAccepted (built_in Filter) bytes
+  pub values : (contents : Contents) (code : List Insn) (marks : List Bool)
+      → Accepts (built_in Filter) bytes contents code marks → GivesValues program code

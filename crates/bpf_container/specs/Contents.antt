@@ -2,6 +2,7 @@
 use Rattle.std.specs.Prelude.{ℕ, List, map, None}
 use Rattle.alpha_cfg.specs.CodeBytes.{EncodesCode}
 use Rattle.policy_set.specs.declared.kind.PolicyKind.TheVariants.{Filter}
+use Rattle.policy_set.specs.Views.{built_in}
 use Rattle.policy_set.specs.Names.{policy_number}
 use Rattle.term_table.specs.Bytes.{IsBytes}
 use Rattle.term_table.specs.Tree.{Tree}
@@ -24,7 +25,7 @@ invariant_terms program = map (λ p. (p.0, encoding_in machine_context p.1)) (bp
 -- the contents for `filter`: these bytes of code, the terms of its invariants, and no proof
 abbrev pub bpf_contents : List Bpf → List ℕ → Contents
 bpf_contents program code = record {
-  policy = policy_number Filter;
+  policy = policy_number (built_in Filter);
   code = code;
   invs = invariant_terms program;
   proof = None;

@@ -2,6 +2,7 @@
 
 ghost use Rattle.std.specs.Prelude.{◌≡◌, ℕ, List, Ok, Some};
 ghost use Rattle.policy_set.specs.declared.kind.PolicyKind.TheVariants.{Filter};
+ghost use Rattle.policy_set.specs.Views.{built_in};
 ghost use Rattle.term_table.specs.Tree.{Tree};
 ghost use Rattle.proof_container.specs.Encoding.{IsContents, encoding_of};
 ghost use Rattle.pcc_gate.specs.Passing.{Passes};
@@ -30,12 +31,13 @@ pub fn laws()
         → AreCodeBytes program code → IsContents (bpf_contents program code) }
     ensures passes { (program : List Bpf) (code : List ℕ) → IsProgram program
         → AreCodeBytes program code
-        → Passes Filter (encoding_of (bpf_contents program code)) (bpf_contents program code)
+        → Passes (built_in Filter) (encoding_of (bpf_contents program code))
+        (bpf_contents program code)
         (bpf_code program) (bpf_flags program) }
     ensures made { (program : List Bpf) (code : List ℕ) (proof : Tree) → IsProgram program
         → AreCodeBytes program code
         → condition_proof by_all_means (bpf_parts program) ≡ Some proof
-        → proved_container Filter (encoding_of (bpf_contents program code))
+        → proved_container (built_in Filter) (encoding_of (bpf_contents program code))
         ≡ Ok (encoding_of (with_proof (bpf_contents program code) proof)) }
     ensures accepted { (program : List Bpf) (code : List ℕ) (proof : Tree) → IsProgram program
         → AreCodeBytes program code
@@ -44,11 +46,11 @@ pub fn laws()
     ensures compiles { (program : List Bpf) (code : List ℕ) → IsProgram program
         → AreCodeBytes program code
         → (out : List ℕ)
-        × (proved_container Filter (encoding_of (bpf_contents program code)) ≡ Ok out)
+        × (proved_container (built_in Filter) (encoding_of (bpf_contents program code)) ≡ Ok out)
         × IsCompiled program out }
     ensures plain { (program : List Bpf) → IsProgram program
-        → (out : List ℕ) × (proved_container Filter (encoding_of
-        (plain_contents Filter (bpf_invariants program) (bpf_code program))) ≡ Ok out)
+        → (out : List ℕ) × (proved_container (built_in Filter) (encoding_of
+        (plain_contents (built_in Filter) (bpf_invariants program) (bpf_code program))) ≡ Ok out)
         × IsCompiled program out }
 {
     class_laws();

@@ -13,6 +13,7 @@ use Rattle.alpha_cfg.specs.declared.outcome.Step.TheVariants as steps
 use Rattle.alpha_cfg.specs.declared.outcome.Outcome.{Outcome}
 use Rattle.alpha_cfg.specs.declared.outcome.Outcome.TheVariants.{Returned, Blocked, OutOfSteps}
 use Rattle.policy_set.specs.declared.kind.PolicyKind.TheVariants.{Filter}
+use Rattle.policy_set.specs.Views.{built_in}
 use Rattle.reference_machine.specs.Arena.{quadword, placed_word}
 use Rattle.reference_machine.specs.Starts.{StartView, start_state}
 use Rattle.reference_machine.proofs.Starting.{read-start}
@@ -57,15 +58,17 @@ starts-on packet long = record { index = refl; count = refl; a = refl; stands = 
 
 -- ---- the policy's start
 
-start-long : (packet : List ℕ) → 64 ≤ length packet → start_of Filter packet ≡ Some (filter_start 65536 packet)
+start-long : (packet : List ℕ) → 64 ≤ length packet → start_of (built_in Filter) packet
+    ≡ Some (filter_start 65536 packet)
 unfolding start_from
 start-long packet long = ap (λ b. cond b None (Some (filter_start 65536 packet))) (le-ltb (length packet) 64 long)
 
-start-short : (packet : List ℕ) → length packet < 64 → start_of Filter packet ≡ None
+start-short : (packet : List ℕ) → length packet < 64 → start_of (built_in Filter) packet ≡ None
 unfolding start_from
 start-short packet less = ap (λ b. cond b None (Some (filter_start 65536 packet))) (lt-ltb (length packet) 64 less)
 
-pub starts : (packet : List ℕ) (setup : StartView) → start_of Filter packet ≡ Some setup → StartsOn packet (start_state 65536 setup)
+pub starts : (packet : List ℕ) (setup : StartView) → start_of (built_in Filter) packet ≡ Some setup
+    → StartsOn packet (start_state 65536 setup)
 starts packet setup e = elim (cases_lt (length packet) 64) [
   | inl less ↦ let none : None ≡ Some setup = sym (start-short packet less) ∙ e in cc
   | inr long ↦
@@ -74,20 +77,23 @@ starts packet setup e = elim (cases_lt (length packet) 64) [
 ]
 
 pub returns-value : (program : List Bpf) (packet : List ℕ) (setup : StartView) → IsProgram program → AreBytes packet
-    → start_of Filter packet ≡ Some setup → ReturnsValue program packet 1000 (start_state 65536 setup)
+    → start_of (built_in Filter) packet ≡ Some setup
+    → ReturnsValue program packet 1000 (start_state 65536 setup)
 returns-value program packet setup is bytes e = simulates-thousand program packet (start_state 65536 setup) is bytes (starts packet setup e)
 
 -- ---- what a packet comes to
 
 pub outcome : (program : List Bpf) (packet : List ℕ) (budget : ℕ) → IsProgram program → AreBytes packet → 64 ≤ length packet
     → 20 * length program ≤ budget
-    → packet_result Filter (bpf_code program) budget packet ≡ Ran (Returned (nonzero_flag (bpf_value program packet))) 0
+    → packet_result (built_in Filter) (bpf_code program) budget packet
+    ≡ Ran (Returned (nonzero_flag (bpf_value program packet))) 0
 unfolding result_from
 outcome program packet budget is bytes long enough =
     ap (result_from (bpf_code program) budget) (start-long packet long)
     ∙ ap (λ end. Ran end 0) (simulates program packet budget (start_state 65536 (filter_start 65536 packet)) is bytes (starts-on packet long) enough)
 
-pub short : (code : List Insn) (packet : List ℕ) (budget : ℕ) → length packet < 64 → packet_result Filter code budget packet ≡ Short
+pub short : (code : List Insn) (packet : List ℕ) (budget : ℕ) → length packet < 64
+    → packet_result (built_in Filter) code budget packet ≡ Short
 unfolding result_from
 short code packet budget less = ap (result_from code budget) (start-short packet less)
 
@@ -114,7 +120,7 @@ is_blocked (Ran (Blocked index kind addr) sum) = true
 is_blocked result = false
 
 unblocked : (program : List Bpf) (packet : List ℕ) (budget : ℕ) → IsProgram program → AreBytes packet
-    → is_blocked (packet_result Filter (bpf_code program) budget packet) ≡ false
+    → is_blocked (packet_result (built_in Filter) (bpf_code program) budget packet) ≡ false
 unfolding result_from
 unblocked program packet budget is bytes = elim (cases_lt (length packet) 64) [
   | inl less ↦ ap (λ o. is_blocked (result_from (bpf_code program) budget o)) (start-short packet less)
@@ -130,5 +136,6 @@ unblocked program packet budget is bytes = elim (cases_lt (length packet) 64) [
 ]
 
 pub safe : (program : List Bpf) (packet : List ℕ) (budget index addr sum : ℕ) (kind : Kind) → IsProgram program → AreBytes packet
-    → packet_result Filter (bpf_code program) budget packet ≢ Ran (Blocked index kind addr) sum
+    → packet_result (built_in Filter) (bpf_code program) budget packet
+    ≢ Ran (Blocked index kind addr) sum
 safe program packet budget index addr sum kind is bytes e = false≢true (sym (unblocked program packet budget is bytes) ∙ ap is_blocked e)

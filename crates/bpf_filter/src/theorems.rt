@@ -10,6 +10,7 @@ ghost use Rattle.alpha_cfg.specs.Graph.{IsMarked};
 ghost use Rattle.alpha_cfg.specs.declared.outcome.Kind.{Kind};
 ghost use Rattle.alpha_cfg.specs.declared.outcome.Outcome.TheVariants.{Blocked, Returned};
 ghost use Rattle.policy_set.specs.declared.kind.PolicyKind.TheVariants.{Filter};
+ghost use Rattle.policy_set.specs.Views.{built_in};
 ghost use Rattle.reference_machine.specs.declared.layout.TheConstants.{ARENA};
 ghost use Rattle.reference_machine.specs.Starts.{StartView, start_state};
 ghost use Rattle.packet_store.specs.declared.results.PacketResult.TheVariants.{Ran, Short};
@@ -30,20 +31,22 @@ ghost use Rattle.word_ops.specs.declared.Profile.TheVariants.{One};
 /// is what the packet comes to, with twenty steps an instruction or more. Whatever the budget, no
 /// access is blocked. A packet is short where it has less than the 64 bytes that loads may read.
 pub fn laws()
-    ensures starts { (packet : List ℕ) (setup : StartView) → start_of Filter packet ≡ Some setup
+    ensures starts { (packet : List ℕ) (setup : StartView)
+        → start_of (built_in Filter) packet ≡ Some setup
         → StartsOn packet (start_state ARENA setup) }
     ensures returns { (program : List Bpf) (packet : List ℕ) (setup : StartView)
-        → IsProgram program → AreBytes packet → start_of Filter packet ≡ Some setup
+        → IsProgram program → AreBytes packet → start_of (built_in Filter) packet ≡ Some setup
         → ReturnsValue program packet 1000 (start_state ARENA setup) }
     ensures outcome { (program : List Bpf) (packet : List ℕ) (budget : ℕ) → IsProgram program
         → AreBytes packet → LOADABLE ≤ length packet → BLOCK * length program ≤ budget
-        → packet_result Filter (bpf_code program) budget packet
+        → packet_result (built_in Filter) (bpf_code program) budget packet
         ≡ Ran (Returned (nonzero_flag (bpf_value program packet))) 0 }
     ensures safe { (program : List Bpf) (packet : List ℕ) (budget i a sum : ℕ) (kind : Kind)
         → IsProgram program → AreBytes packet
-        → packet_result Filter (bpf_code program) budget packet ≢ Ran (Blocked i kind a) sum }
+        → packet_result (built_in Filter) (bpf_code program) budget packet
+        ≢ Ran (Blocked i kind a) sum }
     ensures short { (code : List Insn) (packet : List ℕ) (budget : ℕ) → length packet < LOADABLE
-        → packet_result Filter code budget packet ≡ Short }
+        → packet_result (built_in Filter) code budget packet ≡ Short }
 {}
 
 /// The code of a program is code of the first profile: at most 1,024 words, each of which some word

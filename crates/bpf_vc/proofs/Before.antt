@@ -9,6 +9,7 @@ use Rattle.formula_tree.specs.Formulas.{EOp, ESel, MMem, Form, FRd, FAnd}
 use Rattle.formula_tree.specs.Substitution.{subst_form}
 use Rattle.policy_set.specs.Policies.{filter_post}
 use Rattle.policy_set.specs.declared.kind.PolicyKind.TheVariants.{Filter}
+use Rattle.policy_set.specs.Views.{built_in}
 use Rattle.vcgen.specs.Assignments.{for_reg, unchanged}
 use Rattle.vcgen.specs.Conditions.{reg_exp, rhs_exp, address_exp, at_target, insn_condition, condition_at, invariant_at, wp, body}
 use Rattle.vcgen.specs.Encoded.{annotated}
@@ -35,9 +36,10 @@ abbrev pub before_all : List Insn → Form → Form
 before_all [] F = F
 before_all (x ∷ l) F = before x (before_all l F)
 
-module _ (code : List Insn) (invs : List (ℕ × Form)) (unfolds : (i : ℕ) → i < length code → WpIs (annotated Filter code invs) i) where
+module _ (code : List Insn) (invs : List (ℕ × Form))
+    (unfolds : (i : ℕ) → i < length code → WpIs (annotated (built_in Filter) code invs) i) where
   abbrev next : ℕ → Form
-  next = wp (annotated Filter code invs)
+  next = wp (annotated (built_in Filter) code invs)
 
   linear-condition : (x : Insn) (i : ℕ) → IsLinear x → insn_condition next filter_post i x ≡ before x (next (i + 1))
   linear-condition (Lda ra rb disp) i h = refl
@@ -45,13 +47,15 @@ module _ (code : List Insn) (invs : List (ℕ × Form)) (unfolds : (i : ℕ) →
   linear-condition (Oper op ra rhs rc) i h = refl
   linear-condition _ i h = absurd h
 
-  pub body-at : (i : ℕ) (x : Insn) → slice_get code i ≡ Some x → body (annotated Filter code invs) i ≡ insn_condition next filter_post i x
+  pub body-at : (i : ℕ) (x : Insn) → slice_get code i ≡ Some x
+      → body (annotated (built_in Filter) code invs) i ≡ insn_condition next filter_post i x
   body-at i x e = ap (condition_at None next filter_post i) e
 
   -- before words that go on, none of which behind the first is annotated
   pub body-straight : (x : Insn) (l : List Insn) (i : ℕ) → Stands code i (x ∷ l) → AllByRecursion IsPlain (x ∷ l)
       → ((j : ℕ) → i < j → j < i + suc (length l) → invariant_at invs j ≡ None)
-      → body (annotated Filter code invs) i ≡ before_all (x ∷ l) (next (onward (x ∷ l) i))
+      → body (annotated (built_in Filter) code invs) i
+      ≡ before_all (x ∷ l) (next (onward (x ∷ l) i))
   body-straight x [] i stands plain free = body-at i x stands.0 ∙ linear-condition x i plain.0.0
   body-straight x (y ∷ l) i stands plain free =
       let on = (unfolds (i + 1) (slice_get_within code (i + 1) y stands.1.0)).other (free (i + 1) (omega arith) (omega arith)) in
@@ -61,7 +65,8 @@ module _ (code : List Insn) (invs : List (ℕ × Form)) (unfolds : (i : ℕ) →
   -- before two branches to annotated words, the second of which isn't annotated
   pub body-branches : (at k m : ℕ) (F G : Form) → Stands code at (branch_pair at k m) → invariant_at invs (at + 1) ≡ None
       → at + 2 ≤ 20 * k → at + 2 ≤ 20 * m → 20 * k < length code → 20 * m < length code
-      → invariant_at invs (20 * k) ≡ Some F → invariant_at invs (20 * m) ≡ Some G → body (annotated Filter code invs) at ≡ branch_condition F G
+      → invariant_at invs (20 * k) ≡ Some F → invariant_at invs (20 * m) ≡ Some G
+      → body (annotated (built_in Filter) code invs) at ≡ branch_condition F G
   body-branches at k m F G stands free far near in_k in_m at_k at_m =
       let there : next (20 * k) ≡ F = (unfolds (20 * k) in_k).annotated F at_k in
       let behind : next (at + 1) ≡ G =

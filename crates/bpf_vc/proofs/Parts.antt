@@ -7,8 +7,9 @@ use Rattle.alpha_words.specs.declared.insn.Insn.TheVariants.{Ret}
 use Rattle.alpha_cfg.specs.Deciding.{flags_of}
 use Rattle.formula_tree.specs.Formulas.{Form, FImp}
 use Rattle.policy_set.specs.declared.kind.PolicyKind.TheVariants.{Filter}
+use Rattle.policy_set.specs.Views.{built_in}
 use Rattle.policy_set.specs.Policies.{filter_pre, filter_post}
-use Rattle.policy_set.proofs.Closed.{pre-over, post-over}
+use Rattle.policy_set.proofs.Closed.{pre-within, post-within}
 use Rattle.vcgen.specs.Conditions.{AnnotatedCode, invariant_at, wp, body, close, entry_part, inv_part}
 use Rattle.vcgen.specs.Encoded.{annotated}
 use Rattle.vcgen.specs.Laws.{WpIs}
@@ -59,14 +60,14 @@ module _ (p : List Bpf) (program : IsProgram p) where
   code = blocks_from 0 p
 
   abbrev c : AnnotatedCode
-  c = annotated Filter (blocks_from 0 p) (bpf_invariants p)
+  c = annotated (built_in Filter) (blocks_from 0 p) (bpf_invariants p)
 
   pub blocks-annotated : IsAnnotated c
   blocks-annotated = record {
     code = blocks-are-code p program;
     invs = of-each (HasVarsBelow 0) (bpf_invariants p) (each-closed 0 p);
-    pre = pre-over Filter;
-    post = post-over Filter;
+    pre = pre-within 32 (omega arith) Filter;
+    post = post-within 32 (omega arith) Filter;
     bound = tt;
     marks = flags_of (annotated_words p) (length (blocks_from 0 p));
     flags = flags-are p;

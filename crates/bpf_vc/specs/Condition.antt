@@ -6,6 +6,7 @@ use Rattle.term_table.specs.Tree.{Tree}
 use Rattle.term_table.specs.Measures.{weight_of, height_of, sigma1_places}
 use Rattle.formula_terms.specs.Encoding.{form_encoding}
 use Rattle.policy_set.specs.declared.kind.PolicyKind.TheVariants.{Filter}
+use Rattle.policy_set.specs.Views.{built_in}
 use Rattle.vcgen.specs.Conditions.{AnnotatedCode, entry_part, inv_part}
 use Rattle.vcgen.specs.Encoded.{annotated}
 use Rattle.prover_class.specs.Parts.{conjoined, condition_proof}
@@ -16,7 +17,7 @@ use Rattle.bpf_vc.specs.Invariants.{bpf_invariants, annotated_words}
 
 -- the code of a program with its invariants, under `filter`
 abbrev pub annotated_bpf : List Bpf → AnnotatedCode
-annotated_bpf program = annotated Filter (bpf_code program) (bpf_invariants program)
+annotated_bpf program = annotated (built_in Filter) (bpf_code program) (bpf_invariants program)
 
 -- a flag for each word of the code, set where it has an invariant
 abbrev pub bpf_flags : List Bpf → List Bool

@@ -6,7 +6,7 @@ use Rattle.alpha_cfg.specs.Cuts.{AreFlags, IsCut}
 use Rattle.formula_tree.specs.Formulas.{Form, FAnd}
 use Rattle.formula_tree.specs.Scope.{IsOver}
 use Rattle.formula_tree.specs.Sizes.{form_height}
-use Rattle.policy_set.specs.declared.kind.PolicyKind.{PolicyKind}
+use Rattle.policy_set.specs.Views.{PolicyView, IsPolicy, PolicyUses}
 use Rattle.term_table.specs.Tree.{Tree}
 use Rattle.lf_signature.specs.Constants.{declared}
 use Rattle.lf_signature.specs.Terms.{pf}
@@ -28,7 +28,6 @@ use Rattle.condition_prover.specs.Conditions.{condition_parts, ProvesParts, IsPa
 use Rattle.condition_prover.proofs.Heights.{parts-low}
 use Rattle.lf_signature.specs.declared.WordSignature.TheVariants.{Sigma1}
 use Rattle.formula_tree.specs.Operators.{Uses}
-use Rattle.policy_set.proofs.Closed.{pre-first, post-first}
 use Rattle.word_ops.specs.declared.Profile.TheVariants.{One}
 use Rattle.vcgen.proofs.Used.{first-operators, condition-uses}
 use Rattle.word_ops.specs.Operators.{IsFirstOp}
@@ -39,14 +38,18 @@ conjoined-parts : (c : AnnotatedCode) (ps : List (ℕ × Form)) → inv_parts c 
 conjoined-parts c [] = refl
 conjoined-parts c (p ∷ ps) = ap (FAnd (inv_part c p)) (conjoined-parts c ps)
 
-pub condition-parts : (policy : PolicyKind) (code : List Insn) (invs : List (ℕ × Tree)) → condition (annotated policy code (formulas invs)) ≡ conjoined (condition_parts policy code invs)
+pub condition-parts : (policy : PolicyView) (code : List Insn) (invs : List (ℕ × Tree))
+    → condition (annotated policy code (formulas invs))
+    ≡ conjoined (condition_parts policy code invs)
 unfolding condition_parts
 condition-parts policy code invs =
     let c = annotated policy code (formulas invs) in
     ap (FAnd (entry_part c)) (conjoined-parts c c.invs)
 
 -- the encoding of a condition is that of its parts
-pub encodes-parts : (policy : PolicyKind) (code : List Insn) (invs : List (ℕ × Tree)) (vc : Tree) → AreForms invs → EncodesCondition policy code invs vc → vc ≡ form_encoding (conjoined (condition_parts policy code invs))
+pub encodes-parts : (policy : PolicyView) (code : List Insn) (invs : List (ℕ × Tree)) (vc : Tree)
+    → AreForms invs → EncodesCondition policy code invs vc → vc
+    ≡ form_encoding (conjoined (condition_parts policy code invs))
 encodes-parts policy code invs vc forms e = condition-one policy code invs vc forms e ∙ ap form_encoding (condition-parts policy code invs)
 
 -- ---- what the class gives is a proof
@@ -56,29 +59,32 @@ abbrev pub IsSoundClass : Type 0
 IsSoundClass =
     (parts : List Form) (p : Tree) → IsOver 0 (conjoined parts) [] → Uses IsFirstOp (conjoined parts) → form_height (conjoined parts) ≤ 2 ^ 29 → condition_proof by_all_means parts ≡ Some p → Checks (declared Sigma1) [] p (pf (form_encoding (conjoined parts)))
 
-module _ (sound : IsSoundClass) (policy : PolicyKind) (code : List Insn) (invs : List (ℕ × Tree)) (marks : List Bool)
+module _ (sound : IsSoundClass) (policy : PolicyView) (code : List Insn) (invs : List (ℕ × Tree))
+    (marks : List Bool)
     (forms : AreForms invs) (is : IsCode code) (flags : AreFlags (map (λ p. p.0) invs) (length code) marks) (cut : IsCut code marks)
-    (one : AreOfProfile One code) where
-  parts-closed : IsOver 0 (conjoined (condition_parts policy code invs)) []
-  parts-closed =
-      let a = annotated policy code (formulas invs) in
-      let encoded = formulas-encoded invs forms in
-      let annotates = encoded-annotates policy code invs (formulas invs) marks encoded is flags cut in
-      subst (λ F. IsOver 0 F []) (condition-parts policy code invs) (condition-closed a annotates refl (formulas-over invs (formulas invs) encoded))
+    (one : AreOfProfile One code) (kept : IsPolicy policy) (used : PolicyUses IsFirstOp policy)
+  where
+    parts-closed : IsOver 0 (conjoined (condition_parts policy code invs)) []
+    parts-closed =
+        let a = annotated policy code (formulas invs) in
+        let encoded = formulas-encoded invs forms in
+        let annotates =
+        encoded-annotates policy code invs (formulas invs) marks kept encoded is flags cut in
+        subst (λ F. IsOver 0 F []) (condition-parts policy code invs) (condition-closed a annotates refl (formulas-over invs (formulas invs) encoded))
 
-  parts-first : Uses IsFirstOp (conjoined (condition_parts policy code invs))
-  parts-first =
-      let a = annotated policy code (formulas invs) in
-      subst (λ F. Uses IsFirstOp F) (condition-parts policy code invs)
-      (condition-uses IsFirstOp refl refl a (first-operators code one) refl
-      (pre-first policy) (post-first policy) (formulas-first invs forms))
+    parts-first : Uses IsFirstOp (conjoined (condition_parts policy code invs))
+    parts-first =
+        let a = annotated policy code (formulas invs) in
+        subst (λ F. Uses IsFirstOp F) (condition-parts policy code invs)
+        (condition-uses IsFirstOp refl refl a (first-operators code one) refl used.0 used.1
+        (formulas-first invs forms))
 
-  pub proof-checks : (p : Tree) → condition_proof by_all_means (condition_parts policy code invs) ≡ Some p → ProvesParts (condition_parts policy code invs) p
-  proof-checks p given low =
-      let parts = condition_parts policy code invs in
-      sound parts p parts-closed parts-first (parts-low by_all_means parts p given low) given
+    pub proof-checks : (p : Tree) → condition_proof by_all_means (condition_parts policy code invs) ≡ Some p → ProvesParts (condition_parts policy code invs) p
+    proof-checks p given low =
+        let parts = condition_parts policy code invs in
+        sound parts p parts-closed parts-first (parts-low by_all_means parts p given low) given
 
-  -- what is found is a proof
-  pub found-proves : (t : TableView) (found : ConditionProof) → IsPartsAnswer t 0 (condition_parts policy code invs) found → IsProofOfParts t (condition_parts policy code invs) found
-  found-proves t (Proved p) h = proof-checks (tree_at t p) h
-  found-proves t (NotEasy k) h = tt
+    -- what is found is a proof
+    pub found-proves : (t : TableView) (found : ConditionProof) → IsPartsAnswer t 0 (condition_parts policy code invs) found → IsProofOfParts t (condition_parts policy code invs) found
+    found-proves t (Proved p) h = proof-checks (tree_at t p) h
+    found-proves t (NotEasy k) h = tt

@@ -9,7 +9,7 @@ use Rattle.lf_signature.specs.Terms.{pf}
 use Rattle.lf_signature.specs.Typing.{Checks}
 use Rattle.formula_tree.specs.Formulas.{Form}
 use Rattle.formula_terms.specs.Encoding.{form_encoding}
-use Rattle.policy_set.specs.declared.kind.PolicyKind.{PolicyKind}
+use Rattle.policy_set.specs.Views.{PolicyView}
 use Rattle.vcgen.specs.Conditions.{entry_part, inv_part}
 use Rattle.vcgen.specs.Encoded.{annotated}
 use Rattle.vcgen.specs.declared.condition.TheConstants.{MAX_HEIGHT}
@@ -21,7 +21,7 @@ use Rattle.condition_prover.specs.declared.parts.ConditionProof.TheVariants.{Pro
 use Rattle.lf_signature.specs.declared.WordSignature.TheVariants.{Sigma1}
 
 -- the parts of the verification condition: the entry's, then each invariant's
-unfoldable pub condition_parts : PolicyKind → List Insn → List (ℕ × Tree) → List Form
+unfoldable pub condition_parts : PolicyView → List Insn → List (ℕ × Tree) → List Form
 condition_parts policy code invs =
     let c = annotated policy code (formulas invs) in
     entry_part c ∷ map (inv_part c) c.invs

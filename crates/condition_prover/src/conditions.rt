@@ -16,6 +16,8 @@ ghost use Rattle.prover_class.specs.Parts.{conjoined};
 ghost use Rattle.condition_prover.specs.Conditions.{condition_parts};
 ghost use Rattle.condition_prover.specs.Conditions.{IsKnownAnswer, IsPartsAnswer, IsProofOfParts};
 ghost use Rattle.word_ops.specs.declared.Profile.TheVariants.{One};
+ghost use Rattle.word_ops.specs.Operators.{IsFirstOp};
+ghost use Rattle.policy_set.specs.Views.{PolicyUses};
 
 use crate::parts::{ConditionProof, proof_of_parts};
 use alpha_cfg::Cut;
@@ -65,8 +67,8 @@ fn condition_in(
 /// Proves the verification condition of cut code under a policy, part by part, where each is easy
 /// (`prover_class`), or names the first part that isn't. `invs` are the annotated indices with the ids
 /// of their invariants, whose terms are formulas and no higher than `vcgen::MAX_HEIGHT`. A proof that
-/// is no higher than that checks at the condition where the code is the first profile's; its weight
-/// and height are the table's (`Table::weight`, `Table::height`).
+/// is no higher than that checks at the condition where the code and the policy's formulas are the
+/// first profile's; its weight and height are the table's (`Table::weight`, `Table::height`).
 ///
 /// Fails for want of memory, and by `Results` where the results that the search keeps and the terms
 /// that it makes are more than `MOST_SEARCHED`.
@@ -84,11 +86,13 @@ pub fn prove_condition(
     ensures exact { let invs = id_trees table.old invs.now in
         IfOk result (IsPartsAnswer table.new 0 (condition_parts policy.now cut.now.code invs)) }
     ensures proves { let invs = id_trees table.old invs.now in AreOfProfile One cut.now.code →
+        PolicyUses IsFirstOp policy.now →
         IfOk result (IsProofOfParts table.new (condition_parts policy.now cut.now.code invs)) }
     ensures extends { Extends table.old table.new }
 {
     class_laws();
     is_cut_code(cut);
+    policy.laws(); // tells the prover what the formulas name
     let condition = condition_in(table, policy, cut, invs)?;
     let mut search = Search::new(table, MOST_SEARCHED);
     let found = proof_of_parts(table, &mut search, condition, 0)?;

@@ -3,9 +3,10 @@
 //! A kind of question is a key with its [`Question`]: what is answered, when an answer is right, and
 //! that a right answer stays right as the table grows. Rows are found by the order of keys.
 
-ghost use Rattle.std.specs.Prelude.{◌≡◌, IfSome, List};
+ghost use Rattle.std.specs.Prelude.{◌≡◌, ◌+◌, IfSome, List, OnOk};
 ghost use Rattle.term_table.specs.Table.{TableView};
 ghost use Rattle.hereditary_subst.specs.Kept.{IsMemo};
+ghost use Rattle.hereditary_subst.specs.Limits.{left_of};
 ghost use Rattle.formula_ids.specs.declared.hypotheses.Hypothesis.{Hypothesis as H};
 ghost use Rattle.formula_ids.specs.Kept.{AreRight};
 
@@ -86,6 +87,7 @@ impl<Q: Question> Kept<Q> {
         requires kept { AreRight Q.cmp (Q.is_right hyps.now) table.now self.old }
         requires right { Q.is_right hyps.now table.now question answer }
         ensures memo { IsMemo table.now memo.new }
+        ensures left { OnOk result (left_of memo.old ≡ left_of memo.new + 1) }
         ensures kept { AreRight Q.cmp (Q.is_right hyps.now) table.now self.new }
     {
         // Only the clauses speak of them.

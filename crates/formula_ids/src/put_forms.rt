@@ -1,8 +1,9 @@
 //! Substitution of an expression for one variable of a formula, on ids.
 
-ghost use Rattle.std.specs.Prelude.{◌≡◌, ◌<◌, ◌+◌, ◌^◌, IfOk};
+ghost use Rattle.std.specs.Prelude.{◌≡◌, ◌<◌, ◌+◌, ◌^◌, ◌≤◌, IfOk, OnOk};
 ghost use Rattle.term_table.specs.Table.{IsKnown, tree_at, Extends};
 ghost use Rattle.hereditary_subst.specs.Kept.{IsMemo};
+ghost use Rattle.hereditary_subst.specs.Limits.{left_of};
 ghost use Rattle.formula_ids.specs.Puts.{IsExpPut, IsFormPut};
 ghost use Rattle.formula_ids.specs.PutRows.{ArePuts, IsJoinPut, IsUnderPut};
 
@@ -35,6 +36,7 @@ pub(crate) fn put_form(
     ensures put { IfOk result (IsFormPut table.old table.new id x arg) }
     ensures extends { Extends table.old table.new }
     ensures memo { IsMemo table.new memo.new }
+    ensures left { OnOk result (left_of memo.new ≤ left_of memo.old) }
     ensures kept { ArePuts table.new kept.new }
 {
     let question = Put::Form(number(id), x, number(arg));
@@ -65,6 +67,7 @@ fn put_form_parts(
     ensures put { IfOk result (IsFormPut table.old table.new id x arg) }
     ensures extends { Extends table.old table.new }
     ensures memo { IsMemo table.new memo.new }
+    ensures left { OnOk result (left_of memo.new ≤ left_of memo.old) }
     ensures kept { ArePuts table.new kept.new }
 {
     match form_node(table, id) {
@@ -109,6 +112,7 @@ fn put_joined(
     ensures put { IfOk result (IsJoinPut table.old table.new connective a b x arg) }
     ensures extends { Extends table.old table.new }
     ensures memo { IsMemo table.new memo.new }
+    ensures left { OnOk result (left_of memo.new ≤ left_of memo.old) }
     ensures kept { ArePuts table.new kept.new }
 {
     let left = put_form(table, memo, kept, a, x, arg)?;
@@ -136,6 +140,7 @@ fn put_under(
     ensures put { IfOk result (IsUnderPut table.old table.new quantifier body x arg) }
     ensures extends { Extends table.old table.new }
     ensures memo { IsMemo table.new memo.new }
+    ensures left { OnOk result (left_of memo.new ≤ left_of memo.old) }
     ensures kept { ArePuts table.new kept.new }
 {
     let under = raised(table, memo, arg)?;
@@ -162,6 +167,7 @@ pub fn put_word(
     ensures put { IfOk result (IsFormPut table.old table.new form 0 arg) }
     ensures extends { Extends table.old table.new }
     ensures memo { IsMemo table.new memo.new }
+    ensures left { OnOk result (left_of memo.new ≤ left_of memo.old) }
     ensures kept { ArePuts table.new kept.new }
 {
     table.laws();
@@ -183,6 +189,7 @@ pub fn put_word_exp(
     ensures put { IfOk result (IsExpPut table.old table.new exp 0 arg) }
     ensures extends { Extends table.old table.new }
     ensures memo { IsMemo table.new memo.new }
+    ensures left { OnOk result (left_of memo.new ≤ left_of memo.old) }
     ensures kept { ArePuts table.new kept.new }
 {
     put_exp(table, memo, kept, exp, 0, arg)

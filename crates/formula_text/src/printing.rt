@@ -84,6 +84,7 @@ fn push_exp(out: &mut Vec<u8>, depth: u64, exp: &Exp) -> Result<(), AllocError>
             out.push(b'r')?;
             push_number(out, u64::from(*number))
         }
+        Exp::Left => out.extend_from_slice(b"left"),
         Exp::Var(n) => push_name(out, depth.saturating_sub(u64::from(*n)).saturating_sub(1)),
         Exp::Lit(word) => push_number(out, *word),
         Exp::Oper(op, a, b) => {

@@ -1,12 +1,12 @@
 -- Truth and scope of a formula in which an expression or a memory was put for one variable.
-use Rattle.std.proofs.Common.{◌≡◌, ℕ, zero, suc, ◌<◌, ◌^◌, true, Option, Some, List, [], ◌∷◌, ◌++◌, length, refl, sym, ◌∙◌, ap, arith, ◌↔◌}
+use Rattle.std.proofs.Common.{◌≡◌, ℕ, zero, suc, ◌<◌, ◌^◌, Bool, true, Option, Some, List, [], ◌∷◌, ◌++◌, length, refl, sym, ◌∙◌, ap, arith, ◌↔◌}
 use Rattle.word_ops.specs.Words.{word_of, test_of}
 use Rattle.word_ops.specs.Memory.{Memory, read, write, IsMemory}
 use Rattle.word_ops.specs.Rights.{Rights, allowed}
 use Rattle.formula_tree.specs.Formulas.{Exp, EReg, ELeft, EVar, ELit, EOp, ESel, MemExp, MMem, MVar, MUpd, Form, FTrue, FFalse, FRel, FRd, FWr, FAnd, FOr, FImp, FAll, FAllm}
 use Rattle.formula_tree.specs.Variables.{Part, PExp, PMem, shift_part, exp_at, mem_at, subst_var_exp, subst_var_mem, subst_var}
 use Rattle.term_table.specs.Tree.{Spot, Here, Other, later, spot}
-use Rattle.formula_tree.specs.Scope.{VarSort, OfWord, OfMem, sort_at, IsOverExp, IsOverMem, IsOver, part_sort, IsOverPart}
+use Rattle.formula_tree.specs.Scope.{VarSort, OfWord, OfMem, sort_at, IsWithinExp, IsWithinMem, IsWithin, IsOverExp, IsOverMem, IsOver, part_sort, IsWithinPart}
 use Rattle.formula_tree.specs.Truth.{Valuation, Bound, BWord, BMem, bound_at, bound_word, bound_memory, exp_value, mem_value, IsTrueIn, part_value}
 use Rattle.formula_tree.proofs.Meaning.{both_ways, exp_value-shift, mem_value-shift, one_wider}
 use Rattle.formula_tree.proofs.Scopes.{wider_exp, wider_mem}
@@ -96,47 +96,47 @@ pub var-truth : (R : Rights) (F : Form) (r : ℕ) (p : Part) (G H : List VarSort
 var-truth R F r p G H v ρ σ l o = both_ways (IsTrueIn R (subst_var F (length G) p) v (ρ ++ σ)) (IsTrueIn R F v (ρ ++ part_value p v (ρ ++ σ) ∷ σ)) (true-var R F r p (part_sort p) G H v ρ σ refl l o)
 
 -- the scope
-exp_at-over : (p : Part) (x : Spot) (r : ℕ) (s : VarSort) (G : List VarSort) → part_sort p ≡ s → sort_by s G x ≡ Some OfWord → IsOverPart r p G → IsOverExp r (exp_at p x) G
-exp_at-over (PExp e) Here r s G t q o = o
-exp_at-over (PMem m) Here r s G t q o = omega arith
-exp_at-over (PExp e) (Other k) r s G t q o = q
-exp_at-over (PMem m) (Other k) r s G t q o = q
+exp_at-over : (l : Bool) (p : Part) (x : Spot) (r : ℕ) (s : VarSort) (G : List VarSort) → part_sort p ≡ s → sort_by s G x ≡ Some OfWord → IsWithinPart l r p G → IsWithinExp l r (exp_at p x) G
+exp_at-over l (PExp e) Here r s G t q o = o
+exp_at-over l (PMem m) Here r s G t q o = omega arith
+exp_at-over l (PExp e) (Other k) r s G t q o = q
+exp_at-over l (PMem m) (Other k) r s G t q o = q
 
-mem_at-over : (p : Part) (x : Spot) (r : ℕ) (s : VarSort) (G : List VarSort) → part_sort p ≡ s → sort_by s G x ≡ Some OfMem → IsOverPart r p G → IsOverMem r (mem_at p x) G
-mem_at-over (PExp e) Here r s G t q o = cc
-mem_at-over (PMem m) Here r s G t q o = o
-mem_at-over (PExp e) (Other k) r s G t q o = q
-mem_at-over (PMem m) (Other k) r s G t q o = q
+mem_at-over : (l : Bool) (p : Part) (x : Spot) (r : ℕ) (s : VarSort) (G : List VarSort) → part_sort p ≡ s → sort_by s G x ≡ Some OfMem → IsWithinPart l r p G → IsWithinMem l r (mem_at p x) G
+mem_at-over l (PExp e) Here r s G t q o = cc
+mem_at-over l (PMem m) Here r s G t q o = o
+mem_at-over l (PExp e) (Other k) r s G t q o = q
+mem_at-over l (PMem m) (Other k) r s G t q o = q
 
-part-over : (p : Part) (r : ℕ) (u : VarSort) (G : List VarSort) → IsOverPart r p G → IsOverPart r (shift_part 1 p) (u ∷ G)
-part-over (PExp e) r u G o = wider_exp r e G u o
-part-over (PMem m) r u G o = wider_mem r m G u o
+part-over : (l : Bool) (p : Part) (r : ℕ) (u : VarSort) (G : List VarSort) → IsWithinPart l r p G → IsWithinPart l r (shift_part 1 p) (u ∷ G)
+part-over l (PExp e) r u G o = wider_exp l r e G u o
+part-over l (PMem m) r u G o = wider_mem l r m G u o
 
 mutual
-  over_exp-var : (e : Exp) (r : ℕ) (p : Part) (s : VarSort) (G H : List VarSort) → part_sort p ≡ s → IsOverExp r e (G ++ s ∷ H) → IsOverPart r p (G ++ H) → IsOverExp r (subst_var_exp e (length G) p) (G ++ H)
-  over_exp-var (EReg k) r p s G H t o q = o
-  over_exp-var ELeft r p s G H t o q = o
-  over_exp-var (EVar n) r p s G H t o q = exp_at-over p (spot (length G) n) r s (G ++ H) t (sym (sort-spot G H s n) ∙ o) q
-  over_exp-var (ELit w) r p s G H t o q = o
-  over_exp-var (EOp f a b) r p s G H t o q = (over_exp-var a r p s G H t o.0 q, over_exp-var b r p s G H t o.1 q)
-  over_exp-var (ESel m a) r p s G H t o q = (over_mem-var m r p s G H t o.0 q, over_exp-var a r p s G H t o.1 q)
+  over_exp-var : (l : Bool) (e : Exp) (r : ℕ) (p : Part) (s : VarSort) (G H : List VarSort) → part_sort p ≡ s → IsWithinExp l r e (G ++ s ∷ H) → IsWithinPart l r p (G ++ H) → IsWithinExp l r (subst_var_exp e (length G) p) (G ++ H)
+  over_exp-var l (EReg k) r p s G H t o q = o
+  over_exp-var l ELeft r p s G H t o q = o
+  over_exp-var l (EVar n) r p s G H t o q = exp_at-over l p (spot (length G) n) r s (G ++ H) t (sym (sort-spot G H s n) ∙ o) q
+  over_exp-var l (ELit w) r p s G H t o q = o
+  over_exp-var l (EOp f a b) r p s G H t o q = (over_exp-var l a r p s G H t o.0 q, over_exp-var l b r p s G H t o.1 q)
+  over_exp-var l (ESel m a) r p s G H t o q = (over_mem-var l m r p s G H t o.0 q, over_exp-var l a r p s G H t o.1 q)
 
-  over_mem-var : (m : MemExp) (r : ℕ) (p : Part) (s : VarSort) (G H : List VarSort) → part_sort p ≡ s → IsOverMem r m (G ++ s ∷ H) → IsOverPart r p (G ++ H) → IsOverMem r (subst_var_mem m (length G) p) (G ++ H)
-  over_mem-var MMem r p s G H t o q = o
-  over_mem-var (MVar n) r p s G H t o q = mem_at-over p (spot (length G) n) r s (G ++ H) t (sym (sort-spot G H s n) ∙ o) q
-  over_mem-var (MUpd m a e) r p s G H t o q = (over_mem-var m r p s G H t o.0 q, over_exp-var a r p s G H t o.1 q, over_exp-var e r p s G H t o.2 q)
+  over_mem-var : (l : Bool) (m : MemExp) (r : ℕ) (p : Part) (s : VarSort) (G H : List VarSort) → part_sort p ≡ s → IsWithinMem l r m (G ++ s ∷ H) → IsWithinPart l r p (G ++ H) → IsWithinMem l r (subst_var_mem m (length G) p) (G ++ H)
+  over_mem-var l MMem r p s G H t o q = o
+  over_mem-var l (MVar n) r p s G H t o q = mem_at-over l p (spot (length G) n) r s (G ++ H) t (sym (sort-spot G H s n) ∙ o) q
+  over_mem-var l (MUpd m a e) r p s G H t o q = (over_mem-var l m r p s G H t o.0 q, over_exp-var l a r p s G H t o.1 q, over_exp-var l e r p s G H t o.2 q)
 
-over-var : (F : Form) (r : ℕ) (p : Part) (s : VarSort) (G H : List VarSort) → part_sort p ≡ s → IsOver r F (G ++ s ∷ H) → IsOverPart r p (G ++ H) → IsOver r (subst_var F (length G) p) (G ++ H)
-over-var FTrue r p s G H t o q = tt
-over-var FFalse r p s G H t o q = tt
-over-var (FRel f a b) r p s G H t o q = (over_exp-var a r p s G H t o.0 q, over_exp-var b r p s G H t o.1 q)
-over-var (FRd a) r p s G H t o q = over_exp-var a r p s G H t o q
-over-var (FWr a) r p s G H t o q = over_exp-var a r p s G H t o q
-over-var (FAnd A B) r p s G H t o q = (over-var A r p s G H t o.0 q, over-var B r p s G H t o.1 q)
-over-var (FOr A B) r p s G H t o q = (over-var A r p s G H t o.0 q, over-var B r p s G H t o.1 q)
-over-var (FImp A B) r p s G H t o q = (over-var A r p s G H t o.0 q, over-var B r p s G H t o.1 q)
-over-var (FAll A) r p s G H t o q = over-var A r (shift_part 1 p) s (OfWord ∷ G) H (sort-under p s t) o (part-over p r OfWord (G ++ H) q)
-over-var (FAllm A) r p s G H t o q = over-var A r (shift_part 1 p) s (OfMem ∷ G) H (sort-under p s t) o (part-over p r OfMem (G ++ H) q)
+over-var : (l : Bool) (F : Form) (r : ℕ) (p : Part) (s : VarSort) (G H : List VarSort) → part_sort p ≡ s → IsWithin l r F (G ++ s ∷ H) → IsWithinPart l r p (G ++ H) → IsWithin l r (subst_var F (length G) p) (G ++ H)
+over-var l FTrue r p s G H t o q = tt
+over-var l FFalse r p s G H t o q = tt
+over-var l (FRel f a b) r p s G H t o q = (over_exp-var l a r p s G H t o.0 q, over_exp-var l b r p s G H t o.1 q)
+over-var l (FRd a) r p s G H t o q = over_exp-var l a r p s G H t o q
+over-var l (FWr a) r p s G H t o q = over_exp-var l a r p s G H t o q
+over-var l (FAnd A B) r p s G H t o q = (over-var l A r p s G H t o.0 q, over-var l B r p s G H t o.1 q)
+over-var l (FOr A B) r p s G H t o q = (over-var l A r p s G H t o.0 q, over-var l B r p s G H t o.1 q)
+over-var l (FImp A B) r p s G H t o q = (over-var l A r p s G H t o.0 q, over-var l B r p s G H t o.1 q)
+over-var l (FAll A) r p s G H t o q = over-var l A r (shift_part 1 p) s (OfWord ∷ G) H (sort-under p s t) o (part-over l p r OfWord (G ++ H) q)
+over-var l (FAllm A) r p s G H t o q = over-var l A r (shift_part 1 p) s (OfMem ∷ G) H (sort-under p s t) o (part-over l p r OfMem (G ++ H) q)
 
-pub var-scope : (r : ℕ) (F : Form) (p : Part) (G H : List VarSort) → IsOver r F (G ++ part_sort p ∷ H) → IsOverPart r p (G ++ H) → IsOver r (subst_var F (length G) p) (G ++ H)
-var-scope r F p G H o q = over-var F r p (part_sort p) G H refl o q
+pub var-scope : (l : Bool) (r : ℕ) (F : Form) (p : Part) (G H : List VarSort) → IsWithin l r F (G ++ part_sort p ∷ H) → IsWithinPart l r p (G ++ H) → IsWithin l r (subst_var F (length G) p) (G ++ H)
+var-scope l r F p G H o q = over-var l F r p (part_sort p) G H refl o q

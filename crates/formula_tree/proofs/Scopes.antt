@@ -1,22 +1,22 @@
 -- Substitution keeps a formula over the variables of its context and over registers below a bound.
-use Rattle.std.proofs.Common.{◌≡◌, ℕ, zero, suc, ◌<◌, Some, List, [], ◌∷◌, map, get_or, arith, one-add}
+use Rattle.std.proofs.Common.{◌≡◌, ℕ, zero, suc, ◌<◌, Bool, false, Some, List, [], ◌∷◌, map, get_or, arith, one-add}
 use Rattle.formula_tree.specs.Formulas.{Exp, EReg, ELeft, EVar, ELit, EOp, ESel, MemExp, MMem, MVar, MUpd, Form, FTrue, FFalse, FRel, FRd, FWr, FAnd, FOr, FImp, FAll, FAllm, shift_exp, shift_mem}
 use Rattle.formula_tree.specs.Substitution.{Substitution, shift_substitution, subst_exp, subst_mem, subst_form}
-use Rattle.formula_tree.specs.Scope.{VarSort, OfWord, OfMem, sort_at, IsOverExp, IsOverMem, IsOver, IsOverSubstitution}
+use Rattle.formula_tree.specs.Scope.{VarSort, OfWord, OfMem, sort_at, IsWithinExp, IsWithinMem, IsOverExp, IsOverMem, IsOver, IsOverSubstitution}
 
 mutual
-  pub wider_exp : (r : ℕ) (e : Exp) (G : List VarSort) (s : VarSort) → IsOverExp r e G → IsOverExp r (shift_exp 1 0 e) (s ∷ G)
-  wider_exp r (EReg k) G s h = h
-  wider_exp r ELeft G s h = h
-  wider_exp r (EVar n) G s h = rw one-add h
-  wider_exp r (ELit w) G s h = h
-  wider_exp r (EOp o a b) G s h = (wider_exp r a G s h.0, wider_exp r b G s h.1)
-  wider_exp r (ESel m a) G s h = (wider_mem r m G s h.0, wider_exp r a G s h.1)
+  pub wider_exp : (l : Bool) (r : ℕ) (e : Exp) (G : List VarSort) (s : VarSort) → IsWithinExp l r e G → IsWithinExp l r (shift_exp 1 0 e) (s ∷ G)
+  wider_exp l r (EReg k) G s h = h
+  wider_exp l r ELeft G s h = h
+  wider_exp l r (EVar n) G s h = rw one-add h
+  wider_exp l r (ELit w) G s h = h
+  wider_exp l r (EOp o a b) G s h = (wider_exp l r a G s h.0, wider_exp l r b G s h.1)
+  wider_exp l r (ESel m a) G s h = (wider_mem l r m G s h.0, wider_exp l r a G s h.1)
 
-  pub wider_mem : (r : ℕ) (m : MemExp) (G : List VarSort) (s : VarSort) → IsOverMem r m G → IsOverMem r (shift_mem 1 0 m) (s ∷ G)
-  wider_mem r MMem G s h = h
-  wider_mem r (MVar n) G s h = rw one-add h
-  wider_mem r (MUpd m a v) G s h = (wider_mem r m G s h.0, wider_exp r a G s h.1, wider_exp r v G s h.2)
+  pub wider_mem : (l : Bool) (r : ℕ) (m : MemExp) (G : List VarSort) (s : VarSort) → IsWithinMem l r m G → IsWithinMem l r (shift_mem 1 0 m) (s ∷ G)
+  wider_mem l r MMem G s h = h
+  wider_mem l r (MVar n) G s h = rw one-add h
+  wider_mem l r (MUpd m a v) G s h = (wider_mem l r m G s h.0, wider_exp l r a G s h.1, wider_exp l r v G s h.2)
 
 -- H has the variables of G
 abbrev pub Includes : List VarSort → List VarSort → Type 0
@@ -29,11 +29,11 @@ includes_under G H t h (suc n) s e = h n s e
 regs_under : (r q : ℕ) (l : List Exp) (H : List VarSort) (t : VarSort) → ((k : ℕ) → k < r → IsOverExp q (get_or l k (ELit 0)) H) → (k : ℕ) → k < r → IsOverExp q (get_or (map (shift_exp 1 0) l) k (ELit 0)) (t ∷ H)
 regs_under r q [] H t o k h = o k h
 regs_under zero q (e ∷ l) H t o k h = absurd (omega (arith, h))
-regs_under (suc r) q (e ∷ l) H t o zero h = wider_exp q e H t (o zero h)
+regs_under (suc r) q (e ∷ l) H t o zero h = wider_exp false q e H t (o zero h)
 regs_under (suc r) q (e ∷ l) H t o (suc k) h = regs_under r q l H t (λ j g. o (suc j) (omega (arith, g))) k (omega (arith, h))
 
 change_under : (r q : ℕ) (s : Substitution) (H : List VarSort) (t : VarSort) → IsOverSubstitution r q s H → IsOverSubstitution r q (shift_substitution 1 s) (t ∷ H)
-change_under r q s H t o = record { regs = regs_under r q s.regs H t o.regs; memory = λ h. wider_mem q s.memory H t (o.memory h) }
+change_under r q s H t o = record { regs = regs_under r q s.regs H t o.regs; memory = λ h. wider_mem false q s.memory H t (o.memory h) }
 
 mutual
   pub scope-subst_exp : (r q : ℕ) (e : Exp) (s : Substitution) (G H : List VarSort) → IsOverExp r e G → Includes G H → IsOverSubstitution r q s H → IsOverExp q (subst_exp e s) H

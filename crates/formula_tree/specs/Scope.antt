@@ -1,5 +1,5 @@
 -- The formulas over a context: each free variable is one of the context's, of its sort.
-use Rattle.std.specs.Prelude.{◌≡◌, ℕ, zero, suc, ◌^◌, ◌<◌, Option, Some, None, List, [], ◌∷◌, slice_index_or}
+use Rattle.std.specs.Prelude.{◌≡◌, ℕ, zero, suc, ◌^◌, ◌<◌, Bool, false, T, Option, Some, None, List, [], ◌∷◌, slice_index_or}
 use Rattle.formula_tree.specs.Formulas.{Exp, EReg, ELeft, EVar, ELit, EOp, ESel, MemExp, MMem, MVar, MUpd, Form, FTrue, FFalse, FRel, FRd, FWr, FAnd, FOr, FImp, FAll, FAllm}
 use Rattle.formula_tree.specs.Substitution.{Substitution}
 use Rattle.formula_tree.specs.Variables.{Part, PExp, PMem}
@@ -14,33 +14,46 @@ sort_at [] n = None
 sort_at (s ∷ G) zero = Some s
 sort_at (s ∷ G) (suc n) = sort_at G n
 
--- Registers are below r: 31 allows r0 to r30, 32 register 31 too, and 0 neither a register nor m. Literals are words. The steps that are left are over no context.
+-- Registers are below r: 31 allows r0 to r30, 32 register 31 too, and 0 neither a register nor m.
+-- The steps that are left stand in it where the first argument is true. Literals are words.
 abbrev mutual
-  pub IsOverExp : ℕ → Exp → List VarSort → Type 0
-  IsOverExp r (EReg k) G = k < r
-  IsOverExp r ELeft G = ⊥
-  IsOverExp r (EVar n) G = sort_at G n ≡ Some OfWord
-  IsOverExp r (ELit w) G = w < 2 ^ 64
-  IsOverExp r (EOp o a b) G = IsOverExp r a G × IsOverExp r b G
-  IsOverExp r (ESel m a) G = IsOverMem r m G × IsOverExp r a G
+  pub IsWithinExp : Bool → ℕ → Exp → List VarSort → Type 0
+  IsWithinExp left r (EReg k) G = k < r
+  IsWithinExp left r ELeft G = T left
+  IsWithinExp left r (EVar n) G = sort_at G n ≡ Some OfWord
+  IsWithinExp left r (ELit w) G = w < 2 ^ 64
+  IsWithinExp left r (EOp o a b) G = IsWithinExp left r a G × IsWithinExp left r b G
+  IsWithinExp left r (ESel m a) G = IsWithinMem left r m G × IsWithinExp left r a G
 
-  pub IsOverMem : ℕ → MemExp → List VarSort → Type 0
-  IsOverMem r MMem G = 0 < r
-  IsOverMem r (MVar n) G = sort_at G n ≡ Some OfMem
-  IsOverMem r (MUpd m a v) G = IsOverMem r m G × IsOverExp r a G × IsOverExp r v G
+  pub IsWithinMem : Bool → ℕ → MemExp → List VarSort → Type 0
+  IsWithinMem left r MMem G = 0 < r
+  IsWithinMem left r (MVar n) G = sort_at G n ≡ Some OfMem
+  IsWithinMem left r (MUpd m a v) G =
+      IsWithinMem left r m G × IsWithinExp left r a G × IsWithinExp left r v G
 
--- a formula over registers below r and the variables of a context
+-- a formula over registers below r and the variables of a context, with the steps that are left or
+-- without
+abbrev pub IsWithin : Bool → ℕ → Form → List VarSort → Type 0
+IsWithin left r FTrue G = Unit {0}
+IsWithin left r FFalse G = Unit {0}
+IsWithin left r (FRel p a b) G = IsWithinExp left r a G × IsWithinExp left r b G
+IsWithin left r (FRd a) G = IsWithinExp left r a G
+IsWithin left r (FWr a) G = IsWithinExp left r a G
+IsWithin left r (FAnd A B) G = IsWithin left r A G × IsWithin left r B G
+IsWithin left r (FOr A B) G = IsWithin left r A G × IsWithin left r B G
+IsWithin left r (FImp A B) G = IsWithin left r A G × IsWithin left r B G
+IsWithin left r (FAll A) G = IsWithin left r A (OfWord ∷ G)
+IsWithin left r (FAllm A) G = IsWithin left r A (OfMem ∷ G)
+
+-- an expression, a memory and a formula that don't name the steps that are left
+abbrev pub IsOverExp : ℕ → Exp → List VarSort → Type 0
+IsOverExp r e G = IsWithinExp false r e G
+
+abbrev pub IsOverMem : ℕ → MemExp → List VarSort → Type 0
+IsOverMem r m G = IsWithinMem false r m G
+
 abbrev pub IsOver : ℕ → Form → List VarSort → Type 0
-IsOver r FTrue G = Unit {0}
-IsOver r FFalse G = Unit {0}
-IsOver r (FRel p a b) G = IsOverExp r a G × IsOverExp r b G
-IsOver r (FRd a) G = IsOverExp r a G
-IsOver r (FWr a) G = IsOverExp r a G
-IsOver r (FAnd A B) G = IsOver r A G × IsOver r B G
-IsOver r (FOr A B) G = IsOver r A G × IsOver r B G
-IsOver r (FImp A B) G = IsOver r A G × IsOver r B G
-IsOver r (FAll A) G = IsOver r A (OfWord ∷ G)
-IsOver r (FAllm A) G = IsOver r A (OfMem ∷ G)
+IsOver r F G = IsWithin false r F G
 
 -- what is put for registers below r, and for m where there are any, is over registers below q and a context
 pub record IsOverSubstitution (r q : ℕ) (s : Substitution) (G : List VarSort) : Type 0 where
@@ -52,7 +65,11 @@ abbrev pub part_sort : Part → VarSort
 part_sort (PExp e) = OfWord
 part_sort (PMem m) = OfMem
 
--- a part over registers below r and a context
+-- a part over registers below r and a context, with the steps that are left or without
+abbrev pub IsWithinPart : Bool → ℕ → Part → List VarSort → Type 0
+IsWithinPart left r (PExp e) G = IsWithinExp left r e G
+IsWithinPart left r (PMem m) G = IsWithinMem left r m G
+
+-- a part that doesn't name them
 abbrev pub IsOverPart : ℕ → Part → List VarSort → Type 0
-IsOverPart r (PExp e) G = IsOverExp r e G
-IsOverPart r (PMem m) G = IsOverMem r m G
+IsOverPart r p G = IsWithinPart false r p G

@@ -12,6 +12,7 @@ use Rattle.formula_tree.specs.Substitution.{Substitution}
 abbrev mutual
   pub exp_view : exp.Exp → Exp
   exp_view (E.Reg r) = EReg r
+  exp_view E.Left = ELeft
   exp_view (E.Var n) = EVar n
   exp_view (E.Lit w) = ELit w
   exp_view (E.Oper' o p a q b) = EOp o (exp_view a) (exp_view b)

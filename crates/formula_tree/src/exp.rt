@@ -17,6 +17,8 @@ use word_ops::Op;
 pub enum Exp {
     /// The register of this number, 0 to 31; register 31 is 0.
     Reg(u8),
+    /// The steps that are left.
+    Left,
     /// A bound variable by its number: 0 is the nearest binder's, words and memories counted
     /// together.
     Var(u32),
@@ -76,6 +78,7 @@ impl Exp {
     {
         match self {
             Exp::Reg(number) => Ok(Exp::Reg(*number)),
+            Exp::Left => Ok(Exp::Left),
             Exp::Var(number) => Ok(Exp::Var(*number)),
             Exp::Lit(word) => Ok(Exp::Lit(*word)),
             Exp::Oper(op, a, b) => Exp::oper(alloc, *op, a.copy(alloc)?, b.copy(alloc)?),
@@ -92,6 +95,7 @@ impl Exp {
     {
         match self {
             Exp::Reg(number) => Ok(Exp::Reg(*number)),
+            Exp::Left => Ok(Exp::Left),
             Exp::Var(number) => Ok(Exp::Var(raised(*number, by, from))),
             Exp::Lit(word) => Ok(Exp::Lit(*word)),
             Exp::Oper(op, a, b) => {
@@ -106,7 +110,8 @@ impl Exp {
     }
 
     /// The expression with `regs` for r0 to r30 and `memory` for m, which stand outside `depth`
-    /// binders; register 31 becomes 0. Fails only for want of memory.
+    /// binders; register 31 becomes 0, and the steps that are left stay. Fails only for want of
+    /// memory.
     #[cycle(subst)]
     pub(crate) fn subst_at(
         &self,
@@ -124,6 +129,7 @@ impl Exp {
                 Some(put) => put.shift_at(alloc, depth, 0),
                 None => Ok(Exp::Lit(0)),
             },
+            Exp::Left => Ok(Exp::Left),
             Exp::Var(number) => Ok(Exp::Var(*number)),
             Exp::Lit(word) => Ok(Exp::Lit(*word)),
             Exp::Oper(op, a, b) => {
@@ -146,7 +152,7 @@ impl Exp {
         match self {
             Exp::Oper(_, a, b) => a.height().max(b.height()).saturating_add(1),
             Exp::Sel(memory, a) => memory.height().max(a.height()).saturating_add(1),
-            Exp::Reg(_) | Exp::Var(_) | Exp::Lit(_) => 1,
+            Exp::Reg(_) | Exp::Left | Exp::Var(_) | Exp::Lit(_) => 1,
         }
     }
 }

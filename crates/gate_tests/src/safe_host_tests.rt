@@ -33,7 +33,7 @@ const FIVE_SEVEN: [u8; 16] = [5, 0, 0, 0, 0, 0, 0, 0, 7, 0, 0, 0, 0, 0, 0, 0];
 /// Whether the host keeps what was accepted, and sums up nothing.
 fn is_new(host: &Host) -> bool {
     host.laws();
-    host.accepted().policy().kind() == PolicyKind::Tag && host.sum() == 0
+    host.accepted().policy().number() == 2 && host.sum() == 0
 }
 
 /// Whether a run of no steps of the packet is out of steps, and has its sum.
@@ -82,7 +82,7 @@ fn a_host_by_its_calls(rt: HostRuntime) -> Result<(), Fail> {
 
 /// Whether the host gives back what was accepted for `tag`.
 fn is_given_back(host: Host) -> bool {
-    host.into_accepted().policy().kind() == PolicyKind::Tag
+    host.into_accepted().policy().number() == 2
 }
 
 /// What a host gives back: its fields are what was accepted and the state of a run, and no rights.

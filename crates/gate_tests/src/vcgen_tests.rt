@@ -97,6 +97,7 @@ fn a_limit(rt: HostRuntime) -> Result<(), Fail> {
 
 /// Whether what the policy asks is the formula that its encoding gives back.
 fn is_asked(table: &mut Table, policy: &Policy) -> Result<bool, AllocError> {
+    policy.laws();
     let context = machine_context();
     let pre = encode_form(table, policy.pre(), &context)?;
     let asked = form_of(table, &Sigma1, pre, &context)?;
@@ -105,6 +106,7 @@ fn is_asked(table: &mut Table, policy: &Policy) -> Result<bool, AllocError> {
 
 /// Whether what the policy promises is the formula that its encoding gives back.
 fn is_promised(table: &mut Table, policy: &Policy) -> Result<bool, AllocError> {
+    policy.laws();
     let context = machine_context();
     let post = encode_form(table, policy.post(), &context)?;
     let promised = form_of(table, &Sigma1, post, &context)?;

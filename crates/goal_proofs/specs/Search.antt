@@ -1,5 +1,5 @@
 -- What is kept of a search.
-use Rattle.std.specs.Prelude.{◌≡◌}
+use Rattle.std.specs.Prelude.{◌≡◌, ℕ, ◌-◌, length}
 use Rattle.term_table.specs.Table.{TableView}
 use Rattle.hereditary_subst.specs.Kept.{IsMemo}
 use Rattle.formula_ids.specs.Hypotheses.{AreKnownHyps}
@@ -17,6 +17,10 @@ pub record IsSearch (t : TableView) (s : Search) : Type 0 where
   pub forms : AreNormalForms t s.forms
   pub puts : ArePuts t s.puts
   pub occurrences : AreOccurrences t s.occurrences
+
+-- how many terms came to the table since they were counted last
+abbrev pub uncounted : TableView → Search → ℕ
+uncounted t s = length t.trees - s.counted
 
 -- what is kept under the hypotheses is right of the table
 pub record IsContext (t : TableView) (c : Context) : Type 0 where

@@ -1,10 +1,11 @@
 //! What is kept while a proof is looked for.
 
-ghost use Rattle.std.specs.Prelude.{◌≡◌, IfOk, IfSome, OnOk};
+ghost use Rattle.std.specs.Prelude.{◌≡◌, ◌+◌, ◌*◌, ◌^◌, ◌≤◌, min, IfOk, IfSome, OnOk};
 ghost use Rattle.term_table.specs.Table.{TableView, IsKnown, Extends};
 ghost use Rattle.formula_ids.specs.Hypotheses.{AreKnownHyps};
 ghost use Rattle.goal_proofs.specs.Answers.{IsFoundProof};
-ghost use Rattle.goal_proofs.specs.Search.{IsSearch, IsContext, IsAfter};
+ghost use Rattle.hereditary_subst.specs.Limits.{left_of, results_of, Counts};
+ghost use Rattle.goal_proofs.specs.Search.{IsSearch, IsContext, IsAfter, uncounted};
 
 use crate::answers::{Answers, Means, question_of};
 use bound_proofs::UpperBounds;
@@ -37,7 +38,9 @@ impl Search {
     /// Nothing yet, which takes no memory. A call that would keep more than `most` results answers
     /// `Results`; each term that comes to `table` from now on counts as three.
     pub fn new(table: &Table, most: usize) -> Search
-        ensures { (t : TableView) → IsSearch t result }
+        ensures search { (t : TableView) → IsSearch t result }
+        ensures left { left_of result.memo ≡ most }
+        ensures counted { uncounted table.now result ≡ 0 }
     {
         let alloc = table.allocator();
         Search {
@@ -51,7 +54,8 @@ impl Search {
 
     /// Counts steps that keep nothing in the limit of the memo. Fails past it.
     pub fn spend_steps(&mut self, steps: u64) -> Result<(), Exhausted>
-        ensures { (t : TableView) → IsSearch t self.old → IsSearch t self.new }
+        ensures search { (t : TableView) → IsSearch t self.old → IsSearch t self.new }
+        ensures left { Counts (results_of steps) self.old.memo self.new.memo result }
     {
         self.memo.spend_steps(steps)
     }
@@ -59,7 +63,10 @@ impl Search {
     /// Counts each term that came to the table since the last call, whoever made it. Fails past the
     /// limit of the memo.
     pub(crate) fn spend_terms(&mut self, table: &Table) -> Result<(), Exhausted>
-        ensures { (t : TableView) → IsSearch t self.old → IsSearch t self.new }
+        ensures search { (t : TableView) → IsSearch t self.old → IsSearch t self.new }
+        ensures left { let terms = uncounted table.now self.old in OnOk result
+            (left_of self.new.memo + min (3 * terms) (2 ^ 60) ≤ left_of self.old.memo) }
+        ensures counted { uncounted table.now self.new ≡ 0 }
     {
         let count = table.count();
         let terms = count.saturating_sub(self.counted);

@@ -5,3 +5,4 @@ pub mod Simples
 pub mod Inside
 pub mod Heads
 pub mod Kept
+pub mod Limits

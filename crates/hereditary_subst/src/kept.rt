@@ -4,9 +4,10 @@
 //! that asked for it. Rows are found by an ordered map of numbers, so that no choice of ids makes them
 //! slow to find. They are asked for and kept beside the table whose ids they speak of.
 
-ghost use Rattle.std.specs.Prelude.{◌≡◌, IfSome};
+ghost use Rattle.std.specs.Prelude.{◌≡◌, ◌+◌, IfSome, OnOk};
 ghost use Rattle.term_table.specs.Table.{TableView, IsKnown};
 ghost use Rattle.hereditary_subst.specs.Kept.{IsMemo, Says, AreKnownIds};
+ghost use Rattle.hereditary_subst.specs.Limits.{left_of, results_of, Counts};
 
 use crate::MOST_TREES;
 use crate::exhausted::Exhausted;
@@ -15,7 +16,7 @@ use std::collections::BTreeMap;
 use term_table::{Id, Table};
 
 /// So many steps that keep nothing count as one result.
-const STEPS_A_RESULT: u64 = 16;
+pub const STEPS_A_RESULT: u64 = 16;
 
 /// What is asked of a tree, by ids and counts.
 #[derive(Clone, Copy, PartialEq, Eq, PartialOrd, Ord)]
@@ -107,7 +108,8 @@ impl Memo {
     /// A memo without results, which takes no memory yet. A call that would keep more than `left`
     /// results, with those that `spend` counts, answers `Results`.
     pub fn new(alloc: Global, left: usize) -> Memo
-        ensures { (t : TableView) → IsMemo t result }
+        ensures memo { (t : TableView) → IsMemo t result }
+        ensures left { left_of result ≡ left }
     {
         Memo {
             rows: BTreeMap::new(alloc),
@@ -117,7 +119,8 @@ impl Memo {
 
     /// Counts a result that is kept elsewhere. Fails past the limit, by `Results`.
     pub fn spend(&mut self) -> Result<(), Exhausted>
-        ensures { (t : TableView) → IsMemo t self.old → IsMemo t self.new }
+        ensures memo { (t : TableView) → IsMemo t self.old → IsMemo t self.new }
+        ensures left { Counts 1 self.old self.new result }
     {
         if self.left == 0 {
             return Err(Exhausted::Results);
@@ -129,7 +132,8 @@ impl Memo {
     /// Counts steps that keep nothing: each call as a result, and each 16 steps as another. Fails past
     /// the limit, by `Results`.
     pub fn spend_steps(&mut self, steps: u64) -> Result<(), Exhausted>
-        ensures { (t : TableView) → IsMemo t self.old → IsMemo t self.new }
+        ensures memo { (t : TableView) → IsMemo t self.old → IsMemo t self.new }
+        ensures left { Counts (results_of steps) self.old self.new result }
     {
         let results = steps / STEPS_A_RESULT + 1;
         if (self.left as u64) < results {
@@ -170,7 +174,8 @@ impl Memo {
     ) -> Result<(), Exhausted>
         requires memo { IsMemo table.now self.old }
         requires says { Says table.now question term met }
-        ensures { IsMemo table.now self.new }
+        ensures memo { IsMemo table.now self.new }
+        ensures left { OnOk result (left_of self.old ≡ left_of self.new + 1) }
     {
         if table.count() > MOST_TREES {
             return Err(Exhausted::Results);

@@ -15,8 +15,9 @@ mod kept;
 mod shifts;
 mod substitute;
 
-ghost use Rattle.std.specs.Prelude.{◌≡◌, ◌<◌, ◌≤◌, ◌+◌, ◌^◌, IfOk};
+ghost use Rattle.std.specs.Prelude.{◌≡◌, ◌<◌, ◌≤◌, ◌+◌, ◌^◌, IfOk, OnOk};
 ghost use Rattle.hereditary_subst.specs.Kept.{IsMemo};
+ghost use Rattle.hereditary_subst.specs.Limits.{left_of};
 ghost use Rattle.term_table.specs.Tree.{shifted};
 ghost use Rattle.term_table.specs.Subst.{HSub, HSubType, hsub, hsub_type, erase};
 ghost use Rattle.term_table.specs.Table.{IsKnown, tree_at, Extends, Stands};
@@ -83,6 +84,7 @@ pub fn weaken_with(
     ensures tree { IfOk result (Stands table.new (shifted by 0 (tree_at table.old id))) }
     ensures extends { Extends table.old table.new }
     ensures memo { IsMemo table.new memo.new }
+    ensures left { OnOk result (left_of memo.new ≤ left_of memo.old) }
 {
     table.laws();
     shift_at(table, memo, id, by, 0)
@@ -174,6 +176,7 @@ pub fn subst_type_with(
         IfOk result (Stands table.new (hsub_type s m 0 t)) }
     ensures extends { Extends table.old table.new }
     ensures memo { IsMemo table.new memo.new }
+    ensures left { OnOk result (left_of memo.new ≤ left_of memo.old) }
 {
     substitution_laws();
     table.laws();

@@ -1,10 +1,11 @@
 //! Shifting a tree of a table, and lowering what was shifted.
 
-ghost use Rattle.std.specs.Prelude.{◌≡◌, true, false, ◌<◌, ◌≤◌, ◌+◌, ◌^◌, IfOk, IsTrue};
+ghost use Rattle.std.specs.Prelude.{◌≡◌, ◌<◌, ◌≤◌, ◌+◌, ◌^◌, true, false, IfOk, IsTrue, OnOk};
 ghost use Rattle.term_table.specs.Tree.{shifted, Var};
 ghost use Rattle.term_table.specs.Scope.{is_scoped, is_term_shape};
 ghost use Rattle.term_table.specs.Table.{IsKnown, tree_at, Extends, Stands};
 ghost use Rattle.hereditary_subst.specs.Kept.{IsMemo, Lowers};
+ghost use Rattle.hereditary_subst.specs.Limits.{left_of};
 
 use crate::exhausted::Exhausted;
 use crate::kept::{Memo, Question, number};
@@ -59,6 +60,7 @@ pub(crate) fn shift_at(
     ensures tree { IfOk result (Stands table.new (shifted by from (tree_at table.old id))) }
     ensures extends { Extends table.old table.new }
     ensures memo { IsMemo table.new memo.new }
+    ensures left { OnOk result (left_of memo.new ≤ left_of memo.old) }
 {
     table.laws();
     if is_within(table, id, from) {
@@ -99,6 +101,7 @@ fn shift_parts(
     ensures tree { IfOk result (Stands table.new (shifted by from (tree_at table.old id))) }
     ensures extends { Extends table.old table.new }
     ensures memo { IsMemo table.new memo.new }
+    ensures left { OnOk result (left_of memo.new ≤ left_of memo.old) }
 {
     match table.node(id) {
         Node::Var(n) => shift_variable(table, id, n, by, from),
@@ -163,6 +166,7 @@ fn shift_type_parts(
     ensures tree { IfOk result (Stands table.new (shifted by from (tree_at table.old id))) }
     ensures extends { Extends table.old table.new }
     ensures memo { IsMemo table.new memo.new }
+    ensures left { OnOk result (left_of memo.new ≤ left_of memo.old) }
 {
     match table.node(id) {
         Node::TApp(p, a) => {
@@ -203,6 +207,7 @@ pub(crate) fn lower_at(
     ensures tree { IfOk result (Lowers table.new x (tree_at table.old id)) }
     ensures extends { Extends table.old table.new }
     ensures memo { IsMemo table.new memo.new }
+    ensures left { OnOk result (left_of memo.new ≤ left_of memo.old) }
 {
     if is_within(table, id, x) {
         return Ok(Some(id));
@@ -242,6 +247,7 @@ fn lower_parts(table: &mut Table, memo: &mut Memo, id: Id, x: u64) -> Result<Opt
     ensures tree { IfOk result (Lowers table.new x (tree_at table.old id)) }
     ensures extends { Extends table.old table.new }
     ensures memo { IsMemo table.new memo.new }
+    ensures left { OnOk result (left_of memo.new ≤ left_of memo.old) }
 {
     match table.node(id) {
         Node::Var(n) => lower_variable(table, id, n, x),
@@ -296,6 +302,7 @@ fn lower_type_parts(
     ensures tree { IfOk result (Lowers table.new x (tree_at table.old id)) }
     ensures extends { Extends table.old table.new }
     ensures memo { IsMemo table.new memo.new }
+    ensures left { OnOk result (left_of memo.new ≤ left_of memo.old) }
 {
     match table.node(id) {
         Node::TApp(p, a) => {

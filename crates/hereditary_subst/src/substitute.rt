@@ -2,12 +2,13 @@
 //! on at the simple type that remains, and with another head it is put together again. A simple type
 //! goes by the id of a type that erases to it.
 
-ghost use Rattle.std.specs.Prelude.{◌≡◌, ◌<◌, ◌≤◌, ◌+◌, ◌^◌, IfOk, IsTrue, true};
+ghost use Rattle.std.specs.Prelude.{◌≡◌, ◌<◌, ◌≤◌, ◌+◌, ◌^◌, IfOk, IsTrue, true, OnOk};
 ghost use Rattle.term_table.specs.Tree.{App, Lam, Pi, Var};
 ghost use Rattle.term_table.specs.Scope.{is_term_shape};
 ghost use Rattle.term_table.specs.Table.{IsKnown, tree_at, Extends, Stands};
 ghost use Rattle.hereditary_subst.specs.Heads.{put_of, put_type_of, HeadPut, HeadApplied};
 ghost use Rattle.hereditary_subst.specs.Kept.{IsMemo};
+ghost use Rattle.hereditary_subst.specs.Limits.{left_of};
 ghost use Rattle.hereditary_subst.specs.Inside.Spare.{IsLowerable, Spares};
 
 use crate::exhausted::Exhausted;
@@ -50,6 +51,7 @@ fn spare_at(
     ensures tree { IfOk result (Spares table.new (tree_at table.old m) x (tree_at table.old id)) }
     ensures extends { Extends table.old table.new }
     ensures memo { IsMemo table.new memo.new }
+    ensures left { OnOk result (left_of memo.new ≤ left_of memo.old) }
 {
     let Some(r) = lower_at(table, memo, id, x)? else {
         return Ok(None);
@@ -79,6 +81,7 @@ pub(crate) fn subst_at(
     ensures tree { IfOk result (Stands table.new (put_of table.old ty m x id)) }
     ensures extends { Extends table.old table.new }
     ensures memo { IsMemo table.new memo.new }
+    ensures left { OnOk result (left_of memo.new ≤ left_of memo.old) }
 {
     if let Node::Lam(b) = table.node(id) {
         return subst_under(table, memo, id, b, m, x, ty);
@@ -112,6 +115,7 @@ fn subst_under(
     ensures tree { IfOk result (Stands table.new (put_of table.old ty m x id)) }
     ensures extends { Extends table.old table.new }
     ensures memo { IsMemo table.new memo.new }
+    ensures left { OnOk result (left_of memo.new ≤ left_of memo.old) }
 {
     if let Some(r) = spare_at(table, memo, id, m, x)? {
         return Ok(Some(r));
@@ -150,6 +154,7 @@ fn head_at(
     ensures tree { IfOk result (HeadPut table.old ty m x id table.new) }
     ensures extends { Extends table.old table.new }
     ensures memo { IsMemo table.new memo.new }
+    ensures left { OnOk result (left_of memo.new ≤ left_of memo.old) }
 {
     match table.node(id) {
         Node::Var(n) => head_variable(table, id, n, m, x, ty),
@@ -217,6 +222,7 @@ fn head_kept(
     ensures tree { IfOk result (HeadPut table.old ty m x id table.new) }
     ensures extends { Extends table.old table.new }
     ensures memo { IsMemo table.new memo.new }
+    ensures left { OnOk result (left_of memo.new ≤ left_of memo.old) }
 {
     if let Some(term) = spare_at(table, memo, id, m, x)? {
         return Ok(Some(Atom { term, met: None }));
@@ -258,6 +264,7 @@ fn head_parts(
     ensures tree { IfOk result (HeadPut table.old ty m x id table.new) }
     ensures extends { Extends table.old table.new }
     ensures memo { IsMemo table.new memo.new }
+    ensures left { OnOk result (left_of memo.new ≤ left_of memo.old) }
 {
     let Some(b) = subst_at(table, memo, a, m, x, ty)? else {
         return Ok(None);
@@ -290,6 +297,7 @@ fn reduce_at(
     ensures tree { IfOk result (HeadApplied table.old u g b table.new) }
     ensures extends { Extends table.old table.new }
     ensures memo { IsMemo table.new memo.new }
+    ensures left { OnOk result (left_of memo.new ≤ left_of memo.old) }
 {
     table.laws();
     let Node::Lam(body) = table.node(g) else {
@@ -338,6 +346,7 @@ pub(crate) fn subst_type_at(
     ensures tree { IfOk result (Stands table.new (put_type_of table.old ty m x id)) }
     ensures extends { Extends table.old table.new }
     ensures memo { IsMemo table.new memo.new }
+    ensures left { OnOk result (left_of memo.new ≤ left_of memo.old) }
 {
     if is_term(table, id) {
         return Ok(None);
@@ -375,6 +384,7 @@ fn subst_type_parts(
     ensures tree { IfOk result (Stands table.new (put_type_of table.old ty m x id)) }
     ensures extends { Extends table.old table.new }
     ensures memo { IsMemo table.new memo.new }
+    ensures left { OnOk result (left_of memo.new ≤ left_of memo.old) }
 {
     match table.node(id) {
         Node::Fam(_) => Ok(Some(id)),
@@ -415,6 +425,7 @@ fn subst_product(
     ensures tree { IfOk result (Stands table.new (put_type_of table.old ty m x id)) }
     ensures extends { Extends table.old table.new }
     ensures memo { IsMemo table.new memo.new }
+    ensures left { OnOk result (left_of memo.new ≤ left_of memo.old) }
 {
     let Some(c) = subst_type_at(table, memo, a, m, x, ty)? else {
         return Ok(None);

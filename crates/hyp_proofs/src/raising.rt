@@ -1,9 +1,10 @@
 //! Hypotheses under one more binder.
 
-ghost use Rattle.std.specs.Prelude.{◌≡◌, [], ◌∷◌, ◌++◌, IfOk, OnOk};
+ghost use Rattle.std.specs.Prelude.{◌≡◌, ◌∷◌, ◌++◌, ◌≤◌, ◌+◌, [], IfOk, OnOk, length};
 ghost use Rattle.term_table.specs.Tree.{shift};
 ghost use Rattle.term_table.specs.Table.{IsKnown, tree_at, Extends};
 ghost use Rattle.hereditary_subst.specs.Kept.{IsMemo};
+ghost use Rattle.hereditary_subst.specs.Limits.{left_of};
 ghost use Rattle.formula_tree.specs.Formulas.{Form, shift_form};
 ghost use Rattle.formula_terms.specs.Encoding.{form_encoding};
 ghost use Rattle.formula_ids.specs.Hypotheses.{AreKnownHyps, AreHyps};
@@ -34,6 +35,7 @@ fn push_raised(
         (Γ ++ (shift_form 1 0 A, shift 1 0 (tree_at table.old proof)) ∷ [])) }
     ensures extends { Extends table.old table.new }
     ensures memo { IsMemo table.new memo.new }
+    ensures left { OnOk result (left_of memo.new + 1 ≤ left_of memo.old) }
 {
     memo.spend()?;
     let form = raised(table, memo, form)?;
@@ -57,6 +59,7 @@ pub fn raised_hyps(
         → IfOk result (λ under. AreHyps table.new under (raised_hyps Γ)) }
     ensures extends { Extends table.old table.new }
     ensures memo { IsMemo table.new memo.new }
+    ensures left { OnOk result (left_of memo.new + length hyps.now ≤ left_of memo.old) }
 {
     let mut under = Hypotheses::new(table.allocator());
     let list = hyps.as_slice();

@@ -5,10 +5,12 @@
 //! (`specs/Lists`), so equal contexts are equal ids. Rows are found by an ordered map
 //! of numbers, so that no choice of ids makes them slow to find.
 
-ghost use Rattle.std.specs.Prelude.{◌≡◌, IfSome, Option};
+ghost use Rattle.std.specs.Prelude.{◌≡◌, ◌+◌, ◌/◌, ◌^◌, ◌-◌, ◌≤◌, min, IfSome, OnOk, Option};
 ghost use Rattle.term_table.specs.Tree.{Tree, Const};
 ghost use Rattle.term_table.specs.Table.{TableView, IsKnown};
+ghost use Rattle.hereditary_subst.specs.Limits.{left_of, Counts};
 ghost use Rattle.lf_check.specs.Kept.{AreKept, IsJudgement};
+ghost use Rattle.lf_check.specs.declared.judgements.TheConstants.{STEPS_A_JUDGEMENT};
 
 use hereditary_subst::{Exhausted, Memo};
 use lf_signature::Signature;
@@ -17,7 +19,7 @@ use std::collections::BTreeMap;
 use term_table::{Id, Table};
 
 /// So many steps along contexts, which keep nothing, count as one judgement.
-const STEPS_A_JUDGEMENT: u64 = 64;
+pub const STEPS_A_JUDGEMENT: u64 = 64;
 
 /// What is asked of a term or type, by ids.
 #[derive(Clone, Copy, PartialEq, Eq, PartialOrd, Ord)]
@@ -90,7 +92,8 @@ impl Kept {
     /// Nothing kept yet, which takes no memory. A call that would keep more than `limit` results of
     /// shifts and substitutions and judgements, counted together, answers `Results`.
     pub fn new(alloc: Global, limit: usize) -> Kept
-        ensures { (sig : Const → Option Tree) (t : TableView) → AreKept sig t result }
+        ensures kept { (sig : Const → Option Tree) (t : TableView) → AreKept sig t result }
+        ensures left { left_of result.memo ≡ limit }
     {
         Kept {
             memo: Memo::new(alloc, limit),
@@ -103,7 +106,9 @@ impl Kept {
     /// Counts a step along a context, which keeps nothing. Fails past the limit of steps, by `Results`.
     pub(crate) fn step<S: Signature>(&mut self, table: &Table, sig: &S) -> Result<(), Exhausted>
         requires { AreKept (S.declares sig.now table.now) table.now self.old }
-        ensures { AreKept (S.declares sig.now table.now) table.now self.new }
+        ensures kept { AreKept (S.declares sig.now table.now) table.now self.new }
+        ensures counted { self.new.steps ≡ min (self.old.steps + 1) (2 ^ 64 - 1) }
+        ensures short { OnOk result (self.new.steps / STEPS_A_JUDGEMENT ≤ self.new.limit) }
     {
         let _ = table; // only the clauses speak of it
         let _ = sig; // only the clauses speak of it
@@ -117,7 +122,8 @@ impl Kept {
     /// Counts a result that is kept elsewhere. Fails past the limit, by `Results`.
     pub(crate) fn spend<S: Signature>(&mut self, table: &Table, sig: &S) -> Result<(), Exhausted>
         requires { AreKept (S.declares sig.now table.now) table.now self.old }
-        ensures { AreKept (S.declares sig.now table.now) table.now self.new }
+        ensures kept { AreKept (S.declares sig.now table.now) table.now self.new }
+        ensures left { Counts 1 self.old.memo self.new.memo result }
     {
         let _ = table; // only the clauses speak of it
         let _ = sig; // only the clauses speak of it
@@ -168,7 +174,8 @@ impl Kept {
         requires kept { AreKept (S.declares sig.now table.now) table.now self.old }
         requires judges { let declared = S.declares sig.now table.now in
             IsJudgement declared table.now question context answer }
-        ensures { AreKept (S.declares sig.now table.now) table.now self.new }
+        ensures kept { AreKept (S.declares sig.now table.now) table.now self.new }
+        ensures left { OnOk result (left_of self.old.memo ≡ left_of self.new.memo + 1) }
     {
         let _ = table; // only the clauses speak of it
         let _ = sig; // only the clauses speak of it

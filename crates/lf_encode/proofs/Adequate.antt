@@ -14,7 +14,7 @@ use Rattle.formula_tree.specs.Scope.{VarSort, sort_at, OfWord, OfMem, OfProof, I
 use Rattle.lf_signature.specs.Constants.{is_word}
 use Rattle.lf_signature.specs.Simply.{SChecks, lam_schecks, atom_schecks, SSynth, var_ssynth, con_ssynth, app_ssynth}
 use Rattle.term_table.proofs.Options.{some_injective, map_some, bind_some}
-use Rattle.std.proofs.Common.{◌+◌, ◌-◌, not, arith}
+use Rattle.std.proofs.Common.{◌+◌, not, arith}
 use Rattle.word_ops.specs.Words.{test_of}
 use Rattle.lf_signature.specs.Rules.{rule_type}
 use Rattle.lf_signature.specs.Constants.{constant_types, the_rules, op_in, calc_type, fact_type, deny_type, declared}

@@ -1,13 +1,8 @@
 -- What a comparison of two trees answers, by the comparison of their parts.
-use Rattle.std.proofs.Common.{◌≡◌, ◌↔◌, ℕ, Bool, true, false, IsTrue, List, Result, IfOk, sym, ◌∙◌, ap, subst}
+use Rattle.std.proofs.Common.{◌≡◌, ◌↔◌, Bool, true, false, IsTrue, Result, IfOk, sym, ◌∙◌, ap, subst}
 use Rattle.std.proofs.lemmas.Bool.{false≢true}
 use Rattle.std.proofs.lemmas.Result.{IfOk-weaker}
-use Rattle.term_table.specs.Tree.{Tree, Var, App, Lam}
-use Rattle.term_table.specs.Table.{TableView, IsKnown, tree_at, Extends}
-use Rattle.lf_signature.specs.Nodes.{IsIdOf}
-use Rattle.lf_encode.specs.PutTree.{machine_terms_at, put_tree}
-use Rattle.lf_encode.specs.Kept.{AreMachineTerms}
-use Rattle.lf_encode.proofs.KeptRows.{ready-same}
+use Rattle.term_table.specs.Tree.{Tree, App, Lam}
 
 -- a tree is made in this way of one first part and one second part
 pub record IsOneToOne (make : Tree → Tree → Tree) : Type 0 where

@@ -11,13 +11,13 @@ use Rattle.formula_tree.specs.Scope.{VarSort, sort_at, IsOverPart, part_sort}
 use Rattle.formula_tree.specs.Sizes.{binders}
 use Rattle.formula_terms.specs.Encoding.{exp_encoding, mem_encoding, form_encoding, part_encoding, part_family}
 use Rattle.lf_encode.specs.declared.contexts.Sort as sort
-use Rattle.lf_encode.specs.Contexts.{sorts_of, bound_sorts, without_var, registers_in, names_in}
+use Rattle.lf_encode.specs.Contexts.{sorts_of, has_left, bound_sorts, without_var, registers_in, names_in}
 use Rattle.lf_encode.specs.Contexts.{IsExpIn, IsMemIn, IsFormIn, IsPartIn, encoding_in, exp_encoding_in, mem_encoding_in, part_encoding_in}
 use Rattle.lf_encode.proofs.Naming.{named_exp-is, named_mem-is, named_form-is}
 use Rattle.lf_encode.proofs.Named.{count, length-sorts_of, bound-at, exp_in-over, mem_in-over, form_in-over, binders-named}
 use Rattle.lf_encode.proofs.Substituted.{hsub-exp_encoding, hsub-mem_encoding, hsub-form_encoding}
 use Rattle.lf_encode.proofs.NamedParts.{named_part, named-subst_exp, named-subst_mem, named-subst_form}
-use Rattle.lf_encode.proofs.Without.{machine-without}
+use Rattle.lf_encode.proofs.Without.{machine-without, left-without}
 
 -- ---- a part over variables for any variable of the context
 
@@ -78,11 +78,13 @@ pub hsub-exp_bound : (ctx : List sort.Sort) (e : Exp) (x : ℕ) (p : Part) → I
 hsub-exp_bound ctx e x p h q =
     let k : ℕ = count (without_var x ctx) in
     let near = machine-without ctx x (part_sort p) q in
+    let steps = left-without ctx x (part_sort p) q in
     named-put (without_var x ctx) p x (exp_encoding_in ctx e)
     ∙ hsub-exp_in ctx e x (named_part k p) h (named-at ctx x k p q)
     ∙ ap (λ z. Some (exp_encoding (subst_var_exp z x (named_part k p)))) (named_exp-is (count ctx) e)
     ∙ ap (λ z. Some (exp_encoding z))
-    (sym (named-subst_exp e (registers_in ctx 32) (count ctx) k x (bound_sorts ctx) p h q near) ∙ sym (named_exp-is k (subst_var_exp e x p)))
+    (sym (named-subst_exp e (has_left ctx) (registers_in ctx 32) (count ctx) k x (bound_sorts ctx) p h q near steps)
+    ∙ sym (named_exp-is k (subst_var_exp e x p)))
 
 pub hsub-mem_bound : (ctx : List sort.Sort) (m : MemExp) (x : ℕ) (p : Part) → IsMemIn ctx 32 m → sort_at (bound_sorts ctx) x ≡ Some (part_sort p) →
     hsub (Base (part_family p)) (part_encoding_in (without_var x ctx) p) x (mem_encoding_in ctx m)
@@ -90,11 +92,13 @@ pub hsub-mem_bound : (ctx : List sort.Sort) (m : MemExp) (x : ℕ) (p : Part) �
 hsub-mem_bound ctx m x p h q =
     let k : ℕ = count (without_var x ctx) in
     let near = machine-without ctx x (part_sort p) q in
+    let steps = left-without ctx x (part_sort p) q in
     named-put (without_var x ctx) p x (mem_encoding_in ctx m)
     ∙ hsub-mem_in ctx m x (named_part k p) h (named-at ctx x k p q)
     ∙ ap (λ z. Some (mem_encoding (subst_var_mem z x (named_part k p)))) (named_mem-is (count ctx) m)
     ∙ ap (λ z. Some (mem_encoding z))
-    (sym (named-subst_mem m (registers_in ctx 32) (count ctx) k x (bound_sorts ctx) p h q near) ∙ sym (named_mem-is k (subst_var_mem m x p)))
+    (sym (named-subst_mem m (has_left ctx) (registers_in ctx 32) (count ctx) k x (bound_sorts ctx) p h q near steps)
+    ∙ sym (named_mem-is k (subst_var_mem m x p)))
 
 pub hsub-form_bound : (ctx : List sort.Sort) (F : Form) (x : ℕ) (p : Part) →
     IsFormIn ctx 32 F → sort_at (bound_sorts ctx) x ≡ Some (part_sort p) → IsPartIn (without_var x ctx) 32 p →
@@ -105,8 +109,10 @@ hsub-form_bound ctx F x p h q o r =
     let many = length-sorts_of (without_var x ctx) in
     let over = part_in-over (without_var x ctx) p o in
     let near = machine-without ctx x (part_sort p) q in
+    let steps = left-without ctx x (part_sort p) q in
     named-put (without_var x ctx) p x (encoding_in ctx F)
     ∙ hsub-form_in ctx F (sorts_of (without_var x ctx)) x (named_part k p) h (named-at ctx x k p q) over (omega (arith, many, r))
     ∙ ap (λ z. Some (form_encoding (subst_var z x (named_part k p)))) (named_form-is (count ctx) F)
     ∙ ap (λ z. Some (form_encoding z))
-    (sym (named-subst_form F (registers_in ctx 32) (count ctx) k x (bound_sorts ctx) p h q near) ∙ sym (named_form-is k (subst_var F x p)))
+    (sym (named-subst_form F (has_left ctx) (registers_in ctx 32) (count ctx) k x (bound_sorts ctx) p h q near steps)
+    ∙ sym (named_form-is k (subst_var F x p)))

@@ -1,6 +1,6 @@
 -- Encodings over a context of word and memory variables, the machine's among them.
-use Rattle.std.proofs.Common.{◌≡◌, ℕ, zero, suc, ◌+◌, ◌^◌, ◌<◌, ◌≤◌, max, ◌-◌, nat_lt, Bool, true, false, cond, Option, Some}
-use Rattle.std.proofs.Common.{List, [], ◌∷◌, ◌++◌, length, drop, refl, sym, ◌∙◌, ap, subst, arith, append_assoc}
+use Rattle.std.proofs.Common.{◌≡◌, ℕ, zero, suc, ◌+◌, ◌^◌, ◌<◌, ◌≤◌, max, ◌-◌, nat_lt, Bool, true, false, ◌||◌, cond, Option, Some}
+use Rattle.std.proofs.Common.{List, [], ◌∷◌, ◌++◌, length, drop, refl, sym, ◌∙◌, ap, subst, arith, append_assoc, append-nil}
 use Rattle.term_table.specs.Tree.{Tree, Fam, Const}
 use Rattle.word_ops.specs.declared.Op.{Op}
 use Rattle.lf_signature.specs.Known.{IsKnownSignature}
@@ -8,15 +8,15 @@ use Rattle.formula_tree.specs.Operators.{UsesExp, UsesMem, Uses}
 use Rattle.lf_signature.specs.Known.{HasOp}
 use Rattle.lf_signature.specs.Typing.{Checks}
 use Rattle.formula_tree.specs.Formulas.{Exp, EReg, ELeft, EVar, ELit, EOp, ESel, MemExp, MMem, MVar, MUpd, Form, FTrue, FFalse, FRel, FRd, FWr, FAnd, FOr, FImp, FAll, FAllm}
-use Rattle.formula_tree.specs.Scope.{VarSort, OfWord, OfMem, sort_at, IsOverExp, IsOverMem, IsOver}
+use Rattle.formula_tree.specs.Scope.{VarSort, OfWord, OfMem, sort_at, IsWithinExp, IsWithinMem, IsWithin, IsOverExp, IsOverMem, IsOver}
 use Rattle.formula_tree.specs.Sizes.{binders, form_height}
 use Rattle.lf_encode.specs.declared.contexts.Sort as sort
 use Rattle.lf_encode.specs.declared.contexts.Sort.TheVariants as S
 use Rattle.formula_terms.specs.Encoding.{exp_encoding, mem_encoding, form_encoding}
-use Rattle.lf_encode.specs.Contexts.{var_sort, put_nearest, sorts_of, sort_types, has_words, has_machine, bound_sorts, registers_in, IsExpIn, IsMemIn, IsFormIn, encoding_in, exp_encoding_in, mem_encoding_in, EncodesForm, EncodesExp, EncodesMem}
+use Rattle.lf_encode.specs.Contexts.{var_sort, put_nearest, sorts_of, sort_types, has_words, has_machine, has_left, machine_count, bound_sorts, registers_in, IsExpIn, IsMemIn, IsFormIn, encoding_in, exp_encoding_in, mem_encoding_in, EncodesForm, EncodesExp, EncodesMem}
 use Rattle.lf_encode.specs.Naming.{words, named_exp, named_mem, named_form, unnamed_exp, unnamed_mem, unnamed_form}
-use Rattle.lf_encode.proofs.Naming.{near-at}
-use Rattle.lf_encode.proofs.Naming.{named_exp-is, named_mem-is, named_form-is, named_exp-over, named_mem-over, named_form-over, named_exp-none, named_mem-none, named_form-none, unnamed_exp-over, unnamed_mem-over, unnamed_form-over, back_exp, back_mem, back_form}
+use Rattle.lf_encode.proofs.Naming.{near-at, Front, Alone, Machine, Counted, front_count, reg_count, has_steps, far}
+use Rattle.lf_encode.proofs.Naming.{named_exp-is, named_mem-is, named_form-is, named_exp-over, named_mem-over, named_form-over, unnamed_exp-over, unnamed_mem-over, unnamed_form-over, back_exp, back_mem, back_form}
 use Rattle.formula_terms.proofs.Encoded.{exp_encoding-injective, mem_encoding-injective, form_encoding-injective}
 use Rattle.lf_encode.proofs.Typed.{exp_checks, mem_checks, form_checks}
 use Rattle.lf_encode.proofs.Adequate.{checked_form, checked_mem, checked_exp}
@@ -38,13 +38,22 @@ put_nearest-words (suc n) [] G h = cc
 put_nearest-words (suc n) (S.Exp ∷ ctx) G h = put_nearest-words n ctx (OfWord ∷ G) h ∙ ap (put_nearest (drop n ctx)) (words-more n G)
 put_nearest-words (suc n) (S.Mem ∷ ctx) G h = cc
 
-abbrev pub machine : List VarSort
-machine = words 31 (OfMem ∷ [])
-
-sorts_of-machine : (ctx : List sort.Sort) → has_machine ctx ≡ true → sorts_of ctx ≡ sorts_of (drop 32 ctx) ++ machine
+sorts_of-machine : (ctx : List sort.Sort) → has_machine ctx ≡ true →
+    sorts_of ctx ≡ sorts_of (drop 32 ctx) ++ far 31 Machine
 sorts_of-machine [] h = cc
 sorts_of-machine (S.Exp ∷ ctx) h = cc
-sorts_of-machine (S.Mem ∷ ctx) h = put_nearest-words 31 ctx (OfMem ∷ []) h ∙ put_nearest-append (drop 31 ctx) machine
+sorts_of-machine (S.Mem ∷ ctx) h =
+    put_nearest-words 31 ctx (OfMem ∷ []) h ∙ put_nearest-append (drop 31 ctx) (far 31 Machine)
+
+sorts_of-left : (ctx : List sort.Sort) → has_left ctx ≡ true →
+    sorts_of ctx ≡ sorts_of (drop 33 ctx) ++ far 31 Counted
+sorts_of-left [] h = cc
+sorts_of-left (S.Mem ∷ ctx) h = cc
+sorts_of-left (S.Exp ∷ []) h = cc
+sorts_of-left (S.Exp ∷ S.Exp ∷ ctx) h = cc
+sorts_of-left (S.Exp ∷ S.Mem ∷ ctx) h =
+    put_nearest-words 31 ctx (OfMem ∷ OfWord ∷ []) h
+    ∙ put_nearest-append (drop 31 ctx) (far 31 Counted)
 
 length-put_nearest : (ctx : List sort.Sort) (G : List VarSort) → length (put_nearest ctx G) ≡ length ctx + length G
 length-put_nearest [] G = let same : length G ≡ 0 + length G = omega arith in same
@@ -53,34 +62,63 @@ length-put_nearest (s ∷ ctx) G = let rest = length-put_nearest ctx (var_sort s
 pub length-sorts_of : (ctx : List sort.Sort) → length (sorts_of ctx) ≡ length ctx
 length-sorts_of ctx = let all = length-put_nearest ctx [] in omega (arith, all)
 
--- a context is that of the machine and nearer variables, or of variables without names
-record Split (ctx : List sort.Sort) (b : Bool) : Type 0 where
-  near : List VarSort
-  bound : bound_sorts ctx ≡ near
-  registers : (r : ℕ) → registers_in ctx r ≡ cond b r 0
-  sorts : sorts_of ctx ≡ cond b (near ++ machine) near
+-- not both begin a context
+pub left-apart : (ctx : List sort.Sort) → has_machine ctx ≡ true → has_left ctx ≡ false
+left-apart [] h = cc
+left-apart (S.Exp ∷ ctx) h = cc
+left-apart (S.Mem ∷ ctx) h = refl
 
-split : (ctx : List sort.Sort) (b : Bool) → has_machine ctx ≡ b → Split ctx b
-split ctx true h = record {
-  near = sorts_of (drop 32 ctx);
-  bound = ap (λ c. cond c (sorts_of (drop 32 ctx)) (sorts_of ctx)) h;
-  registers = λ r. ap (λ c. cond c r 0) h;
-  sorts = sorts_of-machine ctx h;
-}
-split ctx false h = record {
-  near = sorts_of ctx;
-  bound = ap (λ c. cond c (sorts_of (drop 32 ctx)) (sorts_of ctx)) h;
-  registers = λ r. ap (λ c. cond c r 0) h;
-  sorts = refl;
-}
+pub machine-apart : (ctx : List sort.Sort) → has_left ctx ≡ true → has_machine ctx ≡ false
+machine-apart [] h = cc
+machine-apart (S.Exp ∷ ctx) h = refl
+machine-apart (S.Mem ∷ ctx) h = cc
+
+-- what stands furthest in a context, and the variables that are nearer
+pub record Split (ctx : List sort.Sort) : Type 0 where
+  pub front : Front
+  pub count : machine_count ctx ≡ front_count front
+  pub registers : (r : ℕ) → registers_in ctx r ≡ reg_count front r
+  pub left : has_left ctx ≡ has_steps front
+  pub sorts : sorts_of ctx ≡ bound_sorts ctx ++ far 31 front
+
+pub split : (ctx : List sort.Sort) → Split ctx
+split ctx = go (has_machine ctx) refl (has_left ctx) refl
+  where
+    go : (b : Bool) → has_machine ctx ≡ b → (c : Bool) → has_left ctx ≡ c → Split ctx
+    go true e c g =
+        let m : machine_count ctx ≡ 32 = ap (λ b. cond b 32 (cond (has_left ctx) 33 0)) e in
+        record {
+          front = Machine;
+          count = m;
+          registers = λ r. ap (λ b. cond (b || has_left ctx) r 0) e;
+          left = left-apart ctx e;
+          sorts =
+              sorts_of-machine ctx e ∙ ap (λ k. sorts_of (drop k ctx) ++ far 31 Machine) (sym m);
+        }
+    go false e true g =
+        let m : machine_count ctx ≡ 33 = λ i. cond (e i) 32 (cond (g i) 33 0) in
+        record {
+          front = Counted;
+          count = m;
+          registers = λ r i. cond (e i || g i) r 0;
+          left = g;
+          sorts = sorts_of-left ctx g ∙ ap (λ k. sorts_of (drop k ctx) ++ far 31 Counted) (sym m);
+        }
+    go false e false g =
+        let m : machine_count ctx ≡ 0 = λ i. cond (e i) 32 (cond (g i) 33 0) in
+        record {
+          front = Alone;
+          count = m;
+          registers = λ r i. cond (e i || g i) r 0;
+          left = g;
+          sorts = sym (append-nil (sorts_of ctx)) ∙ ap (λ k. sorts_of (drop k ctx) ++ []) (sym m);
+        }
 
 -- a bound variable is one of the context
 pub bound-at : (ctx : List sort.Sort) (x : ℕ) (s : VarSort) → sort_at (bound_sorts ctx) x ≡ Some s → sort_at (sorts_of ctx) x ≡ Some s
-bound-at ctx x s q = go (has_machine ctx) refl
-  where
-    go : (b : Bool) → has_machine ctx ≡ b → sort_at (sorts_of ctx) x ≡ Some s
-    go true e = let p = split ctx true e in ap (λ l. sort_at l x) p.sorts ∙ near-at p.near machine x s (sym (ap (λ l. sort_at l x) p.bound) ∙ q)
-    go false e = let p = split ctx false e in ap (λ l. sort_at l x) p.sorts ∙ sym (ap (λ l. sort_at l x) p.bound) ∙ q
+bound-at ctx x s q =
+    let p = split ctx in
+    ap (λ l. sort_at l x) p.sorts ∙ near-at (bound_sorts ctx) (far 31 p.front) x s q
 
 -- ---- what is over a context is, once named, over its variables
 
@@ -88,69 +126,66 @@ abbrev pub count : List sort.Sort → ℕ
 count ctx = length (bound_sorts ctx)
 
 pub exp_in-over : (ctx : List sort.Sort) (r : ℕ) (e : Exp) → IsExpIn ctx r e → IsOverExp 0 (named_exp (count ctx) e) (sorts_of ctx)
-exp_in-over ctx r e = go (has_machine ctx) refl
-  where
-    go : (b : Bool) → has_machine ctx ≡ b → IsExpIn ctx r e → IsOverExp 0 (named_exp (count ctx) e) (sorts_of ctx)
-    go true q h = let s = split ctx true q in rw (s.bound, s.sorts) (named_exp-over r e s.near (subst (λ B. IsOverExp r e B) s.bound (subst (λ k. IsOverExp k e (bound_sorts ctx)) (s.registers r) h)))
-    go false q h =
-        let s = split ctx false q in
-        let plain : IsOverExp 0 e s.near = subst (λ B. IsOverExp 0 e B) s.bound (subst (λ k. IsOverExp k e (bound_sorts ctx)) (s.registers r) h) in
-        rw (s.bound, s.sorts) (subst (λ (z : Exp). IsOverExp 0 z s.near) (sym (named_exp-none e (length s.near) s.near plain)) plain)
+exp_in-over ctx r e h =
+    let B : List VarSort = bound_sorts ctx in
+    let p = split ctx in
+    let within : IsWithinExp (has_steps p.front) (reg_count p.front r) e B =
+    subst (λ l. IsWithinExp l (reg_count p.front r) e B) p.left
+    (subst (λ k. IsWithinExp (has_left ctx) k e B) (p.registers r) h) in
+    subst (λ G. IsOverExp 0 (named_exp (count ctx) e) G) (sym p.sorts) (named_exp-over p.front r e B within)
 
 pub mem_in-over : (ctx : List sort.Sort) (r : ℕ) (m : MemExp) → IsMemIn ctx r m → IsOverMem 0 (named_mem (count ctx) m) (sorts_of ctx)
-mem_in-over ctx r m = go (has_machine ctx) refl
-  where
-    go : (b : Bool) → has_machine ctx ≡ b → IsMemIn ctx r m → IsOverMem 0 (named_mem (count ctx) m) (sorts_of ctx)
-    go true q h = let s = split ctx true q in rw (s.bound, s.sorts) (named_mem-over r m s.near (subst (λ B. IsOverMem r m B) s.bound (subst (λ k. IsOverMem k m (bound_sorts ctx)) (s.registers r) h)))
-    go false q h =
-        let s = split ctx false q in
-        let plain : IsOverMem 0 m s.near = subst (λ B. IsOverMem 0 m B) s.bound (subst (λ k. IsOverMem k m (bound_sorts ctx)) (s.registers r) h) in
-        rw (s.bound, s.sorts) (subst (λ (z : MemExp). IsOverMem 0 z s.near) (sym (named_mem-none m (length s.near) s.near plain)) plain)
+mem_in-over ctx r m h =
+    let B : List VarSort = bound_sorts ctx in
+    let p = split ctx in
+    let within : IsWithinMem (has_steps p.front) (reg_count p.front r) m B =
+    subst (λ l. IsWithinMem l (reg_count p.front r) m B) p.left
+    (subst (λ k. IsWithinMem (has_left ctx) k m B) (p.registers r) h) in
+    subst (λ G. IsOverMem 0 (named_mem (count ctx) m) G) (sym p.sorts) (named_mem-over p.front r m B within)
 
 pub form_in-over : (ctx : List sort.Sort) (r : ℕ) (F : Form) → IsFormIn ctx r F → IsOver 0 (named_form (count ctx) F) (sorts_of ctx)
-form_in-over ctx r F = go (has_machine ctx) refl
-  where
-    go : (b : Bool) → has_machine ctx ≡ b → IsFormIn ctx r F → IsOver 0 (named_form (count ctx) F) (sorts_of ctx)
-    go true q h = let s = split ctx true q in rw (s.bound, s.sorts) (named_form-over r F s.near (subst (λ B. IsOver r F B) s.bound (subst (λ k. IsOver k F (bound_sorts ctx)) (s.registers r) h)))
-    go false q h =
-        let s = split ctx false q in
-        let plain : IsOver 0 F s.near = subst (λ B. IsOver 0 F B) s.bound (subst (λ k. IsOver k F (bound_sorts ctx)) (s.registers r) h) in
-        rw (s.bound, s.sorts) (subst (λ (z : Form). IsOver 0 z s.near) (sym (named_form-none F (length s.near) s.near plain)) plain)
+form_in-over ctx r F h =
+    let B : List VarSort = bound_sorts ctx in
+    let p = split ctx in
+    let within : IsWithin (has_steps p.front) (reg_count p.front r) F B =
+    subst (λ l. IsWithin l (reg_count p.front r) F B) p.left
+    (subst (λ k. IsWithin (has_left ctx) k F B) (p.registers r) h) in
+    subst (λ G. IsOver 0 (named_form (count ctx) F) G) (sym p.sorts) (named_form-over p.front r F B within)
 
 -- ---- and what is over its variables is a named one
 
 pub exp_over-in : (ctx : List sort.Sort) (e : Exp) → IsOverExp 0 e (sorts_of ctx) → (f : Exp) × IsExpIn ctx 31 f × (named_exp (count ctx) f ≡ e)
-exp_over-in ctx e = go (has_machine ctx) refl
-  where
-    go : (b : Bool) → has_machine ctx ≡ b → IsOverExp 0 e (sorts_of ctx) → (f : Exp) × IsExpIn ctx 31 f × (named_exp (count ctx) f ≡ e)
-    go true q h =
-        let s = split ctx true q in let u = unnamed_exp-over e s.near (subst (λ B. IsOverExp 0 e B) s.sorts h) in
-        (unnamed_exp (length s.near) e, rw (s.registers 31, s.bound) u.0, rw s.bound u.1)
-    go false q h =
-        let s = split ctx false q in let plain : IsOverExp 0 e s.near = subst (λ B. IsOverExp 0 e B) s.sorts h in
-        (e, rw (s.registers 31, s.bound) plain, named_exp-none e (count ctx) s.near plain)
+exp_over-in ctx e h =
+    let B : List VarSort = bound_sorts ctx in
+    let p = split ctx in
+    let f : Exp = unnamed_exp (count ctx) e in
+    let u = unnamed_exp-over p.front e B (subst (λ G. IsOverExp 0 e G) p.sorts h) in
+    let within : IsExpIn ctx 31 f =
+    subst (λ k. IsWithinExp (has_left ctx) k f B) (sym (p.registers 31))
+    (subst (λ l. IsWithinExp l (reg_count p.front 31) f B) (sym p.left) u.0) in
+    (f, within, u.1)
 
 pub mem_over-in : (ctx : List sort.Sort) (m : MemExp) → IsOverMem 0 m (sorts_of ctx) → (f : MemExp) × IsMemIn ctx 31 f × (named_mem (count ctx) f ≡ m)
-mem_over-in ctx m = go (has_machine ctx) refl
-  where
-    go : (b : Bool) → has_machine ctx ≡ b → IsOverMem 0 m (sorts_of ctx) → (f : MemExp) × IsMemIn ctx 31 f × (named_mem (count ctx) f ≡ m)
-    go true q h =
-        let s = split ctx true q in let u = unnamed_mem-over m s.near (subst (λ B. IsOverMem 0 m B) s.sorts h) in
-        (unnamed_mem (length s.near) m, rw (s.registers 31, s.bound) u.0, rw s.bound u.1)
-    go false q h =
-        let s = split ctx false q in let plain : IsOverMem 0 m s.near = subst (λ B. IsOverMem 0 m B) s.sorts h in
-        (m, rw (s.registers 31, s.bound) plain, named_mem-none m (count ctx) s.near plain)
+mem_over-in ctx m h =
+    let B : List VarSort = bound_sorts ctx in
+    let p = split ctx in
+    let f : MemExp = unnamed_mem (count ctx) m in
+    let u = unnamed_mem-over p.front m B (subst (λ G. IsOverMem 0 m G) p.sorts h) in
+    let within : IsMemIn ctx 31 f =
+    subst (λ k. IsWithinMem (has_left ctx) k f B) (sym (p.registers 31))
+    (subst (λ l. IsWithinMem l (reg_count p.front 31) f B) (sym p.left) u.0) in
+    (f, within, u.1)
 
 pub form_over-in : (ctx : List sort.Sort) (F : Form) → IsOver 0 F (sorts_of ctx) → (E : Form) × IsFormIn ctx 31 E × (named_form (count ctx) E ≡ F)
-form_over-in ctx F = go (has_machine ctx) refl
-  where
-    go : (b : Bool) → has_machine ctx ≡ b → IsOver 0 F (sorts_of ctx) → (E : Form) × IsFormIn ctx 31 E × (named_form (count ctx) E ≡ F)
-    go true q h =
-        let s = split ctx true q in let u = unnamed_form-over F s.near (subst (λ B. IsOver 0 F B) s.sorts h) in
-        (unnamed_form (length s.near) F, rw (s.registers 31, s.bound) u.0, rw s.bound u.1)
-    go false q h =
-        let s = split ctx false q in let plain : IsOver 0 F s.near = subst (λ B. IsOver 0 F B) s.sorts h in
-        (F, rw (s.registers 31, s.bound) plain, named_form-none F (count ctx) s.near plain)
+form_over-in ctx F h =
+    let B : List VarSort = bound_sorts ctx in
+    let p = split ctx in
+    let E : Form = unnamed_form (count ctx) F in
+    let u = unnamed_form-over p.front F B (subst (λ G. IsOver 0 F G) p.sorts h) in
+    let within : IsFormIn ctx 31 E =
+    subst (λ k. IsWithin (has_left ctx) k E B) (sym (p.registers 31))
+    (subst (λ l. IsWithin l (reg_count p.front 31) E B) (sym p.left) u.0) in
+    (E, within, u.1)
 
 -- ---- operators
 
@@ -234,7 +269,7 @@ module _ (sig : Const → Option Tree) (known : IsKnownSignature sig) where
       (e.0, record { over = e.1; is = ap mem_encoding (named_mem-is (count ctx) e.0 ∙ e.2) ∙ f.is }, named_mem-used (HasOp sig) (count ctx) e.0 (subst (λ (z : MemExp). UsesMem (HasOp sig) z) (sym e.2) f.uses))
 
 pub low : (ctx : List sort.Sort) → registers_in ctx 31 ≤ 31
-low ctx = go (has_machine ctx)
+low ctx = go (has_machine ctx || has_left ctx)
   where
     go : (b : Bool) → cond b 31 0 ≤ 31
     go true = omega arith
@@ -246,7 +281,9 @@ form_same ctx t F G f g =
     let same : named_form (count ctx) F ≡ named_form (count ctx) G =
     sym (named_form-is (count ctx) F) ∙ form_encoding-injective _ _ (f.is ∙ sym g.is) ∙ named_form-is (count ctx) G
     in
-    sym (back_form (registers_in ctx 31) B F (low ctx) f.over) ∙ ap (unnamed_form (count ctx)) same ∙ back_form (registers_in ctx 31) B G (low ctx) g.over
+    sym (back_form (has_left ctx) (registers_in ctx 31) B F (low ctx) f.over)
+    ∙ ap (unnamed_form (count ctx)) same
+    ∙ back_form (has_left ctx) (registers_in ctx 31) B G (low ctx) g.over
 
 pub exp_same : (ctx : List sort.Sort) (t : Tree) (d e : Exp) → EncodesExp ctx d t → EncodesExp ctx e t → d ≡ e
 exp_same ctx t F G f g =
@@ -254,7 +291,9 @@ exp_same ctx t F G f g =
     let same : named_exp (count ctx) F ≡ named_exp (count ctx) G =
     sym (named_exp-is (count ctx) F) ∙ exp_encoding-injective _ _ (f.is ∙ sym g.is) ∙ named_exp-is (count ctx) G
     in
-    sym (back_exp (registers_in ctx 31) B F (low ctx) f.over) ∙ ap (unnamed_exp (count ctx)) same ∙ back_exp (registers_in ctx 31) B G (low ctx) g.over
+    sym (back_exp (has_left ctx) (registers_in ctx 31) B F (low ctx) f.over)
+    ∙ ap (unnamed_exp (count ctx)) same
+    ∙ back_exp (has_left ctx) (registers_in ctx 31) B G (low ctx) g.over
 
 pub mem_same : (ctx : List sort.Sort) (t : Tree) (m l : MemExp) → EncodesMem ctx m t → EncodesMem ctx l t → m ≡ l
 mem_same ctx t F G f g =
@@ -262,7 +301,9 @@ mem_same ctx t F G f g =
     let same : named_mem (count ctx) F ≡ named_mem (count ctx) G =
     sym (named_mem-is (count ctx) F) ∙ mem_encoding-injective _ _ (f.is ∙ sym g.is) ∙ named_mem-is (count ctx) G
     in
-    sym (back_mem (registers_in ctx 31) B F (low ctx) f.over) ∙ ap (unnamed_mem (count ctx)) same ∙ back_mem (registers_in ctx 31) B G (low ctx) g.over
+    sym (back_mem (has_left ctx) (registers_in ctx 31) B F (low ctx) f.over)
+    ∙ ap (unnamed_mem (count ctx)) same
+    ∙ back_mem (has_left ctx) (registers_in ctx 31) B G (low ctx) g.over
 
 -- ---- the other way, within bounds
 

@@ -1,5 +1,6 @@
--- Variables for registers and m go through substitution for a bound variable.
-use Rattle.std.proofs.Common.{◌≡◌, ℕ, suc, ◌+◌, ◌-◌, ◌<◌, ◌≤◌, Some}
+-- Variables for registers, m and the steps that are left go through substitution for a bound
+-- variable.
+use Rattle.std.proofs.Common.{◌≡◌, ℕ, suc, ◌+◌, ◌-◌, ◌<◌, ◌≤◌, Bool, T, Some}
 use Rattle.std.proofs.Common.{List, ◌∷◌, refl, sym, ◌∙◌, ap, arith, inl, inr, lt-ltb}
 use Rattle.std.proofs.lemmas.Bool.{cases_lt, le-ltb}
 use Rattle.term_table.specs.Tree.{Spot, Here, Other, spot}
@@ -7,7 +8,7 @@ use Rattle.hereditary_subst.proofs.Spots.{spot_above}
 use Rattle.formula_tree.specs.Formulas.{Exp, EReg, ELeft, EVar, ELit, EOp, ESel, MemExp, MMem, MVar, MUpd, shift_exp, shift_mem}
 use Rattle.formula_tree.specs.Formulas.{Form, FTrue, FFalse, FRel, FRd, FWr, FAnd, FOr, FImp, FAll, FAllm}
 use Rattle.formula_tree.specs.Variables.{Part, PExp, PMem, shift_part, exp_at, mem_at, subst_var_exp, subst_var_mem, subst_var}
-use Rattle.formula_tree.specs.Scope.{VarSort, OfWord, OfMem, sort_at, IsOverExp, IsOverMem, IsOver, part_sort}
+use Rattle.formula_tree.specs.Scope.{VarSort, OfWord, OfMem, sort_at, IsWithinExp, IsWithinMem, IsWithin, part_sort}
 use Rattle.lf_encode.specs.Naming.{named_exp, named_mem, named_form}
 use Rattle.lf_encode.proofs.Substituted.{same_sort, sort_same}
 
@@ -63,7 +64,7 @@ mutual
         | inl lt ↦ let next : (30 - r) + suc d ≡ 1 + ((30 - r) + d) = omega arith in rw (lt-ltb r 31 lt) (ap EVar next)
         | inr ge ↦ rw (le-ltb r 31 ge) refl
       ]
-  named-shift_exp ELeft d = refl
+  named-shift_exp ELeft d = let next : 32 + suc d ≡ 1 + (32 + d) = omega arith in ap EVar next
   named-shift_exp (EVar n) d = refl
   named-shift_exp (ELit w) d = refl
   named-shift_exp (EOp o a b) d = λ i. EOp o (named-shift_exp a d i) (named-shift_exp b d i)
@@ -79,39 +80,57 @@ named-shift_part (PExp e) d = ap PExp (named-shift_exp e d)
 named-shift_part (PMem m) d = ap PMem (named-shift_mem m d)
 
 mutual
-  pub named-subst_exp : (e : Exp) (r d k x : ℕ) (G : List VarSort) (p : Part) → IsOverExp r e G → sort_at G x ≡ Some (part_sort p) → (0 < r → IsNear d k x) →
+  pub named-subst_exp : (e : Exp) (l : Bool) (r d k x : ℕ) (G : List VarSort) (p : Part) →
+      IsWithinExp l r e G → sort_at G x ≡ Some (part_sort p) → (0 < r → IsNear d k x) → (T l →
+      IsNear d k x) →
       named_exp k (subst_var_exp e x p) ≡ subst_var_exp (named_exp d e) x (named_part k p)
-  named-subst_exp (EReg j) r d k x G p h q n = named-register j d k x (named_part k p) (n (omega (arith, h)))
-  named-subst_exp ELeft r d k x G p h q n = refl
-  named-subst_exp (EVar j) r d k x G p h q n = named-exp_at k p (spot x j)
-  named-subst_exp (ELit w) r d k x G p h q n = refl
-  named-subst_exp (EOp o a b) r d k x G p h q n = λ i. EOp o (named-subst_exp a r d k x G p h.0 q n i) (named-subst_exp b r d k x G p h.1 q n i)
-  named-subst_exp (ESel m a) r d k x G p h q n = λ i. ESel (named-subst_mem m r d k x G p h.0 q n i) (named-subst_exp a r d k x G p h.1 q n i)
+  named-subst_exp (EReg j) l r d k x G p h q n y =
+      named-register j d k x (named_part k p) (n (omega (arith, h)))
+  named-subst_exp ELeft l r d k x G p h q n y =
+      sym (ap (exp_at (named_part k p)) (machine-spot d k x 32 (y h)) ∙ exp_at-other (named_part k p) (32 + k))
+  named-subst_exp (EVar j) l r d k x G p h q n y = named-exp_at k p (spot x j)
+  named-subst_exp (ELit w) l r d k x G p h q n y = refl
+  named-subst_exp (EOp o a b) l r d k x G p h q n y =
+      λ i. EOp o (named-subst_exp a l r d k x G p h.0 q n y i) (named-subst_exp b l r d k x G p h.1 q n y i)
+  named-subst_exp (ESel m a) l r d k x G p h q n y =
+      λ i. ESel (named-subst_mem m l r d k x G p h.0 q n y i) (named-subst_exp a l r d k x G p h.1 q n y i)
 
-  pub named-subst_mem : (m : MemExp) (r d k x : ℕ) (G : List VarSort) (p : Part) →
-      IsOverMem r m G → sort_at G x ≡ Some (part_sort p) → (0 < r → IsNear d k x) →
+  pub named-subst_mem : (m : MemExp) (l : Bool) (r d k x : ℕ) (G : List VarSort) (p : Part) →
+      IsWithinMem l r m G → sort_at G x ≡ Some (part_sort p) → (0 < r → IsNear d k x) → (T l → IsNear d k x) →
       named_mem k (subst_var_mem m x p) ≡ subst_var_mem (named_mem d m) x (named_part k p)
-  named-subst_mem MMem r d k x G p h q n = sym (ap (mem_at (named_part k p)) (machine-spot d k x 31 (n h)) ∙ mem_at-other (named_part k p) (31 + k))
-  named-subst_mem (MVar j) r d k x G p h q n = named-mem_at k p (spot x j) (λ e. same_sort G x j (part_sort p) OfMem q h e)
-  named-subst_mem (MUpd m a v) r d k x G p h q n =
-      λ i. MUpd (named-subst_mem m r d k x G p h.0 q n i) (named-subst_exp a r d k x G p h.1 q n i) (named-subst_exp v r d k x G p h.2 q n i)
+  named-subst_mem MMem l r d k x G p h q n y =
+      sym (ap (mem_at (named_part k p)) (machine-spot d k x 31 (n h)) ∙ mem_at-other (named_part k p) (31 + k))
+  named-subst_mem (MVar j) l r d k x G p h q n y =
+      named-mem_at k p (spot x j) (λ e. same_sort G x j (part_sort p) OfMem q h e)
+  named-subst_mem (MUpd m a v) l r d k x G p h q n y =
+      λ i. MUpd (named-subst_mem m l r d k x G p h.0 q n y i) (named-subst_exp a l r d k x G p h.1 q n y i) (named-subst_exp v l r d k x G p h.2 q n y i)
 
--- where the formula names no register and not m it doesn't matter how many variables are nearer
-pub named-subst_form : (F : Form) (r d k x : ℕ) (G : List VarSort) (p : Part) → IsOver r F G → sort_at G x ≡ Some (part_sort p) → (0 < r → IsNear d k x) →
+-- where the formula names no register, not m and not the steps that are left it doesn't matter how
+-- many
+-- variables are nearer
+pub named-subst_form : (F : Form) (l : Bool) (r d k x : ℕ) (G : List VarSort) (p : Part) →
+    IsWithin l r F G → sort_at G x ≡ Some (part_sort p) → (0 < r → IsNear d k x) → (T l →
+    IsNear d k x) →
     named_form k (subst_var F x p) ≡ subst_var (named_form d F) x (named_part k p)
-named-subst_form FTrue r d k x G p h q n = refl
-named-subst_form FFalse r d k x G p h q n = refl
-named-subst_form (FRel c a b) r d k x G p h q n = λ i. FRel c (named-subst_exp a r d k x G p h.0 q n i) (named-subst_exp b r d k x G p h.1 q n i)
-named-subst_form (FRd a) r d k x G p h q n = ap FRd (named-subst_exp a r d k x G p h q n)
-named-subst_form (FWr a) r d k x G p h q n = ap FWr (named-subst_exp a r d k x G p h q n)
-named-subst_form (FAnd A B) r d k x G p h q n = λ i. FAnd (named-subst_form A r d k x G p h.0 q n i) (named-subst_form B r d k x G p h.1 q n i)
-named-subst_form (FOr A B) r d k x G p h q n = λ i. FOr (named-subst_form A r d k x G p h.0 q n i) (named-subst_form B r d k x G p h.1 q n i)
-named-subst_form (FImp A B) r d k x G p h q n = λ i. FImp (named-subst_form A r d k x G p h.0 q n i) (named-subst_form B r d k x G p h.1 q n i)
-named-subst_form (FAll A) r d k x G p h q n =
+named-subst_form FTrue l r d k x G p h q n y = refl
+named-subst_form FFalse l r d k x G p h q n y = refl
+named-subst_form (FRel c a b) l r d k x G p h q n y =
+    λ i. FRel c (named-subst_exp a l r d k x G p h.0 q n y i) (named-subst_exp b l r d k x G p h.1 q n y i)
+named-subst_form (FRd a) l r d k x G p h q n y = ap FRd (named-subst_exp a l r d k x G p h q n y)
+named-subst_form (FWr a) l r d k x G p h q n y = ap FWr (named-subst_exp a l r d k x G p h q n y)
+named-subst_form (FAnd A B) l r d k x G p h q n y =
+    λ i. FAnd (named-subst_form A l r d k x G p h.0 q n y i) (named-subst_form B l r d k x G p h.1 q n y i)
+named-subst_form (FOr A B) l r d k x G p h q n y =
+    λ i. FOr (named-subst_form A l r d k x G p h.0 q n y i) (named-subst_form B l r d k x G p h.1 q n y i)
+named-subst_form (FImp A B) l r d k x G p h q n y =
+    λ i. FImp (named-subst_form A l r d k x G p h.0 q n y i) (named-subst_form B l r d k x G p h.1 q n y i)
+named-subst_form (FAll A) l r d k x G p h q n y =
     ap FAll
-    (named-subst_form A r (suc d) (suc k) (suc x) (OfWord ∷ G) (shift_part 1 p) h (q ∙ ap Some (sort_same p)) (λ z. near-under d k x (n z))
+    (named-subst_form A l r (suc d) (suc k) (suc x) (OfWord ∷ G) (shift_part 1 p) h
+    (q ∙ ap Some (sort_same p)) (λ z. near-under d k x (n z)) (λ z. near-under d k x (y z))
     ∙ ap (subst_var (named_form (suc d) A) (suc x)) (named-shift_part p k))
-named-subst_form (FAllm A) r d k x G p h q n =
+named-subst_form (FAllm A) l r d k x G p h q n y =
     ap FAllm
-    (named-subst_form A r (suc d) (suc k) (suc x) (OfMem ∷ G) (shift_part 1 p) h (q ∙ ap Some (sort_same p)) (λ z. near-under d k x (n z))
+    (named-subst_form A l r (suc d) (suc k) (suc x) (OfMem ∷ G) (shift_part 1 p) h
+    (q ∙ ap Some (sort_same p)) (λ z. near-under d k x (n z)) (λ z. near-under d k x (y z))
     ∙ ap (subst_var (named_form (suc d) A) (suc x)) (named-shift_part p k))

@@ -1,18 +1,18 @@
 -- Contexts without one of their variables.
-use Rattle.std.proofs.Common.{◌≡◌, ℕ, zero, suc, ◌+◌, ◌-◌, ◌<◌, ◌≤◌, Bool, true, false, cond, Some}
+use Rattle.std.proofs.Common.{◌≡◌, ℕ, zero, suc, ◌+◌, ◌-◌, ◌<◌, ◌≤◌, Bool, true, false, T, ◌||◌, cond, Some}
 use Rattle.std.proofs.Common.{List, [], ◌∷◌, ◌++◌, take, drop, length, refl, sym, ◌∙◌, ap, subst, arith, inl, inr, length-append, length-drop, Option, None}
 use Rattle.std.proofs.lemmas.Bool.{cases_lt}
 use Rattle.std.proofs.lemmas.List.{length-take-le, take-append-drop, take_at, drop_at, take_all, drop_all, drop-drop}
 use Rattle.formula_tree.specs.Formulas.{Exp, ELit, ESel, MemExp, Form, FRd}
 use Rattle.formula_tree.specs.Variables.{Part, subst_var_exp, subst_var_mem, subst_var}
-use Rattle.formula_tree.specs.Scope.{VarSort, sort_at, IsOver, IsOverPart, part_sort}
+use Rattle.formula_tree.specs.Scope.{VarSort, sort_at, IsWithin, IsWithinPart, part_sort}
 use Rattle.lf_encode.specs.declared.contexts.Sort as sort
 use Rattle.lf_encode.specs.declared.contexts.Sort.TheVariants as S
-use Rattle.lf_encode.specs.Contexts.{var_sort, put_nearest, has_words, has_machine, sorts_of, bound_sorts, without_var, registers_in}
+use Rattle.lf_encode.specs.Contexts.{var_sort, put_nearest, has_words, has_machine, has_left, machine_count, sorts_of, bound_sorts, without_var, registers_in}
 use Rattle.lf_encode.specs.Contexts.{IsExpIn, IsMemIn, IsFormIn, IsPartIn}
-use Rattle.lf_encode.proofs.Naming.{below}
-use Rattle.lf_encode.proofs.Named.{put_nearest-append, count, length-sorts_of}
-use Rattle.lf_encode.proofs.Counts.{count_machine}
+use Rattle.lf_encode.proofs.Naming.{below, Front, Alone, Machine, Counted, front_count, reg_count, has_steps}
+use Rattle.lf_encode.proofs.Named.{put_nearest-append, count, length-sorts_of, split, machine-apart}
+use Rattle.lf_encode.proofs.Counts.{count_bound}
 use Rattle.formula_tree.proofs.Parts.{var-scope}
 use Rattle.lf_encode.proofs.NamedParts.{IsNear}
 
@@ -36,20 +36,66 @@ length-without x ctx =
     length-append (take (length ctx - suc x) ctx) (drop (length ctx - x) ctx)
     ∙ (λ i. length-take-le (length ctx - suc x) ctx (omega arith) i + length-drop (length ctx - x) ctx i)
 
+has_left-front : (k : ℕ) (ctx more : List sort.Sort) → 33 ≤ k → has_left ctx ≡ true →
+    has_left (take k ctx ++ more) ≡ true
+has_left-front zero ctx more h q = absurd (omega (arith, h))
+has_left-front (suc k) [] more h q = cc
+has_left-front (suc k) (S.Exp ∷ ctx) more h q = has_machine-front k ctx more (omega (arith, h)) q
+has_left-front (suc k) (S.Mem ∷ ctx) more h q = cc
+
+count-machine : (ctx : List sort.Sort) → has_machine ctx ≡ true → machine_count ctx ≡ 32
+count-machine ctx e = ap (λ b. cond b 32 (cond (has_left ctx) 33 0)) e
+
+count-left : (ctx : List sort.Sort) → has_left ctx ≡ true → machine_count ctx ≡ 33
+count-left ctx g = let e = machine-apart ctx g in λ i. cond (e i) 32 (cond (g i) 33 0)
+
 -- registers are named in a context with the machine's variables alone, and the others are one fewer then
 pub machine-without : (ctx : List sort.Sort) (x : ℕ) (s : VarSort) → sort_at (bound_sorts ctx) x ≡ Some s → 0 < registers_in ctx 32 →
     IsNear (count ctx) (count (without_var x ctx)) x
-machine-without ctx x s q = go (has_machine ctx) refl
+machine-without ctx x s q = go (has_machine ctx) refl (has_left ctx) refl
   where
-    go : (b : Bool) → has_machine ctx ≡ b → 0 < registers_in ctx 32 → IsNear (count ctx) (count (without_var x ctx)) x
-    go true e h =
-        let near = below (bound_sorts ctx) x s q in
-        let all = count_machine ctx e in
-        let kept = has_machine-front (length ctx - suc x) ctx (drop (length ctx - x) ctx) (omega (arith, near, all)) e in
-        let fewer = count_machine (without_var x ctx) kept in
+    more : List sort.Sort
+    more = drop (length ctx - x) ctx
+
+    near : x < count ctx
+    near = below (bound_sorts ctx) x s q
+
+    fewer : (n : ℕ) → machine_count ctx ≡ n → machine_count (without_var x ctx) ≡ n →
+        IsNear (count ctx) (count (without_var x ctx)) x
+    fewer n m k =
+        let all = count_bound ctx in
+        let rest = count_bound (without_var x ctx) in
         let one = length-without x ctx in
-        record { count = omega (arith, near, all, fewer, one); near = omega (arith, near, all, fewer, one) }
-    go false e h = let none : registers_in ctx 32 ≡ 0 = ap (λ b. cond b 32 0) e in absurd (omega (arith, none, h))
+        record { count = omega (arith, near, all, rest, one, m, k); near = omega (arith, near, all, rest, one, m, k) }
+
+    go : (b : Bool) → has_machine ctx ≡ b → (c : Bool) → has_left ctx ≡ c →
+        0 < registers_in ctx 32 → IsNear (count ctx) (count (without_var x ctx)) x
+    go true e c g h =
+        let m = count-machine ctx e in
+        let all = count_bound ctx in
+        let kept = has_machine-front (length ctx - suc x) ctx more (omega (arith, near, all, m)) e in
+        fewer 32 m (count-machine (without_var x ctx) kept)
+    go false e true g h =
+        let m = count-left ctx g in
+        let all = count_bound ctx in
+        let kept = has_left-front (length ctx - suc x) ctx more (omega (arith, near, all, m)) g in
+        fewer 33 m (count-left (without_var x ctx) kept)
+    go false e false g h =
+        let none : registers_in ctx 32 ≡ 0 = λ i. cond (e i || g i) 32 0 in absurd (omega (arith, none, h))
+
+-- where the steps that are left are named, registers are
+pub left-without : (ctx : List sort.Sort) (x : ℕ) (s : VarSort) →
+    sort_at (bound_sorts ctx) x ≡ Some s → T (has_left ctx) →
+    IsNear (count ctx) (count (without_var x ctx)) x
+left-without ctx x s q h =
+    let p = split ctx in
+    machine-without ctx x s q (go p.front (p.registers 32) (subst (λ b. T b) p.left h))
+  where
+    go : (f : Front) → registers_in ctx 32 ≡ reg_count f 32 → T (has_steps f) →
+        0 < registers_in ctx 32
+    go Alone e t = absurd t
+    go Machine e t = absurd t
+    go Counted e t = omega (arith, e)
 
 -- ---- which variable is taken away
 
@@ -112,19 +158,35 @@ drop-without n x ctx h =
     ∙ (λ i. take (front i) (drop n ctx) ++ drop (back i) ctx)
     ∙ ap (λ l. take (length (drop n ctx) - suc x) (drop n ctx) ++ l) (sym (drop-drop (length (drop n ctx) - x) n ctx))
 
-bound-by : (ctx : List sort.Sort) (b : Bool) → has_machine ctx ≡ b → bound_sorts ctx ≡ cond b (sorts_of (drop 32 ctx)) (sorts_of ctx)
-bound-by ctx b e = ap (λ c. cond c (sorts_of (drop 32 ctx)) (sorts_of ctx)) e
-
-pub bound-without : (ctx : List sort.Sort) (x : ℕ) → x < count ctx → has_machine (without_var x ctx) ≡ has_machine ctx →
+pub bound-without : (ctx : List sort.Sort) (x : ℕ) → x < count ctx →
+    machine_count (without_var x ctx) ≡ machine_count ctx →
     bound_sorts (without_var x ctx) ≡ take x (bound_sorts ctx) ++ drop (suc x) (bound_sorts ctx)
-bound-without ctx x h same = go (has_machine ctx) refl
+bound-without ctx x h same =
+    let n : ℕ = machine_count ctx in
+    let all = count_bound ctx in
+    ap (λ k. sorts_of (drop k (without_var x ctx))) same
+    ∙ ap sorts_of (drop-without n x ctx (omega (arith, all, h)))
+    ∙ sorts-without (drop n ctx) x
+
+-- contexts with as many variables of the machine name the same
+named-alike : (ctx rest : List sort.Sort) (r : ℕ) → machine_count rest ≡ machine_count ctx →
+    (has_left rest ≡ has_left ctx) × (registers_in rest r ≡ registers_in ctx r)
+named-alike ctx rest r same =
+    let p = split ctx in
+    let q = split rest in
+    let f = fronts q.front p.front (sym q.count ∙ same ∙ p.count) in
+    (q.left ∙ ap has_steps f ∙ sym p.left, q.registers r ∙ ap (λ z. reg_count z r) f ∙ sym (p.registers r))
   where
-    go : (b : Bool) → has_machine ctx ≡ b → bound_sorts (without_var x ctx) ≡ take x (bound_sorts ctx) ++ drop (suc x) (bound_sorts ctx)
-    go true e =
-        let all = count_machine ctx e in
-        bound-by (without_var x ctx) true (same ∙ e) ∙ ap sorts_of (drop-without 32 x ctx (omega (arith, all, h))) ∙ sorts-without (drop 32 ctx) x
-        ∙ ap (λ B. take x B ++ drop (suc x) B) (sym (bound-by ctx true e))
-    go false e = bound-by (without_var x ctx) false (same ∙ e) ∙ sorts-without ctx x ∙ ap (λ B. take x B ++ drop (suc x) B) (sym (bound-by ctx false e))
+    fronts : (f g : Front) → front_count f ≡ front_count g → f ≡ g
+    fronts Alone Alone e = refl
+    fronts Alone Machine e = absurd (omega (arith, e))
+    fronts Alone Counted e = absurd (omega (arith, e))
+    fronts Machine Alone e = absurd (omega (arith, e))
+    fronts Machine Machine e = refl
+    fronts Machine Counted e = absurd (omega (arith, e))
+    fronts Counted Alone e = absurd (omega (arith, e))
+    fronts Counted Machine e = absurd (omega (arith, e))
+    fronts Counted Counted e = refl
 
 -- ---- what is over the context without it
 
@@ -140,30 +202,31 @@ taken (t ∷ B) (suc x) s q = ap (λ l. t ∷ l) (taken B x s q)
 
 pub form-without : (ctx : List sort.Sort) (r : ℕ) (F : Form) (x : ℕ) (p : Part) →
     IsFormIn ctx r F → sort_at (bound_sorts ctx) x ≡ Some (part_sort p) → IsPartIn (without_var x ctx) r p →
-    has_machine (without_var x ctx) ≡ has_machine ctx →
+    machine_count (without_var x ctx) ≡ machine_count ctx →
     IsFormIn (without_var x ctx) r (subst_var F x p)
 form-without ctx r F x p h q o same =
     let B : List VarSort = bound_sorts ctx in
     let near = below B x (part_sort p) q in
     let H : List VarSort = take x B ++ drop (suc x) B in
     let k : ℕ = registers_in ctx r in
+    let l : Bool = has_left ctx in
     let bound : bound_sorts (without_var x ctx) ≡ H = bound-without ctx x near same in
-    let regs : registers_in (without_var x ctx) r ≡ k = ap (λ b. cond b r 0) same in
+    let alike = named-alike ctx (without_var x ctx) r same in
     let deep : length (take x B) ≡ x = length-take-le x B (omega (arith, near)) in
-    let part : IsOverPart k p H = subst (λ l. IsOverPart k p l) bound (subst (λ j. IsOverPart j p (bound_sorts (without_var x ctx))) regs o) in
-    let over : IsOver k F (take x B ++ part_sort p ∷ drop (suc x) B) = subst (λ l. IsOver k F l) (taken B x (part_sort p) q) h in
-    let done : IsOver k (subst_var F x p) H =
-    subst (λ z. IsOver k (subst_var F z p) H) deep (var-scope k F p (take x B) (drop (suc x) B) over part) in
-    subst (λ j. IsOver j (subst_var F x p) (bound_sorts (without_var x ctx))) (sym regs) (subst (λ l. IsOver k (subst_var F x p) l) (sym bound) done)
+    let part : IsWithinPart l k p H = subst (λ (X : Type 0). X) (λ i. IsWithinPart (alike.0 i) (alike.1 i) p (bound i)) o in
+    let over : IsWithin l k F (take x B ++ part_sort p ∷ drop (suc x) B) = subst (λ G. IsWithin l k F G) (taken B x (part_sort p) q) h in
+    let done : IsWithin l k (subst_var F x p) H =
+    subst (λ z. IsWithin l k (subst_var F z p) H) deep (var-scope l k F p (take x B) (drop (suc x) B) over part) in
+    subst (λ (X : Type 0). X) (sym (λ i. IsWithin (alike.0 i) (alike.1 i) (subst_var F x p) (bound i))) done
 
 pub exp-without : (ctx : List sort.Sort) (r : ℕ) (e : Exp) (x : ℕ) (p : Part) →
     IsExpIn ctx r e → sort_at (bound_sorts ctx) x ≡ Some (part_sort p) → IsPartIn (without_var x ctx) r p →
-    has_machine (without_var x ctx) ≡ has_machine ctx →
+    machine_count (without_var x ctx) ≡ machine_count ctx →
     IsExpIn (without_var x ctx) r (subst_var_exp e x p)
 exp-without ctx r e x p = form-without ctx r (FRd e) x p
 
 pub mem-without : (ctx : List sort.Sort) (r : ℕ) (m : MemExp) (x : ℕ) (p : Part) →
     IsMemIn ctx r m → sort_at (bound_sorts ctx) x ≡ Some (part_sort p) → IsPartIn (without_var x ctx) r p →
-    has_machine (without_var x ctx) ≡ has_machine ctx →
+    machine_count (without_var x ctx) ≡ machine_count ctx →
     IsMemIn (without_var x ctx) r (subst_var_mem m x p)
 mem-without ctx r m x p h q o same = (form-without ctx r (FRd (ESel m (ELit 0))) x p (h, omega arith) q o same).0

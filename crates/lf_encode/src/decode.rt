@@ -80,7 +80,10 @@ fn word_variable(n: u32, depth: u64) -> Exp
     if u64::from(n) < depth {
         return Exp::Var(n);
     }
-    Exp::Reg(30u64.saturating_sub(u64::from(n) - depth) as u8)
+    if u64::from(n) - depth < 31 {
+        return Exp::Reg((30 - (u64::from(n) - depth)) as u8);
+    }
+    Exp::Left
 }
 
 /// The memory that the variable `n` stands for.

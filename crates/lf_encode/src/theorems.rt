@@ -18,7 +18,7 @@ ghost use Rattle.formula_tree.specs.Variables.{Part, subst_var_exp, subst_var_me
 ghost use Rattle.lf_encode.specs.declared.contexts.Sort.{Sort};
 ghost use Rattle.formula_terms.specs.Encoding.{exp_encoding, mem_encoding, form_encoding};
 ghost use Rattle.formula_terms.specs.Encoding.{part_encoding, part_family};
-ghost use Rattle.lf_encode.specs.Contexts.{has_machine, sorts_of, bound_sorts, without_var};
+ghost use Rattle.lf_encode.specs.Contexts.{machine_count, sorts_of, bound_sorts, without_var};
 ghost use Rattle.lf_encode.specs.Contexts.{IsExpIn, IsMemIn, IsFormIn, IsPartIn};
 ghost use Rattle.lf_encode.specs.Contexts.{sort_types, names_in, part_encoding_in};
 ghost use Rattle.lf_encode.specs.Contexts.{exp_encoding_in, mem_encoding_in, encoding_in};
@@ -121,24 +121,24 @@ pub fn substitution_in_contexts()
 
 /// The sorts of a context without one variable are the context's without that variable's; and what
 /// comes of a substitution for a bound variable is over that context where what is put is over it,
-/// and both contexts have the machine's variables or neither has them.
+/// and both contexts have as many of the machine's variables.
 pub fn scope_laws()
     ensures sorts { (ctx : List Sort) (x : ℕ) →
         sorts_of (without_var x ctx) ≡ take x (sorts_of ctx) ++ drop (suc x) (sorts_of ctx) }
     ensures exps { (ctx : List Sort) (r : ℕ) (e : Exp) (x : ℕ) (p : Part) →
         let rest : List Sort = without_var x ctx in
         IsExpIn ctx r e → sort_at (bound_sorts ctx) x ≡ Some (part_sort p) →
-        IsPartIn rest r p → has_machine rest ≡ has_machine ctx →
+        IsPartIn rest r p → machine_count rest ≡ machine_count ctx →
         IsExpIn rest r (subst_var_exp e x p) }
     ensures mems { (ctx : List Sort) (r : ℕ) (m : MemExp) (x : ℕ) (p : Part) →
         let rest : List Sort = without_var x ctx in
         IsMemIn ctx r m → sort_at (bound_sorts ctx) x ≡ Some (part_sort p) →
-        IsPartIn rest r p → has_machine rest ≡ has_machine ctx →
+        IsPartIn rest r p → machine_count rest ≡ machine_count ctx →
         IsMemIn rest r (subst_var_mem m x p) }
     ensures forms { (ctx : List Sort) (r : ℕ) (F : Form) (x : ℕ) (p : Part) →
         let rest : List Sort = without_var x ctx in
         IsFormIn ctx r F → sort_at (bound_sorts ctx) x ≡ Some (part_sort p) →
-        IsPartIn rest r p → has_machine rest ≡ has_machine ctx →
+        IsPartIn rest r p → machine_count rest ≡ machine_count ctx →
         IsFormIn rest r (subst_var F x p) }
 {}
 

@@ -2,13 +2,13 @@
 use Rattle.std.proofs.Common.{◌≡◌, ℕ, zero, suc, ◌-◌, ◌+◌, ◌≤◌, ◌<◌, true, nat_le, Option, Some, None, List, [], ◌∷◌, ◌++◌, map, length, take, drop, get_or, ◌==◌, eqb-true, refl, ◌∙◌, ap, arith, option_map}
 use Rattle.std.proofs.lemmas.Bool.{leb-true}
 use Rattle.term_table.specs.Tree.{at, Num}
-use Rattle.term_table.specs.Measures.{sigma1_places}
 use Rattle.term_table.proofs.Options.{some_injective}
 use Rattle.lf_signature.specs.Rules.{Rule, rule_type}
-use Rattle.lf_signature.specs.Constants.{the_rules, place_of, rule_in, type_in, size_of, rule_at, parameters_of, declared}
+use Rattle.lf_signature.specs.Constants.{the_rules, place_of, rule_in, type_in, size_of, places_of, rule_at, parameters_of, declared}
 use Rattle.lf_signature.specs.declared.tables.Place.{Place}
 use Rattle.lf_signature.specs.declared.tables.Place.TheVariants.{Made, ByRule}
 use Rattle.lf_signature.specs.declared.WordSignature.{WordSignature}
+use Rattle.lf_signature.specs.declared.WordSignature.TheVariants.{Sigma1, Sigma2, Sigma3}
 use Rattle.lf_signature.specs.Laws.Within.{declared-below}
 use Rattle.lf_signature.specs.Laws.Booleans.{every, every-at}
 
@@ -103,17 +103,22 @@ at_past [] n h = refl
 at_past (a ∷ l) zero h = absurd (omega arith)
 at_past (a ∷ l) (suc n) h = at_past l n (omega arith)
 
-each_place : every (λ n k. k == parameters_of n) sigma1_places ≡ true
+-- the counts of each signature, and that there are as many as it has constants
+each_place : (s : WordSignature) → every (λ n k. k == parameters_of n) (places_of s) ≡ true
 unfolding the_rules
-each_place = refl
+each_place Sigma1 = refl
+each_place Sigma2 = refl
+each_place Sigma3 = refl
 
-places_end : length sigma1_places ≡ 88
-places_end = refl
+places_end : (s : WordSignature) → length (places_of s) ≡ size_of s
+places_end Sigma1 = refl
+places_end Sigma2 = refl
+places_end Sigma3 = refl
 
 -- the counts that weights go by are the numbers of parameters
-pub places-parameters : (n : ℕ) → n < 88 → get_or sigma1_places n 0 ≡ parameters_of n
-places-parameters n h = go (at sigma1_places n) refl
+pub places-parameters : (s : WordSignature) (n : ℕ) → n < size_of s → get_or (places_of s) n 0 ≡ parameters_of n
+places-parameters s n h = go (at (places_of s) n) refl
   where
-    go : (o : Option ℕ) → at sigma1_places n ≡ o → get_or sigma1_places n 0 ≡ parameters_of n
-    go (Some k) e = get_or_some sigma1_places n 0 k e ∙ eqb-true k (parameters_of n) (every-at (λ n k. k == parameters_of n) sigma1_places n k each_place e)
-    go None e = absurd (omega (arith, h, places_end, at_none sigma1_places n e))
+    go : (o : Option ℕ) → at (places_of s) n ≡ o → get_or (places_of s) n 0 ≡ parameters_of n
+    go (Some k) e = get_or_some (places_of s) n 0 k e ∙ eqb-true k (parameters_of n) (every-at (λ n k. k == parameters_of n) (places_of s) n k (each_place s) e)
+    go None e = absurd (omega (arith, h, places_end s, at_none (places_of s) n e))

@@ -1,8 +1,8 @@
 -- The tables against the rows from outside, by computation.
-use Rattle.std.proofs.Common.{◌≡◌, ◌∙◌, ℕ, zero, suc, ◌<◌, Option, Some, None, List, [], ◌∷◌, cond, length, map, take, refl, sym, ap, option_map, arith, inl, inr}
+use Rattle.std.proofs.Common.{◌≡◌, ◌∙◌, ℕ, zero, suc, ◌<◌, Option, Some, None, List, [], ◌∷◌, cond, length, map, refl, sym, ap, option_map, arith, inl, inr}
 use Rattle.std.proofs.lemmas.Bool.{le-ltb, cases_lt}
 use Rattle.term_table.specs.Tree.{Tree, at, Num}
-use Rattle.term_table.specs.Measures.{sigma1_places}
+use Rattle.term_table.specs.Measures.{sigma3_places}
 use Rattle.term_table.proofs.Options.{some_injective}
 use Rattle.lf_signature.specs.declared.WordSignature.TheVariants.{Sigma1, Sigma3}
 use Rattle.lf_signature.specs.Constants.{constant_types, the_rules, place_of, type_in, declared}
@@ -44,7 +44,7 @@ declared-numbered n = elim (cases_lt n 105) [
       ∙ ap (option_map (λ r. r.1)) (sym (at_past numbered_rows n (omega (arith, rows_end, h))))
 ]
 
-pub places_listed : sigma1_places ≡ take 88 (map (λ r. r.0) numbered_rows)
+pub places_listed : sigma3_places ≡ map (λ r. r.0) numbered_rows
 unfolding numbered_rows
 places_listed = refl
 

@@ -2,6 +2,7 @@
 -- Rules as constants: Harper, Honsell and Plotkin, A Framework for Defining Logics, JACM 1993. A logic of words and memories for code: Necula, Proof-Carrying Code, POPL 1997.
 use Rattle.std.specs.Prelude.{ℕ, ◌-◌, ◌^◌, Bool, ◌&&◌, not, nat_lt, if◌then◌else◌, Option, Some, None, List, [], ◌∷◌, ◌++◌, map, length}
 use Rattle.std.specs.Option.{option_map, option_map_or}
+use Rattle.term_table.specs.Measures.{sigma1_places, sigma2_places, sigma3_places}
 use Rattle.term_table.specs.Tree.{Tree, Pi, Const, Num, Lit, Calc, Fact, Deny, Lemma, at}
 use Rattle.term_table.specs.Subst.{bind}
 use Rattle.word_ops.specs.declared.Op.{Op}
@@ -346,6 +347,12 @@ abbrev pub size_of : WordSignature → ℕ
 size_of Sigma1 = 88
 size_of Sigma2 = 104
 size_of Sigma3 = 105
+
+-- how many parameters each of these has, as weights go by them
+abbrev pub places_of : WordSignature → List ℕ
+places_of Sigma1 = sigma1_places
+places_of Sigma2 = sigma2_places
+places_of Sigma3 = sigma3_places
 
 -- how many operators: it has the first ones
 abbrev pub op_count_of : WordSignature → ℕ

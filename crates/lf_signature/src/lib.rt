@@ -22,10 +22,10 @@ mod theorems;
 
 ghost use Rattle.std.specs.Prelude.{◌≡◌, Option, IfOk, refl};
 ghost use Rattle.term_table.specs.Tree.{Tree, Const};
-ghost use Rattle.term_table.specs.Table.{TableView, Extends, Stands};
+ghost use Rattle.term_table.specs.Table.{TableView, counts_of, Extends, Stands};
 ghost use Rattle.lf_signature.specs.Nodes.{type_at};
 ghost use Rattle.lf_signature.specs.Order.{IsSignature};
-ghost use Rattle.lf_signature.specs.Constants.{size_of, op_count_of, op_in, declared};
+ghost use Rattle.lf_signature.specs.Constants.{size_of, op_count_of, places_of, op_in, declared};
 ghost use Rattle.lf_signature.specs.Known.{IsKnownSignature};
 ghost use Rattle.lf_signature.specs.Laws.Within.{declared_known};
 ghost use Rattle.lf_signature.specs.Laws.WellFormed.{declared_formed};
@@ -35,7 +35,7 @@ use declare::word_type;
 pub use numbers::{rel_constant, rel_number, rel_of, rel_of_constant};
 use std::alloc::AllocError;
 pub use tables::rule_at;
-use term_table::{Id, Node, Table};
+use term_table::{Id, Node, Places, Table};
 pub use terms::{app1, app2, app3, pf};
 pub use theorems::{
     declared_rows, near_laws, places_laws, signature_laws, simple_laws, typing_laws,
@@ -102,6 +102,17 @@ impl WordSignature {
             WordSignature::Sigma1 => 88,
             WordSignature::Sigma2 => 104,
             WordSignature::Sigma3 => 105,
+        }
+    }
+
+    /// How many parameters each numbered constant has, which weights go by.
+    pub fn places(self) -> Places
+        ensures { counts_of result ≡ places_of self }
+    {
+        match self {
+            WordSignature::Sigma1 => Places::sigma1(),
+            WordSignature::Sigma2 => Places::sigma2(),
+            WordSignature::Sigma3 => Places::sigma3(),
         }
     }
 

@@ -1,14 +1,14 @@
 //! What holds of the definitions, with nothing to run.
 
 ghost use Rattle.std.specs.Prelude.{◌≡◌, ◌<◌, ◌≤◌, ◌↔◌, ℕ, true, Option, Some, List, []};
-ghost use Rattle.std.specs.Prelude.{length, map, take, get_or};
+ghost use Rattle.std.specs.Prelude.{length, map, get_or};
 ghost use Rattle.std.specs.Option.{option_map};
 ghost use Rattle.word_ops.specs.declared.Op.{Op};
 ghost use Rattle.word_ops.specs.declared.Rel.{Rel};
 ghost use Rattle.term_table.specs.Tree.{Tree, Const, Num, at};
 ghost use Rattle.term_table.specs.Subst.{erase};
 ghost use Rattle.term_table.specs.Scope.{is_over};
-ghost use Rattle.term_table.specs.Measures.{sigma1_places};
+ghost use Rattle.term_table.specs.Measures.{sigma3_places};
 ghost use Rattle.word_ops.specs.Operators.{op_of, op_number, op_of_constant, op_constant};
 ghost use Rattle.lf_signature.specs.Numbers.{rel_of, rel_number, rel_of_constant, rel_constant};
 ghost use Rattle.lf_signature.specs.Typing.{Checks, Synth, Kind, HasKind, IsType};
@@ -16,7 +16,7 @@ ghost use Rattle.lf_signature.specs.Simply.{simply, erased, SChecks, SSynth, STy
 ghost use Rattle.lf_signature.specs.Decide.{checks_of, synth_of, kind_of, is_type_of};
 ghost use Rattle.lf_signature.specs.Near.{AgreeOnNearest};
 ghost use Rattle.lf_signature.specs.Rules.{Rule, rule_type};
-ghost use Rattle.lf_signature.specs.Constants.{size_of, op_count_of, rule_at};
+ghost use Rattle.lf_signature.specs.Constants.{size_of, op_count_of, places_of, rule_at};
 ghost use Rattle.lf_signature.specs.Constants.{parameters_of, declared};
 ghost use Rattle.lf_signature.specs.Known.{IsKnownSignature};
 ghost use Rattle.lf_signature.specs.declared.WordSignature.{WordSignature};
@@ -99,13 +99,14 @@ pub fn signature_laws()
 pub fn declared_rows()
     ensures numbered { (n : ℕ) →
         declared Sigma3 (Num n) ≡ option_map (λ r. r.1) (at numbered_rows n) }
-    ensures places { sigma1_places ≡ take 88 (map (λ r. r.0) numbered_rows) }
+    ensures places { sigma3_places ≡ map (λ r. r.0) numbered_rows }
     ensures evaluated { AreDeclared (declared Sigma1) evaluated_rows }
     ensures verdicts { AreVerdicts (declared Sigma1) }
 {}
 
-/// The counts of `Places::sigma1` are the signature's: how many parameters each numbered constant
+/// The counts that weights go by are the signatures': how many parameters each numbered constant
 /// has.
 pub fn places_laws()
-    ensures { (n : ℕ) → n < 88 → get_or sigma1_places n 0 ≡ parameters_of n }
+    ensures { (s : WordSignature) (n : ℕ) → n < size_of s →
+        get_or (places_of s) n 0 ≡ parameters_of n }
 {}

@@ -15,6 +15,26 @@ fn measures(alloc: Global, name: &str) -> Result<Option<(u32, u32, u32)>, AllocE
     }
 }
 
+/// Whether containers with the number are for the policy of this name.
+fn takes(alloc: Global, name: &str, number: u32) -> Result<bool, AllocError> {
+    match by_name(alloc, name)? {
+        Some(policy) => {
+            policy.laws();
+            Ok(policy.kind().is_some() && policy.has_number(number))
+        }
+        None => Ok(false),
+    }
+}
+
+#[test]
+fn numbers_of_containers(rt: HostRuntime) -> Result<(), Fail> {
+    assert!(rt; takes(rt.alloc(), "tag", 2)?);
+    for number in [0, 1, 3, 4_294_967_295] {
+        assert!(rt; !takes(rt.alloc(), "tag", number)?, "{number}");
+    }
+    Ok(())
+}
+
 #[test]
 fn numbers_and_heights(rt: HostRuntime) -> Result<(), Fail> {
     laws();

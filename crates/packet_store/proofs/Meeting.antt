@@ -1,9 +1,10 @@
 -- The start states meet their policies' preconditions.
-use Rattle.std.proofs.Common.{◌≡◌, ◌≢◌, ℕ, ◌+◌, ◌-◌, ◌*◌, ◌/◌, ◌%◌, ◌<◌, ◌≤◌, ◌^◌, true, false, Some, None, List, [], ◌∷◌, length, take, bit_and}
-use Rattle.std.proofs.Common.{eqb, cond, ap, refl, sym, ◌∙◌, arith, inl, inr}
+use Rattle.std.proofs.Common.{◌≡◌, ◌≢◌, ℕ, ◌+◌, ◌-◌, ◌*◌, ◌/◌, ◌%◌, ◌<◌, ◌≤◌, ◌^◌, true, false, Option, Some, None, List, [], ◌∷◌, length, take, bit_and}
+use Rattle.std.proofs.Common.{eqb, cond, ap, refl, sym, ◌∙◌, subst, arith, inl, inr}
 use Rattle.std.proofs.lemmas.Nat.{and_mask}
 use Rattle.std.proofs.lemmas.Bool.{ltb-true, eqb-true, le-leb, lt-ltb, le-ltb, eq-eqb, ne_eqb, cases_lt}
 use Rattle.std.proofs.lemmas.List.{get_or-take}
+use Rattle.std.proofs.lemmas.Option.{none-some}
 use Rattle.word_ops.specs.Memory.{Memory, read}
 use Rattle.word_ops.specs.Rights.{Rights, allowed}
 use Rattle.word_ops.proofs.Spans.{allowed-from}
@@ -11,6 +12,8 @@ use Rattle.formula_tree.specs.Truth.{IsTrueIn}
 use Rattle.policy_set.specs.Policies.{filter_pre, tag_pre, table_pre, pre_of}
 use Rattle.policy_set.specs.declared.kind.PolicyKind.{PolicyKind}
 use Rattle.policy_set.specs.declared.kind.PolicyKind.TheVariants.{Filter, Tag, Table}
+use Rattle.policy_set.specs.Views.{PolicyView, IsPolicy}
+use Rattle.policy_set.proofs.Closed.{kind-formulas}
 use Rattle.reference_machine.specs.Arena.{quadword, placed_word}
 use Rattle.reference_machine.specs.Starts.{StartView, start_state}
 use Rattle.reference_machine.proofs.Starting.{read-start}
@@ -112,19 +115,44 @@ tag_begins base p low =
     tag_meets base m ((cond (eqb (quadword p 0) 0) (base, 0) (base + 8, 1)) ∷ (base, 0) ∷ []) low
     (λ ne. second base (quadword p 0) (λ z. ne (read_first base p ∙ z)))
 
--- every start meets its policy's precondition
-pub start_from-meets : (base : ℕ) (policy : PolicyKind) (packet : List ℕ) (setup : StartView) → base < 2 ^ 32 → length packet ≤ 65535 →
-    start_from base policy packet ≡ Some setup → StartMeetsIn base setup (pre_of policy)
+-- a start meets the precondition of the kind
+start_from-meets-kind : (base : ℕ) (kind : PolicyKind) (packet : List ℕ) (setup : StartView)
+    → base < 2 ^ 32 → length packet ≤ 65535 →
+    start_from base (Some kind) packet ≡ Some setup → StartMeetsIn base setup (pre_of kind)
 unfolding start_from
-start_from-meets base Filter packet setup low short e = elim (cases_lt (length packet) 64) [
+start_from-meets-kind base Filter packet setup low short e = elim (cases_lt (length packet) 64) [
   | inl less ↦ let none : None ≡ Some setup = rw (lt-ltb (length packet) 64 less) at e in cc
   | inr enough ↦
       the_same (λ s. StartMeetsIn base s filter_pre) (filter_start base packet) setup (filter_begins base packet low enough short) (rw (le-ltb (length packet) 64 enough) at e)
 ]
-start_from-meets base Tag packet setup low short e = elim (cases_lt (length packet) 16) [
+start_from-meets-kind base Tag packet setup low short e = elim (cases_lt (length packet) 16) [
   | inl less ↦ let none : None ≡ Some setup = rw (lt-ltb (length packet) 16 less) at e in cc
   | inr enough ↦
       the_same (λ s. StartMeetsIn base s tag_pre) (tag_start base packet) setup (tag_begins base packet low) (rw (le-ltb (length packet) 16 enough) at e)
 ]
-start_from-meets base Table packet setup low short e =
+start_from-meets-kind base Table packet setup low short e =
     the_same (λ s. StartMeetsIn base s table_pre) (table_start base packet) setup (table_begins base packet low short) e
+
+-- what meets the precondition of the kind meets the policy's
+pub meets-policy : (base : ℕ) (policy : PolicyView) (kind : PolicyKind) (setup : StartView)
+    → IsPolicy policy → policy.kind ≡ Some kind →
+    StartMeetsIn base setup (pre_of kind) → StartMeetsIn base setup policy.pre
+meets-policy base policy kind setup is e h =
+    subst (λ F. StartMeetsIn base setup F) (sym (kind-formulas policy kind is e).0) h
+
+meets-by-kind : (base : ℕ) (policy : PolicyView) (packet : List ℕ) (setup : StartView)
+    → IsPolicy policy → base < 2 ^ 32 → length packet ≤ 65535 →
+    (o : Option PolicyKind) → policy.kind ≡ o → start_from base o packet ≡ Some setup
+    → StartMeetsIn base setup policy.pre
+unfolding start_from
+meets-by-kind base policy packet setup is low short None k e = absurd (none-some setup e)
+meets-by-kind base policy packet setup is low short (Some kind) k e =
+    meets-policy base policy kind setup is k
+    (start_from-meets-kind base kind packet setup low short e)
+
+-- every start meets its policy's precondition
+pub start_from-meets : (base : ℕ) (policy : PolicyView) (packet : List ℕ) (setup : StartView)
+    → IsPolicy policy → base < 2 ^ 32 → length packet ≤ 65535 →
+    start_from base policy.kind packet ≡ Some setup → StartMeetsIn base setup policy.pre
+start_from-meets base policy packet setup is low short e =
+    meets-by-kind base policy packet setup is low short policy.kind refl e

@@ -1,7 +1,8 @@
 -- Starts lie in the arena, and are states.
 use Rattle.std.proofs.Common.{◌≡◌, ℕ, ◌+◌, ◌-◌, ◌*◌, ◌/◌, ◌%◌, ◌^◌, ◌<◌, ◌≤◌, ◌==◌, min, Bool, true, false, if◌then◌else◌, List, [], ◌∷◌, length, take, slice_index}
-use Rattle.std.proofs.Common.{Some, None, subst, arith, inl, inr}
+use Rattle.std.proofs.Common.{Option, Some, None, subst, arith, inl, inr}
 use Rattle.std.proofs.lemmas.Bool.{cases_lt, lt-ltb, le-ltb}
+use Rattle.std.proofs.lemmas.Option.{none-some}
 use Rattle.std.proofs.lemmas.List.{get_or-take, get_or_past, length-take}
 use Rattle.policy_set.specs.declared.kind.PolicyKind.{PolicyKind}
 use Rattle.policy_set.specs.declared.kind.PolicyKind.TheVariants.{Filter, Tag, Table}
@@ -95,24 +96,36 @@ tag_good base packet low enough bytes = record { fits = tag_fits base packet eno
 pub table_good : (base : ℕ) (packet : List ℕ) → base < 2 ^ 32 → length packet ≤ 65535 → IsBytes packet → IsGood base (table_start base packet)
 table_good base packet low short bytes = record { fits = table_fits base packet short; words = table_words base packet low short bytes }
 
-pub start_from-good : (base : ℕ) (policy : PolicyKind) (packet : List ℕ) (setup : StartView) → base < 2 ^ 32 → length packet ≤ 65535 → IsBytes packet →
-    start_from base policy packet ≡ Some setup → IsGood base setup
+pub start_from-good : (base : ℕ) (kind : Option PolicyKind) (packet : List ℕ) (setup : StartView)
+    → base < 2 ^ 32 → length packet ≤ 65535 → IsBytes packet →
+    start_from base kind packet ≡ Some setup → IsGood base setup
 unfolding start_from
-start_from-good base Filter packet setup low short bytes e = elim (cases_lt (length packet) 64) [
-  | inl less ↦ let none : None ≡ Some setup = rw (lt-ltb (length packet) 64 less) at e in cc
-  | inr enough ↦ the_same (IsGood base) (filter_start base packet) setup (filter_good base packet low short bytes) (rw (le-ltb (length packet) 64 enough) at e)
-]
-start_from-good base Tag packet setup low short bytes e = elim (cases_lt (length packet) 16) [
-  | inl less ↦ let none : None ≡ Some setup = rw (lt-ltb (length packet) 16 less) at e in cc
-  | inr enough ↦ the_same (IsGood base) (tag_start base packet) setup (tag_good base packet low enough bytes) (rw (le-ltb (length packet) 16 enough) at e)
-]
-start_from-good base Table packet setup low short bytes e = the_same (IsGood base) (table_start base packet) setup (table_good base packet low short bytes) e
+start_from-good base None packet setup low short bytes e = absurd (none-some setup e)
+start_from-good base (Some Filter) packet setup low short bytes e =
+    elim (cases_lt (length packet) 64) [
+      | inl less ↦ let none : None ≡ Some setup = rw (lt-ltb (length packet) 64 less) at e in cc
+      | inr enough ↦
+          the_same (IsGood base) (filter_start base packet) setup
+          (filter_good base packet low short bytes) (rw (le-ltb (length packet) 64 enough) at e)
+    ]
+start_from-good base (Some Tag) packet setup low short bytes e =
+    elim (cases_lt (length packet) 16) [
+      | inl less ↦ let none : None ≡ Some setup = rw (lt-ltb (length packet) 16 less) at e in cc
+      | inr enough ↦
+          the_same (IsGood base) (tag_start base packet) setup
+          (tag_good base packet low enough bytes) (rw (le-ltb (length packet) 16 enough) at e)
+    ]
+start_from-good base (Some Table) packet setup low short bytes e =
+    the_same (IsGood base) (table_start base packet) setup (table_good base packet low short bytes)
+    e
 
 -- it is a state of the machine
 pub good-state : (base : ℕ) (setup : StartView) → base % 8 ≡ 0 → base < 2 ^ 32 → IsGood base setup → IsState (start_state base setup)
 good-state base setup aligned low good = start_state-is base setup aligned (omega arith) good.fits good.words
 
-pub start_from-state : (base : ℕ) (policy : PolicyKind) (packet : List ℕ) (setup : StartView) → base % 8 ≡ 0 → base < 2 ^ 32 →
-    length packet ≤ 65535 → IsBytes packet → start_from base policy packet ≡ Some setup → IsState (start_state base setup)
-start_from-state base policy packet setup aligned low short bytes e =
-    good-state base setup aligned low (start_from-good base policy packet setup low short bytes e)
+pub start_from-state : (base : ℕ) (kind : Option PolicyKind) (packet : List ℕ) (setup : StartView)
+    → base % 8 ≡ 0 → base < 2 ^ 32 →
+    length packet ≤ 65535 → IsBytes packet → start_from base kind packet ≡ Some setup
+    → IsState (start_state base setup)
+start_from-state base kind packet setup aligned low short bytes e =
+    good-state base setup aligned low (start_from-good base kind packet setup low short bytes e)

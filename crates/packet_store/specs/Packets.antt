@@ -1,5 +1,5 @@
 -- A packet file: any number of packets, each behind its length.
-use Rattle.std.specs.Prelude.{◌≡◌, ℕ, ◌+◌, ◌<◌, ◌≤◌, ◌⊎◌, List, [], ◌∷◌, ◌++◌, length, take, slice_index}
+use Rattle.std.specs.Prelude.{◌≡◌, ℕ, ◌+◌, ◌<◌, ◌≤◌, ◌⊎◌, List, [], ◌∷◌, ◌++◌, length, take}
 use Rattle.std.specs.Int.{to_le_bytes, from_le_bytes, w32}
 use Rattle.packet_store.specs.declared.reader.TheConstants.{MAX_PACKET}
 use Rattle.packet_store.specs.declared.fault.PacketFault.{PacketFault}

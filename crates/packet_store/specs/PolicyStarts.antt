@@ -3,6 +3,7 @@
 use Rattle.std.specs.Prelude.{ℕ, ◌+◌, ◌/◌, ◌==◌, nat_lt, if◌then◌else◌, List, [], ◌∷◌, length, take, Option, Some, None}
 use Rattle.policy_set.specs.declared.kind.PolicyKind.{PolicyKind}
 use Rattle.policy_set.specs.declared.kind.PolicyKind.TheVariants.{Filter, Tag, Table}
+use Rattle.policy_set.specs.Views.{PolicyView}
 use Rattle.reference_machine.specs.declared.layout.TheConstants.{ARENA}
 use Rattle.reference_machine.specs.Arena.{quadword}
 use Rattle.reference_machine.specs.Starts.{StartView}
@@ -54,12 +55,16 @@ table_start base packet = record {
   writes = (base, quadwords_of packet) ∷ unused base ∷ [];
 }
 
--- a filter's packet is short below 64 bytes, a tag's below 16, and a table's never
-unfoldable pub start_from : ℕ → PolicyKind → List ℕ → Option StartView
-start_from base Filter packet = if nat_lt (length packet) 64 then None else Some (filter_start base packet)
-start_from base Tag packet = if nat_lt (length packet) 16 then None else Some (tag_start base packet)
-start_from base Table packet = Some (table_start base packet)
+-- A filter's packet is short below 64 bytes, a tag's below 16, and a table's never; to a policy
+-- without a kind each packet is.
+unfoldable pub start_from : ℕ → Option PolicyKind → List ℕ → Option StartView
+start_from base None packet = None
+start_from base (Some Filter) packet =
+    if nat_lt (length packet) 64 then None else Some (filter_start base packet)
+start_from base (Some Tag) packet =
+    if nat_lt (length packet) 16 then None else Some (tag_start base packet)
+start_from base (Some Table) packet = Some (table_start base packet)
 
 -- the start of an agent that is alone
-abbrev pub start_of : PolicyKind → List ℕ → Option StartView
-start_of = start_from ARENA
+abbrev pub start_of : PolicyView → List ℕ → Option StartView
+start_of policy packet = start_from ARENA policy.kind packet

@@ -2,7 +2,7 @@
 use Rattle.std.specs.Prelude.{ℕ, ◌%◌, ◌^◌, List, Option, Some, None}
 use Rattle.alpha_words.specs.declared.insn.Insn.{Insn}
 use Rattle.alpha_cfg.specs.Machine.{run_of}
-use Rattle.policy_set.specs.declared.kind.PolicyKind.{PolicyKind}
+use Rattle.policy_set.specs.Views.{PolicyView}
 use Rattle.reference_machine.specs.Arena.{sum_of}
 use Rattle.reference_machine.specs.Starts.{StartView, start_state}
 use Rattle.packet_store.specs.declared.results.PacketResult.{PacketResult}
@@ -17,5 +17,5 @@ result_from code budget (Some setup) =
     Ran end.0 (sum_of end.1.memory setup.at setup.region % 2 ^ 64)
 
 -- the run from the policy's start on a packet
-abbrev pub packet_result : PolicyKind → List Insn → ℕ → List ℕ → PacketResult
+abbrev pub packet_result : PolicyView → List Insn → ℕ → List ℕ → PacketResult
 packet_result policy code budget packet = result_from code budget (start_of policy packet)

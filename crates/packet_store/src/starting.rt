@@ -4,7 +4,6 @@ ghost use Rattle.std.specs.Prelude.{◌≡◌, ◌+◌, ◌%◌, ◌^◌, ◌==�
 ghost use Rattle.alpha_cfg.specs.Machine.{IsState};
 ghost use Rattle.packet_store.specs.PolicyStarts.{start_from, start_of, filter_start, tag_start, table_start};
 ghost use Rattle.packet_store.specs.StartMeets.{StartMeets, StartMeetsIn};
-ghost use Rattle.policy_set.specs.Policies.{pre_of};
 ghost use Rattle.reference_machine.specs.Arena.{quadword};
 ghost use Rattle.reference_machine.specs.Setups.{start_view};
 ghost use Rattle.reference_machine.specs.Starts.{Fits, HasWords, start_state};
@@ -87,20 +86,24 @@ fn table_start(packet: &[u8], base: u64) -> Start<'_>
 /// `base`, an address that is a multiple of 8 and below 2^32.
 ///
 /// None exactly where the packet is short, which is below 64 bytes for `filter`, below 16 for
-/// `tag` and never for `table`. The start lies in that arena, is a state of the machine and meets the
-/// policy's precondition.
+/// `tag`, never for `table`, and always for a policy without a kind. The start lies in that arena,
+/// is a state of the machine and meets the policy's precondition.
 #[tactic(auto, unfolding(crate::specs::PolicyStarts::start_from))]
 pub fn start_at<'b>(policy: &Policy, packet: &'b [u8], base: u64) -> Option<Start<'b>>
     requires packet { length packet.now ≤ MAX_PACKET }
     requires aligned { base % 8 ≡ 0 }
     requires low { base < 2 ^ 32 }
-    ensures exact { option_map start_view result ≡ start_from base policy.now packet.now }
+    ensures exact { option_map start_view result ≡ start_from base policy.now.kind packet.now }
     ensures fits { IfSome result (λ s. Fits base (start_view s)) }
     ensures words { IfSome result (λ s. HasWords (start_view s)) }
-    ensures meets { IfSome result (λ s. StartMeetsIn base (start_view s) (pre_of policy.now)) }
+    ensures meets { IfSome result (λ s. StartMeetsIn base (start_view s) policy.now.pre) }
     ensures state { IfSome result (λ s. IsState (start_state base (start_view s))) }
 {
-    match policy.kind() {
+    policy.laws(); // tells the prover that its formulas are those of its kind
+    let Some(kind) = policy.kind() else {
+        return None;
+    };
+    match kind {
         PolicyKind::Filter => {
             if packet.len() < 64 {
                 return None;
@@ -126,7 +129,7 @@ pub fn start<'b>(policy: &Policy, packet: &'b [u8]) -> Option<Start<'b>>
     ensures exact { option_map start_view result ≡ start_of policy.now packet.now }
     ensures fits { IfSome result (λ s. Fits ARENA (start_view s)) }
     ensures words { IfSome result (λ s. HasWords (start_view s)) }
-    ensures meets { IfSome result (λ s. StartMeets (start_view s) (pre_of policy.now)) }
+    ensures meets { IfSome result (λ s. StartMeets (start_view s) policy.now.pre) }
 {
     start_at(policy, packet, ARENA)
 }

@@ -1,11 +1,10 @@
 //! What holds of the definitions, with nothing to run.
 
 ghost use Rattle.std.specs.Prelude.{◌≡◌, ℕ, ◌≤◌, ◌↔◌, List, length, Some, Ok, Err};
-ghost use Rattle.policy_set.specs.declared.kind.PolicyKind.{PolicyKind};
+ghost use Rattle.policy_set.specs.Views.{PolicyView, IsPolicy};
 ghost use Rattle.alpha_cfg.specs.Machine.{IsState};
 ghost use Rattle.reference_machine.specs.Starts.{StartView, start_state};
 ghost use Rattle.reference_machine.specs.declared.layout.TheConstants.{ARENA};
-ghost use Rattle.policy_set.specs.Policies.{pre_of};
 ghost use Rattle.packet_store.specs.declared.fault.PacketFault.{PacketFault};
 ghost use Rattle.term_table.specs.Bytes.{IsBytes};
 ghost use Rattle.packet_store.specs.Packets.{AreShort, packets_encoding, IsFirstFault};
@@ -18,13 +17,13 @@ ghost use Rattle.packet_store.specs.StartMeets.{StartMeets};
 /// precondition; and a file of bytes reads as the packets that encode it, or as its first fault,
 /// exactly.
 pub fn laws()
-    ensures state { (policy : PolicyKind) (packet : List ℕ) (setup : StartView) →
+    ensures state { (policy : PolicyView) (packet : List ℕ) (setup : StartView) →
         length packet ≤ MAX_PACKET
         → IsBytes packet → start_of policy packet ≡ Some setup
         → IsState (start_state ARENA setup) }
-    ensures meets { (policy : PolicyKind) (packet : List ℕ) (setup : StartView) →
-        length packet ≤ MAX_PACKET
-        → start_of policy packet ≡ Some setup → StartMeets setup (pre_of policy) }
+    ensures meets { (policy : PolicyView) (packet : List ℕ) (setup : StartView) → IsPolicy policy
+        → length packet ≤ MAX_PACKET
+        → start_of policy packet ≡ Some setup → StartMeets setup policy.pre }
     ensures whole { (bytes : List ℕ) (ps : List (List ℕ)) → IsBytes bytes
         → ((decoded_packets bytes ≡ Ok ps) ↔ (AreShort ps × (bytes ≡ packets_encoding ps))) }
     ensures fault { (bytes : List ℕ) (f : PacketFault) → IsBytes bytes

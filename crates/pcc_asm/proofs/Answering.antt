@@ -4,7 +4,7 @@ use Rattle.std.specs.List.{AllByRecursion}
 use Rattle.std.specs.Result.{IsErrAnd}
 use Rattle.std.proofs.lemmas.List.{length-map}
 use Rattle.alpha_words.specs.declared.insn.Insn.{Insn}
-use Rattle.policy_set.specs.declared.kind.PolicyKind.{PolicyKind}
+use Rattle.policy_set.specs.Views.{PolicyView}
 use Rattle.policy_set.specs.Names.{policy_number}
 use Rattle.formula_tree.specs.declared.form.Form as lent
 use Rattle.formula_tree.specs.Formulas.{Form}
@@ -110,7 +110,8 @@ bytes_by : (r : Result (List Insn) AsmFlaw) (bytes : List ℕ) → bytes_or_flaw
 bytes_by (Ok insns) bytes e = (insns, refl, bytes_same _ _ e)
 bytes_by (Err k) bytes e = cc
 
-pub err_answer : {X : Type 0} (policy : PolicyKind) (s : Source) (view : X → List ℕ) (k : AsmFault) → IsStepAnswer view (bytes_or_flaw (assembled_code s)) (Err k) → IsAsmAnswer policy s (Err k)
+pub err_answer : {X : Type 0} (policy : PolicyView) (s : Source) (view : X → List ℕ) (k : AsmFault)
+    → IsStepAnswer view (bytes_or_flaw (assembled_code s)) (Err k) → IsAsmAnswer policy s (Err k)
 unfolding assembled_contents
 err_answer policy s view F.Memory h = tt
 err_answer policy s view (F.At flaw) h = ap (with_code policy s.invs) (flaw_by (assembled_code s) flaw h)
@@ -118,7 +119,9 @@ err_answer policy s view (F.At flaw) h = ap (with_code policy s.invs) (flaw_by (
 contents_same : (policy : ℕ) (bytes : List ℕ) (a b : List (ℕ × Tree)) → a ≡ b → ◌≡◌ {A = Contents} (record { policy = policy; code = bytes; invs = a; proof = None }) (record { policy = policy; code = bytes; invs = b; proof = None })
 contents_same policy bytes a b e = ap (λ x. record { policy = policy; code = bytes; invs = x; proof = None }) e
 
-pub ok_answer : (policy : PolicyKind) (s : Source) (number : ℕ) (bytes : List ℕ) (t : TableView) (ids : List (ℕ × ℕ)) → bytes_or_flaw (assembled_code s) ≡ Ok bytes → number ≡ policy_number policy → AreEncoded t s.invs ids →
+pub ok_answer : (policy : PolicyView) (s : Source) (number : ℕ) (bytes : List ℕ) (t : TableView)
+    (ids : List (ℕ × ℕ)) → bytes_or_flaw (assembled_code s) ≡ Ok bytes → number
+    ≡ policy_number policy → AreEncoded t s.invs ids →
     assembled_contents policy s ≡ Ok (held_contents number bytes t ids)
 unfolding assembled_contents
 ok_answer policy s number bytes t ids e n k =
@@ -146,13 +149,16 @@ is_held s number bytes t ids h e k =
       rising = subst (λ n. AreRising 0 n (id_trees t ids)) (sym words) (subst (AreRising 0 (length s.insns)) (sym k.trees) (rising 0 (length s.insns) s.invs h.1.sound.belong));
     }
 
-contents_by : (policy : PolicyKind) (s : Source) (c : Contents) (r : Result (List Insn) AsmFlaw) → with_code policy s.invs r ≡ Ok c → (insns : List Insn) × (r ≡ Ok insns) × (plain_contents policy s.invs insns ≡ c)
+contents_by : (policy : PolicyView) (s : Source) (c : Contents) (r : Result (List Insn) AsmFlaw)
+    → with_code policy s.invs r ≡ Ok c → (insns : List Insn) × (r ≡ Ok insns)
+    × (plain_contents policy s.invs insns ≡ c)
 contents_by policy s c (Ok insns) e = (insns, refl, contents_ok _ _ e) where
   contents_ok : (a b : Contents) → ◌≡◌ {A = Result Contents AsmFlaw} (Ok a) (Ok b) → a ≡ b
   contents_ok a b e = cc
 contents_by policy s c (Err k) e = cc
 
-plain_assembles : (policy : PolicyKind) (s : Source) (insns : List Insn) → IsSpelled s → IsSound s insns → Assembles policy s (plain_contents policy s.invs insns)
+plain_assembles : (policy : PolicyView) (s : Source) (insns : List Insn) → IsSpelled s
+    → IsSound s insns → Assembles policy s (plain_contents policy s.invs insns)
 plain_assembles policy s insns h k = record {
   insns = insns;
   assembled = sound_assembled h.0 s insns h.1 k;
@@ -162,27 +168,34 @@ plain_assembles policy s insns h k = record {
   no_proof = refl;
 }
 
-pub contents_sound : (policy : PolicyKind) (s : Source) (c : Contents) → IsSpelled s → assembled_contents policy s ≡ Ok c → (insns : List Insn) × IsSound s insns × (plain_contents policy s.invs insns ≡ c)
+pub contents_sound : (policy : PolicyView) (s : Source) (c : Contents) → IsSpelled s
+    → assembled_contents policy s ≡ Ok c → (insns : List Insn) × IsSound s insns
+    × (plain_contents policy s.invs insns ≡ c)
 unfolding assembled_contents
 contents_sound policy s c h e = let b = contents_by policy s c (assembled_code s) e in (b.0, code_sound h.0 s b.0 h.1 b.1, b.2)
 
-assembles_by : (policy : PolicyKind) (s : Source) (c : Contents) → IsSpelled s → assembled_contents policy s ≡ Ok c → Assembles policy s c
+assembles_by : (policy : PolicyView) (s : Source) (c : Contents) → IsSpelled s
+    → assembled_contents policy s ≡ Ok c → Assembles policy s c
 assembles_by policy s c h e = let k = contents_sound policy s c h e in subst (Assembles policy s) k.2 (plain_assembles policy s k.0 h k.1)
 
-pub answer_assembles : (policy : PolicyKind) (s : Source) (r : Result Contents AsmFault) → IsSpelled s → IsAsmAnswer policy s r → IfOk r (λ c. Assembles policy s c)
+pub answer_assembles : (policy : PolicyView) (s : Source) (r : Result Contents AsmFault)
+    → IsSpelled s → IsAsmAnswer policy s r → IfOk r (λ c. Assembles policy s c)
 answer_assembles policy s (Ok c) h e = assembles_by policy s c h e
 answer_assembles policy s (Err k) h e = tt
 
-none_by : (policy : PolicyKind) (s : Source) (flaw : AsmFlaw) → assembled_contents policy s ≡ Err flaw → (c : Contents) → Assembles policy s c → ⊥
+none_by : (policy : PolicyView) (s : Source) (flaw : AsmFlaw) → assembled_contents policy s
+    ≡ Err flaw → (c : Contents) → Assembles policy s c → ⊥
 unfolding assembled_contents
 none_by policy s flaw e c a =
     let f : with_code policy s.invs (Ok a.insns) ≡ Err flaw = ap (with_code policy s.invs) (sym (assembled-code s a.insns a.assembled)) ∙ e in
     cc
 
-none_of : (policy : PolicyKind) (s : Source) (k : AsmFault) → IsAsmAnswer policy s (Err k) → AssemblesNone policy s k
+none_of : (policy : PolicyView) (s : Source) (k : AsmFault) → IsAsmAnswer policy s (Err k)
+    → AssemblesNone policy s k
 none_of policy s F.Memory h = tt
 none_of policy s (F.At flaw) h = none_by policy s flaw h
 
-pub answer_none : (policy : PolicyKind) (s : Source) (r : Result Contents AsmFault) → IsAsmAnswer policy s r → IfErr r (λ k. AssemblesNone policy s k)
+pub answer_none : (policy : PolicyView) (s : Source) (r : Result Contents AsmFault)
+    → IsAsmAnswer policy s r → IfErr r (λ k. AssemblesNone policy s k)
 answer_none policy s (Ok c) h = tt
 answer_none policy s (Err k) h = none_of policy s k h

@@ -4,7 +4,7 @@ use Rattle.std.specs.Prelude.{nat_lt}
 use Rattle.std.specs.List.{AllByRecursion, flat_map}
 use Rattle.std.proofs.lemmas.List.{length-map}
 use Rattle.alpha_words.specs.declared.insn.Insn.{Insn}
-use Rattle.policy_set.specs.declared.kind.PolicyKind.{PolicyKind}
+use Rattle.policy_set.specs.Views.{PolicyView}
 use Rattle.formula_tree.specs.Formulas.{Exp, EReg, ELeft, EVar, ELit, EOp, ESel, MemExp, MMem, MVar, MUpd, Form, FTrue, FFalse, FRel, FRd, FWr, FAnd, FOr, FImp, FAll, FAllm}
 use Rattle.formula_tree.specs.Scope.{VarSort, OfWord, OfMem, IsOverExp, IsOverMem, IsOver}
 use Rattle.term_table.specs.Tree.{Tree, Var, Con, App, Lam, Fam, TApp, Pi, Const, Num, Lit, Calc, Fact, Deny, Lemma}
@@ -176,7 +176,8 @@ encoding_length c =
     let t : length tail ≡ 4 * length (tail_fields (entries (roots c)) c) = length-field_bytes (tail_fields (entries (roots c)) c) in
     omega (arith, a, b, h, t)
 
-pub within_limits : (policy : PolicyKind) (s : Source) (insns : List Insn) → IsSpelled s → IsSound s insns → IsWithinLimits (plain_contents policy s.invs insns)
+pub within_limits : (policy : PolicyView) (s : Source) (insns : List Insn) → IsSpelled s
+    → IsSound s insns → IsWithinLimits (plain_contents policy s.invs insns)
 within_limits policy s insns h k =
     let texts = (bounded h.0 s h.1).invs in
     let c = plain_contents policy s.invs insns in
@@ -190,6 +191,7 @@ within_limits policy s insns h k =
     let code = bytes_length insns in
     record { low = all_low s.invs texts; bytes = omega (arith, few, fields, count, places, tail, all, code, k.count, h.1.sound.insns, h.1.sound.invs) }
 
-pub answer_limits : (policy : PolicyKind) (s : Source) (r : Result Contents AsmFault) → IsSpelled s → IsAsmAnswer policy s r → IfOk r IsWithinLimits
+pub answer_limits : (policy : PolicyView) (s : Source) (r : Result Contents AsmFault) → IsSpelled s
+    → IsAsmAnswer policy s r → IfOk r IsWithinLimits
 answer_limits policy s (Ok c) h e = let k = contents_sound policy s c h e in subst IsWithinLimits k.2 (within_limits policy s k.0 h k.1)
 answer_limits policy s (Err f) h e = tt

@@ -11,8 +11,8 @@ use Rattle.term_table.specs.Table.{TableView, IsKnown, tree_at, Extends, id_tree
 use Rattle.lf_signature.specs.Nodes.{IsIdOf}
 use Rattle.lf_encode.specs.declared.contexts.Sort.{Sort}
 use Rattle.lf_encode.specs.Encoding.{exp_encoding, mem_encoding, form_encoding}
-use Rattle.lf_encode.specs.Contexts.{machine_context, registers_in, names_in, IsFormIn, encoding_in}
-use Rattle.lf_encode.proofs.MachineContext.{bound_sorts-machine, registers_in-machine}
+use Rattle.lf_encode.specs.Contexts.{machine_context, names_in, IsFormIn, encoding_in}
+use Rattle.lf_encode.proofs.MachineContext.{in-machine}
 use Rattle.proof_container.specs.Views.{AllTerms}
 use Rattle.proof_container.specs.Encoding.{AreRising, IsEntryTerm}
 use Rattle.asm_text.specs.Sources.{HaveInsns}
@@ -52,7 +52,7 @@ all_terms [] = tt
 all_terms (v ∷ invs) = (form_term (subst_form v.1 (names_in machine_context)), all_terms invs)
 
 over_machine : (F : Form) → IsOver 32 F [] → IsFormIn machine_context 32 F
-over_machine F h = subst (λ B. IsOver (registers_in machine_context 32) F B) (sym bound_sorts-machine) (subst (λ r. IsOver r F []) (sym (registers_in-machine 32)) h)
+over_machine F h = in-machine F h
 
 -- ---- places
 

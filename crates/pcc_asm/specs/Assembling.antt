@@ -11,7 +11,7 @@ use Rattle.alpha_cfg.specs.Flow.{IsCode, AreOfProfile}
 use Rattle.alpha_cfg.specs.CodeBytes.{EncodesCode}
 use Rattle.alpha_cfg.specs.CodeDecoding.{first_outside, runs_off}
 use Rattle.formula_tree.specs.Formulas.{Form}
-use Rattle.policy_set.specs.declared.kind.PolicyKind.{PolicyKind}
+use Rattle.policy_set.specs.Views.{PolicyView}
 use Rattle.policy_set.specs.Names.{policy_number}
 use Rattle.term_table.specs.Tree.{Tree}
 use Rattle.lf_encode.specs.Contexts.{machine_context, encoding_in}
@@ -54,7 +54,7 @@ pub record IsAssembled (s : Source) (insns : List Insn) : Type 0 where
   pub profile : AreOfProfile One insns
 
 -- The contents are those of the source for the policy: words that encode its instructions, the encodings of its invariants, and no proof.
-pub record Assembles (policy : PolicyKind) (s : Source) (c : Contents) : Type 0 where
+pub record Assembles (policy : PolicyView) (s : Source) (c : Contents) : Type 0 where
   pub insns : List Insn
   pub assembled : IsAssembled s insns
   pub code : EncodesCode One c.code insns
@@ -118,7 +118,7 @@ unfoldable pub assembled_code : Source → Result (List Insn) AsmFlaw
 assembled_code s = as_code s.insns (resolved_insns s.labels 0 s.insns)
 
 -- what a container for the policy holds, of this code and these invariants
-abbrev pub plain_contents : PolicyKind → List (ℕ × Form) → List Insn → Contents
+abbrev pub plain_contents : PolicyView → List (ℕ × Form) → List Insn → Contents
 plain_contents policy invs insns = record {
   policy = policy_number policy;
   code = code_bytes insns;
@@ -127,10 +127,11 @@ plain_contents policy invs insns = record {
 }
 
 -- the contents of code that was assembled
-abbrev pub with_code : PolicyKind → List (ℕ × Form) → Result (List Insn) AsmFlaw → Result Contents AsmFlaw
+abbrev pub with_code : PolicyView → List (ℕ × Form) → Result (List Insn) AsmFlaw
+    → Result Contents AsmFlaw
 with_code policy invs (Ok insns) = Ok (plain_contents policy invs insns)
 with_code policy invs (Err flaw) = Err flaw
 
 -- what a container of the source for the policy holds, or the first line that is wrong
-unfoldable pub assembled_contents : PolicyKind → Source → Result Contents AsmFlaw
+unfoldable pub assembled_contents : PolicyView → Source → Result Contents AsmFlaw
 assembled_contents policy s = with_code policy s.invs (assembled_code s)

@@ -1,6 +1,6 @@
 -- What answers of calls say.
 use Rattle.std.specs.Prelude.{◌≡◌, ℕ, List, Result, Ok, Err}
-use Rattle.policy_set.specs.declared.kind.PolicyKind.{PolicyKind}
+use Rattle.policy_set.specs.Views.{PolicyView}
 use Rattle.proof_container.specs.Contents.{Contents}
 use Rattle.asm_text.specs.Sources.{Source, SpellsSource}
 use Rattle.pcc_asm.specs.declared.fault.AsmFault.{AsmFault}
@@ -13,12 +13,12 @@ abbrev pub IsSpelled : Source → Type 0
 IsSpelled s = (text : List ℕ) × SpellsSource One text s
 
 -- the contents that are assembled, or the first line that is wrong; want of memory says nothing of the source
-abbrev pub IsAsmAnswer : PolicyKind → Source → Result Contents AsmFault → Type 0
+abbrev pub IsAsmAnswer : PolicyView → Source → Result Contents AsmFault → Type 0
 IsAsmAnswer policy s (Ok c) = assembled_contents policy s ≡ Ok c
 IsAsmAnswer policy s (Err (F.At flaw)) = assembled_contents policy s ≡ Err flaw
 IsAsmAnswer policy s (Err F.Memory) = Unit {0}
 
 -- no contents are those of the source
-abbrev pub AssemblesNone : PolicyKind → Source → AsmFault → Type 0
+abbrev pub AssemblesNone : PolicyView → Source → AsmFault → Type 0
 AssemblesNone policy s (F.At flaw) = (c : Contents) → Assembles policy s c → ⊥
 AssemblesNone policy s F.Memory = Unit {0}

@@ -4,7 +4,7 @@ use Rattle.std.specs.Prelude.{option_map}
 use mathlib.Core.Path.{fun_ext}
 use Rattle.file_port.specs.Events.{Given, Event, was_read}
 use Rattle.file_port.specs.Files.{FilesState, Reads}
-use Rattle.policy_set.specs.declared.kind.PolicyKind.{PolicyKind}
+use Rattle.policy_set.specs.Views.{PolicyView}
 use Rattle.reference_machine.specs.Starts.{StartView}
 use Rattle.packet_store.specs.declared.reader.TheConstants.{MAX_PACKET}
 use Rattle.packet_store.specs.PolicyStarts.{start_from}
@@ -17,9 +17,11 @@ use Rattle.pcc_exit.specs.Runs.{AreOctets}
 use Rattle.pcc_cli.specs.Texts.{texts}
 use Rattle.pcc_cli.specs.Stages.Common.{refused}
 use Rattle.pcc_cli.specs.Stages.Hosting.{told_of, for_agent, unless_short}
-use Rattle.pcc_cli.specs.Inside.Decisions.{end_of}
+use Rattle.pcc_cli.specs.Inside.Decisions.{refused_text, end_of}
 use Rattle.pcc_cli.specs.Inside.Gives.{IsOfGate, StopsAs, GivesPure, IsCleanFor, Gives}
 use Rattle.pcc_cli.specs.Inside.Standing.{HasStart}
+use Rattle.pcc_cli.specs.declared.refused_line.RefusedLine.{RefusedLine}
+use Rattle.pcc_cli.specs.declared.refused_line.RefusedLine.TheVariants as refused_line
 use Rattle.pcc_cli.specs.declared.stop.Stop.{Stop}
 use Rattle.pcc_cli.specs.declared.stop.Stop.TheVariants as stop
 use Rattle.pcc_cli.proofs.StageLemmas.{read_gives}
@@ -43,10 +45,19 @@ pub told-stops : {A : Type 0} (a : ℕ) (s : Stage A) (why told : Stop) → Stop
 told-stops a s why told is e = subst (StopsAs (for_agent a s)) (sym e) (told-at a s (end_of why) is)
 
 -- a stop of the gate that is no refusal is want of memory
-pub told-memory : (a : ℕ) (why : Stop) → IsOfGate why → ((r : Refusal) → why ≡ stop.Refused r → ⊥) → None ≡ option_map (told_of a) (end_of why)
-told-memory a (stop.Refused r) gate other = absurd (other r refl)
+pub told-memory : (a : ℕ) (why : Stop) → IsOfGate why
+    → ((line : RefusedLine) → why ≡ stop.Refused line → ⊥)
+    → None ≡ option_map (told_of a) (end_of why)
+told-memory a (stop.Refused line) gate other = absurd (other line refl)
 told-memory a stop.Memory gate other = refl
 told-memory a why gate other = absurd gate
+
+-- the gate's only line is that of a refusal
+pub told-line : (a : ℕ) (line : RefusedLine) → IsOfGate (stop.Refused line)
+    → ((r : Refusal) → line ≡ refused_line.Container r → ⊥)
+    → None ≡ Some (told_of a (refused (refused_text line)))
+told-line a (refused_line.Container r) gate other = absurd (other r refl)
+told-line a line gate other = absurd gate
 
 -- one read of a name that the code has as a text of its own
 pub read_named : {A C : Type 0} (view : C → A) (said name : List ℕ) (max : ℕ) (more : Exit) (on : List ℕ → Stage A) (given : Given) (e e' : List Event) (f g : FilesState) (r : Result C Stop) → said ≡ name
@@ -57,16 +68,22 @@ read_named view said name max more on given e e' f g r is logged read octets goe
 
 -- ---- a packet
 
-module _ (a base : ℕ) (policy : PolicyKind) (packet : List ℕ) (is : base ≡ base_of a) where
-  start_here : (o : Option StartView) → o ≡ start_from base policy packet → start_from (base_of a) policy packet ≡ o
-  start_here o e = ap (λ b. start_from b policy packet) (sym is) ∙ sym e
+module _ (a base : ℕ) (policy : PolicyView) (packet : List ℕ) (is : base ≡ base_of a) where
+  start_here : (o : Option StartView) → o ≡ start_from base policy.kind packet → start_from
+      (base_of a) policy.kind packet ≡ o
+  start_here o e = ap (λ b. start_from b policy.kind packet) (sym is) ∙ sym e
 
-  pub packet-short : None ≡ start_from base policy packet → for_agent a (unless_short packet (start_from (base_of a) policy packet)) ≡ stops (refused (agent_line a short_line))
+  pub packet-short : None ≡ start_from base policy.kind packet → for_agent a
+      (unless_short packet (start_from (base_of a) policy.kind packet)) ≡ stops
+      (refused (agent_line a short_line))
   packet-short e = ap (λ (o : Option StartView). for_agent a (unless_short packet o)) (start_here None e)
 
-  pub packet-gives : (setup : StartView) (items : List ℕ) → Some setup ≡ start_from base policy packet → items ≡ packet
-      → for_agent a (unless_short packet (start_from (base_of a) policy packet)) ≡ gives items
+  pub packet-gives : (setup : StartView) (items : List ℕ) → Some setup
+      ≡ start_from base policy.kind packet → items ≡ packet
+      → for_agent a (unless_short packet (start_from (base_of a) policy.kind packet)) ≡ gives items
   packet-gives setup items e same = ap (λ (o : Option StartView). for_agent a (unless_short packet o)) (start_here (Some setup) e) ∙ ap gives (sym same)
 
-  pub packet-starts : (setup : StartView) (items : List ℕ) → Some setup ≡ start_from base policy packet → items ≡ packet → length packet ≤ MAX_PACKET → HasStart a policy items
+  pub packet-starts : (setup : StartView) (items : List ℕ) → Some setup
+      ≡ start_from base policy.kind packet → items ≡ packet → length packet ≤ MAX_PACKET
+      → HasStart a policy items
   packet-starts setup items e same short = subst (HasStart a policy) (sym same) (record { short = short; starts = ap (λ (o : Option StartView). is_some o) (start_here (Some setup) e) })

@@ -5,6 +5,7 @@ use Rattle.term_table.specs.Bytes.{IsBytes}
 use Rattle.proof_container.specs.Encoding.{encoding_of}
 use Rattle.pcc_gate.specs.Accepted.{IsAccepted}
 use Rattle.policy_set.specs.declared.kind.PolicyKind.TheVariants.{Filter}
+use Rattle.policy_set.specs.Views.{built_in}
 use Rattle.bpf_words.specs.declared.insn.Bpf.{Bpf}
 use Rattle.bpf_words.specs.declared.fault.BpfFlaw.{BpfFlaw}
 use Rattle.bpf_words.specs.Programs.{IsProgram}
@@ -32,13 +33,16 @@ ReadsPrograms = (bytes : List ℕ) (program : List Bpf) → AreBytes bytes → p
 abbrev pub CompilesPrograms : Type 0
 CompilesPrograms = (program : List Bpf) → IsProgram program → (out : List ℕ) × (compiled_container program ≡ Ok out) × IsCompiled program out
 
-pub programs-compile : ((program : List Bpf) → IsProgram program → (out : List ℕ) × (proved_container Filter (encoding_of (bare_contents program)) ≡ Ok out) × IsCompiled program out)
+pub programs-compile : ((program : List Bpf) → IsProgram program → (out : List ℕ)
+    × (proved_container (built_in Filter) (encoding_of (bare_contents program)) ≡ Ok out)
+    × IsCompiled program out)
     → CompilesPrograms
 unfolding compiled_container
 programs-compile h = h
 
 -- twenty steps for each of at most forty instructions
-values-come : (program : List Bpf) → IsProgram program → (out : List ℕ) → IsCompiled program out → (a : IsAccepted Filter out) → ComesToValues program a.code
+values-come : (program : List Bpf) → IsProgram program → (out : List ℕ) → IsCompiled program out
+    → (a : IsAccepted (built_in Filter) out) → ComesToValues program a.code
 values-come program is out c a packet held long =
     let few = is.few in c.values a.contents a.code a.marks a.accepts packet 1000 held long (omega (arith, few))
 

@@ -3,7 +3,7 @@ use Rattle.std.proofs.Common.{◌≡◌, ℕ, suc, ◌+◌, true, false, List, O
 use Rattle.alpha_words.specs.declared.insn.Insn.{Insn}
 use Rattle.alpha_cfg.specs.Machine.{State, run_of}
 use Rattle.alpha_cfg.specs.declared.outcome.Outcome.{Outcome}
-use Rattle.policy_set.specs.declared.kind.PolicyKind.{PolicyKind}
+use Rattle.policy_set.specs.Views.{PolicyView}
 use Rattle.reference_machine.specs.declared.layout.TheConstants.{ARENA}
 use Rattle.reference_machine.specs.Starts.{StartView, start_state}
 use Rattle.packet_store.specs.PolicyStarts.{start_of}
@@ -40,11 +40,15 @@ ran-count old begun after budget steps result (Some setup) l run made =
 
 -- ---- packet after packet
 
-pub counts-none : (policy : PolicyKind) (code : List Insn) (budget n : ℕ) → nothing ≡ packet_counts policy code budget n 0
+pub counts-none : (policy : PolicyView) (code : List Insn) (budget n : ℕ) → nothing
+    ≡ packet_counts policy code budget n 0
 unfolding packet_counts
 counts-none policy code budget n = refl
 
-pub counts-more : (policy : PolicyKind) (code : List Insn) (budget n k : ℕ) (all one : Counts) → all ≡ packet_counts policy code budget n k → one ≡ count_from code budget (start_of policy (demo_packet n k)) → both_counts all one ≡ packet_counts policy code budget n (k + 1)
+pub counts-more : (policy : PolicyView) (code : List Insn) (budget n k : ℕ) (all one : Counts) → all
+    ≡ packet_counts policy code budget n k → one
+    ≡ count_from code budget (start_of policy (demo_packet n k)) → both_counts all one
+    ≡ packet_counts policy code budget n (k + 1)
 unfolding packet_counts
 counts-more policy code budget n k all one a b =
     let next : suc k ≡ k + 1 = omega arith in

@@ -11,7 +11,7 @@ use Rattle.file_port.proofs.PutLemmas.{with_piece-nil}
 use Rattle.pcc_lines.specs.Sources.{written_line}
 use Rattle.pcc_exit.specs.Exits.{Exit}
 use Rattle.pcc_exit.specs.Requests.{no_memory_exit}
-use Rattle.policy_set.specs.declared.kind.PolicyKind.{PolicyKind}
+use Rattle.policy_set.specs.Views.{PolicyView}
 use Rattle.pcc_exit.specs.Stages.{Stage, gives, ◌>>=◌, Follows}
 use Rattle.pcc_exit.specs.Runs.{Effect, Happens, NoneFailed, stopped, printed, wrote, done_exit, written_exit, status_after, Prints, EndsRun, decided, out_of_memory, Runs}
 use Rattle.pcc_cli.specs.Texts.{texts}
@@ -93,15 +93,19 @@ module _ (stage : Stage Effect) (e e' : List Event) (f g : FilesState) (s t : Si
 -- ---- commands
 
 -- a command whose policy isn't known
-pub no_policy : (s : Stage PolicyKind) (next : PolicyKind → Stage Effect) (e : List Event) (f : FilesState) (why : Stop) (d : Result Report Stop) → StopsAs s (end_of why) → IsErrAnd d (λ y. y ≡ why)
+pub no_policy : (s : Stage PolicyView) (next : PolicyView → Stage Effect) (e : List Event)
+    (f : FilesState) (why : Stop) (d : Result Report Stop) → StopsAs s (end_of why)
+    → IsErrAnd d (λ y. y ≡ why)
     → Decides (s >>= next) e e f f d
 no_policy s next e f why (Ok report) h is = absurd is
 no_policy s next e f why (Err other) h is = decides_at_once (s >>= next) e f other (subst (λ y. StopsAs (s >>= next) (end_of y)) (sym is) (pure_stops next s why h))
 
 -- one whose policy is known
-pub under_policy : (s : Stage PolicyKind) (next : PolicyKind → Stage Effect) (kind : PolicyKind) (e e' : List Event) (f g : FilesState) (d : Result Report Stop) → s ≡ gives kind
-    → Decides (next kind) e e' f g d → Decides (s >>= next) e e' f g d
-under_policy s next kind e e' f g d is h = subst (λ stage. Decides stage e e' f g d) (sym (ap (λ x. x >>= next) is)) h
+pub under_policy : (s : Stage PolicyView) (next : PolicyView → Stage Effect) (under : PolicyView)
+    (e e' : List Event) (f g : FilesState) (d : Result Report Stop) → s ≡ gives under
+    → Decides (next under) e e' f g d → Decides (s >>= next) e e' f g d
+under_policy s next under e e' f g d is h =
+    subst (λ stage. Decides stage e e' f g d) (sym (ap (λ x. x >>= next) is)) h
 
 -- one that writes what a stage makes
 pub decides_copy : {C : Type 0} (view : C → List ℕ) (make : Stage (List ℕ)) (output : List ℕ) (e m e' : List Event) (f n g : FilesState) (x : C) (d : Result Report Stop)

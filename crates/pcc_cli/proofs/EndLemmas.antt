@@ -3,7 +3,7 @@ use Rattle.std.proofs.Common.{◌≡◌, ℕ, ◌⊎◌, inl, inr, false, true�
 use Rattle.file_port.specs.Events.{Given, whole, missing, too_long, failed, no_memory, Event, was_read, was_written, was_put}
 use Rattle.file_port.specs.Files.{FilesState}
 use Rattle.file_port.specs.declared.Put.{Put}
-use Rattle.policy_set.specs.declared.kind.PolicyKind.{PolicyKind}
+use Rattle.policy_set.specs.Views.{PolicyView}
 use Rattle.term_table.specs.Bytes.{IsBytes}
 use Rattle.pcc_gate.specs.declared.refusal.Refusal.{Refusal}
 use Rattle.pcc_gate.specs.Accepted.{IsAccepted}
@@ -168,7 +168,7 @@ given_bytes name max given rest events f g is h = let at : Happens (was_read nam
 
 -- ---- check
 
-module _ (accepted_first : AcceptedFirst) (kind : PolicyKind) where
+module _ (accepted_first : AcceptedFirst) (under : PolicyView) where
   -- what `check` goes on with
   abbrev pub judged_by : Option Refusal → Stage Effect
   judged_by r = unless_refused r >>= λ accepted. printing accepted_line
@@ -181,33 +181,45 @@ module _ (accepted_first : AcceptedFirst) (kind : PolicyKind) where
   judged_by-silent None = refl
   judged_by-silent (Some refusal) = refl
 
-  pub verdict : (b : List ℕ) → IsBytes b → (r : Option Refusal) → first_refusal kind b ≡ r → IsVerdict kind b (end_at (judged_by r))
+  pub verdict : (b : List ℕ) → IsBytes b → (r : Option Refusal) → first_refusal under b ≡ r
+      → IsVerdict under b (end_at (judged_by r))
   verdict b held None is =
-      let a : IsAccepted kind b = (accepted_first kind b held).1 is in
+      let a : IsAccepted under b = (accepted_first under b held).1 is in
       record { accepted = (λ e. a, λ a. refl); refused = λ r some. let none : None ≡ Some r = sym is ∙ some in absurd (cc); judged = inl a }
   verdict b held (Some r) is = record {
     accepted = (
       λ e. let wrong : 1 ≡ 0 = ap (λ (x : Exit). x.status) e in absurd (omega arith),
-      λ a. let none : Some r ≡ None = sym is ∙ (accepted_first kind b held).0 a in absurd (cc),
+      λ a. let none : Some r ≡ None = sym is ∙ (accepted_first under b held).0 a in absurd (cc),
     );
     refused = λ other some. ap (λ (x : Option Refusal). end_at (judged_by x)) (sym is ∙ some);
     judged = inr (r, is);
   }
 
-  pub judged_as : (file : List ℕ) (given : Given) → AreOctets given → IsJudged kind file given (end_at (went_on texts file (refused container_too_long_line) (λ b. judged_by (first_refusal kind b)) given))
-  judged_as file (whole b) held = verdict b held (first_refusal kind b) refl
+  pub judged_as : (file : List ℕ) (given : Given) → AreOctets given
+      → IsJudged under file given
+      (end_at
+      (went_on texts file (refused container_too_long_line) (λ b. judged_by (first_refusal under b))
+      given))
+  judged_as file (whole b) held = verdict b held (first_refusal under b) refl
   judged_as file missing held = refl
   judged_as file too_long held = refl
   judged_as file failed held = refl
   judged_as file no_memory held = refl
 
   pub checks : (file : List ℕ) (events : List Event) (exit : Exit) (f g : FilesState) → Happens events f g
-      → Ended (reads file MAX_FILE (refused container_too_long_line) (λ b. judged_by (first_refusal kind b))) events exit → Checks kind file events exit
+      → Ended
+      (reads file MAX_FILE (refused container_too_long_line)
+      (λ b. judged_by (first_refusal under b))) events exit → Checks under file events exit
   checks file events exit f g happened e =
-      let once = ended_once file MAX_FILE (refused container_too_long_line) (λ b. judged_by (first_refusal kind b)) (λ b. judged_by-ended (first_refusal kind b)) (λ b. judged_by-silent (first_refusal kind b))
+      let once = ended_once file MAX_FILE (refused container_too_long_line)
+      (λ b. judged_by (first_refusal under b)) (λ b. judged_by-ended (first_refusal under b))
+      (λ b. judged_by-silent (first_refusal under b))
       e.asked e.later events exit e.follows e.ended e.does in
       record {
         given = once.given;
         one_read = once.is;
-        judged = subst (IsJudged kind file once.given) (sym once.ends) (judged_as file once.given (given_bytes file MAX_FILE once.given [] events f g once.is happened));
+        judged =
+            subst (IsJudged under file once.given) (sym once.ends)
+            (judged_as file once.given
+            (given_bytes file MAX_FILE once.given [] events f g once.is happened));
       }

@@ -1,5 +1,5 @@
 -- What a run means, by its events and its exit.
-use Rattle.std.proofs.Common.{◌≡◌, ℕ, suc, ◌+◌, ◌*◌, ◌%◌, ◌^◌, ◌<◌, ◌≤◌, ◌⊎◌, inl, inr, false, true≢false, List, [], ◌∷◌, ◌++◌, length, Option, Some, None, is_some, unwrap_or, Result, Ok, Err, refl, sym, ap, ◌∙◌, subst, arith}
+use Rattle.std.proofs.Common.{◌≡◌, ℕ, suc, ◌+◌, ◌*◌, ◌%◌, ◌^◌, ◌<◌, ◌≤◌, ◌⊎◌, inl, inr, false, true≢false, List, [], ◌∷◌, ◌++◌, length, Option, Some, None, IfSome, is_some, unwrap_or, Result, Ok, Err, refl, sym, ap, ◌∙◌, subst, arith}
 use Rattle.std.proofs.lemmas.List.{append-nil}
 use Rattle.file_port.specs.Events.{Given, whole, missing, too_long, failed, no_memory, Event, was_read, was_written}
 use Rattle.file_port.specs.Files.{FilesState}
@@ -8,9 +8,9 @@ use Rattle.file_port.specs.declared.Put.{Put}
 use Rattle.alpha_words.specs.declared.insn.Insn.{Insn}
 use Rattle.alpha_cfg.specs.Isolation.{ChangesWritable, DependsOnReadable}
 use Rattle.alpha_cfg.specs.Machine.{State, IsState}
-use Rattle.policy_set.specs.declared.kind.PolicyKind.{PolicyKind}
+use Rattle.policy_set.specs.Views.{PolicyView, IsPolicy}
+use Rattle.policy_set.proofs.Closed.{policy_of-is}
 use Rattle.policy_set.specs.Names.{policy_of}
-use Rattle.policy_set.specs.Policies.{pre_of}
 use Rattle.reference_machine.specs.declared.layout.TheConstants.{ARENA}
 use Rattle.reference_machine.specs.Starts.{StartView, start_state}
 use Rattle.packet_store.specs.declared.fault.PacketFault.{PacketFault}
@@ -18,7 +18,7 @@ use Rattle.packet_store.specs.declared.reader.TheConstants.{MAX_PACKET}
 use Rattle.packet_store.specs.PacketDecoding.{decoded_packets}
 use Rattle.packet_store.specs.PolicyStarts.{start_from, start_of}
 use Rattle.packet_store.specs.Results.{packet_result}
-use Rattle.packet_store.specs.StartMeets.{StartMeets}
+use Rattle.packet_store.specs.StartMeets.{StartMeets, StartMeetsIn}
 use Rattle.term_table.specs.Bytes.{IsBytes}
 use Rattle.asm_text.specs.declared.limits.TheConstants.{MAX_SOURCE}
 use Rattle.pcc_gate.specs.declared.refusal.Refusal.{Refusal}
@@ -75,14 +75,18 @@ use Rattle.pcc_cli.proofs.HostLemmas.{hosts}
 -- ---- run and ref
 
 -- what is run of code, behind its container
-abbrev after_code : PolicyKind → List Insn → ℕ → List ℕ → Stage Effect
-after_code kind code steps packets =
-    reads packets MAX_FILE (refused packets_too_long_line) (λ b. packets_in b >>= λ all. printing (result_lines kind (packet_result kind code steps) 0 all))
+abbrev after_code : PolicyView → List Insn → ℕ → List ℕ → Stage Effect
+after_code under code steps packets =
+    reads packets MAX_FILE (refused packets_too_long_line)
+    (λ b. packets_in b >>= λ all. printing
+    (result_lines under.kind (packet_result under code steps) 0 all))
 
-module _ (kind : PolicyKind) (code : List Insn) (steps : ℕ) (packets : List ℕ) where
+module _ (under : PolicyView) (code : List Insn) (steps : ℕ) (packets : List ℕ) where
   -- what is printed of what was read as packets
   abbrev lines : Result (List (List ℕ)) PacketFault → Stage Effect
-  lines r = packets_found r >>= λ all. printing (result_lines kind (packet_result kind code steps) 0 all)
+  lines r =
+      packets_found r >>= λ all. printing
+      (result_lines under.kind (packet_result under code steps) 0 all)
 
   lines-ended : (r : Result (List (List ℕ)) PacketFault) → is_read (lines r) ≡ false
   lines-ended (Ok all) = refl
@@ -92,11 +96,15 @@ module _ (kind : PolicyKind) (code : List Insn) (steps : ℕ) (packets : List �
   lines-silent (Ok all) = refl
   lines-silent (Err fault) = refl
 
-  lines-exit : (r : Result (List (List ℕ)) PacketFault) → end_at (lines r) ≡ lines_exit kind code steps r
+  lines-exit : (r : Result (List (List ℕ)) PacketFault) → end_at (lines r)
+      ≡ lines_exit under code steps r
   lines-exit (Ok all) = refl
   lines-exit (Err fault) = refl
 
-  run-exit : (given : Given) → end_at (went_on texts packets (refused packets_too_long_line) (λ b. lines (decoded_packets b)) given) ≡ run_exit kind code steps packets given
+  run-exit : (given : Given)
+      → end_at
+      (went_on texts packets (refused packets_too_long_line) (λ b. lines (decoded_packets b)) given)
+      ≡ run_exit under code steps packets given
   run-exit (whole b) = lines-exit (decoded_packets b)
   run-exit missing = refl
   run-exit too_long = refl
@@ -107,9 +115,10 @@ module _ (kind : PolicyKind) (code : List Insn) (steps : ℕ) (packets : List �
   record RanPackets (events : List Event) (exit : Exit) : Type 0 where
     given : Given
     is : events ≡ was_read packets MAX_FILE given ∷ []
-    ends : exit ≡ run_exit kind code steps packets given
+    ends : exit ≡ run_exit under code steps packets given
 
-  ran_packets : (asked : List Event) (later : Stage Effect) (events : List Event) (exit : Exit) → Follows texts asked (after_code kind code steps packets) later → is_read later ≡ false
+  ran_packets : (asked : List Event) (later : Stage Effect) (events : List Event) (exit : Exit)
+      → Follows texts asked (after_code under code steps packets) later → is_read later ≡ false
       → ((events ≡ asked) × (exit ≡ end_at later) × (change_at later ≡ None))
       ⊎ ((text : List ℕ) × (to : List ℕ) × (bytes : List ℕ) × (answer : Put) × (later ≡ gives (record { text = text; change = Some (to, bytes) }))
       × (events ≡ asked ++ was_written to bytes answer ∷ []) × (exit ≡ written_exit texts to text answer)) → RanPackets events exit
@@ -136,89 +145,134 @@ stopped_there exit' rest later first events asked exit is s stop follows does = 
     by (inr d) = absurd (true≢false (ap is_stop (sym (last.1 ∙ stop) ∙ d.4)))
 
 -- the packets are read behind the first read
-packets_there : (kind : PolicyKind) (code : List Insn) (steps : ℕ) (packets : List ℕ) (rest : List Event) (later : Stage Effect) (first : Event) (events asked : List Event) (exit : Exit)
-    → asked ≡ first ∷ rest → (s : Stage Effect) → s ≡ after_code kind code steps packets → Follows texts rest s later → is_read later ≡ false
+packets_there : (under : PolicyView) (code : List Insn) (steps : ℕ) (packets : List ℕ)
+    (rest : List Event) (later : Stage Effect) (first : Event) (events asked : List Event)
+    (exit : Exit)
+    → asked ≡ first ∷ rest → (s : Stage Effect) → s ≡ after_code under code steps packets
+    → Follows texts rest s later → is_read later ≡ false
     → ((events ≡ asked) × (exit ≡ end_at later) × (change_at later ≡ None))
     ⊎ ((text : List ℕ) × (to : List ℕ) × (bytes : List ℕ) × (answer : Put) × (later ≡ gives (record { text = text; change = Some (to, bytes) }))
     × (events ≡ asked ++ was_written to bytes answer ∷ []) × (exit ≡ written_exit texts to text answer))
-    → (given : Given) × (events ≡ first ∷ was_read packets MAX_FILE given ∷ []) × (exit ≡ run_exit kind code steps packets given)
-packets_there kind code steps packets rest later first events asked exit is s at follows ended does = by does
+    → (given : Given) × (events ≡ first ∷ was_read packets MAX_FILE given ∷ [])
+    × (exit ≡ run_exit under code steps packets given)
+packets_there under code steps packets rest later first events asked exit is s at follows ended
+    does = by does
   where
-    follows_there : Follows texts rest (after_code kind code steps packets) later
+    follows_there : Follows texts rest (after_code under code steps packets) later
     follows_there = subst (λ x. Follows texts rest x later) at follows
 
     by : ((events ≡ asked) × (exit ≡ end_at later) × (change_at later ≡ None))
         ⊎ ((text : List ℕ) × (to : List ℕ) × (bytes : List ℕ) × (answer : Put) × (later ≡ gives (record { text = text; change = Some (to, bytes) }))
         × (events ≡ asked ++ was_written to bytes answer ∷ []) × (exit ≡ written_exit texts to text answer))
-        → (given : Given) × (events ≡ first ∷ was_read packets MAX_FILE given ∷ []) × (exit ≡ run_exit kind code steps packets given)
+        → (given : Given) × (events ≡ first ∷ was_read packets MAX_FILE given ∷ [])
+        × (exit ≡ run_exit under code steps packets given)
     by (inl d) =
-        let r = ran_packets kind code steps packets rest later rest exit follows_there ended (inl (refl, d.1, d.2)) in
+        let r = ran_packets under code steps packets rest later rest exit follows_there ended
+        (inl (refl, d.1, d.2)) in
         (r.given, d.0 ∙ is ∙ ap (λ es. first ∷ es) r.is, r.ends)
     by (inr d) =
-        let r = read_once packets MAX_FILE (refused packets_too_long_line) (λ b. lines kind code steps packets (decoded_packets b)) (λ b. lines-ended kind code steps packets (decoded_packets b)) rest later ended follows_there in
+        let r = read_once packets MAX_FILE (refused packets_too_long_line)
+        (λ b. lines under code steps packets (decoded_packets b))
+        (λ b. lines-ended under code steps packets (decoded_packets b)) rest later ended
+        follows_there in
         let none : None ≡ Some (d.1, d.2) =
-        sym (went_on-silent packets MAX_FILE (refused packets_too_long_line) (λ b. lines kind code steps packets (decoded_packets b)) (λ b. lines-ended kind code steps packets (decoded_packets b)) (λ b. lines-silent kind code steps packets (decoded_packets b)) r.given)
+        sym
+        (went_on-silent packets MAX_FILE (refused packets_too_long_line)
+        (λ b. lines under code steps packets (decoded_packets b))
+        (λ b. lines-ended under code steps packets (decoded_packets b))
+        (λ b. lines-silent under code steps packets (decoded_packets b)) r.given)
         ∙ ap change_at (sym r.goes) ∙ ap change_at d.4 in
         absurd (true≢false (sym (ap is_some none)))
 
-module _ (accepted_first : AcceptedFirst) (kind : PolicyKind) (file packets : List ℕ) (steps : ℕ) where
-  -- what `run` goes on with
-  abbrev run_by : List ℕ → Stage Effect
-  run_by b = accepted_code_in kind b >>= λ code. packets_of packets >>= λ all. printing (result_lines kind (packet_result kind code steps) 0 all)
+module _ (accepted_first : AcceptedFirst) (under : PolicyView) (file packets : List ℕ) (steps : ℕ)
+  where
+    -- what `run` goes on with
+    abbrev run_by : List ℕ → Stage Effect
+    run_by b =
+        accepted_code_in under b >>= λ code. packets_of packets >>= λ all. printing
+        (result_lines under.kind (packet_result under code steps) 0 all)
 
-  run_by-accepted : (b : List ℕ) (a : IsAccepted kind b) → first_refusal kind b ≡ None → run_by b ≡ after_code kind a.code steps packets
-  unfolding packets_of
-  run_by-accepted b a none =
-      ap (λ c. c >>= λ code. packets_of packets >>= λ all. printing (result_lines kind (packet_result kind code steps) 0 all))
-      (accepted_code_of_bytes kind b a.contents a.code a.marks a.accepts.passes none)
+    run_by-accepted : (b : List ℕ) (a : IsAccepted under b) → first_refusal under b ≡ None
+        → run_by b
+        ≡ after_code under a.code steps packets
+    unfolding packets_of
+    run_by-accepted b a none =
+        ap
+        (λ c. c >>= λ code. packets_of packets >>= λ all. printing
+        (result_lines under.kind (packet_result under code steps) 0 all))
+        (accepted_code_of_bytes under b a.contents a.code a.marks a.accepts.passes none)
 
-  run_by-refused : (b : List ℕ) (r : Refusal) → first_refusal kind b ≡ Some r → run_by b ≡ stops (refused (refusal_line r))
-  unfolding accepted_code_in accepted_in
-  run_by-refused b r some =
-      ap (λ x. (unless_refused x >>= λ accepted. code_in kind b) >>= λ code. packets_of packets >>= λ all. printing (result_lines kind (packet_result kind code steps) 0 all)) some
+    run_by-refused : (b : List ℕ) (r : Refusal) → first_refusal under b ≡ Some r → run_by b
+        ≡ stops (refused (refusal_line r))
+    unfolding accepted_code_in accepted_in
+    run_by-refused b r some =
+        ap
+        (λ x. (unless_refused x >>= λ accepted. code_in under b) >>= λ code. packets_of
+        packets >>= λ all. printing
+        (result_lines under.kind (packet_result under code steps) 0 all)) some
 
-  module _ (events : List Event) (exit : Exit) (f g : FilesState) (happened : Happens events f g) (e : Ended (reads file MAX_FILE (refused container_too_long_line) run_by) events exit) where
-    -- the file isn't there, or wasn't read
-    run_stopped : (given : Given) (exit' : Exit) (rest : List Event) → e.asked ≡ was_read file MAX_FILE given ∷ rest → went_on texts file (refused container_too_long_line) run_by given ≡ stops exit'
-        → Follows texts rest (went_on texts file (refused container_too_long_line) run_by given) e.later → IsJudged kind file given exit' → RunsCode kind file packets steps events exit
-    run_stopped given exit' rest is stop follows judged =
-        let there = stopped_there exit' rest e.later (was_read file MAX_FILE given) events e.asked exit is (went_on texts file (refused container_too_long_line) run_by given) stop follows e.does in
-        not_accepted given there.0 (subst (IsJudged kind file given) (sym there.1) judged)
+    module _ (events : List Event) (exit : Exit) (f g : FilesState) (happened : Happens events f g)
+        (e : Ended (reads file MAX_FILE (refused container_too_long_line) run_by) events exit) where
+      -- the file isn't there, or wasn't read
+      run_stopped : (given : Given) (exit' : Exit) (rest : List Event) → e.asked
+          ≡ was_read file MAX_FILE given ∷ rest → went_on texts file
+          (refused container_too_long_line) run_by given ≡ stops exit'
+          → Follows texts rest (went_on texts file (refused container_too_long_line) run_by given)
+          e.later → IsJudged under file given exit' → RunsCode under file packets steps events exit
+      run_stopped given exit' rest is stop follows judged =
+          let there = stopped_there exit' rest e.later
+          (was_read file MAX_FILE given) events e.asked exit is
+          (went_on texts file (refused container_too_long_line) run_by given) stop follows e.does in
+          not_accepted given there.0 (subst (IsJudged under file given) (sym there.1) judged)
 
-    run_judged : (b : List ℕ) (rest : List Event) (r : Option Refusal) → first_refusal kind b ≡ r → IsBytes b → e.asked ≡ was_read file MAX_FILE (whole b) ∷ rest → Follows texts rest (run_by b) e.later
-        → RunsCode kind file packets steps events exit
-    run_judged b rest (Some r) some held is follows =
-        run_stopped (whole b) (refused (refusal_line r)) rest is (run_by-refused b r some) follows (verdict accepted_first kind b held (Some r) some)
-    run_judged b rest None none held is follows =
-        let a : IsAccepted kind b = (accepted_first kind b held).1 none in
-        let there = packets_there kind a.code steps packets rest e.later (was_read file MAX_FILE (whole b)) events e.asked exit is (run_by b) (run_by-accepted b a none) follows e.ended e.does in
-        accepted b a there.0 there.1 there.2
+      run_judged : (b : List ℕ) (rest : List Event) (r : Option Refusal) → first_refusal under b ≡ r
+          → IsBytes b → e.asked ≡ was_read file MAX_FILE (whole b) ∷ rest
+          → Follows texts rest (run_by b) e.later
+          → RunsCode under file packets steps events exit
+      run_judged b rest (Some r) some held is follows =
+          run_stopped (whole b) (refused (refusal_line r)) rest is (run_by-refused b r some) follows
+          (verdict accepted_first under b held (Some r) some)
+      run_judged b rest None none held is follows =
+          let a : IsAccepted under b = (accepted_first under b held).1 none in
+          let there = packets_there under a.code steps packets rest e.later
+          (was_read file MAX_FILE (whole b)) events e.asked exit is (run_by b)
+          (run_by-accepted b a none) follows e.ended e.does in
+          accepted b a there.0 there.1 there.2
 
-    -- the bytes that were read first
-    first_bytes : (b : List ℕ) (rest : List Event) → e.asked ≡ was_read file MAX_FILE (whole b) ∷ rest → IsBytes b
-    first_bytes b rest is = by e.does
-      where
-        at : (more : List Event) → events ≡ was_read file MAX_FILE (whole b) ∷ more → IsBytes b
-        at more split = given_bytes file MAX_FILE (whole b) more events f g split happened
+      -- the bytes that were read first
+      first_bytes : (b : List ℕ) (rest : List Event) → e.asked ≡ was_read file MAX_FILE
+          (whole b) ∷ rest → IsBytes b
+      first_bytes b rest is = by e.does
+        where
+          at : (more : List Event) → events ≡ was_read file MAX_FILE (whole b) ∷ more → IsBytes b
+          at more split = given_bytes file MAX_FILE (whole b) more events f g split happened
 
-        by : ((events ≡ e.asked) × (exit ≡ end_at e.later) × (change_at e.later ≡ None))
-            ⊎ ((text : List ℕ) × (to : List ℕ) × (bytes : List ℕ) × (answer : Put) × (e.later ≡ gives (record { text = text; change = Some (to, bytes) }))
-            × (events ≡ e.asked ++ was_written to bytes answer ∷ []) × (exit ≡ written_exit texts to text answer)) → IsBytes b
-        by (inl d) = at rest (d.0 ∙ is)
-        by (inr d) = at (rest ++ was_written d.1 d.2 d.3 ∷ []) (d.5 ∙ ap (λ es. es ++ was_written d.1 d.2 d.3 ∷ []) is)
+          by : ((events ≡ e.asked) × (exit ≡ end_at e.later) × (change_at e.later ≡ None))
+              ⊎ ((text : List ℕ) × (to : List ℕ) × (bytes : List ℕ) × (answer : Put) ×
+              (e.later ≡ gives (record { text = text; change = Some (to, bytes) }))
+              × (events ≡ e.asked ++ was_written to bytes answer ∷ []) ×
+              (exit ≡ written_exit texts to text answer)) → IsBytes b
+          by (inl d) = at rest (d.0 ∙ is)
+          by (inr d) = at (rest ++ was_written d.1 d.2 d.3 ∷ [])
+              (d.5 ∙ ap (λ es. es ++ was_written d.1 d.2 d.3 ∷ []) is)
 
-    run_given : (given : Given) (rest : List Event) → e.asked ≡ was_read file MAX_FILE given ∷ rest → Follows texts rest (went_on texts file (refused container_too_long_line) run_by given) e.later
-        → RunsCode kind file packets steps events exit
-    run_given (whole b) rest is follows = run_judged b rest (first_refusal kind b) refl (first_bytes b rest is) is follows
-    run_given missing rest is follows = run_stopped missing (missing_exit texts file) rest is refl follows refl
-    run_given too_long rest is follows = run_stopped too_long _ rest is refl follows refl
-    run_given failed rest is follows = run_stopped failed _ rest is refl follows refl
-    run_given no_memory rest is follows = run_stopped no_memory _ rest is refl follows refl
+      run_given : (given : Given) (rest : List Event) → e.asked
+          ≡ was_read file MAX_FILE given ∷ rest → Follows texts rest
+          (went_on texts file (refused container_too_long_line) run_by given) e.later
+          → RunsCode under file packets steps events exit
+      run_given (whole b) rest is follows =
+          run_judged b rest (first_refusal under b) refl (first_bytes b rest is) is follows
+      run_given missing rest is follows = run_stopped missing
+          (missing_exit texts file) rest is refl follows refl
+      run_given too_long rest is follows = run_stopped too_long _ rest is refl follows refl
+      run_given failed rest is follows = run_stopped failed _ rest is refl follows refl
+      run_given no_memory rest is follows = run_stopped no_memory _ rest is refl follows refl
 
-    runs_code : RunsCode kind file packets steps events exit
-    runs_code =
-        let r = first_read file MAX_FILE (refused container_too_long_line) run_by e.asked e.later e.ended e.follows in
-        run_given r.given r.rest r.is r.follows
+      runs_code : RunsCode under file packets steps events exit
+      runs_code =
+          let r = first_read file MAX_FILE
+          (refused container_too_long_line) run_by e.asked e.later e.ended e.follows in
+          run_given r.given r.rest r.is r.follows
 
 -- what a stage gives
 abbrev value_at : {A : Type 0} → Stage A → Option A
@@ -226,45 +280,63 @@ value_at (stops exit) = None
 value_at (gives x) = Some x
 value_at (reads name max more on) = None
 
-module _ (kind : PolicyKind) (file packets : List ℕ) (steps : ℕ) where
+module _ (under : PolicyView) (file packets : List ℕ) (steps : ℕ) where
   -- what `ref` goes on with
   abbrev ref_by : List ℕ → Stage Effect
-  ref_by b = code_in kind b >>= λ code. packets_of packets >>= λ all. printing (result_lines kind (packet_result kind code steps) 0 all)
+  ref_by b =
+      code_in under b >>= λ code. packets_of packets >>= λ all. printing
+      (result_lines under.kind (packet_result under code steps) 0 all)
 
-  ref_by-code : (b : List ℕ) (code : List Insn) → code_in kind b ≡ gives code → ref_by b ≡ after_code kind code steps packets
+  ref_by-code : (b : List ℕ) (code : List Insn) → code_in under b ≡ gives code → ref_by b
+      ≡ after_code under code steps packets
   unfolding packets_of
-  ref_by-code b code is = ap (λ c. c >>= λ code. packets_of packets >>= λ all. printing (result_lines kind (packet_result kind code steps) 0 all)) is
+  ref_by-code b code is =
+      ap
+      (λ c. c >>= λ code. packets_of packets >>= λ all. printing
+      (result_lines under.kind (packet_result under code steps) 0 all)) is
 
-  ref_by-stop : (b : List ℕ) (exit' : Exit) → code_in kind b ≡ stops exit' → ref_by b ≡ stops exit'
-  ref_by-stop b exit' is = ap (λ c. c >>= λ code. packets_of packets >>= λ all. printing (result_lines kind (packet_result kind code steps) 0 all)) is
+  ref_by-stop : (b : List ℕ) (exit' : Exit) → code_in under b ≡ stops exit' → ref_by b ≡ stops exit'
+  ref_by-stop b exit' is =
+      ap
+      (λ c. c >>= λ code. packets_of packets >>= λ all. printing
+      (result_lines under.kind (packet_result under code steps) 0 all)) is
 
-  same_code : (b : List ℕ) (code : List Insn) → code_in kind b ≡ gives code → (a : IsAccepted kind b) → code ≡ a.code
+  same_code : (b : List ℕ) (code : List Insn) → code_in under b ≡ gives code
+      → (a : IsAccepted under b) → code ≡ a.code
   same_code b code is a =
-      let both : Some code ≡ Some a.code = ap value_at (sym is ∙ code_given kind b a.contents a.code a.marks a.accepts.passes) in
+      let both : Some code ≡ Some a.code =
+      ap value_at (sym is ∙ code_given under b a.contents a.code a.marks a.accepts.passes) in
       cc
 
   module _ (events : List Event) (exit : Exit) (e : Ended (reads file MAX_FILE (refused container_too_long_line) ref_by) events exit) where
     ref_stopped : (given : Given) (exit' : Exit) (rest : List Event) → e.asked ≡ was_read file MAX_FILE given ∷ rest → went_on texts file (refused container_too_long_line) ref_by given ≡ stops exit'
-        → Follows texts rest (went_on texts file (refused container_too_long_line) ref_by given) e.later → Refs kind file packets steps events exit
+        → Follows texts rest (went_on texts file (refused container_too_long_line) ref_by given)
+        e.later → Refs under file packets steps events exit
     ref_stopped given exit' rest is stop follows =
         no_code given (stopped_there exit' rest e.later (was_read file MAX_FILE given) events e.asked exit is (went_on texts file (refused container_too_long_line) ref_by given) stop follows e.does).0
 
-    ref_code : (b : List ℕ) (rest : List Event) → ((code : List Insn) × (code_in kind b ≡ gives code)) ⊎ ((exit' : Exit) × (code_in kind b ≡ stops exit'))
-        → e.asked ≡ was_read file MAX_FILE (whole b) ∷ rest → Follows texts rest (ref_by b) e.later → Refs kind file packets steps events exit
+    ref_code : (b : List ℕ) (rest : List Event)
+        → ((code : List Insn) × (code_in under b ≡ gives code))
+        ⊎ ((exit' : Exit) × (code_in under b ≡ stops exit'))
+        → e.asked ≡ was_read file MAX_FILE (whole b) ∷ rest → Follows texts rest (ref_by b) e.later
+        → Refs under file packets steps events exit
     ref_code b rest (inl (code, found)) is follows =
-        let there = packets_there kind code steps packets rest e.later (was_read file MAX_FILE (whole b)) events e.asked exit is (ref_by b) (ref_by-code b code found) follows e.ended e.does in
+        let there = packets_there under code steps packets rest e.later
+        (was_read file MAX_FILE (whole b)) events e.asked exit is (ref_by b)
+        (ref_by-code b code found) follows e.ended e.does in
         ran b code there.0 there.1 there.2 (same_code b code found)
     ref_code b rest (inr (exit', stop)) is follows = ref_stopped (whole b) exit' rest is (ref_by-stop b exit' stop) follows
 
     ref_given : (given : Given) (rest : List Event) → e.asked ≡ was_read file MAX_FILE given ∷ rest → Follows texts rest (went_on texts file (refused container_too_long_line) ref_by given) e.later
-        → Refs kind file packets steps events exit
-    ref_given (whole b) rest is follows = ref_code b rest (shape (code_in kind b) (code_in-ends kind b)) is follows
+        → Refs under file packets steps events exit
+    ref_given (whole b) rest is follows =
+        ref_code b rest (shape (code_in under b) (code_in-ends under b)) is follows
     ref_given missing rest is follows = ref_stopped missing _ rest is refl follows
     ref_given too_long rest is follows = ref_stopped too_long _ rest is refl follows
     ref_given failed rest is follows = ref_stopped failed _ rest is refl follows
     ref_given no_memory rest is follows = ref_stopped no_memory _ rest is refl follows
 
-    refs : Refs kind file packets steps events exit
+    refs : Refs under file packets steps events exit
     refs =
         let r = first_read file MAX_FILE (refused container_too_long_line) ref_by e.asked e.later e.ended e.follows in
         ref_given r.given r.rest r.is r.follows
@@ -336,16 +408,22 @@ module _ (input output : List ℕ) (max : ℕ) (more : Exit) (made_of : List ℕ
         copy_given r.given r.rest r.is r.follows
 
 -- what the prover made is accepted
-proved_is : ProvedAccepted → (kind : PolicyKind) (b out : List ℕ) → IsBytes b → (r : Result (List ℕ) ProveFault) → proved_container kind b ≡ r → container_proved r ≡ gives out → ProvesTo kind b out
-proved_is proved_accepted kind b out held (Ok bytes) is e =
+proved_is : ProvedAccepted → (under : PolicyView) (b out : List ℕ) → IsPolicy under → IsBytes b
+    → (r : Result (List ℕ) ProveFault) → proved_container under b ≡ r → container_proved r
+    ≡ gives out → ProvesTo under b out
+proved_is proved_accepted under b out kept held (Ok bytes) is e =
     let same : Some bytes ≡ Some out = ap value_at e in
-    let at : proved_container kind b ≡ Ok out = is ∙ ap Ok (let found : bytes ≡ out = cc in found) in
-    record { proved = at; accepted = proved_accepted kind b out held at }
-proved_is proved_accepted kind b out held (Err fault) is e = absurd (true≢false (ap is_stop e))
+    let at : proved_container under b ≡ Ok out =
+    is ∙ ap Ok (let found : bytes ≡ out = cc in found) in
+    record { proved = at; accepted = proved_accepted under b out kept held at }
+proved_is proved_accepted under b out kept held (Err fault) is e =
+    absurd (true≢false (ap is_stop e))
 
-proved_of_stage : ProvedAccepted → (kind : PolicyKind) (b out : List ℕ) → IsBytes b → proved_in kind b ≡ gives out → ProvesTo kind b out
+proved_of_stage : ProvedAccepted → (under : PolicyView) (b out : List ℕ) → IsPolicy under
+    → IsBytes b → proved_in under b ≡ gives out → ProvesTo under b out
 unfolding proved_in
-proved_of_stage proved_accepted kind b out held e = proved_is proved_accepted kind b out held (proved_container kind b) refl e
+proved_of_stage proved_accepted under b out kept held e =
+    proved_is proved_accepted under b out kept held (proved_container under b) refl e
 
 -- ---- demo
 
@@ -371,35 +449,60 @@ asks_nothing s none silent events exit e = by e.does
 
 module _ (accepted_first : AcceptedFirst) (proved_accepted : ProvedAccepted) (reads_programs : ReadsPrograms) (compiles_programs : CompilesPrograms) where
   -- a command whose policy was looked up
-  does_by : (invocation : Invocation) (next : PolicyKind → Stage Effect) (events : List Event) (exit : Exit)
-      → ((kind : PolicyKind) → Ended (next kind) events exit → DoesUnder kind invocation events exit)
-      → (p : Option PolicyKind) → Ended (policy_found p >>= next) events exit → Does p invocation events exit
-  does_by invocation next events exit each None e = ended_at_once (refused unknown_policy_line) events exit e
-  does_by invocation next events exit each (Some kind) e = each kind e
+  does_by : (invocation : Invocation) (next : PolicyView → Stage Effect) (events : List Event)
+      (exit : Exit)
+      → ((under : PolicyView) → IsPolicy under → Ended (next under) events exit
+      → DoesUnder under invocation events exit)
+      → (p : Option PolicyView) → IfSome p IsPolicy → Ended (policy_found p >>= next) events exit
+      → Does p invocation events exit
+  does_by invocation next events exit each None kept e =
+      ended_at_once (refused unknown_policy_line) events exit e
+  does_by invocation next events exit each (Some under) kept e = each under kept e
 
   does : (invocation : Invocation) (events : List Event) (exit : Exit) (f g : FilesState) → Happens events f g → Ended (stage_of invocation) events exit
       → Does (policy_of (policy_name_of invocation)) invocation events exit
   unfolding asm_command prove_command check_command run_command ref_command demo_command host_command script_of bpf_command assembled_of proved_of accepted_of accepted_code_of code_of compiled_of accepted_in demo_effect
   does (asm policy input output) events exit f g happened e =
-      does_by (asm policy input output) (λ kind. reads input MAX_SOURCE (refused source_too_long_line) (λ b. assembled_in kind b >>= λ out. writing output out)) events exit
-      (λ kind e. makes input output MAX_SOURCE (refused source_too_long_line) (assembled_in kind) (assembled_in-ends kind) (AssemblesTo kind)
-      (StopsWith input (refused source_too_long_line) (assembled_in kind)) events exit (λ b out rest split is. is) (λ given exit' rest split why. why) e) (policy_of policy) e
+      does_by (asm policy input output)
+      (λ under. reads input MAX_SOURCE (refused source_too_long_line)
+      (λ b. assembled_in under b >>= λ out. writing output out)) events exit
+      (λ under kept e. makes input output MAX_SOURCE (refused source_too_long_line)
+      (assembled_in under) (assembled_in-ends under) (AssemblesTo under)
+      (StopsWith input (refused source_too_long_line) (assembled_in under)) events exit
+      (λ b out rest split is. is) (λ given exit' rest split why. why) e) (policy_of policy)
+      (policy_of-is policy) e
   does (prove policy input output) events exit f g happened e =
-      does_by (prove policy input output) (λ kind. reads input MAX_FILE (refused container_too_long_line) (λ b. proved_in kind b >>= λ out. writing output out)) events exit
-      (λ kind e. makes input output MAX_FILE (refused container_too_long_line) (proved_in kind) (proved_in-ends kind) (ProvesTo kind)
-      (StopsWith input (refused container_too_long_line) (proved_in kind)) events exit
-      (λ b out rest split is. proved_of_stage proved_accepted kind b out (given_bytes input MAX_FILE (whole b) rest events f g split happened) is) (λ given exit' rest split why. why) e) (policy_of policy) e
+      does_by (prove policy input output)
+      (λ under. reads input MAX_FILE (refused container_too_long_line)
+      (λ b. proved_in under b >>= λ out. writing output out)) events exit
+      (λ under kept e. makes input output MAX_FILE (refused container_too_long_line)
+      (proved_in under) (proved_in-ends under) (ProvesTo under)
+      (StopsWith input (refused container_too_long_line) (proved_in under)) events exit
+      (λ b out rest split is. proved_of_stage proved_accepted under b out kept
+      (given_bytes input MAX_FILE (whole b) rest events f g split happened) is)
+      (λ given exit' rest split why. why) e) (policy_of policy) (policy_of-is policy) e
   does (check policy file) events exit f g happened e =
-      does_by (check policy file) (λ kind. reads file MAX_FILE (refused container_too_long_line) (λ b. accepted_in kind b >>= λ accepted. printing accepted_line)) events exit
-      (λ kind e. checks accepted_first kind file events exit f g happened e) (policy_of policy) e
+      does_by (check policy file)
+      (λ under. reads file MAX_FILE (refused container_too_long_line)
+      (λ b. accepted_in under b >>= λ accepted. printing accepted_line)) events exit
+      (λ under kept e. checks accepted_first under file events exit f g happened e)
+      (policy_of policy) (policy_of-is policy) e
   does (run policy file packets steps) events exit f g happened e =
-      does_by (run policy file packets steps) (λ kind. reads file MAX_FILE (refused container_too_long_line) (run_by accepted_first kind file packets steps)) events exit
-      (λ kind e. runs_code accepted_first kind file packets steps events exit f g happened e) (policy_of policy) e
+      does_by (run policy file packets steps)
+      (λ under. reads file MAX_FILE (refused container_too_long_line)
+      (run_by accepted_first under file packets steps)) events exit
+      (λ under kept e. runs_code accepted_first under file packets steps events exit f g happened e)
+      (policy_of policy) (policy_of-is policy) e
   does (ref policy file packets steps) events exit f g happened e =
-      does_by (ref policy file packets steps) (λ kind. reads file MAX_FILE (refused container_too_long_line) (ref_by kind file packets steps)) events exit
-      (λ kind e. refs kind file packets steps events exit e) (policy_of policy) e
+      does_by (ref policy file packets steps)
+      (λ under. reads file MAX_FILE (refused container_too_long_line)
+      (ref_by under file packets steps)) events exit
+      (λ under kept e. refs under file packets steps events exit e) (policy_of policy)
+      (policy_of-is policy) e
   does (demo n) events exit f g happened e =
-      does_by (demo n) (λ kind. demo_effect kind n) events exit (λ kind e. asks_nothing (demo_effect kind n) (demo_ends kind n) (demo-silent _ _) events exit e) (policy_of demo_policy) e
+      does_by (demo n) (λ under. demo_effect under n) events exit
+      (λ under kept e. asks_nothing (demo_effect under n) (demo_ends under n) (demo-silent _ _)
+      events exit e) (policy_of demo_policy) (policy_of-is demo_policy) e
   does (host script) events exit f g happened e = hosts accepted_first script events exit f g happened e
   does (bpf input output) events exit f g happened e =
       makes input output MAX_PROGRAM_FILE (refused bpf_too_long_line) compiled_in compiled_in-ends CompilesTo (IsToldOf input) events exit
@@ -424,17 +527,23 @@ module _ (accepted_first : AcceptedFirst) (proved_accepted : ProvedAccepted) (re
 
 -- a policy's start on a packet of bytes is a state, and meets the precondition
 abbrev pub StartsState : Type 0
-StartsState = (policy : PolicyKind) (packet : List ℕ) (setup : StartView) → length packet ≤ MAX_PACKET → IsBytes packet → start_of policy packet ≡ Some setup → IsState (start_state ARENA setup)
+StartsState =
+    (policy : PolicyView) (packet : List ℕ) (setup : StartView) → length packet ≤ MAX_PACKET
+    → IsBytes packet → start_of policy packet ≡ Some setup → IsState (start_state ARENA setup)
 
 abbrev pub StartsMeet : Type 0
-StartsMeet = (policy : PolicyKind) (packet : List ℕ) (setup : StartView) → length packet ≤ MAX_PACKET → start_of policy packet ≡ Some setup → StartMeets setup (pre_of policy)
+StartsMeet =
+    (policy : PolicyView) (packet : List ℕ) (setup : StartView) → IsPolicy policy
+    → length packet ≤ MAX_PACKET → start_of policy packet ≡ Some setup → StartMeets setup policy.pre
 
 pub runs_safely : AcceptedSafe → StartsState → StartsMeet → ((code : List Insn) (n : ℕ) (s : State) → ChangesWritable code n s) → ((code : List Insn) (n : ℕ) (s : State) → DependsOnReadable code n s)
     → AcceptedRunsSafely
-runs_safely accepted_safe state meets changes depends kind bytes a packet setup budget held short is = record {
-  good = accepted_safe kind bytes a.contents a.code a.marks a.accepts (start_state ARENA setup) (state kind packet setup short held is) refl (meets kind packet setup short is) budget;
-  changes = changes a.code budget (start_state ARENA setup);
-  depends = depends a.code budget (start_state ARENA setup);
+runs_safely safe state meets changes depends under bytes kept a p setup n held short is = record {
+  good =
+      safe under bytes a.contents a.code a.marks kept a.accepts (start_state ARENA setup)
+      (state under p setup short held is) refl (meets under p setup kept short is) n;
+  changes = changes a.code n (start_state ARENA setup);
+  depends = depends a.code n (start_state ARENA setup);
 }
 
 -- ---- agents of a host
@@ -452,18 +561,29 @@ pub stays_in_parts : AcceptedSafe → ((code : List Insn) (n : ℕ) (s : State) 
     → AgentsStayInParts
 stays_in_parts accepted_safe changes depends apart spans = record { parts = apart; stays = stays_in }
   where
-    stays_in : (kind : PolicyKind) (bytes : List ℕ) (it : IsAccepted kind bytes) (a : ℕ) (packet : List ℕ) (setup : StartView) (budget : ℕ) → a < MAX_AGENTS → IsBytes packet → length packet ≤ MAX_PACKET
-        → start_from (base_of a) kind packet ≡ Some setup → StaysInPart a kind it.code budget setup
-    stays_in kind bytes it a packet setup budget few held short is =
+    stays_in : (policy : PolicyView) (bytes : List ℕ) → IsPolicy policy
+        → (it : IsAccepted policy bytes) (a : ℕ) (packet : List ℕ) (setup : StartView)
+        (budget : ℕ) → a < MAX_AGENTS → IsBytes packet → length packet ≤ MAX_PACKET
+        → start_from (base_of a) policy.kind packet ≡ Some setup
+        → StaysInPart a policy it.code budget setup
+    stays_in policy bytes kept it a packet setup budget few held short is =
         let low : base_of a < 2 ^ 32 = omega (arith, few) in
         let aligned : base_of a % 8 ≡ 0 = omega arith in
         let start : State = start_state (base_of a) setup in
-        let good = start_from-good (base_of a) kind packet setup low short held is in
+        let state : IsState start =
+        start_from-state (base_of a) policy.kind packet setup aligned low short held is in
+        let meets : StartMeetsIn (base_of a) setup policy.pre =
+        start_from-meets (base_of a) policy packet setup kept low short is in
+        let good = start_from-good (base_of a) policy.kind packet setup low short held is in
         record {
-          lie = spans 65536 65552 a start.rights (lie_between a setup.reads good.fits.reads_in) (lie_between a setup.writes good.fits.writes_in);
+          lie =
+              spans 65536 65552 a start.rights
+              (lie_between a setup.reads good.fits.reads_in)
+              (lie_between a setup.writes good.fits.writes_in);
           safe = record {
-            good = accepted_safe kind bytes it.contents it.code it.marks it.accepts start (start_from-state (base_of a) kind packet setup aligned low short held is) refl
-                (start_from-meets (base_of a) kind packet setup low short is) budget;
+            good =
+                accepted_safe policy bytes it.contents it.code it.marks kept it.accepts start state
+                refl meets budget;
             changes = changes it.code budget start;
             depends = depends it.code budget start;
           };

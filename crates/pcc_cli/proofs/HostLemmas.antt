@@ -5,7 +5,7 @@ use Rattle.file_port.specs.Events.{Given, whole, missing, too_long, failed, no_m
 use Rattle.file_port.specs.Files.{FilesState}
 use Rattle.file_port.specs.declared.Put.{Put}
 use Rattle.alpha_words.specs.declared.insn.Insn.{Insn}
-use Rattle.policy_set.specs.declared.kind.PolicyKind.{PolicyKind}
+use Rattle.policy_set.specs.Views.{PolicyView}
 use Rattle.policy_set.specs.Names.{policy_of}
 use Rattle.reference_machine.specs.Starts.{StartView}
 use Rattle.packet_store.specs.declared.fault.PacketFault.{PacketFault}
@@ -46,15 +46,15 @@ use Rattle.pcc_cli.proofs.EndLemmas.{no_read, HasRead, first_read, Ended, end_at
 -- ---- a packet file
 
 -- an agent of code with a packet
-abbrev member : PolicyKind → List Insn → List ℕ → Member
+abbrev member : PolicyView → List Insn → List ℕ → Member
 member policy code packet = record { policy = policy; code = code; packet = packet }
 
 -- the agent of what was found, or the exit
-abbrev member_stage : PolicyKind → List Insn → Result (List ℕ) Exit → Stage Member
+abbrev member_stage : PolicyView → List Insn → Result (List ℕ) Exit → Stage Member
 member_stage policy code (Ok packet) = gives (member policy code packet)
 member_stage policy code (Err exit) = stops exit
 
-module _ (a : ℕ) (policy : PolicyKind) (code : List Insn) where
+module _ (a : ℕ) (policy : PolicyView) (code : List Insn) where
   -- the first packet of what was read as packets
   abbrev first_stage : Result (List (List ℕ)) PacketFault → Stage Member
   first_stage r = (packets_found r >>= first_packet a policy) >>= λ packet. gives (member policy code packet)
@@ -66,7 +66,7 @@ module _ (a : ℕ) (policy : PolicyKind) (code : List Insn) where
   by_found : (r : Result (List (List ℕ)) PacketFault) → for_agent a (first_stage r) ≡ member_stage policy code (first_packet_of a policy r)
   by_found (Err fault) = refl
   by_found (Ok []) = refl
-  by_found (Ok (packet ∷ packets)) = by_start packet (start_from (base_of a) policy packet)
+  by_found (Ok (packet ∷ packets)) = by_start packet (start_from (base_of a) policy.kind packet)
 
   by_given : (name : List ℕ) (given : Given)
       → went_on texts name (told_of a (refused packets_too_long_line)) (λ b. for_agent a (first_stage (decoded_packets b))) given
@@ -93,14 +93,16 @@ data AfterLoad {B : Type 0} (a : ℕ) (one : LoadView) (next : Member → Stage 
 
 module _ {B : Type 0} (accepted_first : AcceptedFirst) (a : ℕ) (one : LoadView) (next : Member → Stage B) (events : List Event) (later : Stage B) (ends : is_read later ≡ false) where
   -- behind a container that isn't accepted, or wasn't read
-  load_stopped : (policy : PolicyKind) (given : Given) (exit : Exit) (rest : List Event) → policy_of one.policy ≡ Some policy → events ≡ was_read one.file MAX_FILE given ∷ rest
+  load_stopped : (policy : PolicyView) (given : Given) (exit : Exit) (rest : List Event)
+      → policy_of one.policy ≡ Some policy → events ≡ was_read one.file MAX_FILE given ∷ rest
       → LoadsMember a one (was_read one.file MAX_FILE given ∷ []) (Err (told_of a exit)) → Follows texts rest (stops (told_of a exit)) later → AfterLoad a one next events later
   load_stopped policy given exit rest named is loads follows =
       let last = no_read (stops (told_of a exit)) refl rest later follows in
       load_ended (told_of a exit) (subst (λ es. LoadsMember a one es (Err (told_of a exit))) (sym (is ∙ ap (λ es. was_read one.file MAX_FILE given ∷ es) last.0)) loads) last.1
 
   -- behind one that is
-  load_accepted : (policy : PolicyKind) (b : List ℕ) (it : IsAccepted policy b) (given : Given) (rest : List Event) (found : Result (List ℕ) Exit) → policy_of one.policy ≡ Some policy
+  load_accepted : (policy : PolicyView) (b : List ℕ) (it : IsAccepted policy b) (given : Given)
+      (rest : List Event) (found : Result (List ℕ) Exit) → policy_of one.policy ≡ Some policy
       → events ≡ was_read one.file MAX_FILE (whole b) ∷ was_read one.packets MAX_FILE given ∷ rest → packet_given a policy one.packets given ≡ found
       → Follows texts rest (member_stage policy it.code found >>= next) later → AfterLoad a one next events later
   load_accepted policy b it given rest (Ok packet) named is found follows =
@@ -111,10 +113,11 @@ module _ {B : Type 0} (accepted_first : AcceptedFirst) (a : ℕ) (one : LoadView
       load_ended exit (has_container policy b it given named (is ∙ ap (λ es. was_read one.file MAX_FILE (whole b) ∷ was_read one.packets MAX_FILE given ∷ es) last.0) (sym (ap (member_with policy it.code) found))) last.1
 
   -- what a load goes on with behind its policy
-  abbrev code_stage : PolicyKind → Stage (List Insn) → Stage Member
+  abbrev code_stage : PolicyView → Stage (List Insn) → Stage Member
   code_stage policy stage = stage >>= λ code. packet_of a policy one.packets >>= λ packet. gives (member policy code packet)
 
-  load_packets : (policy : PolicyKind) (b : List ℕ) (it : IsAccepted policy b) (rest : List Event) → policy_of one.policy ≡ Some policy → events ≡ was_read one.file MAX_FILE (whole b) ∷ rest
+  load_packets : (policy : PolicyView) (b : List ℕ) (it : IsAccepted policy b) (rest : List Event)
+      → policy_of one.policy ≡ Some policy → events ≡ was_read one.file MAX_FILE (whole b) ∷ rest
       → Follows texts rest (for_agent a (packet_of a policy one.packets >>= λ packet. gives (member policy it.code packet)) >>= next) later → AfterLoad a one next events later
   load_packets policy b it rest named is follows =
       let more = told_of a (refused packets_too_long_line) in
@@ -125,7 +128,8 @@ module _ {B : Type 0} (accepted_first : AcceptedFirst) (a : ℕ) (one : LoadView
       load_accepted policy b it r.given r.rest (packet_given a policy one.packets r.given) named (is ∙ ap (λ es. was_read one.file MAX_FILE (whole b) ∷ es) r.is) refl
       (subst (λ s. Follows texts r.rest s later) (sym (went_on-bind next one.packets more on r.given) ∙ ap (λ s. s >>= next) (by_given a policy it.code one.packets r.given)) r.follows)
 
-  load_judged : (policy : PolicyKind) (b : List ℕ) (rest : List Event) (o : Option Refusal) → first_refusal policy b ≡ o → IsBytes b → policy_of one.policy ≡ Some policy
+  load_judged : (policy : PolicyView) (b : List ℕ) (rest : List Event) (o : Option Refusal)
+      → first_refusal policy b ≡ o → IsBytes b → policy_of one.policy ≡ Some policy
       → events ≡ was_read one.file MAX_FILE (whole b) ∷ rest → Follows texts rest (for_agent a (code_stage policy (accepted_code_in policy b)) >>= next) later → AfterLoad a one next events later
   unfolding accepted_code_in accepted_in
   load_judged policy b rest (Some r) some held named is follows =
@@ -137,7 +141,9 @@ module _ {B : Type 0} (accepted_first : AcceptedFirst) (a : ℕ) (one : LoadView
       load_packets policy b it rest named is
       (subst (λ s. Follows texts rest (for_agent a (code_stage policy s) >>= next) later) (accepted_code_of_bytes policy b it.contents it.code it.marks it.accepts.passes none) follows)
 
-  load_given : (policy : PolicyKind) (given : Given) (rest : List Event) (f g : FilesState) → Happens events f g → policy_of one.policy ≡ Some policy → events ≡ was_read one.file MAX_FILE given ∷ rest
+  load_given : (policy : PolicyView) (given : Given) (rest : List Event) (f g : FilesState)
+      → Happens events f g → policy_of one.policy ≡ Some policy → events
+      ≡ was_read one.file MAX_FILE given ∷ rest
       → Follows texts rest (went_on texts one.file (told_of a (refused container_too_long_line)) (λ b. for_agent a (code_stage policy (accepted_code_in policy b)) >>= next) given) later
       → AfterLoad a one next events later
   load_given policy (whole b) rest f g happened named is follows =
@@ -154,7 +160,8 @@ module _ {B : Type 0} (accepted_first : AcceptedFirst) (a : ℕ) (one : LoadView
   load_given policy no_memory rest f g happened named is follows =
       load_stopped policy no_memory no_memory_exit rest named is (no_container policy no_memory no_memory_exit named refl refl (omega arith) refl) follows
 
-  load_named : (o : Option PolicyKind) (f g : FilesState) → Happens events f g → policy_of one.policy ≡ o
+  load_named : (o : Option PolicyView) (f g : FilesState) → Happens events f g
+      → policy_of one.policy ≡ o
       → Follows texts events (for_agent a (policy_found o >>= λ policy. code_stage policy (accepted_code_of policy one.file)) >>= next) later → AfterLoad a one next events later
   unfolding accepted_code_of
   load_named None f g happened named follows =

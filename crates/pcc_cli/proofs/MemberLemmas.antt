@@ -7,7 +7,7 @@ use mathlib.Core.Path.{fun_ext}
 use Rattle.file_port.specs.Events.{Event}
 use Rattle.file_port.specs.Files.{FilesState}
 use Rattle.alpha_words.specs.declared.insn.Insn.{Insn}
-use Rattle.policy_set.specs.declared.kind.PolicyKind.{PolicyKind}
+use Rattle.policy_set.specs.Views.{PolicyView}
 use Rattle.agent_script.specs.declared.script.Load.{Load}
 use Rattle.agent_script.specs.Statements.{LoadView}
 use Rattle.agent_script.specs.Scripts.{load_view}
@@ -27,15 +27,15 @@ use Rattle.pcc_cli.proofs.AgentLemmas.{for-bind}
 -- ---- one load
 
 -- an agent of code with a packet
-abbrev pub member_of : PolicyKind → List Insn → List ℕ → Member
+abbrev pub member_of : PolicyView → List Insn → List ℕ → Member
 member_of policy code packet = record { policy = policy; code = code; packet = packet }
 
 -- what a load goes on with behind its code
-abbrev pub behind_code : ℕ → LoadView → PolicyKind → List Insn → Stage Member
+abbrev pub behind_code : ℕ → LoadView → PolicyView → List Insn → Stage Member
 behind_code a one policy code = for_agent a (packet_of a policy one.packets) >>= λ packet. gives (member_of policy code packet)
 
 -- and behind its policy
-abbrev pub behind_policy : ℕ → LoadView → PolicyKind → Stage Member
+abbrev pub behind_policy : ℕ → LoadView → PolicyView → Stage Member
 behind_policy a one policy = for_agent a (accepted_code_of policy one.file) >>= behind_code a one policy
 
 -- what is told of an agent is told stage by stage
@@ -43,7 +43,8 @@ pub load_stages : (a : ℕ) (one : LoadView) → for_agent a (load_of a one) ≡
 unfolding load_of
 load_stages a one =
     for-bind a (policy_named one.policy) (λ policy. accepted_code_of policy one.file >>= λ code. packet_of a policy one.packets >>= λ packet. gives (member_of policy code packet))
-    ∙ ap (λ (next : PolicyKind → Stage Member). for_agent a (policy_named one.policy) >>= next) (fun_ext (λ policy.
+    ∙ ap (λ (next : PolicyView → Stage Member). for_agent a (policy_named one.policy) >>= next)
+    (fun_ext (λ policy.
     for-bind a (accepted_code_of policy one.file) (λ code. packet_of a policy one.packets >>= λ packet. gives (member_of policy code packet))
     ∙ ap (λ (next : List Insn → Stage Member). for_agent a (accepted_code_of policy one.file) >>= next) (fun_ext (λ code.
     for-bind a (packet_of a policy one.packets) (λ packet. gives (member_of policy code packet))))))

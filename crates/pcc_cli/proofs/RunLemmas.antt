@@ -1,10 +1,10 @@
 -- The code of what is accepted.
-use Rattle.std.proofs.Common.{◌≡◌, ℕ, Bool, List, None, Result, Ok, Err, IfOk, length, refl, sym, ap, ◌∙◌, eq-eqb}
+use Rattle.std.proofs.Common.{◌≡◌, ℕ, Bool, List, None, Result, Ok, Err, IfOk, length, refl, sym, ap, ◌∙◌}
 use Rattle.std.proofs.lemmas.List.{length-map}
 use Rattle.alpha_cfg.specs.CodeDecoding.{decoded_code}
 use Rattle.alpha_cfg.proofs.Readings.{decoded_code-ok}
-use Rattle.policy_set.specs.declared.kind.PolicyKind.{PolicyKind}
-use Rattle.policy_set.specs.Names.{policy_number}
+use Rattle.policy_set.specs.Views.{PolicyView}
+use Rattle.policy_set.proofs.Numbers.{number-true}
 use Rattle.proof_container.proofs.Whole.{container_again}
 use Rattle.alpha_words.specs.declared.insn.Insn.{Insn}
 use Rattle.proof_container.specs.Contents.{Contents}
@@ -22,10 +22,15 @@ use Rattle.pcc_cli.specs.declared.stop.Stop.{Stop}
 use Rattle.pcc_cli.proofs.StageLemmas.{pure_stops}
 use Rattle.word_ops.specs.declared.Profile.TheVariants.{One}
 
-module _ (policy : PolicyKind) (bytes : List ℕ) (contents : Contents) (code : List Insn) (marks : List Bool) (passes : Passes policy bytes contents code marks) where
+module _ (policy : PolicyView) (bytes : List ℕ) (contents : Contents) (code : List Insn)
+    (marks : List Bool) (passes : Passes policy bytes contents code marks) where
   container_given : container_in policy bytes ≡ gives contents
   unfolding container_in
-  container_given = rw (container_again bytes contents passes.container, eq-eqb contents.policy (policy_number policy) passes.number) refl
+  container_given =
+      rw (
+        container_again bytes contents passes.container,
+        number-true policy contents.policy passes.number,
+      ) refl
 
   pub code_given : code_in policy bytes ≡ gives code
   unfolding code_in
@@ -50,7 +55,7 @@ module _ (policy : PolicyKind) (bytes : List ℕ) (contents : Contents) (code : 
       shown insns container = record { code = insns; invariants = length container.invs }
 
 -- what the gate says of bytes, with the code
-module _ (policy : PolicyKind) (bytes : List ℕ) where
+module _ (policy : PolicyView) (bytes : List ℕ) where
   pub code_gives : (r : Result AcceptedView Stop) → GivesPure (λ (a : AcceptedView). tt) (accepted_in policy bytes) r → IfOk r (λ a. IsAcceptedBy policy bytes a) → GivesPure (λ (a : AcceptedView). a.code) (accepted_code_in policy bytes) r
   unfolding accepted_code_in
   code_gives (Ok a) judged given = accepted_code_of_bytes policy bytes given.contents a.code a.marks given.accepts.passes given.first

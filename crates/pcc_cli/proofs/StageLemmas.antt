@@ -10,8 +10,8 @@ use Rattle.pcc_exit.specs.Exits.{Exit}
 use Rattle.pcc_exit.specs.Stages.{Stage, stops, gives, reads, ◌>>=◌, went_on, Asks, Follows}
 use Rattle.pcc_exit.specs.Runs.{AreOctets, Happens, NoneFailed}
 use Rattle.pcc_cli.specs.Texts.{texts}
-use Rattle.pcc_cli.specs.Inside.Decisions.{end_of, stop_exit}
-use Rattle.pcc_cli.specs.Inside.Gives.{IsTooLong, StopsAs, GivesPure, IsClean, IsCleanFor, Gives}
+use Rattle.pcc_cli.specs.Inside.Decisions.{end_of}
+use Rattle.pcc_cli.specs.Inside.Gives.{StopsAs, GivesPure, IsClean, IsCleanFor, Gives}
 use Rattle.pcc_cli.specs.declared.stop.Stop.{Stop}
 use Rattle.pcc_cli.specs.declared.stop.Stop.TheVariants as stop
 
@@ -166,15 +166,3 @@ read_gives view name max more on given e e' f g r logged read octets is clean = 
   is = is;
   clean = clean;
 }
-
--- ---- a file that is too long
-
-too_long_ends : (s : Stop) → IsTooLong s → end_of s ≡ Some (stop_exit s)
-too_long_ends stop.Memory h = absurd h
-too_long_ends other h = refl
-
-pub too_long-stops : (A : Type 0) (s : Stop) → IsTooLong s → StopsAs {A = A} (stops (stop_exit s)) (end_of s)
-too_long-stops A s h = subst (λ end. StopsAs {A = A} (stops (stop_exit s)) end) (sym (too_long_ends s h)) refl
-
-pub too_long-clean : (s : Stop) → IsTooLong s → (events : List Event) → IsClean events (end_of s)
-too_long-clean s h events = subst (λ end. IsClean events end) (sym (too_long_ends s h)) tt

@@ -9,6 +9,7 @@ use Rattle.file_port.specs.Sink.{SinkState, PutFails, with_piece}
 use Rattle.file_port.proofs.PutLemmas.{part_fails, rest_fails, with_piece-nil, with_piece-with_piece}
 use Rattle.alpha_cfg.specs.declared.outcome.Outcome.{Outcome}
 use Rattle.policy_set.specs.declared.kind.PolicyKind.{PolicyKind}
+use Rattle.policy_set.specs.Views.{PolicyView}
 use Rattle.packet_store.specs.declared.reader.TheConstants.{MAX_PACKET}
 use Rattle.reference_machine.specs.Starts.{StartView}
 use Rattle.packet_store.specs.PolicyStarts.{start_from}
@@ -125,21 +126,25 @@ module _
   loaded-here : (agent : Member) → slice_get (members_with old packets) a ≡ Some agent → IsWhereTurnsLead a agent [] new
   loaded-here agent e =
       let i : MemberIs a old packets agent = member_is a old packets agent e in
-      let start : (x : StartView) × (start_from (base_of a) i.m.accepted.policy i.packet.items ≡ Some x) =
-      some_of (start_from (base_of a) i.m.accepted.policy i.packet.items) (starts a i.m i.packet i.at i.there).starts in
+      let start : (x : StartView) × (start_from (base_of a) i.m.accepted.policy.kind i.packet.items
+      ≡ Some x) =
+      some_of (start_from (base_of a) i.m.accepted.policy.kind i.packet.items)
+      (starts a i.m i.packet i.at i.there).starts in
       let was : r.was ≡ i.m = same_Some r.was i.m (sym r.at ∙ l.rest a (omega arith) ∙ i.at) in
       let base : r.was.base ≡ base_of a = (hosted r.was r.at).base in
       let packet : p ≡ i.packet = same_Some p i.packet (sym there ∙ i.there) in
-      let begins : start_from r.was.base r.was.accepted.policy bytes ≡ Some start.0 =
-      ap (λ b. start_from b r.was.accepted.policy bytes) base
-      ∙ ap (λ (x : HostedView). start_from (base_of a) x.accepted.policy bytes) was
-      ∙ ap (start_from (base_of a) i.m.accepted.policy) (same ∙ ap (λ (x : Vec ℕ Global). x.items) packet)
+      let begins : start_from r.was.base r.was.accepted.policy.kind bytes ≡ Some start.0 =
+      ap (λ b. start_from b r.was.accepted.policy.kind bytes) base
+      ∙ ap (λ (x : HostedView). start_from (base_of a) x.accepted.policy.kind bytes) was
+      ∙ ap (start_from (base_of a) i.m.accepted.policy.kind)
+      (same ∙ ap (λ (x : Vec ℕ Global). x.items) packet)
       ∙ start.1 in
       let known : LoadsAt (Some start.0) result r.was r.is = subst (λ (o : Option StartView). LoadsAt o result r.was r.is) begins r.known in
       let fits : RightsFitAgent (agent_at r.was start.0) (rights_of start.0) = subst (λ (x : HostedView). RightsFitAgent x (rights_of start.0)) known.1 known.3 in
       record {
         setup = start.0;
-        starts = ap (λ (q : PolicyKind). start_from (base_of a) q agent.packet) (sym i.policy) ∙ ap (start_from (base_of a) i.m.accepted.policy) (sym i.bytes) ∙ start.1;
+        starts = ap (λ (q : PolicyView). start_from (base_of a) q.kind agent.packet) (sym i.policy)
+            ∙ ap (start_from (base_of a) i.m.accepted.policy.kind) (sym i.bytes) ∙ start.1;
         m = r.is;
         at = ap (λ (xs : List HostedView). slice_get xs a) r.rest ∙ set_at now a r.is r.was r.at;
         stands = subst (StandsAt a agent start.0 0) (sym known.1)
@@ -233,10 +238,12 @@ module _
   turn-leads k agent e = turn-leads-at k agent (k == turn.agent) refl e
 
   -- the line that is printed is that of the agent alone
-  pub turn-line : (number sum : ℕ) (policy : PolicyKind) (outcome : Option Outcome) → turn.agent < length agents → SumsTo new turn.agent sum
-      → ((m : HostedView) → slice_get new turn.agent ≡ Some m → policy ≡ m.accepted.policy) → outcome ≡ outcome_shown result
-      → turn_line policy number turn.agent outcome sum ≡ agent_turn_line number turn (budget_of turn.agent before) (slice_get agents turn.agent)
-  turn-line number sum policy outcome within sums policies shown =
+  pub turn-line : (number sum : ℕ) (kind : Option PolicyKind) (outcome : Option Outcome)
+      → turn.agent < length agents → SumsTo new turn.agent sum
+      → ((m : HostedView) → slice_get new turn.agent ≡ Some m → kind ≡ m.accepted.policy.kind)
+      → outcome ≡ outcome_shown result → turn_line kind number turn.agent outcome sum
+      ≡ agent_turn_line number turn (budget_of turn.agent before) (slice_get agents turn.agent)
+  turn-line number sum kind outcome within sums kinds shown =
       let a = turn.agent in
       let n = budget_of a before in
       let there : (x : Member) × (slice_get agents a ≡ Some x) = member_there agents a within in
@@ -244,13 +251,15 @@ module _
       let w : IsWhereTurnsLead a agent before old = leads a agent there.1 in
       let s : StandsAt a agent w.setup (n + turn.budget) r.is = turned-here agent w in
       let was : w.m ≡ r.was = same_Some w.m r.was (sym w.at ∙ r.at) in
-      let policy_is : policy ≡ agent.policy = policies r.is turned-at ∙ s.policy in
+      let kind_is : kind ≡ agent.policy.kind =
+      kinds r.is turned-at ∙ ap (λ (p : PolicyView). p.kind) s.policy in
       let outcome_is : outcome ≡ turn_outcome a agent w.setup n turn.budget =
       shown ∙ turn-shown a agent w.setup n turn.budget r.was r.is result (subst (StandsAt a agent w.setup n) was w.stands) r.known in
       let sum_is : sum ≡ region_sum a agent w.setup (n + turn.budget) = stands-sum a agent w.setup (n + turn.budget) sum r.is w.starts s (sums r.is turned-at) in
-      ap (λ (q : PolicyKind). turn_line q number a outcome sum) policy_is
-      ∙ ap (λ (o : Option Outcome). turn_line agent.policy number a o sum) outcome_is
-      ∙ ap (turn_line agent.policy number a (turn_outcome a agent w.setup n turn.budget)) sum_is
+      ap (λ (k : Option PolicyKind). turn_line k number a outcome sum) kind_is
+      ∙ ap (λ (o : Option Outcome). turn_line agent.policy.kind number a o sum) outcome_is
+      ∙ ap (turn_line agent.policy.kind number a
+      (turn_outcome a agent w.setup n turn.budget)) sum_is
       ∙ sym (ap (agent_turn_line number turn n) there.1 ∙ ap (turn_line_from number turn n agent) w.starts)
 
 -- an agent that was loaded still is

@@ -7,8 +7,8 @@ use Rattle.packet_store.specs.Results.{packet_result}
 use Rattle.alpha_words.specs.declared.insn.Insn.{Insn}
 use Rattle.alpha_cfg.specs.declared.fault.CodeFlaw.{CodeFlaw}
 use Rattle.alpha_cfg.specs.CodeDecoding.{decoded_code}
-use Rattle.policy_set.specs.declared.kind.PolicyKind.{PolicyKind}
-use Rattle.policy_set.specs.Names.{policy_of, policy_number}
+use Rattle.policy_set.specs.Views.{PolicyView}
+use Rattle.policy_set.specs.Names.{policy_of, is_number_of}
 use Rattle.proof_container.specs.Contents.{Contents}
 use Rattle.proof_container.specs.Decoding.{Fault, decoded_container}
 use Rattle.asm_text.specs.declared.fault.LineFlaw.{LineFlaw}
@@ -169,15 +169,16 @@ module _ (names : Option (List (List ℕ))) where
   sized c true = refl
   sized c false = inl (refusal_stop (refusal.OtherPolicy c.policy))
 
-  container_for-fits : (policy : PolicyKind) (r : Result Contents Fault) → Fits (container_for policy r)
-  container_for-fits policy (Ok c) = sized c (c.policy == policy_number policy)
+  container_for-fits : (policy : PolicyView) (r : Result Contents Fault)
+      → Fits (container_for policy r)
+  container_for-fits policy (Ok c) = sized c (is_number_of policy c.policy)
   container_for-fits policy (Err fault) = inl (refusal_stop (refusal.Malformed fault.0 fault.1))
 
-  container_in-fits : (policy : PolicyKind) (bytes : List ℕ) → Fits (container_in policy bytes)
+  container_in-fits : (policy : PolicyView) (bytes : List ℕ) → Fits (container_in policy bytes)
   unfolding container_in
   container_in-fits policy bytes = container_for-fits policy (decoded_container bytes)
 
-  code_in-fits : (policy : PolicyKind) (bytes : List ℕ) → Fits (code_in policy bytes)
+  code_in-fits : (policy : PolicyView) (bytes : List ℕ) → Fits (code_in policy bytes)
   unfolding code_in
   code_in-fits policy bytes = behind (λ container. code_found (decoded_code One container.code)) (container_in policy bytes) (container_in-fits policy bytes) (λ c. code_found-fits (decoded_code One c.code))
 
@@ -185,15 +186,16 @@ module _ (names : Option (List (List ℕ))) where
   unless_refused-fits None = refl
   unless_refused-fits (Some r) = inl (refusal_stop r)
 
-  accepted_in-fits : (policy : PolicyKind) (bytes : List ℕ) → Fits (accepted_in policy bytes)
+  accepted_in-fits : (policy : PolicyView) (bytes : List ℕ) → Fits (accepted_in policy bytes)
   unfolding accepted_in
   accepted_in-fits policy bytes = unless_refused-fits (first_refusal policy bytes)
 
-  accepted_code_in-fits : (policy : PolicyKind) (bytes : List ℕ) → Fits (accepted_code_in policy bytes)
+  accepted_code_in-fits : (policy : PolicyView) (bytes : List ℕ)
+      → Fits (accepted_code_in policy bytes)
   unfolding accepted_code_in
   accepted_code_in-fits policy bytes = behind (λ accepted. code_in policy bytes) (accepted_in policy bytes) (accepted_in-fits policy bytes) (λ accepted. code_in-fits policy bytes)
 
-  shown_in-fits : (policy : PolicyKind) (bytes : List ℕ) → Fits (shown_in policy bytes)
+  shown_in-fits : (policy : PolicyView) (bytes : List ℕ) → Fits (shown_in policy bytes)
   unfolding shown_in
   shown_in-fits policy bytes =
       behind (λ accepted. container_in policy bytes >>= λ container. code_in policy bytes >>= λ code. gives (shown code container)) (accepted_in policy bytes) (accepted_in-fits policy bytes) (λ accepted.
@@ -215,7 +217,7 @@ module _ (names : Option (List (List ℕ))) where
   container_made-fits (Ok contents) = refl
   container_made-fits (Err flaw) = inl (source_stop (asm_flaw_line flaw) (asm_flaw_name flaw))
 
-  assembled_in-fits : (policy : PolicyKind) (text : List ℕ) → Fits (assembled_in policy text)
+  assembled_in-fits : (policy : PolicyView) (text : List ℕ) → Fits (assembled_in policy text)
   unfolding assembled_in source_in assembled_as
   assembled_in-fits policy text =
       behind (λ source. assembled_as policy source) (source_in text) (source_found-fits (parsed_source One text)) (λ source. container_made-fits (assembled_contents policy source))
@@ -231,7 +233,7 @@ module _ (names : Option (List (List ℕ))) where
   container_proved-fits (Err fault.Memory) = inr refl
   container_proved-fits (Err fault.Results) = inr refl
 
-  proved_in-fits : (policy : PolicyKind) (bytes : List ℕ) → Fits (proved_in policy bytes)
+  proved_in-fits : (policy : PolicyView) (bytes : List ℕ) → Fits (proved_in policy bytes)
   unfolding proved_in
   proved_in-fits policy bytes = container_proved-fits (proved_container policy bytes)
 
@@ -249,7 +251,7 @@ module _ (names : Option (List (List ℕ))) where
   packets_of-fits name next named each =
       behind next (packets_of name) (read name MAX_FILE packets_too_long_line (λ b. packets_in b) named (omega arith) (λ b. packets_found-fits (decoded_packets b))) each
 
-  demo_effect-fits : (policy : PolicyKind) (n : ℕ) → Fits (demo_effect policy n)
+  demo_effect-fits : (policy : PolicyView) (n : ℕ) → Fits (demo_effect policy n)
   unfolding demo_effect demo_told demo_container
   demo_effect-fits policy n =
       behind (λ told. printing (demo_lines told)) (demo_told policy n)
@@ -266,19 +268,21 @@ no_reads (stops exit) h = refl
 no_reads (gives x) h = refl
 no_reads (reads name max more on) h = let none = h.1.1 in absurd (omega arith)
 
-pub code_in-ends : (policy : PolicyKind) (bytes : List ℕ) → is_read (code_in policy bytes) ≡ false
+pub code_in-ends : (policy : PolicyView) (bytes : List ℕ) → is_read (code_in policy bytes) ≡ false
 code_in-ends policy bytes = no_reads (code_in policy bytes) (code_in-fits (Some []) policy bytes)
 
-pub assembled_in-ends : (policy : PolicyKind) (text : List ℕ) → is_read (assembled_in policy text) ≡ false
+pub assembled_in-ends : (policy : PolicyView) (text : List ℕ) → is_read (assembled_in policy text)
+    ≡ false
 assembled_in-ends policy text = no_reads (assembled_in policy text) (assembled_in-fits (Some []) policy text)
 
-pub proved_in-ends : (policy : PolicyKind) (bytes : List ℕ) → is_read (proved_in policy bytes) ≡ false
+pub proved_in-ends : (policy : PolicyView) (bytes : List ℕ) → is_read (proved_in policy bytes)
+    ≡ false
 proved_in-ends policy bytes = no_reads (proved_in policy bytes) (proved_in-fits (Some []) policy bytes)
 
 pub compiled_in-ends : (bytes : List ℕ) → is_read (compiled_in bytes) ≡ false
 compiled_in-ends bytes = no_reads (compiled_in bytes) (compiled_in-fits (Some []) bytes)
 
-pub demo_ends : (policy : PolicyKind) (n : ℕ) → is_read (demo_effect policy n) ≡ false
+pub demo_ends : (policy : PolicyView) (n : ℕ) → is_read (demo_effect policy n) ≡ false
 demo_ends policy n = no_reads (demo_effect policy n) (demo_effect-fits (Some []) policy n)
 
 -- ---- `host`
@@ -329,11 +333,12 @@ for_agent-fits a (stops exit) h = told_end a exit h
 for_agent-fits a (gives x) h = refl
 for_agent-fits a (reads name max more on) h = (refl, tt, told_stop a more h.0, λ b. for_agent-fits a (on b) (h.1 b))
 
-policy_found-tells : (p : Option PolicyKind) → Tells (policy_found p)
+policy_found-tells : (p : Option PolicyView) → Tells (policy_found p)
 policy_found-tells None = inl refl
-policy_found-tells (Some kind) = tt
+policy_found-tells (Some under) = tt
 
-accepted_code_of-tells : (policy : PolicyKind) (name : List ℕ) → Tells (accepted_code_of policy name)
+accepted_code_of-tells : (policy : PolicyView) (name : List ℕ) → Tells
+    (accepted_code_of policy name)
 unfolding accepted_code_of
 accepted_code_of-tells policy name = (refl, λ b. fits-tells (Some []) (accepted_code_in policy b) (accepted_code_in-fits (Some []) policy b))
 
@@ -341,11 +346,13 @@ unless_short-tells : (packet : List ℕ) (o : Option StartView) → Tells (unles
 unless_short-tells packet None = inl refl
 unless_short-tells packet (Some setup) = tt
 
-first_packet-tells : (a : ℕ) (policy : PolicyKind) (packets : List (List ℕ)) → Tells (first_packet a policy packets)
+first_packet-tells : (a : ℕ) (policy : PolicyView) (packets : List (List ℕ)) → Tells
+    (first_packet a policy packets)
 first_packet-tells a policy [] = inl refl
-first_packet-tells a policy (packet ∷ packets) = unless_short-tells packet (start_from (base_of a) policy packet)
+first_packet-tells a policy (packet ∷ packets) = unless_short-tells packet
+    (start_from (base_of a) policy.kind packet)
 
-packet_of-tells : (a : ℕ) (policy : PolicyKind) (name : List ℕ) → Tells (packet_of a policy name)
+packet_of-tells : (a : ℕ) (policy : PolicyView) (name : List ℕ) → Tells (packet_of a policy name)
 unfolding packet_of packets_of
 packet_of-tells a policy name = (
   refl,
@@ -360,7 +367,7 @@ load_of-tells a one =
     tells-bind (λ code. packet_of a policy one.packets >>= λ packet. gives (member policy code packet)) (accepted_code_of policy one.file) (accepted_code_of-tells policy one.file) (λ code.
     tells-bind (λ packet. gives (member policy code packet)) (packet_of a policy one.packets) (packet_of-tells a policy one.packets) (λ packet. tt)))
   where
-    member : PolicyKind → List Insn → List ℕ → Member
+    member : PolicyView → List Insn → List ℕ → Member
     member policy code packet = record { policy = policy; code = code; packet = packet }
 
 agents_from-fits : (a : ℕ) (loads : List LoadView) → IsSuited texts command None (agents_from a loads)
@@ -382,10 +389,11 @@ script_found-fits (Err fault) =
 -- ---- commands
 
 -- a command that begins with a policy
-begins : (names : Option (List (List ℕ))) (next : PolicyKind → Stage Effect) (p : Option PolicyKind) → ((kind : PolicyKind) → IsSuited texts command names (next kind))
+begins : (names : Option (List (List ℕ))) (next : PolicyView → Stage Effect) (p : Option PolicyView)
+    → ((under : PolicyView) → IsSuited texts command names (next under))
     → IsSuited texts (standing_on p) names (policy_found p >>= next)
 begins names next None each = inl (record { suits = refl; some = omega arith; in_range = omega arith })
-begins names next (Some kind) each = each kind
+begins names next (Some under) each = each under
 
 -- the only name, the first of two, the second
 only : (name : List ℕ) → Contains (name ∷ []) name
@@ -401,30 +409,69 @@ pub suited : (o : Option Invocation) → let task = task_of_command o in IsSuite
 unfolding asm_command prove_command check_command run_command ref_command demo_command host_command bpf_command script_of script_in assembled_of proved_of accepted_of accepted_code_of code_of compiled_of
 suited None = inl (record { suits = refl; some = omega arith; in_range = omega arith })
 suited (Some (asm policy input output)) =
-    begins (Some (input ∷ [])) (λ under. assembled_of under input >>= λ container. writing output container) (policy_of policy) (λ kind.
-    read (Some (input ∷ [])) input MAX_SOURCE source_too_long_line (λ b. assembled_in kind b >>= λ container. writing output container) (only input) (omega arith) (λ b.
-    behind (Some (input ∷ [])) (λ container. writing output container) (assembled_in kind b) (assembled_in-fits (Some (input ∷ [])) kind b) (λ container. refl)))
+    begins (Some (input ∷ []))
+    (λ under. assembled_of under input >>= λ container. writing output container)
+    (policy_of policy) (λ under.
+    read (Some (input ∷ [])) input MAX_SOURCE source_too_long_line
+    (λ b. assembled_in under b >>= λ container. writing output container) (only input)
+    (omega arith) (λ b.
+    behind (Some (input ∷ [])) (λ container. writing output container) (assembled_in under b)
+    (assembled_in-fits (Some (input ∷ [])) under b) (λ container. refl)))
 suited (Some (prove policy input output)) =
-    begins (Some (input ∷ [])) (λ under. proved_of under input >>= λ container. writing output container) (policy_of policy) (λ kind.
-    read (Some (input ∷ [])) input MAX_FILE container_too_long_line (λ b. proved_in kind b >>= λ container. writing output container) (only input) (omega arith) (λ b.
-    behind (Some (input ∷ [])) (λ container. writing output container) (proved_in kind b) (proved_in-fits (Some (input ∷ [])) kind b) (λ container. refl)))
+    begins (Some (input ∷ []))
+    (λ under. proved_of under input >>= λ container. writing output container)
+    (policy_of policy) (λ under.
+    read (Some (input ∷ [])) input MAX_FILE container_too_long_line
+    (λ b. proved_in under b >>= λ container. writing output container) (only input)
+    (omega arith) (λ b.
+    behind (Some (input ∷ [])) (λ container. writing output container) (proved_in under b)
+    (proved_in-fits (Some (input ∷ [])) under b) (λ container. refl)))
 suited (Some (check policy file)) =
-    begins (Some (file ∷ [])) (λ under. accepted_of under file >>= λ accepted. printing accepted_line) (policy_of policy) (λ kind.
-    read (Some (file ∷ [])) file MAX_FILE container_too_long_line (λ b. accepted_in kind b >>= λ accepted. printing accepted_line) (only file) (omega arith) (λ b.
-    behind (Some (file ∷ [])) (λ accepted. printing accepted_line) (accepted_in kind b) (accepted_in-fits (Some (file ∷ [])) kind b) (λ accepted. refl)))
+    begins (Some (file ∷ []))
+    (λ under. accepted_of under file >>= λ accepted. printing accepted_line)
+    (policy_of policy) (λ under.
+    read (Some (file ∷ [])) file MAX_FILE container_too_long_line
+    (λ b. accepted_in under b >>= λ accepted. printing accepted_line) (only file) (omega arith)
+    (λ b.
+    behind (Some (file ∷ [])) (λ accepted. printing accepted_line) (accepted_in under b)
+    (accepted_in-fits (Some (file ∷ [])) under b) (λ accepted. refl)))
 suited (Some (run policy file packets steps)) =
     let names = Some (file ∷ packets ∷ []) in
-    begins names (λ under. accepted_code_of under file >>= λ code. packets_of packets >>= λ all. printing (result_lines under (packet_result under code steps) 0 all)) (policy_of policy) (λ kind.
-    read names file MAX_FILE container_too_long_line (λ b. accepted_code_in kind b >>= λ code. packets_of packets >>= λ all. printing (result_lines kind (packet_result kind code steps) 0 all)) (first_name file packets) (omega arith) (λ b.
-    behind names (λ code. packets_of packets >>= λ all. printing (result_lines kind (packet_result kind code steps) 0 all)) (accepted_code_in kind b) (accepted_code_in-fits names kind b) (λ code.
-    packets_of-fits names packets (λ all. printing (result_lines kind (packet_result kind code steps) 0 all)) (second_name file packets) (λ all. refl))))
+    begins names
+    (λ under. accepted_code_of under file >>= λ code. packets_of packets >>= λ all. printing
+    (result_lines under.kind (packet_result under code steps) 0 all)) (policy_of policy)
+    (λ under.
+    read names file MAX_FILE container_too_long_line
+    (λ b. accepted_code_in under b >>= λ code. packets_of packets >>= λ all. printing
+    (result_lines under.kind (packet_result under code steps) 0 all)) (first_name file packets)
+    (omega arith) (λ b.
+    behind names
+    (λ code. packets_of packets >>= λ all. printing
+    (result_lines under.kind (packet_result under code steps) 0 all)) (accepted_code_in under b)
+    (accepted_code_in-fits names under b) (λ code.
+    packets_of-fits names packets
+    (λ all. printing (result_lines under.kind (packet_result under code steps) 0 all))
+    (second_name file packets) (λ all. refl))))
 suited (Some (ref policy file packets steps)) =
     let names = Some (file ∷ packets ∷ []) in
-    begins names (λ under. code_of under file >>= λ code. packets_of packets >>= λ all. printing (result_lines under (packet_result under code steps) 0 all)) (policy_of policy) (λ kind.
-    read names file MAX_FILE container_too_long_line (λ b. code_in kind b >>= λ code. packets_of packets >>= λ all. printing (result_lines kind (packet_result kind code steps) 0 all)) (first_name file packets) (omega arith) (λ b.
-    behind names (λ code. packets_of packets >>= λ all. printing (result_lines kind (packet_result kind code steps) 0 all)) (code_in kind b) (code_in-fits names kind b) (λ code.
-    packets_of-fits names packets (λ all. printing (result_lines kind (packet_result kind code steps) 0 all)) (second_name file packets) (λ all. refl))))
-suited (Some (demo n)) = begins (Some []) (λ under. demo_effect under n) (policy_of demo_policy) (λ kind. demo_effect-fits (Some []) kind n)
+    begins names
+    (λ under. code_of under file >>= λ code. packets_of packets >>= λ all. printing
+    (result_lines under.kind (packet_result under code steps) 0 all)) (policy_of policy)
+    (λ under.
+    read names file MAX_FILE container_too_long_line
+    (λ b. code_in under b >>= λ code. packets_of packets >>= λ all. printing
+    (result_lines under.kind (packet_result under code steps) 0 all)) (first_name file packets)
+    (omega arith) (λ b.
+    behind names
+    (λ code. packets_of packets >>= λ all. printing
+    (result_lines under.kind (packet_result under code steps) 0 all)) (code_in under b)
+    (code_in-fits names under b) (λ code.
+    packets_of-fits names packets
+    (λ all. printing (result_lines under.kind (packet_result under code steps) 0 all))
+    (second_name file packets) (λ all. refl))))
+suited (Some (demo n)) =
+    begins (Some []) (λ under. demo_effect under n) (policy_of demo_policy)
+    (λ under. demo_effect-fits (Some []) under n)
 suited (Some (host script)) =
     read None script MAX_SCRIPT script_too_long_line (λ b. script_in b >>= λ said. agents_from 0 said.loads >>= λ agents. printing (turn_lines agents 0 [] said.turns)) tt (omega arith) (λ b.
     behind None (λ said. agents_from 0 said.loads >>= λ agents. printing (turn_lines agents 0 [] said.turns)) (script_in b) (script_found-fits (parsed_script b)) (λ said.

@@ -1,6 +1,7 @@
 -- Where turns take the agents of a host.
-use Rattle.std.proofs.Common.{◌≡◌, ◌≢◌, ℕ, ◌+◌, ◌%◌, ◌^◌, Bool, true, false, true≢false, List, length, Some, None, refl, sym, ◌∙◌, ap, subst, inl, inr}
+use Rattle.std.proofs.Common.{◌≡◌, ◌≢◌, ℕ, ◌+◌, ◌%◌, ◌^◌, Bool, true, false, true≢false, List, length, Option, Some, None, refl, sym, ◌∙◌, ap, subst, inl, inr}
 use Rattle.std.proofs.lemmas.Bool.{cases_lt, lt-ltb, le-ltb}
+use Rattle.std.proofs.lemmas.Option.{none-some}
 use Rattle.word_ops.specs.Memory.{Memory}
 use Rattle.alpha_words.specs.declared.insn.Insn.{Insn}
 use Rattle.alpha_cfg.specs.Machine.{State, run_of}
@@ -134,24 +135,31 @@ turn-loaded budget was is turned.OutOfSteps loaded t e = after-loaded ended.OutO
 turn-loaded budget was is turned.Done loaded t e = loaded (sym (ap (λ (h : HostedView). h.phase) t.1) ∙ e)
 
 -- where the region isn't empty it is at the part's front
-sum-front : (base : ℕ) (policy : PolicyKind) (packet : List ℕ) (setup : StartView) (m : Memory) → start_from base policy packet ≡ Some setup → sum_of m base setup.region ≡ sum_of m setup.at setup.region
+sum-front : (base : ℕ) (kind : Option PolicyKind) (packet : List ℕ) (setup : StartView)
+    (m : Memory) → start_from base kind packet ≡ Some setup
+    → sum_of m base setup.region ≡ sum_of m setup.at setup.region
 unfolding start_from
-sum-front base Filter packet setup m e = elim (cases_lt (length packet) 64) [
+sum-front base None packet setup m e = absurd (none-some setup e)
+sum-front base (Some Filter) packet setup m e = elim (cases_lt (length packet) 64) [
   | inl less ↦ let none : None ≡ Some setup = rw (lt-ltb (length packet) 64 less) at e in absurd (cc)
   | inr enough ↦ the_same (λ s. sum_of m base s.region ≡ sum_of m s.at s.region) (filter_start base packet) setup refl (rw (le-ltb (length packet) 64 enough) at e)
 ]
-sum-front base Tag packet setup m e = elim (cases_lt (length packet) 16) [
+sum-front base (Some Tag) packet setup m e = elim (cases_lt (length packet) 16) [
   | inl less ↦ let none : None ≡ Some setup = rw (lt-ltb (length packet) 16 less) at e in absurd (cc)
   | inr enough ↦ the_same (λ s. sum_of m base s.region ≡ sum_of m s.at s.region) (tag_start base packet) setup refl (rw (le-ltb (length packet) 16 enough) at e)
 ]
-sum-front base Table packet setup m e = the_same (λ s. sum_of m base s.region ≡ sum_of m s.at s.region) (table_start base packet) setup refl e
+sum-front base (Some Table) packet setup m e =
+    the_same (λ s. sum_of m base s.region ≡ sum_of m s.at s.region) (table_start base packet) setup
+    refl e
 
 -- the sum of the region where an agent stands
-pub stands-sum : (a : ℕ) (agent : Member) (setup : StartView) (n sum : ℕ) (q : HostedView) → start_from (base_of a) agent.policy agent.packet ≡ Some setup → StandsAt a agent setup n q
+pub stands-sum : (a : ℕ) (agent : Member) (setup : StartView) (n sum : ℕ) (q : HostedView)
+    → start_from (base_of a) agent.policy.kind agent.packet ≡ Some setup
+    → StandsAt a agent setup n q
     → sum ≡ sum_of (map_of q.base q.words) q.base q.region % 2 ^ 64 → sum ≡ region_sum a agent setup n
 stands-sum a agent setup n sum q starts s is =
     let m : Memory = map_of q.base q.words in
     let memory : (alone a agent setup n).1.memory ≡ m = ap (λ (x : State). x.memory) s.state in
     is ∙ ap (λ b. sum_of m b q.region % 2 ^ 64) s.base ∙ ap (λ k. sum_of m (base_of a) k % 2 ^ 64) s.region
-    ∙ ap (λ x. x % 2 ^ 64) (sum-front (base_of a) agent.policy agent.packet setup m starts)
+    ∙ ap (λ x. x % 2 ^ 64) (sum-front (base_of a) agent.policy.kind agent.packet setup m starts)
     ∙ ap (λ (l : Memory). sum_of l setup.at setup.region % 2 ^ 64) (sym memory)

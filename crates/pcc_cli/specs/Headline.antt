@@ -7,10 +7,9 @@ use Rattle.alpha_words.specs.declared.insn.Insn.{Insn}
 use Rattle.alpha_cfg.specs.Isolation.{ChangesWritable, DependsOnReadable}
 use Rattle.alpha_cfg.specs.Machine.{State, run_of}
 use Rattle.alpha_cfg.specs.declared.outcome.Outcome.TheVariants.{Returned}
-use Rattle.policy_set.specs.declared.kind.PolicyKind.{PolicyKind}
 use Rattle.policy_set.specs.declared.kind.PolicyKind.TheVariants.{Filter}
+use Rattle.policy_set.specs.Views.{PolicyView, built_in, IsPolicy}
 use Rattle.policy_set.specs.Names.{policy_of}
-use Rattle.policy_set.specs.Policies.{post_of}
 use Rattle.reference_machine.specs.declared.layout.TheConstants.{ARENA, QUADWORDS}
 use Rattle.reference_machine.specs.Starts.{StartView, start_state}
 use Rattle.packet_store.specs.declared.reader.TheConstants.{MAX_PACKET}
@@ -67,13 +66,13 @@ use Rattle.pcc_cli.specs.declared.stages.TheConstants.{MAX_FILE, MAX_PROGRAM_FIL
 
 -- The bytes are accepted under the policy exactly where this is the exit of what is accepted; else it is the line of the first
 -- clause that fails.
-pub record IsVerdict (policy : PolicyKind) (bytes : List ℕ) (exit : Exit) : Type 0 where
+pub record IsVerdict (policy : PolicyView) (bytes : List ℕ) (exit : Exit) : Type 0 where
   pub accepted : (exit ≡ done_exit accepted_line) ↔ IsAccepted policy bytes
   pub refused : (r : Refusal) → first_refusal policy bytes ≡ Some r → exit ≡ refused (refusal_line r)
   pub judged : IsAccepted policy bytes ⊎ ((r : Refusal) × (first_refusal policy bytes ≡ Some r))
 
 -- what `check` prints of what its read of FILE gave
-abbrev pub IsJudged : PolicyKind → List ℕ → Given → Exit → Type 0
+abbrev pub IsJudged : PolicyView → List ℕ → Given → Exit → Type 0
 IsJudged policy file (whole bytes) exit = IsVerdict policy bytes exit
 IsJudged policy file missing exit = exit ≡ missing_exit texts file
 IsJudged policy file too_long exit = exit ≡ refused container_too_long_line
@@ -81,12 +80,13 @@ IsJudged policy file failed exit = exit ≡ read_fault_exit texts file
 IsJudged policy file no_memory exit = exit ≡ no_memory_exit
 
 -- what is printed of the packets that were read, by the machine that tests every access, or of a packet file that has none
-abbrev pub lines_exit : PolicyKind → List Insn → ℕ → Result (List (List ℕ)) PacketFault → Exit
-lines_exit policy code steps (Ok packets) = done_exit (result_lines policy (packet_result policy code steps) 0 packets)
+abbrev pub lines_exit : PolicyView → List Insn → ℕ → Result (List (List ℕ)) PacketFault → Exit
+lines_exit policy code steps (Ok packets) =
+    done_exit (result_lines policy.kind (packet_result policy code steps) 0 packets)
 lines_exit policy code steps (Err fault) = refused (packet_fault_line fault)
 
 -- what is printed of code, by what the read of PACKETS gave
-abbrev pub run_exit : PolicyKind → List Insn → ℕ → List ℕ → Given → Exit
+abbrev pub run_exit : PolicyView → List Insn → ℕ → List ℕ → Given → Exit
 run_exit policy code steps packets (whole bytes) = lines_exit policy code steps (decoded_packets bytes)
 run_exit policy code steps packets missing = missing_exit texts packets
 run_exit policy code steps packets too_long = refused packets_too_long_line
@@ -96,14 +96,16 @@ run_exit policy code steps packets no_memory = no_memory_exit
 -- ---- what a run did, by its events and its exit
 
 -- `check`: one read, of FILE, and the verdict on what it gave.
-pub record Checks (policy : PolicyKind) (file : List ℕ) (events : List Event) (exit : Exit) : Type 0 where
-  pub given : Given
-  pub one_read : events ≡ was_read file MAX_FILE given ∷ []
-  pub judged : IsJudged policy file given exit
+pub record Checks (policy : PolicyView) (file : List ℕ) (events : List Event) (exit : Exit) : Type 0
+  where
+    pub given : Given
+    pub one_read : events ≡ was_read file MAX_FILE given ∷ []
+    pub judged : IsJudged policy file given exit
 
 -- `run`: one read, of FILE, which is not accepted, and what `check` prints of it; or it is accepted, PACKETS is read behind it, and
 -- the lines are those of the machine that tests every access, of the code that was accepted.
-pub data RunsCode (policy : PolicyKind) (file packets : List ℕ) (steps : ℕ) (events : List Event) (exit : Exit) : Type 0 where
+pub data RunsCode (policy : PolicyView) (file packets : List ℕ) (steps : ℕ) (events : List Event)
+    (exit : Exit) : Type 0 where
   not_accepted : (given : Given) → events ≡ was_read file MAX_FILE given ∷ [] → IsJudged policy file given exit
       → RunsCode policy file packets steps events exit
   accepted : (bytes : List ℕ) (a : IsAccepted policy bytes) (given : Given)
@@ -112,7 +114,8 @@ pub data RunsCode (policy : PolicyKind) (file packets : List ℕ) (steps : ℕ) 
 
 -- `ref`: one read, of FILE, and a refusal; or PACKETS is read behind it, and the lines are those of the machine that tests every
 -- access, which of accepted bytes are the lines of `run`.
-pub data Refs (policy : PolicyKind) (file packets : List ℕ) (steps : ℕ) (events : List Event) (exit : Exit) : Type 0 where
+pub data Refs (policy : PolicyView) (file packets : List ℕ) (steps : ℕ) (events : List Event)
+    (exit : Exit) : Type 0 where
   no_code : (given : Given) → events ≡ was_read file MAX_FILE given ∷ [] → Refs policy file packets steps events exit
   ran : (bytes : List ℕ) (code : List Insn) (given : Given)
       → events ≡ was_read file MAX_FILE (whole bytes) ∷ was_read packets MAX_FILE given ∷ [] → exit ≡ run_exit policy code steps packets given
@@ -130,11 +133,11 @@ abbrev pub StopsWith : List ℕ → Exit → (List ℕ → Stage (List ℕ)) →
 StopsWith input too_long_exit stage given exit = went_on texts input too_long_exit stage given ≡ stops exit
 
 -- `asm` makes of a source the container that it is assembled into
-abbrev pub AssemblesTo : PolicyKind → List ℕ → List ℕ → Type 0
+abbrev pub AssemblesTo : PolicyView → List ℕ → List ℕ → Type 0
 AssemblesTo policy text out = assembled_in policy text ≡ gives out
 
 -- `prove` makes of a container one that is accepted under the policy
-pub record ProvesTo (policy : PolicyKind) (bytes out : List ℕ) : Type 0 where
+pub record ProvesTo (policy : PolicyView) (bytes out : List ℕ) : Type 0 where
   pub proved : proved_container policy bytes ≡ Ok out
   pub accepted : IsAccepted policy out
 
@@ -146,15 +149,16 @@ bpf_steps = 1000
 abbrev pub ComesToValues : List Bpf → List Insn → Type 0
 ComesToValues program code =
     (packet : List ℕ) → IsBytes packet → LOADABLE ≤ length packet
-    → packet_result Filter code bpf_steps packet ≡ Ran (Returned (nonzero_flag (bpf_value program packet))) 0
+    → packet_result (built_in Filter) code bpf_steps packet
+    ≡ Ran (Returned (nonzero_flag (bpf_value program packet))) 0
 
 -- `bpf` makes of a program its container, which is accepted under `filter`, and whatever code that is, packets come to the program's values
 pub record CompilesTo (bytes out : List ℕ) : Type 0 where
   pub program : List Bpf
   pub reads : program_of bytes ≡ Ok program
   pub compiled : compiled_container program ≡ Ok out
-  pub accepted : IsAccepted Filter out
-  pub values : (a : IsAccepted Filter out) → ComesToValues program a.code
+  pub accepted : IsAccepted (built_in Filter) out
+  pub values : (a : IsAccepted (built_in Filter) out) → ComesToValues program a.code
 
 -- what `bpf` prints of what its read of IN gave, where it compiles nothing: the bytes are no program, and the line is that of the first flaw
 abbrev pub IsToldOf : List ℕ → Given → Exit → Type 0
@@ -176,13 +180,15 @@ unless_short_of a packet None = Err (agent_exit a short_line)
 unless_short_of a packet (Some setup) = Ok packet
 
 -- the first packet of those that were read, or what is wrong with them
-abbrev pub first_packet_of : ℕ → PolicyKind → Result (List (List ℕ)) PacketFault → Result (List ℕ) Exit
+abbrev pub first_packet_of : ℕ → PolicyView → Result (List (List ℕ)) PacketFault
+    → Result (List ℕ) Exit
 first_packet_of a policy (Err fault) = Err (agent_exit a (packet_fault_line fault))
 first_packet_of a policy (Ok []) = Err (agent_exit a no_packet_line)
-first_packet_of a policy (Ok (packet ∷ packets)) = unless_short_of a packet (start_from (base_of a) policy packet)
+first_packet_of a policy (Ok (packet ∷ packets)) =
+    unless_short_of a packet (start_from (base_of a) policy.kind packet)
 
 -- what the read of the packet file of agent a gave
-abbrev pub packet_given : ℕ → PolicyKind → List ℕ → Given → Result (List ℕ) Exit
+abbrev pub packet_given : ℕ → PolicyView → List ℕ → Given → Result (List ℕ) Exit
 packet_given a policy packets (whole bytes) = first_packet_of a policy (decoded_packets bytes)
 packet_given a policy packets missing = Err (missing_exit texts packets)
 packet_given a policy packets too_long = Err (agent_exit a packets_too_long_line)
@@ -190,7 +196,7 @@ packet_given a policy packets failed = Err (read_fault_exit texts packets)
 packet_given a policy packets no_memory = Err no_memory_exit
 
 -- the agent of accepted code with its packet, or what is wrong with that
-abbrev pub member_with : PolicyKind → List Insn → Result (List ℕ) Exit → Result Member Exit
+abbrev pub member_with : PolicyView → List Insn → Result (List ℕ) Exit → Result Member Exit
 member_with policy code (Ok packet) = Ok (record { policy = policy; code = code; packet = packet })
 member_with policy code (Err exit) = Err exit
 
@@ -198,10 +204,12 @@ member_with policy code (Err exit) = Err exit
 -- it is told of the agent; or it is accepted, and PACKETS is read behind it.
 pub data LoadsMember (a : ℕ) (one : LoadView) (events : List Event) (found : Result Member Exit) : Type 0 where
   no_policy : policy_of one.policy ≡ None → events ≡ [] → found ≡ Err (agent_exit a unknown_policy_line) → LoadsMember a one events found
-  no_container : (policy : PolicyKind) (given : Given) (exit : Exit) → policy_of one.policy ≡ Some policy
+  no_container : (policy : PolicyView) (given : Given) (exit : Exit) → policy_of one.policy
+      ≡ Some policy
       → events ≡ was_read one.file MAX_FILE given ∷ [] → IsJudged policy one.file given exit → 0 < exit.status → found ≡ Err (told_of a exit)
       → LoadsMember a one events found
-  has_container : (policy : PolicyKind) (bytes : List ℕ) (it : IsAccepted policy bytes) (given : Given) → policy_of one.policy ≡ Some policy
+  has_container : (policy : PolicyView) (bytes : List ℕ) (it : IsAccepted policy bytes)
+      (given : Given) → policy_of one.policy ≡ Some policy
       → events ≡ was_read one.file MAX_FILE (whole bytes) ∷ was_read one.packets MAX_FILE given ∷ []
       → found ≡ member_with policy it.code (packet_given a policy one.packets given) → LoadsMember a one events found
 
@@ -238,21 +246,26 @@ pub data Hosts (name : List ℕ) (events : List Event) (exit : Exit) : Type 0 wh
 -- ---- by what the arguments are
 
 -- what a command under a policy did that came to an exit
-abbrev pub DoesUnder : PolicyKind → Invocation → List Event → Exit → Type 0
-DoesUnder kind (asm policy input output) events exit =
-    Makes input output MAX_SOURCE (AssemblesTo kind) (StopsWith input (refused source_too_long_line) (assembled_in kind)) events exit
-DoesUnder kind (prove policy input output) events exit =
-    Makes input output MAX_FILE (ProvesTo kind) (StopsWith input (refused container_too_long_line) (proved_in kind)) events exit
-DoesUnder kind (check policy file) events exit = Checks kind file events exit
-DoesUnder kind (run policy file packets steps) events exit = RunsCode kind file packets steps events exit
-DoesUnder kind (ref policy file packets steps) events exit = Refs kind file packets steps events exit
-DoesUnder kind (demo n) events exit = events ≡ []
-DoesUnder kind (host script) events exit = Hosts script events exit
-DoesUnder kind (bpf input output) events exit = Makes input output MAX_PROGRAM_FILE CompilesTo (IsToldOf input) events exit
+abbrev pub DoesUnder : PolicyView → Invocation → List Event → Exit → Type 0
+DoesUnder under (asm policy input output) events exit =
+    Makes input output MAX_SOURCE (AssemblesTo under)
+    (StopsWith input (refused source_too_long_line) (assembled_in under)) events exit
+DoesUnder under (prove policy input output) events exit =
+    Makes input output MAX_FILE (ProvesTo under)
+    (StopsWith input (refused container_too_long_line) (proved_in under)) events exit
+DoesUnder under (check policy file) events exit = Checks under file events exit
+DoesUnder under (run policy file packets steps) events exit =
+    RunsCode under file packets steps events exit
+DoesUnder under (ref policy file packets steps) events exit =
+    Refs under file packets steps events exit
+DoesUnder under (demo n) events exit = events ≡ []
+DoesUnder under (host script) events exit = Hosts script events exit
+DoesUnder under (bpf input output) events exit =
+    Makes input output MAX_PROGRAM_FILE CompilesTo (IsToldOf input) events exit
 
 -- what a command did whose policy was found, or wasn't
-abbrev pub Does : Option PolicyKind → Invocation → List Event → Exit → Type 0
-Does (Some kind) invocation events exit = DoesUnder kind invocation events exit
+abbrev pub Does : Option PolicyView → Invocation → List Event → Exit → Type 0
+Does (Some under) invocation events exit = DoesUnder under invocation events exit
 Does None invocation events exit = (events ≡ []) × (exit ≡ refused unknown_policy_line)
 
 -- A run of a command asked files for these events, behind a log e, and put what the exit says on the output s; or memory ran out
@@ -271,20 +284,23 @@ MeansIfCommand (Some invocation) e e' s t status = Means invocation e e' s t sta
 
 -- A run of the code from the state isn't blocked, and a return satisfies the postcondition; it changes nothing that may not be
 -- stored to, and depends on nothing but the registers and what may be loaded.
-pub record IsSafeRun (policy : PolicyKind) (code : List Insn) (budget : ℕ) (state : State) : Type 0 where
-  pub good : IsGoodEnd (post_of policy) (run_of code budget state)
-  pub changes : ChangesWritable code budget state
-  pub depends : DependsOnReadable code budget state
+pub record IsSafeRun (policy : PolicyView) (code : List Insn) (budget : ℕ) (state : State) : Type 0
+  where
+    pub good : IsGoodEnd policy.post (run_of code budget state)
+    pub changes : ChangesWritable code budget state
+    pub depends : DependsOnReadable code budget state
 
 -- so does every run from a start of the policy
-abbrev pub RunsSafely : PolicyKind → List Insn → Type 0
+abbrev pub RunsSafely : PolicyView → List Insn → Type 0
 RunsSafely policy code =
     (packet : List ℕ) (setup : StartView) (budget : ℕ) → IsBytes packet → length packet ≤ MAX_PACKET → start_of policy packet ≡ Some setup
     → IsSafeRun policy code budget (start_state ARENA setup)
 
--- accepted code runs safely
+-- code that is accepted under a policy, which keeps what each does, runs safely
 abbrev pub AcceptedRunsSafely : Type 0
-AcceptedRunsSafely = (policy : PolicyKind) (bytes : List ℕ) (a : IsAccepted policy bytes) → RunsSafely policy a.code
+AcceptedRunsSafely =
+    (policy : PolicyView) (bytes : List ℕ) → IsPolicy policy → (a : IsAccepted policy bytes)
+    → RunsSafely policy a.code
 
 -- the part of the arena that is agent a's
 abbrev pub agent_part : ℕ → ℕ → Bool
@@ -292,14 +308,17 @@ agent_part = part_from ARENA (8 * QUADWORDS)
 
 -- The rights of agent a at a start lie in its own part of the arena, and no run of its accepted code from there is blocked; so it
 -- changes nothing outside its part, and depends on nothing outside it.
-pub record StaysInPart (a : ℕ) (policy : PolicyKind) (code : List Insn) (budget : ℕ) (setup : StartView) : Type 0 where
+pub record StaysInPart (a : ℕ) (policy : PolicyView) (code : List Insn) (budget : ℕ)
+    (setup : StartView) : Type 0 where
   pub lie : LieIn (agent_part a) (start_state (base_of a) setup).rights
   pub safe : IsSafeRun policy code budget (start_state (base_of a) setup)
 
--- No address is in the parts of two agents, and every agent that a host may have stays in its own; so none changes or learns
--- anything of another's.
+-- No address is in the parts of two agents, and every agent that a host may have, under a policy
+-- that keeps what each does, stays in its own; so none changes or learns anything of another's.
 pub record AgentsStayInParts : Type 0 where
   pub parts : AreApart agent_part
-  pub stays : (policy : PolicyKind) (bytes : List ℕ) (it : IsAccepted policy bytes) (a : ℕ) (packet : List ℕ) (setup : StartView) (budget : ℕ)
-      → a < MAX_AGENTS → IsBytes packet → length packet ≤ MAX_PACKET → start_from (base_of a) policy packet ≡ Some setup
+  pub stays : (policy : PolicyView) (bytes : List ℕ) → IsPolicy policy
+      → (it : IsAccepted policy bytes) (a : ℕ) (packet : List ℕ) (setup : StartView) (budget : ℕ)
+      → a < MAX_AGENTS → IsBytes packet → length packet ≤ MAX_PACKET
+      → start_from (base_of a) policy.kind packet ≡ Some setup
       → StaysInPart a policy it.code budget setup

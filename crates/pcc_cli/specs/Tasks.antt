@@ -1,6 +1,6 @@
 -- What the arguments of pcc ask for.
 use Rattle.std.specs.Prelude.{ℕ, List, [], ◌∷◌, Option, Some, None}
-use Rattle.policy_set.specs.declared.kind.PolicyKind.{PolicyKind}
+use Rattle.policy_set.specs.Views.{PolicyView}
 use Rattle.policy_set.specs.Names.{policy_of}
 use Rattle.pcc_words.specs.Invocations.{Invocation, asm, prove, check, run, ref, demo, host, bpf, command_of}
 use Rattle.pcc_exit.specs.Requests.{Request, Standing, no_command, unknown_policy, command, usage_exit}
@@ -41,7 +41,7 @@ names_of (host script) = None
 names_of (bpf input output) = Some (input ∷ [])
 
 -- what a command on this policy is
-abbrev pub standing_on : Option PolicyKind → Standing
+abbrev pub standing_on : Option PolicyView → Standing
 standing_on None = unknown_policy
 standing_on (Some policy) = command
 

@@ -9,6 +9,7 @@
 
 mod agent_stop;
 mod commands;
+mod refused_line;
 mod report;
 mod stages;
 mod stop;

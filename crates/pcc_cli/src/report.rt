@@ -11,10 +11,11 @@ use pcc_lines::{DemoSummary, print_accepted, print_demo, print_results, print_wr
 use policy_set::PolicyKind;
 use safe_host::HostRunner;
 
-/// What runs packets, and those of a file. All memory that the runs need is reserved.
+/// What runs packets, those of a file, and the kind of the policy that they are run under. All
+/// memory that the runs need is reserved.
 #[derive(Drop)]
 pub struct Job<R> {
-    pub policy: PolicyKind,
+    pub kind: Option<PolicyKind>,
     pub runner: R,
     pub packets: PacketFile,
 }
@@ -22,16 +23,16 @@ pub struct Job<R> {
 impl<R: PacketRunner + Drop> Job<R> {
     /// Runs the packets, and prints the result line of each.
     fn print<S: Sink>(self, out: &mut S) -> Put
-        ensures { Puts (result_lines self.policy (R.results self.runner) 0 self.packets)
+        ensures { Puts (result_lines self.kind (R.results self.runner) 0 self.packets)
             (S.state out.old) (S.state out.new) result }
     {
         let Job {
-            policy,
+            kind,
             runner,
             packets,
         } = self;
         let mut runner = runner;
-        print_results(policy, &mut runner, packets.packets(), out)
+        print_results(kind, &mut runner, packets.packets(), out)
     }
 }
 

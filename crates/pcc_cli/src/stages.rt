@@ -19,10 +19,11 @@ ghost use Rattle.pcc_cli.specs.Stages.Compiling as compiling;
 ghost use Rattle.pcc_cli.specs.Stages.Hosting as hosting;
 ghost use Rattle.agent_script.specs.declared.script.TheConstants.{MAX_SCRIPT};
 ghost use Rattle.agent_script.specs.Scripts.{IsScript, script_view};
-ghost use Rattle.pcc_cli.specs.Inside.Gives.{Gives, GivesPure, IsTooLong, IsOfGate, HasWholeCode, Wrote};
-ghost use Rattle.pcc_cli.specs.Inside.Decisions.{stop_exit};
+ghost use Rattle.pcc_cli.specs.Inside.Gives.{Gives, GivesPure, IsOfGate, HasWholeCode, Wrote};
+ghost use Rattle.pcc_cli.specs.Inside.Decisions.{refused_text};
 ghost use Rattle.pcc_cli.specs.Inside.Shows.{shown_by};
 
+use crate::refused_line::RefusedLine;
 use crate::report::Report;
 use crate::stop::Stop;
 use agent_script::{MAX_SCRIPT, Script, ScriptFault, read_script};
@@ -35,7 +36,7 @@ use file_port::{Files, Got, Put};
 use packet_store::PacketFile;
 use pcc_asm::{AsmFault, assemble};
 use pcc_gate::{Accepted, GateFault, Refusal, gate};
-use policy_set::{Policy, PolicyKind, by_name};
+use policy_set::{Policy, by_name};
 use proof_container::{Container, Malformed, read, write};
 use std::alloc::Global;
 use word_ops::Profile;
@@ -52,7 +53,7 @@ pub fn policy_named<'a>(alloc: Global, name: &str) -> Result<Policy, Stop<'a>>
 {
     match by_name(alloc, name) {
         Ok(Some(policy)) => Ok(policy),
-        Ok(None) => Err(Stop::UnknownPolicy),
+        Ok(None) => Err(Stop::Refused(RefusedLine::UnknownPolicy)),
         Err(_) => Err(Stop::Memory),
     }
 }
@@ -69,12 +70,11 @@ fn bytes_of<'a, F: Files>(
     alloc: Global,
     name: &'a str,
     max: u32,
-    too_long: Stop<'a>,
+    too_long: RefusedLine,
     files: &mut F,
 ) -> Result<Vec<u8>, Stop<'a>>
-    requires { IsTooLong too_long }
     ensures exact { Gives (λ bytes. bytes.items)
-        (reads name.entry.now max (stop_exit too_long.entry) gives)
+        (reads name.entry.now max (common.refused (refused_text too_long)) gives)
         (F.log files.old) (F.log files.new) (F.state files.old) (F.state files.new) result }
     ensures short { IfOk result (λ bytes. length bytes.items ≤ max) }
 {
@@ -84,7 +84,7 @@ fn bytes_of<'a, F: Files>(
             Ok(bytes)
         }
         Got::Missing => Err(Stop::Missing(name)),
-        Got::TooLong => Err(too_long),
+        Got::TooLong => Err(Stop::Refused(too_long)),
         Got::Failed => Err(Stop::ReadFault(name)),
         Got::Memory => Err(Stop::Memory),
     }
@@ -94,23 +94,28 @@ fn bytes_of<'a, F: Files>(
 #[tactic(auto, unfolding(crate::specs::Stages::Containers::container_in))]
 pub fn container_in<'a, 'b>(
     alloc: Global,
-    policy: PolicyKind,
+    policy: &Policy,
     bytes: &'b [u8],
 ) -> Result<Container<'b>, Stop<'a>>
-    ensures exact { GivesPure contents_of (containers.container_in policy bytes.entry.now) result }
+    ensures exact { GivesPure contents_of
+        (containers.container_in policy.now bytes.entry.now) result }
     ensures code { IfOk result (λ container. HasWholeCode container.code.now) }
 {
     match read(alloc, bytes) {
-        Ok(container) if container.policy == policy.number() => Ok(container),
-        Ok(container) => Err(Stop::Refused(Refusal::OtherPolicy(container.policy))),
-        Err(Malformed::At(offset, flaw)) => Err(Stop::Refused(Refusal::Malformed(offset, flaw))),
+        Ok(container) if policy.has_number(container.policy) => Ok(container),
+        Ok(container) => Err(Stop::Refused(RefusedLine::Container(Refusal::OtherPolicy(
+            container.policy,
+        )))),
+        Err(Malformed::At(offset, flaw)) => Err(Stop::Refused(RefusedLine::Container(
+            Refusal::Malformed(offset, flaw),
+        ))),
         Err(Malformed::Memory) => Err(Stop::Memory),
     }
 }
 
 /// The code of the container that the bytes are, where it is for the policy.
-fn code_in<'a>(alloc: Global, policy: PolicyKind, bytes: &[u8]) -> Result<Code, Stop<'a>>
-    ensures { GivesPure (λ code. code) (containers.code_in policy bytes.now) result }
+fn code_in<'a>(alloc: Global, policy: &Policy, bytes: &[u8]) -> Result<Code, Stop<'a>>
+    ensures { GivesPure (λ code. code) (containers.code_in policy.now bytes.now) result }
 {
     let container = match container_in(alloc, policy, bytes) {
         Ok(container) => container,
@@ -118,7 +123,9 @@ fn code_in<'a>(alloc: Global, policy: PolicyKind, bytes: &[u8]) -> Result<Code, 
     };
     match Code::of(alloc, container.code, Profile::One) {
         Ok(code) => Ok(code),
-        Err(CodeFault::At(flaw)) => Err(Stop::Refused(Refusal::BadCode(flaw))),
+        Err(CodeFault::At(flaw)) => Err(Stop::Refused(RefusedLine::Container(Refusal::BadCode(
+            flaw,
+        )))),
         Err(CodeFault::Memory) => Err(Stop::Memory),
     }
 }
@@ -132,7 +139,7 @@ fn judged<'a>(alloc: Global, policy: &Policy, bytes: &[u8]) -> Result<Accepted, 
 {
     match gate(alloc, policy, bytes) {
         Ok(accepted) => Ok(accepted),
-        Err(GateFault::Refused(refusal)) => Err(Stop::Refused(refusal)),
+        Err(GateFault::Refused(refusal)) => Err(Stop::Refused(RefusedLine::Container(refusal))),
         Err(GateFault::Memory | GateFault::Results) => Err(Stop::Memory),
     }
 }
@@ -154,9 +161,11 @@ pub fn proved_in<'a>(alloc: Global, policy: &Policy, bytes: &[u8]) -> Result<Vec
 {
     match prove(alloc, policy, bytes) {
         Ok(container) => Ok(container),
-        Err(ProveFault::Refused(refusal)) => Err(Stop::Refused(refusal)),
-        Err(ProveFault::NotEasy(part)) => Err(Stop::NotEasy(part)),
-        Err(ProveFault::TooBig(measure, number)) => Err(Stop::TooBig(measure, number)),
+        Err(ProveFault::Refused(refusal)) => Err(Stop::Refused(RefusedLine::Container(refusal))),
+        Err(ProveFault::NotEasy(part)) => Err(Stop::Refused(RefusedLine::NotEasy(part))),
+        Err(ProveFault::TooBig(measure, number)) => Err(Stop::Refused(RefusedLine::TooBig(
+            measure, number,
+        ))),
         Err(ProveFault::Memory | ProveFault::Results) => Err(Stop::Memory),
     }
 }
@@ -170,7 +179,7 @@ fn source_in<'a>(alloc: Global, text: &[u8]) -> Result<Source, Stop<'a>>
 {
     match read_source(alloc, text, Profile::One) {
         Ok(source) => Ok(source),
-        Err(LineFault::At(line, flaw)) => Err(Stop::BadLine(line, flaw)),
+        Err(LineFault::At(line, flaw)) => Err(Stop::Refused(RefusedLine::BadLine(line, flaw))),
         Err(LineFault::Memory) => Err(Stop::Memory),
     }
 }
@@ -186,7 +195,7 @@ fn assembled_as<'a>(alloc: Global, policy: &Policy, source: &Source) -> Result<V
             Ok(bytes) => Ok(bytes),
             Err(_) => Err(Stop::Memory),
         },
-        Err(AsmFault::At(flaw)) => Err(Stop::BadSource(flaw)),
+        Err(AsmFault::At(flaw)) => Err(Stop::Refused(RefusedLine::BadSource(flaw))),
         Err(AsmFault::Memory) => Err(Stop::Memory),
     }
 }
@@ -210,7 +219,7 @@ fn packets_in<'a>(bytes: Vec<u8>) -> Result<PacketFile, Stop<'a>>
 {
     match PacketFile::new(bytes) {
         Ok(packets) => Ok(packets),
-        Err(fault) => Err(Stop::BadPackets(fault)),
+        Err(fault) => Err(Stop::Refused(RefusedLine::BadPackets(fault))),
     }
 }
 
@@ -223,17 +232,17 @@ fn container_bytes_of<'a, F: Files>(
     ensures { Gives (λ bytes. bytes.items) (containers.container_bytes_of name.entry.now)
         (F.log files.old) (F.log files.new) (F.state files.old) (F.state files.new) result }
 {
-    bytes_of(alloc, name, MAX_FILE, Stop::ContainerTooLong, files)
+    bytes_of(alloc, name, MAX_FILE, RefusedLine::ContainerTooLong, files)
 }
 
 /// The code of the container in the file of the name, where it is for the policy.
 pub fn code_of<'a, F: Files>(
     alloc: Global,
-    policy: PolicyKind,
+    policy: &Policy,
     name: &'a str,
     files: &mut F,
 ) -> Result<Code, Stop<'a>>
-    ensures { Gives (λ code. code) (containers.code_of policy name.entry.now)
+    ensures { Gives (λ code. code) (containers.code_of policy.now name.entry.now)
         (F.log files.old) (F.log files.new) (F.state files.old) (F.state files.new) result }
 {
     let bytes = container_bytes_of(alloc, name, files)?;
@@ -280,7 +289,7 @@ pub fn packets_of<'a, F: Files>(
     ensures { Gives (λ packets. packets) (packets.packets_of name.entry.now)
         (F.log files.old) (F.log files.new) (F.state files.old) (F.state files.new) result }
 {
-    let bytes = bytes_of(alloc, name, MAX_FILE, Stop::PacketsTooLong, files)?;
+    let bytes = bytes_of(alloc, name, MAX_FILE, RefusedLine::PacketsTooLong, files)?;
     packets_in(bytes)
 }
 
@@ -295,7 +304,13 @@ pub fn assembled_of<'a, F: Files>(
     ensures { Gives (λ bytes. bytes.items) (assembling.assembled_of policy.now name.entry.now)
         (F.log files.old) (F.log files.new) (F.state files.old) (F.state files.new) result }
 {
-    let text = bytes_of(alloc, name, MAX_SOURCE as u32, Stop::SourceTooLong, files)?;
+    let text = bytes_of(
+        alloc,
+        name,
+        MAX_SOURCE as u32,
+        RefusedLine::SourceTooLong,
+        files,
+    )?;
     assembled_in(alloc, policy, &text)
 }
 
@@ -307,7 +322,7 @@ fn program_in<'a>(alloc: Global, bytes: &[u8]) -> Result<Vec<Bpf>, Stop<'a>>
 {
     match read_bpf(alloc, bytes) {
         Ok(program) => Ok(program),
-        Err(BpfFault::At(flaw)) => Err(Stop::BadProgram(flaw)),
+        Err(BpfFault::At(flaw)) => Err(Stop::Refused(RefusedLine::BadProgram(flaw))),
         Err(BpfFault::Memory) => Err(Stop::Memory),
     }
 }
@@ -344,7 +359,13 @@ pub fn compiled_of<'a, F: Files>(
     ensures { Gives (λ bytes. bytes.items) (compiling.compiled_of name.entry.now)
         (F.log files.old) (F.log files.new) (F.state files.old) (F.state files.new) result }
 {
-    let bytes = bytes_of(alloc, name, MAX_PROGRAM_FILE, Stop::ProgramTooLong, files)?;
+    let bytes = bytes_of(
+        alloc,
+        name,
+        MAX_PROGRAM_FILE,
+        RefusedLine::ProgramTooLong,
+        files,
+    )?;
     compiled_in(alloc, &bytes)
 }
 
@@ -357,7 +378,7 @@ fn script_in<'a>(alloc: Global, text: &[u8]) -> Result<Script, Stop<'a>>
 {
     match read_script(alloc, text) {
         Ok(script) => Ok(script),
-        Err(ScriptFault::At(line, flaw)) => Err(Stop::BadScript(line, flaw)),
+        Err(ScriptFault::At(line, flaw)) => Err(Stop::Refused(RefusedLine::BadScript(line, flaw))),
         Err(ScriptFault::Memory) => Err(Stop::Memory),
     }
 }
@@ -372,7 +393,13 @@ pub fn script_of<'a, F: Files>(
         (F.log files.old) (F.log files.new) (F.state files.old) (F.state files.new) result }
     ensures script { IfOk result (λ script. IsScript (script_view script)) }
 {
-    let text = bytes_of(alloc, name, MAX_SCRIPT as u32, Stop::ScriptTooLong, files)?;
+    let text = bytes_of(
+        alloc,
+        name,
+        MAX_SCRIPT as u32,
+        RefusedLine::ScriptTooLong,
+        files,
+    )?;
     script_in(alloc, &text)
 }
 

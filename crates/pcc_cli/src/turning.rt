@@ -45,6 +45,6 @@ pub fn make_turn<S: Sink>(host: &mut AgentHost, number: u64, turn: Turn, out: &m
 {
     let turned = host.turn(turn.agent, turn.budget);
     let sum = host.sum(turn.agent);
-    let policy = host.accepted(turn.agent).policy().kind();
-    print_turn(policy, number, turn.agent, turned.outcome(), sum, out)
+    let kind = host.accepted(turn.agent).policy().kind();
+    print_turn(kind, number, turn.agent, turned.outcome(), sum, out)
 }

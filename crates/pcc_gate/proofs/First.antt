@@ -3,7 +3,7 @@ use Rattle.std.proofs.Common.{◌≡◌, ℕ, ◌⊎◌, inl, inr, ◌↔◌, Bo
 use Rattle.std.proofs.lemmas.Bool.{cases_Bool, cases_lt, cond-true, cond-false, false≢true}
 use Rattle.std.proofs.lemmas.Option.{same_Some, none-some}
 use Rattle.alpha_words.specs.declared.insn.Insn.{Insn}
-use Rattle.policy_set.specs.declared.kind.PolicyKind.{PolicyKind}
+use Rattle.policy_set.specs.Views.{PolicyView}
 use Rattle.term_table.specs.Tree.{Tree}
 use Rattle.term_table.specs.Measures.{weight_of, sigma1_places, capped}
 use Rattle.lf_signature.specs.Constants.{declared}
@@ -58,13 +58,15 @@ formulas-first (p ∷ ps) h =
     All-cons (λ (q : ℕ × Form). Uses IsFirstOp q.1) (p.0, formula_of p.1) (formulas ps)
     (uses-more (HasOp (declared Sigma1)) IsFirstOp declared-first (formula_of p.1) used) (formulas-first ps h.1)
 
-pub vc_of-encodes : (policy : PolicyKind) (code : List Insn) (ps : List (ℕ × Tree)) → AreForms ps → EncodesCondition policy code ps (vc_of policy code ps)
+pub vc_of-encodes : (policy : PolicyView) (code : List Insn) (ps : List (ℕ × Tree)) → AreForms ps
+    → EncodesCondition policy code ps (vc_of policy code ps)
 vc_of-encodes policy code ps h = record { formulas = formulas ps; encoded = formulas-encoded ps h; is = refl }
 
 -- ---- whether it is proved
 
 -- a condition's term is that of the first refusal
-pub condition-one : (policy : PolicyKind) (code : List Insn) (ps : List (ℕ × Tree)) (vc : Tree) → AreForms ps → EncodesCondition policy code ps vc → vc ≡ vc_of policy code ps
+pub condition-one : (policy : PolicyView) (code : List Insn) (ps : List (ℕ × Tree)) (vc : Tree)
+    → AreForms ps → EncodesCondition policy code ps vc → vc ≡ vc_of policy code ps
 condition-one policy code ps vc h e = encoding-unique policy code ps vc (vc_of policy code ps) e (vc_of-encodes policy code ps h)
 
 -- whether it proves it, by an answer to words
@@ -78,7 +80,8 @@ proves-false proof vc h = not-true (proves proof vc) (λ e. h (checks_follows (d
     not-true true n = absurd (n refl)
     not-true false n = refl
 
-module _ (policy : PolicyKind) (code : List Insn) (ps : List (ℕ × Tree)) (proof vc : Tree) (h : AreForms ps) (e : EncodesCondition policy code ps vc) where
+module _ (policy : PolicyView) (code : List Insn) (ps : List (ℕ × Tree)) (proof vc : Tree)
+    (h : AreForms ps) (e : EncodesCondition policy code ps vc) where
   pub judged-true : Checks (declared Sigma1) [] proof (pf vc) → proves proof (vc_of policy code ps) ≡ true
   judged-true k = subst (λ x. proves proof x ≡ true) (condition-one policy code ps vc h e) (proves-true proof vc k)
 
@@ -87,10 +90,11 @@ module _ (policy : PolicyKind) (code : List Insn) (ps : List (ℕ × Tree)) (pro
 
 -- ---- clauses 9 to 11
 
-abbrev at_proof : PolicyKind → Contents → List Insn → Option Refusal
+abbrev at_proof : PolicyView → Contents → List Insn → Option Refusal
 at_proof policy c code = first_proof (vc_of policy code c.invs) c.proof
 
-module _ (policy : PolicyKind) (bytes : List ℕ) (c : Contents) (code : List Insn) (flags : List Bool) (proof : Tree) where
+module _ (policy : PolicyView) (bytes : List ℕ) (c : Contents) (code : List Insn)
+    (flags : List Bool) (proof : Tree) where
   -- a proof that isn't too heavy is tried
   light_tried : HasLightProof policy bytes c code flags proof →
       first_front policy bytes (at_proof policy) ≡ cond (proves proof (vc_of policy code c.invs)) None (told refusal.NotProof)
@@ -116,7 +120,8 @@ module _ (policy : PolicyKind) (bytes : List ℕ) (c : Contents) (code : List In
       light_tried h
       ∙ cond-false (proves proof vc) None (told refusal.NotProof) (judged-false policy code c.invs proof p.vc h.before.passes.forms p.condition p.unproved)
 
-whole_finds : (policy : PolicyKind) (bytes : List ℕ) (r : Refusal) → IsFirstRefusal policy bytes r → first_front policy bytes (at_proof policy) ≡ Some r
+whole_finds : (policy : PolicyView) (bytes : List ℕ) (r : Refusal) → IsFirstRefusal policy bytes r
+    → first_front policy bytes (at_proof policy) ≡ Some r
 whole_finds policy bytes (refusal.TooLong n) h = front_finds policy bytes (at_proof policy) (refusal.TooLong n) h tt
 whole_finds policy bytes (refusal.Malformed at flaw) h = front_finds policy bytes (at_proof policy) (refusal.Malformed at flaw) h tt
 whole_finds policy bytes (refusal.OtherPolicy n) h = front_finds policy bytes (at_proof policy) (refusal.OtherPolicy n) h tt
@@ -131,10 +136,10 @@ whole_finds policy bytes refusal.NotProof h = unproved_found policy bytes h.0 h.
 
 -- ---- they hold, or one is the first that fails
 
-abbrev Outcome : PolicyKind → List ℕ → Type 0
+abbrev Outcome : PolicyView → List ℕ → Type 0
 Outcome policy bytes = IsAccepted policy bytes ⊎ ((r : Refusal) × IsFirstRefusal policy bytes r)
 
-module _ (policy : PolicyKind) (bytes : List ℕ) where
+module _ (policy : PolicyView) (bytes : List ℕ) where
   module _ (c : Contents) (code : List Insn) (flags : List Bool) where
     from_eleventh : (proof : Tree) → HasLightProof policy bytes c code flags proof → Outcome policy bytes
     from_eleventh proof h =
@@ -178,7 +183,8 @@ module _ (policy : PolicyKind) (bytes : List ℕ) where
 
 -- ---- the eleven clauses
 
-pub accepted-none : (policy : PolicyKind) (bytes : List ℕ) → IsAccepted policy bytes → first_refusal policy bytes ≡ None
+pub accepted-none : (policy : PolicyView) (bytes : List ℕ) → IsAccepted policy bytes
+    → first_refusal policy bytes ≡ None
 unfolding first_refusal
 accepted-none policy bytes h =
     let a : Accepts policy bytes h.contents h.code h.marks = h.accepts in
@@ -188,18 +194,21 @@ accepted-none policy bytes h =
     let right : b ≡ true = judged-true policy h.code invs a.proof a.vc a.passes.forms a.condition a.proved in
     light_tried policy bytes h.contents h.code h.marks a.proof (record { before = given; weight = a.weight }) ∙ cond-true b None (told refusal.NotProof) right
 
-refusal-some : (policy : PolicyKind) (bytes : List ℕ) (r : Refusal) → IsFirstRefusal policy bytes r → first_refusal policy bytes ≡ Some r
+refusal-some : (policy : PolicyView) (bytes : List ℕ) (r : Refusal) → IsFirstRefusal policy bytes r
+    → first_refusal policy bytes ≡ Some r
 unfolding first_refusal
 refusal-some policy bytes r h = whole_finds policy bytes r h
 
-pub none-accepted : (policy : PolicyKind) (bytes : List ℕ) → IsBytes bytes → first_refusal policy bytes ≡ None → IsAccepted policy bytes
+pub none-accepted : (policy : PolicyView) (bytes : List ℕ) → IsBytes bytes
+    → first_refusal policy bytes ≡ None → IsAccepted policy bytes
 none-accepted policy bytes fits e = elim (whole_decided policy bytes fits) [
   | inl a ↦ a
   | inr k ↦ absurd (none-some k.0 (sym e ∙ refusal-some policy bytes k.0 k.1))
 ]
 
 -- the refusal is the first by the relation
-pub refusal-is : (policy : PolicyKind) (bytes : List ℕ) (r : Refusal) → IsBytes bytes → (first_refusal policy bytes ≡ Some r) ↔ IsFirstRefusal policy bytes r
+pub refusal-is : (policy : PolicyView) (bytes : List ℕ) (r : Refusal) → IsBytes bytes
+    → (first_refusal policy bytes ≡ Some r) ↔ IsFirstRefusal policy bytes r
 refusal-is policy bytes r fits = (only, refusal-some policy bytes r)
   where
     only : first_refusal policy bytes ≡ Some r → IsFirstRefusal policy bytes r

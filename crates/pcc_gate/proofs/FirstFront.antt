@@ -1,7 +1,7 @@
 -- Clauses 1 to 8 hold, or the refusal by one of them is the first: the tests find which.
-use Rattle.std.proofs.Common.{◌≡◌, ℕ, zero, suc, ◌+◌, ◌/◌, ◌<◌, ◌≤◌, ◌⊎◌, inl, inr, ◌↔◌, Bool, true, eqb, eq-eqb, ne_eqb, List, [], ◌∷◌, map, length, get_or}
+use Rattle.std.proofs.Common.{◌≡◌, ℕ, zero, suc, ◌+◌, ◌/◌, ◌<◌, ◌≤◌, ◌⊎◌, inl, inr, ◌↔◌, Bool, List, [], ◌∷◌, map, length, get_or}
 use Rattle.std.proofs.Common.{slice_index, Option, Some, None, Result, Ok, Err, refl, sym, ◌∙◌, ap, subst, arith}
-use Rattle.std.proofs.lemmas.Bool.{cases_lt, cases_eq, cond-true, cond-false}
+use Rattle.std.proofs.lemmas.Bool.{cases_Bool, cases_lt, cond-true, cond-false}
 use Rattle.std.proofs.lemmas.Option.{same_Some, none-some}
 use Rattle.alpha_words.specs.declared.insn.Insn.{Insn}
 use Rattle.alpha_cfg.specs.declared.fault.CodeFault.TheVariants as fault
@@ -11,8 +11,9 @@ use Rattle.alpha_cfg.specs.Cuts.{AreFlags, unfolded_of}
 use Rattle.alpha_cfg.specs.Deciding.{flags_of, uncut_of}
 use Rattle.alpha_cfg.proofs.Readings.{decoded_code-ok, IsDecoded-IsCodeAnswer}
 use Rattle.alpha_cfg.proofs.Deciding.{flags_are, flags_only, uncut_some, uncut_none, cut_none, uncut_is}
-use Rattle.policy_set.specs.declared.kind.PolicyKind.{PolicyKind}
-use Rattle.policy_set.specs.Names.{policy_number}
+use Rattle.policy_set.specs.Views.{PolicyView}
+use Rattle.policy_set.specs.Names.{is_number_of}
+use Rattle.policy_set.proofs.Numbers.{number-true, number-is, number-not, number-false}
 use Rattle.term_table.specs.Tree.{Tree}
 use Rattle.term_table.specs.Measures.{capped}
 use Rattle.proof_container.specs.Contents.{Contents, roots}
@@ -34,7 +35,8 @@ use Rattle.word_ops.specs.declared.Profile.TheVariants.{One}
 
 -- ---- clauses 1 to 8 by the clauses up to each
 
-module _ (policy : PolicyKind) (bytes : List ℕ) (c : Contents) (code : List Insn) (flags : List Bool) where
+module _ (policy : PolicyView) (bytes : List ℕ) (c : Contents) (code : List Insn)
+    (flags : List Bool) where
   pub passes-cut : Passes policy bytes c code flags → HasCut policy bytes c code flags
   passes-cut p =
       let third : IsForPolicy policy bytes c = record { held = record { size = p.size; container = p.container }; number = p.number } in
@@ -94,7 +96,7 @@ from_cut code flags next = refused_by refusal.Uncut (uncut_of code flags) (first
 abbrev from_forms : Contents → List Insn → Option Refusal → Option Refusal
 from_forms c code next = refused_by refusal.InvNotForm (formless 0 c.invs) (from_cut code (marks_of c code) next)
 
-module _ (policy : PolicyKind) (bytes : List ℕ) (next : Contents → List Insn → Option Refusal) where
+module _ (policy : PolicyView) (bytes : List ℕ) (next : Contents → List Insn → Option Refusal) where
   after_size : length bytes ≤ MAX_BYTES → first_front policy bytes next ≡ first_read policy (decoded_container bytes) next
   after_size h = within MAX_BYTES (length bytes) (told (refusal.TooLong (length bytes))) (first_read policy (decoded_container bytes) next) h
 
@@ -103,9 +105,9 @@ module _ (policy : PolicyKind) (bytes : List ℕ) (next : Contents → List Insn
 
   pub after_policy : (c : Contents) → IsForPolicy policy bytes c → first_front policy bytes next ≡ first_code c (decoded_code One c.code) (next c)
   after_policy c h =
-      let number : ℕ = policy_number policy in
-      let same : eqb c.policy number ≡ true = eq-eqb c.policy number h.number in
-      after_contents c h.held ∙ cond-true (eqb c.policy number) (first_code c (decoded_code One c.code) (next c)) (told (refusal.OtherPolicy c.policy)) same
+      after_contents c h.held ∙ cond-true (is_number_of policy c.policy)
+      (first_code c (decoded_code One c.code) (next c)) (told (refusal.OtherPolicy c.policy))
+      (number-true policy c.policy h.number)
 
   module _ (c : Contents) (code : List Insn) where
     after_code : HasCode policy bytes c code → first_front policy bytes next ≡ first_shape c code (next c code)
@@ -147,9 +149,10 @@ module _ (policy : PolicyKind) (bytes : List ℕ) (next : Contents → List Insn
   front_finds (refusal.Malformed at flaw) h b = after_size h.size ∙ ap (λ r. first_read policy r next) h.fault
   front_finds (refusal.OtherPolicy n) h b =
       let c : Contents = h.0 in
-      let number : ℕ = policy_number policy in
       after_contents c h.1
-      ∙ cond-false (eqb c.policy number) (first_code c (decoded_code One c.code) (next c)) (told (refusal.OtherPolicy c.policy)) (ne_eqb c.policy number h.2)
+      ∙ cond-false (is_number_of policy c.policy) (first_code c (decoded_code One c.code) (next c))
+      (told (refusal.OtherPolicy c.policy))
+      (number-false policy c.policy h.2)
       ∙ ap (λ k. told (refusal.OtherPolicy k)) (sym h.3)
   front_finds (refusal.BadCode flaw) h b =
       let c : Contents = h.0 in
@@ -177,15 +180,15 @@ module _ (policy : PolicyKind) (bytes : List ℕ) (next : Contents → List Insn
 -- ---- they hold, or one is the first that fails
 
 -- the first clause that fails is one of 1 to 8
-pub record IsRefusedBefore (policy : PolicyKind) (bytes : List ℕ) : Type 0 where
+pub record IsRefusedBefore (policy : PolicyView) (bytes : List ℕ) : Type 0 where
   pub why : Refusal
   pub first : IsFirstRefusal policy bytes why
   pub before : IsBeforeProof why
 
-abbrev Outcome : PolicyKind → List ℕ → Type 0
+abbrev Outcome : PolicyView → List ℕ → Type 0
 Outcome policy bytes = HasPassed policy bytes ⊎ IsRefusedBefore policy bytes
 
-module _ (policy : PolicyKind) (bytes : List ℕ) where
+module _ (policy : PolicyView) (bytes : List ℕ) where
   module _ (c : Contents) (code : List Insn) where
     from_eighth : (flags : List Bool) → HasCut policy bytes c code flags → Outcome policy bytes
     from_eighth flags h =
@@ -229,9 +232,13 @@ module _ (policy : PolicyKind) (bytes : List ℕ) where
 
   from_third : (c : Contents) → HasContents bytes c → Outcome policy bytes
   from_third c h =
-      elim (cases_eq c.policy (policy_number policy)) [
-        | inl same ↦ from_fourth c (record { held = h; number = same })
-        | inr other ↦ inr (record { why = refusal.OtherPolicy c.policy; first = (c, h, other, refl); before = tt })
+      elim (cases_Bool (is_number_of policy c.policy)) [
+        | inl same ↦ from_fourth c (record { held = h; number = number-is policy c.policy same })
+        | inr other ↦ inr (record {
+          why = refusal.OtherPolicy c.policy;
+          first = (c, h, number-not policy c.policy other, refl);
+          before = tt;
+        })
       ]
 
   from_second : IsBytes bytes → length bytes ≤ MAX_BYTES → (r : Result Contents Fault) → decoded_container bytes ≡ r → Outcome policy bytes
@@ -248,22 +255,25 @@ module _ (policy : PolicyKind) (bytes : List ℕ) where
 
 -- ---- clauses 1 to 8
 
-pub passed-none : (policy : PolicyKind) (bytes : List ℕ) → HasPassed policy bytes → front_refusal policy bytes ≡ None
+pub passed-none : (policy : PolicyView) (bytes : List ℕ) → HasPassed policy bytes
+    → front_refusal policy bytes ≡ None
 unfolding front_refusal
 passed-none policy bytes h = after_all policy bytes (λ c code. None) h.contents h.code h.marks h.passes
 
-before-some : (policy : PolicyKind) (bytes : List ℕ) (r : Refusal) → IsFirstRefusal policy bytes r → IsBeforeProof r → front_refusal policy bytes ≡ Some r
+before-some : (policy : PolicyView) (bytes : List ℕ) (r : Refusal) → IsFirstRefusal policy bytes r
+    → IsBeforeProof r → front_refusal policy bytes ≡ Some r
 unfolding front_refusal
 before-some policy bytes r h b = front_finds policy bytes (λ c code. None) r h b
 
-pub none-passed : (policy : PolicyKind) (bytes : List ℕ) → IsBytes bytes → front_refusal policy bytes ≡ None → HasPassed policy bytes
+pub none-passed : (policy : PolicyView) (bytes : List ℕ) → IsBytes bytes
+    → front_refusal policy bytes ≡ None → HasPassed policy bytes
 none-passed policy bytes fits e = elim (front_decided policy bytes fits) [
   | inl h ↦ h
   | inr k ↦ absurd (none-some k.why (sym e ∙ before-some policy bytes k.why k.first k.before))
 ]
 
 -- the refusal by one of them is the first by the relation
-pub before-is : (policy : PolicyKind) (bytes : List ℕ) (r : Refusal) → IsBytes bytes →
+pub before-is : (policy : PolicyView) (bytes : List ℕ) (r : Refusal) → IsBytes bytes →
     (front_refusal policy bytes ≡ Some r) ↔ (IsFirstRefusal policy bytes r × IsBeforeProof r)
 before-is policy bytes r fits = (only, λ h. before-some policy bytes r h.0 h.1)
   where
@@ -276,7 +286,9 @@ before-is policy bytes r fits = (only, λ h. before-some policy bytes r h.0 h.1)
     ]
 
 -- what bytes hold is one
-pub passed-one : (policy : PolicyKind) (bytes : List ℕ) (c d : Contents) (code other : List Insn) (marks flags : List Bool) → Passes policy bytes c code marks → Passes policy bytes d other flags → (c ≡ d) × (code ≡ other) × (marks ≡ flags)
+pub passed-one : (policy : PolicyView) (bytes : List ℕ) (c d : Contents) (code other : List Insn)
+    (marks flags : List Bool) → Passes policy bytes c code marks → Passes policy bytes d other flags
+    → (c ≡ d) × (code ≡ other) × (marks ≡ flags)
 passed-one policy bytes c d code other marks flags p q =
     let e : c ≡ d = one_content bytes c d p.container q.container in
     let k : code ≡ other = code-one c.code d.code code other (ap (λ (z : Contents). z.code) e) p.encoded p.code q.encoded q.code in

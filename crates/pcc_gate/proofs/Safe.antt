@@ -5,8 +5,7 @@ use Rattle.alpha_words.specs.declared.insn.Insn.{Insn}
 use Rattle.formula_tree.specs.Formulas.{Form}
 use Rattle.formula_tree.specs.Truth.{IsValid}
 use Rattle.formula_tree.specs.Scope.{IsOver}
-use Rattle.policy_set.specs.declared.kind.PolicyKind.{PolicyKind}
-use Rattle.policy_set.specs.Policies.{pre_of, post_of}
+use Rattle.policy_set.specs.Views.{PolicyView, IsPolicy}
 use Rattle.term_table.specs.Tree.{Tree, Const}
 use Rattle.lf_signature.specs.Constants.{declared}
 use Rattle.lf_signature.specs.Terms.{pf}
@@ -37,24 +36,32 @@ formulas-over (p ∷ ps) (q ∷ qs) f = All-cons (λ (q : ℕ × Form). IsOver 3
 pub first-sound : ((sig : Const → Option Tree) → IsSignature sig → AreGivenTypes sig → IsSoundSignature sig) → IsSoundSignature (declared Sigma1)
 first-sound sound = sound (declared Sigma1) (declared_formed Sigma1) (λ k a e. listed ((declared_known Sigma1).within k a e))
 
-pub accepted-safe : IsSoundSignature (declared Sigma1) → (policy : PolicyKind) (bytes : List ℕ) (contents : Contents) (code : List Insn) (marks : List Bool) → Accepts policy bytes contents code marks → IsSafe code (pre_of policy) (post_of policy)
-accepted-safe sound policy bytes contents code marks a =
+pub accepted-safe : IsSoundSignature (declared Sigma1)
+    → (policy : PolicyView) (bytes : List ℕ) (contents : Contents) (code : List Insn)
+    (marks : List Bool) → IsPolicy policy → Accepts policy bytes contents code marks
+    → IsSafe code policy.pre policy.post
+accepted-safe sound policy bytes contents code marks kept a =
     let p = a.passes in
     let e = a.condition in
     let fs : List (ℕ × Form) = e.formulas in
-    let is : IsAnnotated (annotated policy code fs) = encoded-annotates policy code contents.invs fs marks e.encoded p.code p.annotated p.cut in
+    let is : IsAnnotated (annotated policy code fs) =
+    encoded-annotates policy code contents.invs fs marks kept e.encoded p.code p.annotated p.cut in
     let over : IsOver 0 (condition (annotated policy code fs)) [] = condition-closed (annotated policy code fs) is refl (formulas-over contents.invs fs e.encoded) in
     let proved : Checks (declared Sigma1) [] a.proof (pf (form_encoding (condition (annotated policy code fs)))) = subst (λ t. Checks (declared Sigma1) [] a.proof (pf t)) (sym e.is) a.proved in
-    policy-safe policy code contents.invs fs marks e.encoded p.code p.annotated p.cut (sound (condition (annotated policy code fs)) a.proof over proved)
+    policy-safe policy code contents.invs fs marks kept e.encoded p.code p.annotated p.cut
+    (sound (condition (annotated policy code fs)) a.proof over proved)
 
 -- The condition of any formulas that the invariants encode is true in every structure.
-pub accepted-valid : IsSoundSignature (declared Sigma1) → (policy : PolicyKind) (bytes : List ℕ) (contents : Contents) (code : List Insn) (marks : List Bool) → Accepts policy bytes contents code marks →
+pub accepted-valid : IsSoundSignature (declared Sigma1)
+    → (policy : PolicyView) (bytes : List ℕ) (contents : Contents) (code : List Insn)
+    (marks : List Bool) → IsPolicy policy → Accepts policy bytes contents code marks →
     (fs : List (ℕ × Form)) → AreEncodings contents.invs fs → IsValid (condition (annotated policy code fs))
-accepted-valid sound policy bytes contents code marks a fs enc =
+accepted-valid sound policy bytes contents code marks kept a fs enc =
     let p = a.passes in
     let f : Form = condition (annotated policy code fs) in
     let mine : EncodesCondition policy code contents.invs (form_encoding f) = record { formulas = fs; encoded = enc; is = refl } in
     let same : a.vc ≡ form_encoding f = encoding-unique policy code contents.invs a.vc (form_encoding f) a.condition mine in
-    let is : IsAnnotated (annotated policy code fs) = encoded-annotates policy code contents.invs fs marks enc p.code p.annotated p.cut in
+    let is : IsAnnotated (annotated policy code fs) =
+    encoded-annotates policy code contents.invs fs marks kept enc p.code p.annotated p.cut in
     let over : IsOver 0 f [] = condition-closed (annotated policy code fs) is refl (formulas-over contents.invs fs enc) in
     sound f a.proof over (subst (λ t. Checks (declared Sigma1) [] a.proof (pf t)) same a.proved)

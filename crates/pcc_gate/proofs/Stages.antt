@@ -21,7 +21,7 @@ use Rattle.pcc_gate.specs.declared.limits.TheConstants.{MAX_WEIGHT}
 use Rattle.pcc_gate.specs.Accepted.{Accepts}
 use Rattle.pcc_gate.specs.Inside.Acceptance.{IsProofAnswer, IsProved}
 use Rattle.pcc_gate.proofs.First.{vc_of-encodes}
-use Rattle.policy_set.specs.declared.kind.PolicyKind.{PolicyKind}
+use Rattle.policy_set.specs.Views.{PolicyView, IsPolicy}
 use Rattle.proof_container.specs.Contents.{Contents, roots}
 use Rattle.proof_container.specs.Views.{contents_of}
 use Rattle.pcc_gate.specs.declared.fault.GateFault.{GateFault}
@@ -40,7 +40,7 @@ use Rattle.pcc_gate.proofs.Refusing.{refuses-into}
 use Rattle.lf_signature.specs.declared.WordSignature.TheVariants.{Sigma1}
 use Rattle.word_ops.specs.declared.Profile.TheVariants.{One}
 
-module _ (policy : PolicyKind) (bytes : List ℕ) where
+module _ (policy : PolicyView) (bytes : List ℕ) where
   read-first : (c : Contents) → IsRead policy bytes c → (next : Contents → List Insn → Option Refusal) →
       first_front policy bytes next ≡ first_code c (decoded_code One c.code) (next c)
   read-first c r next = after_policy policy bytes next c (record { held = record { size = r.size; container = r.encoded }; number = r.number })
@@ -70,19 +70,22 @@ pub code-refuses : (c : Contents) (code : List Insn) → decoded_code One c.code
 code-refuses c code h e k = refuses-into (first_code c (decoded_code One c.code)) (first_shape c code) (λ next. next code) (λ next. ap (λ r. first_code c r next) h) e k
 
 -- the container that passed
-pub front-held : (policy : PolicyKind) (bytes : List ℕ) (a : Result Passed GateFault) → IsPassedAnswer policy bytes a → IfOk a (λ p. IsHeld p.container)
+pub front-held : (policy : PolicyView) (bytes : List ℕ) (a : Result Passed GateFault)
+    → IsPassedAnswer policy bytes a → IfOk a (λ p. IsHeld p.container)
 front-held policy bytes (Ok p) k = k.1
 front-held policy bytes (Err e) k = tt
 
 -- the front's refusal
-pub front-answer : (policy : PolicyKind) (bytes : List ℕ) (a : Result Passed GateFault) → IsPassedAnswer policy bytes a → IsFrontAnswer policy bytes a
+pub front-answer : (policy : PolicyView) (bytes : List ℕ) (a : Result Passed GateFault)
+    → IsPassedAnswer policy bytes a → IsFrontAnswer policy bytes a
 unfolding front_refusal
 front-answer policy bytes (Ok p) k = (k.0, front-none policy bytes (λ c code. None) (contents_of p.container) p.cut.code p.cut.marks k.0 refl)
 front-answer policy bytes (Err (fault.Refused r)) k = k (λ c code. None)
 front-answer policy bytes (Err fault.Memory) k = k
 front-answer policy bytes (Err fault.Results) k = k
 
-module _ (policy : PolicyKind) (bytes : List ℕ) (c : Contents) (code : List Insn) (marks : List Bool) (p : Passes policy bytes c code marks) where
+module _ (policy : PolicyView) (bytes : List ℕ) (c : Contents) (code : List Insn)
+    (marks : List Bool) (p : Passes policy bytes c code marks) where
   -- what passes clauses 1 to 8 goes on
   front-next : (next : Contents → List Insn → Option Refusal) → first_front policy bytes next ≡ next c code
   front-next next = after_all policy bytes next c code marks p
@@ -125,7 +128,8 @@ module _ (policy : PolicyKind) (bytes : List ℕ) (c : Contents) (code : List In
     }
 
 -- what is refused by clauses 1 to 8 is refused by the gate
-pub front-refused : (policy : PolicyKind) (bytes : List ℕ) (e : GateFault) → RefusesBytes policy bytes e → IsGateAnswer policy bytes (Err e)
+pub front-refused : (policy : PolicyView) (bytes : List ℕ) (e : GateFault)
+    → RefusesBytes policy bytes e → IsGateAnswer policy bytes (Err e)
 unfolding first_refusal
 front-refused policy bytes (fault.Refused r) h = h (λ c code. first_proof (vc_of policy code c.invs) c.proof)
 front-refused policy bytes fault.Memory h = h
@@ -139,15 +143,21 @@ low-invs t (p ∷ ps) more k l =
     (k.0, All-head (λ x. height_of x ≤ MAX_HEIGHT) (tree_at t p.1) rest l, low-invs t ps more k.1 (All-tail (λ x. height_of x ≤ MAX_HEIGHT) (tree_at t p.1) rest l))
 
 -- accepted code is safe, and its condition true, also over a later table
-pub proved-by : IsSoundSignature (declared Sigma1) → (policy : PolicyKind) (bytes : List ℕ) (c : Contents) (cut : CutView) (t u : TableView) (ps : List (ℕ × ℕ)) → Extends t u → AllByRecursion (λ (inv : ℕ × ℕ). IsKnown t inv.1) ps → c.invs ≡ id_trees t ps → Accepts policy bytes c cut.code cut.marks → IsProved policy cut u ps
-proved-by sound policy bytes c cut t u ps grown known is a =
+pub proved-by : IsSoundSignature (declared Sigma1) → (policy : PolicyView) → IsPolicy policy
+    → (bytes : List ℕ) (c : Contents) (cut : CutView) (t u : TableView) (ps : List (ℕ × ℕ))
+    → Extends t u → AllByRecursion (λ (inv : ℕ × ℕ). IsKnown t inv.1) ps → c.invs ≡ id_trees t ps
+    → Accepts policy bytes c cut.code cut.marks → IsProved policy cut u ps
+proved-by sound policy kept bytes c cut t u ps grown known is a =
     let same : c.invs ≡ id_trees u ps = is ∙ trees-same t u ps grown known in
     record {
+      policy_is = kept;
       code = a.passes.code;
       flags = subst (λ (l : List (ℕ × Tree)). AreFlags (map (λ p. p.0) l) (length cut.code) cut.marks) same a.passes.annotated;
       cuts = a.passes.cut;
       known = known-more t u ps grown known;
       forms = subst (λ l. AreForms l) same a.passes.forms;
-      safe = accepted-safe sound policy bytes c cut.code cut.marks a;
-      valid = λ fs enc. accepted-valid sound policy bytes c cut.code cut.marks a fs (subst (λ l. AreEncodings l fs) (sym same) enc);
+      safe = accepted-safe sound policy bytes c cut.code cut.marks kept a;
+      valid =
+          λ fs enc. accepted-valid sound policy bytes c cut.code cut.marks kept a fs
+          (subst (λ l. AreEncodings l fs) (sym same) enc);
     }

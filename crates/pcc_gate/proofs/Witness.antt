@@ -25,6 +25,7 @@ use Rattle.lf_signature.specs.Terms.{form, pf}
 use Rattle.lf_signature.specs.Decide.{checks_of}
 use Rattle.lf_signature.specs.Laws.Decided.{checks_follows}
 use Rattle.policy_set.specs.declared.kind.PolicyKind.TheVariants.{Tag}
+use Rattle.policy_set.specs.Views.{built_in}
 use Rattle.proof_container.specs.Contents.{Contents, roots}
 use Rattle.term_table.specs.Bytes.{IsBytes}
 use Rattle.proof_container.specs.Encoding.{IsContents, IsEntryTerm, AreTerms, encoding_of}
@@ -357,7 +358,8 @@ forms = (checks_follows (declared Sigma1) inv_term (sort_types machine_context) 
 abbrev said : Form
 said = FAnd (closed entry_part) (FAnd (closed loop_part) FTrue)
 
-is_said : form_encoding (condition (annotated Tag loop_code ((2, invariant) ∷ []))) ≡ form_encoding said
+is_said : form_encoding (condition (annotated (built_in Tag) loop_code ((2, invariant) ∷ [])))
+    ≡ form_encoding said
 unfolding machine_names unchanged
 is_said = refl
 
@@ -383,7 +385,7 @@ loop_is_accepted = record {
     passes = record {
       size = size;
       container = record { contents = is_contents; encoded = refl };
-      number = refl;
+      number = (Tag, refl, refl);
       encoded = encoded.0;
       code = encoded.1;
       heights = low;

@@ -1,7 +1,7 @@
 -- What is accepted: clauses 1 to 8, and a proof of the verification condition.
 use Rattle.std.specs.Prelude.{◌≡◌, ℕ, ◌≤◌, Bool, List, [], Some}
 use Rattle.alpha_words.specs.declared.insn.Insn.{Insn}
-use Rattle.policy_set.specs.declared.kind.PolicyKind.{PolicyKind}
+use Rattle.policy_set.specs.Views.{PolicyView}
 use Rattle.term_table.specs.Tree.{Tree}
 use Rattle.term_table.specs.Measures.{weight_of, sigma1_places}
 use Rattle.lf_signature.specs.Constants.{declared}
@@ -14,7 +14,8 @@ use Rattle.pcc_gate.specs.Passing.{Passes}
 use Rattle.lf_signature.specs.declared.WordSignature.TheVariants.{Sigma1}
 
 -- The eleven clauses: clauses 1 to 8, and those of the proof, in their order.
-pub record Accepts (policy : PolicyKind) (bytes : List ℕ) (contents : Contents) (insns : List Insn) (flags : List Bool) : Type 0 where
+pub record Accepts (policy : PolicyView) (bytes : List ℕ) (contents : Contents) (insns : List Insn)
+    (flags : List Bool) : Type 0 where
   pub passes : Passes policy bytes contents insns flags
   pub proof : Tree
   pub vc : Tree
@@ -27,7 +28,7 @@ pub record Accepts (policy : PolicyKind) (bytes : List ℕ) (contents : Contents
   pub proved : Checks (declared Sigma1) [] proof (pf vc)
 
 -- the bytes are accepted under the policy
-pub record IsAccepted (policy : PolicyKind) (bytes : List ℕ) : Type 0 where
+pub record IsAccepted (policy : PolicyView) (bytes : List ℕ) : Type 0 where
   pub contents : Contents
   pub code : List Insn
   pub marks : List Bool

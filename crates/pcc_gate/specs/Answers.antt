@@ -1,6 +1,6 @@
 -- What the gate answers.
 use Rattle.std.specs.Prelude.{◌≡◌, ℕ, ◌≤◌, List, length, None, Some, Result, Ok, Err}
-use Rattle.policy_set.specs.declared.kind.PolicyKind.{PolicyKind}
+use Rattle.policy_set.specs.Views.{PolicyView}
 use Rattle.term_table.specs.Measures.{sigma1_places}
 use Rattle.term_table.specs.Table.{id_trees}
 use Rattle.proof_container.specs.Views.{AreKnown, contents_of}
@@ -22,14 +22,14 @@ pub record IsHeld (c : Container) : Type 0 where
 
 -- Clauses 1 to 8 hold of what is passed on; a refusal is the first of them that fails; where memory or the results that may be
 -- kept ran out, the bytes aren't too many.
-abbrev pub IsFrontAnswer : PolicyKind → List ℕ → Result Passed GateFault → Type 0
+abbrev pub IsFrontAnswer : PolicyView → List ℕ → Result Passed GateFault → Type 0
 IsFrontAnswer policy bytes (Ok p) = Passes policy bytes (contents_of p.container) p.cut.code p.cut.marks × (front_refusal policy bytes ≡ None)
 IsFrontAnswer policy bytes (Err (Refused r)) = front_refusal policy bytes ≡ Some r
 IsFrontAnswer policy bytes (Err Memory) = length bytes ≤ MAX_BYTES
 IsFrontAnswer policy bytes (Err Results) = length bytes ≤ MAX_BYTES
 
 -- What the gate shows of accepted bytes: the policy, the code with its flags, and the invariants of their contents.
-pub record IsAcceptedBy (policy : PolicyKind) (bytes : List ℕ) (a : AcceptedView) : Type 0 where
+pub record IsAcceptedBy (policy : PolicyView) (bytes : List ℕ) (a : AcceptedView) : Type 0 where
   pub contents : Contents
   pub policy_is : a.policy ≡ policy
   pub invs_are : contents.invs ≡ id_trees a.table a.invs
@@ -38,7 +38,7 @@ pub record IsAcceptedBy (policy : PolicyKind) (bytes : List ℕ) (a : AcceptedVi
 
 -- All clauses hold of what is accepted; a refusal is the first of them that fails; where memory or the results that may be kept
 -- ran out, the bytes aren't too many.
-abbrev pub IsGateAnswer : PolicyKind → List ℕ → Result AcceptedView GateFault → Type 0
+abbrev pub IsGateAnswer : PolicyView → List ℕ → Result AcceptedView GateFault → Type 0
 IsGateAnswer policy bytes (Ok a) = IsAcceptedBy policy bytes a
 IsGateAnswer policy bytes (Err (Refused r)) = first_refusal policy bytes ≡ Some r
 IsGateAnswer policy bytes (Err Memory) = length bytes ≤ MAX_BYTES

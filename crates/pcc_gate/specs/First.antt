@@ -1,14 +1,14 @@
 -- The first of the eleven clauses that fails, with the values that its line has. The tests stand in their order; `laws` joins
 -- them to the clauses, and each refusal to what it means.
-use Rattle.std.specs.Prelude.{ℕ, suc, Bool, List, [], ◌∷◌, map, length, nat_lt, ◌==◌, if◌then◌else◌, Option, Some, None, Result, Ok, Err}
+use Rattle.std.specs.Prelude.{ℕ, suc, Bool, List, [], ◌∷◌, map, length, nat_lt, if◌then◌else◌, Option, Some, None, Result, Ok, Err}
 use Rattle.alpha_words.specs.declared.insn.Insn.{Insn}
 use Rattle.alpha_cfg.specs.CodeDecoding.{decoded_code}
 use Rattle.alpha_cfg.specs.Cuts.{unfolded_of}
 use Rattle.alpha_cfg.specs.Deciding.{flags_of, uncut_of}
 use Rattle.alpha_cfg.specs.declared.fault.CodeFlaw.{CodeFlaw}
 use Rattle.formula_tree.specs.Formulas.{Form}
-use Rattle.policy_set.specs.declared.kind.PolicyKind.{PolicyKind}
-use Rattle.policy_set.specs.Names.{policy_number}
+use Rattle.policy_set.specs.Views.{PolicyView}
+use Rattle.policy_set.specs.Names.{is_number_of}
 use Rattle.term_table.specs.Tree.{Tree}
 use Rattle.term_table.specs.Measures.{height_of, weight_of, sigma1_places, capped}
 use Rattle.lf_signature.specs.Constants.{declared}
@@ -45,7 +45,7 @@ abbrev pub formulas : List (ℕ × Tree) → List (ℕ × Form)
 formulas invs = map (λ p. (p.0, formula_of p.1)) invs
 
 -- the encoding of the verification condition
-abbrev pub vc_of : PolicyKind → List Insn → List (ℕ × Tree) → Tree
+abbrev pub vc_of : PolicyView → List Insn → List (ℕ × Tree) → Tree
 vc_of policy code invs = form_encoding (condition (annotated policy code (formulas invs)))
 
 -- whether a term is a proof of it
@@ -91,12 +91,16 @@ first_code c (Err flaw) next = Some (refusal.BadCode flaw)
 first_code c (Ok code) next = first_shape c code (next code)
 
 -- clauses 2 to 8, and what comes after, by the contents and the code
-abbrev pub first_read : PolicyKind → Result Contents Fault → (Contents → List Insn → Option Refusal) → Option Refusal
+abbrev pub first_read : PolicyView → Result Contents Fault → (Contents → List Insn → Option Refusal)
+    → Option Refusal
 first_read policy (Err fault) next = Some (refusal.Malformed fault.0 fault.1)
-first_read policy (Ok c) next = if c.policy == policy_number policy then first_code c (decoded_code One c.code) (next c) else Some (refusal.OtherPolicy c.policy)
+first_read policy (Ok c) next =
+    if is_number_of policy c.policy then first_code c (decoded_code One c.code) (next c) else Some
+    (refusal.OtherPolicy c.policy)
 
 -- clauses 1 to 8, and what comes after
-abbrev pub first_front : PolicyKind → List ℕ → (Contents → List Insn → Option Refusal) → Option Refusal
+abbrev pub first_front : PolicyView → List ℕ → (Contents → List Insn → Option Refusal)
+    → Option Refusal
 first_front policy bytes next = if nat_lt MAX_BYTES (length bytes) then Some (refusal.TooLong (length bytes)) else first_read policy (decoded_container bytes) next
 
 -- clauses 9 to 11
@@ -108,9 +112,9 @@ first_proof vc (Some proof) =
     Some refusal.NotProof
 
 -- the first of clauses 1 to 8 that fails
-unfoldable pub front_refusal : PolicyKind → List ℕ → Option Refusal
+unfoldable pub front_refusal : PolicyView → List ℕ → Option Refusal
 front_refusal policy bytes = first_front policy bytes (λ c code. None)
 
 -- the first of the eleven clauses that fails
-unfoldable pub first_refusal : PolicyKind → List ℕ → Option Refusal
+unfoldable pub first_refusal : PolicyView → List ℕ → Option Refusal
 first_refusal policy bytes = first_front policy bytes (λ c code. first_proof (vc_of policy code c.invs) c.proof)

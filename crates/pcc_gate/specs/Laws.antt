@@ -2,7 +2,7 @@
 use Rattle.std.specs.Prelude.{◌≡◌, ℕ, ◌≤◌, ◌↔◌, Bool, List, None, Some}
 use Rattle.alpha_words.specs.declared.insn.Insn.{Insn}
 use Rattle.alpha_cfg.specs.Cuts.{unfolded_of}
-use Rattle.policy_set.specs.declared.kind.PolicyKind.{PolicyKind}
+use Rattle.policy_set.specs.Views.{PolicyView}
 use Rattle.proof_container.specs.Contents.{Contents}
 use Rattle.term_table.specs.Bytes.{IsBytes}
 use Rattle.vcgen.specs.declared.condition.TheConstants.{MAX_UNFOLDED}
@@ -14,10 +14,12 @@ use Rattle.pcc_gate.specs.Refusals.{HasCut, IsFirstRefusal, IsBeforeProof}
 
 -- bytes are accepted exactly where no clause is the first that fails
 abbrev pub AcceptedFirst : Type 0
-AcceptedFirst = (policy : PolicyKind) (bytes : List ℕ) → IsBytes bytes → IsAccepted policy bytes ↔ (first_refusal policy bytes ≡ None)
+AcceptedFirst =
+    (policy : PolicyView) (bytes : List ℕ) → IsBytes bytes
+    → IsAccepted policy bytes ↔ (first_refusal policy bytes ≡ None)
 
 -- clauses 1 to 8 hold exactly where none of them is the first that fails
-pub record HasPassed (policy : PolicyKind) (bytes : List ℕ) : Type 0 where
+pub record HasPassed (policy : PolicyView) (bytes : List ℕ) : Type 0 where
   pub contents : Contents
   pub code : List Insn
   pub marks : List Bool
@@ -25,23 +27,29 @@ pub record HasPassed (policy : PolicyKind) (bytes : List ℕ) : Type 0 where
 
 -- the same of clauses 1 to 8
 abbrev pub PassedFirst : Type 0
-PassedFirst = (policy : PolicyKind) (bytes : List ℕ) → IsBytes bytes → HasPassed policy bytes ↔ (front_refusal policy bytes ≡ None)
+PassedFirst =
+    (policy : PolicyView) (bytes : List ℕ) → IsBytes bytes
+    → HasPassed policy bytes ↔ (front_refusal policy bytes ≡ None)
 
 -- what bytes hold is one
 abbrev pub PassedOne : Type 0
-PassedOne = (policy : PolicyKind) (bytes : List ℕ) (c d : Contents) (code other : List Insn) (marks flags : List Bool) → IsBytes bytes → Passes policy bytes c code marks → Passes policy bytes d other flags → (c ≡ d) × (code ≡ other) × (marks ≡ flags)
+PassedOne =
+    (policy : PolicyView) (bytes : List ℕ) (c d : Contents) (code other : List Insn)
+    (marks flags : List Bool) → IsBytes bytes → Passes policy bytes c code marks
+    → Passes policy bytes d other flags → (c ≡ d) × (code ≡ other) × (marks ≡ flags)
 
 -- clauses 1 to 8 are those up to 7, and the last of them
 abbrev pub PassedUpTo : Type 0
-PassedUpTo = (policy : PolicyKind) (bytes : List ℕ) (c : Contents) (code : List Insn) (marks : List Bool) →
+PassedUpTo =
+    (policy : PolicyView) (bytes : List ℕ) (c : Contents) (code : List Insn) (marks : List Bool) →
     Passes policy bytes c code marks ↔ (HasCut policy bytes c code marks × (unfolded_of code marks ≤ MAX_UNFOLDED))
 
 -- a refusal is the first exactly where the relation says so, by which no bytes have two
 abbrev pub RefusedFirst : Type 0
-RefusedFirst = (policy : PolicyKind) (bytes : List ℕ) (r : Refusal) → IsBytes bytes →
+RefusedFirst = (policy : PolicyView) (bytes : List ℕ) (r : Refusal) → IsBytes bytes →
     (first_refusal policy bytes ≡ Some r) ↔ IsFirstRefusal policy bytes r
 
 -- a refusal is the first of clauses 1 to 8 exactly where the relation says so, and it is by one of them
 abbrev pub RefusedBefore : Type 0
-RefusedBefore = (policy : PolicyKind) (bytes : List ℕ) (r : Refusal) → IsBytes bytes →
+RefusedBefore = (policy : PolicyView) (bytes : List ℕ) (r : Refusal) → IsBytes bytes →
     (front_refusal policy bytes ≡ Some r) ↔ (IsFirstRefusal policy bytes r × IsBeforeProof r)

@@ -1,12 +1,12 @@
 -- What the gate asks of a container before its proof is looked at, clause by clause: the relations of the layers below, and
 -- nothing of the code. Necula, POPL 1997, section 2 (what a code consumer checks).
-use Rattle.std.specs.Prelude.{◌≡◌, ℕ, ◌≤◌, Bool, List, map, length, All}
+use Rattle.std.specs.Prelude.{ℕ, ◌≤◌, Bool, List, map, length, All}
 use Rattle.alpha_words.specs.declared.insn.Insn.{Insn}
 use Rattle.alpha_cfg.specs.Flow.{IsCode}
 use Rattle.alpha_cfg.specs.CodeBytes.{EncodesCode}
 use Rattle.alpha_cfg.specs.Cuts.{AreFlags, IsCut, unfolded_of}
-use Rattle.policy_set.specs.declared.kind.PolicyKind.{PolicyKind}
-use Rattle.policy_set.specs.Names.{policy_number}
+use Rattle.policy_set.specs.Views.{PolicyView}
+use Rattle.policy_set.specs.Names.{IsNumberOf}
 use Rattle.term_table.specs.Tree.{Tree}
 use Rattle.term_table.specs.Measures.{height_of}
 use Rattle.proof_container.specs.Contents.{Contents, roots}
@@ -21,13 +21,14 @@ abbrev pub AreLow : List Tree → Type 0
 AreLow ts = All (λ t. height_of t ≤ MAX_HEIGHT) ts
 
 -- Clauses 1 to 8, in their order: the bytes hold this code with these contents, for the policy.
-pub record Passes (policy : PolicyKind) (bytes : List ℕ) (contents : Contents) (insns : List Insn) (flags : List Bool) : Type 0 where
+pub record Passes (policy : PolicyView) (bytes : List ℕ) (contents : Contents) (insns : List Insn)
+    (flags : List Bool) : Type 0 where
   -- 1: the bytes aren't too many
   pub size : length bytes ≤ MAX_BYTES
   -- 2: they are the encoding of the contents
   pub container : EncodesContents bytes contents
   -- 3: which are for the policy
-  pub number : contents.policy ≡ policy_number policy
+  pub number : IsNumberOf policy contents.policy
   -- 4: the code bytes encode code
   pub encoded : EncodesCode One contents.code insns
   pub code : IsCode insns

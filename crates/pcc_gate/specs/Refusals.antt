@@ -5,8 +5,8 @@ use Rattle.alpha_words.specs.declared.insn.Insn.{Insn}
 use Rattle.alpha_cfg.specs.Flow.{IsCode}
 use Rattle.alpha_cfg.specs.CodeBytes.{EncodesCode, IsFlaw}
 use Rattle.alpha_cfg.specs.Cuts.{AreFlags, IsCut, IsUncut, unfolded_of}
-use Rattle.policy_set.specs.declared.kind.PolicyKind.{PolicyKind}
-use Rattle.policy_set.specs.Names.{policy_number}
+use Rattle.policy_set.specs.Views.{PolicyView}
+use Rattle.policy_set.specs.Names.{IsNumberOf}
 use Rattle.term_table.specs.Tree.{Tree}
 use Rattle.term_table.specs.Measures.{height_of, weight_of, sigma1_places, capped}
 use Rattle.lf_signature.specs.Constants.{declared}
@@ -35,43 +35,50 @@ pub record HasContents (bytes : List ℕ) (contents : Contents) : Type 0 where
   pub container : EncodesContents bytes contents
 
 -- clauses 1 to 3: the contents are for the policy
-pub record IsForPolicy (policy : PolicyKind) (bytes : List ℕ) (contents : Contents) : Type 0 where
+pub record IsForPolicy (policy : PolicyView) (bytes : List ℕ) (contents : Contents) : Type 0 where
   pub held : HasContents bytes contents
-  pub number : contents.policy ≡ policy_number policy
+  pub number : IsNumberOf policy contents.policy
 
 -- clauses 1 to 4: the code bytes encode code
-pub record HasCode (policy : PolicyKind) (bytes : List ℕ) (contents : Contents) (insns : List Insn) : Type 0 where
+pub record HasCode (policy : PolicyView) (bytes : List ℕ) (contents : Contents)
+    (insns : List Insn) : Type 0 where
   pub before : IsForPolicy policy bytes contents
   pub encoded : EncodesCode One contents.code insns
   pub code : IsCode insns
 
 -- clauses 1 to 5: no root is too high
-pub record HasLowRoots (policy : PolicyKind) (bytes : List ℕ) (contents : Contents) (insns : List Insn) : Type 0 where
+pub record HasLowRoots (policy : PolicyView) (bytes : List ℕ) (contents : Contents)
+    (insns : List Insn) : Type 0 where
   pub before : HasCode policy bytes contents insns
   pub heights : AreLow (roots contents)
 
 -- clauses 1 to 6: each invariant is a formula over m and r0 to r30
-pub record HasForms (policy : PolicyKind) (bytes : List ℕ) (contents : Contents) (insns : List Insn) : Type 0 where
+pub record HasForms (policy : PolicyView) (bytes : List ℕ) (contents : Contents)
+    (insns : List Insn) : Type 0 where
   pub before : HasLowRoots policy bytes contents insns
   pub forms : AreForms contents.invs
 
 -- clauses 1 to 6, and the flags of the annotated indices
-pub record HasFlags (policy : PolicyKind) (bytes : List ℕ) (contents : Contents) (insns : List Insn) (flags : List Bool) : Type 0 where
+pub record HasFlags (policy : PolicyView) (bytes : List ℕ) (contents : Contents) (insns : List Insn)
+    (flags : List Bool) : Type 0 where
   pub before : HasForms policy bytes contents insns
   pub annotated : AreFlags (map (λ p. p.0) contents.invs) (length insns) flags
 
 -- clauses 1 to 7: the annotated indices cut the code
-pub record HasCut (policy : PolicyKind) (bytes : List ℕ) (contents : Contents) (insns : List Insn) (flags : List Bool) : Type 0 where
+pub record HasCut (policy : PolicyView) (bytes : List ℕ) (contents : Contents) (insns : List Insn)
+    (flags : List Bool) : Type 0 where
   pub before : HasFlags policy bytes contents insns flags
   pub cut : IsCut insns flags
 
 -- clauses 1 to 9: they pass, and there is a proof
-pub record HasProof (policy : PolicyKind) (bytes : List ℕ) (contents : Contents) (insns : List Insn) (flags : List Bool) (proof : Tree) : Type 0 where
+pub record HasProof (policy : PolicyView) (bytes : List ℕ) (contents : Contents) (insns : List Insn)
+    (flags : List Bool) (proof : Tree) : Type 0 where
   pub passes : Passes policy bytes contents insns flags
   pub given : contents.proof ≡ Some proof
 
 -- clauses 1 to 10: the proof isn't too heavy
-pub record HasLightProof (policy : PolicyKind) (bytes : List ℕ) (contents : Contents) (insns : List Insn) (flags : List Bool) (proof : Tree) : Type 0 where
+pub record HasLightProof (policy : PolicyView) (bytes : List ℕ) (contents : Contents)
+    (insns : List Insn) (flags : List Bool) (proof : Tree) : Type 0 where
   pub before : HasProof policy bytes contents insns flags proof
   pub weight : weight_of sigma1_places proof ≤ MAX_WEIGHT
 
@@ -114,7 +121,8 @@ pub record IsPastWeight (proof : Tree) (weight : ℕ) : Type 0 where
   pub is : weight ≡ capped (weight_of sigma1_places proof)
 
 -- the term isn't a proof of the verification condition
-pub record IsNoProof (policy : PolicyKind) (insns : List Insn) (invs : List (ℕ × Tree)) (proof : Tree) : Type 0 where
+pub record IsNoProof (policy : PolicyView) (insns : List Insn) (invs : List (ℕ × Tree))
+    (proof : Tree) : Type 0 where
   pub vc : Tree
   pub condition : EncodesCondition policy insns invs vc
   pub unproved : Checks (declared Sigma1) [] proof (pf vc) → ⊥
@@ -122,10 +130,11 @@ pub record IsNoProof (policy : PolicyKind) (insns : List Insn) (invs : List (ℕ
 -- ---- the refusals
 
 -- The refusal is that of the first clause that fails, with the value that its line has.
-abbrev pub IsFirstRefusal : PolicyKind → List ℕ → Refusal → Type 0
+abbrev pub IsFirstRefusal : PolicyView → List ℕ → Refusal → Type 0
 IsFirstRefusal policy bytes (refusal.TooLong n) = (MAX_BYTES < length bytes) × (n ≡ length bytes)
 IsFirstRefusal policy bytes (refusal.Malformed at flaw) = IsMalformed bytes at flaw
-IsFirstRefusal policy bytes (refusal.OtherPolicy n) = (c : Contents) × HasContents bytes c × (c.policy ≡ policy_number policy → ⊥) × (n ≡ c.policy)
+IsFirstRefusal policy bytes (refusal.OtherPolicy n) =
+    (c : Contents) × HasContents bytes c × (IsNumberOf policy c.policy → ⊥) × (n ≡ c.policy)
 IsFirstRefusal policy bytes (refusal.BadCode flaw) = (c : Contents) × IsForPolicy policy bytes c × IsFlaw One c.code flaw
 IsFirstRefusal policy bytes (refusal.Height h) = (c : Contents) × (code : List Insn) × HasCode policy bytes c code × IsFirstHeight (roots c) h
 IsFirstRefusal policy bytes (refusal.InvNotForm k) = (c : Contents) × (code : List Insn) × HasLowRoots policy bytes c code × IsFirstNoForm c.invs k

@@ -1,7 +1,7 @@
 -- What is accepted, as callers see it.
 use Rattle.std.specs.Prelude.{ℕ, Bool, List}
 use Rattle.alpha_words.specs.declared.insn.Insn.{Insn}
-use Rattle.policy_set.specs.declared.kind.PolicyKind.{PolicyKind}
+use Rattle.policy_set.specs.Views.{PolicyView}
 use Rattle.formula_tree.specs.Formulas.{Form}
 use Rattle.formula_tree.specs.Truth.{IsValid}
 use Rattle.term_table.specs.Table.{TableView, id_trees}
@@ -11,7 +11,7 @@ use Rattle.vcgen.specs.Encoded.{annotated, AreEncodings}
 
 -- accepted code: its policy, the code with its flags, and its invariants as ids of the table
 pub record AcceptedView : Type 0 where
-  pub policy : PolicyKind
+  pub policy : PolicyView
   pub code : List Insn
   pub marks : List Bool
   pub table : TableView

@@ -4,6 +4,7 @@ use Rattle.alpha_words.specs.declared.insn.Cond.TheVariants.{Zero}
 use Rattle.alpha_words.specs.declared.insn.Insn.{Insn}
 use Rattle.alpha_words.specs.declared.insn.Insn.TheVariants.{Ldq, Stq, Branch, Br, Ret}
 use Rattle.policy_set.specs.declared.kind.PolicyKind.TheVariants.{Tag}
+use Rattle.policy_set.specs.Views.{built_in}
 use Rattle.proof_container.specs.Contents.{Contents}
 use Rattle.pcc_gate.specs.Accepted.{Accepts}
 
@@ -17,4 +18,4 @@ pub record LoopIsAccepted : Type 0 where
   pub bytes : List ℕ
   pub contents : Contents
   pub marks : List Bool
-  pub accepts : Accepts Tag bytes contents loop_code marks
+  pub accepts : Accepts (built_in Tag) bytes contents loop_code marks

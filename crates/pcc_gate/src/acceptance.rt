@@ -3,7 +3,6 @@
 ghost use Rattle.std.specs.Prelude.{◌≡◌};
 ghost use Rattle.std.specs.List.{AllByRecursion};
 ghost use Rattle.term_table.specs.Table.{IsKnown, id_trees};
-ghost use Rattle.policy_set.specs.Policies.{pre_of, post_of};
 ghost use Rattle.vcgen.specs.Encoded.{AreForms};
 ghost use Rattle.vcgen.specs.Safety.{IsSafe};
 ghost use Rattle.pcc_gate.specs.Views.{IsConditionTrue, AreAnnotations};
@@ -13,8 +12,8 @@ use policy_set::Policy;
 use std::marker::Model;
 use term_table::{Id, Table};
 
-/// Code that was accepted under a policy. Contracts see the policy's kind, the code with its flags,
-/// and the invariants as ids of the table.
+/// Code that was accepted under a policy. Contracts see the policy, the code with its flags, and
+/// the invariants as ids of the table.
 #[derive(Drop)]
 pub struct Accepted {
     pub(crate) policy: Policy,
@@ -31,8 +30,9 @@ impl Model for Accepted {
 
     ghost use Rattle.std.specs.Coded.{codes};
     ghost use Rattle.term_table.specs.Table.{table_view_code};
+    ghost use Rattle.policy_set.specs.Inside.Code.{form_code};
 
-    ghost coded = { Prim.hlevel (codes, table_view_code) };
+    ghost coded = { Prim.hlevel (codes, table_view_code, form_code) };
 
     ghost view = { λ a. record {
       policy = a.policy;
@@ -80,7 +80,7 @@ impl Accepted {
     /// invariants encode formulas, which annotate the code; and the verification condition of the
     /// policy, the code and these formulas is true in every structure.
     pub fn laws(&self)
-        ensures safe { IsSafe self.now.code (pre_of self.now.policy) (post_of self.now.policy) }
+        ensures safe { IsSafe self.now.code self.now.policy.pre self.now.policy.post }
         ensures forms { AreForms (id_trees self.now.table self.now.invs) }
         ensures annotates { AreAnnotations self.now }
         ensures valid { IsConditionTrue self.now }

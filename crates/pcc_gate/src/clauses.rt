@@ -49,7 +49,7 @@ pub(crate) fn container_for<'b>(
         }
         Err(Malformed::Memory) => Err(GateFault::Memory),
         Ok(container) => {
-            if container.policy != policy.number() {
+            if !policy.has_number(container.policy) {
                 let number = container.policy;
                 return Err(GateFault::Refused(Refusal::OtherPolicy(number)));
             }

@@ -33,6 +33,7 @@ fn judge(
 {
     let _ = bytes; // only the clauses speak of it
     truth_laws();
+    policy.laws(); // tells the prover what the formulas name
     let container = passed.container;
     let cut = passed.cut;
     let mut table = container.table;

@@ -16,12 +16,14 @@ no_packet_line = codes "no packet\n"
 abbrev pub short_line : List ℕ
 short_line = codes "short\n"
 
--- what a turn came to, and the sum of the region at its end; none where the agent had returned before
-abbrev pub turn_text : PolicyKind → Option Outcome → ℕ → List ℕ
-turn_text policy None sum = codes "done"
-turn_text policy (Some outcome) sum = outcome_text policy outcome sum
+-- what a turn came to under a policy of the kind, and the sum of the region at its end; no outcome
+-- where the agent had returned before
+abbrev pub turn_text : Option PolicyKind → Option Outcome → ℕ → List ℕ
+turn_text kind None sum = codes "done"
+turn_text kind (Some outcome) sum = outcome_text kind outcome sum
 
 -- the line of turn number t, of agent a
-unfoldable pub turn_line : PolicyKind → ℕ → ℕ → Option Outcome → ℕ → List ℕ
-turn_line policy t a outcome sum =
-    codes "turn " ++ (decimal t ++ (codes " " ++ (decimal a ++ (codes ": " ++ (turn_text policy outcome sum ++ codes "\n")))))
+unfoldable pub turn_line : Option PolicyKind → ℕ → ℕ → Option Outcome → ℕ → List ℕ
+turn_line kind t a outcome sum =
+    codes "turn " ++ (decimal t ++ (codes " " ++ (decimal a
+    ++ (codes ": " ++ (turn_text kind outcome sum ++ codes "\n")))))

@@ -1,5 +1,5 @@
 -- Result lines: what each packet comes to.
-use Rattle.std.specs.Prelude.{ℕ, ◌+◌, List, [], ◌∷◌, ◌++◌, codes, decimal}
+use Rattle.std.specs.Prelude.{ℕ, ◌+◌, List, [], ◌∷◌, ◌++◌, Option, Some, None, codes, decimal}
 use Rattle.alpha_cfg.specs.declared.outcome.Kind.{Kind}
 use Rattle.alpha_cfg.specs.declared.outcome.Kind.TheVariants.{Load, Store}
 use Rattle.alpha_cfg.specs.declared.outcome.Outcome.{Outcome}
@@ -15,32 +15,35 @@ abbrev pub kind_text : Kind → List ℕ
 kind_text Load = codes " load "
 kind_text Store = codes " store "
 
--- the number of a return; behind it the sum of the region, where the policy has one
-abbrev pub returned_text : PolicyKind → ℕ → ℕ → List ℕ
-returned_text Filter word sum = decimal word
-returned_text Tag word sum = decimal word ++ codes " " ++ decimal sum
-returned_text Table word sum = decimal word ++ codes " " ++ decimal sum
+-- The number of a return; behind it the sum of the region, where the policy's kind has one. Without
+-- a kind no packet is run.
+abbrev pub returned_text : Option PolicyKind → ℕ → ℕ → List ℕ
+returned_text None word sum = decimal word
+returned_text (Some Filter) word sum = decimal word
+returned_text (Some Tag) word sum = decimal word ++ codes " " ++ decimal sum
+returned_text (Some Table) word sum = decimal word ++ codes " " ++ decimal sum
 
 -- the index, the kind and the address of a blocked access
 abbrev pub blocked_text : ℕ → Kind → ℕ → List ℕ
 blocked_text index kind addr = codes "blocked " ++ decimal index ++ kind_text kind ++ hex_digits 16 addr
 
 -- how a run ended, and the sum of the region at its end
-abbrev pub outcome_text : PolicyKind → Outcome → ℕ → List ℕ
-outcome_text policy (Returned word) sum = returned_text policy word sum
-outcome_text policy OutOfSteps sum = codes "out of steps"
-outcome_text policy (Blocked index kind addr) sum = blocked_text index kind addr
+abbrev pub outcome_text : Option PolicyKind → Outcome → ℕ → List ℕ
+outcome_text kind (Returned word) sum = returned_text kind word sum
+outcome_text kind OutOfSteps sum = codes "out of steps"
+outcome_text kind (Blocked index access addr) sum = blocked_text index access addr
 
 -- what a packet came to
-abbrev pub result_text : PolicyKind → PacketResult → List ℕ
-result_text policy Short = codes "short"
-result_text policy (Ran outcome sum) = outcome_text policy outcome sum
+abbrev pub result_text : Option PolicyKind → PacketResult → List ℕ
+result_text kind Short = codes "short"
+result_text kind (Ran outcome sum) = outcome_text kind outcome sum
 
 -- the result line of packet number k
-unfoldable pub result_line : PolicyKind → ℕ → PacketResult → List ℕ
-result_line policy k end = decimal k ++ codes ": " ++ result_text policy end ++ codes "\n"
+unfoldable pub result_line : Option PolicyKind → ℕ → PacketResult → List ℕ
+result_line kind k end = decimal k ++ codes ": " ++ result_text kind end ++ codes "\n"
 
 -- the result lines of packets, the first of which is number k, by what each packet comes to
-abbrev pub result_lines : PolicyKind → (List ℕ → PacketResult) → ℕ → List (List ℕ) → List ℕ
-result_lines policy results k [] = []
-result_lines policy results k (packet ∷ packets) = result_line policy k (results packet) ++ result_lines policy results (k + 1) packets
+abbrev pub result_lines : Option PolicyKind → (List ℕ → PacketResult) → ℕ → List (List ℕ) → List ℕ
+result_lines kind results k [] = []
+result_lines kind results k (packet ∷ packets) =
+    result_line kind k (results packet) ++ result_lines kind results (k + 1) packets

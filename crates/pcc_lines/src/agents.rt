@@ -114,29 +114,29 @@ pub fn print_agent_packet_fault<S: Sink>(agent: u32, fault: PacketFault, out: &m
 }
 
 /// Adds what a turn came to.
-fn push_turn(line: &mut Line, policy: PolicyKind, outcome: Option<Outcome>, sum: u64)
+fn push_turn(line: &mut Line, kind: Option<PolicyKind>, outcome: Option<Outcome>, sum: u64)
     requires { array_vec_len line.old + RESULT ≤ LINE }
-    ensures items { line.new.items ≡ line.old.items ++ turn_text policy outcome sum }
+    ensures items { line.new.items ≡ line.old.items ++ turn_text kind outcome sum }
     ensures len { array_vec_len line.new ≤ array_vec_len line.old + RESULT }
 {
     match outcome {
-        Some(outcome) => push_outcome(line, policy, outcome, sum),
+        Some(outcome) => push_outcome(line, kind, outcome, sum),
         None => push_text(line, "done"),
     }
 }
 
 /// Prints what the turn of a number came to, as one piece: how its run ended, and the sum of the agent's region
-/// behind it; no outcome where the agent had returned before.
+/// behind it; no outcome where the agent had returned before. `kind` is that of the agent's policy.
 #[tactic(auto, unfolding(crate::specs::Agents::turn_line))]
 pub fn print_turn<S: Sink>(
-    policy: PolicyKind,
+    kind: Option<PolicyKind>,
     number: u64,
     agent: u32,
     outcome: Option<Outcome>,
     sum: u64,
     out: &mut S,
 ) -> Put
-    ensures { Puts (turn_line policy number agent outcome sum)
+    ensures { Puts (turn_line kind number agent outcome sum)
         (S.state out.old) (S.state out.new) result }
 {
     let mut line: Line = ArrayVec::new();
@@ -145,7 +145,7 @@ pub fn print_turn<S: Sink>(
     push_text(&mut line, " ");
     push_decimal(&mut line, u64::from(agent));
     push_text(&mut line, ": ");
-    push_turn(&mut line, policy, outcome, sum);
+    push_turn(&mut line, kind, outcome, sum);
     push_text(&mut line, "\n");
     out.put(line.as_slice())
 }

@@ -31,16 +31,16 @@ fn push_kind(line: &mut Line, kind: Kind)
     }
 }
 
-/// Adds the number of a return and, where the policy has a region, its sum.
-fn push_returned(line: &mut Line, policy: PolicyKind, word: u64, sum: u64)
+/// Adds the number of a return and, where the policy's kind has a region, its sum.
+fn push_returned(line: &mut Line, kind: Option<PolicyKind>, word: u64, sum: u64)
     requires { array_vec_len line.old + RESULT ≤ LINE }
-    ensures items { line.new.items ≡ line.old.items ++ returned_text policy word sum }
+    ensures items { line.new.items ≡ line.old.items ++ returned_text kind word sum }
     ensures len { array_vec_len line.new ≤ array_vec_len line.old + RESULT }
 {
     push_decimal(line, word);
-    match policy {
-        PolicyKind::Filter => {}
-        PolicyKind::Tag | PolicyKind::Table => {
+    match kind {
+        None | Some(PolicyKind::Filter) => {}
+        Some(PolicyKind::Tag) | Some(PolicyKind::Table) => {
             push_text(line, " ");
             push_decimal(line, sum);
         }
@@ -60,54 +60,64 @@ fn push_blocked(line: &mut Line, index: u32, kind: Kind, addr: u64)
 }
 
 /// Adds how a run ended.
-pub fn push_outcome(line: &mut Line, policy: PolicyKind, outcome: Outcome, sum: u64)
+pub fn push_outcome(line: &mut Line, kind: Option<PolicyKind>, outcome: Outcome, sum: u64)
     requires { array_vec_len line.old + RESULT ≤ LINE }
-    ensures items { line.new.items ≡ line.old.items ++ outcome_text policy outcome sum }
+    ensures items { line.new.items ≡ line.old.items ++ outcome_text kind outcome sum }
     ensures len { array_vec_len line.new ≤ array_vec_len line.old + RESULT }
 {
     match outcome {
-        Outcome::Returned(word) => push_returned(line, policy, word, sum),
+        Outcome::Returned(word) => push_returned(line, kind, word, sum),
         Outcome::OutOfSteps => push_text(line, "out of steps"),
-        Outcome::Blocked { index, kind, addr } => push_blocked(line, index, kind, addr),
+        Outcome::Blocked {
+            index,
+            kind: access,
+            addr,
+        } => push_blocked(line, index, access, addr),
     }
 }
 
 /// Adds what a packet came to.
-fn push_result(line: &mut Line, policy: PolicyKind, end: PacketResult)
+fn push_result(line: &mut Line, kind: Option<PolicyKind>, end: PacketResult)
     requires { array_vec_len line.old + RESULT ≤ LINE }
-    ensures items { line.new.items ≡ line.old.items ++ result_text policy end }
+    ensures items { line.new.items ≡ line.old.items ++ result_text kind end }
     ensures len { array_vec_len line.new ≤ array_vec_len line.old + RESULT }
 {
     match end {
         PacketResult::Short => push_text(line, "short"),
-        PacketResult::Ran(outcome, sum) => push_outcome(line, policy, outcome, sum),
+        PacketResult::Ran(outcome, sum) => push_outcome(line, kind, outcome, sum),
     }
 }
 
 /// Prints what the packet of a number came to, as one piece.
 #[tactic(auto, unfolding(crate::specs::Results::result_line))]
-fn print_result<S: Sink>(policy: PolicyKind, number: u64, end: PacketResult, out: &mut S) -> Put
-    ensures { Puts (result_line policy number end) (S.state out.old) (S.state out.new) result }
+fn print_result<S: Sink>(
+    kind: Option<PolicyKind>,
+    number: u64,
+    end: PacketResult,
+    out: &mut S,
+) -> Put
+    ensures { Puts (result_line kind number end) (S.state out.old) (S.state out.new) result }
 {
     let mut line: Line = ArrayVec::new();
     push_decimal(&mut line, number);
     push_text(&mut line, ": ");
-    push_result(&mut line, policy, end);
+    push_result(&mut line, kind, end);
     push_text(&mut line, "\n");
     out.put(line.as_slice())
 }
 
 /// Runs the packets in order and prints the result line of each, numbered from 0, before the next
-/// is run; stops at the first put that fails.
+/// is run; stops at the first put that fails. `kind` is that of the policy, and says whether lines
+/// show the sum of a region.
 pub fn print_results<R: PacketRunner, S: Sink>(
-    policy: PolicyKind,
+    kind: Option<PolicyKind>,
     runner: &mut R,
     packets: PacketIter<'_>,
     out: &mut S,
 ) -> Put
     requires few { length packets < 2 ^ 63 }
     requires short { AreShort packets }
-    ensures exact { Puts (result_lines policy (R.results runner.old) 0 packets.entry)
+    ensures exact { Puts (result_lines kind (R.results runner.old) 0 packets.entry)
         (S.state out.old) (S.state out.new) result }
     ensures unchanged { R.results runner.new ≡ R.results runner.old }
 {
@@ -115,7 +125,7 @@ pub fn print_results<R: PacketRunner, S: Sink>(
     let mut number = 0;
     while let Some(packet) = packets.next() {
         let end = runner.run_packet(packet);
-        match print_result(policy, number, end, out) {
+        match print_result(kind, number, end, out) {
             Put::Done => {}
             Put::Failed => return Put::Failed,
         }

@@ -1,2 +1,3 @@
 -- What no clause of a public function cites.
 pub mod Held
+pub mod Code

@@ -1,3 +1,4 @@
+pub mod Views
 pub mod Names
 pub mod Policies
 pub mod Satisfies

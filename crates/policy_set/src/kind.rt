@@ -1,9 +1,9 @@
 //! The kinds of policies.
 
 ghost use Rattle.std.specs.Prelude.{◌≡◌};
-ghost use Rattle.policy_set.specs.Names.{policy_number};
+ghost use Rattle.policy_set.specs.Names.{kind_number};
 
-/// A policy by its name.
+/// A built-in policy by its name.
 #[derive(Clone, Copy, Debug, PartialEq, Eq)]
 pub enum PolicyKind {
     /// Reads a packet and scratch memory, writes scratch, and answers 0 or 1.
@@ -17,7 +17,7 @@ pub enum PolicyKind {
 impl PolicyKind {
     /// The number that containers carry: 1 for `filter`, 2 for `tag`, 3 for `table`.
     pub fn number(self) -> u32
-        ensures { result ≡ policy_number self }
+        ensures { result ≡ kind_number self }
     {
         match self {
             PolicyKind::Filter => 1,

@@ -2,8 +2,8 @@
 
 ghost use Rattle.std.specs.Prelude.{◌≡◌, IfOk};
 ghost use Rattle.formula_tree.specs.Views.{form_view};
-ghost use Rattle.policy_set.specs.Names.{policy_of, policy_number};
-ghost use Rattle.policy_set.specs.Policies.{pre_of, post_of};
+ghost use Rattle.policy_set.specs.Names.{kind_of, policy_of, policy_number, is_number_of};
+ghost use Rattle.policy_set.specs.Views.{built_in, IsPolicy};
 
 use crate::formulas::{post, pre};
 use crate::kind::PolicyKind;
@@ -11,61 +11,84 @@ use formula_tree::Form;
 use std::alloc::{AllocError, Global};
 use std::marker::Model;
 
-/// A policy: what it asks at the start and promises of the end. Contracts see its kind.
+/// A policy: what it asks at the start and promises of the end. Contracts see both formulas, and
+/// its kind, which a policy from a file hasn't.
 #[derive(Drop)]
 pub struct Policy {
-    kind: PolicyKind,
+    kind: Option<PolicyKind>,
     pre: Form,
     post: Form,
 }
 
 impl Model for Policy {
-    ghost use Rattle.policy_set.specs.declared.kind.PolicyKind.{PolicyKind};
-    ghost use Rattle.policy_set.specs.Inside.Held.{AreFormulas};
+    ghost use Rattle.policy_set.specs.Views.{PolicyView, IsPolicy};
 
-    ghost Value = { PolicyKind };
+    ghost Value = { PolicyView };
 
-    ghost view = { λ p. p.kind };
+    ghost use Rattle.std.specs.Coded.{codes};
+    ghost use Rattle.policy_set.specs.Inside.Code.{form_code};
 
-    ghost invariant = { λ p. AreFormulas p.kind p.pre p.post };
+    ghost coded = { Prim.hlevel (codes, form_code) };
+
+    ghost use Rattle.policy_set.specs.Inside.Held.{policy_view};
+
+    ghost view = { λ p. policy_view p.kind p.pre p.post };
+
+    ghost invariant = { λ p. IsPolicy (policy_view p.kind p.pre p.post) };
 }
 
 impl Policy {
-    /// The policy of the kind. Fails only for want of memory.
+    /// The built-in policy of the kind. Fails only for want of memory.
     pub fn of(alloc: Global, kind: PolicyKind) -> Result<Policy, AllocError>
-        ensures exact { IfOk result (λ policy. policy ≡ kind) }
+        ensures exact { IfOk result (λ policy. policy ≡ built_in kind) }
     {
+        let asked = pre(alloc, kind)?;
+        let promised = post(kind);
         Ok(Policy {
-            kind,
-            pre: pre(alloc, kind)?,
-            post: post(kind),
+            kind: Some(kind),
+            pre: asked,
+            post: promised,
         })
     }
 
-    /// The kind.
-    pub fn kind(&self) -> PolicyKind
-        ensures exact { result ≡ self.now }
+    /// The kind; None where it is from a file.
+    pub fn kind(&self) -> Option<PolicyKind>
+        ensures exact { result ≡ self.now.kind }
     {
         self.kind
     }
 
-    /// The number that containers carry: 1 for `filter`, 2 for `tag`, 3 for `table`.
+    /// The number that containers carry: 1 for `filter`, 2 for `tag`, 3 for `table`; 0 where it is
+    /// from a file, and no container is for it by this number (`has_number`).
     pub fn number(&self) -> u32
         ensures exact { result ≡ policy_number self.now }
     {
-        self.kind.number()
+        match self.kind {
+            Some(kind) => kind.number(),
+            None => 0,
+        }
+    }
+
+    /// Whether containers with this number are for the policy: it has a kind, whose number it is.
+    pub fn has_number(&self, number: u32) -> bool
+        ensures exact { result ≡ is_number_of self.now number }
+    {
+        match self.kind {
+            Some(kind) => number == kind.number(),
+            None => false,
+        }
     }
 
     /// What holds before code starts.
     pub fn pre(&self) -> &Form
-        ensures exact { form_view result.now ≡ pre_of self.now }
+        ensures exact { form_view result.now ≡ self.now.pre }
     {
         &self.pre
     }
 
     /// What holds after code has returned.
     pub fn post(&self) -> &Form
-        ensures exact { form_view result.now ≡ post_of self.now }
+        ensures exact { form_view result.now ≡ self.now.post }
     {
         &self.post
     }
@@ -74,17 +97,27 @@ impl Policy {
     pub fn copy(&self, alloc: Global) -> Result<Policy, AllocError>
         ensures exact { IfOk result (λ policy. policy ≡ self.now) }
     {
+        let asked = self.pre.copy(alloc)?;
+        let promised = self.post.copy(alloc)?;
         Ok(Policy {
             kind: self.kind,
-            pre: self.pre.copy(alloc)?,
-            post: self.post.copy(alloc)?,
+            pre: asked,
+            post: promised,
         })
+    }
+
+    /// What each policy keeps, with nothing to run: its formulas name registers, m and their own
+    /// bound variables alone, they aren't high, and of a policy with a kind they are the kind's.
+    pub fn laws(&self)
+        ensures { IsPolicy self.now }
+    {
+        let _ = &self.pre; // opens the invariant for the prover
     }
 }
 
 /// The kind of policy that has the name.
 fn kind_named(name: &str) -> Option<PolicyKind>
-    ensures { result ≡ policy_of name.now }
+    ensures { result ≡ kind_of name.now }
 {
     if name == "filter" {
         Some(PolicyKind::Filter)
@@ -97,8 +130,8 @@ fn kind_named(name: &str) -> Option<PolicyKind>
     }
 }
 
-/// The policy of this name; None exactly where the name is none of `filter`, `tag` and `table`.
-/// Fails only for want of memory.
+/// The built-in policy of this name; None exactly where the name is none of `filter`, `tag` and
+/// `table`. Fails only for want of memory.
 pub fn by_name(alloc: Global, name: &str) -> Result<Option<Policy>, AllocError>
     ensures exact { IfOk result (λ found. found ≡ policy_of name.now) }
 {

@@ -1,6 +1,7 @@
 -- What loading and running a packet come to.
 use Rattle.std.proofs.Common.{◌≡◌, ℕ, ◌%◌, ◌^◌, true, false, List, length, Option, Some, None, refl, sym, ◌∙◌, ap, inl, inr}
 use Rattle.std.proofs.lemmas.Bool.{cases_lt, lt-ltb, le-ltb}
+use Rattle.std.proofs.lemmas.Option.{none-some}
 use Rattle.word_ops.specs.Memory.{Memory}
 use Rattle.alpha_cfg.specs.Machine.{State, run_of}
 use Rattle.policy_set.specs.declared.kind.PolicyKind.{PolicyKind}
@@ -40,19 +41,24 @@ loaded old new None l = absurd (cc)
 loaded old new (Some setup) (e, is, meets, fits) = record { setup = setup; is = refl; new_is = is; fits = fits }
 
 -- where the region isn't empty it is at the arena's front
-sum-at : (policy : PolicyKind) (packet : List ℕ) (setup : StartView) (m : Memory) → start_of policy packet ≡ Some setup → sum_of m 65536 setup.region ≡ sum_of m setup.at setup.region
+sum-at : (kind : Option PolicyKind) (packet : List ℕ) (setup : StartView) (m : Memory)
+    → start_from 65536 kind packet ≡ Some setup → sum_of m 65536 setup.region
+    ≡ sum_of m setup.at setup.region
 unfolding start_from
-sum-at Filter packet setup m e = elim (cases_lt (length packet) 64) [
+sum-at None packet setup m e = absurd (none-some setup e)
+sum-at (Some Filter) packet setup m e = elim (cases_lt (length packet) 64) [
   | inl less ↦ let none : None ≡ Some setup = rw (lt-ltb (length packet) 64 less) at e in absurd (cc)
   | inr enough ↦
       the_same (λ s. sum_of m 65536 s.region ≡ sum_of m s.at s.region) (filter_start 65536 packet) setup refl (rw (le-ltb (length packet) 64 enough) at e)
 ]
-sum-at Tag packet setup m e = elim (cases_lt (length packet) 16) [
+sum-at (Some Tag) packet setup m e = elim (cases_lt (length packet) 16) [
   | inl less ↦ let none : None ≡ Some setup = rw (lt-ltb (length packet) 16 less) at e in absurd (cc)
   | inr enough ↦
       the_same (λ s. sum_of m 65536 s.region ≡ sum_of m s.at s.region) (tag_start 65536 packet) setup refl (rw (le-ltb (length packet) 16 enough) at e)
 ]
-sum-at Table packet setup m e = the_same (λ s. sum_of m 65536 s.region ≡ sum_of m s.at s.region) (table_start 65536 packet) setup refl e
+sum-at (Some Table) packet setup m e =
+    the_same (λ s. sum_of m 65536 s.region ≡ sum_of m s.at s.region) (table_start 65536 packet)
+    setup refl e
 
 -- a run from a start that was loaded, and the sum behind it
 pub ran-result : (old begun after : HostView) (n sum : ℕ) (result : Ended) (packet : List ℕ) → Loads old (start_of old.accepted.policy packet) begun true → IsRun begun n result after → after.region ≡ begun.region → sum ≡ sum_of (map_of 65536 after.words) 65536 after.region % 2 ^ 64 →
@@ -66,7 +72,8 @@ ran-result old begun after n sum result packet loads run region is =
     let from : (outcome_of result, end) ≡ run_of old.accepted.code n (start_state 65536 setup) = sym ran ∙ ap (λ (h : HostView). run_of h.accepted.code n (state_under h (start_rights setup))) l.new_is in
     let size : after.region ≡ setup.region = region ∙ ap (λ (h : HostView). h.region) l.new_is in
     let total : sum ≡ sum_of m setup.at setup.region % 2 ^ 64 =
-    is ∙ ap (λ k. sum_of m 65536 k % 2 ^ 64) size ∙ ap (λ k. k % 2 ^ 64) (sum-at old.accepted.policy packet setup m (sym l.is)) in
+    is ∙ ap (λ k. sum_of m 65536 k % 2 ^ 64) size
+    ∙ ap (λ k. k % 2 ^ 64) (sum-at old.accepted.policy.kind packet setup m (sym l.is)) in
     ap (Ran (outcome_of result)) total
     ∙ result_from-some old.accepted.code n setup (outcome_of result) end from
     ∙ ap (result_from old.accepted.code n) l.is

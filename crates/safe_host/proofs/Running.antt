@@ -4,8 +4,7 @@ use Rattle.word_ops.specs.Rights.{Rights}
 use Rattle.alpha_words.specs.declared.insn.Insn.{Insn}
 use Rattle.alpha_cfg.specs.Machine.{IsState, run_of}
 use Rattle.formula_tree.specs.Truth.{IsValid}
-use Rattle.policy_set.specs.declared.kind.PolicyKind.{PolicyKind}
-use Rattle.policy_set.specs.Policies.{pre_of}
+use Rattle.policy_set.specs.Views.{PolicyView}
 use Rattle.reference_machine.specs.Arena.{placed_words, IsZeroFrom}
 use Rattle.reference_machine.specs.Starts.{StartView, Fits, HasWords, start_regs, start_state}
 use Rattle.reference_machine.proofs.Starting.{start_state-is}
@@ -36,7 +35,7 @@ goes-on (ended.Returned word) e = absurd (cc)
 -- a host at a start, whose rights fit
 pub record HasBegun (a : AcceptedView) (setup : StartView) (h : HostView) : Type 0 where
   pub is : h ≡ host_at a setup
-  pub meets : StartMeets setup (pre_of a.policy)
+  pub meets : StartMeets setup a.policy.pre
   pub fits : RightsFit h (start_rights setup)
 
 module _ (a : AcceptedView) (forms : AreForms (id_trees a.table a.invs)) (annotates : AreAnnotations a) (valid : IsConditionTrue a) where
@@ -49,22 +48,25 @@ module _ (a : AcceptedView) (forms : AreForms (id_trees a.table a.invs)) (annota
   is-valid : IsValid (condition (shown_code a))
   is-valid = valid (shown_formulas a) encoded
 
-  start-fits : (setup : StartView) → Fits 65536 setup → HasWords setup → StartMeets setup (pre_of a.policy) → RightsFit (host_at a setup) (start_rights setup)
+  start-fits : (setup : StartView) → Fits 65536 setup → HasWords setup
+      → StartMeets setup a.policy.pre → RightsFit (host_at a setup) (start_rights setup)
   start-fits setup fits words meets =
       let state : IsState (start_state 65536 setup) = start_state-is 65536 setup refl (omega arith) fits words in
       let f = start-part-fits (shown_code a) 65536 setup is-annotated is-valid fits state meets in
       record { reads = f.reads; writes = f.writes; holds = f.holds }
 
   -- the bytes of a start that meets the precondition stand in the arena
-  pub begins : (policy : PolicyKind) (setup : StartView) (regs words : List ℕ) → regs ≡ start_regs setup → policy ≡ a.policy →
-      Fits 65536 setup → HasWords setup → StartMeets setup (pre_of policy) →
+  pub begins : (policy : PolicyView) (setup : StartView) (regs words : List ℕ) → regs
+      ≡ start_regs setup → policy ≡ a.policy →
+      Fits 65536 setup → HasWords setup → StartMeets setup policy.pre →
       words ≡ placed_words ((setup.at - 65536) / 8) setup.bytes →
       HasBegun a setup (record (host_at a setup) { regs = regs; words = words })
   begins policy setup regs words set same fits are meets placed =
       let is : record (host_at a setup) { regs = regs; words = words } ≡ host_at a setup =
       ap (λ (l : List ℕ). record (host_at a setup) { regs = regs; words = l }) placed
       ∙ ap (λ (l : List ℕ). record (host_at a setup) { regs = l }) set in
-      let start : StartMeets setup (pre_of a.policy) = subst (λ (p : PolicyKind). StartMeets setup (pre_of p)) same meets in
+      let start : StartMeets setup a.policy.pre =
+      subst (λ (p : PolicyView). StartMeets setup p.pre) same meets in
       record { is = is; meets = start; fits = subst (λ (h : HostView). RightsFit h (start_rights setup)) (sym is) (start-fits setup fits are start) }
 
 -- a host's accepted code has these laws

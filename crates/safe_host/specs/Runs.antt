@@ -2,7 +2,6 @@
 use Rattle.std.specs.Prelude.{◌≡◌, ℕ, Bool, true, false, Option, Some, None}
 use Rattle.word_ops.specs.Rights.{Rights}
 use Rattle.alpha_cfg.specs.Machine.{run_of}
-use Rattle.policy_set.specs.Policies.{pre_of}
 use Rattle.reference_machine.specs.Starts.{StartView}
 use Rattle.packet_store.specs.StartMeets.{StartMeets}
 use Rattle.host_steps.specs.declared.ended.Ended.{Ended}
@@ -13,7 +12,9 @@ use Rattle.safe_host.specs.Hosts.{HostView, state_under, RightsFit, host_at, sta
 -- A packet that is short leaves the host; any other brings it to the policy's start, which meets the precondition and whose rights fit.
 abbrev pub Loads : HostView → Option StartView → HostView → Bool → Type 0
 Loads old None new loaded = (loaded ≡ false) × (new ≡ old)
-Loads old (Some setup) new loaded = (loaded ≡ true) × (new ≡ host_at old.accepted setup) × StartMeets setup (pre_of old.accepted.policy) × RightsFit new (start_rights setup)
+Loads old (Some setup) new loaded =
+    (loaded ≡ true) × (new ≡ host_at old.accepted setup) × StartMeets setup old.accepted.policy.pre
+    × RightsFit new (start_rights setup)
 
 -- Under these rights the run is that of the machine that tests each access; where it was out of steps, they fit again.
 pub record IsRunUnder (old : HostView) (budget : ℕ) (result : Ended) (new : HostView) (rights : Rights) : Type 0 where

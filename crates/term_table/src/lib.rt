@@ -11,7 +11,7 @@
 mod theorems;
 
 ghost use Rattle.std.specs.Prelude.{◌≡◌, ℕ, List, Option, ◌<◌, ◌≤◌, ◌+◌, ◌^◌, ◌↔◌, length, [], get_or, max, ◌-◌, if◌then◌else◌, nat_lt, ◌&&◌, not, IfOk, OnErr, IsTrue};
-ghost use Rattle.term_table.specs.Measures.{sigma1_places, height_of, weight_of, capped};
+ghost use Rattle.term_table.specs.Measures.{sigma1_places, sigma2_places, sigma3_places, height_of, weight_of, capped};
 ghost use Rattle.term_table.specs.Table.{counts_of, IsKnown, tree_at, node_tree, node_tree_in, PartsBelow, PartsKnown, AreDifferent, AreSmall, Adds, Extends};
 ghost use Rattle.term_table.specs.Inside.Entries.{entry_trees, IsSmallNode, IsMeasured, AreMeasured};
 ghost use Rattle.term_table.specs.Inside.Keys.{key_of};
@@ -82,11 +82,12 @@ pub struct Places {
     counts: &'static [u8],
 }
 
-/// Constants 0 to 26 build formulas and have no parameters; 27 to 87 are the rules.
-static SIGMA1: [u8; 88] = [
+/// Constants 0 to 26 and 88 to 95 build formulas and have no parameters; the others are the rules.
+static PARAMETERS: [u8; 105] = [
     0, 0, 0, 0, 0, 0, 0, 0, 0, 0, 0, 0, 0, 0, 0, 0, 0, 0, 0, 0, 0, 0, 0, 0, 0, 0, 0, 0, 1, 2, 2, 2,
     2, 2, 3, 2, 2, 1, 1, 2, 1, 2, 1, 3, 3, 4, 2, 3, 1, 2, 2, 2, 3, 1, 2, 1, 1, 2, 1, 3, 3, 1, 1, 1,
-    3, 2, 3, 3, 2, 2, 2, 1, 4, 2, 2, 2, 2, 2, 2, 2, 2, 2, 2, 2, 2, 2, 2, 2,
+    3, 2, 3, 3, 2, 2, 2, 1, 4, 2, 2, 2, 2, 2, 2, 2, 2, 2, 2, 2, 2, 2, 2, 2, 0, 0, 0, 0, 0, 0, 0, 0,
+    1, 2, 2, 2, 2, 2, 2, 2, 3,
 ];
 
 impl Places {
@@ -97,11 +98,31 @@ impl Places {
         Places { counts }
     }
 
-    /// The counts of the signature of word arithmetic, Sigma1: constants 0 to 87.
+    /// The counts of the first signature of word arithmetic, Sigma1: constants 0 to 87.
     pub fn sigma1() -> Places
         ensures { counts_of result ≡ sigma1_places }
     {
-        Places { counts: &SIGMA1 }
+        Places {
+            counts: &PARAMETERS[..88],
+        }
+    }
+
+    /// The counts of the second, Sigma2: constants 0 to 103.
+    pub fn sigma2() -> Places
+        ensures { counts_of result ≡ sigma2_places }
+    {
+        Places {
+            counts: &PARAMETERS[..104],
+        }
+    }
+
+    /// The counts of the third, Sigma3: constants 0 to 104.
+    pub fn sigma3() -> Places
+        ensures { counts_of result ≡ sigma3_places }
+    {
+        Places {
+            counts: &PARAMETERS,
+        }
     }
 
     /// How many parameters the constant has.

@@ -7,7 +7,7 @@ ghost use Rattle.term_table.specs.Table.{IsKnown, Extends};
 
 use formula_tree::{Exp, Form};
 use lf_encode::{
-    adequacy_laws, encode_form, form_of, machine_context, put_laws, scope_laws,
+    Sort, adequacy_laws, encode_form, form_of, machine_context, put_laws, scope_laws,
     substitution_in_contexts, substitution_on_encodings,
 };
 use lf_signature::{Sigma1, app2};
@@ -93,5 +93,31 @@ fn zero_is_read_back(rt: HostRuntime) -> Result<(), Fail> {
     let term = zero_term(&mut table)?;
     let read = form_of(&mut table, &Sigma1, term, &machine_context())?;
     assert!(rt; read == Some(Form::Rel(Rel::Eq, Exp::Lit(0), Exp::Lit(0))));
+    Ok(())
+}
+
+/// The context of the steps that are left, m and r0 to r30.
+fn counted_context() -> [Sort; 33] {
+    let mut context = [Sort::Exp; 33];
+    context[1] = Sort::Mem;
+    context
+}
+
+/// The term of `(eq #32 0)`.
+fn counted_term(table: &mut Table) -> Result<Id, AllocError>
+    ensures { IfOk result (λ id. IsKnown table.new id) }
+{
+    let count = table.intern(Node::Var(32))?;
+    let zero = table.intern(Node::Lit(0))?;
+    app2(table, 15, count, zero)
+}
+
+/// Variable 32 of that context is read back as the steps that are left.
+#[test]
+fn steps_left_are_read_back(rt: HostRuntime) -> Result<(), Fail> {
+    let mut table = Table::new(rt.alloc(), Places::sigma1());
+    let term = counted_term(&mut table)?;
+    let read = form_of(&mut table, &Sigma1, term, &counted_context())?;
+    assert!(rt; read == Some(Form::Rel(Rel::Eq, Exp::Left, Exp::Lit(0))));
     Ok(())
 }

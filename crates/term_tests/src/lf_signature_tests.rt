@@ -4,8 +4,11 @@ ghost use Rattle.std.specs.Prelude.{IfOk};
 ghost use Rattle.term_table.specs.Table.{Stands};
 ghost use Rattle.lf_signature.specs.Nodes.{type_at};
 
-use lf_signature::{Sigma1, Signature, rel_constant, rel_number, rel_of, rel_of_constant};
-use std::alloc::AllocError;
+use lf_signature::{
+    Sigma1, Sigma2, Sigma3, Signature, WordSignature, rel_constant, rel_number, rel_of,
+    rel_of_constant,
+};
+use std::alloc::{AllocError, Global};
 use std::test::Fail;
 use term_table::{Id, Node, Places, Table};
 use word_ops::{Op, Rel, op_constant, op_number, op_of, op_of_constant};
@@ -45,5 +48,32 @@ fn numbers(rt: HostRuntime) -> Result<(), Fail> {
     assert!(rt; rel_constant(Rel::Sle) == 19);
     assert!(rt; rel_of_constant(17) == Some(Rel::Ule));
     assert!(rt; rel_of_constant(20).is_none());
+    Ok(())
+}
+
+/// The weight of a constant at 5 + 5 twice, which weighs 3, and 1 as its parameter.
+fn weight_at_sums(
+    alloc: Global,
+    signature: WordSignature,
+    constant: u32,
+) -> Result<u32, AllocError> {
+    let mut table = Table::new(alloc, signature.places());
+    let five = table.intern(Node::Lit(5))?;
+    let add = table.intern(Node::Const(0))?;
+    let from_five = table.intern(Node::App(add, five))?;
+    let sum = table.intern(Node::App(from_five, five))?;
+    let rule = table.intern(Node::Const(constant))?;
+    let first = table.intern(Node::App(rule, sum))?;
+    let both = table.intern(Node::App(first, sum))?;
+    Ok(table.weight(both))
+}
+
+#[test]
+fn weights_by_signature(rt: HostRuntime) -> Result<(), Fail> {
+    assert!(rt; weight_at_sums(rt.alloc(), Sigma1, 97)? == 7);
+    assert!(rt; weight_at_sums(rt.alloc(), Sigma2, 97)? == 3);
+    assert!(rt; weight_at_sums(rt.alloc(), Sigma2, 104)? == 7);
+    assert!(rt; weight_at_sums(rt.alloc(), Sigma3, 104)? == 3);
+    assert!(rt; weight_at_sums(rt.alloc(), Sigma3, 88)? == 7);
     Ok(())
 }

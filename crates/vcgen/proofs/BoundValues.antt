@@ -225,10 +225,10 @@ ignores-else (Some I) F kept h = ignores-closed I (kept I refl)
 
 module _ (c : AnnotatedCode) (is : IsAnnotated c) where
   pub ignores-post : IgnoresBound c.post
-  ignores-post = ignores-closed c.post (vars-form 31 c.post [] is.post)
+  ignores-post = ignores-closed c.post (vars-form 32 c.post [] is.post)
 
   pub ignores-pre : IgnoresBound c.pre
-  ignores-pre = ignores-closed c.pre (vars-form 31 c.pre [] is.pre)
+  ignores-pre = ignores-closed c.pre (vars-form 32 c.pre [] is.pre)
 
   ignores-wp_within : (n i : ℕ) → IgnoresBound (wp_within c n i)
   ignores-wp_within zero i = ignores-else (invariant_at c.invs i) FFalse (is.invs i) (ignores-closed FFalse tt)

@@ -3,8 +3,8 @@ use Rattle.std.proofs.Common.{◌≡◌, ℕ, zero, suc, ◌+◌, ◌<◌, ◌^�
 use Rattle.word_ops.specs.Rights.{Rights}
 use Rattle.word_ops.specs.Registers.{AreRegs}
 use Rattle.word_ops.specs.Memory.{IsMemory}
-use Rattle.formula_tree.specs.Formulas.{Exp, ELeft, EVar, MVar, Form}
-use Rattle.formula_tree.specs.Substitution.{Substitution, subst_form}
+use Rattle.formula_tree.specs.Formulas.{EVar, MVar, Form}
+use Rattle.formula_tree.specs.Substitution.{subst_form}
 use Rattle.formula_tree.specs.Truth.{Valuation, Bound, BWord, BMem, bound_at, bound_word, bound_memory, exp_value, mem_value, IsTrueIn, nowhere, substitution_value}
 use Rattle.formula_tree.proofs.Meaning.{subst-truth}
 use Rattle.lf_encode.specs.Contexts.{vars_down, machine_names}
@@ -23,9 +23,9 @@ names-memory : (n : ℕ) → n ≡ 31 → machine_names.memory ≡ MVar n
 unfolding machine_names
 names-memory n e = ap MVar (sym e)
 
-names-left : machine_names.left ≡ ELeft
+names-left : (n : ℕ) → n ≡ 31 → machine_names.left ≡ EVar (suc n)
 unfolding machine_names
-names-left = refl
+names-left n e = ap (λ k. EVar (suc k)) (sym e)
 
 -- ---- words before other values, the last word nearest
 
@@ -55,32 +55,46 @@ alls-true R F v (suc n) (w ∷ ws) ρ len words t = alls-true R F v n ws (BWord 
 
 -- ---- closing
 
--- what the names stand for, an expression standing for the steps that are left
-names-value : (e : Exp) (v : Valuation) (ρ : List Bound) → length v.regs ≡ 31 → exp_value e nowhere (push v.regs (BMem v.memory ∷ ρ)) ≡ v.left →
-    substitution_value (record machine_names { left = e }) nowhere (push v.regs (BMem v.memory ∷ ρ)) ≡ v
-names-value e v ρ len left =
-    let σ : List Bound = push v.regs (BMem v.memory ∷ ρ) in
-    let regs : map (λ x. exp_value x nowhere σ) machine_names.regs ≡ v.regs = ap (map (λ x. exp_value x nowhere σ)) (names-regs (length v.regs) len) ∙ vars_down-values v.regs nowhere (BMem v.memory ∷ ρ) in
+-- what the names stand for, the steps that are left being furthest
+names-value : (v : Valuation) (ρ : List Bound) → length v.regs ≡ 31
+    → bound_word (bound_at ρ 0) ≡ v.left →
+    substitution_value machine_names nowhere (push v.regs (BMem v.memory ∷ ρ)) ≡ v
+names-value v ρ len is =
+    let n : ℕ = length v.regs in
+    let far : List Bound = BMem v.memory ∷ ρ in
+    let σ : List Bound = push v.regs far in
+    let regs : map (λ x. exp_value x nowhere σ) machine_names.regs ≡ v.regs =
+    ap (map (λ x. exp_value x nowhere σ)) (names-regs n len) ∙ vars_down-values v.regs nowhere far
+    in
     let memory : mem_value machine_names.memory nowhere σ ≡ v.memory =
-    ap (λ m. mem_value m nowhere σ) (names-memory (length v.regs) len) ∙ ap bound_memory (push-at v.regs (BMem v.memory ∷ ρ) (length v.regs) 0 (omega arith))
+    ap (λ m. mem_value m nowhere σ) (names-memory n len)
+    ∙ ap bound_memory (push-at v.regs far n 0 (omega arith))
+    in
+    let left : exp_value machine_names.left nowhere σ ≡ v.left =
+    ap (λ e. exp_value e nowhere σ) (names-left n len)
+    ∙ ap bound_word (push-at v.regs far (suc n) 1 (omega arith)) ∙ is
     in
     λ i. record { regs = regs i; memory = memory i; left = left i }
 
-names-true : (R : Rights) (F : Form) (e : Exp) (v : Valuation) (ρ : List Bound) → IgnoresBound F → AreRegs v.regs → exp_value e nowhere (push v.regs (BMem v.memory ∷ ρ)) ≡ v.left →
-    IsTrueIn R (alls 31 (subst_form F (record machine_names { left = e }))) nowhere (BMem v.memory ∷ ρ) → IsTrueIn R F v []
-names-true R F e v ρ ignores are left t =
-    let s : Substitution = record machine_names { left = e } in
-    let σ : List Bound = push v.regs (BMem v.memory ∷ ρ) in
-    let put : IsTrueIn R (subst_form F s) nowhere σ = alls-true R (subst_form F s) nowhere 31 v.regs (BMem v.memory ∷ ρ) are.count are.words t in
-    let there : IsTrueIn R F v σ = subst (λ (u : Valuation). IsTrueIn R F u σ) (names-value e v ρ are.count left) ((subst-truth R F s nowhere σ length-machine_names).0 put) in
+names-true : (R : Rights) (F : Form) (v : Valuation) (ρ : List Bound) → IgnoresBound F
+    → AreRegs v.regs → bound_word (bound_at ρ 0) ≡ v.left
+    → IsTrueIn R (alls 31 (subst_form F machine_names)) nowhere (BMem v.memory ∷ ρ)
+    → IsTrueIn R F v []
+names-true R F v ρ ignores are left t =
+    let far : List Bound = BMem v.memory ∷ ρ in
+    let σ : List Bound = push v.regs far in
+    let named : Form = subst_form F machine_names in
+    let put : IsTrueIn R named nowhere σ =
+    alls-true R named nowhere 31 v.regs far are.count are.words t in
+    let there : IsTrueIn R F v σ =
+    subst (λ (u : Valuation). IsTrueIn R F u σ) (names-value v ρ are.count left)
+    ((subst-truth R F machine_names nowhere σ length-machine_names).0 put) in
     (ignores R v σ are.count).0 there
 
--- the steps that are left are the furthest variable
-left-value : (v : Valuation) (n : ℕ) → n ≡ 32 → length v.regs ≡ 31 → exp_value (EVar n) nowhere (push v.regs (BMem v.memory ∷ BWord v.left ∷ [])) ≡ v.left
-left-value v n e len = ap bound_word (push-at v.regs (BMem v.memory ∷ BWord v.left ∷ []) n 1 (omega (arith, e, len)))
-
-pub close-true : (R : Rights) (bound : Option ℕ) (F : Form) (v : Valuation) → IgnoresBound F → AreRegs v.regs → IsMemory v.memory → IsStepCount bound v.left → IsTrueIn R (close bound F) nowhere [] → IsTrueIn R F v []
+pub close-true : (R : Rights) (bound : Option ℕ) (F : Form) (v : Valuation) → IgnoresBound F
+    → AreRegs v.regs → IsMemory v.memory → IsStepCount bound v.left
+    → IsTrueIn R (close bound F) nowhere [] → IsTrueIn R F v []
 close-true R None F v ignores are mem none t =
-    let left : exp_value machine_names.left nowhere (push v.regs (BMem v.memory ∷ [])) ≡ v.left = ap (λ e. exp_value e nowhere (push v.regs (BMem v.memory ∷ []))) names-left ∙ sym none in
-    names-true R F machine_names.left v [] ignores are left (t v.memory mem)
-close-true R (Some bound) F v ignores are mem few t = names-true R F (EVar 32) v (BWord v.left ∷ []) ignores are (left-value v 32 refl are.count) (t v.left few v.memory mem)
+    names-true R F v [] ignores are (sym none) (t v.memory mem)
+close-true R (Some bound) F v ignores are mem few t =
+    names-true R F v (BWord v.left ∷ []) ignores are refl (t v.left few v.memory mem)

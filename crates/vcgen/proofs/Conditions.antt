@@ -11,10 +11,10 @@ use Rattle.alpha_cfg.specs.Graph.{IsMarked, Walk, IsAcyclic}
 use Rattle.alpha_cfg.specs.Cuts.{graph_of}
 use Rattle.alpha_cfg.proofs.Lengths.{walk_from, no_long_walk}
 use Rattle.alpha_cfg.proofs.FreeWalks.{steps_edge, graph_closed, cycle_free, length-exits_from}
-use Rattle.formula_tree.specs.Formulas.{ELeft, ELit, EOp, ESel, MMem, MUpd, Form, FRel, FRd, FWr, FAnd, FImp}
+use Rattle.formula_tree.specs.Formulas.{ELeft, ELit, ESel, MMem, MUpd, Form, FRel, FRd, FWr, FAnd, FImp}
 use Rattle.formula_tree.specs.Substitution.{subst_form}
 use Rattle.vcgen.specs.Assignments.{for_reg, for_memory}
-use Rattle.vcgen.specs.Conditions.{AnnotatedCode, reg_exp, rhs_exp, address_exp, taken_if, passed_if, at_target, computed_exp, action_condition, insn_condition, one_step_less, counted_condition, condition_at, invariant_at, or_else, wp_within, wp, body, aligned_exp}
+use Rattle.vcgen.specs.Conditions.{AnnotatedCode, reg_exp, address_exp, taken_if, passed_if, at_target, computed_exp, action_condition, insn_condition, one_step_less, counted_condition, condition_at, invariant_at, or_else, wp_within, wp, body, aligned_exp}
 use Rattle.vcgen.specs.Safety.{IsAnnotated}
 
 -- ---- what has to hold before an instruction asks for what has to hold where it leads, and for nothing else

@@ -11,9 +11,7 @@ use Rattle.formula_tree.specs.Truth.{IsValid}
 use Rattle.lf_encode.specs.Encoding.{form_encoding}
 use Rattle.lf_encode.specs.Contexts.{machine_context}
 use Rattle.lf_encode.proofs.Named.{form_encoded, form_same}
-use Rattle.policy_set.specs.declared.kind.PolicyKind.{PolicyKind}
-use Rattle.policy_set.specs.Policies.{pre_of, post_of}
-use Rattle.policy_set.proofs.Closed.{pre-over, post-over}
+use Rattle.policy_set.specs.Views.{PolicyView, IsPolicy}
 use Rattle.vcgen.specs.Variables.{HasVarsBelow}
 use Rattle.vcgen.specs.Conditions.{invariant_at, condition}
 use Rattle.vcgen.specs.Safety.{IsAnnotated, IsSafe}
@@ -62,25 +60,35 @@ vars-inv (p ∷ ps) (q ∷ qs) f i F e =
       | inr other ↦ vars-inv ps qs f.2 i F (rw other at e)
     ]
 
-pub encoding-exists : (policy : PolicyKind) (code : List Insn) (invs : List (ℕ × Tree)) → AreForms invs → (vc : Tree) × EncodesCondition policy code invs vc
+pub encoding-exists : (policy : PolicyView) (code : List Insn) (invs : List (ℕ × Tree))
+    → AreForms invs → (vc : Tree) × EncodesCondition policy code invs vc
 encoding-exists policy code invs h = let f = formulas-of invs h in (form_encoding (condition (annotated policy code f.0)), record { formulas = f.0; encoded = f.1; is = refl })
 
-pub encoding-unique : (policy : PolicyKind) (code : List Insn) (invs : List (ℕ × Tree)) (s t : Tree) → EncodesCondition policy code invs s → EncodesCondition policy code invs t → s ≡ t
+pub encoding-unique : (policy : PolicyView) (code : List Insn) (invs : List (ℕ × Tree)) (s t : Tree)
+    → EncodesCondition policy code invs s → EncodesCondition policy code invs t → s ≡ t
 encoding-unique policy code invs s t f g = sym f.is ∙ ap (λ qs. form_encoding (condition (annotated policy code qs))) (formulas-same invs f.formulas g.formulas f.encoded g.encoded) ∙ g.is
 
-pub encoded-annotates : (policy : PolicyKind) (code : List Insn) (invs : List (ℕ × Tree)) (formulas : List (ℕ × Form)) (marks : List Bool) →
-    AreEncodings invs formulas → IsCode code → AreFlags (map (λ p. p.0) invs) (length code) marks → IsCut code marks → IsAnnotated (annotated policy code formulas)
-encoded-annotates policy code invs formulas marks f is flags cut = record {
+pub encoded-annotates : (policy : PolicyView) (code : List Insn) (invs : List (ℕ × Tree))
+    (formulas : List (ℕ × Form)) (marks : List Bool) →
+    IsPolicy policy → AreEncodings invs formulas → IsCode code
+    → AreFlags (map (λ p. p.0) invs) (length code) marks → IsCut code marks
+    → IsAnnotated (annotated policy code formulas)
+encoded-annotates policy code invs formulas marks kept f is flags cut = record {
   code = is;
   invs = vars-inv invs formulas f;
-  pre = pre-over policy;
-  post = post-over policy;
+  pre = kept.asked.over;
+  post = kept.promised.over;
   bound = tt;
   marks = marks;
   flags = subst (λ l. AreFlags l (length code) marks) (indices-same invs formulas f) flags;
   cut = cut;
 }
 
-pub policy-safe : (policy : PolicyKind) (code : List Insn) (invs : List (ℕ × Tree)) (formulas : List (ℕ × Form)) (marks : List Bool) →
-    AreEncodings invs formulas → IsCode code → AreFlags (map (λ p. p.0) invs) (length code) marks → IsCut code marks → IsValid (condition (annotated policy code formulas)) → IsSafe code (pre_of policy) (post_of policy)
-policy-safe policy code invs formulas marks f is flags cut valid = condition-safe (annotated policy code formulas) (encoded-annotates policy code invs formulas marks f is flags cut) valid
+pub policy-safe : (policy : PolicyView) (code : List Insn) (invs : List (ℕ × Tree))
+    (formulas : List (ℕ × Form)) (marks : List Bool) →
+    IsPolicy policy → AreEncodings invs formulas → IsCode code
+    → AreFlags (map (λ p. p.0) invs) (length code) marks → IsCut code marks
+    → IsValid (condition (annotated policy code formulas)) → IsSafe code policy.pre policy.post
+policy-safe policy code invs formulas marks kept f is flags cut valid =
+    condition-safe (annotated policy code formulas)
+    (encoded-annotates policy code invs formulas marks kept f is flags cut) valid

@@ -17,7 +17,7 @@ use Rattle.alpha_cfg.specs.declared.outcome.Kind.{Kind}
 use Rattle.alpha_cfg.specs.declared.outcome.Kind.TheVariants.{Load, Store}
 use Rattle.alpha_cfg.specs.declared.outcome.Step.{Step}
 use Rattle.alpha_cfg.specs.declared.outcome.Step.TheVariants.{Moved, Returned, Blocked}
-use Rattle.formula_tree.specs.Formulas.{Exp, EOp, ESel, MemExp, MMem, MUpd, Form}
+use Rattle.formula_tree.specs.Formulas.{Exp, ESel, MemExp, MMem, MUpd, Form}
 use Rattle.formula_tree.specs.Substitution.{subst_form}
 use Rattle.formula_tree.specs.Truth.{Valuation, Bound, exp_value, mem_value, IsTrueIn}
 use Rattle.formula_tree.proofs.Meaning.{subst-truth}

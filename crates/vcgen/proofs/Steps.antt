@@ -132,7 +132,9 @@ module _ (c : AnnotatedCode) (is : IsAnnotated c) (valid : IsValid (condition c)
 
   -- the postcondition says nothing of the steps that are left
   post-satisfied : (s : State) (left : ℕ) → IsTrueOf c.post left s → Satisfies s.rights s.regs s.memory c.post
-  post-satisfied s left t = true-left s.rights 31 c.post [] (record { regs = s.regs; memory = s.memory; left = left }) 0 [] is.post t
+  post-satisfied s left t =
+      true-left s.rights 32 c.post [] (record { regs = s.regs; memory = s.memory; left = left })
+      0 [] is.post t
 
   good-step : (s : State) (left : ℕ) (p : Step × State) → Leaves (Goes s left) (IsTrueOf c.post left) p → IsGoodStep c s left p
   good-step s left (Moved, t) h = h

@@ -1,5 +1,5 @@
 -- The walk forward on terms makes the encoding of the verification condition.
-use Rattle.std.proofs.Common.{◌≡◌, ℕ, zero, suc, ◌+◌, eqb, List, [], ◌∷◌, map, length, set, slice_get, Option, Some, None, refl, sym, ◌∙◌, ap, subst, inl, inr, ℤ}
+use Rattle.std.proofs.Common.{◌≡◌, ℕ, zero, suc, ◌+◌, eqb, List, [], ◌∷◌, map, length, set, slice_get, Option, Some, None, refl, sym, ◌∙◌, ap, inl, inr, ℤ}
 use Rattle.std.proofs.Common.{length-set}
 use Rattle.std.proofs.lemmas.List.{map-set}
 use Rattle.std.proofs.Math.ListN.{get_or-map}
@@ -16,16 +16,16 @@ use Rattle.alpha_cfg.specs.Actions as actions
 use Rattle.alpha_cfg.specs.Flow.{jump_of}
 use Rattle.term_table.specs.Tree.{Tree, Var}
 use Rattle.lf_signature.specs.Terms.{lit, op_term, sel, upd, falsity, rd, wr, and_term, imp_term, all_term, allm_term}
-use Rattle.formula_tree.specs.Formulas.{Exp, ELit, EOp, ESel, MemExp, MMem, MUpd, Form, FFalse, FImp}
+use Rattle.formula_tree.specs.Formulas.{Exp, ELit, ESel, MemExp, MMem, MUpd, Form, FFalse, FImp}
 use Rattle.formula_tree.specs.Substitution.{Substitution, subst_exp, subst_mem, subst_form}
 use Rattle.formula_tree.specs.Scope.{IsOver}
 use Rattle.formula_tree.proofs.Putting.{change_none}
 use Rattle.lf_encode.specs.Encoding.{exp_encoding, mem_encoding, form_encoding}
-use Rattle.lf_encode.specs.Contexts.{machine_context, bound_sorts, vars_down, machine_names, EncodesForm}
+use Rattle.lf_encode.specs.Contexts.{machine_context, vars_down, machine_names, EncodesForm}
 use Rattle.lf_encode.specs.PutTree.{MachineTerms, machine_terms_of, put_tree}
 use Rattle.lf_encode.specs.Naming.{named_form}
 use Rattle.lf_encode.proofs.Naming.{named_form-is}
-use Rattle.lf_encode.proofs.MachineContext.{bound_sorts-machine, registers_in-machine, names_in-machine}
+use Rattle.lf_encode.proofs.MachineContext.{of-context, names_in-machine}
 use Rattle.lf_encode.proofs.PutTree.{put-encoding}
 use Rattle.vcgen.specs.Assignments.{for_reg, for_memory}
 use Rattle.vcgen.specs.Conditions.{AnnotatedCode, reg_exp, rhs_exp, address_exp, taken_if, passed_if, at_target, computed_exp, action_condition, condition_at, invariant_at, or_else, wp_within, wp, body, alls, close, inv_parts, condition, aligned_exp}
@@ -36,7 +36,7 @@ use Rattle.vcgen.proofs.Substitutions.{subst-for_reg, subst-for_memory}
 -- ---- formulas in the context m, r0 to r30
 
 pub encodes-over : (F : Form) (t : Tree) → EncodesForm machine_context F t → IsOver 31 F []
-encodes-over F t f = subst (λ B. IsOver 31 F B) bound_sorts-machine (subst (λ r. IsOver r F (bound_sorts machine_context)) (registers_in-machine 31) f.over)
+encodes-over F t f = of-context 31 F f.over
 
 pub encodes-is : (F : Form) (t : Tree) → EncodesForm machine_context F t → form_encoding (subst_form F machine_names) ≡ t
 encodes-is F t f = ap (λ s. form_encoding (subst_form F s)) (sym names_in-machine) ∙ f.is
@@ -54,9 +54,13 @@ pub subst-names : (F : Form) → subst_form F machine_names ≡ named_form 0 F
 subst-names F = ap (subst_form F) (sym (change_none machine_names)) ∙ named_form-is 0 F
 
 -- terms put in the encoding of a formula over r0 to r30 and m
-put-names : (F : Form) (t : Substitution) → length t.regs ≡ 31 → IsOver 31 F [] → put_tree (machine_terms_of t) 0 (form_encoding (subst_form F machine_names)) ≡ form_encoding (subst_form F t)
-put-names F t len over =
-    ap (λ s. put_tree (machine_terms_of t) 0 (form_encoding (subst_form F s))) (sym (change_none machine_names)) ∙ put-encoding 31 F [] t len over ∙ ap (λ s. form_encoding (subst_form F s)) (change_none t)
+put-names : (r : ℕ) (F : Form) (t : Substitution) → length t.regs ≡ 31 → IsOver r F []
+    → put_tree (machine_terms_of t) 0 (form_encoding (subst_form F machine_names))
+    ≡ form_encoding (subst_form F t)
+put-names r F t len over =
+    ap (λ s. put_tree (machine_terms_of t) 0 (form_encoding (subst_form F s)))
+    (sym (change_none machine_names)) ∙ put-encoding r F [] t len over
+    ∙ ap (λ s. form_encoding (subst_form F s)) (change_none t)
 
 -- ---- operands
 
@@ -103,7 +107,8 @@ passed_term-is Positive x t = refl
 abbrev Makes : (ℕ → MachineTerms → Tree) → (ℕ → Form) → Type 0
 Makes next F = (j : ℕ) (t : Substitution) → length t.regs ≡ 31 → next j (machine_terms_of t) ≡ form_encoding (subst_form (F j) t)
 
-module _ (next : ℕ → MachineTerms → Tree) (F : ℕ → Form) (makes : Makes next F) (post : Form) (over : IsOver 31 post []) where
+module _ (next : ℕ → MachineTerms → Tree) (F : ℕ → Form) (makes : Makes next F) (post : Form)
+    (over : IsOver 32 post []) where
   reg-set : (j r : ℕ) (u : Tree) (e : Exp) (t : Substitution) → length t.regs ≡ 31 → u ≡ exp_encoding (subst_exp e t) → next j (with_reg (machine_terms_of t) r u) ≡ form_encoding (subst_form (subst_form (F j) (for_reg r e)) t)
   reg-set j r u e t len is =
       let long : length (set t.regs r (subst_exp e t)) ≡ 31 = length-set t.regs r (subst_exp e t) ∙ len in
@@ -145,7 +150,7 @@ module _ (next : ℕ → MachineTerms → Tree) (F : ℕ → Form) (makes : Make
       let a = walked_to-is jump t len in
       let b = makes (i + 1) t len in
       λ k. and_term (imp_term (x k) (a k)) (imp_term (y k) (b k))
-  action-is i jump actions.Return t len = put-names post t len over
+  action-is i jump actions.Return t len = put-names 32 post t len over
 
   walked_at-is : (i : ℕ) (o : Option Insn) (t : Substitution) → length t.regs ≡ 31 → walked_at next (form_encoding (subst_form post machine_names)) i o (machine_terms_of t) ≡ form_encoding (subst_form (condition_at None F post i o) t)
   walked_at-is i None t len = refl
@@ -160,7 +165,9 @@ ended-is [] (q ∷ qs) i u F t f len is = absurd f
 ended-is (p ∷ ps) [] i u F t f len is = absurd f
 ended-is (p ∷ ps) (q ∷ qs) i u F t f len is =
     elim (cases_Bool (eqb q.0 i)) [
-      | inl here ↦ rw (← f.0, here) (ap (put_tree (machine_terms_of t) 0) (sym (encodes-is q.1 p.1 f.1)) ∙ put-names q.1 t len (encodes-over q.1 p.1 f.1))
+      | inl here ↦ rw (← f.0, here)
+          (ap (put_tree (machine_terms_of t) 0) (sym (encodes-is q.1 p.1 f.1))
+          ∙ put-names 31 q.1 t len (encodes-over q.1 p.1 f.1))
       | inr other ↦ rw (← f.0, other) (ended-is ps qs i u F t f.2 len is)
     ]
 
@@ -184,7 +191,8 @@ start_terms-is = ap (λ l. record { regs = l; memory = Var 31 }) (encoding-vars 
 
 -- ---- the condition
 
-module _ (code : List Insn) (ps : List (ℕ × Tree)) (qs : List (ℕ × Form)) (pre post : Form) (f : AreEncodings ps qs) (pre_over : IsOver 31 pre []) (post_over : IsOver 31 post []) where
+module _ (code : List Insn) (ps : List (ℕ × Tree)) (qs : List (ℕ × Form)) (pre post : Form)
+    (f : AreEncodings ps qs) (pre_over : IsOver 32 pre []) (post_over : IsOver 32 post []) where
   abbrev the_code : AnnotatedCode
   the_code = record { code = code; invs = qs; pre = pre; post = post; bound = None }
 

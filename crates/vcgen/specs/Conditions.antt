@@ -12,7 +12,7 @@ use Rattle.alpha_words.specs.declared.insn.Insn.{Insn}
 use Rattle.alpha_cfg.specs.Actions.{Computed, Sum, Applied, Always, When, Action, action_of}
 use Rattle.alpha_cfg.specs.Actions as actions
 use Rattle.alpha_cfg.specs.Flow.{jump_of}
-use Rattle.formula_tree.specs.Formulas.{Exp, EReg, ELeft, EVar, ELit, EOp, ESel, MMem, MUpd, Form, FTrue, FFalse, FRel, FRd, FWr, FAnd, FImp, FAll, FAllm}
+use Rattle.formula_tree.specs.Formulas.{Exp, EReg, ELeft, ELit, EOp, ESel, MMem, MUpd, Form, FTrue, FFalse, FRel, FRd, FWr, FAnd, FImp, FAll, FAllm}
 use Rattle.formula_tree.specs.Substitution.{subst_form}
 use Rattle.lf_encode.specs.Contexts.{machine_names}
 use Rattle.vcgen.specs.Assignments.{for_reg, for_memory, for_left}
@@ -149,7 +149,7 @@ alls (suc n) F = FAll (alls n F)
 -- for all memories m and all words of r0 to r30, in this order; where steps are counted, for all numbers of them first
 abbrev pub close : Option ℕ → Form → Form
 close None F = FAllm (alls 31 (subst_form F machine_names))
-close (Some bound) F = FAll (FAllm (alls 31 (subst_form F (record machine_names { left = EVar 32 }))))
+close (Some bound) F = FAll (FAllm (alls 31 (subst_form F machine_names)))
 
 -- at the start all steps are left
 abbrev pub entered : Option ℕ → Form → Form

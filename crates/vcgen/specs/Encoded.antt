@@ -1,8 +1,7 @@
 -- The encoding of the verification condition of a policy's code.
 use Rattle.std.specs.Prelude.{◌≡◌, ℕ, List, [], ◌∷◌, None}
 use Rattle.alpha_words.specs.declared.insn.Insn.{Insn}
-use Rattle.policy_set.specs.declared.kind.PolicyKind.{PolicyKind}
-use Rattle.policy_set.specs.Policies.{pre_of, post_of}
+use Rattle.policy_set.specs.Views.{PolicyView}
 use Rattle.term_table.specs.Tree.{Tree}
 use Rattle.lf_signature.specs.Constants.{declared}
 use Rattle.lf_signature.specs.Terms.{form}
@@ -14,8 +13,14 @@ use Rattle.vcgen.specs.Conditions.{AnnotatedCode, condition}
 use Rattle.lf_signature.specs.declared.WordSignature.TheVariants.{Sigma1}
 
 -- code with invariants, under a policy; its steps aren't counted
-abbrev pub annotated : PolicyKind → List Insn → List (ℕ × Form) → AnnotatedCode
-annotated policy code invs = record { code = code; invs = invs; pre = pre_of policy; post = post_of policy; bound = None }
+abbrev pub annotated : PolicyView → List Insn → List (ℕ × Form) → AnnotatedCode
+annotated policy code invs = record {
+  code = code;
+  invs = invs;
+  pre = policy.pre;
+  post = policy.post;
+  bound = None;
+}
 
 -- each invariant has type form in the context m, r0 to r30
 abbrev pub AreForms : List (ℕ × Tree) → Type 0
@@ -30,7 +35,8 @@ AreEncodings (p ∷ ps) [] = ⊥
 AreEncodings (p ∷ ps) (q ∷ qs) = (q.0 ≡ p.0) × EncodesForm machine_context q.1 p.1 × AreEncodings ps qs
 
 -- The term is the encoding of the verification condition of the code under the policy, the formulas of its invariants being those that the terms encode.
-pub record EncodesCondition (policy : PolicyKind) (code : List Insn) (invs : List (ℕ × Tree)) (vc : Tree) : Type 0 where
+pub record EncodesCondition (policy : PolicyView) (code : List Insn) (invs : List (ℕ × Tree))
+    (vc : Tree) : Type 0 where
   pub formulas : List (ℕ × Form)
   pub encoded : AreEncodings invs formulas
   pub is : form_encoding (condition (annotated policy code formulas)) ≡ vc

@@ -7,8 +7,7 @@ use Rattle.alpha_cfg.specs.Machine.{State, IsState, step_of, run_of}
 use Rattle.formula_tree.specs.Formulas.{Form}
 use Rattle.formula_tree.specs.Scope.{IsOver}
 use Rattle.formula_tree.specs.Truth.{IsValid}
-use Rattle.policy_set.specs.declared.kind.PolicyKind.{PolicyKind}
-use Rattle.policy_set.specs.Policies.{pre_of, post_of}
+use Rattle.policy_set.specs.Views.{PolicyView, IsPolicy}
 use Rattle.policy_set.specs.Satisfies.{Satisfies}
 use Rattle.term_table.specs.Tree.{Tree}
 use Rattle.vcgen.specs.Conditions.{AnnotatedCode, invariant_at, wp, body, condition}
@@ -52,16 +51,28 @@ ConditionClosed = (c : AnnotatedCode) → IsAnnotated c → c.bound ≡ None →
 
 -- Invariants that are forms have one condition.
 abbrev pub EncodingExists : Type 0
-EncodingExists = (policy : PolicyKind) (code : List Insn) (invs : List (ℕ × Tree)) → AreForms invs → (vc : Tree) × EncodesCondition policy code invs vc
+EncodingExists =
+    (policy : PolicyView) (code : List Insn) (invs : List (ℕ × Tree)) → AreForms invs → (vc : Tree)
+    × EncodesCondition policy code invs vc
 
 -- They have one at most.
 abbrev pub EncodingUnique : Type 0
-EncodingUnique = (policy : PolicyKind) (code : List Insn) (invs : List (ℕ × Tree)) (s t : Tree) → EncodesCondition policy code invs s → EncodesCondition policy code invs t → s ≡ t
+EncodingUnique =
+    (policy : PolicyView) (code : List Insn) (invs : List (ℕ × Tree)) (s t : Tree)
+    → EncodesCondition policy code invs s → EncodesCondition policy code invs t → s ≡ t
 
 -- Their formulas annotate the code, where its marks are theirs and cut it.
 abbrev pub EncodedAnnotates : Type 0
-EncodedAnnotates = (policy : PolicyKind) (code : List Insn) (invs : List (ℕ × Tree)) (formulas : List (ℕ × Form)) (marks : List Bool) → AreEncodings invs formulas → IsCode code → AreFlags (map (λ p. p.0) invs) (length code) marks → IsCut code marks → IsAnnotated (annotated policy code formulas)
+EncodedAnnotates =
+    (policy : PolicyView) (code : List Insn) (invs : List (ℕ × Tree)) (formulas : List (ℕ × Form))
+    (marks : List Bool) → IsPolicy policy → AreEncodings invs formulas → IsCode code
+    → AreFlags (map (λ p. p.0) invs) (length code) marks → IsCut code marks
+    → IsAnnotated (annotated policy code formulas)
 
 -- A true condition makes the policy's code safe.
 abbrev pub PolicySafe : Type 0
-PolicySafe = (policy : PolicyKind) (code : List Insn) (invs : List (ℕ × Tree)) (formulas : List (ℕ × Form)) (marks : List Bool) → AreEncodings invs formulas → IsCode code → AreFlags (map (λ p. p.0) invs) (length code) marks → IsCut code marks → IsValid (condition (annotated policy code formulas)) → IsSafe code (pre_of policy) (post_of policy)
+PolicySafe =
+    (policy : PolicyView) (code : List Insn) (invs : List (ℕ × Tree)) (formulas : List (ℕ × Form))
+    (marks : List Bool) → IsPolicy policy → AreEncodings invs formulas → IsCode code
+    → AreFlags (map (λ p. p.0) invs) (length code) marks → IsCut code marks
+    → IsValid (condition (annotated policy code formulas)) → IsSafe code policy.pre policy.post

@@ -24,8 +24,8 @@ IsBound (Some bound) = bound < 2 ^ 64
 pub record IsAnnotated (c : AnnotatedCode) : Type 0 where
   pub code : IsCode c.code
   pub invs : (i : ℕ) (F : Form) → invariant_at c.invs i ≡ Some F → HasVarsBelow 0 F
-  pub pre : IsOver 31 c.pre []
-  pub post : IsOver 31 c.post []
+  pub pre : IsOver 32 c.pre []
+  pub post : IsOver 32 c.post []
   pub bound : IsBound c.bound
   pub marks : List Bool
   pub flags : AreFlags (map (λ p. p.0) c.invs) (length c.code) marks

@@ -6,7 +6,6 @@ ghost use Rattle.term_table.specs.Table.{IsKnown, tree_at, Extends, id_trees};
 ghost use Rattle.hereditary_subst.specs.Kept.{IsMemo};
 ghost use Rattle.lf_signature.specs.Nodes.{IsIdOf};
 ghost use Rattle.lf_signature.specs.Terms.{imp_term};
-ghost use Rattle.policy_set.specs.Policies.{pre_of, post_of};
 ghost use Rattle.lf_encode.specs.PutTree.{machine_terms_at};
 ghost use Rattle.lf_encode.specs.Contexts.{machine_context, encoding_in};
 ghost use Rattle.vcgen.specs.Encoded.{AreForms};
@@ -135,14 +134,15 @@ fn encoded_condition(
     requires inside { All (λ p. p.0 < length code.now) invs.now }
     requires shifts { IsMemo table.old shifts.old }
     ensures id { let t = table.old in
-        let pre = encoding_in machine_context (pre_of policy.now) in
-        let post = encoding_in machine_context (post_of policy.now) in
+        let pre = encoding_in machine_context policy.now.pre in
+        let post = encoding_in machine_context policy.now.post in
         IfOk result (IsIdOf table.new
         (condition_term code.now (id_trees t invs.now) pre post)) }
     ensures extends { Extends table.old table.new }
     ensures shifts { IsMemo table.new shifts.new }
 {
     let _ = code.insns(); // tells the prover that this is code
+    policy.laws(); // tells the prover what the formulas name, and that they aren't high
     let context = machine_context();
     let pre = encode_form(table, policy.pre(), &context)?;
     let post = encode_form(table, policy.post(), &context)?;
@@ -168,6 +168,7 @@ pub fn vc(table: &mut Table, cut: &Cut, policy: &Policy, invs: &[(u32, Id)]) -> 
     if unfolded > MAX_UNFOLDED {
         return Err(VcFault::UnfoldLimit(unfolded));
     }
+    policy.laws(); // tells the prover what the formulas name
     let mut memo = Memo::new(table.allocator(), MOST_RESULTS);
     Ok(encoded_condition(table, &mut memo, cut.code(), policy, invs)?)
 }

@@ -9,7 +9,6 @@ ghost use Rattle.alpha_cfg.specs.Cuts.{AreFlags};
 ghost use Rattle.term_table.specs.Table.{IsKnown, tree_at, Extends, id_trees};
 ghost use Rattle.hereditary_subst.specs.Kept.{IsMemo};
 ghost use Rattle.lf_signature.specs.Terms.{imp_term};
-ghost use Rattle.policy_set.specs.Policies.{pre_of, post_of};
 ghost use Rattle.lf_encode.specs.PutTree.{machine_terms_at};
 ghost use Rattle.lf_encode.specs.Contexts.{machine_context, encoding_in};
 ghost use Rattle.vcgen.specs.Encoded.{AreForms};
@@ -197,14 +196,15 @@ fn is_encoded_condition(
     requires goal { IsKnown table.old goal }
     requires shifts { IsMemo table.old shifts.old }
     ensures exact { let t = table.old in
-        let pre = encoding_in machine_context (pre_of policy.now) in
-        let post = encoding_in machine_context (post_of policy.now) in
+        let pre = encoding_in machine_context policy.now.pre in
+        let post = encoding_in machine_context policy.now.post in
         let made = condition_term code.now (id_trees t invs.now) pre post in
         IfOk result (λ b. IsTrue b ↔ (tree_at t goal ≡ made)) }
     ensures extends { Extends table.old table.new }
     ensures shifts { IsMemo table.new shifts.new }
 {
     let _ = code.insns(); // tells the prover that this is code
+    policy.laws(); // tells the prover what the formulas name, and that they aren't high
     let context = machine_context();
     let pre = encode_form(table, policy.pre(), &context)?;
     let post = encode_form(table, policy.post(), &context)?;
@@ -243,6 +243,7 @@ pub fn is_condition_with(
     if unfolded > MAX_UNFOLDED {
         return Err(VcFault::UnfoldLimit(unfolded));
     }
+    policy.laws(); // tells the prover what the formulas name
     let equal = is_encoded_condition(table, memo, cut.code(), policy, invs, formula)?;
     Ok(equal)
 }

@@ -2,6 +2,7 @@
 
 ghost use Rattle.std.specs.Prelude.{◌≡◌, []};
 ghost use Rattle.policy_set.specs.declared.kind.PolicyKind.TheVariants.{Filter, Tag, Table};
+ghost use Rattle.policy_set.specs.Views.{built_in};
 ghost use Rattle.vcgen.specs.Conditions.{condition};
 ghost use Rattle.vcgen.specs.Encoded.{annotated};
 ghost use Rattle.vcgen.specs.Worked.{ret_alone, filter_ret, tag_ret, table_ret};
@@ -38,11 +39,13 @@ pub fn encoding_laws()
 /// The conditions of small code under the policies are those of `specs/Worked`, which were written
 /// out by hand.
 pub fn worked_conditions()
-    ensures filter_ret { condition (annotated Filter ret_alone []) ≡ filter_ret }
-    ensures tag_ret { condition (annotated Tag ret_alone []) ≡ tag_ret }
-    ensures table_ret { condition (annotated Table ret_alone []) ≡ table_ret }
-    ensures counting { condition (annotated Filter counting counting_invs) ≡ counting_condition }
-    ensures guarded { condition (annotated Tag guarded []) ≡ guarded_condition }
-    ensures twice { condition (annotated Tag twice []) ≡ twice_condition }
-    ensures computing { condition (annotated Filter computing []) ≡ computing_condition }
+    ensures filter_ret { condition (annotated (built_in Filter) ret_alone []) ≡ filter_ret }
+    ensures tag_ret { condition (annotated (built_in Tag) ret_alone []) ≡ tag_ret }
+    ensures table_ret { condition (annotated (built_in Table) ret_alone []) ≡ table_ret }
+    ensures counting { condition (annotated (built_in Filter) counting counting_invs)
+        ≡ counting_condition }
+    ensures guarded { condition (annotated (built_in Tag) guarded []) ≡ guarded_condition }
+    ensures twice { condition (annotated (built_in Tag) twice []) ≡ twice_condition }
+    ensures computing { condition (annotated (built_in Filter) computing [])
+        ≡ computing_condition }
 {}

@@ -1,10 +1,11 @@
 //! Which of the machine's variables a term lacks, kept for all terms that are put.
 
-ghost use Rattle.std.specs.Prelude.{◌≡◌, true, ◌<◌, ◌+◌, ◌^◌, IfOk, IfSome, IsTrue};
+ghost use Rattle.std.specs.Prelude.{◌≡◌, ◌<◌, ◌+◌, ◌^◌, true, IfOk, IfSome, IsTrue, OnOk};
 ghost use Rattle.term_table.specs.Tree.{App, Lam, Var};
 ghost use Rattle.term_table.specs.Scope.{is_scoped};
 ghost use Rattle.term_table.specs.Table.{TableView, IsKnown, tree_at};
 ghost use Rattle.hereditary_subst.specs.Kept.{IsMemo};
+ghost use Rattle.hereditary_subst.specs.Limits.{left_of};
 ghost use Rattle.lf_encode.specs.PutTree.{machine_terms_at, put_tree};
 ghost use Rattle.lf_encode.specs.Kept.{AreMachineTerms};
 ghost use Rattle.vcgen.specs.Inside.Uses.{IsFreeOf, IsIdle, AreIdleFrom, IsRow, AreUses};
@@ -63,6 +64,7 @@ impl Uses {
         requires uses { AreUses table.now self.old }
         requires row { IsRow table.now place lacks }
         ensures shifts { IsMemo table.now shifts.new }
+        ensures left { OnOk result (left_of shifts.old ≡ left_of shifts.new + 1) }
         ensures uses { AreUses table.now self.new }
     {
         let _ = table; // only the clauses speak of it

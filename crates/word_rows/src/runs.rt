@@ -9,13 +9,17 @@ use std::alloc::{AllocError, Global};
 use word_ops::Profile;
 
 /// What a packet came to, as `ref` prints it.
-fn result_text(alloc: Global, kind: PolicyKind, end: PacketResult) -> Result<String, AllocError> {
+fn result_text(
+    alloc: Global,
+    policy: Option<PolicyKind>,
+    end: PacketResult,
+) -> Result<String, AllocError> {
     match end {
         PacketResult::Short => format!(in alloc; "short"),
         PacketResult::Ran(Outcome::OutOfSteps, _) => format!(in alloc; "out of steps"),
-        PacketResult::Ran(Outcome::Returned(word), sum) => match kind {
-            PolicyKind::Filter => format!(in alloc; "{word}"),
-            PolicyKind::Tag | PolicyKind::Table => format!(in alloc; "{word} {sum}"),
+        PacketResult::Ran(Outcome::Returned(word), sum) => match policy {
+            None | Some(PolicyKind::Filter) => format!(in alloc; "{word}"),
+            Some(PolicyKind::Tag) | Some(PolicyKind::Table) => format!(in alloc; "{word} {sum}"),
         },
         PacketResult::Ran(Outcome::Blocked { index, kind, addr }, _) => match kind {
             Kind::Load => format!(in alloc; "blocked {index} load {addr:016x}"),

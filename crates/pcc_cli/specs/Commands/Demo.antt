@@ -4,7 +4,7 @@ use Rattle.alpha_words.specs.declared.insn.Insn.{Insn}
 use Rattle.alpha_cfg.specs.Machine.{run_of}
 use Rattle.alpha_cfg.specs.declared.outcome.Outcome.{Outcome}
 use Rattle.alpha_cfg.specs.declared.outcome.Outcome.TheVariants.{Returned}
-use Rattle.policy_set.specs.declared.kind.PolicyKind.{PolicyKind}
+use Rattle.policy_set.specs.Views.{PolicyView}
 use Rattle.reference_machine.specs.declared.layout.TheConstants.{ARENA}
 use Rattle.reference_machine.specs.Starts.{StartView, start_state}
 use Rattle.packet_store.specs.PolicyStarts.{start_of}
@@ -42,12 +42,12 @@ abbrev pub both_counts : Counts → Counts → Counts
 both_counts a b = record { steps = a.steps + b.steps; ones = a.ones + b.ones }
 
 -- the same of the first so many packets
-unfoldable pub packet_counts : PolicyKind → List Insn → ℕ → ℕ → ℕ → Counts
+unfoldable pub packet_counts : PolicyView → List Insn → ℕ → ℕ → ℕ → Counts
 packet_counts policy code budget n zero = record { steps = 0; ones = 0 }
 packet_counts policy code budget n (suc k) = both_counts (packet_counts policy code budget n k) (count_from code budget (start_of policy (demo_packet n k)))
 
 -- what is told of code with so many invariants
-abbrev pub summary_of : PolicyKind → ℕ → Shown → DemoSummary
+abbrev pub summary_of : PolicyView → ℕ → Shown → DemoSummary
 summary_of policy n shown =
     let counts = packet_counts policy shown.code DEMO_STEPS n PACKETS in
     record { words = length shown.code; invariants = shown.invariants; packets = PACKETS; steps = counts.steps; ones = counts.ones }
@@ -55,20 +55,20 @@ summary_of policy n shown =
 -- ---- the command
 
 -- the container with its proof
-unfoldable pub demo_container : PolicyKind → ℕ → Stage (List ℕ)
+unfoldable pub demo_container : PolicyView → ℕ → Stage (List ℕ)
 demo_container policy n = do
   container ← assembled_in policy (demo_source n)
   proved_in policy container
 
 -- what is told
-unfoldable pub demo_told : PolicyKind → ℕ → Stage DemoSummary
+unfoldable pub demo_told : PolicyView → ℕ → Stage DemoSummary
 demo_told policy n = do
   container ← demo_container policy n
   shown ← shown_in policy container
   gives (summary_of policy n shown)
 
 -- the three lines of it
-unfoldable pub demo_effect : PolicyKind → ℕ → Stage Effect
+unfoldable pub demo_effect : PolicyView → ℕ → Stage Effect
 demo_effect policy n = do
   told ← demo_told policy n
   printing (demo_lines told)

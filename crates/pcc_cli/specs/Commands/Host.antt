@@ -32,12 +32,16 @@ region_sum a agent setup steps = sum_of (alone a agent setup steps).1.memory set
 abbrev pub turn_line_from : ℕ → Turn → ℕ → Member → Option StartView → List ℕ
 turn_line_from t turn before agent None = []
 turn_line_from t turn before agent (Some setup) =
-    turn_line agent.policy t turn.agent (turn_outcome turn.agent agent setup before turn.budget) (region_sum turn.agent agent setup (before + turn.budget))
+    turn_line agent.policy.kind t turn.agent
+    (turn_outcome turn.agent agent setup before turn.budget)
+    (region_sum turn.agent agent setup (before + turn.budget))
 
 -- the same of the agent's own start
 abbrev pub agent_turn_line : ℕ → Turn → ℕ → Option Member → List ℕ
 agent_turn_line t turn before None = []
-agent_turn_line t turn before (Some agent) = turn_line_from t turn before agent (start_from (base_of turn.agent) agent.policy agent.packet)
+agent_turn_line t turn before (Some agent) =
+    turn_line_from t turn before agent
+    (start_from (base_of turn.agent) agent.policy.kind agent.packet)
 
 -- the lines of turns, the first of which is number t, by those before
 abbrev pub turn_lines : List Member → ℕ → List Turn → List Turn → List ℕ

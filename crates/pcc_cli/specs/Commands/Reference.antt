@@ -14,4 +14,4 @@ ref_command policy file packets steps = do
   under ← policy_named policy
   code ← code_of under file
   all ← packets_of packets
-  printing (result_lines under (packet_result under code steps) 0 all)
+  printing (result_lines under.kind (packet_result under code steps) 0 all)

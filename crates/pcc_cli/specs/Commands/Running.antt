@@ -15,4 +15,4 @@ run_command policy file packets steps = do
   under ← policy_named policy
   code ← accepted_code_of under file
   all ← packets_of packets
-  printing (result_lines under (packet_result under code steps) 0 all)
+  printing (result_lines under.kind (packet_result under code steps) 0 all)

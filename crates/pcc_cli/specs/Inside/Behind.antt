@@ -1,7 +1,7 @@
 -- What commands do behind their policy: stages of private functions.
 use Rattle.std.specs.Prelude.{ℕ, List}
 use Rattle.alpha_words.specs.declared.insn.Insn.{Insn}
-use Rattle.policy_set.specs.declared.kind.PolicyKind.{PolicyKind}
+use Rattle.policy_set.specs.Views.{PolicyView}
 use Rattle.packet_store.specs.Results.{packet_result}
 use Rattle.pcc_lines.specs.Fixed.{accepted_line}
 use Rattle.pcc_lines.specs.Results.{result_lines}
@@ -12,13 +12,15 @@ use Rattle.pcc_cli.specs.Stages.Judging.{accepted_of, accepted_code_of}
 use Rattle.pcc_cli.specs.Stages.Packets.{packets_of}
 
 -- the packet file and its faults, and what comes of code on the packets in order
-abbrev pub results_on : List ℕ → ℕ → PolicyKind → List Insn → Stage Effect
-results_on packets steps under code = packets_of packets >>= λ all. printing (result_lines under (packet_result under code steps) 0 all)
+abbrev pub results_on : List ℕ → ℕ → PolicyView → List Insn → Stage Effect
+results_on packets steps under code =
+    packets_of packets >>= λ all. printing
+    (result_lines under.kind (packet_result under code steps) 0 all)
 
 -- the container with all that may be wrong with it, and then the packets
-abbrev pub run_under : List ℕ → List ℕ → ℕ → PolicyKind → Stage Effect
+abbrev pub run_under : List ℕ → List ℕ → ℕ → PolicyView → Stage Effect
 run_under file packets steps under = accepted_code_of under file >>= results_on packets steps under
 
 -- the container with all that may be wrong with it
-abbrev pub check_under : List ℕ → PolicyKind → Stage Effect
+abbrev pub check_under : List ℕ → PolicyView → Stage Effect
 check_under file under = accepted_of under file >>= λ accepted. printing accepted_line

@@ -27,6 +27,8 @@ use Rattle.pcc_cli.specs.Texts.{texts}
 use Rattle.pcc_cli.specs.declared.agent_stop.AgentStop.{AgentStop}
 use Rattle.pcc_cli.specs.declared.agent_stop.AgentStop.TheVariants as agent_stop
 use Rattle.pcc_cli.specs.Inside.Turning.{job_lines}
+use Rattle.pcc_cli.specs.declared.refused_line.RefusedLine.{RefusedLine}
+use Rattle.pcc_cli.specs.declared.refused_line.RefusedLine.TheVariants as refused_line
 use Rattle.pcc_cli.specs.declared.stop.Stop.{Stop}
 use Rattle.pcc_cli.specs.declared.stop.Stop.TheVariants as stop
 use Rattle.pcc_cli.specs.declared.report.Report.{Report}
@@ -42,24 +44,29 @@ agent_text (agent_stop.BadPackets fault) = packet_fault_line fault
 agent_text agent_stop.NoPacket = no_packet_line
 agent_text agent_stop.Short = short_line
 
+-- the line that refuses
+abbrev pub refused_text : RefusedLine → List ℕ
+refused_text refused_line.UnknownPolicy = unknown_policy_line
+refused_text (refused_line.Container refusal) = refusal_line refusal
+refused_text refused_line.ContainerTooLong = container_too_long_line
+refused_text (refused_line.NotEasy part) = not_easy_line part
+refused_text (refused_line.TooBig measure number) = too_big_line (measure_name measure) number
+refused_text refused_line.SourceTooLong = source_too_long_line
+refused_text (refused_line.BadLine line flaw) = source_fault_line line (line_flaw_name flaw)
+refused_text (refused_line.BadSource flaw) = source_fault_line (asm_flaw_line flaw)
+    (asm_flaw_name flaw)
+refused_text refused_line.PacketsTooLong = packets_too_long_line
+refused_text (refused_line.BadPackets fault) = packet_fault_line fault
+refused_text refused_line.ProgramTooLong = bpf_too_long_line
+refused_text (refused_line.BadProgram flaw) = bpf_flaw_line flaw
+refused_text refused_line.ScriptTooLong = script_too_long_line
+refused_text (refused_line.BadScript line flaw) = script_fault_line line (script_flaw_name flaw)
+refused_text (refused_line.OfAgent a why) = agent_line a (agent_text why)
+
 -- the exit of a stop, if its line is put; none of want of memory
 abbrev pub end_of : Stop → Option Exit
 end_of stop.Usage = Some (usage_exit texts)
-end_of stop.UnknownPolicy = Some (refused unknown_policy_line)
-end_of (stop.Refused refusal) = Some (refused (refusal_line refusal))
-end_of stop.ContainerTooLong = Some (refused container_too_long_line)
-end_of (stop.NotEasy part) = Some (refused (not_easy_line part))
-end_of (stop.TooBig measure number) = Some (refused (too_big_line (measure_name measure) number))
-end_of stop.SourceTooLong = Some (refused source_too_long_line)
-end_of (stop.BadLine line flaw) = Some (refused (source_fault_line line (line_flaw_name flaw)))
-end_of (stop.BadSource flaw) = Some (refused (source_fault_line (asm_flaw_line flaw) (asm_flaw_name flaw)))
-end_of stop.PacketsTooLong = Some (refused packets_too_long_line)
-end_of (stop.BadPackets fault) = Some (refused (packet_fault_line fault))
-end_of stop.ProgramTooLong = Some (refused bpf_too_long_line)
-end_of (stop.BadProgram flaw) = Some (refused (bpf_flaw_line flaw))
-end_of stop.ScriptTooLong = Some (refused script_too_long_line)
-end_of (stop.BadScript line flaw) = Some (refused (script_fault_line line (script_flaw_name flaw)))
-end_of (stop.OfAgent a why) = Some (refused (agent_line a (agent_text why)))
+end_of (stop.Refused line) = Some (refused (refused_text line))
 end_of (stop.MissingOfScript name) = Some (missing_exit texts (string_bytes name))
 end_of (stop.ReadFaultOfScript name) = Some (read_fault_exit texts (string_bytes name))
 end_of (stop.Missing name) = Some (missing_exit texts name.now)
@@ -75,8 +82,8 @@ stop_exit why = unwrap_or (end_of why) no_memory_exit
 abbrev pub report_text : Report → List ℕ
 report_text report.Accepted = accepted_line
 report_text (report.Written count) = written_line count
-report_text (report.Results job) = result_lines job.policy (testing_results job.runner) 0 job.packets
-report_text (report.Hosted job) = result_lines job.policy (host_results job.runner) 0 job.packets
+report_text (report.Results job) = result_lines job.kind (testing_results job.runner) 0 job.packets
+report_text (report.Hosted job) = result_lines job.kind (host_results job.runner) 0 job.packets
 report_text (report.Turns job) = job_lines job
 report_text (report.Demo summary) = demo_lines summary
 

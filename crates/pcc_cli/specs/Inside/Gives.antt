@@ -8,24 +8,16 @@ use Rattle.pcc_exit.specs.Exits.{Exit}
 use Rattle.pcc_exit.specs.Stages.{Stage, stops, gives, Follows}
 use Rattle.pcc_exit.specs.Runs.{Happens, NoneFailed}
 use Rattle.pcc_cli.specs.Texts.{texts}
+use Rattle.pcc_cli.specs.declared.refused_line.RefusedLine.TheVariants as refused_line
 use Rattle.pcc_cli.specs.declared.stop.Stop.{Stop}
 use Rattle.pcc_cli.specs.declared.stop.Stop.TheVariants as stop
 use Rattle.pcc_cli.specs.declared.report.Report.{Report}
 use Rattle.pcc_cli.specs.declared.report.Report.TheVariants as report
 use Rattle.pcc_cli.specs.Inside.Decisions.{end_of}
 
--- a stop that says that a file is too long
-abbrev pub IsTooLong : Stop → Type 0
-IsTooLong stop.ContainerTooLong = Unit {0}
-IsTooLong stop.SourceTooLong = Unit {0}
-IsTooLong stop.PacketsTooLong = Unit {0}
-IsTooLong stop.ProgramTooLong = Unit {0}
-IsTooLong stop.ScriptTooLong = Unit {0}
-IsTooLong other = ⊥
-
 -- a stop of the gate
 abbrev pub IsOfGate : Stop → Type 0
-IsOfGate (stop.Refused refusal) = Unit {0}
+IsOfGate (stop.Refused (refused_line.Container refusal)) = Unit {0}
 IsOfGate stop.Memory = Unit {0}
 IsOfGate other = ⊥
 

@@ -2,7 +2,7 @@
 use Rattle.std.specs.Prelude.{◌≡◌, ◌≢◌, ◌<◌, ◌≤◌, ℕ, false, List, [], ◌∷◌, length, All, slice_get, IsSome, Some, Vec}
 use Rattle.std.specs.Global.{Global}
 use Rattle.alpha_cfg.specs.declared.outcome.Outcome.TheVariants as outcomes
-use Rattle.policy_set.specs.declared.kind.PolicyKind.{PolicyKind}
+use Rattle.policy_set.specs.Views.{PolicyView}
 use Rattle.reference_machine.specs.Starts.{StartView}
 use Rattle.packet_store.specs.declared.reader.TheConstants.{MAX_PACKET}
 use Rattle.packet_store.specs.PolicyStarts.{start_from}
@@ -15,9 +15,9 @@ use Rattle.pcc_cli.specs.Stages.Hosting.{Member}
 use Rattle.pcc_cli.specs.Commands.Host.{alone}
 
 -- the packet isn't too long, and has a start in the part of agent a
-pub record HasStart (a : ℕ) (policy : PolicyKind) (packet : List ℕ) : Type 0 where
+pub record HasStart (a : ℕ) (policy : PolicyView) (packet : List ℕ) : Type 0 where
   pub short : length packet ≤ MAX_PACKET
-  pub starts : IsSome (start_from (base_of a) policy packet)
+  pub starts : IsSome (start_from (base_of a) policy.kind packet)
 
 -- the packet at the place of each agent has a start
 abbrev pub HaveStarts : List HostedView → List (Vec ℕ Global) → Type 0
@@ -50,7 +50,7 @@ pub record StandsAt (a : ℕ) (agent : Member) (setup : StartView) (steps : ℕ)
 -- agent a of a host is where turns take it from the start of its packet
 pub record IsWhereTurnsLead (a : ℕ) (agent : Member) (before : List Turn) (host : List HostedView) : Type 0 where
   pub setup : StartView
-  pub starts : start_from (base_of a) agent.policy agent.packet ≡ Some setup
+  pub starts : start_from (base_of a) agent.policy.kind agent.packet ≡ Some setup
   pub m : HostedView
   pub at : slice_get host a ≡ Some m
   pub stands : StandsAt a agent setup (budget_of a before) m

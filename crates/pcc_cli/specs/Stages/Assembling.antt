@@ -1,6 +1,6 @@
 -- Stages that assemble a source.
 use Rattle.std.specs.Prelude.{ℕ, List, Result, Ok, Err}
-use Rattle.policy_set.specs.declared.kind.PolicyKind.{PolicyKind}
+use Rattle.policy_set.specs.Views.{PolicyView}
 use Rattle.proof_container.specs.Contents.{Contents}
 use Rattle.proof_container.specs.Encoding.{encoding_of}
 use Rattle.asm_text.specs.declared.fault.LineFlaw.{LineFlaw}
@@ -32,11 +32,11 @@ container_made (Ok contents) = gives (encoding_of contents)
 container_made (Err flaw) = stops (refused (source_fault_line (asm_flaw_line flaw) (asm_flaw_name flaw)))
 
 -- the container, as bytes, that the source is assembled into for the policy
-unfoldable pub assembled_as : PolicyKind → Source → Stage (List ℕ)
+unfoldable pub assembled_as : PolicyView → Source → Stage (List ℕ)
 assembled_as policy source = container_made (assembled_contents policy source)
 
 -- the container, as bytes, that the source which the text spells is assembled into for the policy
-unfoldable pub assembled_in : PolicyKind → List ℕ → Stage (List ℕ)
+unfoldable pub assembled_in : PolicyView → List ℕ → Stage (List ℕ)
 assembled_in policy text = do
   source ← source_in text
   assembled_as policy source
@@ -46,7 +46,7 @@ abbrev pub source_text_of : List ℕ → Stage (List ℕ)
 source_text_of name = reads name MAX_SOURCE (refused source_too_long_line) gives
 
 -- the container, as bytes, that the source in the file of the name is assembled into for the policy
-unfoldable pub assembled_of : PolicyKind → List ℕ → Stage (List ℕ)
+unfoldable pub assembled_of : PolicyView → List ℕ → Stage (List ℕ)
 assembled_of policy name = do
   text ← source_text_of name
   assembled_in policy text

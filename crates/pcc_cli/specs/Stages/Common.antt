@@ -1,6 +1,6 @@
 -- The stages that commands share: a policy by its name, what is printed, and what is written before.
 use Rattle.std.specs.Prelude.{ℕ, List, length, Option, Some, None}
-use Rattle.policy_set.specs.declared.kind.PolicyKind.{PolicyKind}
+use Rattle.policy_set.specs.Views.{PolicyView}
 use Rattle.policy_set.specs.Names.{policy_of}
 use Rattle.pcc_lines.specs.Fixed.{unknown_policy_line}
 use Rattle.pcc_lines.specs.Sources.{written_line}
@@ -13,12 +13,12 @@ abbrev pub refused : List ℕ → Exit
 refused text = record { status = 1; text = text }
 
 -- the policy that was found
-abbrev pub policy_found : Option PolicyKind → Stage PolicyKind
+abbrev pub policy_found : Option PolicyView → Stage PolicyView
 policy_found (Some policy) = gives policy
 policy_found None = stops (refused unknown_policy_line)
 
 -- the policy of the name
-abbrev pub policy_named : List ℕ → Stage PolicyKind
+abbrev pub policy_named : List ℕ → Stage PolicyView
 policy_named name = policy_found (policy_of name)
 
 -- it prints, and writes nothing

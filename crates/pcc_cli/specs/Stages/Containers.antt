@@ -1,10 +1,10 @@
 -- Stages that read a container: its bytes, and its code for a policy.
-use Rattle.std.specs.Prelude.{ℕ, ◌==◌, List, if◌then◌else◌, Result, Ok, Err}
+use Rattle.std.specs.Prelude.{ℕ, List, if◌then◌else◌, Result, Ok, Err}
 use Rattle.alpha_words.specs.declared.insn.Insn.{Insn}
 use Rattle.alpha_cfg.specs.declared.fault.CodeFlaw.{CodeFlaw}
 use Rattle.alpha_cfg.specs.CodeDecoding.{decoded_code}
-use Rattle.policy_set.specs.declared.kind.PolicyKind.{PolicyKind}
-use Rattle.policy_set.specs.Names.{policy_number}
+use Rattle.policy_set.specs.Views.{PolicyView}
+use Rattle.policy_set.specs.Names.{is_number_of}
 use Rattle.proof_container.specs.Contents.{Contents}
 use Rattle.proof_container.specs.Decoding.{Fault, decoded_container}
 use Rattle.pcc_lines.specs.Fixed.{container_too_long_line}
@@ -16,12 +16,14 @@ use Rattle.pcc_cli.specs.declared.stages.TheConstants.{MAX_FILE}
 use Rattle.word_ops.specs.declared.Profile.TheVariants.{One}
 
 -- what was read as a container, where it is for the policy
-abbrev pub container_for : PolicyKind → Result Contents Fault → Stage Contents
-container_for policy (Ok c) = if c.policy == policy_number policy then gives c else stops (refused (refusal_line (refusal.OtherPolicy c.policy)))
+abbrev pub container_for : PolicyView → Result Contents Fault → Stage Contents
+container_for policy (Ok c) =
+    if is_number_of policy c.policy then gives c else stops
+    (refused (refusal_line (refusal.OtherPolicy c.policy)))
 container_for policy (Err fault) = stops (refused (refusal_line (refusal.Malformed fault.0 fault.1)))
 
 -- the container that the bytes are, where it is for the policy
-unfoldable pub container_in : PolicyKind → List ℕ → Stage Contents
+unfoldable pub container_in : PolicyView → List ℕ → Stage Contents
 container_in policy bytes = container_for policy (decoded_container bytes)
 
 -- what was read as code
@@ -30,7 +32,7 @@ code_found (Ok code) = gives code
 code_found (Err flaw) = stops (refused (refusal_line (refusal.BadCode flaw)))
 
 -- the code of the container that the bytes are, where it is for the policy
-unfoldable pub code_in : PolicyKind → List ℕ → Stage (List Insn)
+unfoldable pub code_in : PolicyView → List ℕ → Stage (List Insn)
 code_in policy bytes = do
   container ← container_in policy bytes
   code_found (decoded_code One container.code)
@@ -40,7 +42,7 @@ abbrev pub container_bytes_of : List ℕ → Stage (List ℕ)
 container_bytes_of name = reads name MAX_FILE (refused container_too_long_line) gives
 
 -- the code of the container in the file of the name, where it is for the policy
-unfoldable pub code_of : PolicyKind → List ℕ → Stage (List Insn)
+unfoldable pub code_of : PolicyView → List ℕ → Stage (List Insn)
 code_of policy name = do
   bytes ← container_bytes_of name
   code_in policy bytes

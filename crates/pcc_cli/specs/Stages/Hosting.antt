@@ -1,7 +1,7 @@
 -- Stages that read a script and what it loads.
 use Rattle.std.specs.Prelude.{ℕ, suc, ◌==◌, if◌then◌else◌, List, [], ◌∷◌, Option, Some, None, Result, Ok, Err}
 use Rattle.alpha_words.specs.declared.insn.Insn.{Insn}
-use Rattle.policy_set.specs.declared.kind.PolicyKind.{PolicyKind}
+use Rattle.policy_set.specs.Views.{PolicyView}
 use Rattle.reference_machine.specs.Starts.{StartView}
 use Rattle.packet_store.specs.PolicyStarts.{start_from}
 use Rattle.agent_script.specs.declared.fault.ScriptFlaw.{ScriptFlaw}
@@ -44,7 +44,7 @@ script_of name = do
 
 -- an agent that is to be loaded: its policy, its code and its packet
 pub record Member : Type 0 where
-  pub policy : PolicyKind
+  pub policy : PolicyView
   pub code : List Insn
   pub packet : List ℕ
 
@@ -54,12 +54,13 @@ unless_short packet None = stops (refused short_line)
 unless_short packet (Some setup) = gives packet
 
 -- the first of these packets, where it has a start in the part of agent a
-abbrev pub first_packet : ℕ → PolicyKind → List (List ℕ) → Stage (List ℕ)
+abbrev pub first_packet : ℕ → PolicyView → List (List ℕ) → Stage (List ℕ)
 first_packet a policy [] = stops (refused no_packet_line)
-first_packet a policy (packet ∷ packets) = unless_short packet (start_from (base_of a) policy packet)
+first_packet a policy (packet ∷ packets) =
+    unless_short packet (start_from (base_of a) policy.kind packet)
 
 -- the first packet of the file of the name
-unfoldable pub packet_of : ℕ → PolicyKind → List ℕ → Stage (List ℕ)
+unfoldable pub packet_of : ℕ → PolicyView → List ℕ → Stage (List ℕ)
 packet_of a policy name = do
   packets ← packets_of name
   first_packet a policy packets

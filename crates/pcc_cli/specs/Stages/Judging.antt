@@ -1,7 +1,7 @@
 -- Stages that judge a container.
 use Rattle.std.specs.Prelude.{ℕ, List, length, Option, Some, None}
 use Rattle.alpha_words.specs.declared.insn.Insn.{Insn}
-use Rattle.policy_set.specs.declared.kind.PolicyKind.{PolicyKind}
+use Rattle.policy_set.specs.Views.{PolicyView}
 use Rattle.pcc_lines.specs.Refusals.{refusal_line}
 use Rattle.pcc_gate.specs.declared.refusal.Refusal.{Refusal}
 use Rattle.pcc_gate.specs.First.{first_refusal}
@@ -15,11 +15,11 @@ unless_refused None = gives tt
 unless_refused (Some refusal) = stops (refused (refusal_line refusal))
 
 -- that the bytes are accepted under the policy, or the first clause that fails
-unfoldable pub accepted_in : PolicyKind → List ℕ → Stage (Unit {0})
+unfoldable pub accepted_in : PolicyView → List ℕ → Stage (Unit {0})
 accepted_in policy bytes = unless_refused (first_refusal policy bytes)
 
 -- the code of the container that the bytes are, where it is accepted under the policy
-unfoldable pub accepted_code_in : PolicyKind → List ℕ → Stage (List Insn)
+unfoldable pub accepted_code_in : PolicyView → List ℕ → Stage (List Insn)
 accepted_code_in policy bytes = do
   accepted ← accepted_in policy bytes
   code_in policy bytes
@@ -30,7 +30,7 @@ pub record Shown : Type 0 where
   pub invariants : ℕ
 
 -- what the container that the bytes are shows, where it is accepted under the policy
-unfoldable pub shown_in : PolicyKind → List ℕ → Stage Shown
+unfoldable pub shown_in : PolicyView → List ℕ → Stage Shown
 shown_in policy bytes = do
   accepted ← accepted_in policy bytes
   container ← container_in policy bytes
@@ -38,13 +38,13 @@ shown_in policy bytes = do
   gives (record { code = code; invariants = length container.invs })
 
 -- that the file of the name is accepted under the policy
-unfoldable pub accepted_of : PolicyKind → List ℕ → Stage (Unit {0})
+unfoldable pub accepted_of : PolicyView → List ℕ → Stage (Unit {0})
 accepted_of policy name = do
   bytes ← container_bytes_of name
   accepted_in policy bytes
 
 -- the code of the container in the file of the name, where it is accepted under the policy
-unfoldable pub accepted_code_of : PolicyKind → List ℕ → Stage (List Insn)
+unfoldable pub accepted_code_of : PolicyView → List ℕ → Stage (List Insn)
 accepted_code_of policy name = do
   bytes ← container_bytes_of name
   accepted_code_in policy bytes

@@ -1,6 +1,6 @@
 -- Stages that make a proof.
 use Rattle.std.specs.Prelude.{ℕ, List, Result, Ok, Err}
-use Rattle.policy_set.specs.declared.kind.PolicyKind.{PolicyKind}
+use Rattle.policy_set.specs.Views.{PolicyView}
 use Rattle.pcc_lines.specs.Proving.{not_easy_line, too_big_line}
 use Rattle.pcc_lines.specs.Refusals.{refusal_line}
 use Rattle.bounds_prover.specs.declared.fault.ProveFault.{ProveFault}
@@ -27,11 +27,11 @@ container_proved (Ok bytes) = gives bytes
 container_proved (Err fault) = stops (no_container fault)
 
 -- the bytes of the container with a proof of its condition under the policy, or why there is none
-unfoldable pub proved_in : PolicyKind → List ℕ → Stage (List ℕ)
+unfoldable pub proved_in : PolicyView → List ℕ → Stage (List ℕ)
 proved_in policy bytes = container_proved (proved_container policy bytes)
 
 -- the bytes of the container in the file of the name with a proof of its condition under the policy
-unfoldable pub proved_of : PolicyKind → List ℕ → Stage (List ℕ)
+unfoldable pub proved_of : PolicyView → List ℕ → Stage (List ℕ)
 proved_of policy name = do
   bytes ← container_bytes_of name
   proved_in policy bytes

@@ -1,6 +1,6 @@
 //! `host SCRIPT`: runs agents by turns, by the host that tests no access.
 
-ghost use Rattle.std.specs.Prelude.{◌≡◌, ◌<◌, ◌≤◌, IfOk, length, map, option_map, string_bytes, []};
+ghost use Rattle.std.specs.Prelude.{◌≡◌, ◌<◌, ◌≤◌, IfOk, Some, length, map, option_map, string_bytes, []};
 ghost use Rattle.packet_store.specs.declared.reader.TheConstants.{MAX_PACKET};
 ghost use Rattle.packet_store.specs.PolicyStarts.{start_from};
 ghost use Rattle.agent_host.specs.declared.host.TheConstants.{MAX_AGENTS};
@@ -14,12 +14,14 @@ ghost use Rattle.pcc_cli.specs.Stages.Hosting as hosting;
 ghost use Rattle.pcc_cli.specs.Stages.Judging as judging;
 ghost use Rattle.pcc_cli.specs.Commands.Host.{turn_lines};
 ghost use Rattle.pcc_cli.specs.Tasks.{stage_of};
-ghost use Rattle.pcc_cli.specs.Inside.Decisions.{Decides, agent_text, end_of};
+ghost use Rattle.pcc_cli.specs.declared.stop.Stop.TheVariants as stops;
+ghost use Rattle.pcc_cli.specs.Inside.Decisions.{Decides, agent_text, refused_text, end_of};
 ghost use Rattle.pcc_cli.specs.Inside.Gives.{Gives, GivesPure, IsOfGate};
 ghost use Rattle.pcc_cli.specs.Inside.Standing.{HasStart, AreTurnsOf};
 ghost use Rattle.pcc_cli.specs.Inside.Turning.{AreReadyFrom, job_lines, member_view, members_view};
 
 use crate::agent_stop::AgentStop;
+use crate::refused_line::RefusedLine;
 use crate::report::Report;
 use crate::stages::{MAX_FILE, accepted_in, octets, script_of};
 use crate::stop::Stop;
@@ -46,7 +48,7 @@ fn agent_policy<'a>(alloc: Global, agent: u32, name: &str) -> Result<Policy, Sto
 {
     match by_name(alloc, name) {
         Ok(Some(policy)) => Ok(policy),
-        Ok(None) => Err(Stop::OfAgent(agent, AgentStop::UnknownPolicy)),
+        Ok(None) => Err(Stop::Refused(RefusedLine::OfAgent(agent, AgentStop::UnknownPolicy))),
         Err(_) => Err(Stop::Memory),
     }
 }
@@ -71,9 +73,22 @@ fn agent_bytes<'a, F: Files>(
             Ok(bytes)
         }
         Got::Missing => Err(Stop::MissingOfScript(name)),
-        Got::TooLong => Err(Stop::OfAgent(agent, too_long)),
+        Got::TooLong => Err(Stop::Refused(RefusedLine::OfAgent(agent, too_long))),
         Got::Failed => Err(Stop::ReadFaultOfScript(name)),
         Got::Memory => Err(Stop::Memory),
+    }
+}
+
+/// A line of the gate, told of the agent.
+fn line_of<'a>(agent: u32, line: RefusedLine) -> Stop<'a>
+    requires { IsOfGate (stops.Refused line) }
+    ensures { end_of result ≡ Some (hosting.told_of agent (refused (refused_text line))) }
+{
+    match line {
+        RefusedLine::Container(refusal) => {
+            Stop::Refused(RefusedLine::OfAgent(agent, AgentStop::Refused(refusal)))
+        }
+        _ => Stop::Memory,
     }
 }
 
@@ -83,7 +98,7 @@ fn told_of<'a>(agent: u32, stop: &Stop<'_>) -> Stop<'a>
     ensures { end_of result ≡ option_map (hosting.told_of agent) (end_of stop.now) }
 {
     match stop {
-        Stop::Refused(refusal) => Stop::OfAgent(agent, AgentStop::Refused(*refusal)),
+        Stop::Refused(line) => line_of(agent, *line),
         _ => Stop::Memory,
     }
 }
@@ -118,12 +133,12 @@ fn whole_packet<'a>(
     requires agent { agent < MAX_AGENTS }
     requires packet { length packet.now ≤ MAX_PACKET }
     ensures exact { GivesPure (λ packet. packet.items) (hosting.for_agent agent
-        (hosting.unless_short packet.now (start_from (base_of agent) policy.now packet.now)))
+        (hosting.unless_short packet.now (start_from (base_of agent) policy.now.kind packet.now)))
         result }
     ensures start { IfOk result (λ packet. HasStart agent policy.now packet.items) }
 {
     match start_at(policy, packet, part_base(agent)) {
-        None => Err(Stop::OfAgent(agent, AgentStop::Short)),
+        None => Err(Stop::Refused(RefusedLine::OfAgent(agent, AgentStop::Short))),
         Some(_) => match Vec::from_slice(alloc, packet) {
             Ok(packet) => Ok(packet),
             Err(_) => Err(Stop::Memory),
@@ -146,7 +161,7 @@ fn first_packet<'a>(
     let mut packets = file.packets();
     match packets.next() {
         Some(packet) => whole_packet(alloc, agent, policy, packet),
-        None => Err(Stop::OfAgent(agent, AgentStop::NoPacket)),
+        None => Err(Stop::Refused(RefusedLine::OfAgent(agent, AgentStop::NoPacket))),
     }
 }
 
@@ -167,7 +182,7 @@ fn agent_packet<'a, F: Files>(
     let bytes = agent_bytes(alloc, agent, name, AgentStop::PacketsTooLong, files)?;
     match PacketFile::new(bytes) {
         Ok(file) => first_packet(alloc, agent, policy, &file),
-        Err(fault) => Err(Stop::OfAgent(agent, AgentStop::BadPackets(fault))),
+        Err(fault) => Err(Stop::Refused(RefusedLine::OfAgent(agent, AgentStop::BadPackets(fault)))),
     }
 }
 

@@ -25,11 +25,11 @@ pub fn ref_command<'a, F: Files>(
 {
     let policy = policy_named(alloc, args.policy)?;
     let under = policy.kind();
-    let code = code_of(alloc, under, args.file, files)?;
+    let code = code_of(alloc, &policy, args.file, files)?;
     let packets = packets_of(alloc, args.packets, files)?;
     match TestingRunner::new(alloc, policy, code, args.steps) {
         Ok(runner) => Ok(Report::Results(Job {
-            policy: under,
+            kind: under,
             runner,
             packets,
         })),

@@ -46,7 +46,7 @@ fn results_of<'a, F: Files>(
     let packets = packets_of(alloc, args.packets, files)?;
     match runner_of(alloc, accepted, args.steps) {
         Some(runner) => Ok(Report::Hosted(Job {
-            policy: under,
+            kind: under,
             runner,
             packets,
         })),

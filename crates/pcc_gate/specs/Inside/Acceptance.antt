@@ -7,8 +7,7 @@ use Rattle.alpha_cfg.specs.Flow.{IsCode}
 use Rattle.alpha_cfg.specs.Cuts.{CutView, AreFlags, IsCut}
 use Rattle.formula_tree.specs.Formulas.{Form}
 use Rattle.formula_tree.specs.Truth.{IsValid}
-use Rattle.policy_set.specs.declared.kind.PolicyKind.{PolicyKind}
-use Rattle.policy_set.specs.Policies.{pre_of, post_of}
+use Rattle.policy_set.specs.Views.{PolicyView, IsPolicy}
 use Rattle.term_table.specs.Tree.{Tree}
 use Rattle.term_table.specs.Measures.{weight_of, sigma1_places}
 use Rattle.term_table.specs.Table.{TableView, IsKnown, tree_at, id_trees}
@@ -23,13 +22,15 @@ use Rattle.pcc_gate.specs.First.{vc_of, proves, first_proof}
 use Rattle.pcc_gate.specs.Inside.Stages.{Refuses}
 
 -- the code is safe for the policy, its invariants are forms, and the condition of their formulas is true in every structure
-pub record IsProved (policy : PolicyKind) (cut : CutView) (table : TableView) (invs : List (ℕ × ℕ)) : Type 0 where
+pub record IsProved (policy : PolicyView) (cut : CutView) (table : TableView)
+    (invs : List (ℕ × ℕ)) : Type 0 where
+  pub policy_is : IsPolicy policy
   pub code : IsCode cut.code
   pub flags : AreFlags (map (λ p. p.0) (id_trees table invs)) (length cut.code) cut.marks
   pub cuts : IsCut cut.code cut.marks
   pub known : AllByRecursion (λ (inv : ℕ × ℕ). IsKnown table inv.1) invs
   pub forms : AreForms (id_trees table invs)
-  pub safe : IsSafe cut.code (pre_of policy) (post_of policy)
+  pub safe : IsSafe cut.code policy.pre policy.post
   pub valid : (formulas : List (ℕ × Form)) → AreEncodings (id_trees table invs) formulas → IsValid (condition (annotated policy cut.code formulas))
 
 -- the proof isn't too heavy, and is the one that there is
@@ -38,7 +39,8 @@ IsProofFound t proof (Ok id) = (proof ≡ Some id) × IsKnown t id × (weight_of
 IsProofFound t proof (Err e) = Refuses (λ vc. first_proof vc (option_map (tree_at t) proof)) e
 
 -- clause 11, the proof's term being given
-abbrev pub IsProofAnswer : PolicyKind → List Insn → List (ℕ × Tree) → Tree → Result Unit GateFault → Type 0
+abbrev pub IsProofAnswer : PolicyView → List Insn → List (ℕ × Tree) → Tree → Result Unit GateFault
+    → Type 0
 IsProofAnswer policy code invs proof (Ok _) = proves proof (vc_of policy code invs) ≡ true
 IsProofAnswer policy code invs proof (Err (fault.Refused r)) = (proves proof (vc_of policy code invs) ≡ false) × (r ≡ refusal.NotProof)
 IsProofAnswer policy code invs proof (Err fault.Memory) = Unit {0}

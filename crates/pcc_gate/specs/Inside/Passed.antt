@@ -3,7 +3,7 @@ use Rattle.std.specs.Prelude.{◌≡◌, ℕ, List, Result, Ok, Err}
 use Rattle.alpha_cfg.specs.CodeBytes.{EncodesCode}
 use Rattle.alpha_cfg.specs.CodeDecoding.{decoded_code}
 use Rattle.alpha_cfg.specs.Flow.{IsCode}
-use Rattle.policy_set.specs.declared.kind.PolicyKind.{PolicyKind}
+use Rattle.policy_set.specs.Views.{PolicyView}
 use Rattle.proof_container.specs.Contents.{Contents}
 use Rattle.proof_container.specs.Views.{contents_of}
 use Rattle.pcc_gate.specs.declared.fault.GateFault.{GateFault}
@@ -28,6 +28,6 @@ IsRestAnswer c (Ok p) = IsRest c p
 IsRestAnswer c (Err e) = Refuses (first_code c (decoded_code One c.code)) e
 
 -- clauses 1 to 8
-abbrev pub IsPassedAnswer : PolicyKind → List ℕ → Result Passed GateFault → Type 0
+abbrev pub IsPassedAnswer : PolicyView → List ℕ → Result Passed GateFault → Type 0
 IsPassedAnswer policy bytes (Ok p) = Passes policy bytes (contents_of p.container) p.cut.code p.cut.marks × IsHeld p.container
 IsPassedAnswer policy bytes (Err e) = RefusesBytes policy bytes e

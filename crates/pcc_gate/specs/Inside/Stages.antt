@@ -7,8 +7,8 @@ use Rattle.alpha_cfg.specs.CodeDecoding.{decoded_code}
 use Rattle.alpha_cfg.specs.Flow.{IsCode}
 use Rattle.alpha_cfg.specs.Cuts.{CutView, AreFlags, IsCut, unfolded_of}
 use Rattle.alpha_cfg.specs.Deciding.{flags_of, uncut_of}
-use Rattle.policy_set.specs.declared.kind.PolicyKind.{PolicyKind}
-use Rattle.policy_set.specs.Names.{policy_number}
+use Rattle.policy_set.specs.Views.{PolicyView}
+use Rattle.policy_set.specs.Names.{IsNumberOf}
 use Rattle.term_table.specs.Tree.{Tree}
 use Rattle.term_table.specs.Table.{TableView, tree_at, id_trees}
 use Rattle.proof_container.specs.Contents.{Contents, roots, one_or_none}
@@ -36,19 +36,19 @@ Refuses first fault.Memory = Unit {0}
 Refuses first fault.Results = Unit {0}
 
 -- a refusal of bytes, whatever comes after; what ran out says that they aren't too many
-abbrev pub RefusesBytes : PolicyKind → List ℕ → GateFault → Type 0
+abbrev pub RefusesBytes : PolicyView → List ℕ → GateFault → Type 0
 RefusesBytes policy bytes (fault.Refused r) = (next : Contents → List Insn → Option Refusal) → first_front policy bytes next ≡ Option.Some r
 RefusesBytes policy bytes fault.Memory = length bytes ≤ MAX_BYTES
 RefusesBytes policy bytes fault.Results = length bytes ≤ MAX_BYTES
 
 -- the contents pass clauses 1 to 3
-pub record IsRead (policy : PolicyKind) (bytes : List ℕ) (c : Contents) : Type 0 where
+pub record IsRead (policy : PolicyView) (bytes : List ℕ) (c : Contents) : Type 0 where
   pub size : length bytes ≤ MAX_BYTES
   pub encoded : EncodesContents bytes c
-  pub number : c.policy ≡ policy_number policy
+  pub number : IsNumberOf policy c.policy
 
 -- clauses 1 to 3
-abbrev pub IsContainerAnswer : PolicyKind → List ℕ → Result Container GateFault → Type 0
+abbrev pub IsContainerAnswer : PolicyView → List ℕ → Result Container GateFault → Type 0
 IsContainerAnswer policy bytes (Ok c) = IsRead policy bytes (contents_of c) × IsHeld c
 IsContainerAnswer policy bytes (Err e) = RefusesBytes policy bytes e
 

@@ -1,11 +1,10 @@
 -- What a policy holds.
-use Rattle.std.specs.Prelude.{◌≡◌}
+use Rattle.std.specs.Prelude.{Option}
 use Rattle.formula_tree.specs.declared.form.Form.{Form}
 use Rattle.formula_tree.specs.Views.{form_view}
 use Rattle.policy_set.specs.declared.kind.PolicyKind.{PolicyKind}
-use Rattle.policy_set.specs.Policies.{pre_of, post_of}
+use Rattle.policy_set.specs.Views.{PolicyView}
 
--- the precondition and the postcondition of the kind
-pub record AreFormulas (kind : PolicyKind) (pre post : Form) : Type 0 where
-  pub pre_is : form_view pre ≡ pre_of kind
-  pub post_is : form_view post ≡ post_of kind
+-- a policy of these as contracts see it
+abbrev pub policy_view : Option PolicyKind → Form → Form → PolicyView
+policy_view kind pre post = record { kind = kind; pre = form_view pre; post = form_view post }

@@ -57,7 +57,9 @@ written-requires-clause-contents c = λ low few.
     let given = subst (λ l. condition_proof by_all_means (parts l) ≡ Some p) c.deref.ensures.value answer in
     let same = same_invs (contents_of k) (id_trees u c.deref-in-Proved.result.now) p (ap (id_trees u) c.deref-in-Proved.ensures.value ∙ sym (trees-same t u ps c.in-Ok.ensures.extends c.requires.held.known.0)) in
     subst IsContents (sym same)
-    (made-contents c.class_laws.ensures.sound c.args.policy.now c.args.bytes.now (contents_of k) cut.code cut.marks c.requires.passes p given low (subst (λ d. length (entries (roots d)) ≤ MAX_ENTRIES) same few))
+    (made-contents c.class_laws.ensures.sound c.args.policy.now c.laws.ensures c.args.bytes.now
+    (contents_of k) cut.code cut.marks c.requires.passes p given low
+    (subst (λ d. length (entries (roots d)) ≤ MAX_ENTRIES) same few))
 
 pub returns : goal.returns
 returns c =

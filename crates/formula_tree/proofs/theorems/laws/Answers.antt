@@ -1,3 +1,4 @@
+use Rattle.std.proofs.Common.{false}
 use Rattle.formula_tree.proofs.Meaning.{subst-truth, shift-truth, closed-truth, reads-truth, stable-truth}
 use Rattle.formula_tree.proofs.Parts.{var-truth, var-scope}
 use Rattle.formula_tree.proofs.Scopes.{scope-subst}
@@ -12,5 +13,5 @@ returns c = record {
   reads = reads-truth;
   stable = stable-truth;
   subst_scope = λ r q F s G o h. scope-subst r q F s G G o (λ n t e. e) h;
-  variable_scope = var-scope;
+  variable_scope = var-scope false;
 }

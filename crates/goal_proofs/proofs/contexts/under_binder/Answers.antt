@@ -14,5 +14,5 @@ returns-clause-under c =
 pub returns-clause-search : goal.returns-clause-search
 returns-clause-search c =
     let r = c.raised_hyps.new in
-    let s = with_memo c.args.table.now r.table c.spend_terms.new.self r.memo (c.spend_terms.ensures _ c.requires.search) c.in_ok-hyps.ensures.extends c.in_ok-hyps.ensures.memo in
+    let s = with_memo c.args.table.now r.table c.spend_terms.new.self r.memo (c.spend_terms.ensures.search _ c.requires.search) c.in_ok-hyps.ensures.extends c.in_ok-hyps.ensures.memo in
     on_ok c.new.result (search-more _ r.table c.new.new.table s c.new.ensures.extends)

@@ -43,6 +43,6 @@ returns-clause-search c =
     let t = c.args.table.now in
     let v = c.raised.new in
     let x = twice c.in_ok-hyps.ensures.extends c.in_ok-form.ensures.extends in
-    let s = with_memo t v.table c.spend_terms.new.self v.memo (c.spend_terms.ensures _ c.requires.search) x c.in_ok-form.ensures.memo in
+    let s = with_memo t v.table c.spend_terms.new.self v.memo (c.spend_terms.ensures.search _ c.requires.search) x c.in_ok-form.ensures.memo in
     let y : Extends v.table c.new.new.table = twice c.in_ok-proof.ensures.extends (twice c.in_ok-add_split.ensures.extends c.new.ensures.extends) in
     on_ok c.new.result (search-more _ v.table c.new.new.table s y)

@@ -40,6 +40,7 @@ loop-i-preserved c =
       known = done.known;
       extends = grows_more s t u st done.extends;
       memo = done.memo;
+      left = omega (arith, done.left, c.loop-i.invariant.left);
       exact = raised-step s u l i d e more c.loop-i-test.true
           (λ Γ A a q. subst (λ p. AreHyps u more (raised_hyps Γ ++ (shift_form 1 0 A, shift 1 0 p) ∷ [])) (st.same (get_or l i e).proof proof)
           (done.exact (raised_hyps Γ) A (c.loop-i.invariant.exact Γ a) (st.same (get_or l i d).form form ∙ q)));

@@ -1,4 +1,4 @@
-use Rattle.std.proofs.Common.{◌≡◌, ◌<◌, refl, sym, ◌∙◌, ap, subst, arith, IsTrue, ◌↔◌}
+use Rattle.std.proofs.Common.{◌≡◌, ◌<◌, refl, sym, ◌∙◌, ap, arith}
 use Rattle.term_table.specs.Tree.{App}
 use Rattle.term_table.specs.Table.{IsKnown, tree_at, Extends}
 use Rattle.lf_encode.specs.PutTree.{machine_terms_at, put_tree}

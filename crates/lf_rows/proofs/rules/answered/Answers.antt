@@ -14,4 +14,4 @@ by_number-requires-clause-premises c =
     )
 
 pub by_number-requires-clause-kept : goal.by_number-requires-clause-kept
-by_number-requires-clause-kept c = c.new-kept.ensures (declared Sigma1) c.tested-3.new.table
+by_number-requires-clause-kept c = c.new-kept.ensures.kept (declared Sigma1) c.tested-3.new.table

@@ -3,4 +3,4 @@ use Rattle.lf_rows.proofs.rules.paired.Goals as goal
 use Rattle.lf_signature.specs.declared.WordSignature.TheVariants.{Sigma1}
 
 pub cmp_le1-requires-clause-kept : goal.cmp_le1-requires-clause-kept
-cmp_le1-requires-clause-kept c = c.new-kept.ensures (declared Sigma1) c.read_term-2.new.table
+cmp_le1-requires-clause-kept c = c.new-kept.ensures.kept (declared Sigma1) c.read_term-2.new.table

@@ -1,13 +1,13 @@
-use Rattle.std.proofs.Common.{rules, ◌≡◌, ◌≤◌, ℕ, List, length, arith, subst, sym}
+use Rattle.std.proofs.Common.{rules, ◌≡◌, ◌≤◌, ℕ, List, length, Some, arith, subst, sym}
 use Rattle.alpha_cfg.specs.Machine.{IsState}
 use Rattle.reference_machine.specs.Starts.{StartView, HasWords, start_state}
 use Rattle.term_table.specs.Bytes.{IsBytes}
 use Rattle.packet_store.specs.PolicyStarts.{filter_start, tag_start, table_start}
 use Rattle.packet_store.proofs.StartLemmas.{tag_words, filter_good, tag_good, table_good, good-state}
-use Rattle.policy_set.specs.declared.kind.PolicyKind.TheVariants.{Tag}
-use Rattle.policy_set.specs.Policies.{tag_pre}
+use Rattle.policy_set.specs.declared.kind.PolicyKind.TheVariants.{Filter, Tag, Table}
+use Rattle.policy_set.specs.Views.{PolicyView}
 use Rattle.packet_store.specs.StartMeets.{StartMeetsIn}
-use Rattle.packet_store.proofs.Meeting.{tag_begins}
+use Rattle.packet_store.proofs.Meeting.{filter_begins, tag_begins, table_begins, meets-policy}
 use Rattle.packet_store.proofs.starting.start_at.Goals as goal
 
 pub returns-else-packet-lt16-clause-words : goal.returns-else-packet-lt16-clause-words
@@ -15,11 +15,38 @@ returns-else-packet-lt16-clause-words c =
     let bytes : IsBytes c.args.packet.now = λ i. omega (arith, c.type_inv.packet i) in
     subst (λ (s : StartView). HasWords s) (sym c.tag_start.ensures.value) (tag_words c.args.base c.args.packet.now c.requires.low bytes)
 
+-- ---- the start meets the precondition
+
+pub returns-else-packet-lt64-clause-meets : goal.returns-else-packet-lt64-clause-meets
+returns-else-packet-lt64-clause-meets c =
+    let base : ℕ = c.args.base in
+    let packet : List ℕ = c.args.packet.now in
+    let policy : PolicyView = c.args.policy.now in
+    let kind : policy.kind ≡ Some Filter = search rules in
+    let enough : 64 ≤ length packet = search rules in
+    subst (λ (s : StartView). StartMeetsIn base s policy.pre) (sym c.filter_start.ensures.value)
+    (meets-policy base policy Filter (filter_start base packet) c.laws.ensures kind
+    (filter_begins base packet c.requires.low enough c.requires.packet))
+
 pub returns-else-packet-lt16-clause-meets : goal.returns-else-packet-lt16-clause-meets
 returns-else-packet-lt16-clause-meets c =
-    let kind : c.args.policy.now ≡ Tag = search rules in
-    rw kind
-    (subst (λ (s : StartView). StartMeetsIn c.args.base s tag_pre) (sym c.tag_start.ensures.value) (tag_begins c.args.base c.args.packet.now c.requires.low))
+    let base : ℕ = c.args.base in
+    let packet : List ℕ = c.args.packet.now in
+    let policy : PolicyView = c.args.policy.now in
+    let kind : policy.kind ≡ Some Tag = search rules in
+    subst (λ (s : StartView). StartMeetsIn base s policy.pre) (sym c.tag_start.ensures.value)
+    (meets-policy base policy Tag (tag_start base packet) c.laws.ensures kind
+    (tag_begins base packet c.requires.low))
+
+pub returns-in-Table-clause-meets : goal.returns-in-Table-clause-meets
+returns-in-Table-clause-meets c =
+    let base : ℕ = c.args.base in
+    let packet : List ℕ = c.args.packet.now in
+    let policy : PolicyView = c.args.policy.now in
+    let kind : policy.kind ≡ Some Table = search rules in
+    subst (λ (s : StartView). StartMeetsIn base s policy.pre) (sym c.table_start.ensures.value)
+    (meets-policy base policy Table (table_start base packet) c.laws.ensures kind
+    (table_begins base packet c.requires.low c.requires.packet))
 
 -- ---- the start is a state
 

@@ -6,8 +6,8 @@ use Rattle.packet_store.proofs.theorems.laws.Goals as goal
 
 pub returns : goal.returns
 returns c = record {
-  state = λ policy packet setup. start_from-state 65536 policy packet setup refl (omega arith);
-  meets = λ policy packet setup. start_from-meets 65536 policy packet setup (omega arith);
+  state = λ policy packet setup. start_from-state 65536 policy.kind packet setup refl (omega arith);
+  meets = λ policy packet setup is. start_from-meets 65536 policy packet setup is (omega arith);
   whole = whole_exactly;
   fault = fault_exactly;
 }

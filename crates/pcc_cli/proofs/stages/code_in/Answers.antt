@@ -8,7 +8,9 @@ use Rattle.word_ops.specs.declared.Profile.TheVariants.{One}
 
 pub returns-in-Err : goal.returns-in-Err
 unfolding code_in
-returns-in-Err c = pure_stops (λ container. code_found (decoded_code One container.code)) (container_in c.args.policy c.args.bytes.now) c.in-Err.stop c.in-Err.ensures.exact
+returns-in-Err c =
+    pure_stops (λ container. code_found (decoded_code One container.code))
+    (container_in c.args.policy.now c.args.bytes.now) c.in-Err.stop c.in-Err.ensures.exact
 
 pub returns-in-Ok-of : goal.returns-in-Ok-of
 unfolding code_in

@@ -1,5 +1,6 @@
 use Rattle.std.proofs.Common.{ℕ, List, subst, ap, ◌∙◌, arith}
 use Rattle.file_port.specs.Sink.{Puts}
+use Rattle.policy_set.specs.Views.{PolicyView}
 use Rattle.agent_host.specs.Turns.{TurnsTo}
 use Rattle.pcc_cli.proofs.StandingLemmas.{turn-leads, turn-line, still-loaded, replaced-count}
 use Rattle.pcc_cli.proofs.turning.make_turn.Goals as goal
@@ -24,8 +25,12 @@ accepted-requires g c =
 pub returns-clause-line : goal.returns-clause-line
 returns-clause-line g c = λ agents before leads within.
     subst (λ (line : List ℕ). Puts line (g.S.Sink.state c.args.out.now) (g.S.Sink.state c.print_turn.new.out) c.print_turn.result)
-    (turn-line agents before c.args.host.now c.turn-turned.new.self c.args.turn c.turn-turned.result leads c.turn-turned.ensures c.args.number c.sum-sum.result c.kind-policy.result c.outcome.result within c.sum-sum.ensures
-    (λ m e. c.kind-policy.ensures.exact ∙ c.policy.ensures ∙ ap (λ x. x.policy) (c.accepted.ensures m e)) c.outcome.ensures)
+    (turn-line agents before c.args.host.now c.turn-turned.new.self c.args.turn
+    c.turn-turned.result leads c.turn-turned.ensures c.args.number c.sum-sum.result
+    c.kind-kind.result c.outcome.result within c.sum-sum.ensures
+    (λ m e. c.kind-kind.ensures.exact
+    ∙ ap (λ (p : PolicyView). p.kind) (c.policy.ensures ∙ ap (λ x. x.policy)
+    (c.accepted.ensures m e))) c.outcome.ensures)
     c.print_turn.ensures
 
 pub returns-clause-after : goal.returns-clause-after

@@ -50,7 +50,9 @@ invariant_of-result c =
     let h = subst (λ l. proves tree (vc_of c.args.policy.now p.cut.code (id_trees t l)) ≡ true) c.deref.ensures.value c.in_ok-proved.ensures.answer in
     let a = gate-accepts c.args.policy.now c.args.bytes.now (contents_of p.container) p.cut.code p.cut.marks c.requires.passes tree (ap (option_map (tree_at t)) found.0) found.2 h in
     subst (λ k. IsProved k p.cut u p.container.invs.items) (sym c.in_ok-policy.ensures.exact)
-    (proved-by (first-sound c.truth_laws.ensures.sound) c.args.policy.now c.args.bytes.now (contents_of p.container) p.cut t u p.container.invs.items c.in_ok-proved.ensures.extends c.requires.held.known.0 refl a)
+    (proved-by (first-sound c.truth_laws.ensures.sound) c.args.policy.now c.laws.ensures
+    c.args.bytes.now (contents_of p.container) p.cut t u p.container.invs.items
+    c.in_ok-proved.ensures.extends c.requires.held.known.0 refl a)
 
 pub returns : goal.returns
 returns c =

@@ -1,5 +1,6 @@
-use Rattle.policy_set.proofs.Closed.{pre-over, post-over}
+use Rattle.policy_set.proofs.Closed.{built_in-is, built_in-first}
+use Rattle.policy_set.proofs.Numbers.{number-exactly}
 use Rattle.policy_set.proofs.theorems.laws.Goals as goal
 
 pub returns : goal.returns
-returns c = record { pre = pre-over; post = post-over }
+returns c = record { built_in = built_in-is; operators = built_in-first; numbers = number-exactly }

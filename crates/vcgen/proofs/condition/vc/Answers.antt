@@ -1,6 +1,4 @@
 use Rattle.std.proofs.Common.{◌≡◌, ◌<◌, length, slice_index_or, sym, ◌∙◌, subst, arith}
-use Rattle.policy_set.specs.Policies.{pre_of, post_of}
-use Rattle.policy_set.proofs.Closed.{pre-over, post-over}
 use Rattle.formula_tree.specs.Substitution.{subst_form}
 use Rattle.lf_encode.specs.Encoding.{form_encoding}
 use Rattle.lf_encode.specs.Contexts.{machine_names}
@@ -24,7 +22,12 @@ returns-clause-exact c =
     let code = c.args.cut.now.code in
     let invs = id_trees c.args.table.now c.args.invs.now in
     let has : EncodesCondition policy code invs _ = (encoding-exists policy code invs c.requires.forms).1 in
-    let term : condition_term code invs (form_encoding (subst_form (pre_of policy) machine_names)) (form_encoding (subst_form (post_of policy) machine_names)) ≡ form_encoding (condition (annotated policy code has.formulas)) =
-    condition_term-is code invs has.formulas (pre_of policy) (post_of policy) has.encoded (pre-over policy) (post-over policy) in
-    let made = c.in_ok-encoded_condition.ensures.id.is ∙ (λ i. condition_term (c.code.ensures.value i) invs (encoding-machine (pre_of policy) i) (encoding-machine (post_of policy) i)) ∙ term in
+    let term : condition_term code invs (form_encoding (subst_form policy.pre machine_names))
+    (form_encoding (subst_form policy.post machine_names))
+    ≡ form_encoding (condition (annotated policy code has.formulas)) =
+    condition_term-is code invs has.formulas policy.pre policy.post has.encoded
+    c.laws.ensures.asked.over c.laws.ensures.promised.over in
+    let made = c.in_ok-encoded_condition.ensures.id.is
+    ∙ (λ i. condition_term (c.code.ensures.value i) invs (encoding-machine policy.pre i)
+    (encoding-machine policy.post i)) ∙ term in
     (omega arith, c.in_ok-encoded_condition.ensures.id.known, record { formulas = has.formulas; encoded = has.encoded; is = sym made })

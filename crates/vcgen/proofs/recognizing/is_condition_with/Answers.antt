@@ -1,6 +1,4 @@
 use Rattle.std.proofs.Common.{◌≡◌, ◌<◌, length, slice_index_or, refl, sym, ◌∙◌, subst, arith}
-use Rattle.policy_set.specs.Policies.{pre_of, post_of}
-use Rattle.policy_set.proofs.Closed.{pre-over, post-over}
 use Rattle.term_table.specs.Table.{tree_at, id_trees}
 use Rattle.formula_tree.specs.Substitution.{subst_form}
 use Rattle.lf_encode.specs.Encoding.{form_encoding}
@@ -28,10 +26,13 @@ returns-clause-exact c =
     let formula = tree_at c.args.table.now c.args.formula in
     let has : EncodesCondition policy code invs _ = (encoding-exists policy code invs c.requires.forms).1 in
     let whole = form_encoding (condition (annotated policy code has.formulas)) in
-    let term : condition_term code invs (form_encoding (subst_form (pre_of policy) machine_names))
-    (form_encoding (subst_form (post_of policy) machine_names)) ≡ whole =
-    condition_term-is code invs has.formulas (pre_of policy) (post_of policy) has.encoded (pre-over policy) (post-over policy) in
-    let made = (λ i. condition_term (c.code.ensures.value i) invs (encoding-machine (pre_of policy) i) (encoding-machine (post_of policy) i)) ∙ term in
+    let term : condition_term code invs (form_encoding (subst_form policy.pre machine_names))
+    (form_encoding (subst_form policy.post machine_names)) ≡ whole =
+    condition_term-is code invs has.formulas policy.pre policy.post has.encoded
+    c.laws.ensures.asked.over c.laws.ensures.promised.over in
+    let made =
+    (λ i. condition_term (c.code.ensures.value i) invs (encoding-machine policy.pre i)
+    (encoding-machine policy.post i)) ∙ term in
     let exact = one-answer c.in_ok-equal.equal formula formula _ whole refl made c.in_ok-equal.ensures.exact in
     let one : EncodesCondition policy code invs whole = record { formulas = has.formulas; encoded = has.encoded; is = refl } in (
       omega arith,

@@ -2,7 +2,7 @@ use Rattle.std.proofs.Common.{◌≡◌, ◌+◌, ◌-◌, ◌/◌, true, List, 
 use Rattle.std.proofs.Common.{◌∙◌, ap, subst, arith}
 use Rattle.std.specs.Vec.{with_items}
 use Rattle.std.proofs.lemmas.List.{with_items_is}
-use Rattle.policy_set.specs.declared.kind.PolicyKind.{PolicyKind}
+use Rattle.policy_set.specs.Views.{PolicyView}
 use Rattle.reference_machine.specs.Arena.{placed_words}
 use Rattle.reference_machine.specs.Setups.{start_view}
 use Rattle.reference_machine.specs.Starts.{StartView}
@@ -58,11 +58,12 @@ returns c =
     begins m law.forms law.annotates law.valid c.policy.result.now setup regs words
     c.new-self-inside.ensures c.policy.ensures
     start.fits start.state start.meets placed in
-    let some : Some setup ≡ start_from m.base m.accepted.policy c.args.packet.now =
-    subst (λ (p : PolicyKind). Some setup ≡ start_from m.base p c.args.packet.now)
+    let some : Some setup ≡ start_from m.base m.accepted.policy.kind c.args.packet.now =
+    subst (λ (p : PolicyView). Some setup ≡ start_from m.base p.kind c.args.packet.now)
     c.policy.ensures start.exact in
-    let loads : LoadsAt (start_from m.base m.accepted.policy c.args.packet.now) true m new =
+    let loads : LoadsAt (start_from m.base m.accepted.policy.kind c.args.packet.now) true m new =
     subst (λ (o : Option StartView). LoadsAt o true m new) some
     (refl, begun.is_at, begun.meets, begun.fits) in
-    subst (λ (v : HostedView). LoadsAt (start_from v.base v.accepted.policy c.args.packet.now) true
-    v new) c.self.view_is loads
+    subst (λ (v : HostedView).
+    LoadsAt (start_from v.base v.accepted.policy.kind c.args.packet.now) true v new) c.self.view_is
+    loads

@@ -1,9 +1,9 @@
 use Rattle.std.proofs.Common.{[]}
 use Rattle.goal_proofs.proofs.search.Search.new.Goals as goal
 
-pub returns : goal.returns
-returns c = λ t. record {
-  memo = c.new.ensures t;
+pub returns-clause-search : goal.returns-clause-search
+returns-clause-search c = λ t. record {
+  memo = c.new.ensures.memo t;
   forms = c.new-2.ensures [] t;
   puts = c.new-3.ensures [] t;
   occurrences = c.new-4.ensures [] t;

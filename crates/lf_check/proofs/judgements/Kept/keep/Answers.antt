@@ -20,14 +20,14 @@ agrees a b = search rules
 decides : (a b : Question) → Decides (eq_by_cmp block.ghosts.cmp a b) (a ≡ b)
 decides a b = subst (λ z. Decides z (a ≡ b)) (agrees a b) (decides_eq a b)
 
-pub returns-in_err-insert : goal.returns-in_err-insert
-returns-in_err-insert g c = record {
-  memo = c.spend.ensures c.args.table.now c.requires.kept.memo;
+pub returns-in_err-insert-clause-kept : goal.returns-in_err-insert-clause-kept
+returns-in_err-insert-clause-kept g c = record {
+  memo = c.spend.ensures.memo c.args.table.now c.requires.kept.memo;
   each = λ q v i. c.requires.kept.each q v (sym (ap (lookup (is_at (block.ghosts.cmp q))) c.in_err-insert.ensures.err) ∙ i);
 }
 
-pub returns : goal.returns
-returns g c =
+pub returns-clause-kept : goal.returns-clause-kept
+returns-clause-kept g c =
     let t = c.args.table.now in
     let sig = g.S.Signature.declares c.args.sig.now t in
     let row = c.row_of-row.result in
@@ -36,7 +36,7 @@ returns g c =
     (subst (λ (z : ℕ). IsJudgement sig t c.args.question c.args.context z) (sym c.row_of-row.ensures.answer) c.requires.judges)
     in
     record {
-      memo = c.spend.ensures t c.requires.kept.memo;
+      memo = c.spend.ensures.memo t c.requires.kept.memo;
       each = kept-one sig t (get block.ghosts.cmp c.args.self.now.rows) (get block.ghosts.cmp c.insert.new.self) (eq_by_cmp block.ghosts.cmp)
           c.args.question row decides c.requires.kept.each judges c.in_ok-insert.ensures.updates.0;
     }

@@ -14,6 +14,8 @@ pub returns : goal.returns
 unfolding check_command
 returns g c =
     let a = c.args.args in
-    let kind = c.in_ok-policy.policy in
-    under_policy (policy_named a.policy.now) (check_under a.file.now) kind _ _ _ _ _ c.in_ok-policy.ensures
-    (decides_report (check_under a.file.now kind) _ _ _ _ c.check_under.result c.check_under.ensures)
+    let under = c.in_ok-policy.policy in
+    under_policy (policy_named a.policy.now) (check_under a.file.now) under _ _ _ _ _
+    c.in_ok-policy.ensures
+    (decides_report (check_under a.file.now under) _ _ _ _ c.check_under.result
+    c.check_under.ensures)

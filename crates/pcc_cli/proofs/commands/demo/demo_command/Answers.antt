@@ -13,6 +13,8 @@ returns-in_err-policy g c =
 pub returns : goal.returns
 unfolding demo_command
 returns g c =
-    let kind = c.in_ok-policy.policy in
-    under_policy (policy_named demo_policy) (λ under. demo_effect under c.args.n) kind _ _ _ _ _ c.in_ok-policy.ensures
-    (decides_report (demo_effect kind c.args.n) _ _ _ _ c.report.result (lifted effect_of (demo_effect kind c.args.n) _ _ c.report.result c.report.ensures))
+    let under = c.in_ok-policy.policy in
+    under_policy (policy_named demo_policy) (λ under. demo_effect under c.args.n) under _ _ _ _ _
+    c.in_ok-policy.ensures
+    (decides_report (demo_effect under c.args.n) _ _ _ _ c.report.result
+    (lifted effect_of (demo_effect under c.args.n) _ _ c.report.result c.report.ensures))

@@ -1,5 +1,5 @@
 use Rattle.std.proofs.Common.{◌≡◌, ℕ, List, Err, ◌∙◌, ap, sym, subst}
-use Rattle.policy_set.specs.declared.kind.PolicyKind.{PolicyKind}
+use Rattle.policy_set.specs.Views.{PolicyView}
 use Rattle.pcc_lines.specs.declared.demo.DemoSummary.{DemoSummary}
 use Rattle.pcc_exit.specs.Stages.{gives, ◌>>=◌}
 use Rattle.pcc_cli.specs.Stages.Judging.{shown_in}
@@ -34,6 +34,7 @@ returns-in-Ok-summary c =
     let a = c.in-Ok-accepted_in in
     let shows : shown_in policy items ≡ gives (shown_by a.accepted) = subst (λ (b : List ℕ). shown_in policy b ≡ gives (shown_by a.accepted)) c.deref.ensures.value a.ensures.shown in
     let same : c.in-Ok-summary.told ≡ summary_of policy c.args.n (shown_by a.accepted) =
-    c.in-Ok-summary.ensures ∙ ap (λ (p : PolicyKind). summary_of p c.args.n (shown_by a.accepted)) a.ensures.policy in
+    c.in-Ok-summary.ensures ∙ ap (λ (p : PolicyView). summary_of p c.args.n (shown_by a.accepted))
+    a.ensures.policy in
     ap (λ s. s >>= λ container. shown_in policy container >>= λ shown. gives (summary_of policy c.args.n shown)) c.in-Ok.ensures
     ∙ ap (λ s. s >>= λ shown. gives (summary_of policy c.args.n shown)) shows ∙ ap gives (sym same)

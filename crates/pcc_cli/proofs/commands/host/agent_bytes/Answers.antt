@@ -3,7 +3,8 @@ use Rattle.file_port.specs.Events.{whole, missing, too_long, failed, no_memory}
 use Rattle.pcc_lines.specs.Agents.{agent_line}
 use Rattle.pcc_exit.specs.Stages.{gives}
 use Rattle.pcc_cli.specs.declared.stages.TheConstants.{MAX_FILE}
-use Rattle.pcc_cli.specs.declared.stop.Stop.TheVariants.{OfAgent, MissingOfScript, ReadFaultOfScript, Memory}
+use Rattle.pcc_cli.specs.declared.refused_line.RefusedLine.TheVariants.{OfAgent}
+use Rattle.pcc_cli.specs.declared.stop.Stop.TheVariants.{Refused, MissingOfScript, ReadFaultOfScript, Memory}
 use Rattle.pcc_cli.specs.Stages.Common.{refused}
 use Rattle.pcc_cli.specs.Inside.Decisions.{agent_text}
 use Rattle.pcc_cli.proofs.AgentLemmas.{read_named}
@@ -22,7 +23,10 @@ returns-in-Missing g c =
 
 pub returns-in-TooLong : goal.returns-in-TooLong
 returns-in-TooLong g c =
-    read_named (λ (v : Vec ℕ Global). v.items) c.as_str.result.now (string_bytes c.args.name) MAX_FILE (refused (agent_line c.args.agent (agent_text c.args.too_long))) gives too_long _ _ _ _ (Err (OfAgent c.args.agent c.args.too_long))
+    read_named (λ (v : Vec ℕ Global). v.items) c.as_str.result.now
+    (string_bytes c.args.name) MAX_FILE (refused
+    (agent_line c.args.agent (agent_text c.args.too_long))) gives too_long _ _ _ _
+    (Err (Refused (OfAgent c.args.agent c.args.too_long)))
     c.as_str.ensures.value c.in-TooLong.ensures.logged c.in-TooLong.ensures.meaning tt refl tt
 
 pub returns-in-Failed : goal.returns-in-Failed

@@ -6,7 +6,8 @@ use Rattle.pcc_lines.specs.Fixed.{packets_too_long_line}
 use Rattle.pcc_exit.specs.Stages.{Stage, reads, gives, ◌>>=◌}
 use Rattle.pcc_cli.specs.declared.agent_stop.AgentStop.TheVariants.{BadPackets}
 use Rattle.pcc_cli.specs.declared.stages.TheConstants.{MAX_FILE}
-use Rattle.pcc_cli.specs.declared.stop.Stop.TheVariants.{OfAgent}
+use Rattle.pcc_cli.specs.declared.refused_line.RefusedLine.TheVariants.{OfAgent}
+use Rattle.pcc_cli.specs.declared.stop.Stop.TheVariants.{Refused}
 use Rattle.pcc_cli.specs.Stages.Common.{refused}
 use Rattle.pcc_cli.specs.Stages.Packets.{packets_found, packets_in, packets_of}
 use Rattle.pcc_cli.specs.Stages.Hosting.{for_agent, first_packet, packet_of}
@@ -42,5 +43,7 @@ returns-in-Err-clause-exact g c =
     let bytes = c.in_ok-bytes.bytes in
     let stage : Result (List (List ℕ)) PacketFault → Stage (List ℕ) = λ r. for_agent a (packets_found r >>= first_packet a c.args.policy.now) in
     gives_then (λ b. for_agent a (packets_in b >>= first_packet a c.args.policy.now)) (λ (v : Vec ℕ Global). v.items) (λ (v : Vec ℕ Global). v.items)
-    (bytes_stage a (string_bytes c.args.name)) _ _ _ _ _ _ bytes (Err (OfAgent a (BadPackets c.in-Err.fault))) c.in_ok-bytes.ensures
-    (lifted (λ (v : Vec ℕ Global). v.items) (stage (decoded_packets bytes.items)) _ _ (Err (OfAgent a (BadPackets c.in-Err.fault))) (ap stage (sym c.in-Err.ensures)))
+    (bytes_stage a (string_bytes c.args.name)) _ _ _ _ _ _ bytes
+    (Err (Refused (OfAgent a (BadPackets c.in-Err.fault)))) c.in_ok-bytes.ensures
+    (lifted (λ (v : Vec ℕ Global). v.items) (stage (decoded_packets bytes.items)) _ _
+    (Err (Refused (OfAgent a (BadPackets c.in-Err.fault)))) (ap stage (sym c.in-Err.ensures)))

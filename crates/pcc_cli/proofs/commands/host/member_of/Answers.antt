@@ -1,7 +1,7 @@
 use Rattle.std.proofs.Common.{◌≡◌, ℕ, List, Ok, Result, Vec, Global, refl, sym, ap, ◌∙◌, subst}
 use Rattle.file_port.specs.Events.{Event}
 use Rattle.file_port.specs.Files.{FilesState}
-use Rattle.policy_set.specs.declared.kind.PolicyKind.{PolicyKind}
+use Rattle.policy_set.specs.Views.{PolicyView}
 use Rattle.pcc_gate.specs.Views.{AcceptedView}
 use Rattle.agent_script.specs.Statements.{LoadView}
 use Rattle.agent_script.specs.Scripts.{load_view}
@@ -21,13 +21,19 @@ use Rattle.pcc_cli.proofs.commands.host.member_of.Goals as goal
 -- the policy's name as the code has it
 module _ (a : ℕ) (one : LoadView) (said : List ℕ) (named : said ≡ one.policy) (e m : List Event) (f n : FilesState) (r : Result Admitted Stop) where
   -- where no policy has the name
-  no_policy : (s : Stage PolicyKind) → s ≡ for_agent a (policy_named said) → Gives member_view (s >>= behind_policy a one) e m f n r → Gives member_view (for_agent a (load_of a one)) e m f n r
+  no_policy : (s : Stage PolicyView) → s ≡ for_agent a (policy_named said) → Gives member_view
+      (s >>= behind_policy a one) e m f n r → Gives member_view
+      (for_agent a (load_of a one)) e m f n r
   no_policy s is h =
       subst (λ (x : Stage Member). Gives member_view x e m f n r)
-      (ap (λ (x : Stage PolicyKind). x >>= behind_policy a one) (is ∙ ap (λ (b : List ℕ). for_agent a (policy_named b)) named) ∙ sym (load_stages a one)) h
+      (ap (λ (x : Stage PolicyView). x >>= behind_policy a one)
+      (is ∙ ap (λ (b : List ℕ). for_agent a (policy_named b)) named) ∙ sym
+      (load_stages a one)) h
 
   -- behind the policy of the name
-  with_policy : (policy : PolicyKind) → for_agent a (policy_named said) ≡ gives policy → Gives member_view (behind_policy a one policy) e m f n r → Gives member_view (for_agent a (load_of a one)) e m f n r
+  with_policy : (policy : PolicyView) → for_agent a (policy_named said) ≡ gives policy
+      → Gives member_view (behind_policy a one policy) e m f n r → Gives member_view
+      (for_agent a (load_of a one)) e m f n r
   with_policy policy is h = no_policy (gives policy) (sym is) h
 
 pub returns-in_err-policy-clause-exact : goal.returns-in_err-policy-clause-exact
@@ -69,7 +75,10 @@ returns-clause-exact g c =
     (gives_then (behind_code a one policy) (λ (x : AcceptedView). x.code) member_view (for_agent a (accepted_code_of policy one.file)) _ _ _ _ _ _ accepted (Ok member) c.in_ok-accepted.ensures.code
     (gives_then (λ packet. gives (member_of policy accepted.code packet)) (λ (v : Vec ℕ Global). v.items) member_view (for_agent a (packet_of a policy one.packets)) _ _ _ _ _ _ packet (Ok member) c.in_ok-packet.ensures.exact
     (lifted member_view (gives (member_of policy accepted.code packet.items)) _ _ (Ok member)
-    (ap (λ (p : PolicyKind). gives (member_of p accepted.code packet.items)) (sym c.in_ok-accepted.ensures.policy)))))
+    (ap (λ (p : PolicyView). gives (member_of p accepted.code packet.items))
+    (sym c.in_ok-accepted.ensures.policy)))))
 
 pub returns-clause-start : goal.returns-clause-start
-returns-clause-start g c = subst (λ (p : PolicyKind). HasStart c.args.agent p c.in_ok-packet.packet.items) (sym c.in_ok-accepted.ensures.policy) c.in_ok-packet.ensures.start
+returns-clause-start g c = subst
+    (λ (p : PolicyView). HasStart c.args.agent p c.in_ok-packet.packet.items)
+    (sym c.in_ok-accepted.ensures.policy) c.in_ok-packet.ensures.start

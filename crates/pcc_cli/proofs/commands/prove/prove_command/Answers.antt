@@ -20,17 +20,25 @@ pub returns-in_err-container : goal.returns-in_err-container
 unfolding prove_command
 returns-in_err-container g c =
     let a = c.args.args in
-    let kind = c.in_ok-policy.policy in
-    under_policy (policy_named a.policy.now) (λ under. proved_of under a.input.now >>= λ container. writing a.output.now container) kind _ _ _ _ _ c.in_ok-policy.ensures
-    (decides_report (proved_of kind a.input.now >>= λ container. writing a.output.now container) _ _ _ _ c.from_residual-in_err-container.result
-    (stops_first (λ container. writing a.output.now container) (λ (v : Vec ℕ Global). v.items) effect_of (proved_of kind a.input.now) _ _ _ _ c.in_err-container.field-0.0 c.from_residual-in_err-container.result
+    let under = c.in_ok-policy.policy in
+    under_policy (policy_named a.policy.now)
+    (λ under. proved_of under a.input.now >>= λ container. writing a.output.now container) under
+    _ _ _ _ _ c.in_ok-policy.ensures
+    (decides_report (proved_of under a.input.now >>= λ container. writing a.output.now container) _
+    _ _ _ c.from_residual-in_err-container.result
+    (stops_first (λ container. writing a.output.now container) (λ (v : Vec ℕ Global). v.items)
+    effect_of (proved_of under a.input.now) _ _ _ _ c.in_err-container.field-0.0
+    c.from_residual-in_err-container.result
     c.in_err-container.ensures c.from_residual-in_err-container.ensures.1))
 
 pub returns : goal.returns
 unfolding prove_command
 returns g c =
     let a = c.args.args in
-    let kind = c.in_ok-policy.policy in
-    under_policy (policy_named a.policy.now) (λ under. proved_of under a.input.now >>= λ container. writing a.output.now container) kind _ _ _ _ _ c.in_ok-policy.ensures
-    (decides_copy (λ (v : Vec ℕ Global). v.items) (proved_of kind a.input.now) a.output.now _ _ _ _ _ _ c.in_ok-container.container c.write_to.result c.in_ok-container.ensures
+    let under = c.in_ok-policy.policy in
+    under_policy (policy_named a.policy.now)
+    (λ under. proved_of under a.input.now >>= λ container. writing a.output.now container) under
+    _ _ _ _ _ c.in_ok-policy.ensures
+    (decides_copy (λ (v : Vec ℕ Global). v.items) (proved_of under a.input.now) a.output.now _ _ _ _
+    _ _ c.in_ok-container.container c.write_to.result c.in_ok-container.ensures
     (subst (λ (bytes : List ℕ). Wrote a.output.now bytes (g.F.Files.log c.proved_of.new.files) (g.F.Files.log c.write_to.new.files) (g.F.Files.state c.proved_of.new.files) (g.F.Files.state c.write_to.new.files) c.write_to.result) c.deref.ensures.value c.write_to.ensures))

@@ -1,10 +1,11 @@
-use Rattle.std.proofs.Common.{◌≡◌, ℕ, List, Ok, Err, ap, sym, ◌∙◌}
+use Rattle.std.proofs.Common.{ℕ, List, Option, Ok, Err, ap, sym, ◌∙◌}
 use Rattle.alpha_words.specs.declared.insn.Insn.{Insn}
 use Rattle.policy_set.specs.declared.kind.PolicyKind.{PolicyKind}
+use Rattle.policy_set.specs.Views.{PolicyView}
 use Rattle.packet_store.specs.Results.{packet_result}
 use Rattle.packet_store.specs.declared.results.PacketResult.{PacketResult}
 use Rattle.pcc_lines.specs.Results.{result_lines}
-use Rattle.pcc_exit.specs.Stages.{Stage, gives, ◌>>=◌}
+use Rattle.pcc_exit.specs.Stages.{Stage, ◌>>=◌}
 use Rattle.pcc_exit.specs.Runs.{Effect}
 use Rattle.pcc_cli.specs.declared.stop.Stop.TheVariants.{Memory}
 use Rattle.pcc_cli.specs.declared.report.Report.{Report}
@@ -20,8 +21,10 @@ use Rattle.pcc_cli.proofs.commands.reference.ref_command.Goals as goal
 
 module _ (file packets : List ℕ) (steps : ℕ) where
   -- the stages behind the policy
-  abbrev behind : PolicyKind → Stage Effect
-  behind kind = code_of kind file >>= λ code. packets_of packets >>= λ all. printing (result_lines kind (packet_result kind code steps) 0 all)
+  abbrev behind : PolicyView → Stage Effect
+  behind under =
+      code_of under file >>= λ code. packets_of packets >>= λ all. printing
+      (result_lines under.kind (packet_result under code steps) 0 all)
 
 pub returns-in_err-policy : goal.returns-in_err-policy
 unfolding ref_command
@@ -33,56 +36,84 @@ pub returns-in_err-code : goal.returns-in_err-code
 unfolding ref_command
 returns-in_err-code g c =
     let a = c.args.args in
-    let kind = c.kind-under.result in
-    let found : policy_named a.policy.now ≡ gives kind = c.in_ok-policy.ensures ∙ ap gives (sym c.kind-under.ensures.exact) in
-    under_policy (policy_named a.policy.now) (behind a.file.now a.packets.now a.steps) kind _ _ _ _ _ found
-    (decides_report (behind a.file.now a.packets.now a.steps kind) _ _ _ _ c.from_residual-in_err-code.result
-    (stops_first (λ code. packets_of a.packets.now >>= λ all. printing (result_lines kind (packet_result kind code a.steps) 0 all)) (λ (code : List Insn). code) effect_of (code_of kind a.file.now)
+    let under = c.in_ok-policy.policy in
+    under_policy (policy_named a.policy.now) (behind a.file.now a.packets.now a.steps) under _ _ _ _
+    _ c.in_ok-policy.ensures
+    (decides_report (behind a.file.now a.packets.now a.steps under) _ _ _ _
+    c.from_residual-in_err-code.result
+    (stops_first
+    (λ code. packets_of a.packets.now >>= λ all. printing
+    (result_lines under.kind (packet_result under code a.steps) 0 all)) (λ (code : List Insn). code)
+    effect_of (code_of under a.file.now)
     _ _ _ _ c.in_err-code.field-0.0 c.from_residual-in_err-code.result c.in_err-code.ensures c.from_residual-in_err-code.ensures.1))
 
 pub returns-in_err-packets : goal.returns-in_err-packets
 unfolding ref_command
 returns-in_err-packets g c =
     let a = c.args.args in
-    let kind = c.kind-under.result in
+    let under = c.in_ok-policy.policy in
     let code = c.in_ok-code.code in
-    let found : policy_named a.policy.now ≡ gives kind = c.in_ok-policy.ensures ∙ ap gives (sym c.kind-under.ensures.exact) in
-    under_policy (policy_named a.policy.now) (behind a.file.now a.packets.now a.steps) kind _ _ _ _ _ found
-    (decides_report (behind a.file.now a.packets.now a.steps kind) _ _ _ _ c.from_residual-in_err-packets.result
-    (gives_then (λ code. packets_of a.packets.now >>= λ all. printing (result_lines kind (packet_result kind code a.steps) 0 all)) (λ (code : List Insn). code) effect_of (code_of kind a.file.now)
+    under_policy (policy_named a.policy.now) (behind a.file.now a.packets.now a.steps) under _ _ _ _
+    _ c.in_ok-policy.ensures
+    (decides_report (behind a.file.now a.packets.now a.steps under) _ _ _ _
+    c.from_residual-in_err-packets.result
+    (gives_then
+    (λ code. packets_of a.packets.now >>= λ all. printing
+    (result_lines under.kind (packet_result under code a.steps) 0 all)) (λ (code : List Insn). code)
+    effect_of (code_of under a.file.now)
     _ _ _ _ _ _ code c.from_residual-in_err-packets.result c.in_ok-code.ensures
-    (stops_first (λ all. printing (result_lines kind (packet_result kind code a.steps) 0 all)) _ effect_of (packets_of a.packets.now) _ _ _ _ c.in_err-packets.field-0.0 c.from_residual-in_err-packets.result
+    (stops_first
+    (λ all. printing (result_lines under.kind (packet_result under code a.steps) 0 all)) _ effect_of
+    (packets_of a.packets.now) _ _ _ _ c.in_err-packets.field-0.0
+    c.from_residual-in_err-packets.result
     c.in_err-packets.ensures c.from_residual-in_err-packets.ensures.1)))
 
 pub returns-in-Ok : goal.returns-in-Ok
 unfolding ref_command
 returns-in-Ok g c =
     let a = c.args.args in
-    let kind = c.kind-under.result in
+    let under = c.in_ok-policy.policy in
     let code = c.in_ok-code.code in
     let all = c.in_ok-packets.packets in
-    let found : policy_named a.policy.now ≡ gives kind = c.in_ok-policy.ensures ∙ ap gives (sym c.kind-under.ensures.exact) in
-    let report : Report = Results (record { policy = kind; runner = c.in-Ok.runner; packets = all }) in
-    under_policy (policy_named a.policy.now) (behind a.file.now a.packets.now a.steps) kind _ _ _ _ _ found
-    (decides_report (behind a.file.now a.packets.now a.steps kind) _ _ _ _ (Ok report)
-    (gives_then (λ code. packets_of a.packets.now >>= λ all. printing (result_lines kind (packet_result kind code a.steps) 0 all)) (λ (code : List Insn). code) effect_of (code_of kind a.file.now)
+    let report : Report =
+    Results (record { kind = c.kind-under.result; runner = c.in-Ok.runner; packets = all }) in
+    under_policy (policy_named a.policy.now) (behind a.file.now a.packets.now a.steps) under _ _ _ _
+    _ c.in_ok-policy.ensures
+    (decides_report (behind a.file.now a.packets.now a.steps under) _ _ _ _ (Ok report)
+    (gives_then
+    (λ code. packets_of a.packets.now >>= λ all. printing
+    (result_lines under.kind (packet_result under code a.steps) 0 all)) (λ (code : List Insn). code)
+    effect_of (code_of under a.file.now)
     _ _ _ _ _ _ code (Ok report) c.in_ok-code.ensures
-    (gives_then (λ all. printing (result_lines kind (packet_result kind code a.steps) 0 all)) _ effect_of (packets_of a.packets.now) _ _ _ _ _ _ c.in_ok-packets.packets (Ok report) c.in_ok-packets.ensures
-    (lifted effect_of (printing (result_lines kind (packet_result kind code a.steps) 0 all)) _ _ (Ok report)
+    (gives_then (λ all. printing (result_lines under.kind (packet_result under code a.steps) 0 all))
+    _ effect_of (packets_of a.packets.now) _ _ _ _ _ _ c.in_ok-packets.packets (Ok report)
+    c.in_ok-packets.ensures
+    (lifted effect_of (printing (result_lines under.kind (packet_result under code a.steps) 0 all))
+    _ _ (Ok report)
     (ap printing (sym (
-    ap (λ (results : List ℕ → PacketResult). result_lines kind results 0 all) c.in-Ok.ensures
-    ∙ ap (λ (p : PolicyKind). result_lines kind (packet_result p code a.steps) 0 all) (sym c.kind-under.ensures.exact))))))))
+    ap (λ (results : List ℕ → PacketResult). result_lines c.kind-under.result results 0 all)
+    c.in-Ok.ensures
+    ∙ ap (λ (k : Option PolicyKind). result_lines k (packet_result under code a.steps) 0 all)
+    c.kind-under.ensures.exact)))))))
 
 pub returns-in-Err : goal.returns-in-Err
 unfolding ref_command
 returns-in-Err g c =
     let a = c.args.args in
-    let kind = c.kind-under.result in
+    let under = c.in_ok-policy.policy in
     let code = c.in_ok-code.code in
-    let found : policy_named a.policy.now ≡ gives kind = c.in_ok-policy.ensures ∙ ap gives (sym c.kind-under.ensures.exact) in
-    under_policy (policy_named a.policy.now) (behind a.file.now a.packets.now a.steps) kind _ _ _ _ (Err Memory) found
-    (decides_report (behind a.file.now a.packets.now a.steps kind) _ _ _ _ (Err Memory)
-    (gives_then (λ code. packets_of a.packets.now >>= λ all. printing (result_lines kind (packet_result kind code a.steps) 0 all)) (λ (code : List Insn). code) effect_of (code_of kind a.file.now)
+    under_policy (policy_named a.policy.now) (behind a.file.now a.packets.now a.steps) under _ _ _ _
+    (Err Memory) c.in_ok-policy.ensures
+    (decides_report (behind a.file.now a.packets.now a.steps under) _ _ _ _ (Err Memory)
+    (gives_then
+    (λ code. packets_of a.packets.now >>= λ all. printing
+    (result_lines under.kind (packet_result under code a.steps) 0 all)) (λ (code : List Insn). code)
+    effect_of (code_of under a.file.now)
     _ _ _ _ _ _ code (Err Memory) c.in_ok-code.ensures
-    (gives_then (λ all. printing (result_lines kind (packet_result kind code a.steps) 0 all)) _ effect_of (packets_of a.packets.now) _ _ _ _ _ _ c.in_ok-packets.packets (Err Memory) c.in_ok-packets.ensures
-    (lifted effect_of (printing (result_lines kind (packet_result kind code a.steps) 0 c.in_ok-packets.packets)) _ _ (Err Memory) tt))))
+    (gives_then (λ all. printing (result_lines under.kind (packet_result under code a.steps) 0 all))
+    _ effect_of (packets_of a.packets.now) _ _ _ _ _ _ c.in_ok-packets.packets (Err Memory)
+    c.in_ok-packets.ensures
+    (lifted effect_of
+    (printing
+    (result_lines under.kind (packet_result under code a.steps) 0 c.in_ok-packets.packets)) _ _
+    (Err Memory) tt))))

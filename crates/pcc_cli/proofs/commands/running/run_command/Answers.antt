@@ -14,6 +14,8 @@ pub returns : goal.returns
 unfolding run_command
 returns g c =
     let a = c.args.args in
-    let kind = c.in_ok-policy.policy in
-    under_policy (policy_named a.policy.now) (run_under a.file.now a.packets.now a.steps) kind _ _ _ _ _ c.in_ok-policy.ensures
-    (decides_report (run_under a.file.now a.packets.now a.steps kind) _ _ _ _ c.run_under.result c.run_under.ensures)
+    let under = c.in_ok-policy.policy in
+    under_policy (policy_named a.policy.now) (run_under a.file.now a.packets.now a.steps) under _ _
+    _ _ _ c.in_ok-policy.ensures
+    (decides_report (run_under a.file.now a.packets.now a.steps under) _ _ _ _ c.run_under.result
+    c.run_under.ensures)

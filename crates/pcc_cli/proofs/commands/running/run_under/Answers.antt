@@ -3,7 +3,7 @@ use Rattle.alpha_words.specs.declared.insn.Insn.{Insn}
 use Rattle.file_port.specs.Events.{Event}
 use Rattle.file_port.specs.Files.{FilesState}
 use Rattle.pcc_gate.specs.Views.{AcceptedView}
-use Rattle.policy_set.specs.declared.kind.PolicyKind.{PolicyKind}
+use Rattle.policy_set.specs.Views.{PolicyView}
 use Rattle.pcc_cli.specs.declared.report.Report.{Report}
 use Rattle.pcc_cli.specs.declared.stop.Stop.{Stop}
 use Rattle.pcc_cli.specs.Stages.Judging.{accepted_code_of}
@@ -20,7 +20,9 @@ returns-in_err-accepted g c =
     c.from_residual.ensures.1
 
 -- what was accepted has the policy that it was judged under
-at_policy : (packets : List ℕ) (steps : ℕ) (code : List Insn) (p q : PolicyKind) (e e' : List Event) (f g : FilesState) (r : Result Report Stop) → p ≡ q → Gives effect_of (results_on packets steps p code) e e' f g r
+at_policy : (packets : List ℕ) (steps : ℕ) (code : List Insn) (p q : PolicyView) (e e' : List Event)
+    (f g : FilesState) (r : Result Report Stop) → p ≡ q
+    → Gives effect_of (results_on packets steps p code) e e' f g r
     → Gives effect_of (results_on packets steps q code) e e' f g r
 at_policy packets steps code p q e e' f g r is h = subst (λ k. Gives effect_of (results_on packets steps k code) e e' f g r) is h
 

@@ -13,7 +13,8 @@ returns-clause-annotates c =
     let a = c.self.inside in
     let i = c.self.invariant in
     subst (λ (v : AcceptedView). AreAnnotations v) c.self.view_is
-    (λ fs enc. encoded-annotates a.policy a.cut.code (id_trees a.table a.invs.items) fs a.cut.marks enc i.code i.flags i.cuts)
+    (λ fs enc. encoded-annotates a.policy a.cut.code (id_trees a.table a.invs.items) fs a.cut.marks
+    i.policy_is enc i.code i.flags i.cuts)
 
 pub returns-clause-valid : goal.returns-clause-valid
 returns-clause-valid c = subst (λ (v : AcceptedView). IsConditionTrue v) c.self.view_is c.self.invariant.valid

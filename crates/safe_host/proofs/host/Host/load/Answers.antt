@@ -1,7 +1,7 @@
 use Rattle.std.proofs.Common.{◌≡◌, ◌+◌, ◌-◌, ◌/◌, ◌≤◌, true, List, ℕ, Option, Some, length, refl, sym, ◌∙◌, ap, subst, arith}
 use Rattle.std.specs.Vec.{with_items}
 use Rattle.std.proofs.lemmas.List.{with_items_is}
-use Rattle.policy_set.specs.declared.kind.PolicyKind.{PolicyKind}
+use Rattle.policy_set.specs.Views.{PolicyView}
 use Rattle.reference_machine.specs.Arena.{placed_words, IsZeroFrom}
 use Rattle.reference_machine.specs.Setups.{start_view}
 use Rattle.reference_machine.specs.Starts.{StartView}
@@ -53,6 +53,8 @@ returns c =
     let begun : HasBegun a setup new =
     begins a law.forms law.annotates law.valid c.policy.result.now setup regs words c.new-self-inside.ensures c.policy.ensures
     start.fits start.words start.meets placed in
-    let some : Some setup ≡ start_of a.policy c.args.packet.now = subst (λ (p : PolicyKind). Some setup ≡ start_of p c.args.packet.now) c.policy.ensures start.exact in
+    let some : Some setup ≡ start_of a.policy c.args.packet.now =
+    subst (λ (p : PolicyView). Some setup ≡ start_of p c.args.packet.now) c.policy.ensures
+    start.exact in
     let loads : Loads (host_view c.self.inside) (start_of a.policy c.args.packet.now) new true = subst (λ (o : Option StartView). Loads (host_view c.self.inside) o new true) some (refl, begun.is, begun.meets, begun.fits) in
     record { exact = subst (λ (v : HostView). Loads v (start_of v.accepted.policy c.args.packet.now) new true) c.self.view_is loads }

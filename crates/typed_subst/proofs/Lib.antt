@@ -1,0 +1,3 @@
+pub mod SimpleSubst
+mod SimpleTotal
+mod Substitution
