@@ -68,7 +68,7 @@ def ratio(value, other, text):
 head("start-up, of the clock")
 _, true_clock, _ = median(["/bin/true"], times=15)
 line("/bin/true", "%.2f" % (true_clock * 1e3), "ms")
-_, start_clock, _ = median([binary], "usage: pcc asm|prove|check|run|ref|demo|host|bpf", 15)
+_, start_clock, _ = median([binary], "usage: pcc asm|prove|check|run|ref|demo|upgrade|host|bpf", 15)
 line("pcc without words", "%.2f" % (start_clock * 1e3), "ms", ratio(start_clock, true_clock, "/bin/true"))
 
 # ---- asm, prove, check

@@ -1,20 +1,24 @@
 #!/usr/bin/env bash
 # Times `pcc check` on containers at its limits, accepted and refused, median of five (the worst files
-# known once each): the line that is printed, processor time and peak memory. A line that isn't the one
-# expected ends the run with status 1.
+# known once each), some of them in both versions: the line that is printed, processor time and peak
+# memory. A line that isn't the one expected ends the run with status 1.
 set -eu
 top=$(cd "$(dirname "${BASH_SOURCE[0]}")/.." && pwd)
 work=$(mktemp -d)
 trap 'rm -rf "$work"' EXIT
 "$top/pcc" check tag "$top/examples/tag/container" > /dev/null
 python3 - "$top/bench" "$top/crates/pcc_main/out/pcc_main" "$work" <<'PY'
-import statistics, sys
+import hashlib, statistics, sys
 sys.path.insert(0, sys.argv[1])
 from runs import run
 from terms import *
 
 binary, work = sys.argv[2:]
 failed = False
+
+def both(name, policy, data, wanted):
+    row(name, policy, data, wanted)
+    row(".. in version 2", policy, in_version_2(data, DIGESTS[policy]), wanted)
 
 def row(name, policy, data, wanted, times=5):
     global failed
@@ -31,7 +35,7 @@ def row(name, policy, data, wanted, times=5):
 t = Terms()
 row("ret under tag", "tag", returning_container(t), "accepted")
 least = weight(t, returning(t))
-row("the proof padded to weight 1,048,576", "tag", returning_container(t, padded(t, 1048577 - least)), "accepted")
+both("the proof padded to weight 1,048,576", "tag", returning_container(t, padded(t, 1048577 - least)), "accepted")
 row("one more", "tag", returning_container(t, padded(t, 1048578 - least)), "refused 10 ProofWeight 1048577")
 row("sixty doublings", "tag", returning_container(t, sixty_times(t)), "refused 10 ProofWeight 4294967295")
 
@@ -40,23 +44,26 @@ chained = t.con(TT_I)
 for _ in range(1364):
     chained = t.con(AND_L, t.con(TT), t.con(TT), t.con(AND_I, t.con(TT), t.con(TT), chained, t.con(TT_I)))
 high = height(t, returning(t, chained))
-row("1,364 steps, one on the other (height %d)" % high, "tag", returning_container(t, chained), "accepted")
+both("1,364 steps, one on the other (height %d)" % high, "tag", returning_container(t, chained), "accepted")
 
 for leaves, wanted in [(26170, "accepted")]:
     t = Terms()
     whole = conjunction(t, [reflexive(t, t.lit(k)) for k in range(leaves)])
     data = returning_container(t, instead(t, *whole))
-    row("%d facts, conjoined (%d entries)" % (leaves, struct.unpack_from("<I", data, 20)[0]), "tag", data, wanted)
+    both("%d facts, conjoined (%d entries)" % (leaves, struct.unpack_from("<I", data, 20)[0]), "tag", data, wanted)
 
 PAIR, ZERO = [0xE4200001, 0x47FF041F], 0x47FF041F
 double = [ZERO] * 2 + PAIR * 14 + [RETURN_1, RETURN]
 t = Terms()
 row("unfolded length 65,536, no proof", "filter", container(t, FILTER, double), "refused 9 NoProof")
-row("unfolded length 65,536, another proof", "filter", container(t, FILTER, double, (), t.con(TT_I)), "refused 11 NotProof")
+both("unfolded length 65,536, another proof", "filter", container(t, FILTER, double, (), t.con(TT_I)), "refused 11 NotProof")
 row("unfolded length 65,537", "filter", container(t, FILTER, [ZERO] + double), "refused 8 UnfoldLimit 65537")
 
 straight = [0x40203401] * 1022 + [RETURN_1, RETURN]
-row("1,024 instructions, another proof", "filter", container(t, FILTER, straight, (), t.con(TT_I)), "refused 11 NotProof")
+both("1,024 instructions, another proof", "filter", container(t, FILTER, straight, (), t.con(TT_I)), "refused 11 NotProof")
+taken = [0x482050C1] * 1022 + [RETURN_1, RETURN]
+data = in_version_2(container(t, FILTER, taken, (), t.con(TT_I)), DIGESTS["filter"])
+row("1,024 instructions, extbl of extbl, another proof", "filter", data, "refused 11 NotProof")
 
 def balanced(t, leaf, low, high):
     if high - low == 1:
@@ -72,7 +79,14 @@ data = container(t, FILTER, [0xC3FFFFFF], [(0, wide)])
 row("an invariant of %d entries" % struct.unpack_from("<I", data, 20)[0], "filter", data, "refused 9 NoProof")
 open_wide = balanced(t, lambda k: t.con(EQ, t.var(14), t.lit(k)), 0, 52400)
 data = container(t, FILTER, [0x40203401, 0x40203401, 0xC3FFFFFE], [(1, open_wide)], t.con(TT_I))
-row(".. over r16, put into 3 ways, another proof", "filter", data, "refused 11 NotProof")
+both(".. over r16, put into 3 ways, another proof", "filter", data, "refused 11 NotProof")
+
+t = Terms()
+text = b"(and (eq r1 0) " * 255 + b"tt" + b")" * 255 + b"\ntt\n"
+with open(work + "/policy", "wb") as out:
+    out.write(text)
+data = in_version_2(returning_container(t), hashlib.sha256(text).digest())
+row("a policy of 255 equations in a file, another proof", "@" + work + "/policy", data, "refused 11 NotProof")
 
 def applied(t, low, high):
     return t.lit(low) if high - low == 1 else t.node(APP, applied(t, low, (low + high) // 2), applied(t, (low + high) // 2, high))

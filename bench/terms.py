@@ -120,6 +120,18 @@ def container(terms, policy, code, invariants=(), proof=None):
     return struct.pack("<%dI" % len(fields), *fields)
 
 
+DIGESTS = {
+    "filter": bytes.fromhex("776f42a48720f4e2ffa048057c9c305639cfb455b869f440f94acbd6633c9fd6"),
+    "tag": bytes.fromhex("3b028340152631c224d07049125343e99e3f6be3cf4d2f0931e14aeef88ab835"),
+    "table": bytes.fromhex("40d20cb4fd5a11d62db92b4927210cacb82f6fe4c6343a032ceab66436ae3c51"),
+}
+
+
+def in_version_2(first, digest):
+    """The same container in version 2: the digest of the policy's text stands in place of its number."""
+    return first[:4] + struct.pack("<I", 2) + digest + first[12:]
+
+
 # ---- a proof of the condition of `ret` under the policy tag, with room for any proof of `tt`
 
 def tag_precondition(t):

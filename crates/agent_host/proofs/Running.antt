@@ -10,6 +10,7 @@ use Rattle.reference_machine.specs.Starts.{StartView, Fits, start_regs, start_st
 use Rattle.packet_store.specs.StartMeets.{StartMeetsIn}
 use Rattle.vcgen.specs.Conditions.{condition}
 use Rattle.term_table.specs.Table.{id_trees}
+use Rattle.lf_signature.specs.declared.WordSignature.TheVariants.{Sigma3}
 use Rattle.vcgen.specs.Encoded.{AreForms, AreEncodings}
 use Rattle.vcgen.specs.Safety.{IsAnnotated, Holds}
 use Rattle.pcc_gate.specs.First.{formulas}
@@ -39,11 +40,11 @@ pub record HasBegun (was : HostedView) (setup : StartView) (is : HostedView) : T
   pub meets : StartMeetsIn was.base setup was.accepted.policy.pre
   pub fits : RightsFitAgent is (rights_of setup)
 
-module _ (m : HostedView) (forms : AreForms (id_trees m.accepted.table m.accepted.invs))
+module _ (m : HostedView) (forms : AreForms Sigma3 (id_trees m.accepted.table m.accepted.invs))
     (annotates : AreAnnotations m.accepted) (valid : IsConditionTrue m.accepted) where
   encoded : AreEncodings (id_trees m.accepted.table m.accepted.invs)
       (formulas (id_trees m.accepted.table m.accepted.invs))
-  encoded = formulas-encoded (id_trees m.accepted.table m.accepted.invs) forms
+  encoded = formulas-encoded Sigma3 (id_trees m.accepted.table m.accepted.invs) forms
 
   is-annotated : IsAnnotated (annotated_code m.accepted)
   is-annotated = annotates (formulas (id_trees m.accepted.table m.accepted.invs)) encoded

@@ -1,5 +1,4 @@
 pub mod Operands
-pub mod Endings
 pub mod Splitting
 pub mod Said
 pub mod Collected
@@ -8,4 +7,3 @@ pub mod Refusing
 pub mod Failing
 pub mod Stopping
 pub mod Taking
-pub mod Cutting

@@ -6,7 +6,7 @@ use Rattle.std.specs.Str.{bytes_eq}
 use Rattle.std.specs.Ordering.{nat_cmp}
 use Rattle.std.specs.Cmp.Lexicographic.{slice_cmp}
 use Rattle.std.specs.BTreeSet.{insert_key}
-use Rattle.std.proofs.lemmas.Bool.{false≢true, cond-true, cond-false, lt-ltb, le-ltb}
+use Rattle.std.proofs.lemmas.Bool.{false≢true, cond-true, cond-false, lt-ltb, le-ltb, ne_eqb}
 use Rattle.std.proofs.lemmas.List.{map-append, length-map, length-append}
 use Rattle.formula_tree.specs.declared.form.Form.{Form}
 use Rattle.formula_tree.specs.Views.{form_view}
@@ -21,13 +21,12 @@ use Rattle.asm_text.specs.declared.limits.TheConstants.{MAX_INSNS, MAX_INVS}
 use Rattle.asm_text.specs.declared.progress.Progress as code
 use Rattle.asm_text.specs.declared.sources.Source as lists
 use Rattle.asm_text.specs.Insns.{SourceInsn}
-use Rattle.asm_text.specs.Lines.{lines_of}
+use Rattle.text_lines.specs.Lines.{lines_of}
 use Rattle.asm_text.specs.Statements.{AnInsn}
 use Rattle.asm_text.specs.Sources.{Source, SpellsSource}
 use Rattle.asm_text.specs.SourceParsing.{Progress, is_known, take_label, take_inv, take_statement, take_line, at_line, source_end, take_lines, no_progress, parsed_source}
 use Rattle.asm_text.specs.Views.{source_insn_view, source_view, ParsesSource, SpellsNoSource}
 use Rattle.asm_text.specs.Inside.Views.{progress_view, IsSoundProgress, TakesOnLine}
-use Rattle.asm_text.proofs.Cutting.{not_same}
 use Rattle.asm_text.proofs.Found.{known_after}
 use Rattle.asm_text.proofs.Collected.{spelled_parsed, parsed_spelled}
 use Rattle.word_ops.specs.declared.Profile.{Profile}
@@ -166,7 +165,7 @@ ends_without p w e = ap (source_end (progress_view p)) w ∙ cond-true (length (
 pub ends_with : (p : code.Progress) → p.waiting ≡ None → 0 < length p.source.insns.items → source_end (progress_view p) p.waiting ≡ Ok (source_view p.source)
 ends_with p w h =
     ap (source_end (progress_view p)) w
-    ∙ cond-false (length (source_view p.source).insns == 0) (Err (0, L.Length)) (Ok (source_view p.source)) (not_same (length (source_view p.source).insns) 0 (λ e. omega (arith, h, e, insns_length p.source)))
+    ∙ cond-false (length (source_view p.source).insns == 0) (Err (0, L.Length)) (Ok (source_view p.source)) (ne_eqb (length (source_view p.source).insns) 0 (λ e. omega (arith, h, e, insns_length p.source)))
 
 -- ---- one turn of the loop
 

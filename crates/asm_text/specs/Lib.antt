@@ -5,7 +5,6 @@ pub mod Mnemonics
 pub mod Insns
 pub mod InsnParsing
 pub mod Operands
-pub mod Lines
 pub mod Statements
 pub mod Sources
 pub mod SourceParsing

@@ -2,9 +2,10 @@
 //!
 //! The layer above uses that `read_source` gives the instructions, labels and invariants of the
 //! source that a text spells, or else the first line that is wrong. The grammar stands in
-//! `specs/Sources` (a whole source), `specs/Statements` (a line), `specs/Insns` (an instruction)
-//! and `specs/Lines`, what a fault means in `specs/Faults` and `specs/Operands`, the tests in their
-//! order in `specs/SourceParsing` and `specs/InsnParsing`.
+//! `specs/Sources` (a whole source), `specs/Statements` (a line) and `specs/Insns` (an
+//! instruction), what a fault means in `specs/Faults` and `specs/Operands`, the tests in their
+//! order in `specs/SourceParsing` and `specs/InsnParsing`. Lines, which other texts have too, stand
+//! in text_lines.
 //! The format is this project's own; the mnemonics are those of the Alpha Architecture Handbook.
 #![tactic(auto)]
 
@@ -13,7 +14,6 @@ mod insns;
 mod integers;
 mod labels;
 mod limits;
-mod lines;
 mod marks;
 mod mnemonics;
 mod progress;

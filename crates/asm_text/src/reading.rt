@@ -7,10 +7,10 @@ ghost use Rattle.asm_text.specs.SourceParsing.{parsed_source};
 ghost use Rattle.asm_text.specs.Views.{ParsesSource, SpellsNoSource, source_view};
 
 use crate::fault::LineFault;
-use crate::lines::split_line;
 use crate::progress::{no_progress, source_end, take_numbered};
 use crate::sources::Source;
 use std::alloc::Global;
+use text_lines::split_line;
 use word_ops::Profile;
 
 /// The source that the text is parsed as, or the first fault.

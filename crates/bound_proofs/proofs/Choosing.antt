@@ -1,14 +1,14 @@
 -- What is chosen from where an expression is a word, an operator or neither.
 use Rattle.std.proofs.Common.{◌≡◌, ℕ, None, [], ◌++◌, refl}
 use Rattle.word_ops.specs.declared.Op.{Op}
-use Rattle.word_ops.specs.declared.Op.TheVariants.{Add, Band, Sll, Srl, Cmpeq, Cmplt, Cmple, Cmpult, Cmpule}
+use Rattle.word_ops.specs.declared.Op.TheVariants.{Add, Band, Sll, Srl, Cmpeq, Cmplt, Cmple, Cmpult, Cmpule, Bic, Extb, Extw, Extl}
 use Rattle.formula_tree.specs.Formulas.{Exp, EReg, ELeft, EVar, ELit, EOp, ESel}
 use Rattle.formula_ids.specs.Operands.{IsLiteral}
 use Rattle.prover_class.specs.Hypotheses.{Hyps}
 use Rattle.prover_class.specs.Bounds.{WordBound, least_bound, own_bounds, op_bounds, uppers, upper_bound}
 use Rattle.bound_proofs.specs.declared.bounds.Side.TheVariants.{Upper}
 use Rattle.bound_proofs.specs.declared.parts.How.{How}
-use Rattle.bound_proofs.specs.Candidates.{limit, by_parts}
+use Rattle.bound_proofs.specs.Candidates.{limit, by_parts, ceiling_of, ceiling_bounds}
 use Rattle.bound_proofs.specs.declared.choices.Choice.{Choice}
 use Rattle.bound_proofs.specs.Choices.{IsChoice}
 
@@ -38,19 +38,30 @@ pub left_none : (a b : Exp) (v w : WordBound) → IsLiteral b None → op_bounds
 left_none a (ELit w) v u n = absurd (n w refl)
 left_none a b v u n = refl
 
--- an operator of whose parts no bound is known
-pub no_bounds : (o : Op) (a b : Exp) (v w : WordBound) → (o ≡ Band → ⊥) → (o ≡ Srl → ⊥) → (o ≡ Sll → ⊥) → (o ≡ Add → ⊥) →
-    (o ≡ Cmpeq → ⊥) → (o ≡ Cmplt → ⊥) → (o ≡ Cmple → ⊥) → (o ≡ Cmpult → ⊥) → (o ≡ Cmpule → ⊥) → op_bounds o a b v w ≡ []
-no_bounds Band a b v w p q r s c d e f g = absurd (p refl)
-no_bounds Srl a b v w p q r s c d e f g = absurd (q refl)
-no_bounds Sll a b v w p q r s c d e f g = absurd (r refl)
-no_bounds Add a b v w p q r s c d e f g = absurd (s refl)
-no_bounds Cmpeq a b v w p q r s c d e f g = absurd (c refl)
-no_bounds Cmplt a b v w p q r s c d e f g = absurd (d refl)
-no_bounds Cmple a b v w p q r s c d e f g = absurd (e refl)
-no_bounds Cmpult a b v w p q r s c d e f g = absurd (f refl)
-no_bounds Cmpule a b v w p q r s c d e f g = absurd (g refl)
-no_bounds o a b v w p q r s c d e f g = refl
+-- an operator that isn't bounded by what bounds its parts
+pub other_bounds : (o : Op) (a b : Exp) (v w : WordBound) → (o ≡ Band → ⊥) → (o ≡ Srl → ⊥)
+    → (o ≡ Sll → ⊥) → (o ≡ Add → ⊥) → (o ≡ Bic → ⊥)
+    → op_bounds o a b v w ≡ ceiling_bounds (ceiling_of o) a b
+other_bounds Band a b v w p q r s c = absurd (p refl)
+other_bounds Srl a b v w p q r s c = absurd (q refl)
+other_bounds Sll a b v w p q r s c = absurd (r refl)
+other_bounds Add a b v w p q r s c = absurd (s refl)
+other_bounds Bic a b v w p q r s c = absurd (c refl)
+other_bounds o a b v w p q r s c = refl
+
+-- an operator that may be any word
+pub no_ceiling : (o : Op) → (o ≡ Cmpeq → ⊥) → (o ≡ Cmplt → ⊥) → (o ≡ Cmple → ⊥)
+    → (o ≡ Cmpult → ⊥) → (o ≡ Cmpule → ⊥) → (o ≡ Extb → ⊥) → (o ≡ Extw → ⊥) → (o ≡ Extl → ⊥)
+    → ceiling_of o ≡ None
+no_ceiling Cmpeq a b c d e f g h = absurd (a refl)
+no_ceiling Cmplt a b c d e f g h = absurd (b refl)
+no_ceiling Cmple a b c d e f g h = absurd (c refl)
+no_ceiling Cmpult a b c d e f g h = absurd (d refl)
+no_ceiling Cmpule a b c d e f g h = absurd (e refl)
+no_ceiling Extb a b c d e f g h = absurd (f refl)
+no_ceiling Extw a b c d e f g h = absurd (g refl)
+no_ceiling Extl a b c d e f g h = absurd (h refl)
+no_ceiling o a b c d e f g h = refl
 
 -- the choice is the least of what the parts of this operator say
 abbrev pub IsPartChoice : Hyps → Exp → Exp → Choice → Op → Type 0

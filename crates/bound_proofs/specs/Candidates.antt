@@ -1,7 +1,8 @@
 -- Bounds that are candidates for the least or the greatest, one kind each.
-use Rattle.std.specs.Prelude.{ℕ, [], ◌∷◌}
+use Rattle.std.specs.Prelude.{ℕ, Option, Some, None, List, [], ◌∷◌}
 use Rattle.term_table.specs.Tree.{Tree}
-use Rattle.word_ops.specs.declared.Op.TheVariants.{Add, Sub, Band, Sll, Srl}
+use Rattle.word_ops.specs.declared.Op.{Op}
+use Rattle.word_ops.specs.declared.Op.TheVariants.{Add, Sub, Band, Sll, Srl, Cmpeq, Cmplt, Cmple, Cmpult, Cmpule, Extb, Extw, Extl}
 use Rattle.word_ops.specs.declared.Rel.TheVariants.{Ule}
 use Rattle.formula_tree.specs.Formulas.{Exp, EVar, ELit, EOp, Form, FRel}
 use Rattle.formula_terms.specs.ProofTerms.{word_rule, move, up}
@@ -10,7 +11,8 @@ use Rattle.prover_class.specs.Bounds.{WordBound, word_bound, folded, fit_proof, 
 use Rattle.bound_proofs.specs.declared.bounds.Side.{Side}
 use Rattle.bound_proofs.specs.declared.bounds.Side.TheVariants.{Upper, Lower}
 use Rattle.bound_proofs.specs.declared.parts.How.{How}
-use Rattle.bound_proofs.specs.declared.parts.How.TheVariants.{AndLeft, AndRight, ShiftRight, ShiftLeft, Sum, Compared}
+use Rattle.bound_proofs.specs.declared.parts.How.TheVariants.{AndLeft, AndRight, Cleared, ShiftRight, ShiftLeft, Sum, Capped}
+use Rattle.bound_proofs.specs.declared.parts.Ceiling.{Ceiling}
 use Rattle.bound_proofs.specs.declared.relations.Kind.{Kind}
 use Rattle.bound_proofs.specs.declared.relations.Kind.TheVariants.{AtMost, Less, Equal}
 
@@ -52,11 +54,13 @@ abbrev pub by_itself : Side → Exp → WordBound
 by_itself s (ELit w) = by_word w
 by_itself s e = limit s e
 
--- the bitwise and e of a and b is at most what b is
-abbrev pub by_right : Exp → Exp → Exp → WordBound → WordBound
-by_right e a b w = word_bound w.value (word_rule 64 (e ∷ b ∷ ELit w.value ∷ []) (word_rule 54 (a ∷ b ∷ []) [] ∷ w.proof ∷ []))
+-- the operator e of a and b is at most its side s, by the rule n, and so at most what s is
+abbrev pub by_side : ℕ → Exp → Exp → Exp → Exp → WordBound → WordBound
+by_side n e a b s w =
+    word_bound w.value
+    (word_rule 64 (e ∷ s ∷ ELit w.value ∷ []) (word_rule n (a ∷ b ∷ []) [] ∷ w.proof ∷ []))
 
--- and at most what a is
+-- the bitwise and e of a and b is at most what a is
 abbrev pub by_left : Exp → Exp → Exp → WordBound → WordBound
 by_left e a b v =
     word_bound v.value
@@ -76,18 +80,40 @@ abbrev pub by_sum : Exp → Exp → Exp → WordBound → WordBound → WordBoun
 by_sum e a b v w =
     folded e Add v.value w.value (word_rule 72 (a ∷ b ∷ ELit v.value ∷ ELit w.value ∷ []) (v.proof ∷ w.proof ∷ fit_proof v.value Add v.value w.value ∷ []))
 
--- the comparison of a and b is at most 1, by the rule of this number
-abbrev pub by_comparison : ℕ → Exp → Exp → WordBound
-by_comparison n a b = word_bound 1 (word_rule n (a ∷ b ∷ []) [])
+-- never past this word, by the rule n
+abbrev pub capped_at : ℕ → ℕ → Option Ceiling
+capped_at w n = Some (record { word = w; rule = n })
+
+-- the word that an operator never passes, and the rule that says so; none where it may be any word
+abbrev pub ceiling_of : Op → Option Ceiling
+ceiling_of Cmpeq = capped_at 1 83
+ceiling_of Cmplt = capped_at 1 84
+ceiling_of Cmple = capped_at 1 85
+ceiling_of Cmpult = capped_at 1 86
+ceiling_of Cmpule = capped_at 1 87
+ceiling_of Extb = capped_at 255 100
+ceiling_of Extw = capped_at 65535 101
+ceiling_of Extl = capped_at 4294967295 102
+ceiling_of o = None
+
+-- an operator at a and b by what it never passes
+abbrev pub by_ceiling : Ceiling → Exp → Exp → WordBound
+by_ceiling c a b = word_bound c.word (word_rule c.rule (a ∷ b ∷ []) [])
+
+-- the same, where there is such a word
+abbrev pub ceiling_bounds : Option Ceiling → Exp → Exp → List WordBound
+ceiling_bounds None a b = []
+ceiling_bounds (Some c) a b = by_ceiling c a b ∷ []
 
 -- the expression e, an operator at a and b, by their upper bounds
 abbrev pub by_sides : Hyps → Exp → Exp → Exp → How → WordBound
 by_sides Γ e a b AndLeft = by_left e a b (upper_bound Γ a)
-by_sides Γ e a b AndRight = by_right e a b (upper_bound Γ b)
+by_sides Γ e a b AndRight = by_side 54 e a b b (upper_bound Γ b)
+by_sides Γ e a b Cleared = by_side 97 e a b a (upper_bound Γ a)
 by_sides Γ e a b (ShiftRight c) = by_right_shift e a c (upper_bound Γ a)
 by_sides Γ e a b (ShiftLeft c) = by_left_shift e a c (upper_bound Γ a)
 by_sides Γ e a b Sum = by_sum e a b (upper_bound Γ a) (upper_bound Γ b)
-by_sides Γ e a b (Compared n) = by_comparison n a b
+by_sides Γ e a b (Capped c) = by_ceiling c a b
 
 -- the expression by its operator's parts
 abbrev pub by_parts : Hyps → Exp → How → WordBound

@@ -11,14 +11,13 @@ ghost use Rattle.formula_ids.specs.Nodes.{IsApply};
 ghost use Rattle.prover_class.specs.Hypotheses.{Hyps};
 ghost use Rattle.prover_class.specs.Bounds.{WordBound, max_word, least_bound, op_bounds, own_bounds, upper_bound};
 ghost use Rattle.bound_proofs.specs.declared.bounds.Side.TheVariants.{Upper};
-ghost use Rattle.bound_proofs.specs.Candidates.{limit};
+ghost use Rattle.bound_proofs.specs.Candidates.{limit, ceiling_of, ceiling_bounds};
 ghost use Rattle.bound_proofs.specs.Choices.{better, best, all_say, chosen, IsChoice};
 
 use crate::bounds::Side;
-use crate::parts::{How, Parts};
+use crate::parts::{How, Parts, ceiling_of};
 use crate::relations::{bound_word, relation_of};
 use formula_ids::{Hypothesis, literal};
-use lf_rules::numbers::CMP_LE1;
 use term_table::{Id, Table};
 use word_ops::{Op, apply};
 
@@ -177,6 +176,21 @@ fn fits_shift(v: u64, count: u64) -> bool
     v <= apply(Op::Srl, u64::MAX, count)
 }
 
+/// The word that the operator never passes, unless the last is strictly better.
+fn by_operator(op: Op, last: Choice) -> Choice
+    ensures { (Γ : Hyps) (x y : Exp) → IsChoice Upper Γ (EOp op x y) (limit Upper (EOp op x y)) last
+        → IsChoice Upper Γ (EOp op x y) (least_bound
+        (ceiling_bounds (ceiling_of op) x y) (limit Upper (EOp op x y))) result }
+{
+    match ceiling_of(op) {
+        None => last,
+        Some(ceiling) => {
+            let by = By::Parts(How::Capped(ceiling));
+            or_last(Side::Upper, by, ceiling.word, last)
+        }
+    }
+}
+
 /// The least of what the operator's parts, whose upper bounds have the words `v` and `w`, say of it.
 fn by_parts(table: &Table, op: Op, b: Id, v: u64, w: u64) -> Choice
     requires { IsKnown table.now b }
@@ -211,12 +225,8 @@ fn by_parts(table: &Table, op: Op, b: Id, v: u64, w: u64) -> Choice
             apply(Op::Add, v, w),
             last,
         ),
-        Op::Cmpeq => or_last(Side::Upper, By::Parts(How::Compared(CMP_LE1)), 1, last),
-        Op::Cmplt => or_last(Side::Upper, By::Parts(How::Compared(CMP_LE1 + 1)), 1, last),
-        Op::Cmple => or_last(Side::Upper, By::Parts(How::Compared(CMP_LE1 + 2)), 1, last),
-        Op::Cmpult => or_last(Side::Upper, By::Parts(How::Compared(CMP_LE1 + 3)), 1, last),
-        Op::Cmpule => or_last(Side::Upper, By::Parts(How::Compared(CMP_LE1 + 4)), 1, last),
-        _ => last,
+        Op::Bic => or_last(Side::Upper, By::Parts(How::Cleared), v, last),
+        _ => by_operator(op, last),
     }
 }
 

@@ -9,14 +9,15 @@ ghost use Rattle.hereditary_subst.specs.Limits.{left_of};
 ghost use Rattle.formula_tree.specs.Formulas.{Exp, ELit};
 ghost use Rattle.formula_terms.specs.Encoding.{exp_encoding};
 ghost use Rattle.bound_proofs.specs.BoundIds.{IsBoundOf, bound_by_ids};
-ghost use Rattle.bound_proofs.specs.Candidates.{limit, by_word, by_itself, by_right, by_left, by_right_shift, by_left_shift, by_sum, by_comparison};
+ghost use Rattle.bound_proofs.specs.Candidates.{limit, by_word, by_itself, by_side, by_left, by_right_shift, by_left_shift, by_sum, capped_at, ceiling_of, by_ceiling};
 ghost use Rattle.bound_proofs.specs.Choices.{AreParts};
 
 use crate::bounds::{Bound, Side, fit_proof, folded, placed, word};
 use formula_ids::{ExpNode, exp_node, literal, moved, oper};
 use hereditary_subst::{Exhausted, Memo};
 use lf_rules::numbers::{
-    ADD_LE, AND_COMM, AND_LE, MAX_LE, SLL_MONO, SRL_MONO, ULE_REFL, ULE_TRANS, ZERO_LE,
+    ADD_LE, AND_COMM, AND_LE, CMP_LE1, EXTB_LE, EXTL_LE, EXTW_LE, MAX_LE, SLL_MONO, SRL_MONO,
+    ULE_REFL, ULE_TRANS, ZERO_LE,
 };
 use lf_rules::rule_term;
 use std::alloc::AllocError;
@@ -31,6 +32,14 @@ pub(crate) struct Parts {
     pub(crate) right: Id,
 }
 
+/// A word that an operator never passes, whatever its sides are, and the number of the rule that
+/// says so.
+#[derive(Clone, Copy)]
+pub(crate) struct Ceiling {
+    pub(crate) word: u64,
+    pub(crate) rule: u32,
+}
+
 /// How an operator is bounded from above by upper bounds of its parts.
 #[derive(Clone, Copy)]
 pub(crate) enum How {
@@ -38,14 +47,16 @@ pub(crate) enum How {
     AndLeft,
     /// Bitwise and is at most its right side.
     AndRight,
+    /// A word with bits cleared is at most the word, its left side.
+    Cleared,
     /// A shift of its left side to the right by so many bits.
     ShiftRight(u64),
     /// A shift of its left side to the left by so many bits, where none is lost.
     ShiftLeft(u64),
     /// A sum of both, where it doesn't wrap.
     Sum,
-    /// A comparison is at most 1, by the rule of this number.
-    Compared(u32),
+    /// An operator that never passes a word.
+    Capped(Ceiling),
 }
 
 /// The operator and the sides of the expression that `e` encodes; none where it is no operator. Of an
@@ -110,10 +121,34 @@ pub(crate) fn by_itself(table: &mut Table, side: Side, e: Id) -> Result<Bound, E
     }
 }
 
-/// A comparison is at most 1, by the rule of this number.
-pub(crate) fn by_comparison(
+/// Never past this word, by the rule of this number.
+fn capped_at(word: u64, rule: u32) -> Option<Ceiling>
+    ensures { result ≡ capped_at word rule }
+{
+    Some(Ceiling { word, rule })
+}
+
+/// The word that an operator never passes; none where it may be any word.
+pub(crate) fn ceiling_of(op: Op) -> Option<Ceiling>
+    ensures { result ≡ ceiling_of op }
+{
+    match op {
+        Op::Cmpeq => capped_at(1, CMP_LE1),
+        Op::Cmplt => capped_at(1, CMP_LE1 + 1),
+        Op::Cmple => capped_at(1, CMP_LE1 + 2),
+        Op::Cmpult => capped_at(1, CMP_LE1 + 3),
+        Op::Cmpule => capped_at(1, CMP_LE1 + 4),
+        Op::Extb => capped_at(255, EXTB_LE),
+        Op::Extw => capped_at(65_535, EXTW_LE),
+        Op::Extl => capped_at(4_294_967_295, EXTL_LE),
+        _ => None,
+    }
+}
+
+/// An operator by the word that it never passes.
+pub(crate) fn by_ceiling(
     table: &mut Table,
-    number: u32,
+    ceiling: Ceiling,
     a: Id,
     b: Id,
 ) -> Result<Bound, Exhausted>
@@ -122,28 +157,42 @@ pub(crate) fn by_comparison(
     ensures known { IfOk result (λ b. IsKnown table.new b.proof) }
     ensures is { (x y : Exp) → tree_at table.old a ≡ exp_encoding x
         → tree_at table.old b ≡ exp_encoding y
-        → IfOk result (IsBoundOf table.new (by_comparison number x y)) }
+        → IfOk result (IsBoundOf table.new (by_ceiling ceiling x y)) }
     ensures extends { Extends table.old table.new }
 {
-    let proof = rule_term(table, number, &[a, b])?;
-    Ok(Bound { value: 1, proof })
+    let proof = rule_term(table, ceiling.rule, &[a, b])?;
+    Ok(Bound {
+        value: ceiling.word,
+        proof,
+    })
 }
 
-/// Bitwise and is at most what its right side is.
-pub(crate) fn by_right(table: &mut Table, e: Id, a: Id, b: Id, w: Bound) -> Result<Bound, Exhausted>
+/// The operator `e` at `a` and `b`, which is at most its side `side` by the rule of this number: at
+/// most what the side is.
+pub(crate) fn by_side(
+    table: &mut Table,
+    number: u32,
+    e: Id,
+    a: Id,
+    b: Id,
+    side: Id,
+    w: Bound,
+) -> Result<Bound, Exhausted>
     requires e { IsKnown table.old e }
     requires a { IsKnown table.old a }
     requires b { IsKnown table.old b }
+    requires side { IsKnown table.old side }
     requires w { IsKnown table.old w.proof }
     ensures known { IfOk result (λ b. IsKnown table.new b.proof) }
-    ensures is { (x y z : Exp) → tree_at table.old e ≡ exp_encoding x
+    ensures is { (x y z s : Exp) → tree_at table.old e ≡ exp_encoding x
         → tree_at table.old a ≡ exp_encoding y → tree_at table.old b ≡ exp_encoding z
-        → IfOk result (IsBoundOf table.new (by_right x y z (bound_by_ids table.old w))) }
+        → tree_at table.old side ≡ exp_encoding s → IfOk result
+        (IsBoundOf table.new (by_side number x y z s (bound_by_ids table.old w))) }
     ensures extends { Extends table.old table.new }
 {
-    let least = rule_term(table, AND_LE, &[a, b])?;
+    let least = rule_term(table, number, &[a, b])?;
     let value = word(table, w.value)?;
-    let proof = rule_term(table, ULE_TRANS, &[e, b, value, least, w.proof])?;
+    let proof = rule_term(table, ULE_TRANS, &[e, side, value, least, w.proof])?;
     Ok(Bound {
         value: w.value,
         proof,

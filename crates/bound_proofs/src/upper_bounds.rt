@@ -21,12 +21,13 @@ use crate::bounds::{Bound, Side};
 use crate::choices::{By, Choice, choice_alone, choice_of_parts};
 use crate::kept_bounds::UpperBounds;
 use crate::parts::{
-    How, by_comparison, by_itself, by_left, by_left_shift, by_right, by_right_shift, by_sum, limit,
+    How, by_ceiling, by_itself, by_left, by_left_shift, by_right_shift, by_side, by_sum, limit,
     parts_of,
 };
 use crate::relations::by_hypothesis;
 use formula_ids::Hypothesis;
 use hereditary_subst::{Exhausted, Memo};
+use lf_rules::numbers::{AND_LE, BIC_LE};
 use term_table::{Id, Table};
 
 /// What is chosen as the upper bound of the expression, which is kept.
@@ -194,7 +195,11 @@ fn made_by_parts(
         }
         How::AndRight => {
             let w = upper_bound(table, memo, kept, hyps, p.right)?;
-            by_right(table, e, p.left, p.right, w)
+            by_side(table, AND_LE, e, p.left, p.right, p.right, w)
+        }
+        How::Cleared => {
+            let v = upper_bound(table, memo, kept, hyps, p.left)?;
+            by_side(table, BIC_LE, e, p.left, p.right, p.left, v)
         }
         How::ShiftRight(count) => {
             let v = upper_bound(table, memo, kept, hyps, p.left)?;
@@ -209,6 +214,6 @@ fn made_by_parts(
             let w = upper_bound(table, memo, kept, hyps, p.right)?;
             by_sum(table, memo, e, p.left, p.right, v, w)
         }
-        How::Compared(number) => by_comparison(table, number, p.left, p.right),
+        How::Capped(ceiling) => by_ceiling(table, ceiling, p.left, p.right),
     }
 }

@@ -7,7 +7,6 @@ use Rattle.formula_tree.specs.Formulas.{Form, FAnd}
 use Rattle.formula_tree.specs.Scope.{IsOver}
 use Rattle.formula_tree.specs.Sizes.{form_height}
 use Rattle.policy_set.specs.Views.{PolicyView, IsPolicy}
-use Rattle.policy_set.proofs.Closed.{kind-first}
 use Rattle.term_table.specs.Tree.{Tree}
 use Rattle.term_table.specs.Table.{IsSmall}
 use Rattle.term_table.specs.Measures.{height_of}
@@ -39,12 +38,22 @@ use Rattle.prover_class.specs.Access.{by_all_means}
 use Rattle.bounds_prover.specs.declared.fault.ProveFault.{ProveFault}
 use Rattle.bounds_prover.specs.declared.fault.ProveFault.TheVariants.{Refused, NotEasy}
 use Rattle.condition_prover.specs.Conditions.{condition_parts}
-use Rattle.condition_prover.proofs.WholeProof.{IsSoundClass, condition-parts, proof-checks}
+use Rattle.condition_prover.proofs.WholeProof.{IsSoundClass, condition-parts, parts-first, parts-second, proof-checks}
 use Rattle.bounds_prover.specs.Proving.{with_proof, excess, encoded_unless, with_parts_proof, proved_contents, proved_code, proved_read, made_unless, proved_container}
 use Rattle.bounds_prover.proofs.Measures.{IsSmallEnough, small-enough}
 use Rattle.bounds_prover.proofs.SmallTerms.{checks-small, checks-entry}
-use Rattle.lf_signature.specs.declared.WordSignature.TheVariants.{Sigma1}
+use Rattle.lf_signature.specs.declared.WordSignature.{WordSignature}
+use Rattle.lf_signature.specs.declared.WordSignature.TheVariants.{Sigma3}
+use Rattle.lf_signature.specs.Known.{HasOp}
+use Rattle.formula_tree.specs.Operators.{Uses}
+use Rattle.alpha_cfg.specs.CodeBytes.{EncodesCode}
 use Rattle.word_ops.specs.declared.Profile.TheVariants.{One}
+use Rattle.policy_set.proofs.Closed.{kind-first}
+use Rattle.vcgen.proofs.Encodings.{forms-wider}
+use Rattle.proof_container.specs.declared.container.Head.{Head}
+use Rattle.proof_container.specs.declared.container.Head.TheVariants.{Number, Digest}
+use Rattle.pcc_gate.specs.Versions.{head_profile, head_signature}
+use Rattle.pcc_gate.specs.ForPolicy.{IsFor}
 
 -- ---- contents with another proof
 
@@ -60,32 +69,58 @@ low_with [] more p h l = All-cons IsLow p [] l (All-nil IsLow)
 low_with (t ∷ ts) more p h l = All-cons IsLow t (ts ++ p ∷ []) (All-head IsLow t (ts ++ more) h) (low_with ts more p (All-tail IsLow t (ts ++ more) h) l)
 
 -- the same invariants, in a table that grew
-pub same_invs : (c : Contents) (l : List (ℕ × Tree)) (p : Tree) → l ≡ c.invs → record { policy = c.policy; code = c.code; invs = l; proof = Some p } ≡ with_proof c p
-same_invs c l p e = λ i. record { policy = c.policy; code = c.code; invs = e i; proof = Some p }
+pub same_invs : (c : Contents) (l : List (ℕ × Tree)) (p : Tree) → l ≡ c.invs
+    → record { head = c.head; code = c.code; invs = l; proof = Some p } ≡ with_proof c p
+same_invs c l p e = λ i. record { head = c.head; code = c.code; invs = e i; proof = Some p }
 
 -- ---- the proof of a condition that passed
 
 module _ (sound : IsSoundClass) (policy : PolicyView) (kept : IsPolicy policy) (bytes : List ℕ)
     (c : Contents) (code : List Insn) (marks : List Bool)
     (passes : Passes policy bytes c code marks) where
-  module _ (p : Tree) (given : condition_proof by_all_means (condition_parts policy code c.invs) ≡ Some p) (low : height_of p ≤ MAX_HEIGHT) where
-    checks : Checks (declared Sigma1) [] p (pf (form_encoding (conjoined (condition_parts policy code c.invs))))
+  abbrev sig : WordSignature
+  sig = head_signature c.head
+
+  abbrev Parts : List Form
+  Parts = condition_parts policy code c.invs
+
+  wide : AreForms Sigma3 c.invs
+  wide = forms-wider sig c.invs passes.forms
+
+  -- a policy that a number names is built in, so its operators are the first profile's; of one that
+  -- a digest names they may be any
+  operators-used : (h : Head) → AreForms (head_signature h) c.invs
+      → EncodesCode (head_profile h) c.code code → IsFor policy h
+      → Uses (HasOp (declared (head_signature h))) (conjoined Parts)
+  operators-used (Number n) forms encoded named =
+      parts-first sound policy code c.invs marks wide passes.code passes.annotated passes.cut kept
+      forms (AreOfProfile-EncodesCode One c.code code encoded)
+      (kind-first policy named.0 kept named.1)
+  operators-used (Digest d) forms encoded named =
+      parts-second sound policy code c.invs marks wide passes.code passes.annotated passes.cut kept
+
+  module _ (p : Tree)
+      (given : condition_proof by_all_means (condition_parts policy code c.invs) ≡ Some p)
+      (low : height_of p ≤ MAX_HEIGHT) where
+    checks : Checks (declared sig) [] p
+        (pf (form_encoding (conjoined (condition_parts policy code c.invs))))
     checks =
-        proof-checks sound policy code c.invs marks passes.forms passes.code passes.annotated
-        passes.cut (AreOfProfile-EncodesCode One c.code code passes.encoded)
-        kept (kind-first policy passes.number.0 kept passes.number.1) p given low
+        proof-checks sound policy code c.invs marks wide passes.code passes.annotated passes.cut
+        kept sig (operators-used c.head passes.forms passes.encoded passes.named) p given low
 
     pub made-contents : length (entries (roots (with_proof c p))) ≤ MAX_ENTRIES → IsContents (with_proof c p)
     made-contents few =
         let h = passes.container.contents in
-        let small : IsSmall p = checks-small checks (omega (arith, low)) in
+        let small : IsSmall p = checks-small sig checks (omega (arith, low)) in
         record {
-          policy = h.policy;
+          head = h.head;
           bytes = h.bytes;
           whole = h.whole;
           some = h.some;
           short = h.short;
-          terms = terms_with (map (λ p. p.1) c.invs) (one_or_none c.proof) p h.terms (checks-entry checks) small;
+          terms =
+              terms_with (map (λ p. p.1) c.invs) (one_or_none c.proof) p h.terms
+              (checks-entry sig checks) small;
           entries = few;
           invs = h.invs;
           rising = h.rising;
@@ -98,7 +133,7 @@ module _ (sound : IsSoundClass) (policy : PolicyView) (kept : IsPolicy policy) (
         passes = record {
           size = s.bytes;
           container = record { contents = made-contents p given s.height s.entries; encoded = refl };
-          number = passes.number;
+          named = passes.named;
           encoded = passes.encoded;
           code = passes.code;
           heights = low_with (map (λ p. p.1) c.invs) (one_or_none c.proof) p passes.heights s.height;
@@ -111,8 +146,10 @@ module _ (sound : IsSoundClass) (policy : PolicyView) (kept : IsPolicy policy) (
         vc = vc_of policy code c.invs;
         given = refl;
         weight = s.weight;
-        condition = vc_of-encodes policy code c.invs passes.forms;
-        proved = subst (λ F. Checks (declared Sigma1) [] p (pf (form_encoding F))) (sym (condition-parts policy code c.invs)) proved;
+        condition = vc_of-encodes sig policy code c.invs passes.forms;
+        proved =
+            subst (λ F. Checks (declared sig) [] p (pf (form_encoding F)))
+            (sym (condition-parts policy code c.invs)) proved;
       }
 
 -- ---- what is made of parts
@@ -157,7 +194,8 @@ pub contents-made : (policy : PolicyView) (bytes : List ℕ) (c : Contents) (cod
 unfolding proved_container
 contents-made policy bytes c code marks passes none =
     (λ i. made_unless (none i) (proved_read policy (container_again bytes c passes.container i)))
-    ∙ ap (proved_code policy c) (sym (decoded_code-ok One c.code code passes.encoded passes.code))
+    ∙ ap (proved_code policy c)
+    (sym (decoded_code-ok (head_profile c.head) c.code code passes.encoded passes.code))
 
 -- else it is refused
 pub refused-made : (policy : PolicyView) (bytes : List ℕ) (r : Refusal) → front_refusal policy bytes

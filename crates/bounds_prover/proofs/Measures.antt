@@ -1,7 +1,7 @@
 -- Measures past their limits, one after another.
 use Rattle.std.proofs.Common.{◌≡◌, ℕ, ◌<◌, ◌≤◌, ◌^◌, ◌-◌, min, Bool, true, false, cond, ltb, ltb-false, lt-ltb, le-ltb, length, Option, Some, None, refl, sym, ◌∙◌, ap, arith}
 use Rattle.term_table.specs.Tree.{Tree}
-use Rattle.term_table.specs.Measures.{height_of, weight_of, sigma1_places, capped}
+use Rattle.term_table.specs.Measures.{height_of, capped}
 use Rattle.proof_container.specs.Contents.{Contents, roots}
 use Rattle.proof_container.specs.Postorder.{entries}
 use Rattle.proof_container.specs.Encoding.{encoding_of}
@@ -12,7 +12,7 @@ use Rattle.bounds_prover.specs.declared.fault.Measure.{Measure}
 use Rattle.bounds_prover.specs.declared.fault.Measure.TheVariants.{Weight, Height, Entries, Bytes}
 use Rattle.bounds_prover.specs.declared.fault.ProveFault.{ProveFault}
 use Rattle.bounds_prover.specs.declared.fault.ProveFault.TheVariants.{TooBig}
-use Rattle.bounds_prover.specs.Proving.{within, excess}
+use Rattle.bounds_prover.specs.Proving.{within, proof_weight, excess}
 
 -- a number within its limit lets the next be tried
 pub passes : (m : Measure) (limit n shown : ℕ) (next : Option ProveFault) → n ≤ limit → within m limit n shown next ≡ next
@@ -34,7 +34,7 @@ no_excess m limit n shown next e = (ltb-false limit n (by_test (ltb limit n) e).
 
 -- nothing is past its limit
 pub record IsSmallEnough (c : Contents) (p : Tree) : Type 0 where
-  pub weight : weight_of sigma1_places p ≤ MAX_WEIGHT
+  pub weight : proof_weight c p ≤ MAX_WEIGHT
   pub height : height_of p ≤ MAX_HEIGHT
   pub entries : length (entries (roots c)) ≤ MAX_ENTRIES
   pub bytes : length (encoding_of c) ≤ MAX_BYTES
@@ -55,24 +55,28 @@ module _ (c : Contents) (p : Tree) where
   pub small-enough : excess c p ≡ None → IsSmallEnough c p
   unfolding excess
   small-enough e =
-      let w = no_excess Weight MAX_WEIGHT (weight_of sigma1_places p) (capped (weight_of sigma1_places p)) by_height e in
+      let w = no_excess Weight MAX_WEIGHT (proof_weight c p) (capped (proof_weight c p)) by_height
+      e in
       let h = no_excess Height MAX_HEIGHT (height_of p) (capped (height_of p)) by_entries w.1 in
       let n = no_excess Entries MAX_ENTRIES (length (entries (roots c))) (length (entries (roots c))) by_bytes h.1 in
       let b = no_excess Bytes MAX_BYTES (length (encoding_of c)) shown_bytes None n.1 in
       record { weight = w.0; height = h.0; entries = n.0; bytes = b.0 }
 
   -- the same by the numbers as they are shown
-  module _ (x : ℕ) (weight : x ≡ capped (weight_of sigma1_places p)) where
+  module _ (x : ℕ) (weight : x ≡ capped (proof_weight c p)) where
     pub too_heavy : MAX_WEIGHT < x → Some (TooBig Weight x) ≡ excess c p
     unfolding excess
     too_heavy h =
         ap (λ n. Some (TooBig Weight n)) weight
-        ∙ sym (exceeds Weight MAX_WEIGHT (weight_of sigma1_places p) (capped (weight_of sigma1_places p)) by_height (omega (arith, h, weight)))
+        ∙ sym (exceeds Weight MAX_WEIGHT (proof_weight c p) (capped (proof_weight c p)) by_height
+        (omega (arith, h, weight)))
 
     module _ (light : x ≤ MAX_WEIGHT) (y : ℕ) (height : y ≡ capped (height_of p)) where
       at_height : excess c p ≡ by_height
       unfolding excess
-      at_height = passes Weight MAX_WEIGHT (weight_of sigma1_places p) (capped (weight_of sigma1_places p)) by_height (omega (arith, light, weight))
+      at_height =
+          passes Weight MAX_WEIGHT (proof_weight c p) (capped (proof_weight c p)) by_height
+          (omega (arith, light, weight))
 
       pub too_high : MAX_HEIGHT < y → Some (TooBig Height y) ≡ excess c p
       too_high h =

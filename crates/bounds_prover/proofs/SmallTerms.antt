@@ -7,9 +7,10 @@ use Rattle.term_table.specs.Measures.{height_of}
 use Rattle.term_table.proofs.Options.{bind_some}
 use Rattle.word_ops.specs.Operators.{op_of}
 use Rattle.lf_signature.specs.Numbers.{relations, rel_of}
-use Rattle.lf_signature.specs.Constants.{op_count_of, op_in, is_word, calc_type, fact_type, deny_type, declared}
+use Rattle.lf_signature.specs.Constants.{size_of, op_count_of, op_in, is_word, calc_type, fact_type, deny_type, declared}
 use Rattle.lf_signature.specs.Typing.{Checks, Synth, lam_checks, atom_checks, var_synth, con_synth, app_synth}
-use Rattle.lf_signature.specs.declared.WordSignature.TheVariants.{Sigma1}
+use Rattle.lf_signature.specs.declared.WordSignature.{WordSignature}
+use Rattle.lf_signature.specs.declared.WordSignature.TheVariants.{Sigma1, Sigma2, Sigma3}
 use Rattle.lf_signature.specs.Laws.Within.{declared-number}
 use Rattle.lf_signature.specs.Laws.Booleans.{cond_is}
 use Rattle.proof_container.specs.Encoding.{IsEntryTerm}
@@ -37,54 +38,82 @@ words-small x y e =
     let b = both (is_word x) (is_word y) e in
     (word-small x b.0, word-small y b.1)
 
--- a constant that has a type is small
-const-small : (k : Const) (a : Tree) → declared Sigma1 k ≡ Some a → IsSmallConst k
-const-small (Num n) a e = omega (arith, (declared-number Sigma1 n a e).0)
-const-small (Lit w) a e = word-small w (tested (is_word w) _ a e)
-const-small (Calc o x y) a e =
-    let p = bind_some (op_in Sigma1 o) (λ p. cond (is_word x && is_word y) (Some (calc_type p x y)) None) a e in
-    let w = words-small x y (tested (is_word x && is_word y) _ a p.2) in
-    (omega (arith, ltb-true o (op_count_of Sigma1) (cond_is (ltb o (op_count_of Sigma1)) (op_of o) p.0 p.1).0), w.0, w.1)
-const-small (Fact r x y) a e =
-    let p = bind_some (rel_of r) (λ p. cond ((is_word x && is_word y) && test_of p x y) (Some (fact_type p x y)) None) a e in
-    let t = both (is_word x && is_word y) (test_of p.0 x y) (tested ((is_word x && is_word y) && test_of p.0 x y) _ a p.2) in
-    let w = words-small x y t.0 in
-    (omega (arith, at-below relations r p.0 p.1), w.0, w.1)
-const-small (Deny r x y) a e =
-    let p = bind_some (rel_of r) (λ p. cond ((is_word x && is_word y) && not (test_of p x y)) (Some (deny_type p x y)) None) a e in
-    let t = both (is_word x && is_word y) (not (test_of p.0 x y)) (tested ((is_word x && is_word y) && not (test_of p.0 x y)) _ a p.2) in
-    let w = words-small x y t.0 in
-    (omega (arith, at-below relations r p.0 p.1), w.0, w.1)
-const-small (Lemma n) a e = cc
+-- a signature has few constants, and few operators
+few-constants : (s : WordSignature) → size_of s ≤ 105
+few-constants Sigma1 = omega arith
+few-constants Sigma2 = omega arith
+few-constants Sigma3 = omega arith
 
-mutual
-  pub checks-small : {ctx : List Tree} {t a : Tree} → Checks (declared Sigma1) ctx t a → length ctx + height_of t ≤ 2 ^ 32 → IsSmall t
-  checks-small (lam_checks h) r = checks-small h (omega (arith, r))
-  checks-small (atom_checks h q) r = synth-small h r
+few-operators : (s : WordSignature) → op_count_of s ≤ 19
+few-operators Sigma1 = omega arith
+few-operators Sigma2 = omega arith
+few-operators Sigma3 = omega arith
 
-  synth-small : {ctx : List Tree} {t a : Tree} → Synth (declared Sigma1) ctx t a → length ctx + height_of t ≤ 2 ^ 32 → IsSmall t
-  synth-small (var_synth {ctx = ctx} {n = n} {a = a} e f) r = omega (arith, at-below ctx n a e, r)
-  synth-small (con_synth {c = c} {a = a} e) r = const-small c a e
-  synth-small (app_synth h c s) r = (synth-small h (omega (arith, r)), checks-small c (omega (arith, r)))
+module _ (s : WordSignature) where
+  -- a constant that has a type is small
+  const-small : (k : Const) (a : Tree) → declared s k ≡ Some a → IsSmallConst k
+  const-small (Num n) a e = omega (arith, (declared-number s n a e).0, few-constants s)
+  const-small (Lit w) a e = word-small w (tested (is_word w) _ a e)
+  const-small (Calc o x y) a e =
+      let p = bind_some (op_in s o) (λ p. cond (is_word x && is_word y) (Some (calc_type p x y))
+      None) a e in
+      let w = words-small x y (tested (is_word x && is_word y) _ a p.2) in (
+        omega (
+          arith,
+          few-operators s,
+          ltb-true o (op_count_of s)
+              (cond_is (ltb o (op_count_of s)) (op_of o) p.0 p.1).0,
+        ),
+        w.0,
+        w.1,
+      )
+  const-small (Fact r x y) a e =
+      let p = bind_some (rel_of r) (λ p. cond ((is_word x && is_word y) && test_of p x y)
+      (Some (fact_type p x y)) None) a e in
+      let t = both (is_word x && is_word y) (test_of p.0 x y)
+      (tested ((is_word x && is_word y) && test_of p.0 x y) _ a p.2) in
+      let w = words-small x y t.0 in
+      (omega (arith, at-below relations r p.0 p.1), w.0, w.1)
+  const-small (Deny r x y) a e =
+      let p = bind_some (rel_of r) (λ p. cond ((is_word x && is_word y) && not (test_of p x y))
+      (Some (deny_type p x y)) None) a e in
+      let t = both (is_word x && is_word y) (not (test_of p.0 x y))
+      (tested ((is_word x && is_word y) && not (test_of p.0 x y)) _ a p.2) in
+      let w = words-small x y t.0 in
+      (omega (arith, at-below relations r p.0 p.1), w.0, w.1)
+  const-small (Lemma n) a e = cc
 
--- a constant that has a type is no lemma
-const-entry : (k : Const) (a : Tree) → declared Sigma1 k ≡ Some a → IsEntryTerm (Con k)
-const-entry (Num n) a e = tt
-const-entry (Lit w) a e = tt
-const-entry (Calc o x y) a e = tt
-const-entry (Fact r x y) a e = tt
-const-entry (Deny r x y) a e = tt
-const-entry (Lemma n) a e = cc
+  mutual
+    pub checks-small : {ctx : List Tree} {t a : Tree} → Checks (declared s) ctx t a
+        → length ctx + height_of t ≤ 2 ^ 32 → IsSmall t
+    checks-small (lam_checks h) r = checks-small h (omega (arith, r))
+    checks-small (atom_checks h q) r = synth-small h r
 
-mutual
-  pub checks-entry : {ctx : List Tree} {t a : Tree} →
-      Checks (declared Sigma1) ctx t a → IsEntryTerm t
-  checks-entry (lam_checks h) = checks-entry h
-  checks-entry (atom_checks h q) = (synth-entry h).1
+    synth-small : {ctx : List Tree} {t a : Tree} → Synth (declared s) ctx t a
+        → length ctx + height_of t ≤ 2 ^ 32 → IsSmall t
+    synth-small (var_synth {ctx = ctx} {n = n} {a = a} e f) r = omega (arith, at-below ctx n a e, r)
+    synth-small (con_synth {c = c} {a = a} e) r = const-small c a e
+    synth-small (app_synth h c e) r =
+        (synth-small h (omega (arith, r)), checks-small c (omega (arith, r)))
 
-  synth-entry : {ctx : List Tree} {t a : Tree} →
-      Synth (declared Sigma1) ctx t a → IsAtomic t × IsEntryTerm t
-  synth-entry (var_synth e f) = (tt, tt)
-  synth-entry (con_synth {c = c} {a = a} e) = (tt, const-entry c a e)
-  synth-entry (app_synth h c s) =
-      (tt, ((synth-entry h).1, (synth-entry h).0, checks-entry c))
+  -- a constant that has a type is no lemma
+  const-entry : (k : Const) (a : Tree) → declared s k ≡ Some a → IsEntryTerm (Con k)
+  const-entry (Num n) a e = tt
+  const-entry (Lit w) a e = tt
+  const-entry (Calc o x y) a e = tt
+  const-entry (Fact r x y) a e = tt
+  const-entry (Deny r x y) a e = tt
+  const-entry (Lemma n) a e = cc
+
+  mutual
+    pub checks-entry : {ctx : List Tree} {t a : Tree} →
+        Checks (declared s) ctx t a → IsEntryTerm t
+    checks-entry (lam_checks h) = checks-entry h
+    checks-entry (atom_checks h q) = (synth-entry h).1
+
+    synth-entry : {ctx : List Tree} {t a : Tree} →
+        Synth (declared s) ctx t a → IsAtomic t × IsEntryTerm t
+    synth-entry (var_synth e f) = (tt, tt)
+    synth-entry (con_synth {c = c} {a = a} e) = (tt, const-entry c a e)
+    synth-entry (app_synth h c e) =
+        (tt, ((synth-entry h).1, (synth-entry h).0, checks-entry c))

@@ -5,7 +5,8 @@ use Rattle.alpha_words.specs.declared.insn.Insn.{Insn}
 use Rattle.alpha_cfg.specs.declared.fault.CodeFlaw.{CodeFlaw}
 use Rattle.alpha_cfg.specs.CodeDecoding.{decoded_code}
 use Rattle.term_table.specs.Tree.{Tree}
-use Rattle.term_table.specs.Measures.{height_of, weight_of, sigma1_places, capped}
+use Rattle.term_table.specs.Measures.{height_of, weight_of, capped}
+use Rattle.lf_signature.specs.Constants.{places_of}
 use Rattle.formula_tree.specs.Formulas.{Form}
 use Rattle.policy_set.specs.Views.{PolicyView}
 use Rattle.proof_container.specs.Contents.{Contents, roots}
@@ -25,11 +26,11 @@ use Rattle.bounds_prover.specs.declared.fault.Measure.{Measure}
 use Rattle.bounds_prover.specs.declared.fault.Measure.TheVariants.{Weight, Height, Entries, Bytes}
 use Rattle.bounds_prover.specs.declared.fault.ProveFault.{ProveFault}
 use Rattle.bounds_prover.specs.declared.fault.ProveFault.TheVariants.{Refused, NotEasy, TooBig, Memory, Results}
-use Rattle.word_ops.specs.declared.Profile.TheVariants.{One}
+use Rattle.pcc_gate.specs.Versions.{head_profile, head_signature}
 
 -- the contents with this proof in place of theirs
 abbrev pub with_proof : Contents → Tree → Contents
-with_proof c p = record { policy = c.policy; code = c.code; invs = c.invs; proof = Some p }
+with_proof c p = record { head = c.head; code = c.code; invs = c.invs; proof = Some p }
 
 -- ---- limits
 
@@ -37,10 +38,14 @@ with_proof c p = record { policy = c.policy; code = c.code; invs = c.invs; proof
 abbrev pub within : Measure → ℕ → ℕ → ℕ → Option ProveFault → Option ProveFault
 within measure limit n shown next = if nat_lt limit n then Some (TooBig measure shown) else next
 
+-- what the proof weighs in the contents, by the parameters of the version's signature
+abbrev pub proof_weight : Contents → Tree → ℕ
+proof_weight c p = weight_of (places_of (head_signature c.head)) p
+
 -- the first measure of the proof, or of the contents that have it, that is past its limit
 unfoldable pub excess : Contents → Tree → Option ProveFault
 excess c p =
-    within Weight MAX_WEIGHT (weight_of sigma1_places p) (capped (weight_of sigma1_places p))
+    within Weight MAX_WEIGHT (proof_weight c p) (capped (proof_weight c p))
     (within Height MAX_HEIGHT (height_of p) (capped (height_of p))
     (within Entries MAX_ENTRIES (length (entries (roots c))) (length (entries (roots c)))
     (within Bytes MAX_BYTES (length (encoding_of c)) (min (length (encoding_of c)) (2 ^ 64 - 1)) None)))
@@ -70,7 +75,7 @@ proved_code policy c (Err flaw) = Err (Refused (refusal.BadCode flaw))
 
 -- the same, where the bytes are a container
 abbrev pub proved_read : PolicyView → Result Contents Fault → Result (List ℕ) ProveFault
-proved_read policy (Ok c) = proved_code policy c (decoded_code One c.code)
+proved_read policy (Ok c) = proved_code policy c (decoded_code (head_profile c.head) c.code)
 proved_read policy (Err fault) = Err (Refused (refusal.Malformed fault.0 fault.1))
 
 -- what is made, unless there is a refusal

@@ -2,13 +2,15 @@
 
 ghost use Rattle.std.specs.Prelude.{◌≡◌, ◌≤◌, map, length, IfOk};
 ghost use Rattle.term_table.specs.Table.{IsKnown, tree_at};
-ghost use Rattle.term_table.specs.Measures.{height_of, sigma1_places};
+ghost use Rattle.term_table.specs.Measures.{height_of};
+ghost use Rattle.lf_signature.specs.Constants.{places_of};
 ghost use Rattle.proof_container.specs.Contents.{roots};
 ghost use Rattle.proof_container.specs.Postorder.{entries};
 ghost use Rattle.proof_container.specs.Encoding.{IsContents};
 ghost use Rattle.proof_container.specs.Views.{AreKnown, view_contents, contents_of};
 ghost use Rattle.proof_container.specs.declared.limits.TheConstants.{MAX_ENTRIES};
 ghost use Rattle.vcgen.specs.declared.condition.TheConstants.{MAX_HEIGHT};
+ghost use Rattle.pcc_gate.specs.Versions.{head_signature};
 ghost use Rattle.pcc_gate.specs.Passing.{Passes};
 ghost use Rattle.pcc_gate.specs.Accepted.{IsAccepted};
 ghost use Rattle.pcc_gate.specs.Answers.{IsHeld};
@@ -32,7 +34,7 @@ use vcgen::MAX_HEIGHT;
 fn excess(alloc: Global, view: &View<'_>, proof: Id) -> Result<Option<ProveFault>, AllocError>
     requires roots { AreKnown view.now.table.now view.now.invs.now view.now.proof }
     requires proof { IsKnown view.now.table.now proof }
-    requires places { view.now.table.now.places ≡ sigma1_places }
+    requires places { view.now.table.now.places ≡ places_of (head_signature view.now.head) }
     ensures { let p = tree_at view.now.table.now proof in
         IfOk result (λ o. o ≡ excess (view_contents view.now) p) }
 {
@@ -58,7 +60,7 @@ fn excess(alloc: Global, view: &View<'_>, proof: Id) -> Result<Option<ProveFault
 fn written(alloc: Global, view: &View<'_>, proof: Id) -> Result<Vec<u8>, ProveFault>
     requires roots { AreKnown view.now.table.now view.now.invs.now view.now.proof }
     requires proof { IsKnown view.now.table.now proof }
-    requires places { view.now.table.now.places ≡ sigma1_places }
+    requires places { view.now.table.now.places ≡ places_of (head_signature view.now.head) }
     requires contents { height_of (tree_at view.now.table.now proof) ≤ MAX_HEIGHT
         → length (entries (roots (view_contents view.now))) ≤ MAX_ENTRIES
         → IsContents (view_contents view.now) }
@@ -94,7 +96,7 @@ fn proved(
     policy.laws(); // tells the prover what the formulas name
     let container = passed.container;
     let cut = passed.cut;
-    let number = container.policy;
+    let head = container.head;
     let code = container.code;
     let mut table = container.table;
     let invs = container.invs;
@@ -107,7 +109,7 @@ fn proved(
         ConditionProof::NotEasy(part) => Err(ProveFault::NotEasy(part)),
         ConditionProof::Proved(proof) => {
             let view = View {
-                policy: number,
+                head,
                 code,
                 table: &table,
                 invs: &invs,
@@ -130,9 +132,9 @@ fn made(alloc: Global, policy: &Policy, bytes: &[u8]) -> Result<Vec<u8>, ProveFa
     }
 }
 
-/// Encodes the container in `bytes` with a proof of its verification condition under `policy` in place
-/// of its own proof, where the class of easy conditions gives one (`prover_class`). What is answered is
-/// accepted by the gate.
+/// Encodes the container in `bytes` with a proof of its verification condition under `policy` in
+/// place of its own proof, where the class of easy conditions gives one (`prover_class`), in the
+/// version that it has. What is answered is accepted by the gate.
 ///
 /// Errors, in their order: `Refused` names the first clause before the proof that fails
 /// (`pcc_gate::front`); `NotEasy` the first part of the condition that has no proof in the class: 0 is

@@ -12,6 +12,7 @@ use Rattle.policy_set.specs.Names.{policy_number}
 use Rattle.term_table.specs.Bytes.{IsBytes}
 use Rattle.term_table.specs.Tree.{Tree}
 use Rattle.term_table.specs.Table.{TableView, IsKnown, tree_at, id_trees}
+use Rattle.proof_container.specs.declared.container.Head.TheVariants.{Number}
 use Rattle.proof_container.specs.Contents.{roots}
 use Rattle.proof_container.specs.Encoding.{AreTerms, IsContents, encoding_of}
 use Rattle.proof_container.specs.Views.{AllTerms, IsWritable, view_contents}
@@ -42,9 +43,11 @@ terms-all (t ∷ ts) h = (h.0, terms-all ts h.2)
 -- contents that are the program's, part by part
 pub contents-are : (program : List Bpf) (policy : ℕ) (shown : List ℕ) (t : TableView)
     (ids : List (ℕ × ℕ)) → policy ≡ policy_number (built_in Filter)
-    → shown ≡ code_bytes (bpf_code program) → AreInvIds t program ids → record { policy = policy; code = shown; invs = id_trees t ids; proof = None } ≡ bare_contents program
+    → shown ≡ code_bytes (bpf_code program) → AreInvIds t program ids
+    → record { head = Number policy; code = shown; invs = id_trees t ids; proof = None }
+    ≡ bare_contents program
 contents-are program policy shown t ids number same are = let trees = are.trees in λ j. record {
-  policy = number j;
+  head = Number (number j);
   code = same j;
   invs = trees j;
   proof = None;

@@ -17,7 +17,8 @@ use Rattle.bpf_vc.specs.Condition.{bpf_parts}
 
 -- what the program's container holds before it has a proof: the words that the assembler writes for its code, and its invariants
 abbrev pub bare_contents : List Bpf → Contents
-bare_contents program = plain_contents (built_in Filter) (bpf_invariants program) (bpf_code program)
+bare_contents program =
+    plain_contents 1 (built_in Filter) (bpf_invariants program) (bpf_code program)
 
 -- the program's container: what `prove` makes of the one without a proof
 unfoldable pub compiled_container : List Bpf → Result (List ℕ) ProveFault

@@ -15,7 +15,7 @@ use bpf_code::bpf_code;
 use bpf_words::Bpf;
 use hereditary_subst::Exhausted;
 use policy_set::{Policy, PolicyKind};
-use proof_container::{View, write};
+use proof_container::{Head, View, write};
 use std::alloc::{AllocError, Global};
 use term_table::{Places, Table};
 
@@ -33,7 +33,7 @@ fn bare(alloc: Global, policy: &Policy, program: &[Bpf]) -> Result<Vec<u8>, Allo
     let mut table = Table::new(alloc, Places::sigma1());
     let invs = encode_invs(alloc, &mut table, policy, program)?;
     let view = View {
-        policy: policy.number(),
+        head: Head::Number(policy.number()),
         code: &code,
         table: &table,
         invs: &invs,

@@ -43,23 +43,21 @@ use Rattle.bpf_vc.proofs.Whole.{program-annotated, program-condition, program-pr
 use Rattle.bpf_container.specs.Contents.{AreCodeBytes, invariant_terms, bpf_contents}
 use Rattle.bpf_container.specs.Compiled.{GivesValues, IsCompiled}
 use Rattle.condition_prover.proofs.Heights.{form-low}
+use Rattle.condition_prover.proofs.WholeProof.{IsSoundClass}
 use Rattle.bounds_prover.proofs.SmallTerms.{checks-small, checks-entry}
 use Rattle.bpf_container.proofs.Known.{AreInvariants, inv_encodings, all-invariants, are-forms, formulas-again}
 use Rattle.bpf_container.proofs.Passing.{IsFit, contents-pass}
 use Rattle.bpf_container.proofs.Made.{IsClassProof, class-proof, entries-few, container-made}
 use Rattle.lf_signature.specs.declared.WordSignature.TheVariants.{Sigma1}
 use Rattle.formula_tree.specs.Operators.{Uses}
+use Rattle.formula_tree.proofs.Used.{uses-more}
+use Rattle.lf_signature.specs.Known.{HasOp}
+use Rattle.lf_signature.specs.Laws.Within.{first-declared}
 use Rattle.std.proofs.lemmas.List.Elements.{All-nil, All-cons}
 use Rattle.policy_set.proofs.Closed.{pre-first, post-first}
 use Rattle.vcgen.proofs.Used.{first-operators, condition-uses}
 use Rattle.word_ops.specs.Operators.{IsFirstOp}
 use Rattle.word_ops.specs.declared.Profile.TheVariants.{One}
-
--- what the class gives a closed condition is a proof
-abbrev pub IsSoundClass : Type 0
-IsSoundClass =
-    (parts : List Form) (p : Tree) → IsOver 0 (conjoined parts) [] → Uses IsFirstOp (conjoined parts)
-    → form_height (conjoined parts) ≤ 2 ^ 29 → condition_proof by_all_means parts ≡ Some p → Checks (declared Sigma1) [] p (pf (form_encoding (conjoined parts)))
 
 -- ---- the condition
 
@@ -82,11 +80,13 @@ parts-closed program is = subst (λ F. IsOver 0 F []) (sym (program-condition pr
     (condition-closed (annotated_bpf program) (program-annotated program is) refl (invariants-over program))
 
 parts-used : (program : List Bpf) → IsProgram program
-    → Uses IsFirstOp (conjoined (bpf_parts program))
-parts-used program is = subst (λ F. Uses IsFirstOp F) (sym (program-condition program))
+    → Uses (HasOp (declared Sigma1)) (conjoined (bpf_parts program))
+parts-used program is =
+    uses-more IsFirstOp (HasOp (declared Sigma1)) first-declared (conjoined (bpf_parts program))
+    (subst (λ F. Uses IsFirstOp F) (sym (program-condition program))
     (condition-uses IsFirstOp refl refl (annotated_bpf program)
     (first-operators (bpf_code program) (code-first program is)) refl (pre-first Filter)
-    (post-first Filter) (invariants-first (bpf_invariants program) (all-invariants program)))
+    (post-first Filter) (invariants-first (bpf_invariants program) (all-invariants program))))
 
 parts-low : (program : List Bpf) → IsProgram program → form_height (conjoined (bpf_parts program)) ≤ 2 ^ 29
 parts-low program is =
@@ -106,7 +106,7 @@ module _ (sound : IsSoundClass) (program : List Bpf) (code : List ℕ) (is : IsP
     (p : Tree) (given : condition_proof by_all_means (bpf_parts program) ≡ Some p) where
   proof-checks : Checks (declared Sigma1) [] p (pf (form_encoding (conjoined (bpf_parts program))))
   proof-checks =
-      sound (bpf_parts program) p (parts-closed program is) (parts-used program is)
+      sound Sigma1 (bpf_parts program) p (parts-closed program is) (parts-used program is)
       (parts-low program is) given
 
   proof-fits : IsFit program code (Some p)
@@ -114,7 +114,12 @@ module _ (sound : IsSoundClass) (program : List Bpf) (code : List ℕ) (is : IsP
       let easy : IsClassProof program p = class-proof program p is given in
       let low = easy.low in
       record {
-        terms = (checks-entry proof-checks, checks-small proof-checks (omega (arith, low)), tt);
+        terms = (
+          checks-entry Sigma1 proof-checks,
+          checks-small Sigma1 proof-checks
+              (omega (arith, low)),
+          tt,
+        );
         low = one-low p easy.low;
         few = entries-few program code is holds p given;
       }
@@ -145,7 +150,7 @@ module _ (sound : IsSoundClass) (program : List Bpf) (code : List ℕ) (is : IsP
         given = refl;
         weight = easy.light;
         condition =
-            vc_of-encodes (built_in Filter) (bpf_code program) (invariant_terms program)
+            vc_of-encodes Sigma1 (built_in Filter) (bpf_code program) (invariant_terms program)
             (are-forms (bpf_invariants program) (all-invariants program));
         proved = subst (λ F. Checks (declared Sigma1) [] p (pf (form_encoding F))) parts-are-condition proof-checks;
       }
@@ -187,7 +192,7 @@ container-compiles sound program code is holds =
 pub plain-compiles : IsSoundClass → (program : List Bpf) → IsProgram program
     → (out : List ℕ)
     × (proved_container (built_in Filter)
-    (encoding_of (plain_contents (built_in Filter) (bpf_invariants program) (bpf_code program)))
+    (encoding_of (plain_contents 1 (built_in Filter) (bpf_invariants program) (bpf_code program)))
     ≡ Ok out)
     × IsCompiled program out
 plain-compiles sound program is =

@@ -156,7 +156,7 @@ all-invariants program = of-all IsInvariant packet-is last-is program
 abbrev pub inv_encodings : List (ℕ × Form) → List (ℕ × Tree)
 inv_encodings invs = map (λ p. (p.0, term_of p.1)) invs
 
-pub are-forms : (invs : List (ℕ × Form)) → AreInvariants invs → AreForms (inv_encodings invs)
+pub are-forms : (invs : List (ℕ × Form)) → AreInvariants invs → AreForms Sigma1 (inv_encodings invs)
 are-forms [] h = tt
 are-forms (q ∷ invs) h = (h.0.checks, are-forms invs h.1)
 
@@ -183,5 +183,8 @@ pub are-terms : (invs : List (ℕ × Form)) → AreInvariants invs → AreTerms 
 are-terms [] h = tt
 are-terms (q ∷ invs) h =
     let low = h.0.low in
-    let few = machine-few in
-    (checks-entry h.0.checks, checks-small h.0.checks (omega (arith, low, few)), are-terms invs h.1)
+    let few = machine-few in (
+      checks-entry Sigma1 h.0.checks,
+      checks-small Sigma1 h.0.checks (omega (arith, low, few)),
+      are-terms invs h.1,
+    )

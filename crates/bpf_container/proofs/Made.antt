@@ -25,7 +25,7 @@ use Rattle.bounds_prover.specs.declared.fault.Measure.TheVariants.{Weight, Heigh
 use Rattle.bounds_prover.specs.declared.fault.ProveFault.{ProveFault}
 use Rattle.bounds_prover.specs.declared.fault.ProveFault.TheVariants.{TooBig}
 use Rattle.condition_prover.specs.Conditions.{condition_parts}
-use Rattle.bounds_prover.specs.Proving.{with_proof, within, excess, encoded_unless, with_parts_proof, proved_contents, proved_code, proved_read, made_unless, proved_container}
+use Rattle.bounds_prover.specs.Proving.{with_proof, within, proof_weight, excess, encoded_unless, with_parts_proof, proved_contents, proved_code, proved_read, made_unless, proved_container}
 use Rattle.bpf_words.specs.declared.insn.Bpf.{Bpf}
 use Rattle.bpf_words.specs.Programs.{IsProgram}
 use Rattle.bpf_code.specs.Blocks.{bpf_code}
@@ -37,7 +37,7 @@ use Rattle.bpf_limits.proofs.Bounded.{proof-few}
 use Rattle.bpf_container.specs.Contents.{AreCodeBytes, invariant_terms, bpf_contents}
 use Rattle.bpf_container.proofs.Known.{all-invariants, formulas-again, terms_of}
 use Rattle.bpf_container.proofs.Sizes.{held_terms, held-parts, held-few, terms-listed, bytes-few}
-use Rattle.bpf_container.proofs.Passing.{invs-long, code-long, plain-passes}
+use Rattle.bpf_container.proofs.Passing.{head-is, invs-long, code-long, plain-passes}
 use Rattle.word_ops.specs.declared.Profile.TheVariants.{One}
 
 -- ---- measures
@@ -46,11 +46,11 @@ use Rattle.word_ops.specs.declared.Profile.TheVariants.{One}
 goes-on : (m : Measure) (limit n shown : ℕ) (next : Option ProveFault) → n ≤ limit → within m limit n shown next ≡ next
 goes-on m limit n shown next h = ap (λ b. cond b (Some (TooBig m shown)) next) (le-ltb limit n h)
 
-nothing-past : (c : Contents) (p : Tree) → weight_of sigma1_places p ≤ MAX_WEIGHT → height_of p ≤ MAX_HEIGHT
+nothing-past : (c : Contents) (p : Tree) → proof_weight c p ≤ MAX_WEIGHT → height_of p ≤ MAX_HEIGHT
     → length (entries (roots c)) ≤ MAX_ENTRIES → length (encoding_of c) ≤ MAX_BYTES → excess c p ≡ None
 unfolding excess
 nothing-past c p light low few short =
-    goes-on Weight MAX_WEIGHT (weight_of sigma1_places p) (capped (weight_of sigma1_places p)) _ light
+    goes-on Weight MAX_WEIGHT (proof_weight c p) (capped (proof_weight c p)) _ light
     ∙ goes-on Height MAX_HEIGHT (height_of p) (capped (height_of p)) _ low
     ∙ goes-on Entries MAX_ENTRIES (length (entries (roots c))) (length (entries (roots c))) _ few
     ∙ goes-on Bytes MAX_BYTES (length (encoding_of c)) (min (length (encoding_of c)) (2 ^ 64 - 1)) None short
@@ -119,7 +119,8 @@ module _ (program : List Bpf) (code : List ℕ) (is : IsProgram program) (holds 
         let size = holds.encode.whole in
         let invs = invs-long program is in
         let few = is.few in
-        bytes-few (with_proof (bpf_contents program code) p) entries-few (omega (arith, invs, few)) (omega (arith, size, long, few))
+        bytes-few (with_proof (bpf_contents program code) p) head-is entries-few
+        (omega (arith, invs, few)) (omega (arith, size, long, few))
 
     within-limits : excess (with_proof (bpf_contents program code) p) p ≡ None
     within-limits =

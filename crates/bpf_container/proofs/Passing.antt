@@ -10,6 +10,8 @@ use Rattle.policy_set.specs.Names.{policy_number}
 use Rattle.term_table.specs.Tree.{Tree}
 use Rattle.term_table.specs.Measures.{height_of}
 use Rattle.lf_encode.specs.Contexts.{machine_context, encoding_in}
+use Rattle.proof_container.specs.declared.container.Head.TheVariants.{Number}
+use Rattle.proof_container.specs.Versions.{IsHead}
 use Rattle.proof_container.specs.Contents.{Contents, one_or_none, roots}
 use Rattle.proof_container.specs.Encoding.{AreTerms, AreRising, IsContents, encoding_of}
 use Rattle.proof_container.specs.Postorder.{entries}
@@ -60,11 +62,15 @@ invs-long program is =
 -- a program's container with a proof or without one
 abbrev pub contents_with : List Bpf → List ℕ → Option Tree → Contents
 contents_with program code proof = record {
-  policy = policy_number (built_in Filter);
+  head = Number (policy_number (built_in Filter));
   code = code;
   invs = inv_encodings (bpf_invariants program);
   proof = proof;
 }
+
+-- its number is small
+pub head-is : IsHead (Number (policy_number (built_in Filter)))
+head-is = omega arith
 
 -- what is asked of the proof, if there is one
 pub record IsFit (program : List Bpf) (code : List ℕ) (proof : Option Tree) : Type 0 where
@@ -84,7 +90,7 @@ module _ (program : List Bpf) (code : List ℕ) (is : IsProgram program) (holds 
       let entries = fit.few in
       let words : 20 * length program ≡ length code / 4 = omega (arith, size, long) in
       record {
-        policy = omega arith;
+        head = head-is;
         bytes = holds.bytes;
         whole = omega (arith, size);
         some = omega (arith, size, long, some);
@@ -104,9 +110,11 @@ module _ (program : List Bpf) (code : List ℕ) (is : IsProgram program) (holds 
       let invs = invs-long program is in
       let few = is.few in
       record {
-        size = bytes-few (contents_with program code proof) fit.few (omega (arith, invs, few)) (omega (arith, size, long, few));
+        size =
+            bytes-few (contents_with program code proof) head-is fit.few (omega (arith, invs, few))
+            (omega (arith, size, long, few));
         container = record { contents = contents-hold; encoded = refl };
-        number = (Filter, refl, refl);
+        named = (Filter, refl, refl);
         encoded = holds.encode;
         code = code-is program is;
         heights = low-and (terms_of (bpf_invariants program)) (one_or_none proof) (are-low (bpf_invariants program) (all-invariants program)) fit.low;

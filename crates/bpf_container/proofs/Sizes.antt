@@ -10,11 +10,15 @@ use Rattle.term_table.specs.Tree.{Tree, Var, Con, App, Lam, Fam, TApp, Pi, Num, 
 use Rattle.lf_encode.specs.Contexts.{machine_context, machine_names}
 use Rattle.proof_container.specs.Contents.{Contents, roots}
 use Rattle.proof_container.specs.Decoding.{entry_size}
-use Rattle.proof_container.specs.Encoding.{encoding_of}
+use Rattle.proof_container.specs.Encoding.{policy_bytes, encoding_of}
 use Rattle.proof_container.specs.Postorder.{is_emitted, entries, AreEmitted}
 use Rattle.proof_container.specs.declared.limits.TheConstants.{MAX_BYTES}
 use Rattle.proof_container.proofs.Walks.{listed-left, listed-right}
 use Rattle.proof_container.proofs.Written.{length-encoding_of}
+use Rattle.proof_container.proofs.FieldLaws.{length-field_bytes}
+use Rattle.proof_container.specs.declared.container.Head.{Head}
+use Rattle.proof_container.specs.declared.container.Head.TheVariants.{Number, Digest}
+use Rattle.proof_container.specs.Versions.{IsHead}
 use Rattle.entry_limits.specs.Parts.{HoldsParts, subtrees, node_count}
 use Rattle.entry_limits.proofs.Bounded.{entries-few}
 use Rattle.entry_limits.proofs.Subtrees.{subtrees-hold, root-listed, length-subtrees, holds-both}
@@ -83,5 +87,19 @@ all-fields-few : (ts : List Tree) → sum_by entry_size ts ≤ 6 * length ts
 all-fields-few [] = omega arith
 all-fields-few (t ∷ ts) = omega (arith, sum_by-cons entry_size t ts, fields-few t, all-fields-few ts)
 
-pub bytes-few : (c : Contents) → length (entries (roots c)) ≤ 150000 → length c.invs ≤ 100 → length c.code ≤ 4096 → length (encoding_of c) ≤ MAX_BYTES
-bytes-few c few invs code = omega (arith, length-encoding_of c, all-fields-few (entries (roots c)), few, invs, code)
+head-few : (h : Head) → IsHead h → length (policy_bytes h) ≤ 32
+head-few (Number n) k = omega (arith, length-field_bytes (n ∷ []))
+head-few (Digest d) k = omega (arith, k.0)
+
+pub bytes-few : (c : Contents) → IsHead c.head → length (entries (roots c)) ≤ 150000
+    → length c.invs ≤ 100 → length c.code ≤ 4096 → length (encoding_of c) ≤ MAX_BYTES
+bytes-few c head few invs code =
+    omega (
+      arith,
+      length-encoding_of c,
+      head-few c.head head,
+      all-fields-few (entries (roots c)),
+      few,
+      invs,
+      code,
+    )

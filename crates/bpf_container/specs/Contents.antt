@@ -7,6 +7,7 @@ use Rattle.policy_set.specs.Names.{policy_number}
 use Rattle.term_table.specs.Bytes.{IsBytes}
 use Rattle.term_table.specs.Tree.{Tree}
 use Rattle.lf_encode.specs.Contexts.{machine_context, encoding_in}
+use Rattle.proof_container.specs.declared.container.Head.TheVariants.{Number}
 use Rattle.proof_container.specs.Contents.{Contents}
 use Rattle.bpf_words.specs.declared.insn.Bpf.{Bpf}
 use Rattle.bpf_code.specs.Blocks.{bpf_code}
@@ -25,7 +26,7 @@ invariant_terms program = map (λ p. (p.0, encoding_in machine_context p.1)) (bp
 -- the contents for `filter`: these bytes of code, the terms of its invariants, and no proof
 abbrev pub bpf_contents : List Bpf → List ℕ → Contents
 bpf_contents program code = record {
-  policy = policy_number (built_in Filter);
+  head = Number (policy_number (built_in Filter));
   code = code;
   invs = invariant_terms program;
   proof = None;

@@ -50,7 +50,7 @@ pub fn laws()
         × IsCompiled program out }
     ensures plain { (program : List Bpf) → IsProgram program
         → (out : List ℕ) × (proved_container (built_in Filter) (encoding_of
-        (plain_contents (built_in Filter) (bpf_invariants program) (bpf_code program))) ≡ Ok out)
+        (plain_contents 1 (built_in Filter) (bpf_invariants program) (bpf_code program))) ≡ Ok out)
         × IsCompiled program out }
 {
     class_laws();

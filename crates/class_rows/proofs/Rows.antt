@@ -8,6 +8,7 @@ use Rattle.class_rows.specs.Shapes.{shape_rows}
 use Rattle.class_rows.specs.Forms.{form_rows}
 use Rattle.class_rows.specs.Bounds.{bound_rows}
 use Rattle.class_rows.specs.Access.{access_rows}
+use Rattle.class_rows.specs.Later.{later_sums, later_bits, later_bytes, later_others}
 
 pub small_worked : AreWorked small_rows
 unfolding normalized small_rows
@@ -36,3 +37,23 @@ bounds_worked = (refl, (refl, (refl, (refl, (refl, (refl, (refl, (refl, (refl, (
 pub access_worked : AreWorked access_rows
 unfolding normalized access_rows
 access_worked = (refl, (refl, (refl, (refl, (refl, (refl, (refl, (refl, (refl, (refl, (refl, (refl, (refl, (refl, (refl, (refl, (refl, (refl, (refl, (refl, (refl, (refl, (refl, tt)))))))))))))))))))))))
+
+pub later_sums_worked : AreWorked later_sums
+unfolding normalized later_sums
+later_sums_worked =
+    (refl, (refl, (refl, (refl, (refl, (refl, tt))))))
+
+pub later_bits_worked : AreWorked later_bits
+unfolding normalized later_bits
+later_bits_worked =
+    (refl, (refl, (refl, (refl, (refl, (refl, (refl, (refl, (refl, (refl, (refl, tt)))))))))))
+
+pub later_bytes_worked : AreWorked later_bytes
+unfolding normalized later_bytes
+later_bytes_worked =
+    (refl, (refl, (refl, (refl, (refl, (refl, (refl, (refl, (refl, (refl, tt))))))))))
+
+pub later_others_worked : AreWorked later_others
+unfolding normalized later_others
+later_others_worked =
+    (refl, (refl, (refl, (refl, (refl, (refl, (refl, (refl, (refl, tt)))))))))

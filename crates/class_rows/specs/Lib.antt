@@ -5,3 +5,4 @@ pub mod Shapes
 pub mod Forms
 pub mod Bounds
 pub mod Access
+pub mod Later

@@ -12,9 +12,11 @@ ghost use Rattle.class_rows.specs.Shapes.{shape_rows};
 ghost use Rattle.class_rows.specs.Forms.{form_rows};
 ghost use Rattle.class_rows.specs.Bounds.{bound_rows};
 ghost use Rattle.class_rows.specs.Access.{access_rows};
+ghost use Rattle.class_rows.specs.Later.{later_sums, later_bits, later_bytes, later_others};
 
 /// What a second implementation gives goals and parts of conditions, the class gives them: that proof,
-/// term for term, or none. An independent one makes the same containers of nearly all of these goals.
+/// term for term, or none. An independent one makes the same containers of nearly all of these
+/// goals that the first profile's operators are in (of all rows but the last four lists).
 pub fn worked_rows()
     ensures small { AreWorked small_rows }
     ensures code_that_returns { AreWorked return_rows }
@@ -23,4 +25,8 @@ pub fn worked_rows()
     ensures forms { AreWorked form_rows }
     ensures bounds { AreWorked bound_rows }
     ensures access { AreWorked access_rows }
+    ensures later_sums { AreWorked later_sums }
+    ensures later_bits { AreWorked later_bits }
+    ensures later_bytes { AreWorked later_bytes }
+    ensures later_others { AreWorked later_others }
 {}

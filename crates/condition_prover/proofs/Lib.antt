@@ -1,3 +1,4 @@
 pub mod AccessRows
 pub mod Heights
+pub mod AllOperators
 pub mod WholeProof

@@ -26,8 +26,13 @@ use Rattle.condition_prover.specs.declared.parts.ConditionProof.{ConditionProof}
 use Rattle.condition_prover.specs.declared.parts.ConditionProof.TheVariants.{Proved, NotEasy}
 use Rattle.condition_prover.specs.Conditions.{condition_parts, ProvesParts, IsPartsAnswer, IsProofOfParts}
 use Rattle.condition_prover.proofs.Heights.{parts-low}
-use Rattle.lf_signature.specs.declared.WordSignature.TheVariants.{Sigma1}
+use Rattle.condition_prover.proofs.AllOperators.{uses-any, second-declared}
+use Rattle.lf_signature.specs.declared.WordSignature.{WordSignature}
+use Rattle.lf_signature.specs.declared.WordSignature.TheVariants.{Sigma1, Sigma2, Sigma3}
+use Rattle.lf_signature.specs.Known.{HasOp}
+use Rattle.lf_signature.specs.Laws.Within.{first-declared}
 use Rattle.formula_tree.specs.Operators.{Uses}
+use Rattle.formula_tree.proofs.Used.{uses-more}
 use Rattle.word_ops.specs.declared.Profile.TheVariants.{One}
 use Rattle.vcgen.proofs.Used.{first-operators, condition-uses}
 use Rattle.word_ops.specs.Operators.{IsFirstOp}
@@ -48,43 +53,72 @@ condition-parts policy code invs =
 
 -- the encoding of a condition is that of its parts
 pub encodes-parts : (policy : PolicyView) (code : List Insn) (invs : List (ℕ × Tree)) (vc : Tree)
-    → AreForms invs → EncodesCondition policy code invs vc → vc
+    → AreForms Sigma3 invs → EncodesCondition policy code invs vc → vc
     ≡ form_encoding (conjoined (condition_parts policy code invs))
-encodes-parts policy code invs vc forms e = condition-one policy code invs vc forms e ∙ ap form_encoding (condition-parts policy code invs)
+encodes-parts policy code invs vc forms e =
+    condition-one Sigma3 policy code invs vc forms e
+    ∙ ap form_encoding (condition-parts policy code invs)
 
 -- ---- what the class gives is a proof
 
--- what the class gives a closed condition is a proof
+-- what the class gives a closed condition is a proof, over each signature that has its operators
 abbrev pub IsSoundClass : Type 0
 IsSoundClass =
-    (parts : List Form) (p : Tree) → IsOver 0 (conjoined parts) [] → Uses IsFirstOp (conjoined parts) → form_height (conjoined parts) ≤ 2 ^ 29 → condition_proof by_all_means parts ≡ Some p → Checks (declared Sigma1) [] p (pf (form_encoding (conjoined parts)))
+    (s : WordSignature) (parts : List Form) (p : Tree) → IsOver 0 (conjoined parts) []
+    → Uses (HasOp (declared s)) (conjoined parts) → form_height (conjoined parts) ≤ 2 ^ 29
+    → condition_proof by_all_means parts ≡ Some p
+    → Checks (declared s) [] p (pf (form_encoding (conjoined parts)))
 
 module _ (sound : IsSoundClass) (policy : PolicyView) (code : List Insn) (invs : List (ℕ × Tree))
     (marks : List Bool)
-    (forms : AreForms invs) (is : IsCode code) (flags : AreFlags (map (λ p. p.0) invs) (length code) marks) (cut : IsCut code marks)
-    (one : AreOfProfile One code) (kept : IsPolicy policy) (used : PolicyUses IsFirstOp policy)
+    (forms : AreForms Sigma3 invs) (is : IsCode code)
+    (flags : AreFlags (map (λ p. p.0) invs) (length code) marks) (cut : IsCut code marks)
+    (kept : IsPolicy policy)
   where
-    parts-closed : IsOver 0 (conjoined (condition_parts policy code invs)) []
+    abbrev Parts : List Form
+    Parts = condition_parts policy code invs
+
+    parts-closed : IsOver 0 (conjoined Parts) []
     parts-closed =
         let a = annotated policy code (formulas invs) in
-        let encoded = formulas-encoded invs forms in
+        let encoded = formulas-encoded Sigma3 invs forms in
         let annotates =
         encoded-annotates policy code invs (formulas invs) marks kept encoded is flags cut in
         subst (λ F. IsOver 0 F []) (condition-parts policy code invs) (condition-closed a annotates refl (formulas-over invs (formulas invs) encoded))
 
-    parts-first : Uses IsFirstOp (conjoined (condition_parts policy code invs))
-    parts-first =
+    -- the operators of the first profile's code and policy, with invariants over the first signature,
+    -- are that signature's
+    pub parts-first : AreForms Sigma1 invs → AreOfProfile One code → PolicyUses IsFirstOp policy
+        → Uses (HasOp (declared Sigma1)) (conjoined Parts)
+    parts-first low one used =
         let a = annotated policy code (formulas invs) in
-        subst (λ F. Uses IsFirstOp F) (condition-parts policy code invs)
+        uses-more IsFirstOp (HasOp (declared Sigma1)) first-declared (conjoined Parts)
+        (subst (λ F. Uses IsFirstOp F) (condition-parts policy code invs)
         (condition-uses IsFirstOp refl refl a (first-operators code one) refl used.0 used.1
-        (formulas-first invs forms))
+        (formulas-first invs low)))
 
-    pub proof-checks : (p : Tree) → condition_proof by_all_means (condition_parts policy code invs) ≡ Some p → ProvesParts (condition_parts policy code invs) p
-    proof-checks p given low =
-        let parts = condition_parts policy code invs in
-        sound parts p parts-closed parts-first (parts-low by_all_means parts p given low) given
+    pub proof-checks : (s : WordSignature) → Uses (HasOp (declared s)) (conjoined Parts)
+        → (p : Tree) → condition_proof by_all_means Parts ≡ Some p → ProvesParts s Parts p
+    proof-checks s used p given low =
+        sound s Parts p parts-closed used (parts-low by_all_means Parts p given low) given
 
     -- what is found is a proof
-    pub found-proves : (t : TableView) (found : ConditionProof) → IsPartsAnswer t 0 (condition_parts policy code invs) found → IsProofOfParts t (condition_parts policy code invs) found
-    found-proves t (Proved p) h = proof-checks (tree_at t p) h
-    found-proves t (NotEasy k) h = tt
+    pub found-proves : (s : WordSignature) → Uses (HasOp (declared s)) (conjoined Parts)
+        → (t : TableView) (found : ConditionProof) → IsPartsAnswer t 0 Parts found
+        → IsProofOfParts s t Parts found
+    found-proves s used t (Proved p) h = proof-checks s used (tree_at t p) h
+    found-proves s used t (NotEasy k) h = tt
+
+    -- over the first signature
+    pub found-first : AreForms Sigma1 invs → AreOfProfile One code → PolicyUses IsFirstOp policy
+        → (t : TableView) (found : ConditionProof) → IsPartsAnswer t 0 Parts found
+        → IsProofOfParts Sigma1 t Parts found
+    found-first low one used t found h = found-proves Sigma1 (parts-first low one used) t found h
+
+    -- over the second, which has all operators
+    pub parts-second : Uses (HasOp (declared Sigma2)) (conjoined Parts)
+    parts-second = uses-any (HasOp (declared Sigma2)) second-declared (conjoined Parts)
+
+    pub found-second : (t : TableView) (found : ConditionProof) → IsPartsAnswer t 0 Parts found
+        → IsProofOfParts Sigma2 t Parts found
+    found-second t found h = found-proves Sigma2 parts-second t found h

@@ -18,7 +18,7 @@ use Rattle.prover_class.specs.Parts.{conjoined, condition_proof, first_not_easy}
 use Rattle.prover_class.specs.Access.{by_all_means}
 use Rattle.condition_prover.specs.declared.parts.ConditionProof.{ConditionProof}
 use Rattle.condition_prover.specs.declared.parts.ConditionProof.TheVariants.{Proved, NotEasy}
-use Rattle.lf_signature.specs.declared.WordSignature.TheVariants.{Sigma1}
+use Rattle.lf_signature.specs.declared.WordSignature.{WordSignature}
 
 -- the parts of the verification condition: the entry's, then each invariant's
 unfoldable pub condition_parts : PolicyView → List Insn → List (ℕ × Tree) → List Form
@@ -36,12 +36,13 @@ abbrev pub IsPartsAnswer : TableView → ℕ → List Form → ConditionProof �
 IsPartsAnswer t n l (Proved p) = condition_proof by_all_means l ≡ Some (tree_at t p)
 IsPartsAnswer t n l (NotEasy k) = first_not_easy by_all_means n l ≡ Some k
 
--- the tree is a proof of the condition that has these parts, if it is no higher than a container's terms may be
-abbrev pub ProvesParts : List Form → Tree → Type 0
-ProvesParts l p =
-    height_of p ≤ MAX_HEIGHT → Checks (declared Sigma1) [] p (pf (form_encoding (conjoined l)))
+-- over the signature the tree is a proof of the condition that has these parts, if it is no higher
+-- than a container's terms may be
+abbrev pub ProvesParts : WordSignature → List Form → Tree → Type 0
+ProvesParts s l p =
+    height_of p ≤ MAX_HEIGHT → Checks (declared s) [] p (pf (form_encoding (conjoined l)))
 
 -- so is the proof that is found, if one is
-abbrev pub IsProofOfParts : TableView → List Form → ConditionProof → Type 0
-IsProofOfParts t l (Proved p) = ProvesParts l (tree_at t p)
-IsProofOfParts t l (NotEasy k) = Unit {0}
+abbrev pub IsProofOfParts : WordSignature → TableView → List Form → ConditionProof → Type 0
+IsProofOfParts s t l (Proved p) = ProvesParts s l (tree_at t p)
+IsProofOfParts s t l (NotEasy k) = Unit {0}

@@ -17,6 +17,11 @@ ghost use Rattle.condition_prover.specs.Conditions.{condition_parts};
 ghost use Rattle.condition_prover.specs.Conditions.{IsKnownAnswer, IsPartsAnswer, IsProofOfParts};
 ghost use Rattle.word_ops.specs.declared.Profile.TheVariants.{One};
 ghost use Rattle.word_ops.specs.Operators.{IsFirstOp};
+ghost use Rattle.lf_signature.specs.declared.WordSignature.{WordSignature};
+ghost use Rattle.lf_signature.specs.declared.WordSignature.TheVariants.{Sigma1, Sigma2, Sigma3};
+ghost use Rattle.lf_signature.specs.Constants.{declared};
+ghost use Rattle.lf_signature.specs.Known.{HasOp};
+ghost use Rattle.formula_tree.specs.Operators.{Uses};
 ghost use Rattle.policy_set.specs.Views.{PolicyUses};
 
 use crate::parts::{ConditionProof, proof_of_parts};
@@ -48,7 +53,7 @@ fn condition_in(
     invs: &[(u32, Id)],
 ) -> Result<Id, Exhausted>
     requires invs { AreLowInvs table.old invs.now }
-    requires forms { AreForms (id_trees table.old invs.now) }
+    requires forms { AreForms Sigma3 (id_trees table.old invs.now) }
     requires marks { AreFlags (map (λ p. p.0) invs.now) (length cut.now.code) cut.now.marks }
     requires short { unfolded_of cut.now.code cut.now.marks ≤ MAX_UNFOLDED }
     ensures id { let invs = id_trees table.old invs.now in
@@ -65,10 +70,12 @@ fn condition_in(
 }
 
 /// Proves the verification condition of cut code under a policy, part by part, where each is easy
-/// (`prover_class`), or names the first part that isn't. `invs` are the annotated indices with the ids
-/// of their invariants, whose terms are formulas and no higher than `vcgen::MAX_HEIGHT`. A proof that
-/// is no higher than that checks at the condition where the code and the policy's formulas are the
-/// first profile's; its weight and height are the table's (`Table::weight`, `Table::height`).
+/// (`prover_class`), or names the first part that isn't. `invs` are the annotated indices with the
+/// ids of their invariants, whose terms are formulas and no higher than `vcgen::MAX_HEIGHT`. A
+/// proof that is no higher than that checks at the condition over each signature that has the
+/// condition's operators: over the second always, over the first where the code and the policy's
+/// formulas are the first profile's, and the invariants check over it. Its weight and height are
+/// the table's (`Table::weight`, `Table::height`).
 ///
 /// Fails for want of memory, and by `Results` where the results that the search keeps and the terms
 /// that it makes are more than `MOST_SEARCHED`.
@@ -79,15 +86,23 @@ pub fn prove_condition(
     invs: &[(u32, Id)],
 ) -> Result<ConditionProof, Exhausted>
     requires invs { AreLowInvs table.old invs.now }
-    requires forms { AreForms (id_trees table.old invs.now) }
+    requires forms { AreForms Sigma3 (id_trees table.old invs.now) }
     requires marks { AreFlags (map (λ p. p.0) invs.now) (length cut.now.code) cut.now.marks }
     requires short { unfolded_of cut.now.code cut.now.marks ≤ MAX_UNFOLDED }
     ensures known { IfOk result (IsKnownAnswer table.new) }
     ensures exact { let invs = id_trees table.old invs.now in
         IfOk result (IsPartsAnswer table.new 0 (condition_parts policy.now cut.now.code invs)) }
-    ensures proves { let invs = id_trees table.old invs.now in AreOfProfile One cut.now.code →
-        PolicyUses IsFirstOp policy.now →
-        IfOk result (IsProofOfParts table.new (condition_parts policy.now cut.now.code invs)) }
+    ensures proves { let invs = id_trees table.old invs.now in
+        let parts = condition_parts policy.now cut.now.code invs in (s : WordSignature)
+        → Uses (HasOp (declared s)) (conjoined parts)
+        → IfOk result (IsProofOfParts s table.new parts) }
+    ensures first { let invs = id_trees table.old invs.now in
+        let parts = condition_parts policy.now cut.now.code invs in
+        AreForms Sigma1 invs → AreOfProfile One cut.now.code → PolicyUses IsFirstOp policy.now
+        → IfOk result (IsProofOfParts Sigma1 table.new parts) }
+    ensures second { let invs = id_trees table.old invs.now in
+        let parts = condition_parts policy.now cut.now.code invs in
+        IfOk result (IsProofOfParts Sigma2 table.new parts) }
     ensures extends { Extends table.old table.new }
 {
     class_laws();

@@ -5,3 +5,5 @@
 
 #[cfg(test)]
 mod proof_container_tests;
+#[cfg(test)]
+mod version_rows;

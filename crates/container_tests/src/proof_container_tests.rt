@@ -1,8 +1,10 @@
 //! What is read of worked containers, and containers at their limits that are read and written again.
-//! Faults, the first of two, and each cut are in rows of `check` (command_rows: `containers.rows`); what
-//! is written of a table that was not read in rows of `prove` (`prove.rows`, `vectors.rows`).
+//! Faults, the first of two, and each cut of version 1 are in rows of `check` (command_rows:
+//! `containers.rows`); what is written of a table that was not read in rows of `prove`
+//! (`prove.rows`,
+//! `vectors.rows`); both versions beside each other in rows of text (`version_rows`).
 
-use proof_container::{Container, Flaw, Malformed, extent, read, write};
+use proof_container::{Container, Flaw, Head, Malformed, extent, read, write};
 use std::alloc::{AllocError, Global};
 use std::test::Fail;
 use term_table::{Id, Node, Table};
@@ -62,7 +64,7 @@ fn node(table: &Table, index: usize) -> Made<Node> {
 }
 
 /// How many terms there are, and what is written of what was read; both are the extent.
-fn again(alloc: Global, bytes: &[u8]) -> Made<(u64, Vec<u8>)> {
+pub fn again(alloc: Global, bytes: &[u8]) -> Made<(u64, Vec<u8>)> {
     match read(alloc, bytes) {
         Err(_) => Err("a fault"),
         Ok(container) => {
@@ -108,7 +110,8 @@ fn is_the_loop(container: &Container<'_>) -> Made<bool> {
     let is_constant = node(&container.table, id.index())? == Node::Const(13);
     let is_code = container.code == [0xff, 0xff, 0xff, 0xc3].as_slice();
     let is_first = index == 0;
-    Ok(container.policy == 1 && is_code && is_first && is_constant && container.proof.is_none())
+    let is_head = container.head == Head::Number(1);
+    Ok(is_head && is_code && is_first && is_constant && container.proof.is_none())
 }
 
 /// Whether the loop is read as it is.
@@ -160,7 +163,8 @@ fn has_invs(container: &Container<'_>, indices: (usize, usize)) -> bool {
 /// Whether the container has what `EACH_KIND` says.
 fn is_each_kind(container: &Container<'_>) -> Made<bool> {
     let code = [0xff, 0xff, 0xff, 0xc3, 1, 0x80, 0xfa, 0x6b];
-    let is_code = container.policy == 0xffff_ffff && container.code == code.as_slice();
+    let is_head = container.head == Head::Number(0xffff_ffff);
+    let is_code = is_head && container.code == code.as_slice();
     let is_proof = container.proof.map(Id::index) == Some(12);
     Ok(is_code && is_proof && has_invs(container, (4, 9)) && has_leaves(&container.table)?)
 }

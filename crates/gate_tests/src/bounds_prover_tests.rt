@@ -6,6 +6,7 @@ use bounds_prover::{Measure, ProveFault, prove};
 use lf_signature::numbers::TT;
 use pcc_gate::{Accepted, Refusal, gate};
 use policy_set::{Policy, PolicyKind};
+use proof_container::Head;
 use std::alloc::{AllocError, Global};
 use std::test::Fail;
 use term_table::Node;
@@ -15,8 +16,8 @@ use test_inputs::terms::{Made, known, made};
 /// Faults with their words.
 const IN_WORDS: [(ProveFault, &str); 4] = [
     (
-        ProveFault::Refused(Refusal::OtherPolicy(1)),
-        "refused: for the policy of number 1",
+        ProveFault::Refused(Refusal::OtherPolicy(Head::Number(1))),
+        "refused: for the policy Number(1)",
     ),
     (ProveFault::NotEasy(2), "part 2 of the condition isn't easy"),
     (

@@ -3,7 +3,7 @@
 
 use alpha_cfg::CodeFlaw;
 use pcc_gate::{MAX_WEIGHT, Refusal, laws};
-use proof_container::Flaw;
+use proof_container::{Flaw, Head};
 use std::alloc::{AllocError, Global};
 use std::test::Fail;
 
@@ -14,7 +14,10 @@ const IN_WORDS: [(Refusal, &str); 11] = [
         Refusal::Malformed(16, Flaw::Cut),
         "no container: at offset 16, a field is cut short",
     ),
-    (Refusal::OtherPolicy(4), "for the policy of number 4"),
+    (
+        Refusal::OtherPolicy(Head::Number(4)),
+        "for the policy Number(4)",
+    ),
     (
         Refusal::BadCode(CodeFlaw::Target(2)),
         "no code: index 2 branches outside the code",

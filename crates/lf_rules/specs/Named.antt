@@ -1,12 +1,12 @@
 -- The rule that each named number has, written out: what a constant's name says is the row of the table at its number.
 use Rattle.std.specs.Prelude.{◌≡◌, ℕ, ◌+◌, List, [], ◌∷◌, map, Some}
 use Rattle.word_ops.specs.declared.Op.{Op}
-use Rattle.word_ops.specs.declared.Op.TheVariants.{Add, Sub, Band, Bis, Sll, Srl, Cmpeq, Cmplt, Cmple, Cmpult, Cmpule}
+use Rattle.word_ops.specs.declared.Op.TheVariants.{Add, Sub, Band, Bis, Sll, Srl, Cmpeq, Cmplt, Cmple, Cmpult, Cmpule, Xor, Bic, S4add, S8add, Extb, Extw, Extl}
 use Rattle.word_ops.specs.declared.Rel.{Rel}
 use Rattle.word_ops.specs.declared.Rel.TheVariants.{Eq, Ult, Ule, Slt, Sle}
 use Rattle.lf_signature.specs.Rules.{Sort, OfExp, OfMem, OfForm, OfExpForm, OfMemForm, SExp, SPar, SOwn, SLit, SOp, SSel, MPar, MOwn, SUpd, SForm, STrue, SFalse, FPar, FOf, FOfMem, SRel, SAnd, SOr, SImp, SAll, SAllm, Premise, Plain, Under, ForExp, ForMem, Rule}
 use Rattle.lf_signature.specs.Constants.{rule_at}
-use Rattle.lf_rules.specs.declared.numbers.TheConstants.{ADD_AL, ADD_ASSOC, ADD_COMM, ADD_LE, ADD_ZERO, ALLM_E, ALLM_I, ALL_E, ALL_I, AND_ASSOC, AND_COMM, AND_I, AND_L, AND_LE, AND_R, AND_ZERO, BIS_ZERO, BIS_ZERO_L, CMP_LE1, CMP_NO, CMP_YES, EM, EQ_REFL, EQ_SUB, FF_E, IMP_E, IMP_I, LE_ANTI, LE_LT, LT_IRR, LT_LE, LT_PRED, MAX_LE, NOT_LT, OR_E, OR_L, OR_R, SEL_OTHER, SEL_SAME, SLL_AL, SLL_MONO, SRL_MONO, SUB_ADD, SUB_NEG, TT_I, ULE_REFL, ULE_TRANS, ULT_ULE, ZERO_LE}
+use Rattle.lf_rules.specs.declared.numbers.TheConstants.{ADD_AL, ADD_ASSOC, ADD_COMM, ADD_LE, ADD_ZERO, ALLM_E, ALLM_I, ALL_E, ALL_I, AND_ASSOC, AND_COMM, AND_I, AND_L, AND_LE, AND_R, AND_ZERO, BIC_DEF, BIC_LE, BIS_ZERO, BIS_ZERO_L, CMP_LE1, CMP_NO, CMP_YES, EM, EQ_REFL, EQ_SUB, EXTB_LE, EXTL_LE, EXTW_LE, FF_E, IMP_E, IMP_I, LE_ANTI, LE_LT, LT_IRR, LT_LE, LT_PRED, MAX_LE, NOT_LT, OR_E, OR_L, OR_R, S4_DEF, S8_DEF, SEL_OTHER, SEL_SAME, SLL_AL, SLL_MONO, SRL_MONO, SUB_ADD, SUB_NEG, TT_I, ULE_REFL, ULE_TRANS, ULT_ULE, XOR_SELF, ZERO_LE}
 
 -- a rule, in the order of the notation
 abbrev rule : List Sort → List Premise → SForm → Rule
@@ -235,6 +235,22 @@ named_rules =
     (CMP_LE1 + 2, cmp_le1 (Cmple, Sle)) ∷
     (CMP_LE1 + 3, cmp_le1 (Cmpult, Ult)) ∷
     (CMP_LE1 + 4, cmp_le1 (Cmpule, Ule)) ∷
+    -- xor_self  a ; |- (eq (xor a a) 0)
+    (XOR_SELF, rule words1 [] (eq (SOp Xor a a) (SLit 0))) ∷
+    -- bic_le  a b ; |- (ule (bic a b) a)
+    (BIC_LE, rule words2 [] (ule (SOp Bic a b) a)) ∷
+    -- s4_def  a b ; |- (eq (s4add a b) (add (sll a 2) b))
+    (S4_DEF, rule words2 [] (eq (SOp S4add a b) (add (sll a (SLit 2)) b))) ∷
+    -- s8_def  a b ; |- (eq (s8add a b) (add (sll a 3) b))
+    (S8_DEF, rule words2 [] (eq (SOp S8add a b) (add (sll a (SLit 3)) b))) ∷
+    -- extb_le  a b ; |- (ule (extb a b) 255)
+    (EXTB_LE, rule words2 [] (ule (SOp Extb a b) (SLit 255))) ∷
+    -- extw_le  a b ; |- (ule (extw a b) 65535)
+    (EXTW_LE, rule words2 [] (ule (SOp Extw a b) (SLit 65535))) ∷
+    -- extl_le  a b ; |- (ule (extl a b) 4294967295)
+    (EXTL_LE, rule words2 [] (ule (SOp Extl a b) (SLit 4294967295))) ∷
+    -- bic_def  a b ; |- (eq (bic a b) (band a (xor b MAX)))
+    (BIC_DEF, rule words2 [] (eq (SOp Bic a b) (band a (SOp Xor b max)))) ∷
     []
 
 -- the rules at the named numbers are those that are written beside them

@@ -5,7 +5,9 @@ use Rattle.std.specs.Result.{IsErrAnd}
 use Rattle.std.proofs.lemmas.List.{length-map}
 use Rattle.alpha_words.specs.declared.insn.Insn.{Insn}
 use Rattle.policy_set.specs.Views.{PolicyView}
-use Rattle.policy_set.specs.Names.{policy_number}
+use Rattle.word_ops.specs.declared.Profile.{Profile}
+use Rattle.proof_container.specs.declared.container.Head.{Head}
+use Rattle.proof_container.specs.Versions.{profile_of}
 use Rattle.formula_tree.specs.declared.form.Form as lent
 use Rattle.formula_tree.specs.Formulas.{Form}
 use Rattle.term_table.specs.Tree.{Tree}
@@ -24,7 +26,7 @@ use Rattle.pcc_asm.specs.declared.fault.AsmFlaw.{AsmFlaw}
 use Rattle.pcc_asm.specs.declared.fault.AsmFault.{AsmFault}
 use Rattle.pcc_asm.specs.declared.fault.AsmFault.TheVariants as F
 use Rattle.pcc_asm.specs.Words.{code_bytes}
-use Rattle.pcc_asm.specs.Assembling.{inv_encodings, Assembles, resolved_insns, as_code, assembled_code, plain_contents, with_code, assembled_contents}
+use Rattle.pcc_asm.specs.Assembling.{inv_encodings, head_for, Assembles, resolved_insns, as_code, assembled_code, plain_contents, with_code, assembled_contents}
 use Rattle.pcc_asm.specs.Views.{IsSpelled, IsAsmAnswer, AssemblesNone}
 use Rattle.pcc_asm.specs.Inside.Held.{held_contents, IsWritableContents}
 use Rattle.pcc_asm.specs.Inside.Views.{insn_views, label_views, inv_views, IsStepAnswer, AreLabelIndices, IsEncodable, bytes_or_flaw, IsEncodableForm, AreEncoded}
@@ -42,19 +44,20 @@ short_from : (xs : List _) → AreUpTo MAX_INSNS (label_views xs) → AreLabelIn
 short_from [] h = tt
 short_from (x ∷ xs) h = (h.0, short_from xs h.1)
 
-closed_from : (invs : List (ℕ × Form)) → AllByRecursion (λ p. IsTextual p.1) invs → AllByRecursion (λ p. IsEncodableForm p.1) invs
-closed_from [] h = tt
-closed_from (v ∷ invs) h = (textual_closed v.1 h.0, closed_from invs h.1)
+closed_from : (prof : Profile) (invs : List (ℕ × Form))
+    → AllByRecursion (λ p. IsTextual prof p.1) invs → AllByRecursion (λ p. IsEncodableForm p.1) invs
+closed_from prof [] h = tt
+closed_from prof (v ∷ invs) h = (textual_closed prof v.1 h.0, closed_from prof invs h.1)
 
 -- an early return keeps what is said of its error
 pub carries : {X : Type 0} (P : Result X AsmFault → Type 0) (e : AsmFault) → P (Err e) → (r : Result X AsmFault) → IsErrAnd r (λ y. y ≡ e) → P r
 carries P e h (Ok x) k = absurd k
 carries P e h (Err y) k = subst (λ z. P (Err z)) (sym k) h
 
-module _ (s : code.Source) (h : IsSpelled (source_view s)) where
+module _ (prof : Profile) (s : code.Source) (h : IsSpelled prof (source_view s)) where
   pub labels_short : AreLabelIndices s.labels.items
   unfolding source_view
-  labels_short = short_from s.labels.items (bounded h.0 (source_view s) h.1).labels
+  labels_short = short_from s.labels.items (bounded prof h.0 (source_view s) h.1).labels
 
   pub insns_few : length s.insns.items ≤ MAX_INSNS
   unfolding source_view
@@ -66,32 +69,52 @@ module _ (s : code.Source) (h : IsSpelled (source_view s)) where
 
   pub invs_closed : AllByRecursion (λ p. IsEncodableForm p.1) (inv_views s.invs.items)
   unfolding source_view
-  invs_closed = closed_from (inv_views s.invs.items) (bounded h.0 (source_view s) h.1).invs
+  invs_closed =
+      closed_from prof (inv_views s.invs.items) (bounded prof h.0 (source_view s) h.1).invs
 
-  passes_sound : (insns : List Insn) → resolved_insns (label_views s.labels.items) 0 (insn_views s.insns.items) ≡ Ok insns → as_code (insn_views s.insns.items) (Ok insns) ≡ Ok insns → IsSound (source_view s) insns
+  passes_sound : (insns : List Insn) → resolved_insns (label_views s.labels.items) 0
+      (insn_views s.insns.items) ≡ Ok insns
+      → as_code prof (insn_views s.insns.items) (Ok insns) ≡ Ok insns
+      → IsSound prof (source_view s) insns
   unfolding source_view
-  passes_sound insns e f = sound_by h.0 (source_view s) insns h.1 e (passes (insn_views s.insns.items) insns insns f)
+  passes_sound insns e f =
+      sound_by prof h.0 (source_view s) insns h.1 e
+      (passes prof (insn_views s.insns.items) insns insns f)
 
-  pub insns_encodable : (insns : List Insn) → resolved_insns (label_views s.labels.items) 0 (insn_views s.insns.items) ≡ Ok insns → as_code (insn_views s.insns.items) (Ok insns) ≡ Ok insns → AllByRecursion IsEncodable insns
+  pub insns_encodable : (insns : List Insn)
+      → resolved_insns (label_views s.labels.items) 0 (insn_views s.insns.items) ≡ Ok insns
+      → as_code prof (insn_views s.insns.items) (Ok insns) ≡ Ok insns
+      → AllByRecursion (IsEncodable prof) insns
   unfolding source_view
   insns_encodable insns e f = (passes_sound insns e f).encodable
 
 -- ---- the bytes of code
 
-module _ (s : code.Source) where
-  pub gives_no_label : {X Y : Type 0} (view : X → List Insn) (to : Y → List ℕ) (k : AsmFault) → IsStepAnswer view (resolved_insns (label_views s.labels.items) 0 (insn_views s.insns.items)) (Err k) → IsStepAnswer to (bytes_or_flaw (assembled_code (source_view s))) (Err k)
+module _ (prof : Profile) (s : code.Source) where
+  pub gives_no_label : {X Y : Type 0} (view : X → List Insn) (to : Y → List ℕ) (k : AsmFault)
+      → IsStepAnswer view (resolved_insns (label_views s.labels.items) 0 (insn_views s.insns.items))
+      (Err k) → IsStepAnswer to (bytes_or_flaw (assembled_code prof (source_view s))) (Err k)
   unfolding source_view assembled_code
   gives_no_label view to F.Memory h = tt
-  gives_no_label view to (F.At flaw) h = ap (λ r. bytes_or_flaw (as_code (insn_views s.insns.items) r)) h
+  gives_no_label view to (F.At flaw) h =
+      ap (λ r. bytes_or_flaw (as_code prof (insn_views s.insns.items) r)) h
 
-  pub gives_flaw : (insns : List Insn) (flaw : AsmFlaw) → resolved_insns (label_views s.labels.items) 0 (insn_views s.insns.items) ≡ Ok insns → as_code (insn_views s.insns.items) (Ok insns) ≡ Err flaw → bytes_or_flaw (assembled_code (source_view s)) ≡ Err flaw
+  pub gives_flaw : (insns : List Insn) (flaw : AsmFlaw)
+      → resolved_insns (label_views s.labels.items) 0 (insn_views s.insns.items) ≡ Ok insns
+      → as_code prof (insn_views s.insns.items) (Ok insns) ≡ Err flaw
+      → bytes_or_flaw (assembled_code prof (source_view s)) ≡ Err flaw
   unfolding source_view assembled_code
-  gives_flaw insns flaw e f = ap (λ r. bytes_or_flaw (as_code (insn_views s.insns.items) r)) e ∙ ap bytes_or_flaw f
+  gives_flaw insns flaw e f =
+      ap (λ r. bytes_or_flaw (as_code prof (insn_views s.insns.items) r)) e ∙ ap bytes_or_flaw f
 
-  pub gives_bytes : (insns : List Insn) (bytes : List ℕ) → resolved_insns (label_views s.labels.items) 0 (insn_views s.insns.items) ≡ Ok insns → as_code (insn_views s.insns.items) (Ok insns) ≡ Ok insns → bytes ≡ code_bytes insns →
-      bytes_or_flaw (assembled_code (source_view s)) ≡ Ok bytes
+  pub gives_bytes : (insns : List Insn) (bytes : List ℕ)
+      → resolved_insns (label_views s.labels.items) 0 (insn_views s.insns.items) ≡ Ok insns
+      → as_code prof (insn_views s.insns.items) (Ok insns) ≡ Ok insns → bytes ≡ code_bytes insns →
+      bytes_or_flaw (assembled_code prof (source_view s)) ≡ Ok bytes
   unfolding source_view assembled_code
-  gives_bytes insns bytes e f b = ap (λ r. bytes_or_flaw (as_code (insn_views s.insns.items) r)) e ∙ ap bytes_or_flaw f ∙ ap Ok (sym b)
+  gives_bytes insns bytes e f b =
+      ap (λ r. bytes_or_flaw (as_code prof (insn_views s.insns.items) r)) e ∙ ap bytes_or_flaw f
+      ∙ ap Ok (sym b)
 
 -- ---- the contents
 
@@ -110,31 +133,41 @@ bytes_by : (r : Result (List Insn) AsmFlaw) (bytes : List ℕ) → bytes_or_flaw
 bytes_by (Ok insns) bytes e = (insns, refl, bytes_same _ _ e)
 bytes_by (Err k) bytes e = cc
 
-pub err_answer : {X : Type 0} (policy : PolicyView) (s : Source) (view : X → List ℕ) (k : AsmFault)
-    → IsStepAnswer view (bytes_or_flaw (assembled_code s)) (Err k) → IsAsmAnswer policy s (Err k)
+pub err_answer : (v : ℕ) {X : Type 0} (policy : PolicyView) (s : Source) (view : X → List ℕ)
+    (k : AsmFault)
+    → IsStepAnswer view (bytes_or_flaw (assembled_code (profile_of v) s)) (Err k)
+    → IsAsmAnswer v policy s (Err k)
 unfolding assembled_contents
-err_answer policy s view F.Memory h = tt
-err_answer policy s view (F.At flaw) h = ap (with_code policy s.invs) (flaw_by (assembled_code s) flaw h)
+err_answer v policy s view F.Memory h = tt
+err_answer v policy s view (F.At flaw) h =
+    ap (with_code v policy s.invs) (flaw_by (assembled_code (profile_of v) s) flaw h)
 
-contents_same : (policy : ℕ) (bytes : List ℕ) (a b : List (ℕ × Tree)) → a ≡ b → ◌≡◌ {A = Contents} (record { policy = policy; code = bytes; invs = a; proof = None }) (record { policy = policy; code = bytes; invs = b; proof = None })
-contents_same policy bytes a b e = ap (λ x. record { policy = policy; code = bytes; invs = x; proof = None }) e
+contents_same : (head : Head) (bytes : List ℕ) (a b : List (ℕ × Tree)) → a ≡ b →
+    ◌≡◌ {A = Contents} (record { head = head; code = bytes; invs = a; proof = None })
+    (record { head = head; code = bytes; invs = b; proof = None })
+contents_same head bytes a b e =
+    ap (λ x. record { head = head; code = bytes; invs = x; proof = None }) e
 
-pub ok_answer : (policy : PolicyView) (s : Source) (number : ℕ) (bytes : List ℕ) (t : TableView)
-    (ids : List (ℕ × ℕ)) → bytes_or_flaw (assembled_code s) ≡ Ok bytes → number
-    ≡ policy_number policy → AreEncoded t s.invs ids →
-    assembled_contents policy s ≡ Ok (held_contents number bytes t ids)
+pub ok_answer : (v : ℕ) (policy : PolicyView) (s : Source) (head : Head) (bytes : List ℕ)
+    (t : TableView) (ids : List (ℕ × ℕ))
+    → bytes_or_flaw (assembled_code (profile_of v) s) ≡ Ok bytes → head ≡ head_for v policy
+    → AreEncoded t s.invs ids → assembled_contents v policy s ≡ Ok (held_contents head bytes t ids)
 unfolding assembled_contents
-ok_answer policy s number bytes t ids e n k =
-    let b = bytes_by (assembled_code s) bytes e in
-    ap (with_code policy s.invs) b.1
-    ∙ ap Ok (contents_same (policy_number policy) (code_bytes b.0) (inv_encodings s.invs) (id_trees t ids) (sym k.trees))
-    ∙ ap (λ x. Ok (held_contents (policy_number policy) x t ids)) b.2
+ok_answer v policy s head bytes t ids e n k =
+    let b = bytes_by (assembled_code (profile_of v) s) bytes e in
+    ap (with_code v policy s.invs) b.1
+    ∙ ap Ok (contents_same (head_for v policy) (code_bytes b.0) (inv_encodings s.invs)
+    (id_trees t ids) (sym k.trees))
+    ∙ ap (λ x. Ok (held_contents (head_for v policy) x t ids)) b.2
     ∙ ap (λ x. Ok (held_contents x bytes t ids)) (sym n)
 
-pub is_held : (s : Source) (number : ℕ) (bytes : List ℕ) (t : TableView) (ids : List (ℕ × ℕ)) → IsSpelled s → bytes_or_flaw (assembled_code s) ≡ Ok bytes → AreEncoded t s.invs ids → IsWritableContents t ids (held_contents number bytes t ids)
-is_held s number bytes t ids h e k =
-    let b = bytes_by (assembled_code s) bytes e in
-    let sound = code_sound h.0 s b.0 h.1 b.1 in
+pub is_held : (v : ℕ) (s : Source) (head : Head) (bytes : List ℕ) (t : TableView)
+    (ids : List (ℕ × ℕ)) → IsSpelled (profile_of v) s
+    → bytes_or_flaw (assembled_code (profile_of v) s) ≡ Ok bytes → AreEncoded t s.invs ids
+    → IsWritableContents t ids (held_contents head bytes t ids)
+is_held v s head bytes t ids h e k =
+    let b = bytes_by (assembled_code (profile_of v) s) bytes e in
+    let sound = code_sound (profile_of v) h.0 s b.0 h.1 b.1 in
     let size : length bytes ≡ 4 * length b.0 = sym (ap length b.2) ∙ bytes_length b.0 in
     let words : length bytes / 4 ≡ length s.insns = omega (arith, size, sound.count) in
     let count : length ids ≡ length s.invs = sym (length-map ids (λ inv. (inv.0, tree_at t inv.1))) ∙ ap length k.trees ∙ length-map s.invs (λ p. (p.0, encoding_in machine_context p.1)) in
@@ -144,58 +177,72 @@ is_held s number bytes t ids h e k =
       whole = omega (arith, size);
       some = omega (arith, size, sound.count, h.1.sound.some);
       short = omega (arith, size, sound.count, h.1.sound.insns);
-      entries = subst (λ l. length (entries (map (λ p. p.1) l ++ [])) ≤ 262144) (sym k.trees) (entries_few s.invs h.1.sound.invs (bounded h.0 s h.1).invs);
+      entries =
+          subst (λ l. length (entries (map (λ p. p.1) l ++ [])) ≤ 262144) (sym k.trees)
+          (entries_few (profile_of v) s.invs h.1.sound.invs
+          (bounded (profile_of v) h.0 s h.1).invs);
       invs = omega (arith, count, h.1.sound.invs);
       rising = subst (λ n. AreRising 0 n (id_trees t ids)) (sym words) (subst (AreRising 0 (length s.insns)) (sym k.trees) (rising 0 (length s.insns) s.invs h.1.sound.belong));
     }
 
-contents_by : (policy : PolicyView) (s : Source) (c : Contents) (r : Result (List Insn) AsmFlaw)
-    → with_code policy s.invs r ≡ Ok c → (insns : List Insn) × (r ≡ Ok insns)
-    × (plain_contents policy s.invs insns ≡ c)
-contents_by policy s c (Ok insns) e = (insns, refl, contents_ok _ _ e) where
+contents_by : (v : ℕ) (policy : PolicyView) (s : Source) (c : Contents)
+    (r : Result (List Insn) AsmFlaw)
+    → with_code v policy s.invs r ≡ Ok c → (insns : List Insn) × (r ≡ Ok insns)
+    × (plain_contents v policy s.invs insns ≡ c)
+contents_by v policy s c (Ok insns) e = (insns, refl, contents_ok _ _ e) where
   contents_ok : (a b : Contents) → ◌≡◌ {A = Result Contents AsmFlaw} (Ok a) (Ok b) → a ≡ b
   contents_ok a b e = cc
-contents_by policy s c (Err k) e = cc
+contents_by v policy s c (Err k) e = cc
 
-plain_assembles : (policy : PolicyView) (s : Source) (insns : List Insn) → IsSpelled s
-    → IsSound s insns → Assembles policy s (plain_contents policy s.invs insns)
-plain_assembles policy s insns h k = record {
+plain_assembles : (v : ℕ) (policy : PolicyView) (s : Source) (insns : List Insn)
+    → IsSpelled (profile_of v) s
+    → IsSound (profile_of v) s insns → Assembles v policy s (plain_contents v policy s.invs insns)
+plain_assembles v policy s insns h k = record {
   insns = insns;
-  assembled = sound_assembled h.0 s insns h.1 k;
-  code = bytes_encode insns k.ranges k.encodable;
-  policy_is = refl;
+  assembled = sound_assembled (profile_of v) h.0 s insns h.1 k;
+  code = bytes_encode (profile_of v) insns k.ranges k.encodable;
+  head_is = refl;
   invs = refl;
   no_proof = refl;
 }
 
-pub contents_sound : (policy : PolicyView) (s : Source) (c : Contents) → IsSpelled s
-    → assembled_contents policy s ≡ Ok c → (insns : List Insn) × IsSound s insns
-    × (plain_contents policy s.invs insns ≡ c)
+pub contents_sound : (v : ℕ) (policy : PolicyView) (s : Source) (c : Contents)
+    → IsSpelled (profile_of v) s
+    → assembled_contents v policy s ≡ Ok c → (insns : List Insn) × IsSound (profile_of v) s insns
+    × (plain_contents v policy s.invs insns ≡ c)
 unfolding assembled_contents
-contents_sound policy s c h e = let b = contents_by policy s c (assembled_code s) e in (b.0, code_sound h.0 s b.0 h.1 b.1, b.2)
+contents_sound v policy s c h e =
+    let b = contents_by v policy s c (assembled_code (profile_of v) s) e in
+    (b.0, code_sound (profile_of v) h.0 s b.0 h.1 b.1, b.2)
 
-assembles_by : (policy : PolicyView) (s : Source) (c : Contents) → IsSpelled s
-    → assembled_contents policy s ≡ Ok c → Assembles policy s c
-assembles_by policy s c h e = let k = contents_sound policy s c h e in subst (Assembles policy s) k.2 (plain_assembles policy s k.0 h k.1)
+assembles_by : (v : ℕ) (policy : PolicyView) (s : Source) (c : Contents)
+    → IsSpelled (profile_of v) s
+    → assembled_contents v policy s ≡ Ok c → Assembles v policy s c
+assembles_by v policy s c h e =
+    let k = contents_sound v policy s c h e in subst (Assembles v policy s) k.2
+    (plain_assembles v policy s k.0 h k.1)
 
-pub answer_assembles : (policy : PolicyView) (s : Source) (r : Result Contents AsmFault)
-    → IsSpelled s → IsAsmAnswer policy s r → IfOk r (λ c. Assembles policy s c)
-answer_assembles policy s (Ok c) h e = assembles_by policy s c h e
-answer_assembles policy s (Err k) h e = tt
+pub answer_assembles : (v : ℕ) (policy : PolicyView) (s : Source) (r : Result Contents AsmFault)
+    → IsSpelled (profile_of v) s → IsAsmAnswer v policy s r → IfOk r (λ c. Assembles v policy s c)
+answer_assembles v policy s (Ok c) h e = assembles_by v policy s c h e
+answer_assembles v policy s (Err k) h e = tt
 
-none_by : (policy : PolicyView) (s : Source) (flaw : AsmFlaw) → assembled_contents policy s
-    ≡ Err flaw → (c : Contents) → Assembles policy s c → ⊥
+none_by : (v : ℕ) (policy : PolicyView) (s : Source) (flaw : AsmFlaw)
+    → assembled_contents v policy s
+    ≡ Err flaw → (c : Contents) → Assembles v policy s c → ⊥
 unfolding assembled_contents
-none_by policy s flaw e c a =
-    let f : with_code policy s.invs (Ok a.insns) ≡ Err flaw = ap (with_code policy s.invs) (sym (assembled-code s a.insns a.assembled)) ∙ e in
+none_by v policy s flaw e c a =
+    let f : with_code v policy s.invs (Ok a.insns)
+    ≡ Err flaw = ap (with_code v policy s.invs)
+    (sym (assembled-code (profile_of v) s a.insns a.assembled)) ∙ e in
     cc
 
-none_of : (policy : PolicyView) (s : Source) (k : AsmFault) → IsAsmAnswer policy s (Err k)
-    → AssemblesNone policy s k
-none_of policy s F.Memory h = tt
-none_of policy s (F.At flaw) h = none_by policy s flaw h
+none_of : (v : ℕ) (policy : PolicyView) (s : Source) (k : AsmFault) → IsAsmAnswer v policy s (Err k)
+    → AssemblesNone v policy s k
+none_of v policy s F.Memory h = tt
+none_of v policy s (F.At flaw) h = none_by v policy s flaw h
 
-pub answer_none : (policy : PolicyView) (s : Source) (r : Result Contents AsmFault)
-    → IsAsmAnswer policy s r → IfErr r (λ k. AssemblesNone policy s k)
-answer_none policy s (Ok c) h = tt
-answer_none policy s (Err k) h = none_of policy s k h
+pub answer_none : (v : ℕ) (policy : PolicyView) (s : Source) (r : Result Contents AsmFault)
+    → IsAsmAnswer v policy s r → IfErr r (λ k. AssemblesNone v policy s k)
+answer_none v policy s (Ok c) h = tt
+answer_none v policy s (Err k) h = none_of v policy s k h

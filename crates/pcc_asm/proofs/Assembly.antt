@@ -20,21 +20,28 @@ use Rattle.pcc_asm.specs.Inside.Views.{IsEncodable}
 use Rattle.pcc_asm.proofs.Resolved.{all-resolved, resolved-all, resolved-length}
 use Rattle.pcc_asm.proofs.Shaped.{IsLawful, unlawful-none, none-unlawful, AreInside, outside-none, inside-all, all-inside, off-false, false-off, Passes, passes, good_code}
 use Rattle.pcc_asm.proofs.Ranges.{HasRange, SaysRange, bounded}
-use Rattle.word_ops.specs.declared.Profile.TheVariants.{One}
+use Rattle.word_ops.specs.declared.Profile.{Profile}
 
 -- ---- what some word encodes is lawful where the profile has it
 
-all_lawful : (code : List Insn) → AreInsns code → AreOfProfile One code → AllByRecursion IsLawful code
-all_lawful [] h has = tt
-all_lawful (x ∷ code) h has =
-    let first = h 0 x refl in
-    ((Lawful-Encodes One first.0 x (has 0 x refl, first.1)).0, all_lawful code (λ i insn e. h (suc i) insn e) (λ i insn e. has (suc i) insn e))
+all_lawful : (prof : Profile) (code : List Insn) → AreInsns code → AreOfProfile prof code
+    → AllByRecursion (IsLawful prof) code
+all_lawful prof [] h has = tt
+all_lawful prof (x ∷ code) h has =
+    let first = h 0 x refl in (
+      (Lawful-Encodes prof first.0 x (has 0 x refl, first.1)).0,
+      all_lawful prof code
+          (λ i insn e. h (suc i) insn e) (λ i insn e. has (suc i) insn e),
+    )
 
-pub assembled-code : (s : Source) (insns : List Insn) → IsAssembled s insns → assembled_code s ≡ Ok insns
+pub assembled-code : (prof : Profile) (s : Source) (insns : List Insn) → IsAssembled prof s insns
+    → assembled_code prof s ≡ Ok insns
 unfolding assembled_code
-assembled-code s insns h =
-    ap (as_code s.insns) (resolved-all s.labels 0 s.insns insns h.resolved)
-    ∙ good_code s.insns insns (none-unlawful s.insns insns (all_lawful insns h.code.encoded h.profile)) (all-inside insns h.code.inside) (false-off insns h.code.nonempty h.code.ends)
+assembled-code prof s insns h =
+    ap (as_code prof s.insns) (resolved-all s.labels 0 s.insns insns h.resolved)
+    ∙ good_code prof s.insns insns (none-unlawful prof s.insns insns
+    (all_lawful prof insns h.code.encoded h.profile)) (all-inside insns h.code.inside)
+    (false-off insns h.code.nonempty h.code.ends)
 
 -- ---- the word that is written encodes the instruction
 
@@ -51,9 +58,15 @@ format_by n i (I.Branch c ra disp) a b h = has_bits n i disp a b h
 format_by n i (I.Br disp) a b h = has_bits n i disp a b h
 format_by n i _ a b h = tt
 
-pub all_encodable : (n i : ℕ) (code : List Insn) → n ≤ 1024 → i + length code ≤ 1024 → AllByRecursion IsLawful code → AreInside n i code → AllByRecursion IsEncodable code
-all_encodable n i [] a b l h = tt
-all_encodable n i (x ∷ code) a b l h = ((l.0, format_by n i x a (omega arith) h.0), all_encodable n (suc i) code a (omega arith) l.1 h.1)
+pub all_encodable : (prof : Profile) (n i : ℕ) (code : List Insn) → n ≤ 1024
+    → i + length code ≤ 1024 → AllByRecursion (IsLawful prof) code → AreInside n i code
+    → AllByRecursion (IsEncodable prof) code
+all_encodable prof n i [] a b l h = tt
+all_encodable prof n i (x ∷ code) a b l h = (
+  (l.0, format_by n i x a (omega arith) h.0),
+  all_encodable prof n (suc i) code a (omega arith)
+      l.1 h.1,
+)
 
 has_fields : (insn : Insn) → HasRange insn → HasFormat insn → HasFields (insn_word insn) insn
 has_fields (I.Lda ra rb disp) r f = (r.0, r.1, r.2, refl)
@@ -66,8 +79,10 @@ has_fields (I.Branch c ra disp) r f = (r, f, refl)
 has_fields (I.Br disp) r f = (f, refl)
 has_fields I.Ret r f = (1, omega arith, refl)
 
-pub encodes_word : (insn : Insn) → HasRange insn → IsEncodable insn → Encodes One (insn_word insn) insn
-encodes_word insn r e = (Encodes-exactly One (insn_word insn) insn).1 (has_fields insn r e.1, e.0)
+pub encodes_word : (prof : Profile) (insn : Insn) → HasRange insn → IsEncodable prof insn
+    → Encodes prof (insn_word insn) insn
+encodes_word prof insn r e =
+    (Encodes-exactly prof (insn_word insn) insn).1 (has_fields insn r e.1, e.0)
 
 resolved_range : (labels : List (List ℕ × ℕ)) (i : ℕ) (x : SourceInsn) (insn : Insn) → IsResolved labels i x insn → SaysRange x → HasRange insn
 resolved_range labels i (Plain p) insn h r = subst HasRange (sym h) r
@@ -88,16 +103,18 @@ at_index P (y ∷ xs) (suc i) x h e = at_index P xs i x h.1 e
 -- ---- what passes the tests
 
 -- what a source and its code give together
-pub record IsSound (s : Source) (insns : List Insn) : Type 0 where
+pub record IsSound (prof : Profile) (s : Source) (insns : List Insn) : Type 0 where
   pub resolved : AreResolved s.labels 0 s.insns insns
   pub count : length insns ≡ length s.insns
-  pub passes : Passes s.insns insns insns
+  pub passes : Passes prof s.insns insns insns
   pub inside : AreInside (length insns) 0 insns
-  pub encodable : AllByRecursion IsEncodable insns
+  pub encodable : AllByRecursion (IsEncodable prof) insns
   pub ranges : AllByRecursion HasRange insns
 
-pub sound_by : (text : List ℕ) (s : Source) (insns : List Insn) → SpellsSource One text s → resolved_insns s.labels 0 s.insns ≡ Ok insns → Passes s.insns insns insns → IsSound s insns
-sound_by text s insns h e p =
+pub sound_by : (prof : Profile) (text : List ℕ) (s : Source) (insns : List Insn)
+    → SpellsSource prof text s → resolved_insns s.labels 0 s.insns ≡ Ok insns
+    → Passes prof s.insns insns insns → IsSound prof s insns
+sound_by prof text s insns h e p =
     let resolved = all-resolved s.labels 0 s.insns insns e in
     let count = resolved-length s.labels 0 s.insns insns resolved in
     let inside = outside-none (length insns) 0 insns p.inside in
@@ -106,40 +123,58 @@ sound_by text s insns h e p =
       count = count;
       passes = p;
       inside = inside;
-      encodable = all_encodable (length insns) 0 insns (omega (arith, count, h.sound.insns)) (omega (arith, count, h.sound.insns)) (unlawful-none s.insns insns count p.lawful) inside;
-      ranges = all_ranges s.labels 0 s.insns insns resolved (bounded text s h).insns;
+      encodable =
+          all_encodable prof (length insns) 0 insns (omega (arith, count, h.sound.insns))
+          (omega (arith, count, h.sound.insns)) (unlawful-none prof s.insns insns count p.lawful)
+          inside;
+      ranges = all_ranges s.labels 0 s.insns insns resolved (bounded prof text s h).insns;
     }
 
 -- what is written for an instruction encodes it
-sound_word : (s : Source) (insns : List Insn) → IsSound s insns → (i : ℕ) (insn : Insn) → slice_get insns i ≡ Some insn → Encodes One (insn_word insn) insn
-sound_word s insns k i insn e = encodes_word insn (at_index HasRange insns i insn k.ranges e) (at_index IsEncodable insns i insn k.encodable e)
+sound_word : (prof : Profile) (s : Source) (insns : List Insn) → IsSound prof s insns
+    → (i : ℕ) (insn : Insn) → slice_get insns i ≡ Some insn → Encodes prof (insn_word insn) insn
+sound_word prof s insns k i insn e =
+    encodes_word prof insn (at_index HasRange insns i insn k.ranges e)
+    (at_index (IsEncodable prof) insns i insn k.encodable e)
 
-pub sound_code : (text : List ℕ) (s : Source) (insns : List Insn) → SpellsSource One text s → IsSound s insns → IsCode insns
-sound_code text s insns h k = record {
+pub sound_code : (prof : Profile) (text : List ℕ) (s : Source) (insns : List Insn)
+    → SpellsSource prof text s → IsSound prof s insns → IsCode insns
+sound_code prof text s insns h k = record {
   nonempty = omega (arith, k.count, h.sound.some);
   short = omega (arith, k.count, h.sound.insns);
-  encoded = λ i insn e. (insn_word insn, (sound_word s insns k i insn e).1);
+  encoded = λ i insn e. (insn_word insn, (sound_word prof s insns k i insn e).1);
   inside = inside-all insns k.inside;
   ends = off-false insns (omega (arith, k.count, h.sound.some)) k.passes.ends;
 }
 
-pub sound_assembled : (text : List ℕ) (s : Source) (insns : List Insn) → SpellsSource One text s → IsSound s insns → IsAssembled s insns
-sound_assembled text s insns h k = record {
+pub sound_assembled : (prof : Profile) (text : List ℕ) (s : Source) (insns : List Insn)
+    → SpellsSource prof text s → IsSound prof s insns → IsAssembled prof s insns
+sound_assembled prof text s insns h k = record {
   resolved = k.resolved;
-  code = sound_code text s insns h k;
-  profile = λ i insn e. (sound_word s insns k i insn e).0;
+  code = sound_code prof text s insns h k;
+  profile = λ i insn e. (sound_word prof s insns k i insn e).0;
 }
 
-code_by : (text : List ℕ) (s : Source) (insns : List Insn) (r : Result (List Insn) AsmFlaw) → SpellsSource One text s → resolved_insns s.labels 0 s.insns ≡ r → as_code s.insns r ≡ Ok insns → IsSound s insns
-code_by text s insns (Err k) h e f = cc
-code_by text s insns (Ok all) h e f =
-    let p = passes s.insns all insns f in
+code_by : (prof : Profile) (text : List ℕ) (s : Source) (insns : List Insn)
+    (r : Result (List Insn) AsmFlaw) → SpellsSource prof text s
+    → resolved_insns s.labels 0 s.insns ≡ r → as_code prof s.insns r ≡ Ok insns
+    → IsSound prof s insns
+code_by prof text s insns (Err k) h e f = cc
+code_by prof text s insns (Ok all) h e f =
+    let p = passes prof s.insns all insns f in
     let same : all ≡ insns = p.same in
-    sound_by text s insns h (e ∙ ap Ok same) (subst (λ y. Passes s.insns y insns) same p)
+    sound_by prof text s insns h (e ∙ ap Ok same) (subst (λ y. Passes prof s.insns y insns) same p)
 
-pub code_sound : (text : List ℕ) (s : Source) (insns : List Insn) → SpellsSource One text s → assembled_code s ≡ Ok insns → IsSound s insns
+pub code_sound : (prof : Profile) (text : List ℕ) (s : Source) (insns : List Insn)
+    → SpellsSource prof text s → assembled_code prof s ≡ Ok insns → IsSound prof s insns
 unfolding assembled_code
-code_sound text s insns h e = code_by text s insns (resolved_insns s.labels 0 s.insns) h refl e
+code_sound prof text s insns h e =
+    code_by prof text s insns (resolved_insns s.labels 0 s.insns) h refl e
 
-pub law : (s : Source) (insns : List Insn) → IsSpelled s → IsAssembled s insns ↔ (assembled_code s ≡ Ok insns)
-law s insns h = (λ a. assembled-code s insns a, λ e. sound_assembled h.0 s insns h.1 (code_sound h.0 s insns h.1 e))
+pub law : (prof : Profile) (s : Source) (insns : List Insn) → IsSpelled prof s
+    → IsAssembled prof s insns ↔ (assembled_code prof s ≡ Ok insns)
+law prof s insns h = (
+  λ a. assembled-code prof s insns a,
+  λ e. sound_assembled prof h.0 s insns h.1
+      (code_sound prof h.0 s insns h.1 e),
+)

@@ -5,7 +5,7 @@ use Rattle.std.specs.Prelude.{◌||◌, ◌&&◌, nat_lt, ◌==◌, slice_get}
 use Rattle.std.specs.Option.{option_map}
 use Rattle.std.specs.List.{AllByRecursion, list_any, IsDistinct}
 use Rattle.std.specs.Str.{bytes_eq}
-use Rattle.std.proofs.lemmas.Bool.{cond-true, lt-ltb, le-ltb, leb-true, ltb-true, ltb-false, eqb-true, and_parts, false_from_ne_true}
+use Rattle.std.proofs.lemmas.Bool.{lt-ltb, le-ltb, leb-true, ltb-true, ltb-false, eqb-true, and_parts, false_from_ne_true}
 use Rattle.std.proofs.lemmas.Option.{same_Some}
 use Rattle.std.proofs.lemmas.Int.Digits.{digits_value-lt}
 use Rattle.std.proofs.lemmas.Map.Steps.{length-le_from_distinct_below}
@@ -27,8 +27,8 @@ use Rattle.formula_text.specs.Grammar.{SpellsExp, SpellsMem, SpellsForm}
 use Rattle.term_table.specs.Tree.{Tree, Var, Con, App, Lam, Fam, TApp, Pi, Const, Num, Lit, Calc, Fact, Deny, Lemma}
 use Rattle.term_table.specs.Table.{tree_in, AreDifferent}
 use Rattle.lf_signature.specs.declared.numbers.TheConstants.{SEL, UPD, RD, WR, AND, OR, IMP, ALL, ALLM}
-use Rattle.word_ops.specs.Operators.{op_constant, op_keyword, has_op}
-use Rattle.word_ops.proofs.EachOp.{each_op, each_op_same}
+use Rattle.word_ops.specs.Operators.{op_constant, op_keyword}
+use Rattle.word_ops.proofs.EachOp.{each_op}
 use Rattle.lf_signature.specs.Numbers.{rel_constant}
 use Rattle.lf_encode.specs.Encoding.{exp_encoding, mem_encoding, form_encoding}
 use Rattle.lf_encode.specs.Contexts.{machine_context, machine_names, encoding_in}
@@ -40,7 +40,7 @@ use Rattle.proof_container.proofs.Walks.{entries_grow, ArePostorder-different}
 use Rattle.pcc_asm.specs.Assembling.{inv_encodings}
 use Rattle.pcc_asm.proofs.Ranges.{IsTextual}
 use Rattle.pcc_asm.proofs.Heights.{size, size-append, size-two, size-one, size-within}
-use Rattle.word_ops.specs.declared.Profile.TheVariants.{One}
+use Rattle.word_ops.specs.declared.Profile.{Profile}
 
 -- ---- leaves with a number of their own, and what else there is
 
@@ -241,10 +241,11 @@ roots_few rs h n =
 
 -- ---- an encoding costs two bytes for each that has none
 
-op_light : (o : Op) → has_op One o ≡ true → heavy (Con (Num (op_constant o))) ≡ 0
-op_light o has =
-    sym (cond-true (has_op One o) (heavy (Con (Num (op_constant o)))) 0 has)
-    ∙ each_op_same (λ p. cond (has_op One p) (heavy (Con (Num (op_constant p)))) 0) (λ p. 0) refl o
+-- an operator's constant has a number, or a keyword of three bytes or more
+op_light : (o : Op) → heavy (Con (Num (op_constant o))) ≤ 1
+op_light o =
+    leb-true (heavy (Con (Num (op_constant o)))) 1
+    (each_op (λ p. leb (heavy (Con (Num (op_constant p)))) 1) refl o)
 
 rel_light : (p : Rel) → heavy (Con (Num (rel_constant p))) ≡ 0
 rel_light R.Eq = refl
@@ -253,8 +254,10 @@ rel_light R.Ule = refl
 rel_light R.Slt = refl
 rel_light R.Sle = refl
 
-op_long : (o : Op) → 2 ≤ length (op_keyword o)
-op_long o = leb-true 2 (length (op_keyword o)) (each_op (λ p. leb 2 (length (op_keyword p))) refl o)
+op_long : (o : Op) → 2 + heavy (Con (Num (op_constant o))) ≤ length (op_keyword o)
+op_long o =
+    leb-true (2 + heavy (Con (Num (op_constant o)))) (length (op_keyword o))
+    (each_op (λ p. leb (2 + heavy (Con (Num (op_constant p)))) (length (op_keyword p))) refl o)
 
 rel_long : (p : Rel) → 2 ≤ length (relation_text p)
 rel_long R.Eq = omega arith
@@ -266,6 +269,11 @@ rel_long R.Sle = omega arith
 -- a head that has a number, and what it is applied to
 two_heavy : (a b c k l m n : ℕ) → c ≡ 0 → 2 ≤ k → 2 * a < l → 2 * b < m → n ≡ 2 + (k + (l + m)) → 2 * suc (suc (c + a) + b) < n
 two_heavy a b c k l m n z h x y e = omega (arith, z, h, x, y, e)
+
+-- an operator's constant may have none
+op_heavy : (a b c k l m n : ℕ) → c ≤ 1 → 2 + c ≤ k → 2 * a < l → 2 * b < m
+    → n ≡ 2 + (k + (l + m)) → 2 * suc (suc (c + a) + b) < n
+op_heavy a b c k l m n z h x y e = omega (arith, z, h, x, y, e)
 
 pair_heavy : (a b c k l m n : ℕ) → c ≡ 0 → 2 ≤ k → 2 * a ≤ l → 2 * b ≤ m → n ≡ 2 + (k + (l + m)) → 2 * suc (suc (c + a) + b) ≤ n
 pair_heavy a b c k l m n z h x y e = omega (arith, z, h, x, y, e)
@@ -315,10 +323,10 @@ lit_by : (n m : ℕ) (b : Bool) → nat_lt n 100 ≡ b → 1 ≤ m → (100 ≤ 
 lit_by n m true e s h = omega (arith, s)
 lit_by n m false e s h = let l = h (ltb-false n 100 e) in omega (arith, l)
 
-name_some : (x : List ℕ) → is_name One x ≡ true → 1 ≤ length x
+name_some : (prof : Profile) (x : List ℕ) → is_name prof x ≡ true → 1 ≤ length x
 unfolding is_name
-name_some [] e = cc
-name_some (b ∷ x) e = omega arith
+name_some prof [] e = cc
+name_some prof (b ∷ x) e = omega arith
 
 -- whether each register's other name has a byte
 abbrev are_named : List (List ℕ × List ℕ) → Bool
@@ -344,107 +352,123 @@ abbrev IsRoom : ℕ → ℕ → Type 0
 IsRoom d n = 6 * d + n ≤ 2044
 
 mutual
-  exp_cost : (a : Exp) (s : Bindings) (ts : List (Token Paren)) → SpellsExp One a s ts → IsRoom (length s) (size ts) → 2 * heavy (exp_encoding (named_exp (length s) a)) < size ts
-  exp_cost (EReg r) s ts h room =
+  exp_cost : (prof : Profile) (a : Exp) (s : Bindings) (ts : List (Token Paren))
+      → SpellsExp prof a s ts → IsRoom (length s) (size ts)
+      → 2 * heavy (exp_encoding (named_exp (length s) a)) < size ts
+  exp_cost prof (EReg r) s ts h room =
       let e = ap size h.2 in
       let l = register_some r h.0 h.1 in
       let z = reg_light (length s) r (nat_lt r 31) (omega (arith, room)) in
       omega (arith, z, e, l)
-  exp_cost ELeft s ts h room = absurd h
-  exp_cost (EVar n) s ts h room =
+  exp_cost prof ELeft s ts h room = absurd h
+  exp_cost prof (EVar n) s ts h room =
       let e = ap size h.3 in
-      let x = name_some h.0 h.1 in
+      let x = name_some prof h.0 h.1 in
       let l = binding_below s h.0 (n, S.Exp) h.2 in
       none_heavy (Var n) (size ts) (var_light n (omega (arith, l, room))) (omega (arith, e, x))
-  exp_cost (ELit n) s ts h room =
+  exp_cost prof (ELit n) s ts h room =
       let e = ap size h.3 in
       let l = lit_by n (length h.0) (nat_lt n 100) refl (number_some h.0 n h.1) (number_long h.0 n h.1) in
       omega (arith, e, l)
-  exp_cost (EOp o a b) s ts h room =
+  exp_cost prof (EOp o a b) s ts h room =
       let z = size-two (K.Oper o) h.0 h.1 ts h.4 in
-      let l = exp_cost a s h.0 h.2 (omega (arith, z, room)) in
-      let r = exp_cost b s h.1 h.3 (omega (arith, z, room)) in
-      two_heavy _ _ _ (length (op_keyword o)) (size h.0) (size h.1) (size ts) (op_light o h.5) (op_long o) l r z
-  exp_cost (ESel m a) s ts h room =
+      let l = exp_cost prof a s h.0 h.2 (omega (arith, z, room)) in
+      let r = exp_cost prof b s h.1 h.3 (omega (arith, z, room)) in
+      op_heavy _ _ _ (length (op_keyword o)) (size h.0) (size h.1) (size ts) (op_light o)
+      (op_long o) l r z
+  exp_cost prof (ESel m a) s ts h room =
       let z = size-two K.Sel h.0 h.1 ts h.4 in
-      let l = mem_cost m s h.0 h.2 (omega (arith, z, room)) in
-      let r = exp_cost a s h.1 h.3 (omega (arith, z, room)) in
+      let l = mem_cost prof m s h.0 h.2 (omega (arith, z, room)) in
+      let r = exp_cost prof a s h.1 h.3 (omega (arith, z, room)) in
       two_heavy _ _ (heavy (Con (Num SEL))) 3 (size h.0) (size h.1) (size ts) refl (omega arith) l r z
 
-  mem_cost : (m : MemExp) (s : Bindings) (ts : List (Token Paren)) → SpellsMem One m s ts → IsRoom (length s) (size ts) → 2 * heavy (mem_encoding (named_mem (length s) m)) < size ts
-  mem_cost MMem s ts h room = let e = ap size h in none_heavy (Var (31 + length s)) (size ts) (var_light (31 + length s) (omega (arith, room))) (omega (arith, e))
-  mem_cost (MVar n) s ts h room =
+  mem_cost : (prof : Profile) (m : MemExp) (s : Bindings) (ts : List (Token Paren))
+      → SpellsMem prof m s ts → IsRoom (length s) (size ts)
+      → 2 * heavy (mem_encoding (named_mem (length s) m)) < size ts
+  mem_cost prof MMem s ts h room =
+      let e = ap size h in none_heavy (Var (31 + length s)) (size ts)
+      (var_light (31 + length s) (omega (arith, room))) (omega (arith, e))
+  mem_cost prof (MVar n) s ts h room =
       let e = ap size h.3 in
-      let x = name_some h.0 h.1 in
+      let x = name_some prof h.0 h.1 in
       let l = binding_below s h.0 (n, S.Mem) h.2 in
       none_heavy (Var n) (size ts) (var_light n (omega (arith, l, room))) (omega (arith, e, x))
-  mem_cost (MUpd m a v) s ts h room =
+  mem_cost prof (MUpd m a v) s ts h room =
       let y = size-append h.0 h.1 in
       let z = size-two K.Upd (h.0 ++ h.1) h.2 ts h.6 in
-      let l = mem_cost m s h.0 h.3 (omega (arith, y, z, room)) in
-      let r = exp_cost a s h.1 h.4 (omega (arith, y, z, room)) in
-      let w = exp_cost v s h.2 h.5 (omega (arith, y, z, room)) in
+      let l = mem_cost prof m s h.0 h.3 (omega (arith, y, z, room)) in
+      let r = exp_cost prof a s h.1 h.4 (omega (arith, y, z, room)) in
+      let w = exp_cost prof v s h.2 h.5 (omega (arith, y, z, room)) in
       three_heavy _ _ _ (heavy (Con (Num UPD))) 3 (size h.0) (size h.1) (size h.2) (size ts) (size (h.0 ++ h.1)) refl (omega arith) l r w y z
 
-form_cost : (F : Form) (s : Bindings) (ts : List (Token Paren)) → SpellsForm One F s ts → IsRoom (length s) (size ts) → 2 * heavy (form_encoding (named_form (length s) F)) ≤ size ts
-form_cost FTrue s ts h room = omega arith
-form_cost FFalse s ts h room = omega arith
-form_cost (FRel p a b) s ts h room =
+form_cost : (prof : Profile) (F : Form) (s : Bindings) (ts : List (Token Paren))
+    → SpellsForm prof F s ts → IsRoom (length s) (size ts)
+    → 2 * heavy (form_encoding (named_form (length s) F)) ≤ size ts
+form_cost prof FTrue s ts h room = omega arith
+form_cost prof FFalse s ts h room = omega arith
+form_cost prof (FRel p a b) s ts h room =
     let z = size-two (K.Rel p) h.0 h.1 ts h.4 in
-    let l = exp_cost a s h.0 h.2 (omega (arith, z, room)) in
-    let r = exp_cost b s h.1 h.3 (omega (arith, z, room)) in
+    let l = exp_cost prof a s h.0 h.2 (omega (arith, z, room)) in
+    let r = exp_cost prof b s h.1 h.3 (omega (arith, z, room)) in
     pair_heavy _ _ _ (length (relation_text p)) (size h.0) (size h.1) (size ts) (rel_light p) (rel_long p) (omega (arith, l)) (omega (arith, r)) z
-form_cost (FRd a) s ts h room =
+form_cost prof (FRd a) s ts h room =
     let z = size-one K.Rd h.0 ts h.2 in
-    let l = exp_cost a s h.0 h.1 (omega (arith, z, room)) in
+    let l = exp_cost prof a s h.0 h.1 (omega (arith, z, room)) in
     one_heavy _ (heavy (Con (Num RD))) 2 (size h.0) (size ts) refl (omega arith) l z
-form_cost (FWr a) s ts h room =
+form_cost prof (FWr a) s ts h room =
     let z = size-one K.Wr h.0 ts h.2 in
-    let l = exp_cost a s h.0 h.1 (omega (arith, z, room)) in
+    let l = exp_cost prof a s h.0 h.1 (omega (arith, z, room)) in
     one_heavy _ (heavy (Con (Num WR))) 2 (size h.0) (size ts) refl (omega arith) l z
-form_cost (FAnd A B) s ts h room =
+form_cost prof (FAnd A B) s ts h room =
     let z = size-two K.And h.0 h.1 ts h.4 in
-    let l = form_cost A s h.0 h.2 (omega (arith, z, room)) in
-    let r = form_cost B s h.1 h.3 (omega (arith, z, room)) in
+    let l = form_cost prof A s h.0 h.2 (omega (arith, z, room)) in
+    let r = form_cost prof B s h.1 h.3 (omega (arith, z, room)) in
     pair_heavy _ _ (heavy (Con (Num AND))) 3 (size h.0) (size h.1) (size ts) refl (omega arith) l r z
-form_cost (FOr A B) s ts h room =
+form_cost prof (FOr A B) s ts h room =
     let z = size-two K.Or h.0 h.1 ts h.4 in
-    let l = form_cost A s h.0 h.2 (omega (arith, z, room)) in
-    let r = form_cost B s h.1 h.3 (omega (arith, z, room)) in
+    let l = form_cost prof A s h.0 h.2 (omega (arith, z, room)) in
+    let r = form_cost prof B s h.1 h.3 (omega (arith, z, room)) in
     pair_heavy _ _ (heavy (Con (Num OR))) 2 (size h.0) (size h.1) (size ts) refl (omega arith) l r z
-form_cost (FImp A B) s ts h room =
+form_cost prof (FImp A B) s ts h room =
     let z = size-two K.Imp h.0 h.1 ts h.4 in
-    let l = form_cost A s h.0 h.2 (omega (arith, z, room)) in
-    let r = form_cost B s h.1 h.3 (omega (arith, z, room)) in
+    let l = form_cost prof A s h.0 h.2 (omega (arith, z, room)) in
+    let r = form_cost prof B s h.1 h.3 (omega (arith, z, room)) in
     pair_heavy _ _ (heavy (Con (Num IMP))) 3 (size h.0) (size h.1) (size ts) refl (omega arith) l r z
-form_cost (FAll A) s ts h room =
+form_cost prof (FAll A) s ts h room =
     let z = size-one K.All (Lexeme h.0 ∷ h.1) ts h.4 in
-    let x = name_some h.0 h.2 in
-    let l = form_cost A ((h.0, S.Exp) ∷ s) h.1 h.3 (omega (arith, z, x, room)) in
+    let x = name_some prof h.0 h.2 in
+    let l = form_cost prof A ((h.0, S.Exp) ∷ s) h.1 h.3 (omega (arith, z, x, room)) in
     binder_heavy _ (heavy (Con (Num ALL))) 3 (length h.0) (size h.1) (size ts) refl (omega arith) l z
-form_cost (FAllm A) s ts h room =
+form_cost prof (FAllm A) s ts h room =
     let z = size-one K.Allm (Lexeme h.0 ∷ h.1) ts h.4 in
-    let x = name_some h.0 h.2 in
-    let l = form_cost A ((h.0, S.Mem) ∷ s) h.1 h.3 (omega (arith, z, x, room)) in
+    let x = name_some prof h.0 h.2 in
+    let l = form_cost prof A ((h.0, S.Mem) ∷ s) h.1 h.3 (omega (arith, z, x, room)) in
     binder_heavy _ (heavy (Con (Num ALLM))) 4 (length h.0) (size h.1) (size ts) refl (omega arith) l z
 
 pub encoding-named : (F : Form) → encoding_in machine_context F ≡ form_encoding (named_form 0 F)
 encoding-named F = ap form_encoding (ap (λ B. subst_form F (shift_substitution (length B) machine_names)) bound_sorts-machine ∙ named_form-is 0 F)
 
-pub textual_light : (F : Form) → IsTextual F → heavy (encoding_in machine_context F) ≤ 1022
-textual_light F h =
+pub textual_light : (prof : Profile) (F : Form) → IsTextual prof F
+    → heavy (encoding_in machine_context F) ≤ 1022
+textual_light prof F h =
     let w = size-within h.0 h.2.tokens h.2.consists in
-    let c = form_cost F [] h.2.tokens h.2.spelled (omega (arith, w, h.1)) in
+    let c = form_cost prof F [] h.2.tokens h.2.spelled (omega (arith, w, h.1)) in
     let e = ap heavy (encoding-named F) in
     omega (arith, w, c, e, h.1)
 
-trees_light : (invs : List (ℕ × Form)) → AllByRecursion (λ x. IsTextual x.1) invs → AllLight (map (λ p. p.1) (inv_encodings invs) ++ [])
-trees_light [] h = tt
-trees_light (v ∷ invs) h = (textual_light v.1 h.0, trees_light invs h.1)
+trees_light : (prof : Profile) (invs : List (ℕ × Form))
+    → AllByRecursion (λ x. IsTextual prof x.1) invs
+    → AllLight (map (λ p. p.1) (inv_encodings invs) ++ [])
+trees_light prof [] h = tt
+trees_light prof (v ∷ invs) h = (textual_light prof v.1 h.0, trees_light prof invs h.1)
 
 length-trees : (invs : List (ℕ × Form)) → length (map (λ p. p.1) (inv_encodings invs) ++ []) ≡ length invs
 length-trees [] = refl
 length-trees (v ∷ invs) = ap suc (length-trees invs)
 
-pub entries_few : (invs : List (ℕ × Form)) → length invs ≤ 256 → AllByRecursion (λ x. IsTextual x.1) invs → length (entries (map (λ p. p.1) (inv_encodings invs) ++ [])) ≤ 262144
-entries_few invs n h = let e = length-trees invs in roots_few (map (λ p. p.1) (inv_encodings invs) ++ []) (trees_light invs h) (omega (arith, n, e))
+pub entries_few : (prof : Profile) (invs : List (ℕ × Form)) → length invs ≤ 256
+    → AllByRecursion (λ x. IsTextual prof x.1) invs
+    → length (entries (map (λ p. p.1) (inv_encodings invs) ++ [])) ≤ 262144
+entries_few prof invs n h =
+    let e = length-trees invs in roots_few (map (λ p. p.1) (inv_encodings invs) ++ [])
+    (trees_light prof invs h) (omega (arith, n, e))

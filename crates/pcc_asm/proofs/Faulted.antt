@@ -16,7 +16,7 @@ use Rattle.pcc_asm.specs.Assembling.{IsResolved, AreResolved, resolved_insn, wit
 use Rattle.pcc_asm.specs.Faults.{FailsFirst, IsResolvable, IsLawfulAt, IsRefusedAt, IsAsmFault}
 use Rattle.pcc_asm.proofs.Resolved.{resolved-is, is-resolved, all-resolved, resolved-all, resolved-length}
 use Rattle.pcc_asm.proofs.Shaped.{IsLawful, unlawful-none, none-unlawful, inside_by, by_inside, outside-none, inside-all, all-inside, off-false, false-off, bad_word, bad_target, bad_end}
-use Rattle.word_ops.specs.declared.Profile.TheVariants.{One}
+use Rattle.word_ops.specs.declared.Profile.{Profile}
 
 same_Err : {X : Type 0} (j k : AsmFlaw) → ◌≡◌ {A = Result X AsmFlaw} (Err j) (Err k) → j ≡ k
 same_Err j k e = cc
@@ -148,50 +148,81 @@ from_can s i h line said e = let r = h line said e in let z : i ≡ 0 + i = omeg
 -- ---- words
 
 -- the first instruction that the profile refuses stands in the line that is told
-abbrev IsBad : List (ℕ × SourceInsn) → List Insn → AsmFlaw → Type 0
-IsBad xs code k =
+abbrev IsBad : Profile → List (ℕ × SourceInsn) → List Insn → AsmFlaw → Type 0
+IsBad prof xs code k =
     (i line : ℕ) × (bad : BadWord) × (said : SourceInsn) × (A.Word line bad ≡ k) × (slice_get xs i ≡ Some (line, said)) ×
-    FailsFirst (IsLawfulAt code) i × IsRefusedAt code i bad
+    FailsFirst (IsLawfulAt prof code) i × IsRefusedAt prof code i bad
 
-lawful_here : (insn : Insn) (code : List Insn) → fault_of One insn ≡ None → IsLawfulAt (insn ∷ code) 0
-lawful_here insn code e other g = ap (fault_of One) (sym (same_Some insn other g)) ∙ e
+lawful_here : (prof : Profile) (insn : Insn) (code : List Insn) → fault_of prof insn ≡ None
+    → IsLawfulAt prof (insn ∷ code) 0
+lawful_here prof insn code e other g = ap (fault_of prof) (sym (same_Some insn other g)) ∙ e
 
-refused_here : (insn : Insn) (code : List Insn) (bad : BadWord) → fault_of One insn ≡ Some bad → IsLawfulAt (insn ∷ code) 0 → ⊥
-refused_here insn code bad e h = let g : fault_of One insn ≡ None = h insn refl in cc
+refused_here : (prof : Profile) (insn : Insn) (code : List Insn) (bad : BadWord)
+    → fault_of prof insn ≡ Some bad → IsLawfulAt prof (insn ∷ code) 0 → ⊥
+refused_here prof insn code bad e h = let g : fault_of prof insn ≡ None = h insn refl in cc
 
-bad_by : (x : ℕ × SourceInsn) (xs : List (ℕ × SourceInsn)) (insn : Insn) (code : List Insn) (k : AsmFlaw) (o : Option BadWord) → fault_of One insn ≡ o →
-    word_flaw x.0 o (first_unlawful xs code) ≡ Some k →
-    (first_unlawful xs code ≡ Some k → IsBad xs code k) → IsBad (x ∷ xs) (insn ∷ code) k
-bad_by x xs insn code k None e h f =
-    let g = f h in
-    (suc g.0, g.1, g.2, g.3, g.4, g.5, first_more (IsLawfulAt (insn ∷ code)) (IsLawfulAt code) g.0 (lawful_here insn code e) (λ j c. c) (λ j c. c) g.6, g.7)
-bad_by x xs insn code k (Some bad) e h f =
-    (0, x.0, bad, x.1, same_Some _ _ h, refl, first_here (IsLawfulAt (insn ∷ code)) (refused_here insn code bad e), (insn, refl, e))
+bad_by : (prof : Profile) (x : ℕ × SourceInsn) (xs : List (ℕ × SourceInsn)) (insn : Insn)
+    (code : List Insn) (k : AsmFlaw) (o : Option BadWord) → fault_of prof insn ≡ o →
+    word_flaw x.0 o (first_unlawful prof xs code) ≡ Some k →
+    (first_unlawful prof xs code ≡ Some k → IsBad prof xs code k)
+    → IsBad prof (x ∷ xs) (insn ∷ code) k
+bad_by prof x xs insn code k None e h f =
+    let g = f h in (
+      suc g.0,
+      g.1,
+      g.2,
+      g.3,
+      g.4,
+      g.5,
+      first_more (IsLawfulAt prof (insn ∷ code))
+          (IsLawfulAt prof code) g.0 (lawful_here prof insn code e) (λ j c. c) (λ j c. c) g.6,
+      g.7,
+    )
+bad_by prof x xs insn code k (Some bad) e h f = (
+  0,
+  x.0,
+  bad,
+  x.1,
+  same_Some _ _ h,
+  refl,
+  first_here (IsLawfulAt prof (insn ∷ code))
+      (refused_here prof insn code bad e),
+  (insn, refl, e),
+)
 
-bad_is : (xs : List (ℕ × SourceInsn)) (code : List Insn) (k : AsmFlaw) → first_unlawful xs code ≡ Some k → IsBad xs code k
-bad_is [] code k e = cc
-bad_is (x ∷ xs) [] k e = cc
-bad_is (x ∷ xs) (insn ∷ code) k e = bad_by x xs insn code k (fault_of One insn) refl e (λ f. bad_is xs code k f)
+bad_is : (prof : Profile) (xs : List (ℕ × SourceInsn)) (code : List Insn) (k : AsmFlaw)
+    → first_unlawful prof xs code ≡ Some k → IsBad prof xs code k
+bad_is prof [] code k e = cc
+bad_is prof (x ∷ xs) [] k e = cc
+bad_is prof (x ∷ xs) (insn ∷ code) k e =
+    bad_by prof x xs insn code k (fault_of prof insn) refl e (λ f. bad_is prof xs code k f)
 
-is_bad : (xs : List (ℕ × SourceInsn)) (code : List Insn) (i line : ℕ) (said : SourceInsn) (bad : BadWord) → slice_get xs i ≡ Some (line, said) →
-    FailsFirst (IsLawfulAt code) i → IsRefusedAt code i bad → first_unlawful xs code ≡ Some (A.Word line bad)
-is_bad [] code i line said bad e h r = cc
-is_bad (x ∷ xs) [] i line said bad e h r = let l : i < 0 = within [] i r.0 r.1 in absurd (omega arith)
-is_bad (x ∷ xs) (insn ∷ code) zero line said bad e h r =
-    ap (λ o. word_flaw x.0 o (first_unlawful xs code)) (ap (fault_of One) (same_Some insn r.0 r.1) ∙ r.2)
+is_bad : (prof : Profile) (xs : List (ℕ × SourceInsn)) (code : List Insn) (i line : ℕ)
+    (said : SourceInsn) (bad : BadWord) → slice_get xs i ≡ Some (line, said) →
+    FailsFirst (IsLawfulAt prof code) i → IsRefusedAt prof code i bad
+    → first_unlawful prof xs code ≡ Some (A.Word line bad)
+is_bad prof [] code i line said bad e h r = cc
+is_bad prof (x ∷ xs) [] i line said bad e h r =
+    let l : i < 0 = within [] i r.0 r.1 in absurd (omega arith)
+is_bad prof (x ∷ xs) (insn ∷ code) zero line said bad e h r =
+    ap (λ o. word_flaw x.0 o (first_unlawful prof xs code))
+    (ap (fault_of prof) (same_Some insn r.0 r.1) ∙ r.2)
     ∙ ap (λ y. Some (A.Word y.0 bad)) (same_Some x (line, said) e)
-is_bad (x ∷ xs) (insn ∷ code) (suc i) line said bad e h r =
-    ap (λ o. word_flaw x.0 o (first_unlawful xs code)) (h.0 0 (omega arith) insn refl)
-    ∙ is_bad xs code i line said bad e (first_less (IsLawfulAt (insn ∷ code)) (IsLawfulAt code) i (λ j c. c) (λ j c. c) h) r
+is_bad prof (x ∷ xs) (insn ∷ code) (suc i) line said bad e h r =
+    ap (λ o. word_flaw x.0 o (first_unlawful prof xs code)) (h.0 0 (omega arith) insn refl)
+    ∙ is_bad prof xs code i line said bad e
+    (first_less (IsLawfulAt prof (insn ∷ code)) (IsLawfulAt prof code) i (λ j c. c) (λ j c. c) h) r
 
-each_lawful : (code : List Insn) → AllByRecursion IsLawful code → (i : ℕ) → IsLawfulAt code i
-each_lawful [] h i insn e = cc
-each_lawful (x ∷ code) h zero insn e = ap (fault_of One) (sym (same_Some x insn e)) ∙ h.0
-each_lawful (x ∷ code) h (suc i) insn e = each_lawful code h.1 i insn e
+each_lawful : (prof : Profile) (code : List Insn) → AllByRecursion (IsLawful prof) code → (i : ℕ)
+    → IsLawfulAt prof code i
+each_lawful prof [] h i insn e = cc
+each_lawful prof (x ∷ code) h zero insn e = ap (fault_of prof) (sym (same_Some x insn e)) ∙ h.0
+each_lawful prof (x ∷ code) h (suc i) insn e = each_lawful prof code h.1 i insn e
 
-lawful_all : (code : List Insn) → ((i : ℕ) → IsLawfulAt code i) → AllByRecursion IsLawful code
-lawful_all [] h = tt
-lawful_all (x ∷ code) h = (h 0 x refl, lawful_all code (λ i. h (suc i)))
+lawful_all : (prof : Profile) (code : List Insn) → ((i : ℕ) → IsLawfulAt prof code i)
+    → AllByRecursion (IsLawful prof) code
+lawful_all prof [] h = tt
+lawful_all prof (x ∷ code) h = (h 0 x refl, lawful_all prof code (λ i. h (suc i)))
 
 -- ---- targets
 
@@ -269,71 +300,83 @@ no_final code e h = let f : runs_off code ≡ false = false-off code (off_some c
 
 -- ---- the tests in their order
 
-shape_fault : (s : Source) (code : List Insn) (k : AsmFlaw) (o : Option ℕ) → AreResolved s.labels 0 s.insns code → first_unlawful s.insns code ≡ None →
-    first_outside (length code) 0 code ≡ o → in_shape s.insns code o ≡ Err k → IsAsmFault s k
-shape_fault s code k (Some t) r u e h =
+shape_fault : (prof : Profile) (s : Source) (code : List Insn) (k : AsmFlaw) (o : Option ℕ)
+    → AreResolved s.labels 0 s.insns code → first_unlawful prof s.insns code ≡ None →
+    first_outside (length code) 0 code ≡ o → in_shape s.insns code o ≡ Err k → IsAsmFault prof s k
+shape_fault prof s code k (Some t) r u e h =
     let n = resolved-length s.labels 0 s.insns code r in
-    let lawful = each_lawful code (unlawful-none s.insns code n u) in
+    let lawful = each_lawful prof code (unlawful-none prof s.insns code n u) in
     let g = out_is (length code) 0 code t e in
     let at : g.0 ≡ t = let y = g.1 in omega arith in
     let few : t < length s.insns = let y = g.2 in omega (arith, n) in
     let out : FailsFirst (IsInside code) t = subst (λ i. FailsFirst (IsInside code) i) at
     (first_as (StaysAt (length code) 0 code) (IsInside code) g.0 (λ j c. inside_stays code j c) (λ j c. stays_inside code j c) g.3) in
-    subst (λ f. IsAsmFault s f) (same_Err (A.Target (line_at s.insns t)) k h) (code, t, r, is_line s.insns t few, lawful, out)
-shape_fault s code k None r u e h =
-    chosen (runs_off code) _ _ _ h (IsAsmFault s k)
+    subst (λ f. IsAsmFault prof s f) (same_Err (A.Target (line_at s.insns t)) k h)
+    (code, t, r, is_line s.insns t few, lawful, out)
+shape_fault prof s code k None r u e h =
+    chosen (runs_off code) _ _ _ h (IsAsmFault prof s k)
     (λ t f.
     let n = resolved-length s.labels 0 s.insns code r in
     let some : 0 < length code = off_some code t in
     let few : length code - 1 < length s.insns = omega (arith, n, some) in
-    let lawful = each_lawful code (unlawful-none s.insns code n u) in
+    let lawful = each_lawful prof code (unlawful-none prof s.insns code n u) in
     let inside = inside-all code (outside-none (length code) 0 code e) in
-    subst (λ j. IsAsmFault s j) (same_Err (A.FallsOff (line_at s.insns (length code - 1))) k f)
+    subst (λ j. IsAsmFault prof s j) (same_Err (A.FallsOff (line_at s.insns (length code - 1))) k f)
     (code, r, is_line s.insns (length code - 1) few, lawful, inside, no_final code t))
     (λ t f. cc)
 
-lawful_fault : (s : Source) (code : List Insn) (k : AsmFlaw) (o : Option AsmFlaw) → AreResolved s.labels 0 s.insns code → first_unlawful s.insns code ≡ o →
-    if_lawful s.insns code o ≡ Err k → IsAsmFault s k
-lawful_fault s code k (Some f) r e h =
-    let g = bad_is s.insns code k (e ∙ ap Some (same_Err f k h)) in
-    subst (λ j. IsAsmFault s j) g.4 (code, g.0, r, (g.3, g.5), g.6, g.7)
-lawful_fault s code k None r e h = shape_fault s code k (first_outside (length code) 0 code) r e refl h
+lawful_fault : (prof : Profile) (s : Source) (code : List Insn) (k : AsmFlaw) (o : Option AsmFlaw)
+    → AreResolved s.labels 0 s.insns code → first_unlawful prof s.insns code ≡ o →
+    if_lawful s.insns code o ≡ Err k → IsAsmFault prof s k
+lawful_fault prof s code k (Some f) r e h =
+    let g = bad_is prof s.insns code k (e ∙ ap Some (same_Err f k h)) in
+    subst (λ j. IsAsmFault prof s j) g.4 (code, g.0, r, (g.3, g.5), g.6, g.7)
+lawful_fault prof s code k None r e h =
+    shape_fault prof s code k (first_outside (length code) 0 code) r e refl h
 
-code_fault : (s : Source) (k : AsmFlaw) (r : Result (List Insn) AsmFlaw) → resolved_insns s.labels 0 s.insns ≡ r → as_code s.insns r ≡ Err k → IsAsmFault s k
-code_fault s k (Ok code) e h = lawful_fault s code k (first_unlawful s.insns code) (all-resolved s.labels 0 s.insns code e) refl h
-code_fault s k (Err f) e h =
+code_fault : (prof : Profile) (s : Source) (k : AsmFlaw) (r : Result (List Insn) AsmFlaw)
+    → resolved_insns s.labels 0 s.insns ≡ r → as_code prof s.insns r ≡ Err k → IsAsmFault prof s k
+code_fault prof s k (Ok code) e h =
+    lawful_fault prof s code k (first_unlawful prof s.insns code)
+    (all-resolved s.labels 0 s.insns code e) refl h
+code_fault prof s k (Err f) e h =
     let g = lost s.labels 0 s.insns k (e ∙ ap Err (same_Err f k h)) in
-    subst (λ j. IsAsmFault s j) g.3
+    subst (λ j. IsAsmFault prof s j) g.3
     (g.0, (g.2, g.4), first_as (CanAt s.labels 0 s.insns) (IsResolvable s) g.0 (λ j c. from_can s j c) (λ j c. can_from s j c) g.5)
 
-pub fault_is : (s : Source) (k : AsmFlaw) → assembled_code s ≡ Err k → IsAsmFault s k
+pub fault_is : (prof : Profile) (s : Source) (k : AsmFlaw) → assembled_code prof s ≡ Err k
+    → IsAsmFault prof s k
 unfolding assembled_code
-fault_is s k e = code_fault s k (resolved_insns s.labels 0 s.insns) refl e
+fault_is prof s k e = code_fault prof s k (resolved_insns s.labels 0 s.insns) refl e
 
-pub is_fault : (s : Source) (k : AsmFlaw) → IsAsmFault s k → assembled_code s ≡ Err k
+pub is_fault : (prof : Profile) (s : Source) (k : AsmFlaw) → IsAsmFault prof s k
+    → assembled_code prof s ≡ Err k
 unfolding assembled_code
-is_fault s (A.NoLabel line) h =
-    ap (as_code s.insns)
+is_fault prof s (A.NoLabel line) h =
+    ap (as_code prof s.insns)
     (is_lost s.labels 0 s.insns h.0 line h.1.0 h.1.1
     (first_as (IsResolvable s) (CanAt s.labels 0 s.insns) h.0 (λ j c. can_from s j c) (λ j c. from_can s j c) h.2))
-is_fault s (A.Word line bad) h =
-    ap (as_code s.insns) (resolved-all s.labels 0 s.insns h.0 h.2)
-    ∙ bad_word s.insns h.0 (A.Word line bad) (is_bad s.insns h.0 h.1 line h.3.0 bad h.3.1 h.4 h.5)
-is_fault s (A.Target line) h =
+is_fault prof s (A.Word line bad) h =
+    ap (as_code prof s.insns) (resolved-all s.labels 0 s.insns h.0 h.2)
+    ∙ bad_word prof s.insns h.0 (A.Word line bad)
+    (is_bad prof s.insns h.0 h.1 line h.3.0 bad h.3.1 h.4 h.5)
+is_fault prof s (A.Target line) h =
     let code = h.0 in
     let n = resolved-length s.labels 0 s.insns code h.2 in
     let few : h.1 < length code = let y = within s.insns h.1 (line, h.3.0) h.3.1 in omega (arith, n) in
     let z : 0 + h.1 ≡ h.1 = omega arith in
     let out = is_out (length code) 0 code h.1 few
     (first_as (IsInside code) (StaysAt (length code) 0 code) h.1 (λ j c. stays_inside code j c) (λ j c. inside_stays code j c) h.5) in
-    ap (as_code s.insns) (resolved-all s.labels 0 s.insns code h.2)
-    ∙ bad_target s.insns code h.1 (none-unlawful s.insns code (lawful_all code h.4)) (out ∙ ap Some z)
+    ap (as_code prof s.insns) (resolved-all s.labels 0 s.insns code h.2)
+    ∙ bad_target prof s.insns code h.1 (none-unlawful prof s.insns code (lawful_all prof code h.4))
+    (out ∙ ap Some z)
     ∙ ap (λ l. Err (A.Target l)) (line_is s.insns h.1 line h.3.0 h.3.1)
-is_fault s (A.FallsOff line) h =
+is_fault prof s (A.FallsOff line) h =
     let code = h.0 in
     let n = resolved-length s.labels 0 s.insns code h.1 in
     let some : 0 < length code = let y = within s.insns (length code - 1) (line, h.2.0) h.2.1 in omega (arith, n) in
     let off : runs_off code ≡ true = true_by (runs_off code) (λ e. h.5 (off-false code some e)) in
-    ap (as_code s.insns) (resolved-all s.labels 0 s.insns code h.1)
-    ∙ bad_end s.insns code (none-unlawful s.insns code (lawful_all code h.3)) (all-inside code h.4) off
+    ap (as_code prof s.insns) (resolved-all s.labels 0 s.insns code h.1)
+    ∙ bad_end prof s.insns code (none-unlawful prof s.insns code (lawful_all prof code h.3))
+    (all-inside code h.4) off
     ∙ ap (λ l. Err (A.FallsOff l)) (line_is s.insns (length code - 1) line h.2.0 h.2.1)

@@ -15,7 +15,7 @@ use Rattle.formula_text.specs.Grammar.{group, SpellsExp, SpellsMem, SpellsForm}
 use Rattle.formula_text.proofs.Closed.{spelled_closed}
 use Rattle.pcc_asm.specs.Inside.Views.{IsEncodableForm}
 use Rattle.pcc_asm.proofs.Ranges.{IsTextual}
-use Rattle.word_ops.specs.declared.Profile.TheVariants.{One}
+use Rattle.word_ops.specs.declared.Profile.{Profile}
 
 -- how many bytes the tokens have
 abbrev pub size : List (Token Paren) → ℕ
@@ -45,63 +45,72 @@ high : (a b n : ℕ) → a ≤ 1 + n → b ≤ 1 + n → max a b ≤ 1 + n
 high a b n h g = omega (arith, h, g)
 
 mutual
-  exp_high : (a : Exp) (s : Bindings) (ts : List (Token Paren)) → SpellsExp One a s ts → exp_height a ≤ 1 + size ts
-  exp_high (EReg r) s ts h = omega arith
-  exp_high ELeft s ts h = absurd h
-  exp_high (EVar n) s ts h = omega arith
-  exp_high (ELit n) s ts h = omega arith
-  exp_high (EOp o a b) s ts h =
+  exp_high : (prof : Profile) (a : Exp) (s : Bindings) (ts : List (Token Paren))
+      → SpellsExp prof a s ts → exp_height a ≤ 1 + size ts
+  exp_high prof (EReg r) s ts h = omega arith
+  exp_high prof ELeft s ts h = absurd h
+  exp_high prof (EVar n) s ts h = omega arith
+  exp_high prof (ELit n) s ts h = omega arith
+  exp_high prof (EOp o a b) s ts h =
       let z = size-two (K.Oper o) h.0 h.1 ts h.4 in
-      let l = exp_high a s h.0 h.2 in
-      let r = exp_high b s h.1 h.3 in
+      let l = exp_high prof a s h.0 h.2 in
+      let r = exp_high prof b s h.1 h.3 in
       omega (arith, z, l, r)
-  exp_high (ESel m a) s ts h =
+  exp_high prof (ESel m a) s ts h =
       let z = size-two K.Sel h.0 h.1 ts h.4 in
-      let l = mem_high m s h.0 h.2 in
-      let r = exp_high a s h.1 h.3 in
+      let l = mem_high prof m s h.0 h.2 in
+      let r = exp_high prof a s h.1 h.3 in
       omega (arith, z, l, r)
 
-  mem_high : (m : MemExp) (s : Bindings) (ts : List (Token Paren)) → SpellsMem One m s ts → mem_height m ≤ 1 + size ts
-  mem_high MMem s ts h = omega arith
-  mem_high (MVar n) s ts h = omega arith
-  mem_high (MUpd m a v) s ts h =
+  mem_high : (prof : Profile) (m : MemExp) (s : Bindings) (ts : List (Token Paren))
+      → SpellsMem prof m s ts → mem_height m ≤ 1 + size ts
+  mem_high prof MMem s ts h = omega arith
+  mem_high prof (MVar n) s ts h = omega arith
+  mem_high prof (MUpd m a v) s ts h =
       let y = size-append h.0 h.1 in
       let z = size-two K.Upd (h.0 ++ h.1) h.2 ts h.6 in
-      let l = mem_high m s h.0 h.3 in
-      let r = exp_high a s h.1 h.4 in
-      let w = exp_high v s h.2 h.5 in
+      let l = mem_high prof m s h.0 h.3 in
+      let r = exp_high prof a s h.1 h.4 in
+      let w = exp_high prof v s h.2 h.5 in
       omega (arith, y, z, l, r, w)
 
-form_high : (F : Form) (s : Bindings) (ts : List (Token Paren)) → SpellsForm One F s ts → form_height F ≤ 1 + size ts
-form_high FTrue s ts h = omega arith
-form_high FFalse s ts h = omega arith
-form_high (FRel p a b) s ts h =
+form_high : (prof : Profile) (F : Form) (s : Bindings) (ts : List (Token Paren))
+    → SpellsForm prof F s ts → form_height F ≤ 1 + size ts
+form_high prof FTrue s ts h = omega arith
+form_high prof FFalse s ts h = omega arith
+form_high prof (FRel p a b) s ts h =
     let z = size-two (K.Rel p) h.0 h.1 ts h.4 in
-    let l = exp_high a s h.0 h.2 in
-    let r = exp_high b s h.1 h.3 in
+    let l = exp_high prof a s h.0 h.2 in
+    let r = exp_high prof b s h.1 h.3 in
     omega (arith, z, l, r)
-form_high (FRd a) s ts h = let z = size-one K.Rd h.0 ts h.2 in let l = exp_high a s h.0 h.1 in omega (arith, z, l)
-form_high (FWr a) s ts h = let z = size-one K.Wr h.0 ts h.2 in let l = exp_high a s h.0 h.1 in omega (arith, z, l)
-form_high (FAnd A B) s ts h =
+form_high prof (FRd a) s ts h =
+    let z = size-one K.Rd h.0 ts h.2 in let l = exp_high prof a s h.0 h.1 in omega (arith, z, l)
+form_high prof (FWr a) s ts h =
+    let z = size-one K.Wr h.0 ts h.2 in let l = exp_high prof a s h.0 h.1 in omega (arith, z, l)
+form_high prof (FAnd A B) s ts h =
     let z = size-two K.And h.0 h.1 ts h.4 in
-    let l = form_high A s h.0 h.2 in
-    let r = form_high B s h.1 h.3 in
+    let l = form_high prof A s h.0 h.2 in
+    let r = form_high prof B s h.1 h.3 in
     omega (arith, z, l, r)
-form_high (FOr A B) s ts h =
+form_high prof (FOr A B) s ts h =
     let z = size-two K.Or h.0 h.1 ts h.4 in
-    let l = form_high A s h.0 h.2 in
-    let r = form_high B s h.1 h.3 in
+    let l = form_high prof A s h.0 h.2 in
+    let r = form_high prof B s h.1 h.3 in
     omega (arith, z, l, r)
-form_high (FImp A B) s ts h =
+form_high prof (FImp A B) s ts h =
     let z = size-two K.Imp h.0 h.1 ts h.4 in
-    let l = form_high A s h.0 h.2 in
-    let r = form_high B s h.1 h.3 in
+    let l = form_high prof A s h.0 h.2 in
+    let r = form_high prof B s h.1 h.3 in
     omega (arith, z, l, r)
-form_high (FAll A) s ts h = let z = size-one K.All (Lexeme h.0 ∷ h.1) ts h.4 in let l = form_high A ((h.0, S.Exp) ∷ s) h.1 h.3 in omega (arith, z, l)
-form_high (FAllm A) s ts h = let z = size-one K.Allm (Lexeme h.0 ∷ h.1) ts h.4 in let l = form_high A ((h.0, S.Mem) ∷ s) h.1 h.3 in omega (arith, z, l)
+form_high prof (FAll A) s ts h =
+    let z = size-one K.All (Lexeme h.0 ∷ h.1) ts h.4 in let l = form_high prof A ((h.0, S.Exp) ∷ s)
+    h.1 h.3 in omega (arith, z, l)
+form_high prof (FAllm A) s ts h =
+    let z = size-one K.Allm (Lexeme h.0 ∷ h.1) ts h.4 in let l = form_high prof A ((h.0, S.Mem) ∷ s)
+    h.1 h.3 in omega (arith, z, l)
 
-pub textual_closed : (F : Form) → IsTextual F → IsEncodableForm F
-textual_closed F h =
-    let k = form_high F [] h.2.tokens h.2.spelled in
+pub textual_closed : (prof : Profile) (F : Form) → IsTextual prof F → IsEncodableForm F
+textual_closed prof F h =
+    let k = form_high prof F [] h.2.tokens h.2.spelled in
     let w = size-within h.0 h.2.tokens h.2.consists in
-    (spelled_closed One h.0 F h.2, omega (arith, k, w, h.1))
+    (spelled_closed prof h.0 F h.2, omega (arith, k, w, h.1))

@@ -1,5 +1,5 @@
 -- What is assembled keeps to the limits: its terms are low, and its entries short.
-use Rattle.std.proofs.Common.{◌≡◌, ℕ, suc, ◌+◌, ◌*◌, ◌≤◌, Bool, true, false, cond, List, [], ◌∷◌, ◌++◌, length, map, Result, Ok, Err, IfOk, refl, sym, subst, arith, length-append}
+use Rattle.std.proofs.Common.{◌≡◌, ℕ, suc, ◌+◌, ◌*◌, ◌/◌, ◌≤◌, ◌==◌, Bool, true, false, cond, List, [], ◌∷◌, ◌++◌, length, map, Result, Ok, Err, IfOk, refl, sym, subst, arith, length-append}
 use Rattle.std.specs.Prelude.{nat_lt}
 use Rattle.std.specs.List.{AllByRecursion, flat_map}
 use Rattle.std.proofs.lemmas.List.{length-map}
@@ -14,12 +14,19 @@ use Rattle.lf_encode.specs.Contexts.{machine_context, encoding_in}
 use Rattle.lf_encode.specs.Naming.{named_exp, named_mem, named_form}
 use Rattle.proof_container.specs.Contents.{Contents, roots}
 use Rattle.proof_container.specs.Postorder.{is_emitted, emitted_with, emitted_with_all, entries}
-use Rattle.proof_container.specs.Encoding.{field_bytes, entry_fields, inv_fields, proof_field, head_fields, tail_fields, encoding_of}
+use Rattle.proof_container.specs.Encoding.{field_bytes, entry_fields, inv_fields, proof_field, magic, policy_bytes, head_bytes, tail_fields, encoding_of}
+use Rattle.proof_container.specs.declared.container.Head.{Head}
+use Rattle.proof_container.specs.declared.container.Head.TheVariants.{Number, Digest}
+use Rattle.proof_container.specs.Versions.{version_of, profile_of}
+use Rattle.policy_set.specs.Names.{policy_number}
+use Rattle.policy_set.specs.Digest.{policy_text, digest_of}
+use Rattle.sha2.proofs.Facts256.{length-sha256}
+use Rattle.word_ops.specs.declared.Profile.{Profile}
 use Rattle.proof_container.proofs.FieldLaws.{length-field_bytes}
 use Rattle.asm_text.specs.declared.limits.TheConstants.{MAX_LINE}
 use Rattle.asm_text.specs.Sources.{Source}
 use Rattle.pcc_asm.specs.declared.fault.AsmFault.{AsmFault}
-use Rattle.pcc_asm.specs.Assembling.{inv_encodings, plain_contents}
+use Rattle.pcc_asm.specs.Assembling.{inv_encodings, head_for, plain_contents}
 use Rattle.pcc_asm.specs.Views.{IsSpelled, IsAsmAnswer}
 use Rattle.pcc_asm.specs.Limits.{IsWithinLimits}
 use Rattle.pcc_asm.proofs.Ranges.{IsTextual, bounded}
@@ -40,9 +47,12 @@ high-heavy (Fam a) = omega arith
 high-heavy (TApp p a) = let h = high-heavy p in let g = high-heavy a in omega (arith, h, g)
 high-heavy (Pi a b) = let h = high-heavy a in let g = high-heavy b in omega (arith, h, g)
 
-all_low : (invs : List (ℕ × Form)) → AllByRecursion (λ x. IsTextual x.1) invs → AllByRecursion (λ p. height_of p.1 ≤ MAX_LINE) (inv_encodings invs)
-all_low [] h = tt
-all_low (v ∷ invs) h = let l = textual_light v.1 h.0 in let k = high-heavy (encoding_in machine_context v.1) in (omega (arith, l, k), all_low invs h.1)
+all_low : (prof : Profile) (invs : List (ℕ × Form)) → AllByRecursion (λ x. IsTextual prof x.1) invs
+    → AllByRecursion (λ p. height_of p.1 ≤ MAX_LINE) (inv_encodings invs)
+all_low prof [] h = tt
+all_low prof (v ∷ invs) h =
+    let l = textual_light prof v.1 h.0 in let k = high-heavy (encoding_in machine_context v.1) in
+    (omega (arith, l, k), all_low prof invs h.1)
 
 -- ---- entries of at most three fields
 
@@ -122,9 +132,14 @@ entries_plain : (rs : List Tree) → AllPlain rs → AllPlain (entries rs)
 unfolding entries
 entries_plain rs k = all_plain rs [] k tt
 
-roots_plain : (invs : List (ℕ × Form)) → AllByRecursion (λ x. IsTextual x.1) invs → AllPlain (map (λ p. p.1) (inv_encodings invs) ++ [])
-roots_plain [] h = tt
-roots_plain (v ∷ invs) h = (subst IsPlain (sym (encoding-named v.1)) (form_plain v.1 0 [] (textual_closed v.1 h.0).0), roots_plain invs h.1)
+roots_plain : (prof : Profile) (invs : List (ℕ × Form))
+    → AllByRecursion (λ x. IsTextual prof x.1) invs
+    → AllPlain (map (λ p. p.1) (inv_encodings invs) ++ [])
+roots_plain prof [] h = tt
+roots_plain prof (v ∷ invs) h = (
+  subst IsPlain (sym (encoding-named v.1)) (form_plain v.1 0 [] (textual_closed prof v.1 h.0).0),
+  roots_plain prof invs h.1,
+)
 
 const_short : (es : List Tree) (c : Const) → IsPlainConst c → length (entry_fields es (Con c)) ≤ 3
 const_short es (Num n) k = omega arith
@@ -166,32 +181,81 @@ tail_length es c =
     let b = length-append (length c.invs ∷ inv_part) last in
     omega (arith, a, b)
 
-encoding_length : (c : Contents) → length (encoding_of c) ≡ 16 + (length c.code + 4 * length (tail_fields (entries (roots c)) c))
+head_size : (h : Head) (words : ℕ) → length (head_bytes h words) ≡ 12 + length (policy_bytes h)
+head_size h words =
+    let first = field_bytes (magic ∷ version_of h ∷ []) in
+    let last = field_bytes (words ∷ []) in
+    let a = length-append first (policy_bytes h ++ last) in
+    let b = length-append (policy_bytes h) last in
+    let f : length first ≡ 8 = length-field_bytes (magic ∷ version_of h ∷ []) in
+    let l : length last ≡ 4 = length-field_bytes (words ∷ []) in
+    omega (arith, a, b, f, l)
+
+encoding_length : (c : Contents) → length (encoding_of c)
+    ≡ 12 + (length (policy_bytes c.head)
+    + (length c.code + 4 * length (tail_fields (entries (roots c)) c)))
 unfolding encoding_of
 encoding_length c =
+    let head = head_bytes c.head (length c.code / 4) in
     let tail = field_bytes (tail_fields (entries (roots c)) c) in
-    let a = length-append (field_bytes (head_fields c)) (c.code ++ tail) in
+    let a = length-append head (c.code ++ tail) in
     let b = length-append c.code tail in
-    let h : length (field_bytes (head_fields c)) ≡ 16 = length-field_bytes (head_fields c) in
+    let h : length head ≡ 12 + length (policy_bytes c.head) = head_size c.head
+    (length c.code / 4) in
     let t : length tail ≡ 4 * length (tail_fields (entries (roots c)) c) = length-field_bytes (tail_fields (entries (roots c)) c) in
     omega (arith, a, b, h, t)
 
-pub within_limits : (policy : PolicyView) (s : Source) (insns : List Insn) → IsSpelled s
-    → IsSound s insns → IsWithinLimits (plain_contents policy s.invs insns)
-within_limits policy s insns h k =
-    let texts = (bounded h.0 s h.1).invs in
-    let c = plain_contents policy s.invs insns in
+-- what names a policy has at most eight fields
+number_length : (n : ℕ) → length (policy_bytes (Number n)) ≡ 4
+number_length n = length-field_bytes (n ∷ [])
+
+head_length : (v : ℕ) (policy : PolicyView) → length (policy_bytes (head_for v policy)) ≤ 32
+head_length v policy = go (v == 1)
+  where
+    go : (b : Bool)
+        → length (policy_bytes (cond b (Number (policy_number policy)) (Digest (digest_of policy))))
+        ≤ 32
+    go true = omega (arith, number_length (policy_number policy))
+    go false = omega (arith, length-sha256 (policy_text policy))
+
+pub within_limits : (v : ℕ) (policy : PolicyView) (s : Source) (insns : List Insn)
+    → IsSpelled (profile_of v) s
+    → IsSound (profile_of v) s insns → IsWithinLimits (plain_contents v policy s.invs insns)
+within_limits v policy s insns h k =
+    let texts = (bounded (profile_of v) h.0 s h.1).invs in
+    let c = plain_contents v policy s.invs insns in
     let es = entries (roots c) in
-    let few = entries_few s.invs h.1.sound.invs texts in
-    let fields = entries_short es es (entries_plain (roots c) (roots_plain s.invs texts)) in
+    let few = entries_few (profile_of v) s.invs h.1.sound.invs texts in
+    let fields = entries_short es es (entries_plain (roots c)
+    (roots_plain (profile_of v) s.invs texts)) in
     let count : length (inv_encodings s.invs) ≡ length s.invs = length-map s.invs (λ (p : ℕ × Form). (p.0, encoding_in machine_context p.1)) in
     let places = invs_short es (inv_encodings s.invs) in
     let tail = tail_length es c in
     let all = encoding_length c in
+    let head = head_length v policy in
     let code = bytes_length insns in
-    record { low = all_low s.invs texts; bytes = omega (arith, few, fields, count, places, tail, all, code, k.count, h.1.sound.insns, h.1.sound.invs) }
+    record {
+      low = all_low (profile_of v) s.invs texts;
+      bytes = omega (
+        arith,
+        few,
+        fields,
+        count,
+        places,
+        tail,
+        all,
+        head,
+        code,
+        k.count,
+        h.1.sound.insns,
+        h.1.sound.invs,
+      );
+    }
 
-pub answer_limits : (policy : PolicyView) (s : Source) (r : Result Contents AsmFault) → IsSpelled s
-    → IsAsmAnswer policy s r → IfOk r IsWithinLimits
-answer_limits policy s (Ok c) h e = let k = contents_sound policy s c h e in subst IsWithinLimits k.2 (within_limits policy s k.0 h k.1)
-answer_limits policy s (Err f) h e = tt
+pub answer_limits : (v : ℕ) (policy : PolicyView) (s : Source) (r : Result Contents AsmFault)
+    → IsSpelled (profile_of v) s
+    → IsAsmAnswer v policy s r → IfOk r IsWithinLimits
+answer_limits v policy s (Ok c) h e =
+    let k = contents_sound v policy s c h e in subst IsWithinLimits k.2
+    (within_limits v policy s k.0 h k.1)
+answer_limits v policy s (Err f) h e = tt

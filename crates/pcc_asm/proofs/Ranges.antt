@@ -20,7 +20,7 @@ use Rattle.asm_text.specs.Integers.{integer_value}
 use Rattle.asm_text.specs.Insns.{SourceInsn, Plain, BranchTo, BrTo, IsDisplacement, SpellsMemory, SpellsRhs, SpellsOperate, SpellsInsn}
 use Rattle.asm_text.specs.Statements.{Statement, NoStatement, AnInsn, AnInv, Content, SpellsStatement, SpellsBody, before_comment, SpellsLine}
 use Rattle.asm_text.specs.Sources.{Source, AreSpelled, insn_count, add_insn, add_label, add_inv, insns_from, labels_from, invs_from, SpellsSource}
-use Rattle.word_ops.specs.declared.Profile.TheVariants.{One}
+use Rattle.word_ops.specs.declared.Profile.{Profile}
 
 -- ---- one instruction
 
@@ -68,18 +68,20 @@ operate_range ra rc rhs ts h = (register_below ra h.0 h.3, rhs_range rhs h.1 h.4
 nop_range : (ra rc : ℕ) (rhs : Rhs) → ra ≡ 31 → rhs ≡ R.Reg 31 → rc ≡ 31 → (ra < 32) × IsRhs rhs × (rc < 32)
 nop_range ra rc rhs e f g = let low : IsRhs (R.Reg 31) = omega arith in (omega (arith, e), subst IsRhs (sym f) low, omega (arith, g))
 
-insn_range : (i : SourceInsn) (ts : List (Token Punct)) → SpellsInsn One i ts → SaysRange i
-insn_range (Plain (I.Lda ra rb disp)) ts h = memory_range ra rb disp h.0 h.1
-insn_range (Plain (I.Ldq ra rb disp)) ts h = memory_range ra rb disp h.0 h.1
-insn_range (Plain (I.Ldah ra rb disp)) ts h = memory_range ra rb disp h.1.0 h.1.1
-insn_range (Plain (I.LdqU ra rb disp)) ts h = memory_range ra rb disp h.1.0 h.1.1
-insn_range (Plain (I.Stq ra rb disp)) ts h = memory_range ra rb disp h.0 h.1
-insn_range (Plain (I.Oper op ra rhs rc)) ts h = ⊎_elim (λ p. operate_range ra rc rhs p.1.0 p.1.1) (λ p. nop_range ra rc rhs p.0.1 p.0.2 p.0.3) h
-insn_range (Plain (I.Branch c ra disp)) ts h = absurd h
-insn_range (Plain (I.Br disp)) ts h = absurd h
-insn_range (Plain I.Ret) ts h = tt
-insn_range (BranchTo c ra l) ts h = register_below ra h.1.0 h.1.1
-insn_range (BrTo l) ts h = tt
+insn_range : (prof : Profile) (i : SourceInsn) (ts : List (Token Punct)) → SpellsInsn prof i ts
+    → SaysRange i
+insn_range prof (Plain (I.Lda ra rb disp)) ts h = memory_range ra rb disp h.0 h.1
+insn_range prof (Plain (I.Ldq ra rb disp)) ts h = memory_range ra rb disp h.0 h.1
+insn_range prof (Plain (I.Ldah ra rb disp)) ts h = memory_range ra rb disp h.1.0 h.1.1
+insn_range prof (Plain (I.LdqU ra rb disp)) ts h = memory_range ra rb disp h.1.0 h.1.1
+insn_range prof (Plain (I.Stq ra rb disp)) ts h = memory_range ra rb disp h.0 h.1
+insn_range prof (Plain (I.Oper op ra rhs rc)) ts h =
+    ⊎_elim (λ p. operate_range ra rc rhs p.1.0 p.1.1) (λ p. nop_range ra rc rhs p.0.1 p.0.2 p.0.3) h
+insn_range prof (Plain (I.Branch c ra disp)) ts h = absurd h
+insn_range prof (Plain (I.Br disp)) ts h = absurd h
+insn_range prof (Plain I.Ret) ts h = tt
+insn_range prof (BranchTo c ra l) ts h = register_below ra h.1.0 h.1.1
+insn_range prof (BrTo l) ts h = tt
 
 -- ---- one line
 
@@ -92,71 +94,85 @@ before-shorter [] = omega arith
 before-shorter (b ∷ bs) = shorter_by (b == 35) b (before_comment bs) bs (before-shorter bs)
 
 -- the statement of a line, in a text that isn't longer
-abbrev Says : Statement → ℕ → Type 0
-Says s n = (text : List ℕ) × (length text ≤ n) × SpellsStatement One s text
+abbrev Says : Profile → Statement → ℕ → Type 0
+Says prof s n = (text : List ℕ) × (length text ≤ n) × SpellsStatement prof s text
 
-behind_label : (l : Option (List ℕ)) (s : Statement) (text : List ℕ) → SpellsBody One l s text → Says s (length text)
-behind_label None s text h = (text, omega arith, h)
-behind_label (Some l) s text h =
+behind_label : (prof : Profile) (l : Option (List ℕ)) (s : Statement) (text : List ℕ)
+    → SpellsBody prof l s text → Says prof s (length text)
+behind_label prof None s text h = (text, omega arith, h)
+behind_label prof (Some l) s text h =
     let p = h.1 in
     let a = ap length p.5 ∙ length-append p.0 (l ++ (p.1 ++ (58 ∷ h.0))) in
     let b = length-append l (p.1 ++ (58 ∷ h.0)) in
     let d = length-append p.1 (58 ∷ h.0) in
     (h.0, omega (arith, a, b, d), h.2)
 
-line_says : (line : List ℕ) (c : Content) → SpellsLine One line c → Says c.statement MAX_LINE
-line_says line c h =
-    let s = behind_label c.label c.statement (before_comment line) h.body in
+line_says : (prof : Profile) (line : List ℕ) (c : Content) → SpellsLine prof line c
+    → Says prof c.statement MAX_LINE
+line_says prof line c h =
+    let s = behind_label prof c.label c.statement (before_comment line) h.body in
     (s.0, omega (arith, s.1, before-shorter line, h.short), s.2)
 
 -- a text of at most 2,044 bytes spells the formula
-abbrev pub IsTextual : Form → Type 0
-IsTextual F = (text : List ℕ) × (length text ≤ 2044) × Spells One text F
+abbrev pub IsTextual : Profile → Form → Type 0
+IsTextual prof F = (text : List ℕ) × (length text ≤ 2044) × Spells prof text F
 
 -- what a statement's numbers are
-abbrev Fits : Statement → Type 0
-Fits NoStatement = Unit {0}
-Fits (AnInsn i) = SaysRange i
-Fits (AnInv F) = IsTextual F
+abbrev Fits : Profile → Statement → Type 0
+Fits prof NoStatement = Unit {0}
+Fits prof (AnInsn i) = SaysRange i
+Fits prof (AnInv F) = IsTextual prof F
 
-fits : (s : Statement) → Says s MAX_LINE → Fits s
-fits NoStatement h = tt
-fits (AnInsn i) h = insn_range i h.2.0 h.2.2
-fits (AnInv F) h =
+fits : (prof : Profile) (s : Statement) → Says prof s MAX_LINE → Fits prof s
+fits prof NoStatement h = tt
+fits prof (AnInsn i) h = insn_range prof i h.2.0 h.2.2
+fits prof (AnInv F) h =
     let t = h.2 in
     let p = t.1 in
     let a = ap length p.3 ∙ length-append p.0 (codes ".inv" ++ t.0) in
     let b = length-append (codes ".inv") t.0 in
     (t.0, omega (arith, a, b, h.1), t.2)
 
-abbrev AllFit : List Content → Type 0
-AllFit cs = AllByRecursion (λ c. Fits c.statement) cs
+abbrev AllFit : Profile → List Content → Type 0
+AllFit prof cs = AllByRecursion (λ c. Fits prof c.statement) cs
 
-all_fit : (lines : List (List ℕ)) (cs : List Content) → AreSpelled One lines cs → AllFit cs
-all_fit [] [] h = tt
-all_fit [] (c ∷ cs) h = absurd h
-all_fit (l ∷ lines) [] h = absurd h
-all_fit (l ∷ lines) (c ∷ cs) h = (fits c.statement (line_says l c h.0), all_fit lines cs h.1)
+all_fit : (prof : Profile) (lines : List (List ℕ)) (cs : List Content) → AreSpelled prof lines cs
+    → AllFit prof cs
+all_fit prof [] [] h = tt
+all_fit prof [] (c ∷ cs) h = absurd h
+all_fit prof (l ∷ lines) [] h = absurd h
+all_fit prof (l ∷ lines) (c ∷ cs) h =
+    (fits prof c.statement (line_says prof l c h.0), all_fit prof lines cs h.1)
 
 -- ---- what is collected
 
-add_insn-range : (n : ℕ) (s : Statement) (rest : List (ℕ × SourceInsn)) → Fits s → AllByRecursion (λ x. SaysRange x.1) rest → AllByRecursion (λ x. SaysRange x.1) (add_insn n s rest)
-add_insn-range n NoStatement rest f h = h
-add_insn-range n (AnInsn i) rest f h = (f, h)
-add_insn-range n (AnInv F) rest f h = h
+add_insn-range : (prof : Profile) (n : ℕ) (s : Statement) (rest : List (ℕ × SourceInsn))
+    → Fits prof s → AllByRecursion (λ x. SaysRange x.1) rest
+    → AllByRecursion (λ x. SaysRange x.1) (add_insn n s rest)
+add_insn-range prof n NoStatement rest f h = h
+add_insn-range prof n (AnInsn i) rest f h = (f, h)
+add_insn-range prof n (AnInv F) rest f h = h
 
-insns_from-range : (n : ℕ) (cs : List Content) → AllFit cs → AllByRecursion (λ x. SaysRange x.1) (insns_from n cs)
-insns_from-range n [] h = tt
-insns_from-range n (c ∷ cs) h = add_insn-range n c.statement (insns_from (suc n) cs) h.0 (insns_from-range (suc n) cs h.1)
+insns_from-range : (prof : Profile) (n : ℕ) (cs : List Content) → AllFit prof cs
+    → AllByRecursion (λ x. SaysRange x.1) (insns_from n cs)
+insns_from-range prof n [] h = tt
+insns_from-range prof n (c ∷ cs) h =
+    add_insn-range prof n c.statement (insns_from (suc n) cs) h.0
+    (insns_from-range prof (suc n) cs h.1)
 
-add_inv-textual : (i : ℕ) (s : Statement) (rest : List (ℕ × Form)) → Fits s → AllByRecursion (λ x. IsTextual x.1) rest → AllByRecursion (λ x. IsTextual x.1) (add_inv i s rest)
-add_inv-textual i NoStatement rest f h = h
-add_inv-textual i (AnInsn j) rest f h = h
-add_inv-textual i (AnInv F) rest f h = (f, h)
+add_inv-textual : (prof : Profile) (i : ℕ) (s : Statement) (rest : List (ℕ × Form)) → Fits prof s
+    → AllByRecursion (λ x. IsTextual prof x.1) rest
+    → AllByRecursion (λ x. IsTextual prof x.1) (add_inv i s rest)
+add_inv-textual prof i NoStatement rest f h = h
+add_inv-textual prof i (AnInsn j) rest f h = h
+add_inv-textual prof i (AnInv F) rest f h = (f, h)
 
-invs_from-textual : (i : ℕ) (cs : List Content) → AllFit cs → AllByRecursion (λ x. IsTextual x.1) (invs_from i cs)
-invs_from-textual i [] h = tt
-invs_from-textual i (c ∷ cs) h = add_inv-textual i c.statement (invs_from (i + insn_count c.statement) cs) h.0 (invs_from-textual (i + insn_count c.statement) cs h.1)
+invs_from-textual : (prof : Profile) (i : ℕ) (cs : List Content) → AllFit prof cs
+    → AllByRecursion (λ x. IsTextual prof x.1) (invs_from i cs)
+invs_from-textual prof i [] h = tt
+invs_from-textual prof i (c ∷ cs) h =
+    add_inv-textual prof i c.statement (invs_from (i + insn_count c.statement) cs) h.0
+    (invs_from-textual prof (i + insn_count c.statement) cs h.1)
 
 length-add_insn : (n : ℕ) (s : Statement) (rest : List (ℕ × SourceInsn)) → length (add_insn n s rest) ≡ insn_count s + length rest
 length-add_insn n NoStatement rest = omega arith
@@ -178,18 +194,19 @@ labels_from-up n i m (c ∷ cs) h =
     add_label-up n i c.label (labels_from (i + insn_count c.statement) cs) (omega (arith, h)) (labels_from-up n (i + insn_count c.statement) (suc m) cs (omega (arith, h, e)))
 
 -- what is within bounds in a source that some text spells
-pub record IsBounded (s : Source) : Type 0 where
+pub record IsBounded (prof : Profile) (s : Source) : Type 0 where
   pub insns : AllByRecursion (λ x. SaysRange x.1) s.insns
   pub labels : AreUpTo MAX_INSNS s.labels
-  pub invs : AllByRecursion (λ x. IsTextual x.1) s.invs
+  pub invs : AllByRecursion (λ x. IsTextual prof x.1) s.invs
 
-pub bounded : (text : List ℕ) (s : Source) → SpellsSource One text s → IsBounded s
-bounded text s h =
+pub bounded : (prof : Profile) (text : List ℕ) (s : Source) → SpellsSource prof text s
+    → IsBounded prof s
+bounded prof text s h =
     let cs = h.contents in
-    let fit = all_fit h.lines cs h.spelled in
+    let fit = all_fit prof h.lines cs h.spelled in
     let short : length (insns_from 1 cs) ≤ MAX_INSNS = subst (λ (y : Source). length y.insns ≤ MAX_INSNS) h.collected h.sound.insns in
-    subst IsBounded (sym h.collected) (record {
-      insns = insns_from-range 1 cs fit;
+    subst (IsBounded prof) (sym h.collected) (record {
+      insns = insns_from-range prof 1 cs fit;
       labels = labels_from-up MAX_INSNS 0 1 cs (omega (arith, short));
-      invs = invs_from-textual 0 cs fit;
+      invs = invs_from-textual prof 0 cs fit;
     })

@@ -14,26 +14,32 @@ use Rattle.pcc_asm.specs.declared.fault.AsmFlaw.{AsmFlaw}
 use Rattle.pcc_asm.specs.declared.fault.AsmFlaw.TheVariants as A
 use Rattle.pcc_asm.specs.Assembling.{word_flaw, first_unlawful, line_at, in_shape, if_lawful, as_code}
 use Rattle.pcc_asm.proofs.Resolved.{same_Ok}
-use Rattle.word_ops.specs.declared.Profile.TheVariants.{One}
+use Rattle.word_ops.specs.declared.Profile.{Profile}
 
 -- ---- what the profile has
 
-abbrev pub IsLawful : Insn → Type 0
-IsLawful insn = fault_of One insn ≡ None
+abbrev pub IsLawful : Profile → Insn → Type 0
+IsLawful prof insn = fault_of prof insn ≡ None
 
 no_flaw : (line : ℕ) (o : Option BadWord) (r : Option AsmFlaw) → word_flaw line o r ≡ None → (o ≡ None) × (r ≡ None)
 no_flaw line None r e = (refl, e)
 no_flaw line (Some bad) r e = cc
 
-pub unlawful-none : (xs : List (ℕ × SourceInsn)) (code : List Insn) → length code ≡ length xs → first_unlawful xs code ≡ None → AllByRecursion IsLawful code
-unlawful-none xs [] n e = tt
-unlawful-none [] (insn ∷ code) n e = absurd (omega arith)
-unlawful-none (x ∷ xs) (insn ∷ code) n e = let p = no_flaw x.0 (fault_of One insn) (first_unlawful xs code) e in (p.0, unlawful-none xs code (omega arith) p.1)
+pub unlawful-none : (prof : Profile) (xs : List (ℕ × SourceInsn)) (code : List Insn)
+    → length code ≡ length xs → first_unlawful prof xs code ≡ None
+    → AllByRecursion (IsLawful prof) code
+unlawful-none prof xs [] n e = tt
+unlawful-none prof [] (insn ∷ code) n e = absurd (omega arith)
+unlawful-none prof (x ∷ xs) (insn ∷ code) n e =
+    let p = no_flaw x.0 (fault_of prof insn) (first_unlawful prof xs code) e in
+    (p.0, unlawful-none prof xs code (omega arith) p.1)
 
-pub none-unlawful : (xs : List (ℕ × SourceInsn)) (code : List Insn) → AllByRecursion IsLawful code → first_unlawful xs code ≡ None
-none-unlawful [] code h = refl
-none-unlawful (x ∷ xs) [] h = refl
-none-unlawful (x ∷ xs) (insn ∷ code) h = ap (λ o. word_flaw x.0 o (first_unlawful xs code)) h.0 ∙ none-unlawful xs code h.1
+pub none-unlawful : (prof : Profile) (xs : List (ℕ × SourceInsn)) (code : List Insn)
+    → AllByRecursion (IsLawful prof) code → first_unlawful prof xs code ≡ None
+none-unlawful prof [] code h = refl
+none-unlawful prof (x ∷ xs) [] h = refl
+none-unlawful prof (x ∷ xs) (insn ∷ code) h =
+    ap (λ o. word_flaw x.0 o (first_unlawful prof xs code)) h.0 ∙ none-unlawful prof xs code h.1
 
 -- ---- where branches lead
 
@@ -91,7 +97,8 @@ none_by (Some x) e = cc
 
 ends_by : (code : List Insn) (i : ℕ) → i + 1 ≡ length code → runs_off code ≡ false → IsFinalAt code i
 ends_by [] i n e insn s = cc
-ends_by (x ∷ []) zero n e insn s = subst (λ y. next_of 0 y ≡ None) (same_Some x insn s) (none_by (next_of 0 x) e)
+ends_by (x ∷ []) zero n e insn s =
+    subst (λ y. next_of 0 y ≡ None) (same_Some x insn s) (none_by (next_of 0 x) e)
 ends_by (x ∷ []) (suc i) n e insn s = absurd (omega arith)
 ends_by (x ∷ y ∷ code) zero n e insn s = absurd (omega arith)
 ends_by (x ∷ y ∷ code) (suc i) n e insn s = ends_by (y ∷ code) i (omega arith) e insn s
@@ -120,27 +127,45 @@ shape_ok xs all code (Some i) e = cc
 shape_ok xs all code None e = off_ok xs all code (runs_off all) refl e
 
 -- what passes all tests
-pub record Passes (xs : List (ℕ × SourceInsn)) (all code : List Insn) : Type 0 where
-  pub lawful : first_unlawful xs all ≡ None
+pub record Passes (prof : Profile) (xs : List (ℕ × SourceInsn)) (all code : List Insn)
+    : Type 0 where
+  pub lawful : first_unlawful prof xs all ≡ None
   pub inside : first_outside (length all) 0 all ≡ None
   pub ends : runs_off all ≡ false
   pub same : all ≡ code
 
-passes_by : (xs : List (ℕ × SourceInsn)) (all code : List Insn) (o : Option AsmFlaw) → first_unlawful xs all ≡ o → if_lawful xs all o ≡ Ok code → Passes xs all code
-passes_by xs all code (Some k) f e = cc
-passes_by xs all code None f e = let g = shape_ok xs all code (first_outside (length all) 0 all) e in record { lawful = f; inside = g.0; ends = g.1; same = g.2 }
+passes_by : (prof : Profile) (xs : List (ℕ × SourceInsn)) (all code : List Insn)
+    (o : Option AsmFlaw) → first_unlawful prof xs all ≡ o → if_lawful xs all o ≡ Ok code
+    → Passes prof xs all code
+passes_by prof xs all code (Some k) f e = cc
+passes_by prof xs all code None f e =
+    let g = shape_ok xs all code (first_outside (length all) 0 all) e in record
+    { lawful = f; inside = g.0; ends = g.1; same = g.2 }
 
-pub passes : (xs : List (ℕ × SourceInsn)) (all code : List Insn) → as_code xs (Ok all) ≡ Ok code → Passes xs all code
-passes xs all code e = passes_by xs all code (first_unlawful xs all) refl e
+pub passes : (prof : Profile) (xs : List (ℕ × SourceInsn)) (all code : List Insn)
+    → as_code prof xs (Ok all) ≡ Ok code → Passes prof xs all code
+passes prof xs all code e = passes_by prof xs all code (first_unlawful prof xs all) refl e
 
-pub bad_word : (xs : List (ℕ × SourceInsn)) (code : List Insn) (k : AsmFlaw) → first_unlawful xs code ≡ Some k → as_code xs (Ok code) ≡ Err k
-bad_word xs code k r = ap (if_lawful xs code) r
+pub bad_word : (prof : Profile) (xs : List (ℕ × SourceInsn)) (code : List Insn) (k : AsmFlaw)
+    → first_unlawful prof xs code ≡ Some k → as_code prof xs (Ok code) ≡ Err k
+bad_word prof xs code k r = ap (if_lawful xs code) r
 
-pub bad_target : (xs : List (ℕ × SourceInsn)) (code : List Insn) (i : ℕ) → first_unlawful xs code ≡ None → first_outside (length code) 0 code ≡ Some i → as_code xs (Ok code) ≡ Err (A.Target (line_at xs i))
-bad_target xs code i r o = ap (if_lawful xs code) r ∙ ap (in_shape xs code) o
+pub bad_target : (prof : Profile) (xs : List (ℕ × SourceInsn)) (code : List Insn) (i : ℕ)
+    → first_unlawful prof xs code ≡ None → first_outside (length code) 0 code ≡ Some i
+    → as_code prof xs (Ok code) ≡ Err (A.Target (line_at xs i))
+bad_target prof xs code i r o = ap (if_lawful xs code) r ∙ ap (in_shape xs code) o
 
-pub bad_end : (xs : List (ℕ × SourceInsn)) (code : List Insn) → first_unlawful xs code ≡ None → first_outside (length code) 0 code ≡ None → runs_off code ≡ true → as_code xs (Ok code) ≡ Err (A.FallsOff (line_at xs (length code - 1)))
-bad_end xs code r o f = ap (if_lawful xs code) r ∙ ap (in_shape xs code) o ∙ cond-true (runs_off code) (Err (A.FallsOff (line_at xs (length code - 1)))) (Ok code) f
+pub bad_end : (prof : Profile) (xs : List (ℕ × SourceInsn)) (code : List Insn)
+    → first_unlawful prof xs code ≡ None → first_outside (length code) 0 code ≡ None
+    → runs_off code ≡ true → as_code prof xs (Ok code)
+    ≡ Err (A.FallsOff (line_at xs (length code - 1)))
+bad_end prof xs code r o f =
+    ap (if_lawful xs code) r ∙ ap (in_shape xs code) o
+    ∙ cond-true (runs_off code) (Err (A.FallsOff (line_at xs (length code - 1)))) (Ok code) f
 
-pub good_code : (xs : List (ℕ × SourceInsn)) (code : List Insn) → first_unlawful xs code ≡ None → first_outside (length code) 0 code ≡ None → runs_off code ≡ false → as_code xs (Ok code) ≡ Ok code
-good_code xs code r o f = ap (if_lawful xs code) r ∙ ap (in_shape xs code) o ∙ cond-false (runs_off code) (Err (A.FallsOff (line_at xs (length code - 1)))) (Ok code) f
+pub good_code : (prof : Profile) (xs : List (ℕ × SourceInsn)) (code : List Insn)
+    → first_unlawful prof xs code ≡ None → first_outside (length code) 0 code ≡ None
+    → runs_off code ≡ false → as_code prof xs (Ok code) ≡ Ok code
+good_code prof xs code r o f =
+    ap (if_lawful xs code) r ∙ ap (in_shape xs code) o
+    ∙ cond-false (runs_off code) (Err (A.FallsOff (line_at xs (length code - 1)))) (Ok code) f

@@ -15,7 +15,7 @@ use Rattle.pcc_asm.specs.declared.fault.AsmFlaw.{AsmFlaw}
 use Rattle.pcc_asm.specs.declared.fault.AsmFlaw.TheVariants as A
 use Rattle.pcc_asm.specs.Assembling.{resolved_insn, with_resolved, resolved_insns, word_flaw, first_unlawful, line_at}
 use Rattle.pcc_asm.specs.Inside.Views.{insn_views}
-use Rattle.word_ops.specs.declared.Profile.TheVariants.{One}
+use Rattle.word_ops.specs.declared.Profile.{Profile}
 
 -- ---- labels
 
@@ -62,12 +62,18 @@ insn_first labels xs code e = ap (λ l. with_front l (rest_of labels xs 0)) e �
 
 -- ---- what the profile refuses
 
-unlawful_step : (xs : List (ℕ × SrcInsn)) (code : List Insn) (i : ℕ) (d : ℕ × SrcInsn) (e : Insn) (o : Option BadWord) → i < length xs → i < length code → fault_of One (get_or code i e) ≡ o →
-    first_unlawful (insn_views (drop i xs)) (drop i code) ≡ word_flaw (get_or xs i d).0 o (first_unlawful (insn_views (drop (i + 1) xs)) (drop (i + 1) code))
-unlawful_step xs code i d e o h k f =
-    ap (λ l. first_unlawful (insn_views l) (drop i code)) (drop_more xs i d h)
-    ∙ ap (λ l. first_unlawful (insn_views (get_or xs i d ∷ drop (i + 1) xs)) l) (drop_more code i e k)
-    ∙ ap (λ p. word_flaw (get_or xs i d).0 p (first_unlawful (insn_views (drop (i + 1) xs)) (drop (i + 1) code))) f
+unlawful_step : (prof : Profile) (xs : List (ℕ × SrcInsn)) (code : List Insn) (i : ℕ)
+    (d : ℕ × SrcInsn) (e : Insn) (o : Option BadWord) → i < length xs → i < length code
+    → fault_of prof (get_or code i e) ≡ o →
+    first_unlawful prof (insn_views (drop i xs)) (drop i code)
+    ≡ word_flaw (get_or xs i d).0 o (first_unlawful prof (insn_views (drop (i + 1) xs))
+    (drop (i + 1) code))
+unlawful_step prof xs code i d e o h k f =
+    ap (λ l. first_unlawful prof (insn_views l) (drop i code)) (drop_more xs i d h)
+    ∙ ap (λ l. first_unlawful prof (insn_views (get_or xs i d ∷ drop (i + 1) xs)) l)
+    (drop_more code i e k)
+    ∙ ap (λ p. word_flaw (get_or xs i d).0 p
+    (first_unlawful prof (insn_views (drop (i + 1) xs)) (drop (i + 1) code))) f
 
 pub line_here : (xs : List (ℕ × SrcInsn)) (i : ℕ) (d : ℕ × SrcInsn) → i < length xs → (get_or xs i d).0 ≡ line_at (insn_views xs) i
 line_here [] i d h = absurd (omega arith)
@@ -77,20 +83,30 @@ line_here (x ∷ xs) (suc i) d h = line_here xs i d (omega arith)
 some_said : ℕ × SrcInsn
 some_said = (0, E.Plain I.Ret)
 
-pub unlawful_here : (xs : List (ℕ × SrcInsn)) (code : List Insn) (i line : ℕ) (e : Insn) (bad : BadWord) → i < length xs → i < length code → line ≡ line_at (insn_views xs) i → e ≡ get_or code i e → fault_of One e ≡ Some bad →
-    first_unlawful (insn_views (drop i xs)) (drop i code) ≡ Some (A.Word line bad)
-unlawful_here xs code i line e bad h k l s f = unlawful_step xs code i some_said e (Some bad) h k (ap (fault_of One) (sym s) ∙ f) ∙ ap (λ n. Some (A.Word n bad)) (line_here xs i some_said h ∙ sym l)
+pub unlawful_here : (prof : Profile) (xs : List (ℕ × SrcInsn)) (code : List Insn) (i line : ℕ)
+    (e : Insn) (bad : BadWord) → i < length xs → i < length code → line ≡ line_at (insn_views xs) i
+    → e ≡ get_or code i e → fault_of prof e ≡ Some bad →
+    first_unlawful prof (insn_views (drop i xs)) (drop i code) ≡ Some (A.Word line bad)
+unlawful_here prof xs code i line e bad h k l s f =
+    unlawful_step prof xs code i some_said e (Some bad) h k (ap (fault_of prof) (sym s) ∙ f)
+    ∙ ap (λ n. Some (A.Word n bad)) (line_here xs i some_said h ∙ sym l)
 
-pub unlawful_more : (xs : List (ℕ × SrcInsn)) (code : List Insn) (i : ℕ) (e : Insn) → i < length xs → i < length code → e ≡ get_or code i e → fault_of One e ≡ None →
-    first_unlawful (insn_views (drop (i + 1) xs)) (drop (i + 1) code) ≡ first_unlawful (insn_views (drop i xs)) (drop i code)
-unlawful_more xs code i e h k s f = sym (unlawful_step xs code i some_said e None h k (ap (fault_of One) (sym s) ∙ f))
+pub unlawful_more : (prof : Profile) (xs : List (ℕ × SrcInsn)) (code : List Insn) (i : ℕ) (e : Insn)
+    → i < length xs → i < length code → e ≡ get_or code i e → fault_of prof e ≡ None →
+    first_unlawful prof (insn_views (drop (i + 1) xs)) (drop (i + 1) code)
+    ≡ first_unlawful prof (insn_views (drop i xs)) (drop i code)
+unlawful_more prof xs code i e h k s f =
+    sym (unlawful_step prof xs code i some_said e None h k (ap (fault_of prof) (sym s) ∙ f))
 
-none_past : (xs : List (ℕ × SourceInsn)) → first_unlawful xs [] ≡ None
-none_past [] = refl
-none_past (x ∷ xs) = refl
+none_past : (prof : Profile) (xs : List (ℕ × SourceInsn)) → first_unlawful prof xs [] ≡ None
+none_past prof [] = refl
+none_past prof (x ∷ xs) = refl
 
-pub unlawful_past : (xs : List (ℕ × SrcInsn)) (code : List Insn) (i : ℕ) → length code ≤ i → first_unlawful (insn_views (drop i xs)) (drop i code) ≡ None
-unlawful_past xs code i h = ap (first_unlawful (insn_views (drop i xs))) (drop_all i code h) ∙ none_past (insn_views (drop i xs))
+pub unlawful_past : (prof : Profile) (xs : List (ℕ × SrcInsn)) (code : List Insn) (i : ℕ)
+    → length code ≤ i → first_unlawful prof (insn_views (drop i xs)) (drop i code) ≡ None
+unlawful_past prof xs code i h =
+    ap (first_unlawful prof (insn_views (drop i xs))) (drop_all i code h)
+    ∙ none_past prof (insn_views (drop i xs))
 
 -- ---- where branches lead
 

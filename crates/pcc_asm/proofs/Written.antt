@@ -25,7 +25,7 @@ use Rattle.pcc_asm.specs.Words.{insn_word, code_bytes}
 use Rattle.pcc_asm.specs.Inside.Views.{IsEncodable}
 use Rattle.pcc_asm.proofs.Ranges.{HasRange}
 use Rattle.pcc_asm.proofs.Assembly.{encodes_word, at_index}
-use Rattle.word_ops.specs.declared.Profile.TheVariants.{One}
+use Rattle.word_ops.specs.declared.Profile.{Profile}
 
 -- ---- one word
 
@@ -136,15 +136,21 @@ word_at (x ∷ code) zero insn r e s =
     first_word (to_le_bytes w32 (insn_word x)) (code_bytes code) (insn_word x) (word_length (insn_word x)) (from_le_bytes-to_le_bytes_4 (insn_word x) (word_small x r.0 e.0)) ∙ ap insn_word (same_Some x insn s)
 word_at (x ∷ code) (suc k) insn r e s = later_word (to_le_bytes w32 (insn_word x)) (code_bytes code) k (word_length (insn_word x)) ∙ word_at code k insn r.1 e.1 s
 
-all_formats : (code : List Insn) → AllByRecursion IsEncodable code → AllByRecursion HasFormat code
-all_formats [] e = tt
-all_formats (x ∷ code) e = (e.0.1, all_formats code e.1)
+all_formats : (prof : Profile) (code : List Insn) → AllByRecursion (IsEncodable prof) code
+    → AllByRecursion HasFormat code
+all_formats prof [] e = tt
+all_formats prof (x ∷ code) e = (e.0.1, all_formats prof code e.1)
 
-pub bytes_encode : (code : List Insn) → AllByRecursion HasRange code → AllByRecursion IsEncodable code → EncodesCode One (code_bytes code) code
-bytes_encode code r e = record {
+pub bytes_encode : (prof : Profile) (code : List Insn) → AllByRecursion HasRange code
+    → AllByRecursion (IsEncodable prof) code → EncodesCode prof (code_bytes code) code
+bytes_encode prof code r e = record {
   whole = sym (bytes_length code);
   first = record {
     count = refl;
-    each = λ k insn s. subst (λ w. Encodes One w insn) (sym (word_at code k insn r (all_formats code e) s)) (encodes_word insn (at_index HasRange code k insn r s) (at_index IsEncodable code k insn e s));
+    each =
+        λ k insn s. subst (λ w. Encodes prof w insn)
+        (sym (word_at code k insn r (all_formats prof code e) s))
+        (encodes_word prof insn (at_index HasRange code k insn r s)
+        (at_index (IsEncodable prof) code k insn e s));
   };
 }

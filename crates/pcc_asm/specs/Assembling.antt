@@ -1,6 +1,6 @@
 -- Assembling a source: labels become displacements, and the code and the invariants become what a container holds. The first
 -- line that is wrong is told; each kind of fault is tried over all lines before the next kind.
-use Rattle.std.specs.Prelude.{◌≡◌, ℕ, zero, suc, ◌+◌, ◌-◌, if◌then◌else◌, List, [], ◌∷◌, map, length, Option, Some, None, Result, Ok, Err, ℤ, pos, ◌-ℤ◌}
+use Rattle.std.specs.Prelude.{◌≡◌, ℕ, zero, suc, ◌+◌, ◌-◌, ◌==◌, if◌then◌else◌, List, [], ◌∷◌, map, length, Option, Some, None, Result, Ok, Err, ℤ, pos, ◌-ℤ◌}
 use Rattle.std.specs.Option.{option_map}
 use Rattle.std.specs.Str.{bytes_eq}
 use Rattle.alpha_words.specs.declared.insn.Insn.{Insn}
@@ -13,15 +13,19 @@ use Rattle.alpha_cfg.specs.CodeDecoding.{first_outside, runs_off}
 use Rattle.formula_tree.specs.Formulas.{Form}
 use Rattle.policy_set.specs.Views.{PolicyView}
 use Rattle.policy_set.specs.Names.{policy_number}
+use Rattle.policy_set.specs.Digest.{digest_of}
 use Rattle.term_table.specs.Tree.{Tree}
 use Rattle.lf_encode.specs.Contexts.{machine_context, encoding_in}
+use Rattle.proof_container.specs.declared.container.Head.{Head}
+use Rattle.proof_container.specs.declared.container.Head.TheVariants.{Number, Digest}
+use Rattle.proof_container.specs.Versions.{profile_of}
 use Rattle.proof_container.specs.Contents.{Contents}
 use Rattle.asm_text.specs.Insns.{SourceInsn, Plain, BranchTo, BrTo}
 use Rattle.asm_text.specs.Sources.{Source}
 use Rattle.pcc_asm.specs.declared.fault.AsmFlaw.{AsmFlaw}
 use Rattle.pcc_asm.specs.declared.fault.AsmFlaw.TheVariants as A
 use Rattle.pcc_asm.specs.Words.{code_bytes}
-use Rattle.word_ops.specs.declared.Profile.TheVariants.{One}
+use Rattle.word_ops.specs.declared.Profile.{Profile}
 
 -- the index that a label names
 abbrev pub label_index : List (List ℕ × ℕ) → List ℕ → Option ℕ
@@ -47,18 +51,24 @@ AreResolved labels i [] (insn ∷ code) = ⊥
 AreResolved labels i (x ∷ xs) [] = ⊥
 AreResolved labels i (x ∷ xs) (insn ∷ code) = IsResolved labels i x.1 insn × AreResolved labels (suc i) xs code
 
--- the instructions are what the source says, are code, and are the first profile's
-pub record IsAssembled (s : Source) (insns : List Insn) : Type 0 where
+-- the instructions are what the source says, are code, and are the profile's
+pub record IsAssembled (p : Profile) (s : Source) (insns : List Insn) : Type 0 where
   pub resolved : AreResolved s.labels 0 s.insns insns
   pub code : IsCode insns
-  pub profile : AreOfProfile One insns
+  pub profile : AreOfProfile p insns
 
--- The contents are those of the source for the policy: words that encode its instructions, the encodings of its invariants, and no proof.
-pub record Assembles (policy : PolicyView) (s : Source) (c : Contents) : Type 0 where
+-- what names the policy in a container of the version: the policy's number, or the digest of its
+-- text
+abbrev pub head_for : ℕ → PolicyView → Head
+head_for v policy = if v == 1 then Number (policy_number policy) else Digest (digest_of policy)
+
+-- The contents are those of the source for the policy in the version: words that encode its
+-- instructions, the encodings of its invariants, and no proof.
+pub record Assembles (v : ℕ) (policy : PolicyView) (s : Source) (c : Contents) : Type 0 where
   pub insns : List Insn
-  pub assembled : IsAssembled s insns
-  pub code : EncodesCode One c.code insns
-  pub policy_is : c.policy ≡ policy_number policy
+  pub assembled : IsAssembled (profile_of v) s insns
+  pub code : EncodesCode (profile_of v) c.code insns
+  pub head_is : c.head ≡ head_for v policy
   pub invs : c.invs ≡ inv_encodings s.invs
   pub no_proof : c.proof ≡ None
 
@@ -87,10 +97,10 @@ word_flaw line None next = next
 word_flaw line (Some bad) next = Some (A.Word line bad)
 
 -- the first line whose instruction the profile refuses
-abbrev pub first_unlawful : List (ℕ × SourceInsn) → List Insn → Option AsmFlaw
-first_unlawful [] code = None
-first_unlawful (x ∷ xs) [] = None
-first_unlawful (x ∷ xs) (insn ∷ code) = word_flaw x.0 (fault_of One insn) (first_unlawful xs code)
+abbrev pub first_unlawful : Profile → List (ℕ × SourceInsn) → List Insn → Option AsmFlaw
+first_unlawful p [] code = None
+first_unlawful p (x ∷ xs) [] = None
+first_unlawful p (x ∷ xs) (insn ∷ code) = word_flaw x.0 (fault_of p insn) (first_unlawful p xs code)
 
 -- the line of the instruction at an index
 abbrev pub line_at : List (ℕ × SourceInsn) → ℕ → ℕ
@@ -109,29 +119,31 @@ if_lawful said insns (Some flaw) = Err flaw
 if_lawful said insns None = in_shape said insns (first_outside (length insns) 0 insns)
 
 -- the instructions that were resolved, where they are code
-abbrev pub as_code : List (ℕ × SourceInsn) → Result (List Insn) AsmFlaw → Result (List Insn) AsmFlaw
-as_code said (Ok insns) = if_lawful said insns (first_unlawful said insns)
-as_code said (Err flaw) = Err flaw
+abbrev pub as_code : Profile → List (ℕ × SourceInsn) → Result (List Insn) AsmFlaw
+    → Result (List Insn) AsmFlaw
+as_code p said (Ok insns) = if_lawful said insns (first_unlawful p said insns)
+as_code p said (Err flaw) = Err flaw
 
 -- the code of the source, or the first line that is wrong
-unfoldable pub assembled_code : Source → Result (List Insn) AsmFlaw
-assembled_code s = as_code s.insns (resolved_insns s.labels 0 s.insns)
+unfoldable pub assembled_code : Profile → Source → Result (List Insn) AsmFlaw
+assembled_code p s = as_code p s.insns (resolved_insns s.labels 0 s.insns)
 
--- what a container for the policy holds, of this code and these invariants
-abbrev pub plain_contents : PolicyView → List (ℕ × Form) → List Insn → Contents
-plain_contents policy invs insns = record {
-  policy = policy_number policy;
+-- what a container of the version for the policy holds, of this code and these invariants
+abbrev pub plain_contents : ℕ → PolicyView → List (ℕ × Form) → List Insn → Contents
+plain_contents v policy invs insns = record {
+  head = head_for v policy;
   code = code_bytes insns;
   invs = inv_encodings invs;
   proof = None;
 }
 
 -- the contents of code that was assembled
-abbrev pub with_code : PolicyView → List (ℕ × Form) → Result (List Insn) AsmFlaw
+abbrev pub with_code : ℕ → PolicyView → List (ℕ × Form) → Result (List Insn) AsmFlaw
     → Result Contents AsmFlaw
-with_code policy invs (Ok insns) = Ok (plain_contents policy invs insns)
-with_code policy invs (Err flaw) = Err flaw
+with_code v policy invs (Ok insns) = Ok (plain_contents v policy invs insns)
+with_code v policy invs (Err flaw) = Err flaw
 
--- what a container of the source for the policy holds, or the first line that is wrong
-unfoldable pub assembled_contents : PolicyView → Source → Result Contents AsmFlaw
-assembled_contents policy s = with_code policy s.invs (assembled_code s)
+-- what a container of the source for the policy holds in the version, or the first line that is
+-- wrong
+unfoldable pub assembled_contents : ℕ → PolicyView → Source → Result Contents AsmFlaw
+assembled_contents v policy s = with_code v policy s.invs (assembled_code (profile_of v) s)

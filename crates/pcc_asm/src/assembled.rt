@@ -3,14 +3,14 @@
 ghost use Rattle.std.specs.Prelude.{◌≡◌};
 ghost use Rattle.proof_container.specs.Views.{IsWritable, view_contents};
 
-use proof_container::View;
+use proof_container::{Head, View};
 use std::marker::Model;
 use term_table::{Id, Table};
 
 /// What a container of a source for a policy holds. Contracts see its contents.
 #[derive(Drop)]
 pub struct Assembled {
-    pub(crate) policy: u32,
+    pub(crate) head: Head,
     pub(crate) code: Vec<u8>,
     pub(crate) table: Table,
     pub(crate) invs: Vec<(u32, Id)>,
@@ -27,10 +27,10 @@ impl Model for Assembled {
 
     ghost coded = { Prim.hlevel (codes, tree_code) };
 
-    ghost view = { λ a. held_contents a.policy a.code.items a.table a.invs.items };
+    ghost view = { λ a. held_contents a.head a.code.items a.table a.invs.items };
 
     ghost invariant = { λ a. IsWritableContents a.table a.invs.items
-        (held_contents a.policy a.code.items a.table a.invs.items) };
+        (held_contents a.head a.code.items a.table a.invs.items) };
 }
 
 impl Assembled {
@@ -40,7 +40,7 @@ impl Assembled {
         ensures writable { IsWritable result }
     {
         View {
-            policy: self.policy,
+            head: self.head,
             code: &self.code,
             table: &self.table,
             invs: &self.invs,

@@ -2,7 +2,9 @@
 
 ghost use Rattle.std.specs.Prelude.{IfOk, IfErr};
 ghost use Rattle.asm_text.specs.Views.{source_view};
-ghost use Rattle.pcc_asm.specs.Assembling.{Assembles, assembled_code};
+ghost use Rattle.std.specs.Prelude.{◌≡◌};
+ghost use Rattle.proof_container.specs.Versions.{profile_of};
+ghost use Rattle.pcc_asm.specs.Assembling.{head_for, Assembles, assembled_code};
 ghost use Rattle.pcc_asm.specs.Limits.{IsWithinLimits};
 ghost use Rattle.pcc_asm.specs.Views.{IsSpelled, IsAsmAnswer, AssemblesNone};
 ghost use Rattle.pcc_asm.specs.Inside.Views.{IsStepAnswer, bytes_or_flaw};
@@ -15,41 +17,62 @@ use crate::labels::index_labels;
 use crate::resolving::resolve_all;
 use crate::words::bytes_of;
 use asm_text::Source;
-use policy_set::Policy;
-use std::alloc::Global;
-use term_table::{Places, Table};
+use policy_set::{Policy, digest};
+use proof_container::{Head, profile_of, signature_of};
+use std::alloc::{AllocError, Global};
+use term_table::Table;
+use word_ops::Profile;
 
-/// The bytes of the source's code, or the first line that is wrong.
-fn code_of(alloc: Global, source: &Source) -> Result<Vec<u8>, AsmFault>
-    requires spelled { IsSpelled (source_view source.now) }
+/// The bytes of the source's code in the profile, or the first line that is wrong.
+fn code_of(alloc: Global, source: &Source, profile: Profile) -> Result<Vec<u8>, AsmFault>
+    requires spelled { IsSpelled profile (source_view source.now) }
     ensures exact { IsStepAnswer (λ v. v.items)
-        (bytes_or_flaw (assembled_code (source_view source.now))) result }
+        (bytes_or_flaw (assembled_code profile (source_view source.now))) result }
 {
     let labels = index_labels(alloc, &source.labels)?;
     let code = resolve_all(alloc, &labels, &source.insns)?;
-    check(&source.insns, &code)?;
-    let bytes = bytes_of(alloc, &code)?;
+    check(&source.insns, &code, profile)?;
+    let bytes = bytes_of(alloc, &code, profile)?;
     Ok(bytes)
 }
 
-/// What a container of the source holds, or the first line that is wrong.
-fn make(alloc: Global, source: &Source, policy: &Policy) -> Result<Assembled, AsmFault>
-    requires spelled { IsSpelled (source_view source.now) }
-    ensures { IsAsmAnswer policy.now (source_view source.now) result }
+/// What names the policy in a container of the version. Fails only for want of memory.
+fn head_for(alloc: Global, policy: &Policy, version: u32) -> Result<Head, AllocError>
+    ensures { IfOk result (λ h. h ≡ head_for version policy.now) }
 {
-    let code = code_of(alloc, source)?;
-    let mut table = Table::new(alloc, Places::sigma1());
+    if version == 1 {
+        Ok(Head::Number(policy.number()))
+    } else {
+        let made = digest(alloc, policy)?;
+        Ok(Head::Digest(made))
+    }
+}
+
+/// What a container of the source holds in the version, or the first line that is wrong.
+fn make(
+    alloc: Global,
+    source: &Source,
+    policy: &Policy,
+    version: u32,
+) -> Result<Assembled, AsmFault>
+    requires spelled { IsSpelled (profile_of version) (source_view source.now) }
+    ensures { IsAsmAnswer version policy.now (source_view source.now) result }
+{
+    let code = code_of(alloc, source, profile_of(version))?;
+    let head = head_for(alloc, policy, version)?;
+    let mut table = Table::new(alloc, signature_of(version).places());
     let invs = encode_invs(alloc, &mut table, &source.invs)?;
     Ok(Assembled {
-        policy: policy.number(),
+        head,
         code,
         table,
         invs,
     })
 }
 
-/// Assembles `source` for `policy`: labels become displacements, and each invariant becomes the term
-/// that encodes it over m and r0 to r30.
+/// Assembles `source` for `policy` in `version` of containers, 1 or 2 (any other is taken as 2):
+/// labels become displacements, and each invariant becomes the term that encodes it over m and r0
+/// to r30. The profile is the version's.
 ///
 /// Errors: the first line whose label stands nowhere; else the first whose instruction the profile
 /// refuses; else the first that branches outside the code; else the last instruction's, where the
@@ -59,13 +82,18 @@ fn make(alloc: Global, source: &Source, policy: &Policy) -> Result<Assembled, As
 /// No invariant's term is higher than a line may be long, and the container has at most
 /// `proof_container::MAX_BYTES` bytes.
 ///
-/// Asks that some text spells `source`, as `asm_text::read_source` promises.
-pub fn assemble(alloc: Global, source: &Source, policy: &Policy) -> Result<Assembled, AsmFault>
-    requires spelled { IsSpelled (source_view source.now) }
-    ensures exact { IsAsmAnswer policy.now (source_view source.now) result }
-    ensures assembles { IfOk result (λ a. Assembles policy.now (source_view source.now) a) }
-    ensures none { IfErr result (λ e. AssemblesNone policy.now (source_view source.now) e) }
+/// Asks that some text spells `source` in that profile, as `asm_text::read_source` promises.
+pub fn assemble(
+    alloc: Global,
+    source: &Source,
+    policy: &Policy,
+    version: u32,
+) -> Result<Assembled, AsmFault>
+    requires spelled { IsSpelled (profile_of version) (source_view source.now) }
+    ensures exact { IsAsmAnswer version policy.now (source_view source.now) result }
+    ensures assembles { IfOk result (λ a. Assembles version policy.now (source_view source.now) a) }
+    ensures none { IfErr result (λ e. AssemblesNone version policy.now (source_view source.now) e) }
     ensures limits { IfOk result (λ a. IsWithinLimits a) }
 {
-    make(alloc, source, policy)
+    make(alloc, source, policy, version)
 }

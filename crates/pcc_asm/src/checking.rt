@@ -1,7 +1,6 @@
 //! Whether instructions are code, and the first line that is wrong.
 
 ghost use Rattle.std.specs.Prelude.{◌≡◌, ◌<◌, ◌≤◌, length, is_some, IfSome, MatchResult, Ok, Err};
-ghost use Rattle.word_ops.specs.declared.Profile.TheVariants.{One};
 ghost use Rattle.alpha_words.specs.Lawful.{fault_of, target_of};
 ghost use Rattle.alpha_cfg.specs.Flow.{next_of};
 ghost use Rattle.alpha_cfg.specs.CodeDecoding.{is_inside, first_outside, runs_off};
@@ -15,10 +14,10 @@ use asm_text::SrcInsn;
 use word_ops::Profile;
 
 /// Why the profile refuses the instruction, if it does.
-fn refusal(insn: Insn) -> Option<BadWord>
-    ensures { result ≡ fault_of One insn }
+fn refusal(insn: Insn, profile: Profile) -> Option<BadWord>
+    ensures { result ≡ fault_of profile insn }
 {
-    match lawful(insn, Profile::One) {
+    match lawful(insn, profile) {
         Ok(()) => None,
         Err(bad) => Some(bad),
     }
@@ -35,12 +34,12 @@ fn line_of(said: &[(u32, SrcInsn)], i: usize) -> u32
 
 /// The first line whose instruction the profile refuses.
 #[tactic(auto, using(crate::proofs::Walking::unlawful_past))]
-fn find_unlawful(said: &[(u32, SrcInsn)], code: &[Insn]) -> Option<AsmFlaw>
+fn find_unlawful(said: &[(u32, SrcInsn)], code: &[Insn], profile: Profile) -> Option<AsmFlaw>
     requires { length code.now ≡ length said.now }
-    ensures { result ≡ first_unlawful (insn_views said.now) code.now }
+    ensures { result ≡ first_unlawful profile (insn_views said.now) code.now }
 {
     for i in 0..code.len() {
-        if let Some(bad) = refusal(code[i]) {
+        if let Some(bad) = refusal(code[i], profile) {
             return Some(AsmFlaw::Word(line_of(said, i), bad));
         }
     }
@@ -97,17 +96,17 @@ fn goes_off(code: &[Insn]) -> bool
     goes_on(code[code.len() - 1])
 }
 
-/// Whether instructions are code, each standing for the instruction that `said` has there; else the
-/// first line that is wrong.
+/// Whether instructions are code of the profile, each standing for the instruction that `said` has
+/// there; else the first line that is wrong.
 #[tactic(auto, using(crate::proofs::Shaped::bad_word, crate::proofs::Shaped::bad_target, crate::proofs::Shaped::bad_end, crate::proofs::Shaped::good_code))]
-pub fn check(said: &[(u32, SrcInsn)], code: &[Insn]) -> Result<(), AsmFlaw>
+pub fn check(said: &[(u32, SrcInsn)], code: &[Insn], profile: Profile) -> Result<(), AsmFlaw>
     requires count { length code.now ≡ length said.now }
     requires some { 0 < length said.now }
     requires short { length said.now ≤ MAX_INSNS }
-    ensures { let checked = as_code (insn_views said.now) (Ok code.now) in
+    ensures { let checked = as_code profile (insn_views said.now) (Ok code.now) in
         MatchResult result (λ _. checked ≡ Ok code.now) (λ flaw. checked ≡ Err flaw) }
 {
-    if let Some(flaw) = find_unlawful(said, code) {
+    if let Some(flaw) = find_unlawful(said, code, profile) {
         return Err(flaw);
     }
     if let Some(i) = find_outside(code) {

@@ -9,24 +9,25 @@ use alpha_words::{Insn, encode};
 use std::alloc::{AllocError, Global};
 use word_ops::Profile;
 
-/// The word that is written for an instruction.
+/// The word that is written for an instruction of the profile.
 #[tactic(auto, using(crate::proofs::Written::word_is))]
-fn word_of(insn: Insn) -> u32
-    requires { IsEncodable insn }
+fn word_of(insn: Insn, profile: Profile) -> u32
+    requires { IsEncodable profile insn }
     ensures { result ≡ insn_word insn }
 {
-    encode(insn, Profile::One)
+    encode(insn, profile)
 }
 
-/// The words of instructions, the lowest byte of each first. Fails only for want of memory.
+/// The words of the profile's instructions, the lowest byte of each first. Fails only for want of
+/// memory.
 #[tactic(auto, using(crate::proofs::Written::all_written))]
-pub fn bytes_of(alloc: Global, code: &[Insn]) -> Result<Vec<u8>, AllocError>
-    requires { AllByRecursion IsEncodable code.now }
+pub fn bytes_of(alloc: Global, code: &[Insn], profile: Profile) -> Result<Vec<u8>, AllocError>
+    requires { AllByRecursion (IsEncodable profile) code.now }
     ensures { IfOk result (λ v. v.items ≡ code_bytes code.now) }
 {
     let mut bytes = Vec::new(alloc);
     for i in 0..code.len() {
-        bytes.extend_from_slice(&word_of(code[i]).to_le_bytes())?;
+        bytes.extend_from_slice(&word_of(code[i], profile).to_le_bytes())?;
     }
     Ok(bytes)
 }

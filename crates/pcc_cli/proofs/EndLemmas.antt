@@ -156,6 +156,23 @@ module _ (name : List ℕ) (max : ℕ) (more : Exit) (on : List ℕ → Stage Ef
       let none : None ≡ Some (d.1, d.2) = sym (went_on-silent r.given) ∙ ap change_at (sym r.goes) ∙ ap change_at d.4 in
       absurd (true≢false (sym (ap is_some none)))
 
+-- where the command stops behind its first read
+pub stopped_there : (exit' : Exit) (rest : List Event) (later : Stage Effect) (first : Event) (events asked : List Event) (exit : Exit) → asked ≡ first ∷ rest
+    → (s : Stage Effect) → s ≡ stops exit' → Follows texts rest s later
+    → ((events ≡ asked) × (exit ≡ end_at later) × (change_at later ≡ None))
+    ⊎ ((text : List ℕ) × (to : List ℕ) × (bytes : List ℕ) × (answer : Put) × (later ≡ gives (record { text = text; change = Some (to, bytes) }))
+    × (events ≡ asked ++ was_written to bytes answer ∷ []) × (exit ≡ written_exit texts to text answer)) → (events ≡ first ∷ []) × (exit ≡ exit')
+stopped_there exit' rest later first events asked exit is s stop follows does = by does
+  where
+    last : (rest ≡ []) × (later ≡ s)
+    last = no_read s (ap is_read stop) rest later follows
+
+    by : ((events ≡ asked) × (exit ≡ end_at later) × (change_at later ≡ None))
+        ⊎ ((text : List ℕ) × (to : List ℕ) × (bytes : List ℕ) × (answer : Put) × (later ≡ gives (record { text = text; change = Some (to, bytes) }))
+        × (events ≡ asked ++ was_written to bytes answer ∷ []) × (exit ≡ written_exit texts to text answer)) → (events ≡ first ∷ []) × (exit ≡ exit')
+    by (inl d) = (d.0 ∙ is ∙ ap (λ es. first ∷ es) last.0, d.1 ∙ ap end_at (last.1 ∙ stop))
+    by (inr d) = absurd (true≢false (ap is_stop (sym (last.1 ∙ stop) ∙ d.4)))
+
 -- a stage that reads nothing gives a value, or stops
 pub shape : {A : Type 0} (s : Stage A) → is_read s ≡ false → ((x : A) × (s ≡ gives x)) ⊎ ((exit : Exit) × (s ≡ stops exit))
 shape (stops exit) none = inr (exit, refl)

@@ -29,7 +29,11 @@ use Rattle.pcc_gate.specs.Safe.{AcceptedSafe}
 use Rattle.bounds_prover.specs.declared.fault.ProveFault.{ProveFault}
 use Rattle.bounds_prover.specs.Proving.{proved_container}
 use Rattle.bounds_prover.specs.ProvedLaws.{ProvedAccepted}
-use Rattle.pcc_words.specs.Invocations.{Invocation, asm, prove, check, run, ref, demo, host, bpf}
+use Rattle.container_upgrade.specs.declared.fault.UpgradeFault.{UpgradeFault}
+use Rattle.container_upgrade.specs.Upgrading.{upgraded_container}
+use Rattle.container_upgrade.specs.Upgrades.{IsUpgrade}
+use Rattle.container_upgrade.specs.Laws.{UpgradedExactly, UpgradedAccepted}
+use Rattle.pcc_words.specs.Invocations.{named, from_file, Invocation, asm, prove, check, run, ref, demo, upgrade, host, bpf}
 use Rattle.pcc_lines.specs.Fixed.{accepted_line, bpf_too_long_line, unknown_policy_line, container_too_long_line, packets_too_long_line, source_too_long_line}
 use Rattle.pcc_lines.specs.Refusals.{refusal_line}
 use Rattle.pcc_lines.specs.Results.{result_lines}
@@ -46,7 +50,9 @@ use Rattle.pcc_cli.specs.Stages.Containers.{code_in, code_of}
 use Rattle.pcc_cli.specs.Stages.Judging.{unless_refused, accepted_in, accepted_code_in, accepted_of, accepted_code_of}
 use Rattle.pcc_cli.specs.Stages.Packets.{packets_found, packets_in, packets_of}
 use Rattle.pcc_cli.specs.Stages.Assembling.{assembled_in, assembled_of}
+use Rattle.pcc_cli.specs.Stages.Policies.{policy_from}
 use Rattle.pcc_cli.specs.Stages.Proving.{container_proved, proved_in, proved_of}
+use Rattle.pcc_cli.specs.Stages.Upgrading.{container_upgraded, upgraded_in, upgraded_of}
 use Rattle.pcc_cli.specs.Stages.Compiling.{compiled_in, compiled_of}
 use Rattle.pcc_cli.specs.Commands.Assemble.{asm_command}
 use Rattle.pcc_cli.specs.Stages.Hosting.{script_of}
@@ -56,8 +62,9 @@ use Rattle.pcc_cli.specs.Commands.Check.{check_command}
 use Rattle.pcc_cli.specs.Commands.Prove.{prove_command}
 use Rattle.pcc_cli.specs.Commands.Reference.{ref_command}
 use Rattle.pcc_cli.specs.Commands.Running.{run_command}
+use Rattle.pcc_cli.specs.Commands.Upgrade.{upgrade_command}
 use Rattle.pcc_cli.specs.Commands.Demo.{demo_effect, demo_policy, demo_command}
-use Rattle.pcc_cli.specs.Tasks.{stage_of, policy_name_of, task_of_command}
+use Rattle.pcc_cli.specs.Tasks.{stage_of, task_of_command}
 use Rattle.packet_store.proofs.StartLemmas.{start_from-good, start_from-state}
 use Rattle.packet_store.proofs.Meeting.{start_from-meets}
 use Rattle.reference_machine.specs.Agents.{IsInArena, AreInArena}
@@ -65,11 +72,12 @@ use Rattle.word_ops.specs.Rights.{Rights}
 use Rattle.turn_laws.specs.Parts.{AreApart, LieIn, LieBetween, part_from}
 use Rattle.agent_host.specs.declared.host.TheConstants.{MAX_AGENTS}
 use Rattle.agent_host.specs.Agents.{base_of}
-use Rattle.pcc_cli.specs.Headline.{agent_part, StaysInPart, AgentsStayInParts, IsJudged, lines_exit, run_exit, RunsCode, not_accepted, accepted, Refs, no_code, ran, Makes, not_made, made, StopsWith, AssemblesTo, ProvesTo, CompilesTo, IsToldOf, DoesUnder, Does, Means, came, out_of_memory, MeansIfCommand, AcceptedRunsSafely}
+use Rattle.pcc_cli.specs.Headline.{agent_part, StaysInPart, AgentsStayInParts, IsJudged, lines_exit, run_exit, RunsCode, not_accepted, accepted, Refs, no_code, ran, Makes, not_made, made, StopsWith, AssemblesTo, ProvesTo, UpgradesTo, CompilesTo, IsToldOf, Checks, UnderNamed, Does, Means, came, out_of_memory, MeansIfCommand, AcceptedRunsSafely}
 use Rattle.pcc_cli.proofs.RunLemmas.{code_given, accepted_code_of_bytes}
+use Rattle.pcc_cli.proofs.CheckLemmas.{ReadsPolicies, checks_from}
 use Rattle.pcc_cli.proofs.CompileLemmas.{ReadsPrograms, CompilesPrograms, compiles, told}
-use Rattle.pcc_cli.proofs.TaskLemmas.{code_in-ends, assembled_in-ends, proved_in-ends, compiled_in-ends, demo_ends}
-use Rattle.pcc_cli.proofs.EndLemmas.{Ended, change_at, checks, end_at, ended_at_once, ended_of, ended_once, first_read, given_bytes, no_read, read_once, shape, verdict, went_on-silent}
+use Rattle.pcc_cli.proofs.TaskLemmas.{code_in-ends, assembled_in-ends, proved_in-ends, upgraded_in-ends, compiled_in-ends, demo_ends}
+use Rattle.pcc_cli.proofs.EndLemmas.{Ended, change_at, checks, end_at, ended_at_once, ended_of, ended_once, first_read, given_bytes, no_read, read_once, shape, stopped_there, verdict, went_on-silent}
 use Rattle.pcc_cli.proofs.HostLemmas.{hosts}
 
 -- ---- run and ref
@@ -126,23 +134,6 @@ module _ (under : PolicyView) (code : List Insn) (steps : ℕ) (packets : List �
       let once = ended_once packets MAX_FILE (refused packets_too_long_line) (λ b. lines (decoded_packets b)) (λ b. lines-ended (decoded_packets b)) (λ b. lines-silent (decoded_packets b))
       asked later events exit follows ended does in
       record { given = once.given; is = once.is; ends = once.ends ∙ run-exit once.given }
-
--- where the command stops behind its first read
-pub stopped_there : (exit' : Exit) (rest : List Event) (later : Stage Effect) (first : Event) (events asked : List Event) (exit : Exit) → asked ≡ first ∷ rest
-    → (s : Stage Effect) → s ≡ stops exit' → Follows texts rest s later
-    → ((events ≡ asked) × (exit ≡ end_at later) × (change_at later ≡ None))
-    ⊎ ((text : List ℕ) × (to : List ℕ) × (bytes : List ℕ) × (answer : Put) × (later ≡ gives (record { text = text; change = Some (to, bytes) }))
-    × (events ≡ asked ++ was_written to bytes answer ∷ []) × (exit ≡ written_exit texts to text answer)) → (events ≡ first ∷ []) × (exit ≡ exit')
-stopped_there exit' rest later first events asked exit is s stop follows does = by does
-  where
-    last : (rest ≡ []) × (later ≡ s)
-    last = no_read s (ap is_read stop) rest later follows
-
-    by : ((events ≡ asked) × (exit ≡ end_at later) × (change_at later ≡ None))
-        ⊎ ((text : List ℕ) × (to : List ℕ) × (bytes : List ℕ) × (answer : Put) × (later ≡ gives (record { text = text; change = Some (to, bytes) }))
-        × (events ≡ asked ++ was_written to bytes answer ∷ []) × (exit ≡ written_exit texts to text answer)) → (events ≡ first ∷ []) × (exit ≡ exit')
-    by (inl d) = (d.0 ∙ is ∙ ap (λ es. first ∷ es) last.0, d.1 ∙ ap end_at (last.1 ∙ stop))
-    by (inr d) = absurd (true≢false (ap is_stop (sym (last.1 ∙ stop) ∙ d.4)))
 
 -- the packets are read behind the first read
 packets_there : (under : PolicyView) (code : List Insn) (steps : ℕ) (packets : List ℕ)
@@ -445,34 +436,77 @@ asks_nothing s none silent events exit e = by e.does
     by (inl d) = d.0 ∙ last.0
     by (inr d) = let none : None ≡ Some (d.1, d.2) = sym silent ∙ ap change_at (sym last.1 ∙ d.4) in absurd (true≢false (sym (ap is_some none)))
 
+-- ---- upgrade
+
+-- what containers are upgraded to, by the laws
+pub record UpgradesContainers : Type 0 where
+  pub exactly : UpgradedExactly
+  pub accepted : UpgradedAccepted
+
+upgraded_is : UpgradesContainers → (b out : List ℕ) → IsBytes b
+    → (r : Result (List ℕ) UpgradeFault) → upgraded_container b ≡ r
+    → container_upgraded r ≡ gives out → UpgradesTo b out
+upgraded_is laws b out held (Ok bytes) is e =
+    let same : Some bytes ≡ Some out = ap value_at e in
+    let at : upgraded_container b ≡ Ok out =
+    is ∙ ap Ok (let found : bytes ≡ out = cc in found) in
+    let upgrade : IsUpgrade b out = (laws.exactly b out held).0 at in
+    record {
+      upgrade = upgrade;
+      accepted = λ policy kept it. laws.accepted policy b out kept upgrade it;
+    }
+upgraded_is laws b out held (Err fault) is e = absurd (true≢false (ap is_stop e))
+
+upgraded_of_stage : UpgradesContainers → (b out : List ℕ) → IsBytes b
+    → upgraded_in b ≡ gives out → UpgradesTo b out
+unfolding upgraded_in
+upgraded_of_stage laws b out held e = upgraded_is laws b out held (upgraded_container b) refl e
+
 -- ---- by what the arguments are
 
-module _ (accepted_first : AcceptedFirst) (proved_accepted : ProvedAccepted) (reads_programs : ReadsPrograms) (compiles_programs : CompilesPrograms) where
-  -- a command whose policy was looked up
-  does_by : (invocation : Invocation) (next : PolicyView → Stage Effect) (events : List Event)
-      (exit : Exit)
-      → ((under : PolicyView) → IsPolicy under → Ended (next under) events exit
-      → DoesUnder under invocation events exit)
-      → (p : Option PolicyView) → IfSome p IsPolicy → Ended (policy_found p >>= next) events exit
-      → Does p invocation events exit
-  does_by invocation next events exit each None kept e =
-      ended_at_once (refused unknown_policy_line) events exit e
-  does_by invocation next events exit each (Some under) kept e = each under kept e
+-- `demo`, whose policy was looked up
+demo_asks : (n : ℕ) (events : List Event) (exit : Exit) (p : Option PolicyView)
+    → Ended (policy_found p >>= λ under. demo_effect under n) events exit → events ≡ []
+unfolding demo_effect
+demo_asks n events exit None e = (ended_at_once (refused unknown_policy_line) events exit e).0
+demo_asks n events exit (Some under) e =
+    asks_nothing (demo_effect under n) (demo_ends under n) (demo-silent _ _) events exit e
 
+-- a command whose policy was looked up
+under_named : (Did : PolicyView → Type 0) (next : PolicyView → Stage Effect) (events : List Event)
+    (exit : Exit)
+    → ((under : PolicyView) → IsPolicy under → Ended (next under) events exit → Did under)
+    → (p : Option PolicyView) → IfSome p IsPolicy → Ended (policy_found p >>= next) events exit
+    → UnderNamed p Did events exit
+under_named Did next events exit each None kept e =
+    ended_at_once (refused unknown_policy_line) events exit e
+under_named Did next events exit each (Some under) kept e = each under kept e
+
+module _
+    (accepted_first : AcceptedFirst)
+    (proved_accepted : ProvedAccepted)
+    (reads_programs : ReadsPrograms)
+    (compiles_programs : CompilesPrograms)
+    (policies : ReadsPolicies)
+    (upgrades : UpgradesContainers) where
   does : (invocation : Invocation) (events : List Event) (exit : Exit) (f g : FilesState) → Happens events f g → Ended (stage_of invocation) events exit
-      → Does (policy_of (policy_name_of invocation)) invocation events exit
-  unfolding asm_command prove_command check_command run_command ref_command demo_command host_command script_of bpf_command assembled_of proved_of accepted_of accepted_code_of code_of compiled_of accepted_in demo_effect
-  does (asm policy input output) events exit f g happened e =
-      does_by (asm policy input output)
+      → Does invocation events exit
+  unfolding asm_command prove_command check_command run_command ref_command demo_command upgrade_command host_command script_of bpf_command policy_from assembled_of proved_of upgraded_of accepted_of accepted_code_of code_of compiled_of accepted_in
+  does (asm policy input output version) events exit f g happened e =
+      under_named
+      (λ under. Makes input output MAX_SOURCE (AssemblesTo version under)
+      (StopsWith input (refused source_too_long_line) (assembled_in version under)) events exit)
       (λ under. reads input MAX_SOURCE (refused source_too_long_line)
-      (λ b. assembled_in under b >>= λ out. writing output out)) events exit
+      (λ b. assembled_in version under b >>= λ out. writing output out)) events exit
       (λ under kept e. makes input output MAX_SOURCE (refused source_too_long_line)
-      (assembled_in under) (assembled_in-ends under) (AssemblesTo under)
-      (StopsWith input (refused source_too_long_line) (assembled_in under)) events exit
+      (assembled_in version under) (assembled_in-ends version under) (AssemblesTo version under)
+      (StopsWith input (refused source_too_long_line) (assembled_in version under)) events exit
       (λ b out rest split is. is) (λ given exit' rest split why. why) e) (policy_of policy)
       (policy_of-is policy) e
   does (prove policy input output) events exit f g happened e =
-      does_by (prove policy input output)
+      under_named
+      (λ under. Makes input output MAX_FILE (ProvesTo under)
+      (StopsWith input (refused container_too_long_line) (proved_in under)) events exit)
       (λ under. reads input MAX_FILE (refused container_too_long_line)
       (λ b. proved_in under b >>= λ out. writing output out)) events exit
       (λ under kept e. makes input output MAX_FILE (refused container_too_long_line)
@@ -481,28 +515,33 @@ module _ (accepted_first : AcceptedFirst) (proved_accepted : ProvedAccepted) (re
       (λ b out rest split is. proved_of_stage proved_accepted under b out kept
       (given_bytes input MAX_FILE (whole b) rest events f g split happened) is)
       (λ given exit' rest split why. why) e) (policy_of policy) (policy_of-is policy) e
-  does (check policy file) events exit f g happened e =
-      does_by (check policy file)
+  does (check (named policy) file) events exit f g happened e =
+      under_named (λ under. Checks under file events exit)
       (λ under. reads file MAX_FILE (refused container_too_long_line)
       (λ b. accepted_in under b >>= λ accepted. printing accepted_line)) events exit
       (λ under kept e. checks accepted_first under file events exit f g happened e)
       (policy_of policy) (policy_of-is policy) e
+  does (check (from_file name) file) events exit f g happened e =
+      checks_from accepted_first policies name file events exit f g happened e
   does (run policy file packets steps) events exit f g happened e =
-      does_by (run policy file packets steps)
+      under_named (λ under. RunsCode under file packets steps events exit)
       (λ under. reads file MAX_FILE (refused container_too_long_line)
       (run_by accepted_first under file packets steps)) events exit
       (λ under kept e. runs_code accepted_first under file packets steps events exit f g happened e)
       (policy_of policy) (policy_of-is policy) e
   does (ref policy file packets steps) events exit f g happened e =
-      does_by (ref policy file packets steps)
+      under_named (λ under. Refs under file packets steps events exit)
       (λ under. reads file MAX_FILE (refused container_too_long_line)
       (ref_by under file packets steps)) events exit
       (λ under kept e. refs under file packets steps events exit e) (policy_of policy)
       (policy_of-is policy) e
-  does (demo n) events exit f g happened e =
-      does_by (demo n) (λ under. demo_effect under n) events exit
-      (λ under kept e. asks_nothing (demo_effect under n) (demo_ends under n) (demo-silent _ _)
-      events exit e) (policy_of demo_policy) (policy_of-is demo_policy) e
+  does (demo n) events exit f g happened e = demo_asks n events exit (policy_of demo_policy) e
+  does (upgrade input output) events exit f g happened e =
+      makes input output MAX_FILE (refused container_too_long_line) upgraded_in upgraded_in-ends
+      UpgradesTo (StopsWith input (refused container_too_long_line) upgraded_in) events exit
+      (λ b out rest split is. upgraded_of_stage upgrades b out
+      (given_bytes input MAX_FILE (whole b) rest events f g split happened) is)
+      (λ given exit' rest split why. why) e
   does (host script) events exit f g happened e = hosts accepted_first script events exit f g happened e
   does (bpf input output) events exit f g happened e =
       makes input output MAX_PROGRAM_FILE (refused bpf_too_long_line) compiled_in compiled_in-ends CompilesTo (IsToldOf input) events exit

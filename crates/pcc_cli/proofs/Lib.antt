@@ -5,6 +5,7 @@ pub mod CountLemmas
 pub mod RunLemmas
 pub mod CompileLemmas
 pub mod EndLemmas
+pub mod CheckLemmas
 pub mod HostLemmas
 pub mod HeadlineLemmas
 pub mod TurnLemmas

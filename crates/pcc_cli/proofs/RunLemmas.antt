@@ -4,11 +4,14 @@ use Rattle.std.proofs.lemmas.List.{length-map}
 use Rattle.alpha_cfg.specs.CodeDecoding.{decoded_code}
 use Rattle.alpha_cfg.proofs.Readings.{decoded_code-ok}
 use Rattle.policy_set.specs.Views.{PolicyView}
-use Rattle.policy_set.proofs.Numbers.{number-true}
 use Rattle.proof_container.proofs.Whole.{container_again}
 use Rattle.alpha_words.specs.declared.insn.Insn.{Insn}
+use Rattle.alpha_cfg.specs.declared.fault.CodeFlaw.{CodeFlaw}
+use Rattle.word_ops.specs.declared.Profile.{Profile}
 use Rattle.proof_container.specs.Contents.{Contents}
 use Rattle.pcc_gate.specs.Passing.{Passes}
+use Rattle.pcc_gate.specs.Versions.{head_profile}
+use Rattle.pcc_gate.proofs.ForPolicy.{for-true}
 use Rattle.pcc_gate.specs.First.{first_refusal}
 use Rattle.pcc_gate.specs.Answers.{IsAcceptedBy}
 use Rattle.pcc_gate.specs.Views.{AcceptedView}
@@ -20,7 +23,19 @@ use Rattle.pcc_cli.specs.Inside.Shows.{shown_by}
 use Rattle.term_table.specs.Tree.{Tree}
 use Rattle.pcc_cli.specs.declared.stop.Stop.{Stop}
 use Rattle.pcc_cli.proofs.StageLemmas.{pure_stops}
-use Rattle.word_ops.specs.declared.Profile.TheVariants.{One}
+
+-- the code of a container that was found, read in a profile that is its version's
+pub code-read : (policy : PolicyView) (bytes : List ℕ) (contents : Contents) (profile : Profile)
+    (r : Result (List Insn) CodeFlaw) → container_in policy bytes ≡ gives contents
+    → profile ≡ head_profile contents.head → r ≡ decoded_code profile contents.code
+    → code_in policy bytes ≡ code_found r
+unfolding code_in
+code-read policy bytes contents profile r found same read =
+    ap
+    (λ c. c >>= λ container. code_found
+    (decoded_code (head_profile container.head) container.code)) found
+    ∙ ap (λ (p : Profile). code_found (decoded_code p contents.code)) (sym same)
+    ∙ ap code_found (sym read)
 
 module _ (policy : PolicyView) (bytes : List ℕ) (contents : Contents) (code : List Insn)
     (marks : List Bool) (passes : Passes policy bytes contents code marks) where
@@ -29,14 +44,18 @@ module _ (policy : PolicyView) (bytes : List ℕ) (contents : Contents) (code : 
   container_given =
       rw (
         container_again bytes contents passes.container,
-        number-true policy contents.policy passes.number,
+        for-true policy contents.head passes.named,
       ) refl
 
   pub code_given : code_in policy bytes ≡ gives code
   unfolding code_in
   code_given =
-      ap (λ c. c >>= λ container. code_found (decoded_code One container.code)) container_given
-      ∙ ap code_found (sym (decoded_code-ok One contents.code code passes.encoded passes.code))
+      ap
+      (λ c. c >>= λ container. code_found
+      (decoded_code (head_profile container.head) container.code)) container_given
+      ∙ ap code_found
+      (sym (decoded_code-ok (head_profile contents.head) contents.code code passes.encoded
+      passes.code))
 
   -- what is accepted has the code that the bytes hold
   pub accepted_code_of_bytes : first_refusal policy bytes ≡ None → accepted_code_in policy bytes ≡ gives code

@@ -8,9 +8,16 @@ use Rattle.alpha_words.specs.declared.insn.Insn.{Insn}
 use Rattle.alpha_cfg.specs.declared.fault.CodeFlaw.{CodeFlaw}
 use Rattle.alpha_cfg.specs.CodeDecoding.{decoded_code}
 use Rattle.policy_set.specs.Views.{PolicyView}
-use Rattle.policy_set.specs.Names.{policy_of, is_number_of}
+use Rattle.policy_set.specs.Names.{policy_of}
+use Rattle.policy_set.specs.PolicyText.{policy_read}
+use Rattle.policy_set.specs.declared.fault.PolicyFault.{PolicyFault}
+use Rattle.policy_set.specs.declared.fault.PolicyFault.TheVariants as policy_fault
+use Rattle.formula_text.specs.declared.fault.TextFault.TheVariants as text_fault
+use Rattle.formula_text.specs.Names.{text_flaw_name}
 use Rattle.proof_container.specs.Contents.{Contents}
 use Rattle.proof_container.specs.Decoding.{Fault, decoded_container}
+use Rattle.proof_container.specs.Versions.{profile_of}
+use Rattle.proof_container.specs.declared.container.Head.TheVariants.{Number}
 use Rattle.asm_text.specs.declared.fault.LineFlaw.{LineFlaw}
 use Rattle.asm_text.specs.declared.limits.TheConstants.{MAX_SOURCE}
 use Rattle.asm_text.specs.Names.{line_flaw_name}
@@ -22,6 +29,7 @@ use Rattle.pcc_asm.specs.Assembling.{assembled_contents}
 use Rattle.bounds_prover.specs.declared.fault.ProveFault.{ProveFault}
 use Rattle.bounds_prover.specs.declared.fault.ProveFault.TheVariants as fault
 use Rattle.bounds_prover.specs.Names.{measure_name}
+use Rattle.bounds_prover.specs.declared.fault.Measure.TheVariants.{Bytes}
 use Rattle.bounds_prover.specs.Proving.{proved_container}
 use Rattle.bpf_words.specs.declared.insn.Bpf.{Bpf}
 use Rattle.bpf_words.specs.declared.fault.BpfFlaw.{BpfFlaw}
@@ -32,7 +40,12 @@ use Rattle.demo_input.specs.Sources.{demo_source}
 use Rattle.pcc_gate.specs.declared.refusal.Refusal.{Refusal}
 use Rattle.pcc_gate.specs.declared.refusal.Refusal.TheVariants as refusal
 use Rattle.pcc_gate.specs.First.{first_refusal}
-use Rattle.pcc_words.specs.Invocations.{Invocation, asm, prove, check, run, ref, demo, host, bpf}
+use Rattle.pcc_gate.specs.ForPolicy.{is_for}
+use Rattle.pcc_gate.specs.Versions.{head_profile}
+use Rattle.container_upgrade.specs.declared.fault.UpgradeFault.{UpgradeFault}
+use Rattle.container_upgrade.specs.declared.fault.UpgradeFault.TheVariants as upgrade_fault
+use Rattle.container_upgrade.specs.Upgrading.{upgraded_container}
+use Rattle.pcc_words.specs.Invocations.{named, from_file, Invocation, asm, prove, check, run, ref, demo, upgrade, host, bpf}
 use Rattle.reference_machine.specs.Starts.{StartView}
 use Rattle.packet_store.specs.PolicyStarts.{start_from}
 use Rattle.agent_script.specs.declared.fault.ScriptFlaw.{ScriptFlaw}
@@ -45,7 +58,8 @@ use Rattle.pcc_lines.specs.Agents.{agent_line}
 use Rattle.pcc_lines.specs.Scripts.{script_fault_line}
 use Rattle.pcc_lines.specs.Bpf.{bpf_measure_line, bpf_insn_line, bpf_flaw_line}
 use Rattle.pcc_lines.specs.Demo.{demo_lines}
-use Rattle.pcc_lines.specs.Fixed.{accepted_line, bpf_too_long_line, unknown_policy_line, container_too_long_line, packets_too_long_line, script_too_long_line, source_too_long_line}
+use Rattle.pcc_lines.specs.Fixed.{accepted_line, already_line, bpf_too_long_line, unknown_policy_line, container_too_long_line, packets_too_long_line, policy_too_long_line, script_too_long_line, source_too_long_line}
+use Rattle.pcc_lines.specs.Policies.{policy_lines_line, policy_length_line, policy_form_line}
 use Rattle.pcc_lines.specs.PacketFaults.{packet_fault_line}
 use Rattle.pcc_lines.specs.Proving.{not_easy_line, too_big_line}
 use Rattle.pcc_lines.specs.Refusals.{refusal_line}
@@ -57,7 +71,9 @@ use Rattle.pcc_exit.specs.Stages.{Stage, stops, gives, reads, ◌>>=◌}
 use Rattle.pcc_exit.specs.Runs.{Effect, IsStop, IsSuited}
 use Rattle.pcc_exit.proofs.RunLemmas.{is_read}
 use Rattle.pcc_cli.specs.Texts.{texts}
-use Rattle.pcc_cli.specs.declared.stages.TheConstants.{MAX_FILE, MAX_PROGRAM_FILE}
+use Rattle.pcc_cli.specs.declared.stages.TheConstants.{MAX_FILE, MAX_POLICY_FILE, MAX_PROGRAM_FILE}
+use Rattle.pcc_cli.specs.Stages.Policies.{policy_spelled, policy_in, policy_from}
+use Rattle.pcc_cli.specs.Stages.Upgrading.{container_upgraded, upgraded_in, upgraded_of}
 use Rattle.pcc_cli.specs.Stages.Common.{refused, policy_found, printing, writing}
 use Rattle.pcc_cli.specs.Stages.Containers.{container_for, container_in, code_found, code_in, code_of}
 use Rattle.pcc_cli.specs.Stages.Judging.{unless_refused, accepted_in, accepted_code_in, Shown, shown_in, accepted_of, accepted_code_of}
@@ -73,9 +89,9 @@ use Rattle.pcc_cli.specs.Commands.Check.{check_command}
 use Rattle.pcc_cli.specs.Commands.Prove.{prove_command}
 use Rattle.pcc_cli.specs.Commands.Reference.{ref_command}
 use Rattle.pcc_cli.specs.Commands.Running.{run_command}
+use Rattle.pcc_cli.specs.Commands.Upgrade.{upgrade_command}
 use Rattle.pcc_cli.specs.Commands.Demo.{summary_of, demo_container, demo_told, demo_effect, demo_policy, demo_command}
 use Rattle.pcc_cli.specs.Tasks.{standing_on, task_of_command}
-use Rattle.word_ops.specs.declared.Profile.TheVariants.{One}
 
 -- ---- lines
 
@@ -97,7 +113,7 @@ refusal-first : (r : Refusal) → get_or (refusal_line r) 0 0 ≡ 114
 unfolding refusal_line
 refusal-first (refusal.TooLong length) = refl
 refusal-first (refusal.Malformed offset flaw) = refl
-refusal-first (refusal.OtherPolicy number) = refl
+refusal-first (refusal.OtherPolicy head) = refl
 refusal-first (refusal.BadCode flaw) = refl
 refusal-first (refusal.Height h) = refl
 refusal-first (refusal.InvNotForm k) = refl
@@ -124,6 +140,19 @@ too_big-first : (name : List ℕ) (number : ℕ) → get_or (too_big_line name n
 unfolding too_big_line
 too_big-first name number = refl
 
+policy_lines-first : (count : ℕ) → get_or (policy_lines_line count) 0 0 ≡ 112
+unfolding policy_lines_line
+policy_lines-first count = refl
+
+policy_length-first : (line : ℕ) → get_or (policy_length_line line) 0 0 ≡ 112
+unfolding policy_length_line
+policy_length-first line = refl
+
+policy_form-first : (line position : ℕ) (kind : List ℕ)
+    → get_or (policy_form_line line position kind) 0 0 ≡ 112
+unfolding policy_form_line
+policy_form-first line position kind = refl
+
 bpf_flaw-first : (f : BpfFlaw) → get_or (bpf_flaw_line f) 0 0 ≡ 98
 unfolding bpf_measure_line bpf_insn_line
 bpf_flaw-first (flaw.Size n) = refl
@@ -136,6 +165,29 @@ bpf_flaw-first (flaw.NoReturn i) = refl
 
 refusal_stop : (r : Refusal) → IsStop texts command (refused (refusal_line r))
 refusal_stop r = let first : get_or (refusal_line r) 0 0 ≡ 114 = refusal-first r in stop_line (refusal_line r) (omega arith)
+
+too_big_stop : (name : List ℕ) (number : ℕ)
+    → IsStop texts command (refused (too_big_line name number))
+too_big_stop name number =
+    let first : get_or (too_big_line name number) 0 0 ≡ 116 = too_big-first name number in
+    stop_line (too_big_line name number) (omega arith)
+
+policy_lines_stop : (count : ℕ) → IsStop texts command (refused (policy_lines_line count))
+policy_lines_stop count =
+    let first : get_or (policy_lines_line count) 0 0 ≡ 112 = policy_lines-first count in
+    stop_line (policy_lines_line count) (omega arith)
+
+policy_length_stop : (line : ℕ) → IsStop texts command (refused (policy_length_line line))
+policy_length_stop line =
+    let first : get_or (policy_length_line line) 0 0 ≡ 112 = policy_length-first line in
+    stop_line (policy_length_line line) (omega arith)
+
+policy_form_stop : (line position : ℕ) (kind : List ℕ)
+    → IsStop texts command (refused (policy_form_line line position kind))
+policy_form_stop line position kind =
+    let first : get_or (policy_form_line line position kind) 0 0 ≡ 112 =
+    policy_form-first line position kind in
+    stop_line (policy_form_line line position kind) (omega arith)
 
 source_stop : (number : ℕ) (kind : List ℕ) → IsStop texts command (refused (source_fault_line number kind))
 source_stop number kind = let first : get_or (source_fault_line number kind) 0 0 ≡ 108 = source_fault-first number kind in stop_line (source_fault_line number kind) (omega arith)
@@ -159,19 +211,20 @@ module _ (names : Option (List (List ℕ))) where
   -- the file of a name is read
   read : {A : Type 0} (name : List ℕ) (max : ℕ) (line : List ℕ) (on : List ℕ → Stage A) → IfSome names (λ all. Contains all name) → get_or line 0 0 < 117 → ((b : List ℕ) → Fits (on b))
       → Fits (reads name max (refused line) on)
-  read name max line on named less each = (refl, named, stop_line line less, each)
+  read name max line on listed less each = (refl, listed, stop_line line less, each)
 
   code_found-fits : (r : Result (List Insn) CodeFlaw) → Fits (code_found r)
   code_found-fits (Ok code) = refl
   code_found-fits (Err flaw) = inl (refusal_stop (refusal.BadCode flaw))
 
-  sized : (c : Contents) (b : Bool) → Fits (if b then gives c else stops (refused (refusal_line (refusal.OtherPolicy c.policy))))
+  sized : (c : Contents) (b : Bool)
+      → Fits (if b then gives c else stops (refused (refusal_line (refusal.OtherPolicy c.head))))
   sized c true = refl
-  sized c false = inl (refusal_stop (refusal.OtherPolicy c.policy))
+  sized c false = inl (refusal_stop (refusal.OtherPolicy c.head))
 
   container_for-fits : (policy : PolicyView) (r : Result Contents Fault)
       → Fits (container_for policy r)
-  container_for-fits policy (Ok c) = sized c (is_number_of policy c.policy)
+  container_for-fits policy (Ok c) = sized c (is_for policy c.head)
   container_for-fits policy (Err fault) = inl (refusal_stop (refusal.Malformed fault.0 fault.1))
 
   container_in-fits : (policy : PolicyView) (bytes : List ℕ) → Fits (container_in policy bytes)
@@ -180,7 +233,11 @@ module _ (names : Option (List (List ℕ))) where
 
   code_in-fits : (policy : PolicyView) (bytes : List ℕ) → Fits (code_in policy bytes)
   unfolding code_in
-  code_in-fits policy bytes = behind (λ container. code_found (decoded_code One container.code)) (container_in policy bytes) (container_in-fits policy bytes) (λ c. code_found-fits (decoded_code One c.code))
+  code_in-fits policy bytes =
+      behind
+      (λ container. code_found (decoded_code (head_profile container.head) container.code))
+      (container_in policy bytes) (container_in-fits policy bytes)
+      (λ c. code_found-fits (decoded_code (head_profile c.head) c.code))
 
   unless_refused-fits : (r : Option Refusal) → Fits (unless_refused r)
   unless_refused-fits None = refl
@@ -217,10 +274,13 @@ module _ (names : Option (List (List ℕ))) where
   container_made-fits (Ok contents) = refl
   container_made-fits (Err flaw) = inl (source_stop (asm_flaw_line flaw) (asm_flaw_name flaw))
 
-  assembled_in-fits : (policy : PolicyView) (text : List ℕ) → Fits (assembled_in policy text)
+  assembled_in-fits : (version : ℕ) (policy : PolicyView) (text : List ℕ)
+      → Fits (assembled_in version policy text)
   unfolding assembled_in source_in assembled_as
-  assembled_in-fits policy text =
-      behind (λ source. assembled_as policy source) (source_in text) (source_found-fits (parsed_source One text)) (λ source. container_made-fits (assembled_contents policy source))
+  assembled_in-fits version policy text =
+      behind (λ source. assembled_as version policy source) (source_in version text)
+      (source_found-fits (parsed_source (profile_of version) text))
+      (λ source. container_made-fits (assembled_contents version policy source))
 
   container_proved-fits : (r : Result (List ℕ) ProveFault) → Fits (container_proved r)
   container_proved-fits (Ok bytes) = refl
@@ -228,14 +288,43 @@ module _ (names : Option (List (List ℕ))) where
   container_proved-fits (Err (fault.NotEasy part)) =
       inl (let first : get_or (not_easy_line part) 0 0 ≡ 110 = not_easy-first part in stop_line (not_easy_line part) (omega arith))
   container_proved-fits (Err (fault.TooBig measure number)) =
-      inl (let first : get_or (too_big_line (measure_name measure) number) 0 0 ≡ 116 = too_big-first (measure_name measure) number in
-      stop_line (too_big_line (measure_name measure) number) (omega arith))
+      inl (too_big_stop (measure_name measure) number)
   container_proved-fits (Err fault.Memory) = inr refl
   container_proved-fits (Err fault.Results) = inr refl
 
   proved_in-fits : (policy : PolicyView) (bytes : List ℕ) → Fits (proved_in policy bytes)
   unfolding proved_in
   proved_in-fits policy bytes = container_proved-fits (proved_container policy bytes)
+
+  policy_spelled-fits : (r : Result PolicyView PolicyFault) → Fits (policy_spelled r)
+  policy_spelled-fits (Ok policy) = refl
+  policy_spelled-fits (Err (policy_fault.Lines count)) = inl (policy_lines_stop count)
+  policy_spelled-fits (Err (policy_fault.Length line)) = inl (policy_length_stop line)
+  policy_spelled-fits (Err (policy_fault.Form line (text_fault.At position flaw))) =
+      inl (policy_form_stop line position (text_flaw_name flaw))
+  policy_spelled-fits (Err (policy_fault.Form line text_fault.Memory)) = inr refl
+  policy_spelled-fits (Err policy_fault.Memory) = inr refl
+
+  policy_in-fits : (bytes : List ℕ) → Fits (policy_in bytes)
+  unfolding policy_in
+  policy_in-fits bytes = policy_spelled-fits (policy_read bytes)
+
+  container_upgraded-fits : (r : Result (List ℕ) UpgradeFault) → Fits (container_upgraded r)
+  container_upgraded-fits (Ok bytes) = refl
+  container_upgraded-fits (Err (upgrade_fault.TooLong length)) =
+      inl (refusal_stop (refusal.TooLong length))
+  container_upgraded-fits (Err (upgrade_fault.Malformed offset flaw)) =
+      inl (refusal_stop (refusal.Malformed offset flaw))
+  container_upgraded-fits (Err upgrade_fault.Already) = inl (stop_line already_line (omega arith))
+  container_upgraded-fits (Err (upgrade_fault.OtherPolicy n)) =
+      inl (refusal_stop (refusal.OtherPolicy (Number n)))
+  container_upgraded-fits (Err (upgrade_fault.TooBig size)) =
+      inl (too_big_stop (measure_name Bytes) size)
+  container_upgraded-fits (Err upgrade_fault.Memory) = inr refl
+
+  upgraded_in-fits : (bytes : List ℕ) → Fits (upgraded_in bytes)
+  unfolding upgraded_in
+  upgraded_in-fits bytes = container_upgraded-fits (upgraded_container bytes)
 
   program_found-fits : (r : Result (List Bpf) BpfFlaw) → Fits (program_found r)
   program_found-fits (Ok program) = refl
@@ -248,15 +337,16 @@ module _ (names : Option (List (List ℕ))) where
   -- stages that read
   packets_of-fits : {B : Type 0} (name : List ℕ) (next : List (List ℕ) → Stage B) → IfSome names (λ all. Contains all name) → ((all : List (List ℕ)) → Fits (next all)) → Fits (packets_of name >>= next)
   unfolding packets_of
-  packets_of-fits name next named each =
-      behind next (packets_of name) (read name MAX_FILE packets_too_long_line (λ b. packets_in b) named (omega arith) (λ b. packets_found-fits (decoded_packets b))) each
+  packets_of-fits name next listed each =
+      behind next (packets_of name) (read name MAX_FILE packets_too_long_line (λ b. packets_in b) listed (omega arith) (λ b. packets_found-fits (decoded_packets b))) each
 
   demo_effect-fits : (policy : PolicyView) (n : ℕ) → Fits (demo_effect policy n)
   unfolding demo_effect demo_told demo_container
   demo_effect-fits policy n =
       behind (λ told. printing (demo_lines told)) (demo_told policy n)
       (behind (λ container. shown_in policy container >>= λ shown. gives (summary_of policy n shown)) (demo_container policy n)
-      (behind (λ container. proved_in policy container) (assembled_in policy (demo_source n)) (assembled_in-fits policy (demo_source n)) (λ container. proved_in-fits policy container))
+      (behind (λ container. proved_in policy container) (assembled_in 1 policy (demo_source n))
+      (assembled_in-fits 1 policy (demo_source n)) (λ container. proved_in-fits policy container))
       (λ container. behind (λ shown. gives (summary_of policy n shown)) (shown_in policy container) (shown_in-fits policy container) (λ shown. refl)))
       (λ told. refl)
 
@@ -271,9 +361,16 @@ no_reads (reads name max more on) h = let none = h.1.1 in absurd (omega arith)
 pub code_in-ends : (policy : PolicyView) (bytes : List ℕ) → is_read (code_in policy bytes) ≡ false
 code_in-ends policy bytes = no_reads (code_in policy bytes) (code_in-fits (Some []) policy bytes)
 
-pub assembled_in-ends : (policy : PolicyView) (text : List ℕ) → is_read (assembled_in policy text)
-    ≡ false
-assembled_in-ends policy text = no_reads (assembled_in policy text) (assembled_in-fits (Some []) policy text)
+pub assembled_in-ends : (version : ℕ) (policy : PolicyView) (text : List ℕ)
+    → is_read (assembled_in version policy text) ≡ false
+assembled_in-ends version policy text =
+    no_reads (assembled_in version policy text) (assembled_in-fits (Some []) version policy text)
+
+pub policy_in-ends : (bytes : List ℕ) → is_read (policy_in bytes) ≡ false
+policy_in-ends bytes = no_reads (policy_in bytes) (policy_in-fits (Some []) bytes)
+
+pub upgraded_in-ends : (bytes : List ℕ) → is_read (upgraded_in bytes) ≡ false
+upgraded_in-ends bytes = no_reads (upgraded_in bytes) (upgraded_in-fits (Some []) bytes)
 
 pub proved_in-ends : (policy : PolicyView) (bytes : List ℕ) → is_read (proved_in policy bytes)
     ≡ false
@@ -406,17 +503,18 @@ second_name : (a b : List ℕ) → Contains (a ∷ b ∷ []) b
 second_name a b = (1, omega arith, refl)
 
 pub suited : (o : Option Invocation) → let task = task_of_command o in IsSuited texts task.standing task.names task.stage
-unfolding asm_command prove_command check_command run_command ref_command demo_command host_command bpf_command script_of script_in assembled_of proved_of accepted_of accepted_code_of code_of compiled_of
+unfolding asm_command prove_command check_command run_command ref_command demo_command upgrade_command host_command bpf_command script_of script_in policy_from assembled_of proved_of upgraded_of accepted_of accepted_code_of code_of compiled_of
 suited None = inl (record { suits = refl; some = omega arith; in_range = omega arith })
-suited (Some (asm policy input output)) =
+suited (Some (asm policy input output version)) =
     begins (Some (input ∷ []))
-    (λ under. assembled_of under input >>= λ container. writing output container)
+    (λ under. assembled_of version under input >>= λ container. writing output container)
     (policy_of policy) (λ under.
     read (Some (input ∷ [])) input MAX_SOURCE source_too_long_line
-    (λ b. assembled_in under b >>= λ container. writing output container) (only input)
+    (λ b. assembled_in version under b >>= λ container. writing output container) (only input)
     (omega arith) (λ b.
-    behind (Some (input ∷ [])) (λ container. writing output container) (assembled_in under b)
-    (assembled_in-fits (Some (input ∷ [])) under b) (λ container. refl)))
+    behind (Some (input ∷ [])) (λ container. writing output container)
+    (assembled_in version under b)
+    (assembled_in-fits (Some (input ∷ [])) version under b) (λ container. refl)))
 suited (Some (prove policy input output)) =
     begins (Some (input ∷ []))
     (λ under. proved_of under input >>= λ container. writing output container)
@@ -426,9 +524,20 @@ suited (Some (prove policy input output)) =
     (omega arith) (λ b.
     behind (Some (input ∷ [])) (λ container. writing output container) (proved_in under b)
     (proved_in-fits (Some (input ∷ [])) under b) (λ container. refl)))
-suited (Some (check policy file)) =
-    begins (Some (file ∷ []))
-    (λ under. accepted_of under file >>= λ accepted. printing accepted_line)
+suited (Some (check (from_file name) file)) =
+    let names = Some (name ∷ file ∷ []) in
+    read names name MAX_POLICY_FILE policy_too_long_line
+    (λ b. policy_in b >>= λ under. accepted_of under file >>= λ accepted. printing accepted_line)
+    (first_name name file) (omega arith) (λ b.
+    behind names (λ under. accepted_of under file >>= λ accepted. printing accepted_line)
+    (policy_in b) (policy_in-fits names b) (λ under.
+    read names file MAX_FILE container_too_long_line
+    (λ b. accepted_in under b >>= λ accepted. printing accepted_line) (second_name name file)
+    (omega arith) (λ b.
+    behind names (λ accepted. printing accepted_line) (accepted_in under b)
+    (accepted_in-fits names under b) (λ accepted. refl))))
+suited (Some (check (named policy) file)) =
+    begins (Some (file ∷ [])) (λ under. accepted_of under file >>= λ accepted. printing accepted_line)
     (policy_of policy) (λ under.
     read (Some (file ∷ [])) file MAX_FILE container_too_long_line
     (λ b. accepted_in under b >>= λ accepted. printing accepted_line) (only file) (omega arith)
@@ -472,6 +581,11 @@ suited (Some (ref policy file packets steps)) =
 suited (Some (demo n)) =
     begins (Some []) (λ under. demo_effect under n) (policy_of demo_policy)
     (λ under. demo_effect-fits (Some []) under n)
+suited (Some (upgrade input output)) =
+    read (Some (input ∷ [])) input MAX_FILE container_too_long_line
+    (λ b. upgraded_in b >>= λ container. writing output container) (only input) (omega arith) (λ b.
+    behind (Some (input ∷ [])) (λ container. writing output container) (upgraded_in b)
+    (upgraded_in-fits (Some (input ∷ [])) b) (λ container. refl))
 suited (Some (host script)) =
     read None script MAX_SCRIPT script_too_long_line (λ b. script_in b >>= λ said. agents_from 0 said.loads >>= λ agents. printing (turn_lines agents 0 [] said.turns)) tt (omega arith) (λ b.
     behind None (λ said. agents_from 0 said.loads >>= λ agents. printing (turn_lines agents 0 [] said.turns)) (script_in b) (script_found-fits (parsed_script b)) (λ said.

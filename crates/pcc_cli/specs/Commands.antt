@@ -6,3 +6,4 @@ pub mod Host
 pub mod Prove
 pub mod Reference
 pub mod Running
+pub mod Upgrade

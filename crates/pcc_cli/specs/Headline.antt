@@ -1,4 +1,5 @@
--- What a run of `check`, `run`, `ref`, `prove`, `asm`, `host` and `bpf` means, whatever the files hold, by what it read; and what accepted code is worth.
+-- What a run of each command means, whatever the files hold, by what it read; and what accepted
+-- code is worth.
 use Rattle.std.specs.Prelude.{◌≡◌, ℕ, suc, Bool, ◌*◌, ◌<◌, ◌≤◌, ◌↔◌, ◌⊎◌, List, [], ◌∷◌, ◌++◌, length, Option, None, Some, Result, Ok, Err}
 use Rattle.file_port.specs.Events.{Given, whole, missing, too_long, failed, no_memory, Event, was_read, was_written}
 use Rattle.file_port.specs.Sink.{SinkState}
@@ -10,6 +11,8 @@ use Rattle.alpha_cfg.specs.declared.outcome.Outcome.TheVariants.{Returned}
 use Rattle.policy_set.specs.declared.kind.PolicyKind.TheVariants.{Filter}
 use Rattle.policy_set.specs.Views.{PolicyView, built_in, IsPolicy}
 use Rattle.policy_set.specs.Names.{policy_of}
+use Rattle.policy_set.specs.declared.fault.PolicyFault.{PolicyFault}
+use Rattle.policy_set.specs.PolicyText.{SpellsPolicy, policy_read}
 use Rattle.reference_machine.specs.declared.layout.TheConstants.{ARENA, QUADWORDS}
 use Rattle.reference_machine.specs.Starts.{StartView, start_state}
 use Rattle.packet_store.specs.declared.reader.TheConstants.{MAX_PACKET}
@@ -30,7 +33,8 @@ use Rattle.bpf_words.specs.Reading.{program_of}
 use Rattle.bpf_words.specs.Values.{bpf_value}
 use Rattle.bpf_code.specs.Blocks.{nonzero_flag}
 use Rattle.bpf_compile.specs.Compilation.{compiled_container}
-use Rattle.pcc_words.specs.Invocations.{Invocation, asm, prove, check, run, ref, demo, host, bpf}
+use Rattle.pcc_words.specs.Invocations.{named, from_file, Invocation, asm, prove, check, run, ref, demo, upgrade, host, bpf}
+use Rattle.container_upgrade.specs.Upgrades.{IsUpgrade}
 use Rattle.turn_laws.specs.Parts.{AreApart, LieIn, part_from}
 use Rattle.agent_script.specs.declared.fault.ScriptFlaw.{ScriptFlaw}
 use Rattle.agent_script.specs.declared.script.TheConstants.{MAX_SCRIPT}
@@ -42,7 +46,7 @@ use Rattle.agent_host.specs.Agents.{base_of}
 use Rattle.pcc_lines.specs.Agents.{agent_line, no_packet_line, short_line}
 use Rattle.pcc_lines.specs.Scripts.{script_fault_line}
 use Rattle.pcc_lines.specs.Bpf.{bpf_flaw_line}
-use Rattle.pcc_lines.specs.Fixed.{accepted_line, bpf_too_long_line, unknown_policy_line, container_too_long_line, packets_too_long_line, script_too_long_line, source_too_long_line}
+use Rattle.pcc_lines.specs.Fixed.{accepted_line, bpf_too_long_line, unknown_policy_line, container_too_long_line, packets_too_long_line, policy_too_long_line, script_too_long_line, source_too_long_line}
 use Rattle.pcc_lines.specs.PacketFaults.{packet_fault_line}
 use Rattle.pcc_lines.specs.Refusals.{refusal_line}
 use Rattle.pcc_lines.specs.Results.{result_lines}
@@ -54,13 +58,14 @@ use Rattle.asm_text.specs.declared.limits.TheConstants.{MAX_SOURCE}
 use Rattle.bounds_prover.specs.Proving.{proved_container}
 use Rattle.pcc_exit.specs.Stages.{Stage, stops, gives, went_on}
 use Rattle.pcc_cli.specs.Texts.{texts}
-use Rattle.pcc_cli.specs.Tasks.{policy_name_of}
 use Rattle.pcc_cli.specs.Stages.Assembling.{assembled_in}
 use Rattle.pcc_cli.specs.Stages.Common.{refused}
 use Rattle.pcc_cli.specs.Stages.Hosting.{Member, told_of}
+use Rattle.pcc_cli.specs.Stages.Policies.{no_policy_spelled}
 use Rattle.pcc_cli.specs.Stages.Proving.{proved_in}
+use Rattle.pcc_cli.specs.Stages.Upgrading.{upgraded_in}
 use Rattle.pcc_cli.specs.Commands.Host.{turn_lines}
-use Rattle.pcc_cli.specs.declared.stages.TheConstants.{MAX_FILE, MAX_PROGRAM_FILE}
+use Rattle.pcc_cli.specs.declared.stages.TheConstants.{MAX_FILE, MAX_POLICY_FILE, MAX_PROGRAM_FILE}
 
 -- ---- the verdict on what was read
 
@@ -102,6 +107,26 @@ pub record Checks (policy : PolicyView) (file : List ℕ) (events : List Event) 
     pub one_read : events ≡ was_read file MAX_FILE given ∷ []
     pub judged : IsJudged policy file given exit
 
+-- what `check @NAME` prints of what its read of NAME gave, where that spells no policy
+abbrev pub IsNoPolicy : List ℕ → Given → Exit → Type 0
+IsNoPolicy name (whole text) exit =
+    (fault : PolicyFault) × (policy_read text ≡ Err fault) × (exit ≡ no_policy_spelled fault)
+IsNoPolicy name missing exit = exit ≡ missing_exit texts name
+IsNoPolicy name too_long exit = exit ≡ refused policy_too_long_line
+IsNoPolicy name failed exit = exit ≡ read_fault_exit texts name
+IsNoPolicy name no_memory exit = exit ≡ no_memory_exit
+
+-- `check @NAME`: one read, of NAME, which spells no policy, and what is wrong with it; or it spells
+-- one, which keeps what each policy does, FILE is read behind it, and the verdict is that of this
+-- policy.
+pub data ChecksFrom (name file : List ℕ) (events : List Event) (exit : Exit) : Type 0 where
+  without_policy : (given : Given) → events ≡ was_read name MAX_POLICY_FILE given ∷ []
+      → IsNoPolicy name given exit → ChecksFrom name file events exit
+  with_policy : (text : List ℕ) (policy : PolicyView) (given : Given) → SpellsPolicy text policy
+      → IsPolicy policy
+      → events ≡ was_read name MAX_POLICY_FILE (whole text) ∷ was_read file MAX_FILE given ∷ []
+      → IsJudged policy file given exit → ChecksFrom name file events exit
+
 -- `run`: one read, of FILE, which is not accepted, and what `check` prints of it; or it is accepted, PACKETS is read behind it, and
 -- the lines are those of the machine that tests every access, of the code that was accepted.
 pub data RunsCode (policy : PolicyView) (file packets : List ℕ) (steps : ℕ) (events : List Event)
@@ -132,14 +157,21 @@ pub data Makes (input output : List ℕ) (max : ℕ) (IsMade : List ℕ → List
 abbrev pub StopsWith : List ℕ → Exit → (List ℕ → Stage (List ℕ)) → Given → Exit → Type 0
 StopsWith input too_long_exit stage given exit = went_on texts input too_long_exit stage given ≡ stops exit
 
--- `asm` makes of a source the container that it is assembled into
-abbrev pub AssemblesTo : PolicyView → List ℕ → List ℕ → Type 0
-AssemblesTo policy text out = assembled_in policy text ≡ gives out
+-- `asm` makes of a source the container of the version that it is assembled into
+abbrev pub AssemblesTo : ℕ → PolicyView → List ℕ → List ℕ → Type 0
+AssemblesTo version policy text out = assembled_in version policy text ≡ gives out
 
 -- `prove` makes of a container one that is accepted under the policy
 pub record ProvesTo (policy : PolicyView) (bytes out : List ℕ) : Type 0 where
   pub proved : proved_container policy bytes ≡ Ok out
   pub accepted : IsAccepted policy out
+
+-- `upgrade` makes of a container of version 1 one of version 2, of the same code, invariants and
+-- proof, that is accepted under each policy under which the first is
+pub record UpgradesTo (bytes out : List ℕ) : Type 0 where
+  pub upgrade : IsUpgrade bytes out
+  pub accepted : (policy : PolicyView) → IsPolicy policy → IsAccepted policy bytes
+      → IsAccepted policy out
 
 -- the most steps of a run of what a program is compiled to; each of at most forty instructions takes twenty
 abbrev pub bpf_steps : ℕ
@@ -245,33 +277,42 @@ pub data Hosts (name : List ℕ) (events : List Event) (exit : Exit) : Type 0 wh
 
 -- ---- by what the arguments are
 
--- what a command under a policy did that came to an exit
-abbrev pub DoesUnder : PolicyView → Invocation → List Event → Exit → Type 0
-DoesUnder under (asm policy input output) events exit =
-    Makes input output MAX_SOURCE (AssemblesTo under)
-    (StopsWith input (refused source_too_long_line) (assembled_in under)) events exit
-DoesUnder under (prove policy input output) events exit =
-    Makes input output MAX_FILE (ProvesTo under)
-    (StopsWith input (refused container_too_long_line) (proved_in under)) events exit
-DoesUnder under (check policy file) events exit = Checks under file events exit
-DoesUnder under (run policy file packets steps) events exit =
-    RunsCode under file packets steps events exit
-DoesUnder under (ref policy file packets steps) events exit =
-    Refs under file packets steps events exit
-DoesUnder under (demo n) events exit = events ≡ []
-DoesUnder under (host script) events exit = Hosts script events exit
-DoesUnder under (bpf input output) events exit =
-    Makes input output MAX_PROGRAM_FILE CompilesTo (IsToldOf input) events exit
+-- What a command did that names a policy: there is none of the name, and it asked for nothing; or
+-- there is.
+abbrev pub UnderNamed : Option PolicyView → (PolicyView → Type 0) → List Event → Exit → Type 0
+UnderNamed None Did events exit = (events ≡ []) × (exit ≡ refused unknown_policy_line)
+UnderNamed (Some under) Did events exit = Did under
 
--- what a command did whose policy was found, or wasn't
-abbrev pub Does : Option PolicyView → Invocation → List Event → Exit → Type 0
-Does (Some under) invocation events exit = DoesUnder under invocation events exit
-Does None invocation events exit = (events ≡ []) × (exit ≡ refused unknown_policy_line)
+-- what a command did that came to an exit
+abbrev pub Does : Invocation → List Event → Exit → Type 0
+Does (asm policy input output version) events exit =
+    UnderNamed (policy_of policy) (λ under.
+    Makes input output MAX_SOURCE (AssemblesTo version under)
+    (StopsWith input (refused source_too_long_line) (assembled_in version under)) events exit)
+    events exit
+Does (prove policy input output) events exit =
+    UnderNamed (policy_of policy) (λ under. Makes input output MAX_FILE (ProvesTo under)
+    (StopsWith input (refused container_too_long_line) (proved_in under)) events exit) events exit
+Does (check (named policy) file) events exit =
+    UnderNamed (policy_of policy) (λ under. Checks under file events exit) events exit
+Does (check (from_file name) file) events exit = ChecksFrom name file events exit
+Does (run policy file packets steps) events exit =
+    UnderNamed (policy_of policy) (λ under. RunsCode under file packets steps events exit)
+    events exit
+Does (ref policy file packets steps) events exit =
+    UnderNamed (policy_of policy) (λ under. Refs under file packets steps events exit) events exit
+Does (demo n) events exit = events ≡ []
+Does (upgrade input output) events exit =
+    Makes input output MAX_FILE UpgradesTo
+    (StopsWith input (refused container_too_long_line) upgraded_in) events exit
+Does (host script) events exit = Hosts script events exit
+Does (bpf input output) events exit =
+    Makes input output MAX_PROGRAM_FILE CompilesTo (IsToldOf input) events exit
 
 -- A run of a command asked files for these events, behind a log e, and put what the exit says on the output s; or memory ran out
 -- after some reads, and nothing was put.
 pub data Means (invocation : Invocation) (e e' : List Event) (s t : SinkState) (status : ℕ) : Type 0 where
-  came : (events : List Event) (exit : Exit) → e' ≡ e ++ events → Does (policy_of (policy_name_of invocation)) invocation events exit
+  came : (events : List Event) (exit : Exit) → e' ≡ e ++ events → Does invocation events exit
       → Prints exit s t status → Means invocation e e' s t status
   out_of_memory : (events : List Event) → e' ≡ e ++ events → NoneFailed events → t ≡ s → status ≡ 5 → Means invocation e e' s t status
 

@@ -1,8 +1,10 @@
 pub mod Common
+pub mod Policies
 pub mod Containers
 pub mod Judging
 pub mod Packets
 pub mod Assembling
 pub mod Proving
+pub mod Upgrading
 pub mod Compiling
 pub mod Hosting

@@ -8,6 +8,7 @@ mod host;
 mod prove;
 mod reference;
 mod running;
+mod upgrade;
 
 pub use assemble::asm_command;
 pub use bpf::bpf_command;
@@ -17,3 +18,4 @@ pub use host::host_command;
 pub use prove::prove_command;
 pub use reference::ref_command;
 pub use running::run_command;
+pub use upgrade::upgrade_command;

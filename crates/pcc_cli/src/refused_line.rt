@@ -9,12 +9,14 @@ use asm_text::LineFlaw;
 use bounds_prover::Measure;
 use bpf_words::BpfFlaw;
 use file_port::{Put, Sink};
+use formula_text::TextFlaw;
 use packet_store::PacketFault;
 use pcc_asm::AsmFlaw;
 use pcc_gate::Refusal;
 use pcc_lines::{
-    print_bpf_flaw, print_bpf_too_long, print_container_too_long, print_not_easy,
-    print_packet_fault, print_packets_too_long, print_refusal, print_script_fault,
+    print_already, print_bpf_flaw, print_bpf_too_long, print_container_too_long, print_not_easy,
+    print_packet_fault, print_packets_too_long, print_policy_form, print_policy_length,
+    print_policy_lines, print_policy_too_long, print_refusal, print_script_fault,
     print_script_too_long, print_source_fault, print_source_too_long, print_too_big,
     print_unknown_policy,
 };
@@ -24,6 +26,15 @@ use pcc_lines::{
 pub enum RefusedLine {
     /// No policy has the name.
     UnknownPolicy,
+    /// The policy's file is longer than what is read of one.
+    PolicyTooLong,
+    /// The policy's file has so many lines in place of two.
+    PolicyLines(u64),
+    /// The line of this number, from 1, is the first of the policy's file that is too long.
+    PolicyLength(u32),
+    /// The line of this number, from 1, is the first of the policy's file that spells no formula:
+    /// the position of the first token that is wrong, and what is wrong there.
+    PolicyForm(u32, u64, TextFlaw),
     /// The container is refused.
     Container(Refusal),
     /// The container's file is longer than a file may be.
@@ -33,6 +44,8 @@ pub enum RefusedLine {
     NotEasy(u32),
     /// The proof, or the container with it, is past a limit: the first, and its measure.
     TooBig(Measure, u64),
+    /// The container that is to be upgraded is of a later version.
+    Already,
     /// The source's file is longer than a source may be.
     SourceTooLong,
     /// The line of this number, from 1, is the first that is wrong; 0 where there is no
@@ -64,10 +77,17 @@ impl RefusedLine {
     {
         match self {
             RefusedLine::UnknownPolicy => print_unknown_policy(out),
+            RefusedLine::PolicyTooLong => print_policy_too_long(out),
+            RefusedLine::PolicyLines(count) => print_policy_lines(count, out),
+            RefusedLine::PolicyLength(line) => print_policy_length(line, out),
+            RefusedLine::PolicyForm(line, at, flaw) => {
+                print_policy_form(line, at, flaw.name(), out)
+            }
             RefusedLine::Container(refusal) => print_refusal(refusal, out),
             RefusedLine::ContainerTooLong => print_container_too_long(out),
             RefusedLine::NotEasy(part) => print_not_easy(part, out),
             RefusedLine::TooBig(measure, number) => print_too_big(measure.name(), number, out),
+            RefusedLine::Already => print_already(out),
             RefusedLine::SourceTooLong => print_source_too_long(out),
             RefusedLine::BadLine(line, flaw) => print_source_fault(line, flaw.name(), out),
             RefusedLine::BadSource(flaw) => print_source_fault(flaw.line(), flaw.name(), out),

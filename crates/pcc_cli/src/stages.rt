@@ -6,15 +6,19 @@ ghost use Rattle.proof_container.specs.Views.{contents_of};
 ghost use Rattle.asm_text.specs.declared.limits.TheConstants.{MAX_SOURCE};
 ghost use Rattle.asm_text.specs.Views.{source_view};
 ghost use Rattle.pcc_asm.specs.Views.{IsSpelled};
+ghost use Rattle.proof_container.specs.Versions.{profile_of};
 ghost use Rattle.pcc_gate.specs.Answers.{IsAcceptedBy};
 ghost use Rattle.bpf_words.specs.Programs.{IsProgram};
 ghost use Rattle.pcc_exit.specs.Stages.{reads, gives};
+ghost use Rattle.pcc_words.specs.Commands.{word_view};
 ghost use Rattle.pcc_cli.specs.Stages.Common as common;
+ghost use Rattle.pcc_cli.specs.Stages.Policies as policies;
 ghost use Rattle.pcc_cli.specs.Stages.Containers as containers;
 ghost use Rattle.pcc_cli.specs.Stages.Judging as judging;
 ghost use Rattle.pcc_cli.specs.Stages.Packets as packets;
 ghost use Rattle.pcc_cli.specs.Stages.Assembling as assembling;
 ghost use Rattle.pcc_cli.specs.Stages.Proving as proving;
+ghost use Rattle.pcc_cli.specs.Stages.Upgrading as upgrading;
 ghost use Rattle.pcc_cli.specs.Stages.Compiling as compiling;
 ghost use Rattle.pcc_cli.specs.Stages.Hosting as hosting;
 ghost use Rattle.agent_script.specs.declared.script.TheConstants.{MAX_SCRIPT};
@@ -29,20 +33,25 @@ use crate::stop::Stop;
 use agent_script::{MAX_SCRIPT, Script, ScriptFault, read_script};
 use alpha_cfg::{Code, CodeFault};
 use asm_text::{LineFault, MAX_SOURCE, Source, read_source};
-use bounds_prover::{ProveFault, prove};
+use bounds_prover::{Measure, ProveFault, prove};
 use bpf_compile::compile;
 use bpf_words::{Bpf, BpfFault, read_bpf};
+use container_upgrade::{UpgradeFault, upgraded};
 use file_port::{Files, Got, Put};
+use formula_text::TextFault;
 use packet_store::PacketFile;
 use pcc_asm::{AsmFault, assemble};
-use pcc_gate::{Accepted, GateFault, Refusal, gate};
-use policy_set::{Policy, by_name};
-use proof_container::{Container, Malformed, read, write};
+use pcc_gate::{Accepted, GateFault, Refusal, gate, head_profile, is_for};
+use pcc_words::PolicyWord;
+use policy_set::{Policy, PolicyFault, by_name, read_policy};
+use proof_container::{Container, Head, Malformed, profile_of, read, write};
 use std::alloc::Global;
-use word_ops::Profile;
 
 /// The most bytes of a container and of a packet file.
 pub const MAX_FILE: u32 = 4_194_304;
+
+/// The most bytes that are read of a policy's file; none that spells a policy is longer than 8,196.
+pub const MAX_POLICY_FILE: u32 = 65_536;
 
 /// The most bytes that are read of a program of classic BPF; none is longer than 320.
 pub const MAX_PROGRAM_FILE: u32 = 65_536;
@@ -55,6 +64,58 @@ pub fn policy_named<'a>(alloc: Global, name: &str) -> Result<Policy, Stop<'a>>
         Ok(Some(policy)) => Ok(policy),
         Ok(None) => Err(Stop::Refused(RefusedLine::UnknownPolicy)),
         Err(_) => Err(Stop::Memory),
+    }
+}
+
+/// The policy that the bytes spell.
+#[tactic(auto, unfolding(crate::specs::Stages::Policies::policy_in))]
+fn policy_in<'a>(alloc: Global, bytes: &[u8]) -> Result<Policy, Stop<'a>>
+    ensures { GivesPure (λ policy. policy) (policies.policy_in bytes.now) result }
+{
+    match read_policy(alloc, bytes) {
+        Ok(policy) => Ok(policy),
+        Err(PolicyFault::Lines(count)) => {
+            Err(Stop::Refused(RefusedLine::PolicyLines(count as u64)))
+        }
+        Err(PolicyFault::Length(line)) => Err(Stop::Refused(RefusedLine::PolicyLength(line))),
+        Err(PolicyFault::Form(line, TextFault::At(position, flaw))) => Err(Stop::Refused(
+            RefusedLine::PolicyForm(line, position as u64, flaw),
+        )),
+        Err(PolicyFault::Form(_, TextFault::Memory) | PolicyFault::Memory) => Err(Stop::Memory),
+    }
+}
+
+/// The policy that the file of the name spells.
+fn policy_from<'a, F: Files>(
+    alloc: Global,
+    name: &'a str,
+    files: &mut F,
+) -> Result<Policy, Stop<'a>>
+    ensures { Gives (λ policy. policy) (policies.policy_from name.entry.now)
+        (F.log files.old) (F.log files.new) (F.state files.old) (F.state files.new) result }
+{
+    let bytes = bytes_of(
+        alloc,
+        name,
+        MAX_POLICY_FILE,
+        RefusedLine::PolicyTooLong,
+        files,
+    )?;
+    policy_in(alloc, &bytes)
+}
+
+/// The policy that the word tells: a built-in one by its name, or the one that a file spells.
+pub fn policy_told<'a, F: Files>(
+    alloc: Global,
+    word: PolicyWord<'a>,
+    files: &mut F,
+) -> Result<Policy, Stop<'a>>
+    ensures { Gives (λ policy. policy) (policies.policy_told (word_view word.entry))
+        (F.log files.old) (F.log files.new) (F.state files.old) (F.state files.new) result }
+{
+    match word {
+        PolicyWord::Named(name) => policy_named(alloc, name),
+        PolicyWord::FromFile(name) => policy_from(alloc, name, files),
     }
 }
 
@@ -102,10 +163,13 @@ pub fn container_in<'a, 'b>(
     ensures code { IfOk result (λ container. HasWholeCode container.code.now) }
 {
     match read(alloc, bytes) {
-        Ok(container) if policy.has_number(container.policy) => Ok(container),
-        Ok(container) => Err(Stop::Refused(RefusedLine::Container(Refusal::OtherPolicy(
-            container.policy,
-        )))),
+        Ok(container) => match is_for(alloc, policy, container.head) {
+            Ok(true) => Ok(container),
+            Ok(false) => Err(Stop::Refused(RefusedLine::Container(Refusal::OtherPolicy(
+                container.head,
+            )))),
+            Err(_) => Err(Stop::Memory),
+        },
         Err(Malformed::At(offset, flaw)) => Err(Stop::Refused(RefusedLine::Container(
             Refusal::Malformed(offset, flaw),
         ))),
@@ -121,7 +185,8 @@ fn code_in<'a>(alloc: Global, policy: &Policy, bytes: &[u8]) -> Result<Code, Sto
         Ok(container) => container,
         Err(stop) => return Err(stop),
     };
-    match Code::of(alloc, container.code, Profile::One) {
+    let profile = head_profile(container.head);
+    match Code::of(alloc, container.code, profile) {
         Ok(code) => Ok(code),
         Err(CodeFault::At(flaw)) => Err(Stop::Refused(RefusedLine::Container(Refusal::BadCode(
             flaw,
@@ -170,27 +235,32 @@ pub fn proved_in<'a>(alloc: Global, policy: &Policy, bytes: &[u8]) -> Result<Vec
     }
 }
 
-/// The source that the text spells.
+/// The source that the text spells in the profile of the version.
 #[tactic(auto, unfolding(crate::specs::Stages::Assembling::source_in))]
-fn source_in<'a>(alloc: Global, text: &[u8]) -> Result<Source, Stop<'a>>
+fn source_in<'a>(alloc: Global, version: u32, text: &[u8]) -> Result<Source, Stop<'a>>
     requires short { length text.now ≤ MAX_SOURCE }
-    ensures exact { GivesPure source_view (assembling.source_in text.now) result }
-    ensures spelled { IfOk result (λ s. IsSpelled (source_view s)) }
+    ensures exact { GivesPure source_view (assembling.source_in version text.now) result }
+    ensures spelled { IfOk result (λ s. IsSpelled (profile_of version) (source_view s)) }
 {
-    match read_source(alloc, text, Profile::One) {
+    match read_source(alloc, text, profile_of(version)) {
         Ok(source) => Ok(source),
         Err(LineFault::At(line, flaw)) => Err(Stop::Refused(RefusedLine::BadLine(line, flaw))),
         Err(LineFault::Memory) => Err(Stop::Memory),
     }
 }
 
-/// The container, as bytes, that the source is assembled into for the policy.
-fn assembled_as<'a>(alloc: Global, policy: &Policy, source: &Source) -> Result<Vec<u8>, Stop<'a>>
-    requires spelled { IsSpelled (source_view source.now) }
+/// The container of the version, as bytes, that the source is assembled into for the policy.
+fn assembled_as<'a>(
+    alloc: Global,
+    version: u32,
+    policy: &Policy,
+    source: &Source,
+) -> Result<Vec<u8>, Stop<'a>>
+    requires spelled { IsSpelled (profile_of version) (source_view source.now) }
     ensures { GivesPure (λ bytes. bytes.items)
-        (assembling.assembled_as policy.now (source_view source.now)) result }
+        (assembling.assembled_as version policy.now (source_view source.now)) result }
 {
-    match assemble(alloc, source, policy) {
+    match assemble(alloc, source, policy, version) {
         Ok(assembled) => match write(alloc, &assembled.view()) {
             Ok(bytes) => Ok(bytes),
             Err(_) => Err(Stop::Memory),
@@ -200,17 +270,23 @@ fn assembled_as<'a>(alloc: Global, policy: &Policy, source: &Source) -> Result<V
     }
 }
 
-/// The same of the source that the text spells.
-pub fn assembled_in<'a>(alloc: Global, policy: &Policy, text: &[u8]) -> Result<Vec<u8>, Stop<'a>>
+/// The container of the version, as bytes, that the source which the text spells is assembled into
+/// for the policy.
+pub fn assembled_in<'a>(
+    alloc: Global,
+    version: u32,
+    policy: &Policy,
+    text: &[u8],
+) -> Result<Vec<u8>, Stop<'a>>
     requires short { length text.now ≤ MAX_SOURCE }
     ensures { GivesPure (λ bytes. bytes.items)
-        (assembling.assembled_in policy.now text.now) result }
+        (assembling.assembled_in version policy.now text.now) result }
 {
-    let source = match source_in(alloc, text) {
+    let source = match source_in(alloc, version, text) {
         Ok(source) => source,
         Err(stop) => return Err(stop),
     };
-    assembled_as(alloc, policy, &source)
+    assembled_as(alloc, version, policy, &source)
 }
 
 /// The packets that the bytes are.
@@ -293,15 +369,17 @@ pub fn packets_of<'a, F: Files>(
     packets_in(bytes)
 }
 
-/// The container, as bytes, that the source in the file of the name is assembled into for the
-/// policy.
+/// The container of the version, as bytes, that the source in the file of the name is assembled
+/// into for the policy.
 pub fn assembled_of<'a, F: Files>(
     alloc: Global,
+    version: u32,
     policy: &Policy,
     name: &'a str,
     files: &mut F,
 ) -> Result<Vec<u8>, Stop<'a>>
-    ensures { Gives (λ bytes. bytes.items) (assembling.assembled_of policy.now name.entry.now)
+    ensures { Gives (λ bytes. bytes.items)
+        (assembling.assembled_of version policy.now name.entry.now)
         (F.log files.old) (F.log files.new) (F.state files.old) (F.state files.new) result }
 {
     let text = bytes_of(
@@ -311,7 +389,44 @@ pub fn assembled_of<'a, F: Files>(
         RefusedLine::SourceTooLong,
         files,
     )?;
-    assembled_in(alloc, policy, &text)
+    assembled_in(alloc, version, policy, &text)
+}
+
+/// The container of version 2, as bytes, that the container in the bytes is upgraded to.
+#[tactic(auto, unfolding(crate::specs::Stages::Upgrading::upgraded_in))]
+fn upgraded_in<'a>(alloc: Global, bytes: &[u8]) -> Result<Vec<u8>, Stop<'a>>
+    ensures { GivesPure (λ bytes. bytes.items) (upgrading.upgraded_in bytes.now) result }
+{
+    match upgraded(alloc, bytes) {
+        Ok(container) => Ok(container),
+        Err(UpgradeFault::TooLong(length)) => Err(Stop::Refused(RefusedLine::Container(
+            Refusal::TooLong(length),
+        ))),
+        Err(UpgradeFault::Malformed(offset, flaw)) => Err(Stop::Refused(RefusedLine::Container(
+            Refusal::Malformed(offset, flaw),
+        ))),
+        Err(UpgradeFault::Already) => Err(Stop::Refused(RefusedLine::Already)),
+        Err(UpgradeFault::OtherPolicy(number)) => Err(Stop::Refused(RefusedLine::Container(
+            Refusal::OtherPolicy(Head::Number(number)),
+        ))),
+        Err(UpgradeFault::TooBig(size)) => {
+            Err(Stop::Refused(RefusedLine::TooBig(Measure::Bytes, size)))
+        }
+        Err(UpgradeFault::Memory) => Err(Stop::Memory),
+    }
+}
+
+/// The same of the container in the file of the name.
+pub fn upgraded_of<'a, F: Files>(
+    alloc: Global,
+    name: &'a str,
+    files: &mut F,
+) -> Result<Vec<u8>, Stop<'a>>
+    ensures { Gives (λ bytes. bytes.items) (upgrading.upgraded_of name.entry.now)
+        (F.log files.old) (F.log files.new) (F.state files.old) (F.state files.new) result }
+{
+    let bytes = container_bytes_of(alloc, name, files)?;
+    upgraded_in(alloc, &bytes)
 }
 
 /// The program of classic BPF that the bytes are.

@@ -10,12 +10,13 @@ ghost use Rattle.pcc_exit.specs.Ends.{Ends};
 ghost use Rattle.pcc_exit.specs.Accounts.{Accounts};
 ghost use Rattle.pcc_cli.specs.Texts.{texts};
 ghost use Rattle.pcc_cli.specs.Tasks.{task_of, request_of};
+ghost use Rattle.pcc_gate.specs.Safe.{AcceptedSafe};
 ghost use Rattle.pcc_cli.specs.Headline.{MeansIfCommand, AcceptedRunsSafely, AgentsStayInParts};
 ghost use Rattle.pcc_cli.specs.Inside.Decisions.{Decides, exit_of};
 
 use crate::commands::{
     asm_command, bpf_command, check_command, demo_command, host_command, prove_command,
-    ref_command, run_command,
+    ref_command, run_command, upgrade_command,
 };
 use crate::report::Report;
 use crate::stop::Stop;
@@ -39,6 +40,7 @@ fn decide<'a, F: Files>(
         Ok(Some(Command::Run(args))) => run_command(alloc, args, files),
         Ok(Some(Command::Ref(args))) => ref_command(alloc, args, files),
         Ok(Some(Command::Demo(n))) => demo_command(alloc, n, files),
+        Ok(Some(Command::Upgrade(args))) => upgrade_command(alloc, args, files),
         Ok(Some(Command::Host(script))) => host_command(alloc, script, files),
         Ok(Some(Command::Bpf(args))) => bpf_command(alloc, args, files),
         Ok(None) => Err(Stop::Usage),
@@ -77,23 +79,26 @@ fn print<S: Sink>(decision: Result<Report, Stop<'_>>, out: &mut S) -> u8
 /// the command asks for, in their order, and by no other; what is put on the output, and the
 /// status, go by what these reads gave. By `means`, that is for each command what its users want
 /// to know of it: `check` reads FILE once, and puts `accepted` exactly where the bytes that were
-/// read are accepted under the policy; `run` runs the code that was accepted of these bytes alone,
-/// and puts the lines of the machine that tests every access; what `prove` writes is accepted; and
-/// so is what `bpf` writes, whose runs return 0 on a packet where the program's value is 0, else 1,
-/// and what it says where IN is no program is the first thing that is wrong with it; and `host`
-/// puts for each turn what its agent comes to alone, with its own budgets, whatever the other
-/// agents do.
-/// By `safe`, no run of accepted code from a start of the policy is blocked, whatever the budget,
-/// what it returns satisfies the postcondition, and it neither changes nor depends on anything
-/// outside its rights; by `apart`, no address is in the parts of two agents of a host, and the
-/// rights of each agent at its start lie in its own part, from where the same holds: so none
-/// changes or learns anything of another's.
+/// read are accepted under the policy; told by `@NAME`, that is the policy which the bytes spell
+/// that one read of NAME gave before. `run` runs the code that was accepted of these bytes alone,
+/// and puts the lines of the machine that tests every access; what `prove` writes is accepted; what
+/// `upgrade` writes is accepted under each policy under which what it read is; and so is what `bpf`
+/// writes, whose runs return 0 on a packet where the program's value is 0, else 1, and what it says
+/// where IN is no program is the first thing that is wrong with it; and `host` puts for each turn
+/// what its agent comes to alone, with its own budgets, whatever the other agents do.
+/// By `sound`, of every policy, also of one from a file, no run of accepted code from a state that
+/// satisfies the precondition is blocked, and what it returns satisfies the postcondition.
+/// By `safe`, the same holds of the starts of the policy that `run` takes, and such a run neither
+/// changes nor depends on anything outside its rights; by `apart`, no address is in the parts of
+/// two agents of a host, and the rights of each agent at its start lie in its own part, from where
+/// the same holds: so none changes or learns anything of another's.
 pub fn pcc<F: Files, S: Sink>(alloc: Global, words: Vec<String>, files: &mut F, out: &mut S) -> u8
     ensures runs { Runs texts (task_of (map string_bytes words.items)).stage
         (F.log files.old) (F.log files.new) (F.state files.old) (F.state files.new)
         (S.state out.old) (S.state out.new) result }
     ensures means { MeansIfCommand (command_of (map string_bytes words.items))
         (F.log files.old) (F.log files.new) (S.state out.old) (S.state out.new) result }
+    ensures sound { AcceptedSafe }
     ensures safe { AcceptedRunsSafely }
     ensures apart { AgentsStayInParts }
 {
@@ -102,6 +107,8 @@ pub fn pcc<F: Files, S: Sink>(alloc: Global, words: Vec<String>, files: &mut F, 
     bounds_prover::prove_laws();
     bpf_words::laws();
     bpf_container::laws();
+    policy_set::laws();
+    container_upgrade::laws();
     alpha_cfg::isolation_laws();
     turn_laws::part_laws();
     let decision = decide(alloc, words.as_slice(), files);

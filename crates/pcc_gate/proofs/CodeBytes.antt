@@ -16,7 +16,7 @@ use Rattle.alpha_cfg.specs.Flow.{InsideOf, IsInside, IsFinal, AreInsns, IsCode, 
 use Rattle.alpha_cfg.specs.CodeBytes.{code_word_at, EncodesFirst, EncodesCode, IsFlaw}
 use Rattle.alpha_cfg.specs.CodeDecoding.{decoded_code}
 use Rattle.alpha_cfg.proofs.Readings.{decoded_code-ok, AreInsns-EncodesCode}
-use Rattle.word_ops.specs.declared.Profile.TheVariants.{One}
+use Rattle.word_ops.specs.declared.Profile.{Profile}
 
 -- ---- what holds of each element, or not of the first of some
 
@@ -75,35 +75,40 @@ or_last [] y (suc k) x e = absurd (none-some x e)
 or_last (z ∷ zs) y zero x e = inl e
 or_last (z ∷ zs) y (suc k) x e = elim (or_last zs y k x e) [ inl before ↦ inl before | inr last ↦ inr (ap suc last.0, last.1) ]
 
-module _ (bytes : List ℕ) where
-  one_more : (n : ℕ) (code : List Insn) (insn : Insn) → EncodesFirst One bytes n code → decoded One (code_word_at bytes n) ≡ Ok insn →
-      EncodesFirst One bytes (suc n) (code ++ insn ∷ [])
+module _ (p : Profile) (bytes : List ℕ) where
+  one_more : (n : ℕ) (code : List Insn) (insn : Insn) → EncodesFirst p bytes n code
+      → decoded p (code_word_at bytes n) ≡ Ok insn →
+      EncodesFirst p bytes (suc n) (code ++ insn ∷ [])
   one_more n code insn first read =
       let one : length (insn ∷ []) ≡ 1 = refl in
-      let here : Encodes One (code_word_at bytes n) insn = (decoded-Encodes One (code_word_at bytes n) insn).0 read in
-      let moved : (k : ℕ) → n ≡ k → Encodes One (code_word_at bytes k) insn = λ k e. subst (λ j. Encodes One (code_word_at bytes j) insn) e here in
+      let here : Encodes p (code_word_at bytes n) insn =
+      (decoded-Encodes p (code_word_at bytes n) insn).0 read in
+      let moved : (k : ℕ) → n ≡ k → Encodes p (code_word_at bytes k) insn = λ k e. subst
+      (λ j. Encodes p (code_word_at bytes j) insn) e here in
       record {
         count = omega (arith, length-append code (insn ∷ []), first.count, one);
         each = λ k x at. elim (or_last code insn k x at) [
           | inl before ↦ first.each k x before
-          | inr last ↦ subst (Encodes One (code_word_at bytes k)) last.1 (moved k (sym (last.0 ∙ first.count)))
+          | inr last ↦ subst (Encodes p (code_word_at bytes k)) last.1
+              (moved k (sym (last.0 ∙ first.count)))
         ];
       }
 
   -- instructions that the first n words encode
   record AreFirst (n : ℕ) : Type 0 where
     insns : List Insn
-    first : EncodesFirst One bytes n insns
+    first : EncodesFirst p bytes n insns
 
   -- the first of n words that encodes no instruction
   record IsBadWord (n : ℕ) : Type 0 where
     at : ℕ
     within : at < n
     bad : BadWord
-    read : decoded One (code_word_at bytes at) ≡ Err bad
+    read : decoded p (code_word_at bytes at) ≡ Err bad
     front : AreFirst at
 
-  word_decided : (n : ℕ) → AreFirst n → (r : Result Insn BadWord) → decoded One (code_word_at bytes n) ≡ r → AreFirst (suc n) ⊎ IsBadWord (suc n)
+  word_decided : (n : ℕ) → AreFirst n → (r : Result Insn BadWord)
+      → decoded p (code_word_at bytes n) ≡ r → AreFirst (suc n) ⊎ IsBadWord (suc n)
   word_decided n f (Ok insn) e = inl (record { insns = f.insns ++ insn ∷ []; first = one_more n f.insns insn f.first e })
   word_decided n f (Err bad) e = inr (record { at = n; within = omega arith; bad = bad; read = e; front = f })
 
@@ -111,25 +116,26 @@ module _ (bytes : List ℕ) where
   words_decided zero = inl (record { insns = []; first = record { count = refl; each = λ k x at. absurd (none-some x at) } })
   words_decided (suc n) =
       elim (words_decided n) [
-        | inl f ↦ word_decided n f (decoded One (code_word_at bytes n)) refl
+        | inl f ↦ word_decided n f (decoded p (code_word_at bytes n)) refl
         | inr b ↦ inr (record { at = b.at; within = omega (arith, b.within); bad = b.bad; read = b.read; front = b.front })
       ]
 
 -- ---- whole code
 
 -- code that the bytes encode
-pub record IsEncoded (bytes : List ℕ) : Type 0 where
+pub record IsEncoded (p : Profile) (bytes : List ℕ) : Type 0 where
   pub insns : List Insn
-  pub encoded : EncodesCode One bytes insns
+  pub encoded : EncodesCode p bytes insns
   pub code : IsCode insns
 
 -- the first flaw of the bytes
-pub record HasFlaw (bytes : List ℕ) : Type 0 where
+pub record HasFlaw (p : Profile) (bytes : List ℕ) : Type 0 where
   pub which : CodeFlaw
-  pub is : IsFlaw One bytes which
+  pub is : IsFlaw p bytes which
 
-shape_decided : (bytes : List ℕ) (code : List Insn) → EncodesCode One bytes code → 0 < length code → length code ≤ MAX_WORDS → IsEncoded bytes ⊎ HasFlaw bytes
-shape_decided bytes code encoded some short =
+shape_decided : (p : Profile) (bytes : List ℕ) (code : List Insn) → EncodesCode p bytes code
+    → 0 < length code → length code ≤ MAX_WORDS → IsEncoded p bytes ⊎ HasFlaw p bytes
+shape_decided p bytes code encoded some short =
     let last : length code - 1 + 1 ≡ length code = omega (arith, some) in
     elim (least_decided (IsInside code) (branch_decided code) (length code)) [
       | inr out ↦ inr (record { which = flaw.Target out.at; is = (code, encoded, (out.within, out.fails, out.least)) })
@@ -138,23 +144,28 @@ shape_decided bytes code encoded some short =
           elim (at_decided IsFinal code (length code - 1) final_decided) [
             | inr on ↦ inr (record { which = flaw.FallsOff (length code - 1); is = (code, encoded, (last, on, inside)) })
             | inl ends ↦
-                let each : AreInsns code = AreInsns-EncodesCode One bytes code encoded in
+                let each : AreInsns code = AreInsns-EncodesCode p bytes code encoded in
                 let are : IsCode code = record { nonempty = some; short = short; encoded = each; inside = inside; ends = ends } in
                 inl (record { insns = code; encoded = encoded; code = are })
           ]
     ]
 
-pub code_decided : (bytes : List ℕ) → 4 * (length bytes / 4) ≡ length bytes → 0 < length bytes → length bytes ≤ 4 * MAX_WORDS → IsEncoded bytes ⊎ HasFlaw bytes
-code_decided bytes whole some short =
-    elim (words_decided bytes (length bytes / 4)) [
+pub code_decided : (p : Profile) (bytes : List ℕ) → 4 * (length bytes / 4) ≡ length bytes
+    → 0 < length bytes → length bytes ≤ 4 * MAX_WORDS → IsEncoded p bytes ⊎ HasFlaw p bytes
+code_decided p bytes whole some short =
+    elim (words_decided p bytes (length bytes / 4)) [
       | inr b ↦
           let inside : 4 * b.at + 4 ≤ length bytes = omega (arith, b.within, whole) in
           inr (record { which = flaw.BadWord b.at (code_word_at bytes b.at) b.bad; is = (refl, b.read, inside, (b.front.insns, b.front.first)) })
       | inl f ↦
           let count : length f.insns ≡ length bytes / 4 = f.first.count in
           let all : 4 * length f.insns ≡ length bytes = ap (λ n. 4 * n) count ∙ whole in
-          let encoded : EncodesCode One bytes f.insns = record { whole = all; first = subst (λ n. EncodesFirst One bytes n f.insns) (sym count) f.first } in
-          shape_decided bytes f.insns encoded (omega (arith, all, some)) (omega (arith, all, short))
+          let encoded : EncodesCode p bytes f.insns = record {
+            whole = all;
+            first = subst (λ n. EncodesFirst p bytes n f.insns) (sym count) f.first;
+          } in
+          shape_decided p bytes f.insns encoded (omega (arith, all, some))
+          (omega (arith, all, short))
     ]
 
 -- ---- no other code
@@ -165,6 +176,9 @@ got code = Ok code
 ok_list : (a b : List Insn) → got a ≡ got b → a ≡ b
 ok_list a b e = cc
 
-pub code-one : (bytes other : List ℕ) (code out : List Insn) → bytes ≡ other → EncodesCode One bytes code → IsCode code → EncodesCode One other out → IsCode out →
-    code ≡ out
-code-one bytes other code out e h is g are = ok_list code out (decoded_code-ok One bytes code h is ∙ ap (decoded_code One) e ∙ sym (decoded_code-ok One other out g are))
+pub code-one : (p q : Profile) (bytes other : List ℕ) (code out : List Insn) → p ≡ q → bytes ≡ other
+    → EncodesCode p bytes code → IsCode code → EncodesCode q other out → IsCode out → code ≡ out
+code-one p q bytes other code out same e h is g are =
+    ok_list code out
+    (decoded_code-ok p bytes code h is ∙ (λ i. decoded_code (same i) (e i))
+    ∙ sym (decoded_code-ok q other out g are))

@@ -5,8 +5,8 @@ use Rattle.std.proofs.lemmas.Option.{same_Some, none-some}
 use Rattle.alpha_words.specs.declared.insn.Insn.{Insn}
 use Rattle.policy_set.specs.Views.{PolicyView}
 use Rattle.term_table.specs.Tree.{Tree}
-use Rattle.term_table.specs.Measures.{weight_of, sigma1_places, capped}
-use Rattle.lf_signature.specs.Constants.{declared}
+use Rattle.term_table.specs.Measures.{weight_of, capped}
+use Rattle.lf_signature.specs.Constants.{places_of, declared}
 use Rattle.lf_signature.specs.Terms.{pf}
 use Rattle.lf_signature.specs.Typing.{Checks}
 use Rattle.lf_signature.specs.Laws.Decided.{checks_is, checks_follows}
@@ -26,11 +26,13 @@ use Rattle.pcc_gate.specs.declared.refusal.Refusal.{Refusal}
 use Rattle.pcc_gate.specs.declared.refusal.Refusal.TheVariants as refusal
 use Rattle.pcc_gate.specs.Passing.{Passes}
 use Rattle.pcc_gate.specs.Accepted.{Accepts, IsAccepted}
-use Rattle.pcc_gate.specs.First.{formula_of, formulas, vc_of, proves, first_front, first_proof, first_refusal}
+use Rattle.pcc_gate.specs.First.{formula_of, formulas, vc_of, proves, first_front, first_proof, first_after, first_refusal}
 use Rattle.pcc_gate.specs.Refusals.{HasProof, HasLightProof, IsPastWeight, IsNoProof, IsFirstRefusal}
 use Rattle.pcc_gate.proofs.Searches.{past, within}
 use Rattle.pcc_gate.proofs.FirstFront.{told, after_all, front_finds, front_decided}
+use Rattle.lf_signature.specs.declared.WordSignature.{WordSignature}
 use Rattle.lf_signature.specs.declared.WordSignature.TheVariants.{Sigma1}
+use Rattle.pcc_gate.specs.Versions.{head_signature}
 use Rattle.std.proofs.lemmas.List.Elements.{All-nil, All-cons}
 use Rattle.lf_signature.specs.Known.{HasOp}
 use Rattle.lf_signature.specs.Laws.Within.{declared_known, declared-first}
@@ -43,14 +45,24 @@ use Rattle.word_ops.specs.Operators.{IsFirstOp}
 formula_of-encoding : (t : Tree) (F : Form) → EncodesForm machine_context F t → formula_of t ≡ F
 formula_of-encoding t F e = ap (λ B. unnamed_form (length B) (form_of t)) (sym bound_sorts-machine) ∙ form_of-encoding machine_context t F e
 
-pub formulas-encoded : (ps : List (ℕ × Tree)) → AreForms ps → AreEncodings ps (formulas ps)
-formulas-encoded [] h = tt
-formulas-encoded (p ∷ ps) h =
-    let f = form_encoded (declared Sigma1) (declared_known Sigma1) machine_context p.1 h.0 in
-    (refl, subst (λ F. EncodesForm machine_context F p.1) (sym (formula_of-encoding p.1 f.0 f.1)) f.1, formulas-encoded ps h.1)
+module _ (s : WordSignature) where
+  pub formulas-encoded : (ps : List (ℕ × Tree)) → AreForms s ps → AreEncodings ps (formulas ps)
+  formulas-encoded [] h = tt
+  formulas-encoded (p ∷ ps) h =
+      let f = form_encoded (declared s) (declared_known s) machine_context p.1 h.0 in (
+        refl,
+        subst (λ F. EncodesForm machine_context F p.1) (sym (formula_of-encoding p.1 f.0 f.1)) f.1,
+        formulas-encoded ps h.1,
+      )
 
--- their operators are the first profile's
-pub formulas-first : (ps : List (ℕ × Tree)) → AreForms ps → All (λ q. Uses IsFirstOp q.1) (formulas ps)
+  pub vc_of-encodes : (policy : PolicyView) (code : List Insn) (ps : List (ℕ × Tree))
+      → AreForms s ps → EncodesCondition policy code ps (vc_of policy code ps)
+  vc_of-encodes policy code ps h =
+      record { formulas = formulas ps; encoded = formulas-encoded ps h; is = refl }
+
+-- the operators of those over the first signature are the first profile's
+pub formulas-first : (ps : List (ℕ × Tree)) → AreForms Sigma1 ps
+    → All (λ q. Uses IsFirstOp q.1) (formulas ps)
 formulas-first [] h = All-nil (λ (q : ℕ × Form). Uses IsFirstOp q.1)
 formulas-first (p ∷ ps) h =
     let f = form_encoded (declared Sigma1) (declared_known Sigma1) machine_context p.1 h.0 in
@@ -58,79 +70,105 @@ formulas-first (p ∷ ps) h =
     All-cons (λ (q : ℕ × Form). Uses IsFirstOp q.1) (p.0, formula_of p.1) (formulas ps)
     (uses-more (HasOp (declared Sigma1)) IsFirstOp declared-first (formula_of p.1) used) (formulas-first ps h.1)
 
-pub vc_of-encodes : (policy : PolicyView) (code : List Insn) (ps : List (ℕ × Tree)) → AreForms ps
-    → EncodesCondition policy code ps (vc_of policy code ps)
-vc_of-encodes policy code ps h = record { formulas = formulas ps; encoded = formulas-encoded ps h; is = refl }
-
 -- ---- whether it is proved
 
 -- a condition's term is that of the first refusal
-pub condition-one : (policy : PolicyView) (code : List Insn) (ps : List (ℕ × Tree)) (vc : Tree)
-    → AreForms ps → EncodesCondition policy code ps vc → vc ≡ vc_of policy code ps
-condition-one policy code ps vc h e = encoding-unique policy code ps vc (vc_of policy code ps) e (vc_of-encodes policy code ps h)
+pub condition-one : (s : WordSignature) (policy : PolicyView) (code : List Insn)
+    (ps : List (ℕ × Tree)) (vc : Tree) → AreForms s ps → EncodesCondition policy code ps vc
+    → vc ≡ vc_of policy code ps
+condition-one s policy code ps vc h e =
+    encoding-unique policy code ps vc (vc_of policy code ps) e (vc_of-encodes s policy code ps h)
 
 -- whether it proves it, by an answer to words
-pub proves-true : (proof vc : Tree) → Checks (declared Sigma1) [] proof (pf vc) → proves proof vc ≡ true
-proves-true proof vc h = checks_is (declared Sigma1) h
+pub proves-true : (s : WordSignature) (proof vc : Tree) → Checks (declared s) [] proof (pf vc)
+    → proves s proof vc ≡ true
+proves-true s proof vc h = checks_is (declared s) h
 
-pub proves-false : (proof vc : Tree) → (Checks (declared Sigma1) [] proof (pf vc) → ⊥) → proves proof vc ≡ false
-proves-false proof vc h = not-true (proves proof vc) (λ e. h (checks_follows (declared Sigma1) proof [] (pf vc) e))
+pub proves-false : (s : WordSignature) (proof vc : Tree)
+    → (Checks (declared s) [] proof (pf vc) → ⊥)
+    → proves s proof vc ≡ false
+proves-false s proof vc h =
+    not-true (proves s proof vc) (λ e. h (checks_follows (declared s) proof [] (pf vc) e))
   where
     not-true : (b : Bool) → (b ≡ true → ⊥) → b ≡ false
     not-true true n = absurd (n refl)
     not-true false n = refl
 
-module _ (policy : PolicyView) (code : List Insn) (ps : List (ℕ × Tree)) (proof vc : Tree)
-    (h : AreForms ps) (e : EncodesCondition policy code ps vc) where
-  pub judged-true : Checks (declared Sigma1) [] proof (pf vc) → proves proof (vc_of policy code ps) ≡ true
-  judged-true k = subst (λ x. proves proof x ≡ true) (condition-one policy code ps vc h e) (proves-true proof vc k)
+module _ (s : WordSignature) (policy : PolicyView) (code : List Insn) (ps : List (ℕ × Tree))
+    (proof vc : Tree) (h : AreForms s ps) (e : EncodesCondition policy code ps vc) where
+  pub judged-true : Checks (declared s) [] proof (pf vc)
+      → proves s proof (vc_of policy code ps) ≡ true
+  judged-true k =
+      subst (λ x. proves s proof x ≡ true) (condition-one s policy code ps vc h e)
+      (proves-true s proof vc k)
 
-  pub judged-false : (Checks (declared Sigma1) [] proof (pf vc) → ⊥) → proves proof (vc_of policy code ps) ≡ false
-  judged-false k = subst (λ x. proves proof x ≡ false) (condition-one policy code ps vc h e) (proves-false proof vc k)
+  pub judged-false : (Checks (declared s) [] proof (pf vc) → ⊥)
+      → proves s proof (vc_of policy code ps) ≡ false
+  judged-false k =
+      subst (λ x. proves s proof x ≡ false) (condition-one s policy code ps vc h e)
+      (proves-false s proof vc k)
 
 -- ---- clauses 9 to 11
 
-abbrev at_proof : PolicyView → Contents → List Insn → Option Refusal
-at_proof policy c code = first_proof (vc_of policy code c.invs) c.proof
-
 module _ (policy : PolicyView) (bytes : List ℕ) (c : Contents) (code : List Insn)
     (flags : List Bool) (proof : Tree) where
-  -- a proof that isn't too heavy is tried
+  abbrev sig : WordSignature
+  sig = head_signature c.head
+
+  abbrev weight : ℕ
+  weight = weight_of (places_of sig) proof
+
+  -- what comes of a proof that isn't too heavy
+  abbrev judged : Option Refusal
+  judged = cond (proves sig proof (vc_of policy code c.invs)) None (told refusal.NotProof)
+
+  -- such a proof is tried
   light_tried : HasLightProof policy bytes c code flags proof →
-      first_front policy bytes (at_proof policy) ≡ cond (proves proof (vc_of policy code c.invs)) None (told refusal.NotProof)
+      first_front policy bytes (first_after policy) ≡ judged
   light_tried h =
       let vc : Tree = vc_of policy code c.invs in
-      let w : ℕ = weight_of sigma1_places proof in
-      after_all policy bytes (at_proof policy) c code flags h.before.passes ∙ ap (first_proof vc) h.before.given
-      ∙ within MAX_WEIGHT w (told (refusal.ProofWeight (capped w))) (cond (proves proof vc) None (told refusal.NotProof)) h.weight
+      after_all policy bytes (first_after policy) c code flags h.before.passes
+      ∙ ap (first_proof sig vc) h.before.given
+      ∙ within MAX_WEIGHT weight (told (refusal.ProofWeight (capped weight))) judged h.weight
 
-  heavy_found : (n : ℕ) → HasProof policy bytes c code flags proof → IsPastWeight proof n →
-      first_front policy bytes (at_proof policy) ≡ Some (refusal.ProofWeight n)
+  heavy_found : (n : ℕ) → HasProof policy bytes c code flags proof → IsPastWeight sig proof n →
+      first_front policy bytes (first_after policy) ≡ Some (refusal.ProofWeight n)
   heavy_found n h p =
       let vc : Tree = vc_of policy code c.invs in
-      let w : ℕ = weight_of sigma1_places proof in
-      after_all policy bytes (at_proof policy) c code flags h.passes ∙ ap (first_proof vc) h.given
-      ∙ past MAX_WEIGHT w (told (refusal.ProofWeight (capped w))) (cond (proves proof vc) None (told refusal.NotProof)) p.heavy
+      after_all policy bytes (first_after policy) c code flags h.passes
+      ∙ ap (first_proof sig vc) h.given
+      ∙ past MAX_WEIGHT weight (told (refusal.ProofWeight (capped weight))) judged p.heavy
       ∙ ap (λ k. told (refusal.ProofWeight k)) (sym p.is)
 
-  unproved_found : HasLightProof policy bytes c code flags proof → IsNoProof policy code c.invs proof →
-      first_front policy bytes (at_proof policy) ≡ Some refusal.NotProof
+  unproved_found : HasLightProof policy bytes c code flags proof
+      → IsNoProof sig policy code c.invs proof →
+      first_front policy bytes (first_after policy) ≡ Some refusal.NotProof
   unproved_found h p =
-      let vc : Tree = vc_of policy code c.invs in
       light_tried h
-      ∙ cond-false (proves proof vc) None (told refusal.NotProof) (judged-false policy code c.invs proof p.vc h.before.passes.forms p.condition p.unproved)
+      ∙ cond-false (proves sig proof (vc_of policy code c.invs)) None (told refusal.NotProof)
+      (judged-false sig policy code c.invs proof p.vc h.before.passes.forms p.condition p.unproved)
 
 whole_finds : (policy : PolicyView) (bytes : List ℕ) (r : Refusal) → IsFirstRefusal policy bytes r
-    → first_front policy bytes (at_proof policy) ≡ Some r
-whole_finds policy bytes (refusal.TooLong n) h = front_finds policy bytes (at_proof policy) (refusal.TooLong n) h tt
-whole_finds policy bytes (refusal.Malformed at flaw) h = front_finds policy bytes (at_proof policy) (refusal.Malformed at flaw) h tt
-whole_finds policy bytes (refusal.OtherPolicy n) h = front_finds policy bytes (at_proof policy) (refusal.OtherPolicy n) h tt
-whole_finds policy bytes (refusal.BadCode flaw) h = front_finds policy bytes (at_proof policy) (refusal.BadCode flaw) h tt
-whole_finds policy bytes (refusal.Height x) h = front_finds policy bytes (at_proof policy) (refusal.Height x) h tt
-whole_finds policy bytes (refusal.InvNotForm k) h = front_finds policy bytes (at_proof policy) (refusal.InvNotForm k) h tt
-whole_finds policy bytes (refusal.Uncut i) h = front_finds policy bytes (at_proof policy) (refusal.Uncut i) h tt
-whole_finds policy bytes (refusal.UnfoldLimit n) h = front_finds policy bytes (at_proof policy) (refusal.UnfoldLimit n) h tt
-whole_finds policy bytes refusal.NoProof h = after_all policy bytes (at_proof policy) h.0 h.1 h.2 h.3 ∙ ap (first_proof (vc_of policy h.1 h.0.invs)) h.4
+    → first_front policy bytes (first_after policy) ≡ Some r
+whole_finds policy bytes (refusal.TooLong n) h =
+    front_finds policy bytes (first_after policy) (refusal.TooLong n) h tt
+whole_finds policy bytes (refusal.Malformed at flaw) h =
+    front_finds policy bytes (first_after policy) (refusal.Malformed at flaw) h tt
+whole_finds policy bytes (refusal.OtherPolicy n) h =
+    front_finds policy bytes (first_after policy) (refusal.OtherPolicy n) h tt
+whole_finds policy bytes (refusal.BadCode flaw) h =
+    front_finds policy bytes (first_after policy) (refusal.BadCode flaw) h tt
+whole_finds policy bytes (refusal.Height x) h =
+    front_finds policy bytes (first_after policy) (refusal.Height x) h tt
+whole_finds policy bytes (refusal.InvNotForm k) h =
+    front_finds policy bytes (first_after policy) (refusal.InvNotForm k) h tt
+whole_finds policy bytes (refusal.Uncut i) h =
+    front_finds policy bytes (first_after policy) (refusal.Uncut i) h tt
+whole_finds policy bytes (refusal.UnfoldLimit n) h =
+    front_finds policy bytes (first_after policy) (refusal.UnfoldLimit n) h tt
+whole_finds policy bytes refusal.NoProof h =
+    after_all policy bytes (first_after policy) h.0 h.1 h.2 h.3
+    ∙ ap (first_proof (head_signature h.0.head) (vc_of policy h.1 h.0.invs)) h.4
 whole_finds policy bytes (refusal.ProofWeight n) h = heavy_found policy bytes h.0 h.1 h.2 h.3 n h.4 h.5
 whole_finds policy bytes refusal.NotProof h = unproved_found policy bytes h.0 h.1 h.2 h.3 h.4 h.5
 
@@ -141,14 +179,18 @@ Outcome policy bytes = IsAccepted policy bytes ⊎ ((r : Refusal) × IsFirstRefu
 
 module _ (policy : PolicyView) (bytes : List ℕ) where
   module _ (c : Contents) (code : List Insn) (flags : List Bool) where
-    from_eleventh : (proof : Tree) → HasLightProof policy bytes c code flags proof → Outcome policy bytes
+    from_eleventh : (proof : Tree) → HasLightProof policy bytes c code flags proof
+        → Outcome policy bytes
     from_eleventh proof h =
+        let s : WordSignature = head_signature c.head in
         let vc : Tree = vc_of policy code c.invs in
         let given : HasProof policy bytes c code flags proof = h.before in
-        let encodes : EncodesCondition policy code c.invs vc = vc_of-encodes policy code c.invs given.passes.forms in
-        elim (cases_Bool (proves proof vc)) [
+        let encodes : EncodesCondition policy code c.invs vc =
+        vc_of-encodes s policy code c.invs given.passes.forms in
+        elim (cases_Bool (proves s proof vc)) [
           | inl right ↦
-              let proved : Checks (declared Sigma1) [] proof (pf vc) = checks_follows (declared Sigma1) proof [] (pf vc) right in
+              let proved : Checks (declared s) [] proof (pf vc) =
+              checks_follows (declared s) proof [] (pf vc) right in
               let accepts : Accepts policy bytes c code flags = record {
                 passes = given.passes;
                 proof = proof;
@@ -160,17 +202,39 @@ module _ (policy : PolicyView) (bytes : List ℕ) where
               } in
               inl (record { contents = c; code = code; marks = flags; accepts = accepts })
           | inr wrong ↦
-              let unproved : Checks (declared Sigma1) [] proof (pf vc) → ⊥ = λ k. false≢true (sym wrong ∙ proves-true proof vc k) in
-              inr (refusal.NotProof, (c, code, flags, proof, h, record { vc = vc; condition = encodes; unproved = unproved }))
+              let unproved : Checks (declared s) [] proof (pf vc) → ⊥ =
+              λ k. false≢true (sym wrong ∙ proves-true s proof vc k) in
+              inr (
+                refusal.NotProof,
+                (
+                  c,
+                  code,
+                  flags,
+                  proof,
+                  h,
+                  record { vc = vc; condition = encodes; unproved = unproved },
+                ),
+              )
         ]
 
-    from_ninth : Passes policy bytes c code flags → (given : Option Tree) → c.proof ≡ given → Outcome policy bytes
+    from_ninth : Passes policy bytes c code flags → (given : Option Tree) → c.proof ≡ given
+        → Outcome policy bytes
     from_ninth p None e = inr (refusal.NoProof, (c, code, flags, p, e))
     from_ninth p (Some proof) e =
         let h : HasProof policy bytes c code flags proof = record { passes = p; given = e } in
-        let w : ℕ = weight_of sigma1_places proof in
+        let w : ℕ = weight_of (places_of (head_signature c.head)) proof in
         elim (cases_lt MAX_WEIGHT w) [
-          | inl heavy ↦ inr (refusal.ProofWeight (capped w), (c, code, flags, proof, h, record { heavy = heavy; is = refl }))
+          | inl heavy ↦ inr (
+            refusal.ProofWeight (capped w),
+            (
+              c,
+              code,
+              flags,
+              proof,
+              h,
+              record { heavy = heavy; is = refl },
+            ),
+          )
           | inr light ↦ from_eleventh proof (record { before = h; weight = light })
         ]
 
@@ -188,11 +252,15 @@ pub accepted-none : (policy : PolicyView) (bytes : List ℕ) → IsAccepted poli
 unfolding first_refusal
 accepted-none policy bytes h =
     let a : Accepts policy bytes h.contents h.code h.marks = h.accepts in
-    let invs : List (ℕ × Tree) = h.contents.invs in
-    let given : HasProof policy bytes h.contents h.code h.marks a.proof = record { passes = a.passes; given = a.given } in
-    let b : Bool = proves a.proof (vc_of policy h.code invs) in
-    let right : b ≡ true = judged-true policy h.code invs a.proof a.vc a.passes.forms a.condition a.proved in
-    light_tried policy bytes h.contents h.code h.marks a.proof (record { before = given; weight = a.weight }) ∙ cond-true b None (told refusal.NotProof) right
+    let c : Contents = h.contents in
+    let s : WordSignature = head_signature c.head in
+    let given : HasProof policy bytes c h.code h.marks a.proof =
+    record { passes = a.passes; given = a.given } in
+    let b : Bool = proves s a.proof (vc_of policy h.code c.invs) in
+    let right : b ≡ true =
+    judged-true s policy h.code c.invs a.proof a.vc a.passes.forms a.condition a.proved in
+    light_tried policy bytes c h.code h.marks a.proof (record { before = given; weight = a.weight })
+    ∙ cond-true b None (told refusal.NotProof) right
 
 refusal-some : (policy : PolicyView) (bytes : List ℕ) (r : Refusal) → IsFirstRefusal policy bytes r
     → first_refusal policy bytes ≡ Some r

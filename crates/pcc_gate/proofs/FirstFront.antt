@@ -12,8 +12,10 @@ use Rattle.alpha_cfg.specs.Deciding.{flags_of, uncut_of}
 use Rattle.alpha_cfg.proofs.Readings.{decoded_code-ok, IsDecoded-IsCodeAnswer}
 use Rattle.alpha_cfg.proofs.Deciding.{flags_are, flags_only, uncut_some, uncut_none, cut_none, uncut_is}
 use Rattle.policy_set.specs.Views.{PolicyView}
-use Rattle.policy_set.specs.Names.{is_number_of}
-use Rattle.policy_set.proofs.Numbers.{number-true, number-is, number-not, number-false}
+use Rattle.proof_container.specs.declared.container.Head.{Head}
+use Rattle.pcc_gate.specs.Versions.{head_profile, head_signature}
+use Rattle.pcc_gate.specs.ForPolicy.{is_for}
+use Rattle.pcc_gate.proofs.ForPolicy.{for-true, for-is, for-not, for-false}
 use Rattle.term_table.specs.Tree.{Tree}
 use Rattle.term_table.specs.Measures.{capped}
 use Rattle.proof_container.specs.Contents.{Contents, roots}
@@ -31,7 +33,7 @@ use Rattle.pcc_gate.specs.Refusals.{HasContents, IsForPolicy, HasCode, HasLowRoo
 use Rattle.pcc_gate.specs.Laws.{HasPassed}
 use Rattle.pcc_gate.proofs.CodeBytes.{code_decided, code-one}
 use Rattle.pcc_gate.proofs.Searches.{past, within, low_none, first_high, low_decided, forms_none, first_no_form, forms_decided}
-use Rattle.word_ops.specs.declared.Profile.TheVariants.{One}
+use Rattle.word_ops.specs.declared.Profile.{Profile}
 
 -- ---- clauses 1 to 8 by the clauses up to each
 
@@ -39,7 +41,8 @@ module _ (policy : PolicyView) (bytes : List ℕ) (c : Contents) (code : List In
     (flags : List Bool) where
   pub passes-cut : Passes policy bytes c code flags → HasCut policy bytes c code flags
   passes-cut p =
-      let third : IsForPolicy policy bytes c = record { held = record { size = p.size; container = p.container }; number = p.number } in
+      let third : IsForPolicy policy bytes c = record
+      { held = record { size = p.size; container = p.container }; named = p.named } in
       let fourth : HasCode policy bytes c code = record { before = third; encoded = p.encoded; code = p.code } in
       let sixth : HasForms policy bytes c code = record { before = record { before = fourth; heights = p.heights }; forms = p.forms } in
       record { before = record { before = sixth; annotated = p.annotated }; cut = p.cut }
@@ -50,7 +53,7 @@ module _ (policy : PolicyView) (bytes : List ℕ) (c : Contents) (code : List In
       record {
         size = fourth.before.held.size;
         container = fourth.before.held.container;
-        number = fourth.before.number;
+        named = fourth.before.named;
         encoded = fourth.encoded;
         code = fourth.code;
         heights = h.before.before.before.heights;
@@ -77,8 +80,9 @@ key_rises (p ∷ q ∷ ps) low words (suc k) r h =
     subst (λ j. slice_index keys (suc k) < slice_index keys j) (sym one) (key_rises (q ∷ ps) (suc p.0) words k r.2 (omega (arith, h)))
 
 -- the annotated indices lie in the code
-pub annotated_flags : (c : Contents) (code : List Insn) → IsContents c → EncodesCode One c.code code → AreFlags (map (λ p. p.0) c.invs) (length code) (marks_of c code)
-annotated_flags c code s encoded =
+pub annotated_flags : (p : Profile) (c : Contents) (code : List Insn) → IsContents c
+    → EncodesCode p c.code code → AreFlags (map (λ p. p.0) c.invs) (length code) (marks_of c code)
+annotated_flags p c code s encoded =
     let words : ℕ = length c.code / 4 in
     let count : words ≡ length code = omega (arith, encoded.whole) in
     flags_are (map (λ p. p.0) c.invs) (length code)
@@ -94,7 +98,9 @@ abbrev from_cut : List Insn → List Bool → Option Refusal → Option Refusal
 from_cut code flags next = refused_by refusal.Uncut (uncut_of code flags) (first_long code flags next)
 
 abbrev from_forms : Contents → List Insn → Option Refusal → Option Refusal
-from_forms c code next = refused_by refusal.InvNotForm (formless 0 c.invs) (from_cut code (marks_of c code) next)
+from_forms c code next =
+    refused_by refusal.InvNotForm (formless (head_signature c.head) 0 c.invs)
+    (from_cut code (marks_of c code) next)
 
 module _ (policy : PolicyView) (bytes : List ℕ) (next : Contents → List Insn → Option Refusal) where
   after_size : length bytes ≤ MAX_BYTES → first_front policy bytes next ≡ first_read policy (decoded_container bytes) next
@@ -103,15 +109,20 @@ module _ (policy : PolicyView) (bytes : List ℕ) (next : Contents → List Insn
   after_contents : (c : Contents) → HasContents bytes c → first_front policy bytes next ≡ first_read policy (Ok c) next
   after_contents c h = after_size h.size ∙ ap (λ r. first_read policy r next) (container_again bytes c h.container)
 
-  pub after_policy : (c : Contents) → IsForPolicy policy bytes c → first_front policy bytes next ≡ first_code c (decoded_code One c.code) (next c)
+  pub after_policy : (c : Contents) → IsForPolicy policy bytes c → first_front policy bytes next
+      ≡ first_code c (decoded_code (head_profile c.head) c.code) (next c)
   after_policy c h =
-      after_contents c h.held ∙ cond-true (is_number_of policy c.policy)
-      (first_code c (decoded_code One c.code) (next c)) (told (refusal.OtherPolicy c.policy))
-      (number-true policy c.policy h.number)
+      after_contents c h.held ∙ cond-true (is_for policy c.head)
+      (first_code c (decoded_code (head_profile c.head) c.code) (next c))
+      (told (refusal.OtherPolicy c.head))
+      (for-true policy c.head h.named)
 
   module _ (c : Contents) (code : List Insn) where
-    after_code : HasCode policy bytes c code → first_front policy bytes next ≡ first_shape c code (next c code)
-    after_code h = after_policy c h.before ∙ ap (λ r. first_code c r (next c)) (sym (decoded_code-ok One c.code code h.encoded h.code))
+    after_code : HasCode policy bytes c code → first_front policy bytes next
+        ≡ first_shape (head_signature c.head) c code (next c code)
+    after_code h =
+        after_policy c h.before ∙ ap (λ r. first_code c r (next c))
+        (sym (decoded_code-ok (head_profile c.head) c.code code h.encoded h.code))
 
     after_roots : HasLowRoots policy bytes c code → first_front policy bytes next ≡ from_forms c code (next c code)
     after_roots h =
@@ -121,7 +132,8 @@ module _ (policy : PolicyView) (bytes : List ℕ) (next : Contents → List Insn
     after_forms : HasForms policy bytes c code → first_front policy bytes next ≡ from_cut code (marks_of c code) (next c code)
     after_forms h =
         let rest : Option Refusal = from_cut code (marks_of c code) (next c code) in
-        after_roots h.before ∙ ap (λ o. refused_by refusal.InvNotForm o rest) (forms_none c.invs 0 h.forms)
+        after_roots h.before ∙ ap (λ o. refused_by refusal.InvNotForm o rest)
+        (forms_none (head_signature c.head) c.invs 0 h.forms)
 
     after_flags : (flags : List Bool) → HasFlags policy bytes c code flags → first_front policy bytes next ≡ from_cut code flags (next c code)
     after_flags flags h =
@@ -150,13 +162,15 @@ module _ (policy : PolicyView) (bytes : List ℕ) (next : Contents → List Insn
   front_finds (refusal.OtherPolicy n) h b =
       let c : Contents = h.0 in
       after_contents c h.1
-      ∙ cond-false (is_number_of policy c.policy) (first_code c (decoded_code One c.code) (next c))
-      (told (refusal.OtherPolicy c.policy))
-      (number-false policy c.policy h.2)
-      ∙ ap (λ k. told (refusal.OtherPolicy k)) (sym h.3)
+      ∙ cond-false (is_for policy c.head)
+      (first_code c (decoded_code (head_profile c.head) c.code) (next c))
+      (told (refusal.OtherPolicy c.head))
+      (for-false policy c.head h.2)
+      ∙ ap (λ (k : Head). told (refusal.OtherPolicy k)) (sym h.3)
   front_finds (refusal.BadCode flaw) h b =
       let c : Contents = h.0 in
-      after_policy c h.1 ∙ ap (λ r. first_code c r (next c)) (sym (IsDecoded-IsCodeAnswer One c.code (Err (fault.At flaw)) h.2))
+      after_policy c h.1 ∙ ap (λ r. first_code c r (next c))
+      (sym (IsDecoded-IsCodeAnswer (head_profile c.head) c.code (Err (fault.At flaw)) h.2))
   front_finds (refusal.Height x) h b =
       let c : Contents = h.0 in
       let rest : Option Refusal = from_forms c h.1 (next c h.1) in
@@ -165,7 +179,8 @@ module _ (policy : PolicyView) (bytes : List ℕ) (next : Contents → List Insn
   front_finds (refusal.InvNotForm k) h b =
       let c : Contents = h.0 in
       let rest : Option Refusal = from_cut h.1 (marks_of c h.1) (next c h.1) in
-      after_roots c h.1 h.2 ∙ ap (λ o. refused_by refusal.InvNotForm o rest) (first_no_form c.invs k h.3)
+      after_roots c h.1 h.2 ∙ ap (λ o. refused_by refusal.InvNotForm o rest)
+      (first_no_form (head_signature c.head) c.invs k h.3)
   front_finds (refusal.Uncut i) h b =
       let found : uncut_of h.1 h.2 ≡ Some i = uncut_is h.1 h.2 i h.3.before.before.before.code h.4 in
       after_flags h.0 h.1 h.2 h.3 ∙ ap (λ o. refused_by refusal.Uncut o (first_long h.1 h.2 (next h.0 h.1))) found
@@ -206,11 +221,15 @@ module _ (policy : PolicyView) (bytes : List ℕ) where
     flagged : HasForms policy bytes c code → HasFlags policy bytes c code (marks_of c code)
     flagged h =
         let fourth : HasCode policy bytes c code = h.before.before in
-        record { before = h; annotated = annotated_flags c code fourth.before.held.container.contents fourth.encoded }
+        record {
+          before = h;
+          annotated = annotated_flags (head_profile c.head) c code
+              fourth.before.held.container.contents fourth.encoded;
+        }
 
     from_sixth : HasLowRoots policy bytes c code → Outcome policy bytes
     from_sixth h =
-        elim (forms_decided c.invs) [
+        elim (forms_decided (head_signature c.head) c.invs) [
           | inl forms ↦ from_seventh (marks_of c code) (flagged (record { before = h; forms = forms })) (uncut_of code (marks_of c code)) refl
           | inr f ↦ inr (record { why = refusal.InvNotForm f.0; first = (c, code, h, f.1); before = tt })
         ]
@@ -225,18 +244,18 @@ module _ (policy : PolicyView) (bytes : List ℕ) where
   from_fourth : (c : Contents) → IsForPolicy policy bytes c → Outcome policy bytes
   from_fourth c h =
       let s : IsContents c = h.held.container.contents in
-      elim (code_decided c.code s.whole s.some s.short) [
+      elim (code_decided (head_profile c.head) c.code s.whole s.some s.short) [
         | inl k ↦ from_fifth c k.insns (record { before = h; encoded = k.encoded; code = k.code })
         | inr f ↦ inr (record { why = refusal.BadCode f.which; first = (c, h, f.is); before = tt })
       ]
 
   from_third : (c : Contents) → HasContents bytes c → Outcome policy bytes
   from_third c h =
-      elim (cases_Bool (is_number_of policy c.policy)) [
-        | inl same ↦ from_fourth c (record { held = h; number = number-is policy c.policy same })
+      elim (cases_Bool (is_for policy c.head)) [
+        | inl same ↦ from_fourth c (record { held = h; named = for-is policy c.head same })
         | inr other ↦ inr (record {
-          why = refusal.OtherPolicy c.policy;
-          first = (c, h, number-not policy c.policy other, refl);
+          why = refusal.OtherPolicy c.head;
+          first = (c, h, for-not policy c.head other, refl);
           before = tt;
         })
       ]
@@ -291,7 +310,10 @@ pub passed-one : (policy : PolicyView) (bytes : List ℕ) (c d : Contents) (code
     → (c ≡ d) × (code ≡ other) × (marks ≡ flags)
 passed-one policy bytes c d code other marks flags p q =
     let e : c ≡ d = one_content bytes c d p.container q.container in
-    let k : code ≡ other = code-one c.code d.code code other (ap (λ (z : Contents). z.code) e) p.encoded p.code q.encoded q.code in
+    let k : code ≡ other = code-one (head_profile c.head) (head_profile d.head) c.code d.code code
+    other
+    (ap (λ (z : Contents). head_profile z.head) e) (ap (λ (z : Contents). z.code) e)
+    p.encoded p.code q.encoded q.code in
     let mine : marks ≡ flags_of (map (λ p. p.0) c.invs) (length code) = flags_only (map (λ p. p.0) c.invs) (length code) marks p.annotated in
     let theirs : flags ≡ flags_of (map (λ p. p.0) d.invs) (length other) = flags_only (map (λ p. p.0) d.invs) (length other) flags q.annotated in
     let same : flags_of (map (λ p. p.0) c.invs) (length code) ≡ flags_of (map (λ p. p.0) d.invs) (length other) = λ i. flags_of (map (λ p. p.0) (e i).invs) (length (k i)) in

@@ -1,3 +1,4 @@
+pub mod ForPolicy
 pub mod Safe
 pub mod CodeBytes
 pub mod Searches

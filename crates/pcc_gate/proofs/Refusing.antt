@@ -13,6 +13,7 @@ use Rattle.pcc_gate.specs.declared.fault.GateFault.TheVariants as fault
 use Rattle.pcc_gate.specs.declared.refusal.Refusal.{Refusal}
 use Rattle.pcc_gate.specs.declared.refusal.Refusal.TheVariants as refusal
 use Rattle.pcc_gate.specs.First.{marks_of, too_high, formless, refused_by, first_long, first_shape}
+use Rattle.lf_signature.specs.declared.WordSignature.{WordSignature}
 use Rattle.pcc_gate.specs.Inside.Stages.{Refuses, IsMade, first_uncut, first_no_form}
 
 pub refuses-into : {N M : Type 0} (first : N → Option Refusal) (inner : M → Option Refusal) (into : N → M) → ((next : N) → first next ≡ inner (into next)) → (e : GateFault) → Refuses inner e → Refuses first e
@@ -33,32 +34,51 @@ pub height-none : (o : Option ℕ) → option_map capped o ≡ None → o ≡ No
 height-none None e = refl
 height-none (Some n) e = absurd (cc)
 
-module _ (c : Contents) (code : List Insn) where
-  pub shape-height : (h : ℕ) → option_map capped (too_high (roots c)) ≡ Some h → Refuses (first_shape c code) (fault.Refused (refusal.Height h))
+module _ (s : WordSignature) (c : Contents) (code : List Insn) where
+  pub shape-height : (h : ℕ) → option_map capped (too_high (roots c)) ≡ Some h
+      → Refuses (first_shape s c code) (fault.Refused (refusal.Height h))
   shape-height h e = λ next. height-some (too_high (roots c)) h _ e
 
-  shape-uncut : too_high (roots c) ≡ None → formless 0 c.invs ≡ None → (next : Option Refusal) → first_shape c code next ≡ first_uncut code (map (λ p. p.0) c.invs) (first_long code (marks_of c code) next)
+  shape-uncut : too_high (roots c) ≡ None → formless s 0 c.invs ≡ None → (next : Option Refusal)
+      → first_shape s c code next ≡ first_uncut code (map (λ p. p.0) c.invs)
+      (first_long code (marks_of c code) next)
   shape-uncut low forms next =
       let last : Option Refusal = first_uncut code (map (λ p. p.0) c.invs) (first_long code (marks_of c code) next) in
       λ i. refused_by (λ h. refusal.Height (capped h)) (low i) (refused_by refusal.InvNotForm (forms i) last)
 
-  shape-form : too_high (roots c) ≡ None → (next : Option Refusal) → first_shape c code next ≡ first_no_form c.invs (first_uncut code (map (λ p. p.0) c.invs) (first_long code (marks_of c code) next))
+  shape-form : too_high (roots c) ≡ None → (next : Option Refusal)
+      → first_shape s c code next ≡ first_no_form s c.invs
+      (first_uncut code (map (λ p. p.0) c.invs) (first_long code (marks_of c code) next))
   shape-form low next =
       let last : Option Refusal = first_uncut code (map (λ p. p.0) c.invs) (first_long code (marks_of c code) next) in
-      λ i. refused_by (λ h. refusal.Height (capped h)) (low i) (refused_by refusal.InvNotForm (formless 0 c.invs) last)
+      λ i. refused_by (λ h. refusal.Height (capped h)) (low i)
+      (refused_by refusal.InvNotForm (formless s 0 c.invs) last)
 
-  pub forms-refuse : too_high (roots c) ≡ None → (e : GateFault) → Refuses (first_no_form c.invs) e → Refuses (first_shape c code) e
-  forms-refuse low e h = refuses-into (first_shape c code) (first_no_form c.invs) (λ next. first_uncut code (map (λ p. p.0) c.invs) (first_long code (marks_of c code) next)) (shape-form low) e h
+  pub forms-refuse : too_high (roots c) ≡ None → (e : GateFault)
+      → Refuses (first_no_form s c.invs) e → Refuses (first_shape s c code) e
+  forms-refuse low e h =
+      refuses-into (first_shape s c code) (first_no_form s c.invs)
+      (λ next. first_uncut code (map (λ p. p.0) c.invs) (first_long code (marks_of c code) next))
+      (shape-form low) e h
 
-  pub uncut-refuses : too_high (roots c) ≡ None → formless 0 c.invs ≡ None → (e : GateFault) → Refuses (first_uncut code (map (λ p. p.0) c.invs)) e → Refuses (first_shape c code) e
-  uncut-refuses low forms e h = refuses-into (first_shape c code) (first_uncut code (map (λ p. p.0) c.invs)) (first_long code (marks_of c code)) (shape-uncut low forms) e h
+  pub uncut-refuses : too_high (roots c) ≡ None → formless s 0 c.invs ≡ None → (e : GateFault)
+      → Refuses (first_uncut code (map (λ p. p.0) c.invs)) e → Refuses (first_shape s c code) e
+  uncut-refuses low forms e h =
+      refuses-into (first_shape s c code) (first_uncut code (map (λ p. p.0) c.invs))
+      (first_long code (marks_of c code)) (shape-uncut low forms) e h
 
   -- clauses 5 to 7 pass
-  pub shape-long : too_high (roots c) ≡ None → formless 0 c.invs ≡ None → uncut_of code (marks_of c code) ≡ None → (next : Option Refusal) → first_shape c code next ≡ first_long code (marks_of c code) next
+  pub shape-long : too_high (roots c) ≡ None → formless s 0 c.invs ≡ None
+      → uncut_of code (marks_of c code) ≡ None → (next : Option Refusal)
+      → first_shape s c code next ≡ first_long code (marks_of c code) next
   shape-long low forms uncut next = shape-uncut low forms next ∙ ap (λ o. refused_by refusal.Uncut o (first_long code (marks_of c code) next)) uncut
 
-  pub long-refuses : too_high (roots c) ≡ None → formless 0 c.invs ≡ None → uncut_of code (marks_of c code) ≡ None → (e : GateFault) → Refuses (first_long code (marks_of c code)) e → Refuses (first_shape c code) e
-  long-refuses low forms uncut e h = refuses-into (first_shape c code) (first_long code (marks_of c code)) (λ next. next) (shape-long low forms uncut) e h
+  pub long-refuses : too_high (roots c) ≡ None → formless s 0 c.invs ≡ None
+      → uncut_of code (marks_of c code) ≡ None → (e : GateFault)
+      → Refuses (first_long code (marks_of c code)) e → Refuses (first_shape s c code) e
+  long-refuses low forms uncut e h =
+      refuses-into (first_shape s c code) (first_long code (marks_of c code)) (λ next. next)
+      (shape-long low forms uncut) e h
 
 -- the indices of invariants are those of their trees
 pub keys : (t : TableView) (ps : List (ℕ × ℕ)) → map (λ (p : ℕ × Tree). p.0) (id_trees t ps) ≡ map (λ (p : ℕ × ℕ). p.0) ps

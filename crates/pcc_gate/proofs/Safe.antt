@@ -23,7 +23,8 @@ use Rattle.vcgen.proofs.WalkTrees.{encodes-over}
 use Rattle.vcgen.proofs.Scopes.{condition-closed}
 use Rattle.vcgen.proofs.Encodings.{encoded-annotates, encoding-unique, policy-safe}
 use Rattle.pcc_gate.specs.Accepted.{Accepts}
-use Rattle.lf_signature.specs.declared.WordSignature.TheVariants.{Sigma1}
+use Rattle.lf_signature.specs.declared.WordSignature.{WordSignature}
+use Rattle.pcc_gate.specs.Versions.{head_signature}
 
 -- the formulas of invariants are over m and r0 to r30
 pub formulas-over : (ps : List (ℕ × Tree)) (qs : List (ℕ × Form)) → AreEncodings ps qs → All (λ (q : ℕ × Form). IsOver 31 q.1 []) qs
@@ -32,11 +33,18 @@ formulas-over [] (q ∷ qs) f = absurd f
 formulas-over (p ∷ ps) [] f = absurd f
 formulas-over (p ∷ ps) (q ∷ qs) f = All-cons (λ (q : ℕ × Form). IsOver 31 q.1 []) q qs (encodes-over q.1 p.1 f.1) (formulas-over ps qs f.2)
 
--- the first signature is sound, where each lawful signature of word arithmetic is
-pub first-sound : ((sig : Const → Option Tree) → IsSignature sig → AreGivenTypes sig → IsSoundSignature sig) → IsSoundSignature (declared Sigma1)
-first-sound sound = sound (declared Sigma1) (declared_formed Sigma1) (λ k a e. listed ((declared_known Sigma1).within k a e))
+-- each signature of word arithmetic is sound
+abbrev pub AreSound : Type 0
+AreSound = (s : WordSignature) → IsSoundSignature (declared s)
 
-pub accepted-safe : IsSoundSignature (declared Sigma1)
+-- so it is, where each lawful signature of given types is
+pub all-sound : ((sig : Const → Option Tree) → IsSignature sig → AreGivenTypes sig
+    → IsSoundSignature sig)
+    → AreSound
+all-sound sound s =
+    sound (declared s) (declared_formed s) (λ k a e. listed ((declared_known s).within k a e))
+
+pub accepted-safe : AreSound
     → (policy : PolicyView) (bytes : List ℕ) (contents : Contents) (code : List Insn)
     (marks : List Bool) → IsPolicy policy → Accepts policy bytes contents code marks
     → IsSafe code policy.pre policy.post
@@ -47,12 +55,15 @@ accepted-safe sound policy bytes contents code marks kept a =
     let is : IsAnnotated (annotated policy code fs) =
     encoded-annotates policy code contents.invs fs marks kept e.encoded p.code p.annotated p.cut in
     let over : IsOver 0 (condition (annotated policy code fs)) [] = condition-closed (annotated policy code fs) is refl (formulas-over contents.invs fs e.encoded) in
-    let proved : Checks (declared Sigma1) [] a.proof (pf (form_encoding (condition (annotated policy code fs)))) = subst (λ t. Checks (declared Sigma1) [] a.proof (pf t)) (sym e.is) a.proved in
+    let s : WordSignature = head_signature contents.head in
+    let proved : Checks (declared s) [] a.proof
+    (pf (form_encoding (condition (annotated policy code fs)))) =
+    subst (λ t. Checks (declared s) [] a.proof (pf t)) (sym e.is) a.proved in
     policy-safe policy code contents.invs fs marks kept e.encoded p.code p.annotated p.cut
-    (sound (condition (annotated policy code fs)) a.proof over proved)
+    (sound s (condition (annotated policy code fs)) a.proof over proved)
 
 -- The condition of any formulas that the invariants encode is true in every structure.
-pub accepted-valid : IsSoundSignature (declared Sigma1)
+pub accepted-valid : AreSound
     → (policy : PolicyView) (bytes : List ℕ) (contents : Contents) (code : List Insn)
     (marks : List Bool) → IsPolicy policy → Accepts policy bytes contents code marks →
     (fs : List (ℕ × Form)) → AreEncodings contents.invs fs → IsValid (condition (annotated policy code fs))
@@ -64,4 +75,5 @@ accepted-valid sound policy bytes contents code marks kept a fs enc =
     let is : IsAnnotated (annotated policy code fs) =
     encoded-annotates policy code contents.invs fs marks kept enc p.code p.annotated p.cut in
     let over : IsOver 0 f [] = condition-closed (annotated policy code fs) is refl (formulas-over contents.invs fs enc) in
-    sound f a.proof over (subst (λ t. Checks (declared Sigma1) [] a.proof (pf t)) same a.proved)
+    let s : WordSignature = head_signature contents.head in
+    sound s f a.proof over (subst (λ t. Checks (declared s) [] a.proof (pf t)) same a.proved)

@@ -16,7 +16,7 @@ use Rattle.vcgen.specs.Encoded.{AreForms}
 use Rattle.pcc_gate.specs.Passing.{AreLow}
 use Rattle.pcc_gate.specs.First.{has_form, too_high, formless}
 use Rattle.pcc_gate.specs.Refusals.{IsFirstHeight, IsFirstNoForm}
-use Rattle.lf_signature.specs.declared.WordSignature.TheVariants.{Sigma1}
+use Rattle.lf_signature.specs.declared.WordSignature.{WordSignature}
 
 -- ---- a limit
 
@@ -69,63 +69,85 @@ none_low ts e = elim (low_decided ts) [ inl low ↦ low | inr f ↦ absurd (none
 
 -- ---- forms
 
-abbrev IsForm : Tree → Type 0
-IsForm t = Checks (declared Sigma1) (sort_types machine_context) t form
+module _ (s : WordSignature) where
+  abbrev IsForm : Tree → Type 0
+  IsForm t = Checks (declared s) (sort_types machine_context) t form
 
-form_decided : (t : Tree) → IsForm t ⊎ (IsForm t → ⊥)
-form_decided t =
-    elim (cases_Bool (has_form t)) [
-      | inl right ↦ inl (checks_follows (declared Sigma1) t (sort_types machine_context) form right)
-      | inr wrong ↦ inr (λ h. false≢true (sym wrong ∙ checks_is (declared Sigma1) h))
-    ]
+  form_decided : (t : Tree) → IsForm t ⊎ (IsForm t → ⊥)
+  form_decided t =
+      elim (cases_Bool (has_form s t)) [
+        | inl right ↦ inl (checks_follows (declared s) t (sort_types machine_context) form right)
+        | inr wrong ↦ inr (λ h. false≢true (sym wrong ∙ checks_is (declared s) h))
+      ]
 
--- what isn't derived fails the test
-not_form : (t : Tree) → (IsForm t → ⊥) → has_form t ≡ false
-not_form t wrong = go (has_form t) refl where
-  go : (b : Bool) → has_form t ≡ b → has_form t ≡ false
-  go true e = absurd (wrong (checks_follows (declared Sigma1) t (sort_types machine_context) form e))
-  go false e = e
+  -- what isn't derived fails the test
+  not_form : (t : Tree) → (IsForm t → ⊥) → has_form s t ≡ false
+  not_form t wrong = go (has_form s t) refl where
+    go : (b : Bool) → has_form s t ≡ b → has_form s t ≡ false
+    go true e = absurd (wrong (checks_follows (declared s) t (sort_types machine_context) form e))
+    go false e = e
 
-pub forms_none : (ps : List (ℕ × Tree)) (k : ℕ) → AreForms ps → formless k ps ≡ None
-forms_none [] k h = refl
-forms_none (p ∷ ps) k h = cond-true (has_form p.1) (formless (suc k) ps) (Some k) (checks_is (declared Sigma1) h.0) ∙ forms_none ps (suc k) h.1
+  pub forms_none : (ps : List (ℕ × Tree)) (k : ℕ) → AreForms s ps → formless s k ps ≡ None
+  forms_none [] k h = refl
+  forms_none (p ∷ ps) k h =
+      cond-true (has_form s p.1) (formless s (suc k) ps) (Some k) (checks_is (declared s) h.0)
+      ∙ forms_none ps (suc k) h.1
 
-no_form_found : (front : List (ℕ × Tree)) (p : ℕ × Tree) (rest : List (ℕ × Tree)) (k : ℕ) → AreForms front → (IsForm p.1 → ⊥) →
-    formless k (front ++ p ∷ rest) ≡ Some (k + length front)
-no_form_found [] p rest k forms wrong =
-    let e : k ≡ k + 0 = omega arith in
-    cond-false (has_form p.1) (formless (suc k) rest) (Some k) (not_form p.1 wrong) ∙ ap Some e
-no_form_found (q ∷ qs) p rest k forms wrong =
-    let e : suc k + length qs ≡ k + suc (length qs) = omega arith in
-    cond-true (has_form q.1) (formless (suc k) (qs ++ p ∷ rest)) (Some k) (checks_is (declared Sigma1) forms.0)
-    ∙ no_form_found qs p rest (suc k) forms.1 wrong ∙ ap Some e
+  no_form_found : (front : List (ℕ × Tree)) (p : ℕ × Tree) (rest : List (ℕ × Tree)) (k : ℕ)
+      → AreForms s front → (IsForm p.1 → ⊥) →
+      formless s k (front ++ p ∷ rest) ≡ Some (k + length front)
+  no_form_found [] p rest k forms wrong =
+      let e : k ≡ k + 0 = omega arith in
+      cond-false (has_form s p.1) (formless s (suc k) rest) (Some k) (not_form p.1 wrong)
+      ∙ ap Some e
+  no_form_found (q ∷ qs) p rest k forms wrong =
+      let e : suc k + length qs ≡ k + suc (length qs) = omega arith in
+      cond-true (has_form s q.1) (formless s (suc k) (qs ++ p ∷ rest)) (Some k)
+      (checks_is (declared s) forms.0)
+      ∙ no_form_found qs p rest (suc k) forms.1 wrong ∙ ap Some e
 
-pub first_no_form : (ps : List (ℕ × Tree)) (k : ℕ) → IsFirstNoForm ps k → formless 0 ps ≡ Some k
-first_no_form ps k f =
-    let e : 0 + length f.front ≡ k = omega (arith, f.is) in
-    ap (formless 0) f.split ∙ no_form_found f.front f.inv f.rest 0 f.forms f.no_form ∙ ap Some e
+  pub first_no_form : (ps : List (ℕ × Tree)) (k : ℕ) → IsFirstNoForm s ps k
+      → formless s 0 ps ≡ Some k
+  first_no_form ps k f =
+      let e : 0 + length f.front ≡ k = omega (arith, f.is) in
+      ap (formless s 0) f.split ∙ no_form_found f.front f.inv f.rest 0 f.forms f.no_form ∙ ap Some e
 
-behind_form : (p : ℕ × Tree) (ps : List (ℕ × Tree)) (k : ℕ) → IsForm p.1 → IsFirstNoForm ps k → IsFirstNoForm (p ∷ ps) (suc k)
-behind_form p ps k right f = record {
-  front = p ∷ f.front;
-  inv = f.inv;
-  rest = f.rest;
-  split = ap (λ l. p ∷ l) f.split;
-  forms = (right, f.forms);
-  no_form = f.no_form;
-  is = ap suc f.is;
-}
+  behind_form : (p : ℕ × Tree) (ps : List (ℕ × Tree)) (k : ℕ) → IsForm p.1 → IsFirstNoForm s ps k
+      → IsFirstNoForm s (p ∷ ps) (suc k)
+  behind_form p ps k right f = record {
+    front = p ∷ f.front;
+    inv = f.inv;
+    rest = f.rest;
+    split = ap (λ l. p ∷ l) f.split;
+    forms = (right, f.forms);
+    no_form = f.no_form;
+    is = ap suc f.is;
+  }
 
-pub forms_decided : (ps : List (ℕ × Tree)) → AreForms ps ⊎ ((k : ℕ) × IsFirstNoForm ps k)
-forms_decided [] = inl tt
-forms_decided (p ∷ ps) =
-    elim (form_decided p.1) [
-      | inr wrong ↦ inr (0, record { front = []; inv = p; rest = ps; split = refl; forms = tt; no_form = wrong; is = refl })
-      | inl right ↦ elim (forms_decided ps) [ inl all ↦ inl (right, all) | inr f ↦ inr (suc f.0, behind_form p ps f.0 right f.1) ]
-    ]
+  pub forms_decided : (ps : List (ℕ × Tree)) → AreForms s ps ⊎ ((k : ℕ) × IsFirstNoForm s ps k)
+  forms_decided [] = inl tt
+  forms_decided (p ∷ ps) =
+      elim (form_decided p.1) [
+        | inr wrong ↦ inr (
+          0,
+          record {
+            front = [];
+            inv = p;
+            rest = ps;
+            split = refl;
+            forms = tt;
+            no_form = wrong;
+            is = refl;
+          },
+        )
+        | inl right ↦ elim (forms_decided ps)
+            [ inl all ↦ inl (right, all) | inr f ↦ inr (suc f.0, behind_form p ps f.0 right f.1) ]
+      ]
 
-pub none_forms : (ps : List (ℕ × Tree)) (k : ℕ) → formless k ps ≡ None → AreForms ps
-none_forms ps k e = elim (forms_decided ps) [
-  | inl forms ↦ forms
-  | inr f ↦ absurd (none-some (k + length f.1.front) (sym e ∙ ap (formless k) f.1.split ∙ no_form_found f.1.front f.1.inv f.1.rest k f.1.forms f.1.no_form))
-]
+  pub none_forms : (ps : List (ℕ × Tree)) (k : ℕ) → formless s k ps ≡ None → AreForms s ps
+  none_forms ps k e = elim (forms_decided ps) [
+    | inl forms ↦ forms
+    | inr f ↦ absurd (none-some (k + length f.1.front)
+        (sym e ∙ ap (formless s k) f.1.split
+        ∙ no_form_found f.1.front f.1.inv f.1.rest k f.1.forms f.1.no_form))
+  ]

@@ -6,14 +6,13 @@ use Rattle.alpha_cfg.specs.Cuts.{CutView, AreFlags}
 use Rattle.std.proofs.lemmas.List.Elements.{All-head, All-tail}
 use Rattle.std.specs.List.{AllByRecursion}
 use Rattle.term_table.specs.Table.{TableView, IsKnown, Extends, tree_at, id_trees}
-use Rattle.lf_truth.specs.Validity.{IsSoundSignature}
 use Rattle.vcgen.specs.Encoded.{AreForms, AreEncodings}
 use Rattle.pcc_gate.proofs.Kept.{known-more, trees-same}
-use Rattle.pcc_gate.proofs.Safe.{accepted-safe, accepted-valid}
+use Rattle.pcc_gate.proofs.Safe.{AreSound, accepted-safe, accepted-valid}
 use Rattle.vcgen.specs.Answers.{AreLowInvs}
 use Rattle.term_table.specs.Tree.{Tree}
-use Rattle.term_table.specs.Measures.{height_of, weight_of, sigma1_places, capped}
-use Rattle.lf_signature.specs.Constants.{declared}
+use Rattle.term_table.specs.Measures.{height_of, weight_of, capped}
+use Rattle.lf_signature.specs.Constants.{places_of, declared}
 use Rattle.lf_signature.specs.Terms.{pf}
 use Rattle.lf_signature.specs.Laws.Decided.{checks_follows}
 use Rattle.vcgen.specs.declared.condition.TheConstants.{MAX_HEIGHT}
@@ -28,7 +27,7 @@ use Rattle.pcc_gate.specs.declared.fault.GateFault.{GateFault}
 use Rattle.pcc_gate.specs.declared.passing.Passed.{Passed}
 use Rattle.pcc_gate.specs.declared.refusal.Refusal.{Refusal}
 use Rattle.pcc_gate.specs.declared.refusal.Refusal.TheVariants as refusal
-use Rattle.pcc_gate.specs.First.{vc_of, proves, first_proof, first_code, first_shape, first_front, front_refusal, first_refusal}
+use Rattle.pcc_gate.specs.First.{vc_of, proves, first_proof, first_after, first_code, first_shape, first_front, front_refusal, first_refusal}
 use Rattle.pcc_gate.specs.declared.fault.GateFault.TheVariants as fault
 use Rattle.pcc_gate.specs.Answers.{IsHeld, IsFrontAnswer, IsGateAnswer}
 use Rattle.pcc_gate.specs.Passing.{AreLow, Passes}
@@ -37,23 +36,28 @@ use Rattle.pcc_gate.specs.Inside.Passed.{IsRest, IsRestAnswer, IsPassedAnswer}
 use Rattle.pcc_gate.proofs.Searches.{within, none_low, none_forms}
 use Rattle.pcc_gate.proofs.FirstFront.{front-none, after_policy, after_all}
 use Rattle.pcc_gate.proofs.Refusing.{refuses-into}
-use Rattle.lf_signature.specs.declared.WordSignature.TheVariants.{Sigma1}
-use Rattle.word_ops.specs.declared.Profile.TheVariants.{One}
+use Rattle.lf_signature.specs.declared.WordSignature.{WordSignature}
+use Rattle.lf_signature.specs.declared.WordSignature.TheVariants.{Sigma3}
+use Rattle.vcgen.proofs.Encodings.{forms-wider}
+use Rattle.pcc_gate.specs.Versions.{head_profile, head_signature}
 
 module _ (policy : PolicyView) (bytes : List ℕ) where
   read-first : (c : Contents) → IsRead policy bytes c → (next : Contents → List Insn → Option Refusal) →
-      first_front policy bytes next ≡ first_code c (decoded_code One c.code) (next c)
-  read-first c r next = after_policy policy bytes next c (record { held = record { size = r.size; container = r.encoded }; number = r.number })
+      first_front policy bytes next ≡ first_code c (decoded_code (head_profile c.head) c.code)
+      (next c)
+  read-first c r next =
+      after_policy policy bytes next c
+      (record { held = record { size = r.size; container = r.encoded }; named = r.named })
 
   rest-passes : (c : Contents) → IsRead policy bytes c → (p : Passed) → IsRest c p → Passes policy bytes c p.cut.code p.cut.marks
   rest-passes c r p k = record {
     size = r.size;
     container = r.encoded;
-    number = r.number;
+    named = r.named;
     encoded = k.encoded;
     code = k.is;
     heights = none_low (roots c) k.shaped.low;
-    forms = none_forms c.invs 0 k.shaped.forms;
+    forms = none_forms (head_signature c.head) c.invs 0 k.shaped.forms;
     annotated = k.shaped.made.flags;
     cut = k.shaped.made.cuts;
     unfolded = k.shaped.short;
@@ -66,8 +70,14 @@ module _ (policy : PolicyView) (bytes : List ℕ) where
   rest-passed c r (Err fault.Results) k = r.size
 
 -- clause 4 passes
-pub code-refuses : (c : Contents) (code : List Insn) → decoded_code One c.code ≡ Ok code → (e : GateFault) → Refuses (first_shape c code) e → Refuses (first_code c (decoded_code One c.code)) e
-code-refuses c code h e k = refuses-into (first_code c (decoded_code One c.code)) (first_shape c code) (λ next. next code) (λ next. ap (λ r. first_code c r next) h) e k
+pub code-refuses : (c : Contents) (code : List Insn)
+    → decoded_code (head_profile c.head) c.code ≡ Ok code → (e : GateFault)
+    → Refuses (first_shape (head_signature c.head) c code) e
+    → Refuses (first_code c (decoded_code (head_profile c.head) c.code)) e
+code-refuses c code h e k =
+    refuses-into (first_code c (decoded_code (head_profile c.head) c.code))
+    (first_shape (head_signature c.head) c code) (λ next. next code)
+    (λ next. ap (λ r. first_code c r next) h) e k
 
 -- the container that passed
 pub front-held : (policy : PolicyView) (bytes : List ℕ) (a : Result Passed GateFault)
@@ -90,48 +100,60 @@ module _ (policy : PolicyView) (bytes : List ℕ) (c : Contents) (code : List In
   front-next : (next : Contents → List Insn → Option Refusal) → first_front policy bytes next ≡ next c code
   front-next next = after_all policy bytes next c code marks p
 
-  pub gate-refused : (e : GateFault) → Refuses (λ vc. first_proof vc c.proof) e → IsGateAnswer policy bytes (Err e)
+  abbrev sig : WordSignature
+  sig = head_signature c.head
+
+  pub gate-refused : (e : GateFault) → Refuses (λ vc. first_proof sig vc c.proof) e
+      → IsGateAnswer policy bytes (Err e)
   unfolding first_refusal
-  gate-refused (fault.Refused r) h = front-next (λ c code. first_proof (vc_of policy code c.invs) c.proof) ∙ h (vc_of policy code c.invs)
+  gate-refused (fault.Refused r) h = front-next (first_after policy) ∙ h (vc_of policy code c.invs)
   gate-refused fault.Memory h = p.size
   gate-refused fault.Results h = p.size
 
-  module _ (proof : Tree) (given : c.proof ≡ Some proof) (weight : weight_of sigma1_places proof ≤ MAX_WEIGHT) where
-    light : (vc : Tree) → first_proof vc c.proof ≡ cond (proves proof vc) None (Some refusal.NotProof)
-    light vc =
-        let w : ℕ = weight_of sigma1_places proof in
-        ap (first_proof vc) given ∙ within MAX_WEIGHT w (Some (refusal.ProofWeight (capped w))) (cond (proves proof vc) None (Some refusal.NotProof)) weight
+  module _ (proof : Tree) (given : c.proof ≡ Some proof)
+      (weight : weight_of (places_of sig) proof ≤ MAX_WEIGHT) where
+    abbrev judged : Tree → Option Refusal
+    judged vc = cond (proves sig proof vc) None (Some refusal.NotProof)
 
-    pub gate-judged : (e : GateFault) → IsProofAnswer policy code c.invs proof (Err e) → IsGateAnswer policy bytes (Err e)
+    light : (vc : Tree) → first_proof sig vc c.proof ≡ judged vc
+    light vc =
+        let w : ℕ = weight_of (places_of sig) proof in
+        ap (first_proof sig vc) given
+        ∙ within MAX_WEIGHT w (Some (refusal.ProofWeight (capped w))) (judged vc) weight
+
+    pub gate-judged : (e : GateFault) → IsProofAnswer sig policy code c.invs proof (Err e)
+        → IsGateAnswer policy bytes (Err e)
     unfolding first_refusal
     gate-judged (fault.Refused r) h =
-        front-next (λ c code. first_proof (vc_of policy code c.invs) c.proof) ∙ light (vc_of policy code c.invs)
+        front-next (first_after policy) ∙ light (vc_of policy code c.invs)
         ∙ ap (λ b. cond b None (Some refusal.NotProof)) h.0 ∙ ap Some (sym h.1)
     gate-judged fault.Memory h = p.size
     gate-judged fault.Results h = p.size
 
-    pub gate-none : proves proof (vc_of policy code c.invs) ≡ true → first_refusal policy bytes ≡ None
+    pub gate-none : proves sig proof (vc_of policy code c.invs) ≡ true
+        → first_refusal policy bytes ≡ None
     unfolding first_refusal
     gate-none h =
-        front-next (λ c code. first_proof (vc_of policy code c.invs) c.proof) ∙ light (vc_of policy code c.invs)
+        front-next (first_after policy) ∙ light (vc_of policy code c.invs)
         ∙ ap (λ b. cond b None (Some refusal.NotProof)) h
 
-    pub gate-accepts : proves proof (vc_of policy code c.invs) ≡ true → Accepts policy bytes c code marks
+    pub gate-accepts : proves sig proof (vc_of policy code c.invs) ≡ true
+        → Accepts policy bytes c code marks
     gate-accepts h = record {
       passes = p;
       proof = proof;
       vc = vc_of policy code c.invs;
       given = given;
       weight = weight;
-      condition = vc_of-encodes policy code c.invs p.forms;
-      proved = checks_follows (declared Sigma1) proof [] (pf (vc_of policy code c.invs)) h;
+      condition = vc_of-encodes sig policy code c.invs p.forms;
+      proved = checks_follows (declared sig) proof [] (pf (vc_of policy code c.invs)) h;
     }
 
 -- what is refused by clauses 1 to 8 is refused by the gate
 pub front-refused : (policy : PolicyView) (bytes : List ℕ) (e : GateFault)
     → RefusesBytes policy bytes e → IsGateAnswer policy bytes (Err e)
 unfolding first_refusal
-front-refused policy bytes (fault.Refused r) h = h (λ c code. first_proof (vc_of policy code c.invs) c.proof)
+front-refused policy bytes (fault.Refused r) h = h (first_after policy)
 front-refused policy bytes fault.Memory h = h
 front-refused policy bytes fault.Results h = h
 
@@ -143,7 +165,7 @@ low-invs t (p ∷ ps) more k l =
     (k.0, All-head (λ x. height_of x ≤ MAX_HEIGHT) (tree_at t p.1) rest l, low-invs t ps more k.1 (All-tail (λ x. height_of x ≤ MAX_HEIGHT) (tree_at t p.1) rest l))
 
 -- accepted code is safe, and its condition true, also over a later table
-pub proved-by : IsSoundSignature (declared Sigma1) → (policy : PolicyView) → IsPolicy policy
+pub proved-by : AreSound → (policy : PolicyView) → IsPolicy policy
     → (bytes : List ℕ) (c : Contents) (cut : CutView) (t u : TableView) (ps : List (ℕ × ℕ))
     → Extends t u → AllByRecursion (λ (inv : ℕ × ℕ). IsKnown t inv.1) ps → c.invs ≡ id_trees t ps
     → Accepts policy bytes c cut.code cut.marks → IsProved policy cut u ps
@@ -155,7 +177,8 @@ proved-by sound policy kept bytes c cut t u ps grown known is a =
       flags = subst (λ (l : List (ℕ × Tree)). AreFlags (map (λ p. p.0) l) (length cut.code) cut.marks) same a.passes.annotated;
       cuts = a.passes.cut;
       known = known-more t u ps grown known;
-      forms = subst (λ l. AreForms l) same a.passes.forms;
+      forms = subst (λ l. AreForms Sigma3 l) same
+          (forms-wider (head_signature c.head) c.invs a.passes.forms);
       safe = accepted-safe sound policy bytes c cut.code cut.marks kept a;
       valid =
           λ fs enc. accepted-valid sound policy bytes c cut.code cut.marks kept a fs

@@ -27,8 +27,9 @@ use Rattle.lf_signature.specs.Laws.Decided.{checks_follows}
 use Rattle.policy_set.specs.declared.kind.PolicyKind.TheVariants.{Tag}
 use Rattle.policy_set.specs.Views.{built_in}
 use Rattle.proof_container.specs.Contents.{Contents, roots}
+use Rattle.proof_container.specs.declared.container.Head.TheVariants.{Number}
 use Rattle.term_table.specs.Bytes.{IsBytes}
-use Rattle.proof_container.specs.Encoding.{IsContents, IsEntryTerm, AreTerms, encoding_of}
+use Rattle.proof_container.specs.Encoding.{IsContents, IsEntryTerm, AreTerms, policy_bytes, encoding_of}
 use Rattle.proof_container.specs.Postorder.{is_emitted, unless_emitted, emitted_with, entries}
 use Rattle.proof_container.specs.Inside.Walked.{nodes}
 use Rattle.proof_container.specs.Decoding.{entry_size}
@@ -146,7 +147,14 @@ abbrev invariant : Form
 invariant = FAnd (FRd (EOp Add (EReg 16) (ELit 0))) (FWr (EOp Add (EReg 16) (ELit 8)))
 
 abbrev contents : Contents
-contents = record { policy = 2; code = code_bytes; invs = (2, form_encoding (kept 0)) ∷ []; proof = Some whole_proof }
+contents =
+    record {
+      head = Number 2;
+      code = code_bytes;
+      invs = (2, form_encoding (kept 0))
+          ∷ [];
+      proof = Some whole_proof;
+    }
 
 abbrev marks : List Bool
 marks = flags_of (2 ∷ []) 6
@@ -297,7 +305,7 @@ code_is_bytes = bytes_from code_bytes refl
 
 is_contents : IsContents contents
 is_contents = record {
-  policy = omega arith;
+  head = omega arith;
   bytes = code_is_bytes;
   whole = refl;
   some = omega arith;
@@ -308,8 +316,19 @@ is_contents = record {
   rising = (omega arith, omega arith, tt);
 }
 
+-- its number is one field
+head_size : length (policy_bytes (Number 2)) ≡ 4
+head_size = refl
+
 size : length (encoding_of contents) ≤ 4194304
-size = omega (arith, length-encoding_of contents, all_fields_few (entries (roots contents)), entries_few)
+size =
+    omega (
+      arith,
+      head_size,
+      length-encoding_of contents,
+      all_fields_few (entries (roots contents)),
+      entries_few,
+    )
 
 abbrev told : List Insn → Result (List Insn) CodeFlaw
 told code = Ok code
@@ -327,7 +346,7 @@ same_code a b e = cc
 -- the bytes are those of the code, and it is code
 encoded : EncodesCode One code_bytes loop_code × IsCode loop_code
 encoded =
-    elim (code_decided code_bytes refl (omega arith) (omega arith)) [
+    elim (code_decided One code_bytes refl (omega arith) (omega arith)) [
       | inl e ↦
           let same : e.insns ≡ loop_code = same_code e.insns loop_code (decoded_code-ok One code_bytes e.insns e.encoded e.code ∙ decoded) in
           (subst (EncodesCode One code_bytes) same e.encoded, subst IsCode same e.code)
@@ -352,7 +371,7 @@ inv_formed : checks_of (declared Sigma1) inv_term (sort_types machine_context) f
 unfolding constant_types the_rules machine_context
 inv_formed = refl
 
-forms : AreForms ((2, inv_term) ∷ [])
+forms : AreForms Sigma1 ((2, inv_term) ∷ [])
 forms = (checks_follows (declared Sigma1) inv_term (sort_types machine_context) form inv_formed, tt)
 
 abbrev said : Form
@@ -385,12 +404,12 @@ loop_is_accepted = record {
     passes = record {
       size = size;
       container = record { contents = is_contents; encoded = refl };
-      number = (Tag, refl, refl);
+      named = (Tag, refl, refl);
       encoded = encoded.0;
       code = encoded.1;
       heights = low;
       forms = forms;
-      annotated = annotated_flags contents loop_code is_contents encoded.0;
+      annotated = annotated_flags One contents loop_code is_contents encoded.0;
       cut = uncut_none loop_code marks encoded.1 refl;
       unfolded = omega arith;
     };

@@ -3,15 +3,15 @@ use Rattle.std.specs.Prelude.{◌≡◌, ℕ, ◌≤◌, Bool, List, [], Some}
 use Rattle.alpha_words.specs.declared.insn.Insn.{Insn}
 use Rattle.policy_set.specs.Views.{PolicyView}
 use Rattle.term_table.specs.Tree.{Tree}
-use Rattle.term_table.specs.Measures.{weight_of, sigma1_places}
-use Rattle.lf_signature.specs.Constants.{declared}
+use Rattle.term_table.specs.Measures.{weight_of}
+use Rattle.lf_signature.specs.Constants.{places_of, declared}
 use Rattle.lf_signature.specs.Terms.{pf}
 use Rattle.lf_signature.specs.Typing.{Checks}
 use Rattle.proof_container.specs.Contents.{Contents}
 use Rattle.vcgen.specs.Encoded.{EncodesCondition}
 use Rattle.pcc_gate.specs.declared.limits.TheConstants.{MAX_WEIGHT}
 use Rattle.pcc_gate.specs.Passing.{Passes}
-use Rattle.lf_signature.specs.declared.WordSignature.TheVariants.{Sigma1}
+use Rattle.pcc_gate.specs.Versions.{head_signature}
 
 -- The eleven clauses: clauses 1 to 8, and those of the proof, in their order.
 pub record Accepts (policy : PolicyView) (bytes : List ℕ) (contents : Contents) (insns : List Insn)
@@ -21,11 +21,12 @@ pub record Accepts (policy : PolicyView) (bytes : List ℕ) (contents : Contents
   pub vc : Tree
   -- 9: there is a proof
   pub given : contents.proof ≡ Some proof
-  -- 10: which isn't too heavy
-  pub weight : weight_of sigma1_places proof ≤ MAX_WEIGHT
-  -- 11: it proves the verification condition of the policy, the code and the invariants
+  -- 10: which isn't too heavy, by the parameters of the version's signature
+  pub weight : weight_of (places_of (head_signature contents.head)) proof ≤ MAX_WEIGHT
+  -- 11: over that signature it proves the verification condition of the policy, the code and the
+  -- invariants
   pub condition : EncodesCondition policy insns contents.invs vc
-  pub proved : Checks (declared Sigma1) [] proof (pf vc)
+  pub proved : Checks (declared (head_signature contents.head)) [] proof (pf vc)
 
 -- the bytes are accepted under the policy
 pub record IsAccepted (policy : PolicyView) (bytes : List ℕ) : Type 0 where

@@ -1,7 +1,7 @@
 -- What the gate answers.
 use Rattle.std.specs.Prelude.{◌≡◌, ℕ, ◌≤◌, List, length, None, Some, Result, Ok, Err}
 use Rattle.policy_set.specs.Views.{PolicyView}
-use Rattle.term_table.specs.Measures.{sigma1_places}
+use Rattle.lf_signature.specs.Constants.{places_of}
 use Rattle.term_table.specs.Table.{id_trees}
 use Rattle.proof_container.specs.Views.{AreKnown, contents_of}
 use Rattle.proof_container.specs.Contents.{Contents}
@@ -13,12 +13,14 @@ use Rattle.pcc_gate.specs.declared.passing.Passed.{Passed}
 use Rattle.pcc_gate.specs.Passing.{Passes}
 use Rattle.pcc_gate.specs.First.{front_refusal, first_refusal}
 use Rattle.pcc_gate.specs.Accepted.{Accepts}
+use Rattle.pcc_gate.specs.Versions.{head_signature}
 use Rattle.pcc_gate.specs.Views.{AcceptedView}
 
--- the container's terms are the table's, whose weights go by the rules' parameters
+-- the container's terms are the table's, whose weights go by the parameters of the version's
+-- signature
 pub record IsHeld (c : Container) : Type 0 where
   pub known : AreKnown c.table c.invs.items c.proof
-  pub places : c.table.places ≡ sigma1_places
+  pub places : c.table.places ≡ places_of (head_signature c.head)
 
 -- Clauses 1 to 8 hold of what is passed on; a refusal is the first of them that fails; where memory or the results that may be
 -- kept ran out, the bytes aren't too many.

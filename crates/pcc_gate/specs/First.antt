@@ -8,10 +8,9 @@ use Rattle.alpha_cfg.specs.Deciding.{flags_of, uncut_of}
 use Rattle.alpha_cfg.specs.declared.fault.CodeFlaw.{CodeFlaw}
 use Rattle.formula_tree.specs.Formulas.{Form}
 use Rattle.policy_set.specs.Views.{PolicyView}
-use Rattle.policy_set.specs.Names.{is_number_of}
 use Rattle.term_table.specs.Tree.{Tree}
-use Rattle.term_table.specs.Measures.{height_of, weight_of, sigma1_places, capped}
-use Rattle.lf_signature.specs.Constants.{declared}
+use Rattle.term_table.specs.Measures.{height_of, weight_of, capped}
+use Rattle.lf_signature.specs.Constants.{places_of, declared}
 use Rattle.lf_signature.specs.Terms.{form, pf}
 use Rattle.lf_signature.specs.Decide.{checks_of}
 use Rattle.lf_encode.specs.Encoding.{form_encoding}
@@ -27,14 +26,15 @@ use Rattle.vcgen.specs.declared.condition.TheConstants.{MAX_HEIGHT, MAX_UNFOLDED
 use Rattle.pcc_gate.specs.declared.limits.TheConstants.{MAX_WEIGHT}
 use Rattle.pcc_gate.specs.declared.refusal.Refusal.{Refusal}
 use Rattle.pcc_gate.specs.declared.refusal.Refusal.TheVariants as refusal
-use Rattle.lf_signature.specs.declared.WordSignature.TheVariants.{Sigma1}
-use Rattle.word_ops.specs.declared.Profile.TheVariants.{One}
+use Rattle.lf_signature.specs.declared.WordSignature.{WordSignature}
+use Rattle.pcc_gate.specs.Versions.{head_profile, head_signature}
+use Rattle.pcc_gate.specs.ForPolicy.{is_for}
 
 -- ---- the questions
 
--- whether a term has type form in the context m, r0 to r30
-abbrev pub has_form : Tree → Bool
-has_form t = checks_of (declared Sigma1) t (sort_types machine_context) form
+-- whether a term has type form over the signature, in the context m, r0 to r30
+abbrev pub has_form : WordSignature → Tree → Bool
+has_form s t = checks_of (declared s) t (sort_types machine_context) form
 
 -- the formula over m and r0 to r30 that a term of type form encodes
 abbrev pub formula_of : Tree → Form
@@ -48,9 +48,9 @@ formulas invs = map (λ p. (p.0, formula_of p.1)) invs
 abbrev pub vc_of : PolicyView → List Insn → List (ℕ × Tree) → Tree
 vc_of policy code invs = form_encoding (condition (annotated policy code (formulas invs)))
 
--- whether a term is a proof of it
-abbrev pub proves : Tree → Tree → Bool
-proves proof vc = checks_of (declared Sigma1) proof [] (pf vc)
+-- whether a term is a proof of it over the signature
+abbrev pub proves : WordSignature → Tree → Tree → Bool
+proves s proof vc = checks_of (declared s) proof [] (pf vc)
 
 -- the flags of the annotated indices
 abbrev pub marks_of : Contents → List Insn → List Bool
@@ -62,9 +62,9 @@ too_high [] = None
 too_high (t ∷ ts) = if nat_lt MAX_HEIGHT (height_of t) then Some (height_of t) else too_high ts
 
 -- the first invariant that is no formula, counted from k
-abbrev pub formless : ℕ → List (ℕ × Tree) → Option ℕ
-formless k [] = None
-formless k (p ∷ ps) = if has_form p.1 then formless (suc k) ps else Some k
+abbrev pub formless : WordSignature → ℕ → List (ℕ × Tree) → Option ℕ
+formless s k [] = None
+formless s k (p ∷ ps) = if has_form s p.1 then formless s (suc k) ps else Some k
 
 -- ---- the clauses
 
@@ -77,39 +77,49 @@ refused_by refused None next = next
 abbrev pub first_long : List Insn → List Bool → Option Refusal → Option Refusal
 first_long code marks next = if nat_lt MAX_UNFOLDED (unfolded_of code marks) then Some (refusal.UnfoldLimit (capped (unfolded_of code marks))) else next
 
--- clauses 5 to 8, and what comes after
-abbrev pub first_shape : Contents → List Insn → Option Refusal → Option Refusal
-first_shape c code next =
+-- clauses 5 to 8 over the signature, and what comes after
+abbrev pub first_shape : WordSignature → Contents → List Insn → Option Refusal → Option Refusal
+first_shape s c code next =
     refused_by (λ h. refusal.Height (capped h)) (too_high (roots c))
-    (refused_by refusal.InvNotForm (formless 0 c.invs)
+    (refused_by refusal.InvNotForm (formless s 0 c.invs)
     (refused_by refusal.Uncut (uncut_of code (marks_of c code))
     (first_long code (marks_of c code) next)))
 
 -- clauses 4 to 8, and what comes after, by the code
 abbrev pub first_code : Contents → Result (List Insn) CodeFlaw → (List Insn → Option Refusal) → Option Refusal
 first_code c (Err flaw) next = Some (refusal.BadCode flaw)
-first_code c (Ok code) next = first_shape c code (next code)
+first_code c (Ok code) next = first_shape (head_signature c.head) c code (next code)
 
 -- clauses 2 to 8, and what comes after, by the contents and the code
 abbrev pub first_read : PolicyView → Result Contents Fault → (Contents → List Insn → Option Refusal)
     → Option Refusal
 first_read policy (Err fault) next = Some (refusal.Malformed fault.0 fault.1)
 first_read policy (Ok c) next =
-    if is_number_of policy c.policy then first_code c (decoded_code One c.code) (next c) else Some
-    (refusal.OtherPolicy c.policy)
+    if is_for policy c.head
+    then first_code c (decoded_code (head_profile c.head) c.code) (next c)
+    else Some (refusal.OtherPolicy c.head)
 
 -- clauses 1 to 8, and what comes after
 abbrev pub first_front : PolicyView → List ℕ → (Contents → List Insn → Option Refusal)
     → Option Refusal
-first_front policy bytes next = if nat_lt MAX_BYTES (length bytes) then Some (refusal.TooLong (length bytes)) else first_read policy (decoded_container bytes) next
+first_front policy bytes next =
+    if nat_lt MAX_BYTES (length bytes)
+    then Some (refusal.TooLong (length bytes))
+    else first_read policy (decoded_container bytes) next
 
--- clauses 9 to 11
-abbrev pub first_proof : Tree → Option Tree → Option Refusal
-first_proof vc None = Some refusal.NoProof
-first_proof vc (Some proof) =
-    if nat_lt MAX_WEIGHT (weight_of sigma1_places proof) then Some (refusal.ProofWeight (capped (weight_of sigma1_places proof))) else
-    if proves proof vc then None else
+-- clauses 9 to 11 over the signature
+abbrev pub first_proof : WordSignature → Tree → Option Tree → Option Refusal
+first_proof s vc None = Some refusal.NoProof
+first_proof s vc (Some proof) =
+    if nat_lt MAX_WEIGHT (weight_of (places_of s) proof)
+    then Some (refusal.ProofWeight (capped (weight_of (places_of s) proof))) else
+    if proves s proof vc then None else
     Some refusal.NotProof
+
+-- the same of contents and their code
+abbrev pub first_after : PolicyView → Contents → List Insn → Option Refusal
+first_after policy c code =
+    first_proof (head_signature c.head) (vc_of policy code c.invs) c.proof
 
 -- the first of clauses 1 to 8 that fails
 unfoldable pub front_refusal : PolicyView → List ℕ → Option Refusal
@@ -117,4 +127,4 @@ front_refusal policy bytes = first_front policy bytes (λ c code. None)
 
 -- the first of the eleven clauses that fails
 unfoldable pub first_refusal : PolicyView → List ℕ → Option Refusal
-first_refusal policy bytes = first_front policy bytes (λ c code. first_proof (vc_of policy code c.invs) c.proof)
+first_refusal policy bytes = first_front policy bytes (first_after policy)

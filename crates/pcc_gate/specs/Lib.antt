@@ -1,3 +1,5 @@
+pub mod Versions
+pub mod ForPolicy
 pub mod Passing
 pub mod Accepted
 pub mod First

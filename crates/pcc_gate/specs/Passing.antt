@@ -6,7 +6,6 @@ use Rattle.alpha_cfg.specs.Flow.{IsCode}
 use Rattle.alpha_cfg.specs.CodeBytes.{EncodesCode}
 use Rattle.alpha_cfg.specs.Cuts.{AreFlags, IsCut, unfolded_of}
 use Rattle.policy_set.specs.Views.{PolicyView}
-use Rattle.policy_set.specs.Names.{IsNumberOf}
 use Rattle.term_table.specs.Tree.{Tree}
 use Rattle.term_table.specs.Measures.{height_of}
 use Rattle.proof_container.specs.Contents.{Contents, roots}
@@ -14,7 +13,8 @@ use Rattle.proof_container.specs.Encoding.{EncodesContents}
 use Rattle.proof_container.specs.declared.limits.TheConstants.{MAX_BYTES}
 use Rattle.vcgen.specs.declared.condition.TheConstants.{MAX_HEIGHT, MAX_UNFOLDED}
 use Rattle.vcgen.specs.Encoded.{AreForms}
-use Rattle.word_ops.specs.declared.Profile.TheVariants.{One}
+use Rattle.pcc_gate.specs.Versions.{head_profile, head_signature}
+use Rattle.pcc_gate.specs.ForPolicy.{IsFor}
 
 -- no root is higher than the limit
 abbrev pub AreLow : List Tree → Type 0
@@ -28,14 +28,14 @@ pub record Passes (policy : PolicyView) (bytes : List ℕ) (contents : Contents)
   -- 2: they are the encoding of the contents
   pub container : EncodesContents bytes contents
   -- 3: which are for the policy
-  pub number : IsNumberOf policy contents.policy
-  -- 4: the code bytes encode code
-  pub encoded : EncodesCode One contents.code insns
+  pub named : IsFor policy contents.head
+  -- 4: the code bytes encode code, in the profile of the version
+  pub encoded : EncodesCode (head_profile contents.head) contents.code insns
   pub code : IsCode insns
   -- 5: no root is too high
   pub heights : AreLow (roots contents)
-  -- 6: each invariant is a formula over m and r0 to r30
-  pub forms : AreForms contents.invs
+  -- 6: each invariant is a formula over m and r0 to r30, in the signature of the version
+  pub forms : AreForms (head_signature contents.head) contents.invs
   -- 7: the annotated indices cut the code
   pub annotated : AreFlags (map (λ p. p.0) contents.invs) (length insns) flags
   pub cut : IsCut insns flags

@@ -6,10 +6,9 @@ use Rattle.alpha_cfg.specs.Flow.{IsCode}
 use Rattle.alpha_cfg.specs.CodeBytes.{EncodesCode, IsFlaw}
 use Rattle.alpha_cfg.specs.Cuts.{AreFlags, IsCut, IsUncut, unfolded_of}
 use Rattle.policy_set.specs.Views.{PolicyView}
-use Rattle.policy_set.specs.Names.{IsNumberOf}
 use Rattle.term_table.specs.Tree.{Tree}
-use Rattle.term_table.specs.Measures.{height_of, weight_of, sigma1_places, capped}
-use Rattle.lf_signature.specs.Constants.{declared}
+use Rattle.term_table.specs.Measures.{height_of, weight_of, capped}
+use Rattle.lf_signature.specs.Constants.{places_of, declared}
 use Rattle.lf_signature.specs.Terms.{form, pf}
 use Rattle.lf_signature.specs.Typing.{Checks}
 use Rattle.lf_encode.specs.Contexts.{machine_context, sort_types}
@@ -24,8 +23,9 @@ use Rattle.pcc_gate.specs.declared.limits.TheConstants.{MAX_WEIGHT}
 use Rattle.pcc_gate.specs.declared.refusal.Refusal.{Refusal}
 use Rattle.pcc_gate.specs.declared.refusal.Refusal.TheVariants as refusal
 use Rattle.pcc_gate.specs.Passing.{AreLow, Passes}
-use Rattle.lf_signature.specs.declared.WordSignature.TheVariants.{Sigma1}
-use Rattle.word_ops.specs.declared.Profile.TheVariants.{One}
+use Rattle.lf_signature.specs.declared.WordSignature.{WordSignature}
+use Rattle.pcc_gate.specs.Versions.{head_profile, head_signature}
+use Rattle.pcc_gate.specs.ForPolicy.{IsFor}
 
 -- ---- the clauses up to each, in their order
 
@@ -37,13 +37,13 @@ pub record HasContents (bytes : List ℕ) (contents : Contents) : Type 0 where
 -- clauses 1 to 3: the contents are for the policy
 pub record IsForPolicy (policy : PolicyView) (bytes : List ℕ) (contents : Contents) : Type 0 where
   pub held : HasContents bytes contents
-  pub number : IsNumberOf policy contents.policy
+  pub named : IsFor policy contents.head
 
--- clauses 1 to 4: the code bytes encode code
+-- clauses 1 to 4: the code bytes encode code, in the profile of the version
 pub record HasCode (policy : PolicyView) (bytes : List ℕ) (contents : Contents)
     (insns : List Insn) : Type 0 where
   pub before : IsForPolicy policy bytes contents
-  pub encoded : EncodesCode One contents.code insns
+  pub encoded : EncodesCode (head_profile contents.head) contents.code insns
   pub code : IsCode insns
 
 -- clauses 1 to 5: no root is too high
@@ -52,11 +52,11 @@ pub record HasLowRoots (policy : PolicyView) (bytes : List ℕ) (contents : Cont
   pub before : HasCode policy bytes contents insns
   pub heights : AreLow (roots contents)
 
--- clauses 1 to 6: each invariant is a formula over m and r0 to r30
+-- clauses 1 to 6: each invariant is a formula over m and r0 to r30, in the signature of the version
 pub record HasForms (policy : PolicyView) (bytes : List ℕ) (contents : Contents)
     (insns : List Insn) : Type 0 where
   pub before : HasLowRoots policy bytes contents insns
-  pub forms : AreForms contents.invs
+  pub forms : AreForms (head_signature contents.head) contents.invs
 
 -- clauses 1 to 6, and the flags of the annotated indices
 pub record HasFlags (policy : PolicyView) (bytes : List ℕ) (contents : Contents) (insns : List Insn)
@@ -80,7 +80,7 @@ pub record HasProof (policy : PolicyView) (bytes : List ℕ) (contents : Content
 pub record HasLightProof (policy : PolicyView) (bytes : List ℕ) (contents : Contents)
     (insns : List Insn) (flags : List Bool) (proof : Tree) : Type 0 where
   pub before : HasProof policy bytes contents insns flags proof
-  pub weight : weight_of sigma1_places proof ≤ MAX_WEIGHT
+  pub weight : weight_of (places_of (head_signature contents.head)) proof ≤ MAX_WEIGHT
 
 -- ---- what is wrong
 
@@ -100,14 +100,14 @@ pub record IsFirstHeight (trees : List Tree) (height : ℕ) : Type 0 where
   pub high : MAX_HEIGHT < height_of tree
   pub is : height ≡ capped (height_of tree)
 
--- the first invariant that is no formula over m and r0 to r30 stands behind so many
-pub record IsFirstNoForm (invs : List (ℕ × Tree)) (place : ℕ) : Type 0 where
+-- the first invariant that is no formula over m and r0 to r30, in the signature, has this place
+pub record IsFirstNoForm (s : WordSignature) (invs : List (ℕ × Tree)) (place : ℕ) : Type 0 where
   pub front : List (ℕ × Tree)
   pub inv : ℕ × Tree
   pub rest : List (ℕ × Tree)
   pub split : invs ≡ front ++ inv ∷ rest
-  pub forms : AreForms front
-  pub no_form : Checks (declared Sigma1) (sort_types machine_context) inv.1 form → ⊥
+  pub forms : AreForms s front
+  pub no_form : Checks (declared s) (sort_types machine_context) inv.1 form → ⊥
   pub is : place ≡ length front
 
 -- the unfolded length is past its limit
@@ -115,17 +115,17 @@ pub record IsPastUnfolded (insns : List Insn) (flags : List Bool) (unfolded : �
   pub long : MAX_UNFOLDED < unfolded_of insns flags
   pub is : unfolded ≡ capped (unfolded_of insns flags)
 
--- the proof is heavier than the limit
-pub record IsPastWeight (proof : Tree) (weight : ℕ) : Type 0 where
-  pub heavy : MAX_WEIGHT < weight_of sigma1_places proof
-  pub is : weight ≡ capped (weight_of sigma1_places proof)
+-- by the parameters of the signature the proof is heavier than the limit
+pub record IsPastWeight (s : WordSignature) (proof : Tree) (weight : ℕ) : Type 0 where
+  pub heavy : MAX_WEIGHT < weight_of (places_of s) proof
+  pub is : weight ≡ capped (weight_of (places_of s) proof)
 
--- the term isn't a proof of the verification condition
-pub record IsNoProof (policy : PolicyView) (insns : List Insn) (invs : List (ℕ × Tree))
-    (proof : Tree) : Type 0 where
+-- over the signature the term isn't a proof of the verification condition
+pub record IsNoProof (s : WordSignature) (policy : PolicyView) (insns : List Insn)
+    (invs : List (ℕ × Tree)) (proof : Tree) : Type 0 where
   pub vc : Tree
   pub condition : EncodesCondition policy insns invs vc
-  pub unproved : Checks (declared Sigma1) [] proof (pf vc) → ⊥
+  pub unproved : Checks (declared s) [] proof (pf vc) → ⊥
 
 -- ---- the refusals
 
@@ -133,11 +133,14 @@ pub record IsNoProof (policy : PolicyView) (insns : List Insn) (invs : List (ℕ
 abbrev pub IsFirstRefusal : PolicyView → List ℕ → Refusal → Type 0
 IsFirstRefusal policy bytes (refusal.TooLong n) = (MAX_BYTES < length bytes) × (n ≡ length bytes)
 IsFirstRefusal policy bytes (refusal.Malformed at flaw) = IsMalformed bytes at flaw
-IsFirstRefusal policy bytes (refusal.OtherPolicy n) =
-    (c : Contents) × HasContents bytes c × (IsNumberOf policy c.policy → ⊥) × (n ≡ c.policy)
-IsFirstRefusal policy bytes (refusal.BadCode flaw) = (c : Contents) × IsForPolicy policy bytes c × IsFlaw One c.code flaw
+IsFirstRefusal policy bytes (refusal.OtherPolicy h) =
+    (c : Contents) × HasContents bytes c × (IsFor policy c.head → ⊥) × (h ≡ c.head)
+IsFirstRefusal policy bytes (refusal.BadCode flaw) =
+    (c : Contents) × IsForPolicy policy bytes c × IsFlaw (head_profile c.head) c.code flaw
 IsFirstRefusal policy bytes (refusal.Height h) = (c : Contents) × (code : List Insn) × HasCode policy bytes c code × IsFirstHeight (roots c) h
-IsFirstRefusal policy bytes (refusal.InvNotForm k) = (c : Contents) × (code : List Insn) × HasLowRoots policy bytes c code × IsFirstNoForm c.invs k
+IsFirstRefusal policy bytes (refusal.InvNotForm k) =
+    (c : Contents) × (code : List Insn) × HasLowRoots policy bytes c code
+    × IsFirstNoForm (head_signature c.head) c.invs k
 IsFirstRefusal policy bytes (refusal.Uncut i) =
     (c : Contents) × (code : List Insn) × (flags : List Bool) × HasFlags policy bytes c code flags × IsUncut code flags i
 IsFirstRefusal policy bytes (refusal.UnfoldLimit n) =
@@ -146,16 +149,17 @@ IsFirstRefusal policy bytes refusal.NoProof =
     (c : Contents) × (code : List Insn) × (flags : List Bool) × Passes policy bytes c code flags × (c.proof ≡ None)
 IsFirstRefusal policy bytes (refusal.ProofWeight n) =
     (c : Contents) × (code : List Insn) × (flags : List Bool) × (proof : Tree) ×
-    HasProof policy bytes c code flags proof × IsPastWeight proof n
+    HasProof policy bytes c code flags proof × IsPastWeight (head_signature c.head) proof n
 IsFirstRefusal policy bytes refusal.NotProof =
     (c : Contents) × (code : List Insn) × (flags : List Bool) × (proof : Tree) ×
-    HasLightProof policy bytes c code flags proof × IsNoProof policy code c.invs proof
+    HasLightProof policy bytes c code flags proof
+    × IsNoProof (head_signature c.head) policy code c.invs proof
 
 -- a refusal by one of clauses 1 to 8
 abbrev pub IsBeforeProof : Refusal → Type 0
 IsBeforeProof (refusal.TooLong n) = Unit {0}
 IsBeforeProof (refusal.Malformed at flaw) = Unit {0}
-IsBeforeProof (refusal.OtherPolicy n) = Unit {0}
+IsBeforeProof (refusal.OtherPolicy h) = Unit {0}
 IsBeforeProof (refusal.BadCode flaw) = Unit {0}
 IsBeforeProof (refusal.Height h) = Unit {0}
 IsBeforeProof (refusal.InvNotForm k) = Unit {0}

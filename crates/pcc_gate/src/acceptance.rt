@@ -3,6 +3,7 @@
 ghost use Rattle.std.specs.Prelude.{◌≡◌};
 ghost use Rattle.std.specs.List.{AllByRecursion};
 ghost use Rattle.term_table.specs.Table.{IsKnown, id_trees};
+ghost use Rattle.lf_signature.specs.declared.WordSignature.TheVariants.{Sigma3};
 ghost use Rattle.vcgen.specs.Encoded.{AreForms};
 ghost use Rattle.vcgen.specs.Safety.{IsSafe};
 ghost use Rattle.pcc_gate.specs.Views.{IsConditionTrue, AreAnnotations};
@@ -81,7 +82,7 @@ impl Accepted {
     /// policy, the code and these formulas is true in every structure.
     pub fn laws(&self)
         ensures safe { IsSafe self.now.code self.now.policy.pre self.now.policy.post }
-        ensures forms { AreForms (id_trees self.now.table self.now.invs) }
+        ensures forms { AreForms Sigma3 (id_trees self.now.table self.now.invs) }
         ensures annotates { AreAnnotations self.now }
         ensures valid { IsConditionTrue self.now }
     {

@@ -17,14 +17,14 @@ ghost use Rattle.proof_container.specs.declared.limits.TheConstants.{MAX_INVS};
 ghost use Rattle.pcc_gate.specs.First.{too_high, has_form, formless};
 ghost use Rattle.pcc_gate.specs.Inside.Stages.{IsContainerAnswer, IsCodeRead, measured_trees};
 ghost use Rattle.pcc_gate.specs.Inside.Stages.{IsCutMade, IsLengthAnswer};
-ghost use Rattle.lf_signature.specs.declared.WordSignature.TheVariants.{Sigma1};
 
 use crate::fault::GateFault;
+use crate::for_policy::is_for;
 use crate::refusal::Refusal;
 use alpha_cfg::{Code, CodeFault, Cut, CutFault};
 use lf_check::{Exhausted, Kept, check_term_with};
 use lf_signature::numbers::{EXP, MEM};
-use lf_signature::{Sigma1, typing_laws};
+use lf_signature::{WordSignature, typing_laws};
 use policy_set::Policy;
 use proof_container::{Container, MAX_BYTES, Malformed, read};
 use std::alloc::{AllocError, Global};
@@ -49,23 +49,24 @@ pub(crate) fn container_for<'b>(
         }
         Err(Malformed::Memory) => Err(GateFault::Memory),
         Ok(container) => {
-            if !policy.has_number(container.policy) {
-                let number = container.policy;
-                return Err(GateFault::Refused(Refusal::OtherPolicy(number)));
+            let head = container.head;
+            let named = is_for(alloc, policy, head)?;
+            if !named {
+                return Err(GateFault::Refused(Refusal::OtherPolicy(head)));
             }
             Ok(container)
         }
     }
 }
 
-/// Clause 4: the code that the bytes encode.
-pub(crate) fn code_in(alloc: Global, bytes: &[u8]) -> Result<Code, GateFault>
+/// Clause 4: the code that the bytes encode in the profile.
+pub(crate) fn code_in(alloc: Global, bytes: &[u8], profile: Profile) -> Result<Code, GateFault>
     requires whole { length bytes.now % 4 ≡ 0 }
     requires some { 0 < length bytes.now }
     requires short { length bytes.now ≤ 4 * MAX_WORDS }
-    ensures { IsCodeRead bytes.now result }
+    ensures { IsCodeRead profile bytes.now result }
 {
-    match Code::of(alloc, bytes, Profile::One) {
+    match Code::of(alloc, bytes, profile) {
         Ok(code) => Ok(code),
         Err(CodeFault::At(flaw)) => Err(GateFault::Refused(Refusal::BadCode(flaw))),
         Err(CodeFault::Memory) => Err(GateFault::Memory),
@@ -124,10 +125,11 @@ pub(crate) fn machine_types(alloc: Global, table: &mut Table) -> Result<Vec<Id>,
     Ok(types)
 }
 
-/// Whether the term has type form in the context of m and r0 to r30.
+/// Whether the term has type form over the signature in the context of m and r0 to r30.
 fn has_form(
     table: &mut Table,
     kept: &mut Kept,
+    signature: WordSignature,
     context: &[Id],
     form: Id,
     id: Id,
@@ -136,19 +138,21 @@ fn has_form(
     requires form { IsIdOf table.old (Fam 2) form }
     requires context { AllKnown table.old context.now }
     requires types { ctx_of table.old context.now ≡ sort_types machine_context }
-    requires kept { AreKept (declared Sigma1) table.old kept.old }
-    ensures exact { IfOk result (λ b. b ≡ has_form (tree_at table.old id)) }
+    requires kept { AreKept (declared signature) table.old kept.old }
+    ensures exact { IfOk result (λ b. b ≡ has_form signature (tree_at table.old id)) }
     ensures extends { Extends table.old table.new }
-    ensures kept { AreKept (declared Sigma1) table.new kept.new }
+    ensures kept { AreKept (declared signature) table.new kept.new }
 {
     typing_laws();
-    check_term_with(table, kept, &Sigma1, context, id, form)
+    check_term_with(table, kept, &signature, context, id, form)
 }
 
-/// Clause 6: the first invariant, from this place on, that is no formula over m and r0 to r30.
+/// Clause 6: the first invariant, from this place on, that is no formula over m and r0 to r30 in
+/// the signature.
 pub(crate) fn first_formless(
     table: &mut Table,
     kept: &mut Kept,
+    signature: WordSignature,
     context: &[Id],
     form: Id,
     invs: &[(u32, Id)],
@@ -160,20 +164,20 @@ pub(crate) fn first_formless(
     requires form { IsIdOf table.old (Fam 2) form }
     requires context { AllKnown table.old context.now }
     requires types { ctx_of table.old context.now ≡ sort_types machine_context }
-    requires kept { AreKept (declared Sigma1) table.old kept.old }
+    requires kept { AreKept (declared signature) table.old kept.old }
     ensures exact { let rest = id_trees table.old (drop from invs.now) in
-        IfOk result (λ found. found ≡ formless from rest) }
+        IfOk result (λ found. found ≡ formless signature from rest) }
     ensures extends { Extends table.old table.new }
-    ensures kept { AreKept (declared Sigma1) table.new kept.new }
+    ensures kept { AreKept (declared signature) table.new kept.new }
 {
     if from == invs.len() {
         return Ok(None);
     }
     let (_, inv) = invs[from];
-    if !has_form(table, kept, context, form, inv)? {
+    if !has_form(table, kept, signature, context, form, inv)? {
         return Ok(Some(from as u32));
     }
-    first_formless(table, kept, context, form, invs, from + 1)
+    first_formless(table, kept, signature, context, form, invs, from + 1)
 }
 
 /// The annotated indices.

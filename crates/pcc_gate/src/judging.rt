@@ -6,12 +6,13 @@ ghost use Rattle.lf_signature.specs.Constants.{declared};
 ghost use Rattle.lf_check.specs.Kept.{AreKept};
 ghost use Rattle.pcc_gate.specs.Answers.{IsHeld, IsGateAnswer};
 ghost use Rattle.pcc_gate.specs.Passing.{Passes};
-ghost use Rattle.lf_signature.specs.declared.WordSignature.TheVariants.{Sigma1};
+ghost use Rattle.pcc_gate.specs.Versions.{head_signature};
 
 use crate::acceptance::Accepted;
 use crate::fault::GateFault;
 use crate::passing::{Passed, pass};
 use crate::proving::{proof_in, proved};
+use crate::versions::head_signature;
 use lf_check::{Kept, MOST_RESULTS};
 use lf_truth::truth_laws;
 use policy_set::Policy;
@@ -28,19 +29,21 @@ fn judge(
     requires passes { let contents = contents_of passed.container in
         Passes policy.now bytes.now contents passed.cut.code passed.cut.marks }
     requires held { IsHeld passed.container }
-    requires kept { AreKept (declared Sigma1) passed.container.table kept.old }
+    requires kept { let s = head_signature passed.container.head in
+        AreKept (declared s) passed.container.table kept.old }
     ensures { IsGateAnswer policy.now bytes.now result }
 {
     let _ = bytes; // only the clauses speak of it
     truth_laws();
     policy.laws(); // tells the prover what the formulas name
     let container = passed.container;
+    let signature = head_signature(container.head);
     let cut = passed.cut;
     let mut table = container.table;
     let invs = container.invs;
     let found = container.proof;
-    let proof = proof_in(&table, found)?;
-    proved(&mut table, kept, policy, &cut, &invs, proof)?;
+    let proof = proof_in(&table, signature, found)?;
+    proved(&mut table, kept, signature, policy, &cut, &invs, proof)?;
     let policy = policy.copy(alloc)?;
     Ok(Accepted {
         policy,

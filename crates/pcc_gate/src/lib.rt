@@ -1,27 +1,32 @@
 //! The gate: which containers are accepted under a policy, and why any other is refused.
 //!
 //! The layers above use that `gate` accepts bytes exactly where eleven clauses hold, and else names
-//! the first that fails; `front` does the same of the clauses before the proof; and that the code of
-//! what is accepted is safe (`Accepted::laws`, `laws`). The clauses stand in `specs/Passing` and
-//! `specs/Accepted`, what each refusal means in `specs/Refusals`, the first clause that fails as a
-//! function in `specs/First`, what the calls answer in `specs/Answers`, what is promised in
-//! `specs/Safe`. Source: Necula, Proof-Carrying Code, POPL 1997.
+//! the first that fails; `front` does the same of the clauses before the proof; and that the code
+//! of what is accepted is safe (`Accepted::laws`, `laws`). Which container is for a policy stands
+//! in `specs/ForPolicy`, what its version decides in `specs/Versions`. The clauses stand in
+//! `specs/Passing` and `specs/Accepted`, what each refusal means in `specs/Refusals`, the first
+//! clause that fails as a function in `specs/First`, what the calls answer in `specs/Answers`, what
+//! is promised in `specs/Safe`. Source: Necula, Proof-Carrying Code, POPL 1997.
 #![tactic(auto)]
 
 mod acceptance;
 mod clauses;
 mod fault;
+mod for_policy;
 mod judging;
 mod limits;
 mod passing;
 mod proving;
 mod refusal;
 mod theorems;
+mod versions;
 
 pub use acceptance::Accepted;
 pub use fault::GateFault;
+pub use for_policy::is_for;
 pub use judging::gate;
 pub use limits::MAX_WEIGHT;
 pub use passing::{Passed, front};
 pub use refusal::Refusal;
 pub use theorems::laws;
+pub use versions::{head_profile, head_signature};

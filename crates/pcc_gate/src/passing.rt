@@ -12,15 +12,18 @@ ghost use Rattle.proof_container.specs.declared.limits.TheConstants.{MAX_INVS};
 ghost use Rattle.pcc_gate.specs.Answers.{IsHeld, IsFrontAnswer};
 ghost use Rattle.pcc_gate.specs.Inside.Stages.{with_roots, AreFormed, IsShapeAnswer};
 ghost use Rattle.pcc_gate.specs.Inside.Passed.{IsRestAnswer, IsPassedAnswer};
-ghost use Rattle.lf_signature.specs.declared.WordSignature.TheVariants.{Sigma1};
+ghost use Rattle.lf_signature.specs.declared.WordSignature.{WordSignature};
+ghost use Rattle.pcc_gate.specs.Versions.{head_signature};
 
 use crate::clauses::{
     code_in, container_for, cut_at, first_formless, first_too_high, machine_types, short,
 };
 use crate::fault::GateFault;
 use crate::refusal::Refusal;
+use crate::versions::{head_profile, head_signature};
 use alpha_cfg::{Code, Cut};
 use lf_check::{Kept, MOST_RESULTS};
+use lf_signature::WordSignature;
 use lf_signature::numbers::FORM;
 use policy_set::Policy;
 use proof_container::Container;
@@ -36,33 +39,35 @@ pub struct Passed<'b> {
     pub cut: Cut,
 }
 
-/// Clause 6: each invariant is a formula over m and r0 to r30.
+/// Clause 6: each invariant is a formula over m and r0 to r30 in the signature.
 fn formed(
     alloc: Global,
     kept: &mut Kept,
     table: &mut Table,
+    signature: WordSignature,
     invs: &[(u32, Id)],
 ) -> Result<(), GateFault>
     requires known { AllByRecursion (λ inv. IsKnown table.old inv.1) invs.now }
     requires few { length invs.now ≤ MAX_INVS }
-    requires kept { (t : TableView) → AreKept (declared Sigma1) t kept.old }
-    ensures answer { AreFormed (id_trees table.old invs.now) result }
+    requires kept { (t : TableView) → AreKept (declared signature) t kept.old }
+    ensures answer { AreFormed signature (id_trees table.old invs.now) result }
     ensures extends { Extends table.old table.new }
-    ensures kept { OnOk result (AreKept (declared Sigma1) table.new kept.new) }
+    ensures kept { OnOk result (AreKept (declared signature) table.new kept.new) }
 {
     let context = machine_types(alloc, table)?;
     let form = table.intern(Node::Fam(FORM))?;
-    match first_formless(table, kept, &context, form, invs, 0)? {
+    match first_formless(table, kept, signature, &context, form, invs, 0)? {
         Some(inv) => Err(GateFault::Refused(Refusal::InvNotForm(inv))),
         None => Ok(()),
     }
 }
 
-/// Clauses 5 to 8: the code with its annotated indices.
+/// Clauses 5 to 8 in the signature: the code with its annotated indices.
 fn shaped(
     alloc: Global,
     kept: &mut Kept,
     table: &mut Table,
+    signature: WordSignature,
     code: Code,
     invs: &[(u32, Id)],
     proof: Option<Id>,
@@ -71,15 +76,16 @@ fn shaped(
     requires few { length invs.now ≤ MAX_INVS }
     requires rising { IsStrictlyIncreasing (map (λ p. p.0) invs.now) }
     requires below { All (λ k. k < length code) (map (λ p. p.0) invs.now) }
-    requires kept { (t : TableView) → AreKept (declared Sigma1) t kept.old }
-    ensures answer { IsShapeAnswer (with_roots table.old invs.now proof) code result }
+    requires kept { (t : TableView) → AreKept (declared signature) t kept.old }
+    ensures answer { let roots = with_roots table.old invs.now proof in
+        IsShapeAnswer signature roots code result }
     ensures extends { Extends table.old table.new }
-    ensures kept { OnOk result (AreKept (declared Sigma1) table.new kept.new) }
+    ensures kept { OnOk result (AreKept (declared signature) table.new kept.new) }
 {
     if let Some(height) = first_too_high(table, invs, proof, 0) {
         return Err(GateFault::Refused(Refusal::Height(height)));
     }
-    formed(alloc, kept, table, invs)?;
+    formed(alloc, kept, table, signature, invs)?;
     let cut = cut_at(alloc, code, invs)?;
     short(&cut)?;
     Ok(cut)
@@ -93,14 +99,25 @@ fn rest<'b>(
 ) -> Result<Passed<'b>, GateFault>
     requires contents { IsContents (contents_of container) }
     requires held { IsHeld container }
-    requires kept { (t : TableView) → AreKept (declared Sigma1) t kept.old }
+    requires kept { (s : WordSignature) (t : TableView) → AreKept (declared s) t kept.old }
     ensures answer { IsRestAnswer (contents_of container.entry) result }
-    ensures kept { IfOk result (λ p. AreKept (declared Sigma1) p.container.table kept.new) }
+    ensures kept { IfOk result (λ p. let s = head_signature p.container.head in
+        AreKept (declared s) p.container.table kept.new) }
 {
     let mut container = container;
-    let insns = code_in(alloc, container.code)?;
+    let profile = head_profile(container.head);
+    let signature = head_signature(container.head);
+    let insns = code_in(alloc, container.code, profile)?;
     let held = &mut container;
-    let cut = shaped(alloc, kept, &mut held.table, insns, &held.invs, held.proof)?;
+    let cut = shaped(
+        alloc,
+        kept,
+        &mut held.table,
+        signature,
+        insns,
+        &held.invs,
+        held.proof,
+    )?;
     Ok(Passed { container, cut })
 }
 
@@ -111,9 +128,10 @@ pub(crate) fn pass<'b>(
     policy: &Policy,
     bytes: &'b [u8],
 ) -> Result<Passed<'b>, GateFault>
-    requires kept { (t : TableView) → AreKept (declared Sigma1) t kept.old }
+    requires kept { (s : WordSignature) (t : TableView) → AreKept (declared s) t kept.old }
     ensures answer { IsPassedAnswer policy.now bytes.now result }
-    ensures kept { IfOk result (λ p. AreKept (declared Sigma1) p.container.table kept.new) }
+    ensures kept { IfOk result (λ p. let s = head_signature p.container.head in
+        AreKept (declared s) p.container.table kept.new) }
 {
     match container_for(alloc, policy, bytes) {
         Err(fault) => Err(fault),

@@ -1,7 +1,7 @@
 //! Why the gate refuses.
 
 use alpha_cfg::CodeFlaw;
-use proof_container::Flaw;
+use proof_container::{Flaw, Head};
 use thiserror::Error;
 
 /// The first clause that fails, with what its line says of it. In this order they are tried.
@@ -13,9 +13,9 @@ pub enum Refusal {
     /// The bytes encode no container: the offset of the first fault, and what is wrong there.
     #[error("no container: at offset {0}, {1}")]
     Malformed(u64, Flaw),
-    /// The container is for another policy, of this number.
-    #[error("for the policy of number {0}")]
-    OtherPolicy(u32),
+    /// The container is for another policy, which this names.
+    #[error("for the policy {0:?}")]
+    OtherPolicy(Head),
     /// The code bytes are no code.
     #[error("no code: {0}")]
     BadCode(CodeFlaw),

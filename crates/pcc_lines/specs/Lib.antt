@@ -10,3 +10,4 @@ pub mod Bpf
 pub mod Demo
 pub mod Scripts
 pub mod Agents
+pub mod Policies

@@ -6,7 +6,9 @@ use Rattle.alpha_cfg.specs.declared.fault.CodeFlaw.{CodeFlaw}
 use Rattle.alpha_cfg.specs.declared.fault.CodeFlaw.TheVariants as code
 use Rattle.proof_container.specs.declared.fault.Flaw.{Flaw}
 use Rattle.proof_container.specs.Names.{flaw_name}
-use Rattle.pcc_lines.specs.Line.{hex_digits}
+use Rattle.proof_container.specs.declared.container.Head.{Head}
+use Rattle.proof_container.specs.declared.container.Head.TheVariants.{Number, Digest}
+use Rattle.pcc_lines.specs.Line.{hex_digits, hex_bytes}
 use Rattle.pcc_gate.specs.declared.refusal.Refusal.{Refusal}
 use Rattle.pcc_gate.specs.declared.refusal.Refusal.TheVariants as refusal
 
@@ -24,11 +26,16 @@ code_flaw_text (code.FallsOff i) = decimal i ++ codes " FallsOff"
 abbrev pub malformed_text : ℕ → Flaw → List ℕ
 malformed_text offset flaw = decimal offset ++ codes " " ++ flaw_name flaw
 
+-- what names a policy: its number, or the digits of its digest
+abbrev pub head_text : Head → List ℕ
+head_text (Number number) = decimal number
+head_text (Digest digest) = hex_bytes digest
+
 -- why a container is refused
 abbrev pub refusal_text : Refusal → List ℕ
 refusal_text (refusal.TooLong length) = codes "refused 1 TooLong"
 refusal_text (refusal.Malformed offset flaw) = codes "refused 2 Malformed " ++ malformed_text offset flaw
-refusal_text (refusal.OtherPolicy number) = codes "refused 3 OtherPolicy " ++ decimal number
+refusal_text (refusal.OtherPolicy head) = codes "refused 3 OtherPolicy " ++ head_text head
 refusal_text (refusal.BadCode flaw) = codes "refused 4 BadCode " ++ code_flaw_text flaw
 refusal_text (refusal.Height h) = codes "refused 5 Height " ++ decimal h
 refusal_text (refusal.InvNotForm k) = codes "refused 6 InvNotForm " ++ decimal k

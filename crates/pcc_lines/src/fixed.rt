@@ -4,6 +4,7 @@ ghost use Rattle.file_port.specs.Sink.{Puts};
 ghost use Rattle.pcc_lines.specs.Fixed.{usage_line, unknown_policy_line, packets_too_long_line};
 ghost use Rattle.pcc_lines.specs.Fixed.{accepted_line, container_too_long_line};
 ghost use Rattle.pcc_lines.specs.Fixed.{source_too_long_line, bpf_too_long_line, script_too_long_line};
+ghost use Rattle.pcc_lines.specs.Fixed.{policy_too_long_line, already_line};
 
 use file_port::{Put, Sink};
 
@@ -11,7 +12,7 @@ use file_port::{Put, Sink};
 pub fn print_usage<S: Sink>(out: &mut S) -> Put
     ensures { Puts usage_line (S.state out.old) (S.state out.new) result }
 {
-    out.put(b"usage: pcc asm|prove|check|run|ref|demo|host|bpf\n")
+    out.put(b"usage: pcc asm|prove|check|run|ref|demo|upgrade|host|bpf\n")
 }
 
 /// Prints that no policy has the name.
@@ -61,4 +62,18 @@ pub fn print_script_too_long<S: Sink>(out: &mut S) -> Put
     ensures { Puts script_too_long_line (S.state out.old) (S.state out.new) result }
 {
     out.put(b"script TooLong\n")
+}
+
+/// Prints that the policy's file is longer than what is read of one.
+pub fn print_policy_too_long<S: Sink>(out: &mut S) -> Put
+    ensures { Puts policy_too_long_line (S.state out.old) (S.state out.new) result }
+{
+    out.put(b"policy TooLong\n")
+}
+
+/// Prints that the container that is to be upgraded is of a later version.
+pub fn print_already<S: Sink>(out: &mut S) -> Put
+    ensures { Puts already_line (S.state out.old) (S.state out.new) result }
+{
+    out.put(b"refused 12 Already\n")
 }

@@ -6,8 +6,9 @@
 //! `specs/` with the same name: lines that are always the same (`Fixed`), lines with a name
 //! (`Named`), faults of packet files (`PacketFaults`), why there is no proof (`Proving`), refusals
 //! (`Refusals`), result lines (`Results`), what is said of a source (`Sources`), faults
-//! of programs of classic BPF (`Bpf`), faults of scripts (`Scripts`), lines of agents (`Agents`), and the lines
-//! of `demo` (`Demo`). The names of the kinds of faults, and of measures, come from the crates that have them.
+//! of programs of classic BPF (`Bpf`), faults of scripts (`Scripts`), faults of policies from files
+//! (`Policies`), lines of agents (`Agents`), and the lines of `demo` (`Demo`). The names of the
+//! kinds of faults, and of measures, come from the crates that have them.
 #![tactic(auto)]
 
 mod agents;
@@ -17,6 +18,7 @@ mod fixed;
 mod line;
 mod named;
 mod packet_faults;
+mod policies;
 mod proving;
 mod refusals;
 mod results;
@@ -31,11 +33,13 @@ pub use agents::{
 pub use bpf::print_bpf_flaw;
 pub use demo::{DemoSummary, print_demo};
 pub use fixed::{
-    print_accepted, print_bpf_too_long, print_container_too_long, print_packets_too_long,
-    print_script_too_long, print_source_too_long, print_unknown_policy, print_usage,
+    print_accepted, print_already, print_bpf_too_long, print_container_too_long,
+    print_packets_too_long, print_policy_too_long, print_script_too_long, print_source_too_long,
+    print_unknown_policy, print_usage,
 };
 pub use named::{print_missing, print_read_fault, print_write_fault};
 pub use packet_faults::print_packet_fault;
+pub use policies::{MAX_FORM_KIND, print_policy_form, print_policy_length, print_policy_lines};
 pub use proving::{MAX_MEASURE, print_not_easy, print_too_big};
 pub use refusals::print_refusal;
 pub use results::print_results;

@@ -1,8 +1,8 @@
 //! A line in a fixed buffer, and what is added to it.
 
-ghost use Rattle.std.specs.Prelude.{◌≡◌, ◌+◌, ◌≤◌, ◌<◌, ◌++◌, length, decimal};
+ghost use Rattle.std.specs.Prelude.{◌≡◌, ◌+◌, ◌*◌, ◌≤◌, ◌<◌, ◌++◌, length, decimal};
 ghost use Rattle.arrayvec.specs.ArrayVec.{array_vec_len};
-ghost use Rattle.pcc_lines.specs.Line.{hex_digit, hex_digits};
+ghost use Rattle.pcc_lines.specs.Line.{hex_digit, hex_digits, hex_bytes};
 
 use arrayvec::ArrayVec;
 use itoa::Buffer;
@@ -58,5 +58,16 @@ pub fn push_hex(line: &mut Line, count: u32, number: u64)
     if count > 0 {
         push_hex(line, count - 1, number / 16);
         line.push(digit_of((number % 16) as u8));
+    }
+}
+
+/// Adds each byte as two hexadecimal digits.
+pub fn push_bytes(line: &mut Line, bytes: &[u8])
+    requires { array_vec_len line.old + 2 * length bytes.now ≤ LINE }
+    ensures items { line.new.items ≡ line.old.items ++ hex_bytes bytes.now }
+    ensures len { array_vec_len line.new ≡ array_vec_len line.old + 2 * length bytes.now }
+{
+    for i in 0..bytes.len() {
+        push_hex(line, 2, u64::from(bytes[i]));
     }
 }

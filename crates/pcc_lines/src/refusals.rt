@@ -3,15 +3,16 @@
 ghost use Rattle.std.specs.Prelude.{◌≡◌, ◌+◌, ◌≤◌, ◌++◌, length, decimal};
 ghost use Rattle.arrayvec.specs.ArrayVec.{array_vec_len};
 ghost use Rattle.file_port.specs.Sink.{Puts};
-ghost use Rattle.pcc_lines.specs.Refusals.{refusal_line, refusal_text, code_flaw_text, bad_word_text, malformed_text};
+ghost use Rattle.pcc_lines.specs.Refusals.{refusal_line, refusal_text, code_flaw_text};
+ghost use Rattle.pcc_lines.specs.Refusals.{bad_word_text, malformed_text, head_text};
 
-use crate::line::{DIGITS, LINE, Line, push_decimal, push_hex, push_text};
+use crate::line::{DIGITS, LINE, Line, push_bytes, push_decimal, push_hex, push_text};
 use alpha_cfg::CodeFlaw;
 use alpha_words::BadWord;
 use arrayvec::ArrayVec;
 use file_port::{Put, Sink};
 use pcc_gate::Refusal;
-use proof_container::Flaw;
+use proof_container::{Flaw, Head};
 
 /// The most bytes of what is said of a bad word: two numbers, a kind and two blanks.
 const BAD_WORD: usize = 42;
@@ -19,8 +20,11 @@ const BAD_WORD: usize = 42;
 /// The most bytes of what is said of a container that is malformed.
 const MALFORMED: usize = 32;
 
+/// The most bytes that name a policy: two digits for each byte of a digest.
+const HEAD: usize = 64;
+
 /// Room for a refusal's text, in bytes.
-pub const REFUSAL: usize = 62;
+pub const REFUSAL: usize = 86;
 
 /// Adds a word that is no instruction: its index, the kind of fault, and the word.
 fn push_bad_word(line: &mut Line, index: u32, word: u32, bad: BadWord)
@@ -65,6 +69,18 @@ fn push_malformed(line: &mut Line, offset: u64, flaw: Flaw)
     push_text(line, flaw.name());
 }
 
+/// Adds what names a policy: its number, or the digits of its digest.
+fn push_head(line: &mut Line, head: Head)
+    requires { array_vec_len line.old + HEAD ≤ LINE }
+    ensures items { line.new.items ≡ line.old.items ++ head_text head }
+    ensures len { array_vec_len line.new ≤ array_vec_len line.old + HEAD }
+{
+    match head {
+        Head::Number(number) => push_decimal(line, u64::from(number)),
+        Head::Digest(digest) => push_bytes(line, &digest),
+    }
+}
+
 /// Adds a text and a number behind it.
 fn push_numbered(line: &mut Line, text: &str, number: u32)
     requires { array_vec_len line.old + length text.now + DIGITS ≤ LINE }
@@ -87,7 +103,10 @@ pub fn push_refusal(line: &mut Line, refusal: Refusal)
             push_text(line, "refused 2 Malformed ");
             push_malformed(line, offset, flaw);
         }
-        Refusal::OtherPolicy(n) => push_numbered(line, "refused 3 OtherPolicy ", n),
+        Refusal::OtherPolicy(head) => {
+            push_text(line, "refused 3 OtherPolicy ");
+            push_head(line, head);
+        }
         Refusal::BadCode(flaw) => {
             push_text(line, "refused 4 BadCode ");
             push_code_flaw(line, flaw);

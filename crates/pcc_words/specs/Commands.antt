@@ -1,18 +1,26 @@
 -- Commands without where their values lie in memory.
 use Rattle.std.specs.Prelude.{◌≤◌}
-use Rattle.pcc_words.specs.Invocations.{Invocation, asm, prove, check, run, ref, demo, host, bpf}
+use Rattle.pcc_words.specs.Invocations.{PolicyWord, named, from_file, Invocation, asm, prove, check, run, ref, demo, upgrade, host, bpf}
 use Rattle.pcc_words.specs.declared.commands.Command.{Command}
+use Rattle.pcc_words.specs.declared.commands.PolicyWord.{PolicyWord as PolicyGiven}
+use Rattle.pcc_words.specs.declared.commands.PolicyWord.TheVariants as word
 use Rattle.pcc_words.specs.declared.limits.TheConstants.{MAX_DEMO, MAX_STEPS}
 use Rattle.pcc_words.specs.declared.commands.Command.TheVariants as command
 
+-- how the word tells the policy
+abbrev pub word_view : PolicyGiven → PolicyWord
+word_view (word.Named name) = named name.now
+word_view (word.FromFile name) = from_file name.now
+
 -- the command with its values
 abbrev pub invocation_of : Command → Invocation
-invocation_of (command.Asm args) = asm args.policy.now args.input.now args.output.now
+invocation_of (command.Asm args) = asm args.policy.now args.input.now args.output.now args.version
 invocation_of (command.Prove args) = prove args.policy.now args.input.now args.output.now
-invocation_of (command.Check args) = check args.policy.now args.file.now
+invocation_of (command.Check args) = check (word_view args.policy) args.file.now
 invocation_of (command.Run args) = run args.policy.now args.file.now args.packets.now args.steps
 invocation_of (command.Ref args) = ref args.policy.now args.file.now args.packets.now args.steps
 invocation_of (command.Demo n) = demo n
+invocation_of (command.Upgrade args) = upgrade args.input.now args.output.now
 invocation_of (command.Host script) = host script.now
 invocation_of (command.Bpf args) = bpf args.input.now args.output.now
 
@@ -24,5 +32,6 @@ IsInRange (command.Check args) = Unit {0}
 IsInRange (command.Run args) = (1 ≤ args.steps) × (args.steps ≤ MAX_STEPS)
 IsInRange (command.Ref args) = (1 ≤ args.steps) × (args.steps ≤ MAX_STEPS)
 IsInRange (command.Demo n) = (1 ≤ n) × (n ≤ MAX_DEMO)
+IsInRange (command.Upgrade args) = Unit {0}
 IsInRange (command.Host script) = Unit {0}
 IsInRange (command.Bpf args) = Unit {0}

@@ -2,10 +2,13 @@
 use Rattle.std.specs.Prelude.{ℕ, ◌^◌, ◌&&◌, Bool, true, List, [], ◌∷◌, length, nat_le, nat_lt, Option, Some, None, codes, unwrap_or, option_and_then, if◌then◌else◌}
 use Rattle.std.specs.Char.{digit_value}
 use Rattle.std.specs.List.{list_all}
+use Rattle.std.specs.Option.{option_map_or}
 use Rattle.std.specs.Str.{bytes_eq}
 use Rattle.std.specs.Str.Parse.{digits_value, without_leading_plus}
 use Rattle.clap.specs.Words.{App, Kinds, Row, Rule, Text, fault_of, first_of, new_app, new_rule, one_of, subcommand_of, with_rule, with_subcommand}
+use Rattle.clap.specs.Lexer.{strip_byte}
 use Rattle.clap.specs.Simple.{on_top}
+use Rattle.clap.specs.declared.builder.action.ArgAction.TheVariants.{SetTrue}
 use Rattle.clap.specs.declared.builder.value_parser.ValueParser.TheVariants as parser
 use Rattle.pcc_words.specs.declared.limits.TheConstants.{MAX_DEMO, MAX_STEPS}
 
@@ -22,6 +25,10 @@ steps_rule = record (new_rule (codes "steps")) {
   parser = Some (parser.Unsigned 1 MAX_STEPS);
   defaults = codes "1000000" ∷ [];
 }
+
+-- `--v2`, without a value
+abbrev pub version_rule : Rule
+version_rule = record (new_rule (codes "v2")) { long = Some (codes "v2"); action = Some SetTrue }
 
 -- `NAME N`, N from 1 to 400
 abbrev pub number_app : Text → App
@@ -42,6 +49,10 @@ input_app name = with_rule (policy_app name) (positional (codes "IN"))
 -- `NAME POLICY IN OUT`
 abbrev pub copy_app : Text → App
 copy_app name = with_rule (input_app name) (positional (codes "OUT"))
+
+-- `NAME POLICY IN OUT [--v2]`
+abbrev pub versioned_app : Text → App
+versioned_app name = with_rule (copy_app name) version_rule
 
 -- `NAME SCRIPT`
 abbrev pub script_app : Text → App
@@ -69,7 +80,7 @@ bare_app = on_top (λ top. record top { no_binary_name = true }) (new_app (codes
 
 -- the command line with `asm`
 abbrev pub asm_app : App
-asm_app = with_subcommand bare_app (copy_app (codes "asm")).top
+asm_app = with_subcommand bare_app (versioned_app (codes "asm")).top
 
 -- with `prove`
 abbrev pub copies_app : App
@@ -91,9 +102,13 @@ named_files_app = with_subcommand runs_app (run_app (codes "ref")).top
 abbrev pub demos_app : App
 demos_app = with_subcommand named_files_app (number_app (codes "demo")).top
 
+-- with `upgrade`
+abbrev pub upgrades_app : App
+upgrades_app = with_subcommand demos_app (paths_app (codes "upgrade")).top
+
 -- with `host`
 abbrev pub hosts_app : App
-hosts_app = with_subcommand demos_app (script_app (codes "host")).top
+hosts_app = with_subcommand upgrades_app (script_app (codes "host")).top
 
 -- the program
 abbrev pub pcc_app : App
@@ -101,20 +116,33 @@ pcc_app = with_subcommand hosts_app (paths_app (codes "bpf")).top
 
 -- ---- the values
 
+-- how a word tells a policy
+pub data PolicyWord : Type 0 where
+  -- it is the name of a built-in one
+  named : Text → PolicyWord
+  -- it is `@` and the name of a file that spells one
+  from_file : Text → PolicyWord
+
+-- the word as a policy: behind a first byte `@` the name of a file stands, which may be empty
+abbrev pub policy_word : Text → PolicyWord
+policy_word text = option_map_or from_file (strip_byte 64 text) (named text)
+
 -- a command with its values
 pub data Invocation : Type 0 where
-  -- `asm POLICY IN OUT`
-  asm : Text → Text → Text → Invocation
+  -- `asm POLICY IN OUT [--v2]`, and the version of the container
+  asm : Text → Text → Text → ℕ → Invocation
   -- `prove POLICY IN OUT`
   prove : Text → Text → Text → Invocation
   -- `check POLICY FILE`
-  check : Text → Text → Invocation
+  check : PolicyWord → Text → Invocation
   -- `run POLICY FILE PACKETS`, and the steps for a packet
   run : Text → Text → Text → ℕ → Invocation
   -- `ref POLICY FILE PACKETS`, and the steps for a packet
   ref : Text → Text → Text → ℕ → Invocation
   -- `demo N`
   demo : ℕ → Invocation
+  -- `upgrade IN OUT`
+  upgrade : Text → Text → Invocation
   -- `host SCRIPT`
   host : Text → Invocation
   -- `bpf IN OUT`
@@ -123,6 +151,14 @@ pub data Invocation : Type 0 where
 -- the value of a required argument
 abbrev pub value_of : Text → List Row → Text
 value_of id rows = unwrap_or (first_of id rows) []
+
+-- whether an argument without a value is there
+abbrev pub is_given : Text → List Row → Bool
+is_given id rows = bytes_eq (value_of id rows) (codes "true")
+
+-- the version of the container that `asm` makes
+abbrev pub version_at : List Row → ℕ
+version_at rows = if is_given (codes "v2") rows then 2 else 1
 
 -- the text says a u64 in digits, which a plus may precede
 abbrev pub is_number : Text → Bool
@@ -166,19 +202,26 @@ copy_invocation command rows = command (value_of (codes "POLICY") rows) (value_o
 abbrev pub path_invocation : (Text → Text → Invocation) → List Row → Invocation
 path_invocation command rows = command (value_of (codes "IN") rows) (value_of (codes "OUT") rows)
 
--- a command that reads a container, of these rows
-abbrev pub file_invocation : (Text → Text → Invocation) → List Row → Invocation
-file_invocation command rows = command (value_of (codes "POLICY") rows) (value_of (codes "FILE") rows)
+-- `asm` of these rows
+abbrev pub asm_invocation : List Row → Invocation
+asm_invocation rows =
+    copy_invocation (λ policy input output. asm policy input output (version_at rows)) rows
+
+-- `check` of these rows
+abbrev pub check_invocation : List Row → Invocation
+check_invocation rows =
+    check (policy_word (value_of (codes "POLICY") rows)) (value_of (codes "FILE") rows)
 
 -- what was found for the subcommand of this name
 abbrev pub invocation_at : Text → List Row → Option Invocation
 invocation_at name rows =
-    if bytes_eq name (codes "asm") then Some (copy_invocation asm rows) else
+    if bytes_eq name (codes "asm") then Some (asm_invocation rows) else
     if bytes_eq name (codes "prove") then Some (copy_invocation prove rows) else
-    if bytes_eq name (codes "check") then Some (file_invocation check rows) else
+    if bytes_eq name (codes "check") then Some (check_invocation rows) else
     if bytes_eq name (codes "run") then run_invocation run rows else
     if bytes_eq name (codes "ref") then run_invocation ref rows else
     if bytes_eq name (codes "demo") then demo_invocation rows else
+    if bytes_eq name (codes "upgrade") then Some (path_invocation upgrade rows) else
     if bytes_eq name (codes "host") then Some (host (value_of (codes "SCRIPT") rows)) else
     if bytes_eq name (codes "bpf") then Some (path_invocation bpf rows) else
     None

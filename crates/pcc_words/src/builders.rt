@@ -4,13 +4,14 @@ ghost use Rattle.clap.specs.Words.{app_of, rule_of};
 ghost use Rattle.clap.specs.declared.Command.TheViews.{out-Command as fields_of};
 ghost use Rattle.pcc_words.specs.Invocations.{policy_app, file_app, input_app, copy_app};
 ghost use Rattle.pcc_words.specs.Invocations.{packets_app, run_app, number_app, steps_rule};
+ghost use Rattle.pcc_words.specs.Invocations.{version_rule, versioned_app, upgrades_app};
 ghost use Rattle.pcc_words.specs.Invocations.{asm_app, copies_app, file_commands_app};
 ghost use Rattle.pcc_words.specs.Invocations.{runs_app, named_files_app, demos_app, pcc_app};
 ghost use Rattle.pcc_words.specs.Invocations.{path_app, paths_app, script_app, hosts_app};
 ghost use Rattle.pcc_words.specs.Invocations.{positional as positional_rule};
 
 use crate::limits::{MAX_DEMO, MAX_STEPS};
-use clap::{Arg, Command, value_parser};
+use clap::{Arg, ArgAction, Command, value_parser};
 use std::alloc::{AllocError, Global};
 
 /// An argument that has to be there.
@@ -30,6 +31,14 @@ fn steps<'a>(alloc: Global) -> Arg<'a>
         .long("steps")
         .value_parser(value_parser!(u64).range(1..=MAX_STEPS as i64))
         .default_value("1000000")
+}
+
+/// `--v2`
+fn version_flag<'a>(alloc: Global) -> Arg<'a>
+    ensures rule { rule_of result ≡ version_rule }
+    ensures local { result.global ≡ false }
+{
+    Arg::new(alloc, "v2").long("v2").action(ArgAction::SetTrue)
 }
 
 /// `NAME N`
@@ -71,6 +80,14 @@ fn copy_command<'a>(alloc: Global, name: &'a str) -> Result<Command<'a>, AllocEr
     ensures local { IfOk result (λ c. (fields_of c).has_globals ≡ false) }
 {
     input_command(alloc, name)?.arg(positional(alloc, "OUT"))
+}
+
+/// `NAME POLICY IN OUT [--v2]`
+fn versioned_command<'a>(alloc: Global, name: &'a str) -> Result<Command<'a>, AllocError>
+    ensures app { IfOk result (λ c. app_of c ≡ versioned_app name.entry.now) }
+    ensures local { IfOk result (λ c. (fields_of c).has_globals ≡ false) }
+{
+    copy_command(alloc, name)?.arg(version_flag(alloc))
 }
 
 /// `NAME SCRIPT`
@@ -117,7 +134,7 @@ fn run_command<'a>(alloc: Global, name: &'a str) -> Result<Command<'a>, AllocErr
 fn asm_command<'a>(alloc: Global) -> Result<Command<'a>, AllocError>
     ensures app { IfOk result (λ c. app_of c ≡ asm_app) }
 {
-    let added = copy_command(alloc, "asm")?;
+    let added = versioned_command(alloc, "asm")?;
     Command::new(alloc, "pcc")
         .no_binary_name(true)
         .subcommand(added)
@@ -162,12 +179,20 @@ fn demos_command<'a>(alloc: Global) -> Result<Command<'a>, AllocError>
     named_files_command(alloc)?.subcommand(number_command(alloc, "demo")?)
 }
 
+/// The same with `upgrade`.
+fn upgrades_command<'a>(alloc: Global) -> Result<Command<'a>, AllocError>
+    ensures app { IfOk result (λ c. app_of c ≡ upgrades_app) }
+{
+    let added = paths_command(alloc, "upgrade")?;
+    demos_command(alloc)?.subcommand(added)
+}
+
 /// The same with `host`.
 fn hosts_command<'a>(alloc: Global) -> Result<Command<'a>, AllocError>
     ensures app { IfOk result (λ c. app_of c ≡ hosts_app) }
 {
     let added = script_command(alloc, "host")?;
-    demos_command(alloc)?.subcommand(added)
+    upgrades_command(alloc)?.subcommand(added)
 }
 
 /// The whole command line.

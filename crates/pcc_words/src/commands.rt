@@ -1,5 +1,27 @@
 //! The commands of pcc, with their values.
 
+/// How a word tells a policy.
+#[derive(Clone, Copy, Debug, PartialEq, Eq)]
+pub enum PolicyWord<'a> {
+    /// The name of a built-in one, which there need not be.
+    Named(&'a str),
+    /// The name of a file that is to spell one, which stands behind `@`.
+    FromFile(&'a str),
+}
+
+/// The arguments of `asm`: `POLICY IN OUT [--v2]`.
+#[derive(Clone, Copy, Debug, PartialEq, Eq)]
+pub struct AsmArgs<'a> {
+    /// The policy's name.
+    pub policy: &'a str,
+    /// The name of the source's file.
+    pub input: &'a str,
+    /// The name of the file that is written, which may be the same.
+    pub output: &'a str,
+    /// The version of the container: 2 where it is asked for, and else 1.
+    pub version: u32,
+}
+
 /// The arguments of a command that makes a file of another: `POLICY IN OUT`.
 #[derive(Clone, Copy, Debug, PartialEq, Eq)]
 pub struct CopyArgs<'a> {
@@ -20,11 +42,11 @@ pub struct PathArgs<'a> {
     pub output: &'a str,
 }
 
-/// The arguments of a command that reads a container: `POLICY FILE`.
+/// The arguments of `check`: `POLICY FILE`.
 #[derive(Clone, Copy, Debug, PartialEq, Eq)]
-pub struct FileArgs<'a> {
-    /// The policy's name.
-    pub policy: &'a str,
+pub struct CheckArgs<'a> {
+    /// The policy, by its name or by its file's.
+    pub policy: PolicyWord<'a>,
     /// The name of the container's file.
     pub file: &'a str,
 }
@@ -46,17 +68,19 @@ pub struct RunArgs<'a> {
 #[derive(Clone, Copy, Debug, PartialEq, Eq)]
 pub enum Command<'a> {
     /// Assembles a source into a container without a proof.
-    Asm(CopyArgs<'a>),
+    Asm(AsmArgs<'a>),
     /// Makes of a container one with a proof.
     Prove(CopyArgs<'a>),
     /// Judges a container.
-    Check(FileArgs<'a>),
+    Check(CheckArgs<'a>),
     /// Runs accepted code on packets, by the host that tests no access.
     Run(RunArgs<'a>),
     /// Runs the testing machine on packets.
     Ref(RunArgs<'a>),
     /// Makes a source of so many loads, proves it, judges it and runs it.
     Demo(u64),
+    /// Makes of a container of version 1 one of version 2.
+    Upgrade(PathArgs<'a>),
     /// Runs the agents that the script of this name loads, by turns, by the host that tests no access.
     Host(&'a str),
     /// Compiles a program of classic BPF to an accepted container.

@@ -19,7 +19,7 @@ ghost use Rattle.pcc_words.specs.Commands.{invocation_of, IsInRange};
 
 use builders::pcc_command;
 use clap::error::ErrorKind;
-pub use commands::{Command, CopyArgs, FileArgs, PathArgs, RunArgs};
+pub use commands::{AsmArgs, CheckArgs, Command, CopyArgs, PathArgs, PolicyWord, RunArgs};
 pub use limits::{MAX_DEMO, MAX_STEPS};
 use std::alloc::{AllocError, Global};
 pub use theorems::{worked_commands, worked_faults};

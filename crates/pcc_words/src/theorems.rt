@@ -1,15 +1,33 @@
 //! What the definition of the command line says of some arguments, with nothing to run.
 ghost use Rattle.std.specs.Prelude.{◌≡◌, Some, None, [], ◌∷◌, codes};
-ghost use Rattle.pcc_words.specs.Invocations.{command_of, asm, prove, check, run, ref, demo, host, bpf};
+ghost use Rattle.pcc_words.specs.Invocations.{command_of, asm, prove, check, run, ref, demo};
+ghost use Rattle.pcc_words.specs.Invocations.{upgrade, host, bpf, named, from_file};
 
 /// Arguments that are a command.
 pub fn worked_commands()
     ensures asm { command_of (codes "asm" ∷ codes "filter" ∷ codes "S1" ∷ codes "C1" ∷ [])
-        ≡ Some (asm (codes "filter") (codes "S1") (codes "C1")) }
+        ≡ Some (asm (codes "filter") (codes "S1") (codes "C1") 1) }
+    ensures asm_version { command_of (codes "asm" ∷ codes "filter" ∷ codes "S1" ∷ codes "C1"
+        ∷ codes "--v2" ∷ []) ≡ Some (asm (codes "filter") (codes "S1") (codes "C1") 2) }
+    ensures version_first { command_of (codes "asm" ∷ codes "--v2" ∷ codes "filter" ∷ codes "S1"
+        ∷ codes "C1" ∷ []) ≡ Some (asm (codes "filter") (codes "S1") (codes "C1") 2) }
+    ensures version_behind_dashes { command_of (codes "asm" ∷ codes "filter" ∷ codes "--"
+        ∷ codes "--v2" ∷ codes "C1" ∷ [])
+        ≡ Some (asm (codes "filter") (codes "--v2") (codes "C1") 1) }
+    ensures asm_at { command_of (codes "asm" ∷ codes "@F" ∷ codes "S1" ∷ codes "C1" ∷ [])
+        ≡ Some (asm (codes "@F") (codes "S1") (codes "C1") 1) }
     ensures prove { command_of (codes "prove" ∷ codes "tag" ∷ codes "C1" ∷ codes "C2" ∷ [])
         ≡ Some (prove (codes "tag") (codes "C1") (codes "C2")) }
     ensures check { command_of (codes "check" ∷ codes "filter" ∷ codes "C1" ∷ [])
-        ≡ Some (check (codes "filter") (codes "C1")) }
+        ≡ Some (check (named (codes "filter")) (codes "C1")) }
+    ensures check_file { command_of (codes "check" ∷ codes "@F" ∷ codes "C1" ∷ [])
+        ≡ Some (check (from_file (codes "F")) (codes "C1")) }
+    ensures check_no_name { command_of (codes "check" ∷ codes "@" ∷ codes "C1" ∷ [])
+        ≡ Some (check (from_file []) (codes "C1")) }
+    ensures check_at_twice { command_of (codes "check" ∷ codes "@@F" ∷ codes "C1" ∷ [])
+        ≡ Some (check (from_file (codes "@F")) (codes "C1")) }
+    ensures check_at_later { command_of (codes "check" ∷ codes "F@" ∷ codes "C1" ∷ [])
+        ≡ Some (check (named (codes "F@")) (codes "C1")) }
     ensures run { command_of (codes "run" ∷ codes "filter" ∷ codes "P1" ∷ codes "Z64" ∷ [])
         ≡ Some (run (codes "filter") (codes "P1") (codes "Z64") 1000000) }
     ensures run_steps { command_of (codes "run" ∷ codes "filter" ∷ codes "P1" ∷ codes "Z64"
@@ -37,6 +55,10 @@ pub fn worked_commands()
     ensures demo_three { command_of (codes "demo" ∷ codes "3" ∷ []) ≡ Some (demo 3) }
     ensures demo_most { command_of (codes "demo" ∷ codes "400" ∷ []) ≡ Some (demo 400) }
     ensures demo_plus { command_of (codes "demo" ∷ codes "+007" ∷ []) ≡ Some (demo 7) }
+    ensures upgrade { command_of (codes "upgrade" ∷ codes "C1" ∷ codes "C2" ∷ [])
+        ≡ Some (upgrade (codes "C1") (codes "C2")) }
+    ensures upgrade_in_place { command_of (codes "upgrade" ∷ codes "C1" ∷ codes "C1" ∷ [])
+        ≡ Some (upgrade (codes "C1") (codes "C1")) }
     ensures host { command_of (codes "host" ∷ codes "S" ∷ []) ≡ Some (host (codes "S")) }
     ensures bpf { command_of (codes "bpf" ∷ codes "B1" ∷ codes "C1" ∷ [])
         ≡ Some (bpf (codes "B1") (codes "C1")) }
@@ -70,6 +92,14 @@ pub fn worked_faults()
     ensures asm_too_few { command_of (codes "asm" ∷ codes "filter" ∷ codes "S1" ∷ []) ≡ None }
     ensures asm_too_many { command_of (codes "asm" ∷ codes "filter" ∷ codes "S1" ∷ codes "C1"
         ∷ codes "more" ∷ []) ≡ None }
+    ensures version_twice { command_of (codes "asm" ∷ codes "filter" ∷ codes "S1" ∷ codes "C1"
+        ∷ codes "--v2" ∷ codes "--v2" ∷ []) ≡ None }
+    ensures version_with_value { command_of (codes "asm" ∷ codes "filter" ∷ codes "S1"
+        ∷ codes "C1" ∷ codes "--v2=2" ∷ []) ≡ None }
+    ensures version_shortened { command_of (codes "asm" ∷ codes "filter" ∷ codes "S1"
+        ∷ codes "C1" ∷ codes "--v" ∷ []) ≡ None }
+    ensures version_of_prove { command_of (codes "prove" ∷ codes "tag" ∷ codes "C1" ∷ codes "C2"
+        ∷ codes "--v2" ∷ []) ≡ None }
     ensures prove_too_few { command_of (codes "prove" ∷ codes "tag" ∷ codes "C1" ∷ []) ≡ None }
     ensures prove_too_many { command_of (codes "prove" ∷ codes "tag" ∷ codes "C1" ∷ codes "C2"
         ∷ codes "more" ∷ []) ≡ None }
@@ -98,7 +128,12 @@ pub fn worked_faults()
         ∷ codes "--steps=1" ∷ []) ≡ None }
     ensures help_of_bpf { command_of (codes "bpf" ∷ codes "--help" ∷ []) ≡ None }
     ensures demo_too_many { command_of (codes "demo" ∷ codes "3" ∷ codes "3" ∷ []) ≡ None }
-    ensures other { command_of (codes "upgrade" ∷ codes "C1" ∷ codes "C2" ∷ []) ≡ None }
+    ensures upgrade_too_few { command_of (codes "upgrade" ∷ codes "C1" ∷ []) ≡ None }
+    ensures upgrade_too_many { command_of (codes "upgrade" ∷ codes "filter" ∷ codes "C1"
+        ∷ codes "C2" ∷ []) ≡ None }
+    ensures upgrade_has_no_version { command_of (codes "upgrade" ∷ codes "C1" ∷ codes "C2"
+        ∷ codes "--v2" ∷ []) ≡ None }
+    ensures other { command_of (codes "assemble" ∷ codes "C1" ∷ codes "C2" ∷ []) ≡ None }
     ensures help { command_of (codes "help" ∷ []) ≡ None }
     ensures help_flag { command_of (codes "--help" ∷ []) ≡ None }
     ensures help_of_ref { command_of (codes "ref" ∷ codes "--help" ∷ []) ≡ None }

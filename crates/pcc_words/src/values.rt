@@ -1,11 +1,13 @@
 //! The values of a command, from the matches of a parse.
 ghost use Rattle.std.specs.Prelude.{◌≡◌, IfSome, Some, None, codes, if◌then◌else◌, option_and_then, option_map};
+ghost use Rattle.clap.specs.Lexer.{strip_byte};
 ghost use Rattle.clap.specs.Words.{found_of, rows_of, subcommand_rows_of};
 ghost use Rattle.pcc_words.specs.Invocations.{is_step_count, is_demo_size, number_at, value_of};
+ghost use Rattle.pcc_words.specs.Invocations.{is_given, version_at, policy_word};
 ghost use Rattle.pcc_words.specs.Invocations.{invocation_at, invocation_of_subcommand};
-ghost use Rattle.pcc_words.specs.Commands.{invocation_of, IsInRange};
+ghost use Rattle.pcc_words.specs.Commands.{word_view, invocation_of, IsInRange};
 
-use crate::commands::{Command, CopyArgs, FileArgs, PathArgs, RunArgs};
+use crate::commands::{AsmArgs, CheckArgs, Command, CopyArgs, PathArgs, PolicyWord, RunArgs};
 use crate::limits::{MAX_DEMO, MAX_STEPS};
 use clap::ArgMatches;
 
@@ -26,6 +28,36 @@ fn text_given<'a>(matches: &ArgMatches<'a>, id: &str) -> &'a str
     match matches.get_str(id) {
         Some(text) => text,
         None => "",
+    }
+}
+
+/// Whether an argument without a value is there.
+fn is_given(matches: &ArgMatches<'_>, id: &str) -> bool
+    ensures { result ≡ is_given id.now (rows_of (found_of matches.now)) }
+{
+    text_given(matches, id) == "true"
+}
+
+/// The version of the container that `asm` makes.
+fn version_given(matches: &ArgMatches<'_>) -> u32
+    ensures { result ≡ version_at (rows_of (found_of matches.now)) }
+{
+    if is_given(matches, "v2") { 2 } else { 1 }
+}
+
+/// The arguments of `asm`.
+fn asm_args_given<'a>(matches: &ArgMatches<'a>) -> AsmArgs<'a>
+    ensures policy { result.policy.now ≡ value_of (codes "POLICY") (rows_of
+        (found_of matches.now)) }
+    ensures input { result.input.now ≡ value_of (codes "IN") (rows_of (found_of matches.now)) }
+    ensures output { result.output.now ≡ value_of (codes "OUT") (rows_of (found_of matches.now)) }
+    ensures version { result.version ≡ version_at (rows_of (found_of matches.now)) }
+{
+    AsmArgs {
+        policy: text_given(matches, "POLICY"),
+        input: text_given(matches, "IN"),
+        output: text_given(matches, "OUT"),
+        version: version_given(matches),
     }
 }
 
@@ -53,16 +85,32 @@ fn path_args_given<'a>(matches: &ArgMatches<'a>) -> PathArgs<'a>
     PathArgs { input, output }
 }
 
-/// The arguments of a command that reads a container.
-fn file_args_given<'a>(matches: &ArgMatches<'a>) -> FileArgs<'a>
-    ensures policy { result.policy.now ≡ value_of (codes "POLICY") (rows_of
-        (found_of matches.now)) }
+/// What stands behind the `@` that a word begins with, if it does.
+fn behind_at(word: &str) -> Option<&str>
+    ensures { option_map (λ s. s.now) result ≡ strip_byte 64 word.now }
+{
+    word.strip_prefix('@')
+}
+
+/// The word as a policy.
+fn policy_told(word: &str) -> PolicyWord<'_>
+    ensures { word_view result ≡ policy_word word.now }
+{
+    match behind_at(word) {
+        Some(name) => PolicyWord::FromFile(name),
+        None => PolicyWord::Named(word),
+    }
+}
+
+/// The arguments of `check`.
+fn check_args_given<'a>(matches: &ArgMatches<'a>) -> CheckArgs<'a>
+    ensures policy { word_view result.policy ≡ policy_word (value_of (codes "POLICY") (rows_of
+        (found_of matches.now))) }
     ensures file { result.file.now ≡ value_of (codes "FILE") (rows_of (found_of matches.now)) }
 {
-    FileArgs {
-        policy: text_given(matches, "POLICY"),
-        file: text_given(matches, "FILE"),
-    }
+    let policy = policy_told(text_given(matches, "POLICY"));
+    let file = text_given(matches, "FILE");
+    CheckArgs { policy, file }
 }
 
 /// The arguments of a command that runs packets.
@@ -115,12 +163,13 @@ fn command_given<'a>(name: &str, matches: &ArgMatches<'a>) -> Option<Command<'a>
     ensures in_range { IfSome result IsInRange }
 {
     match name {
-        "asm" => Some(Command::Asm(copy_args_given(matches))),
+        "asm" => Some(Command::Asm(asm_args_given(matches))),
         "prove" => Some(Command::Prove(copy_args_given(matches))),
-        "check" => Some(Command::Check(file_args_given(matches))),
+        "check" => Some(Command::Check(check_args_given(matches))),
         "run" => Some(Command::Run(with_steps_in_range(run_args_given(matches))?)),
         "ref" => Some(Command::Ref(with_steps_in_range(run_args_given(matches))?)),
         "demo" => Some(Command::Demo(demo_size_given(matches)?)),
+        "upgrade" => Some(Command::Upgrade(path_args_given(matches))),
         "host" => Some(Command::Host(text_given(matches, "SCRIPT"))),
         "bpf" => Some(Command::Bpf(path_args_given(matches))),
         _ => None,

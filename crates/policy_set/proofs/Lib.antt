@@ -1,2 +1,5 @@
 pub mod Closed
 pub mod Numbers
+pub mod Heights
+pub mod Spelled
+pub mod Texts

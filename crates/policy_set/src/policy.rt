@@ -3,7 +3,8 @@
 ghost use Rattle.std.specs.Prelude.{◌≡◌, IfOk};
 ghost use Rattle.formula_tree.specs.Views.{form_view};
 ghost use Rattle.policy_set.specs.Names.{kind_of, policy_of, policy_number, is_number_of};
-ghost use Rattle.policy_set.specs.Views.{built_in, IsPolicy};
+ghost use Rattle.policy_set.specs.Views.{built_in, IsPolicyForm, IsPolicy};
+ghost use Rattle.policy_set.specs.PolicyText.{from_file};
 
 use crate::formulas::{post, pre};
 use crate::kind::PolicyKind;
@@ -49,6 +50,19 @@ impl Policy {
             pre: asked,
             post: promised,
         })
+    }
+
+    /// The policy of two formulas from a file, which has no kind.
+    pub fn from_file(pre: Form, post: Form) -> Policy
+        requires asked { IsPolicyForm (form_view pre) }
+        requires promised { IsPolicyForm (form_view post) }
+        ensures exact { result ≡ from_file (form_view pre) (form_view post) }
+    {
+        Policy {
+            kind: None,
+            pre,
+            post,
+        }
     }
 
     /// The kind; None where it is from a file.

@@ -1,16 +1,32 @@
 //! What holds of the definitions, with nothing to run.
 
-ghost use Rattle.std.specs.Prelude.{◌≡◌, ◌↔◌, ℕ, true};
+ghost use Rattle.std.specs.Prelude.{◌≡◌, ◌≤◌, ◌↔◌, ℕ, true, List, length, Ok};
 ghost use Rattle.word_ops.specs.Operators.{IsFirstOp};
+ghost use Rattle.formula_text.specs.Printing.{form_text};
 ghost use Rattle.policy_set.specs.declared.kind.PolicyKind.{PolicyKind};
+ghost use Rattle.policy_set.specs.declared.limits.TheConstants.{MAX_FORM_LINE};
 ghost use Rattle.policy_set.specs.Names.{IsNumberOf, is_number_of};
+ghost use Rattle.policy_set.specs.PolicyText.{SpellsPolicy, from_file, policy_read};
+ghost use Rattle.policy_set.specs.Digest.{policy_text};
 ghost use Rattle.policy_set.specs.Views.{PolicyView, built_in, IsPolicy, PolicyUses};
 
 /// The built-in policies keep what each policy does, and their operators are the first profile's;
-/// the test of a number is the relation.
+/// the test of a number is the relation; bytes are read as a policy exactly where they spell it,
+/// and what they spell keeps what each policy does. The text of a policy spells one of its
+/// formulas, where no line of it is too long, and no policies of other formulas have the same text.
 pub fn laws()
     ensures built_in { (kind : PolicyKind) → IsPolicy (built_in kind) }
     ensures operators { (kind : PolicyKind) → PolicyUses IsFirstOp (built_in kind) }
     ensures numbers { (policy : PolicyView) (n : ℕ) → (is_number_of policy n ≡ true)
         ↔ IsNumberOf policy n }
+    ensures spelled { (bytes : List ℕ) (policy : PolicyView) →
+        SpellsPolicy bytes policy ↔ (policy_read bytes ≡ Ok policy) }
+    ensures kept { (bytes : List ℕ) (policy : PolicyView) →
+        SpellsPolicy bytes policy → IsPolicy policy }
+    ensures printed { (policy : PolicyView) → IsPolicy policy →
+        length (form_text 0 policy.pre) ≤ MAX_FORM_LINE →
+        length (form_text 0 policy.post) ≤ MAX_FORM_LINE →
+        SpellsPolicy (policy_text policy) (from_file policy.pre policy.post) }
+    ensures texts { (P Q : PolicyView) → IsPolicy P → IsPolicy Q →
+        policy_text P ≡ policy_text Q → (P.pre ≡ Q.pre) × (P.post ≡ Q.post) }
 {}

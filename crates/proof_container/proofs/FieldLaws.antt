@@ -1,6 +1,8 @@
 -- Fields of four bytes: where they stand in bytes, and the bytes that they are.
-use Rattle.std.proofs.Common.{◌≡◌, ℕ, suc, ◌+◌, ◌*◌, ◌/◌, ◌%◌, ◌^◌, ◌<◌, ◌≤◌, Bool, true, false, cond, ◌||◌, ltb, eqb, List, [], ◌∷◌, ◌++◌, length, take, drop, Result, Ok, Err, refl, sym, ap, subst, ◌∙◌, append_assoc, arith, ◌⊎◌, inl, inr, drop-drop, eq-eqb}
+use Rattle.std.proofs.Common.{◌≡◌, ℕ, suc, ◌+◌, ◌*◌, ◌-◌, ◌/◌, ◌%◌, ◌^◌, ◌<◌, ◌≤◌, Bool, true, false, cond, ◌||◌, ltb, eqb, List, [], ◌∷◌, ◌++◌, length, take, drop, Result, Ok, Err, refl, sym, ap, subst, ◌∙◌, append_assoc, take-append-drop, take_at, drop_at, arith, ◌⊎◌, inl, inr, drop-drop, eq-eqb}
 use Rattle.std.specs.Int.{w32, from_le_bytes, to_le_bytes}
+use Rattle.std.specs.List.{slice_range}
+use Rattle.std.proofs.lemmas.List.Folds.{drop_split}
 use Rattle.std.proofs.Math.Seq.{take-add}
 use Rattle.std.proofs.lemmas.Bool.{cases_lt, ltb-false, le-ltb, eqb-true}
 use Rattle.std.proofs.lemmas.List.{length-append, length-take, length-drop, get_or-drop, get_or-take, get_or_past}
@@ -9,7 +11,7 @@ use Rattle.proof_container.specs.declared.fault.Flaw.{Flaw}
 use Rattle.term_table.specs.Bytes.{IsBytes}
 use Rattle.proof_container.specs.Encoding.{field_bytes, word_fields}
 use Rattle.term_table.specs.Steps.{◌>>=◌}
-use Rattle.proof_container.specs.Decoding.{Fault, field_at, exact_at, count_at, word_at}
+use Rattle.proof_container.specs.Decoding.{Fault, field_at, exact_at, between_at, raw_at, word_at}
 
 -- ---- steps of a reader that did not fail
 
@@ -107,15 +109,18 @@ exact_takes bytes i n m flaw e =
 pub exact_again : (bytes : List ℕ) (i n : ℕ) (flaw : Flaw) → field_at bytes i ≡ Ok n → exact_at bytes i n flaw ≡ Ok n
 exact_again bytes i n flaw e = let same : eqb n n ≡ true = eq-eqb n n refl in rw (e, same) refl
 
-pub count_takes : (bytes : List ℕ) (i low high n : ℕ) → count_at bytes i low high ≡ Ok n → (field_at bytes i ≡ Ok n) × (low ≤ n) × (n ≤ high)
-count_takes bytes i low high n e =
+pub between_takes : (bytes : List ℕ) (i low high n : ℕ) (flaw : Flaw)
+    → between_at bytes i low high flaw ≡ Ok n → (field_at bytes i ≡ Ok n) × (low ≤ n) × (n ≤ high)
+between_takes bytes i low high n flaw e =
     let a = bind_ok (field_at bytes i) _ n e in
     let g = guard_ok (ltb a.0 low || ltb high a.0) _ _ n a.2 in
     let both = neither (ltb a.0 low) (ltb high a.0) g.0 in
-    subst (λ (k : ℕ). (field_at bytes i ≡ Ok k) × (low ≤ k) × (k ≤ high)) (ok_is a.0 n g.1) (a.1, ltb-false _ _ both.0, ltb-false _ _ both.1)
+    subst (λ (k : ℕ). (field_at bytes i ≡ Ok k) × (low ≤ k) × (k ≤ high)) (ok_is a.0 n g.1)
+    (a.1, ltb-false _ _ both.0, ltb-false _ _ both.1)
 
-pub count_again : (bytes : List ℕ) (i low high n : ℕ) → field_at bytes i ≡ Ok n → low ≤ n → n ≤ high → count_at bytes i low high ≡ Ok n
-count_again bytes i low high n e above below =
+pub between_again : (bytes : List ℕ) (i low high n : ℕ) (flaw : Flaw) → field_at bytes i ≡ Ok n
+    → low ≤ n → n ≤ high → between_at bytes i low high flaw ≡ Ok n
+between_again bytes i low high n flaw e above below =
     let not_below : ltb n low ≡ false = le-ltb n low above in
     let not_above : ltb high n ≡ false = le-ltb high n below in
     rw (e, not_below, not_above) refl
@@ -188,6 +193,78 @@ Stands-again bytes i (f ∷ fs) rest e small =
     let next : drop (4 * suc i) bytes ≡ drop 4 (drop (4 * i) bytes) = ap (λ (k : ℕ). drop k bytes) (omega arith) ∙ sym (drop-drop 4 (4 * i) bytes) in
     let behind : drop (4 * suc i) bytes ≡ field_bytes fs ++ rest = next ∙ ap (drop 4) here in
     (field_again bytes i f (field_bytes fs ++ rest) here small.0, Stands-again bytes (suc i) fs rest behind small.1)
+
+-- ---- pieces of bytes that are some fields long
+
+-- the piece stands in the bytes from field i on, up to field j
+abbrev pub IsPiece : List ℕ → ℕ → List ℕ → ℕ → Type 0
+IsPiece bytes i piece j = drop (4 * i) bytes ≡ piece ++ drop (4 * j) bytes
+
+-- a piece, and the next one
+pub piece_then : (bytes : List ℕ) (i j k l : ℕ) (piece next : List ℕ) → j ≡ k
+    → IsPiece bytes i piece j → IsPiece bytes k next l → IsPiece bytes i (piece ++ next) l
+piece_then bytes i j k l piece next e p q =
+    let here : IsPiece bytes j next l = subst (λ (n : ℕ). IsPiece bytes n next l) (sym e) q in
+    p ∙ ap (λ (x : List ℕ). piece ++ x) here ∙ sym (append_assoc piece next (drop (4 * l) bytes))
+
+pub fields_piece : (bytes : List ℕ) (i : ℕ) (fs : List ℕ) → IsBytes bytes → Stands bytes i fs
+    → IsPiece bytes i (field_bytes fs) (i + length fs)
+fields_piece bytes i fs fits p =
+    let whole : drop (4 * i) bytes ≡ take (4 * length fs) (drop (4 * i) bytes) ++ drop
+    (4 * length fs) (drop (4 * i) bytes) =
+    sym (take-append-drop (4 * length fs) (drop (4 * i) bytes)) in
+    let behind : drop (4 * length fs) (drop (4 * i) bytes) ≡ drop (4 * (i + length fs)) bytes =
+    drop-drop (4 * length fs) (4 * i) bytes ∙ ap (λ (k : ℕ). drop k bytes) (omega arith) in
+    whole
+    ∙ ap (λ (x : List ℕ). x ++ drop (4 * length fs) (drop (4 * i) bytes))
+    (Stands-takes bytes i fs fits p).encoded
+    ∙ ap (λ (x : List ℕ). field_bytes fs ++ x) behind
+
+-- what stands behind a piece that is n fields long
+pub behind_piece : (bytes : List ℕ) (i n : ℕ) (piece rest : List ℕ)
+    → drop (4 * i) bytes ≡ piece ++ rest → length piece ≡ 4 * n → drop (4 * (i + n)) bytes ≡ rest
+behind_piece bytes i n piece rest e long =
+    let further : drop (4 * (i + n)) bytes ≡ drop (4 * n) (drop (4 * i) bytes) =
+    ap (λ (k : ℕ). drop k bytes) (omega arith) ∙ sym (drop-drop (4 * n) (4 * i) bytes) in
+    further ∙ ap (drop (4 * n)) e ∙ drop_at piece rest (4 * n) long
+
+-- fields that were read as they stand
+pub record IsRaw (bytes : List ℕ) (i n : ℕ) (raw : List ℕ) : Type 0 where
+  pub long : length raw ≡ 4 * n
+  pub fits : IsBytes raw
+  pub stands : IsPiece bytes i raw (i + n)
+
+pub raw_takes : (bytes : List ℕ) (i n : ℕ) (raw : List ℕ) → IsBytes bytes
+    → raw_at bytes i n ≡ Ok raw → IsRaw bytes i n raw
+unfolding raw_at
+raw_takes bytes i n raw fits e =
+    let slice : List ℕ = slice_range bytes (4 * i) (4 * (i + n)) in
+    let g = guard_ok (ltb (length bytes) (4 * (i + n))) _ _ raw e in
+    let within : 4 * (i + n) ≤ length bytes = ltb-false _ _ g.0 in
+    let made : IsRaw bytes i n slice = record {
+      long = omega (
+        arith,
+        length-take (4 * (i + n) - 4 * i) (drop (4 * i) bytes),
+        length-drop (4 * i)
+            bytes,
+      );
+      fits = IsBytes-take (4 * (i + n) - 4 * i) (drop (4 * i) bytes)
+          (IsBytes-drop (4 * i) bytes fits);
+      stands = drop_split bytes (4 * i) (4 * (i + n)) (omega arith);
+    } in
+    subst (λ (x : List ℕ). IsRaw bytes i n x) (ok_is slice raw g.1) made
+
+pub raw_again : (bytes : List ℕ) (i n : ℕ) (raw rest : List ℕ) → drop (4 * i) bytes ≡ raw ++ rest
+    → length raw ≡ 4 * n → 1 ≤ n → raw_at bytes i n ≡ Ok raw
+unfolding raw_at
+raw_again bytes i n raw rest e long some =
+    let all : length (drop (4 * i) bytes) ≡ length raw + length rest =
+    ap length e ∙ length-append raw rest in
+    let within : ltb (length bytes) (4 * (i + n)) ≡ false =
+    le-ltb _ _ (omega (arith, length-drop (4 * i) bytes)) in
+    let there : take (4 * (i + n) - 4 * i) (drop (4 * i) bytes) ≡ raw =
+    ap (take (4 * (i + n) - 4 * i)) e ∙ take_at raw rest (4 * (i + n) - 4 * i) (omega arith) in
+    rw (within, there) refl
 
 -- ---- words
 

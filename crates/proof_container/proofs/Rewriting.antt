@@ -15,7 +15,7 @@ AreTerms-all (t ∷ ts) h = (h.0, AreTerms-all ts h.2)
 
 -- a view of it shows what it holds
 shown : (c : Container) (v : View) → Shows c v → view_contents v ≡ contents_of c
-shown c v s = rw (s.policy, s.code, s.table, s.invs, s.proof) refl
+shown c v s = rw (s.head, s.code, s.table, s.invs, s.proof) refl
 
 pub rewritable : (bytes : List ℕ) (c : Container) (v : View) → EncodesContents bytes (contents_of c) → IsCanonical c → Shows c v → IsWritable v
 rewritable bytes c v p q s =

@@ -5,7 +5,7 @@ use Rattle.term_table.specs.Tree.{Tree, Var, Con, App, Lam, Fam, TApp, Pi, Num, 
 use Rattle.term_table.specs.Table.{IsSmall}
 use Rattle.proof_container.specs.Contents.{Contents, one_or_none, roots}
 use Rattle.proof_container.specs.Postorder.{entries, HasPartsFirst, ArePostorder, AreEmitted}
-use Rattle.proof_container.specs.Encoding.{word_fields, entry_fields, inv_fields, proof_field, head_fields, tail_fields, AreTerms, AreRising, IsContents}
+use Rattle.proof_container.specs.Encoding.{word_fields, entry_fields, inv_fields, proof_field, tail_fields, AreTerms, AreRising, IsContents}
 use Rattle.proof_container.proofs.Walks.{entries_grow, entries_listed, entries_terms, number_is}
 use Rattle.proof_container.proofs.FieldLaws.{AreFields, AreFields-append, word_small}
 use Rattle.proof_container.proofs.Sections.{later_fields, later_fields-cons, inv_trees_of}
@@ -57,9 +57,6 @@ AreEmitted-append es (r ∷ rs) qs p q = (p.0, AreEmitted-append es rs qs p.1 q)
 -- there are at most 1024 words of code
 pub words_short : (c : Contents) → IsContents c → length c.code / 4 ≤ 1024
 words_short c p = omega (arith, p.short)
-
-pub head_small : (c : Contents) → IsContents c → AreFields (head_fields c)
-head_small c p = let short = words_short c p in (omega arith, (omega arith, (p.policy, (omega arith, tt))))
 
 pub tail_small : (c : Contents) → IsContents c → AreFields (tail_fields (entries (roots c)) c)
 tail_small c p =

@@ -1,10 +1,11 @@
 -- What a container holds, apart from how it is written down.
 use Rattle.std.specs.Prelude.{ℕ, List, [], ◌∷◌, ◌++◌, map, Option, Some, None}
 use Rattle.term_table.specs.Tree.{Tree}
+use Rattle.proof_container.specs.declared.container.Head.{Head}
 
--- a policy's number, code as bytes, the invariants with their indices, and the proof, if there is one
+-- what names the policy, code as bytes, the invariants with their indices, and the proof, if any
 pub record Contents : Type 0 where
-  pub policy : ℕ
+  pub head : Head
   pub code : List ℕ
   pub invs : List (ℕ × Tree)
   pub proof : Option Tree

@@ -6,11 +6,14 @@ use Rattle.std.specs.Int.{w32, from_le_bytes}
 use Rattle.term_table.specs.Tree.{Tree, Var, Con, App, Lam, Fam, TApp, Pi, Num, Lit, Calc, Fact, Deny, Lemma}
 use Rattle.term_table.specs.Equality.{tree_eq}
 use Rattle.term_table.specs.Table.{tree_in}
+use Rattle.proof_container.specs.declared.container.Head.{Head}
+use Rattle.proof_container.specs.declared.container.Head.TheVariants.{Number, Digest}
 use Rattle.proof_container.specs.declared.fault.Flaw.{Flaw}
 use Rattle.proof_container.specs.declared.fault.Flaw.TheVariants.{Cut, Magic, Version, Count, EntryKind, ForwardRef, DoubleEntry, Order, LambdaHead, InvOrder, Trailing}
+use Rattle.proof_container.specs.Versions.{version_of, policy_size, code_field}
 use Rattle.proof_container.specs.Contents.{Contents, roots}
 use Rattle.proof_container.specs.Postorder.{is_emitted, entries}
-use Rattle.proof_container.specs.declared.limits.TheConstants.{MAX_WORDS, MAX_ENTRIES, MAX_INVS}
+use Rattle.proof_container.specs.declared.limits.TheConstants.{MAX_VERSION, MAX_WORDS, MAX_ENTRIES, MAX_INVS}
 use Rattle.proof_container.specs.Encoding.{magic}
 
 -- an offset, and what is wrong there
@@ -28,8 +31,16 @@ abbrev pub exact_at : List ℕ → ℕ → ℕ → Flaw → Result ℕ Fault
 exact_at bytes i n flaw = field_at bytes i >>= λ m. if m == n then Ok m else Err (4 * i, flaw)
 
 -- a field that has to lie between these numbers
-abbrev pub count_at : List ℕ → ℕ → ℕ → ℕ → Result ℕ Fault
-count_at bytes i low high = field_at bytes i >>= λ n. if nat_lt n low || nat_lt high n then Err (4 * i, Count) else Ok n
+abbrev pub between_at : List ℕ → ℕ → ℕ → ℕ → Flaw → Result ℕ Fault
+between_at bytes i low high flaw =
+    field_at bytes i >>= λ n. if nat_lt n low || nat_lt high n then Err (4 * i, flaw) else Ok n
+
+-- n fields from field i on as they stand; else the first of them that doesn't stand whole is cut
+unfoldable pub raw_at : List ℕ → ℕ → ℕ → Result (List ℕ) Fault
+raw_at bytes i n =
+    if nat_lt (length bytes) (4 * (i + n))
+    then Err (4 * (length bytes / 4), Cut)
+    else Ok (slice_range bytes (4 * i) (4 * (i + n)))
 
 -- the word in fields i and i + 1, the low half first
 abbrev pub word_at : List ℕ → ℕ → Result ℕ Fault
@@ -40,14 +51,22 @@ word_at bytes i = do
 
 -- ---- the magic, the version, the policy and the code
 
--- the policy, and how many words of code there are
-unfoldable pub decoded_head : List ℕ → Result (ℕ × ℕ) Fault
+-- what names the policy, from field 2 on
+unfoldable pub policy_at : List ℕ → ℕ → Result Head Fault
+policy_at bytes version =
+    if version == 1
+    then field_at bytes 2 >>= (λ n. Ok (Number n))
+    else raw_at bytes 2 (policy_size version) >>= (λ d. Ok (Digest d))
+
+-- what names the policy, the code, and the field behind it
+unfoldable pub decoded_head : List ℕ → Result (Head × List ℕ × ℕ) Fault
 decoded_head bytes = do
   first ← exact_at bytes 0 magic Magic
-  version ← exact_at bytes 1 1 Version
-  policy ← field_at bytes 2
-  words ← count_at bytes 3 1 MAX_WORDS
-  if nat_lt (length bytes) (16 + 4 * words) then Err (4 * (length bytes / 4), Cut) else Ok (policy, words)
+  version ← between_at bytes 1 1 MAX_VERSION Version
+  head ← policy_at bytes version
+  words ← between_at bytes (2 + policy_size version) 1 MAX_WORDS Count
+  code ← raw_at bytes (code_field version) words
+  Ok (head, code, code_field version + words)
 
 -- ---- entries, the trees of the earlier ones being ts
 
@@ -114,11 +133,11 @@ entries_at (suc n) bytes i ts = do
   t ← entry_at bytes i ts
   if is_emitted t ts then Err (4 * i, DoubleEntry) else entries_at n bytes (i + entry_size t) (ts ++ t ∷ [])
 
--- the entries behind so many words of code
+-- the entries, whose count is field i: all trees, and the next field
 unfoldable pub decoded_entries : List ℕ → ℕ → Result (List Tree × ℕ) Fault
-decoded_entries bytes words = do
-  count ← count_at bytes (4 + words) 0 MAX_ENTRIES
-  entries_at count bytes (5 + words) []
+decoded_entries bytes i = do
+  count ← between_at bytes i 0 MAX_ENTRIES Count
+  entries_at count bytes (i + 1) []
 
 -- ---- invariants and proof, the entries' trees being es
 
@@ -140,7 +159,7 @@ invs_at (suc n) bytes i es words low invs = do
 -- the invariants, whose count is field i
 unfoldable pub decoded_invs : List ℕ → ℕ → List Tree → ℕ → Result (List (ℕ × Tree)) Fault
 decoded_invs bytes i es words = do
-  count ← count_at bytes i 0 MAX_INVS
+  count ← between_at bytes i 0 MAX_INVS Count
   invs_at count bytes (i + 1) es words 0 []
 
 -- field i: 0 for none, or 1 and the number of an entry
@@ -157,30 +176,33 @@ first_misplaced [] walked = None
 first_misplaced (e ∷ es) [] = Some 0
 first_misplaced (e ∷ es) (w ∷ ws) = if tree_eq e w then option_map suc (first_misplaced es ws) else Some 0
 
--- the offset of an entry
+-- the offset of an entry, where the count of entries is field i
 abbrev pub entry_offset : ℕ → List Tree → ℕ → ℕ
-entry_offset words es e = 4 * (5 + words + sum_by entry_size (take e es))
+entry_offset i es e = 4 * (i + 1 + sum_by entry_size (take e es))
 
 -- the contents, where no entry is misplaced
 abbrev pub unless_misplaced : ℕ → List Tree → Contents → Option ℕ → Result Contents Fault
-unless_misplaced words es c None = Ok c
-unless_misplaced words es c (Some e) = Err (entry_offset words es e, Order)
+unless_misplaced i es c None = Ok c
+unless_misplaced i es c (Some e) = Err (entry_offset i es e, Order)
 
--- the contents, where no byte is left from field i on and the entries stand in the order of the walk
+-- the contents, where no byte is left from field last on, and the entries, whose count is field i,
+-- stand in the order of the walk
 unfoldable pub decoded_end : List ℕ → ℕ → ℕ → List Tree → Contents → Result Contents Fault
-decoded_end bytes i words es c =
-    if nat_lt (4 * i) (length bytes) then Err (4 * i, Trailing) else unless_misplaced words es c (first_misplaced es (entries (roots c)))
+decoded_end bytes last i es c =
+    if nat_lt (4 * last) (length bytes)
+    then Err (4 * last, Trailing)
+    else unless_misplaced i es c (first_misplaced es (entries (roots c)))
 
 -- the contents of the container that the bytes are, or the first fault
 unfoldable pub decoded_container : List ℕ → Result Contents Fault
 decoded_container bytes = do
   head ← decoded_head bytes
-  es ← decoded_entries bytes head.1
-  invs ← decoded_invs bytes es.1 es.0 head.1
+  es ← decoded_entries bytes head.2
+  invs ← decoded_invs bytes es.1 es.0 (length head.1 / 4)
   proof ← decoded_proof bytes (es.1 + 1 + 2 * length invs) es.0
-  decoded_end bytes (es.1 + 2 + 2 * length invs) head.1 es.0 (record {
-    policy = head.0;
-    code = slice_range bytes 16 (16 + 4 * head.1);
+  decoded_end bytes (es.1 + 2 + 2 * length invs) head.2 es.0 (record {
+    head = head.0;
+    code = head.1;
     invs = invs;
     proof = proof;
   })

@@ -1,5 +1,5 @@
--- The grammar of containers, version 1. All fields are little-endian numbers of four bytes.
--- The format is this project's own.
+-- The grammar of containers. All fields are little-endian numbers of four bytes, but for a digest,
+-- which is bytes as they stand. The format is this project's own.
 use Rattle.term_table.specs.Bytes.{IsBytes}
 use Rattle.std.specs.Prelude.{◌≡◌, ℕ, suc, ◌+◌, ◌*◌, ◌/◌, ◌%◌, ◌^◌, ◌<◌, ◌≤◌, if◌then◌else◌, List, [], ◌∷◌, ◌++◌, length, slice_index, Option, Some, None}
 use Rattle.std.specs.List.{flat_map}
@@ -7,7 +7,10 @@ use Rattle.std.specs.Int.{w32, to_le_bytes}
 use Rattle.term_table.specs.Tree.{Tree, Var, Con, App, Lam, Fam, TApp, Pi, Const, Num, Lit, Calc, Fact, Deny, Lemma, IsAtomic}
 use Rattle.term_table.specs.Equality.{tree_eq}
 use Rattle.term_table.specs.Table.{IsSmall}
+use Rattle.proof_container.specs.declared.container.Head.{Head}
+use Rattle.proof_container.specs.declared.container.Head.TheVariants.{Number, Digest}
 use Rattle.proof_container.specs.declared.limits.TheConstants.{MAX_WORDS, MAX_ENTRIES, MAX_INVS}
+use Rattle.proof_container.specs.Versions.{version_of, IsHead}
 use Rattle.proof_container.specs.Contents.{Contents, roots}
 use Rattle.proof_container.specs.Postorder.{entries}
 
@@ -54,9 +57,15 @@ proof_field es (Some t) = 1 + entry_number es t
 abbrev pub magic : ℕ
 magic = 0x41434350
 
+-- what names the policy: the field of a number, or a digest as it stands
+abbrev pub policy_bytes : Head → List ℕ
+policy_bytes (Number n) = field_bytes (n ∷ [])
+policy_bytes (Digest d) = d
+
 -- the magic, the version, the policy, and how many words of code follow
-abbrev pub head_fields : Contents → List ℕ
-head_fields c = magic ∷ 1 ∷ c.policy ∷ length c.code / 4 ∷ []
+abbrev pub head_bytes : Head → ℕ → List ℕ
+head_bytes h words =
+    field_bytes (magic ∷ version_of h ∷ []) ++ (policy_bytes h ++ field_bytes (words ∷ []))
 
 -- what stands behind the code, these being the entries
 abbrev pub tail_fields : List Tree → Contents → List ℕ
@@ -64,7 +73,9 @@ tail_fields es c = (length es ∷ flat_map (entry_fields es) es) ++ ((length c.i
 
 -- the one encoding of the contents
 unfoldable pub encoding_of : Contents → List ℕ
-encoding_of c = field_bytes (head_fields c) ++ (c.code ++ field_bytes (tail_fields (entries (roots c)) c))
+encoding_of c =
+    head_bytes c.head (length c.code / 4)
+    ++ (c.code ++ field_bytes (tail_fields (entries (roots c)) c))
 
 -- the invariants' indices rise from this one on, and lie below the count of words
 abbrev pub AreRising : ℕ → ℕ → List (ℕ × Tree) → Type 0
@@ -89,7 +100,7 @@ AreTerms (t ∷ ts) = IsEntryTerm t × IsSmall t × AreTerms ts
 
 -- what a container may hold
 pub record IsContents (c : Contents) : Type 0 where
-  pub policy : c.policy < 2 ^ 32
+  pub head : IsHead c.head
   pub bytes : IsBytes c.code
   pub whole : 4 * (length c.code / 4) ≡ length c.code
   pub some : 0 < length c.code

@@ -1,6 +1,7 @@
 pub use Rattle.term_table.specs.Tree
 pub use Rattle.term_table.specs.Equality
 pub use Rattle.term_table.specs.Table
+pub mod Versions
 pub mod Contents
 pub mod Postorder
 pub mod Encoding

@@ -5,12 +5,13 @@ use Rattle.std.specs.List.{AllByRecursion}
 use Rattle.std.specs.Option.{option_map}
 use Rattle.term_table.specs.Tree.{Tree}
 use Rattle.term_table.specs.Table.{TableView, IsKnown, tree_at}
-use Rattle.term_table.specs.Measures.{sigma1_places}
 use Rattle.proof_container.specs.declared.container.Container.{Container}
 use Rattle.proof_container.specs.declared.container.View.{View}
 use Rattle.proof_container.specs.declared.fault.Malformed.{Malformed}
 use Rattle.proof_container.specs.declared.fault.Malformed.TheVariants as malformed
 use Rattle.proof_container.specs.declared.limits.TheConstants.{MAX_WORDS, MAX_ENTRIES, MAX_INVS}
+use Rattle.lf_signature.specs.Constants.{places_of}
+use Rattle.proof_container.specs.Versions.{version_of, signature_of}
 use Rattle.proof_container.specs.Contents.{Contents, roots}
 use Rattle.proof_container.specs.Postorder.{entries}
 use Rattle.proof_container.specs.Encoding.{AreRising, IsEntryTerm, EncodesContents}
@@ -19,7 +20,7 @@ use Rattle.proof_container.specs.Decoding.{Fault}
 -- what a container holds
 abbrev pub contents_of : Container → Contents
 contents_of c = record {
-  policy = c.policy;
+  head = c.head;
   code = c.code.now;
   invs = id_trees c.table c.invs.items;
   proof = option_map (tree_at c.table) c.proof;
@@ -28,7 +29,7 @@ contents_of c = record {
 -- what a view shows
 abbrev pub view_contents : View → Contents
 view_contents v = record {
-  policy = v.policy;
+  head = v.head;
   code = v.code.now;
   invs = id_trees v.table.now v.invs.now;
   proof = option_map (tree_at v.table.now) v.proof;
@@ -40,7 +41,7 @@ AreKnown t invs proof = AllByRecursion (λ inv. IsKnown t inv.1) invs × IfSome 
 
 -- the view shows the container's fields
 pub record Shows (c : Container) (v : View) : Type 0 where
-  pub policy : v.policy ≡ c.policy
+  pub head : v.head ≡ c.head
   pub code : v.code.now ≡ c.code.now
   pub table : v.table.now ≡ c.table
   pub invs : v.invs.now ≡ c.invs.items
@@ -61,11 +62,12 @@ abbrev pub Decodes : {X Y : Type 0} → (X → Y) → Result Y Fault → Result 
 Decodes view read (Ok x) = read ≡ Ok (view x)
 Decodes view read (Err e) = IsFault read e
 
--- the container's table has the entries, in the order of the walk, and no other trees; weights go by the signature's parameters
+-- the container's table has the entries, in the order of the walk, and no other trees; weights go
+-- by the parameters of the version's signature
 pub record IsCanonical (c : Container) : Type 0 where
   pub known : AreKnown c.table c.invs.items c.proof
   pub trees : c.table.trees ≡ entries (roots (contents_of c))
-  pub places : c.table.places ≡ sigma1_places
+  pub places : c.table.places ≡ places_of (signature_of (version_of c.head))
 
 -- each of these trees is a term that cites no lemma
 abbrev pub AllTerms : List Tree → Type 0
@@ -86,7 +88,7 @@ pub record IsWritable (v : View) : Type 0 where
 
 -- the containers are the same, wherever their code lies
 pub record AreSame (c d : Container) : Type 0 where
-  pub policy : c.policy ≡ d.policy
+  pub head : c.head ≡ d.head
   pub code : c.code.now ≡ d.code.now
   pub table : c.table ≡ d.table
   pub invs : c.invs.items ≡ d.invs.items

@@ -1,15 +1,38 @@
 //! Containers, and views of them.
 
+ghost use Rattle.std.specs.Prelude.{◌≡◌};
+ghost use Rattle.proof_container.specs.Versions.{version_of};
 ghost use Rattle.proof_container.specs.Views.{Shows};
 
 use term_table::{Id, Table};
+
+/// What names the policy that the code is for.
+#[derive(Clone, Copy, Debug, PartialEq, Eq)]
+pub enum Head {
+    /// The policy's number, in version 1.
+    Number(u32),
+    /// The digest of the policy's text, in version 2.
+    Digest([u8; 32]),
+}
+
+impl Head {
+    /// The version of the containers whose policy is named so.
+    pub fn version(&self) -> u32
+        ensures exact { result ≡ version_of self.now }
+    {
+        match self {
+            Head::Number(_) => 1,
+            Head::Digest(_) => 2,
+        }
+    }
+}
 
 /// Code with its invariants and, where it has one, its proof. The code lies in the bytes that were
 /// read.
 #[derive(Drop)]
 pub struct Container<'b> {
-    /// The number of the policy that the code is for.
-    pub policy: u32,
+    /// What names the policy that the code is for, and so tells the version.
+    pub head: Head,
     /// The words of the code, of four bytes each.
     pub code: &'b [u8],
     /// The terms of the invariants and of the proof.
@@ -23,8 +46,8 @@ pub struct Container<'b> {
 /// A container whose terms and invariants are lent.
 #[derive(Clone, Copy)]
 pub struct View<'v> {
-    /// The number of the policy that the code is for.
-    pub policy: u32,
+    /// What names the policy that the code is for, and so tells the version.
+    pub head: Head,
     /// The words of the code, of four bytes each.
     pub code: &'v [u8],
     /// The terms of the invariants and of the proof.
@@ -41,7 +64,7 @@ impl Container<'_> {
         ensures shows { Shows self.now result }
     {
         View {
-            policy: self.policy,
+            head: self.head,
             code: self.code,
             table: &self.table,
             invs: &self.invs,

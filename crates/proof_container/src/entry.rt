@@ -137,19 +137,16 @@ fn entries_from(fields: &mut Fields<'_>, count: u32, table: &mut Table) -> Resul
     Ok(())
 }
 
-/// The entries behind so many words of code come to the table.
+/// The entries, whose count is the next field, come to the table.
 #[tactic(auto, unfolding(crate::specs::Decoding::decoded_entries))]
-pub fn entries(fields: &mut Fields<'_>, words: usize, table: &mut Table) -> Result<(), Malformed>
-    requires place { fields.old.read ≡ 4 }
-    requires whole { 16 + 4 * words ≤ length fields.old.bytes.now }
+pub fn entries(fields: &mut Fields<'_>, table: &mut Table) -> Result<(), Malformed>
     requires empty { table.old.trees ≡ [] }
     ensures read { Decodes (λ _. (table.new.trees, fields.new.read))
-        (decoded_entries fields.old.bytes.now words) result }
+        (decoded_entries fields.old.bytes.now fields.old.read) result }
     ensures bytes { OnOk result (fields.new.bytes.now ≡ fields.old.bytes.now) }
     ensures places { OnOk result (table.new.places ≡ table.old.places) }
     ensures few { OnOk result (length table.new.trees ≤ MAX_ENTRIES) }
 {
-    fields.skip(words);
-    let count = fields.count(0, MAX_ENTRIES)?;
+    let count = fields.between(0, MAX_ENTRIES, Flaw::Count)?;
     entries_from(fields, count, table)
 }

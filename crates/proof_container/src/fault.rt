@@ -15,7 +15,7 @@ pub enum Flaw {
     /// The first four bytes aren't `PCCA`.
     #[error("the magic is wrong")]
     Magic,
-    /// The version isn't 1.
+    /// The version is neither 1 nor 2.
     #[error("the version is unknown")]
     Version,
     /// A count is past its limit, or there is no code.

@@ -8,9 +8,6 @@ use byteorder::{ByteOrder, LittleEndian};
 /// The bytes `PCCA`.
 pub const MAGIC: u32 = 0x4143_4350;
 
-/// The only version.
-pub const VERSION: u32 = 1;
-
 /// The fields of some bytes, with how many of them were read.
 #[derive(Drop)]
 pub struct Fields<'b> {
@@ -20,8 +17,8 @@ pub struct Fields<'b> {
 }
 
 impl<'b> Fields<'b> {
-    ghost use Rattle.proof_container.specs.Decoding.{field_at, exact_at, count_at};
-    ghost use Rattle.proof_container.specs.Decoding.{word_at, triple_at};
+    ghost use Rattle.proof_container.specs.Decoding.{field_at, exact_at, between_at};
+    ghost use Rattle.proof_container.specs.Decoding.{raw_at, word_at, triple_at};
     ghost use Rattle.proof_container.specs.Views.{Decodes};
     ghost use Rattle.proof_container.specs.Inside.Cursor.{IsPast};
 
@@ -31,6 +28,13 @@ impl<'b> Fields<'b> {
         ensures first { result.read ≡ 0 }
     {
         Fields { bytes, read: 0 }
+    }
+
+    /// How many fields were read.
+    pub fn place(&self) -> usize
+        ensures { result ≡ self.now.read }
+    {
+        self.read
     }
 
     /// The byte offset of the next field.
@@ -45,14 +49,6 @@ impl<'b> Fields<'b> {
         ensures { 4 * self.now.read + result ≡ length self.now.bytes.now }
     {
         self.bytes.len() - 4 * self.read
-    }
-
-    /// Passes over so many fields.
-    pub fn skip(&mut self, count: usize)
-        requires { 4 * (self.old.read + count) ≤ length self.old.bytes.now }
-        ensures { IsPast self.old self.new count }
-    {
-        self.read += count;
     }
 
     /// The next field.
@@ -83,9 +79,9 @@ impl<'b> Fields<'b> {
     }
 
     /// The next field, which has to lie between these numbers.
-    pub fn count(&mut self, low: u32, high: u32) -> Result<u32, Malformed>
-        ensures read { Decodes (λ n. n) (count_at self.old.bytes.now self.old.read low high)
-            result }
+    pub fn between(&mut self, low: u32, high: u32, flaw: Flaw) -> Result<u32, Malformed>
+        ensures read { Decodes (λ n. n)
+            (between_at self.old.bytes.now self.old.read low high flaw) result }
         ensures moves { OnOk result (IsPast self.old self.new 1) }
         ensures low { IfOk result (λ n. low ≤ n) }
         ensures high { IfOk result (λ n. n ≤ high) }
@@ -93,10 +89,27 @@ impl<'b> Fields<'b> {
         let offset = self.offset();
         let found = self.field()?;
         if found < low || found > high {
-            Err(Malformed::At(offset, Flaw::Count))
+            Err(Malformed::At(offset, flaw))
         } else {
             Ok(found)
         }
+    }
+
+    /// The next `count` fields as they stand.
+    #[tactic(auto, unfolding(crate::specs::Decoding::raw_at))]
+    pub fn raw(&mut self, count: usize) -> Result<&'b [u8], Malformed>
+        ensures read { Decodes (λ raw. raw.now) (raw_at self.old.bytes.now self.old.read count)
+            result }
+        ensures moves { OnOk result (IsPast self.old self.new count) }
+        ensures size { IfOk result (λ raw. length raw.now ≡ 4 * count) }
+    {
+        let whole = self.remaining() / 4;
+        if whole < count {
+            return Err(Malformed::At(self.offset() + 4 * whole as u64, Flaw::Cut));
+        }
+        let first = 4 * self.read;
+        self.read += count;
+        Ok(&self.bytes[first..4 * self.read])
     }
 
     /// The word in the next two fields, the low half first.

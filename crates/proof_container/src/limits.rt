@@ -1,5 +1,8 @@
 //! The limits of a container.
 
+/// The greatest version.
+pub const MAX_VERSION: u32 = 2;
+
 /// The most words that code may have.
 pub const MAX_WORDS: u32 = 1_024;
 

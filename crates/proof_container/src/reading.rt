@@ -1,55 +1,74 @@
 //! Reading a container, front to back.
 
-ghost use Rattle.std.specs.Prelude.{◌≡◌, [], ◌+◌, ◌*◌, ◌<◌, ◌≤◌, length, map, ◌↔◌};
+ghost use Rattle.std.specs.Prelude.{◌≡◌, [], ◌+◌, ◌*◌, ◌^◌, ◌<◌, ◌≤◌, length, map, ◌↔◌};
 ghost use Rattle.std.specs.Prelude.{IfOk, IfErr, IfSome, IsTrue, OnOk};
 ghost use Rattle.std.specs.List.{AllByRecursion};
 ghost use Rattle.std.specs.Option.{option_map};
 ghost use Rattle.term_table.specs.Table.{IsKnown, AllKnown, tree_at, id_trees};
+ghost use Rattle.proof_container.specs.Versions.{version_of, policy_size};
 ghost use Rattle.proof_container.specs.Encoding.{EncodesContents};
-ghost use Rattle.proof_container.specs.Decoding.{decoded_head, inv_at, invs_at, decoded_invs, decoded_proof};
+ghost use Rattle.proof_container.specs.Decoding.{policy_at, decoded_head};
+ghost use Rattle.proof_container.specs.Decoding.{inv_at, invs_at, decoded_invs, decoded_proof};
 ghost use Rattle.proof_container.specs.Decoding.{first_misplaced, entry_offset, decoded_end};
 ghost use Rattle.proof_container.specs.Decoding.{decoded_container};
-ghost use Rattle.proof_container.specs.declared.limits.TheConstants.{MAX_WORDS, MAX_INVS};
-ghost use Rattle.proof_container.specs.declared.limits.TheConstants.{MAX_ENTRIES};
+ghost use Rattle.proof_container.specs.declared.limits.TheConstants.{MAX_VERSION, MAX_WORDS};
+ghost use Rattle.proof_container.specs.declared.limits.TheConstants.{MAX_ENTRIES, MAX_INVS};
 ghost use Rattle.proof_container.specs.Inside.Cursor.{IsPast};
 ghost use Rattle.proof_container.specs.Inside.Walked.{IsPlaced};
 ghost use Rattle.proof_container.specs.Views.{Decodes, IsNone, IsCanonical, AreKnown};
 ghost use Rattle.proof_container.specs.Views.{contents_of};
 
-use crate::container::Container;
+use crate::container::{Container, Head};
 use crate::entry::{entries, part, size};
 use crate::fault::{Flaw, Malformed};
-use crate::fields::{Fields, MAGIC, VERSION};
-use crate::limits::{MAX_INVS, MAX_WORDS};
+use crate::fields::{Fields, MAGIC};
+use crate::limits::{MAX_INVS, MAX_VERSION, MAX_WORDS};
+use crate::versions::signature_of;
 use crate::walk::walk_from;
 use std::alloc::Global;
-use term_table::{Id, Places, Table};
+use term_table::{Id, Table};
 
 /// What stands before the entries.
 #[derive(Clone, Copy)]
-struct Head {
-    policy: u32,
-    words: usize,
+struct Start<'b> {
+    head: Head,
+    code: &'b [u8],
 }
 
-/// The policy and the count of code words; the code stands whole in the bytes, and comes next.
+/// What names the policy in this version: the next field, or the next eight as they stand.
+#[tactic(auto, unfolding(crate::specs::Decoding::policy_at))]
+fn policy(fields: &mut Fields<'_>, version: u32) -> Result<Head, Malformed>
+    requires place { fields.old.read ≡ 2 }
+    requires low { 1 ≤ version }
+    requires high { version ≤ MAX_VERSION }
+    ensures read { Decodes (λ h. h) (policy_at fields.old.bytes.now version) result }
+    ensures moves { OnOk result (IsPast fields.old fields.new (policy_size version)) }
+    ensures version { IfOk result (λ h. version_of h ≡ version) }
+{
+    if version == 1 {
+        return Ok(Head::Number(fields.field()?));
+    }
+    let mut digest = [0; 32];
+    digest.copy_from_slice(fields.raw(8)?);
+    Ok(Head::Digest(digest))
+}
+
+/// What names the policy, and the code; the next field is the one behind it.
 #[tactic(auto, unfolding(crate::specs::Decoding::decoded_head))]
-fn head_of(fields: &mut Fields<'_>) -> Result<Head, Malformed>
+fn start_of<'b>(fields: &mut Fields<'b>) -> Result<Start<'b>, Malformed>
     requires { fields.old.read ≡ 0 }
-    ensures read { Decodes (λ h. (h.policy, h.words)) (decoded_head fields.old.bytes.now) result }
-    ensures moves { OnOk result (IsPast fields.old fields.new 4) }
-    ensures whole { IfOk result (λ h. 16 + 4 * h.words ≤ length fields.old.bytes.now) }
-    ensures short { IfOk result (λ h. h.words ≤ MAX_WORDS) }
+    ensures read { Decodes (λ s. (s.head, s.code.now, fields.new.read))
+        (decoded_head fields.old.bytes.now) result }
+    ensures bytes { OnOk result (fields.new.bytes.now ≡ fields.old.bytes.now) }
+    ensures near { OnOk result (fields.new.read < 2 ^ 32) }
+    ensures short { IfOk result (λ s. length s.code.now ≤ 4 * MAX_WORDS) }
 {
     fields.exact(MAGIC, Flaw::Magic)?;
-    fields.exact(VERSION, Flaw::Version)?;
-    let policy = fields.field()?;
-    let words = fields.count(1, MAX_WORDS)? as usize;
-    if fields.remaining() < 4 * words {
-        let whole = fields.remaining() / 4;
-        return Err(Malformed::At(fields.offset() + 4 * whole as u64, Flaw::Cut));
-    }
-    Ok(Head { policy, words })
+    let version = fields.between(1, MAX_VERSION, Flaw::Version)?;
+    let head = policy(fields, version)?;
+    let words = fields.between(1, MAX_WORDS, Flaw::Count)?;
+    let code = fields.raw(words as usize)?;
+    Ok(Start { head, code })
 }
 
 /// The next invariant. Its index is at least `low` and below the count of words.
@@ -114,7 +133,7 @@ fn invs(
     ensures known { IfOk result (λ v. AllByRecursion (λ inv. IsKnown table.now inv.1) v.items) }
     ensures few { IfOk result (λ v. length v.items ≤ MAX_INVS) }
 {
-    let count = fields.count(0, MAX_INVS)?;
+    let count = fields.between(0, MAX_INVS, Flaw::Count)?;
     invs_from(alloc, fields, count, table, words)
 }
 
@@ -161,35 +180,36 @@ fn misplaced(table: &Table, left: &[Id]) -> Option<u64>
     None
 }
 
-/// The byte offset of entry e, which stands behind so many words of code.
-fn offset_of(table: &Table, words: usize, e: u64) -> u64
+/// The byte offset of entry e, where the count of entries is the field `at`.
+fn offset_of(table: &Table, at: usize, e: u64) -> u64
     requires known { e ≤ length table.now.trees }
     requires few { length table.now.trees ≤ MAX_ENTRIES }
-    requires short { words ≤ MAX_WORDS }
-    ensures { result ≡ entry_offset words table.now.trees e }
+    requires near { at < 2 ^ 32 }
+    ensures { result ≡ entry_offset at table.now.trees e }
 {
-    let mut field = 5 + words;
+    let mut field = at + 1;
     for k in 0..e {
         field += size(table, &table.node(table.id(k)));
     }
     4 * field as u64
 }
 
-/// Whether no byte is left, and the entries stand in the order of the walk; else the fault.
+/// Whether no byte is left, and the entries, whose count is the field `at`, stand in the order of
+/// the walk; else the fault.
 #[tactic(auto, unfolding(crate::specs::Decoding::decoded_end))]
 fn end(
     alloc: Global,
     fields: &Fields<'_>,
-    words: usize,
+    at: usize,
     container: &Container<'_>,
 ) -> Result<(), Malformed>
     requires few { length container.now.table.trees ≤ MAX_ENTRIES }
-    requires short { words ≤ MAX_WORDS }
+    requires near { at < 2 ^ 32 }
     requires known { AreKnown container.now.table container.now.invs.items container.now.proof }
     ensures { let contents = contents_of container.now in
         let trees = container.now.table.trees in
         Decodes (λ _. contents)
-        (decoded_end fields.now.bytes.now fields.now.read words trees contents) result }
+        (decoded_end fields.now.bytes.now fields.now.read at trees contents) result }
 {
     if fields.remaining() > 0 {
         return Err(Malformed::At(fields.offset(), Flaw::Trailing));
@@ -197,7 +217,7 @@ fn end(
     let table = &container.table;
     let walk = walk_from(alloc, table, &container.invs, container.proof)?;
     match misplaced(table, &walk.left) {
-        Some(e) => Err(Malformed::At(offset_of(table, words, e), Flaw::Order)),
+        Some(e) => Err(Malformed::At(offset_of(table, at, e), Flaw::Order)),
         None => Ok(()),
     }
 }
@@ -209,19 +229,22 @@ fn parse(alloc: Global, bytes: &[u8]) -> Result<Container<'_>, Malformed>
     ensures canonical { IfOk result (λ c. IsCanonical c) }
 {
     let mut fields = Fields::new(bytes);
-    let head = head_of(&mut fields)?;
-    let mut table = Table::new(alloc, Places::sigma1());
-    entries(&mut fields, head.words, &mut table)?;
-    let invs = invs(alloc, &mut fields, &table, head.words)?;
+    let start = start_of(&mut fields)?;
+    let words = start.code.len() / 4;
+    let at = fields.place();
+    let signature = signature_of(start.head.version());
+    let mut table = Table::new(alloc, signature.places());
+    entries(&mut fields, &mut table)?;
+    let invs = invs(alloc, &mut fields, &table, words)?;
     let proof = proof(&mut fields, &table)?;
     let container = Container {
-        policy: head.policy,
-        code: &bytes[16..16 + 4 * head.words],
+        head: start.head,
+        code: start.code,
         table,
         invs,
         proof,
     };
-    end(alloc, &fields, head.words, &container)?;
+    end(alloc, &fields, at, &container)?;
     Ok(container)
 }
 

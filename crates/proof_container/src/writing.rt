@@ -6,19 +6,21 @@ ghost use Rattle.std.specs.Prelude.{IfOk, IfSome, OnOk};
 ghost use Rattle.std.specs.List.{flat_map};
 ghost use Rattle.std.specs.Option.{option_map};
 ghost use Rattle.term_table.specs.Table.{IsKnown, AllKnown, tree_at, id_trees};
+ghost use Rattle.proof_container.specs.Versions.{IsHead};
 ghost use Rattle.proof_container.specs.Contents.{roots};
 ghost use Rattle.proof_container.specs.Postorder.{entries, is_emitted, HasPartsFirst, AreEmitted};
 ghost use Rattle.proof_container.specs.Encoding.{field_bytes, entry_number, entry_fields};
 ghost use Rattle.proof_container.specs.Encoding.{inv_fields, proof_field, tail_fields};
+ghost use Rattle.proof_container.specs.Encoding.{policy_bytes, head_bytes};
 ghost use Rattle.proof_container.specs.Encoding.{encoding_of, EncodesContents};
 ghost use Rattle.proof_container.specs.declared.limits.TheConstants.{MAX_ENTRIES};
 ghost use Rattle.proof_container.specs.Decoding.{entry_size, decoded_container};
 ghost use Rattle.proof_container.specs.Inside.Walked.{IsLeft, IsReady, HaveParts, left_trees};
 ghost use Rattle.proof_container.specs.Views.{AreKnown, IsWritable, view_contents};
 
-use crate::container::View;
+use crate::container::{Head, View};
 use crate::entry::size;
-use crate::fields::{MAGIC, VERSION};
+use crate::fields::MAGIC;
 use crate::walk::{Walk, walk_from};
 use byteorder::{ByteOrder, LittleEndian};
 use std::alloc::{AllocError, Global};
@@ -160,18 +162,39 @@ fn put_tail(out: &mut Vec<u8>, view: &View<'_>, walk: &Walk) -> Result<(), Alloc
     put(out, &[proof_number(view.table, walk, view.proof)])
 }
 
-/// What their types say of a policy's number and of code.
-fn limits(policy: u32, code: &[u8])
-    ensures policy { policy < 2 ^ 32 }
+/// What their types say of what names a policy, and of code.
+fn limits(head: Head, code: &[u8])
+    ensures head { IsHead head }
     ensures code { (i : ℕ) → slice_index code.now i < 256 }
 {
-    let _ = policy; // opens its range for the prover
     let _ = code; // opens its bytes' range for the prover
+    match head {
+        Head::Number(_) | Head::Digest(_) => {} // opens the ranges of what it has
+    }
+}
+
+/// Adds what names the policy.
+fn put_policy(out: &mut Vec<u8>, head: &Head) -> Result<(), AllocError>
+    ensures { OnOk result (out.new.items ≡ out.old.items ++ policy_bytes head.now) }
+{
+    match head {
+        Head::Number(number) => put(out, &[*number]),
+        Head::Digest(digest) => out.extend_from_slice(digest),
+    }
+}
+
+/// Adds what stands before the code, which has so many words.
+fn put_head(out: &mut Vec<u8>, head: &Head, words: u32) -> Result<(), AllocError>
+    ensures { OnOk result (out.new.items ≡ out.old.items ++ head_bytes head.now words) }
+{
+    put(out, &[MAGIC, head.version()])?;
+    put_policy(out, head)?;
+    put(out, &[words])
 }
 
 /// Encodes the contents of `view`: the entries stand in the order of the walk from the invariants
 /// and then the proof, whatever other terms the table has. The roots are terms that cite no lemma,
-/// since version 1 has no kind of entry for one.
+/// since there is no kind of entry for one.
 ///
 /// Errors: want of memory alone.
 pub fn write(alloc: Global, view: &View<'_>) -> Result<Vec<u8>, AllocError>
@@ -181,12 +204,11 @@ pub fn write(alloc: Global, view: &View<'_>) -> Result<Vec<u8>, AllocError>
         IfOk result (λ v. decoded_container v.items ≡ Ok c) }
 {
     view.table.laws();
-    let policy = view.policy;
     let code = view.code;
-    limits(policy, code);
+    limits(view.head, code);
     let walk = walk_from(alloc, view.table, view.invs, view.proof)?;
     let mut out = Vec::new(alloc);
-    put(&mut out, &[MAGIC, VERSION, policy, (code.len() / 4) as u32])?;
+    put_head(&mut out, &view.head, (code.len() / 4) as u32)?;
     out.extend_from_slice(code)?;
     put_tail(&mut out, view, &walk)?;
     Ok(out)
@@ -204,6 +226,17 @@ fn entries_len(table: &Table, walk: &Walk) -> u64
     fields
 }
 
+/// How many fields name the policy.
+fn policy_len(head: Head) -> u64
+    ensures value { 4 * result ≡ length (policy_bytes head) }
+    ensures small { result ≤ 8 }
+{
+    match head {
+        Head::Number(_) => 1,
+        Head::Digest(digest) => digest.len() as u64 / 4,
+    }
+}
+
 /// Measures the container of `view`: how many entries it has, and how many bytes; past
 /// 18,446,744,073,709,551,615 bytes it answers that.
 ///
@@ -217,7 +250,7 @@ pub fn extent(alloc: Global, view: &View<'_>) -> Result<(u64, u64), AllocError>
     let walk = walk_from(alloc, view.table, view.invs, view.proof)?;
     let count = view.invs.len() as u64;
     let fields = entries_len(view.table, &walk)
-        .saturating_add(7)
+        .saturating_add(6 + policy_len(view.head))
         .saturating_add(2 * count);
     let bytes = fields
         .saturating_mul(4)

@@ -26,6 +26,7 @@ use Rattle.prover_class.proofs.Named.{all_e_proves, move_proves}
 use Rattle.prover_class.proofs.Shapes.{else_some, IsSound, goal_sound}
 use Rattle.prover_class.proofs.Goals.{if_some}
 use Rattle.prover_class.proofs.NormalForms.{normal_form_is, equal_says}
+use Rattle.lf_signature.specs.declared.WordSignature.{WordSignature}
 
 nest-put : (A : Form) (x : ℕ) (o : Exp) → nesting (subst_var A x (PExp o)) ≡ nesting A
 nest-put FTrue x o = refl
@@ -50,9 +51,9 @@ put_right : (k : Access) (z o : Exp) → subst_var (access_form k z) 0 (PExp o) 
 put_right Load z o = refl
 put_right Store z o = refl
 
-over_right : (ctx : List Tree) (k : Access) (z : Exp) → Over (access_form k z) ctx → OverExp z ctx
-over_right ctx Load z h = h
-over_right ctx Store z h = h
+over_right : (sig : WordSignature) (ctx : List Tree) (k : Access) (z : Exp) → Over sig (access_form k z) ctx → OverExp sig z ctx
+over_right sig ctx Load z h = h
+over_right sig ctx Store z h = h
 
 -- the formula is the right at its address
 pub address_is : (k : Access) (A : Form) (z : Exp) → right_address k A ≡ Some z → A ≡ access_form k z
@@ -94,46 +95,46 @@ opened_is prove out Γ a P z o x q = go (same_address out z a) refl q
     go false e q = cc
 
 -- the address is over the context
-lead_over : (ctx : List Tree) (m : Access) (A : Form) (l : List Side) (z : Exp) → Over A ctx → LeadsTo m A l z → OverExp z ctx
-lead_over ctx m (FAnd A B) (Left ∷ l) z o h = lead_over ctx m A l z o.0 h
-lead_over ctx m (FAnd A B) (Right ∷ l) z o h = lead_over ctx m B l z o.1 h
-lead_over ctx m A [] z o h = over_right ctx m z (subst (λ B. Over B ctx) h o)
-lead_over ctx m _ l z o h = elim h [ ]
+lead_over : (sig : WordSignature) (ctx : List Tree) (m : Access) (A : Form) (l : List Side) (z : Exp) → Over sig A ctx → LeadsTo m A l z → OverExp sig z ctx
+lead_over sig ctx m (FAnd A B) (Left ∷ l) z o h = lead_over sig ctx m A l z o.0 h
+lead_over sig ctx m (FAnd A B) (Right ∷ l) z o h = lead_over sig ctx m B l z o.1 h
+lead_over sig ctx m A [] z o h = over_right sig ctx m z (subst (λ B. Over sig B ctx) h o)
+lead_over sig ctx m _ l z o h = elim h [ ]
 
-module _ (e d : ℕ) (room : e + (d + d + d) + 16 ≤ 2 ^ 32) (some : 0 < d) (k : ℕ) (ctx : List Tree) (w : length ctx + k ≤ e) where
+module _ (sig : WordSignature) (e d : ℕ) (room : e + (d + d + d) + 16 ≤ 2 ^ 32) (some : 0 < d) (k : ℕ) (ctx : List Tree) (w : length ctx + k ≤ e) where
   abbrev wide : length ctx ≤ e
   wide = omega (arith, w)
 
   abbrev Says : Form → Tree → Type 0
-  Says A p = Proves (e + d) ctx (pf (form_encoding A)) p
+  Says A p = Proves sig (e + d) ctx (pf (form_encoding A)) p
 
-  and_l_says : (A B : Form) (p : Tree) → Over (FAnd A B) ctx → nesting (FAnd A B) ≤ d → Says (FAnd A B) p → Says A (and_l A B p)
+  and_l_says : (A B : Form) (p : Tree) → Over sig (FAnd A B) ctx → nesting (FAnd A B) ≤ d → Says (FAnd A B) p → Says A (and_l A B p)
   unfolding the_rules
-  and_l_says A B p o n h = rule_proves e d room 30 _ refl ctx wide (AForm A ∷ AForm B ∷ []) (p ∷ []) ((o.0, omega (arith, n)), ((o.1, omega (arith, n)), tt)) (h, tt)
+  and_l_says A B p o n h = rule_proves sig e d room 30 _ refl ctx wide (AForm A ∷ AForm B ∷ []) (p ∷ []) ((o.0, omega (arith, n)), ((o.1, omega (arith, n)), tt)) (h, tt)
 
-  and_r_says : (A B : Form) (p : Tree) → Over (FAnd A B) ctx → nesting (FAnd A B) ≤ d → Says (FAnd A B) p → Says B (and_r A B p)
+  and_r_says : (A B : Form) (p : Tree) → Over sig (FAnd A B) ctx → nesting (FAnd A B) ≤ d → Says (FAnd A B) p → Says B (and_r A B p)
   unfolding the_rules
-  and_r_says A B p o n h = rule_proves e d room 31 _ refl ctx wide (AForm A ∷ AForm B ∷ []) (p ∷ []) ((o.0, omega (arith, n)), ((o.1, omega (arith, n)), tt)) (h, tt)
+  and_r_says A B p o n h = rule_proves sig e d room 31 _ refl ctx wide (AForm A ∷ AForm B ∷ []) (p ∷ []) ((o.0, omega (arith, n)), ((o.1, omega (arith, n)), tt)) (h, tt)
 
-  down_says : (m : Access) (A : Form) (l : List Side) (z : Exp) (p : Tree) → Over A ctx → nesting A ≤ d → LeadsTo m A l z → Says A p → Says (access_form m z) (down A l p)
+  down_says : (m : Access) (A : Form) (l : List Side) (z : Exp) (p : Tree) → Over sig A ctx → nesting A ≤ d → LeadsTo m A l z → Says A p → Says (access_form m z) (down A l p)
   down_says m (FAnd A B) (Left ∷ l) z p o n h g = down_says m A l z (and_l A B p) o.0 (omega (arith, n)) h (and_l_says A B p o n g)
   down_says m (FAnd A B) (Right ∷ l) z p o n h g = down_says m B l z (and_r A B p) o.1 (omega (arith, n)) h (and_r_says A B p o n g)
   down_says m A [] z p o n h g = subst (λ B. Says B p) h g
   down_says m _ l z p o n h g = elim h [ ]
 
-  move_access : (m : Access) (z a : Exp) → OverExp z ctx → OverExp a ctx → (q h : Tree) → Says (FRel Rattle.word_ops.specs.declared.Rel.TheVariants.Eq z a) q → Says (access_form m z) h → Says (access_form m a) (move (access_form m (EVar 0)) z a q h)
-  move_access Load z a oz oa q h hq hh = move_proves e d room ctx wide (FRd (EVar 0)) z a refl some oz oa (rd (exp_encoding z)) (rd (exp_encoding a)) q h refl refl hq hh
-  move_access Store z a oz oa q h hq hh = move_proves e d room ctx wide (FWr (EVar 0)) z a refl some oz oa (wr (exp_encoding z)) (wr (exp_encoding a)) q h refl refl hq hh
+  move_access : (m : Access) (z a : Exp) → OverExp sig z ctx → OverExp sig a ctx → (q h : Tree) → Says (FRel Rattle.word_ops.specs.declared.Rel.TheVariants.Eq z a) q → Says (access_form m z) h → Says (access_form m a) (move (access_form m (EVar 0)) z a q h)
+  move_access Load z a oz oa q h hq hh = move_proves sig e d room ctx wide (FRd (EVar 0)) z a refl some oz oa (rd (exp_encoding z)) (rd (exp_encoding a)) q h refl refl hq hh
+  move_access Store z a oz oa q h hq hh = move_proves sig e d room ctx wide (FWr (EVar 0)) z a refl some oz oa (wr (exp_encoding z)) (wr (exp_encoding a)) q h refl refl hq hh
 
-  access_move_says : (out : ℕ) (m : Access) (a z : Exp) (h : Tree) → OverExp a ctx → OverExp z ctx → Says (access_form m z) h →
+  access_move_says : (out : ℕ) (m : Access) (a z : Exp) (h : Tree) → OverExp sig a ctx → OverExp sig z ctx → Says (access_form m z) h →
       same_address out z a ≡ true → Says (access_form m a) (access_move out m z a h)
   access_move_says out m a z h oa oz g same =
       move_access m z a oz oa (equal_proof z a (normal_form out z) (normal_form out a)) h
-      (equal_says e d room some k ctx w z a (normal_form out z) (normal_form out a) oz oa (normal_form_is e d room some k ctx w out z oz)
-      (normal_form_is e d room some k ctx w out a oa) (tree_eq-true (exp_encoding (normal_form out z).now) (exp_encoding (normal_form out a).now) same))
+      (equal_says sig e d room some k ctx w z a (normal_form out z) (normal_form out a) oz oa (normal_form_is sig e d room some k ctx w out z oz)
+      (normal_form_is sig e d room some k ctx w out a oa) (tree_eq-true (exp_encoding (normal_form out z).now) (exp_encoding (normal_form out a).now) same))
       g
 
-  moved_says : (out : ℕ) (m : Access) (a z : Exp) (h p : Tree) → OverExp a ctx → OverExp z ctx → Says (access_form m z) h → moved out m a z h ≡ Some p → Says (access_form m a) p
+  moved_says : (out : ℕ) (m : Access) (a z : Exp) (h p : Tree) → OverExp sig a ctx → OverExp sig z ctx → Says (access_form m z) h → moved out m a z h ≡ Some p → Says (access_form m a) p
   moved_says out m a z h p oa oz g q =
       let c = if_some (same_address out z a) (access_move out m z a h) p q in
       subst (λ x. Says (access_form m a) x) c.1 (access_move_says out m a z h oa oz g c.0)
@@ -141,14 +142,14 @@ module _ (e d : ℕ) (room : e + (d + d + d) + 16 ≤ 2 ^ 32) (some : 0 < d) (k 
   -- terms that are put for a variable
   abbrev AllOver : List Exp → Type 0
   AllOver [] = Unit {0}
-  AllOver (a ∷ l) = OverExp a ctx × AllOver l
+  AllOver (a ∷ l) = OverExp sig a ctx × AllOver l
 
-  summands_over : (a : Exp) → OverExp a ctx → AllOver (summands a)
+  summands_over : (a : Exp) → OverExp sig a ctx → AllOver (summands a)
   summands_over (ELit v) h = tt
   summands_over (EOp Add a b) h = (h.0, summands_over b h.1)
   summands_over a h = (h, tt)
 
-  literal_word : (a : Exp) → OverExp a ctx → literal a < 2 ^ 64
+  literal_word : (a : Exp) → OverExp sig a ctx → literal a < 2 ^ 64
   literal_word (ELit v) h = h
   literal_word (EOp Add a b) h = literal_word b h.1
   literal_word a h = omega arith
@@ -165,37 +166,37 @@ module _ (e d : ℕ) (room : e + (d + d + d) + 16 ≤ 2 ^ 32) (some : 0 < d) (k 
   all_without_over [] m n h q = subst (λ z. AllOver z) (some_injective q) h
   all_without_over (a ∷ l) m n h q = let x = bind_some (without a m) (all_without l) n q in all_without_over l x.0 n (without_over a m x.0 h x.1) x.2
 
-  sum_over : (l : List Exp) (v : ℕ) → AllOver l → v < 2 ^ 64 → OverExp (sum_with l v) ctx
+  sum_over : (l : List Exp) (v : ℕ) → AllOver l → v < 2 ^ 64 → OverExp sig (sum_with l v) ctx
   sum_over [] v h b = b
   sum_over (a ∷ []) v h b = go (v == 0)
     where
-      go : (t : Bool) → OverExp (cond t a (EOp Add a (ELit v))) ctx
+      go : (t : Bool) → OverExp sig (cond t a (EOp Add a (ELit v))) ctx
       go true = h.0
       go false = (h.0, b, refl)
   sum_over (a ∷ c ∷ l) v h b = (h.0, sum_over (c ∷ l) v h.1 b, refl)
 
-  rest_over : (a b o : Exp) → OverExp a ctx → OverExp b ctx → rest_of a b ≡ Some o → OverExp o ctx
+  rest_over : (a b o : Exp) → OverExp sig a ctx → OverExp sig b ctx → rest_of a b ≡ Some o → OverExp sig o ctx
   rest_over a b o oa ob q =
       let x = map_some (all_without (summands b) (summands a)) (λ l. sum_with l (word_of Sub (literal a) (literal b))) o q in
-      subst (λ z. OverExp z ctx) x.2
+      subst (λ z. OverExp sig z ctx) x.2
       (sum_over x.0 (word_of Sub (literal a) (literal b)) (all_without_over (summands b) (summands a) x.0 (summands_over a oa) x.1) (word_of-below Sub (literal a) (literal b) (literal_word a oa) (literal_word b ob)))
 
-  eighth_over : (a o : Exp) → OverExp a ctx → eighth a ≡ Some o → OverExp o ctx
-  eighth_over (ELit v) o h q = subst (λ z. OverExp z ctx) (some_injective q) (word_of-below Srl v 3 h (omega arith))
-  eighth_over (EOp Sll t (ELit (suc (suc (suc zero))))) o h q = subst (λ z. OverExp z ctx) (some_injective q) h.0
+  eighth_over : (a o : Exp) → OverExp sig a ctx → eighth a ≡ Some o → OverExp sig o ctx
+  eighth_over (ELit v) o h q = subst (λ z. OverExp sig z ctx) (some_injective q) (word_of-below Srl v 3 h (omega arith))
+  eighth_over (EOp Sll t (ELit (suc (suc (suc zero))))) o h q = subst (λ z. OverExp sig z ctx) (some_injective q) h.0
   eighth_over _ o h q = cc
 
   unless : {A : Type 0} (t : Bool) (x : Option A) (o : A) → cond t None x ≡ Some o → x ≡ Some o
   unless true x o q = cc
   unless false x o q = q
 
-  base_over : (out : ℕ) (a b o : Exp) → OverExp a ctx → OverExp b (exp ∷ ctx) → rest_of (normal_form out a).now (normal_form out (subst_var_exp b 0 (PExp (ELit 0)))).now ≡ Some o → OverExp o ctx
+  base_over : (out : ℕ) (a b o : Exp) → OverExp sig a ctx → OverExp sig b (exp ∷ ctx) → rest_of (normal_form out a).now (normal_form out (subst_var_exp b 0 (PExp (ELit 0)))).now ≡ Some o → OverExp sig o ctx
   base_over out a b o oa ob q =
       let none : 0 < 2 ^ 64 = omega arith in
-      let lower = over_put_exp b 0 (ELit 0) ctx (exp ∷ ctx) (splits_first ctx) none ob in
-      rest_over (normal_form out a).now (normal_form out (subst_var_exp b 0 (PExp (ELit 0)))).now o (normal_form_is e d room some k ctx w out a oa).over (normal_form_is e d room some k ctx w out (subst_var_exp b 0 (PExp (ELit 0))) lower).over q
+      let lower = over_put_exp sig b 0 (ELit 0) ctx (exp ∷ ctx) (splits_first ctx) none ob in
+      rest_over (normal_form out a).now (normal_form out (subst_var_exp b 0 (PExp (ELit 0)))).now o (normal_form_is sig e d room some k ctx w out a oa).over (normal_form_is sig e d room some k ctx w out (subst_var_exp b 0 (PExp (ELit 0))) lower).over q
 
-  instance_over : (out : ℕ) (a z o : Exp) → OverExp a ctx → OverExp z (exp ∷ ctx) → instance_of out a z ≡ Some o → OverExp o ctx
+  instance_over : (out : ℕ) (a z o : Exp) → OverExp sig a ctx → OverExp sig z (exp ∷ ctx) → instance_of out a z ≡ Some o → OverExp sig o ctx
   instance_over out a (EOp Add b (EVar zero)) o oa oz q = base_over out a b o oa oz.0 (unless (has_var 0 b) (rest_of (normal_form out a).now (normal_form out (subst_var_exp b 0 (PExp (ELit 0)))).now) o q)
   instance_over out a (EOp Add b (EOp Sll (EVar zero) (ELit (suc (suc (suc zero)))))) o oa oz q =
       let r = rest_of (normal_form out a).now (normal_form out (subst_var_exp b 0 (PExp (ELit 0)))).now in
@@ -203,20 +204,20 @@ module _ (e d : ℕ) (room : e + (d + d + d) + 16 ≤ 2 ^ 32) (some : 0 < d) (k 
       eighth_over x.0 o (base_over out a b x.0 oa oz.0 x.1) x.2
   instance_over out a _ o oa oz q = cc
 
-  module _ (without_access : Prover) (sl : IsSound e d room some 0 without_access) (big : d ≤ k) (out : ℕ) (Γ : Hyps) (are : AreHyps (e + d) d k ctx Γ) where
-    imp_e_says : (P Q : Form) (h p : Tree) → Over (FImp P Q) ctx → nesting (FImp P Q) ≤ d → Says (FImp P Q) h → Says P p → Says Q (imp_e P Q h p)
+  module _ (without_access : Prover) (sl : IsSound sig e d room some 0 without_access) (big : d ≤ k) (out : ℕ) (Γ : Hyps) (are : AreHyps sig (e + d) d k ctx Γ) where
+    imp_e_says : (P Q : Form) (h p : Tree) → Over sig (FImp P Q) ctx → nesting (FImp P Q) ≤ d → Says (FImp P Q) h → Says P p → Says Q (imp_e P Q h p)
     unfolding the_rules
-    imp_e_says P Q h p o n g f = rule_proves e d room 36 _ refl ctx wide (AForm P ∷ AForm Q ∷ []) (h ∷ p ∷ []) ((o.0, omega (arith, n)), ((o.1, omega (arith, n)), tt)) (g, (f, tt))
+    imp_e_says P Q h p o n g f = rule_proves sig e d room 36 _ refl ctx wide (AForm P ∷ AForm Q ∷ []) (h ∷ p ∷ []) ((o.0, omega (arith, n)), ((o.1, omega (arith, n)), tt)) (g, (f, tt))
 
-    granted_says : (m : Access) (a : Exp) → OverExp a ctx → (P Q : Form) (h : Tree) (way : List Side) (z o : Exp) (p : Tree) → Over (FImp P Q) ctx →
+    granted_says : (m : Access) (a : Exp) → OverExp sig a ctx → (P Q : Form) (h : Tree) (way : List Side) (z o : Exp) (p : Tree) → Over sig (FImp P Q) ctx →
         nesting (FImp P Q) ≤ d → Says (FImp P Q) h → LeadsTo m Q way z →
         same_address out z a ≡ true → without_access out Γ P ≡ Some p → Says (access_form m a) (granted out m a P Q h (way, opening_of z o p))
     granted_says m a oa P Q h way z o p ov n g l same q =
         let f : Says P p = sl k out ctx Γ P p w are ov.0 (omega (arith, n, big)) (omega (arith, n)) q in
         let c : Says (access_form m z) (down Q way (imp_e P Q h p)) = down_says m Q way z (imp_e P Q h p) ov.1 (omega (arith, n)) l (imp_e_says P Q h p ov n g f) in
-        access_move_says out m a z (down Q way (imp_e P Q h p)) oa (lead_over ctx m Q way z ov.1 l) c same
+        access_move_says out m a z (down Q way (imp_e P Q h p)) oa (lead_over sig ctx m Q way z ov.1 l) c same
 
-    by_imp_says : (m : Access) (a : Exp) → OverExp a ctx → (P Q : Form) (h t : Tree) → Over (FImp P Q) ctx → nesting (FImp P Q) ≤ d →
+    by_imp_says : (m : Access) (a : Exp) → OverExp sig a ctx → (P Q : Form) (h t : Tree) → Over sig (FImp P Q) ctx → nesting (FImp P Q) ≤ d →
         Says (FImp P Q) h → by_grant without_access false out Γ m a P Q h ≡ Some t → Says (access_form m a) t
     by_imp_says m a oa P Q h t ov n g q =
         let f : Exp → Option Opened = opened_at without_access false out Γ a P in
@@ -226,7 +227,7 @@ module _ (e d : ℕ) (room : e + (d + d + d) + 16 ≤ 2 ^ 32) (some : 0 < d) (k 
         let made = granted_says m a oa P Q h x.0.0 z.0 z.0 y.0 ov n g z.1 y.1 y.2 in
         subst (λ v. Says (access_form m a) v) x.2 (subst (λ (v : Opened). Says (access_form m a) (granted out m a P Q h (x.0.0, v))) y.3 made)
 
-    by_all_says : (m : Access) (a : Exp) → OverExp a ctx → (P Q : Form) (h t : Tree) → Over (FAll (FImp P Q)) ctx → nesting (FAll (FImp P Q)) ≤ d →
+    by_all_says : (m : Access) (a : Exp) → OverExp sig a ctx → (P Q : Form) (h t : Tree) → Over sig (FAll (FImp P Q)) ctx → nesting (FAll (FImp P Q)) ≤ d →
         Says (FAll (FImp P Q)) h → by_grant without_access true out Γ m a P Q h ≡ Some t → Says (access_form m a) t
     by_all_says m a oa P Q h t ov n g q =
         let f : Exp → Option Opened = opened_at without_access true out Γ a P in
@@ -237,23 +238,23 @@ module _ (e d : ℕ) (room : e + (d + d + d) + 16 ≤ 2 ^ 32) (some : 0 < d) (k 
         let R = subst_var P 0 (PExp o) in
         let S = subst_var Q 0 (PExp o) in
         let y = opened_is without_access out Γ a R (subst_var_exp z.0 0 (PExp o)) o x.0.1 i.2 in
-        let oo = instance_over out a z.0 o oa (lead_over (exp ∷ ctx) m Q x.0.0 z.0 ov.1 z.1) i.1 in
+        let oo = instance_over out a z.0 o oa (lead_over sig (exp ∷ ctx) m Q x.0.0 z.0 ov.1 z.1) i.1 in
         let made =
         granted_says m a oa R S (all_e (FImp P Q) o h) x.0.0 (subst_var_exp z.0 0 (PExp o)) o y.0
-        (over_put (FImp P Q) 0 o ctx (exp ∷ ctx) (splits_first ctx) oo ov) (omega (arith, n, nest-put P 0 o, nest-put Q 0 o))
-        (all_e_proves e d room ctx wide (FImp P Q) o ov (omega (arith, n)) oo h g) (lead_put m Q x.0.0 z.0 o z.1) y.1 y.2 in
+        (over_put sig (FImp P Q) 0 o ctx (exp ∷ ctx) (splits_first ctx) oo ov) (omega (arith, n, nest-put P 0 o, nest-put Q 0 o))
+        (all_e_proves sig e d room ctx wide (FImp P Q) o ov (omega (arith, n)) oo h g) (lead_put m Q x.0.0 z.0 o z.1) y.1 y.2 in
         subst (λ v. Says (access_form m a) v) x.2 (subst (λ (v : Opened). Says (access_form m a) (granted_by true out m a P Q h (x.0.0, v))) y.3 made)
 
-    by_hyp_says : (m : Access) (a : Exp) → OverExp a ctx → (A : Form) (h t : Tree) → IsHyp (e + d) d k ctx (A, h) → by_hyp without_access out Γ m a A h ≡ Some t → Says (access_form m a) t
-    by_hyp_says m a oa (FImp P Q) h t i q = by_imp_says m a oa P Q h t i.over i.nesting (stays_now (e + d) k ctx (form_encoding (FImp P Q)) h i.stays) q
-    by_hyp_says m a oa (FAll (FImp P Q)) h t i q = by_all_says m a oa P Q h t i.over i.nesting (stays_now (e + d) k ctx (form_encoding (FAll (FImp P Q))) h i.stays) q
+    by_hyp_says : (m : Access) (a : Exp) → OverExp sig a ctx → (A : Form) (h t : Tree) → IsHyp sig (e + d) d k ctx (A, h) → by_hyp without_access out Γ m a A h ≡ Some t → Says (access_form m a) t
+    by_hyp_says m a oa (FImp P Q) h t i q = by_imp_says m a oa P Q h t i.over i.nesting (stays_now sig (e + d) k ctx (form_encoding (FImp P Q)) h i.stays) q
+    by_hyp_says m a oa (FAll (FImp P Q)) h t i q = by_all_says m a oa P Q h t i.over i.nesting (stays_now sig (e + d) k ctx (form_encoding (FAll (FImp P Q))) h i.stays) q
     by_hyp_says m a oa A h t i q =
         let x = bind_some (right_address m A) (λ z. moved out m a z h) t q in
         let is = address_is m A x.0 x.1 in
-        moved_says out m a x.0 h t oa (over_right ctx m x.0 (subst (λ B. Over B ctx) is i.over))
-        (subst (λ B. Says B h) is (stays_now (e + d) k ctx (form_encoding A) h i.stays)) x.2
+        moved_says out m a x.0 h t oa (over_right sig ctx m x.0 (subst (λ B. Over sig B ctx) is i.over))
+        (subst (λ B. Says B h) is (stays_now sig (e + d) k ctx (form_encoding A) h i.stays)) x.2
 
-    by_hyps_says : (m : Access) (a : Exp) → OverExp a ctx → (l : Hyps) → AreHyps (e + d) d k ctx l → (t : Tree) → by_hyps without_access out Γ m a l ≡ Some t → Says (access_form m a) t
+    by_hyps_says : (m : Access) (a : Exp) → OverExp sig a ctx → (l : Hyps) → AreHyps sig (e + d) d k ctx l → (t : Tree) → by_hyps without_access out Γ m a l ≡ Some t → Says (access_form m a) t
     by_hyps_says m a oa [] g t q = cc
     by_hyps_says m a oa (x ∷ l) g t q = go (else_some (by_hyp without_access out Γ m a x.0 x.1) (by_hyps without_access out Γ m a l) t q) (λ f. by_hyps_says m a oa l g.1 t f)
       where
@@ -261,18 +262,18 @@ module _ (e d : ℕ) (room : e + (d + d + d) + 16 ≤ 2 ^ 32) (some : 0 < d) (k 
         go (inl f) rest = by_hyp_says m a oa x.0 x.1 t g.0 f
         go (inr f) rest = rest f
 
-    by_access_says : (A : Form) (t : Tree) → Over A ctx → by_access without_access out Γ A ≡ Some t → Says A t
+    by_access_says : (A : Form) (t : Tree) → Over sig A ctx → by_access without_access out Γ A ≡ Some t → Says A t
     by_access_says (FRd a) t o q = by_hyps_says Load a o Γ are t q
     by_access_says (FWr a) t o q = by_hyps_says Store a o Γ are t q
     by_access_says _ t o q = cc
 
-module _ (e d : ℕ) (room : e + (d + d + d) + 16 ≤ 2 ^ 32) (some : 0 < d) (plain : IsSound e d room some 0 by_words_alone) (roomy : IsSound e d room some d by_words_alone) where
-  low_sound : IsSound e d room some 0 without_access
-  low_sound k out ctx Γ A p w g o nk nd q = goal_sound e d room some 0 by_words_alone plain (levels A) k out ctx Γ A p w g o nk nd q
+module _ (sig : WordSignature) (e d : ℕ) (room : e + (d + d + d) + 16 ≤ 2 ^ 32) (some : 0 < d) (plain : IsSound sig e d room some 0 by_words_alone) (roomy : IsSound sig e d room some d by_words_alone) where
+  low_sound : IsSound sig e d room some 0 without_access
+  low_sound k out ctx Γ A p w g o nk nd q = goal_sound sig e d room some 0 by_words_alone plain (levels A) k out ctx Γ A p w g o nk nd q
 
-  pub all_sound : IsSound e d room some d by_all_means
+  pub all_sound : IsSound sig e d room some d by_all_means
   all_sound k out ctx Γ A p w g o nk nd q = go (else_some (by_words_alone out Γ A) (by_access without_access out Γ A) p q)
     where
-      go : (by_words_alone out Γ A ≡ Some p) ⊎ (by_access without_access out Γ A ≡ Some p) → Proves (e + d) ctx (pf (form_encoding A)) p
+      go : (by_words_alone out Γ A ≡ Some p) ⊎ (by_access without_access out Γ A ≡ Some p) → Proves sig (e + d) ctx (pf (form_encoding A)) p
       go (inl f) = roomy k out ctx Γ A p w g o nk nd f
-      go (inr f) = by_access_says e d room some k ctx w without_access low_sound (omega (arith, nk)) out Γ g A p o f
+      go (inr f) = by_access_says sig e d room some k ctx w without_access low_sound (omega (arith, nk)) out Γ g A p o f

@@ -4,7 +4,7 @@ use Rattle.std.proofs.lemmas.Bool.{ltb-true, leb-true, le-leb}
 use Rattle.term_table.specs.Tree.{Tree}
 use Rattle.term_table.proofs.Equality.{tree_eq-true}
 use Rattle.word_ops.specs.declared.Op.{Op}
-use Rattle.word_ops.specs.declared.Op.TheVariants.{Add, Sub, Band, Sll, Srl, Cmpeq, Cmplt, Cmple, Cmpult, Cmpule}
+use Rattle.word_ops.specs.declared.Op.TheVariants.{Add, Sub, Band, Sll, Srl, Cmpeq, Cmplt, Cmple, Cmpult, Cmpule, Bic, Extb, Extw, Extl}
 use Rattle.word_ops.specs.declared.Rel.{Rel}
 use Rattle.word_ops.specs.declared.Rel.TheVariants.{Eq, Ult, Ule}
 use Rattle.word_ops.specs.Words.{word_of}
@@ -13,22 +13,22 @@ use Rattle.lf_signature.specs.Terms.{exp, pf, lit, rel_term}
 use Rattle.lf_signature.specs.Constants.{the_rules}
 use Rattle.formula_tree.specs.Formulas.{Exp, EVar, ELit, EOp, ESel, Form, FRel, EReg, ELeft}
 use Rattle.formula_terms.specs.Encoding.{exp_encoding, form_encoding}
-use Rattle.prover_class.proofs.Scope.{OverExp}
+use Rattle.prover_class.proofs.Scope.{OverExp, has_operator}
+use Rattle.prover_class.proofs.Signatures.{later_rule}
 use Rattle.formula_terms.specs.ProofTerms.{AExp, word_rule, move, swap, up, calc, fact}
 use Rattle.prover_class.specs.Hypotheses.{Hyps, same_exp}
 use Rattle.prover_class.specs.Bounds.{WordBound, word_bound, least_bound, greatest_bound, max_word, folded, fit_proof, upper_of, uppers, op_bounds, own_bounds, upper_bound, lower_of, lowers, lower_bound}
 use Rattle.prover_class.proofs.Proved.{Proves, IsHyp, AreHyps}
 use Rattle.prover_class.proofs.Uses.{rule_proves, stays_now}
 use Rattle.prover_class.proofs.Named.{move_proves, swap_proves, calc_proves, fact_proves, plain_subst-up, over-up}
-use Rattle.word_ops.specs.Operators.{has_op}
-use Rattle.word_ops.specs.declared.Profile.TheVariants.{One}
+use Rattle.lf_signature.specs.declared.WordSignature.{WordSignature}
 
-module _ (e d : ℕ) (room : e + (d + d + d) + 16 ≤ 2 ^ 32) (some : 0 < d) (k : ℕ) (ctx : List Tree) (w : length ctx + k ≤ e) where
+module _ (sig : WordSignature) (e d : ℕ) (room : e + (d + d + d) + 16 ≤ 2 ^ 32) (some : 0 < d) (k : ℕ) (ctx : List Tree) (w : length ctx + k ≤ e) where
   abbrev wide : length ctx ≤ e
   wide = omega (arith, w)
 
   abbrev pub Has : Rel → Exp → Exp → Tree → Type 0
-  Has r a b p = Proves (e + d) ctx (pf (form_encoding (FRel r a b))) p
+  Has r a b p = Proves sig (e + d) ctx (pf (form_encoding (FRel r a b))) p
 
   pub record IsUpper (a : Exp) (b : WordBound) : Type 0 where
     pub word : b.value < 2 ^ 64
@@ -74,147 +74,175 @@ module _ (e d : ℕ) (room : e + (d + d + d) + 16 ≤ 2 ^ 32) (some : 0 < d) (k 
   lower_if a true b h = (h refl, tt)
   lower_if a false b h = tt
 
-  refl_le : (a : Exp) → OverExp a ctx → Has Ule a a (word_rule 63 (a ∷ []) [])
+  refl_le : (a : Exp) → OverExp sig a ctx → Has Ule a a (word_rule 63 (a ∷ []) [])
   unfolding the_rules
-  refl_le a o = rule_proves e d room 63 _ refl ctx wide (AExp a ∷ []) [] (o, tt) tt
+  refl_le a o = rule_proves sig e d room 63 _ refl ctx wide (AExp a ∷ []) [] (o, tt) tt
 
   -- in [x](ule a x)
-  move_right : (a x y : Exp) → OverExp a ctx → OverExp x ctx → OverExp y ctx → (p q : Tree) → Has Eq x y p → Has Ule a x q → Has Ule a y (move (FRel Ule (up a) (EVar 0)) x y p q)
+  move_right : (a x y : Exp) → OverExp sig a ctx → OverExp sig x ctx → OverExp sig y ctx → (p q : Tree) → Has Eq x y p → Has Ule a x q → Has Ule a y (move (FRel Ule (up a) (EVar 0)) x y p q)
   move_right a x y oa ox oy p q hp hq =
-      move_proves e d room ctx wide (FRel Ule (up a) (EVar 0)) x y (over-up a ctx exp oa, refl) some ox oy (rel_term Ule (exp_encoding a) (exp_encoding x)) (rel_term Ule (exp_encoding a) (exp_encoding y)) p q
+      move_proves sig e d room ctx wide (FRel Ule (up a) (EVar 0)) x y (over-up sig a ctx exp oa, refl) some ox oy (rel_term Ule (exp_encoding a) (exp_encoding x)) (rel_term Ule (exp_encoding a) (exp_encoding y)) p q
       (ap (λ z. rel_term Ule z (exp_encoding x)) (plain_subst-up a (exp_encoding x))) (ap (λ z. rel_term Ule z (exp_encoding y)) (plain_subst-up a (exp_encoding y))) hp hq
 
   -- in [x](ule x a)
-  move_left : (a x y : Exp) → OverExp a ctx → OverExp x ctx → OverExp y ctx → (p q : Tree) → Has Eq x y p → Has Ule x a q → Has Ule y a (move (FRel Ule (EVar 0) (up a)) x y p q)
+  move_left : (a x y : Exp) → OverExp sig a ctx → OverExp sig x ctx → OverExp sig y ctx → (p q : Tree) → Has Eq x y p → Has Ule x a q → Has Ule y a (move (FRel Ule (EVar 0) (up a)) x y p q)
   move_left a x y oa ox oy p q hp hq =
-      move_proves e d room ctx wide (FRel Ule (EVar 0) (up a)) x y (refl, over-up a ctx exp oa) some ox oy (rel_term Ule (exp_encoding x) (exp_encoding a)) (rel_term Ule (exp_encoding y) (exp_encoding a)) p q
+      move_proves sig e d room ctx wide (FRel Ule (EVar 0) (up a)) x y (refl, over-up sig a ctx exp oa) some ox oy (rel_term Ule (exp_encoding x) (exp_encoding a)) (rel_term Ule (exp_encoding y) (exp_encoding a)) p q
       (ap (λ z. rel_term Ule (exp_encoding x) z) (plain_subst-up a (exp_encoding x))) (ap (λ z. rel_term Ule (exp_encoding y) z) (plain_subst-up a (exp_encoding y))) hp hq
 
-  folded_is : (a : Exp) → OverExp a ctx → (o : Op) → has_op One o ≡ true → (x y : ℕ) → x < 2 ^ 64 → y < 2 ^ 64 → (p : Tree) → Has Ule a (EOp o (ELit x) (ELit y)) p → IsUpper a (folded a o x y p)
+  folded_is : (a : Exp) → OverExp sig a ctx → (o : Op) → has_operator sig o ≡ true → (x y : ℕ) → x < 2 ^ 64 → y < 2 ^ 64 → (p : Tree) → Has Ule a (EOp o (ELit x) (ELit y)) p → IsUpper a (folded a o x y p)
   folded_is a oa o has x y hx hy p h =
-      record { word = word_of-below o x y hx hy; proved = move_right a (EOp o (ELit x) (ELit y)) (ELit (word_of o x y)) oa (hx, hy, has) (word_of-below o x y hx hy) (calc o x y) p (calc_proves (e + d) ctx o has x y hx hy) h }
+      record { word = word_of-below o x y hx hy; proved = move_right a (EOp o (ELit x) (ELit y)) (ELit (word_of o x y)) oa (hx, hy, has) (word_of-below o x y hx hy) (calc o x y) p (calc_proves sig (e + d) ctx o has x y hx hy) h }
 
-  fit_proof_is : (v : ℕ) (o : Op) → has_op One o ≡ true → (x y : ℕ) → v < 2 ^ 64 → x < 2 ^ 64 → y < 2 ^ 64 → v ≤ word_of o x y → Has Ule (ELit v) (EOp o (ELit x) (ELit y)) (fit_proof v o x y)
+  fit_proof_is : (v : ℕ) (o : Op) → has_operator sig o ≡ true → (x y : ℕ) → v < 2 ^ 64 → x < 2 ^ 64 → y < 2 ^ 64 → v ≤ word_of o x y → Has Ule (ELit v) (EOp o (ELit x) (ELit y)) (fit_proof v o x y)
   fit_proof_is v o has x y hv hx hy h =
       let b = word_of-below o x y hx hy in
       move_right (ELit v) (ELit (word_of o x y)) (EOp o (ELit x) (ELit y)) hv b (hx, hy, has) (swap (EOp o (ELit x) (ELit y)) (ELit (word_of o x y)) (calc o x y)) (fact Ule v (word_of o x y))
-      (swap_proves e d room some ctx wide (EOp o (ELit x) (ELit y)) (ELit (word_of o x y)) (hx, hy, has) b (calc o x y) (calc_proves (e + d) ctx o has x y hx hy))
-      (fact_proves (e + d) ctx Ule v (word_of o x y) hv b (le-leb v (word_of o x y) h))
+      (swap_proves sig e d room some ctx wide (EOp o (ELit x) (ELit y)) (ELit (word_of o x y)) (hx, hy, has) b (calc o x y) (calc_proves sig (e + d) ctx o has x y hx hy))
+      (fact_proves sig (e + d) ctx Ule v (word_of o x y) hv b (le-leb v (word_of o x y) h))
 
-  now : (A : Form) (h : Tree) → IsHyp (e + d) d k ctx (A, h) → Proves (e + d) ctx (pf (form_encoding A)) h
-  now A h i = stays_now (e + d) k ctx (form_encoding A) h i.stays
+  now : (A : Form) (h : Tree) → IsHyp sig (e + d) d k ctx (A, h) → Proves sig (e + d) ctx (pf (form_encoding A)) h
+  now A h i = stays_now sig (e + d) k ctx (form_encoding A) h i.stays
 
-  upper_of_are : (a : Exp) → OverExp a ctx → (A : Form) (h : Tree) → IsHyp (e + d) d k ctx (A, h) → AllUpper a (upper_of a A h)
+  upper_of_are : (a : Exp) → OverExp sig a ctx → (A : Form) (h : Tree) → IsHyp sig (e + d) d k ctx (A, h) → AllUpper a (upper_of a A h)
   unfolding the_rules
   upper_of_are a oa (FRel Ule b (ELit v)) h i =
-      upper_if a (same_exp b a) (word_bound v h) (λ t. record { word = i.over.1; proved = subst (λ z. Proves (e + d) ctx (pf (rel_term Ule z (lit v))) h) (tree_eq-true (exp_encoding b) (exp_encoding a) t) (now (FRel Ule b (ELit v)) h i) })
+      upper_if a (same_exp b a) (word_bound v h) (λ t. record { word = i.over.1; proved = subst (λ z. Proves sig (e + d) ctx (pf (rel_term Ule z (lit v))) h) (tree_eq-true (exp_encoding b) (exp_encoding a) t) (now (FRel Ule b (ELit v)) h i) })
   upper_of_are a oa (FRel Ult b (ELit (suc v))) h i =
       upper_if a (same_exp b a) (folded a Sub (suc v) 1 (word_rule 68 (a ∷ ELit (suc v) ∷ []) (h ∷ [])))
       (λ t.
-      let g : Has Ult a (ELit (suc v)) h = subst (λ z. Proves (e + d) ctx (pf (rel_term Ult z (lit (suc v)))) h) (tree_eq-true (exp_encoding b) (exp_encoding a) t) (now (FRel Ult b (ELit (suc v))) h i) in
+      let g : Has Ult a (ELit (suc v)) h = subst (λ z. Proves sig (e + d) ctx (pf (rel_term Ult z (lit (suc v)))) h) (tree_eq-true (exp_encoding b) (exp_encoding a) t) (now (FRel Ult b (ELit (suc v))) h i) in
       folded_is a oa Sub refl (suc v) 1 i.over.1 (omega arith) (word_rule 68 (a ∷ ELit (suc v) ∷ []) (h ∷ []))
-      (rule_proves e d room 68 _ refl ctx wide (AExp a ∷ AExp (ELit (suc v)) ∷ []) (h ∷ []) (oa, (i.over.1, tt)) (g, tt)))
+      (rule_proves sig e d room 68 _ refl ctx wide (AExp a ∷ AExp (ELit (suc v)) ∷ []) (h ∷ []) (oa, (i.over.1, tt)) (g, tt)))
   upper_of_are a oa (FRel Eq b (ELit v)) h i =
       upper_if a (same_exp b a) (word_bound v (move (FRel Ule (up a) (EVar 0)) a (ELit v) h (word_rule 63 (a ∷ []) [])))
       (λ t.
-      let g : Has Eq a (ELit v) h = subst (λ z. Proves (e + d) ctx (pf (rel_term Eq z (lit v))) h) (tree_eq-true (exp_encoding b) (exp_encoding a) t) (now (FRel Eq b (ELit v)) h i) in
+      let g : Has Eq a (ELit v) h = subst (λ z. Proves sig (e + d) ctx (pf (rel_term Eq z (lit v))) h) (tree_eq-true (exp_encoding b) (exp_encoding a) t) (now (FRel Eq b (ELit v)) h i) in
       record { word = i.over.1; proved = move_right a a (ELit v) oa oa i.over.1 h (word_rule 63 (a ∷ []) []) g (refl_le a oa) })
   upper_of_are a oa _ h i = tt
 
-  uppers_are : (a : Exp) → OverExp a ctx → (Γ : Hyps) → AreHyps (e + d) d k ctx Γ → AllUpper a (uppers a Γ)
+  uppers_are : (a : Exp) → OverExp sig a ctx → (Γ : Hyps) → AreHyps sig (e + d) d k ctx Γ → AllUpper a (uppers a Γ)
   uppers_are a oa [] g = tt
   uppers_are a oa (h ∷ l) g = upper_append a (upper_of a h.0 h.1) (uppers a l) (upper_of_are a oa h.0 h.1 g.0) (uppers_are a oa l g.1)
 
-  lower_of_are : (a : Exp) → OverExp a ctx → (A : Form) (h : Tree) → IsHyp (e + d) d k ctx (A, h) → AllLower a (lower_of a A h)
+  lower_of_are : (a : Exp) → OverExp sig a ctx → (A : Form) (h : Tree) → IsHyp sig (e + d) d k ctx (A, h) → AllLower a (lower_of a A h)
   unfolding the_rules
   lower_of_are a oa (FRel Ule (ELit v) b) h i =
-      lower_if a (same_exp b a) (word_bound v h) (λ t. record { word = i.over.0; proved = subst (λ z. Proves (e + d) ctx (pf (rel_term Ule (lit v) z)) h) (tree_eq-true (exp_encoding b) (exp_encoding a) t) (now (FRel Ule (ELit v) b) h i) })
+      lower_if a (same_exp b a) (word_bound v h) (λ t. record { word = i.over.0; proved = subst (λ z. Proves sig (e + d) ctx (pf (rel_term Ule (lit v) z)) h) (tree_eq-true (exp_encoding b) (exp_encoding a) t) (now (FRel Ule (ELit v) b) h i) })
   lower_of_are a oa (FRel Ult (ELit v) b) h i =
       lower_if a (same_exp b a) (word_bound v (word_rule 65 (ELit v ∷ a ∷ []) (h ∷ [])))
       (λ t.
-      let g : Has Ult (ELit v) a h = subst (λ z. Proves (e + d) ctx (pf (rel_term Ult (lit v) z)) h) (tree_eq-true (exp_encoding b) (exp_encoding a) t) (now (FRel Ult (ELit v) b) h i) in
-      record { word = i.over.0; proved = rule_proves e d room 65 _ refl ctx wide (AExp (ELit v) ∷ AExp a ∷ []) (h ∷ []) (i.over.0, (oa, tt)) (g, tt) })
+      let g : Has Ult (ELit v) a h = subst (λ z. Proves sig (e + d) ctx (pf (rel_term Ult (lit v) z)) h) (tree_eq-true (exp_encoding b) (exp_encoding a) t) (now (FRel Ult (ELit v) b) h i) in
+      record { word = i.over.0; proved = rule_proves sig e d room 65 _ refl ctx wide (AExp (ELit v) ∷ AExp a ∷ []) (h ∷ []) (i.over.0, (oa, tt)) (g, tt) })
   lower_of_are a oa (FRel Eq b (ELit v)) h i =
       lower_if a (same_exp b a) (word_bound v (move (FRel Ule (EVar 0) (up a)) a (ELit v) h (word_rule 63 (a ∷ []) [])))
       (λ t.
-      let g : Has Eq a (ELit v) h = subst (λ z. Proves (e + d) ctx (pf (rel_term Eq z (lit v))) h) (tree_eq-true (exp_encoding b) (exp_encoding a) t) (now (FRel Eq b (ELit v)) h i) in
+      let g : Has Eq a (ELit v) h = subst (λ z. Proves sig (e + d) ctx (pf (rel_term Eq z (lit v))) h) (tree_eq-true (exp_encoding b) (exp_encoding a) t) (now (FRel Eq b (ELit v)) h i) in
       record { word = i.over.1; proved = move_left a a (ELit v) oa oa i.over.1 h (word_rule 63 (a ∷ []) []) g (refl_le a oa) })
   lower_of_are a oa _ h i = tt
 
-  lowers_are : (a : Exp) → OverExp a ctx → (Γ : Hyps) → AreHyps (e + d) d k ctx Γ → AllLower a (lowers a Γ)
+  lowers_are : (a : Exp) → OverExp sig a ctx → (Γ : Hyps) → AreHyps sig (e + d) d k ctx Γ → AllLower a (lowers a Γ)
   lowers_are a oa [] g = tt
   lowers_are a oa (h ∷ l) g = lower_append a (lower_of a h.0 h.1) (lowers a l) (lower_of_are a oa h.0 h.1 g.0) (lowers_are a oa l g.1)
 
-  max_is : (a : Exp) → OverExp a ctx → IsUpper a (word_bound max_word (word_rule 62 (a ∷ []) []))
+  max_is : (a : Exp) → OverExp sig a ctx → IsUpper a (word_bound max_word (word_rule 62 (a ∷ []) []))
   unfolding the_rules
-  max_is a oa = record { word = omega arith; proved = rule_proves e d room 62 _ refl ctx wide (AExp a ∷ []) [] (oa, tt) tt }
+  max_is a oa = record { word = omega arith; proved = rule_proves sig e d room 62 _ refl ctx wide (AExp a ∷ []) [] (oa, tt) tt }
 
-  zero_is : (a : Exp) → OverExp a ctx → IsLower a (word_bound 0 (word_rule 61 (a ∷ []) []))
+  zero_is : (a : Exp) → OverExp sig a ctx → IsLower a (word_bound 0 (word_rule 61 (a ∷ []) []))
   unfolding the_rules
-  zero_is a oa = record { word = omega arith; proved = rule_proves e d room 61 _ refl ctx wide (AExp a ∷ []) [] (oa, tt) tt }
+  zero_is a oa = record { word = omega arith; proved = rule_proves sig e d room 61 _ refl ctx wide (AExp a ∷ []) [] (oa, tt) tt }
 
-  one_is : (n : ℕ) (a b x : Exp) → Has Ule x (ELit 1) (word_rule n (a ∷ b ∷ []) []) → AllUpper x (word_bound 1 (word_rule n (a ∷ b ∷ []) []) ∷ [])
-  one_is n a b x h = (record { word = omega arith; proved = h }, tt)
+  fixed_is : (n w : ℕ) → w < 2 ^ 64 → (a b x : Exp) →
+      Has Ule x (ELit w) (word_rule n (a ∷ b ∷ []) []) →
+      AllUpper x (word_bound w (word_rule n (a ∷ b ∷ []) []) ∷ [])
+  fixed_is n w low a b x h = (record { word = low; proved = h }, tt)
 
-  op_bounds_are : (o : Op) (a b : Exp) (v u : WordBound) → OverExp a ctx → OverExp b ctx → IsUpper a v → IsUpper b u → AllUpper (EOp o a b) (op_bounds o a b v u)
+  op_bounds_are : (o : Op) (a b : Exp) (v u : WordBound) → has_operator sig o ≡ true → OverExp sig a ctx → OverExp sig b ctx → IsUpper a v → IsUpper b u → AllUpper (EOp o a b) (op_bounds o a b v u)
   unfolding the_rules
-  op_bounds_are Band a b v u oa ob hv hu = (
+  op_bounds_are Band a b v u has oa ob hv hu = (
     record {
       word = hu.word;
       proved =
-          rule_proves e d room 64 _ refl ctx wide (AExp (EOp Band a b) ∷ AExp b ∷ AExp (ELit u.value) ∷ []) (word_rule 54 (a ∷ b ∷ []) [] ∷ u.proof ∷ []) ((oa, ob, refl), (ob, (hu.word, tt)))
-          (rule_proves e d room 54 _ refl ctx wide (AExp a ∷ AExp b ∷ []) [] (oa, (ob, tt)) tt, (hu.proved, tt));
+          rule_proves sig e d room 64 _ refl ctx wide (AExp (EOp Band a b) ∷ AExp b ∷ AExp (ELit u.value) ∷ []) (word_rule 54 (a ∷ b ∷ []) [] ∷ u.proof ∷ []) ((oa, ob, refl), (ob, (hu.word, tt)))
+          (rule_proves sig e d room 54 _ refl ctx wide (AExp a ∷ AExp b ∷ []) [] (oa, (ob, tt)) tt, (hu.proved, tt));
     },
     (
       record {
         word = hv.word;
         proved =
-            rule_proves e d room 64 _ refl ctx wide (AExp (EOp Band a b) ∷ AExp a ∷ AExp (ELit v.value) ∷ [])
+            rule_proves sig e d room 64 _ refl ctx wide (AExp (EOp Band a b) ∷ AExp a ∷ AExp (ELit v.value) ∷ [])
             (move (FRel Ule (EVar 0) (up a)) (EOp Band b a) (EOp Band a b) (word_rule 51 (b ∷ a ∷ []) []) (word_rule 54 (b ∷ a ∷ []) []) ∷ v.proof ∷ []) ((oa, ob, refl), (oa, (hv.word, tt))) (
               move_left a (EOp Band b a) (EOp Band a b) oa (ob, oa, refl) (oa, ob, refl) (word_rule 51 (b ∷ a ∷ []) []) (word_rule 54 (b ∷ a ∷ []) [])
-                  (rule_proves e d room 51 _ refl ctx wide (AExp b ∷ AExp a ∷ []) [] (ob, (oa, tt)) tt) (rule_proves e d room 54 _ refl ctx wide (AExp b ∷ AExp a ∷ []) [] (ob, (oa, tt)) tt),
+                  (rule_proves sig e d room 51 _ refl ctx wide (AExp b ∷ AExp a ∷ []) [] (ob, (oa, tt)) tt) (rule_proves sig e d room 54 _ refl ctx wide (AExp b ∷ AExp a ∷ []) [] (ob, (oa, tt)) tt),
               (hv.proved, tt),
             );
       },
       tt,
     ),
   )
-  op_bounds_are Srl a (ELit c) v u oa ob hv hu = (
+  op_bounds_are Srl a (ELit c) v u has oa ob hv hu = (
     folded_is (EOp Srl a (ELit c)) (oa, ob, refl) Srl refl v.value c hv.word ob (word_rule 59 (a ∷ ELit v.value ∷ ELit c ∷ []) (v.proof ∷ []))
-        (rule_proves e d room 59 _ refl ctx wide (AExp a ∷ AExp (ELit v.value) ∷ AExp (ELit c) ∷ []) (v.proof ∷ []) (oa, (hv.word, (ob, tt))) (hv.proved, tt)),
+        (rule_proves sig e d room 59 _ refl ctx wide (AExp a ∷ AExp (ELit v.value) ∷ AExp (ELit c) ∷ []) (v.proof ∷ []) (oa, (hv.word, (ob, tt))) (hv.proved, tt)),
     tt,
   )
-  op_bounds_are Sll a (ELit c) v u oa ob hv hu =
+  op_bounds_are Sll a (ELit c) v u has oa ob hv hu =
       upper_if (EOp Sll a (ELit c)) (nat_le v.value (word_of Srl max_word c)) (folded (EOp Sll a (ELit c)) Sll v.value c (word_rule 60 (a ∷ ELit v.value ∷ ELit c ∷ []) (v.proof ∷ fit_proof v.value Srl max_word c ∷ [])))
       (λ t. folded_is (EOp Sll a (ELit c)) (oa, ob, refl) Sll refl v.value c hv.word ob (word_rule 60 (a ∷ ELit v.value ∷ ELit c ∷ []) (v.proof ∷ fit_proof v.value Srl max_word c ∷ []))
-      (rule_proves e d room 60 _ refl ctx wide (AExp a ∷ AExp (ELit v.value) ∷ AExp (ELit c) ∷ []) (v.proof ∷ fit_proof v.value Srl max_word c ∷ []) (oa, (hv.word, (ob, tt)))
+      (rule_proves sig e d room 60 _ refl ctx wide (AExp a ∷ AExp (ELit v.value) ∷ AExp (ELit c) ∷ []) (v.proof ∷ fit_proof v.value Srl max_word c ∷ []) (oa, (hv.word, (ob, tt)))
       (hv.proved, (fit_proof_is v.value Srl refl max_word c hv.word (omega arith) ob (leb-true v.value (word_of Srl max_word c) t), tt))))
-  op_bounds_are Add a b v u oa ob hv hu =
+  op_bounds_are Add a b v u has oa ob hv hu =
       upper_if (EOp Add a b) (nat_lt (v.value + u.value) (2 ^ 64)) (folded (EOp Add a b) Add v.value u.value (word_rule 72 (a ∷ b ∷ ELit v.value ∷ ELit u.value ∷ []) (v.proof ∷ u.proof ∷ fit_proof v.value Add v.value u.value ∷ [])))
       (λ t.
       let s : (v.value + u.value) % 2 ^ 64 ≡ v.value + u.value = mod-eq_of_lt (ltb-true (v.value + u.value) (2 ^ 64) t) in
       folded_is (EOp Add a b) (oa, ob, refl) Add refl v.value u.value hv.word hu.word (word_rule 72 (a ∷ b ∷ ELit v.value ∷ ELit u.value ∷ []) (v.proof ∷ u.proof ∷ fit_proof v.value Add v.value u.value ∷ []))
-      (rule_proves e d room 72 _ refl ctx wide (AExp a ∷ AExp b ∷ AExp (ELit v.value) ∷ AExp (ELit u.value) ∷ []) (v.proof ∷ u.proof ∷ fit_proof v.value Add v.value u.value ∷ []) (oa, (ob, (hv.word, (hu.word, tt))))
+      (rule_proves sig e d room 72 _ refl ctx wide (AExp a ∷ AExp b ∷ AExp (ELit v.value) ∷ AExp (ELit u.value) ∷ []) (v.proof ∷ u.proof ∷ fit_proof v.value Add v.value u.value ∷ []) (oa, (ob, (hv.word, (hu.word, tt))))
       (hv.proved, (hu.proved, (fit_proof_is v.value Add refl v.value u.value hv.word hv.word hu.word (omega (arith, s)), tt)))))
-  op_bounds_are Cmpeq a b v u oa ob hv hu = one_is 83 a b (EOp Cmpeq a b) (rule_proves e d room 83 _ refl ctx wide (AExp a ∷ AExp b ∷ []) [] (oa, (ob, tt)) tt)
-  op_bounds_are Cmplt a b v u oa ob hv hu = one_is 84 a b (EOp Cmplt a b) (rule_proves e d room 84 _ refl ctx wide (AExp a ∷ AExp b ∷ []) [] (oa, (ob, tt)) tt)
-  op_bounds_are Cmple a b v u oa ob hv hu = one_is 85 a b (EOp Cmple a b) (rule_proves e d room 85 _ refl ctx wide (AExp a ∷ AExp b ∷ []) [] (oa, (ob, tt)) tt)
-  op_bounds_are Cmpult a b v u oa ob hv hu = one_is 86 a b (EOp Cmpult a b) (rule_proves e d room 86 _ refl ctx wide (AExp a ∷ AExp b ∷ []) [] (oa, (ob, tt)) tt)
-  op_bounds_are Cmpule a b v u oa ob hv hu = one_is 87 a b (EOp Cmpule a b) (rule_proves e d room 87 _ refl ctx wide (AExp a ∷ AExp b ∷ []) [] (oa, (ob, tt)) tt)
-  op_bounds_are Srl a (EReg r) v u oa ob hv hu = elim ob [ ]
-  op_bounds_are Srl a ELeft v u oa ob hv hu = elim ob [ ]
-  op_bounds_are Srl a (EVar n) v u oa ob hv hu = tt
-  op_bounds_are Srl a (EOp o x y) v u oa ob hv hu = tt
-  op_bounds_are Srl a (ESel m x) v u oa ob hv hu = tt
-  op_bounds_are Sll a (EReg r) v u oa ob hv hu = elim ob [ ]
-  op_bounds_are Sll a ELeft v u oa ob hv hu = elim ob [ ]
-  op_bounds_are Sll a (EVar n) v u oa ob hv hu = tt
-  op_bounds_are Sll a (EOp o x y) v u oa ob hv hu = tt
-  op_bounds_are Sll a (ESel m x) v u oa ob hv hu = tt
-  op_bounds_are o a b v u oa ob hv hu = tt
+  op_bounds_are Cmpeq a b v u has oa ob hv hu = fixed_is 83 1 (omega arith) a b (EOp Cmpeq a b) (rule_proves sig e d room 83 _ refl ctx wide (AExp a ∷ AExp b ∷ []) [] (oa, (ob, tt)) tt)
+  op_bounds_are Cmplt a b v u has oa ob hv hu = fixed_is 84 1 (omega arith) a b (EOp Cmplt a b) (rule_proves sig e d room 84 _ refl ctx wide (AExp a ∷ AExp b ∷ []) [] (oa, (ob, tt)) tt)
+  op_bounds_are Cmple a b v u has oa ob hv hu = fixed_is 85 1 (omega arith) a b (EOp Cmple a b) (rule_proves sig e d room 85 _ refl ctx wide (AExp a ∷ AExp b ∷ []) [] (oa, (ob, tt)) tt)
+  op_bounds_are Cmpult a b v u has oa ob hv hu = fixed_is 86 1 (omega arith) a b (EOp Cmpult a b) (rule_proves sig e d room 86 _ refl ctx wide (AExp a ∷ AExp b ∷ []) [] (oa, (ob, tt)) tt)
+  op_bounds_are Cmpule a b v u has oa ob hv hu = fixed_is 87 1 (omega arith) a b (EOp Cmpule a b) (rule_proves sig e d room 87 _ refl ctx wide (AExp a ∷ AExp b ∷ []) [] (oa, (ob, tt)) tt)
+  op_bounds_are Bic a b v u has oa ob hv hu = (
+    record {
+      word = hv.word;
+      proved =
+          rule_proves sig e d room 64 _ refl ctx wide
+          (AExp (EOp Bic a b) ∷ AExp a ∷ AExp (ELit v.value) ∷ [])
+          (word_rule 97 (a ∷ b ∷ []) [] ∷ v.proof ∷ []) ((oa, ob, has), (oa, (hv.word, tt))) (
+            rule_proves sig e d room 97 _ (later_rule sig has 97) ctx wide
+                (AExp a ∷ AExp b ∷ []) [] (oa, (ob, tt)) tt,
+            (hv.proved, tt),
+          );
+    },
+    tt,
+  )
+  op_bounds_are Extb a b v u has oa ob hv hu =
+      fixed_is 100 255 (omega arith) a b (EOp Extb a b)
+      (rule_proves sig e d room 100 _ (later_rule sig has 100) ctx wide (AExp a ∷ AExp b ∷ []) []
+      (oa, (ob, tt)) tt)
+  op_bounds_are Extw a b v u has oa ob hv hu =
+      fixed_is 101 65535 (omega arith) a b (EOp Extw a b)
+      (rule_proves sig e d room 101 _ (later_rule sig has 101) ctx wide (AExp a ∷ AExp b ∷ []) []
+      (oa, (ob, tt)) tt)
+  op_bounds_are Extl a b v u has oa ob hv hu =
+      fixed_is 102 4294967295 (omega arith) a b (EOp Extl a b)
+      (rule_proves sig e d room 102 _ (later_rule sig has 102) ctx wide (AExp a ∷ AExp b ∷ []) []
+      (oa, (ob, tt)) tt)
+  op_bounds_are Srl a (EReg r) v u has oa ob hv hu = elim ob [ ]
+  op_bounds_are Srl a ELeft v u has oa ob hv hu = elim ob [ ]
+  op_bounds_are Srl a (EVar n) v u has oa ob hv hu = tt
+  op_bounds_are Srl a (EOp o x y) v u has oa ob hv hu = tt
+  op_bounds_are Srl a (ESel m x) v u has oa ob hv hu = tt
+  op_bounds_are Sll a (EReg r) v u has oa ob hv hu = elim ob [ ]
+  op_bounds_are Sll a ELeft v u has oa ob hv hu = elim ob [ ]
+  op_bounds_are Sll a (EVar n) v u has oa ob hv hu = tt
+  op_bounds_are Sll a (EOp o x y) v u has oa ob hv hu = tt
+  op_bounds_are Sll a (ESel m x) v u has oa ob hv hu = tt
+  op_bounds_are o a b v u has oa ob hv hu = tt
 
-  module _ (Γ : Hyps) (are : AreHyps (e + d) d k ctx Γ) where
-    pub upper_bound_is : (a : Exp) → OverExp a ctx → IsUpper a (upper_bound Γ a)
+  module _ (Γ : Hyps) (are : AreHyps sig (e + d) d k ctx Γ) where
+    pub upper_bound_is : (a : Exp) → OverExp sig a ctx → IsUpper a (upper_bound Γ a)
     upper_bound_is (EReg r) o = elim o [ ]
     upper_bound_is ELeft o = elim o [ ]
     upper_bound_is (EVar n) o = least_is (EVar n) (uppers (EVar n) Γ) (word_bound max_word (word_rule 62 (EVar n ∷ []) [])) (uppers_are (EVar n) o Γ are) (max_is (EVar n) o)
@@ -223,10 +251,10 @@ module _ (e d : ℕ) (room : e + (d + d + d) + 16 ≤ 2 ^ 32) (some : 0 < d) (k 
         (upper_append (ELit v) (own_bounds (ELit v)) (uppers (ELit v) Γ) (record { word = o; proved = refl_le (ELit v) o }, tt) (uppers_are (ELit v) o Γ are)) (max_is (ELit v) o)
     upper_bound_is (EOp f a b) o =
         least_is (EOp f a b) (uppers (EOp f a b) Γ ++ op_bounds f a b (upper_bound Γ a) (upper_bound Γ b)) (word_bound max_word (word_rule 62 (EOp f a b ∷ []) []))
-        (upper_append (EOp f a b) (uppers (EOp f a b) Γ) (op_bounds f a b (upper_bound Γ a) (upper_bound Γ b)) (uppers_are (EOp f a b) o Γ are) (op_bounds_are f a b (upper_bound Γ a) (upper_bound Γ b) o.0 o.1 (upper_bound_is a o.0) (upper_bound_is b o.1))) (max_is (EOp f a b) o)
+        (upper_append (EOp f a b) (uppers (EOp f a b) Γ) (op_bounds f a b (upper_bound Γ a) (upper_bound Γ b)) (uppers_are (EOp f a b) o Γ are) (op_bounds_are f a b (upper_bound Γ a) (upper_bound Γ b) o.2 o.0 o.1 (upper_bound_is a o.0) (upper_bound_is b o.1))) (max_is (EOp f a b) o)
     upper_bound_is (ESel m a) o = least_is (ESel m a) (uppers (ESel m a) Γ) (word_bound max_word (word_rule 62 (ESel m a ∷ []) [])) (uppers_are (ESel m a) o Γ are) (max_is (ESel m a) o)
 
-    own_bounds_are : (a : Exp) → OverExp a ctx → AllLower a (own_bounds a)
+    own_bounds_are : (a : Exp) → OverExp sig a ctx → AllLower a (own_bounds a)
     own_bounds_are (ELit v) o = (record { word = o; proved = refl_le (ELit v) o }, tt)
     own_bounds_are (EReg r) o = elim o [ ]
     own_bounds_are ELeft o = elim o [ ]
@@ -234,5 +262,5 @@ module _ (e d : ℕ) (room : e + (d + d + d) + 16 ≤ 2 ^ 32) (some : 0 < d) (k 
     own_bounds_are (EOp f a b) o = tt
     own_bounds_are (ESel m a) o = tt
 
-    pub lower_bound_is : (a : Exp) → OverExp a ctx → IsLower a (lower_bound Γ a)
+    pub lower_bound_is : (a : Exp) → OverExp sig a ctx → IsLower a (lower_bound Γ a)
     lower_bound_is a o = greatest_is a (own_bounds a ++ lowers a Γ) (word_bound 0 (word_rule 61 (a ∷ []) [])) (lower_append a (own_bounds a) (lowers a Γ) (own_bounds_are a o) (lowers_are a o Γ are)) (zero_is a o)

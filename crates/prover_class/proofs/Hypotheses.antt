@@ -23,99 +23,100 @@ use Rattle.formula_terms.specs.ProofTerms.{AExp, AForm, and_l, and_r, word_rule}
 use Rattle.prover_class.specs.Hypotheses.{Hyps, same_form, find_hyp, raised_hyps, compared, comparison, test_rule, other_hyps, test_hyps, tested_hyps, split_hyps, added, with_new}
 use Rattle.prover_class.proofs.Proved.{Proves, Stays, IsHyp, AreHyps}
 use Rattle.prover_class.proofs.Uses.{rule_stays, stays_now, nesting-shift}
+use Rattle.lf_signature.specs.declared.WordSignature.{WordSignature}
 
-pub append_are : (bound d k : ℕ) (ctx : List Tree) (l m : Hyps) → AreHyps bound d k ctx l → AreHyps bound d k ctx m → AreHyps bound d k ctx (l ++ m)
-append_are bound d k ctx [] m h g = g
-append_are bound d k ctx (x ∷ l) m h g = (h.0, append_are bound d k ctx l m h.1 g)
+pub append_are : (sig : WordSignature) (bound d k : ℕ) (ctx : List Tree) (l m : Hyps) → AreHyps sig bound d k ctx l → AreHyps sig bound d k ctx m → AreHyps sig bound d k ctx (l ++ m)
+append_are sig bound d k ctx [] m h g = g
+append_are sig bound d k ctx (x ∷ l) m h g = (h.0, append_are sig bound d k ctx l m h.1 g)
 
-added_are : (bound d k : ℕ) (ctx : List Tree) (o : Option Tree) (l : Hyps) (h : Form × Tree) → AreHyps bound d k ctx l → AreHyps bound d k ctx (h ∷ []) → AreHyps bound d k ctx (added o l h)
-added_are bound d k ctx (Some p) l h a b = a
-added_are bound d k ctx None l h a b = append_are bound d k ctx l (h ∷ []) a b
+added_are : (sig : WordSignature) (bound d k : ℕ) (ctx : List Tree) (o : Option Tree) (l : Hyps) (h : Form × Tree) → AreHyps sig bound d k ctx l → AreHyps sig bound d k ctx (h ∷ []) → AreHyps sig bound d k ctx (added o l h)
+added_are sig bound d k ctx (Some p) l h a b = a
+added_are sig bound d k ctx None l h a b = append_are sig bound d k ctx l (h ∷ []) a b
 
-pub with_new_are : (bound d k : ℕ) (ctx : List Tree) (l m : Hyps) → AreHyps bound d k ctx l → AreHyps bound d k ctx m → AreHyps bound d k ctx (with_new l m)
-with_new_are bound d k ctx l [] a b = a
-with_new_are bound d k ctx l (h ∷ m) a b =
-    with_new_are bound d k ctx (added (find_hyp l h.0) l h) m (added_are bound d k ctx (find_hyp l h.0) l h a (b.0, tt)) b.1
+pub with_new_are : (sig : WordSignature) (bound d k : ℕ) (ctx : List Tree) (l m : Hyps) → AreHyps sig bound d k ctx l → AreHyps sig bound d k ctx m → AreHyps sig bound d k ctx (with_new l m)
+with_new_are sig bound d k ctx l [] a b = a
+with_new_are sig bound d k ctx l (h ∷ m) a b =
+    with_new_are sig bound d k ctx (added (find_hyp l h.0) l h) m (added_are sig bound d k ctx (find_hyp l h.0) l h a (b.0, tt)) b.1
 
 -- under one more binder
-pub raised_are : (bound d k : ℕ) (ctx : List Tree) (t : Tree) (l : Hyps) → AreHyps bound d (suc k) ctx l → AreHyps bound d k (t ∷ ctx) (raised_hyps l)
-raised_are bound d k ctx t [] h = tt
-raised_are bound d k ctx t (x ∷ l) h = (
+pub raised_are : (sig : WordSignature) (bound d k : ℕ) (ctx : List Tree) (t : Tree) (l : Hyps) → AreHyps sig bound d (suc k) ctx l → AreHyps sig bound d k (t ∷ ctx) (raised_hyps l)
+raised_are sig bound d k ctx t [] h = tt
+raised_are sig bound d k ctx t (x ∷ l) h = (
   record {
-    over = over_wider x.0 0 ctx (t ∷ ctx) (wider_one ctx t) h.0.over;
+    over = over_wider sig x.0 0 ctx (t ∷ ctx) (wider_one ctx t) h.0.over;
     nesting = omega (arith, h.0.nesting, nesting-shift x.0 1 0);
-    stays = subst (λ z. Stays bound k (t ∷ ctx) z (shift 1 0 x.1)) (shift-form_encoding x.0 1 0) (h.0.stays.1 t);
+    stays = subst (λ z. Stays sig bound k (t ∷ ctx) z (shift 1 0 x.1)) (shift-form_encoding x.0 1 0) (h.0.stays.1 t);
   },
-  raised_are bound d k ctx t l h.1,
+  raised_are sig bound d k ctx t l h.1,
 )
 
 -- the first hypothesis that is the formula proves it
-pub find_proves : (bound d k : ℕ) (ctx : List Tree) (l : Hyps) → AreHyps bound d k ctx l → (A : Form) (p : Tree) → find_hyp l A ≡ Some p → Proves bound ctx (pf (form_encoding A)) p
-find_proves bound d k ctx [] h A p q = cc
-find_proves bound d k ctx (x ∷ l) h A p q = go (same_form x.0 A) refl q (λ g. find_proves bound d k ctx l h.1 A p g)
+pub find_proves : (sig : WordSignature) (bound d k : ℕ) (ctx : List Tree) (l : Hyps) → AreHyps sig bound d k ctx l → (A : Form) (p : Tree) → find_hyp l A ≡ Some p → Proves sig bound ctx (pf (form_encoding A)) p
+find_proves sig bound d k ctx [] h A p q = cc
+find_proves sig bound d k ctx (x ∷ l) h A p q = go (same_form x.0 A) refl q (λ g. find_proves sig bound d k ctx l h.1 A p g)
   where
-    go : (b : Bool) → same_form x.0 A ≡ b → cond b (Some x.1) (find_hyp l A) ≡ Some p → (find_hyp l A ≡ Some p → Proves bound ctx (pf (form_encoding A)) p) → Proves bound ctx (pf (form_encoding A)) p
+    go : (b : Bool) → same_form x.0 A ≡ b → cond b (Some x.1) (find_hyp l A) ≡ Some p → (find_hyp l A ≡ Some p → Proves sig bound ctx (pf (form_encoding A)) p) → Proves sig bound ctx (pf (form_encoding A)) p
     go true e g f =
-        subst (λ z. Proves bound ctx (pf z) p) (tree_eq-true (form_encoding x.0) (form_encoding A) e)
-        (subst (λ z. Proves bound ctx (pf (form_encoding x.0)) z) (some_injective g) (stays_now bound k ctx (form_encoding x.0) x.1 h.0.stays))
+        subst (λ z. Proves sig bound ctx (pf z) p) (tree_eq-true (form_encoding x.0) (form_encoding A) e)
+        (subst (λ z. Proves sig bound ctx (pf (form_encoding x.0)) z) (some_injective g) (stays_now sig bound k ctx (form_encoding x.0) x.1 h.0.stays))
     go false e g f = f g
 
-module _ (e d : ℕ) (room : e + (d + d + d) + 16 ≤ 2 ^ 32) (some : 0 < d) where
+module _ (sig : WordSignature) (e d : ℕ) (room : e + (d + d + d) + 16 ≤ 2 ^ 32) (some : 0 < d) where
   -- a hypothesis of the context
-  var_stays : (k n : ℕ) (ctx : List Tree) → length ctx + k ≤ e → (a : Tree) → var_bound a ≤ e + d → var_bound (shift (suc n) 0 a) ≤ length ctx + d → suc n ≤ length ctx → at ctx n ≡ Some (pf a) → Stays (e + d) k ctx (shift (suc n) 0 a) (Var n)
+  var_stays : (k n : ℕ) (ctx : List Tree) → length ctx + k ≤ e → (a : Tree) → var_bound a ≤ e + d → var_bound (shift (suc n) 0 a) ≤ length ctx + d → suc n ≤ length ctx → at ctx n ≡ Some (pf a) → Stays sig (e + d) k ctx (shift (suc n) 0 a) (Var n)
   var_stays zero n ctx w a r s b q =
       record { checks = atom_checks (var_synth q (Rattle.lf_rules.proofs.Room.fits_bound (pf (shift (suc n) 0 a)) (omega (arith, s, w, room)))) tt; room = omega (arith, w, b) }
   var_stays (suc k) n ctx w a r s b q = (
     record { checks = atom_checks (var_synth q (Rattle.lf_rules.proofs.Room.fits_bound (pf (shift (suc n) 0 a)) (omega (arith, s, w, room)))) tt; room = omega (arith, w, b) },
     λ t.
         let m : shift 1 0 (shift (suc n) 0 a) ≡ shift (suc (suc n)) 0 a = shift-more a 0 (suc n) in
-        let g : Stays (e + d) k (t ∷ ctx) (shift (suc (suc n)) 0 a) (Var (suc n)) =
+        let g : Stays sig (e + d) k (t ∷ ctx) (shift (suc (suc n)) 0 a) (Var (suc n)) =
         var_stays k (suc n) (t ∷ ctx) (omega (arith, w)) a r (omega (arith, s, ap var_bound m, var_bound_shift (shift (suc n) 0 a) 1 0)) (omega (arith, b)) q in
-        subst (λ z. Stays (e + d) k (t ∷ ctx) z (Var (1 + n))) (sym m) (subst (λ z. Stays (e + d) k (t ∷ ctx) (shift (suc (suc n)) 0 a) (Var z)) (sym (one-add n)) g),
+        subst (λ z. Stays sig (e + d) k (t ∷ ctx) z (Var (1 + n))) (sym m) (subst (λ z. Stays sig (e + d) k (t ∷ ctx) (shift (suc (suc n)) 0 a) (Var z)) (sym (one-add n)) g),
   )
 
   -- the hypothesis that the nearest binder makes
-  pub first_hyp : (k : ℕ) (ctx : List Tree) → length ctx + suc k ≤ e → (A : Form) → Over A ctx → nesting A ≤ d → IsHyp (e + d) d k (pf (form_encoding A) ∷ ctx) (shift_form 1 0 A, Var 0)
+  pub first_hyp : (k : ℕ) (ctx : List Tree) → length ctx + suc k ≤ e → (A : Form) → Over sig A ctx → nesting A ≤ d → IsHyp sig (e + d) d k (pf (form_encoding A) ∷ ctx) (shift_form 1 0 A, Var 0)
   first_hyp k ctx w A o n =
       record {
-        over = over_wider A 0 ctx (pf (form_encoding A) ∷ ctx) (wider_one ctx (pf (form_encoding A))) o;
+        over = over_wider sig A 0 ctx (pf (form_encoding A) ∷ ctx) (wider_one ctx (pf (form_encoding A))) o;
         nesting = omega (arith, n, nesting-shift A 1 0);
         stays =
-            subst (λ z. Stays (e + d) k (pf (form_encoding A) ∷ ctx) z (Var 0)) (shift-form_encoding A 1 0)
-            (var_stays k 0 (pf (form_encoding A) ∷ ctx) (omega (arith, w)) (form_encoding A) (omega (arith, w, n, form_bound A ctx o)) (omega (arith, n, form_bound A ctx o, var_bound_shift (form_encoding A) 1 0)) (omega arith) refl);
+            subst (λ z. Stays sig (e + d) k (pf (form_encoding A) ∷ ctx) z (Var 0)) (shift-form_encoding A 1 0)
+            (var_stays k 0 (pf (form_encoding A) ∷ ctx) (omega (arith, w)) (form_encoding A) (omega (arith, w, n, form_bound sig A ctx o)) (omega (arith, n, form_bound sig A ctx o, var_bound_shift (form_encoding A) 1 0)) (omega arith) refl);
       }
 
   module _ (k : ℕ) (ctx : List Tree) (w : length ctx + k ≤ e) where
     abbrev Hyp : Form → Tree → Type 0
-    Hyp A h = IsHyp (e + d) d k ctx (A, h)
+    Hyp A h = IsHyp sig (e + d) d k ctx (A, h)
 
     abbrev Are : Hyps → Type 0
-    Are l = AreHyps (e + d) d k ctx l
+    Are l = AreHyps sig (e + d) d k ctx l
 
     and_l_hyp : (A B : Form) (h : Tree) → Hyp (FAnd A B) h → Hyp A (and_l A B h)
     unfolding the_rules
     and_l_hyp A B h i =
         let n : (nesting A ≤ d) × (nesting B ≤ d) = (omega (arith, i.nesting), omega (arith, i.nesting)) in
-        record { over = i.over.0; nesting = n.0; stays = rule_stays e d room 30 _ refl (SAnd (FPar 0) (FPar 1)) refl refl k ctx w (AForm A ∷ AForm B ∷ []) ((i.over.0, n.0), ((i.over.1, n.1), tt)) h i.stays }
+        record { over = i.over.0; nesting = n.0; stays = rule_stays sig e d room 30 _ refl (SAnd (FPar 0) (FPar 1)) refl refl k ctx w (AForm A ∷ AForm B ∷ []) ((i.over.0, n.0), ((i.over.1, n.1), tt)) h i.stays }
 
     and_r_hyp : (A B : Form) (h : Tree) → Hyp (FAnd A B) h → Hyp B (and_r A B h)
     unfolding the_rules
     and_r_hyp A B h i =
         let n : (nesting A ≤ d) × (nesting B ≤ d) = (omega (arith, i.nesting), omega (arith, i.nesting)) in
-        record { over = i.over.1; nesting = n.1; stays = rule_stays e d room 31 _ refl (SAnd (FPar 0) (FPar 1)) refl refl k ctx w (AForm A ∷ AForm B ∷ []) ((i.over.0, n.0), ((i.over.1, n.1), tt)) h i.stays }
+        record { over = i.over.1; nesting = n.1; stays = rule_stays sig e d room 31 _ refl (SAnd (FPar 0) (FPar 1)) refl refl k ctx w (AForm A ∷ AForm B ∷ []) ((i.over.0, n.0), ((i.over.1, n.1), tt)) h i.stays }
 
     not_lt_hyp : (a b : Exp) (h : Tree) → Hyp (FImp (FRel Ult a b) FFalse) h → Hyp (FRel Ule b a) (word_rule 70 (a ∷ b ∷ []) (h ∷ []))
     unfolding the_rules
     not_lt_hyp a b h i =
-        let o : OverExp a ctx × OverExp b ctx = i.over.0 in
-        record { over = (o.1, o.0); nesting = omega arith; stays = rule_stays e d room 70 _ refl (SImp (SRel Ult (SPar 0) (SPar 1)) SFalse) refl refl k ctx w (AExp a ∷ AExp b ∷ []) (o.0, (o.1, tt)) h i.stays }
+        let o : OverExp sig a ctx × OverExp sig b ctx = i.over.0 in
+        record { over = (o.1, o.0); nesting = omega arith; stays = rule_stays sig e d room 70 _ refl (SImp (SRel Ult (SPar 0) (SPar 1)) SFalse) refl refl k ctx w (AExp a ∷ AExp b ∷ []) (o.0, (o.1, tt)) h i.stays }
 
     -- the tests of comparing operators
     no_hyp : (o : Op) (p : Rel × ℕ) → compared o ≡ Some p → (a b : Exp) (h : Tree) → Hyp (FRel Eq (EOp o a b) (ELit 0)) h → Hyp (FImp (FRel p.0 a b) FFalse) (word_rule (78 + p.1) (a ∷ b ∷ []) (h ∷ []))
     unfolding the_rules
     no_hyp o p q a b h i = go o p q i
       where
-        at_op : (o : Op) (r : Rel) (j : ℕ) → Stays (e + d) k ctx (form_encoding (FImp (FRel r a b) FFalse)) (word_rule j (a ∷ b ∷ []) (h ∷ [])) → Hyp (FRel Eq (EOp o a b) (ELit 0)) h →
+        at_op : (o : Op) (r : Rel) (j : ℕ) → Stays sig (e + d) k ctx (form_encoding (FImp (FRel r a b) FFalse)) (word_rule j (a ∷ b ∷ []) (h ∷ [])) → Hyp (FRel Eq (EOp o a b) (ELit 0)) h →
             Hyp (FImp (FRel r a b) FFalse) (word_rule j (a ∷ b ∷ []) (h ∷ []))
         at_op o r j s i =
             record { over = ((i.over.0.0, i.over.0.1), tt); nesting = omega (arith, some); stays = s }
@@ -124,18 +125,18 @@ module _ (e d : ℕ) (room : e + (d + d + d) + 16 ≤ 2 ^ 32) (some : 0 < d) whe
         move_to o p u q g = subst (λ z. Hyp (FImp (FRel z.0 a b) FFalse) (word_rule (78 + z.1) (a ∷ b ∷ []) (h ∷ []))) (some_injective q) g
 
         go : (o : Op) (p : Rel × ℕ) → compared o ≡ Some p → Hyp (FRel Eq (EOp o a b) (ELit 0)) h → Hyp (FImp (FRel p.0 a b) FFalse) (word_rule (78 + p.1) (a ∷ b ∷ []) (h ∷ []))
-        go Cmpeq p q i = move_to Cmpeq p (Eq, 0) q (at_op Cmpeq Eq 78 (rule_stays e d room 78 _ refl (SRel Eq (SOp Cmpeq (SPar 0) (SPar 1)) (SLit 0)) refl refl k ctx w (AExp a ∷ AExp b ∷ []) (i.over.0.0, (i.over.0.1, tt)) h i.stays) i)
-        go Cmplt p q i = move_to Cmplt p (Slt, 1) q (at_op Cmplt Slt 79 (rule_stays e d room 79 _ refl (SRel Eq (SOp Cmplt (SPar 0) (SPar 1)) (SLit 0)) refl refl k ctx w (AExp a ∷ AExp b ∷ []) (i.over.0.0, (i.over.0.1, tt)) h i.stays) i)
-        go Cmple p q i = move_to Cmple p (Sle, 2) q (at_op Cmple Sle 80 (rule_stays e d room 80 _ refl (SRel Eq (SOp Cmple (SPar 0) (SPar 1)) (SLit 0)) refl refl k ctx w (AExp a ∷ AExp b ∷ []) (i.over.0.0, (i.over.0.1, tt)) h i.stays) i)
-        go Cmpult p q i = move_to Cmpult p (Ult, 3) q (at_op Cmpult Ult 81 (rule_stays e d room 81 _ refl (SRel Eq (SOp Cmpult (SPar 0) (SPar 1)) (SLit 0)) refl refl k ctx w (AExp a ∷ AExp b ∷ []) (i.over.0.0, (i.over.0.1, tt)) h i.stays) i)
-        go Cmpule p q i = move_to Cmpule p (Ule, 4) q (at_op Cmpule Ule 82 (rule_stays e d room 82 _ refl (SRel Eq (SOp Cmpule (SPar 0) (SPar 1)) (SLit 0)) refl refl k ctx w (AExp a ∷ AExp b ∷ []) (i.over.0.0, (i.over.0.1, tt)) h i.stays) i)
+        go Cmpeq p q i = move_to Cmpeq p (Eq, 0) q (at_op Cmpeq Eq 78 (rule_stays sig e d room 78 _ refl (SRel Eq (SOp Cmpeq (SPar 0) (SPar 1)) (SLit 0)) refl refl k ctx w (AExp a ∷ AExp b ∷ []) (i.over.0.0, (i.over.0.1, tt)) h i.stays) i)
+        go Cmplt p q i = move_to Cmplt p (Slt, 1) q (at_op Cmplt Slt 79 (rule_stays sig e d room 79 _ refl (SRel Eq (SOp Cmplt (SPar 0) (SPar 1)) (SLit 0)) refl refl k ctx w (AExp a ∷ AExp b ∷ []) (i.over.0.0, (i.over.0.1, tt)) h i.stays) i)
+        go Cmple p q i = move_to Cmple p (Sle, 2) q (at_op Cmple Sle 80 (rule_stays sig e d room 80 _ refl (SRel Eq (SOp Cmple (SPar 0) (SPar 1)) (SLit 0)) refl refl k ctx w (AExp a ∷ AExp b ∷ []) (i.over.0.0, (i.over.0.1, tt)) h i.stays) i)
+        go Cmpult p q i = move_to Cmpult p (Ult, 3) q (at_op Cmpult Ult 81 (rule_stays sig e d room 81 _ refl (SRel Eq (SOp Cmpult (SPar 0) (SPar 1)) (SLit 0)) refl refl k ctx w (AExp a ∷ AExp b ∷ []) (i.over.0.0, (i.over.0.1, tt)) h i.stays) i)
+        go Cmpule p q i = move_to Cmpule p (Ule, 4) q (at_op Cmpule Ule 82 (rule_stays sig e d room 82 _ refl (SRel Eq (SOp Cmpule (SPar 0) (SPar 1)) (SLit 0)) refl refl k ctx w (AExp a ∷ AExp b ∷ []) (i.over.0.0, (i.over.0.1, tt)) h i.stays) i)
         go _ p q i = cc
 
     yes_hyp : (o : Op) (p : Rel × ℕ) → compared o ≡ Some p → (a b : Exp) (h : Tree) → Hyp (FImp (FRel Eq (EOp o a b) (ELit 0)) FFalse) h → Hyp (FRel p.0 a b) (word_rule (73 + p.1) (a ∷ b ∷ []) (h ∷ []))
     unfolding the_rules
     yes_hyp o p q a b h i = go o p q i
       where
-        at_op : (o : Op) (r : Rel) (j : ℕ) → Stays (e + d) k ctx (form_encoding (FRel r a b)) (word_rule j (a ∷ b ∷ []) (h ∷ [])) → Hyp (FImp (FRel Eq (EOp o a b) (ELit 0)) FFalse) h → Hyp (FRel r a b) (word_rule j (a ∷ b ∷ []) (h ∷ []))
+        at_op : (o : Op) (r : Rel) (j : ℕ) → Stays sig (e + d) k ctx (form_encoding (FRel r a b)) (word_rule j (a ∷ b ∷ []) (h ∷ [])) → Hyp (FImp (FRel Eq (EOp o a b) (ELit 0)) FFalse) h → Hyp (FRel r a b) (word_rule j (a ∷ b ∷ []) (h ∷ []))
         at_op o r j s i =
             record { over = (i.over.0.0.0, i.over.0.0.1); nesting = omega arith; stays = s }
 
@@ -143,11 +144,11 @@ module _ (e d : ℕ) (room : e + (d + d + d) + 16 ≤ 2 ^ 32) (some : 0 < d) whe
         move_to o p u q g = subst (λ z. Hyp (FRel z.0 a b) (word_rule (73 + z.1) (a ∷ b ∷ []) (h ∷ []))) (some_injective q) g
 
         go : (o : Op) (p : Rel × ℕ) → compared o ≡ Some p → Hyp (FImp (FRel Eq (EOp o a b) (ELit 0)) FFalse) h → Hyp (FRel p.0 a b) (word_rule (73 + p.1) (a ∷ b ∷ []) (h ∷ []))
-        go Cmpeq p q i = move_to Cmpeq p (Eq, 0) q (at_op Cmpeq Eq 73 (rule_stays e d room 73 _ refl (SImp (SRel Eq (SOp Cmpeq (SPar 0) (SPar 1)) (SLit 0)) SFalse) refl refl k ctx w (AExp a ∷ AExp b ∷ []) (i.over.0.0.0, (i.over.0.0.1, tt)) h i.stays) i)
-        go Cmplt p q i = move_to Cmplt p (Slt, 1) q (at_op Cmplt Slt 74 (rule_stays e d room 74 _ refl (SImp (SRel Eq (SOp Cmplt (SPar 0) (SPar 1)) (SLit 0)) SFalse) refl refl k ctx w (AExp a ∷ AExp b ∷ []) (i.over.0.0.0, (i.over.0.0.1, tt)) h i.stays) i)
-        go Cmple p q i = move_to Cmple p (Sle, 2) q (at_op Cmple Sle 75 (rule_stays e d room 75 _ refl (SImp (SRel Eq (SOp Cmple (SPar 0) (SPar 1)) (SLit 0)) SFalse) refl refl k ctx w (AExp a ∷ AExp b ∷ []) (i.over.0.0.0, (i.over.0.0.1, tt)) h i.stays) i)
-        go Cmpult p q i = move_to Cmpult p (Ult, 3) q (at_op Cmpult Ult 76 (rule_stays e d room 76 _ refl (SImp (SRel Eq (SOp Cmpult (SPar 0) (SPar 1)) (SLit 0)) SFalse) refl refl k ctx w (AExp a ∷ AExp b ∷ []) (i.over.0.0.0, (i.over.0.0.1, tt)) h i.stays) i)
-        go Cmpule p q i = move_to Cmpule p (Ule, 4) q (at_op Cmpule Ule 77 (rule_stays e d room 77 _ refl (SImp (SRel Eq (SOp Cmpule (SPar 0) (SPar 1)) (SLit 0)) SFalse) refl refl k ctx w (AExp a ∷ AExp b ∷ []) (i.over.0.0.0, (i.over.0.0.1, tt)) h i.stays) i)
+        go Cmpeq p q i = move_to Cmpeq p (Eq, 0) q (at_op Cmpeq Eq 73 (rule_stays sig e d room 73 _ refl (SImp (SRel Eq (SOp Cmpeq (SPar 0) (SPar 1)) (SLit 0)) SFalse) refl refl k ctx w (AExp a ∷ AExp b ∷ []) (i.over.0.0.0, (i.over.0.0.1, tt)) h i.stays) i)
+        go Cmplt p q i = move_to Cmplt p (Slt, 1) q (at_op Cmplt Slt 74 (rule_stays sig e d room 74 _ refl (SImp (SRel Eq (SOp Cmplt (SPar 0) (SPar 1)) (SLit 0)) SFalse) refl refl k ctx w (AExp a ∷ AExp b ∷ []) (i.over.0.0.0, (i.over.0.0.1, tt)) h i.stays) i)
+        go Cmple p q i = move_to Cmple p (Sle, 2) q (at_op Cmple Sle 75 (rule_stays sig e d room 75 _ refl (SImp (SRel Eq (SOp Cmple (SPar 0) (SPar 1)) (SLit 0)) SFalse) refl refl k ctx w (AExp a ∷ AExp b ∷ []) (i.over.0.0.0, (i.over.0.0.1, tt)) h i.stays) i)
+        go Cmpult p q i = move_to Cmpult p (Ult, 3) q (at_op Cmpult Ult 76 (rule_stays sig e d room 76 _ refl (SImp (SRel Eq (SOp Cmpult (SPar 0) (SPar 1)) (SLit 0)) SFalse) refl refl k ctx w (AExp a ∷ AExp b ∷ []) (i.over.0.0.0, (i.over.0.0.1, tt)) h i.stays) i)
+        go Cmpule p q i = move_to Cmpule p (Ule, 4) q (at_op Cmpule Ule 77 (rule_stays sig e d room 77 _ refl (SImp (SRel Eq (SOp Cmpule (SPar 0) (SPar 1)) (SLit 0)) SFalse) refl refl k ctx w (AExp a ∷ AExp b ∷ []) (i.over.0.0.0, (i.over.0.0.1, tt)) h i.stays) i)
         go _ p q i = cc
 
     test_hyp : (is_zero : Bool) (o : Op) (p : Rel × ℕ) → compared o ≡ Some p → (a b : Exp) (h : Tree) →
@@ -176,7 +177,7 @@ module _ (e d : ℕ) (room : e + (d + d + d) + 16 ≤ 2 ^ 32) (some : 0 < d) whe
     tested_are a z h i = tt
 
     pub split_are : (A : Form) (h : Tree) → Hyp A h → Are (split_hyps A h)
-    split_are (FAnd A B) h i = append_are (e + d) d k ctx (split_hyps A (and_l A B h)) (split_hyps B (and_r A B h)) (split_are A (and_l A B h) (and_l_hyp A B h i)) (split_are B (and_r A B h) (and_r_hyp A B h i))
+    split_are (FAnd A B) h i = append_are sig (e + d) d k ctx (split_hyps A (and_l A B h)) (split_hyps B (and_r A B h)) (split_are A (and_l A B h) (and_l_hyp A B h i)) (split_are B (and_r A B h) (and_r_hyp A B h i))
     split_are (FRel p a b) h i = (i, other_are (tested_hyps a) true p a b h i (tested_are a true h))
     split_are (FImp (FRel p a b) FFalse) h i = (i, other_are (tested_hyps a) false p a b h i (tested_are a false h))
     split_are A h i = (i, tt)

@@ -17,38 +17,43 @@ use Rattle.prover_class.specs.Parts.{conjoined, part_proof, condition_proof, ref
 use Rattle.prover_class.specs.Access.{by_all_means}
 use Rattle.prover_class.proofs.Scope.{OverExp, OverMem, Over, nesting}
 use Rattle.prover_class.proofs.Parts.{class_checks}
-use Rattle.lf_signature.specs.declared.WordSignature.TheVariants.{Sigma1}
+use Rattle.prover_class.proofs.Signatures.{declared-operator}
+use Rattle.lf_signature.specs.declared.WordSignature.{WordSignature}
+use Rattle.lf_signature.specs.Known.{HasOp}
 use Rattle.formula_tree.specs.Operators.{UsesExp, UsesMem, Uses}
-use Rattle.word_ops.specs.Operators.{IsFirstOp}
 
-mutual
-  over_exp : (a : Exp) (G : List VarSort) → IsOverExp 0 a G → UsesExp IsFirstOp a →
-      OverExp a (var_types G)
-  over_exp (EReg r) G h u = absurd (omega (arith, h))
-  over_exp ELeft G h u = elim h [ ]
-  over_exp (EVar n) G h u = at-word G n h
-  over_exp (ELit w) G h u = h
-  over_exp (EOp o a b) G h u = (over_exp a G h.0 u.1, over_exp b G h.1 u.2, u.0)
-  over_exp (ESel m a) G h u = (over_mem m G h.0 u.0, over_exp a G h.1 u.1)
+module _ (sig : WordSignature) where
+  mutual
+    over_exp : (a : Exp) (G : List VarSort) → IsOverExp 0 a G → UsesExp (HasOp (declared sig)) a →
+        OverExp sig a (var_types G)
+    over_exp (EReg r) G h u = absurd (omega (arith, h))
+    over_exp ELeft G h u = elim h [ ]
+    over_exp (EVar n) G h u = at-word G n h
+    over_exp (ELit w) G h u = h
+    over_exp (EOp o a b) G h u =
+        (over_exp a G h.0 u.1, over_exp b G h.1 u.2, declared-operator sig o u.0)
+    over_exp (ESel m a) G h u = (over_mem m G h.0 u.0, over_exp a G h.1 u.1)
 
-  over_mem : (m : MemExp) (G : List VarSort) → IsOverMem 0 m G → UsesMem IsFirstOp m →
-      OverMem m (var_types G)
-  over_mem MMem G h u = absurd (omega (arith, h))
-  over_mem (MVar n) G h u = at-mem G n h
-  over_mem (MUpd m a v) G h u = (over_mem m G h.0 u.0, over_exp a G h.1 u.1, over_exp v G h.2 u.2)
+    over_mem : (m : MemExp) (G : List VarSort) → IsOverMem 0 m G
+        → UsesMem (HasOp (declared sig)) m → OverMem sig m (var_types G)
+    over_mem MMem G h u = absurd (omega (arith, h))
+    over_mem (MVar n) G h u = at-mem G n h
+    over_mem (MUpd m a v) G h u =
+        (over_mem m G h.0 u.0, over_exp a G h.1 u.1, over_exp v G h.2 u.2)
 
--- a formula over sorts of variables is over their types
-over_form : (A : Form) (G : List VarSort) → IsOver 0 A G → Uses IsFirstOp A → Over A (var_types G)
-over_form FTrue G h u = tt
-over_form FFalse G h u = tt
-over_form (FRel p a b) G h u = (over_exp a G h.0 u.0, over_exp b G h.1 u.1)
-over_form (FRd a) G h u = over_exp a G h u
-over_form (FWr a) G h u = over_exp a G h u
-over_form (FAnd A B) G h u = (over_form A G h.0 u.0, over_form B G h.1 u.1)
-over_form (FOr A B) G h u = (over_form A G h.0 u.0, over_form B G h.1 u.1)
-over_form (FImp A B) G h u = (over_form A G h.0 u.0, over_form B G h.1 u.1)
-over_form (FAll A) G h u = over_form A (OfWord ∷ G) h u
-over_form (FAllm A) G h u = over_form A (OfMem ∷ G) h u
+  -- a formula over sorts of variables is over their types
+  over_form : (A : Form) (G : List VarSort) → IsOver 0 A G → Uses (HasOp (declared sig)) A →
+      Over sig A (var_types G)
+  over_form FTrue G h u = tt
+  over_form FFalse G h u = tt
+  over_form (FRel p a b) G h u = (over_exp a G h.0 u.0, over_exp b G h.1 u.1)
+  over_form (FRd a) G h u = over_exp a G h u
+  over_form (FWr a) G h u = over_exp a G h u
+  over_form (FAnd A B) G h u = (over_form A G h.0 u.0, over_form B G h.1 u.1)
+  over_form (FOr A B) G h u = (over_form A G h.0 u.0, over_form B G h.1 u.1)
+  over_form (FImp A B) G h u = (over_form A G h.0 u.0, over_form B G h.1 u.1)
+  over_form (FAll A) G h u = over_form A (OfWord ∷ G) h u
+  over_form (FAllm A) G h u = over_form A (OfMem ∷ G) h u
 
 nesting-height : (A : Form) → nesting A ≤ form_height A
 nesting-height FTrue = omega arith
@@ -62,9 +67,13 @@ nesting-height (FImp A B) = omega (arith, nesting-height A, nesting-height B)
 nesting-height (FAll A) = omega (arith, nesting-height A)
 nesting-height (FAllm A) = omega (arith, nesting-height A)
 
-pub sound : (parts : List Form) (p : Tree) → IsOver 0 (conjoined parts) [] → Uses IsFirstOp (conjoined parts) → form_height (conjoined parts) ≤ 2 ^ 29 → condition_proof by_all_means parts ≡ Some p →
-    Checks (declared Sigma1) [] p (pf (form_encoding (conjoined parts)))
-sound parts p o u r q = class_checks parts p (over_form (conjoined parts) [] o u) (omega (arith, r, nesting-height (conjoined parts))) q
+pub sound : (sig : WordSignature) (parts : List Form) (p : Tree) → IsOver 0 (conjoined parts) []
+    → Uses (HasOp (declared sig)) (conjoined parts) → form_height (conjoined parts) ≤ 2 ^ 29
+    → condition_proof by_all_means parts ≡ Some p
+    → Checks (declared sig) [] p (pf (form_encoding (conjoined parts)))
+sound sig parts p o u r q =
+    class_checks sig parts p (over_form sig (conjoined parts) [] o u)
+    (omega (arith, r, nesting-height (conjoined parts))) q
 
 -- the parts' proof is there
 abbrev HasProof : Prover → List Form → Type 0

@@ -1,4 +1,5 @@
 mod Scope
+mod Signatures
 mod Proved
 mod Encoded
 mod Typed

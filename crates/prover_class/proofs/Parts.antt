@@ -18,37 +18,43 @@ use Rattle.prover_class.proofs.Goals.{by_aligned_says, by_bounds_says}
 use Rattle.prover_class.proofs.NormalForms.{by_normal_says}
 use Rattle.prover_class.proofs.Access.{all_sound}
 use Rattle.prover_class.specs.Access.{by_all_means}
-use Rattle.lf_signature.specs.declared.WordSignature.TheVariants.{Sigma1}
+use Rattle.lf_signature.specs.declared.WordSignature.{WordSignature}
 
-module _ (e d : ℕ) (room : e + (d + d + d) + 16 ≤ 2 ^ 32) (some : 0 < d) (s : ℕ) where
-  pub words_sound : IsSound e d room some s by_words_alone
+module _ (sig : WordSignature) (e d : ℕ) (room : e + (d + d + d) + 16 ≤ 2 ^ 32) (some : 0 < d) (s : ℕ) where
+  pub words_sound : IsSound sig e d room some s by_words_alone
   words_sound k out ctx Γ A p w g o nk nd q = go (else_some (by_aligned Γ A) (first_of (by_normal out Γ A) (by_bounds Γ A)) p q)
     where
-      rest : (by_normal out Γ A ≡ Some p) ⊎ (by_bounds Γ A ≡ Some p) → Proves (e + d) ctx (pf (form_encoding A)) p
-      rest (inl f) = by_normal_says e d room some k ctx w out Γ A p o f
-      rest (inr f) = by_bounds_says e d room some k ctx w Γ g A p o f
+      rest : (by_normal out Γ A ≡ Some p) ⊎ (by_bounds Γ A ≡ Some p) → Proves sig (e + d) ctx (pf (form_encoding A)) p
+      rest (inl f) = by_normal_says sig e d room some k ctx w out Γ A p o f
+      rest (inr f) = by_bounds_says sig e d room some k ctx w Γ g A p o f
 
-      go : (by_aligned Γ A ≡ Some p) ⊎ (first_of (by_normal out Γ A) (by_bounds Γ A) ≡ Some p) → Proves (e + d) ctx (pf (form_encoding A)) p
-      go (inl f) = by_aligned_says e d room some k ctx w Γ g A p o f
+      go : (by_aligned Γ A ≡ Some p) ⊎ (first_of (by_normal out Γ A) (by_bounds Γ A) ≡ Some p) → Proves sig (e + d) ctx (pf (form_encoding A)) p
+      go (inl f) = by_aligned_says sig e d room some k ctx w Γ g A p o f
       go (inr f) = rest (else_some (by_normal out Γ A) (by_bounds Γ A) p f)
 
-  module _ (leaf : Prover) (sl : IsSound e d room some s leaf) where
-    part_says : (A : Form) (p : Tree) → Over A [] → nesting A + s ≤ e → nesting A ≤ d → part_proof leaf A ≡ Some p → Proves (e + d) [] (pf (form_encoding A)) p
-    part_says A p o ne nd q = goal_sound e d room some s leaf sl (levels A) e 0 [] [] A p (omega arith) tt o ne nd q
+  module _ (leaf : Prover) (sl : IsSound sig e d room some s leaf) where
+    part_says : (A : Form) (p : Tree) → Over sig A [] → nesting A + s ≤ e → nesting A ≤ d → part_proof leaf A ≡ Some p → Proves sig (e + d) [] (pf (form_encoding A)) p
+    part_says A p o ne nd q = goal_sound sig e d room some s leaf sl (levels A) e 0 [] [] A p (omega arith) tt o ne nd q
 
-    pub proof_says : (l : List Form) (p : Tree) → Over (conjoined l) [] → nesting (conjoined l) + s ≤ e → nesting (conjoined l) ≤ d → condition_proof leaf l ≡ Some p → Proves (e + d) [] (pf (form_encoding (conjoined l))) p
+    pub proof_says : (l : List Form) (p : Tree) → Over sig (conjoined l) [] → nesting (conjoined l) + s ≤ e → nesting (conjoined l) ≤ d → condition_proof leaf l ≡ Some p → Proves sig (e + d) [] (pf (form_encoding (conjoined l))) p
     unfolding the_rules
-    proof_says [] p o ne nd q = subst (λ z. Proves (e + d) [] (pf (form_encoding FTrue)) z) (some_injective q) (rule_proves e d room 27 _ refl [] (omega arith) [] [] tt tt)
+    proof_says [] p o ne nd q = subst (λ z. Proves sig (e + d) [] (pf (form_encoding FTrue)) z) (some_injective q) (rule_proves sig e d room 27 _ refl [] (omega arith) [] [] tt tt)
     proof_says (A ∷ l) p o ne nd q =
         let a = bind_some (part_proof leaf A) (λ p. option_map (and_i A (conjoined l) p) (condition_proof leaf l)) p q in
         let b = map_some (condition_proof leaf l) (and_i A (conjoined l) a.0) p a.2 in
-        subst (λ z. Proves (e + d) [] (pf (form_encoding (conjoined (A ∷ l)))) z) b.2
-        (rule_proves e d room 29 _ refl [] (omega arith) (AForm A ∷ AForm (conjoined l) ∷ []) (a.0 ∷ b.0 ∷ []) ((o.0, omega (arith, nd)), ((o.1, omega (arith, nd)), tt))
+        subst (λ z. Proves sig (e + d) [] (pf (form_encoding (conjoined (A ∷ l)))) z) b.2
+        (rule_proves sig e d room 29 _ refl [] (omega arith) (AForm A ∷ AForm (conjoined l) ∷ []) (a.0 ∷ b.0 ∷ []) ((o.0, omega (arith, nd)), ((o.1, omega (arith, nd)), tt))
         (part_says A a.0 o.0 (omega (arith, ne)) (omega (arith, nd)) a.1, (proof_says l b.0 o.1 (omega (arith, ne)) (omega (arith, nd)) b.1, tt)))
 
-pub class_checks : (l : List Form) (p : Tree) → Over (conjoined l) [] → 5 * nesting (conjoined l) + 20 ≤ 2 ^ 32 → condition_proof by_all_means l ≡ Some p → Checks (declared Sigma1) [] p (pf (form_encoding (conjoined l)))
-class_checks l p o r q =
+pub class_checks : (sig : WordSignature) (l : List Form) (p : Tree) → Over sig (conjoined l) []
+    → 5 * nesting (conjoined l) + 20 ≤ 2 ^ 32 → condition_proof by_all_means l ≡ Some p
+    → Checks (declared sig) [] p (pf (form_encoding (conjoined l)))
+class_checks sig l p o r q =
     let n = nesting (conjoined l) in
-    let room : (n + suc n) + (suc n + suc n + suc n) + 16 ≤ 2 ^ 32 = omega (arith, r) in
+    let e = n + suc n in
+    let room : e + (suc n + suc n + suc n) + 16 ≤ 2 ^ 32 = omega (arith, r) in
     let some : 0 < suc n = omega arith in
-    (proof_says (n + suc n) (suc n) room some (suc n) by_all_means (all_sound (n + suc n) (suc n) room some (words_sound (n + suc n) (suc n) room some 0) (words_sound (n + suc n) (suc n) room some (suc n))) l p o (omega arith) (omega arith) q).checks
+    let plain = words_sound sig e (suc n) room some 0 in
+    let roomy = words_sound sig e (suc n) room some (suc n) in
+    (proof_says sig e (suc n) room some (suc n) by_all_means
+    (all_sound sig e (suc n) room some plain roomy) l p o (omega arith) (omega arith) q).checks

@@ -1,11 +1,10 @@
 -- Rules at formulas, expressions and proofs: typed, and still so under further binders.
-use Rattle.std.proofs.Common.{◌≡◌, ℕ, zero, suc, ◌+◌, ◌^◌, ◌≤◌, max, Bool, true, false, cond, nat_lt, ◌&&◌, Option, Some, None, List, [], ◌∷◌, length, refl, sym, ◌∙◌, ap, subst, arith}
-use Rattle.std.proofs.lemmas.Bool.{ltb-true}
+use Rattle.std.proofs.Common.{◌≡◌, ℕ, zero, suc, ◌+◌, ◌^◌, ◌≤◌, max, Bool, true, false, ◌&&◌, Some, List, [], ◌∷◌, length, refl, sym, ◌∙◌, ap, subst, arith}
 use Rattle.term_table.specs.Tree.{Tree, Con, App, Lam, Num, shift, apps}
 use Rattle.lf_signature.specs.Terms.{exp, mem, pf, op_term, sel, upd, rel_term, and_term, or_term, imp_term}
 use Rattle.lf_signature.specs.Rules.{Sort, OfExp, OfMem, OfForm, OfExpForm, OfMemForm, SExp, SPar, SOwn, SLit, SOp, SSel, SMem, MPar, MOwn, SUpd, SForm, STrue, SFalse, FPar, FOf, FOfMem, SRel, SAnd, SOr, SImp, SAll, SAllm, Premise, Plain, Rule}
 use Rattle.lf_signature.specs.Constants.{declared, rule_at}
-use Rattle.lf_signature.specs.declared.WordSignature.TheVariants.{Sigma1}
+use Rattle.lf_signature.specs.declared.WordSignature.{WordSignature}
 use Rattle.lf_signature.specs.Laws.Booleans.{both, cond_is}
 use Rattle.lf_signature.proofs.Lookup.{declared-rule}
 use Rattle.lf_rules.specs.Plain.{var_bound}
@@ -13,65 +12,62 @@ use Rattle.lf_rules.specs.Instance.{nth_arg, exp_with, mem_with, form_with, IsAr
 use Rattle.lf_rules.proofs.Use.{rule_checks}
 use Rattle.formula_tree.specs.Formulas.{Form, shift_exp, shift_mem, shift_form}
 use Rattle.prover_class.proofs.Scope.{nesting, Serves, AllServe}
+use Rattle.prover_class.proofs.Signatures.{has_rule, rule_of, rule-below}
 use Rattle.formula_terms.proofs.Encoded.{shift-exp_encoding, shift-mem_encoding}
 use Rattle.prover_class.proofs.Encoded.{shift-form_encoding, over_wider, over_exp_wider, over_mem_wider, wider_one}
 use Rattle.prover_class.proofs.Typed.{exp_argument, mem_argument, form_argument, all_argument, allm_argument, exp_bound, mem_bound, form_bound}
 use Rattle.formula_terms.specs.ProofTerms.{Argument, AExp, AMem, AForm, AAll, AAllm, arg_encoding, args_encoding, rule_proof}
 use Rattle.prover_class.proofs.Proved.{Proves, AllProve, Stays}
 
--- the rule at a number, where the first signature declares it
-abbrev pub first_rule : ℕ → Option Rule
-first_rule n = cond (nat_lt n 88) (rule_at n) None
-
 -- contexts have at most e entries, and terms at most d binders in one another
-module _ (e d : ℕ) (room : e + (d + d + d) + 16 ≤ 2 ^ 32) where
-  arg_is : (ctx : List Tree) → length ctx ≤ e → (s : Sort) (a : Argument) → Serves ctx d s a → IsArgument (declared Sigma1) ctx d s (arg_encoding a)
-  arg_is ctx w OfExp (AExp x) h = exp_argument x ctx d h (omega (arith, room, w))
-  arg_is ctx w OfMem (AMem x) h = mem_argument x ctx d h (omega (arith, room, w))
-  arg_is ctx w OfForm (AForm x) h = form_argument x ctx d h.0 h.1 (omega (arith, room, w))
-  arg_is ctx w OfExpForm (AAll x) h = all_argument x ctx d h.0 h.1 (omega (arith, room, w))
-  arg_is ctx w OfMemForm (AAllm x) h = allm_argument x ctx d h.0 h.1 (omega (arith, room, w))
+module _ (sig : WordSignature) (e d : ℕ) (room : e + (d + d + d) + 16 ≤ 2 ^ 32) where
+  arg_is : (ctx : List Tree) → length ctx ≤ e → (s : Sort) (a : Argument) → Serves sig ctx d s a → IsArgument (declared sig) ctx d s (arg_encoding a)
+  arg_is ctx w OfExp (AExp x) h = exp_argument sig x ctx d h (omega (arith, room, w))
+  arg_is ctx w OfMem (AMem x) h = mem_argument sig x ctx d h (omega (arith, room, w))
+  arg_is ctx w OfForm (AForm x) h = form_argument sig x ctx d h.0 h.1 (omega (arith, room, w))
+  arg_is ctx w OfExpForm (AAll x) h = all_argument sig x ctx d h.0 h.1 (omega (arith, room, w))
+  arg_is ctx w OfMemForm (AAllm x) h = allm_argument sig x ctx d h.0 h.1 (omega (arith, room, w))
   arg_is ctx w _ _ h = elim h [ ]
 
-  arg_reach : (ctx : List Tree) → length ctx ≤ e → (s : Sort) (a : Argument) → Serves ctx d s a → var_bound (arg_encoding a) ≤ e + d
-  arg_reach ctx w OfExp (AExp x) h = omega (arith, w, exp_bound x ctx h)
-  arg_reach ctx w OfMem (AMem x) h = omega (arith, w, mem_bound x ctx h)
-  arg_reach ctx w OfForm (AForm x) h = omega (arith, w, form_bound x ctx h.0, h.1)
-  arg_reach ctx w OfExpForm (AAll x) h = omega (arith, w, form_bound x (exp ∷ ctx) h.0, h.1)
-  arg_reach ctx w OfMemForm (AAllm x) h = omega (arith, w, form_bound x (mem ∷ ctx) h.0, h.1)
+  arg_reach : (ctx : List Tree) → length ctx ≤ e → (s : Sort) (a : Argument) → Serves sig ctx d s a → var_bound (arg_encoding a) ≤ e + d
+  arg_reach ctx w OfExp (AExp x) h = omega (arith, w, exp_bound sig x ctx h)
+  arg_reach ctx w OfMem (AMem x) h = omega (arith, w, mem_bound sig x ctx h)
+  arg_reach ctx w OfForm (AForm x) h = omega (arith, w, form_bound sig x ctx h.0, h.1)
+  arg_reach ctx w OfExpForm (AAll x) h = omega (arith, w, form_bound sig x (exp ∷ ctx) h.0, h.1)
+  arg_reach ctx w OfMemForm (AAllm x) h = omega (arith, w, form_bound sig x (mem ∷ ctx) h.0, h.1)
   arg_reach ctx w _ _ h = elim h [ ]
 
-  args_are : (ctx : List Tree) → length ctx ≤ e → (ss : List Sort) (l : List Argument) → AllServe ctx d ss l → AreArguments (declared Sigma1) ctx d ss (args_encoding l)
+  args_are : (ctx : List Tree) → length ctx ≤ e → (ss : List Sort) (l : List Argument) → AllServe sig ctx d ss l → AreArguments (declared sig) ctx d ss (args_encoding l)
   args_are ctx w [] [] h = tt
   args_are ctx w (s ∷ ss) (a ∷ l) h = (arg_is ctx w s a h.0, args_are ctx w ss l h.1)
   args_are ctx w [] (a ∷ l) h = elim h [ ]
   args_are ctx w (s ∷ ss) [] h = elim h [ ]
 
-  proofs_are : (ctx : List Tree) (args : ℕ → Tree) (qs : List Premise) (l : List Tree) → AllProve (e + d) ctx args qs l → AreProofs (declared Sigma1) ctx d args qs l
+  proofs_are : (ctx : List Tree) (args : ℕ → Tree) (qs : List Premise) (l : List Tree) → AllProve sig (e + d) ctx args qs l → AreProofs (declared sig) ctx d args qs l
   proofs_are ctx args [] [] h = tt
   proofs_are ctx args (q ∷ qs) (p ∷ l) h = (record { checks = h.0.checks; room = omega (arith, room, h.0.room) }, proofs_are ctx args qs l h.1)
   proofs_are ctx args [] (p ∷ l) h = elim h [ ]
   proofs_are ctx args (q ∷ qs) [] h = elim h [ ]
 
-  args_reach : (ctx : List Tree) → length ctx ≤ e → (ss : List Sort) (l : List Argument) → AllServe ctx d ss l → (f : Tree) → var_bound f ≤ e + d → var_bound (apps f (args_encoding l)) ≤ e + d
+  args_reach : (ctx : List Tree) → length ctx ≤ e → (ss : List Sort) (l : List Argument) → AllServe sig ctx d ss l → (f : Tree) → var_bound f ≤ e + d → var_bound (apps f (args_encoding l)) ≤ e + d
   args_reach ctx w [] [] h f r = r
   args_reach ctx w (s ∷ ss) (a ∷ l) h f r = args_reach ctx w ss l h.1 (App f (arg_encoding a)) (omega (arith, r, arg_reach ctx w s a h.0))
   args_reach ctx w [] (a ∷ l) h f r = elim h [ ]
   args_reach ctx w (s ∷ ss) [] h f r = elim h [ ]
 
-  proofs_reach : (ctx : List Tree) (args : ℕ → Tree) (qs : List Premise) (l : List Tree) → AllProve (e + d) ctx args qs l → (f : Tree) → var_bound f ≤ e + d → var_bound (apps f l) ≤ e + d
+  proofs_reach : (ctx : List Tree) (args : ℕ → Tree) (qs : List Premise) (l : List Tree) → AllProve sig (e + d) ctx args qs l → (f : Tree) → var_bound f ≤ e + d → var_bound (apps f l) ≤ e + d
   proofs_reach ctx args [] [] h f r = r
   proofs_reach ctx args (q ∷ qs) (p ∷ l) h f r = proofs_reach ctx args qs l h.1 (App f p) (omega (arith, r, h.0.room))
   proofs_reach ctx args [] (p ∷ l) h f r = elim h [ ]
   proofs_reach ctx args (q ∷ qs) [] h f r = elim h [ ]
 
   -- a rule at arguments that serve it and at proofs of its premises proves its conclusion
-  pub rule_proves : (n : ℕ) (r : Rule) → first_rule n ≡ Some r → (ctx : List Tree) → length ctx ≤ e → (args : List Argument) (proofs : List Tree) → AllServe ctx d r.parameters args →
-      AllProve (e + d) ctx (nth_arg (args_encoding args)) r.premises proofs → Proves (e + d) ctx (pf (form_with r.conclusion (nth_arg (args_encoding args)))) (rule_proof n args proofs)
+  pub rule_proves : (n : ℕ) (r : Rule) → rule_of sig n ≡ Some r → (ctx : List Tree) → length ctx ≤ e → (args : List Argument) (proofs : List Tree) → AllServe sig ctx d r.parameters args →
+      AllProve sig (e + d) ctx (nth_arg (args_encoding args)) r.premises proofs → Proves sig (e + d) ctx (pf (form_with r.conclusion (nth_arg (args_encoding args)))) (rule_proof n args proofs)
   rule_proves n r q ctx w args proofs h g =
-      let f : (nat_lt n 88 ≡ true) × (rule_at n ≡ Some r) = cond_is (nat_lt n 88) (rule_at n) r q in
+      let f : (has_rule sig n ≡ true) × (rule_at n ≡ Some r) = cond_is (has_rule sig n) (rule_at n) r q in
       record {
-        checks = rule_checks (declared Sigma1) n r f.1 (declared-rule Sigma1 n r (ltb-true n 88 f.0) f.1) ctx d (args_encoding args) proofs (args_are ctx w r.parameters args h) (proofs_are ctx (nth_arg (args_encoding args)) r.premises proofs g);
+        checks = rule_checks (declared sig) n r f.1 (declared-rule sig n r (rule-below sig n f.0) f.1) ctx d (args_encoding args) proofs (args_are ctx w r.parameters args h) (proofs_are ctx (nth_arg (args_encoding args)) r.premises proofs g);
         room = proofs_reach ctx (nth_arg (args_encoding args)) r.premises proofs g (apps (Con (Num n)) (args_encoding args)) (args_reach ctx w r.parameters args h (Con (Num n)) (omega arith));
       }
 
@@ -190,45 +186,45 @@ nesting-shift A k c = go A c
     go (Form.FAll A) c = ap suc (go A (suc c))
     go (Form.FAllm A) c = ap suc (go A (suc c))
 
-serve_more : (d : ℕ) (ctx : List Tree) (t : Tree) (ss : List Sort) (l : List Argument) → is_simple ss ≡ true → AllServe ctx d ss l → AllServe (t ∷ ctx) d ss (shift_args l)
-serve_more d ctx t [] [] q h = tt
-serve_more d ctx t (OfExp ∷ ss) (AExp x ∷ l) q h = (over_exp_wider x 0 ctx (t ∷ ctx) (wider_one ctx t) h.0, serve_more d ctx t ss l q h.1)
-serve_more d ctx t (OfMem ∷ ss) (AMem x ∷ l) q h = (over_mem_wider x 0 ctx (t ∷ ctx) (wider_one ctx t) h.0, serve_more d ctx t ss l q h.1)
-serve_more d ctx t (OfForm ∷ ss) (AForm x ∷ l) q h =
-    ((over_wider x 0 ctx (t ∷ ctx) (wider_one ctx t) h.0.0, omega (arith, h.0.1, nesting-shift x 1 0)), serve_more d ctx t ss l q h.1)
-serve_more d ctx t (OfExpForm ∷ ss) l q h = cc
-serve_more d ctx t (OfMemForm ∷ ss) l q h = cc
-serve_more d ctx t [] (a ∷ l) q h = elim h [ ]
-serve_more d ctx t (s ∷ ss) [] q h = elim h [ ]
-serve_more d ctx t (OfExp ∷ ss) (a ∷ l) q h = elim (h.0) [ ]
-serve_more d ctx t (OfMem ∷ ss) (a ∷ l) q h = elim (h.0) [ ]
-serve_more d ctx t (OfForm ∷ ss) (a ∷ l) q h = elim (h.0) [ ]
+serve_more : (sig : WordSignature) (d : ℕ) (ctx : List Tree) (t : Tree) (ss : List Sort) (l : List Argument) → is_simple ss ≡ true → AllServe sig ctx d ss l → AllServe sig (t ∷ ctx) d ss (shift_args l)
+serve_more sig d ctx t [] [] q h = tt
+serve_more sig d ctx t (OfExp ∷ ss) (AExp x ∷ l) q h = (over_exp_wider sig x 0 ctx (t ∷ ctx) (wider_one ctx t) h.0, serve_more sig d ctx t ss l q h.1)
+serve_more sig d ctx t (OfMem ∷ ss) (AMem x ∷ l) q h = (over_mem_wider sig x 0 ctx (t ∷ ctx) (wider_one ctx t) h.0, serve_more sig d ctx t ss l q h.1)
+serve_more sig d ctx t (OfForm ∷ ss) (AForm x ∷ l) q h =
+    ((over_wider sig x 0 ctx (t ∷ ctx) (wider_one ctx t) h.0.0, omega (arith, h.0.1, nesting-shift x 1 0)), serve_more sig d ctx t ss l q h.1)
+serve_more sig d ctx t (OfExpForm ∷ ss) l q h = cc
+serve_more sig d ctx t (OfMemForm ∷ ss) l q h = cc
+serve_more sig d ctx t [] (a ∷ l) q h = elim h [ ]
+serve_more sig d ctx t (s ∷ ss) [] q h = elim h [ ]
+serve_more sig d ctx t (OfExp ∷ ss) (a ∷ l) q h = elim (h.0) [ ]
+serve_more sig d ctx t (OfMem ∷ ss) (a ∷ l) q h = elim (h.0) [ ]
+serve_more sig d ctx t (OfForm ∷ ss) (a ∷ l) q h = elim (h.0) [ ]
 
-pub stays_now : (bound k : ℕ) (ctx : List Tree) (a p : Tree) → Stays bound k ctx a p → Proves bound ctx (pf a) p
-stays_now bound zero ctx a p h = h
-stays_now bound (suc k) ctx a p h = h.0
+pub stays_now : (sig : WordSignature) (bound k : ℕ) (ctx : List Tree) (a p : Tree) → Stays sig bound k ctx a p → Proves sig bound ctx (pf a) p
+stays_now sig bound zero ctx a p h = h
+stays_now sig bound (suc k) ctx a p h = h.0
 
 -- a rule of one plain premise carries over what stays
-module _ (e d : ℕ) (room : e + (d + d + d) + 16 ≤ 2 ^ 32) (n : ℕ) (r : Rule) (q : first_rule n ≡ Some r) (p : SForm) (only : r.premises ≡ Plain p ∷ [])
+module _ (sig : WordSignature) (e d : ℕ) (room : e + (d + d + d) + 16 ≤ 2 ^ 32) (n : ℕ) (r : Rule) (q : rule_of sig n ≡ Some r) (p : SForm) (only : r.premises ≡ Plain p ∷ [])
     (simple : (is_simple r.parameters && (simple_form p && simple_form r.conclusion)) ≡ true) where
-  now : (ctx : List Tree) → length ctx ≤ e → (l : List Argument) → AllServe ctx d r.parameters l → (h : Tree) → Proves (e + d) ctx (pf (form_with p (nth_arg (args_encoding l)))) h →
-      Proves (e + d) ctx (pf (form_with r.conclusion (nth_arg (args_encoding l)))) (rule_proof n l (h ∷ []))
+  now : (ctx : List Tree) → length ctx ≤ e → (l : List Argument) → AllServe sig ctx d r.parameters l → (h : Tree) → Proves sig (e + d) ctx (pf (form_with p (nth_arg (args_encoding l)))) h →
+      Proves sig (e + d) ctx (pf (form_with r.conclusion (nth_arg (args_encoding l)))) (rule_proof n l (h ∷ []))
   now ctx w l s h g =
-      let are : AllProve (e + d) ctx (nth_arg (args_encoding l)) (Plain p ∷ []) (h ∷ []) = (g, tt) in
-      rule_proves e d room n r q ctx w l (h ∷ []) s (subst (λ z. AllProve (e + d) ctx (nth_arg (args_encoding l)) z (h ∷ [])) (sym only) are)
+      let are : AllProve sig (e + d) ctx (nth_arg (args_encoding l)) (Plain p ∷ []) (h ∷ []) = (g, tt) in
+      rule_proves sig e d room n r q ctx w l (h ∷ []) s (subst (λ z. AllProve sig (e + d) ctx (nth_arg (args_encoding l)) z (h ∷ [])) (sym only) are)
 
-  pub rule_stays : (k : ℕ) (ctx : List Tree) → length ctx + k ≤ e → (l : List Argument) → AllServe ctx d r.parameters l → (h : Tree) →
-      Stays (e + d) k ctx (form_with p (nth_arg (args_encoding l))) h → Stays (e + d) k ctx (form_with r.conclusion (nth_arg (args_encoding l))) (rule_proof n l (h ∷ []))
+  pub rule_stays : (k : ℕ) (ctx : List Tree) → length ctx + k ≤ e → (l : List Argument) → AllServe sig ctx d r.parameters l → (h : Tree) →
+      Stays sig (e + d) k ctx (form_with p (nth_arg (args_encoding l))) h → Stays sig (e + d) k ctx (form_with r.conclusion (nth_arg (args_encoding l))) (rule_proof n l (h ∷ []))
   rule_stays zero ctx w l s h g = now ctx (omega (arith, w)) l s h g
   rule_stays (suc k) ctx w l s h g =
       let f = both _ _ simple in
       let m = both _ _ f.1 in (
         now ctx (omega (arith, w)) l s h g.0,
         λ t.
-            let u : Stays (e + d) k (t ∷ ctx) (form_with p (nth_arg (args_encoding (shift_args l)))) (shift 1 0 h) =
-            subst (λ z. Stays (e + d) k (t ∷ ctx) z (shift 1 0 h)) (form-shift l p m.0) (g.1 t) in
-            let v : Stays (e + d) k (t ∷ ctx) (form_with r.conclusion (nth_arg (args_encoding (shift_args l)))) (rule_proof n (shift_args l) (shift 1 0 h ∷ [])) =
-            rule_stays k (t ∷ ctx) (omega (arith, w)) (shift_args l) (serve_more d ctx t r.parameters l f.0 s) (shift 1 0 h) u in
-            subst (λ z. Stays (e + d) k (t ∷ ctx) z (shift 1 0 (rule_proof n l (h ∷ [])))) (sym (form-shift l r.conclusion m.1))
-            (subst (λ z. Stays (e + d) k (t ∷ ctx) (form_with r.conclusion (nth_arg (args_encoding (shift_args l)))) (App z (shift 1 0 h))) (sym (apps-shift l (Con (Num n)))) v),
+            let u : Stays sig (e + d) k (t ∷ ctx) (form_with p (nth_arg (args_encoding (shift_args l)))) (shift 1 0 h) =
+            subst (λ z. Stays sig (e + d) k (t ∷ ctx) z (shift 1 0 h)) (form-shift l p m.0) (g.1 t) in
+            let v : Stays sig (e + d) k (t ∷ ctx) (form_with r.conclusion (nth_arg (args_encoding (shift_args l)))) (rule_proof n (shift_args l) (shift 1 0 h ∷ [])) =
+            rule_stays k (t ∷ ctx) (omega (arith, w)) (shift_args l) (serve_more sig d ctx t r.parameters l f.0 s) (shift 1 0 h) u in
+            subst (λ z. Stays sig (e + d) k (t ∷ ctx) z (shift 1 0 (rule_proof n l (h ∷ [])))) (sym (form-shift l r.conclusion m.1))
+            (subst (λ z. Stays sig (e + d) k (t ∷ ctx) (form_with r.conclusion (nth_arg (args_encoding (shift_args l)))) (App z (shift 1 0 h))) (sym (apps-shift l (Con (Num n)))) v),
       )

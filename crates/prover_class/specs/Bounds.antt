@@ -2,7 +2,7 @@
 use Rattle.std.specs.Prelude.{ℕ, suc, ◌+◌, ◌^◌, if◌then◌else◌, nat_lt, nat_le, List, [], ◌∷◌, ◌++◌}
 use Rattle.term_table.specs.Tree.{Tree}
 use Rattle.word_ops.specs.declared.Op.{Op}
-use Rattle.word_ops.specs.declared.Op.TheVariants.{Add, Sub, Band, Sll, Srl, Cmpeq, Cmplt, Cmple, Cmpult, Cmpule}
+use Rattle.word_ops.specs.declared.Op.TheVariants.{Add, Sub, Band, Sll, Srl, Cmpeq, Cmplt, Cmple, Cmpult, Cmpule, Bic, Extb, Extw, Extl}
 use Rattle.word_ops.specs.declared.Rel.TheVariants.{Eq, Ult, Ule}
 use Rattle.word_ops.specs.Words.{word_of}
 use Rattle.formula_tree.specs.Formulas.{Exp, EReg, ELeft, EVar, ELit, EOp, ESel, Form, FRel}
@@ -81,6 +81,14 @@ op_bounds Cmplt a b v w = word_bound 1 (word_rule 84 (a ∷ b ∷ []) []) ∷ []
 op_bounds Cmple a b v w = word_bound 1 (word_rule 85 (a ∷ b ∷ []) []) ∷ []
 op_bounds Cmpult a b v w = word_bound 1 (word_rule 86 (a ∷ b ∷ []) []) ∷ []
 op_bounds Cmpule a b v w = word_bound 1 (word_rule 87 (a ∷ b ∷ []) []) ∷ []
+op_bounds Bic a b v w =
+    word_bound v.value
+    (word_rule 64 (EOp Bic a b ∷ a ∷ ELit v.value ∷ [])
+    (word_rule 97 (a ∷ b ∷ []) [] ∷ v.proof ∷ []))
+    ∷ []
+op_bounds Extb a b v w = word_bound 255 (word_rule 100 (a ∷ b ∷ []) []) ∷ []
+op_bounds Extw a b v w = word_bound 65535 (word_rule 101 (a ∷ b ∷ []) []) ∷ []
+op_bounds Extl a b v w = word_bound 4294967295 (word_rule 102 (a ∷ b ∷ []) []) ∷ []
 op_bounds o a b v w = []
 
 -- a literal is its own bound

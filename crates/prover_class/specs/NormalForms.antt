@@ -2,7 +2,7 @@
 use Rattle.std.specs.Prelude.{ℕ, zero, suc, ◌+◌, ◌-◌, ◌&&◌, if◌then◌else◌, nat_lt, nat_le, Option, Some, None, List, [], ◌∷◌}
 use Rattle.term_table.specs.Tree.{Tree}
 use Rattle.word_ops.specs.declared.Op.{Op}
-use Rattle.word_ops.specs.declared.Op.TheVariants.{Add, Sub, Bis}
+use Rattle.word_ops.specs.declared.Op.TheVariants.{Add, Sub, Band, Bis, Sll, Xor, Bic, S4add, S8add}
 use Rattle.word_ops.specs.declared.Rel.{Rel}
 use Rattle.word_ops.specs.declared.Rel.TheVariants.{Eq}
 use Rattle.word_ops.specs.Words.{word_of, test_of}
@@ -10,6 +10,7 @@ use Rattle.formula_tree.specs.Formulas.{Exp, EReg, ELeft, EVar, ELit, EOp, ESel,
 use Rattle.formula_tree.specs.Variables.{PExp, subst_var_exp}
 use Rattle.formula_terms.specs.ProofTerms.{word_rule, move, swap, up, eq_refl, calc, fact}
 use Rattle.prover_class.specs.Hypotheses.{same_exp}
+use Rattle.prover_class.specs.Bounds.{max_word}
 
 -- One rewriting: into is the expression with variable 0 in the place of what is rewritten, from becomes to there by the proof.
 pub record Rewriting : Type 0 where
@@ -47,7 +48,21 @@ turned a b c =
     ∷ rewriting (EVar 0) (EOp Add (EOp Add b a) c) (EOp Add b (EOp Add a c)) (word_rule 47 (b ∷ a ∷ c ∷ []) [])
     ∷ []
 
--- the rewriting of an operator at two expressions, if there is one
+-- an operator that others define, or an exclusive or of an expression with itself, rewritten
+abbrev pub rewrite_defined : Op → Exp → Exp → List Rewriting
+rewrite_defined S4add a b =
+    whole_step (EOp S4add a b) (EOp Add (EOp Sll a (ELit 2)) b) (word_rule 98 (a ∷ b ∷ []) [])
+rewrite_defined S8add a b =
+    whole_step (EOp S8add a b) (EOp Add (EOp Sll a (ELit 3)) b) (word_rule 99 (a ∷ b ∷ []) [])
+rewrite_defined Bic a b =
+    whole_step (EOp Bic a b) (EOp Band a (EOp Xor b (ELit max_word)))
+    (word_rule 103 (a ∷ b ∷ []) [])
+rewrite_defined Xor a b =
+    if same_exp a b then whole_step (EOp Xor a b) (ELit 0) (word_rule 96 (a ∷ []) []) else []
+rewrite_defined o a b = []
+
+-- The rewriting of an operator at two expressions, if there is one. Two words are computed first,
+-- whatever the operator.
 abbrev pub rewrite_at : ℕ → Op → Exp → Exp → List Rewriting
 rewrite_at outside o (ELit v) (ELit w) = whole_step (EOp o (ELit v) (ELit w)) (ELit (word_of o v w)) (calc o v w)
 rewrite_at outside Sub a (ELit w) = whole_step (EOp Sub a (ELit w)) (EOp Add a (EOp Sub (ELit 0) (ELit w))) (word_rule 50 (a ∷ ELit w ∷ []) [])
@@ -57,7 +72,7 @@ rewrite_at outside Bis (ELit zero) a = whole_step (EOp Bis (ELit 0) a) a (word_r
 rewrite_at outside Add (EOp Add a b) c = whole_step (EOp Add (EOp Add a b) c) (EOp Add a (EOp Add b c)) (word_rule 47 (a ∷ b ∷ c ∷ []) [])
 rewrite_at outside Add a (EOp Add b c) = if nat_lt (summand_key outside b) (summand_key outside a) then turned a b c else swapped outside a (EOp Add b c)
 rewrite_at outside Add a b = swapped outside a b
-rewrite_at outside o a b = []
+rewrite_at outside o a b = rewrite_defined o a b
 
 -- steps in the left part
 abbrev pub in_left : Op → Exp → List Rewriting → List Rewriting

@@ -13,19 +13,20 @@ ghost use Rattle.prover_class.specs.Parts.{conjoined, part_proof, condition_proo
 ghost use Rattle.prover_class.specs.Hypotheses.{with_new};
 ghost use Rattle.prover_class.specs.Access.{by_all_means};
 ghost use Rattle.prover_class.specs.Repeats.{part_proof_adding, with_repeats};
-ghost use Rattle.lf_signature.specs.declared.WordSignature.TheVariants.{Sigma1};
+ghost use Rattle.lf_signature.specs.declared.WordSignature.{WordSignature};
+ghost use Rattle.lf_signature.specs.Known.{HasOp};
 ghost use Rattle.formula_tree.specs.Operators.{Uses};
-ghost use Rattle.word_ops.specs.Operators.{IsFirstOp};
 
-/// The class is sound: what it gives a closed condition whose operators are the first profile's is
-/// a proof of it, a term of that type by the typing derivations over the first signature, where the
-/// condition's height is at most 2^29. It gives one exactly where no part is the first that isn't
-/// easy, wherever their numbers begin.
+/// The class is sound: what it gives a closed condition is a proof of it, a term of that type by
+/// the typing derivations, over each signature of word arithmetic that has the condition's
+/// operators, where the condition's height is at most 2^29. So it is one over the second signature,
+/// which has all operators, and over the first where they are the first profile's. The class gives
+/// one exactly where no part is the first that isn't easy, wherever their numbers begin.
 pub fn class_laws()
-    ensures sound { (parts : List Form) (p : Tree) → IsOver 0 (conjoined parts) []
-        → Uses IsFirstOp (conjoined parts) → form_height (conjoined parts) ≤ 2 ^ 29
-        → condition_proof by_all_means parts ≡ Some p
-        → Checks (declared Sigma1) [] p (pf (form_encoding (conjoined parts))) }
+    ensures sound { (s : WordSignature) (parts : List Form) (p : Tree)
+        → IsOver 0 (conjoined parts) [] → Uses (HasOp (declared s)) (conjoined parts)
+        → form_height (conjoined parts) ≤ 2 ^ 29 → condition_proof by_all_means parts ≡ Some p
+        → Checks (declared s) [] p (pf (form_encoding (conjoined parts))) }
     ensures exact { (parts : List Form) (n : ℕ) →
         (first_not_easy by_all_means n parts ≡ None)
         ↔ ((p : Tree) × (condition_proof by_all_means parts ≡ Some p)) }

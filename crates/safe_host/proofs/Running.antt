@@ -11,6 +11,7 @@ use Rattle.reference_machine.proofs.Starting.{start_state-is}
 use Rattle.packet_store.specs.StartMeets.{StartMeets}
 use Rattle.vcgen.specs.Conditions.{condition}
 use Rattle.term_table.specs.Table.{id_trees}
+use Rattle.lf_signature.specs.declared.WordSignature.TheVariants.{Sigma3}
 use Rattle.vcgen.specs.Encoded.{AreForms, AreEncodings}
 use Rattle.vcgen.specs.Safety.{IsAnnotated, Holds}
 use Rattle.pcc_gate.specs.Views.{AcceptedView, AreAnnotations, IsConditionTrue}
@@ -38,9 +39,10 @@ pub record HasBegun (a : AcceptedView) (setup : StartView) (h : HostView) : Type
   pub meets : StartMeets setup a.policy.pre
   pub fits : RightsFit h (start_rights setup)
 
-module _ (a : AcceptedView) (forms : AreForms (id_trees a.table a.invs)) (annotates : AreAnnotations a) (valid : IsConditionTrue a) where
+module _ (a : AcceptedView) (forms : AreForms Sigma3 (id_trees a.table a.invs))
+    (annotates : AreAnnotations a) (valid : IsConditionTrue a) where
   encoded : AreEncodings (id_trees a.table a.invs) (shown_formulas a)
-  encoded = formulas-encoded (id_trees a.table a.invs) forms
+  encoded = formulas-encoded Sigma3 (id_trees a.table a.invs) forms
 
   is-annotated : IsAnnotated (shown_code a)
   is-annotated = annotates (shown_formulas a) encoded
@@ -70,7 +72,8 @@ module _ (a : AcceptedView) (forms : AreForms (id_trees a.table a.invs)) (annota
       record { is = is; meets = start; fits = subst (λ (h : HostView). RightsFit h (start_rights setup)) (sym is) (start-fits setup fits are start) }
 
 -- a host's accepted code has these laws
-module _ (h : HostView) (forms : AreForms (id_trees h.accepted.table h.accepted.invs)) (annotates : AreAnnotations h.accepted) (valid : IsConditionTrue h.accepted) (n : ℕ) where
+module _ (h : HostView) (forms : AreForms Sigma3 (id_trees h.accepted.table h.accepted.invs))
+    (annotates : AreAnnotations h.accepted) (valid : IsConditionTrue h.accepted) (n : ℕ) where
   fits : (r : Rights) → RightsFit h r → PartFits (shown_code h.accepted) 0 (part_of h) r
   fits r f = record { reads = f.reads; writes = f.writes; holds = f.holds }
 

@@ -11,11 +11,13 @@ ghost use Rattle.formula_tree.specs.Formulas.{Exp, ELit, EOp};
 ghost use Rattle.formula_terms.specs.Encoding.{exp_encoding};
 ghost use Rattle.formula_terms.specs.ProofTerms.{up, calc};
 ghost use Rattle.prover_class.specs.NormalForms.{Rewriting, summand_key, turned, rewrite_at, in_left, in_right, redex};
-ghost use Rattle.sum_proofs.specs.Inside.Rewrites.{IsKnownRewrite, IsRewrite, AreKnownRewrites, AreRewrites, IsSummand, IsKnownSummand, IsRule, IsKnownRule, applied_summand, rule_at_word, rule_before, whole_of, negated_of, operand_of, regrouped_of, commuted_of, ungrouped_of, left_of, right_of, has_rewrites};
+ghost use Rattle.sum_proofs.specs.Inside.Rewrites.{IsKnownRewrite, IsRewrite, AreKnownRewrites, AreRewrites, IsSummand, IsKnownSummand, IsRule, IsKnownRule, applied_summand, rule_by_op, rule_at_word, rule_before, whole_of, negated_of, scaled_of, complemented_of, cancelled_of, operand_of, regrouped_of, commuted_of, ungrouped_of, left_of, right_of, has_rewrites};
 
 use formula_ids::{ExpNode, calc, exp_node, oper, raised, swapped};
 use hereditary_subst::{Exhausted, Memo};
-use lf_rules::numbers::{ADD_ASSOC, ADD_COMM, ADD_ZERO, BIS_ZERO, BIS_ZERO_L, SUB_NEG};
+use lf_rules::numbers::{
+    ADD_ASSOC, ADD_COMM, ADD_ZERO, BIC_DEF, BIS_ZERO, BIS_ZERO_L, S4_DEF, S8_DEF, SUB_NEG, XOR_SELF,
+};
 use lf_rules::rule_term;
 use term_table::{Id, Node, Table};
 use word_ops::{Op, apply};
@@ -72,6 +74,13 @@ enum Rule {
     Turned(Id, Id),
     /// The operands change places.
     Swapped,
+    /// To the sum of the first operand, shifted to the left by so many bits, and the second; by the
+    /// rule of this number.
+    Scaled(u32, u64),
+    /// Bits cleared: to the bitwise and with the complement.
+    Complemented,
+    /// The operands of an exclusive or are one: to 0.
+    Cancelled,
 }
 
 /// The order of summands, where `outside` binders stand outside.
@@ -119,9 +128,23 @@ fn operand(table: &Table, e: Id) -> Summand
     }
 }
 
-/// The rule of an operator whose second operand is the word.
-fn rule_at_word(op: Op, first: Summand, w: u64, comes: bool) -> Rule
-    ensures { result ≡ rule_at_word op first w comes }
+/// The rule of an operator that others define, and of an exclusive or; `same` says that the
+/// operands are one.
+fn rule_by_op(op: Op, same: bool) -> Rule
+    ensures { result ≡ rule_by_op op same }
+{
+    match op {
+        Op::S4add => Rule::Scaled(S4_DEF, 2),
+        Op::S8add => Rule::Scaled(S8_DEF, 3),
+        Op::Bic => Rule::Complemented,
+        Op::Xor if same => Rule::Cancelled,
+        _ => Rule::Nothing,
+    }
+}
+
+/// The rule of an operator whose second operand is the word; `same` says that the operands are one.
+fn rule_at_word(op: Op, first: Summand, w: u64, comes: bool, same: bool) -> Rule
+    ensures { result ≡ rule_at_word op first w comes same }
 {
     match first {
         Summand::Word(v) => Rule::Value(v, w),
@@ -130,22 +153,23 @@ fn rule_at_word(op: Op, first: Summand, w: u64, comes: bool) -> Rule
             Op::Add if w == 0 => Rule::First(ADD_ZERO),
             Op::Add => Rule::Regrouped(p, q),
             Op::Bis if w == 0 => Rule::First(BIS_ZERO),
-            _ => Rule::Nothing,
+            _ => rule_by_op(op, same),
         },
         Summand::Other => match op {
             Op::Sub => Rule::Negated,
             Op::Add if w == 0 => Rule::First(ADD_ZERO),
             Op::Add if comes => Rule::Swapped,
             Op::Bis if w == 0 => Rule::First(BIS_ZERO),
-            _ => Rule::Nothing,
+            _ => rule_by_op(op, same),
         },
     }
 }
 
 /// The rule of an operator whose second operand is no word. `turn` has the parts of the second, if
-/// it is a sum whose first part comes before the first operand.
-fn rule_before(op: Op, first: Summand, turn: Option<(Id, Id)>, comes: bool) -> Rule
-    ensures { result ≡ rule_before op first turn comes }
+/// it is a sum whose first part comes before the first operand; `same` says that the operands are
+/// one.
+fn rule_before(op: Op, first: Summand, turn: Option<(Id, Id)>, comes: bool, same: bool) -> Rule
+    ensures { result ≡ rule_before op first turn comes same }
 {
     match op {
         Op::Add => match first {
@@ -160,7 +184,7 @@ fn rule_before(op: Op, first: Summand, turn: Option<(Id, Id)>, comes: bool) -> R
             Summand::Word(0) => Rule::Second(BIS_ZERO_L),
             _ => Rule::Nothing,
         },
-        _ => Rule::Nothing,
+        _ => rule_by_op(op, same),
     }
 }
 
@@ -174,17 +198,18 @@ fn rule_at(table: &Table, outside: u32, op: Op, a: Id, b: Id) -> Rule
 {
     let key = summand_key(table, outside, a);
     let comes = summand_key(table, outside, b) < key;
+    let same = table.same(a, b);
     let first = operand(table, a);
     match operand(table, b) {
-        Summand::Word(w) => rule_at_word(op, first, w, comes),
+        Summand::Word(w) => rule_at_word(op, first, w, comes, same),
         Summand::Sum(p, q) => {
             if summand_key(table, outside, p) < key {
-                rule_before(op, first, Some((p, q)), comes)
+                rule_before(op, first, Some((p, q)), comes, same)
             } else {
-                rule_before(op, first, None, comes)
+                rule_before(op, first, None, comes, same)
             }
         }
-        Summand::Other => rule_before(op, first, None, comes),
+        Summand::Other => rule_before(op, first, None, comes, same),
     }
 }
 
@@ -239,6 +264,65 @@ fn to_sum(table: &mut Table, e: Id, a: Id, b: Id) -> Result<Rewrite, Exhausted>
     let sum = oper(table, Op::Add, a, negative)?;
     let proof = rule_term(table, SUB_NEG, &[a, b])?;
     whole(table, e, sum, proof)
+}
+
+/// To the sum of the first operand, shifted to the left by `count` bits, and the second, by the
+/// rule of this number.
+fn to_scaled(
+    table: &mut Table,
+    e: Id,
+    a: Id,
+    b: Id,
+    number: u32,
+    count: u64,
+) -> Result<Rewrite, Exhausted>
+    requires e { IsKnown table.old e }
+    requires a { IsKnown table.old a }
+    requires b { IsKnown table.old b }
+    ensures known { IfOk result (IsKnownRewrite table.new) }
+    ensures exact { (f x y : Exp) → tree_at table.old e ≡ exp_encoding f
+        → tree_at table.old a ≡ exp_encoding x → tree_at table.old b ≡ exp_encoding y
+        → IfOk result (λ s. IsRewrite table.new s (scaled_of number count f x y)) }
+    ensures extends { Extends table.old table.new }
+{
+    let by = table.intern(Node::Lit(count))?;
+    let shifted = oper(table, Op::Sll, a, by)?;
+    let sum = oper(table, Op::Add, shifted, b)?;
+    let proof = rule_term(table, number, &[a, b])?;
+    whole(table, e, sum, proof)
+}
+
+/// From bits cleared to the bitwise and with the complement.
+fn to_complement(table: &mut Table, e: Id, a: Id, b: Id) -> Result<Rewrite, Exhausted>
+    requires e { IsKnown table.old e }
+    requires a { IsKnown table.old a }
+    requires b { IsKnown table.old b }
+    ensures known { IfOk result (IsKnownRewrite table.new) }
+    ensures exact { (f x y : Exp) → tree_at table.old e ≡ exp_encoding f
+        → tree_at table.old a ≡ exp_encoding x → tree_at table.old b ≡ exp_encoding y
+        → IfOk result (λ s. IsRewrite table.new s (complemented_of f x y)) }
+    ensures extends { Extends table.old table.new }
+{
+    let ones = table.intern(Node::Lit(u64::MAX))?;
+    let complement = oper(table, Op::Xor, b, ones)?;
+    let masked = oper(table, Op::Band, a, complement)?;
+    let proof = rule_term(table, BIC_DEF, &[a, b])?;
+    whole(table, e, masked, proof)
+}
+
+/// From an exclusive or of an operand with itself to 0.
+fn to_zero(table: &mut Table, e: Id, a: Id) -> Result<Rewrite, Exhausted>
+    requires e { IsKnown table.old e }
+    requires a { IsKnown table.old a }
+    ensures known { IfOk result (IsKnownRewrite table.new) }
+    ensures exact { (f x : Exp) → tree_at table.old e ≡ exp_encoding f
+        → tree_at table.old a ≡ exp_encoding x
+        → IfOk result (λ s. IsRewrite table.new s (cancelled_of f x)) }
+    ensures extends { Extends table.old table.new }
+{
+    let zero = table.intern(Node::Lit(0))?;
+    let proof = rule_term(table, XOR_SELF, &[a])?;
+    whole(table, e, zero, proof)
 }
 
 /// To an operand, by the rule of this number.
@@ -513,6 +597,12 @@ fn rewrites_by(
         Rule::Second(number) => Ok(Rewrites::One(to_operand(table, e, b, number)?)),
         Rule::Regrouped(p, q) => Ok(Rewrites::One(regrouped(table, e, p, q, b)?)),
         Rule::Swapped => Ok(Rewrites::One(commuted(table, e, a, b)?)),
+        Rule::Scaled(number, count) => {
+            let step = to_scaled(table, e, a, b, number, count)?;
+            Ok(Rewrites::One(step))
+        }
+        Rule::Complemented => Ok(Rewrites::One(to_complement(table, e, a, b)?)),
+        Rule::Cancelled => Ok(Rewrites::One(to_zero(table, e, a)?)),
     }
 }
 

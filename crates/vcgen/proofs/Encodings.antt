@@ -20,14 +20,23 @@ use Rattle.vcgen.proofs.WalkTrees.{encodes-over}
 use Rattle.vcgen.proofs.BoundValues.{vars-form}
 use Rattle.vcgen.proofs.Steps.{condition-safe}
 use Rattle.lf_signature.specs.Constants.{declared}
-use Rattle.lf_signature.specs.declared.WordSignature.TheVariants.{Sigma1}
+use Rattle.lf_signature.specs.declared.WordSignature.{WordSignature}
+use Rattle.lf_signature.specs.declared.WordSignature.TheVariants.{Sigma3}
+use Rattle.lf_signature.specs.Laws.Restricted.{checks_more}
 use Rattle.lf_signature.specs.Laws.Within.{declared_known}
 
+-- what is a form over a signature is one over the longest
+pub forms-wider : (s : WordSignature) (ps : List (ℕ × Tree)) → AreForms s ps → AreForms Sigma3 ps
+forms-wider s [] h = tt
+forms-wider s (p ∷ ps) h =
+    (checks_more (declared s) (declared Sigma3) (declared_known s).within h.0, forms-wider s ps h.1)
+
 -- invariants that are forms have formulas
-formulas-of : (ps : List (ℕ × Tree)) → AreForms ps → (qs : List (ℕ × Form)) × AreEncodings ps qs
+formulas-of : (ps : List (ℕ × Tree)) → AreForms Sigma3 ps
+    → (qs : List (ℕ × Form)) × AreEncodings ps qs
 formulas-of [] h = ([], tt)
 formulas-of (p ∷ ps) h =
-    let f = form_encoded (declared Sigma1) (declared_known Sigma1) machine_context p.1 h.0 in
+    let f = form_encoded (declared Sigma3) (declared_known Sigma3) machine_context p.1 h.0 in
     let r = formulas-of ps h.1 in
     ((p.0, f.0) ∷ r.0, (refl, f.1, r.1))
 
@@ -61,7 +70,7 @@ vars-inv (p ∷ ps) (q ∷ qs) f i F e =
     ]
 
 pub encoding-exists : (policy : PolicyView) (code : List Insn) (invs : List (ℕ × Tree))
-    → AreForms invs → (vc : Tree) × EncodesCondition policy code invs vc
+    → AreForms Sigma3 invs → (vc : Tree) × EncodesCondition policy code invs vc
 encoding-exists policy code invs h = let f = formulas-of invs h in (form_encoding (condition (annotated policy code f.0)), record { formulas = f.0; encoded = f.1; is = refl })
 
 pub encoding-unique : (policy : PolicyView) (code : List Insn) (invs : List (ℕ × Tree)) (s t : Tree)

@@ -10,7 +10,7 @@ use Rattle.formula_tree.specs.Formulas.{Form}
 use Rattle.lf_encode.specs.Encoding.{form_encoding}
 use Rattle.lf_encode.specs.Contexts.{machine_context, sort_types, EncodesForm}
 use Rattle.vcgen.specs.Conditions.{AnnotatedCode, condition}
-use Rattle.lf_signature.specs.declared.WordSignature.TheVariants.{Sigma1}
+use Rattle.lf_signature.specs.declared.WordSignature.{WordSignature}
 
 -- code with invariants, under a policy; its steps aren't counted
 abbrev pub annotated : PolicyView → List Insn → List (ℕ × Form) → AnnotatedCode
@@ -22,10 +22,11 @@ annotated policy code invs = record {
   bound = None;
 }
 
--- each invariant has type form in the context m, r0 to r30
-abbrev pub AreForms : List (ℕ × Tree) → Type 0
-AreForms [] = Unit {0}
-AreForms (p ∷ ps) = Checks (declared Sigma1) (sort_types machine_context) p.1 form × AreForms ps
+-- each invariant has type form over the signature, in the context m, r0 to r30
+abbrev pub AreForms : WordSignature → List (ℕ × Tree) → Type 0
+AreForms s [] = Unit {0}
+AreForms s (p ∷ ps) =
+    Checks (declared s) (sort_types machine_context) p.1 form × AreForms s ps
 
 -- the terms encode the formulas over m and r0 to r30, index by index
 abbrev pub AreEncodings : List (ℕ × Tree) → List (ℕ × Form) → Type 0

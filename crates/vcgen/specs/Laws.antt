@@ -10,6 +10,8 @@ use Rattle.formula_tree.specs.Truth.{IsValid}
 use Rattle.policy_set.specs.Views.{PolicyView, IsPolicy}
 use Rattle.policy_set.specs.Satisfies.{Satisfies}
 use Rattle.term_table.specs.Tree.{Tree}
+use Rattle.lf_signature.specs.declared.WordSignature.{WordSignature}
+use Rattle.lf_signature.specs.declared.WordSignature.TheVariants.{Sigma3}
 use Rattle.vcgen.specs.Conditions.{AnnotatedCode, invariant_at, wp, body, condition}
 use Rattle.vcgen.specs.Safety.{IsAnnotated, IsSafe, ReturnsWithin, Holds, IsGoodStep, IsGoodRun, all_steps}
 use Rattle.vcgen.specs.Encoded.{annotated, AreForms, AreEncodings, EncodesCondition}
@@ -49,11 +51,16 @@ ConditionClosed = (c : AnnotatedCode) → IsAnnotated c → c.bound ≡ None →
 
 -- ---- under a policy, the invariants being terms
 
+-- What is a form over a signature is one over the longest, of which each other is the beginning.
+abbrev pub FormsWider : Type 0
+FormsWider =
+    (s : WordSignature) (invs : List (ℕ × Tree)) → AreForms s invs → AreForms Sigma3 invs
+
 -- Invariants that are forms have one condition.
 abbrev pub EncodingExists : Type 0
 EncodingExists =
-    (policy : PolicyView) (code : List Insn) (invs : List (ℕ × Tree)) → AreForms invs → (vc : Tree)
-    × EncodesCondition policy code invs vc
+    (policy : PolicyView) (code : List Insn) (invs : List (ℕ × Tree)) → AreForms Sigma3 invs
+    → (vc : Tree) × EncodesCondition policy code invs vc
 
 -- They have one at most.
 abbrev pub EncodingUnique : Type 0

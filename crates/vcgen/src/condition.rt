@@ -8,6 +8,7 @@ ghost use Rattle.lf_signature.specs.Nodes.{IsIdOf};
 ghost use Rattle.lf_signature.specs.Terms.{imp_term};
 ghost use Rattle.lf_encode.specs.PutTree.{machine_terms_at};
 ghost use Rattle.lf_encode.specs.Contexts.{machine_context, encoding_in};
+ghost use Rattle.lf_signature.specs.declared.WordSignature.TheVariants.{Sigma3};
 ghost use Rattle.vcgen.specs.Encoded.{AreForms};
 ghost use Rattle.vcgen.specs.Answers.{IsVcAnswer, AreLowInvs};
 ghost use Rattle.vcgen.specs.Inside.WalkTree.{start_terms, all_terms, closed_term};
@@ -150,16 +151,17 @@ fn encoded_condition(
     condition_of(table, shifts, &program, pre)
 }
 
-/// The encoding of the verification condition of `cut` under `policy`, the formulas of its invariants
-/// being those that the terms of `invs` encode: each annotated index with a term of type form in the
-/// context m, r0 to r30, at most `MAX_HEIGHT` high, in rising order of indices.
+/// The encoding of the verification condition of `cut` under `policy`, the formulas of its
+/// invariants being those that the terms of `invs` encode: each annotated index with a term of type
+/// form over the longest signature of word arithmetic, in the context m, r0 to r30, at most
+/// `MAX_HEIGHT` high, in rising order of indices.
 ///
 /// Errors: `UnfoldLimit` names the unfolded length exactly where it exceeds `MAX_UNFOLDED`, which is
 /// tested first; `Memory` says nothing of the condition, nor does `Results`, which more than
 /// `MOST_RESULTS` results of substitution are. Each id keeps its tree.
 pub fn vc(table: &mut Table, cut: &Cut, policy: &Policy, invs: &[(u32, Id)]) -> Result<Id, VcFault>
     requires invs { AreLowInvs table.old invs.now }
-    requires forms { AreForms (id_trees table.old invs.now) }
+    requires forms { AreForms Sigma3 (id_trees table.old invs.now) }
     requires marks { AreFlags (map (λ p. p.0) invs.now) (length cut.now.code) cut.now.marks }
     ensures exact { IsVcAnswer policy.now cut.now (id_trees table.old invs.now) table.new result }
     ensures extends { Extends table.old table.new }

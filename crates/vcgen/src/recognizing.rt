@@ -11,6 +11,7 @@ ghost use Rattle.hereditary_subst.specs.Kept.{IsMemo};
 ghost use Rattle.lf_signature.specs.Terms.{imp_term};
 ghost use Rattle.lf_encode.specs.PutTree.{machine_terms_at};
 ghost use Rattle.lf_encode.specs.Contexts.{machine_context, encoding_in};
+ghost use Rattle.lf_signature.specs.declared.WordSignature.TheVariants.{Sigma3};
 ghost use Rattle.vcgen.specs.Encoded.{AreForms};
 ghost use Rattle.vcgen.specs.Answers.{IsConditionAnswer, AreLowInvs};
 ghost use Rattle.vcgen.specs.Inside.WalkTree.{start_terms, closed_term, walked, walked_from};
@@ -230,7 +231,7 @@ pub fn is_condition_with(
     formula: Id,
 ) -> Result<bool, VcFault>
     requires invs { AreLowInvs table.old invs.now }
-    requires forms { AreForms (id_trees table.old invs.now) }
+    requires forms { AreForms Sigma3 (id_trees table.old invs.now) }
     requires marks { AreFlags (map (λ p. p.0) invs.now) (length cut.now.code) cut.now.marks }
     requires formula { IsKnown table.old formula }
     requires memo { IsMemo table.old memo.old }

@@ -11,7 +11,8 @@ ghost use Rattle.vcgen.specs.Worked.{guarded, guarded_condition};
 ghost use Rattle.vcgen.specs.Worked.{twice, twice_condition, computing, computing_condition};
 ghost use Rattle.vcgen.specs.Laws.{WpUnfolds, ConditionSafe, ConditionReturns, HoldsAtStart};
 ghost use Rattle.vcgen.specs.Laws.{StepsGood, RunsGood, ConditionClosed};
-ghost use Rattle.vcgen.specs.Laws.{EncodingExists, EncodingUnique, EncodedAnnotates, PolicySafe};
+ghost use Rattle.vcgen.specs.Laws.{FormsWider, EncodingExists, EncodingUnique};
+ghost use Rattle.vcgen.specs.Laws.{EncodedAnnotates, PolicySafe};
 
 /// Code whose verification condition is true in every structure is safe: from each state at index 0
 /// that satisfies the precondition no run is blocked, and a return satisfies the postcondition; where
@@ -27,9 +28,10 @@ pub fn condition_laws()
     ensures closed { ConditionClosed }
 {}
 
-/// Invariants that are terms of type form, under a policy, have exactly one condition; where it is
-/// true, the code is safe for the policy.
+/// Invariants that are terms of type form, over any signature of word arithmetic, have under a
+/// policy exactly one condition; where it is true, the code is safe for the policy.
 pub fn encoding_laws()
+    ensures wider { FormsWider }
     ensures exists { EncodingExists }
     ensures unique { EncodingUnique }
     ensures annotates { EncodedAnnotates }

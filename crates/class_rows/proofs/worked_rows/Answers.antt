@@ -1,4 +1,4 @@
-use Rattle.class_rows.proofs.Rows.{small_worked, returns_worked, loads_worked, shapes_worked, forms_worked, bounds_worked, access_worked}
+use Rattle.class_rows.proofs.Rows.{small_worked, returns_worked, loads_worked, shapes_worked, forms_worked, bounds_worked, access_worked, later_sums_worked, later_bits_worked, later_bytes_worked, later_others_worked}
 use Rattle.class_rows.proofs.worked_rows.Goals as goal
 
 pub returns : goal.returns
@@ -10,4 +10,8 @@ returns c = record {
   forms = forms_worked;
   bounds = bounds_worked;
   access = access_worked;
+  later_sums = later_sums_worked;
+  later_bits = later_bits_worked;
+  later_bytes = later_bytes_worked;
+  later_others = later_others_worked;
 }

@@ -2,14 +2,20 @@
 use Rattle.std.specs.Prelude.{◌≡◌, ℕ, ◌*◌, ◌/◌, ◌<◌, ◌≤◌, List, length, None}
 use Rattle.term_table.specs.Table.{TableView, id_trees}
 use Rattle.proof_container.specs.declared.limits.TheConstants.{MAX_WORDS, MAX_ENTRIES, MAX_INVS}
+use Rattle.proof_container.specs.declared.container.Head.{Head}
 use Rattle.proof_container.specs.Contents.{Contents, roots}
 use Rattle.proof_container.specs.Postorder.{entries}
 use Rattle.proof_container.specs.Encoding.{AreRising}
 use Rattle.proof_container.specs.Views.{AreKnown, AllTerms}
 
 -- contents without a proof, the invariants' terms standing in a table
-abbrev pub held_contents : ℕ → List ℕ → TableView → List (ℕ × ℕ) → Contents
-held_contents policy code table invs = record { policy = policy; code = code; invs = id_trees table invs; proof = None }
+abbrev pub held_contents : Head → List ℕ → TableView → List (ℕ × ℕ) → Contents
+held_contents head code table invs = record {
+  head = head;
+  code = code;
+  invs = id_trees table invs;
+  proof = None;
+}
 
 -- the invariants are ids of the table, and the contents keep to the format's limits
 pub record IsWritableContents (table : TableView) (ids : List (ℕ × ℕ)) (c : Contents) : Type 0 where

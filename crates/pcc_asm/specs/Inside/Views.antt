@@ -25,7 +25,7 @@ use Rattle.pcc_asm.specs.declared.fault.AsmFault.TheVariants as F
 use Rattle.pcc_asm.specs.declared.labels.Labels.{Labels}
 use Rattle.pcc_asm.specs.Assembling.{label_index, inv_encodings}
 use Rattle.pcc_asm.specs.Words.{code_bytes}
-use Rattle.word_ops.specs.declared.Profile.TheVariants.{One}
+use Rattle.word_ops.specs.declared.Profile.{Profile}
 
 -- instructions with their lines, without addresses
 abbrev pub insn_views : List (ℕ × SrcInsn) → List (ℕ × SourceInsn)
@@ -59,8 +59,8 @@ pub record AreIndexed (labels : Labels) : Type 0 where
   pub short : AreLabelIndices labels.list.now
 
 -- the profile has the instruction, and where it branches its displacement has 21 bits
-abbrev pub IsEncodable : Insn → Type 0
-IsEncodable insn = (fault_of One insn ≡ None) × HasFormat insn
+abbrev pub IsEncodable : Profile → Insn → Type 0
+IsEncodable p insn = (fault_of p insn ≡ None) × HasFormat insn
 
 -- the bytes of code, or the first line that is wrong
 abbrev pub bytes_or_flaw : Result (List Insn) AsmFlaw → Result (List ℕ) AsmFlaw

@@ -1,13 +1,14 @@
--- `asm POLICY IN OUT`
+-- `asm POLICY IN OUT [--v2]`
 use Rattle.std.specs.Prelude.{ℕ, List}
 use Rattle.pcc_exit.specs.Stages.{Stage, ◌>>=◌}
 use Rattle.pcc_exit.specs.Runs.{Effect}
 use Rattle.pcc_cli.specs.Stages.Common.{policy_named, writing}
 use Rattle.pcc_cli.specs.Stages.Assembling.{assembled_of}
 
--- the policy, the source with all that may be wrong with it, and then the write
-unfoldable pub asm_command : List ℕ → List ℕ → List ℕ → Stage Effect
-asm_command policy input output = do
+-- the policy, the source with all that may be wrong with it, and then the write, of a container of
+-- the version
+unfoldable pub asm_command : ℕ → List ℕ → List ℕ → List ℕ → Stage Effect
+asm_command version policy input output = do
   under ← policy_named policy
-  container ← assembled_of under input
+  container ← assembled_of version under input
   writing output container

@@ -1,13 +1,9 @@
 -- `bpf IN OUT`
-use Rattle.std.specs.Prelude.{ℕ, List, codes}
+use Rattle.std.specs.Prelude.{ℕ, List}
 use Rattle.pcc_exit.specs.Stages.{Stage, ◌>>=◌}
 use Rattle.pcc_exit.specs.Runs.{Effect}
 use Rattle.pcc_cli.specs.Stages.Common.{writing}
 use Rattle.pcc_cli.specs.Stages.Compiling.{compiled_of}
-
--- the name of the policy under which what is written is accepted
-abbrev pub bpf_policy : List ℕ
-bpf_policy = codes "filter"
 
 -- the program with all that may be wrong with it, and then the write
 unfoldable pub bpf_command : List ℕ → List ℕ → Stage Effect

@@ -1,5 +1,5 @@
 -- `host SCRIPT`: the agents that a script loads run by turns.
-use Rattle.std.specs.Prelude.{ℕ, ◌+◌, ◌%◌, ◌^◌, if◌then◌else◌, List, [], ◌∷◌, ◌++◌, slice_get, Option, Some, None, codes}
+use Rattle.std.specs.Prelude.{ℕ, ◌+◌, ◌%◌, ◌^◌, if◌then◌else◌, List, [], ◌∷◌, ◌++◌, slice_get, Option, Some, None}
 use Rattle.alpha_cfg.specs.Machine.{State, run_of}
 use Rattle.alpha_cfg.specs.declared.outcome.Outcome.{Outcome}
 use Rattle.reference_machine.specs.Arena.{sum_of}
@@ -48,10 +48,6 @@ abbrev pub turn_lines : List Member → ℕ → List Turn → List Turn → List
 turn_lines agents t before [] = []
 turn_lines agents t before (turn ∷ turns) =
     agent_turn_line t turn (budget_of turn.agent before) (slice_get agents turn.agent) ++ turn_lines agents (t + 1) (before ++ turn ∷ []) turns
-
--- the name of a policy that there is: the command's script names the policies of its agents
-abbrev pub host_policy : List ℕ
-host_policy = codes "filter"
 
 -- the script with all that may be wrong with it, then each load in order, and then the turns
 unfoldable pub host_command : List ℕ → Stage Effect

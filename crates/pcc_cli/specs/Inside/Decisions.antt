@@ -4,7 +4,9 @@ use Rattle.file_port.specs.Events.{Event}
 use Rattle.file_port.specs.Files.{FilesState}
 use Rattle.packet_store.specs.Runners.{testing_results}
 use Rattle.pcc_lines.specs.Bpf.{bpf_flaw_line}
-use Rattle.pcc_lines.specs.Fixed.{accepted_line, bpf_too_long_line, container_too_long_line, packets_too_long_line, script_too_long_line, source_too_long_line, unknown_policy_line}
+use Rattle.pcc_lines.specs.Fixed.{accepted_line, already_line, bpf_too_long_line, container_too_long_line, packets_too_long_line, policy_too_long_line, script_too_long_line, source_too_long_line, unknown_policy_line}
+use Rattle.pcc_lines.specs.Policies.{policy_lines_line, policy_length_line, policy_form_line}
+use Rattle.formula_text.specs.Names.{text_flaw_name}
 use Rattle.agent_script.specs.Names.{script_flaw_name}
 use Rattle.pcc_lines.specs.Agents.{agent_line, no_packet_line, short_line}
 use Rattle.pcc_lines.specs.Scripts.{script_fault_line}
@@ -47,10 +49,16 @@ agent_text agent_stop.Short = short_line
 -- the line that refuses
 abbrev pub refused_text : RefusedLine → List ℕ
 refused_text refused_line.UnknownPolicy = unknown_policy_line
+refused_text refused_line.PolicyTooLong = policy_too_long_line
+refused_text (refused_line.PolicyLines count) = policy_lines_line count
+refused_text (refused_line.PolicyLength line) = policy_length_line line
+refused_text (refused_line.PolicyForm line position flaw) =
+    policy_form_line line position (text_flaw_name flaw)
 refused_text (refused_line.Container refusal) = refusal_line refusal
 refused_text refused_line.ContainerTooLong = container_too_long_line
 refused_text (refused_line.NotEasy part) = not_easy_line part
 refused_text (refused_line.TooBig measure number) = too_big_line (measure_name measure) number
+refused_text refused_line.Already = already_line
 refused_text refused_line.SourceTooLong = source_too_long_line
 refused_text (refused_line.BadLine line flaw) = source_fault_line line (line_flaw_name flaw)
 refused_text (refused_line.BadSource flaw) = source_fault_line (asm_flaw_line flaw)

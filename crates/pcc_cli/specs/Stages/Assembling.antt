@@ -3,6 +3,7 @@ use Rattle.std.specs.Prelude.{ℕ, List, Result, Ok, Err}
 use Rattle.policy_set.specs.Views.{PolicyView}
 use Rattle.proof_container.specs.Contents.{Contents}
 use Rattle.proof_container.specs.Encoding.{encoding_of}
+use Rattle.proof_container.specs.Versions.{profile_of}
 use Rattle.asm_text.specs.declared.fault.LineFlaw.{LineFlaw}
 use Rattle.asm_text.specs.declared.limits.TheConstants.{MAX_SOURCE}
 use Rattle.asm_text.specs.Names.{line_flaw_name}
@@ -15,38 +16,39 @@ use Rattle.pcc_lines.specs.Fixed.{source_too_long_line}
 use Rattle.pcc_lines.specs.Sources.{source_fault_line}
 use Rattle.pcc_exit.specs.Stages.{Stage, stops, gives, reads, ◌>>=◌}
 use Rattle.pcc_cli.specs.Stages.Common.{refused}
-use Rattle.word_ops.specs.declared.Profile.TheVariants.{One}
 
 -- what was read as a source
 abbrev pub source_found : Result Source (ℕ × LineFlaw) → Stage Source
 source_found (Ok source) = gives source
 source_found (Err fault) = stops (refused (source_fault_line fault.0 (line_flaw_name fault.1)))
 
--- the source that the text spells
-unfoldable pub source_in : List ℕ → Stage Source
-source_in text = source_found (parsed_source One text)
+-- the source that the text spells in the profile of the version
+unfoldable pub source_in : ℕ → List ℕ → Stage Source
+source_in version text = source_found (parsed_source (profile_of version) text)
 
 -- the bytes of a container of what was assembled
 abbrev pub container_made : Result Contents AsmFlaw → Stage (List ℕ)
 container_made (Ok contents) = gives (encoding_of contents)
 container_made (Err flaw) = stops (refused (source_fault_line (asm_flaw_line flaw) (asm_flaw_name flaw)))
 
--- the container, as bytes, that the source is assembled into for the policy
-unfoldable pub assembled_as : PolicyView → Source → Stage (List ℕ)
-assembled_as policy source = container_made (assembled_contents policy source)
+-- the container of the version, as bytes, that the source is assembled into for the policy
+unfoldable pub assembled_as : ℕ → PolicyView → Source → Stage (List ℕ)
+assembled_as version policy source = container_made (assembled_contents version policy source)
 
--- the container, as bytes, that the source which the text spells is assembled into for the policy
-unfoldable pub assembled_in : PolicyView → List ℕ → Stage (List ℕ)
-assembled_in policy text = do
-  source ← source_in text
-  assembled_as policy source
+-- the container of the version, as bytes, that the source which the text spells is assembled into
+-- for the policy
+unfoldable pub assembled_in : ℕ → PolicyView → List ℕ → Stage (List ℕ)
+assembled_in version policy text = do
+  source ← source_in version text
+  assembled_as version policy source
 
 -- the text of the source's file of the name
 abbrev pub source_text_of : List ℕ → Stage (List ℕ)
 source_text_of name = reads name MAX_SOURCE (refused source_too_long_line) gives
 
--- the container, as bytes, that the source in the file of the name is assembled into for the policy
-unfoldable pub assembled_of : PolicyView → List ℕ → Stage (List ℕ)
-assembled_of policy name = do
+-- the container of the version, as bytes, that the source in the file of the name is assembled into
+-- for the policy
+unfoldable pub assembled_of : ℕ → PolicyView → List ℕ → Stage (List ℕ)
+assembled_of version policy name = do
   text ← source_text_of name
-  assembled_in policy text
+  assembled_in version policy text

@@ -1,4 +1,4 @@
-//! `asm POLICY IN OUT`: assembles a source into a container without a proof.
+//! `asm POLICY IN OUT [--v2]`: assembles a source into a container without a proof.
 
 ghost use Rattle.pcc_words.specs.Invocations.{asm};
 ghost use Rattle.pcc_cli.specs.Tasks.{stage_of};
@@ -8,22 +8,22 @@ use crate::report::Report;
 use crate::stages::{assembled_of, policy_named, write_to};
 use crate::stop::Stop;
 use file_port::Files;
-use pcc_words::CopyArgs;
+use pcc_words::AsmArgs;
 use std::alloc::Global;
 
 /// Reads the source, assembles it, and writes the container. The source is judged whole before
 /// anything is written.
 pub fn asm_command<'a, F: Files>(
     alloc: Global,
-    args: CopyArgs<'a>,
+    args: AsmArgs<'a>,
     files: &mut F,
 ) -> Result<Report, Stop<'a>>
     ensures { let a = args.entry in
-        Decides (stage_of (asm a.policy.now a.input.now a.output.now))
+        Decides (stage_of (asm a.policy.now a.input.now a.output.now a.version))
         (F.log files.old) (F.log files.new) (F.state files.old) (F.state files.new) result }
 {
     let policy = policy_named(alloc, args.policy)?;
-    let container = assembled_of(alloc, &policy, args.input, files)?;
+    let container = assembled_of(alloc, args.version, &policy, args.input, files)?;
     drop(policy);
     write_to(args.output, &container, files)
 }

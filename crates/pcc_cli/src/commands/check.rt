@@ -1,5 +1,6 @@
-//! `check POLICY FILE`: judges a container.
+//! `check POLICY FILE`: judges a container, under a built-in policy or one that a file spells.
 
+ghost use Rattle.pcc_words.specs.Commands.{word_view};
 ghost use Rattle.pcc_words.specs.Invocations.{check};
 ghost use Rattle.pcc_cli.specs.Tasks.{stage_of};
 ghost use Rattle.pcc_cli.specs.Inside.Behind.{check_under};
@@ -7,10 +8,10 @@ ghost use Rattle.pcc_cli.specs.Inside.Decisions.{Decides, effect_of};
 ghost use Rattle.pcc_cli.specs.Inside.Gives.{Gives};
 
 use crate::report::Report;
-use crate::stages::{accepted_of, policy_named};
+use crate::stages::{accepted_of, policy_told};
 use crate::stop::Stop;
 use file_port::Files;
-use pcc_words::FileArgs;
+use pcc_words::CheckArgs;
 use policy_set::Policy;
 use std::alloc::Global;
 
@@ -28,16 +29,16 @@ fn check_under<'a, F: Files>(
     Ok(Report::Accepted)
 }
 
-/// Reads the container and judges it.
+/// Finds the policy, which may be in a file, and then reads the container and judges it.
 pub fn check_command<'a, F: Files>(
     alloc: Global,
-    args: FileArgs<'a>,
+    args: CheckArgs<'a>,
     files: &mut F,
 ) -> Result<Report, Stop<'a>>
     ensures { let a = args.entry in
-        Decides (stage_of (check a.policy.now a.file.now))
+        Decides (stage_of (check (word_view a.policy) a.file.now))
         (F.log files.old) (F.log files.new) (F.state files.old) (F.state files.new) result }
 {
-    let policy = policy_named(alloc, args.policy)?;
+    let policy = policy_told(alloc, args.policy, files)?;
     check_under(alloc, &policy, args.file, files)
 }

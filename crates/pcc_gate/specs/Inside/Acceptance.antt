@@ -9,7 +9,10 @@ use Rattle.formula_tree.specs.Formulas.{Form}
 use Rattle.formula_tree.specs.Truth.{IsValid}
 use Rattle.policy_set.specs.Views.{PolicyView, IsPolicy}
 use Rattle.term_table.specs.Tree.{Tree}
-use Rattle.term_table.specs.Measures.{weight_of, sigma1_places}
+use Rattle.term_table.specs.Measures.{weight_of}
+use Rattle.lf_signature.specs.Constants.{places_of}
+use Rattle.lf_signature.specs.declared.WordSignature.{WordSignature}
+use Rattle.lf_signature.specs.declared.WordSignature.TheVariants.{Sigma3}
 use Rattle.term_table.specs.Table.{TableView, IsKnown, tree_at, id_trees}
 use Rattle.vcgen.specs.Conditions.{condition}
 use Rattle.vcgen.specs.Encoded.{annotated, AreForms, AreEncodings}
@@ -29,19 +32,21 @@ pub record IsProved (policy : PolicyView) (cut : CutView) (table : TableView)
   pub flags : AreFlags (map (λ p. p.0) (id_trees table invs)) (length cut.code) cut.marks
   pub cuts : IsCut cut.code cut.marks
   pub known : AllByRecursion (λ (inv : ℕ × ℕ). IsKnown table inv.1) invs
-  pub forms : AreForms (id_trees table invs)
+  pub forms : AreForms Sigma3 (id_trees table invs)
   pub safe : IsSafe cut.code policy.pre policy.post
   pub valid : (formulas : List (ℕ × Form)) → AreEncodings (id_trees table invs) formulas → IsValid (condition (annotated policy cut.code formulas))
 
--- the proof isn't too heavy, and is the one that there is
-abbrev pub IsProofFound : TableView → Option ℕ → Result ℕ GateFault → Type 0
-IsProofFound t proof (Ok id) = (proof ≡ Some id) × IsKnown t id × (weight_of sigma1_places (tree_at t id) ≤ MAX_WEIGHT)
-IsProofFound t proof (Err e) = Refuses (λ vc. first_proof vc (option_map (tree_at t) proof)) e
+-- the proof isn't too heavy, by the parameters of the signature, and is the one that there is
+abbrev pub IsProofFound : WordSignature → TableView → Option ℕ → Result ℕ GateFault → Type 0
+IsProofFound s t proof (Ok id) =
+    (proof ≡ Some id) × IsKnown t id × (weight_of (places_of s) (tree_at t id) ≤ MAX_WEIGHT)
+IsProofFound s t proof (Err e) = Refuses (λ vc. first_proof s vc (option_map (tree_at t) proof)) e
 
--- clause 11, the proof's term being given
-abbrev pub IsProofAnswer : PolicyView → List Insn → List (ℕ × Tree) → Tree → Result Unit GateFault
-    → Type 0
-IsProofAnswer policy code invs proof (Ok _) = proves proof (vc_of policy code invs) ≡ true
-IsProofAnswer policy code invs proof (Err (fault.Refused r)) = (proves proof (vc_of policy code invs) ≡ false) × (r ≡ refusal.NotProof)
-IsProofAnswer policy code invs proof (Err fault.Memory) = Unit {0}
-IsProofAnswer policy code invs proof (Err fault.Results) = Unit {0}
+-- clause 11 over the signature, the proof's term being given
+abbrev pub IsProofAnswer : WordSignature → PolicyView → List Insn → List (ℕ × Tree) → Tree
+    → Result Unit GateFault → Type 0
+IsProofAnswer s policy code invs proof (Ok _) = proves s proof (vc_of policy code invs) ≡ true
+IsProofAnswer s policy code invs proof (Err (fault.Refused r)) =
+    (proves s proof (vc_of policy code invs) ≡ false) × (r ≡ refusal.NotProof)
+IsProofAnswer s policy code invs proof (Err fault.Memory) = Unit {0}
+IsProofAnswer s policy code invs proof (Err fault.Results) = Unit {0}

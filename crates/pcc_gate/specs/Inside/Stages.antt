@@ -8,7 +8,6 @@ use Rattle.alpha_cfg.specs.Flow.{IsCode}
 use Rattle.alpha_cfg.specs.Cuts.{CutView, AreFlags, IsCut, unfolded_of}
 use Rattle.alpha_cfg.specs.Deciding.{flags_of, uncut_of}
 use Rattle.policy_set.specs.Views.{PolicyView}
-use Rattle.policy_set.specs.Names.{IsNumberOf}
 use Rattle.term_table.specs.Tree.{Tree}
 use Rattle.term_table.specs.Table.{TableView, tree_at, id_trees}
 use Rattle.proof_container.specs.Contents.{Contents, roots, one_or_none}
@@ -23,7 +22,10 @@ use Rattle.pcc_gate.specs.declared.refusal.Refusal.TheVariants as refusal
 use Rattle.vcgen.specs.declared.condition.TheConstants.{MAX_UNFOLDED}
 use Rattle.pcc_gate.specs.Answers.{IsHeld}
 use Rattle.pcc_gate.specs.First.{too_high, formless, first_code, first_front, first_long, first_shape, refused_by}
-use Rattle.word_ops.specs.declared.Profile.TheVariants.{One}
+use Rattle.word_ops.specs.declared.Profile.{Profile}
+use Rattle.lf_signature.specs.declared.WordSignature.{WordSignature}
+use Rattle.proof_container.specs.declared.container.Head.TheVariants.{Number}
+use Rattle.pcc_gate.specs.ForPolicy.{IsFor}
 
 -- the trees of the roots, by their ids
 abbrev pub measured_trees : TableView → List (ℕ × ℕ) → Option ℕ → List Tree
@@ -45,17 +47,18 @@ RefusesBytes policy bytes fault.Results = length bytes ≤ MAX_BYTES
 pub record IsRead (policy : PolicyView) (bytes : List ℕ) (c : Contents) : Type 0 where
   pub size : length bytes ≤ MAX_BYTES
   pub encoded : EncodesContents bytes c
-  pub number : IsNumberOf policy c.policy
+  pub named : IsFor policy c.head
 
 -- clauses 1 to 3
 abbrev pub IsContainerAnswer : PolicyView → List ℕ → Result Container GateFault → Type 0
 IsContainerAnswer policy bytes (Ok c) = IsRead policy bytes (contents_of c) × IsHeld c
 IsContainerAnswer policy bytes (Err e) = RefusesBytes policy bytes e
 
--- clause 4
-abbrev pub IsCodeRead : List ℕ → Result (List Insn) GateFault → Type 0
-IsCodeRead bytes (Ok code) = (decoded_code One bytes ≡ Ok code) × EncodesCode One bytes code × IsCode code
-IsCodeRead bytes (Err e) = (c : Contents) → Refuses (first_code c (decoded_code One bytes)) e
+-- clause 4 in the profile
+abbrev pub IsCodeRead : Profile → List ℕ → Result (List Insn) GateFault → Type 0
+IsCodeRead p bytes (Ok code) =
+    (decoded_code p bytes ≡ Ok code) × EncodesCode p bytes code × IsCode code
+IsCodeRead p bytes (Err e) = (c : Contents) → Refuses (first_code c (decoded_code p bytes)) e
 
 -- the first refusal by clause 7, and what comes after
 abbrev pub first_uncut : List Insn → List ℕ → Option Refusal → Option Refusal
@@ -81,25 +84,31 @@ IsLengthAnswer code marks (Err e) = Refuses (first_long code marks) e
 
 -- contents of which the roots alone are of interest, by their ids
 abbrev pub with_roots : TableView → List (ℕ × ℕ) → Option ℕ → Contents
-with_roots t invs proof = record { policy = 0; code = []; invs = id_trees t invs; proof = option_map (tree_at t) proof }
+with_roots t invs proof = record {
+  head = Number 0;
+  code = [];
+  invs = id_trees t invs;
+  proof = option_map (tree_at t) proof;
+}
 
--- the first refusal by clause 6, and what comes after
-abbrev pub first_no_form : List (ℕ × Tree) → Option Refusal → Option Refusal
-first_no_form invs next = refused_by refusal.InvNotForm (formless 0 invs) next
+-- the first refusal by clause 6 over the signature, and what comes after
+abbrev pub first_no_form : WordSignature → List (ℕ × Tree) → Option Refusal → Option Refusal
+first_no_form s invs next = refused_by refusal.InvNotForm (formless s 0 invs) next
 
 -- clause 6
-abbrev pub AreFormed : List (ℕ × Tree) → Result Unit GateFault → Type 0
-AreFormed invs (Ok _) = formless 0 invs ≡ None
-AreFormed invs (Err e) = Refuses (first_no_form invs) e
+abbrev pub AreFormed : WordSignature → List (ℕ × Tree) → Result Unit GateFault → Type 0
+AreFormed s invs (Ok _) = formless s 0 invs ≡ None
+AreFormed s invs (Err e) = Refuses (first_no_form s invs) e
 
--- cut code of contents that pass clauses 5 to 8
-pub record IsShaped (c : Contents) (code : List Insn) (cut : CutView) : Type 0 where
+-- cut code of contents that pass clauses 5 to 8 over the signature
+pub record IsShaped (s : WordSignature) (c : Contents) (code : List Insn) (cut : CutView)
+    : Type 0 where
   pub low : too_high (roots c) ≡ None
-  pub forms : formless 0 c.invs ≡ None
+  pub forms : formless s 0 c.invs ≡ None
   pub made : IsMade code (map (λ p. p.0) c.invs) cut
   pub short : unfolded_of code cut.marks ≤ MAX_UNFOLDED
 
 -- clauses 5 to 8
-abbrev pub IsShapeAnswer : Contents → List Insn → Result CutView GateFault → Type 0
-IsShapeAnswer c code (Ok cut) = IsShaped c code cut
-IsShapeAnswer c code (Err e) = Refuses (first_shape c code) e
+abbrev pub IsShapeAnswer : WordSignature → Contents → List Insn → Result CutView GateFault → Type 0
+IsShapeAnswer s c code (Ok cut) = IsShaped s c code cut
+IsShapeAnswer s c code (Err e) = Refuses (first_shape s c code) e

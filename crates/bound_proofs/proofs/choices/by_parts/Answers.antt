@@ -1,12 +1,12 @@
-use Rattle.std.proofs.Common.{◌≡◌, List, [], ◌∷◌, refl, sym, ◌∙◌, ap, subst, if◌then◌else◌, nat_lt, nat_le, ◌+◌, ◌^◌, Bool}
-use Rattle.word_ops.specs.declared.Op.TheVariants.{Add, Band, Sll, Srl, Cmpeq, Cmplt, Cmple, Cmpult, Cmpule}
+use Rattle.std.proofs.Common.{◌≡◌, List, [], ◌∷◌, sym, ◌∙◌, ap, subst, if◌then◌else◌, nat_lt, nat_le, ◌+◌, ◌^◌, Bool}
+use Rattle.word_ops.specs.declared.Op.TheVariants.{Add, Band, Bic, Sll, Srl}
 use Rattle.word_ops.specs.Words.{word_of}
 use Rattle.formula_tree.specs.Formulas.{Exp, ELit, EOp}
 use Rattle.prover_class.specs.Bounds.{WordBound, least_bound, upper_bound, max_word}
 use Rattle.bound_proofs.specs.declared.bounds.Side.TheVariants.{Upper}
 use Rattle.bound_proofs.specs.Candidates.{limit, by_left_shift, by_sum}
 use Rattle.bound_proofs.specs.Choices.{IsChoice}
-use Rattle.bound_proofs.proofs.Choosing.{right_none, left_none, no_bounds, IsPartChoice}
+use Rattle.bound_proofs.proofs.Choosing.{right_none, left_none, other_bounds, IsPartChoice}
 use Rattle.bound_proofs.proofs.choices.by_parts.Goals as goal
 
 pub returns-in-Band : goal.returns-in-Band
@@ -54,24 +54,19 @@ returns-in-Add c = λ Γ x y qb qv qw.
     let fits = c.fits_sum.ensures ∙ (λ i. nat_lt (qv i + qw i) (2 ^ 64)) in
     subst (IsPartChoice Γ x y r) (sym c.in-Add.is) (subst (λ (b : Bool). IsChoice Upper Γ e (least_bound (if b then by_sum e x y (upper_bound Γ x) (upper_bound Γ y) ∷ [] else []) (limit Upper e)) r) fits found)
 
-pub returns-in-Cmpeq : goal.returns-in-Cmpeq
-returns-in-Cmpeq c = λ Γ x y qb qv qw. subst (IsPartChoice Γ x y c.or_last-in-Cmpeq.result) (sym c.in-Cmpeq.is) (c.or_last-in-Cmpeq.ensures Γ (EOp Cmpeq x y) _ refl (c.limited-last.ensures Γ (EOp Cmpeq x y)))
-
-pub returns-in-Cmplt : goal.returns-in-Cmplt
-returns-in-Cmplt c = λ Γ x y qb qv qw. subst (IsPartChoice Γ x y c.or_last-in-Cmplt.result) (sym c.in-Cmplt.is) (c.or_last-in-Cmplt.ensures Γ (EOp Cmplt x y) _ refl (c.limited-last.ensures Γ (EOp Cmplt x y)))
-
-pub returns-in-Cmple : goal.returns-in-Cmple
-returns-in-Cmple c = λ Γ x y qb qv qw. subst (IsPartChoice Γ x y c.or_last-in-Cmple.result) (sym c.in-Cmple.is) (c.or_last-in-Cmple.ensures Γ (EOp Cmple x y) _ refl (c.limited-last.ensures Γ (EOp Cmple x y)))
-
-pub returns-in-Cmpult : goal.returns-in-Cmpult
-returns-in-Cmpult c = λ Γ x y qb qv qw. subst (IsPartChoice Γ x y c.or_last-in-Cmpult.result) (sym c.in-Cmpult.is) (c.or_last-in-Cmpult.ensures Γ (EOp Cmpult x y) _ refl (c.limited-last.ensures Γ (EOp Cmpult x y)))
-
-pub returns-in-Cmpule : goal.returns-in-Cmpule
-returns-in-Cmpule c = λ Γ x y qb qv qw. subst (IsPartChoice Γ x y c.or_last-in-Cmpule.result) (sym c.in-Cmpule.is) (c.or_last-in-Cmpule.ensures Γ (EOp Cmpule x y) _ refl (c.limited-last.ensures Γ (EOp Cmpule x y)))
+pub returns-in-Bic : goal.returns-in-Bic
+returns-in-Bic c = λ Γ x y qb qv qw.
+    let e = EOp Bic x y in
+    subst (IsPartChoice Γ x y c.or_last-in-Bic.result) (sym c.in-Bic.is)
+    (c.or_last-in-Bic.ensures Γ e _ qv (c.limited-last.ensures Γ e))
 
 pub returns-in_default : goal.returns-in_default
 returns-in_default c = λ Γ x y qb qv qw.
     let e = EOp c.args.op x y in
     let n = c.in_default in
-    let none = no_bounds c.args.op x y (upper_bound Γ x) (upper_bound Γ y) n.not-Band n.not-Srl n.not-Sll n.not-Add n.not-Cmpeq n.not-Cmplt n.not-Cmple n.not-Cmpult n.not-Cmpule in
-    subst (λ (l : List WordBound). IsChoice Upper Γ e (least_bound l (limit Upper e)) c.limited-last.result) (sym none) (c.limited-last.ensures Γ e)
+    let r = c.by_operator.result in
+    let same =
+    other_bounds c.args.op x y (upper_bound Γ x) (upper_bound Γ y) n.not-Band n.not-Srl n.not-Sll
+    n.not-Add n.not-Bic in
+    subst (λ (l : List WordBound). IsChoice Upper Γ e (least_bound l (limit Upper e)) r) (sym same)
+    (c.by_operator.ensures Γ x y (c.limited-last.ensures Γ e))

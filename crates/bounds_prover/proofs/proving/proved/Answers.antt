@@ -8,6 +8,10 @@ use Rattle.proof_container.specs.Encoding.{IsContents}
 use Rattle.proof_container.specs.Views.{contents_of}
 use Rattle.proof_container.specs.declared.limits.TheConstants.{MAX_ENTRIES}
 use Rattle.vcgen.specs.Answers.{AreLowInvs}
+use Rattle.vcgen.specs.Encoded.{AreForms}
+use Rattle.vcgen.proofs.Encodings.{forms-wider}
+use Rattle.lf_signature.specs.declared.WordSignature.TheVariants.{Sigma3}
+use Rattle.pcc_gate.specs.Versions.{head_signature}
 use Rattle.pcc_gate.proofs.Kept.{known-more, trees-same}
 use Rattle.pcc_gate.proofs.Refusing.{keys}
 use Rattle.pcc_gate.proofs.Stages.{low-invs}
@@ -22,6 +26,12 @@ pub prove_condition-requires-clause-invs : goal.prove_condition-requires-clause-
 prove_condition-requires-clause-invs c =
     let k = c.args.passed.container in
     subst (λ l. AreLowInvs k.table l) (sym c.deref.ensures.value) (low-invs k.table k.invs.items _ c.requires.held.known.0 c.requires.passes.heights)
+
+pub prove_condition-requires-clause-forms : goal.prove_condition-requires-clause-forms
+prove_condition-requires-clause-forms c =
+    let k = c.args.passed.container in
+    subst (λ l. AreForms Sigma3 (id_trees k.table l)) (sym c.deref.ensures.value)
+    (forms-wider (head_signature k.head) (id_trees k.table k.invs.items) c.requires.passes.forms)
 
 pub prove_condition-requires-clause-marks : goal.prove_condition-requires-clause-marks
 prove_condition-requires-clause-marks c =

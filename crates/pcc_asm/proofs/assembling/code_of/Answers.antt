@@ -11,10 +11,16 @@ use Rattle.pcc_asm.proofs.Answering.{carries, labels_short, insns_few, insns_som
 use Rattle.pcc_asm.proofs.assembling.code_of.Goals as goal
 
 pub index_labels-requires : goal.index_labels-requires
-index_labels-requires c = record { short = subst AreLabelIndices (sym c.deref.ensures.value) (labels_short c.args.source.now c.requires.spelled) }
+index_labels-requires c =
+    record {
+      short = subst AreLabelIndices (sym c.deref.ensures.value)
+          (labels_short c.args.profile c.args.source.now c.requires.spelled);
+    }
 
 pub resolve_all-requires-clause-short : goal.resolve_all-requires-clause-short
-resolve_all-requires-clause-short c = subst (λ l. length l ≤ MAX_INSNS) (sym c.deref-2.ensures.value) (insns_few c.args.source.now c.requires.spelled)
+resolve_all-requires-clause-short c =
+    subst (λ l. length l ≤ MAX_INSNS) (sym c.deref-2.ensures.value)
+    (insns_few c.args.profile c.args.source.now c.requires.spelled)
 
 pub returns-in_err-code : goal.returns-in_err-code
 returns-in_err-code c =
@@ -23,13 +29,23 @@ returns-in_err-code c =
     let labels = c.in_ok-labels.ensures.list ∙ c.deref.ensures.value in
     let given = subst (λ l. IsStepAnswer (λ (v : Vec Insn Global). v.items) (resolved_insns (label_views l) 0 (insn_views c.deref-2.result.now)) (Err e)) labels c.in_err-code.ensures.exact in
     let held = subst (λ l. IsStepAnswer (λ (v : Vec Insn Global). v.items) (resolved_insns (label_views s.labels.items) 0 (insn_views l)) (Err e)) c.deref-2.ensures.value given in
-    record { exact = carries (IsStepAnswer (λ (v : Vec ℕ Global). v.items) (bytes_or_flaw (assembled_code (source_view s)))) e (gives_no_label s (λ (v : Vec Insn Global). v.items) (λ (v : Vec ℕ Global). v.items) e held) c.from_residual-in_err-code.result c.from_residual-in_err-code.ensures.1 }
+    record {
+      exact = carries (IsStepAnswer (λ (v : Vec ℕ Global). v.items)
+          (bytes_or_flaw (assembled_code c.args.profile (source_view s)))) e
+          (gives_no_label c.args.profile s (λ (v : Vec Insn Global). v.items)
+          (λ (v : Vec ℕ Global). v.items) e held) c.from_residual-in_err-code.result
+          c.from_residual-in_err-code.ensures.1;
+    }
 
 pub check-requires-clause-some : goal.check-requires-clause-some
-check-requires-clause-some c = subst (λ l. 0 < length l) (sym c.deref-3.ensures.value) (insns_some c.args.source.now c.requires.spelled)
+check-requires-clause-some c =
+    subst (λ l. 0 < length l) (sym c.deref-3.ensures.value)
+    (insns_some c.args.profile c.args.source.now c.requires.spelled)
 
 pub check-requires-clause-short : goal.check-requires-clause-short
-check-requires-clause-short c = subst (λ l. length l ≤ MAX_INSNS) (sym c.deref-3.ensures.value) (insns_few c.args.source.now c.requires.spelled)
+check-requires-clause-short c =
+    subst (λ l. length l ≤ MAX_INSNS) (sym c.deref-3.ensures.value)
+    (insns_few c.args.profile c.args.source.now c.requires.spelled)
 
 pub returns-in_err-check : goal.returns-in_err-check
 returns-in_err-check c =
@@ -41,8 +57,15 @@ returns-in_err-check c =
     let resolved : resolved_insns (label_views s.labels.items) 0 (insn_views s.insns.items) ≡ Ok code = sym (λ i. resolved_insns (label_views (labels i)) 0 (insn_views (insns i))) ∙ c.in_ok-code.ensures.exact in
     let said = c.deref-3.ensures.value in
     let same = c.deref-4.ensures.value in
-    let checked : as_code (insn_views s.insns.items) (Ok code) ≡ Err flaw = sym (λ i. as_code (insn_views (said i)) (Ok (same i))) ∙ c.in_err-check.ensures in
-    record { exact = carries (IsStepAnswer (λ (v : Vec ℕ Global). v.items) (bytes_or_flaw (assembled_code (source_view s)))) (F.At flaw) (gives_flaw s code flaw resolved checked) c.from_residual-in_err-check.result c.from_residual-in_err-check.ensures.1 }
+    let checked : as_code c.args.profile (insn_views s.insns.items) (Ok code)
+    ≡ Err flaw = sym (λ i. as_code c.args.profile (insn_views (said i)) (Ok (same i)))
+    ∙ c.in_err-check.ensures in
+    record {
+      exact = carries (IsStepAnswer (λ (v : Vec ℕ Global). v.items)
+          (bytes_or_flaw (assembled_code c.args.profile (source_view s)))) (F.At flaw)
+          (gives_flaw c.args.profile s code flaw resolved checked) c.from_residual-in_err-check.result
+          c.from_residual-in_err-check.ensures.1;
+    }
 
 pub bytes_of-requires : goal.bytes_of-requires
 bytes_of-requires c =
@@ -53,8 +76,11 @@ bytes_of-requires c =
     let resolved : resolved_insns (label_views s.labels.items) 0 (insn_views s.insns.items) ≡ Ok code = sym (λ i. resolved_insns (label_views (labels i)) 0 (insn_views (insns i))) ∙ c.in_ok-code.ensures.exact in
     let said = c.deref-3.ensures.value in
     let same = c.deref-4.ensures.value in
-    let checked : as_code (insn_views s.insns.items) (Ok code) ≡ Ok code = sym (λ i. as_code (insn_views (said i)) (Ok (same i))) ∙ c.in_ok-check.ensures ∙ ap Ok same in
-    subst (AllByRecursion IsEncodable) (sym c.deref-5.ensures.value) (insns_encodable s c.requires.spelled code resolved checked)
+    let checked : as_code c.args.profile (insn_views s.insns.items) (Ok code)
+    ≡ Ok code = sym (λ i. as_code c.args.profile (insn_views (said i)) (Ok (same i)))
+    ∙ c.in_ok-check.ensures ∙ ap Ok same in
+    subst (AllByRecursion (IsEncodable c.args.profile)) (sym c.deref-5.ensures.value)
+    (insns_encodable c.args.profile s c.requires.spelled code resolved checked)
 
 pub returns : goal.returns
 returns c =
@@ -65,5 +91,10 @@ returns c =
     let resolved : resolved_insns (label_views s.labels.items) 0 (insn_views s.insns.items) ≡ Ok code = sym (λ i. resolved_insns (label_views (labels i)) 0 (insn_views (insns i))) ∙ c.in_ok-code.ensures.exact in
     let said = c.deref-3.ensures.value in
     let same = c.deref-4.ensures.value in
-    let checked : as_code (insn_views s.insns.items) (Ok code) ≡ Ok code = sym (λ i. as_code (insn_views (said i)) (Ok (same i))) ∙ c.in_ok-check.ensures ∙ ap Ok same in
-    record { exact = gives_bytes s code c.in_ok-bytes.bytes.items resolved checked (c.in_ok-bytes.ensures ∙ ap code_bytes c.deref-5.ensures.value) }
+    let checked : as_code c.args.profile (insn_views s.insns.items) (Ok code)
+    ≡ Ok code = sym (λ i. as_code c.args.profile (insn_views (said i)) (Ok (same i)))
+    ∙ c.in_ok-check.ensures ∙ ap Ok same in
+    record {
+      exact = gives_bytes c.args.profile s code c.in_ok-bytes.bytes.items resolved checked
+          (c.in_ok-bytes.ensures ∙ ap code_bytes c.deref-5.ensures.value);
+    }

@@ -14,5 +14,5 @@ returns-in-Ok-write c = ap container_made c.in-Ok.ensures.exact ∙ ap gives (sy
 pub returns-in-Err-At : goal.returns-in-Err-At
 unfolding assembled_as
 returns-in-Err-At c =
-    let read : assembled_contents c.args.policy.now (source_view c.args.source.now) ≡ Err c.in-Err-At.flaw = rw c.in-Err-At.field-0-is at c.in-Err-At.ensures.exact in
+    let read : assembled_contents c.args.version c.args.policy.now (source_view c.args.source.now) ≡ Err c.in-Err-At.flaw = rw c.in-Err-At.field-0-is at c.in-Err-At.ensures.exact in
     ap container_made read ∙ ap (λ (f : AsmFlaw). container_made (Err f)) (sym c.in-Err-At.flaw-is)

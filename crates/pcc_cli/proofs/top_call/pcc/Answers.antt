@@ -16,7 +16,16 @@ returns g c =
     rw (← c.as_slice.ensures.value) (runs_of_decision _ _ _ _ _ _ _ c.print.result c.decide-decision.result c.decide-decision.ensures c.print.ensures) in
     record {
       runs = runs;
-      means = means c.laws.ensures.accepted c.prove_laws.ensures.accepted c.laws-3.ensures.program (programs-compile c.laws-4.ensures.plain) (command_of words) _ _ _ _ _ _ c.print.result runs;
+      means =
+          means c.laws.ensures.accepted c.prove_laws.ensures.accepted c.laws-3.ensures.program
+          (programs-compile c.laws-4.ensures.plain)
+          (record {
+            spelled = λ bytes policy. (c.laws-5.ensures.spelled bytes policy).1;
+            kept = c.laws-5.ensures.kept;
+          })
+          (record { exactly = c.laws-6.ensures.exactly; accepted = c.laws-6.ensures.accepted })
+          (command_of words) _ _ _ _ _ _ c.print.result runs;
+      sound = c.laws.ensures.safe;
       safe = runs_safely c.laws.ensures.safe c.laws-2.ensures.state c.laws-2.ensures.meets c.isolation_laws.ensures.changes c.isolation_laws.ensures.depends;
       apart = stays_in_parts c.laws.ensures.safe c.isolation_laws.ensures.changes c.isolation_laws.ensures.depends (c.part_laws.ensures.apart 65536 65552) c.part_laws.ensures.spans;
     }

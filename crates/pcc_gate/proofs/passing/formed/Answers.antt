@@ -30,7 +30,10 @@ returns-in-Some-clause-answer c =
     let v = c.intern.new.self in
     let invs = c.args.invs.now in
     let grown : Extends o v = grown-twice o c.machine_types.new.table v c.in_ok-context.ensures.extends c.in_ok-form.ensures.extends in
-    let found : formless 0 (id_trees o invs) ≡ Some c.in-Some.inv = ap (formless 0) (trees-same o v invs grown c.requires.known) ∙ sym c.in_ok-inv.ensures.exact ∙ c.in-Some.is in
+    let s = c.args.signature in
+    let found : formless s 0 (id_trees o invs) ≡ Some c.in-Some.inv =
+    ap (formless s 0) (trees-same o v invs grown c.requires.known) ∙ sym c.in_ok-inv.ensures.exact
+    ∙ c.in-Some.is in
     λ next. ap (λ x. refused_by refusal.InvNotForm x next) found
 
 pub returns-clause-answer : goal.returns-clause-answer
@@ -39,4 +42,5 @@ returns-clause-answer c =
     let v = c.intern.new.self in
     let invs = c.args.invs.now in
     let grown : Extends o v = grown-twice o c.machine_types.new.table v c.in_ok-context.ensures.extends c.in_ok-form.ensures.extends in
-    ap (formless 0) (trees-same o v invs grown c.requires.known) ∙ sym c.in_ok-inv.ensures.exact ∙ c.in-None.is
+    ap (formless c.args.signature 0) (trees-same o v invs grown c.requires.known)
+    ∙ sym c.in_ok-inv.ensures.exact ∙ c.in-None.is

@@ -2,7 +2,7 @@ use Rattle.pcc_gate.proofs.Stages.{front-answer, front-held}
 use Rattle.pcc_gate.proofs.passing.front.Goals as goal
 
 pub pass-requires : goal.pass-requires
-pass-requires c = record { kept = λ t. c.new-kept.ensures.kept _ t }
+pass-requires c = record { kept = λ s t. c.new-kept.ensures.kept _ t }
 
 pub returns : goal.returns
 returns c = record {

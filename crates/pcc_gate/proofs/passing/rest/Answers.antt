@@ -1,24 +1,37 @@
-use Rattle.std.proofs.Common.{◌≡◌, ◌<◌, ◌/◌, ℕ, All, List, length, map, sym, ◌∙◌, ap, subst, slice_index_or, arith}
+use Rattle.std.proofs.Common.{◌≡◌, ◌<◌, ◌/◌, ℕ, All, List, Ok, length, map, sym, ◌∙◌, ap, subst, slice_index_or, arith}
 use Rattle.std.specs.List.Sorted.{IsStrictlyIncreasing}
 use Rattle.alpha_cfg.specs.CodeBytes.{EncodesCode}
 use Rattle.alpha_cfg.specs.Flow.{IsCode}
 use Rattle.term_table.specs.Table.{Extends, id_trees}
 use Rattle.proof_container.specs.Contents.{Contents}
 use Rattle.proof_container.specs.Views.{contents_of}
+use Rattle.pcc_gate.specs.Versions.{head_profile, head_signature}
 use Rattle.pcc_gate.specs.Inside.Stages.{Refuses, with_roots, IsShaped}
 use Rattle.pcc_gate.specs.Inside.Passed.{IsRestAnswer}
-use Rattle.pcc_gate.specs.First.{first_shape}
+use Rattle.pcc_gate.specs.First.{first_code, first_shape}
 use Rattle.pcc_gate.proofs.FirstFront.{key_below, key_rises}
 use Rattle.pcc_gate.proofs.Kept.{known-more, option-more, trees-same, option-same}
 use Rattle.pcc_gate.proofs.Refusing.{carries, keys}
 use Rattle.pcc_gate.proofs.Stages.{code-refuses}
 use Rattle.pcc_gate.proofs.passing.rest.Goals as goal
-use Rattle.word_ops.specs.declared.Profile.TheVariants.{One}
+use Rattle.word_ops.specs.declared.Profile.{Profile}
+use Rattle.lf_signature.specs.declared.WordSignature.{WordSignature}
+use Rattle.lf_signature.specs.Constants.{declared}
+use Rattle.lf_check.specs.Kept.{AreKept}
+use Rattle.alpha_cfg.specs.CodeDecoding.{decoded_code}
 
 pub returns-in_err-insns-clause-answer : goal.returns-in_err-insns-clause-answer
 returns-in_err-insns-clause-answer c =
     let k : Contents = contents_of c.args.container in
-    carries (IsRestAnswer k) c.in_err-insns.field-0.0 (c.in_err-insns.ensures k) c.from_residual.result c.from_residual.ensures.1
+    let e = c.in_err-insns.field-0.0 in
+    let bytes = c.args.container.code.now in
+    let here = subst (λ (p : Profile). Refuses (first_code k (decoded_code p bytes)) e)
+    c.head_profile-profile.ensures.exact (c.in_err-insns.ensures k) in
+    carries (IsRestAnswer k) e here c.from_residual.result c.from_residual.ensures.1
+
+-- what is kept serves any signature
+pub shaped-requires-clause-kept : goal.shaped-requires-clause-kept
+shaped-requires-clause-kept c = c.requires.kept c.head_signature-signature.result
 
 pub shaped-requires-clause-rising : goal.shaped-requires-clause-rising
 shaped-requires-clause-rising c =
@@ -45,9 +58,17 @@ returns-in_err-cut-clause-answer c =
     let k : Contents = contents_of c.args.container in
     let insns = c.in_ok-insns.insns in
     let e = c.in_err-cut.field-0.0 in
-    let here : Refuses (first_shape (with_roots t c.args.container.invs.items c.args.container.proof) insns) e =
-    subst (λ l. Refuses (first_shape (with_roots t l c.args.container.proof) insns) e) c.deref.ensures.value c.in_err-cut.ensures.answer in
-    carries (IsRestAnswer k) e (code-refuses k insns c.in_ok-insns.ensures.0 e here) c.from_residual-in_err-cut.result c.from_residual-in_err-cut.ensures.1
+    let bytes = c.args.container.code.now in
+    let s = c.head_signature-signature.result in
+    let first = λ (l : List (ℕ × ℕ)) (z : WordSignature).
+    Refuses (first_shape z (with_roots t l c.args.container.proof) insns) e in
+    let here = subst (first c.args.container.invs.items) c.head_signature-signature.ensures.exact
+    (subst (λ l. first l s) c.deref.ensures.value c.in_err-cut.ensures.answer) in
+    let read = subst (λ (p : Profile). decoded_code p bytes ≡ Ok insns)
+    c.head_profile-profile.ensures.exact
+    c.in_ok-insns.ensures.0 in
+    carries (IsRestAnswer k) e (code-refuses k insns read e here) c.from_residual-in_err-cut.result
+    c.from_residual-in_err-cut.ensures.1
 
 pub returns-clause-answer : goal.returns-clause-answer
 returns-clause-answer c =
@@ -59,13 +80,36 @@ returns-clause-answer c =
     let cut = c.in_ok-cut.cut in
     let grown : Extends t u = c.in_ok-cut.ensures.extends in
     let known = c.requires.held.known in
-    let shaped : IsShaped (with_roots t ps proof) insns cut = subst (λ l. IsShaped (with_roots t l proof) insns cut) c.deref.ensures.value c.in_ok-cut.ensures.answer in
+    let s = c.head_signature-signature.result in
+    let given = λ (l : List (ℕ × ℕ)) (z : WordSignature). IsShaped z (with_roots t l proof) insns
+    cut in
+    let shaped = subst (given ps) c.head_signature-signature.ensures.exact
+    (subst (λ l. given l s) c.deref.ensures.value c.in_ok-cut.ensures.answer) in
     let code : cut.code ≡ insns = shaped.made.code_is in
-    let mine = subst (λ x. IsShaped (with_roots t ps proof) x cut) (sym code) shaped in
+    let bytes = c.args.container.code.now in
+    let encoded = subst (λ (p : Profile). EncodesCode p bytes insns)
+    c.head_profile-profile.ensures.exact
+    c.in_ok-insns.ensures.1 in
+    let sig = head_signature c.args.container.head in
+    let mine = subst (λ x. IsShaped sig (with_roots t ps proof) x cut) (sym code) shaped in
     record {
-      contents = λ i. record { policy = c.args.container.policy; code = c.args.container.code.now; invs = sym (trees-same t u ps grown known.0) i; proof = sym (option-same t u proof grown known.1) i };
-      held = record { known = (known-more t u ps grown known.0, option-more t u proof grown known.1); places = grown.places ∙ c.requires.held.places };
-      encoded = subst (λ x. EncodesCode One c.args.container.code.now x) (sym code) c.in_ok-insns.ensures.1;
+      contents = λ i. record {
+        head = c.args.container.head;
+        code = bytes;
+        invs = sym (trees-same t u ps grown known.0) i;
+        proof = sym (option-same t u proof grown known.1) i;
+      };
+      held = record {
+        known = (known-more t u ps grown known.0, option-more t u proof grown known.1);
+        places = grown.places ∙ c.requires.held.places;
+      };
+      encoded =
+          subst (λ x. EncodesCode (head_profile c.args.container.head) bytes x) (sym code) encoded;
       is = subst (λ x. IsCode x) (sym code) c.in_ok-insns.ensures.2;
       shaped = record { low = mine.low; forms = mine.forms; made = mine.made; short = mine.short };
     }
+
+pub returns-clause-kept : goal.returns-clause-kept
+returns-clause-kept c =
+    subst (λ (z : WordSignature). AreKept (declared z) c.shaped.new.table c.shaped.new.kept)
+    c.head_signature-signature.ensures.exact c.in_ok-cut.ensures.kept

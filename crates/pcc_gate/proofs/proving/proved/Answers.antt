@@ -11,15 +11,20 @@ use Rattle.pcc_gate.proofs.First.{judged-true, vc_of-encodes, proves-false}
 use Rattle.pcc_gate.proofs.Kept.{low-more, low-same}
 use Rattle.pcc_gate.proofs.Refusing.{not-both}
 use Rattle.pcc_gate.proofs.proving.proved.Goals as goal
-use Rattle.lf_signature.specs.declared.WordSignature.TheVariants.{Sigma1}
+use Rattle.lf_signature.specs.declared.WordSignature.TheVariants.{Sigma3}
+use Rattle.vcgen.proofs.Encodings.{forms-wider}
 
 pub is_condition_with-requires-clause-invs : goal.is_condition_with-requires-clause-invs
 is_condition_with-requires-clause-invs c = low-more c.args.table.now c.proved_formula_with.new.table c.args.invs.now c.requires.invs
     c.in_ok-formula.ensures.extends
 
 pub is_condition_with-requires-clause-forms : goal.is_condition_with-requires-clause-forms
-is_condition_with-requires-clause-forms c = subst AreForms (low-same c.args.table.now c.proved_formula_with.new.table c.args.invs.now c.requires.invs
-    c.in_ok-formula.ensures.extends) c.requires.forms
+is_condition_with-requires-clause-forms c =
+    let o = c.args.table.now in
+    let invs = c.args.invs.now in
+    let same = low-same o c.proved_formula_with.new.table invs c.requires.invs
+    c.in_ok-formula.ensures.extends in
+    subst (AreForms Sigma3) same (forms-wider c.args.signature (id_trees o invs) c.requires.forms)
 
 pub returns-in_default-clause-answer : goal.returns-in_default-clause-answer
 returns-in_default-clause-answer c =
@@ -27,8 +32,9 @@ returns-in_default-clause-answer c =
     let u = c.proved_formula_with.new.table in
     let proof = tree_at o c.args.proof in
     let vc = vc_of c.args.policy.now c.args.cut.now.code (id_trees o c.args.invs.now) in
-    let none = subst (λ z. IsResult u (λ g. Checks (declared Sigma1) [] proof (pf g)) z) c.in_default.is c.in_ok-formula.ensures.exact in
-    (proves-false proof vc (none vc), refl)
+    let none = subst (λ z. IsResult u (λ g. Checks (declared c.args.signature) [] proof (pf g)) z)
+    c.in_default.is c.in_ok-formula.ensures.exact in
+    (proves-false c.args.signature proof vc (none vc), refl)
 
 pub returns-then-not-equal-clause-answer : goal.returns-then-not-equal-clause-answer
 returns-then-not-equal-clause-answer c =
@@ -40,14 +46,15 @@ returns-then-not-equal-clause-answer c =
     let invs = id_trees o c.args.invs.now in
     let vc = vc_of policy code invs in
     let found = tree_at u c.in-Some.formula in
-    let has = subst (λ z. IsResult u (λ g. Checks (declared Sigma1) [] proof (pf g)) z) c.in-Some.is c.in_ok-formula.ensures.exact in
+    let has = subst (λ z. IsResult u (λ g. Checks (declared c.args.signature) [] proof (pf g)) z)
+    c.in-Some.is c.in_ok-formula.ensures.exact in
     let same = low-same o u c.args.invs.now c.requires.invs c.in_ok-formula.ensures.extends in
     let is : EncodesCondition policy code (id_trees u c.args.invs.now) vc = subst (λ l. EncodesCondition policy code l vc) same
-    (vc_of-encodes policy code invs c.requires.forms) in
-    let other : Checks (declared Sigma1) [] proof (pf vc) → ⊥ =
+    (vc_of-encodes c.args.signature policy code invs c.requires.forms) in
+    let other : Checks (declared c.args.signature) [] proof (pf vc) → ⊥ =
     λ k. not-both _ c.if-not-equal.true (c.in-Ok.ensures.exact.1.1 (subst (λ z. EncodesCondition policy code (id_trees u c.args.invs.now) z)
-    (one-formula (declared Sigma1) proof vc found k has.1) is)) in
-    (proves-false proof vc other, refl)
+    (one-formula (declared c.args.signature) proof vc found k has.1) is)) in
+    (proves-false c.args.signature proof vc other, refl)
 
 pub returns-clause-answer : goal.returns-clause-answer
 returns-clause-answer c =
@@ -58,8 +65,9 @@ returns-clause-answer c =
     let proof = tree_at o c.args.proof in
     let invs = id_trees o c.args.invs.now in
     let found = tree_at u c.in-Some.formula in
-    let has = subst (λ z. IsResult u (λ g. Checks (declared Sigma1) [] proof (pf g)) z) c.in-Some.is c.in_ok-formula.ensures.exact in
+    let has = subst (λ z. IsResult u (λ g. Checks (declared c.args.signature) [] proof (pf g)) z)
+    c.in-Some.is c.in_ok-formula.ensures.exact in
     let same = low-same o u c.args.invs.now c.requires.invs c.in_ok-formula.ensures.extends in
     let is : EncodesCondition policy code invs found = subst (λ l. EncodesCondition policy code l found) (sym same)
     (c.in-Ok.ensures.exact.1.0 c.if-not-equal.false) in
-    judged-true policy code invs proof found c.requires.forms is has.1
+    judged-true c.args.signature policy code invs proof found c.requires.forms is has.1

@@ -1,4 +1,4 @@
-use Rattle.pcc_gate.proofs.Safe.{accepted-safe, first-sound}
+use Rattle.pcc_gate.proofs.Safe.{accepted-safe, all-sound}
 use Rattle.pcc_gate.proofs.FirstFront.{passed-none, none-passed, passed-one, before-is, passes-cut, cut-passes}
 use Rattle.pcc_gate.proofs.Witness.{loop_is_accepted}
 use Rattle.pcc_gate.proofs.First.{accepted-none, none-accepted, refusal-is}
@@ -14,7 +14,7 @@ pub returns-clause-one : goal.returns-clause-one
 returns-clause-one c policy bytes k d code other marks flags fits p q = passed-one policy bytes k d code other marks flags p q
 
 pub returns-clause-safe : goal.returns-clause-safe
-returns-clause-safe c = accepted-safe (first-sound c.truth_laws.ensures.sound)
+returns-clause-safe c = accepted-safe (all-sound c.truth_laws.ensures.sound)
 
 pub returns-clause-refusals : goal.returns-clause-refusals
 returns-clause-refusals c policy bytes r fits = refusal-is policy bytes r fits

@@ -7,8 +7,16 @@ pub returns : goal.returns
 unfolding clap_on_literals command_of
 returns c = record {
   asm = refl;
+  asm_version = refl;
+  version_first = refl;
+  version_behind_dashes = refl;
+  asm_at = refl;
   prove = refl;
   check = refl;
+  check_file = refl;
+  check_no_name = refl;
+  check_at_twice = refl;
+  check_at_later = refl;
   run = refl;
   run_steps = refl;
   given = refl;
@@ -22,6 +30,8 @@ returns c = record {
   demo_three = refl;
   demo_most = refl;
   demo_plus = refl;
+  upgrade = refl;
+  upgrade_in_place = refl;
   host = refl;
   bpf = refl;
   bpf_in_place = refl;

@@ -5,6 +5,6 @@ use Rattle.proof_container.proofs.reading.offset_of.Given as goal
 
 abbrev pub invariant-loop-k : goal.invariant-loop-k
 invariant-loop-k l = record {
-  field : l.field ≡ 5 + l.words + sum_by entry_size (take l.k l.table.trees);
-  near : l.field ≤ 5 + l.words + 6 * l.k;
+  field : l.field ≡ l.at + 1 + sum_by entry_size (take l.k l.table.trees);
+  near : l.field ≤ l.at + 1 + 6 * l.k;
 }

@@ -1,6 +1,6 @@
-use Rattle.std.proofs.Common.{◌≡◌, ◌++◌, [], List, ℕ, ◌∙◌, ap}
+use Rattle.std.proofs.Common.{◌≡◌, ◌/◌, ◌++◌, [], List, ℕ, length, ◌∙◌, ap}
 use Rattle.proof_container.specs.Contents.{Contents}
-use Rattle.proof_container.specs.Encoding.{field_bytes, head_fields, tail_fields, EncodesContents}
+use Rattle.proof_container.specs.Encoding.{field_bytes, head_bytes, tail_fields, EncodesContents}
 use Rattle.proof_container.specs.Views.{view_contents}
 use Rattle.proof_container.specs.Inside.Walked.{left_trees}
 use Rattle.proof_container.proofs.Ready.{ready, view_holds, is_spelling}
@@ -16,12 +16,16 @@ encoded c =
     let held : Contents = view_contents v in
     let es = left_trees v.table.now c.in_ok-walk.walk in
     let none : c.new-out.result.items ≡ [] = c.new-out.ensures.items in
-    let head : c.put.new.out.items ≡ field_bytes (head_fields held) = c.in_ok-put.ensures ∙ ap (λ (z : List ℕ). z ++ field_bytes (head_fields held)) none in
-    let code : c.extend_from_slice.new.self.items ≡ field_bytes (head_fields held) ++ held.code = c.in_ok-extend_from_slice.ensures.items ∙ ap (λ (z : List ℕ). z ++ held.code) head in
-    let out : c.put_tail.new.out.items ≡ (field_bytes (head_fields held) ++ held.code) ++ field_bytes (tail_fields es held) =
+    let front : List ℕ = head_bytes held.head (length held.code / 4) in
+    let head : c.put_head.new.out.items ≡ front =
+    c.in_ok-put_head.ensures ∙ ap (λ (z : List ℕ). z ++ front) none in
+    let code : c.extend_from_slice.new.self.items ≡ front ++ held.code =
+    c.in_ok-extend_from_slice.ensures.items ∙ ap (λ (z : List ℕ). z ++ held.code) head in
+    let out : c.put_tail.new.out.items ≡ (front ++ held.code) ++ field_bytes (tail_fields es held) =
     c.in_ok-put_tail.ensures ∙ ap (λ (z : List ℕ). z ++ field_bytes (tail_fields es held)) code in
     record {
-      contents = view_holds v c.requires c.limits.ensures.policy c.limits.ensures.code c.laws.ensures.small;
+      contents =
+          view_holds v c.requires c.limits.ensures.head c.limits.ensures.code c.laws.ensures.small;
       encoded = is_spelling held es c.put_tail.new.out.items c.in_ok-walk.ensures.left out;
     }
 

@@ -52,3 +52,27 @@ returns-in_ok-commuted-in-Swapped-clause-exact c =
     let op = c.args.op in
     let r = subst (IsRule c.args.table.now out op x y) c.in-Swapped.is h in
     one_step c.commuted.new.table c.in_ok-commuted-in-Swapped.field-0 _ _ r (c.in_ok-commuted-in-Swapped.ensures.exact (EOp op x y) x y qe qa qb)
+
+pub returns-in_ok-step-in-Scaled-clause-exact : goal.returns-in_ok-step-in-Scaled-clause-exact
+returns-in_ok-step-in-Scaled-clause-exact c =
+    λ out x y qe qa qb h.
+    let op = c.args.op in
+    let r = subst (IsRule c.args.table.now out op x y) c.in-Scaled.is h in
+    one_step c.to_scaled.new.table c.in_ok-step-in-Scaled.step _ _ r
+    (c.in_ok-step-in-Scaled.ensures.exact (EOp op x y) x y qe qa qb)
+
+pub returns-in_ok-to_complement-in-Complemented-clause-exact : goal.returns-in_ok-to_complement-in-Complemented-clause-exact
+returns-in_ok-to_complement-in-Complemented-clause-exact c =
+    λ out x y qe qa qb h.
+    let op = c.args.op in
+    let r = subst (IsRule c.args.table.now out op x y) c.in-Complemented.is h in
+    one_step c.to_complement.new.table c.in_ok-to_complement-in-Complemented.field-0 _ _ r
+    (c.in_ok-to_complement-in-Complemented.ensures.exact (EOp op x y) x y qe qa qb)
+
+pub returns-in_ok-to_zero-in-Cancelled-clause-exact : goal.returns-in_ok-to_zero-in-Cancelled-clause-exact
+returns-in_ok-to_zero-in-Cancelled-clause-exact c =
+    λ out x y qe qa qb h.
+    let op = c.args.op in
+    let r = subst (IsRule c.args.table.now out op x y) c.in-Cancelled.is h in
+    one_step c.to_zero.new.table c.in_ok-to_zero-in-Cancelled.field-0 _ _ r
+    (c.in_ok-to_zero-in-Cancelled.ensures.exact (EOp op x y) x qe qa)

@@ -1,0 +1,164 @@
+-- What an accepted container is upgraded to is accepted.
+use Rattle.std.proofs.Common.{◌≡◌, ℕ, ◌≤◌, Bool, List, [], ◌∷◌, Option, Some, IfSome, sym, ap, ◌∙◌, subst, arith}
+use Rattle.word_ops.specs.declared.Profile.TheVariants.{One, Two}
+use Rattle.alpha_words.specs.declared.insn.Insn.{Insn}
+use Rattle.alpha_cfg.specs.CodeBytes.{EncodesCode}
+use Rattle.term_table.specs.Tree.{Tree}
+use Rattle.term_table.specs.Measures.{weight_of}
+use Rattle.lf_signature.specs.declared.WordSignature.{WordSignature}
+use Rattle.lf_signature.specs.declared.WordSignature.TheVariants.{Sigma1, Sigma2}
+use Rattle.lf_signature.specs.Constants.{places_of, size_of, op_count_of, declared}
+use Rattle.lf_signature.specs.Terms.{form, pf}
+use Rattle.lf_signature.specs.Typing.{Checks}
+use Rattle.lf_encode.specs.Contexts.{machine_context, sort_types}
+use Rattle.policy_set.specs.declared.kind.PolicyKind.{PolicyKind}
+use Rattle.policy_set.specs.Policies.{pre_of, post_of}
+use Rattle.policy_set.specs.Names.{kind_number, IsNumberOf}
+use Rattle.policy_set.specs.Views.{PolicyView, built_in, IsPolicy}
+use Rattle.policy_set.specs.Digest.{digest_of}
+use Rattle.proof_container.specs.declared.container.Head.{Head}
+use Rattle.proof_container.specs.declared.container.Head.TheVariants.{Number, Digest}
+use Rattle.proof_container.specs.Contents.{Contents}
+use Rattle.proof_container.specs.Encoding.{EncodesContents}
+use Rattle.vcgen.specs.Encoded.{AreForms}
+use Rattle.pcc_gate.specs.Accepted.{Accepts}
+use Rattle.pcc_gate.specs.ForPolicy.{IsFor}
+use Rattle.pcc_gate.specs.Passing.{Passes}
+use Rattle.pcc_gate.specs.Versions.{head_profile, head_signature}
+use Rattle.pcc_gate.specs.declared.limits.TheConstants.{MAX_WEIGHT}
+use Rattle.container_upgrade.specs.Laws.{UpgradedAccepted}
+use Rattle.container_upgrade.specs.Upgrading.{kind_numbered, with_digest}
+use Rattle.container_upgrade.specs.Upgrades.{IsUpgrade}
+use Rattle.container_upgrade.proofs.Exactly.{numbered-kind}
+
+-- the bytes of code in the first profile are those of the same code in the second
+abbrev pub CodeLater : Type 0
+CodeLater =
+    (bytes : List ℕ) (code : List Insn) → EncodesCode One bytes code → EncodesCode Two bytes code
+
+-- what checks over a signature checks over a longer one
+abbrev pub ChecksLonger : Type 0
+ChecksLonger =
+    (s u : WordSignature) (ctx : List Tree) (m a : Tree) → size_of s ≤ size_of u
+    → op_count_of s ≤ op_count_of u → Checks (declared s) ctx m a → Checks (declared u) ctx m a
+
+-- and weighs the same by the parameters of both
+abbrev pub WeighsAlike : Type 0
+WeighsAlike =
+    (s u : WordSignature) (ctx : List Tree) (m a : Tree) → size_of s ≤ size_of u
+    → Checks (declared s) ctx m a → weight_of (places_of u) m ≡ weight_of (places_of s) m
+
+-- bytes are the encoding of one content, by the laws of containers
+abbrev pub OneContent : Type 0
+OneContent =
+    (bytes : List ℕ) (c d : Contents) → EncodesContents bytes c → EncodesContents bytes d → c ≡ d
+
+-- ---- the policy
+
+-- a policy of a kind that keeps what each does has the digest of the built-in one
+same-digest : (policy : PolicyView) (kind : PolicyKind) → IsPolicy policy
+    → policy.kind ≡ Some kind → digest_of (built_in kind) ≡ digest_of policy
+same-digest policy kind kept is =
+    let both : (policy.pre ≡ pre_of kind) × (policy.post ≡ post_of kind) =
+    subst
+    (λ (o : Option PolicyKind). IfSome o
+    (λ k. (policy.pre ≡ pre_of k) × (policy.post ≡ post_of k)))
+    is kept.of_kind in
+    sym (
+    ap (λ F. digest_of (record { kind = Some kind; pre = F; post = policy.post })) both.0
+    ∙ ap (λ F. digest_of (record { kind = Some kind; pre = pre_of kind; post = F })) both.1
+    )
+
+-- the kind of the number that names a policy is the policy's
+same-kind : (policy : PolicyView) (kind : PolicyKind) → IsNumberOf policy (kind_number kind)
+    → policy.kind ≡ Some kind
+same-kind policy kind h =
+    h.1 ∙ sym (numbered-kind h.0) ∙ ap kind_numbered (sym h.2) ∙ numbered-kind kind
+
+-- the digest is for each policy for which the number is
+digest-for : (policy : PolicyView) (kind : PolicyKind) → IsPolicy policy
+    → IsFor policy (Number (kind_number kind)) → IsFor policy (Digest (digest_of (built_in kind)))
+digest-for policy kind kept h = same-digest policy kind kept (same-kind policy kind h)
+
+-- ---- the terms
+
+forms-longer : ChecksLonger → (invs : List (ℕ × Tree)) → AreForms Sigma1 invs → AreForms Sigma2 invs
+forms-longer longer [] h = tt
+forms-longer longer (p ∷ ps) h = (
+  longer Sigma1 Sigma2 (sort_types machine_context) p.1 form (omega arith) (omega arith) h.0,
+  forms-longer longer ps h.1,
+)
+
+-- ---- the clauses
+
+module _
+    (later : CodeLater)
+    (longer : ChecksLonger)
+    (weighs : WeighsAlike)
+    (policy : PolicyView)
+    (bytes out : List ℕ)
+    (kept : IsPolicy policy)
+    (u : IsUpgrade bytes out)
+    (code : List Insn)
+    (marks : List Bool) where
+  abbrev renamed : Contents
+  renamed = with_digest (built_in u.kind) u.contents
+
+  passes-upgraded : Passes policy bytes u.contents code marks
+      → Passes policy out renamed code marks
+  passes-upgraded p =
+      let first : u.contents.head ≡ Number (kind_number u.kind) = u.number in
+      let named : IsFor policy (Number (kind_number u.kind)) = subst (IsFor policy) first p.named in
+      record {
+        size = u.short;
+        container = u.new;
+        named = digest-for policy u.kind kept named;
+        encoded =
+            later u.contents.code code
+            (subst (λ (x : Head). EncodesCode (head_profile x) u.contents.code code) first
+            p.encoded);
+        code = p.code;
+        heights = p.heights;
+        forms =
+            forms-longer longer u.contents.invs
+            (subst (λ (x : Head). AreForms (head_signature x) u.contents.invs) first p.forms);
+        annotated = p.annotated;
+        cut = p.cut;
+        unfolded = p.unfolded;
+      }
+
+  accepts-upgraded : Accepts policy bytes u.contents code marks
+      → Accepts policy out renamed code marks
+  accepts-upgraded a =
+      let first : u.contents.head ≡ Number (kind_number u.kind) = u.number in
+      let proved : Checks (declared Sigma1) [] a.proof (pf a.vc) =
+      subst (λ (x : Head). Checks (declared (head_signature x)) [] a.proof (pf a.vc)) first
+      a.proved in
+      let light = subst
+      (λ (x : Head). weight_of (places_of (head_signature x)) a.proof ≤ MAX_WEIGHT)
+      first a.weight in
+      let same : weight_of (places_of Sigma2) a.proof ≡ weight_of (places_of Sigma1) a.proof =
+      weighs Sigma1 Sigma2 [] a.proof (pf a.vc) (omega arith) proved in
+      record {
+        passes = passes-upgraded a.passes;
+        proof = a.proof;
+        vc = a.vc;
+        given = a.given;
+        weight = subst (λ n. n ≤ MAX_WEIGHT) (sym same) light;
+        condition = a.condition;
+        proved = longer Sigma1 Sigma2 [] a.proof (pf a.vc) (omega arith) (omega arith) proved;
+      }
+
+pub upgraded-accepted : CodeLater → ChecksLonger → WeighsAlike → OneContent → UpgradedAccepted
+upgraded-accepted later longer weighs one policy bytes out kept u it =
+    let same : it.contents ≡ u.contents =
+    one bytes it.contents u.contents it.accepts.passes.container u.old in
+    let accepts : Accepts policy bytes u.contents it.code it.marks =
+    subst (λ (c : Contents). Accepts policy bytes c it.code it.marks) same it.accepts in
+    record {
+      contents = with_digest (built_in u.kind) u.contents;
+      code = it.code;
+      marks = it.marks;
+      accepts =
+          accepts-upgraded later longer weighs policy bytes out kept u it.code it.marks accepts;
+    }

@@ -1,0 +1,4 @@
+pub mod Digests
+pub mod Renamed
+pub mod Exactly
+pub mod Acceptance

@@ -1,0 +1,3 @@
+pub mod Upgrading
+pub mod Upgrades
+pub mod Laws

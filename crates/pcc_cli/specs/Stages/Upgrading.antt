@@ -1,0 +1,41 @@
+-- Stages that upgrade a container.
+use Rattle.std.specs.Prelude.{ℕ, List, Result, Ok, Err}
+use Rattle.proof_container.specs.declared.container.Head.TheVariants.{Number}
+use Rattle.bounds_prover.specs.Names.{measure_name}
+use Rattle.bounds_prover.specs.declared.fault.Measure.TheVariants.{Bytes}
+use Rattle.container_upgrade.specs.declared.fault.UpgradeFault.{UpgradeFault}
+use Rattle.container_upgrade.specs.declared.fault.UpgradeFault.TheVariants as fault
+use Rattle.container_upgrade.specs.Upgrading.{upgraded_container}
+use Rattle.pcc_lines.specs.Fixed.{already_line}
+use Rattle.pcc_lines.specs.Proving.{too_big_line}
+use Rattle.pcc_lines.specs.Refusals.{refusal_line}
+use Rattle.pcc_gate.specs.declared.refusal.Refusal.TheVariants as refusal
+use Rattle.pcc_exit.specs.Exits.{Exit}
+use Rattle.pcc_exit.specs.Requests.{no_memory_exit}
+use Rattle.pcc_exit.specs.Stages.{Stage, stops, gives, ◌>>=◌}
+use Rattle.pcc_cli.specs.Stages.Common.{refused}
+use Rattle.pcc_cli.specs.Stages.Containers.{container_bytes_of}
+
+-- nothing is upgraded, and why
+abbrev pub not_upgraded : UpgradeFault → Exit
+not_upgraded (fault.TooLong length) = refused (refusal_line (refusal.TooLong length))
+not_upgraded (fault.Malformed offset flaw) = refused (refusal_line (refusal.Malformed offset flaw))
+not_upgraded fault.Already = refused already_line
+not_upgraded (fault.OtherPolicy n) = refused (refusal_line (refusal.OtherPolicy (Number n)))
+not_upgraded (fault.TooBig size) = refused (too_big_line (measure_name Bytes) size)
+not_upgraded fault.Memory = no_memory_exit
+
+-- what upgrading makes
+abbrev pub container_upgraded : Result (List ℕ) UpgradeFault → Stage (List ℕ)
+container_upgraded (Ok bytes) = gives bytes
+container_upgraded (Err fault) = stops (not_upgraded fault)
+
+-- the bytes of the container of version 2 that the bytes are upgraded to, or why there is none
+unfoldable pub upgraded_in : List ℕ → Stage (List ℕ)
+upgraded_in bytes = container_upgraded (upgraded_container bytes)
+
+-- the same of the container in the file of the name
+unfoldable pub upgraded_of : List ℕ → Stage (List ℕ)
+upgraded_of name = do
+  bytes ← container_bytes_of name
+  upgraded_in bytes

@@ -1,0 +1,30 @@
+//! The profile and the signature of each version.
+
+ghost use Rattle.std.specs.Prelude.{◌≡◌};
+ghost use Rattle.proof_container.specs.Versions.{profile_of, signature_of};
+
+use lf_signature::WordSignature;
+use word_ops::Profile;
+
+/// The profile that the code of a container of the version is of.
+pub fn profile_of(version: u32) -> Profile
+    ensures exact { result ≡ profile_of version }
+{
+    if version == 1 {
+        Profile::One
+    } else {
+        Profile::Two
+    }
+}
+
+/// The signature that the terms of a container of the version are over, by whose parameters its
+/// proof weighs.
+pub fn signature_of(version: u32) -> WordSignature
+    ensures exact { result ≡ signature_of version }
+{
+    if version == 1 {
+        WordSignature::Sigma1
+    } else {
+        WordSignature::Sigma2
+    }
+}

@@ -1,0 +1,33 @@
+//! What holds of profiles and signatures, with nothing to run.
+
+ghost use Rattle.std.specs.Prelude.{◌≡◌, ◌≤◌, ℕ, List, Ok};
+ghost use Rattle.word_ops.specs.declared.Profile.TheVariants.{One, Two};
+ghost use Rattle.alpha_words.specs.declared.insn.Insn.{Insn};
+ghost use Rattle.alpha_words.specs.Encoding.{Encodes};
+ghost use Rattle.alpha_words.specs.Decoding.{decoded};
+ghost use Rattle.alpha_cfg.specs.CodeBytes.{EncodesCode};
+ghost use Rattle.term_table.specs.Tree.{Tree};
+ghost use Rattle.term_table.specs.Measures.{weight_of};
+ghost use Rattle.lf_signature.specs.Typing.{Checks};
+ghost use Rattle.lf_signature.specs.Constants.{size_of, op_count_of, places_of, declared};
+ghost use Rattle.lf_signature.specs.declared.WordSignature.{WordSignature};
+
+/// What a word encodes in the first profile it encodes in the second, and reads as there; so the
+/// bytes of code in the first profile are those of the same code in the second.
+pub fn profile_laws()
+    ensures words { (w : ℕ) (i : Insn) → Encodes One w i → Encodes Two w i }
+    ensures reads { (w : ℕ) (i : Insn) → decoded One w ≡ Ok i → decoded Two w ≡ Ok i }
+    ensures code { (bytes : List ℕ) (code : List Insn) →
+        EncodesCode One bytes code → EncodesCode Two bytes code }
+{}
+
+/// What checks over a signature of word arithmetic checks over each that has no fewer constants and
+/// operators; and its weight by the parameters of the longer one is that by its own.
+pub fn longer_laws()
+    ensures checks { (s u : WordSignature) (ctx : List Tree) (m a : Tree) →
+        size_of s ≤ size_of u → op_count_of s ≤ op_count_of u →
+        Checks (declared s) ctx m a → Checks (declared u) ctx m a }
+    ensures weighs { (s u : WordSignature) (ctx : List Tree) (m a : Tree) → size_of s ≤ size_of u →
+        Checks (declared s) ctx m a →
+        weight_of (places_of u) m ≡ weight_of (places_of s) m }
+{}
