@@ -16,9 +16,9 @@ from terms import *
 binary, work = sys.argv[2:]
 failed = False
 
-def both(name, policy, data, wanted):
-    row(name, policy, data, wanted)
-    row(".. in version 2", policy, in_version_2(data, DIGESTS[policy]), wanted)
+def both(name, policy, data, wanted, times=5):
+    row(name, policy, data, wanted, times)
+    row(".. in version 2", policy, in_version_2(data, DIGESTS[policy]), wanted, times)
 
 def row(name, policy, data, wanted, times=5):
     global failed
@@ -33,11 +33,11 @@ def row(name, policy, data, wanted, times=5):
           statistics.median(r.megabytes for r in runs), len(data), line, note), flush=True)
 
 t = Terms()
-row("ret under tag", "tag", returning_container(t), "accepted")
+both("ret under tag", "tag", returning_container(t), "accepted")
 least = weight(t, returning(t))
 both("the proof padded to weight 1,048,576", "tag", returning_container(t, padded(t, 1048577 - least)), "accepted")
-row("one more", "tag", returning_container(t, padded(t, 1048578 - least)), "refused 10 ProofWeight 1048577")
-row("sixty doublings", "tag", returning_container(t, sixty_times(t)), "refused 10 ProofWeight 4294967295")
+both("one more", "tag", returning_container(t, padded(t, 1048578 - least)), "refused 10 ProofWeight 1048577")
+both("sixty doublings", "tag", returning_container(t, sixty_times(t)), "refused 10 ProofWeight 4294967295")
 
 t = Terms()
 chained = t.con(TT_I)
@@ -52,12 +52,28 @@ for leaves, wanted in [(26170, "accepted")]:
     data = returning_container(t, instead(t, *whole))
     both("%d facts, conjoined (%d entries)" % (leaves, struct.unpack_from("<I", data, 20)[0]), "tag", data, wanted)
 
+def difference(t, word):
+    """That a word without its low byte is what is computed of it."""
+    low = t.lit(255)
+    return t.con(EQ, t.con(BIC, t.lit(word), low), t.lit(word & ~255)), t.node(CALC, 12, word, 255)
+
+def itself(t, word):
+    """That the exclusive or of a word and itself is 0, by its rule."""
+    return t.con(EQ, t.con(XOR, t.lit(word), t.lit(word)), t.lit(0)), t.con(XOR_SELF, t.lit(word))
+
+for what, one in [("results of bic", difference), ("instances of xor_self", itself)]:
+    t = Terms()
+    data = returning_container(t, instead(t, *conjunction(t, [one(t, k + (1 << 40)) for k in range(21820)])))
+    name = "21820 %s, conjoined (%d entries)" % (what, struct.unpack_from("<I", data, 20)[0])
+    row(name, "tag", data, "refused 11 NotProof")
+    row(".. in version 2", "tag", in_version_2(data, DIGESTS["tag"]), "accepted")
+
 PAIR, ZERO = [0xE4200001, 0x47FF041F], 0x47FF041F
 double = [ZERO] * 2 + PAIR * 14 + [RETURN_1, RETURN]
 t = Terms()
 row("unfolded length 65,536, no proof", "filter", container(t, FILTER, double), "refused 9 NoProof")
 both("unfolded length 65,536, another proof", "filter", container(t, FILTER, double, (), t.con(TT_I)), "refused 11 NotProof")
-row("unfolded length 65,537", "filter", container(t, FILTER, [ZERO] + double), "refused 8 UnfoldLimit 65537")
+both("unfolded length 65,537", "filter", container(t, FILTER, [ZERO] + double), "refused 8 UnfoldLimit 65537")
 
 straight = [0x40203401] * 1022 + [RETURN_1, RETURN]
 both("1,024 instructions, another proof", "filter", container(t, FILTER, straight, (), t.con(TT_I)), "refused 11 NotProof")
@@ -73,10 +89,10 @@ def balanced(t, leaf, low, high):
 
 t = Terms()
 many = [(4 * k, t.con(EQ, t.var(30 - k % 31), t.lit(k))) for k in range(256)]
-row("256 invariants, another proof", "filter", container(t, FILTER, straight, many, t.con(TT_I)), "refused 11 NotProof")
+both("256 invariants, another proof", "filter", container(t, FILTER, straight, many, t.con(TT_I)), "refused 11 NotProof")
 wide = balanced(t, lambda k: t.con(EQ, t.lit(k), t.lit(k)), 0, 52400)
 data = container(t, FILTER, [0xC3FFFFFF], [(0, wide)])
-row("an invariant of %d entries" % struct.unpack_from("<I", data, 20)[0], "filter", data, "refused 9 NoProof")
+both("an invariant of %d entries" % struct.unpack_from("<I", data, 20)[0], "filter", data, "refused 9 NoProof")
 open_wide = balanced(t, lambda k: t.con(EQ, t.var(14), t.lit(k)), 0, 52400)
 data = container(t, FILTER, [0x40203401, 0x40203401, 0xC3FFFFFE], [(1, open_wide)], t.con(TT_I))
 both(".. over r16, put into 3 ways, another proof", "filter", data, "refused 11 NotProof")
@@ -92,20 +108,21 @@ def applied(t, low, high):
     return t.lit(low) if high - low == 1 else t.node(APP, applied(t, low, (low + high) // 2), applied(t, (low + high) // 2, high))
 
 t = Terms()
-row("a balanced tree of 262,143 entries", "filter", container(t, FILTER, [0xC3FFFFFF], [(0, applied(t, 0, 131072))]), "refused 6 InvNotForm 0")
+both("a balanced tree of 262,143 entries", "filter", container(t, FILTER, [0xC3FFFFFF], [(0, applied(t, 0, 131072))]), "refused 6 InvNotForm 0")
 quantified = t.con(TT)
 for _ in range(60):
     quantified = t.con(IMP, t.con(ALL, t.lam(quantified)), t.con(ALLM, t.lam(quantified)))
-row("quantifiers that double sixty times", "filter", container(t, FILTER, [0xC3FFFFFF], [(0, quantified)]), "refused 9 NoProof")
-row("262,144 abstractions", "filter", container(t, FILTER, [0xC3FFFFFF], [(0, t.lam(t.var(0), 262143))]), "refused 5 Height 262144")
+both("quantifiers that double sixty times", "filter", container(t, FILTER, [0xC3FFFFFF], [(0, quantified)]), "refused 9 NoProof")
+both("262,144 abstractions", "filter", container(t, FILTER, [0xC3FFFFFF], [(0, t.lam(t.var(0), 262143))]), "refused 5 Height 262144")
 
 for parts, count in [(40, 14500), (3000, 14500)]:
     t = Terms()
     data = returning_container(t, under_equality(t, contexts(t, parts, count)))
-    row("a word of %d parts under %d hypotheses" % (parts, count), "tag", data, "accepted", 1)
+    both("a word of %d parts under %d hypotheses" % (parts, count), "tag", data, "accepted", 1)
 for parts, count in [(20, 14000), (3000, 12000)]:
     t = Terms()
     data = returning_container(t, under_equality(t, instances(t, parts, count)))
-    row("%d instances of a predicate of %d parts" % (count, parts), "tag", data, "accepted" if parts < 100 else "status 5", 1)
+    wanted = "accepted" if parts < 100 else "status 5"
+    both("%d instances of a predicate of %d parts" % (count, parts), "tag", data, wanted, 1)
 sys.exit(1 if failed else 0)
 PY

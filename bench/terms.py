@@ -10,6 +10,7 @@ VAR, CONST, LIT, CALC, FACT, DENY, APP, LAM = range(8)
  AND, OR, IMP, ALL, ALLM) = range(27)
 (TT_I, FF_E, AND_I, AND_L, AND_R, OR_L, OR_R, OR_E, IMP_I, IMP_E, EM, ALL_I, ALL_E, ALLM_I, ALLM_E, EQ_REFL,
  EQ_SUB) = range(27, 44)
+XOR, BIC, XOR_SELF = 88, 89, 96
 FILTER, TAG, TABLE = 1, 2, 3
 RETURN, RETURN_1 = 0x6BFA8001, 0x201F0001
 GROUP = 500
@@ -130,6 +131,11 @@ DIGESTS = {
 def in_version_2(first, digest):
     """The same container in version 2: the digest of the policy's text stands in place of its number."""
     return first[:4] + struct.pack("<I", 2) + digest + first[12:]
+
+
+def in_version_3(first, digest, bound):
+    """The same in version 3: behind the digest stands the bound of its steps."""
+    return first[:4] + struct.pack("<I", 3) + digest + struct.pack("<I", bound) + first[12:]
 
 
 # ---- a proof of the condition of `ret` under the policy tag, with room for any proof of `tt`

@@ -1,5 +1,5 @@
 -- Agents with rights that fit: at a start, and after a run.
-use Rattle.std.proofs.Common.{◌≡◌, ℕ, ◌-◌, ◌/◌, List, true, refl, sym, ◌∙◌, ap, subst, arith}
+use Rattle.std.proofs.Common.{◌≡◌, ℕ, ◌-◌, ◌/◌, List, refl, sym, ◌∙◌, ap, subst}
 use Rattle.word_ops.specs.Rights.{Rights}
 use Rattle.alpha_words.specs.declared.insn.Insn.{Insn}
 use Rattle.alpha_cfg.specs.Machine.{IsState, run_of}
@@ -12,7 +12,7 @@ use Rattle.vcgen.specs.Conditions.{condition}
 use Rattle.term_table.specs.Table.{id_trees}
 use Rattle.lf_signature.specs.declared.WordSignature.TheVariants.{Sigma3}
 use Rattle.vcgen.specs.Encoded.{AreForms, AreEncodings}
-use Rattle.vcgen.specs.Safety.{IsAnnotated, Holds}
+use Rattle.vcgen.specs.Safety.{IsAnnotated, all_steps, steps_after}
 use Rattle.pcc_gate.specs.First.{formulas}
 use Rattle.pcc_gate.specs.Views.{AcceptedView, AreAnnotations, IsConditionTrue}
 use Rattle.pcc_gate.proofs.First.{formulas-encoded}
@@ -20,10 +20,10 @@ use Rattle.host_steps.specs.declared.ended.Ended.{Ended}
 use Rattle.host_steps.specs.declared.ended.Ended.TheVariants as ended
 use Rattle.host_steps.specs.Stepping.{arena_state, EndsUnblocked}
 use Rattle.host_steps.specs.RunEnds.{outcome_of}
-use Rattle.part_runs.specs.Parts.{PartView, part_state, part_at_start, rights_of, PartFits}
-use Rattle.part_runs.specs.Parts.{IsPartRun, IsPartRunUnder}
+use Rattle.part_runs.specs.Parts.{rights_of, PartFits}
+use Rattle.part_runs.specs.Parts.{IsPartRun, IsPartRunUnder, ReturnedInBound}
+use Rattle.part_runs.proofs.Counted.{returned-in-bound}
 use Rattle.part_runs.proofs.Fitting.{start-part-fits, part-unblocked, part-run}
-use Rattle.agent_host.specs.declared.phase.Phase.{Phase}
 use Rattle.agent_host.specs.declared.phase.Phase.TheVariants as phases
 use Rattle.agent_host.specs.Agents.{HostedView, annotated_code, part_of, RightsFitAgent}
 use Rattle.agent_host.specs.Agents.{SomeRightsFit, agent_at}
@@ -38,13 +38,15 @@ goes-on (ended.Returned word) e = absurd (cc)
 pub record HasBegun (was : HostedView) (setup : StartView) (is : HostedView) : Type 0 where
   pub is_at : is ≡ agent_at was setup
   pub meets : StartMeetsIn was.base setup was.accepted.policy.pre
-  pub fits : RightsFitAgent is (rights_of setup)
+  pub fits : RightsFitAgent is (all_steps was.accepted.bound) (rights_of setup)
 
-module _ (m : HostedView) (forms : AreForms Sigma3 (id_trees m.accepted.table m.accepted.invs))
+module _ (m : HostedView)
+    (forms : AreForms Sigma3 m.accepted.bound (id_trees m.accepted.table m.accepted.invs))
     (annotates : AreAnnotations m.accepted) (valid : IsConditionTrue m.accepted) where
-  encoded : AreEncodings (id_trees m.accepted.table m.accepted.invs)
+  encoded : AreEncodings m.accepted.bound (id_trees m.accepted.table m.accepted.invs)
       (formulas (id_trees m.accepted.table m.accepted.invs))
-  encoded = formulas-encoded Sigma3 (id_trees m.accepted.table m.accepted.invs) forms
+  encoded = formulas-encoded Sigma3 m.accepted.bound (id_trees m.accepted.table m.accepted.invs)
+      forms
 
   is-annotated : IsAnnotated (annotated_code m.accepted)
   is-annotated = annotates (formulas (id_trees m.accepted.table m.accepted.invs)) encoded
@@ -54,11 +56,11 @@ module _ (m : HostedView) (forms : AreForms Sigma3 (id_trees m.accepted.table m.
 
   start-fits : (setup : StartView) → Fits m.base setup → IsState (start_state m.base setup)
       → StartMeetsIn m.base setup m.accepted.policy.pre
-      → RightsFitAgent (agent_at m setup) (rights_of setup)
+      → RightsFitAgent (agent_at m setup) (all_steps m.accepted.bound) (rights_of setup)
   start-fits setup fits state meets =
       let f = start-part-fits (annotated_code m.accepted) m.base setup is-annotated is-valid fits
       state meets in
-      record { reads = f.reads; writes = f.writes; holds = f.holds }
+      record { reads = f.reads; writes = f.writes; few = f.few; holds = f.holds }
 
   -- the bytes of a start that meets the precondition stand in the part
   pub begins : (policy : PolicyView) (setup : StartView) (regs words : List ℕ)
@@ -77,7 +79,8 @@ module _ (m : HostedView) (forms : AreForms Sigma3 (id_trees m.accepted.table m.
         is_at = is;
         meets = start;
         fits =
-            subst (λ (h : HostedView). RightsFitAgent h (rights_of setup)) (sym is)
+            subst (λ (h : HostedView).
+            RightsFitAgent h (all_steps m.accepted.bound) (rights_of setup)) (sym is)
             (start-fits setup fits state start);
       }
 
@@ -88,7 +91,8 @@ module _ (m : HostedView) (forms : AreForms Sigma3 (id_trees m.accepted.table m.
     runs-unblocked code is f =
         subst (λ (l : List Insn). EndsUnblocked
         (run_of l n (arena_state m.base m.index m.regs m.words)).0) (sym is)
-        (part-unblocked (annotated_code m.accepted) is-annotated is-valid (part_of m) n 0 f.0 f.1)
+        (part-unblocked (annotated_code m.accepted) is-annotated is-valid (part_of m) n f.0 f.1
+        f.2)
 
     module _
         (code : List Insn)
@@ -107,18 +111,25 @@ module _ (m : HostedView) (forms : AreForms Sigma3 (id_trees m.accepted.table m.
         }
 
         -- under rights that fit, the run is that of the machine that tests
-        pub ran-under : (r : Rights) → RightsFitAgent m r
-            → IsPartRunUnder (annotated_code m.accepted) (part_of m) n 0 result (part_of new) r
-        ran-under r f =
-            part-run (annotated_code m.accepted) is-annotated is-valid (part_of m) n 0 r f result
-            (part_of new) ran-part
+        pub ran-under : (left : ℕ) (r : Rights) → RightsFitAgent m left r
+            → IsPartRunUnder (annotated_code m.accepted) (part_of m) n left result (part_of new) r
+        ran-under left r f =
+            part-run (annotated_code m.accepted) is-annotated is-valid (part_of m) n left r f
+            result (part_of new) ran-part
+
+        -- a budget of at least the bound ends by a return, since some rights fit
+        pub run-returns : SomeRightsFit m → ReturnedInBound m.accepted.bound n result
+        run-returns f =
+            returned-in-bound m.accepted.bound n f.0 result f.2.few (ran-under f.0 f.1 f.2).returns
 
         -- where it may go on, some fit
         pub still-fits : new.accepted ≡ m.accepted → SomeRightsFit m
             → phase_after result ≡ phases.Ready → SomeRightsFit new
         still-fits kept f on =
-            let g = (ran-under f.0 f.1).fits (goes-on result on) in (
-              f.0,
-              subst (λ (a : AcceptedView). PartFits (annotated_code a) 0 (part_of new) f.0)
-                  (sym kept) (record { reads = g.reads; writes = g.writes; holds = g.holds }),
+            let then_left : ℕ = steps_after m.accepted.bound n f.0 in (
+              then_left,
+              f.1,
+              subst (λ (a : AcceptedView).
+                  PartFits (annotated_code a) then_left (part_of new) f.1) (sym kept)
+                  ((ran-under f.0 f.1 f.2).fits (goes-on result on)),
             )

@@ -2,7 +2,6 @@
 -- address.
 use Rattle.std.specs.Prelude.{ℕ, ◌+◌, ◌*◌, ◌-◌, ◌/◌, List}
 use Rattle.word_ops.specs.Rights.{Rights}
-use Rattle.formula_tree.specs.Formulas.{Form}
 use Rattle.reference_machine.specs.declared.layout.TheConstants.{ARENA, QUADWORDS}
 use Rattle.reference_machine.specs.Arena.{placed_words}
 use Rattle.reference_machine.specs.Starts.{StartView, start_regs}
@@ -35,18 +34,18 @@ base_of a = ARENA + 8 * QUADWORDS * a
 abbrev pub part_of : HostedView → PartView
 part_of m = record { base = m.base; index = m.index; regs = m.regs; words = m.words }
 
--- accepted code under its policy, with the formulas of the invariants that it shows
+-- accepted code under its policy and its bound, with the formulas of the invariants that it shows
 abbrev pub annotated_code : AcceptedView → AnnotatedCode
-annotated_code a = annotated a.policy a.code (formulas (id_trees a.table a.invs))
+annotated_code a = annotated a.policy a.bound a.code (formulas (id_trees a.table a.invs))
 
 -- Rights fit an agent: their spans lie in its part, and what has to hold at its index is true under
--- them, its registers and its memory.
-abbrev pub RightsFitAgent : HostedView → Rights → Type 0
-RightsFitAgent m rights = PartFits (annotated_code m.accepted) 0 (part_of m) rights
+-- them, its registers and its memory, so many steps being left, which are no more than its bound.
+abbrev pub RightsFitAgent : HostedView → ℕ → Rights → Type 0
+RightsFitAgent m left rights = PartFits (annotated_code m.accepted) left (part_of m) rights
 
--- some rights fit
+-- some rights fit, with some number of steps left
 abbrev pub SomeRightsFit : HostedView → Type 0
-SomeRightsFit m = (rights : Rights) × RightsFitAgent m rights
+SomeRightsFit m = (left : ℕ) × (rights : Rights) × RightsFitAgent m left rights
 
 -- an agent at a start
 abbrev pub agent_at : HostedView → StartView → HostedView

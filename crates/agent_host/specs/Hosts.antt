@@ -5,6 +5,7 @@ use Rattle.reference_machine.specs.Arena.{map_of, sum_of}
 use Rattle.reference_machine.specs.Starts.{StartView}
 use Rattle.packet_store.specs.PolicyStarts.{start_from}
 use Rattle.packet_store.specs.StartMeets.{StartMeetsIn}
+use Rattle.vcgen.specs.Safety.{all_steps}
 use Rattle.part_runs.specs.Parts.{rights_of}
 use Rattle.agent_host.specs.declared.phase.Phase.TheVariants as phases
 use Rattle.agent_host.specs.Agents.{HostedView, base_of, SomeRightsFit, RightsFitAgent, agent_at}
@@ -20,13 +21,13 @@ pub record Replaces (Known : HostedView → HostedView
   pub known : Known was is
 
 -- A packet that is short leaves the agent; any other brings it to the policy's start in its part,
--- which meets the precondition and
--- whose rights fit.
+-- which meets the precondition and whose rights fit, all steps of the bound being left.
 abbrev pub LoadsAt : Option StartView → Bool → HostedView → HostedView → Type 0
 LoadsAt None loaded was is = (loaded ≡ false) × (is ≡ was)
 LoadsAt (Some setup) loaded was is =
     (loaded ≡ true) × (is ≡ agent_at was setup)
-    × StartMeetsIn was.base setup was.accepted.policy.pre × RightsFitAgent is (rights_of setup)
+    × StartMeetsIn was.base setup was.accepted.policy.pre
+    × RightsFitAgent is (all_steps was.accepted.bound) (rights_of setup)
 
 -- the same of the start on a packet
 abbrev pub LoadsPacket : List ℕ → Bool → HostedView → HostedView → Type 0

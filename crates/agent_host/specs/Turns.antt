@@ -5,7 +5,7 @@ use Rattle.alpha_cfg.specs.declared.outcome.Outcome.TheVariants as outcomes
 use Rattle.word_ops.specs.Rights.{Rights}
 use Rattle.host_steps.specs.declared.ended.Ended.{Ended}
 use Rattle.host_steps.specs.declared.ended.Ended.TheVariants as ended
-use Rattle.part_runs.specs.Parts.{IsPartRunUnder}
+use Rattle.part_runs.specs.Parts.{IsPartRunUnder, ReturnedInBound}
 use Rattle.agent_host.specs.declared.phase.Phase.{Phase}
 use Rattle.agent_host.specs.declared.phase.Phase.TheVariants as phases
 use Rattle.agent_host.specs.declared.turned.Turned.{Turned}
@@ -18,15 +18,16 @@ phase_after (ended.Returned word) = phases.Returned
 phase_after ended.OutOfSteps = phases.Ready
 
 -- An agent that hadn't returned ran with the budget, and the run ended so: under all rights that
--- fit, it is the run of the machine
--- that tests each access; where it was out of steps, they fit again. What was accepted, and the
--- place and the size of part and
--- region, stay.
+-- fit, with so many steps left, it is the run of the machine that tests each access; where it was
+-- out of steps, they fit again, the budget fewer being left; where its steps are bounded and the
+-- budget is at least what is left, it has returned. So it has where the budget is at least the
+-- bound. What was accepted, and the place and the size of part and region, stay.
 pub record RunsTo (budget : ℕ) (result : Ended) (was is : HostedView) : Type 0 where
   pub ready : was.phase ≡ phases.Ready
-  pub under : (rights : Rights) → RightsFitAgent was rights
-      → IsPartRunUnder (annotated_code was.accepted) (part_of was) budget 0 result (part_of is)
-      rights
+  pub under : (left : ℕ) (rights : Rights) → RightsFitAgent was left rights
+      → IsPartRunUnder (annotated_code was.accepted) (part_of was) budget left result
+      (part_of is) rights
+  pub returns : ReturnedInBound was.accepted.bound budget result
   pub kept : is ≡ record was {
     index = is.index;
     regs = is.regs;

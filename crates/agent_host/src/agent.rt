@@ -75,7 +75,8 @@ impl Hosted {
 
     /// Begins anew at the start of the policy on `packet`, which has at most `MAX_PACKET` bytes:
     /// its bytes stand in the part, every other quadword of it is 0, and nothing of an earlier run
-    /// is left. The rights of the start then fit. Takes no memory.
+    /// is left. The rights of the start then fit, with all steps of the bound left. Takes no
+    /// memory.
     ///
     /// Answers false exactly where the packet is short; the agent is then unchanged.
     pub fn load(&mut self, packet: &[u8]) -> bool
@@ -96,7 +97,7 @@ impl Hosted {
     }
 
     /// Makes at most `budget` steps, a return among them, and answers how the run ended. No access
-    /// is tested.
+    /// is tested. Where steps are bounded, a budget of at least the bound ends by a return.
     fn run(&mut self, budget: u64) -> Ended
         requires { self.old.phase ≡ Phase.Ready }
         ensures { RunsTo budget result self.old self.new }

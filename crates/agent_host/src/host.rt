@@ -90,8 +90,9 @@ impl AgentHost {
     }
 
     /// Gives agent `a`, which is loaded, at most `budget` steps, a return among them; none where it
-    /// has returned since its last load. No access is tested. Every other agent stays as it was.
-    /// Takes no memory.
+    /// has returned since its last load. No access is tested. Where the agent's steps are bounded,
+    /// a budget of at least the bound ends by a return. Every other agent stays as it was. Takes no
+    /// memory.
     pub fn turn(&mut self, a: u32, budget: u64) -> Turned
         requires agent { a < length self.old }
         requires loaded { IsLoadedAt self.old a }

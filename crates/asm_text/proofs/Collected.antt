@@ -170,32 +170,32 @@ pub at_line_ok : {A : Type 0} (n : ℕ) (r : Result A LineFlaw) (x : A) → at_l
 at_line_ok n (Ok y) x e = ap Ok (same_Ok y x e)
 at_line_ok n (Err k) x e = cc
 
-lines_run : (profile : Profile) (n : ℕ) (ls : List (List ℕ)) (p : Progress) (s : Source) → take_lines profile n ls p ≡ Ok s → (cs : List Content) × (r : Progress) × AreSpelled profile ls cs × Runs n cs p r × (source_end r r.waiting ≡ Ok s)
+lines_run : (profile : Profile) (left : Bool) (n : ℕ) (ls : List (List ℕ)) (p : Progress) (s : Source) → take_lines profile left n ls p ≡ Ok s → (cs : List Content) × (r : Progress) × AreSpelled profile left ls cs × Runs n cs p r × (source_end r r.waiting ≡ Ok s)
 unfolding take_lines
-lines_run profile n [] p s e = ([], p, tt, refl, e)
-lines_run profile n (l ∷ ls) p s e =
-    let a = bind_ok (at_line n (take_line profile n l p)) (λ q. take_lines profile (suc n) ls q) s e in
-    let c = line_said profile n l p a.0 (at_line_ok n (take_line profile n l p) a.0 a.1) in
-    let f = lines_run profile (suc n) ls a.0 s a.2 in
+lines_run profile left n [] p s e = ([], p, tt, refl, e)
+lines_run profile left n (l ∷ ls) p s e =
+    let a = bind_ok (at_line n (take_line profile left n l p)) (λ q. take_lines profile left (suc n) ls q) s e in
+    let c = line_said profile left n l p a.0 (at_line_ok n (take_line profile left n l p) a.0 a.1) in
+    let f = lines_run profile left (suc n) ls a.0 s a.2 in
     (c.0 ∷ f.0, f.1, (c.1, f.2), (a.0, c.2, f.3), f.4)
 
 -- lines that spell contents are taken on with them
-pub lines_taken : (profile : Profile) (n : ℕ) (ls more : List (List ℕ)) (cs : List Content) (p r : Progress) → AreSpelled profile ls cs → Runs n cs p r →
-    take_lines profile n (ls ++ more) p ≡ take_lines profile (n + length ls) more r
+pub lines_taken : (profile : Profile) (left : Bool) (n : ℕ) (ls more : List (List ℕ)) (cs : List Content) (p r : Progress) → AreSpelled profile left ls cs → Runs n cs p r →
+    take_lines profile left n (ls ++ more) p ≡ take_lines profile left (n + length ls) more r
 unfolding take_lines
-lines_taken profile n [] more [] p r a h = let z : n ≡ n + 0 = omega arith in ap (take_lines profile n more) h ∙ ap (λ j. take_lines profile j more r) z
-lines_taken profile n [] more (c ∷ cs) p r a h = absurd a
-lines_taken profile n (l ∷ ls) more [] p r a h = absurd a
-lines_taken profile n (l ∷ ls) more (c ∷ cs) p r a h =
+lines_taken profile left n [] more [] p r a h = let z : n ≡ n + 0 = omega arith in ap (take_lines profile left n more) h ∙ ap (λ j. take_lines profile left j more r) z
+lines_taken profile left n [] more (c ∷ cs) p r a h = absurd a
+lines_taken profile left n (l ∷ ls) more [] p r a h = absurd a
+lines_taken profile left n (l ∷ ls) more (c ∷ cs) p r a h =
     let z : suc n + length ls ≡ n + length (l ∷ ls) = omega arith in
-    bind_of (at_line n (take_line profile n l p)) (λ q. take_lines profile (suc n) (ls ++ more) q) h.0 (take_lines profile (suc n + length ls) more r)
-    (ap (at_line n) (line_takes profile n l c p a.0 ∙ h.1)) (lines_taken profile (suc n) ls more cs h.0 r a.1 h.2)
-    ∙ ap (λ j. take_lines profile j more r) z
+    bind_of (at_line n (take_line profile left n l p)) (λ q. take_lines profile left (suc n) (ls ++ more) q) h.0 (take_lines profile left (suc n + length ls) more r)
+    (ap (at_line n) (line_takes profile left n l c p a.0 ∙ h.1)) (lines_taken profile left (suc n) ls more cs h.0 r a.1 h.2)
+    ∙ ap (λ j. take_lines profile left j more r) z
 
-pub lines_end : (profile : Profile) (n : ℕ) (ls : List (List ℕ)) (cs : List Content) (p r : Progress) → AreSpelled profile ls cs → Runs n cs p r →
-    take_lines profile n ls p ≡ source_end r r.waiting
+pub lines_end : (profile : Profile) (left : Bool) (n : ℕ) (ls : List (List ℕ)) (cs : List Content) (p r : Progress) → AreSpelled profile left ls cs → Runs n cs p r →
+    take_lines profile left n ls p ≡ source_end r r.waiting
 unfolding take_lines
-lines_end profile n ls cs p r a h = ap (λ l. take_lines profile n l p) (sym (append-nil ls)) ∙ lines_taken profile n ls [] cs p r a h
+lines_end profile left n ls cs p r a h = ap (λ l. take_lines profile left n l p) (sym (append-nil ls)) ∙ lines_taken profile left n ls [] cs p r a h
 
 -- ---- what holds of the source on the way
 
@@ -276,10 +276,10 @@ ended r None s e g h =
     let none : length r.source.insns + waiting_count r.waiting ≡ length r.source.insns = ap (λ w. length r.source.insns + waiting_count w) e ∙ (let z : length r.source.insns + 0 ≡ length r.source.insns = omega arith in z) in
     (f.1, record { some = some_by (length r.source.insns) f.0; insns = g.insns; invs = g.invs; labels = g.labels; belong = subst (λ k. HaveInsns 0 k r.source.invs) none g.belong })
 
-pub parsed_spelled : (profile : Profile) (text : List ℕ) (s : Source) → parsed_source profile text ≡ Ok s → SpellsSource profile text s
+pub parsed_spelled : (profile : Profile) (left : Bool) (text : List ℕ) (s : Source) → parsed_source profile left text ≡ Ok s → SpellsSource profile left text s
 unfolding parsed_source
-parsed_spelled profile text s e =
-    let f = lines_run profile 1 (lines_of text) no_progress s e in
+parsed_spelled profile left text s e =
+    let f = lines_run profile left 1 (lines_of text) no_progress s e in
     let g = ended f.1 f.1.waiting s refl (good_runs 1 f.0 no_progress f.1 f.3 good_start) f.4 in
     record {
       lines = lines_of text;
@@ -384,13 +384,13 @@ source_begun s h = record {
 source_ends : (r : Progress) → r.waiting ≡ None → 0 < length r.source.insns → source_end r r.waiting ≡ Ok r.source
 source_ends r e h = ap (source_end r) e ∙ cond-false (length r.source.insns == 0) _ _ (false_from_ne_true (length r.source.insns == 0) (λ f. let z = eqb-true (length r.source.insns) 0 f in absurd (omega arith)))
 
-pub spelled_parsed : (profile : Profile) (text : List ℕ) (s : Source) → SpellsSource profile text s → parsed_source profile text ≡ Ok s
+pub spelled_parsed : (profile : Profile) (left : Bool) (text : List ℕ) (s : Source) → SpellsSource profile left text s → parsed_source profile left text ≡ Ok s
 unfolding parsed_source
-spelled_parsed profile text s h =
+spelled_parsed profile left text s h =
     let all : total 1 h.contents no_progress ≡ s = sym h.collected in
     let f = begun_runs 1 h.contents no_progress (subst (λ x. IsBegun x) h.collected (source_begun s h.sound)) tt in
     let same : f.0.source ≡ s = sym (runs_total 1 h.contents no_progress f.0 f.1) ∙ all in
     let none = none_waits f.0.waiting f.0 f.2 (subst (λ x. HaveInsns 0 (length x.insns) x.invs) (sym same) h.sound.belong) in
     let some : 0 < length f.0.source.insns = subst (λ x. 0 < length x.insns) (sym same) h.sound.some in
-    ap (λ ls. take_lines profile 1 ls no_progress) (lines_are text h.lines h.are_lines)
-    ∙ lines_end profile 1 h.lines h.contents no_progress f.0 h.spelled f.1 ∙ (source_ends f.0 none some ∙ ap Ok same)
+    ap (λ ls. take_lines profile left 1 ls no_progress) (lines_are text h.lines h.are_lines)
+    ∙ lines_end profile left 1 h.lines h.contents no_progress f.0 h.spelled f.1 ∙ (source_ends f.0 none some ∙ ap Ok same)

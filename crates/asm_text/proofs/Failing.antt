@@ -52,18 +52,18 @@ not_true false e = refl
 
 -- ---- statements
 
-none_spelled : (profile : Profile) (rest : List ℕ) (y : ℕ × TextFlaw) (F : Form) → parsed_form profile rest ≡ Err y → Spells profile rest F → ⊥
-none_spelled profile rest y F e h = let g : parsed_form profile rest ≡ Ok F = form.spelled_parsed profile rest F h in cc
+none_spelled : (profile : Profile) (left : Bool) (rest : List ℕ) (y : ℕ × TextFlaw) (F : Form) → parsed_form profile left rest ≡ Err y → Spells profile left rest F → ⊥
+none_spelled profile left rest y F e h = let g : parsed_form profile left rest ≡ Ok F = form.spelled_parsed profile left rest F h in cc
 
-inv_fails : (profile : Profile) (text rest : List ℕ) (k : LineFlaw) (r : Result Form (ℕ × TextFlaw)) → HasInv text rest → parsed_form profile rest ≡ r → inv_or_flaw r ≡ Err k →
-    SpellsNoStatement profile text k
-inv_fails profile text rest k (Ok F) h e g = cc
-inv_fails profile text rest k (Err y) h e g =
-    subst (λ j. SpellsNoStatement profile text j) (same_Err L.Formula k g) (no_formula {rest = rest} h (λ F s. none_spelled profile rest y F e s))
+inv_fails : (profile : Profile) (left : Bool) (text rest : List ℕ) (k : LineFlaw) (r : Result Form (ℕ × TextFlaw)) → HasInv text rest → parsed_form profile left rest ≡ r → inv_or_flaw r ≡ Err k →
+    SpellsNoStatement profile left text k
+inv_fails profile left text rest k (Ok F) h e g = cc
+inv_fails profile left text rest k (Err y) h e g =
+    subst (λ j. SpellsNoStatement profile left text j) (same_Err L.Formula k g) (no_formula {rest = rest} h (λ F s. none_spelled profile left rest y F e s))
 
-fails_inv : (profile : Profile) (rest : List ℕ) (r : Result Form (ℕ × TextFlaw)) → parsed_form profile rest ≡ r → ((F : Form) → Spells profile rest F → ⊥) → inv_or_flaw r ≡ Err L.Formula
-fails_inv profile rest (Ok F) e h = absurd (h F (form.parsed_spelled profile rest F e))
-fails_inv profile rest (Err y) e h = refl
+fails_inv : (profile : Profile) (left : Bool) (rest : List ℕ) (r : Result Form (ℕ × TextFlaw)) → parsed_form profile left rest ≡ r → ((F : Form) → Spells profile left rest F → ⊥) → inv_or_flaw r ≡ Err L.Formula
+fails_inv profile left rest (Ok F) e h = absurd (h F (form.parsed_spelled profile left rest F e))
+fails_inv profile left rest (Err y) e h = refl
 
 no_mnemonic_of : (profile : Profile) (w : List ℕ) (m : Mnemonic) → mnemonic_of profile w ≡ None → has_mnemonic profile m ≡ true → w ≡ mnemonic_text m → ⊥
 no_mnemonic_of profile w m e had h = let f : mnemonic_of profile w ≡ Some m = ap (mnemonic_of profile) h ∙ mnemonic_found profile m had in cc
@@ -81,11 +81,11 @@ differs_inv w e h = let f : bytes_eq w (codes ".inv") ≡ true = bytes_same w (c
 mnemonic_no_inv : (profile : Profile) (m : Mnemonic) → has_mnemonic profile m ≡ true → mnemonic_text m ≡ codes ".inv" → ⊥
 mnemonic_no_inv profile m had h = no_mnemonic_of profile (codes ".inv") m (no_inv_mnemonic profile) had (sym h)
 
-insn_fails_by : (profile : Profile) (text w : List ℕ) (us : List (Token Punct)) (k : LineFlaw) (o : Option Mnemonic) → Consists source_class text (Lexeme w ∷ us) →
-    (w ≡ codes ".inv" → ⊥) → mnemonic_of profile w ≡ o → by_mnemonic o us ≡ Err k → SpellsNoStatement profile text k
-insn_fails_by profile text w us k None c n e h =
-    subst (λ j. SpellsNoStatement profile text j) (same_Err L.Mnemonic k h) (no_mnemonic {t = Lexeme w} {ts = us} c (n, λ m had f. no_mnemonic_of profile w m e had f))
-insn_fails_by profile text w us k (Some m) c n e h =
+insn_fails_by : (profile : Profile) (left : Bool) (text w : List ℕ) (us : List (Token Punct)) (k : LineFlaw) (o : Option Mnemonic) → Consists source_class text (Lexeme w ∷ us) →
+    (w ≡ codes ".inv" → ⊥) → mnemonic_of profile w ≡ o → by_mnemonic o us ≡ Err k → SpellsNoStatement profile left text k
+insn_fails_by profile left text w us k None c n e h =
+    subst (λ j. SpellsNoStatement profile left text j) (same_Err L.Mnemonic k h) (no_mnemonic {t = Lexeme w} {ts = us} c (n, λ m had f. no_mnemonic_of profile w m e had f))
+insn_fails_by profile left text w us k (Some m) c n e h =
     let is = mnemonic_is profile w m e in
     no_operands m {ts = us} is.had (subst (λ y. Consists source_class text (Lexeme y ∷ us)) is.text c) (operands_fail m us k h)
 
@@ -96,53 +96,53 @@ insn_err (Err j) k e = ap Err (same_Err j k e)
 consists : (text : List ℕ) (ts : List (Token Punct)) → tokens_of source_class text ≡ ts → Consists source_class text ts
 consists text ts e = subst (λ us. Consists source_class text us) e (lexed source_class 0 text)
 
-insn_fails : (profile : Profile) (text w rest : List ℕ) (k : LineFlaw) → Begins text (Lexeme w) rest → (w ≡ codes ".inv" → ⊥) → insn_statement profile text ≡ Err k →
-    SpellsNoStatement profile text k
+insn_fails : (profile : Profile) (left : Bool) (text w rest : List ℕ) (k : LineFlaw) → Begins text (Lexeme w) rest → (w ≡ codes ".inv" → ⊥) → insn_statement profile text ≡ Err k →
+    SpellsNoStatement profile left text k
 unfolding parsed_insn
-insn_fails profile text w rest k b n e =
+insn_fails profile left text w rest k b n e =
     let us = tokens_of source_class rest in
     let all : tokens_of source_class text ≡ Lexeme w ∷ us = tokens_behind text (Lexeme w) rest b in
     let f : parsed_insn profile (Lexeme w ∷ us) ≡ Err k = ap (parsed_insn profile) (sym all) ∙ insn_err (parsed_insn profile (tokens_of source_class text)) k e in
-    insn_fails_by profile text w us k (mnemonic_of profile w) (consists text (Lexeme w ∷ us) all) n refl f
+    insn_fails_by profile left text w us k (mnemonic_of profile w) (consists text (Lexeme w ∷ us) all) n refl f
 
-statement_fails_by : (profile : Profile) (text : List ℕ) (k : LineFlaw) (o : Option (Token Punct × List ℕ)) → front_token source_class text ≡ o → statement_by profile text o ≡ Err k →
-    SpellsNoStatement profile text k
-statement_fails_by profile text k None e h = cc
-statement_fails_by profile text k (Some (Mark m, r)) e h =
+statement_fails_by : (profile : Profile) (left : Bool) (text : List ℕ) (k : LineFlaw) (o : Option (Token Punct × List ℕ)) → front_token source_class text ≡ o → statement_by profile left text o ≡ Err k →
+    SpellsNoStatement profile left text k
+statement_fails_by profile left text k None e h = cc
+statement_fails_by profile left text k (Some (Mark m, r)) e h =
     let c = consists text (Mark m ∷ tokens_of source_class r) (tokens_behind text (Mark m) r (front_is text (Mark m) r e)) in
-    subst (λ j. SpellsNoStatement profile text j) (same_Err L.Mnemonic k h) (no_mnemonic {t = Mark m} {ts = tokens_of source_class r} c tt)
-statement_fails_by profile text k (Some (Lexeme w, r)) e h =
+    subst (λ j. SpellsNoStatement profile left text j) (same_Err L.Mnemonic k h) (no_mnemonic {t = Mark m} {ts = tokens_of source_class r} c tt)
+statement_fails_by profile left text k (Some (Lexeme w, r)) e h =
     let b = front_is text (Lexeme w) r e in
-    chosen (bytes_eq w (codes ".inv")) _ _ _ h (SpellsNoStatement profile text k)
-    (λ t f. inv_fails profile text r k (parsed_form profile r) (inv_word text w r b t) refl f)
-    (λ t f. insn_fails profile text w r k b (differs_inv w t) f)
+    chosen (bytes_eq w (codes ".inv")) _ _ _ h (SpellsNoStatement profile left text k)
+    (λ t f. inv_fails profile left text r k (parsed_form profile left r) (inv_word text w r b t) refl f)
+    (λ t f. insn_fails profile left text w r k b (differs_inv w t) f)
 
-statement_fails : (profile : Profile) (text : List ℕ) (k : LineFlaw) → parsed_statement profile text ≡ Err k → SpellsNoStatement profile text k
+statement_fails : (profile : Profile) (left : Bool) (text : List ℕ) (k : LineFlaw) → parsed_statement profile left text ≡ Err k → SpellsNoStatement profile left text k
 unfolding parsed_statement
-statement_fails profile text k e = statement_fails_by profile text k (front_token source_class text) refl e
+statement_fails profile left text k e = statement_fails_by profile left text k (front_token source_class text) refl e
 
-insn_none : (profile : Profile) (text w : List ℕ) (us : List (Token Punct)) (k : LineFlaw) → Consists source_class text (Lexeme w ∷ us) → (w ≡ codes ".inv" → ⊥) →
-    by_mnemonic (mnemonic_of profile w) us ≡ Err k → parsed_statement profile text ≡ Err k
+insn_none : (profile : Profile) (left : Bool) (text w : List ℕ) (us : List (Token Punct)) (k : LineFlaw) → Consists source_class text (Lexeme w ∷ us) → (w ≡ codes ".inv" → ⊥) →
+    by_mnemonic (mnemonic_of profile w) us ≡ Err k → parsed_statement profile left text ≡ Err k
 unfolding parsed_statement parsed_insn
-insn_none profile text w us k c n e =
+insn_none profile left text w us k c n e =
     let all : tokens_of source_class text ≡ Lexeme w ∷ us = lexes source_class 0 text (Lexeme w ∷ us) c in
     let f = first_token text (Lexeme w) us all in
-    ap (statement_by profile text) f.1 ∙ cond-false (bytes_eq w (codes ".inv")) (inv_or_flaw (parsed_form profile f.0)) (insn_statement profile text) (not_inv w n)
+    ap (statement_by profile left text) f.1 ∙ cond-false (bytes_eq w (codes ".inv")) (inv_or_flaw (parsed_form profile left f.0)) (insn_statement profile text) (not_inv w n)
     ∙ ap (λ ts. parsed_insn profile ts >>= λ i. Ok (AnInsn i)) all ∙ ap (λ r. r >>= λ i. Ok (AnInsn i)) e
 
-begins_none : (profile : Profile) (text : List ℕ) (t : Token Punct) (us : List (Token Punct)) → Consists source_class text (t ∷ us) → BeginsNoStatement profile t →
-    parsed_statement profile text ≡ Err L.Mnemonic
+begins_none : (profile : Profile) (left : Bool) (text : List ℕ) (t : Token Punct) (us : List (Token Punct)) → Consists source_class text (t ∷ us) → BeginsNoStatement profile t →
+    parsed_statement profile left text ≡ Err L.Mnemonic
 unfolding parsed_statement
-begins_none profile text (Mark m) us c n = let f = first_token text (Mark m) us (lexes source_class 0 text (Mark m ∷ us) c) in ap (statement_by profile text) f.1
-begins_none profile text (Lexeme w) us c n = insn_none profile text w us L.Mnemonic c n.0 (ap (λ o. by_mnemonic o us) (mnemonic_none profile w (mnemonic_of profile w) refl n.1))
+begins_none profile left text (Mark m) us c n = let f = first_token text (Mark m) us (lexes source_class 0 text (Mark m ∷ us) c) in ap (statement_by profile left text) f.1
+begins_none profile left text (Lexeme w) us c n = insn_none profile left text w us L.Mnemonic c n.0 (ap (λ o. by_mnemonic o us) (mnemonic_none profile w (mnemonic_of profile w) refl n.1))
 
-fails_statement : (profile : Profile) (text : List ℕ) (k : LineFlaw) → SpellsNoStatement profile text k → parsed_statement profile text ≡ Err k
+fails_statement : (profile : Profile) (left : Bool) (text : List ℕ) (k : LineFlaw) → SpellsNoStatement profile left text k → parsed_statement profile left text ≡ Err k
 unfolding parsed_statement
-fails_statement profile text k (no_formula {rest = r} h n) =
-    ap (statement_by profile text) (front_of text (Lexeme (codes ".inv")) r (inv_begins text r h)) ∙ fails_inv profile r (parsed_form profile r) refl n
-fails_statement profile text k (no_mnemonic {t = t} {ts = us} c n) = begins_none profile text t us c n
-fails_statement profile text k (no_operands m {ts = us} {flaw = j} had c e) =
-    insn_none profile text (mnemonic_text m) us j c (mnemonic_no_inv profile m had) (ap (λ o. by_mnemonic o us) (mnemonic_found profile m had) ∙ fail_operands m us j e)
+fails_statement profile left text k (no_formula {rest = r} h n) =
+    ap (statement_by profile left text) (front_of text (Lexeme (codes ".inv")) r (inv_begins text r h)) ∙ fails_inv profile left r (parsed_form profile left r) refl n
+fails_statement profile left text k (no_mnemonic {t = t} {ts = us} c n) = begins_none profile left text t us c n
+fails_statement profile left text k (no_operands m {ts = us} {flaw = j} had c e) =
+    insn_none profile left text (mnemonic_text m) us j c (mnemonic_no_inv profile m had) (ap (λ o. by_mnemonic o us) (mnemonic_found profile m had) ∙ fail_operands m us j e)
 
 -- ---- labels
 
@@ -268,99 +268,99 @@ is_full (AnInv F) o p k v h = (run.labelled_waiting o p ∙ none_waiting p.waiti
 
 -- ---- a line
 
-said_fails : (profile : Profile) (n : ℕ) (line : List ℕ) (c : Content) (p : Progress) (k : LineFlaw) → Stands p → SpellsLine profile line c → IsNew c.label p.source →
-    take_statement n c.statement (run.labelled c.label p) ≡ Err k → FailsBehind profile p.source line k
-said_fails profile n line c p k st h new e =
+said_fails : (profile : Profile) (left : Bool) (n : ℕ) (line : List ℕ) (c : Content) (p : Progress) (k : LineFlaw) → Stands p → SpellsLine profile left line c → IsNew c.label p.source →
+    take_statement n c.statement (run.labelled c.label p) ≡ Err k → FailsBehind profile left p.source line k
+said_fails profile left n line c p k st h new e =
     ⊎_elim
-    (λ a. let b = second_is c.statement c.label p st.last a.0 in subst (λ j. FailsBehind profile p.source line j) a.1 (inv_again {c = c} h new b.0 b.1))
-    (λ a. let b = full_is c.statement c.label p st.good a.0 in subst (λ j. FailsBehind profile p.source line j) a.1 (past_limit {c = c} h new b.0 b.1))
+    (λ a. let b = second_is c.statement c.label p st.last a.0 in subst (λ j. FailsBehind profile left p.source line j) a.1 (inv_again {c = c} h new b.0 b.1))
+    (λ a. let b = full_is c.statement c.label p st.good a.0 in subst (λ j. FailsBehind profile left p.source line j) a.1 (past_limit {c = c} h new b.0 b.1))
     (refused n c.statement (run.labelled c.label p) k e)
 
-text_fails : (profile : Profile) (n : ℕ) (line : List ℕ) (p : Progress) (k : LineFlaw) (o : Option (List ℕ × List ℕ)) → Stands p → IsReadable line →
+text_fails : (profile : Profile) (left : Bool) (n : ℕ) (line : List ℕ) (p : Progress) (k : LineFlaw) (o : Option (List ℕ × List ℕ)) → Stands p → IsReadable line →
     label_split (before_comment line) ≡ o → IsNew (label_of o) p.source →
-    take_text profile n (behind_label (before_comment line) o) (run.labelled (label_of o) p) ≡ Err k → FailsBehind profile p.source line k
-text_fails profile n line p k o st r e new h =
+    take_text profile left n (behind_label (before_comment line) o) (run.labelled (label_of o) p) ≡ Err k → FailsBehind profile left p.source line k
+text_fails profile left n line p k o st r e new h =
     let body = before_comment line in
     ⊎_elim
-    (λ a. no_statement (label_of o) (behind_label body o) r (is_parted body o e) new (statement_fails profile (behind_label body o) k a))
+    (λ a. no_statement (label_of o) (behind_label body o) r (is_parted body o e) new (statement_fails profile left (behind_label body o) k a))
     (λ a. let c : Content = record { label = label_of o; statement = a.0 } in
-    let says : SaysBody profile body c = (ap label_of e, ap (λ x. parsed_statement profile (behind_label body x)) e ∙ a.1) in
-    said_fails profile n line c p k st (record { short = r.short; printable = r.printable; body = body_spelled profile body c says }) new a.2)
-    (bind_err (parsed_statement profile (behind_label body o)) (λ s. take_statement n s (run.labelled (label_of o) p)) k h)
+    let says : SaysBody profile left body c = (ap label_of e, ap (λ x. parsed_statement profile left (behind_label body x)) e ∙ a.1) in
+    said_fails profile left n line c p k st (record { short = r.short; printable = r.printable; body = body_spelled profile left body c says }) new a.2)
+    (bind_err (parsed_statement profile left (behind_label body o)) (λ s. take_statement n s (run.labelled (label_of o) p)) k h)
 
-label_refused : (profile : Profile) (line : List ℕ) (p : Progress) (k : LineFlaw) (o : Option (List ℕ × List ℕ)) → IsReadable line → label_split (before_comment line) ≡ o →
-    take_label (label_of o) p ≡ Err k → FailsBehind profile p.source line k
-label_refused profile line p k None r e h = cc
-label_refused profile line p k (Some x) r e h =
-    chosen (is_known p.source.labels x.0) _ _ _ h (FailsBehind profile p.source line k)
-    (λ t f. subst (λ j. FailsBehind profile p.source line j) (same_Err L.DoubleLabel k f)
+label_refused : (profile : Profile) (left : Bool) (line : List ℕ) (p : Progress) (k : LineFlaw) (o : Option (List ℕ × List ℕ)) → IsReadable line → label_split (before_comment line) ≡ o →
+    take_label (label_of o) p ≡ Err k → FailsBehind profile left p.source line k
+label_refused profile left line p k None r e h = cc
+label_refused profile left line p k (Some x) r e h =
+    chosen (is_known p.source.labels x.0) _ _ _ h (FailsBehind profile left p.source line k)
+    (λ t f. subst (λ j. FailsBehind profile left p.source line j) (same_Err L.DoubleLabel k f)
     (label_again x.0 x.1 r (label_found (before_comment line) x e)
     (λ new. let g : is_known p.source.labels x.0 ≡ false = new_all p.source.labels x.0 new in cc)))
     (λ t f. cc)
 
-body_fails : (profile : Profile) (n : ℕ) (line : List ℕ) (p : Progress) (k : LineFlaw) → Stands p → IsReadable line → take_body profile n (before_comment line) p ≡ Err k →
-    FailsBehind profile p.source line k
-body_fails profile n line p k st r e =
+body_fails : (profile : Profile) (left : Bool) (n : ℕ) (line : List ℕ) (p : Progress) (k : LineFlaw) → Stands p → IsReadable line → take_body profile left n (before_comment line) p ≡ Err k →
+    FailsBehind profile left p.source line k
+body_fails profile left n line p k st r e =
     let body = before_comment line in
     let o = label_split body in
     ⊎_elim
-    (λ a. label_refused profile line p k o r refl a)
+    (λ a. label_refused profile left line p k o r refl a)
     (λ a. let f = run.label_taken (label_of o) p a.0 a.1 in
-    text_fails profile n line p k o st r refl (is_new (label_of o) p f.0) (ap (λ q. take_text profile n (behind_label body o) q) f.1 ∙ a.2))
-    (bind_err (take_label (label_of o) p) (λ q. take_text profile n (behind_label body o) q) k e)
+    text_fails profile left n line p k o st r refl (is_new (label_of o) p f.0) (ap (λ q. take_text profile left n (behind_label body o) q) f.1 ∙ a.2))
+    (bind_err (take_label (label_of o) p) (λ q. take_text profile left n (behind_label body o) q) k e)
 
 -- a line that isn't taken can't stand there
-pub line_fails : (profile : Profile) (n : ℕ) (line : List ℕ) (p : Progress) (k : LineFlaw) → Stands p → take_line profile n line p ≡ Err k → FailsBehind profile p.source line k
+pub line_fails : (profile : Profile) (left : Bool) (n : ℕ) (line : List ℕ) (p : Progress) (k : LineFlaw) → Stands p → take_line profile left n line p ≡ Err k → FailsBehind profile left p.source line k
 unfolding take_line
-line_fails profile n line p k st e =
-    chosen (nat_lt MAX_LINE (length line)) _ _ _ e (FailsBehind profile p.source line k)
-    (λ t f. subst (λ j. FailsBehind profile p.source line j) (same_Err L.Length k f) (long (ltb-true MAX_LINE (length line) t)))
+line_fails profile left n line p k st e =
+    chosen (nat_lt MAX_LINE (length line)) _ _ _ e (FailsBehind profile left p.source line k)
+    (λ t f. subst (λ j. FailsBehind profile left p.source line j) (same_Err L.Length k f) (long (ltb-true MAX_LINE (length line) t)))
     (λ t f. let short : length line ≤ MAX_LINE = ltb-false MAX_LINE (length line) t in
-    chosen (not (are_printable line)) _ _ _ f (FailsBehind profile p.source line k)
-    (λ u g. subst (λ j. FailsBehind profile p.source line j) (same_Err L.Character k g) (unprintable short (not_true (are_printable line) u)))
-    (λ u g. body_fails profile n line p k st (record { short = short; printable = not_false (are_printable line) u }) g))
+    chosen (not (are_printable line)) _ _ _ f (FailsBehind profile left p.source line k)
+    (λ u g. subst (λ j. FailsBehind profile left p.source line j) (same_Err L.Character k g) (unprintable short (not_true (are_printable line) u)))
+    (λ u g. body_fails profile left n line p k st (record { short = short; printable = not_false (are_printable line) u }) g))
 
-into_body : (profile : Profile) (n : ℕ) (line : List ℕ) (p : Progress) → IsReadable line → take_line profile n line p ≡ take_body profile n (before_comment line) p
+into_body : (profile : Profile) (left : Bool) (n : ℕ) (line : List ℕ) (p : Progress) → IsReadable line → take_line profile left n line p ≡ take_body profile left n (before_comment line) p
 unfolding take_line
-into_body profile n line p r =
+into_body profile left n line p r =
     cond-false (nat_lt MAX_LINE (length line)) _ _ (le-ltb MAX_LINE (length line) r.short) ∙ cond-false (not (are_printable line)) _ _ (ap not r.printable)
 
-split_body : (profile : Profile) (n : ℕ) (body : List ℕ) (p : Progress) (o : Option (List ℕ)) (rest : List ℕ) → HasSplit body o rest →
-    take_body profile n body p ≡ (take_label o p >>= λ q. take_text profile n rest q)
-split_body profile n body p o rest h =
-    ap (λ x. take_label (label_of x) p >>= λ q. take_text profile n (behind_label body x) q) h.1
-    ∙ ap (λ x. take_label x p >>= λ q. take_text profile n (behind_label body h.0) q) h.2 ∙ ap (λ x. take_label o p >>= λ q. take_text profile n x q) h.3
+split_body : (profile : Profile) (left : Bool) (n : ℕ) (body : List ℕ) (p : Progress) (o : Option (List ℕ)) (rest : List ℕ) → HasSplit body o rest →
+    take_body profile left n body p ≡ (take_label o p >>= λ q. take_text profile left n rest q)
+split_body profile left n body p o rest h =
+    ap (λ x. take_label (label_of x) p >>= λ q. take_text profile left n (behind_label body x) q) h.1
+    ∙ ap (λ x. take_label x p >>= λ q. take_text profile left n (behind_label body h.0) q) h.2 ∙ ap (λ x. take_label o p >>= λ q. take_text profile left n x q) h.3
 
-label_fails : (profile : Profile) (n : ℕ) (line l rest : List ℕ) (p : Progress) → IsReadable line → HasLabel (before_comment line) l rest → (IsNew (Some l) p.source → ⊥) →
-    take_line profile n line p ≡ Err L.DoubleLabel
-label_fails profile n line l rest p r h f =
+label_fails : (profile : Profile) (left : Bool) (n : ℕ) (line l rest : List ℕ) (p : Progress) → IsReadable line → HasLabel (before_comment line) l rest → (IsNew (Some l) p.source → ⊥) →
+    take_line profile left n line p ≡ Err L.DoubleLabel
+label_fails profile left n line l rest p r h f =
     let known : is_known p.source.labels l ≡ true = true_from_ne_false (is_known p.source.labels l) (λ e. f (all_new p.source.labels l e)) in
-    into_body profile n line p r ∙ split_body profile n (before_comment line) p (Some l) rest (has_split (before_comment line) (Some l) rest h)
-    ∙ ap (λ x. x >>= λ q. take_text profile n rest q) (cond-true (is_known p.source.labels l) _ _ known)
+    into_body profile left n line p r ∙ split_body profile left n (before_comment line) p (Some l) rest (has_split (before_comment line) (Some l) rest h)
+    ∙ ap (λ x. x >>= λ q. take_text profile left n rest q) (cond-true (is_known p.source.labels l) _ _ known)
 
-none_fails : (profile : Profile) (n : ℕ) (line : List ℕ) (o : Option (List ℕ)) (rest : List ℕ) (p : Progress) (k : LineFlaw) → IsReadable line →
-    IsParted (before_comment line) o rest → IsNew o p.source → SpellsNoStatement profile rest k → take_line profile n line p ≡ Err k
-none_fails profile n line o rest p k r h new s =
-    into_body profile n line p r ∙ split_body profile n (before_comment line) p o rest (has_split (before_comment line) o rest h)
-    ∙ bind_of (take_label o p) (λ q. take_text profile n rest q) (run.labelled o p) (Err k) (run.label_takes o p (new_is o p new))
-    (ap (λ x. x >>= λ t. take_statement n t (run.labelled o p)) (fails_statement profile rest k s))
+none_fails : (profile : Profile) (left : Bool) (n : ℕ) (line : List ℕ) (o : Option (List ℕ)) (rest : List ℕ) (p : Progress) (k : LineFlaw) → IsReadable line →
+    IsParted (before_comment line) o rest → IsNew o p.source → SpellsNoStatement profile left rest k → take_line profile left n line p ≡ Err k
+none_fails profile left n line o rest p k r h new s =
+    into_body profile left n line p r ∙ split_body profile left n (before_comment line) p o rest (has_split (before_comment line) o rest h)
+    ∙ bind_of (take_label o p) (λ q. take_text profile left n rest q) (run.labelled o p) (Err k) (run.label_takes o p (new_is o p new))
+    (ap (λ x. x >>= λ t. take_statement n t (run.labelled o p)) (fails_statement profile left rest k s))
 
-said_refused : (profile : Profile) (n : ℕ) (line : List ℕ) (c : Content) (p : Progress) (k : LineFlaw) → SpellsLine profile line c → IsNew c.label p.source →
-    take_statement n c.statement (run.labelled c.label p) ≡ Err k → take_line profile n line p ≡ Err k
-said_refused profile n line c p k h new e =
-    line_takes profile n line c p h
+said_refused : (profile : Profile) (left : Bool) (n : ℕ) (line : List ℕ) (c : Content) (p : Progress) (k : LineFlaw) → SpellsLine profile left line c → IsNew c.label p.source →
+    take_statement n c.statement (run.labelled c.label p) ≡ Err k → take_line profile left n line p ≡ Err k
+said_refused profile left n line c p k h new e =
+    line_takes profile left n line c p h
     ∙ bind_of (take_label c.label p) (λ q. take_statement n c.statement q) (run.labelled c.label p) (Err k)
     (run.label_takes c.label p (new_is c.label p new)) e
 
 -- a line that can't stand there isn't taken
-pub fails_line : (profile : Profile) (n : ℕ) (line : List ℕ) (p : Progress) (k : LineFlaw) → Stands p → FailsBehind profile p.source line k → take_line profile n line p ≡ Err k
+pub fails_line : (profile : Profile) (left : Bool) (n : ℕ) (line : List ℕ) (p : Progress) (k : LineFlaw) → Stands p → FailsBehind profile left p.source line k → take_line profile left n line p ≡ Err k
 unfolding take_line
-fails_line profile n line p k st (long h) = cond-true (nat_lt MAX_LINE (length line)) _ _ (lt-ltb MAX_LINE (length line) h)
-fails_line profile n line p k st (unprintable h e) =
+fails_line profile left n line p k st (long h) = cond-true (nat_lt MAX_LINE (length line)) _ _ (lt-ltb MAX_LINE (length line) h)
+fails_line profile left n line p k st (unprintable h e) =
     cond-false (nat_lt MAX_LINE (length line)) _ _ (le-ltb MAX_LINE (length line) h) ∙ cond-true (not (are_printable line)) _ _ (ap not e)
-fails_line profile n line p k st (label_again l rest r h f) = label_fails profile n line l rest p r h f
-fails_line profile n line p k st (no_statement o rest {flaw = j} r h new s) = none_fails profile n line o rest p j r h new s
-fails_line profile n line p k st (inv_again {c = c} h new v w) =
-    said_refused profile n line c p L.DoubleInvariant h new (refuses_second n c.statement (run.labelled c.label p) (is_second c.statement c.label p st.good v w))
-fails_line profile n line p k st (past_limit {c = c} h new v f) =
-    said_refused profile n line c p L.Length h new (refuses_full n c.statement (run.labelled c.label p) (is_full c.statement c.label p st.last v f))
+fails_line profile left n line p k st (label_again l rest r h f) = label_fails profile left n line l rest p r h f
+fails_line profile left n line p k st (no_statement o rest {flaw = j} r h new s) = none_fails profile left n line o rest p j r h new s
+fails_line profile left n line p k st (inv_again {c = c} h new v w) =
+    said_refused profile left n line c p L.DoubleInvariant h new (refuses_second n c.statement (run.labelled c.label p) (is_second c.statement c.label p st.good v w))
+fails_line profile left n line p k st (past_limit {c = c} h new v f) =
+    said_refused profile left n line c p L.Length h new (refuses_full n c.statement (run.labelled c.label p) (is_full c.statement c.label p st.last v f))

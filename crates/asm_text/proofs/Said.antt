@@ -86,34 +86,34 @@ found_label text l rest h =
 
 -- ---- statements
 
-inv_is_ok : (profile : Profile) (s : Statement) (rest : List ℕ) (r : Result Form (ℕ × TextFlaw)) → parsed_form profile rest ≡ r → inv_or_flaw r ≡ Ok s → (F : Form) × (s ≡ AnInv F) × Spells profile rest F
-inv_is_ok profile s rest (Ok F) e h = (F, sym (same_Ok _ _ h), form.parsed_spelled profile rest F e)
-inv_is_ok profile s rest (Err x) e h = cc
+inv_is_ok : (profile : Profile) (left : Bool) (s : Statement) (rest : List ℕ) (r : Result Form (ℕ × TextFlaw)) → parsed_form profile left rest ≡ r → inv_or_flaw r ≡ Ok s → (F : Form) × (s ≡ AnInv F) × Spells profile left rest F
+inv_is_ok profile left s rest (Ok F) e h = (F, sym (same_Ok _ _ h), form.parsed_spelled profile left rest F e)
+inv_is_ok profile left s rest (Err x) e h = cc
 
 pub inv_word : (text w rest : List ℕ) → Begins text (Lexeme w) rest → bytes_eq w (codes ".inv") ≡ true → HasInv text rest
 inv_word text w rest b t = (b.0, b.2, b.3.2, b.4 ∙ ap (λ y. b.0 ++ (y ++ rest)) (b.3.0 ∙ same_bytes w (codes ".inv") t))
 
-inv_spelled : (profile : Profile) (text w rest : List ℕ) (s : Statement) → Begins text (Lexeme w) rest → bytes_eq w (codes ".inv") ≡ true → inv_or_flaw (parsed_form profile rest) ≡ Ok s → SpellsStatement profile s text
-inv_spelled profile text w rest s b t e =
-    let f = inv_is_ok profile s rest (parsed_form profile rest) refl e in
-    subst (λ y. SpellsStatement profile y text) (sym f.1) (rest, inv_word text w rest b t, f.2)
+inv_spelled : (profile : Profile) (left : Bool) (text w rest : List ℕ) (s : Statement) → Begins text (Lexeme w) rest → bytes_eq w (codes ".inv") ≡ true → inv_or_flaw (parsed_form profile left rest) ≡ Ok s → SpellsStatement profile left s text
+inv_spelled profile left text w rest s b t e =
+    let f = inv_is_ok profile left s rest (parsed_form profile left rest) refl e in
+    subst (λ y. SpellsStatement profile left y text) (sym f.1) (rest, inv_word text w rest b t, f.2)
 
-insn_spelled : (profile : Profile) (text : List ℕ) (s : Statement) → insn_statement profile text ≡ Ok s → SpellsStatement profile s text
-insn_spelled profile text s e =
+insn_spelled : (profile : Profile) (left : Bool) (text : List ℕ) (s : Statement) → insn_statement profile text ≡ Ok s → SpellsStatement profile left s text
+insn_spelled profile left text s e =
     let a = bind_ok (parsed_insn profile (tokens_of source_class text)) _ s e in
-    subst (λ y. SpellsStatement profile y text) (same_Ok _ _ a.2) (tokens_of source_class text, lexed source_class 0 text, parsed_spelled profile (tokens_of source_class text) a.0 a.1)
+    subst (λ y. SpellsStatement profile left y text) (same_Ok _ _ a.2) (tokens_of source_class text, lexed source_class 0 text, parsed_spelled profile (tokens_of source_class text) a.0 a.1)
 
-statement_by_ok : (profile : Profile) (text : List ℕ) (s : Statement) (o : Option (Token Punct × List ℕ)) → front_token source_class text ≡ o → statement_by profile text o ≡ Ok s → SpellsStatement profile s text
-statement_by_ok profile text s None e h = subst (λ y. SpellsStatement profile y text) (same_Ok _ _ h) (no_front text e)
-statement_by_ok profile text s (Some (Mark m, r)) e h = cc
-statement_by_ok profile text s (Some (Lexeme w, r)) e h =
-    chosen (bytes_eq w (codes ".inv")) _ _ _ h (SpellsStatement profile s text)
-    (λ t f. inv_spelled profile text w r s (front_is text (Lexeme w) r e) t f)
-    (λ t f. insn_spelled profile text s f)
+statement_by_ok : (profile : Profile) (left : Bool) (text : List ℕ) (s : Statement) (o : Option (Token Punct × List ℕ)) → front_token source_class text ≡ o → statement_by profile left text o ≡ Ok s → SpellsStatement profile left s text
+statement_by_ok profile left text s None e h = subst (λ y. SpellsStatement profile left y text) (same_Ok _ _ h) (no_front text e)
+statement_by_ok profile left text s (Some (Mark m, r)) e h = cc
+statement_by_ok profile left text s (Some (Lexeme w, r)) e h =
+    chosen (bytes_eq w (codes ".inv")) _ _ _ h (SpellsStatement profile left s text)
+    (λ t f. inv_spelled profile left text w r s (front_is text (Lexeme w) r e) t f)
+    (λ t f. insn_spelled profile left text s f)
 
-statement_ok : (profile : Profile) (text : List ℕ) (s : Statement) → parsed_statement profile text ≡ Ok s → SpellsStatement profile s text
+statement_ok : (profile : Profile) (left : Bool) (text : List ℕ) (s : Statement) → parsed_statement profile left text ≡ Ok s → SpellsStatement profile left s text
 unfolding parsed_statement
-statement_ok profile text s e = statement_by_ok profile text s (front_token source_class text) refl e
+statement_ok profile left text s e = statement_by_ok profile left text s (front_token source_class text) refl e
 
 -- the first token of an instruction is a lexeme, and no colon stands behind it
 abbrev colon_next : List (Token Punct) → Bool
@@ -149,31 +149,31 @@ inv_no_insn : (profile : Profile) (us : List (Token Punct)) (i : SourceInsn) →
 unfolding parsed_insn
 inv_no_insn profile us i e = let f : by_mnemonic None us ≡ Ok i = ap (λ o. by_mnemonic o us) (sym (no_inv_mnemonic profile)) ∙ e in cc
 
-insn_by : (profile : Profile) (text w rest : List ℕ) (us : List (Token Punct)) (i : SourceInsn) (t : Bool) → bytes_eq w (codes ".inv") ≡ t → parsed_insn profile (Lexeme w ∷ us) ≡ Ok i → tokens_of source_class text ≡ Lexeme w ∷ us →
-    cond t (inv_or_flaw (parsed_form profile rest)) (insn_statement profile text) ≡ Ok (AnInsn i)
-insn_by profile text w rest us i true t e f = absurd (inv_no_insn profile us i (subst (λ y. parsed_insn profile (Lexeme y ∷ us) ≡ Ok i) (same_bytes w (codes ".inv") t) e))
-insn_by profile text w rest us i false t e f = bind_of (parsed_insn profile (tokens_of source_class text)) _ i (Ok (AnInsn i)) (ap (parsed_insn profile) f ∙ e) refl
+insn_by : (profile : Profile) (left : Bool) (text w rest : List ℕ) (us : List (Token Punct)) (i : SourceInsn) (t : Bool) → bytes_eq w (codes ".inv") ≡ t → parsed_insn profile (Lexeme w ∷ us) ≡ Ok i → tokens_of source_class text ≡ Lexeme w ∷ us →
+    cond t (inv_or_flaw (parsed_form profile left rest)) (insn_statement profile text) ≡ Ok (AnInsn i)
+insn_by profile left text w rest us i true t e f = absurd (inv_no_insn profile us i (subst (λ y. parsed_insn profile (Lexeme y ∷ us) ≡ Ok i) (same_bytes w (codes ".inv") t) e))
+insn_by profile left text w rest us i false t e f = bind_of (parsed_insn profile (tokens_of source_class text)) _ i (Ok (AnInsn i)) (ap (parsed_insn profile) f ∙ e) refl
 
-insn_statement_of : (profile : Profile) (text : List ℕ) (i : SourceInsn) → SpellsStatement profile (AnInsn i) text → parsed_statement profile text ≡ Ok (AnInsn i)
+insn_statement_of : (profile : Profile) (left : Bool) (text : List ℕ) (i : SourceInsn) → SpellsStatement profile left (AnInsn i) text → parsed_statement profile left text ≡ Ok (AnInsn i)
 unfolding parsed_statement
-insn_statement_of profile text i h =
+insn_statement_of profile left text i h =
     let ts : tokens_of source_class text ≡ h.0 = lexes source_class 0 text h.0 h.1 in
     let p = insn_plain profile i h.0 h.2 in
     let all : tokens_of source_class text ≡ Lexeme p.0 ∷ p.1 = ts ∙ p.2 in
     let f = first_token text (Lexeme p.0) p.1 all in
-    ap (statement_by profile text) f.1
-    ∙ insn_by profile text p.0 f.0 p.1 i (bytes_eq p.0 (codes ".inv")) refl (ap (parsed_insn profile) (sym p.2) ∙ spelled_parsed profile h.0 i h.2) all
+    ap (statement_by profile left text) f.1
+    ∙ insn_by profile left text p.0 f.0 p.1 i (bytes_eq p.0 (codes ".inv")) refl (ap (parsed_insn profile) (sym p.2) ∙ spelled_parsed profile h.0 i h.2) all
 
 pub inv_begins : (text rest : List ℕ) → HasInv text rest → Begins text (Lexeme (codes ".inv")) rest
 inv_begins text rest h = (h.0, codes ".inv", h.1, (refl, inv_lexeme, h.2), h.3)
 
-statement_of : (profile : Profile) (text : List ℕ) (s : Statement) → SpellsStatement profile s text → parsed_statement profile text ≡ Ok s
+statement_of : (profile : Profile) (left : Bool) (text : List ℕ) (s : Statement) → SpellsStatement profile left s text → parsed_statement profile left text ≡ Ok s
 unfolding parsed_statement
-statement_of profile text NoStatement h = ap (statement_by profile text) (none_at_front text h)
-statement_of profile text (AnInsn i) h = insn_statement_of profile text i h
-statement_of profile text (AnInv F) h =
-    ap (statement_by profile text) (front_of text (Lexeme (codes ".inv")) h.0 (inv_begins text h.0 h.1))
-    ∙ ap inv_or_flaw (form.spelled_parsed profile h.0 F h.2)
+statement_of profile left text NoStatement h = ap (statement_by profile left text) (none_at_front text h)
+statement_of profile left text (AnInsn i) h = insn_statement_of profile left text i h
+statement_of profile left text (AnInv F) h =
+    ap (statement_by profile left text) (front_of text (Lexeme (codes ".inv")) h.0 (inv_begins text h.0 h.1))
+    ∙ ap inv_or_flaw (form.spelled_parsed profile left h.0 F h.2)
 
 -- ---- a statement has no label before it
 
@@ -188,9 +188,9 @@ no_colon_by w rest us (Some (Mark m, r)) e f n =
 tail_same : {A : Type 0} (x y : A) (xs ys : List A) → x ∷ xs ≡ y ∷ ys → xs ≡ ys
 tail_same x y xs ys e = cc
 
-insn_no_label : (profile : Profile) (text : List ℕ) (i : SourceInsn) → SpellsStatement profile (AnInsn i) text → label_split text ≡ None
+insn_no_label : (profile : Profile) (left : Bool) (text : List ℕ) (i : SourceInsn) → SpellsStatement profile left (AnInsn i) text → label_split text ≡ None
 unfolding label_split
-insn_no_label profile text i h =
+insn_no_label profile left text i h =
     let ts : tokens_of source_class text ≡ h.0 = lexes source_class 0 text h.0 h.1 in
     let p = insn_plain profile i h.0 h.2 in
     let all : tokens_of source_class text ≡ Lexeme p.0 ∷ p.1 = ts ∙ p.2 in
@@ -204,34 +204,34 @@ inv_no_colon None = refl
 inv_no_colon (Some (Lexeme l, r)) = refl
 inv_no_colon (Some (Mark m, r)) = ap (λ y. cond y (Some (codes ".inv", r)) None) (and_right (same_mark m M.Colon) (is_label (codes ".inv")) refl)
 
-no_label : (profile : Profile) (text : List ℕ) (s : Statement) → SpellsStatement profile s text → label_split text ≡ None
+no_label : (profile : Profile) (left : Bool) (text : List ℕ) (s : Statement) → SpellsStatement profile left s text → label_split text ≡ None
 unfolding label_split
-no_label profile text NoStatement h = ap label_by (none_at_front text h)
-no_label profile text (AnInsn i) h = insn_no_label profile text i h
-no_label profile text (AnInv F) h = ap label_by (front_of text (Lexeme (codes ".inv")) h.0 (inv_begins text h.0 h.1)) ∙ inv_no_colon (front_token source_class h.0)
+no_label profile left text NoStatement h = ap label_by (none_at_front text h)
+no_label profile left text (AnInsn i) h = insn_no_label profile left text i h
+no_label profile left text (AnInv F) h = ap label_by (front_of text (Lexeme (codes ".inv")) h.0 (inv_begins text h.0 h.1)) ∙ inv_no_colon (front_token source_class h.0)
 
 -- ---- bodies
 
 -- what stands before the comment says this content
-abbrev pub SaysBody : (profile : Profile) → List ℕ → Content → Type 0
-SaysBody profile text c = (label_of (label_split text) ≡ c.label) × (parsed_statement profile (behind_label text (label_split text)) ≡ Ok c.statement)
+abbrev pub SaysBody : (profile : Profile) (left : Bool) → List ℕ → Content → Type 0
+SaysBody profile left text c = (label_of (label_split text) ≡ c.label) × (parsed_statement profile left (behind_label text (label_split text)) ≡ Ok c.statement)
 
-body_by : (profile : Profile) (text : List ℕ) (c : Content) (o : Option (List ℕ × List ℕ)) → label_split text ≡ o → label_of o ≡ c.label → parsed_statement profile (behind_label text o) ≡ Ok c.statement → SpellsBody profile c.label c.statement text
-body_by profile text c None e f g = subst (λ y. SpellsBody profile y c.statement text) f (statement_ok profile text c.statement g)
-body_by profile text c (Some p) e f g =
-    subst (λ y. SpellsBody profile y c.statement text) f (p.1, label_found text p e, statement_ok profile p.1 c.statement g)
+body_by : (profile : Profile) (left : Bool) (text : List ℕ) (c : Content) (o : Option (List ℕ × List ℕ)) → label_split text ≡ o → label_of o ≡ c.label → parsed_statement profile left (behind_label text o) ≡ Ok c.statement → SpellsBody profile left c.label c.statement text
+body_by profile left text c None e f g = subst (λ y. SpellsBody profile left y c.statement text) f (statement_ok profile left text c.statement g)
+body_by profile left text c (Some p) e f g =
+    subst (λ y. SpellsBody profile left y c.statement text) f (p.1, label_found text p e, statement_ok profile left p.1 c.statement g)
 
-pub body_spelled : (profile : Profile) (text : List ℕ) (c : Content) → SaysBody profile text c → SpellsBody profile c.label c.statement text
-body_spelled profile text c h = body_by profile text c (label_split text) refl h.0 h.1
+pub body_spelled : (profile : Profile) (left : Bool) (text : List ℕ) (c : Content) → SaysBody profile left text c → SpellsBody profile left c.label c.statement text
+body_spelled profile left text c h = body_by profile left text c (label_split text) refl h.0 h.1
 
-spelled_body_by : (profile : Profile) (text : List ℕ) (o : Option (List ℕ)) (s : Statement) → SpellsBody profile o s text → SaysBody profile text (record { label = o; statement = s })
-spelled_body_by profile text None s h = let e = no_label profile text s h in (ap label_of e, ap (λ y. parsed_statement profile (behind_label text y)) e ∙ statement_of profile text s h)
-spelled_body_by profile text (Some l) s h =
+spelled_body_by : (profile : Profile) (left : Bool) (text : List ℕ) (o : Option (List ℕ)) (s : Statement) → SpellsBody profile left o s text → SaysBody profile left text (record { label = o; statement = s })
+spelled_body_by profile left text None s h = let e = no_label profile left text s h in (ap label_of e, ap (λ y. parsed_statement profile left (behind_label text y)) e ∙ statement_of profile left text s h)
+spelled_body_by profile left text (Some l) s h =
     let e = found_label text l h.0 h.1 in
-    (ap label_of e, ap (λ y. parsed_statement profile (behind_label text y)) e ∙ statement_of profile h.0 s h.2)
+    (ap label_of e, ap (λ y. parsed_statement profile left (behind_label text y)) e ∙ statement_of profile left h.0 s h.2)
 
-spelled_body : (profile : Profile) (text : List ℕ) (c : Content) → SpellsBody profile c.label c.statement text → SaysBody profile text c
-spelled_body profile text c h = spelled_body_by profile text c.label c.statement h
+spelled_body : (profile : Profile) (left : Bool) (text : List ℕ) (c : Content) → SpellsBody profile left c.label c.statement text → SaysBody profile left text c
+spelled_body profile left text c h = spelled_body_by profile left text c.label c.statement h
 
 -- ---- lines
 
@@ -239,33 +239,33 @@ spelled_body profile text c h = spelled_body_by profile text c.label c.statement
 abbrev pub takes : ℕ → Content → Progress → Result Progress LineFlaw
 takes n c p = take_label c.label p >>= λ q. take_statement n c.statement q
 
-body_takes : (profile : Profile) (n : ℕ) (text : List ℕ) (c : Content) (p : Progress) → SaysBody profile text c → take_body profile n text p ≡ takes n c p
-body_takes profile n text c p h =
-    ap (λ o. take_label o p >>= λ q. parsed_statement profile (behind_label text (label_split text)) >>= λ s. take_statement n s q) h.0
+body_takes : (profile : Profile) (left : Bool) (n : ℕ) (text : List ℕ) (c : Content) (p : Progress) → SaysBody profile left text c → take_body profile left n text p ≡ takes n c p
+body_takes profile left n text c p h =
+    ap (λ o. take_label o p >>= λ q. parsed_statement profile left (behind_label text (label_split text)) >>= λ s. take_statement n s q) h.0
     ∙ ap (λ r. take_label c.label p >>= λ q. r >>= λ s. take_statement n s q) h.1
 
 -- a line that says a content is taken as that
-pub line_takes : (profile : Profile) (n : ℕ) (line : List ℕ) (c : Content) (p : Progress) → SpellsLine profile line c → take_line profile n line p ≡ takes n c p
+pub line_takes : (profile : Profile) (left : Bool) (n : ℕ) (line : List ℕ) (c : Content) (p : Progress) → SpellsLine profile left line c → take_line profile left n line p ≡ takes n c p
 unfolding take_line
-line_takes profile n line c p h =
+line_takes profile left n line c p h =
     cond-false (nat_lt MAX_LINE (length line)) _ _ (le-ltb MAX_LINE (length line) h.short)
     ∙ cond-false (not (are_printable line)) _ _ (ap not h.printable)
-    ∙ body_takes profile n (before_comment line) c p (spelled_body profile (before_comment line) c h.body)
+    ∙ body_takes profile left n (before_comment line) c p (spelled_body profile left (before_comment line) c h.body)
 
-body_said : (profile : Profile) (n : ℕ) (text : List ℕ) (p r : Progress) → take_body profile n text p ≡ Ok r → (c : Content) × SaysBody profile text c × (takes n c p ≡ Ok r)
-body_said profile n text p r e =
+body_said : (profile : Profile) (left : Bool) (n : ℕ) (text : List ℕ) (p r : Progress) → take_body profile left n text p ≡ Ok r → (c : Content) × SaysBody profile left text c × (takes n c p ≡ Ok r)
+body_said profile left n text p r e =
     let a = bind_ok (take_label (label_of (label_split text)) p) _ r e in
-    let b = bind_ok (parsed_statement profile (behind_label text (label_split text))) _ r a.2 in
+    let b = bind_ok (parsed_statement profile left (behind_label text (label_split text))) _ r a.2 in
     (record { label = label_of (label_split text); statement = b.0 }, (refl, b.1), bind_of (take_label (label_of (label_split text)) p) _ a.0 (Ok r) a.1 b.2)
 
 -- a line that is taken says a content
-pub line_said : (profile : Profile) (n : ℕ) (line : List ℕ) (p r : Progress) → take_line profile n line p ≡ Ok r → (c : Content) × SpellsLine profile line c × (takes n c p ≡ Ok r)
+pub line_said : (profile : Profile) (left : Bool) (n : ℕ) (line : List ℕ) (p r : Progress) → take_line profile left n line p ≡ Ok r → (c : Content) × SpellsLine profile left line c × (takes n c p ≡ Ok r)
 unfolding take_line
-line_said profile n line p r e =
-    chosen (nat_lt MAX_LINE (length line)) _ _ _ e ((c : Content) × SpellsLine profile line c × (takes n c p ≡ Ok r))
+line_said profile left n line p r e =
+    chosen (nat_lt MAX_LINE (length line)) _ _ _ e ((c : Content) × SpellsLine profile left line c × (takes n c p ≡ Ok r))
     (λ t f. cc)
-    (λ t f. chosen (not (are_printable line)) _ _ _ f ((c : Content) × SpellsLine profile line c × (takes n c p ≡ Ok r))
+    (λ t f. chosen (not (are_printable line)) _ _ _ f ((c : Content) × SpellsLine profile left line c × (takes n c p ≡ Ok r))
     (λ u g. cc)
     (λ u g.
-    let b = body_said profile n (before_comment line) p r g in
-    (b.0, record { short = ltb-false MAX_LINE (length line) t; printable = not_false (are_printable line) u; body = body_spelled profile (before_comment line) b.0 b.1 }, b.2)))
+    let b = body_said profile left n (before_comment line) p r g in
+    (b.0, record { short = ltb-false MAX_LINE (length line) t; printable = not_false (are_printable line) u; body = body_spelled profile left (before_comment line) b.0 b.1 }, b.2)))

@@ -1,5 +1,5 @@
 -- Reading stops exactly where a text has a fault.
-use Rattle.std.proofs.Common.{◌≡◌, ◌⊎◌, ⊎_elim, inl, inr, ℕ, suc, ◌+◌, List, [], ◌∷◌, ◌++◌, length, take, Option, Some, None, Result, Ok, Err, refl, sym, ap, ◌∙◌, subst, append_assoc, length-append, arith}
+use Rattle.std.proofs.Common.{◌≡◌, ◌⊎◌, ⊎_elim, inl, inr, ℕ, suc, ◌+◌, Bool, List, [], ◌∷◌, ◌++◌, length, take, Option, Some, None, Result, Ok, Err, refl, sym, ap, ◌∙◌, subst, append_assoc, length-append, arith}
 use Rattle.std.specs.Prelude.{◌==◌}
 use Rattle.std.proofs.lemmas.Bool.{cond-true, eqb-true, eq-eqb}
 use Rattle.std.proofs.lemmas.List.{take_at}
@@ -25,32 +25,32 @@ same_Err x y e = cc
 -- ---- where it stops
 
 -- these lines are taken, and the next isn't
-abbrev StopsAt : (profile : Profile) → ℕ → List (List ℕ) → List (List ℕ) → Progress → ℕ → LineFlaw → Type 0
-StopsAt profile n ls front r k flaw =
-    (line : List ℕ) × (rest : List (List ℕ)) × (ls ≡ front ++ (line ∷ rest)) × (take_line profile (n + length front) line r ≡ Err flaw) × (k ≡ n + length front)
+abbrev StopsAt : (profile : Profile) (left : Bool) → ℕ → List (List ℕ) → List (List ℕ) → Progress → ℕ → LineFlaw → Type 0
+StopsAt profile left n ls front r k flaw =
+    (line : List ℕ) × (rest : List (List ℕ)) × (ls ≡ front ++ (line ∷ rest)) × (take_line profile left (n + length front) line r ≡ Err flaw) × (k ≡ n + length front)
 
 -- all lines are taken, and they aren't enough
 abbrev StopsBehind : List (List ℕ) → List (List ℕ) → Progress → ℕ → LineFlaw → Type 0
 StopsBehind ls front r k flaw = (ls ≡ front) × (source_end r r.waiting ≡ Err (k, flaw))
 
-record Stops (profile : Profile) (n : ℕ) (ls : List (List ℕ)) (p : Progress) (k : ℕ) (flaw : LineFlaw) : Type 0 where
+record Stops (profile : Profile) (left : Bool) (n : ℕ) (ls : List (List ℕ)) (p : Progress) (k : ℕ) (flaw : LineFlaw) : Type 0 where
   front : List (List ℕ)
   contents : List Content
   end : Progress
-  spelled : AreSpelled profile front contents
+  spelled : AreSpelled profile left front contents
   runs : run.Runs n contents p end
-  why : StopsAt profile n ls front end k flaw ⊎ StopsBehind ls front end k flaw
+  why : StopsAt profile left n ls front end k flaw ⊎ StopsBehind ls front end k flaw
 
-stops_by : (profile : Profile) (n : ℕ) (l : List ℕ) (ls : List (List ℕ)) (p : Progress) (k : ℕ) (flaw : LineFlaw) (r : Result Progress LineFlaw) → take_line profile n l p ≡ r →
-    (at_line n r >>= λ q. take_lines profile (suc n) ls q) ≡ Err (k, flaw) →
-    ((q : Progress) → take_lines profile (suc n) ls q ≡ Err (k, flaw) → Stops profile (suc n) ls q k flaw) → Stops profile n (l ∷ ls) p k flaw
-stops_by profile n l ls p k flaw (Err j) f e g =
+stops_by : (profile : Profile) (left : Bool) (n : ℕ) (l : List ℕ) (ls : List (List ℕ)) (p : Progress) (k : ℕ) (flaw : LineFlaw) (r : Result Progress LineFlaw) → take_line profile left n l p ≡ r →
+    (at_line n r >>= λ q. take_lines profile left (suc n) ls q) ≡ Err (k, flaw) →
+    ((q : Progress) → take_lines profile left (suc n) ls q ≡ Err (k, flaw) → Stops profile left (suc n) ls q k flaw) → Stops profile left n (l ∷ ls) p k flaw
+stops_by profile left n l ls p k flaw (Err j) f e g =
     let z : n ≡ n + 0 = omega arith in
     let s : (n, j) ≡ (k, flaw) = same_Err (n, j) (k, flaw) e in
-    let at : take_line profile (n + 0) l p ≡ Err flaw = ap (λ i. take_line profile i l p) (sym z) ∙ f ∙ ap (λ y. Err y.1) s in
+    let at : take_line profile left (n + 0) l p ≡ Err flaw = ap (λ i. take_line profile left i l p) (sym z) ∙ f ∙ ap (λ y. Err y.1) s in
     record { front = []; contents = []; end = p; spelled = tt; runs = refl; why = inl (l, ls, refl, at, sym (ap (λ y. y.0) s) ∙ z) }
-stops_by profile n l ls p k flaw (Ok q) f e g =
-    let c = line_said profile n l p q f in
+stops_by profile left n l ls p k flaw (Ok q) f e g =
+    let c = line_said profile left n l p q f in
     let s = g q e in
     let z : suc n + length s.front ≡ n + length (l ∷ s.front) = omega arith in
     record {
@@ -60,14 +60,14 @@ stops_by profile n l ls p k flaw (Ok q) f e g =
       spelled = (c.1, s.spelled);
       runs = (q, c.2, s.runs);
       why = ⊎_elim
-          (λ a. inl (a.0, a.1, ap (λ x. l ∷ x) a.2, ap (λ i. take_line profile i a.0 s.end) (sym z) ∙ a.3, a.4 ∙ z))
+          (λ a. inl (a.0, a.1, ap (λ x. l ∷ x) a.2, ap (λ i. take_line profile left i a.0 s.end) (sym z) ∙ a.3, a.4 ∙ z))
           (λ a. inr (ap (λ x. l ∷ x) a.0, a.1)) s.why;
     }
 
-stops : (profile : Profile) (n : ℕ) (ls : List (List ℕ)) (p : Progress) (k : ℕ) (flaw : LineFlaw) → take_lines profile n ls p ≡ Err (k, flaw) → Stops profile n ls p k flaw
+stops : (profile : Profile) (left : Bool) (n : ℕ) (ls : List (List ℕ)) (p : Progress) (k : ℕ) (flaw : LineFlaw) → take_lines profile left n ls p ≡ Err (k, flaw) → Stops profile left n ls p k flaw
 unfolding take_lines
-stops profile n [] p k flaw e = record { front = []; contents = []; end = p; spelled = tt; runs = refl; why = inr (refl, e) }
-stops profile n (l ∷ ls) p k flaw e = stops_by profile n l ls p k flaw (take_line profile n l p) refl e (λ q g. stops profile (suc n) ls q k flaw g)
+stops profile left n [] p k flaw e = record { front = []; contents = []; end = p; spelled = tt; runs = refl; why = inr (refl, e) }
+stops profile left n (l ∷ ls) p k flaw e = stops_by profile left n l ls p k flaw (take_line profile left n l p) refl e (λ q g. stops profile left (suc n) ls q k flaw g)
 
 -- ---- what stands behind lines that are taken
 
@@ -134,9 +134,9 @@ loose_is n (c ∷ cs) p r m h e =
 number_is : (k n : ℕ) → k ≡ 1 + n → k ≡ suc n
 number_is k n e = omega arith
 
-fails_at : (profile : Profile) (text : List ℕ) (k : ℕ) (flaw : LineFlaw) (s : Stops profile 1 (lines_of text) no_progress k flaw) → StopsAt profile 1 (lines_of text) s.front s.end k flaw →
-    FailsAt profile text k flaw
-fails_at profile text k flaw s a = record {
+fails_at : (profile : Profile) (left : Bool) (text : List ℕ) (k : ℕ) (flaw : LineFlaw) (s : Stops profile left 1 (lines_of text) no_progress k flaw) → StopsAt profile left 1 (lines_of text) s.front s.end k flaw →
+    FailsAt profile left text k flaw
+fails_at profile left text k flaw s a = record {
   front = s.front;
   line = a.0;
   rest = a.1;
@@ -145,8 +145,8 @@ fails_at profile text k flaw s a = record {
   number = number_is k (length s.front) a.4;
   spelled = s.spelled;
   begun = run_begun s.contents s.end s.runs;
-  fails = subst (λ x. FailsBehind profile x a.0 flaw) (run_source s.contents s.end s.runs)
-      (line_fails profile (1 + length s.front) a.0 s.end flaw (run_stands s.contents s.end s.runs) a.3);
+  fails = subst (λ x. FailsBehind profile left x a.0 flaw) (run_source s.contents s.end s.runs)
+      (line_fails profile left (1 + length s.front) a.0 s.end flaw (run_stands s.contents s.end s.runs) a.3);
 }
 
 no_invs : (vs : List (ℕ × Form)) → HaveInsns 0 0 vs → vs ≡ []
@@ -157,9 +157,9 @@ no_items : {A : Type 0} (xs : List A) → length xs ≡ 0 → xs ≡ []
 no_items [] e = refl
 no_items (x ∷ xs) e = absurd (omega arith)
 
-empty_by : (profile : Profile) (text : List ℕ) (cs : List Content) (r : Progress) → AreSpelled profile (lines_of text) cs → run.Runs 1 cs no_progress r → r.waiting ≡ None →
-    length r.source.insns ≡ 0 → Lacks profile text 0 L.Length
-empty_by profile text cs r a h e n =
+empty_by : (profile : Profile) (left : Bool) (text : List ℕ) (cs : List Content) (r : Progress) → AreSpelled profile left (lines_of text) cs → run.Runs 1 cs no_progress r → r.waiting ≡ None →
+    length r.source.insns ≡ 0 → Lacks profile left text 0 L.Length
+empty_by profile left text cs r a h e n =
     let g = run.good_runs 1 cs no_progress r h run.good_start in
     let y : length r.source.insns + 0 ≡ 0 = omega arith in
     let z : length r.source.insns + run.waiting_count r.waiting ≡ 0 = ap (λ w. length r.source.insns + run.waiting_count w) e ∙ y in
@@ -168,49 +168,49 @@ empty_by profile text cs r a h e n =
     empty {lines = lines_of text} cs (are_lines text) a (run_begun cs r h)
     (subst (λ x. x.insns ≡ []) same (no_items r.source.insns n)) (subst (λ x. x.invs ≡ []) same invs)
 
-loose_at : (profile : Profile) (text : List ℕ) (cs : List Content) (r : Progress) (m : ℕ) → AreSpelled profile (lines_of text) cs → run.Runs 1 cs no_progress r → IsLoose 1 cs m →
-    Lacks profile text m L.LooseInvariant
-loose_at profile text cs r m a h l =
-    subst (λ k. Lacks profile text k L.LooseInvariant) (sym (number_is m (length l.0) l.5))
-    (loose {lines = lines_of text} l.0 l.1 l.2 (are_lines text) (subst (λ x. AreSpelled profile (lines_of text) x) l.3 a)
+loose_at : (profile : Profile) (left : Bool) (text : List ℕ) (cs : List Content) (r : Progress) (m : ℕ) → AreSpelled profile left (lines_of text) cs → run.Runs 1 cs no_progress r → IsLoose 1 cs m →
+    Lacks profile left text m L.LooseInvariant
+loose_at profile left text cs r m a h l =
+    subst (λ k. Lacks profile left text k L.LooseInvariant) (sym (number_is m (length l.0) l.5))
+    (loose {lines = lines_of text} l.0 l.1 l.2 (are_lines text) (subst (λ x. AreSpelled profile left (lines_of text) x) l.3 a)
     (subst (λ x. IsBegun (source_of x)) l.3 (run_begun cs r h)) l.4 (l.6 1))
 
-lacks_by : (profile : Profile) (text : List ℕ) (k : ℕ) (flaw : LineFlaw) (cs : List Content) (r : Progress) (w : Option ℕ) → AreSpelled profile (lines_of text) cs →
-    run.Runs 1 cs no_progress r → r.waiting ≡ w → source_end r w ≡ Err (k, flaw) → Lacks profile text k flaw
-lacks_by profile text k flaw cs r (Some m) a h e f =
-    let l : Lacks profile text m L.LooseInvariant = ⊎_elim
+lacks_by : (profile : Profile) (left : Bool) (text : List ℕ) (k : ℕ) (flaw : LineFlaw) (cs : List Content) (r : Progress) (w : Option ℕ) → AreSpelled profile left (lines_of text) cs →
+    run.Runs 1 cs no_progress r → r.waiting ≡ w → source_end r w ≡ Err (k, flaw) → Lacks profile left text k flaw
+lacks_by profile left text k flaw cs r (Some m) a h e f =
+    let l : Lacks profile left text m L.LooseInvariant = ⊎_elim
     (λ b. let z : ◌≡◌ {A = Option ℕ} None (Some m) = b.0 in cc)
-    (λ b. loose_at profile text cs r m a h b) (loose_is 1 cs no_progress r m h e) in
+    (λ b. loose_at profile left text cs r m a h b) (loose_is 1 cs no_progress r m h e) in
     let s : (m, L.LooseInvariant) ≡ (k, flaw) = same_Err (m, L.LooseInvariant) (k, flaw) f in
-    subst (λ y. Lacks profile text y.0 y.1) s l
-lacks_by profile text k flaw cs r None a h e f =
-    chosen (length r.source.insns == 0) _ _ _ f (Lacks profile text k flaw)
+    subst (λ y. Lacks profile left text y.0 y.1) s l
+lacks_by profile left text k flaw cs r None a h e f =
+    chosen (length r.source.insns == 0) _ _ _ f (Lacks profile left text k flaw)
     (λ t g. let s : (0, L.Length) ≡ (k, flaw) = same_Err (0, L.Length) (k, flaw) g in
-    subst (λ y. Lacks profile text y.0 y.1) s (empty_by profile text cs r a h e (eqb-true (length r.source.insns) 0 t)))
+    subst (λ y. Lacks profile left text y.0 y.1) s (empty_by profile left text cs r a h e (eqb-true (length r.source.insns) 0 t)))
     (λ t g. cc)
 
-pub fault_is : (profile : Profile) (text : List ℕ) (k : ℕ) (flaw : LineFlaw) → parsed_source profile text ≡ Err (k, flaw) → IsSourceFault profile text k flaw
+pub fault_is : (profile : Profile) (left : Bool) (text : List ℕ) (k : ℕ) (flaw : LineFlaw) → parsed_source profile left text ≡ Err (k, flaw) → IsSourceFault profile left text k flaw
 unfolding parsed_source
-fault_is profile text k flaw e =
-    let s = stops profile 1 (lines_of text) no_progress k flaw e in
+fault_is profile left text k flaw e =
+    let s = stops profile left 1 (lines_of text) no_progress k flaw e in
     ⊎_elim
-    (λ a. inl (fails_at profile text k flaw s a))
-    (λ a. inr (lacks_by profile text k flaw s.contents s.end s.end.waiting (subst (λ l. AreSpelled profile l s.contents) (sym a.0) s.spelled) s.runs refl a.1))
+    (λ a. inl (fails_at profile left text k flaw s a))
+    (λ a. inr (lacks_by profile left text k flaw s.contents s.end s.end.waiting (subst (λ l. AreSpelled profile left l s.contents) (sym a.0) s.spelled) s.runs refl a.1))
     s.why
 
 -- ---- reading stops where a fault is
 
-fails_taken : (profile : Profile) (text : List ℕ) (k : ℕ) (flaw : LineFlaw) → FailsAt profile text k flaw → parsed_source profile text ≡ Err (k, flaw)
+fails_taken : (profile : Profile) (left : Bool) (text : List ℕ) (k : ℕ) (flaw : LineFlaw) → FailsAt profile left text k flaw → parsed_source profile left text ≡ Err (k, flaw)
 unfolding parsed_source take_lines
-fails_taken profile text k flaw h =
+fails_taken profile left text k flaw h =
     let f = run.begun_runs 1 h.contents no_progress h.begun tt in
     let n = 1 + length h.front in
-    let at : take_line profile n h.line f.0 ≡ Err flaw = fails_line profile n h.line f.0 flaw (run_stands h.contents f.0 f.1)
-    (subst (λ x. FailsBehind profile x h.line flaw) (sym (run_source h.contents f.0 f.1)) h.fails) in
+    let at : take_line profile left n h.line f.0 ≡ Err flaw = fails_line profile left n h.line f.0 flaw (run_stands h.contents f.0 f.1)
+    (subst (λ x. FailsBehind profile left x h.line flaw) (sym (run_source h.contents f.0 f.1)) h.fails) in
     let z : n ≡ k = let y = h.number in omega arith in
-    ap (λ ls. take_lines profile 1 ls no_progress) (lines_are text (h.front ++ (h.line ∷ h.rest)) h.lines)
-    ∙ run.lines_taken profile 1 h.front (h.line ∷ h.rest) h.contents no_progress f.0 h.spelled f.1
-    ∙ ap (λ r. at_line n r >>= λ q. take_lines profile (suc n) h.rest q) at ∙ ap (λ i. Err (i, flaw)) z
+    ap (λ ls. take_lines profile left 1 ls no_progress) (lines_are text (h.front ++ (h.line ∷ h.rest)) h.lines)
+    ∙ run.lines_taken profile left 1 h.front (h.line ∷ h.rest) h.contents no_progress f.0 h.spelled f.1
+    ∙ ap (λ r. at_line n r >>= λ q. take_lines profile left (suc n) h.rest q) at ∙ ap (λ i. Err (i, flaw)) z
 
 add_insn_none : (n : ℕ) (s : Statement) (rest : List (ℕ × SourceInsn)) → add_insn n s rest ≡ [] → rest ≡ []
 add_insn_none n NoStatement rest e = e
@@ -255,10 +255,10 @@ waits_behind n (d ∷ front) rest c p r h v e =
     let z : suc n + length front ≡ n + length (d ∷ front) = omega arith in
     waits_behind (suc n) front rest c h.0 r h.2 v e ∙ ap Some z
 
-taken_end : (profile : Profile) (text : List ℕ) (lines : List (List ℕ)) (cs : List Content) (r : Progress) → AreLines text lines → AreSpelled profile lines cs →
-    run.Runs 1 cs no_progress r → parsed_source profile text ≡ source_end r r.waiting
+taken_end : (profile : Profile) (left : Bool) (text : List ℕ) (lines : List (List ℕ)) (cs : List Content) (r : Progress) → AreLines text lines → AreSpelled profile left lines cs →
+    run.Runs 1 cs no_progress r → parsed_source profile left text ≡ source_end r r.waiting
 unfolding parsed_source
-taken_end profile text lines cs r a h f = ap (λ ls. take_lines profile 1 ls no_progress) (lines_are text lines a) ∙ run.lines_end profile 1 lines cs no_progress r h f
+taken_end profile left text lines cs r a h f = ap (λ ls. take_lines profile left 1 ls no_progress) (lines_are text lines a) ∙ run.lines_end profile left 1 lines cs no_progress r h f
 
 none_last : (w : Option ℕ) (p : Progress) → run.IsLast w p → p.source.invs ≡ [] → w ≡ None
 none_last None p k e = refl
@@ -266,27 +266,27 @@ none_last (Some m) p k e =
     let n = ap length (sym e ∙ k.2) ∙ length-append k.0 ((length p.source.insns, k.1) ∷ []) in
     absurd (omega (arith, n))
 
-lacks_taken : (profile : Profile) (text : List ℕ) (k : ℕ) (flaw : LineFlaw) → Lacks profile text k flaw → parsed_source profile text ≡ Err (k, flaw)
-lacks_taken profile text k flaw (loose {lines = ls} front rest c a h b v e) =
+lacks_taken : (profile : Profile) (left : Bool) (text : List ℕ) (k : ℕ) (flaw : LineFlaw) → Lacks profile left text k flaw → parsed_source profile left text ≡ Err (k, flaw)
+lacks_taken profile left text k flaw (loose {lines = ls} front rest c a h b v e) =
     let cs = front ++ (c ∷ rest) in
     let f = run.begun_runs 1 cs no_progress b tt in
     let z : 1 + length front ≡ suc (length front) = omega arith in
-    taken_end profile text ls cs f.0 a h f.1 ∙ ap (source_end f.0) (waits_behind 1 front rest c no_progress f.0 f.1 v e) ∙ ap (λ i. Err (i, L.LooseInvariant)) z
-lacks_taken profile text k flaw (empty {lines = ls} cs a h b e g) =
+    taken_end profile left text ls cs f.0 a h f.1 ∙ ap (source_end f.0) (waits_behind 1 front rest c no_progress f.0 f.1 v e) ∙ ap (λ i. Err (i, L.LooseInvariant)) z
+lacks_taken profile left text k flaw (empty {lines = ls} cs a h b e g) =
     let f = run.begun_runs 1 cs no_progress b tt in
     let same = sym (run_source cs f.0 f.1) in
     let none : f.0.waiting ≡ None = none_last f.0.waiting f.0 f.2 (subst (λ x. x.invs ≡ []) same g) in
     let few : length f.0.source.insns ≡ 0 = ap length (subst (λ x. x.insns ≡ []) same e) in
-    taken_end profile text ls cs f.0 a h f.1 ∙ ap (source_end f.0) none ∙ cond-true (length f.0.source.insns == 0) _ _ (eq-eqb (length f.0.source.insns) 0 few)
+    taken_end profile left text ls cs f.0 a h f.1 ∙ ap (source_end f.0) none ∙ cond-true (length f.0.source.insns == 0) _ _ (eq-eqb (length f.0.source.insns) 0 few)
 
-pub is_fault : (profile : Profile) (text : List ℕ) (k : ℕ) (flaw : LineFlaw) → IsSourceFault profile text k flaw → parsed_source profile text ≡ Err (k, flaw)
-is_fault profile text k flaw h = ⊎_elim (λ a. fails_taken profile text k flaw a) (λ a. lacks_taken profile text k flaw a) h
+pub is_fault : (profile : Profile) (left : Bool) (text : List ℕ) (k : ℕ) (flaw : LineFlaw) → IsSourceFault profile left text k flaw → parsed_source profile left text ≡ Err (k, flaw)
+is_fault profile left text k flaw h = ⊎_elim (λ a. fails_taken profile left text k flaw a) (λ a. lacks_taken profile left text k flaw a) h
 
 -- ---- no source begins so
 
-pub none_begins : (profile : Profile) (text : List ℕ) (k : ℕ) (flaw : LineFlaw) (lines : List (List ℕ)) → FailsAt profile text k flaw → AreLines text lines →
-    BeginsNoSource profile (take k lines)
-none_begins profile text k flaw lines h a = λ other more s b g.
+pub none_begins : (profile : Profile) (left : Bool) (text : List ℕ) (k : ℕ) (flaw : LineFlaw) (lines : List (List ℕ)) → FailsAt profile left text k flaw → AreLines text lines →
+    BeginsNoSource profile left (take k lines)
+none_begins profile left text k flaw lines h a = λ other more s b g.
     let l : lines ≡ h.front ++ (h.line ∷ h.rest) = sym (lines_are text lines a) ∙ lines_are text (h.front ++ (h.line ∷ h.rest)) h.lines in
     let c : h.front ++ (h.line ∷ h.rest) ≡ (h.front ++ (h.line ∷ [])) ++ h.rest = sym (append_assoc h.front (h.line ∷ []) h.rest) in
     let y = h.number in
@@ -294,7 +294,7 @@ none_begins profile text k flaw lines h a = λ other more s b g.
     let n : length (h.front ++ (h.line ∷ [])) ≡ k = length-append h.front (h.line ∷ []) ∙ z in
     let t : take k lines ≡ h.front ++ (h.line ∷ []) = ap (take k) (l ∙ c) ∙ take_at (h.front ++ (h.line ∷ [])) h.rest k n in
     let d : AreLines other (h.front ++ (h.line ∷ more)) = subst (λ x. AreLines other x) (ap (λ x. x ++ more) t ∙ append_assoc h.front (h.line ∷ []) more) b in
-    let f : FailsAt profile other k flaw = record {
+    let f : FailsAt profile left other k flaw = record {
       front = h.front;
       line = h.line;
       rest = more;
@@ -305,6 +305,6 @@ none_begins profile text k flaw lines h a = λ other more s b g.
       begun = h.begun;
       fails = h.fails;
     } in
-    let e : parsed_source profile other ≡ Err (k, flaw) = fails_taken profile other k flaw f in
-    let o : parsed_source profile other ≡ Ok s = run.spelled_parsed profile other s g in
+    let e : parsed_source profile left other ≡ Err (k, flaw) = fails_taken profile left other k flaw f in
+    let o : parsed_source profile left other ≡ Ok s = run.spelled_parsed profile left other s g in
     cc

@@ -1,5 +1,5 @@
 -- What is taken on of a line, as it stands in memory, and one turn of the loop over lines.
-use Rattle.std.proofs.Common.{◌≡◌, ℕ, suc, ◌+◌, ◌<◌, ◌≤◌, true, false, List, [], ◌∷◌, ◌++◌, length, map, Option, Some, None, Result, Ok, Err, refl, sym, ap, ◌∙◌, subst, arith, Bor}
+use Rattle.std.proofs.Common.{◌≡◌, ℕ, suc, ◌+◌, ◌<◌, ◌≤◌, Bool, true, false, List, [], ◌∷◌, ◌++◌, length, map, Option, Some, None, Result, Ok, Err, refl, sym, ap, ◌∙◌, subst, arith, Bor}
 use Rattle.std.specs.Prelude.{is_some, nat_lt, ◌==◌, IfOk, IfErr}
 use Rattle.std.specs.List.{list_any}
 use Rattle.std.specs.Str.{bytes_eq}
@@ -169,38 +169,38 @@ ends_with p w h =
 
 -- ---- one turn of the loop
 
-pub line_turn : (profile : Profile) (n : ℕ) (line : List ℕ) (all more : List (List ℕ)) (p q : Progress) (r : Result Source (ℕ × LineFlaw)) → all ≡ line ∷ more → take_line profile n line p ≡ Ok q → take_lines profile n all p ≡ r → take_lines profile (n + 1) more q ≡ r
+pub line_turn : (profile : Profile) (left : Bool) (n : ℕ) (line : List ℕ) (all more : List (List ℕ)) (p q : Progress) (r : Result Source (ℕ × LineFlaw)) → all ≡ line ∷ more → take_line profile left n line p ≡ Ok q → take_lines profile left n all p ≡ r → take_lines profile left (n + 1) more q ≡ r
 unfolding take_lines
-line_turn profile n line all more p q r a e h =
+line_turn profile left n line all more p q r a e h =
     let z : n + 1 ≡ suc n = omega arith in
-    ap (λ k. take_lines profile k more q) z ∙ sym (ap (λ l. take_lines profile n l p) a ∙ ap (λ x. at_line n x >>= λ y. take_lines profile (suc n) more y) e) ∙ h
+    ap (λ k. take_lines profile left k more q) z ∙ sym (ap (λ l. take_lines profile left n l p) a ∙ ap (λ x. at_line n x >>= λ y. take_lines profile left (suc n) more y) e) ∙ h
 
-line_err : (profile : Profile) (n : ℕ) (line : List ℕ) (all more : List (List ℕ)) (p : Progress) (flaw : LineFlaw) (r : Result Source (ℕ × LineFlaw)) → all ≡ line ∷ more → take_line profile n line p ≡ Err flaw → take_lines profile n all p ≡ r → r ≡ Err (n, flaw)
+line_err : (profile : Profile) (left : Bool) (n : ℕ) (line : List ℕ) (all more : List (List ℕ)) (p : Progress) (flaw : LineFlaw) (r : Result Source (ℕ × LineFlaw)) → all ≡ line ∷ more → take_line profile left n line p ≡ Err flaw → take_lines profile left n all p ≡ r → r ≡ Err (n, flaw)
 unfolding take_lines
-line_err profile n line all more p flaw r a e h = sym h ∙ ap (λ l. take_lines profile n l p) a ∙ ap (λ x. at_line n x >>= λ y. take_lines profile (suc n) more y) e
+line_err profile left n line all more p flaw r a e h = sym h ∙ ap (λ l. take_lines profile left n l p) a ∙ ap (λ x. at_line n x >>= λ y. take_lines profile left (suc n) more y) e
 
-pub line_stops : (profile : Profile) (n : ℕ) (line : List ℕ) (all more : List (List ℕ)) (p q : Progress) (e : LineFault) (r : Result Source (ℕ × LineFlaw)) → all ≡ line ∷ more → take_lines profile n all p ≡ r → TakesOnLine {X = Unit {0}} n (take_line profile n line p) q (Err e) → ParsesSource source_view r (Err e)
-line_stops profile n line all more p q F.Memory r a h m = tt
-line_stops profile n line all more p q (F.At k flaw) r a h m = line_err profile n line all more p flaw r a m.1 h ∙ ap (λ x. Err (x, flaw)) (sym m.0)
+pub line_stops : (profile : Profile) (left : Bool) (n : ℕ) (line : List ℕ) (all more : List (List ℕ)) (p q : Progress) (e : LineFault) (r : Result Source (ℕ × LineFlaw)) → all ≡ line ∷ more → take_lines profile left n all p ≡ r → TakesOnLine {X = Unit {0}} n (take_line profile left n line p) q (Err e) → ParsesSource source_view r (Err e)
+line_stops profile left n line all more p q F.Memory r a h m = tt
+line_stops profile left n line all more p q (F.At k flaw) r a h m = line_err profile left n line all more p flaw r a m.1 h ∙ ap (λ x. Err (x, flaw)) (sym m.0)
 
-pub lines_end : (profile : Profile) (n : ℕ) (all : List (List ℕ)) (p : Progress) (r : Result Source (ℕ × LineFlaw)) → all ≡ [] → take_lines profile n all p ≡ r → r ≡ source_end p p.waiting
+pub lines_end : (profile : Profile) (left : Bool) (n : ℕ) (all : List (List ℕ)) (p : Progress) (r : Result Source (ℕ × LineFlaw)) → all ≡ [] → take_lines profile left n all p ≡ r → r ≡ source_end p p.waiting
 unfolding take_lines
-lines_end profile n all p r a h = sym h ∙ ap (λ l. take_lines profile n l p) a
+lines_end profile left n all p r a h = sym h ∙ ap (λ l. take_lines profile left n l p) a
 
-pub first_lines : (profile : Profile) (text : List ℕ) (p : Progress) → p ≡ no_progress → take_lines profile 1 (lines_of text) p ≡ parsed_source profile text
+pub first_lines : (profile : Profile) (left : Bool) (text : List ℕ) (p : Progress) → p ≡ no_progress → take_lines profile left 1 (lines_of text) p ≡ parsed_source profile left text
 unfolding parsed_source
-first_lines profile text p e = ap (take_lines profile 1 (lines_of text)) e
+first_lines profile left text p e = ap (take_lines profile left 1 (lines_of text)) e
 
 -- ---- what the answer says
 
-pub spelled_if : (profile : Profile) (text : List ℕ) (x : Result lists.Source LineFault) → ParsesSource source_view (parsed_source profile text) x → IfOk x (λ s. SpellsSource profile text (source_view s))
-spelled_if profile text (Ok s) h = parsed_spelled profile text (source_view s) h
-spelled_if profile text (Err e) h = tt
+pub spelled_if : (profile : Profile) (left : Bool) (text : List ℕ) (x : Result lists.Source LineFault) → ParsesSource source_view (parsed_source profile left text) x → IfOk x (λ s. SpellsSource profile left text (source_view s))
+spelled_if profile left text (Ok s) h = parsed_spelled profile left text (source_view s) h
+spelled_if profile left text (Err e) h = tt
 
-none_by : (profile : Profile) (text : List ℕ) (n : ℕ) (flaw : LineFlaw) → parsed_source profile text ≡ Err (n, flaw) → (s : Source) → SpellsSource profile text s → ⊥
-none_by profile text n flaw e s h = let g : parsed_source profile text ≡ Ok s = spelled_parsed profile text s h in cc
+none_by : (profile : Profile) (left : Bool) (text : List ℕ) (n : ℕ) (flaw : LineFlaw) → parsed_source profile left text ≡ Err (n, flaw) → (s : Source) → SpellsSource profile left text s → ⊥
+none_by profile left text n flaw e s h = let g : parsed_source profile left text ≡ Ok s = spelled_parsed profile left text s h in cc
 
-pub none_if : (profile : Profile) (text : List ℕ) (x : Result lists.Source LineFault) → ParsesSource source_view (parsed_source profile text) x → IfErr x (λ e. SpellsNoSource profile text e)
-none_if profile text (Ok s) h = tt
-none_if profile text (Err F.Memory) h = tt
-none_if profile text (Err (F.At n flaw)) h = none_by profile text n flaw h
+pub none_if : (profile : Profile) (left : Bool) (text : List ℕ) (x : Result lists.Source LineFault) → ParsesSource source_view (parsed_source profile left text) x → IfErr x (λ e. SpellsNoSource profile left text e)
+none_if profile left text (Ok s) h = tt
+none_if profile left text (Err F.Memory) h = tt
+none_if profile left text (Err (F.At n flaw)) h = none_by profile left text n flaw h

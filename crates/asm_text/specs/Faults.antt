@@ -1,5 +1,5 @@
 -- What a fault means: the line at which a text stops being a source, and why, with no word of how a text is parsed.
-use Rattle.std.specs.Prelude.{◌≡◌, ℕ, suc, ◌<◌, ◌≤◌, ◌⊎◌, true, false, List, [], ◌∷◌, ◌++◌, codes, length, Option, Some, None}
+use Rattle.std.specs.Prelude.{◌≡◌, ℕ, suc, ◌<◌, ◌≤◌, ◌⊎◌, Bool, true, false, List, [], ◌∷◌, ◌++◌, codes, length, Option, Some, None}
 use Rattle.std.specs.List.{AllByRecursion}
 use Rattle.std.specs.Str.{bytes_eq}
 use Rattle.word_ops.specs.declared.Profile.{Profile}
@@ -55,11 +55,13 @@ BeginsNoStatement profile (Lexeme w) = (w ≡ codes ".inv" → ⊥) × ((m : Mne
 
 -- The text spells no statement, and why: no formula stands behind `.inv`, the first token begins none, or the tokens behind the
 -- profile's mnemonic are not its operands.
-pub data SpellsNoStatement (profile : Profile) (text : List ℕ) : LineFlaw → Type 0 where
-  no_formula : {rest : List ℕ} → HasInv text rest → ((F : Form) → Spells profile rest F → ⊥) → SpellsNoStatement profile text L.Formula
-  no_mnemonic : {t : Token Punct} {ts : List (Token Punct)} → Consists source_class text (t ∷ ts) → BeginsNoStatement profile t → SpellsNoStatement profile text L.Mnemonic
+pub data SpellsNoStatement (profile : Profile) (left : Bool) (text : List ℕ) : LineFlaw → Type 0 where
+  no_formula : {rest : List ℕ} → HasInv text rest →
+      ((F : Form) → Spells profile left rest F → ⊥) → SpellsNoStatement profile left text L.Formula
+  no_mnemonic : {t : Token Punct} {ts : List (Token Punct)} → Consists source_class text (t ∷ ts) →
+      BeginsNoStatement profile t → SpellsNoStatement profile left text L.Mnemonic
   no_operands : (m : Mnemonic) {ts : List (Token Punct)} {flaw : LineFlaw} → has_mnemonic profile m ≡ true →
-      Consists source_class text (Lexeme (mnemonic_text m) ∷ ts) → AreNoOperands m ts flaw → SpellsNoStatement profile text flaw
+      Consists source_class text (Lexeme (mnemonic_text m) ∷ ts) → AreNoOperands m ts flaw → SpellsNoStatement profile left text flaw
 
 -- the statement is an invariant
 abbrev pub IsInv : Statement → Type 0
@@ -74,42 +76,45 @@ PassesLimit (AnInsn i) s = MAX_INSNS ≤ length s.insns
 PassesLimit (AnInv F) s = MAX_INVS ≤ length s.invs
 
 -- The line can't stand behind lines that come to s, and why. Each kind asks that those before it don't apply.
-pub data FailsBehind (profile : Profile) (s : Source) (line : List ℕ) : LineFlaw → Type 0 where
-  long : MAX_LINE < length line → FailsBehind profile s line L.Length
-  unprintable : length line ≤ MAX_LINE → are_printable line ≡ false → FailsBehind profile s line L.Character
-  label_again : (l rest : List ℕ) → IsReadable line → HasLabel (before_comment line) l rest → (IsNew (Some l) s → ⊥) → FailsBehind profile s line L.DoubleLabel
+pub data FailsBehind (profile : Profile) (left : Bool) (s : Source) (line : List ℕ) : LineFlaw → Type 0 where
+  long : MAX_LINE < length line → FailsBehind profile left s line L.Length
+  unprintable : length line ≤ MAX_LINE → are_printable line ≡ false → FailsBehind profile left s line L.Character
+  label_again : (l rest : List ℕ) → IsReadable line → HasLabel (before_comment line) l rest → (IsNew (Some l) s → ⊥) → FailsBehind profile left s line L.DoubleLabel
   no_statement : (o : Option (List ℕ)) (rest : List ℕ) {flaw : LineFlaw} →
-      IsReadable line → IsParted (before_comment line) o rest → IsNew o s → SpellsNoStatement profile rest flaw → FailsBehind profile s line flaw
-  inv_again : {c : Content} → SpellsLine profile line c → IsNew c.label s → IsInv c.statement → Waits s → FailsBehind profile s line L.DoubleInvariant
-  past_limit : {c : Content} → SpellsLine profile line c → IsNew c.label s → (IsInv c.statement → Waits s → ⊥) →
-      PassesLimit c.statement s → FailsBehind profile s line L.Length
+      IsReadable line → IsParted (before_comment line) o rest → IsNew o s → SpellsNoStatement profile left rest flaw → FailsBehind profile left s line flaw
+  inv_again : {c : Content} → SpellsLine profile left line c → IsNew c.label s → IsInv c.statement → Waits s → FailsBehind profile left s line L.DoubleInvariant
+  past_limit : {c : Content} → SpellsLine profile left line c → IsNew c.label s → (IsInv c.statement → Waits s → ⊥) →
+      PassesLimit c.statement s → FailsBehind profile left s line L.Length
 
 -- ---- the text
 
 -- line n of the text can't stand behind the lines before it, which begin a source
-pub record FailsAt (profile : Profile) (text : List ℕ) (n : ℕ) (flaw : LineFlaw) : Type 0 where
+pub record FailsAt (profile : Profile) (left : Bool) (text : List ℕ) (n : ℕ) (flaw : LineFlaw) : Type 0 where
   pub front : List (List ℕ)
   pub line : List ℕ
   pub rest : List (List ℕ)
   pub contents : List Content
   pub lines : AreLines text (front ++ (line ∷ rest))
   pub number : n ≡ suc (length front)
-  pub spelled : AreSpelled profile front contents
+  pub spelled : AreSpelled profile left front contents
   pub begun : IsBegun (source_of contents)
-  pub fails : FailsBehind profile (source_of contents) line flaw
+  pub fails : FailsBehind profile left (source_of contents) line flaw
 
 -- All lines of the text begin a source, and the text is none: behind the invariant of line n stands no instruction, or there is
 -- neither an instruction nor an invariant, and n is 0.
-pub data Lacks (profile : Profile) (text : List ℕ) : ℕ → LineFlaw → Type 0 where
-  loose : {lines : List (List ℕ)} (front rest : List Content) (c : Content) → AreLines text lines → AreSpelled profile lines (front ++ (c ∷ rest)) →
-      IsBegun (source_of (front ++ (c ∷ rest))) → IsInv c.statement → (source_of rest).insns ≡ [] → Lacks profile text (suc (length front)) L.LooseInvariant
-  empty : {lines : List (List ℕ)} (contents : List Content) → AreLines text lines → AreSpelled profile lines contents →
-      IsBegun (source_of contents) → (source_of contents).insns ≡ [] → (source_of contents).invs ≡ [] → Lacks profile text 0 L.Length
+pub data Lacks (profile : Profile) (left : Bool) (text : List ℕ) : ℕ → LineFlaw → Type 0 where
+  loose : {lines : List (List ℕ)} (front rest : List Content) (c : Content) → AreLines text lines → AreSpelled profile left lines (front ++ (c ∷ rest)) →
+      IsBegun (source_of (front ++ (c ∷ rest))) → IsInv c.statement → (source_of rest).insns ≡ [] → Lacks profile left text (suc (length front)) L.LooseInvariant
+  empty : {lines : List (List ℕ)} (contents : List Content) → AreLines text lines → AreSpelled profile left lines contents →
+      IsBegun (source_of contents) → (source_of contents).insns ≡ [] → (source_of contents).invs ≡ [] → Lacks profile left text 0 L.Length
 
 -- the text is no source, the first line that is wrong is line n, and this is why
-abbrev pub IsSourceFault : Profile → List ℕ → ℕ → LineFlaw → Type 0
-IsSourceFault profile text n flaw = FailsAt profile text n flaw ⊎ Lacks profile text n flaw
+abbrev pub IsSourceFault : Profile → Bool → List ℕ → ℕ → LineFlaw → Type 0
+IsSourceFault profile left text n flaw =
+    FailsAt profile left text n flaw ⊎ Lacks profile left text n flaw
 
 -- no source's text begins with these lines
-abbrev pub BeginsNoSource : Profile → List (List ℕ) → Type 0
-BeginsNoSource profile lines = (text : List ℕ) (more : List (List ℕ)) (s : Source) → AreLines text (lines ++ more) → SpellsSource profile text s → ⊥
+abbrev pub BeginsNoSource : Profile → Bool → List (List ℕ) → Type 0
+BeginsNoSource profile left lines =
+    (text : List ℕ) (more : List (List ℕ)) (s : Source) → AreLines text (lines ++ more)
+    → SpellsSource profile left text s → ⊥

@@ -55,14 +55,17 @@ abbrev pub insn_statement : Profile → List ℕ → Result Statement LineFlaw
 insn_statement profile text = parsed_insn profile (tokens_of source_class text) >>= λ i. Ok (AnInsn i)
 
 -- a statement, by the first token
-abbrev pub statement_by : Profile → List ℕ → Option (Token Punct × List ℕ) → Result Statement LineFlaw
-statement_by profile text None = Ok NoStatement
-statement_by profile text (Some (Mark m, rest)) = Err L.Mnemonic
-statement_by profile text (Some (Lexeme w, rest)) = if bytes_eq w (codes ".inv") then inv_or_flaw (parsed_form profile rest) else insn_statement profile text
+abbrev pub statement_by : Profile → Bool → List ℕ → Option (Token Punct × List ℕ)
+    → Result Statement LineFlaw
+statement_by profile left text None = Ok NoStatement
+statement_by profile left text (Some (Mark m, rest)) = Err L.Mnemonic
+statement_by profile left text (Some (Lexeme w, rest)) =
+    if bytes_eq w (codes ".inv") then inv_or_flaw (parsed_form profile left rest)
+    else insn_statement profile text
 
 -- the statement of a line, behind its label
-unfoldable pub parsed_statement : Profile → List ℕ → Result Statement LineFlaw
-parsed_statement profile text = statement_by profile text (front_token source_class text)
+unfoldable pub parsed_statement : Profile → Bool → List ℕ → Result Statement LineFlaw
+parsed_statement profile left text = statement_by profile left text (front_token source_class text)
 
 -- ---- the lines in order
 
@@ -101,21 +104,21 @@ take_statement n (AnInsn i) p =
 take_statement n (AnInv F) p = take_inv n F p p.waiting
 
 -- what stands behind the label of line n
-abbrev pub take_text : Profile → ℕ → List ℕ → Progress → Result Progress LineFlaw
-take_text profile n text p = parsed_statement profile text >>= λ s. take_statement n s p
+abbrev pub take_text : Profile → Bool → ℕ → List ℕ → Progress → Result Progress LineFlaw
+take_text profile left n text p = parsed_statement profile left text >>= λ s. take_statement n s p
 
 -- what stands before the comment of line n
-abbrev pub take_body : Profile → ℕ → List ℕ → Progress → Result Progress LineFlaw
-take_body profile n body p =
+abbrev pub take_body : Profile → Bool → ℕ → List ℕ → Progress → Result Progress LineFlaw
+take_body profile left n body p =
     take_label (label_of (label_split body)) p >>= λ q.
-    take_text profile n (behind_label body (label_split body)) q
+    take_text profile left n (behind_label body (label_split body)) q
 
 -- line n
-unfoldable pub take_line : Profile → ℕ → List ℕ → Progress → Result Progress LineFlaw
-take_line profile n line p =
+unfoldable pub take_line : Profile → Bool → ℕ → List ℕ → Progress → Result Progress LineFlaw
+take_line profile left n line p =
     if nat_lt MAX_LINE (length line) then Err L.Length else
     if not (are_printable line) then Err L.Character else
-    take_body profile n (before_comment line) p
+    take_body profile left n (before_comment line) p
 
 -- a flaw with its line
 abbrev pub at_line : {A : Type 0} → ℕ → Result A LineFlaw → Result A (ℕ × LineFlaw)
@@ -128,14 +131,17 @@ source_end p (Some n) = Err (n, L.LooseInvariant)
 source_end p None = if length p.source.insns == 0 then Err (0, L.Length) else Ok p.source
 
 -- the lines from line n on
-unfoldable pub take_lines : Profile → ℕ → List (List ℕ) → Progress → Result Source (ℕ × LineFlaw)
-take_lines profile n [] p = source_end p p.waiting
-take_lines profile n (l ∷ ls) p = at_line n (take_line profile n l p) >>= λ q. take_lines profile (suc n) ls q
+unfoldable pub take_lines : Profile → Bool → ℕ → List (List ℕ) → Progress
+    → Result Source (ℕ × LineFlaw)
+take_lines profile left n [] p = source_end p p.waiting
+take_lines profile left n (l ∷ ls) p =
+    at_line n (take_line profile left n l p) >>= λ q. take_lines profile left (suc n) ls q
 
 -- nothing read yet
 abbrev pub no_progress : Progress
 no_progress = record { source = record { insns = []; labels = []; invs = [] }; waiting = None }
 
--- the profile's source that the text is parsed as, or the number of the first line that is wrong and what is wrong with it
-unfoldable pub parsed_source : Profile → List ℕ → Result Source (ℕ × LineFlaw)
-parsed_source profile text = take_lines profile 1 (lines_of text) no_progress
+-- The profile's source that the text is parsed as, or the number of the first line that is wrong
+-- and what is wrong with it. The flag says whether invariants may name the steps that are left.
+unfoldable pub parsed_source : Profile → Bool → List ℕ → Result Source (ℕ × LineFlaw)
+parsed_source profile left text = take_lines profile left 1 (lines_of text) no_progress

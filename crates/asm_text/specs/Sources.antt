@@ -1,5 +1,5 @@
 -- Which source a text spells: its lines in order, collected.
-use Rattle.std.specs.Prelude.{◌≡◌, ℕ, suc, ◌+◌, ◌<◌, ◌≤◌, false, List, [], ◌∷◌, length, Option, Some, None}
+use Rattle.std.specs.Prelude.{◌≡◌, ℕ, suc, ◌+◌, ◌<◌, ◌≤◌, Bool, false, List, [], ◌∷◌, length, Option, Some, None}
 use Rattle.std.specs.List.{AllByRecursion}
 use Rattle.std.specs.Str.{bytes_eq}
 use Rattle.word_ops.specs.declared.Profile.{Profile}
@@ -16,11 +16,12 @@ pub record Source : Type 0 where
   pub invs : List (ℕ × Form)
 
 -- the lines spell these contents, one each
-abbrev pub AreSpelled : Profile → List (List ℕ) → List Content → Type 0
-AreSpelled profile [] [] = Unit {0}
-AreSpelled profile [] (c ∷ cs) = ⊥
-AreSpelled profile (l ∷ ls) [] = ⊥
-AreSpelled profile (l ∷ ls) (c ∷ cs) = SpellsLine profile l c × AreSpelled profile ls cs
+abbrev pub AreSpelled : Profile → Bool → List (List ℕ) → List Content → Type 0
+AreSpelled profile left [] [] = Unit {0}
+AreSpelled profile left [] (c ∷ cs) = ⊥
+AreSpelled profile left (l ∷ ls) [] = ⊥
+AreSpelled profile left (l ∷ ls) (c ∷ cs) =
+    SpellsLine profile left l c × AreSpelled profile left ls cs
 
 -- ---- what the contents come to
 
@@ -86,11 +87,12 @@ pub record IsSource (s : Source) : Type 0 where
   pub labels : AreDistinct s.labels
   pub belong : HaveInsns 0 (length s.insns) s.invs
 
--- the text spells the source, whose instructions and operators are the profile's
-pub record SpellsSource (profile : Profile) (text : List ℕ) (s : Source) : Type 0 where
+-- The text spells the source, whose instructions and operators are the profile's. Its invariants
+-- name the steps that are left only where the flag is true.
+pub record SpellsSource (profile : Profile) (left : Bool) (text : List ℕ) (s : Source) : Type 0 where
   pub lines : List (List ℕ)
   pub contents : List Content
   pub are_lines : AreLines text lines
-  pub spelled : AreSpelled profile lines contents
+  pub spelled : AreSpelled profile left lines contents
   pub collected : s ≡ source_of contents
   pub sound : IsSource s

@@ -25,20 +25,24 @@ pub record Content : Type 0 where
 abbrev pub HasInv : List ℕ → List ℕ → Type 0
 HasInv text rest = (bs : List ℕ) × AreBlanks bs × (goes_on source_class rest ≡ false) × (text ≡ bs ++ (codes ".inv" ++ rest))
 
--- the text spells the statement; an invariant is `.inv` and a formula to the end of the line
-abbrev pub SpellsStatement : Profile → Statement → List ℕ → Type 0
-SpellsStatement profile NoStatement text = Consists source_class text []
-SpellsStatement profile (AnInsn i) text = (ts : List (Token Punct)) × Consists source_class text ts × SpellsInsn profile i ts
-SpellsStatement profile (AnInv F) text = (rest : List ℕ) × HasInv text rest × Spells profile rest F
+-- The text spells the statement. An invariant is `.inv` and a formula to the end of the line; the
+-- flag says whether it may name the steps that are left.
+abbrev pub SpellsStatement : Profile → Bool → Statement → List ℕ → Type 0
+SpellsStatement profile left NoStatement text = Consists source_class text []
+SpellsStatement profile left (AnInsn i) text =
+    (ts : List (Token Punct)) × Consists source_class text ts × SpellsInsn profile i ts
+SpellsStatement profile left (AnInv F) text =
+    (rest : List ℕ) × HasInv text rest × Spells profile left rest F
 
 -- the text begins with the label and its colon, and goes on so
 abbrev pub HasLabel : List ℕ → List ℕ → List ℕ → Type 0
 HasLabel text l rest = (bs cs : List ℕ) × AreBlanks bs × AreBlanks cs × (is_label l ≡ true) × (text ≡ bs ++ (l ++ (cs ++ (58 ∷ rest))))
 
 -- the text spells a label with its colon, if there is one, and the statement
-abbrev pub SpellsBody : Profile → Option (List ℕ) → Statement → List ℕ → Type 0
-SpellsBody profile None s text = SpellsStatement profile s text
-SpellsBody profile (Some l) s text = (rest : List ℕ) × HasLabel text l rest × SpellsStatement profile s rest
+abbrev pub SpellsBody : Profile → Bool → Option (List ℕ) → Statement → List ℕ → Type 0
+SpellsBody profile left None s text = SpellsStatement profile left s text
+SpellsBody profile left (Some l) s text =
+    (rest : List ℕ) × HasLabel text l rest × SpellsStatement profile left s rest
 
 -- what stands before `#`
 abbrev pub before_comment : List ℕ → List ℕ
@@ -55,7 +59,7 @@ are_printable [] = true
 are_printable (b ∷ bs) = is_printable b && are_printable bs
 
 -- the line says this
-pub record SpellsLine (profile : Profile) (line : List ℕ) (c : Content) : Type 0 where
+pub record SpellsLine (profile : Profile) (left : Bool) (line : List ℕ) (c : Content) : Type 0 where
   pub short : length line ≤ MAX_LINE
   pub printable : are_printable line ≡ true
-  pub body : SpellsBody profile c.label c.statement (before_comment line)
+  pub body : SpellsBody profile left c.label c.statement (before_comment line)

@@ -1,5 +1,5 @@
 -- A source as it stands in memory, without addresses, and what answers of calls say.
-use Rattle.std.specs.Prelude.{◌≡◌, ℕ, List, map, Result, Ok, Err}
+use Rattle.std.specs.Prelude.{◌≡◌, ℕ, Bool, List, map, Result, Ok, Err}
 use Rattle.word_ops.specs.declared.Profile.{Profile}
 use Rattle.formula_tree.specs.Views.{form_view}
 use Rattle.asm_text.specs.declared.fault.LineFlaw.{LineFlaw}
@@ -32,6 +32,6 @@ ParsesSource view parsed (Err (F.At n flaw)) = parsed ≡ Err (n, flaw)
 ParsesSource view parsed (Err F.Memory) = Unit {0}
 
 -- the text spells no source
-abbrev pub SpellsNoSource : Profile → List ℕ → LineFault → Type 0
-SpellsNoSource profile text (F.At n flaw) = (s : Source) → SpellsSource profile text s → ⊥
-SpellsNoSource profile text F.Memory = Unit {0}
+abbrev pub SpellsNoSource : Profile → Bool → List ℕ → LineFault → Type 0
+SpellsNoSource profile left text (F.At n flaw) = (s : Source) → SpellsSource profile left text s → ⊥
+SpellsNoSource profile left text F.Memory = Unit {0}

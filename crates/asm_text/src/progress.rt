@@ -106,13 +106,14 @@ fn take_statement(
     n: u32,
     text: &[u8],
     profile: Profile,
+    left: bool,
 ) -> Result<(), Refused>
     requires sound { IsSoundProgress progress.old }
-    ensures takes { TakesOn (take_text profile n text.now (progress_view progress.old))
+    ensures takes { TakesOn (take_text profile left n text.now (progress_view progress.old))
         (progress_view progress.new) result }
     ensures sound { OnOk result (IsSoundProgress progress.new) }
 {
-    match read_statement(alloc, text, profile)? {
+    match read_statement(alloc, text, profile, left)? {
         Statement::NoStatement => Ok(()),
         Statement::Insn(insn) => take_insn(progress, n, insn),
         Statement::Inv(form) => take_inv(progress, n, form),
@@ -126,17 +127,18 @@ fn take_body<'t>(
     n: u32,
     body: &'t [u8],
     profile: Profile,
+    left: bool,
 ) -> Result<(), Refused>
     requires sound { IsSoundProgress progress.old }
-    ensures takes { TakesOn (take_body profile n body.now (progress_view progress.old))
+    ensures takes { TakesOn (take_body profile left n body.now (progress_view progress.old))
         (progress_view progress.new) result }
     ensures sound { OnOk result (IsSoundProgress progress.new) }
 {
     match split_label(body) {
-        None => take_statement(alloc, progress, n, body, profile),
+        None => take_statement(alloc, progress, n, body, profile, left),
         Some((label, rest)) => {
             take_label(alloc, progress, label)?;
-            take_statement(alloc, progress, n, rest, profile)
+            take_statement(alloc, progress, n, rest, profile, left)
         }
     }
 }
@@ -149,9 +151,10 @@ fn take_line<'t>(
     n: u32,
     line: &'t [u8],
     profile: Profile,
+    left: bool,
 ) -> Result<(), Refused>
     requires sound { IsSoundProgress progress.old }
-    ensures takes { TakesOn (take_line profile n line.now (progress_view progress.old))
+    ensures takes { TakesOn (take_line profile left n line.now (progress_view progress.old))
         (progress_view progress.new) result }
     ensures sound { OnOk result (IsSoundProgress progress.new) }
 {
@@ -161,7 +164,7 @@ fn take_line<'t>(
     if !are_printable(line) {
         return Err(Refused::Flaw(LineFlaw::Character));
     }
-    take_body(alloc, progress, n, before_comment(line), profile)
+    take_body(alloc, progress, n, before_comment(line), profile, left)
 }
 
 /// Takes line `n`; a flaw is told with the line's number.
@@ -171,13 +174,14 @@ pub fn take_numbered<'t>(
     n: u32,
     line: &'t [u8],
     profile: Profile,
+    left: bool,
 ) -> Result<(), LineFault>
     requires sound { IsSoundProgress progress.old }
-    ensures takes { TakesOnLine n (take_line profile n line.now (progress_view progress.old))
+    ensures takes { TakesOnLine n (take_line profile left n line.now (progress_view progress.old))
         (progress_view progress.new) result }
     ensures sound { OnOk result (IsSoundProgress progress.new) }
 {
-    match take_line(alloc, progress, n, line, profile) {
+    match take_line(alloc, progress, n, line, profile, left) {
         Ok(()) => Ok(()),
         Err(Refused::Flaw(flaw)) => Err(LineFault::At(n, flaw)),
         Err(Refused::Memory) => Err(LineFault::Memory),

@@ -14,16 +14,16 @@ use text_lines::split_line;
 use word_ops::Profile;
 
 /// The source that the text is parsed as, or the first fault.
-fn parse(alloc: Global, text: &[u8], profile: Profile) -> Result<Source, LineFault>
+fn parse(alloc: Global, text: &[u8], profile: Profile, left: bool) -> Result<Source, LineFault>
     requires short { length text.now ≤ MAX_SOURCE }
-    ensures { ParsesSource source_view (parsed_source profile text.now) result }
+    ensures { ParsesSource source_view (parsed_source profile left text.now) result }
 {
     let mut progress = no_progress(alloc);
     let mut rest = text;
     let mut n = 1;
     'lines: while !rest.is_empty() {
         let (line, more) = split_line(rest);
-        match take_numbered(alloc, &mut progress, n, line, profile) {
+        match take_numbered(alloc, &mut progress, n, line, profile, left) {
             Ok(()) => {}
             Err(fault) => return Err(fault),
         }
@@ -33,18 +33,24 @@ fn parse(alloc: Global, text: &[u8], profile: Profile) -> Result<Source, LineFau
     source_end(progress)
 }
 
-/// Parses `text` as a source of the profile: its instructions, labels and invariants.
+/// Parses `text` as a source of the profile: its instructions, labels and invariants. Where `left`
+/// is true invariants may name the steps that are left (`left`, see `formula_text::read_form`).
 ///
 /// Errors: the first line that is wrong, with its number and why (`specs/Faults`); `Memory` says
 /// nothing of `text`. The grammar is this project's own (`specs/Sources`, `specs/Statements`,
 /// `specs/Insns`).
 ///
 /// Asks that `text` has at most `MAX_SOURCE` bytes.
-pub fn read_source(alloc: Global, text: &[u8], profile: Profile) -> Result<Source, LineFault>
+pub fn read_source(
+    alloc: Global,
+    text: &[u8],
+    profile: Profile,
+    left: bool,
+) -> Result<Source, LineFault>
     requires short { length text.now ≤ MAX_SOURCE }
-    ensures spells { IfOk result (λ s. SpellsSource profile text.now (source_view s)) }
-    ensures none { IfErr result (λ e. SpellsNoSource profile text.now e) }
-    ensures exact { ParsesSource source_view (parsed_source profile text.now) result }
+    ensures spells { IfOk result (λ s. SpellsSource profile left text.now (source_view s)) }
+    ensures none { IfErr result (λ e. SpellsNoSource profile left text.now e) }
+    ensures exact { ParsesSource source_view (parsed_source profile left text.now) result }
 {
-    parse(alloc, text, profile)
+    parse(alloc, text, profile, left)
 }

@@ -78,10 +78,11 @@ pub fn split_label(text: &[u8]) -> Option<(&[u8], &[u8])>
 }
 
 /// The invariant that the text spells.
-fn read_inv(alloc: Global, text: &[u8], profile: Profile) -> Result<Statement, Refused>
-    ensures { YieldsOrMemory statement_view (inv_or_flaw (parsed_form profile text.now)) result }
+fn read_inv(alloc: Global, text: &[u8], profile: Profile, left: bool) -> Result<Statement, Refused>
+    ensures { YieldsOrMemory statement_view
+        (inv_or_flaw (parsed_form profile left text.now)) result }
 {
-    match read_form(alloc, text, profile) {
+    match read_form(alloc, text, profile, left) {
         Ok(form) => Ok(Statement::Inv(form)),
         Err(TextFault::At(_, _)) => Err(Refused::Flaw(LineFlaw::Formula)),
         Err(TextFault::Memory) => Err(Refused::Memory),
@@ -98,15 +99,20 @@ fn insn_statement(alloc: Global, text: &[u8], profile: Profile) -> Result<Statem
 
 /// The statement of a line, from the text behind its label.
 #[tactic(auto, unfolding(crate::specs::SourceParsing::parsed_statement))]
-pub fn read_statement(alloc: Global, text: &[u8], profile: Profile) -> Result<Statement, Refused>
-    ensures { YieldsOrMemory statement_view (parsed_statement profile text.now) result }
+pub fn read_statement(
+    alloc: Global,
+    text: &[u8],
+    profile: Profile,
+    left: bool,
+) -> Result<Statement, Refused>
+    ensures { YieldsOrMemory statement_view (parsed_statement profile left text.now) result }
 {
     match front(text) {
         None => Ok(Statement::NoStatement),
         Some((Token::Mark(_), _)) => Err(Refused::Flaw(LineFlaw::Mnemonic)),
         Some((Token::Lexeme(lexeme), rest)) => {
             if lexeme == b".inv".as_slice() {
-                read_inv(alloc, rest, profile)
+                read_inv(alloc, rest, profile, left)
             } else {
                 insn_statement(alloc, text, profile)
             }

@@ -1,6 +1,6 @@
 //! What holds of the definitions, with nothing to run.
 
-ghost use Rattle.std.specs.Prelude.{◌≡◌, ◌↔◌, ℕ, List, take, Ok, Err};
+ghost use Rattle.std.specs.Prelude.{◌≡◌, ◌↔◌, ℕ, Bool, List, take, Ok, Err};
 ghost use Rattle.word_ops.specs.declared.Profile.{Profile};
 ghost use Rattle.text_tokens.specs.Tokens.{Token};
 ghost use Rattle.asm_text.specs.declared.fault.LineFlaw.{LineFlaw};
@@ -12,17 +12,19 @@ ghost use Rattle.asm_text.specs.Sources.{Source, SpellsSource};
 ghost use Rattle.asm_text.specs.SourceParsing.{parsed_source};
 ghost use Rattle.asm_text.specs.Faults.{FailsAt, IsSourceFault, BeginsNoSource};
 
-/// For each profile: tokens spell an instruction, and a text has lines and spells a source, exactly
-/// where it is parsed as that; a text has a fault exactly where parsing tells it, so it has one
-/// fault or spells one source; and no source begins with the lines up to one that fails.
+/// For each profile, and whether invariants may name the steps that are left or not: tokens spell
+/// an instruction, and a text has lines and spells a source, exactly where it is parsed as that; a
+/// text has a fault exactly where parsing tells it, so it has one fault or spells one source; and
+/// no source begins with the lines up to one that fails.
 pub fn laws()
     ensures insns { (p : Profile) (ts : List (Token Punct)) (i : SourceInsn)
         → SpellsInsn p i ts ↔ (parsed_insn p ts ≡ Ok i) }
     ensures lines { (text : List ℕ) (ls : List (List ℕ)) → AreLines text ls ↔ (lines_of text ≡ ls) }
-    ensures sources { (p : Profile) (text : List ℕ) (s : Source)
-        → SpellsSource p text s ↔ (parsed_source p text ≡ Ok s) }
-    ensures faults { (p : Profile) (text : List ℕ) (n : ℕ) (flaw : LineFlaw)
-        → (parsed_source p text ≡ Err (n, flaw)) ↔ IsSourceFault p text n flaw }
-    ensures begins { (p : Profile) (text : List ℕ) (n : ℕ) (flaw : LineFlaw) (lines : List (List ℕ))
-        → FailsAt p text n flaw → AreLines text lines → BeginsNoSource p (take n lines) }
+    ensures sources { (p : Profile) (left : Bool) (text : List ℕ) (s : Source)
+        → SpellsSource p left text s ↔ (parsed_source p left text ≡ Ok s) }
+    ensures faults { (p : Profile) (left : Bool) (text : List ℕ) (n : ℕ) (flaw : LineFlaw)
+        → (parsed_source p left text ≡ Err (n, flaw)) ↔ IsSourceFault p left text n flaw }
+    ensures begins { (p : Profile) (left : Bool) (text : List ℕ) (n : ℕ) (flaw : LineFlaw)
+        (lines : List (List ℕ)) → FailsAt p left text n flaw → AreLines text lines
+        → BeginsNoSource p left (take n lines) }
 {}

@@ -1,12 +1,12 @@
 -- What is chosen from where an expression is a word, an operator or neither.
-use Rattle.std.proofs.Common.{◌≡◌, ℕ, None, [], ◌++◌, refl}
+use Rattle.std.proofs.Common.{◌≡◌, ℕ, true, false, None, [], ◌++◌, refl, ap}
 use Rattle.word_ops.specs.declared.Op.{Op}
-use Rattle.word_ops.specs.declared.Op.TheVariants.{Add, Band, Sll, Srl, Cmpeq, Cmplt, Cmple, Cmpult, Cmpule, Bic, Extb, Extw, Extl}
-use Rattle.formula_tree.specs.Formulas.{Exp, EReg, ELeft, EVar, ELit, EOp, ESel}
+use Rattle.word_ops.specs.declared.Op.TheVariants.{Add, Sub, Band, Sll, Srl, Cmpeq, Cmplt, Cmple, Cmpult, Cmpule, Bic, Extb, Extw, Extl}
+use Rattle.formula_tree.specs.Formulas.{Exp, ELit, EOp}
 use Rattle.formula_ids.specs.Operands.{IsLiteral}
 use Rattle.prover_class.specs.Hypotheses.{Hyps}
-use Rattle.prover_class.specs.Bounds.{WordBound, least_bound, own_bounds, op_bounds, uppers, upper_bound}
-use Rattle.bound_proofs.specs.declared.bounds.Side.TheVariants.{Upper}
+use Rattle.prover_class.specs.Bounds.{WordBound, least_bound, greatest_bound, own_bounds, op_bounds, part_lowers, uppers, lowers, upper_bound, lower_bound}
+use Rattle.bound_proofs.specs.declared.bounds.Side.TheVariants.{Upper, Lower}
 use Rattle.bound_proofs.specs.declared.parts.How.{How}
 use Rattle.bound_proofs.specs.Candidates.{limit, by_parts, ceiling_of, ceiling_bounds}
 use Rattle.bound_proofs.specs.declared.choices.Choice.{Choice}
@@ -24,6 +24,28 @@ IsNoOp x = (o : Op) (a b : Exp) → x ≡ EOp o a b → ⊥
 pub upper_alone : (Γ : Hyps) (x : Exp) → IsNoOp x → least_bound (own_bounds x ++ uppers x Γ) (limit Upper x) ≡ upper_bound Γ x
 upper_alone Γ (EOp o a b) n = absurd (n o a b refl)
 upper_alone Γ x n = refl
+
+-- where no steps are counted no part says anything from below
+pub lower_uncounted : (Γ : Hyps) (x : Exp)
+    → greatest_bound (own_bounds x ++ lowers x Γ) (limit Lower x) ≡ lower_bound false Γ x
+lower_uncounted Γ (EOp o a b) = refl
+lower_uncounted Γ x = refl
+
+-- what is no difference from a word
+abbrev pub IsNoDifference : Exp → Type 0
+IsNoDifference x = (a : Exp) (w : ℕ) → x ≡ EOp Sub a (ELit w) → ⊥
+
+no_lowers : (o : Op) (a b : Exp) (v : WordBound) → IsNoDifference (EOp o a b)
+    → [] ≡ part_lowers true o a b v
+no_lowers Sub a (ELit w) v n = absurd (n a w refl)
+no_lowers o a b v n = refl
+
+pub lower_alone : (Γ : Hyps) (x : Exp) → IsNoDifference x
+    → greatest_bound (own_bounds x ++ lowers x Γ) (limit Lower x) ≡ lower_bound true Γ x
+lower_alone Γ (EOp o a b) n =
+    ap (λ l. greatest_bound (lowers (EOp o a b) Γ) (greatest_bound l (limit Lower (EOp o a b))))
+    (no_lowers o a b (lower_bound true Γ a) n)
+lower_alone Γ x n = refl
 
 pub no_parts : (Γ : Hyps) (x : Exp) (c : How) → IsNoOp x → limit Upper x ≡ by_parts Γ x c
 no_parts Γ (EOp o a b) c n = absurd (n o a b refl)

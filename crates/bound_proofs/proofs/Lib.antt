@@ -1,4 +1,4 @@
-pub mod UpperRows
+pub mod BoundRows
 pub mod Relating
 pub mod Scans
 pub mod Choosing

@@ -4,8 +4,8 @@ use Rattle.term_table.specs.Tree.{Tree}
 use Rattle.term_table.specs.Equality.{tree_eq}
 use Rattle.term_table.proofs.Equality.{tree_eq_refl, tree_eq-true}
 use Rattle.word_ops.specs.declared.Rel.{Rel}
-use Rattle.word_ops.specs.declared.Rel.TheVariants.{Eq, Ult, Ule, Slt, Sle}
-use Rattle.formula_tree.specs.Formulas.{Exp, EReg, ELeft, EVar, ELit, EOp, ESel, Form, FRel}
+use Rattle.word_ops.specs.declared.Rel.TheVariants.{Eq, Ult, Ule}
+use Rattle.formula_tree.specs.Formulas.{Exp, ELit, Form, FRel}
 use Rattle.formula_terms.specs.Encoding.{exp_encoding}
 use Rattle.prover_class.specs.Hypotheses.{same_exp}
 use Rattle.prover_class.specs.Bounds.{WordBound, word_bound, upper_of, lower_of}

@@ -1,17 +1,18 @@
 -- Bounds that are candidates for the least or the greatest, one kind each.
-use Rattle.std.specs.Prelude.{ℕ, Option, Some, None, List, [], ◌∷◌}
+use Rattle.std.specs.Prelude.{ℕ, true, Option, Some, None, List, [], ◌∷◌}
 use Rattle.term_table.specs.Tree.{Tree}
 use Rattle.word_ops.specs.declared.Op.{Op}
 use Rattle.word_ops.specs.declared.Op.TheVariants.{Add, Sub, Band, Sll, Srl, Cmpeq, Cmplt, Cmple, Cmpult, Cmpule, Extb, Extw, Extl}
 use Rattle.word_ops.specs.declared.Rel.TheVariants.{Ule}
+use Rattle.word_ops.specs.Words.{word_of}
 use Rattle.formula_tree.specs.Formulas.{Exp, EVar, ELit, EOp, Form, FRel}
-use Rattle.formula_terms.specs.ProofTerms.{word_rule, move, up}
+use Rattle.formula_terms.specs.ProofTerms.{word_rule, move, up, calc, fact}
 use Rattle.prover_class.specs.Hypotheses.{Hyps}
-use Rattle.prover_class.specs.Bounds.{WordBound, word_bound, folded, fit_proof, max_word, upper_bound}
+use Rattle.prover_class.specs.Bounds.{WordBound, word_bound, folded, fit_proof, max_word, upper_bound, lower_bound}
 use Rattle.bound_proofs.specs.declared.bounds.Side.{Side}
 use Rattle.bound_proofs.specs.declared.bounds.Side.TheVariants.{Upper, Lower}
 use Rattle.bound_proofs.specs.declared.parts.How.{How}
-use Rattle.bound_proofs.specs.declared.parts.How.TheVariants.{AndLeft, AndRight, Cleared, ShiftRight, ShiftLeft, Sum, Capped}
+use Rattle.bound_proofs.specs.declared.parts.How.TheVariants.{AndLeft, AndRight, Cleared, ShiftRight, ShiftLeft, Sum, Capped, Difference}
 use Rattle.bound_proofs.specs.declared.parts.Ceiling.{Ceiling}
 use Rattle.bound_proofs.specs.declared.relations.Kind.{Kind}
 use Rattle.bound_proofs.specs.declared.relations.Kind.TheVariants.{AtMost, Less, Equal}
@@ -29,6 +30,12 @@ by_word w = word_bound w (word_rule 63 (ELit w ∷ []) [])
 abbrev pub placed : Side → Exp → Form
 placed Upper e = FRel Ule (up e) (EVar 0)
 placed Lower e = FRel Ule (EVar 0) (up e)
+
+-- the word that an operator gives at two words, from the operator at them by p
+abbrev pub folded_at : Side → Exp → Op → ℕ → ℕ → Tree → WordBound
+folded_at s e o v w p =
+    word_bound (word_of o v w)
+    (move (placed s e) (EOp o (ELit v) (ELit w)) (ELit (word_of o v w)) (calc o v w) p)
 
 -- less than the word, by h
 abbrev pub by_less : Exp → ℕ → Tree → WordBound
@@ -80,6 +87,12 @@ abbrev pub by_sum : Exp → Exp → Exp → WordBound → WordBound → WordBoun
 by_sum e a b v w =
     folded e Add v.value w.value (word_rule 72 (a ∷ b ∷ ELit v.value ∷ ELit w.value ∷ []) (v.proof ∷ w.proof ∷ fit_proof v.value Add v.value w.value ∷ []))
 
+-- the difference e of a from the word w, where a is at least v, and v at least w
+abbrev pub by_difference : Exp → Exp → ℕ → WordBound → WordBound
+by_difference e a w v =
+    folded_at Lower e Sub v.value w
+    (word_rule 104 (a ∷ ELit v.value ∷ ELit w ∷ []) (v.proof ∷ fact Ule w v.value ∷ []))
+
 -- never past this word, by the rule n
 abbrev pub capped_at : ℕ → ℕ → Option Ceiling
 capped_at w n = Some (record { word = w; rule = n })
@@ -105,7 +118,7 @@ abbrev pub ceiling_bounds : Option Ceiling → Exp → Exp → List WordBound
 ceiling_bounds None a b = []
 ceiling_bounds (Some c) a b = by_ceiling c a b ∷ []
 
--- the expression e, an operator at a and b, by their upper bounds
+-- the expression e, an operator at a and b, by bounds of these from the same side
 abbrev pub by_sides : Hyps → Exp → Exp → Exp → How → WordBound
 by_sides Γ e a b AndLeft = by_left e a b (upper_bound Γ a)
 by_sides Γ e a b AndRight = by_side 54 e a b b (upper_bound Γ b)
@@ -114,6 +127,7 @@ by_sides Γ e a b (ShiftRight c) = by_right_shift e a c (upper_bound Γ a)
 by_sides Γ e a b (ShiftLeft c) = by_left_shift e a c (upper_bound Γ a)
 by_sides Γ e a b Sum = by_sum e a b (upper_bound Γ a) (upper_bound Γ b)
 by_sides Γ e a b (Capped c) = by_ceiling c a b
+by_sides Γ e a b (Difference w) = by_difference e a w (lower_bound true Γ a)
 
 -- the expression by its operator's parts
 abbrev pub by_parts : Hyps → Exp → How → WordBound

@@ -1,8 +1,9 @@
 -- Which candidate a choice names, and what it is chosen from.
 use Rattle.std.specs.Prelude.{◌≡◌, ℕ, Option, Some, None, List, [], ◌∷◌, drop}
 use Rattle.term_table.specs.Tree.{Tree}
-use Rattle.term_table.specs.Table.{TableView}
+use Rattle.term_table.specs.Table.{TableView, tree_at}
 use Rattle.word_ops.specs.declared.Op.{Op}
+use Rattle.word_ops.specs.declared.Op.TheVariants.{Sub}
 use Rattle.formula_tree.specs.Formulas.{Exp, ELit, EOp, Form}
 use Rattle.formula_terms.specs.Encoding.{exp_encoding}
 use Rattle.formula_ids.specs.Nodes.{IsApply}
@@ -14,6 +15,7 @@ use Rattle.bound_proofs.specs.declared.bounds.Side.TheVariants.{Upper, Lower}
 use Rattle.bound_proofs.specs.declared.relations.Kind.{Kind}
 use Rattle.bound_proofs.specs.declared.relations.Related.{Related}
 use Rattle.bound_proofs.specs.declared.parts.Parts.{Parts as Sides}
+use Rattle.bound_proofs.specs.declared.parts.Difference.{Difference}
 use Rattle.bound_proofs.specs.declared.choices.By.{By}
 use Rattle.bound_proofs.specs.declared.choices.By.TheVariants.{Limit, Itself, Hypothesis, Parts}
 use Rattle.bound_proofs.specs.declared.choices.Choice.{Choice}
@@ -53,8 +55,7 @@ abbrev pub chosen : Side → Hyps → Exp → By → WordBound
 chosen s Γ e Limit = limit s e
 chosen s Γ e Itself = by_itself s e
 chosen s Γ e (Hypothesis i) = by_first s e (drop i Γ)
-chosen Upper Γ e (Parts how) = by_parts Γ e how
-chosen Lower Γ e (Parts how) = limit Lower e
+chosen s Γ e (Parts how) = by_parts Γ e how
 
 -- the choice names the bound, and has its word
 pub record IsChoice (s : Side) (Γ : Hyps) (e : Exp) (w : WordBound) (c : Choice) : Type 0 where
@@ -81,3 +82,14 @@ IsToWord k e a b (Some r) = IsToWordBy k e a b r
 abbrev pub AreParts : TableView → Exp → Option Sides → Type 0
 AreParts t e None = (o : Op) (a b : Exp) → e ≡ EOp o a b → ⊥
 AreParts t e (Some p) = IsApply t e p.op p.left p.right
+
+-- a difference from the word, the id standing for what it is taken from
+pub record IsDifferenceOf (t : TableView) (e : Exp) (d : Difference) : Type 0 where
+  pub left : Exp
+  pub is : e ≡ EOp Sub left (ELit d.word)
+  pub left_is : tree_at t d.left ≡ exp_encoding left
+
+-- the difference; none where it is none, or what is taken away is no word
+abbrev pub IsDifference : TableView → Exp → Option Difference → Type 0
+IsDifference t e None = (a : Exp) (w : ℕ) → e ≡ EOp Sub a (ELit w) → ⊥
+IsDifference t e (Some d) = IsDifferenceOf t e d

@@ -1,12 +1,12 @@
--- Kept upper bounds stay right as the table grows.
+-- Kept bounds stay right as the table grows.
 use Rattle.std.proofs.Common.{◌≡◌, ℕ, Option, Some, None, IfSome, List, sym, ◌∙◌, arith}
 use Rattle.term_table.specs.Table.{TableView, IsKnown, tree_at, Extends}
 use Rattle.formula_ids.specs.Hypotheses.{AreKnownHyps}
 use Rattle.formula_ids.specs.declared.hypotheses.Hypothesis.{Hypothesis}
 use Rattle.formula_ids.proofs.HypRows.{hyps-before}
 use Rattle.formula_ids.proofs.Standing.{if_known-more}
-use Rattle.prover_class.specs.Bounds.{WordBound, upper_bound}
-use Rattle.bound_proofs.specs.KeptBounds.{IsUpper}
+use Rattle.prover_class.specs.Bounds.{WordBound}
+use Rattle.bound_proofs.specs.KeptBounds.{bound_from, IsBoundRow}
 use Rattle.bound_proofs.specs.declared.kept_bounds.Row.{Row}
 use Rattle.bound_proofs.specs.declared.kept_bounds.Subject.{Subject}
 
@@ -14,11 +14,11 @@ made-more : (t u : TableView) (w : WordBound) (o : Option ℕ) → IfSome o (IsK
 made-more t u w None k e h = tt
 made-more t u w (Some p) k e h = e.same p k ∙ h
 
-pub upper-lasts : (t u : TableView) (l : List Hypothesis) (s : Subject) (r : Row) → AreKnownHyps t l → Extends t u → IsUpper t l s r → IsUpper u l s r
-upper-lasts t u l s r k e h = record {
+pub row-lasts : (t u : TableView) (l : List Hypothesis) (s : Subject) (r : Row) → AreKnownHyps t l → Extends t u → IsBoundRow t l s r → IsBoundRow u l s r
+row-lasts t u l s r k e h = record {
   of = omega (arith, h.of, e.longer);
   known = if_known-more t u r.proof h.known e;
   is = λ Γ x g q.
       let i = h.is Γ x (hyps-before t u l Γ k e g) (sym (e.same s.exp h.of) ∙ q) in
-      record { chosen = i.chosen; made = made-more t u (upper_bound Γ x) r.proof h.known e i.made };
+      record { chosen = i.chosen; made = made-more t u (bound_from s.side Γ x) r.proof h.known e i.made };
 }

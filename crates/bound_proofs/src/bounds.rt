@@ -10,9 +10,9 @@ ghost use Rattle.lf_signature.specs.Nodes.{IsIdOf};
 ghost use Rattle.word_ops.specs.declared.Rel.TheVariants.{Ule};
 ghost use Rattle.formula_tree.specs.Formulas.{Exp, EVar, ELit, EOp, FRel};
 ghost use Rattle.formula_terms.specs.Encoding.{exp_encoding, form_encoding};
-ghost use Rattle.prover_class.specs.Bounds.{folded, fit_proof};
+ghost use Rattle.prover_class.specs.Bounds.{fit_proof};
 ghost use Rattle.bound_proofs.specs.BoundIds.{IsBoundOf};
-ghost use Rattle.bound_proofs.specs.Candidates.{placed};
+ghost use Rattle.bound_proofs.specs.Candidates.{placed, folded_at};
 
 use formula_ids::{calc, fact, moved, oper, raised, relation, swapped};
 use hereditary_subst::{Exhausted, Memo};
@@ -30,7 +30,7 @@ pub struct Bound {
 }
 
 /// From which side a word bounds an expression.
-#[derive(Clone, Copy)]
+#[derive(Clone, Copy, PartialEq, Eq, PartialOrd, Ord)]
 pub(crate) enum Side {
     /// The expression is at most the word.
     Upper,
@@ -88,11 +88,12 @@ fn word_below_place(table: &mut Table, w: u64) -> Result<Id, AllocError>
 }
 
 /// The word that an operator gives at two words as a bound, by a proof that the operator at them is
-/// one: from (ule e (o v w)) to (ule e value).
+/// one: from above, from (ule e (o v w)) to (ule e value).
 #[tactic(auto, using(hereditary_subst::proofs::Rows::rows))]
 pub(crate) fn folded(
     table: &mut Table,
     memo: &mut Memo,
+    side: Side,
     e: Id,
     op: Op,
     v: u64,
@@ -104,13 +105,13 @@ pub(crate) fn folded(
     requires memo { IsMemo table.old memo.old }
     ensures known { IfOk result (λ b. IsKnown table.new b.proof) }
     ensures is { (x : Exp) → tree_at table.old e ≡ exp_encoding x
-        → IfOk result (IsBoundOf table.new (folded x op v w (tree_at table.old proof))) }
+        → IfOk result (IsBoundOf table.new (folded_at side x op v w (tree_at table.old proof))) }
     ensures extends { Extends table.old table.new }
     ensures memo { IsMemo table.new memo.new }
     ensures left { OnOk result (left_of memo.new ≤ left_of memo.old) }
 {
     let value = apply(op, v, w);
-    let form = placed(table, memo, Side::Upper, e)?;
+    let form = placed(table, memo, side, e)?;
     let from = oper_of_words(table, op, v, w)?;
     let to = word(table, value)?;
     let equal = calc(table, op, v, w)?;

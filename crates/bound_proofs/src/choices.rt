@@ -1,21 +1,21 @@
 //! Which candidate is the best bound: no term is made, and the table stays as it is.
 
-ghost use Rattle.std.specs.Prelude.{◌≡◌, ◌<◌, ◌+◌, ◌^◌, ◌++◌, [], ◌∷◌, if◌then◌else◌, nat_lt, nat_le, suc, drop, length};
+ghost use Rattle.std.specs.Prelude.{◌≡◌, ◌<◌, ◌+◌, ◌^◌, ◌++◌, true, [], ◌∷◌, if◌then◌else◌, nat_lt, nat_le, suc, drop, length};
 ghost use Rattle.term_table.specs.Table.{IsKnown, tree_at};
-ghost use Rattle.word_ops.specs.declared.Op.TheVariants.{Srl};
+ghost use Rattle.word_ops.specs.declared.Op.TheVariants.{Sub, Srl};
 ghost use Rattle.word_ops.specs.Words.{word_of};
-ghost use Rattle.formula_tree.specs.Formulas.{Exp, EOp};
+ghost use Rattle.formula_tree.specs.Formulas.{Exp, ELit, EOp};
 ghost use Rattle.formula_terms.specs.Encoding.{exp_encoding};
 ghost use Rattle.formula_ids.specs.Hypotheses.{AreKnownHyps, AreHyps};
 ghost use Rattle.formula_ids.specs.Nodes.{IsApply};
 ghost use Rattle.prover_class.specs.Hypotheses.{Hyps};
-ghost use Rattle.prover_class.specs.Bounds.{WordBound, max_word, least_bound, op_bounds, own_bounds, upper_bound};
-ghost use Rattle.bound_proofs.specs.declared.bounds.Side.TheVariants.{Upper};
+ghost use Rattle.prover_class.specs.Bounds.{WordBound, max_word, least_bound, greatest_bound, op_bounds, part_lowers, own_bounds, upper_bound, lower_bound};
+ghost use Rattle.bound_proofs.specs.declared.bounds.Side.TheVariants.{Upper, Lower};
 ghost use Rattle.bound_proofs.specs.Candidates.{limit, ceiling_of, ceiling_bounds};
-ghost use Rattle.bound_proofs.specs.Choices.{better, best, all_say, chosen, IsChoice};
+ghost use Rattle.bound_proofs.specs.Choices.{better, best, all_say, chosen, IsChoice, IsDifferenceOf};
 
 use crate::bounds::Side;
-use crate::parts::{How, Parts, ceiling_of};
+use crate::parts::{Difference, How, Parts, ceiling_of};
 use crate::relations::{bound_word, relation_of};
 use formula_ids::{Hypothesis, literal};
 use term_table::{Id, Table};
@@ -149,14 +149,14 @@ pub(crate) fn choice_alone(table: &Table, side: Side, hyps: &[Hypothesis], e: Id
     }
 }
 
-/// This candidate for an upper bound where `fits`, unless the last is strictly better.
-fn or_last_if(fits: bool, by: By, value: u64, last: Choice) -> Choice
-    ensures { (Γ : Hyps) (x : Exp) (w : WordBound) → value ≡ (chosen Upper Γ x by).value
-        → IsChoice Upper Γ x w last → IsChoice Upper Γ x
-        (least_bound (if fits then chosen Upper Γ x by ∷ [] else []) w) result }
+/// This candidate where `fits`, unless the last is strictly better.
+fn or_last_if(side: Side, fits: bool, by: By, value: u64, last: Choice) -> Choice
+    ensures { (Γ : Hyps) (x : Exp) (w : WordBound) → value ≡ (chosen side Γ x by).value
+        → IsChoice side Γ x w last → IsChoice side Γ x
+        (best side (if fits then chosen side Γ x by ∷ [] else []) w) result }
 {
     if fits {
-        or_last(Side::Upper, by, value, last)
+        or_last(side, by, value, last)
     } else {
         last
     }
@@ -174,6 +174,13 @@ fn fits_shift(v: u64, count: u64) -> bool
     ensures { result ≡ nat_le v (word_of Srl max_word count) }
 {
     v <= apply(Op::Srl, u64::MAX, count)
+}
+
+/// Whether a difference of two words doesn't wrap.
+fn fits_difference(v: u64, w: u64) -> bool
+    ensures { result ≡ nat_le w v }
+{
+    w <= v
 }
 
 /// The word that the operator never passes, unless the last is strictly better.
@@ -216,10 +223,12 @@ fn by_parts(table: &Table, op: Op, b: Id, v: u64, w: u64) -> Choice
             None => last,
             Some(n) => {
                 let by = By::Parts(How::ShiftLeft(n));
-                or_last_if(fits_shift(v, n), by, apply(Op::Sll, v, n), last)
+                let fits = fits_shift(v, n);
+                or_last_if(Side::Upper, fits, by, apply(Op::Sll, v, n), last)
             }
         },
         Op::Add => or_last_if(
+            Side::Upper,
             fits_sum(v, w),
             By::Parts(How::Sum),
             apply(Op::Add, v, w),
@@ -250,4 +259,37 @@ pub(crate) fn choice_of_parts(
 {
     let best = by_parts(table, parts.op, parts.right, v, w);
     by_hyps(table, Side::Upper, hyps, e, best)
+}
+
+/// What a difference from the word `w` is at least, where its left side's lower bound has the word
+/// `v`; else the limit.
+fn by_difference(w: u64, v: u64) -> Choice
+    ensures { (Γ : Hyps) (x : Exp) → v ≡ (lower_bound true Γ x).value
+        → IsChoice Lower Γ (EOp Sub x (ELit w)) (greatest_bound
+        (part_lowers true Sub x (ELit w) (lower_bound true Γ x)) (limit Lower (EOp Sub x (ELit w))))
+        result }
+{
+    let last = limited(Side::Lower);
+    let fits = fits_difference(v, w);
+    let by = By::Parts(How::Difference(w));
+    or_last_if(Side::Lower, fits, by, apply(Op::Sub, v, w), last)
+}
+
+/// The greatest lower bound of a difference from a word, whose left side's has the word `v`.
+pub(crate) fn choice_of_difference(
+    table: &Table,
+    hyps: &[Hypothesis],
+    e: Id,
+    difference: &Difference,
+    v: u64,
+) -> Choice
+    requires hyps { AreKnownHyps table.now hyps.now }
+    requires e { IsKnown table.now e }
+    ensures { let d = difference.now in (Γ : Hyps) (x : Exp)
+        (p : IsDifferenceOf table.now x d) → AreHyps table.now hyps.now Γ
+        → tree_at table.now e ≡ exp_encoding x → v ≡ (lower_bound true Γ p.left).value
+        → IsChoice Lower Γ x (lower_bound true Γ x) result }
+{
+    let best = by_difference(difference.word, v);
+    by_hyps(table, Side::Lower, hyps, e, best)
 }

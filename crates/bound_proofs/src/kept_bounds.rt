@@ -1,5 +1,5 @@
-//! Upper bounds that are kept, so that an expression that stands in many places is gone through
-//! once, and the proof of its bound made once.
+//! Bounds that are kept, so that an expression that stands in many places is gone through once, and
+//! the proof of its bound made once.
 
 ghost use Rattle.std.specs.Prelude.{◌≡◌, ◌+◌, IfOk, IfSome, List, OnOk};
 ghost use Rattle.term_table.specs.Table.{TableView, IsKnown, tree_at};
@@ -10,20 +10,20 @@ ghost use Rattle.formula_terms.specs.Encoding.{exp_encoding};
 ghost use Rattle.formula_ids.specs.declared.hypotheses.Hypothesis.{Hypothesis as H};
 ghost use Rattle.formula_ids.specs.Hypotheses.{AreHyps};
 ghost use Rattle.prover_class.specs.Hypotheses.{Hyps};
-ghost use Rattle.prover_class.specs.Bounds.{upper_bound};
-ghost use Rattle.bound_proofs.specs.declared.bounds.Side.TheVariants.{Upper};
 ghost use Rattle.bound_proofs.specs.Choices.{IsChoice};
-ghost use Rattle.bound_proofs.specs.KeptBounds.{AreUppers, IsKept};
+ghost use Rattle.bound_proofs.specs.KeptBounds.{AreBounds, IsKept, bound_from};
 
+use crate::bounds::Side;
 use crate::choices::Choice;
 use formula_ids::{Hypothesis, Kept, Question, number};
 use hereditary_subst::{Exhausted, Memo};
 use std::alloc::Global;
 use term_table::{Id, Table};
 
-/// The expression that a row is of.
+/// The expression that a row is of, and from which side it is bounded.
 #[derive(Clone, Copy, PartialEq, Eq, PartialOrd, Ord)]
 struct Subject {
+    side: Side,
     exp: u64,
 }
 
@@ -36,59 +36,65 @@ struct Row {
 
 impl Question for Subject {
     ghost use Rattle.std.proofs.Common.{rules};
-    ghost use Rattle.bound_proofs.specs.KeptBounds.{IsUpper};
-    ghost use Rattle.bound_proofs.specs.Lasting.{upper-lasts};
+    ghost use Rattle.bound_proofs.specs.KeptBounds.{IsBoundRow};
+    ghost use Rattle.bound_proofs.specs.Lasting.{row-lasts};
 
     type Answer = Row;
 
-    ghost is_right = { λ l t. IsUpper t l };
+    ghost is_right = { λ l t. IsBoundRow t l };
 
     ghost same = { Prim.search rules };
 
-    ghost lasts = { λ l t u s r e k h. upper-lasts t u l s r k e h };
+    ghost lasts = { λ l t u s r e k h. row-lasts t u l s r k e h };
 }
 
-/// Upper bounds that were found, of expressions under one list of hypotheses. They count in the
-/// limit of the `Memo` that keeps the shifts.
+/// Bounds that were found, of expressions under one list of hypotheses: upper ones, and, where steps
+/// are counted, lower ones. They count in the limit of the `Memo` that keeps the shifts.
 #[derive(Drop)]
-pub struct UpperBounds {
+pub struct KeptBounds {
     rows: Kept<Subject>,
 }
 
-impl UpperBounds {
+impl KeptBounds {
     /// None yet, which takes no memory, for any hypotheses.
-    pub fn new(alloc: Global) -> UpperBounds
-        ensures { (t : TableView) (hyps : List H) → AreUppers t hyps result }
+    pub fn new(alloc: Global) -> KeptBounds
+        ensures { (t : TableView) (hyps : List H) → AreBounds t hyps result }
     {
-        UpperBounds {
+        KeptBounds {
             rows: Kept::new(alloc),
         }
     }
 
     /// The choice that is kept of the expression.
-    pub(crate) fn choice(&self, table: &Table, hyps: &[Hypothesis], e: Id) -> Option<Choice>
-        requires { AreUppers table.now hyps.now self.now }
+    pub(crate) fn choice(
+        &self,
+        table: &Table,
+        hyps: &[Hypothesis],
+        side: Side,
+        e: Id,
+    ) -> Option<Choice>
+        requires { AreBounds table.now hyps.now self.now }
         ensures { (Γ : Hyps) (x : Exp) → AreHyps table.now hyps.now Γ
             → tree_at table.now e ≡ exp_encoding x
-            → IfSome result (IsChoice Upper Γ x (upper_bound Γ x)) }
+            → IfSome result (IsChoice side Γ x (bound_from side Γ x)) }
     {
-        let subject = Subject { exp: number(e) };
-        match self.rows.get(table, hyps, &subject) {
+        let exp = number(e);
+        match self.rows.get(table, hyps, &Subject { side, exp }) {
             None => None,
             Some(row) => Some(row.choice),
         }
     }
 
     /// The proof that is kept of the expression.
-    pub(crate) fn proof(&self, table: &Table, hyps: &[Hypothesis], e: Id) -> Option<Id>
-        requires { AreUppers table.now hyps.now self.now }
+    pub(crate) fn proof(&self, table: &Table, hyps: &[Hypothesis], side: Side, e: Id) -> Option<Id>
+        requires { AreBounds table.now hyps.now self.now }
         ensures known { IfSome result (IsKnown table.now) }
         ensures is { (Γ : Hyps) (x : Exp) → AreHyps table.now hyps.now Γ
             → tree_at table.now e ≡ exp_encoding x
-            → IfSome result (λ p. tree_at table.now p ≡ (upper_bound Γ x).proof) }
+            → IfSome result (λ p. tree_at table.now p ≡ (bound_from side Γ x).proof) }
     {
-        let subject = Subject { exp: number(e) };
-        match self.rows.get(table, hyps, &subject) {
+        let exp = number(e);
+        match self.rows.get(table, hyps, &Subject { side, exp }) {
             None => None,
             Some(row) => row.proof,
         }
@@ -101,21 +107,23 @@ impl UpperBounds {
         memo: &mut Memo,
         table: &Table,
         hyps: &[Hypothesis],
+        side: Side,
         e: Id,
         choice: Choice,
         proof: Option<Id>,
     ) -> Result<(), Exhausted>
         requires memo { IsMemo table.now memo.old }
-        requires kept { AreUppers table.now hyps.now self.old }
+        requires kept { AreBounds table.now hyps.now self.old }
         requires e { IsKnown table.now e }
         requires known { IfSome proof (IsKnown table.now) }
         requires is { (Γ : Hyps) (x : Exp) → AreHyps table.now hyps.now Γ
-            → tree_at table.now e ≡ exp_encoding x → IsKept table.now Γ x choice proof }
+            → tree_at table.now e ≡ exp_encoding x → IsKept table.now side Γ x choice proof }
         ensures memo { IsMemo table.now memo.new }
         ensures left { OnOk result (left_of memo.old ≡ left_of memo.new + 1) }
-        ensures kept { IfOk result (λ _. AreUppers table.now hyps.now self.new) }
+        ensures kept { IfOk result (λ _. AreBounds table.now hyps.now self.new) }
     {
-        let subject = Subject { exp: number(e) };
+        let exp = number(e);
+        let subject = Subject { side, exp };
         let row = Row { choice, proof };
         self.rows.keep(memo, table, hyps, subject, row)
     }

@@ -10,15 +10,14 @@
 //! arithmetic).
 #![tactic(auto)]
 
+mod asked_bounds;
+mod best_bounds;
 mod bounds;
 mod choices;
 mod kept_bounds;
-mod lower_bounds;
 mod parts;
 mod relations;
-mod upper_bounds;
 
+pub use asked_bounds::{BoundWords, bound_words, lower_bound, upper_bound};
 pub use bounds::Bound;
-pub use kept_bounds::UpperBounds;
-pub use lower_bounds::{BoundWords, bound_words, lower_bound};
-pub use upper_bounds::upper_bound;
+pub use kept_bounds::KeptBounds;

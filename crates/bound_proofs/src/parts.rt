@@ -9,20 +9,20 @@ ghost use Rattle.hereditary_subst.specs.Limits.{left_of};
 ghost use Rattle.formula_tree.specs.Formulas.{Exp, ELit};
 ghost use Rattle.formula_terms.specs.Encoding.{exp_encoding};
 ghost use Rattle.bound_proofs.specs.BoundIds.{IsBoundOf, bound_by_ids};
-ghost use Rattle.bound_proofs.specs.Candidates.{limit, by_word, by_itself, by_side, by_left, by_right_shift, by_left_shift, by_sum, capped_at, ceiling_of, by_ceiling};
-ghost use Rattle.bound_proofs.specs.Choices.{AreParts};
+ghost use Rattle.bound_proofs.specs.Candidates.{limit, by_word, by_itself, by_side, by_left, by_right_shift, by_left_shift, by_sum, by_difference, capped_at, ceiling_of, by_ceiling};
+ghost use Rattle.bound_proofs.specs.Choices.{AreParts, IsDifference};
 
 use crate::bounds::{Bound, Side, fit_proof, folded, placed, word};
-use formula_ids::{ExpNode, exp_node, literal, moved, oper};
+use formula_ids::{ExpNode, exp_node, fact, literal, moved, oper, operands};
 use hereditary_subst::{Exhausted, Memo};
 use lf_rules::numbers::{
     ADD_LE, AND_COMM, AND_LE, CMP_LE1, EXTB_LE, EXTL_LE, EXTW_LE, MAX_LE, SLL_MONO, SRL_MONO,
-    ULE_REFL, ULE_TRANS, ZERO_LE,
+    SUB_LO, ULE_REFL, ULE_TRANS, ZERO_LE,
 };
 use lf_rules::rule_term;
 use std::alloc::AllocError;
 use term_table::{Id, Table};
-use word_ops::Op;
+use word_ops::{Op, Rel};
 
 /// An operator and its two sides.
 #[derive(Clone, Copy)]
@@ -40,7 +40,15 @@ pub(crate) struct Ceiling {
     pub(crate) rule: u32,
 }
 
-/// How an operator is bounded from above by upper bounds of its parts.
+/// A difference from a word.
+#[derive(Clone, Copy)]
+pub(crate) struct Difference {
+    /// What it is taken from.
+    pub(crate) left: Id,
+    pub(crate) word: u64,
+}
+
+/// How an operator is bounded by bounds of its parts: from above, but for differences.
 #[derive(Clone, Copy)]
 pub(crate) enum How {
     /// Bitwise and is at most its left side.
@@ -57,6 +65,8 @@ pub(crate) enum How {
     Sum,
     /// An operator that never passes a word.
     Capped(Ceiling),
+    /// A difference of its left side from this word, bounded from below, where it doesn't wrap.
+    Difference(u64),
 }
 
 /// The operator and the sides of the expression that `e` encodes; none where it is no operator. Of an
@@ -69,6 +79,26 @@ pub(crate) fn parts_of(table: &Table, e: Id) -> Option<Parts>
     match exp_node(table, e) {
         ExpNode::Apply(op, left, right) => Some(Parts { op, left, right }),
         _ => None,
+    }
+}
+
+/// The difference that `e` encodes, where what is taken away is a word; else none. Of an id that
+/// encodes none it says nothing, but that what it is taken from has a lower id.
+pub(crate) fn difference_of(table: &Table, e: Id) -> Option<Difference>
+    requires { IsKnown table.now e }
+    ensures is { (x : Exp) → tree_at table.now e ≡ exp_encoding x
+        → IsDifference table.now x result }
+    ensures below { IfSome result (λ d. d.left < e) }
+{
+    let Some(sides) = operands(table, Op::Sub, e) else {
+        return None;
+    };
+    match literal(table, sides.right) {
+        None => None,
+        Some(word) => {
+            let left = sides.left;
+            Some(Difference { left, word })
+        }
     }
 }
 
@@ -260,7 +290,7 @@ pub(crate) fn by_right_shift(
     let value = word(table, v.value)?;
     let by = word(table, count)?;
     let proof = rule_term(table, SRL_MONO, &[a, value, by, v.proof])?;
-    folded(table, memo, e, Op::Srl, v.value, count, proof)
+    folded(table, memo, Side::Upper, e, Op::Srl, v.value, count, proof)
 }
 
 /// A left shift by a word, where no bit is lost.
@@ -289,7 +319,7 @@ pub(crate) fn by_left_shift(
     let value = word(table, v.value)?;
     let by = word(table, count)?;
     let proof = rule_term(table, SLL_MONO, &[a, value, by, v.proof, fits])?;
-    folded(table, memo, e, Op::Sll, v.value, count, proof)
+    folded(table, memo, Side::Upper, e, Op::Sll, v.value, count, proof)
 }
 
 /// A sum, where it doesn't wrap.
@@ -322,5 +352,43 @@ pub(crate) fn by_sum(
     let left = word(table, v.value)?;
     let right = word(table, w.value)?;
     let proof = rule_term(table, ADD_LE, &[a, b, left, right, v.proof, w.proof, fits])?;
-    folded(table, memo, e, Op::Add, v.value, w.value, proof)
+    folded(
+        table,
+        memo,
+        Side::Upper,
+        e,
+        Op::Add,
+        v.value,
+        w.value,
+        proof,
+    )
+}
+
+/// A difference of `a` from the word `w`, where `a` is at least `v`, and `v` at least `w`.
+#[tactic(auto, using(hereditary_subst::proofs::Rows::rows))]
+pub(crate) fn by_difference(
+    table: &mut Table,
+    memo: &mut Memo,
+    e: Id,
+    a: Id,
+    w: u64,
+    v: Bound,
+) -> Result<Bound, Exhausted>
+    requires e { IsKnown table.old e }
+    requires a { IsKnown table.old a }
+    requires v { IsKnown table.old v.proof }
+    requires memo { IsMemo table.old memo.old }
+    ensures known { IfOk result (λ b. IsKnown table.new b.proof) }
+    ensures is { (x y : Exp) → tree_at table.old e ≡ exp_encoding x
+        → tree_at table.old a ≡ exp_encoding y → IfOk result
+        (IsBoundOf table.new (by_difference x y w (bound_by_ids table.old v))) }
+    ensures extends { Extends table.old table.new }
+    ensures memo { IsMemo table.new memo.new }
+    ensures left { OnOk result (left_of memo.new ≤ left_of memo.old) }
+{
+    let held = fact(table, Rel::Ule, w, v.value)?;
+    let value = word(table, v.value)?;
+    let taken = word(table, w)?;
+    let proof = rule_term(table, SUB_LO, &[a, value, taken, v.proof, held])?;
+    folded(table, memo, Side::Lower, e, Op::Sub, v.value, w, proof)
 }

@@ -162,7 +162,7 @@ fn by_less(
     ensures left { OnOk result (left_of memo.new ≤ left_of memo.old) }
 {
     let before = rule_term(table, LT_PRED, &[e, word, proof])?;
-    folded(table, memo, e, Op::Sub, w, 1, before)
+    folded(table, memo, Side::Upper, e, Op::Sub, w, 1, before)
 }
 
 /// What is more than a word is at least it.

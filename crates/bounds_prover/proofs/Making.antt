@@ -1,5 +1,6 @@
 -- The container that is made: what it holds, and that it is accepted.
-use Rattle.std.proofs.Common.{◌≡◌, ℕ, ◌≤◌, ◌^◌, Bool, List, [], ◌∷◌, ◌++◌, map, length, Option, Some, None, Ok, Err, refl, sym, ◌∙◌, ap, subst, arith}
+use Rattle.std.proofs.Common.{◌≡◌, ℕ, ◌<◌, ◌≤◌, ◌^◌, Bool, true, false, cond, is_some, ◌==◌, List, [], ◌∷◌, ◌++◌, map, length, Option, Some, None, Ok, Err, refl, sym, ◌∙◌, ap, subst, arith}
+use Rattle.std.proofs.lemmas.Bool.{ne_eqb}
 use Rattle.std.proofs.lemmas.List.Elements.{All-nil, All-cons, All-head, All-tail}
 use Rattle.alpha_words.specs.declared.insn.Insn.{Insn}
 use Rattle.alpha_cfg.proofs.Readings.{decoded_code-ok, AreOfProfile-EncodesCode}
@@ -10,7 +11,7 @@ use Rattle.policy_set.specs.Views.{PolicyView, IsPolicy}
 use Rattle.term_table.specs.Tree.{Tree}
 use Rattle.term_table.specs.Table.{IsSmall}
 use Rattle.term_table.specs.Measures.{height_of}
-use Rattle.lf_signature.specs.Constants.{declared}
+use Rattle.lf_signature.specs.Constants.{size_of, declared}
 use Rattle.lf_signature.specs.Terms.{pf}
 use Rattle.lf_signature.specs.Typing.{Checks}
 use Rattle.formula_terms.specs.Encoding.{form_encoding}
@@ -32,18 +33,17 @@ use Rattle.pcc_gate.specs.First.{formulas, vc_of, front_refusal}
 use Rattle.pcc_gate.specs.declared.refusal.Refusal.{Refusal}
 use Rattle.pcc_gate.proofs.First.{formulas-encoded, vc_of-encodes, condition-one}
 use Rattle.pcc_gate.proofs.FirstFront.{none-passed}
-use Rattle.pcc_gate.proofs.Safe.{formulas-over}
+use Rattle.pcc_gate.proofs.Safe.{formulas-over, bound-fits}
 use Rattle.prover_class.specs.Parts.{conjoined, condition_proof, first_not_easy}
-use Rattle.prover_class.specs.Access.{by_all_means}
 use Rattle.bounds_prover.specs.declared.fault.ProveFault.{ProveFault}
 use Rattle.bounds_prover.specs.declared.fault.ProveFault.TheVariants.{Refused, NotEasy}
 use Rattle.condition_prover.specs.Conditions.{condition_parts}
-use Rattle.condition_prover.proofs.WholeProof.{IsSoundClass, condition-parts, parts-first, parts-second, proof-checks}
+use Rattle.condition_prover.proofs.WholeProof.{IsSoundClass, condition-parts, parts-first, parts-second, parts-third, proof-checks}
 use Rattle.bounds_prover.specs.Proving.{with_proof, excess, encoded_unless, with_parts_proof, proved_contents, proved_code, proved_read, made_unless, proved_container}
 use Rattle.bounds_prover.proofs.Measures.{IsSmallEnough, small-enough}
 use Rattle.bounds_prover.proofs.SmallTerms.{checks-small, checks-entry}
 use Rattle.lf_signature.specs.declared.WordSignature.{WordSignature}
-use Rattle.lf_signature.specs.declared.WordSignature.TheVariants.{Sigma3}
+use Rattle.lf_signature.specs.declared.WordSignature.TheVariants.{Sigma1, Sigma2, Sigma3}
 use Rattle.lf_signature.specs.Known.{HasOp}
 use Rattle.formula_tree.specs.Operators.{Uses}
 use Rattle.alpha_cfg.specs.CodeBytes.{EncodesCode}
@@ -52,7 +52,8 @@ use Rattle.policy_set.proofs.Closed.{kind-first}
 use Rattle.vcgen.proofs.Encodings.{forms-wider}
 use Rattle.proof_container.specs.declared.container.Head.{Head}
 use Rattle.proof_container.specs.declared.container.Head.TheVariants.{Number, Digest}
-use Rattle.pcc_gate.specs.Versions.{head_profile, head_signature}
+use Rattle.proof_container.specs.Versions.{profile_of, signature_of, IsHead, IsBoundOf}
+use Rattle.vcgen.specs.Safety.{IsBound}
 use Rattle.pcc_gate.specs.ForPolicy.{IsFor}
 
 -- ---- contents with another proof
@@ -70,8 +71,8 @@ low_with (t ∷ ts) more p h l = All-cons IsLow t (ts ++ p ∷ []) (All-head IsL
 
 -- the same invariants, in a table that grew
 pub same_invs : (c : Contents) (l : List (ℕ × Tree)) (p : Tree) → l ≡ c.invs
-    → record { head = c.head; code = c.code; invs = l; proof = Some p } ≡ with_proof c p
-same_invs c l p e = λ i. record { head = c.head; code = c.code; invs = e i; proof = Some p }
+    → record c { invs = l; proof = Some p } ≡ with_proof c p
+same_invs c l p e = λ i. record c { invs = e i; proof = Some p }
 
 -- ---- the proof of a condition that passed
 
@@ -79,41 +80,69 @@ module _ (sound : IsSoundClass) (policy : PolicyView) (kept : IsPolicy policy) (
     (c : Contents) (code : List Insn) (marks : List Bool)
     (passes : Passes policy bytes c code marks) where
   abbrev sig : WordSignature
-  sig = head_signature c.head
+  sig = signature_of c.version
 
   abbrev Parts : List Form
-  Parts = condition_parts policy code c.invs
+  Parts = condition_parts policy c.bound code c.invs
 
-  wide : AreForms Sigma3 c.invs
-  wide = forms-wider sig c.invs passes.forms
+  wide : AreForms Sigma3 c.bound c.invs
+  wide = forms-wider sig c.bound c.invs passes.forms
+
+  fits : IsBound c.bound
+  fits = bound-fits c.version c.bound passes.container.contents.bound
+
+  -- the signature has the rule for counted steps where these are bounded
+  has-rule : (v : ℕ) (bound : Option ℕ) → IsBoundOf v bound → is_some bound ≡ true
+      → 104 < size_of (signature_of v)
+  has-rule v None h counted = let wrong : false ≡ true = counted in cc
+  has-rule v (Some n) h counted =
+      subst (λ w. 104 < size_of (signature_of w)) (sym h.0) (omega arith)
+
+  -- the later signatures have all operators
+  later-operators : (b : Bool)
+      → Uses (HasOp (declared (cond b Sigma3 Sigma2))) (conjoined Parts)
+  later-operators true =
+      parts-third sound policy c.bound code c.invs marks wide passes.code passes.annotated
+      passes.cut kept fits
+  later-operators false =
+      parts-second sound policy c.bound code c.invs marks wide passes.code passes.annotated
+      passes.cut kept fits
 
   -- a policy that a number names is built in, so its operators are the first profile's; of one that
   -- a digest names they may be any
-  operators-used : (h : Head) → AreForms (head_signature h) c.invs
-      → EncodesCode (head_profile h) c.code code → IsFor policy h
-      → Uses (HasOp (declared (head_signature h))) (conjoined Parts)
-  operators-used (Number n) forms encoded named =
-      parts-first sound policy code c.invs marks wide passes.code passes.annotated passes.cut kept
-      forms (AreOfProfile-EncodesCode One c.code code encoded)
-      (kind-first policy named.0 kept named.1)
-  operators-used (Digest d) forms encoded named =
-      parts-second sound policy code c.invs marks wide passes.code passes.annotated passes.cut kept
+  operators-used : (v : ℕ) (h : Head) → IsHead v h → AreForms (signature_of v) c.bound c.invs
+      → EncodesCode (profile_of v) c.code code → IsFor policy h
+      → Uses (HasOp (declared (signature_of v))) (conjoined Parts)
+  operators-used v (Number n) is forms encoded named =
+      subst (λ w. Uses (HasOp (declared (signature_of w))) (conjoined Parts)) (sym is.0)
+      (parts-first sound policy c.bound code c.invs marks wide passes.code passes.annotated
+      passes.cut kept fits (subst (λ w. AreForms (signature_of w) c.bound c.invs) is.0 forms)
+      (AreOfProfile-EncodesCode One c.code code
+      (subst (λ w. EncodesCode (profile_of w) c.code code) is.0 encoded))
+      (kind-first policy named.0 kept named.1))
+  operators-used v (Digest d) is forms encoded named =
+      subst (λ b. Uses (HasOp (declared (cond b Sigma1 (cond (v == 3) Sigma3 Sigma2))))
+      (conjoined Parts)) (sym (ne_eqb v 1 is.0)) (later-operators (v == 3))
 
   module _ (p : Tree)
-      (given : condition_proof by_all_means (condition_parts policy code c.invs) ≡ Some p)
+      (given : condition_proof (is_some c.bound) Parts ≡ Some p)
       (low : height_of p ≤ MAX_HEIGHT) where
     checks : Checks (declared sig) [] p
-        (pf (form_encoding (conjoined (condition_parts policy code c.invs))))
+        (pf (form_encoding (conjoined Parts)))
     checks =
-        proof-checks sound policy code c.invs marks wide passes.code passes.annotated passes.cut
-        kept sig (operators-used c.head passes.forms passes.encoded passes.named) p given low
+        proof-checks sound policy c.bound code c.invs marks wide passes.code passes.annotated
+        passes.cut kept fits sig (has-rule c.version c.bound passes.container.contents.bound)
+        (operators-used c.version c.head passes.container.contents.head passes.forms passes.encoded
+        passes.named) p given low
 
     pub made-contents : length (entries (roots (with_proof c p))) ≤ MAX_ENTRIES → IsContents (with_proof c p)
     made-contents few =
         let h = passes.container.contents in
         let small : IsSmall p = checks-small sig checks (omega (arith, low)) in
         record {
+          version = h.version;
           head = h.head;
+          bound = h.bound;
           bytes = h.bytes;
           whole = h.whole;
           some = h.some;
@@ -126,7 +155,9 @@ module _ (sound : IsSoundClass) (policy : PolicyView) (kept : IsPolicy policy) (
           rising = h.rising;
         }
 
-  made-accepts : (p : Tree) → condition_proof by_all_means (condition_parts policy code c.invs) ≡ Some p → IsSmallEnough (with_proof c p) p → Accepts policy (encoding_of (with_proof c p)) (with_proof c p) code marks
+  made-accepts : (p : Tree) → condition_proof (is_some c.bound) Parts ≡ Some p
+      → IsSmallEnough (with_proof c p) p
+      → Accepts policy (encoding_of (with_proof c p)) (with_proof c p) code marks
   made-accepts p given s =
       let proved = checks p given s.height in
       record {
@@ -143,30 +174,30 @@ module _ (sound : IsSoundClass) (policy : PolicyView) (kept : IsPolicy policy) (
           unfolded = passes.unfolded;
         };
         proof = p;
-        vc = vc_of policy code c.invs;
+        vc = vc_of policy c.bound code c.invs;
         given = refl;
         weight = s.weight;
-        condition = vc_of-encodes sig policy code c.invs passes.forms;
+        condition = vc_of-encodes sig policy c.bound code c.invs passes.forms;
         proved =
             subst (λ F. Checks (declared sig) [] p (pf (form_encoding F)))
-            (sym (condition-parts policy code c.invs)) proved;
+            (sym (condition-parts policy c.bound code c.invs)) proved;
       }
 
 -- ---- what is made of parts
 
 module _ (c : Contents) (parts : List Form) where
-  pub not_easy-made : (k : ℕ) → first_not_easy by_all_means 0 parts ≡ Some k → proved_contents c parts ≡ Err (NotEasy k)
+  pub not_easy-made : (k : ℕ) → first_not_easy (is_some c.bound) 0 parts ≡ Some k → proved_contents c parts ≡ Err (NotEasy k)
   unfolding proved_contents
-  not_easy-made k e = ap (λ o. with_parts_proof c o (condition_proof by_all_means parts)) e
+  not_easy-made k e = ap (λ o. with_parts_proof c o (condition_proof (is_some c.bound) parts)) e
 
-  pub proof-made : (p : Tree) → first_not_easy by_all_means 0 parts ≡ None → condition_proof by_all_means parts ≡ Some p → proved_contents c parts ≡ encoded_unless (excess (with_proof c p) p) (with_proof c p)
+  pub proof-made : (p : Tree) → first_not_easy (is_some c.bound) 0 parts ≡ None → condition_proof (is_some c.bound) parts ≡ Some p → proved_contents c parts ≡ encoded_unless (excess (with_proof c p) p) (with_proof c p)
   unfolding proved_contents
   proof-made p e f = λ i. with_parts_proof c (e i) (f i)
 
   -- the proof in contents that are made
   record IsMade (out : List ℕ) : Type 0 where
     proof : Tree
-    given : condition_proof by_all_means parts ≡ Some proof
+    given : condition_proof (is_some c.bound) parts ≡ Some proof
     small : excess (with_proof c proof) proof ≡ None
     out_is : out ≡ encoding_of (with_proof c proof)
 
@@ -176,9 +207,9 @@ module _ (c : Contents) (parts : List Form) where
 
   made-is : (out : List ℕ) → proved_contents c parts ≡ Ok out → IsMade out
   unfolding proved_contents
-  made-is out e = go (first_not_easy by_all_means 0 parts) (condition_proof by_all_means parts) refl e
+  made-is out e = go (first_not_easy (is_some c.bound) 0 parts) (condition_proof (is_some c.bound) parts) refl e
     where
-      go : (k : Option ℕ) (o : Option Tree) → condition_proof by_all_means parts ≡ o → with_parts_proof c k o ≡ Ok out → IsMade out
+      go : (k : Option ℕ) (o : Option Tree) → condition_proof (is_some c.bound) parts ≡ o → with_parts_proof c k o ≡ Ok out → IsMade out
       go (Some k) o q e = absurd cc
       go None None q e = absurd cc
       go None (Some p) q e =
@@ -190,12 +221,12 @@ module _ (c : Contents) (parts : List Form) where
 -- where no clause before the proof fails, it is made of their contents
 pub contents-made : (policy : PolicyView) (bytes : List ℕ) (c : Contents) (code : List Insn)
     (marks : List Bool) → Passes policy bytes c code marks → front_refusal policy bytes ≡ None →
-    proved_container policy bytes ≡ proved_contents c (condition_parts policy code c.invs)
+    proved_container policy bytes ≡ proved_contents c (condition_parts policy c.bound code c.invs)
 unfolding proved_container
 contents-made policy bytes c code marks passes none =
     (λ i. made_unless (none i) (proved_read policy (container_again bytes c passes.container i)))
     ∙ ap (proved_code policy c)
-    (sym (decoded_code-ok (head_profile c.head) c.code code passes.encoded passes.code))
+    (sym (decoded_code-ok (profile_of c.version) c.code code passes.encoded passes.code))
 
 -- else it is refused
 pub refused-made : (policy : PolicyView) (bytes : List ℕ) (r : Refusal) → front_refusal policy bytes
@@ -218,7 +249,7 @@ pub made-accepted : IsSoundClass → (policy : PolicyView) (bytes out : List ℕ
 made-accepted sound policy bytes out kept fits e =
     let none = none-refused policy bytes out e in
     let h = none-passed policy bytes fits none in
-    let parts = condition_parts policy h.code h.contents.invs in
+    let parts = condition_parts policy h.contents.bound h.code h.contents.invs in
     let m = made-is h.contents parts out (sym (contents-made policy bytes h.contents h.code h.marks h.passes none) ∙ e) in
     let c = with_proof h.contents m.proof in
     record {

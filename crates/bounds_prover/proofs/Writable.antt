@@ -17,4 +17,4 @@ all_terms (t ∷ ts) h = (h.0, all_terms ts h.2)
 pub can_write : (v : View) → AreKnown v.table.now v.invs.now v.proof → IsContents (view_contents v) → IsWritable v
 can_write v known h =
     let few : length v.invs.now ≤ 256 = omega (arith, h.invs, length-map {B = ℕ × Tree} v.invs.now (λ inv. (inv.0, tree_at v.table.now inv.1))) in
-    record { known = known; terms = all_terms (roots (view_contents v)) h.terms; whole = h.whole; some = h.some; short = h.short; entries = h.entries; invs = few; rising = h.rising }
+    record { version = h.version; head = h.head; bound = h.bound; known = known; terms = all_terms (roots (view_contents v)) h.terms; whole = h.whole; some = h.some; short = h.short; entries = h.entries; invs = few; rising = h.rising }

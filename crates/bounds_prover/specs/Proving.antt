@@ -1,5 +1,5 @@
 -- The container that `prove` makes of bytes, or why it makes none.
-use Rattle.std.specs.Prelude.{◌≡◌, ℕ, ◌^◌, ◌-◌, List, ◌∷◌, map, length, min, nat_lt, if◌then◌else◌, Option, Some, None, Result, Ok, Err, Vec}
+use Rattle.std.specs.Prelude.{◌≡◌, ℕ, ◌^◌, ◌-◌, List, ◌∷◌, map, length, min, nat_lt, if◌then◌else◌, Option, is_some, Some, None, Result, Ok, Err, Vec}
 use Rattle.std.specs.Global.{Global}
 use Rattle.alpha_words.specs.declared.insn.Insn.{Insn}
 use Rattle.alpha_cfg.specs.declared.fault.CodeFlaw.{CodeFlaw}
@@ -20,17 +20,16 @@ use Rattle.pcc_gate.specs.declared.limits.TheConstants.{MAX_WEIGHT}
 use Rattle.pcc_gate.specs.declared.refusal.Refusal.{Refusal}
 use Rattle.pcc_gate.specs.declared.refusal.Refusal.TheVariants as refusal
 use Rattle.prover_class.specs.Parts.{condition_proof, first_not_easy}
-use Rattle.prover_class.specs.Access.{by_all_means}
 use Rattle.condition_prover.specs.Conditions.{condition_parts}
 use Rattle.bounds_prover.specs.declared.fault.Measure.{Measure}
 use Rattle.bounds_prover.specs.declared.fault.Measure.TheVariants.{Weight, Height, Entries, Bytes}
 use Rattle.bounds_prover.specs.declared.fault.ProveFault.{ProveFault}
 use Rattle.bounds_prover.specs.declared.fault.ProveFault.TheVariants.{Refused, NotEasy, TooBig, Memory, Results}
-use Rattle.pcc_gate.specs.Versions.{head_profile, head_signature}
+use Rattle.proof_container.specs.Versions.{profile_of, signature_of}
 
 -- the contents with this proof in place of theirs
 abbrev pub with_proof : Contents → Tree → Contents
-with_proof c p = record { head = c.head; code = c.code; invs = c.invs; proof = Some p }
+with_proof c p = record c { proof = Some p }
 
 -- ---- limits
 
@@ -40,7 +39,7 @@ within measure limit n shown next = if nat_lt limit n then Some (TooBig measure 
 
 -- what the proof weighs in the contents, by the parameters of the version's signature
 abbrev pub proof_weight : Contents → Tree → ℕ
-proof_weight c p = weight_of (places_of (head_signature c.head)) p
+proof_weight c p = weight_of (places_of (signature_of c.version)) p
 
 -- the first measure of the proof, or of the contents that have it, that is past its limit
 unfoldable pub excess : Contents → Tree → Option ProveFault
@@ -65,17 +64,19 @@ with_parts_proof c None None = Err (NotEasy 0)
 
 -- the contents with the class's proof of these parts
 unfoldable pub proved_contents : Contents → List Form → Result (List ℕ) ProveFault
-proved_contents c parts = with_parts_proof c (first_not_easy by_all_means 0 parts) (condition_proof by_all_means parts)
+proved_contents c parts =
+    with_parts_proof c (first_not_easy (is_some c.bound) 0 parts)
+    (condition_proof (is_some c.bound) parts)
 
 -- the same, where the code bytes are code
 abbrev pub proved_code : PolicyView → Contents → Result (List Insn) CodeFlaw
     → Result (List ℕ) ProveFault
-proved_code policy c (Ok code) = proved_contents c (condition_parts policy code c.invs)
+proved_code policy c (Ok code) = proved_contents c (condition_parts policy c.bound code c.invs)
 proved_code policy c (Err flaw) = Err (Refused (refusal.BadCode flaw))
 
 -- the same, where the bytes are a container
 abbrev pub proved_read : PolicyView → Result Contents Fault → Result (List ℕ) ProveFault
-proved_read policy (Ok c) = proved_code policy c (decoded_code (head_profile c.head) c.code)
+proved_read policy (Ok c) = proved_code policy c (decoded_code (profile_of c.version) c.code)
 proved_read policy (Err fault) = Err (Refused (refusal.Malformed fault.0 fault.1))
 
 -- what is made, unless there is a refusal

@@ -10,7 +10,7 @@ ghost use Rattle.proof_container.specs.Encoding.{IsContents};
 ghost use Rattle.proof_container.specs.Views.{AreKnown, view_contents, contents_of};
 ghost use Rattle.proof_container.specs.declared.limits.TheConstants.{MAX_ENTRIES};
 ghost use Rattle.vcgen.specs.declared.condition.TheConstants.{MAX_HEIGHT};
-ghost use Rattle.pcc_gate.specs.Versions.{head_signature};
+ghost use Rattle.proof_container.specs.Versions.{signature_of};
 ghost use Rattle.pcc_gate.specs.Passing.{Passes};
 ghost use Rattle.pcc_gate.specs.Accepted.{IsAccepted};
 ghost use Rattle.pcc_gate.specs.Answers.{IsHeld};
@@ -34,7 +34,7 @@ use vcgen::MAX_HEIGHT;
 fn excess(alloc: Global, view: &View<'_>, proof: Id) -> Result<Option<ProveFault>, AllocError>
     requires roots { AreKnown view.now.table.now view.now.invs.now view.now.proof }
     requires proof { IsKnown view.now.table.now proof }
-    requires places { view.now.table.now.places ≡ places_of (head_signature view.now.head) }
+    requires places { view.now.table.now.places ≡ places_of (signature_of view.now.version) }
     ensures { let p = tree_at view.now.table.now proof in
         IfOk result (λ o. o ≡ excess (view_contents view.now) p) }
 {
@@ -60,7 +60,7 @@ fn excess(alloc: Global, view: &View<'_>, proof: Id) -> Result<Option<ProveFault
 fn written(alloc: Global, view: &View<'_>, proof: Id) -> Result<Vec<u8>, ProveFault>
     requires roots { AreKnown view.now.table.now view.now.invs.now view.now.proof }
     requires proof { IsKnown view.now.table.now proof }
-    requires places { view.now.table.now.places ≡ places_of (head_signature view.now.head) }
+    requires places { view.now.table.now.places ≡ places_of (signature_of view.now.version) }
     requires contents { height_of (tree_at view.now.table.now proof) ≤ MAX_HEIGHT
         → length (entries (roots (view_contents view.now))) ≤ MAX_ENTRIES
         → IsContents (view_contents view.now) }
@@ -88,7 +88,7 @@ fn proved(
         Passes policy.now bytes.now contents passed.cut.code passed.cut.marks }
     requires held { IsHeld passed.container }
     ensures { let c = contents_of passed.entry.container in
-        let parts = condition_parts policy.now passed.entry.cut.code c.invs in
+        let parts = condition_parts policy.now c.bound passed.entry.cut.code c.invs in
         IsMadeAnswer (proved_contents c parts) result }
 {
     let _ = bytes; // only the clauses speak of it
@@ -96,11 +96,13 @@ fn proved(
     policy.laws(); // tells the prover what the formulas name
     let container = passed.container;
     let cut = passed.cut;
+    let version = container.version;
     let head = container.head;
+    let bound = container.bound;
     let code = container.code;
     let mut table = container.table;
     let invs = container.invs;
-    let found = match prove_condition(&mut table, policy, &cut, &invs) {
+    let found = match prove_condition(&mut table, policy, &cut, &invs, bound) {
         Ok(found) => found,
         Err(Exhausted::Memory) => return Err(ProveFault::Memory),
         Err(Exhausted::Results) => return Err(ProveFault::Results),
@@ -109,7 +111,9 @@ fn proved(
         ConditionProof::NotEasy(part) => Err(ProveFault::NotEasy(part)),
         ConditionProof::Proved(proof) => {
             let view = View {
+                version,
                 head,
+                bound,
                 code,
                 table: &table,
                 invs: &invs,
@@ -134,7 +138,7 @@ fn made(alloc: Global, policy: &Policy, bytes: &[u8]) -> Result<Vec<u8>, ProveFa
 
 /// Encodes the container in `bytes` with a proof of its verification condition under `policy` in
 /// place of its own proof, where the class of easy conditions gives one (`prover_class`), in the
-/// version that it has. What is answered is accepted by the gate.
+/// version and with the bound that it has. What is answered is accepted by the gate.
 ///
 /// Errors, in their order: `Refused` names the first clause before the proof that fails
 /// (`pcc_gate::front`); `NotEasy` the first part of the condition that has no proof in the class: 0 is

@@ -1,5 +1,5 @@
 -- From the code to the container.
-use Rattle.std.proofs.Common.{◌≡◌, ℕ, List, [], ◌∷◌, Some, None, Ok, Err, Result, sym, ap, ◌∙◌, subst, arith}
+use Rattle.std.proofs.Common.{◌≡◌, ℕ, List, [], ◌∷◌, Some, None, Ok, Err, Result, sym, ap, ◌∙◌, subst, arith, false}
 use Rattle.std.specs.Prelude.{IfSome, Vec}
 use Rattle.std.specs.Global.{Global}
 use Rattle.std.proofs.lemmas.List.{length-map}
@@ -17,7 +17,6 @@ use Rattle.proof_container.specs.Contents.{roots}
 use Rattle.proof_container.specs.Encoding.{AreTerms, IsContents, encoding_of}
 use Rattle.proof_container.specs.Views.{AllTerms, IsWritable, view_contents}
 use Rattle.proof_container.specs.declared.container.View.{View}
-use Rattle.prover_class.specs.Access.{by_all_means}
 use Rattle.prover_class.specs.Parts.{condition_proof}
 use Rattle.pcc_asm.specs.Words.{code_bytes}
 use Rattle.bounds_prover.specs.declared.fault.ProveFault.{ProveFault}
@@ -44,10 +43,18 @@ terms-all (t ∷ ts) h = (h.0, terms-all ts h.2)
 pub contents-are : (program : List Bpf) (policy : ℕ) (shown : List ℕ) (t : TableView)
     (ids : List (ℕ × ℕ)) → policy ≡ policy_number (built_in Filter)
     → shown ≡ code_bytes (bpf_code program) → AreInvIds t program ids
-    → record { head = Number policy; code = shown; invs = id_trees t ids; proof = None }
-    ≡ bare_contents program
+    → record {
+      version = 1;
+      head = Number policy;
+      bound = None;
+      code = shown;
+      invs = id_trees t ids;
+      proof = None;
+    } ≡ bare_contents program
 contents-are program policy shown t ids number same are = let trees = are.trees in λ j. record {
+  version = 1;
   head = Number (number j);
+  bound = None;
   code = same j;
   invs = trees j;
   proof = None;
@@ -61,6 +68,9 @@ view-writable program v contents shown none ids =
     let few = is.invs in
     let n = length-map {B = ℕ × Tree} v.invs.now (λ (p : ℕ × ℕ). (p.0, tree_at v.table.now p.1)) in
     record {
+      version = is.version;
+      head = is.head;
+      bound = is.bound;
       known = (ids.known, subst (λ o. IfSome o (IsKnown v.table.now)) (sym none) tt);
       terms = terms-all (roots (view_contents v)) is.terms;
       whole = is.whole;
@@ -75,7 +85,7 @@ view-writable program v contents shown none ids =
 
 -- what `prove` makes of containers of programs, by the laws
 abbrev pub Makes : List Bpf → Type 0
-Makes program = (code : List ℕ) (proof : Tree) → AreCodeBytes program code → condition_proof by_all_means (bpf_parts program) ≡ Some proof
+Makes program = (code : List ℕ) (proof : Tree) → AreCodeBytes program code → condition_proof false (bpf_parts program) ≡ Some proof
     → proved_container (built_in Filter) (encoding_of (bpf_contents program code))
     ≡ Ok (encoding_of (with_proof (bpf_contents program code) proof))
 

@@ -1,11 +1,10 @@
 -- What a program is compiled to.
-use Rattle.std.specs.Prelude.{◌≡◌, ℕ, List, Some, Result}
+use Rattle.std.specs.Prelude.{◌≡◌, ℕ, List, Some, None, Result, false}
 use Rattle.policy_set.specs.declared.kind.PolicyKind.TheVariants.{Filter}
 use Rattle.policy_set.specs.Views.{built_in}
 use Rattle.term_table.specs.Tree.{Tree}
 use Rattle.proof_container.specs.Contents.{Contents}
 use Rattle.proof_container.specs.Encoding.{encoding_of}
-use Rattle.prover_class.specs.Access.{by_all_means}
 use Rattle.prover_class.specs.Parts.{condition_proof}
 use Rattle.pcc_asm.specs.Assembling.{plain_contents}
 use Rattle.bounds_prover.specs.declared.fault.ProveFault.{ProveFault}
@@ -18,7 +17,7 @@ use Rattle.bpf_vc.specs.Condition.{bpf_parts}
 -- what the program's container holds before it has a proof: the words that the assembler writes for its code, and its invariants
 abbrev pub bare_contents : List Bpf → Contents
 bare_contents program =
-    plain_contents 1 (built_in Filter) (bpf_invariants program) (bpf_code program)
+    plain_contents 1 None (built_in Filter) (bpf_invariants program) (bpf_code program)
 
 -- the program's container: what `prove` makes of the one without a proof
 unfoldable pub compiled_container : List Bpf → Result (List ℕ) ProveFault
@@ -28,5 +27,5 @@ compiled_container program =
 -- The bytes are the program's container with the class's proof of its condition.
 pub record IsCompilation (program : List Bpf) (bytes : List ℕ) : Type 0 where
   pub proof : Tree
-  pub given : condition_proof by_all_means (bpf_parts program) ≡ Some proof
+  pub given : condition_proof false (bpf_parts program) ≡ Some proof
   pub encoded : bytes ≡ encoding_of (with_proof (bare_contents program) proof)

@@ -33,7 +33,9 @@ fn bare(alloc: Global, policy: &Policy, program: &[Bpf]) -> Result<Vec<u8>, Allo
     let mut table = Table::new(alloc, Places::sigma1());
     let invs = encode_invs(alloc, &mut table, policy, program)?;
     let view = View {
+        version: 1,
         head: Head::Number(policy.number()),
+        bound: None,
         code: &code,
         table: &table,
         invs: &invs,

@@ -1,5 +1,5 @@
 -- What is made of a program's container is accepted, and gives the program's values.
-use Rattle.std.proofs.Common.{◌≡◌, ℕ, suc, ◌≤◌, ◌^◌, zero, Bool, List, [], ◌∷◌, Some, Ok, refl, sym, ap, ◌∙◌, subst, arith}
+use Rattle.std.proofs.Common.{◌≡◌, ℕ, suc, ◌≤◌, ◌^◌, zero, Bool, false, List, [], ◌∷◌, Some, None, Ok, refl, sym, ap, ◌∙◌, subst, arith}
 use Rattle.std.specs.Prelude.{All}
 use Rattle.alpha_words.specs.declared.insn.Insn.{Insn}
 use Rattle.formula_tree.specs.Formulas.{Form}
@@ -21,7 +21,6 @@ use Rattle.vcgen.specs.Encoded.{annotated, AreEncodings}
 use Rattle.vcgen.specs.declared.condition.TheConstants.{MAX_HEIGHT}
 use Rattle.vcgen.proofs.Scopes.{condition-closed}
 use Rattle.prover_class.specs.Parts.{conjoined, condition_proof}
-use Rattle.prover_class.specs.Access.{by_all_means}
 use Rattle.pcc_gate.specs.Accepted.{Accepts, IsAccepted}
 use Rattle.pcc_gate.specs.First.{formulas, vc_of}
 use Rattle.pcc_gate.specs.Passing.{AreLow, Passes}
@@ -43,7 +42,7 @@ use Rattle.bpf_vc.proofs.Whole.{program-annotated, program-condition, program-pr
 use Rattle.bpf_container.specs.Contents.{AreCodeBytes, invariant_terms, bpf_contents}
 use Rattle.bpf_container.specs.Compiled.{GivesValues, IsCompiled}
 use Rattle.condition_prover.proofs.Heights.{form-low}
-use Rattle.condition_prover.proofs.WholeProof.{IsSoundClass}
+use Rattle.condition_prover.proofs.WholeProof.{IsSoundClass, uncounted}
 use Rattle.bounds_prover.proofs.SmallTerms.{checks-small, checks-entry}
 use Rattle.bpf_container.proofs.Known.{AreInvariants, inv_encodings, all-invariants, are-forms, formulas-again}
 use Rattle.bpf_container.proofs.Passing.{IsFit, contents-pass}
@@ -61,7 +60,7 @@ use Rattle.word_ops.specs.declared.Profile.TheVariants.{One}
 
 -- ---- the condition
 
-encode-invariants : (invs : List (ℕ × Form)) → AreInvariants invs → AreEncodings (inv_encodings invs) invs
+encode-invariants : (invs : List (ℕ × Form)) → AreInvariants invs → AreEncodings None (inv_encodings invs) invs
 encode-invariants [] h = tt
 encode-invariants (q ∷ invs) h = (refl, h.0.over, encode-invariants invs h.1)
 
@@ -73,19 +72,19 @@ invariants-first (q ∷ invs) h =
 
 invariants-over : (program : List Bpf) → All (λ (q : ℕ × Form). IsOver 31 q.1 []) (bpf_invariants program)
 invariants-over program =
-    formulas-over (inv_encodings (bpf_invariants program)) (bpf_invariants program) (encode-invariants (bpf_invariants program) (all-invariants program))
+    formulas-over None (inv_encodings (bpf_invariants program)) (bpf_invariants program) (encode-invariants (bpf_invariants program) (all-invariants program))
 
 parts-closed : (program : List Bpf) → IsProgram program → IsOver 0 (conjoined (bpf_parts program)) []
 parts-closed program is = subst (λ F. IsOver 0 F []) (sym (program-condition program))
-    (condition-closed (annotated_bpf program) (program-annotated program is) refl (invariants-over program))
+    (condition-closed (annotated_bpf program) (program-annotated program is) (invariants-over program))
 
 parts-used : (program : List Bpf) → IsProgram program
     → Uses (HasOp (declared Sigma1)) (conjoined (bpf_parts program))
 parts-used program is =
     uses-more IsFirstOp (HasOp (declared Sigma1)) first-declared (conjoined (bpf_parts program))
     (subst (λ F. Uses IsFirstOp F) (sym (program-condition program))
-    (condition-uses IsFirstOp refl refl (annotated_bpf program)
-    (first-operators (bpf_code program) (code-first program is)) refl (pre-first Filter)
+    (condition-uses IsFirstOp refl refl refl (annotated_bpf program)
+    (first-operators (bpf_code program) (code-first program is)) (pre-first Filter)
     (post-first Filter) (invariants-first (bpf_invariants program) (all-invariants program))))
 
 parts-low : (program : List Bpf) → IsProgram program → form_height (conjoined (bpf_parts program)) ≤ 2 ^ 29
@@ -103,11 +102,11 @@ one-low p low zero d lt = low
 one-low p low (suc k) d lt = absurd (omega (arith, lt))
 
 module _ (sound : IsSoundClass) (program : List Bpf) (code : List ℕ) (is : IsProgram program) (holds : AreCodeBytes program code)
-    (p : Tree) (given : condition_proof by_all_means (bpf_parts program) ≡ Some p) where
+    (p : Tree) (given : condition_proof false (bpf_parts program) ≡ Some p) where
   proof-checks : Checks (declared Sigma1) [] p (pf (form_encoding (conjoined (bpf_parts program))))
   proof-checks =
-      sound Sigma1 (bpf_parts program) p (parts-closed program is) (parts-used program is)
-      (parts-low program is) given
+      sound Sigma1 false (bpf_parts program) p (uncounted None refl Sigma1)
+      (parts-closed program is) (parts-used program is) (parts-low program is) given
 
   proof-fits : IsFit program code (Some p)
   proof-fits =
@@ -134,9 +133,9 @@ module _ (sound : IsSoundClass) (program : List Bpf) (code : List ℕ) (is : IsP
 
   parts-are-condition : conjoined (bpf_parts program)
       ≡ condition
-      (annotated (built_in Filter) (bpf_code program) (formulas (invariant_terms program)))
+      (annotated (built_in Filter) None (bpf_code program) (formulas (invariant_terms program)))
   parts-are-condition = program-condition program
-      ∙ ap (λ invs. condition (annotated (built_in Filter) (bpf_code program) invs))
+      ∙ ap (λ invs. condition (annotated (built_in Filter) None (bpf_code program) invs))
       (sym (formulas-again (bpf_invariants program) (all-invariants program)))
 
   made-accepts : Accepts (built_in Filter) made (with_proof (bpf_contents program code) p)
@@ -146,11 +145,11 @@ module _ (sound : IsSoundClass) (program : List Bpf) (code : List ℕ) (is : IsP
       record {
         passes = made-passes;
         proof = p;
-        vc = vc_of (built_in Filter) (bpf_code program) (invariant_terms program);
+        vc = vc_of (built_in Filter) None (bpf_code program) (invariant_terms program);
         given = refl;
         weight = easy.light;
         condition =
-            vc_of-encodes Sigma1 (built_in Filter) (bpf_code program) (invariant_terms program)
+            vc_of-encodes Sigma1 (built_in Filter) None (bpf_code program) (invariant_terms program)
             (are-forms (bpf_invariants program) (all-invariants program));
         proved = subst (λ F. Checks (declared Sigma1) [] p (pf (form_encoding F))) parts-are-condition proof-checks;
       }
@@ -192,7 +191,7 @@ container-compiles sound program code is holds =
 pub plain-compiles : IsSoundClass → (program : List Bpf) → IsProgram program
     → (out : List ℕ)
     × (proved_container (built_in Filter)
-    (encoding_of (plain_contents 1 (built_in Filter) (bpf_invariants program) (bpf_code program)))
+    (encoding_of (plain_contents 1 None (built_in Filter) (bpf_invariants program) (bpf_code program)))
     ≡ Ok out)
     × IsCompiled program out
 plain-compiles sound program is =

@@ -156,7 +156,7 @@ all-invariants program = of-all IsInvariant packet-is last-is program
 abbrev pub inv_encodings : List (ℕ × Form) → List (ℕ × Tree)
 inv_encodings invs = map (λ p. (p.0, term_of p.1)) invs
 
-pub are-forms : (invs : List (ℕ × Form)) → AreInvariants invs → AreForms Sigma1 (inv_encodings invs)
+pub are-forms : (invs : List (ℕ × Form)) → AreInvariants invs → AreForms Sigma1 None (inv_encodings invs)
 are-forms [] h = tt
 are-forms (q ∷ invs) h = (h.0.checks, are-forms invs h.1)
 

@@ -1,5 +1,5 @@
 -- What `prove` makes of a program's container.
-use Rattle.std.proofs.Common.{◌≡◌, ℕ, ◌≤◌, ◌^◌, ◌-◌, min, cond, le-ltb, List, ◌∷◌, length, map, Option, Some, None, Ok, sym, ap, ◌∙◌, subst, arith}
+use Rattle.std.proofs.Common.{◌≡◌, ℕ, ◌≤◌, ◌^◌, ◌-◌, min, cond, le-ltb, List, ◌∷◌, length, map, Option, Some, None, Ok, sym, ap, ◌∙◌, subst, arith, false}
 use Rattle.std.proofs.lemmas.Option.{same_Some}
 use Rattle.alpha_cfg.proofs.Readings.{decoded_code-ok}
 use Rattle.policy_set.specs.declared.kind.PolicyKind.TheVariants.{Filter}
@@ -15,7 +15,6 @@ use Rattle.vcgen.specs.Conditions.{entry_part, inv_part}
 use Rattle.vcgen.specs.Encoded.{annotated}
 use Rattle.vcgen.specs.declared.condition.TheConstants.{MAX_HEIGHT}
 use Rattle.prover_class.specs.Parts.{condition_proof}
-use Rattle.prover_class.specs.Access.{by_all_means}
 use Rattle.pcc_gate.specs.First.{front_refusal}
 use Rattle.pcc_gate.specs.Passing.{Passes}
 use Rattle.pcc_gate.specs.declared.limits.TheConstants.{MAX_WEIGHT}
@@ -62,7 +61,7 @@ pub record IsClassProof (program : List Bpf) (p : Tree) : Type 0 where
   pub light : weight_of sigma1_places p ≤ MAX_WEIGHT
   pub low : height_of p ≤ MAX_HEIGHT
 
-pub class-proof : (program : List Bpf) (p : Tree) → IsProgram program → condition_proof by_all_means (bpf_parts program) ≡ Some p → IsClassProof program p
+pub class-proof : (program : List Bpf) (p : Tree) → IsProgram program → condition_proof false (bpf_parts program) ≡ Some p → IsClassProof program p
 class-proof program p is given =
     let easy : HasClassProof program = program-proved program is in
     let same : easy.proof ≡ p = same_Some easy.proof p (sym easy.given ∙ given) in
@@ -74,13 +73,13 @@ class-proof program p is given =
 -- ---- what is made
 
 module _ (program : List Bpf) (code : List ℕ) (is : IsProgram program) (holds : AreCodeBytes program code) where
-  parts-are : condition_parts (built_in Filter) (bpf_code program) (invariant_terms program)
+  parts-are : condition_parts (built_in Filter) None (bpf_code program) (invariant_terms program)
       ≡ bpf_parts program
   unfolding condition_parts
   parts-are =
       ap
-      (λ invs. entry_part (annotated (built_in Filter) (bpf_code program) invs) ∷ map
-      (inv_part (annotated (built_in Filter) (bpf_code program) invs)) invs)
+      (λ invs. entry_part (annotated (built_in Filter) None (bpf_code program) invs) ∷ map
+      (inv_part (annotated (built_in Filter) None (bpf_code program) invs)) invs)
       (formulas-again (bpf_invariants program) (all-invariants program))
 
   -- no clause before the proof fails, so it is made of the contents
@@ -106,7 +105,7 @@ module _ (program : List Bpf) (code : List ℕ) (is : IsProgram program) (holds 
       (sym (decoded_code-ok One code (bpf_code program) holds.encode (code-is program is)))
       ∙ ap (proved_contents c) parts-are
 
-  module _ (p : Tree) (given : condition_proof by_all_means (bpf_parts program) ≡ Some p) where
+  module _ (p : Tree) (given : condition_proof false (bpf_parts program) ≡ Some p) where
     pub entries-few : length (entries (roots (with_proof (bpf_contents program code) p))) ≤ 150000
     entries-few =
         let few = proof-few program p held_terms (terms_of (bpf_invariants program)) is given held-parts (terms-listed program) in

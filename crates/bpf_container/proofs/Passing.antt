@@ -62,15 +62,17 @@ invs-long program is =
 -- a program's container with a proof or without one
 abbrev pub contents_with : List Bpf → List ℕ → Option Tree → Contents
 contents_with program code proof = record {
+  version = 1;
   head = Number (policy_number (built_in Filter));
+  bound = None;
   code = code;
   invs = inv_encodings (bpf_invariants program);
   proof = proof;
 }
 
 -- its number is small
-pub head-is : IsHead (Number (policy_number (built_in Filter)))
-head-is = omega arith
+pub head-is : IsHead 1 (Number (policy_number (built_in Filter)))
+head-is = (refl, omega arith)
 
 -- what is asked of the proof, if there is one
 pub record IsFit (program : List Bpf) (code : List ℕ) (proof : Option Tree) : Type 0 where
@@ -90,7 +92,9 @@ module _ (program : List Bpf) (code : List ℕ) (is : IsProgram program) (holds 
       let entries = fit.few in
       let words : 20 * length program ≡ length code / 4 = omega (arith, size, long) in
       record {
+        version = (omega arith, omega arith);
         head = head-is;
+        bound = λ is. omega (arith, is);
         bytes = holds.bytes;
         whole = omega (arith, size);
         some = omega (arith, size, long, some);

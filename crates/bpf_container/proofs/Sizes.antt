@@ -1,5 +1,5 @@
 -- How many entries a program's container has, and how many bytes.
-use Rattle.std.proofs.Common.{◌≡◌, ℕ, ◌+◌, ◌*◌, ◌≤◌, true, List, [], ◌∷◌, ◌++◌, length, length-append, refl, arith}
+use Rattle.std.proofs.Common.{◌≡◌, ℕ, ◌+◌, ◌*◌, ◌≤◌, true, List, [], ◌∷◌, ◌++◌, length, Option, Some, None, length-append, refl, arith}
 use Rattle.std.specs.Prelude.{nat_le, sum_by}
 use Rattle.std.specs.List.{AllByRecursion}
 use Rattle.std.proofs.lemmas.Bool.{leb-true}
@@ -10,7 +10,7 @@ use Rattle.term_table.specs.Tree.{Tree, Var, Con, App, Lam, Fam, TApp, Pi, Num, 
 use Rattle.lf_encode.specs.Contexts.{machine_context, machine_names}
 use Rattle.proof_container.specs.Contents.{Contents, roots}
 use Rattle.proof_container.specs.Decoding.{entry_size}
-use Rattle.proof_container.specs.Encoding.{policy_bytes, encoding_of}
+use Rattle.proof_container.specs.Encoding.{policy_bytes, bound_fields, encoding_of}
 use Rattle.proof_container.specs.Postorder.{is_emitted, entries, AreEmitted}
 use Rattle.proof_container.specs.declared.limits.TheConstants.{MAX_BYTES}
 use Rattle.proof_container.proofs.Walks.{listed-left, listed-right}
@@ -87,17 +87,23 @@ all-fields-few : (ts : List Tree) → sum_by entry_size ts ≤ 6 * length ts
 all-fields-few [] = omega arith
 all-fields-few (t ∷ ts) = omega (arith, sum_by-cons entry_size t ts, fields-few t, all-fields-few ts)
 
-head-few : (h : Head) → IsHead h → length (policy_bytes h) ≤ 32
-head-few (Number n) k = omega (arith, length-field_bytes (n ∷ []))
-head-few (Digest d) k = omega (arith, k.0)
+head-few : (v : ℕ) (h : Head) → IsHead v h → length (policy_bytes h) ≤ 32
+head-few v (Number n) k = omega (arith, length-field_bytes (n ∷ []))
+head-few v (Digest d) k = omega (arith, k.1)
 
-pub bytes-few : (c : Contents) → IsHead c.head → length (entries (roots c)) ≤ 150000
+-- a bound has one field
+bound-few : (bound : Option ℕ) → length (bound_fields bound) ≤ 1
+bound-few None = omega arith
+bound-few (Some n) = omega arith
+
+pub bytes-few : (c : Contents) → IsHead c.version c.head → length (entries (roots c)) ≤ 150000
     → length c.invs ≤ 100 → length c.code ≤ 4096 → length (encoding_of c) ≤ MAX_BYTES
 bytes-few c head few invs code =
     omega (
       arith,
       length-encoding_of c,
-      head-few c.head head,
+      head-few c.version c.head head,
+      bound-few c.bound,
       all-fields-few (entries (roots c)),
       few,
       invs,

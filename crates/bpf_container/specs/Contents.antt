@@ -23,10 +23,12 @@ pub record AreCodeBytes (program : List Bpf) (code : List ℕ) : Type 0 where
 abbrev pub invariant_terms : List Bpf → List (ℕ × Tree)
 invariant_terms program = map (λ p. (p.0, encoding_in machine_context p.1)) (bpf_invariants program)
 
--- the contents for `filter`: these bytes of code, the terms of its invariants, and no proof
+-- the contents of version 1 for `filter`: these bytes of code, the terms of its invariants, and no proof
 abbrev pub bpf_contents : List Bpf → List ℕ → Contents
 bpf_contents program code = record {
+  version = 1;
   head = Number (policy_number (built_in Filter));
+  bound = None;
   code = code;
   invs = invariant_terms program;
   proof = None;

@@ -1,12 +1,11 @@
 //! What holds of the definitions, with nothing to run.
 
-ghost use Rattle.std.specs.Prelude.{◌≡◌, ℕ, List, Ok, Some};
+ghost use Rattle.std.specs.Prelude.{◌≡◌, ℕ, List, Ok, Some, false};
 ghost use Rattle.policy_set.specs.declared.kind.PolicyKind.TheVariants.{Filter};
 ghost use Rattle.policy_set.specs.Views.{built_in};
 ghost use Rattle.term_table.specs.Tree.{Tree};
 ghost use Rattle.proof_container.specs.Encoding.{IsContents, encoding_of};
 ghost use Rattle.pcc_gate.specs.Passing.{Passes};
-ghost use Rattle.prover_class.specs.Access.{by_all_means};
 ghost use Rattle.prover_class.specs.Parts.{condition_proof};
 ghost use Rattle.bounds_prover.specs.Proving.{proved_container, with_proof};
 ghost use Rattle.pcc_asm.specs.Assembling.{plain_contents};
@@ -36,12 +35,12 @@ pub fn laws()
         (bpf_code program) (bpf_flags program) }
     ensures made { (program : List Bpf) (code : List ℕ) (proof : Tree) → IsProgram program
         → AreCodeBytes program code
-        → condition_proof by_all_means (bpf_parts program) ≡ Some proof
+        → condition_proof false (bpf_parts program) ≡ Some proof
         → proved_container (built_in Filter) (encoding_of (bpf_contents program code))
         ≡ Ok (encoding_of (with_proof (bpf_contents program code) proof)) }
     ensures accepted { (program : List Bpf) (code : List ℕ) (proof : Tree) → IsProgram program
         → AreCodeBytes program code
-        → condition_proof by_all_means (bpf_parts program) ≡ Some proof
+        → condition_proof false (bpf_parts program) ≡ Some proof
         → IsCompiled program (encoding_of (with_proof (bpf_contents program code) proof)) }
     ensures compiles { (program : List Bpf) (code : List ℕ) → IsProgram program
         → AreCodeBytes program code
@@ -50,7 +49,7 @@ pub fn laws()
         × IsCompiled program out }
     ensures plain { (program : List Bpf) → IsProgram program
         → (out : List ℕ) × (proved_container (built_in Filter) (encoding_of
-        (plain_contents 1 (built_in Filter) (bpf_invariants program) (bpf_code program))) ≡ Ok out)
+        (plain_contents 1 None (built_in Filter) (bpf_invariants program) (bpf_code program))) ≡ Ok out)
         × IsCompiled program out }
 {
     class_laws();

@@ -1,12 +1,11 @@
 -- The class's proof of a program's condition has few entries.
-use Rattle.std.proofs.Common.{◌≡◌, ◌+◌, ◌≤◌, true, List, [], ◌∷◌, ◌++◌, length, length-append, Some, sym, ◌∙◌, subst, arith}
+use Rattle.std.proofs.Common.{◌≡◌, ◌+◌, ◌≤◌, true, false, List, [], ◌∷◌, ◌++◌, length, length-append, Some, sym, ◌∙◌, subst, arith}
 use Rattle.std.specs.List.{AllByRecursion}
 use Rattle.std.proofs.lemmas.Option.{same_Some}
 use Rattle.term_table.specs.Tree.{Tree}
 use Rattle.proof_container.specs.Postorder.{is_emitted, entries, AreEmitted}
 use Rattle.proof_container.proofs.Walks.{listed-left, listed-right}
 use Rattle.prover_class.specs.Parts.{condition_proof}
-use Rattle.prover_class.specs.Access.{by_all_means}
 use Rattle.bpf_words.specs.declared.insn.Bpf.{Bpf}
 use Rattle.bpf_words.specs.Programs.{IsProgram}
 use Rattle.bpf_code.specs.Blocks.{bpf_code}
@@ -35,7 +34,7 @@ emitted-last held [] t h e = (e, tt)
 emitted-last held (r ∷ roots) t h e = (h.0, emitted-last held roots t h.1 e)
 
 pub proof-few : (program : List Bpf) (proof : Tree) (others roots : List Tree) → IsProgram program
-    → condition_proof by_all_means (bpf_parts program) ≡ Some proof → HoldsParts others → AreEmitted others roots
+    → condition_proof false (bpf_parts program) ≡ Some proof → HoldsParts others → AreEmitted others roots
     → length (entries (roots ++ proof ∷ [])) ≤ MOST_ENTRIES + length others
 proof-few program proof others roots is given parts emitted =
     let all : IsSpine (bpf_parts program) = spine (bpf_parts program) (known-parts program is) in

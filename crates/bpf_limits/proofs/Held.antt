@@ -1,5 +1,5 @@
 -- All that stands in formulas and in the class's proofs of them.
-use Rattle.std.proofs.Common.{◌≡◌, ℕ, zero, suc, ◌+◌, ◌<◌, ◌≤◌, true, List, [], ◌∷◌, ◌++◌, length, length-append, slice_index_or, Option, Some, None, refl, ap, subst, arith}
+use Rattle.std.proofs.Common.{◌≡◌, ℕ, zero, suc, ◌+◌, ◌<◌, ◌≤◌, true, false, List, [], ◌∷◌, ◌++◌, length, length-append, slice_index_or, Option, Some, None, refl, ap, subst, arith}
 use Rattle.std.specs.Prelude.{nat_le}
 use Rattle.std.proofs.lemmas.Bool.{leb-true}
 use Rattle.term_table.specs.Tree.{Tree, Con, Num}
@@ -13,7 +13,6 @@ use Rattle.proof_container.specs.Postorder.{is_emitted}
 use Rattle.proof_container.proofs.Walks.{listed-left, listed-right, listed-last}
 use Rattle.prover_class.specs.NormalForms.{normalized}
 use Rattle.prover_class.specs.Parts.{part_proof}
-use Rattle.prover_class.specs.Access.{by_all_means}
 use Rattle.bpf_vc.specs.PartForms.{part_forms}
 use Rattle.entry_limits.specs.Parts.{HoldsParts, subtrees, node_count}
 use Rattle.entry_limits.proofs.Subtrees.{subtrees-hold, root-listed, length-subtrees, holds-both, holds-one_more}
@@ -25,9 +24,9 @@ proof_or_truth (Some p) = p
 
 -- the class's proof of a formula, if it has one
 unfoldable pub class_proof : Form → Tree
-class_proof A = proof_or_truth (part_proof by_all_means A)
+class_proof A = proof_or_truth (part_proof false A)
 
-pub class_proof-is : (A : Form) (p : Tree) → part_proof by_all_means A ≡ Some p → class_proof A ≡ p
+pub class_proof-is : (A : Form) (p : Tree) → part_proof false A ≡ Some p → class_proof A ≡ p
 unfolding class_proof
 class_proof-is A p e = ap proof_or_truth e
 

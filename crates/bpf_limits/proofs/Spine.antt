@@ -1,5 +1,5 @@
 -- The proof of all parts of a condition: six trees for each of them over what the parts and their proofs hold.
-use Rattle.std.proofs.Common.{◌≡◌, ◌*◌, true, List, [], ◌∷◌, ◌++◌, length, Some, refl, ap, ◌∙◌, subst, arith}
+use Rattle.std.proofs.Common.{◌≡◌, ◌*◌, true, false, List, [], ◌∷◌, ◌++◌, length, Some, refl, ap, ◌∙◌, subst, arith}
 use Rattle.std.specs.Option.{option_map}
 use Rattle.std.specs.List.{AllByRecursion}
 use Rattle.term_table.specs.Tree.{Tree, Con, App, Num}
@@ -12,7 +12,6 @@ use Rattle.formula_terms.specs.ProofTerms.{tt_i, and_i}
 use Rattle.proof_container.specs.Postorder.{is_emitted}
 use Rattle.proof_container.proofs.Walks.{listed-right}
 use Rattle.prover_class.specs.Parts.{conjoined, condition_proof}
-use Rattle.prover_class.specs.Access.{by_all_means}
 use Rattle.bpf_vc.specs.PartForms.{part_forms}
 use Rattle.bpf_vc.proofs.Evaluated.{LightProof, IsPartForm, part-proof}
 use Rattle.entry_limits.specs.Parts.{HoldsParts}
@@ -95,7 +94,7 @@ module _ (base : List Tree) (a s p q : Tree) (is : IsReady base a s p q) where
 -- the proof of all parts, with a list that holds it and its parts, beside what the parts of programs hold
 pub record IsSpine (parts : List Form) : Type 0 where
   pub proof : Tree
-  pub given : condition_proof by_all_means parts ≡ Some proof
+  pub given : condition_proof false parts ≡ Some proof
   pub list : List Tree
   pub count : length list ≡ 6 * length parts
   pub holds : HoldsParts (list ++ held_for part_forms)
@@ -135,7 +134,7 @@ spine (A ∷ l) h =
     } in
     record {
       proof = and_i A (conjoined l) p q;
-      given = ap (λ o. bind o (λ p. option_map (and_i A (conjoined l) p) (condition_proof by_all_means l))) light.given
+      given = ap (λ o. bind o (λ p. option_map (and_i A (conjoined l) p) (condition_proof false l))) light.given
           ∙ ap (λ o. option_map (and_i A (conjoined l) p) o) rest.given;
       list = six_trees a s p q ++ rest.list;
       count = omega (arith, count);

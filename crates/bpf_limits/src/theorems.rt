@@ -1,10 +1,9 @@
 //! What holds of the definitions, with nothing to run.
 
-ghost use Rattle.std.specs.Prelude.{◌≡◌, ◌+◌, ◌≤◌, ◌++◌, ◌∷◌, [], List, length, Some};
+ghost use Rattle.std.specs.Prelude.{◌≡◌, ◌+◌, ◌≤◌, ◌++◌, ◌∷◌, [], List, length, Some, false};
 ghost use Rattle.term_table.specs.Tree.{Tree};
 ghost use Rattle.proof_container.specs.Postorder.{AreEmitted, entries};
 ghost use Rattle.prover_class.specs.Parts.{condition_proof};
-ghost use Rattle.prover_class.specs.Access.{by_all_means};
 ghost use Rattle.bpf_words.specs.declared.insn.Bpf.{Bpf};
 ghost use Rattle.bpf_words.specs.Programs.{IsProgram};
 ghost use Rattle.bpf_vc.specs.Condition.{bpf_parts};
@@ -16,7 +15,7 @@ ghost use Rattle.bpf_limits.specs.declared.limits.TheConstants.{MOST_ENTRIES};
 /// each of its trees.
 pub fn laws()
     ensures entries { (program : List Bpf) (proof : Tree) (others roots : List Tree)
-        → IsProgram program → condition_proof by_all_means (bpf_parts program) ≡ Some proof
+        → IsProgram program → condition_proof false (bpf_parts program) ≡ Some proof
         → HoldsParts others → AreEmitted others roots
         → length (entries (roots ++ proof ∷ [])) ≤ MOST_ENTRIES + length others }
 {}

@@ -37,9 +37,9 @@ before_all [] F = F
 before_all (x ∷ l) F = before x (before_all l F)
 
 module _ (code : List Insn) (invs : List (ℕ × Form))
-    (unfolds : (i : ℕ) → i < length code → WpIs (annotated (built_in Filter) code invs) i) where
+    (unfolds : (i : ℕ) → i < length code → WpIs (annotated (built_in Filter) None code invs) i) where
   abbrev next : ℕ → Form
-  next = wp (annotated (built_in Filter) code invs)
+  next = wp (annotated (built_in Filter) None code invs)
 
   linear-condition : (x : Insn) (i : ℕ) → IsLinear x → insn_condition next filter_post i x ≡ before x (next (i + 1))
   linear-condition (Lda ra rb disp) i h = refl
@@ -48,13 +48,13 @@ module _ (code : List Insn) (invs : List (ℕ × Form))
   linear-condition _ i h = absurd h
 
   pub body-at : (i : ℕ) (x : Insn) → slice_get code i ≡ Some x
-      → body (annotated (built_in Filter) code invs) i ≡ insn_condition next filter_post i x
+      → body (annotated (built_in Filter) None code invs) i ≡ insn_condition next filter_post i x
   body-at i x e = ap (condition_at None next filter_post i) e
 
   -- before words that go on, none of which behind the first is annotated
   pub body-straight : (x : Insn) (l : List Insn) (i : ℕ) → Stands code i (x ∷ l) → AllByRecursion IsPlain (x ∷ l)
       → ((j : ℕ) → i < j → j < i + suc (length l) → invariant_at invs j ≡ None)
-      → body (annotated (built_in Filter) code invs) i
+      → body (annotated (built_in Filter) None code invs) i
       ≡ before_all (x ∷ l) (next (onward (x ∷ l) i))
   body-straight x [] i stands plain free = body-at i x stands.0 ∙ linear-condition x i plain.0.0
   body-straight x (y ∷ l) i stands plain free =
@@ -66,7 +66,7 @@ module _ (code : List Insn) (invs : List (ℕ × Form))
   pub body-branches : (at k m : ℕ) (F G : Form) → Stands code at (branch_pair at k m) → invariant_at invs (at + 1) ≡ None
       → at + 2 ≤ 20 * k → at + 2 ≤ 20 * m → 20 * k < length code → 20 * m < length code
       → invariant_at invs (20 * k) ≡ Some F → invariant_at invs (20 * m) ≡ Some G
-      → body (annotated (built_in Filter) code invs) at ≡ branch_condition F G
+      → body (annotated (built_in Filter) None code invs) at ≡ branch_condition F G
   body-branches at k m F G stands free far near in_k in_m at_k at_m =
       let there : next (20 * k) ≡ F = (unfolds (20 * k) in_k).annotated F at_k in
       let behind : next (at + 1) ≡ G =

@@ -13,7 +13,6 @@ use Rattle.formula_terms.specs.ProofTerms.{tt_i, and_i}
 use Rattle.lf_encode.specs.Contexts.{machine_names}
 use Rattle.prover_class.specs.NormalForms.{normalized}
 use Rattle.prover_class.specs.Parts.{part_proof, conjoined, condition_proof, first_not_easy, refused_at}
-use Rattle.prover_class.specs.Access.{by_all_means}
 use Rattle.bpf_vc.specs.PartForms.{part_forms}
 
 -- ---- light parts
@@ -25,7 +24,7 @@ light_by A (Some p) = nat_le (weight_of sigma1_places p) 250 && (nat_le (height_
 
 -- whether the class's proof of the part is so
 unfoldable pub is_light : Form → Bool
-is_light A = light_by A (part_proof by_all_means A)
+is_light A = light_by A (part_proof false A)
 
 -- the class proves the part, and its proof is so
 abbrev pub IsLight : Form → Type 0
@@ -34,12 +33,12 @@ IsLight A = is_light A ≡ true
 -- what that says
 pub record LightProof (A : Form) : Type 0 where
   pub proof : Tree
-  pub given : part_proof by_all_means A ≡ Some proof
+  pub given : part_proof false A ≡ Some proof
   pub weight : weight_of sigma1_places proof ≤ 250
   pub height : height_of proof ≤ 100
   pub formula : height_of (form_encoding A) ≤ 100
 
-light-by : (A : Form) (o : Option Tree) → part_proof by_all_means A ≡ o → light_by A o ≡ true → LightProof A
+light-by : (A : Form) (o : Option Tree) → part_proof false A ≡ o → light_by A o ≡ true → LightProof A
 light-by A None e h = cc
 light-by A (Some p) e h =
     let parts = and_parts (nat_le (weight_of sigma1_places p) 250) (nat_le (height_of p) 100 && nat_le (height_of (form_encoding A)) 100) h in
@@ -54,7 +53,7 @@ light-by A (Some p) e h =
 
 pub light-proof : (A : Form) → IsLight A → LightProof A
 unfolding is_light
-light-proof A h = light-by A (part_proof by_all_means A) refl h
+light-proof A h = light-by A (part_proof false A) refl h
 
 -- ---- the parts of the conditions of programs
 
@@ -80,7 +79,7 @@ part-proof A h = light-proof A (each-contained part_forms part_forms-light A h.0
 -- the class proves all of these, by a proof that is neither heavy nor high
 pub record AreProved (parts : List Form) : Type 0 where
   pub proof : Tree
-  pub given : condition_proof by_all_means parts ≡ Some proof
+  pub given : condition_proof false parts ≡ Some proof
   pub weight : weight_of sigma1_places proof ≤ 1 + 253 * length parts
   pub height : height_of proof ≤ 108 + 4 * length parts
   pub formula : height_of (form_encoding (conjoined parts)) ≤ 102 + 2 * length parts
@@ -99,13 +98,13 @@ parts-proved (A ∷ l) h =
     let formulas = rest.formula in
     record {
       proof = and_i A (conjoined l) p rest.proof;
-      given = ap (λ o. bind o (λ p. option_map (and_i A (conjoined l) p) (condition_proof by_all_means l))) first.given
+      given = ap (λ o. bind o (λ p. option_map (and_i A (conjoined l) p) (condition_proof false l))) first.given
           ∙ ap (λ o. option_map (and_i A (conjoined l) p) o) rest.given;
       weight = omega (arith, light, weight);
       height = omega (arith, formula, formulas, low, height);
       formula = omega (arith, formula, formulas);
     }
 
-pub none-refused : (n : ℕ) (parts : List Form) → AllByRecursion IsPartForm parts → first_not_easy by_all_means n parts ≡ None
+pub none-refused : (n : ℕ) (parts : List Form) → AllByRecursion IsPartForm parts → first_not_easy false n parts ≡ None
 none-refused n [] h = refl
-none-refused n (A ∷ l) h = ap (λ o. refused_at n o (first_not_easy by_all_means (suc n) l)) (part-proof A h.0).given ∙ none-refused (suc n) l h.1
+none-refused n (A ∷ l) h = ap (λ o. refused_at n o (first_not_easy false (suc n) l)) (part-proof A h.0).given ∙ none-refused (suc n) l h.1

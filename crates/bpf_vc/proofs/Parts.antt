@@ -60,7 +60,7 @@ module _ (p : List Bpf) (program : IsProgram p) where
   code = blocks_from 0 p
 
   abbrev c : AnnotatedCode
-  c = annotated (built_in Filter) (blocks_from 0 p) (bpf_invariants p)
+  c = annotated (built_in Filter) None (blocks_from 0 p) (bpf_invariants p)
 
   pub blocks-annotated : IsAnnotated c
   blocks-annotated = record {

@@ -1,5 +1,5 @@
 -- The condition of a program's code is easy.
-use Rattle.std.proofs.Common.{◌≡◌, ℕ, zero, suc, ◌+◌, ◌*◌, ◌≤◌, List, [], ◌∷◌, length, length-append, map, slice_get, Some, None, refl, ap, arith}
+use Rattle.std.proofs.Common.{◌≡◌, ℕ, zero, suc, ◌+◌, ◌*◌, ◌≤◌, List, [], ◌∷◌, length, length-append, map, slice_get, Some, None, refl, ap, arith, false}
 use Rattle.std.specs.Prelude.{All, Contains}
 use Rattle.std.specs.List.{AllByRecursion}
 use Rattle.alpha_cfg.specs.Cuts.{AreFlags, IsCut, unfolded_of}
@@ -8,7 +8,6 @@ use Rattle.vcgen.specs.Conditions.{AnnotatedCode, entry_part, inv_part, inv_part
 use Rattle.vcgen.specs.Safety.{IsAnnotated}
 use Rattle.vcgen.specs.declared.condition.TheConstants.{MAX_HEIGHT, MAX_UNFOLDED}
 use Rattle.prover_class.specs.Parts.{conjoined, first_not_easy}
-use Rattle.prover_class.specs.Access.{by_all_means}
 use Rattle.bpf_words.specs.declared.insn.Bpf.{Bpf}
 use Rattle.bpf_words.specs.declared.insn.BpfOp.{BpfOp}
 use Rattle.bpf_words.specs.declared.insn.TheConstants.{MAX_PROGRAM}
@@ -79,7 +78,7 @@ pub program-known : (program : List Bpf) → IsProgram program → All (Contains
 unfolding bpf_code
 program-known program is = all-by-index (bpf_parts program) (parts-known program is)
 
-pub program-easy : (program : List Bpf) (n : ℕ) → IsProgram program → first_not_easy by_all_means n (bpf_parts program) ≡ None
+pub program-easy : (program : List Bpf) (n : ℕ) → IsProgram program → first_not_easy false n (bpf_parts program) ≡ None
 unfolding bpf_code
 program-easy program n is = none-refused n (bpf_parts program) (parts-known program is)
 

@@ -1,5 +1,5 @@
 -- The verification condition of a program's code, part by part, and the class's proof of it.
-use Rattle.std.specs.Prelude.{◌≡◌, ℕ, ◌+◌, ◌*◌, ◌≤◌, Bool, List, ◌∷◌, length, map, Some}
+use Rattle.std.specs.Prelude.{◌≡◌, ℕ, ◌+◌, ◌*◌, ◌≤◌, Bool, false, List, ◌∷◌, length, map, Some, None}
 use Rattle.alpha_cfg.specs.Deciding.{flags_of}
 use Rattle.formula_tree.specs.Formulas.{Form}
 use Rattle.term_table.specs.Tree.{Tree}
@@ -10,14 +10,13 @@ use Rattle.policy_set.specs.Views.{built_in}
 use Rattle.vcgen.specs.Conditions.{AnnotatedCode, entry_part, inv_part}
 use Rattle.vcgen.specs.Encoded.{annotated}
 use Rattle.prover_class.specs.Parts.{conjoined, condition_proof}
-use Rattle.prover_class.specs.Access.{by_all_means}
 use Rattle.bpf_words.specs.declared.insn.Bpf.{Bpf}
 use Rattle.bpf_code.specs.Blocks.{bpf_code}
 use Rattle.bpf_vc.specs.Invariants.{bpf_invariants, annotated_words}
 
 -- the code of a program with its invariants, under `filter`
 abbrev pub annotated_bpf : List Bpf → AnnotatedCode
-annotated_bpf program = annotated (built_in Filter) (bpf_code program) (bpf_invariants program)
+annotated_bpf program = annotated (built_in Filter) None (bpf_code program) (bpf_invariants program)
 
 -- a flag for each word of the code, set where it has an invariant
 abbrev pub bpf_flags : List Bpf → List Bool
@@ -38,7 +37,7 @@ most_height n = 112 + 8 * n
 -- The class proves all parts, by a proof that is neither heavier nor higher than this; the condition's encoding isn't higher either.
 pub record HasClassProof (program : List Bpf) : Type 0 where
   pub proof : Tree
-  pub given : condition_proof by_all_means (bpf_parts program) ≡ Some proof
+  pub given : condition_proof false (bpf_parts program) ≡ Some proof
   pub weight : weight_of sigma1_places proof ≤ most_weight (length program)
   pub height : height_of proof ≤ most_height (length program)
   pub formula : height_of (form_encoding (conjoined (bpf_parts program))) ≤ most_height (length program)

@@ -1,12 +1,11 @@
 //! What holds of the condition of a program's code, with nothing to run.
 
-ghost use Rattle.std.specs.Prelude.{◌≡◌, ℕ, ◌+◌, ◌*◌, ◌≤◌, All, Contains, List, length, None};
+ghost use Rattle.std.specs.Prelude.{◌≡◌, ℕ, ◌+◌, ◌*◌, ◌≤◌, All, Contains, List, length, None, false};
 ghost use Rattle.alpha_cfg.specs.Cuts.{AreFlags, IsCut, unfolded_of};
 ghost use Rattle.vcgen.specs.Conditions.{condition};
 ghost use Rattle.vcgen.specs.Safety.{IsAnnotated};
 ghost use Rattle.vcgen.specs.declared.condition.TheConstants.{MAX_HEIGHT, MAX_UNFOLDED};
 ghost use Rattle.prover_class.specs.Parts.{conjoined, first_not_easy};
-ghost use Rattle.prover_class.specs.Access.{by_all_means};
 ghost use Rattle.bpf_words.specs.declared.insn.Bpf.{Bpf};
 ghost use Rattle.bpf_words.specs.declared.insn.TheConstants.{MAX_PROGRAM};
 ghost use Rattle.bpf_words.specs.Programs.{IsProgram};
@@ -38,7 +37,7 @@ pub fn laws()
     ensures known { (program : List Bpf) → IsProgram program
         → All (Contains part_forms) (bpf_parts program) }
     ensures easy { (program : List Bpf) (n : ℕ) → IsProgram program
-        → first_not_easy by_all_means n (bpf_parts program) ≡ None }
+        → first_not_easy false n (bpf_parts program) ≡ None }
     ensures proved { (program : List Bpf) → IsProgram program → HasClassProof program }
     ensures low { (n : ℕ) → n ≤ MAX_PROGRAM → most_height n ≤ MAX_HEIGHT }
 {}

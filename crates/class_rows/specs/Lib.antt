@@ -6,3 +6,4 @@ pub mod Forms
 pub mod Bounds
 pub mod Access
 pub mod Later
+pub mod Counted

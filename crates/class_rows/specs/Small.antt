@@ -1,16 +1,15 @@
 -- Goals with the proofs that an independent implementation gives them, or none.
-use Rattle.std.specs.Prelude.{◌≡◌, Option, Some, None, List, [], ◌∷◌}
+use Rattle.std.specs.Prelude.{◌≡◌, Bool, Option, Some, None, List, [], ◌∷◌}
 use Rattle.term_table.specs.Tree.{Tree, Var, Con, App, Lam, Num, Lit, Calc, Fact}
 use Rattle.word_ops.specs.declared.Op.TheVariants.{Add, Sub, Band, Sll, Cmpeq, Cmpult}
 use Rattle.word_ops.specs.declared.Rel.TheVariants.{Eq, Ult, Ule}
 use Rattle.formula_tree.specs.Formulas.{EVar, ELit, EOp, Form, FFalse, FRel, FRd, FWr, FAnd, FImp, FAll, FAllm}
 use Rattle.prover_class.specs.Parts.{part_proof}
-use Rattle.prover_class.specs.Access.{by_all_means}
 
--- the class gives each goal its proof, or none
-abbrev pub AreWorked : List (Form × Option Tree) → Type 0
-AreWorked [] = Unit {0}
-AreWorked (r ∷ l) = (part_proof by_all_means r.0 ≡ r.1) × AreWorked l
+-- the class gives each goal its proof, or none, where steps are counted or aren't
+abbrev pub AreWorked : Bool → List (Form × Option Tree) → Type 0
+AreWorked counted [] = Unit {0}
+AreWorked counted (r ∷ l) = (part_proof counted r.0 ≡ r.1) × AreWorked counted l
 
 -- one goal for each way to prove
 unfoldable pub small_rows : List (Form × Option Tree)

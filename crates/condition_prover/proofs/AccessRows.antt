@@ -49,10 +49,6 @@ with_puts t u s m p h x k l =
     let g = search-more s t u h x in
     record { memo = k; forms = g.forms; puts = l; occurrences = g.occurrences }
 
--- one call after another
-pub after_twice : (t u : TableView) (r s : Search) (a b c : Context) → IsAfter t r a b → IsAfter u s b c → IsAfter u s a c
-after_twice t u r s a b c h g = record { search = g.search; context = g.context; hyps = g.hyps ∙ h.hyps; outside = g.outside ∙ h.outside }
-
 -- hypotheses after a call
 pub hyps_then : (t u : TableView) (s : Search) (a b : Context) (Γ : Hyps) → IsContext t a → Extends t u → IsAfter u s a b → AreHyps t a.hyps Γ → AreHyps u b.hyps Γ
 hyps_then t u s a b Γ h x g y = subst (λ l. AreHyps u l Γ) (sym g.hyps) (hyps-after t u a.hyps Γ h.hyps x y)
@@ -93,7 +89,7 @@ meant-before t u s c d q g Γ a P h kq kg x e m = record {
 pub walk-after : (t u : TableView) (s : Search) (c d : Context) (q : Asked) (g : Grant) (form : ℕ) → IsContext t c → IsKnown t q.address → IsKnownGrant t g → IsKnown t form → Extends t u → IsAfter u s c d →
     IsWalk t u c.hyps c.outside q g form None → IsWalk u u d.hyps d.outside q g form None
 walk-after t u s c d q g form h kq kg kf x e w = λ Γ a P A m y.
-    ap (λ n. first_opened (access_of q.access) (opened_at class.without_access g.quantified n Γ a P) A) e.outside
+    ap (λ n. first_opened (access_of q.access) (opened_at (class.without_access q.counted) g.quantified n Γ a P) A) e.outside
     ∙ w Γ a P A (meant-before t u s c d q g Γ a P h kq kg x e m) (sym (x.same form kf) ∙ y)
 
 pub misses-after : (t u : TableView) (s : Search) (c d : Context) (q : Asked) (g : Grant) (misses : BTreeSet Part) → IsContext t c → IsKnown t q.address → IsKnownGrant t g → Extends t u → IsAfter u s c d →
@@ -150,16 +146,16 @@ one_further t (Some x) f g s same longer h = record { way = longer ∙ ap (λ l.
 -- ---- hypotheses, one after another
 
 -- what the hypothesis at a place gives, and those behind it
-pub hyps_step : (t u : TableView) (l : List Hypothesis) (Γ : Hyps) (i m out : ℕ) (k : class.Access) (a : Exp) (x : Hypothesis) (r : Option ℕ) → x ≡ get_or l i x → AreHyps t l Γ → i < length l → m ≡ out →
-    ((A : Form) → tree_at t x.form ≡ form_encoding A → Stands u (class.by_hyp class.without_access m Γ k a A (tree_at t x.proof)) r) →
-    (o : Option Tree) × Stands u o r × (class.by_hyps class.without_access out Γ k a (drop i Γ) ≡ first_of o (class.by_hyps class.without_access out Γ k a (drop (i + 1) Γ)))
-hyps_step t u l Γ i m out k a x r is h within same told =
+pub hyps_step : (prove : Prover) (t u : TableView) (l : List Hypothesis) (Γ : Hyps) (i m out : ℕ) (k : class.Access) (a : Exp) (x : Hypothesis) (r : Option ℕ) → x ≡ get_or l i x → AreHyps t l Γ → i < length l → m ≡ out →
+    ((A : Form) → tree_at t x.form ≡ form_encoding A → Stands u (class.by_hyp prove m Γ k a A (tree_at t x.proof)) r) →
+    (o : Option Tree) × Stands u o r × (class.by_hyps prove out Γ k a (drop i Γ) ≡ first_of o (class.by_hyps prove out Γ k a (drop (i + 1) Γ)))
+hyps_step prove t u l Γ i m out k a x r is h within same told =
     let at : IsHypAt t Γ i x = subst (λ (z : Hypothesis). IsHypAt t Γ i z) (sym is) (hyp_at t l Γ i x h within) in
     let next : suc i ≡ i + 1 = omega arith in
     let rest : drop i Γ ≡ at.now ∷ drop (i + 1) Γ = at.rest ∙ ap (λ (z : ℕ). at.now ∷ drop z Γ) next in (
-      class.by_hyp class.without_access out Γ k a at.now.0 at.now.1,
-      subst (λ (p : Tree). Stands u (class.by_hyp class.without_access out Γ k a at.now.0 p) r) at.proof (subst (λ (z : ℕ). Stands u (class.by_hyp class.without_access z Γ k a at.now.0 (tree_at t x.proof)) r) same (told at.now.0 at.form)),
-      ap (class.by_hyps class.without_access out Γ k a) rest,
+      class.by_hyp prove out Γ k a at.now.0 at.now.1,
+      subst (λ (p : Tree). Stands u (class.by_hyp prove out Γ k a at.now.0 p) r) at.proof (subst (λ (z : ℕ). Stands u (class.by_hyp prove z Γ k a at.now.0 (tree_at t x.proof)) r) same (told at.now.0 at.form)),
+      ap (class.by_hyps prove out Γ k a) rest,
     )
 
 -- behind the last there are none

@@ -1,10 +1,10 @@
--- Every formula's operators are the second signature's.
+-- Every formula's operators are the second signature's, and the third's.
 use Rattle.std.proofs.Common.{nat_lt, refl}
 use Rattle.std.proofs.lemmas.Bool.{ltb-true}
 use Rattle.word_ops.specs.declared.Op.{Op}
 use Rattle.word_ops.specs.Operators.{op_number}
 use Rattle.word_ops.proofs.EachOp.{each_op}
-use Rattle.lf_signature.specs.declared.WordSignature.TheVariants.{Sigma2}
+use Rattle.lf_signature.specs.declared.WordSignature.TheVariants.{Sigma2, Sigma3}
 use Rattle.lf_signature.specs.Constants.{declared}
 use Rattle.lf_signature.specs.Known.{HasOp}
 use Rattle.lf_signature.specs.Laws.Within.{declared-op}
@@ -43,4 +43,10 @@ module _ (P : Op → Type 0) (each : (o : Op) → P o) where
 pub second-declared : (o : Op) → HasOp (declared Sigma2) o
 second-declared o =
     declared-op Sigma2 o
+    (ltb-true (op_number o) 19 (each_op (λ p. nat_lt (op_number p) 19) refl o))
+
+-- so has the third
+pub third-declared : (o : Op) → HasOp (declared Sigma3) o
+third-declared o =
+    declared-op Sigma3 o
     (ltb-true (op_number o) 19 (each_op (λ p. nat_lt (op_number p) 19) refl o))

@@ -1,5 +1,5 @@
 -- An encoding is no lower than what it encodes, and the proof of a condition no lower than the condition.
-use Rattle.std.proofs.Common.{◌≡◌, ◌≤◌, ◌^◌, Some, List, [], ◌∷◌, option_map, sym, subst, arith}
+use Rattle.std.proofs.Common.{◌≡◌, ◌≤◌, Bool, ◌^◌, Some, List, [], ◌∷◌, option_map, sym, subst, arith}
 use Rattle.term_table.specs.Tree.{Tree}
 use Rattle.term_table.specs.Measures.{height_of}
 use Rattle.term_table.proofs.Options.{bind_some, map_some}
@@ -8,7 +8,6 @@ use Rattle.formula_tree.specs.Sizes.{exp_height, mem_height, form_height}
 use Rattle.formula_terms.specs.Encoding.{exp_encoding, mem_encoding, form_encoding}
 use Rattle.vcgen.specs.declared.condition.TheConstants.{MAX_HEIGHT}
 use Rattle.formula_terms.specs.ProofTerms.{and_i}
-use Rattle.prover_class.specs.Goals.{Prover}
 use Rattle.prover_class.specs.Parts.{conjoined, part_proof, condition_proof}
 
 mutual
@@ -38,10 +37,10 @@ form-low (FAll A) = omega (arith, form-low A)
 form-low (FAllm A) = omega (arith, form-low A)
 
 -- what a proof that isn't high proves isn't high
-pub parts-low : (leaf : Prover) (l : List Form) (p : Tree) → condition_proof leaf l ≡ Some p → height_of p ≤ MAX_HEIGHT → form_height (conjoined l) ≤ 2 ^ 29
-parts-low leaf [] p e low = omega arith
-parts-low leaf (A ∷ l) p e low =
-    let a = bind_some (part_proof leaf A) (λ p. option_map (and_i A (conjoined l) p) (condition_proof leaf l)) p e in
-    let b = map_some (condition_proof leaf l) (and_i A (conjoined l) a.0) p a.2 in
+pub parts-low : (counted : Bool) (l : List Form) (p : Tree) → condition_proof counted l ≡ Some p → height_of p ≤ MAX_HEIGHT → form_height (conjoined l) ≤ 2 ^ 29
+parts-low counted [] p e low = omega arith
+parts-low counted (A ∷ l) p e low =
+    let a = bind_some (part_proof counted A) (λ p. option_map (and_i A (conjoined l) p) (condition_proof counted l)) p e in
+    let b = map_some (condition_proof counted l) (and_i A (conjoined l) a.0) p a.2 in
     let high : height_of (and_i A (conjoined l) a.0 b.0) ≤ MAX_HEIGHT = subst (λ z. height_of z ≤ MAX_HEIGHT) (sym b.2) low in
     omega (arith, high, form-low A, form-low (conjoined l))

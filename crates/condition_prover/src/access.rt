@@ -175,7 +175,7 @@ fn by_hyps(
     ensures known { IfOk result (λ o. IfSome o (IsKnown table.new)) }
     ensures exact { let c = context.old in (Γ : Hyps) (a : Exp) → AreHyps table.old c.hyps Γ
         → tree_at table.old asked.now.address ≡ exp_encoding a → IfOk result (Stands table.new
-        (by_hyps without_access c.outside Γ (access_of asked.now.access) a Γ)) }
+        (by_hyps (without_access asked.now.counted) c.outside Γ (access_of asked.now.access) a Γ)) }
     ensures extends { Extends table.old table.new }
     ensures after { OnOk result (IsAfter table.new search.new context.old context.new) }
 {
@@ -191,11 +191,12 @@ fn by_hyps(
 }
 
 /// The proof of a goal that asks to load or to store, by the hypotheses of the context; none of any
-/// other goal.
+/// other goal. `counted` says whether steps are counted.
 pub fn proof_by_access(
     table: &mut Table,
     search: &mut Search,
     context: &mut Context,
+    counted: bool,
     goal: Id,
 ) -> Result<Option<Id>, Exhausted>
     requires goal { IsKnown table.old goal }
@@ -203,13 +204,17 @@ pub fn proof_by_access(
     requires context { IsContext table.old context.old }
     ensures known { IfOk result (λ o. IfSome o (IsKnown table.new)) }
     ensures exact { let c = context.old in IfOk result
-        (IsProofBy (by_access without_access) table.old table.new c.hyps c.outside goal) }
+        (IsProofBy (by_access (without_access counted)) table.old table.new c.hyps c.outside goal) }
     ensures extends { Extends table.old table.new }
     ensures after { OnOk result (IsAfter table.new search.new context.old context.new) }
 {
     match form_node(table, goal) {
         FormNode::Right(access, address) => {
-            let asked = Asked { access, address };
+            let asked = Asked {
+                counted,
+                access,
+                address,
+            };
             let proof = by_hyps(table, search, context, &asked)?;
             Ok(proof)
         }

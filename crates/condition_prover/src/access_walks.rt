@@ -25,9 +25,10 @@ use std::alloc::AllocError;
 use std::collections::BTreeSet;
 use term_table::{Id, Table};
 
-/// What is asked for, and at which address.
+/// What is asked for, at which address, and whether steps are counted where premises are proved.
 #[derive(Clone, Copy)]
 pub(crate) struct Asked {
+    pub(crate) counted: bool,
     pub(crate) access: Access,
     pub(crate) address: Id,
 }
@@ -89,6 +90,7 @@ fn opened(
     table: &mut Table,
     search: &mut Search,
     context: &mut Context,
+    counted: bool,
     premise: Id,
     address: Id,
     put: Id,
@@ -103,11 +105,11 @@ fn opened(
         → AreHyps table.old c.hyps Γ → tree_at table.old premise ≡ form_encoding P
         → tree_at table.old address ≡ exp_encoding x → tree_at table.old put ≡ exp_encoding y
         → IfOk result (IfOpened table.new
-        (option_map (opening_of x y) (without_access c.outside Γ P))) }
+        (option_map (opening_of x y) (without_access counted c.outside Γ P))) }
     ensures extends { Extends table.old table.new }
     ensures after { OnOk result (IsAfter table.new search.new context.old context.new) }
 {
-    match proof_without_access(table, search, context, premise)? {
+    match proof_without_access(table, search, context, counted, premise)? {
         None => Ok(None),
         Some(proof) => Ok(Some(Opening {
             address,
@@ -123,6 +125,7 @@ fn opened_by(
     table: &mut Table,
     search: &mut Search,
     context: &mut Context,
+    counted: bool,
     a: Id,
     premise: Id,
     address: Id,
@@ -137,7 +140,7 @@ fn opened_by(
         → AreHyps table.old c.hyps Γ → tree_at table.old a ≡ exp_encoding w
         → tree_at table.old premise ≡ form_encoding P
         → tree_at table.old address ≡ exp_encoding x → IfOk result (IfOpened table.new
-        (opened_by without_access c.outside Γ w P x x)) }
+        (opened_by (without_access counted) c.outside Γ w P x x)) }
     ensures extends { Extends table.old table.new }
     ensures after { OnOk result (IsAfter table.new search.new context.old context.new) }
 {
@@ -145,7 +148,7 @@ fn opened_by(
     if !same_address(table, search, outside, address, a)? {
         return Ok(None);
     }
-    let opening = opened(table, search, context, premise, address, address)?;
+    let opening = opened(table, search, context, counted, premise, address, address)?;
     Ok(opening)
 }
 
@@ -155,6 +158,7 @@ fn opened_with(
     table: &mut Table,
     search: &mut Search,
     context: &mut Context,
+    counted: bool,
     a: Id,
     premise: Id,
     address: Id,
@@ -172,7 +176,7 @@ fn opened_with(
         → tree_at table.old premise ≡ form_encoding P
         → tree_at table.old address ≡ exp_encoding x → tree_at table.old put ≡ exp_encoding y
         → IfOk result (IfOpened table.new
-        (opened_with without_access c.outside Γ w P x y)) }
+        (opened_with (without_access counted) c.outside Γ w P x y)) }
     ensures extends { Extends table.old table.new }
     ensures after { OnOk result (IsAfter table.new search.new context.old context.new) }
 {
@@ -182,7 +186,7 @@ fn opened_with(
         return Ok(None);
     }
     let wanted = form_with(table, search, premise, put)?;
-    let opening = opened(table, search, context, wanted, there, put)?;
+    let opening = opened(table, search, context, counted, wanted, there, put)?;
     Ok(opening)
 }
 
@@ -192,6 +196,7 @@ fn opened_instance(
     table: &mut Table,
     search: &mut Search,
     context: &mut Context,
+    counted: bool,
     a: Id,
     premise: Id,
     address: Id,
@@ -206,7 +211,7 @@ fn opened_instance(
         → AreHyps table.old c.hyps Γ → tree_at table.old a ≡ exp_encoding w
         → tree_at table.old premise ≡ form_encoding P
         → tree_at table.old address ≡ exp_encoding x → IfOk result (IfOpened table.new
-        (opened_at without_access true c.outside Γ w P x)) }
+        (opened_at (without_access counted) true c.outside Γ w P x)) }
     ensures extends { Extends table.old table.new }
     ensures after { OnOk result (IsAfter table.new search.new context.old context.new) }
 {
@@ -214,7 +219,7 @@ fn opened_instance(
     match instance_of(table, search, outside, a, address)? {
         None => Ok(None),
         Some(put) => {
-            let opening = opened_with(table, search, context, a, premise, address, put)?;
+            let opening = opened_with(table, search, context, counted, a, premise, address, put)?;
             Ok(opening)
         }
     }
@@ -241,13 +246,13 @@ fn opening_at(
     ensures extends { Extends table.old table.new }
     ensures after { OnOk result (IsAfter table.new search.new context.old context.new) }
 {
-    let a = asked.address;
+    let (counted, a) = (asked.counted, asked.address);
     let premise = grant.premise;
     if grant.quantified {
-        let opening = opened_instance(table, search, context, a, premise, address)?;
+        let opening = opened_instance(table, search, context, counted, a, premise, address)?;
         Ok(opening)
     } else {
-        let opening = opened_by(table, search, context, a, premise, address)?;
+        let opening = opened_by(table, search, context, counted, a, premise, address)?;
         Ok(opening)
     }
 }

@@ -14,17 +14,22 @@ use goal_proofs::{Context, Leaf, Means, Search, goal_proof, proof_by_words};
 use hereditary_subst::Exhausted;
 use term_table::{Id, Table};
 
-/// Words, and access to memory by hypotheses.
+/// Words, and access to memory by hypotheses; `counted` says whether steps are counted.
 #[derive(Clone, Copy)]
-pub(crate) struct ByAllMeans;
+pub(crate) struct ByAllMeans {
+    counted: bool,
+}
 
 impl Leaf for ByAllMeans {
-    ghost use Rattle.goal_proofs.specs.declared.answers.Means.TheVariants.{WordsAndAccess};
+    ghost use Rattle.goal_proofs.specs.Provers.{all_means};
 
-    ghost by = { λ _. WordsAndAccess };
+    ghost by = { λ leaf. all_means leaf.counted };
 
     fn means(&self) -> Means {
-        Means::WordsAndAccess
+        Means {
+            access: true,
+            counted: self.counted,
+        }
     }
 
     fn leaf_proof(
@@ -34,7 +39,7 @@ impl Leaf for ByAllMeans {
         context: &mut Context,
         goal: Id,
     ) -> Result<Option<Id>, Exhausted> {
-        by_all_means(table, search, context, goal)
+        by_all_means(table, search, context, self.counted, goal)
     }
 }
 
@@ -44,21 +49,22 @@ fn by_all_means(
     table: &mut Table,
     search: &mut Search,
     context: &mut Context,
+    counted: bool,
     goal: Id,
 ) -> Result<Option<Id>, Exhausted>
     requires goal { IsKnown table.old goal }
     requires search { IsSearch table.old search.old }
     requires context { IsContext table.old context.old }
     ensures known { IfOk result (λ o. IfSome o (IsKnown table.new)) }
-    ensures exact { let c = context.old in
-        IfOk result (IsProofBy by_all_means table.old table.new c.hyps c.outside goal) }
+    ensures exact { let c = context.old in let p = by_all_means counted in
+        IfOk result (IsProofBy p table.old table.new c.hyps c.outside goal) }
     ensures extends { Extends table.old table.new }
     ensures after { OnOk result (IsAfter table.new search.new context.old context.new) }
 {
-    match proof_by_words(table, search, context, goal)? {
+    match proof_by_words(table, search, context, counted, goal)? {
         Some(proof) => Ok(Some(proof)),
         None => {
-            let proof = proof_by_access(table, search, context, goal)?;
+            let proof = proof_by_access(table, search, context, counted, goal)?;
             Ok(proof)
         }
     }
@@ -69,16 +75,17 @@ pub(crate) fn proof_by_all_means(
     table: &mut Table,
     search: &mut Search,
     context: &mut Context,
+    counted: bool,
     goal: Id,
 ) -> Result<Option<Id>, Exhausted>
     requires goal { IsKnown table.old goal }
     requires search { IsSearch table.old search.old }
     requires context { IsContext table.old context.old }
     ensures known { IfOk result (λ o. IfSome o (IsKnown table.new)) }
-    ensures exact { let c = context.old in IfOk result
-        (IsProofBy (whole_proof by_all_means) table.old table.new c.hyps c.outside goal) }
+    ensures exact { let c = context.old in let p = whole_proof (by_all_means counted) in
+        IfOk result (IsProofBy p table.old table.new c.hyps c.outside goal) }
     ensures extends { Extends table.old table.new }
     ensures after { OnOk result (IsAfter table.new search.new context.old context.new) }
 {
-    goal_proof(table, &ByAllMeans, search, context, goal)
+    goal_proof(table, &ByAllMeans { counted }, search, context, goal)
 }

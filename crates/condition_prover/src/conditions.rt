@@ -3,7 +3,7 @@
 //! Errors: want of memory alone, which more results than the search may keep and the terms that it
 //! makes are too; each id keeps its tree.
 
-ghost use Rattle.std.specs.Prelude.{◌≤◌, map, length, IfOk};
+ghost use Rattle.std.specs.Prelude.{◌≡◌, ◌<◌, ◌≤◌, true, map, length, IfOk, None, is_some};
 ghost use Rattle.alpha_cfg.specs.Flow.{IsCode, AreOfProfile};
 ghost use Rattle.alpha_cfg.specs.Cuts.{AreFlags, IsCut, unfolded_of};
 ghost use Rattle.term_table.specs.Table.{Extends, id_trees};
@@ -11,6 +11,7 @@ ghost use Rattle.lf_signature.specs.Nodes.{IsIdOf};
 ghost use Rattle.formula_terms.specs.Encoding.{form_encoding};
 ghost use Rattle.vcgen.specs.Answers.{AreLowInvs};
 ghost use Rattle.vcgen.specs.Encoded.{AreForms};
+ghost use Rattle.vcgen.specs.Safety.{IsBound};
 ghost use Rattle.vcgen.specs.declared.condition.TheConstants.{MAX_UNFOLDED};
 ghost use Rattle.prover_class.specs.Parts.{conjoined};
 ghost use Rattle.condition_prover.specs.Conditions.{condition_parts};
@@ -19,7 +20,7 @@ ghost use Rattle.word_ops.specs.declared.Profile.TheVariants.{One};
 ghost use Rattle.word_ops.specs.Operators.{IsFirstOp};
 ghost use Rattle.lf_signature.specs.declared.WordSignature.{WordSignature};
 ghost use Rattle.lf_signature.specs.declared.WordSignature.TheVariants.{Sigma1, Sigma2, Sigma3};
-ghost use Rattle.lf_signature.specs.Constants.{declared};
+ghost use Rattle.lf_signature.specs.Constants.{size_of, declared};
 ghost use Rattle.lf_signature.specs.Known.{HasOp};
 ghost use Rattle.formula_tree.specs.Operators.{Uses};
 ghost use Rattle.policy_set.specs.Views.{PolicyUses};
@@ -45,23 +46,34 @@ fn is_cut_code(cut: &Cut)
     let _ = cut.code().insns();
 }
 
+/// What its type says of a bound.
+fn is_word(bound: Option<u32>)
+    ensures { IsBound bound }
+{
+    match bound {
+        None => {}
+        Some(_) => {} // opens the range of what it has for the prover
+    }
+}
+
 /// The encoding of the verification condition, its unfolded length being within its limit.
 fn condition_in(
     table: &mut Table,
     policy: &Policy,
     cut: &Cut,
     invs: &[(u32, Id)],
+    bound: Option<u32>,
 ) -> Result<Id, Exhausted>
     requires invs { AreLowInvs table.old invs.now }
-    requires forms { AreForms Sigma3 (id_trees table.old invs.now) }
+    requires forms { AreForms Sigma3 bound (id_trees table.old invs.now) }
     requires marks { AreFlags (map (λ p. p.0) invs.now) (length cut.now.code) cut.now.marks }
     requires short { unfolded_of cut.now.code cut.now.marks ≤ MAX_UNFOLDED }
     ensures id { let invs = id_trees table.old invs.now in
-        let parts = condition_parts policy.now cut.now.code invs in
+        let parts = condition_parts policy.now bound cut.now.code invs in
         IfOk result (IsIdOf table.new (form_encoding (conjoined parts))) }
     ensures extends { Extends table.old table.new }
 {
-    match vc(table, cut, policy, invs) {
+    match vc(table, cut, policy, invs, bound) {
         Ok(condition) => Ok(condition),
         Err(VcFault::Memory) => Err(Exhausted::Memory),
         Err(VcFault::Results) => Err(Exhausted::Results),
@@ -71,11 +83,13 @@ fn condition_in(
 
 /// Proves the verification condition of cut code under a policy, part by part, where each is easy
 /// (`prover_class`), or names the first part that isn't. `invs` are the annotated indices with the
-/// ids of their invariants, whose terms are formulas and no higher than `vcgen::MAX_HEIGHT`. A
-/// proof that is no higher than that checks at the condition over each signature that has the
-/// condition's operators: over the second always, over the first where the code and the policy's
-/// formulas are the first profile's, and the invariants check over it. Its weight and height are
-/// the table's (`Table::weight`, `Table::height`).
+/// ids of their invariants, whose terms are formulas and no higher than `vcgen::MAX_HEIGHT`; `bound`
+/// is the most steps that the code is to make, where they are bounded. A proof that is no higher than
+/// that checks at the condition over each signature that has the condition's operators, and where
+/// steps are counted the rule `sub_lo`: over the third always; where they aren't over the second, and
+/// over the first where the code and the policy's formulas are the first profile's, and the
+/// invariants check over it. Its weight and height are the table's (`Table::weight`,
+/// `Table::height`).
 ///
 /// Fails for want of memory, and by `Results` where the results that the search keeps and the terms
 /// that it makes are more than `MOST_SEARCHED`.
@@ -84,32 +98,39 @@ pub fn prove_condition(
     policy: &Policy,
     cut: &Cut,
     invs: &[(u32, Id)],
+    bound: Option<u32>,
 ) -> Result<ConditionProof, Exhausted>
     requires invs { AreLowInvs table.old invs.now }
-    requires forms { AreForms Sigma3 (id_trees table.old invs.now) }
+    requires forms { AreForms Sigma3 bound (id_trees table.old invs.now) }
     requires marks { AreFlags (map (λ p. p.0) invs.now) (length cut.now.code) cut.now.marks }
     requires short { unfolded_of cut.now.code cut.now.marks ≤ MAX_UNFOLDED }
     ensures known { IfOk result (IsKnownAnswer table.new) }
     ensures exact { let invs = id_trees table.old invs.now in
-        IfOk result (IsPartsAnswer table.new 0 (condition_parts policy.now cut.now.code invs)) }
+        let parts = condition_parts policy.now bound cut.now.code invs in
+        IfOk result (IsPartsAnswer table.new (is_some bound) 0 parts) }
     ensures proves { let invs = id_trees table.old invs.now in
-        let parts = condition_parts policy.now cut.now.code invs in (s : WordSignature)
-        → Uses (HasOp (declared s)) (conjoined parts)
+        let parts = condition_parts policy.now bound cut.now.code invs in (s : WordSignature)
+        → (is_some bound ≡ true → 104 < size_of s) → Uses (HasOp (declared s)) (conjoined parts)
         → IfOk result (IsProofOfParts s table.new parts) }
     ensures first { let invs = id_trees table.old invs.now in
-        let parts = condition_parts policy.now cut.now.code invs in
-        AreForms Sigma1 invs → AreOfProfile One cut.now.code → PolicyUses IsFirstOp policy.now
+        let parts = condition_parts policy.now bound cut.now.code invs in
+        bound ≡ None → AreForms Sigma1 bound invs → AreOfProfile One cut.now.code
+        → PolicyUses IsFirstOp policy.now
         → IfOk result (IsProofOfParts Sigma1 table.new parts) }
     ensures second { let invs = id_trees table.old invs.now in
-        let parts = condition_parts policy.now cut.now.code invs in
-        IfOk result (IsProofOfParts Sigma2 table.new parts) }
+        let parts = condition_parts policy.now bound cut.now.code invs in
+        bound ≡ None → IfOk result (IsProofOfParts Sigma2 table.new parts) }
+    ensures third { let invs = id_trees table.old invs.now in
+        let parts = condition_parts policy.now bound cut.now.code invs in
+        IfOk result (IsProofOfParts Sigma3 table.new parts) }
     ensures extends { Extends table.old table.new }
 {
     class_laws();
     is_cut_code(cut);
+    is_word(bound);
     policy.laws(); // tells the prover what the formulas name
-    let condition = condition_in(table, policy, cut, invs)?;
+    let condition = condition_in(table, policy, cut, invs, bound)?;
     let mut search = Search::new(table, MOST_SEARCHED);
-    let found = proof_of_parts(table, &mut search, condition, 0)?;
+    let found = proof_of_parts(table, &mut search, bound.is_some(), condition, 0)?;
     Ok(found)
 }

@@ -7,8 +7,7 @@ ghost use Rattle.std.specs.Prelude.{◌≡◌, ◌<◌, List, IfOk, IfSome, OnOk
 ghost use Rattle.term_table.specs.Table.{IsKnown, tree_at, Extends, Stands};
 ghost use Rattle.formula_tree.specs.Formulas.{Form};
 ghost use Rattle.formula_terms.specs.Encoding.{form_encoding};
-ghost use Rattle.prover_class.specs.Parts.{conjoined, part_proof};
-ghost use Rattle.prover_class.specs.Access.{by_all_means};
+ghost use Rattle.prover_class.specs.Parts.{conjoined, outside_part, part_proof};
 ghost use Rattle.goal_proofs.specs.Search.{IsSearch};
 ghost use Rattle.condition_prover.specs.Conditions.{IsKnownAnswer, IsPartsAnswer};
 ghost use Rattle.condition_prover.specs.Inside.Parts.{AreFirstAndRest};
@@ -52,30 +51,45 @@ fn first_and_rest(table: &Table, condition: Id) -> Option<Conjunction>
     }
 }
 
+/// How many binders count as outside of a part: that of the steps that are left does, where no steps
+/// are counted and it isn't the part's own.
+fn outside_part(counted: bool) -> u32
+    ensures { result ≡ outside_part counted }
+{
+    if counted { 0 } else { 1 }
+}
+
 /// The proof of a part from no hypotheses.
 #[tactic(auto, using(goal_proofs::proofs::Kept::rows))]
-fn part_proof(table: &mut Table, search: &mut Search, part: Id) -> Result<Option<Id>, Exhausted>
+fn part_proof(
+    table: &mut Table,
+    search: &mut Search,
+    counted: bool,
+    part: Id,
+) -> Result<Option<Id>, Exhausted>
     requires part { IsKnown table.old part }
     requires search { IsSearch table.old search.old }
     ensures known { IfOk result (λ o. IfSome o (IsKnown table.new)) }
     ensures exact { (A : Form) → tree_at table.old part ≡ form_encoding A
-        → IfOk result (Stands table.new (part_proof by_all_means A)) }
+        → IfOk result (Stands table.new (part_proof counted A)) }
     ensures extends { Extends table.old table.new }
     ensures search { OnOk result (IsSearch table.new search.new) }
 {
     let none = Hypotheses::new(table.allocator());
-    let mut context = Context::new(table, 0, none)?;
-    let proof = proof_by_all_means(table, search, &mut context, part)?;
+    let mut context = Context::new(table, outside_part(counted), none)?;
+    let proof = proof_by_all_means(table, search, &mut context, counted, part)?;
     Ok(proof)
 }
 
 /// The proof of a condition, part by part, or the number of the first part that isn't easy, where the
 /// parts' numbers begin at `number`. It says so of whatever parts the id is the conjunction of, one
-/// after another and ended by truth. Fails where a number would be 2^32, and where memory does.
+/// after another and ended by truth. `counted` says whether steps are counted. Fails where a number
+/// would be 2^32, and where memory does.
 #[tactic(auto, using(goal_proofs::proofs::Kept::rows))]
 pub(crate) fn proof_of_parts(
     table: &mut Table,
     search: &mut Search,
+    counted: bool,
     condition: Id,
     number: u32,
 ) -> Result<ConditionProof, Exhausted>
@@ -83,7 +97,7 @@ pub(crate) fn proof_of_parts(
     requires search { IsSearch table.old search.old }
     ensures known { IfOk result (IsKnownAnswer table.new) }
     ensures exact { (l : List Form) → tree_at table.old condition ≡ form_encoding (conjoined l)
-        → IfOk result (IsPartsAnswer table.new number l) }
+        → IfOk result (IsPartsAnswer table.new counted number l) }
     ensures extends { Extends table.old table.new }
     ensures search { OnOk result (IsSearch table.new search.new) }
 {
@@ -91,13 +105,13 @@ pub(crate) fn proof_of_parts(
         let proof = rule_term(table, TT_I, &[])?;
         return Ok(ConditionProof::Proved(proof));
     };
-    let Some(proof) = part_proof(table, search, parts.first)? else {
+    let Some(proof) = part_proof(table, search, counted, parts.first)? else {
         return Ok(ConditionProof::NotEasy(number));
     };
     let Some(next) = number.checked_add(1) else {
         return Err(Exhausted::Memory);
     };
-    match proof_of_parts(table, search, parts.rest, next)? {
+    match proof_of_parts(table, search, counted, parts.rest, next)? {
         ConditionProof::NotEasy(refused) => Ok(ConditionProof::NotEasy(refused)),
         ConditionProof::Proved(rest) => {
             let whole = rule_term(table, AND_I, &[parts.first, parts.rest, proof, rest])?;

@@ -2,7 +2,7 @@
 //! Faults, the first of two, and each cut of version 1 are in rows of `check` (command_rows:
 //! `containers.rows`); what is written of a table that was not read in rows of `prove`
 //! (`prove.rows`,
-//! `vectors.rows`); both versions beside each other in rows of text (`version_rows`).
+//! `vectors.rows`); the versions beside each other in rows of text (`version_rows`).
 
 use proof_container::{Container, Flaw, Head, Malformed, extent, read, write};
 use std::alloc::{AllocError, Global};
@@ -110,8 +110,9 @@ fn is_the_loop(container: &Container<'_>) -> Made<bool> {
     let is_constant = node(&container.table, id.index())? == Node::Const(13);
     let is_code = container.code == [0xff, 0xff, 0xff, 0xc3].as_slice();
     let is_first = index == 0;
-    let is_head = container.head == Head::Number(1);
-    Ok(is_head && is_code && is_first && is_constant && container.proof.is_none())
+    let is_head = container.version == 1 && container.head == Head::Number(1);
+    let is_bare = container.bound.is_none() && container.proof.is_none();
+    Ok(is_head && is_bare && is_code && is_first && is_constant)
 }
 
 /// Whether the loop is read as it is.

@@ -1,10 +1,9 @@
-//! Containers of both versions as rows of text, each with what is read of it.
+//! Containers of each version as rows of text, each with what is read of it.
 //!
 //! A row's bytes are pieces parted by blanks: `PCCA` is the magic, a decimal number a field, and
-//! `#` stands
-//! before bytes in hexadecimal. Its answer is a fault's offset and name, or how many terms there
-//! are and
-//! what the proof weighs, 0 where there is none; what is read so is written again as it was.
+//! `#` stands before bytes in hexadecimal. Its answer is a fault's offset and name, or how many
+//! terms there are and what the proof weighs, 0 where there is none; what is read so is written
+//! again as it was.
 
 use crate::proof_container_tests::again;
 use proof_container::{Container, Flaw, Head, Malformed, read};
@@ -23,11 +22,15 @@ const DIGEST: [u8; 32] = [
 const SHORT: &str = "PCCA 2 #0102030405060708090a0b0c0d0e0f101112131415161718191a1b1c1d1e1f20 \
                      2 #000030a4 #0180fa6b 0 0 0";
 
+/// The same of version 3 with a bound of 258 steps, of 68 bytes.
+const BOUNDED: &str = "PCCA 3 #0102030405060708090a0b0c0d0e0f101112131415161718191a1b1c1d1e1f20 \
+                       258 2 #000030a4 #0180fa6b 0 0 0";
+
 /// Versions and counts of code words.
 const HEADS: [(&str, &str); 14] = [
     ("PCCA 1 7 1 #ffffffc3 0 0 0", "0 terms, weight 0"),
     ("PCCA 0 7 1 #ffffffc3 0 0 0", "4 Version"),
-    ("PCCA 3 7 1 #ffffffc3 0 0 0", "4 Version"),
+    ("PCCA 3 7 1 #ffffffc3 0 0 0", "32 Cut"),
     ("PCCA 4 7 1 #ffffffc3 0 0 0", "4 Version"),
     ("PCCA 5 7 1 #ffffffc3 0 0 0", "4 Version"),
     ("PCCA 4294967295", "4 Version"),
@@ -44,26 +47,61 @@ const HEADS: [(&str, &str); 14] = [
     ("PCCA 1 1 2 3 4 5 6 7 8 1 #ffffffc3 0 0 0", "32 ForwardRef"),
 ];
 
-/// Faults behind the code, which stand 28 bytes further back in version 2.
-const BEHIND: [(&str, &str); 12] = [
-    ("PCCA 1 7 1 9 262145", "20 Count"),
-    ("PCCA 2 1 2 3 4 5 6 7 8 1 9 262145", "48 Count"),
-    ("PCCA 1 7 1 9 2 1 13 8", "32 EntryKind"),
-    ("PCCA 2 1 2 3 4 5 6 7 8 1 9 2 1 13 8", "60 EntryKind"),
-    ("PCCA 1 7 1 9 2 1 13 1 13", "32 DoubleEntry"),
-    ("PCCA 2 1 2 3 4 5 6 7 8 1 9 2 1 13 1 13", "60 DoubleEntry"),
-    ("PCCA 1 7 1 9 2 1 13 1 14 1 0 1 0", "24 Order"),
-    ("PCCA 2 1 2 3 4 5 6 7 8 1 9 2 1 13 1 14 1 0 1 0", "52 Order"),
-    ("PCCA 1 7 1 9 1 1 13 1 1 0 0", "36 InvOrder"),
-    ("PCCA 2 1 2 3 4 5 6 7 8 1 9 1 1 13 1 1 0 0", "64 InvOrder"),
-    ("PCCA 1 7 1 9 0 0 0 #00", "32 Trailing"),
-    ("PCCA 2 1 2 3 4 5 6 7 8 1 9 0 0 0 #00", "60 Trailing"),
+/// Bounds of version 3, and counts of code words behind them; in version 2 no bound stands there.
+const BOUNDS: [(&str, &str); 14] = [
+    (
+        "PCCA 3 1 2 3 4 5 6 7 8 1 1 #ffffffc3 0 0 0",
+        "0 terms, weight 0",
+    ),
+    (
+        "PCCA 3 1 2 3 4 5 6 7 8 1000000000 1 #ffffffc3 0 0 0",
+        "0 terms, weight 0",
+    ),
+    ("PCCA 3 1 2 3 4 5 6 7 8 0 1 #ffffffc3 0 0 0", "40 Count"),
+    (
+        "PCCA 3 1 2 3 4 5 6 7 8 1000000001 1 #ffffffc3 0 0 0",
+        "40 Count",
+    ),
+    ("PCCA 3 1 2 3 4 5 6 7 8 4294967295", "40 Count"),
+    ("PCCA 3 1 2 3 4 5 6 7 8", "40 Cut"),
+    ("PCCA 3 1 2 3 4 5 6 7 8 #010000", "40 Cut"),
+    ("PCCA 3 1 2 3 4 5 6 7 8 #00000000", "40 Count"),
+    ("PCCA 3 1 2 3 4 5 6 7 8 5", "44 Cut"),
+    ("PCCA 3 1 2 3 4 5 6 7 8 5 0", "44 Count"),
+    ("PCCA 3 1 2 3 4 5 6 7 8 5 1025", "44 Count"),
+    ("PCCA 3 1 2 3 4 5 6 7 8 5 2 9", "52 Cut"),
+    ("PCCA 3 1 2 3 4 5 6 7 8 1 #ffffffc3 0 0 0", "44 Count"),
+    ("PCCA 2 1 2 3 4 5 6 7 8 1 1 #ffffffc3 0 0 0", "48 Count"),
 ];
 
-/// The proof is constant 96, 97, 88, 103 or 104 at applications of weight 3: a parameter counts 1,
-/// and in
-/// version 1 no constant above 87 has any.
-const WEIGHTS: [(&str, &str); 10] = [
+/// Faults behind the code, which stand 28 bytes further back in version 2, and 32 in version 3.
+const BEHIND: [(&str, &str); 18] = [
+    ("PCCA 1 7 1 9 262145", "20 Count"),
+    ("PCCA 2 1 2 3 4 5 6 7 8 1 9 262145", "48 Count"),
+    ("PCCA 3 1 2 3 4 5 6 7 8 5 1 9 262145", "52 Count"),
+    ("PCCA 1 7 1 9 2 1 13 8", "32 EntryKind"),
+    ("PCCA 2 1 2 3 4 5 6 7 8 1 9 2 1 13 8", "60 EntryKind"),
+    ("PCCA 3 1 2 3 4 5 6 7 8 5 1 9 2 1 13 8", "64 EntryKind"),
+    ("PCCA 1 7 1 9 2 1 13 1 13", "32 DoubleEntry"),
+    ("PCCA 2 1 2 3 4 5 6 7 8 1 9 2 1 13 1 13", "60 DoubleEntry"),
+    ("PCCA 3 1 2 3 4 5 6 7 8 5 1 9 2 1 13 1 13", "64 DoubleEntry"),
+    ("PCCA 1 7 1 9 2 1 13 1 14 1 0 1 0", "24 Order"),
+    ("PCCA 2 1 2 3 4 5 6 7 8 1 9 2 1 13 1 14 1 0 1 0", "52 Order"),
+    (
+        "PCCA 3 1 2 3 4 5 6 7 8 5 1 9 2 1 13 1 14 1 0 1 0",
+        "56 Order",
+    ),
+    ("PCCA 1 7 1 9 1 1 13 1 1 0 0", "36 InvOrder"),
+    ("PCCA 2 1 2 3 4 5 6 7 8 1 9 1 1 13 1 1 0 0", "64 InvOrder"),
+    ("PCCA 3 1 2 3 4 5 6 7 8 5 1 9 1 1 13 1 1 0 0", "68 InvOrder"),
+    ("PCCA 1 7 1 9 0 0 0 #00", "32 Trailing"),
+    ("PCCA 2 1 2 3 4 5 6 7 8 1 9 0 0 0 #00", "60 Trailing"),
+    ("PCCA 3 1 2 3 4 5 6 7 8 5 1 9 0 0 0 #00", "64 Trailing"),
+];
+
+/// The proof is a constant of this number at applications of weight 2: a parameter counts 1, and no
+/// constant above 87 has any in version 1, nor one above 103 in version 2.
+const WEIGHTS: [(&str, &str); 14] = [
     (
         "PCCA 1 7 1 9 5 1 96 1 0 2 5 0 6 1 2 6 0 3 0 5",
         "5 terms, weight 3",
@@ -97,6 +135,22 @@ const WEIGHTS: [(&str, &str); 10] = [
         "5 terms, weight 3",
     ),
     (
+        "PCCA 3 1 2 3 4 5 6 7 8 5 1 9 5 1 104 1 0 2 5 0 6 1 2 6 0 3 0 5",
+        "5 terms, weight 2",
+    ),
+    (
+        "PCCA 2 1 2 3 4 5 6 7 8 1 9 8 1 104 1 0 2 5 0 6 1 2 6 0 3 6 4 3 6 5 3 6 6 3 0 8",
+        "8 terms, weight 9",
+    ),
+    (
+        "PCCA 3 1 2 3 4 5 6 7 8 5 1 9 8 1 104 1 0 2 5 0 6 1 2 6 0 3 6 4 3 6 5 3 6 6 3 0 8",
+        "8 terms, weight 6",
+    ),
+    (
+        "PCCA 3 1 2 3 4 5 6 7 8 5 1 9 6 1 103 1 0 2 5 0 6 1 2 6 0 3 6 4 3 0 6",
+        "6 terms, weight 3",
+    ),
+    (
         "PCCA 1 7 1 9 5 1 42 1 0 2 5 0 6 1 2 6 0 3 0 5",
         "5 terms, weight 2",
     ),
@@ -106,8 +160,8 @@ const WEIGHTS: [(&str, &str); 10] = [
     ),
 ];
 
-/// What another program, written apart from this one, says of files of version 2.
-const OUTSIDE: [(&str, &str); 3] = [
+/// What another program, written apart from this one, says of files of versions 2 and 3.
+const OUTSIDE: [(&str, &str); 8] = [
     (
         "#504343410200000040d20cb4fd5a11d62db92b4927210cacb82f6fe4c6343a032ceab66436ae3c \
          #5106000000400090a60300a0f211f86046fdff1fe41c98a4450180fa6b01000000040000000200 \
@@ -125,6 +179,34 @@ const OUTSIDE: [(&str, &str); 3] = [
         "#50434341020000003b02834006000000152631c225d07049125343e99e3f6be3cf4d2f0931e14a \
          #eef88ab835",
         "40 Count",
+    ),
+    (
+        "#504343410300000040d20cb4fd5a11d62db92b4927210cacb82f6fe4c6343a032ceab66436ae3c \
+         #5101000000010000000180fa6b000000000000000000000000",
+        "0 terms, weight 0",
+    ),
+    (
+        "#50434341030000003b028340152631c224d07049125343e99e3f6be3cf4d2f0931e14aeef88ab8 \
+         #3500ca9a3b0c000000b7774040a717a741a4f9274132053042c832c0482800b02cb80788411101 \
+         #a645a70515400000e0c3000000000180fa6b010000000400000002000000000000800000000000 \
+         #000000010000000000000001000000",
+        "1 terms, weight 1",
+    ),
+    (
+        "#504343410300000040d20cb4fd5a11d62db92b4927210cacb82f6fe4c6343a032ceab66436ae3c \
+         #5100ca9a3b020000000114e0420180fa6b0000000000000000000000000000",
+        "68 Trailing",
+    ),
+    (
+        "#5043434103000000776f42a48720f4e2ffa048057c9c305639cfb455b869f440f94acbd6633c9f \
+         #d60100000002",
+        "44 Cut",
+    ),
+    (
+        "#5043434103000000776f42a48720f4e2ffa048057c9c305639cfb455b869f440f94acbd6633c9f \
+         #d601000000060000000414a746a773a041b4090c401b10e746feff3fed0180fa6b030000005d00 \
+         #00000600000000000000010000000000000003000000000000000000",
+        "76 EntryKind",
     ),
 ];
 
@@ -193,8 +275,11 @@ fn comes_out(alloc: Global, row: (&str, &str)) -> Made<bool> {
 }
 
 #[test]
-fn rows_of_both_versions(rt: HostRuntime) -> Result<(), Fail> {
+fn rows_of_each_version(rt: HostRuntime) -> Result<(), Fail> {
     for row in HEADS {
+        assert!(rt; comes_out(rt.alloc(), row)?, "{}", row.0);
+    }
+    for row in BOUNDS {
         assert!(rt; comes_out(rt.alloc(), row)?, "{}", row.0);
     }
     for row in BEHIND {
@@ -232,11 +317,14 @@ fn is_cut(alloc: Global, bytes: &[u8], n: usize) -> bool {
     }
 }
 
-/// Whether the short container has its digest, byte by byte, and is version 2.
-fn has_digest(alloc: Global, bytes: &[u8]) -> bool {
+/// Whether the container has its version and bound, and the digest, byte by byte.
+fn has_front(alloc: Global, bytes: &[u8], version: u32, bound: Option<u32>) -> bool {
     match read(alloc, bytes) {
         Err(_) => false,
-        Ok(container) => { container.head == Head::Digest(DIGEST) && container.head.version() == 2 }
+        Ok(container) => {
+            let is_named = container.head == Head::Digest(DIGEST);
+            is_named && container.version == version && container.bound == bound
+        }
     }
 }
 
@@ -247,6 +335,17 @@ fn each_cut_of_version_2(rt: HostRuntime) -> Result<(), Fail> {
     for n in 0..64 {
         assert!(rt; is_cut(rt.alloc(), &bytes, n), "{n}");
     }
-    assert!(rt; has_digest(rt.alloc(), &bytes));
+    assert!(rt; has_front(rt.alloc(), &bytes, 2, None));
+    Ok(())
+}
+
+#[test]
+fn each_cut_of_version_3(rt: HostRuntime) -> Result<(), Fail> {
+    let bytes = bytes_of_row(rt.alloc(), BOUNDED)?;
+    assert!(rt; bytes.len() == 68);
+    for n in 0..68 {
+        assert!(rt; is_cut(rt.alloc(), &bytes, n), "{n}");
+    }
+    assert!(rt; has_front(rt.alloc(), &bytes, 3, Some(258)));
     Ok(())
 }

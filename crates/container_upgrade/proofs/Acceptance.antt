@@ -1,5 +1,5 @@
 -- What an accepted container is upgraded to is accepted.
-use Rattle.std.proofs.Common.{◌≡◌, ℕ, ◌≤◌, Bool, List, [], ◌∷◌, Option, Some, IfSome, sym, ap, ◌∙◌, subst, arith}
+use Rattle.std.proofs.Common.{◌≡◌, ℕ, ◌≤◌, Bool, List, [], ◌∷◌, Option, Some, None, IfSome, sym, ap, ◌∙◌, subst, arith}
 use Rattle.word_ops.specs.declared.Profile.TheVariants.{One, Two}
 use Rattle.alpha_words.specs.declared.insn.Insn.{Insn}
 use Rattle.alpha_cfg.specs.CodeBytes.{EncodesCode}
@@ -16,20 +16,20 @@ use Rattle.policy_set.specs.Policies.{pre_of, post_of}
 use Rattle.policy_set.specs.Names.{kind_number, IsNumberOf}
 use Rattle.policy_set.specs.Views.{PolicyView, built_in, IsPolicy}
 use Rattle.policy_set.specs.Digest.{digest_of}
-use Rattle.proof_container.specs.declared.container.Head.{Head}
 use Rattle.proof_container.specs.declared.container.Head.TheVariants.{Number, Digest}
+use Rattle.proof_container.specs.Versions.{profile_of, signature_of}
 use Rattle.proof_container.specs.Contents.{Contents}
 use Rattle.proof_container.specs.Encoding.{EncodesContents}
-use Rattle.vcgen.specs.Encoded.{AreForms}
+use Rattle.vcgen.specs.Encoded.{AreForms, EncodesCondition}
 use Rattle.pcc_gate.specs.Accepted.{Accepts}
 use Rattle.pcc_gate.specs.ForPolicy.{IsFor}
 use Rattle.pcc_gate.specs.Passing.{Passes}
-use Rattle.pcc_gate.specs.Versions.{head_profile, head_signature}
 use Rattle.pcc_gate.specs.declared.limits.TheConstants.{MAX_WEIGHT}
 use Rattle.container_upgrade.specs.Laws.{UpgradedAccepted}
 use Rattle.container_upgrade.specs.Upgrading.{kind_numbered, with_digest}
 use Rattle.container_upgrade.specs.Upgrades.{IsUpgrade}
 use Rattle.container_upgrade.proofs.Exactly.{numbered-kind}
+use Rattle.container_upgrade.proofs.Renamed.{first-version, first-unbounded}
 
 -- the bytes of code in the first profile are those of the same code in the second
 abbrev pub CodeLater : Type 0
@@ -82,7 +82,8 @@ digest-for policy kind kept h = same-digest policy kind kept (same-kind policy k
 
 -- ---- the terms
 
-forms-longer : ChecksLonger → (invs : List (ℕ × Tree)) → AreForms Sigma1 invs → AreForms Sigma2 invs
+forms-longer : ChecksLonger → (invs : List (ℕ × Tree)) → AreForms Sigma1 None invs
+    → AreForms Sigma2 None invs
 forms-longer longer [] h = tt
 forms-longer longer (p ∷ ps) h = (
   longer Sigma1 Sigma2 (sort_types machine_context) p.1 form (omega arith) (omega arith) h.0,
@@ -104,24 +105,34 @@ module _
   abbrev renamed : Contents
   renamed = with_digest (built_in u.kind) u.contents
 
+  first : u.contents.version ≡ 1
+  first = first-version u.contents (kind_number u.kind) u.old.contents u.number
+
+  unbounded : u.contents.bound ≡ None
+  unbounded = first-unbounded u.contents (kind_number u.kind) u.old.contents u.number
+
+  forms-upgraded : AreForms (signature_of u.contents.version) u.contents.bound u.contents.invs
+      → AreForms Sigma2 None u.contents.invs
+  forms-upgraded forms =
+      forms-longer longer u.contents.invs
+      (subst (λ (b : Option ℕ). AreForms Sigma1 b u.contents.invs) unbounded
+      (subst (λ (v : ℕ). AreForms (signature_of v) u.contents.bound u.contents.invs) first forms))
+
   passes-upgraded : Passes policy bytes u.contents code marks
       → Passes policy out renamed code marks
   passes-upgraded p =
-      let first : u.contents.head ≡ Number (kind_number u.kind) = u.number in
-      let named : IsFor policy (Number (kind_number u.kind)) = subst (IsFor policy) first p.named in
+      let named : IsFor policy (Number (kind_number u.kind)) =
+      subst (IsFor policy) u.number p.named in
       record {
         size = u.short;
         container = u.new;
         named = digest-for policy u.kind kept named;
         encoded =
             later u.contents.code code
-            (subst (λ (x : Head). EncodesCode (head_profile x) u.contents.code code) first
-            p.encoded);
+            (subst (λ (v : ℕ). EncodesCode (profile_of v) u.contents.code code) first p.encoded);
         code = p.code;
         heights = p.heights;
-        forms =
-            forms-longer longer u.contents.invs
-            (subst (λ (x : Head). AreForms (head_signature x) u.contents.invs) first p.forms);
+        forms = forms-upgraded p.forms;
         annotated = p.annotated;
         cut = p.cut;
         unfolded = p.unfolded;
@@ -130,12 +141,10 @@ module _
   accepts-upgraded : Accepts policy bytes u.contents code marks
       → Accepts policy out renamed code marks
   accepts-upgraded a =
-      let first : u.contents.head ≡ Number (kind_number u.kind) = u.number in
       let proved : Checks (declared Sigma1) [] a.proof (pf a.vc) =
-      subst (λ (x : Head). Checks (declared (head_signature x)) [] a.proof (pf a.vc)) first
-      a.proved in
+      subst (λ (v : ℕ). Checks (declared (signature_of v)) [] a.proof (pf a.vc)) first a.proved in
       let light = subst
-      (λ (x : Head). weight_of (places_of (head_signature x)) a.proof ≤ MAX_WEIGHT)
+      (λ (v : ℕ). weight_of (places_of (signature_of v)) a.proof ≤ MAX_WEIGHT)
       first a.weight in
       let same : weight_of (places_of Sigma2) a.proof ≡ weight_of (places_of Sigma1) a.proof =
       weighs Sigma1 Sigma2 [] a.proof (pf a.vc) (omega arith) proved in
@@ -145,7 +154,9 @@ module _
         vc = a.vc;
         given = a.given;
         weight = subst (λ n. n ≤ MAX_WEIGHT) (sym same) light;
-        condition = a.condition;
+        condition =
+            subst (λ (b : Option ℕ). EncodesCondition policy b code u.contents.invs a.vc)
+            unbounded a.condition;
         proved = longer Sigma1 Sigma2 [] a.proof (pf a.vc) (omega arith) (omega arith) proved;
       }
 

@@ -1,5 +1,5 @@
 -- A digest is thirty-two bytes.
-use Rattle.std.proofs.Common.{◌≡◌, ℕ, zero, suc, ◌-◌, ◌<◌, ◌≤◌, ◌⊎◌, inl, inr, List, ◌++◌, length, get_or, refl, sym, subst, arith}
+use Rattle.std.proofs.Common.{◌≡◌, ◌≢◌, ℕ, zero, suc, ◌-◌, ◌<◌, ◌≤◌, ◌⊎◌, inl, inr, List, ◌++◌, length, get_or, refl, sym, subst, arith}
 use Rattle.std.proofs.lemmas.Bool.{cases_lt}
 use Rattle.std.proofs.lemmas.List.{get_or_append_left, get_or-append_right}
 use Rattle.std.proofs.Math.Nat.{mod-lt}
@@ -42,6 +42,8 @@ sha256-bytes : (m : List ℕ) → IsBytes (sha256 m)
 unfolding sha256
 sha256-bytes m = digest-bytes _ 8
 
--- the digest of a policy names it in a container
-pub digest-head : (policy : PolicyView) → IsHead (Digest (digest_of policy))
-digest-head policy = (length-sha256 (policy_text policy), sha256-bytes (policy_text policy))
+-- the digest of a policy names it in a container of a later version
+pub digest-head : (policy : PolicyView) (version : ℕ) → version ≢ 1
+    → IsHead version (Digest (digest_of policy))
+digest-head policy version later =
+    (later, length-sha256 (policy_text policy), sha256-bytes (policy_text policy))

@@ -64,7 +64,8 @@ module _ (bytes out : List ℕ) (c : Contents) (old : EncodesContents bytes c) w
       → encoding_of (with_digest (built_in kind) c) ≡ out → IsUpgrade bytes out
   upgrade-at kind number fits is =
       let grown : length (encoding_of (with_digest (built_in kind) c))
-      ≡ length (encoding_of c) + 28 = renamed-length (built_in kind) c (kind_number kind) number in
+      ≡ length (encoding_of c) + 28 =
+      renamed-length (built_in kind) c (kind_number kind) old.contents number in
       let before : length bytes ≡ length (encoding_of c) = ap length old.encoded in
       let after : length (encoding_of (with_digest (built_in kind) c)) ≡ length out =
       ap length is in

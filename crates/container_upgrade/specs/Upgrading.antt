@@ -27,10 +27,12 @@ kind_numbered n =
     if n == 3 then Some Table else
     None
 
--- the contents, with the digest of the policy as head
+-- the contents as those of version 2, with the digest of the policy as head
 abbrev pub with_digest : PolicyView → Contents → Contents
 with_digest policy c = record {
+  version = 2;
   head = Digest (digest_of policy);
+  bound = None;
   code = c.code;
   invs = c.invs;
   proof = c.proof;
@@ -50,7 +52,7 @@ contents_in bytes =
     then Err (fault.TooLong (length bytes))
     else contents_found (decoded_container bytes)
 
--- the number that a container of version 1 names its policy by
+-- the number that a container names its policy by, which those of version 1 do, and no others
 abbrev pub number_in : Head → Result ℕ UpgradeFault
 number_in (Number n) = Ok n
 number_in (Digest d) = Err fault.Already

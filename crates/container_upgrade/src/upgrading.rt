@@ -32,7 +32,8 @@ fn container_in(alloc: Global, bytes: &[u8]) -> Result<Container<'_>, UpgradeFau
     }
 }
 
-/// The number that a container of version 1 names its policy by. Errors: `Already`.
+/// The number that a container names its policy by, which those of version 1 do, and no others.
+/// Errors: `Already`.
 fn number_in(head: Head) -> Result<u32, UpgradeFault>
     ensures { IsUpgraded (λ n. n) (number_in head) result }
 {
@@ -89,7 +90,9 @@ fn rewritten(
     let named = digest(alloc, &policy)?;
     let shown = container.view();
     let view = View {
+        version: 2,
         head: Head::Digest(named),
+        bound: None,
         code: shown.code,
         table: shown.table,
         invs: shown.invs,

@@ -4,7 +4,7 @@ use Rattle.std.specs.Str.{bytes_eq}
 use Rattle.std.specs.Option.{option_map}
 use Rattle.std.proofs.lemmas.Option.{slice_get_within}
 use Rattle.formula_tree.specs.Formulas.{Exp, EReg, ELeft, EVar, ELit, EOp, ESel, MemExp, MMem, MVar, MUpd, Form, FTrue, FFalse, FRel, FRd, FWr, FAnd, FOr, FImp, FAll, FAllm}
-use Rattle.formula_tree.specs.Scope.{VarSort, OfWord, OfMem, OfProof, sort_at, IsOverExp, IsOverMem, IsOver}
+use Rattle.formula_tree.specs.Scope.{VarSort, OfWord, OfMem, OfProof, sort_at, IsWithinExp, IsWithinMem, IsWithin}
 use Rattle.text_tokens.specs.declared.parens.Paren.{Paren}
 use Rattle.text_tokens.specs.Tokens.{Token}
 use Rattle.text_tokens.specs.Registers.{registers, IsRegister}
@@ -18,7 +18,7 @@ use Rattle.word_ops.specs.declared.Op.{Op}
 use Rattle.word_ops.specs.Operators.{has_op}
 use Rattle.formula_tree.specs.Operators.{UsesExp, UsesMem, Uses}
 
-module _ (profile : Profile) where
+module _ (profile : Profile) (left : Bool) where
   abbrev var_sort : PhraseSort → VarSort
   var_sort S.Exp = OfWord
   var_sort S.Mem = OfMem
@@ -49,20 +49,20 @@ module _ (profile : Profile) where
   register_below r w h = let l = slice_get_within registers r h.0 h.1 in omega (arith, l, length-registers)
 
   mutual
-    exp_closed : (a : Exp) (s : Bindings) (ts : List (Token Paren)) → SpellsExp profile a s ts → IsOverExp 32 a (sorts_of s)
+    exp_closed : (a : Exp) (s : Bindings) (ts : List (Token Paren)) → SpellsExp profile left a s ts → IsWithinExp left 32 a (sorts_of s)
     exp_closed (EReg r) s ts h = register_below r h.0 h.1
-    exp_closed ELeft s ts h = absurd h
+    exp_closed ELeft s ts h = h.0
     exp_closed (EVar n) s ts h = binding_sort s h.0 (n, S.Exp) h.2
     exp_closed (ELit n) s ts h = h.2
     exp_closed (EOp o a b) s ts h = (exp_closed a s h.0 h.2, exp_closed b s h.1 h.3)
     exp_closed (ESel m a) s ts h = (mem_closed m s h.0 h.2, exp_closed a s h.1 h.3)
 
-    mem_closed : (m : MemExp) (s : Bindings) (ts : List (Token Paren)) → SpellsMem profile m s ts → IsOverMem 32 m (sorts_of s)
+    mem_closed : (m : MemExp) (s : Bindings) (ts : List (Token Paren)) → SpellsMem profile left m s ts → IsWithinMem left 32 m (sorts_of s)
     mem_closed MMem s ts h = omega arith
     mem_closed (MVar n) s ts h = binding_sort s h.0 (n, S.Mem) h.2
     mem_closed (MUpd m a v) s ts h = (mem_closed m s h.0 h.3, exp_closed a s h.1 h.4, exp_closed v s h.2 h.5)
 
-  form_closed : (A : Form) (s : Bindings) (ts : List (Token Paren)) → SpellsForm profile A s ts → IsOver 32 A (sorts_of s)
+  form_closed : (A : Form) (s : Bindings) (ts : List (Token Paren)) → SpellsForm profile left A s ts → IsWithin left 32 A (sorts_of s)
   form_closed FTrue s ts h = tt
   form_closed FFalse s ts h = tt
   form_closed (FRel p a b) s ts h = (exp_closed a s h.0 h.2, exp_closed b s h.1 h.3)
@@ -74,7 +74,7 @@ module _ (profile : Profile) where
   form_closed (FAll A) s ts h = form_closed A ((h.0, S.Exp) ∷ s) h.1 h.3
   form_closed (FAllm A) s ts h = form_closed A ((h.0, S.Mem) ∷ s) h.1 h.3
 
-  pub spelled_closed : (text : List ℕ) (f : Form) → Spells profile text f → IsOver 32 f []
+  pub spelled_closed : (text : List ℕ) (f : Form) → Spells profile left text f → IsWithin left 32 f []
   spelled_closed text f h = form_closed f [] h.tokens h.spelled
 
   -- the profile has the operator
@@ -82,7 +82,7 @@ module _ (profile : Profile) where
   Had o = has_op profile o ≡ true
 
   mutual
-    exp_uses : (a : Exp) (s : Bindings) (ts : List (Token Paren)) → SpellsExp profile a s ts → UsesExp Had a
+    exp_uses : (a : Exp) (s : Bindings) (ts : List (Token Paren)) → SpellsExp profile left a s ts → UsesExp Had a
     exp_uses (EReg r) s ts h = tt
     exp_uses ELeft s ts h = tt
     exp_uses (EVar n) s ts h = tt
@@ -90,12 +90,12 @@ module _ (profile : Profile) where
     exp_uses (EOp o a b) s ts h = (h.5, exp_uses a s h.0 h.2, exp_uses b s h.1 h.3)
     exp_uses (ESel m a) s ts h = (mem_uses m s h.0 h.2, exp_uses a s h.1 h.3)
 
-    mem_uses : (m : MemExp) (s : Bindings) (ts : List (Token Paren)) → SpellsMem profile m s ts → UsesMem Had m
+    mem_uses : (m : MemExp) (s : Bindings) (ts : List (Token Paren)) → SpellsMem profile left m s ts → UsesMem Had m
     mem_uses MMem s ts h = tt
     mem_uses (MVar n) s ts h = tt
     mem_uses (MUpd m a v) s ts h = (mem_uses m s h.0 h.3, exp_uses a s h.1 h.4, exp_uses v s h.2 h.5)
 
-  form_uses : (A : Form) (s : Bindings) (ts : List (Token Paren)) → SpellsForm profile A s ts → Uses Had A
+  form_uses : (A : Form) (s : Bindings) (ts : List (Token Paren)) → SpellsForm profile left A s ts → Uses Had A
   form_uses FTrue s ts h = tt
   form_uses FFalse s ts h = tt
   form_uses (FRel p a b) s ts h = (exp_uses a s h.0 h.2, exp_uses b s h.1 h.3)
@@ -107,5 +107,5 @@ module _ (profile : Profile) where
   form_uses (FAll A) s ts h = form_uses A ((h.0, S.Exp) ∷ s) h.1 h.3
   form_uses (FAllm A) s ts h = form_uses A ((h.0, S.Mem) ∷ s) h.1 h.3
 
-  pub spelled_uses : (text : List ℕ) (f : Form) → Spells profile text f → Uses Had f
+  pub spelled_uses : (text : List ℕ) (f : Form) → Spells profile left text f → Uses Had f
   spelled_uses text f h = form_uses f [] h.tokens h.spelled

@@ -14,7 +14,7 @@ use Rattle.text_tokens.proofs.Known.{same_bytes}
 use Rattle.formula_text.specs.declared.keywords.Keyword.{Keyword}
 use Rattle.formula_text.specs.declared.keywords.Keyword.TheVariants as K
 use Rattle.formula_text.specs.Keywords.{keyword_text, keywords, keyword_in, keyword_or, keyword_of, binder_sort, has_keyword}
-use Rattle.formula_text.specs.Bindings.{is_lower, are_lower_or_digits, is_identifier, is_reserved, is_name}
+use Rattle.formula_text.specs.Bindings.{is_lower, are_lower_or_digits, is_identifier, is_left, is_reserved, is_name}
 use Rattle.word_ops.specs.declared.Profile.{Profile}
 use Rattle.word_ops.specs.declared.Profile.TheVariants.{One, Two}
 use Rattle.formula_text.specs.declared.keywords.PhraseSort.{PhraseSort}
@@ -118,17 +118,28 @@ no_some : {A : Type 0} (o : Option A) → is_some o ≡ false → o ≡ None
 no_some None e = refl
 no_some (Some x) e = absurd (true≢false e)
 
-pub record IsFree (w : List ℕ) : Type 0 where
+pub record IsFree (left : Bool) (w : List ℕ) : Type 0 where
   pub digit : begins_with_digit w ≡ false
   pub register : register_of w ≡ None
   pub memory : bytes_eq w (codes "m") ≡ false
+  pub steps : is_left left w ≡ false
 
--- a name is no number, no register and not `m`
-pub name_free : (profile : Profile) (w : List ℕ) → is_name profile w ≡ true → IsFree w
+-- a name is no number, no register, not `m` and not that of the steps that are left
+pub name_free : (profile : Profile) (left : Bool) (w : List ℕ) → is_name profile left w ≡ true
+    → IsFree left w
 unfolding is_name
-name_free profile w e =
-    let p = and_parts (is_identifier w) (not (is_some (register_of w)) && not (is_reserved profile w)) e in
-    let q = and_parts (not (is_some (register_of w))) (not (is_reserved profile w)) p.1 in
-    let r = or_parts (is_some (keyword_of profile w)) _ (not-true (is_reserved profile w) q.1) in
+name_free profile left w e =
+    let p = and_parts (is_identifier w)
+    (not (is_some (register_of w)) && not (is_reserved profile left w)) e in
+    let q = and_parts (not (is_some (register_of w))) (not (is_reserved profile left w)) p.1 in
+    let r = or_parts (is_some (keyword_of profile w)) _
+    (not-true (is_reserved profile left w) q.1) in
     let s = or_parts (bytes_eq w (codes "tt")) _ r.1 in
-    record { digit = identifier_no_digit w p.0; register = no_some (register_of w) (not-true _ q.0); memory = (or_parts (bytes_eq w (codes "ff")) _ s.1).1 }
+    let t = or_parts (bytes_eq w (codes "ff")) _ s.1 in
+    let u = or_parts (bytes_eq w (codes "m")) (is_left left w) t.1 in
+    record {
+      digit = identifier_no_digit w p.0;
+      register = no_some (register_of w) (not-true _ q.0);
+      memory = u.0;
+      steps = u.1;
+    }

@@ -14,7 +14,7 @@ use Rattle.word_ops.specs.Operators.{op_keyword, op_of_keyword, has_op}
 use Rattle.word_ops.proofs.EachOp.{each_op}
 use Rattle.word_ops.specs.declared.Rel.TheVariants as R
 use Rattle.formula_tree.specs.Formulas.{Exp, EReg, ELeft, EVar, ELit, EOp, ESel, MemExp, MMem, MVar, MUpd, Form, FTrue, FFalse, FRel, FRd, FWr, FAnd, FOr, FImp, FAll, FAllm}
-use Rattle.formula_tree.specs.Scope.{VarSort, OfWord, OfMem, OfProof, sort_at, IsOverExp, IsOverMem, IsOver}
+use Rattle.formula_tree.specs.Scope.{VarSort, OfWord, OfMem, OfProof, sort_at, IsWithinExp, IsWithinMem, IsWithin}
 use Rattle.formula_tree.specs.Sizes.{binders}
 use Rattle.text_tokens.specs.declared.tokens.Class.TheVariants as C
 use Rattle.text_tokens.specs.declared.parens.Paren.{Paren}
@@ -36,7 +36,7 @@ use Rattle.word_ops.specs.declared.Profile.{Profile}
 use Rattle.word_ops.specs.declared.Op.{Op}
 use Rattle.formula_tree.specs.Operators.{UsesExp, UsesMem, Uses}
 
-module _ (profile : Profile) where
+module _ (profile : Profile) (left : Bool) where
   -- ---- bytes
 
   closes_class : paren_class 41 ≡ C.Mark P.Close
@@ -178,7 +178,7 @@ module _ (profile : Profile) where
   no_keyword [] h = refl
   no_keyword (c ∷ cs) h = let r = digit_from_value c h.0 in rw (differs c 111 (inl (omega (arith, r.1)))) refl
 
-  name_is : (d : ℕ) → d < 2 ^ 64 → is_name profile (name_of d) ≡ true
+  name_is : (d : ℕ) → d < 2 ^ 64 → is_name profile left (name_of d) ≡ true
   unfolding is_name
   name_is d h =
       let ds = decimal d in
@@ -230,6 +230,9 @@ module _ (profile : Profile) where
   unfolding paren_class
   false_lexeme = record { some = omega arith; whole = (refl, (refl, tt)) }
 
+  steps_lexeme : IsLexeme paren_class (codes "left")
+  steps_lexeme = plain_lexeme (codes "left") refl
+
   -- ---- trees
 
   abbrev Printed : (List (Token Paren) → Type 0) → List ℕ → Type 0
@@ -246,11 +249,11 @@ module _ (profile : Profile) where
   Had o = has_op profile o ≡ true
 
   mutual
-    exp_prints : (a : Exp) (q : List VarSort) → length q ≤ 2 ^ 64 → UsesExp Had a → IsOverExp 32 a q → Printed (SpellsExp profile a (names_of q)) (exp_text (length q) a)
-    exp_prints (EReg r) q l u h = one_lexeme (SpellsExp profile (EReg r) (names_of q)) (114 ∷ decimal r) (lettered_lexeme 114 r (omega arith) (omega (arith, h))) (114 ∷ decimal r, register_prints r h, refl)
-    exp_prints ELeft q l u h = absurd h
-    exp_prints (EVar k) q l u h = let below = under q k OfWord l h in one_lexeme (SpellsExp profile (EVar k) (names_of q)) (name_of (length q - suc k)) (lettered_lexeme 120 (length q - suc k) (omega arith) below) (name_of (length q - suc k), name_is (length q - suc k) below, binding_prints q k OfWord l h, refl)
-    exp_prints (ELit n) q l u h = let d = decimal_is_IsNumeral n h in one_lexeme (SpellsExp profile (ELit n) (names_of q)) (decimal n) (decimal_lexeme n h) (decimal n, inl (d.0, sym d.1), h, refl)
+    exp_prints : (a : Exp) (q : List VarSort) → length q ≤ 2 ^ 64 → UsesExp Had a → IsWithinExp left 32 a q → Printed (SpellsExp profile left a (names_of q)) (exp_text (length q) a)
+    exp_prints (EReg r) q l u h = one_lexeme (SpellsExp profile left (EReg r) (names_of q)) (114 ∷ decimal r) (lettered_lexeme 114 r (omega arith) (omega (arith, h))) (114 ∷ decimal r, register_prints r h, refl)
+    exp_prints ELeft q l u h = one_lexeme (SpellsExp profile left ELeft (names_of q)) (codes "left") steps_lexeme (h, refl)
+    exp_prints (EVar k) q l u h = let below = under q k OfWord l h in one_lexeme (SpellsExp profile left (EVar k) (names_of q)) (name_of (length q - suc k)) (lettered_lexeme 120 (length q - suc k) (omega arith) below) (name_of (length q - suc k), name_is (length q - suc k) below, binding_prints q k OfWord l h, refl)
+    exp_prints (ELit n) q l u h = let d = decimal_is_IsNumeral n h in one_lexeme (SpellsExp profile left (ELit n) (names_of q)) (decimal n) (decimal_lexeme n h) (decimal n, inl (d.0, sym d.1), h, refl)
     exp_prints (EOp o a b) q l u h =
         let x = exp_prints a q l u.1 h.0 in let y = exp_prints b q l u.2 h.1 in
         (group (K.Oper o) (x.0 ++ y.0), (x.0, y.0, x.1, y.1, refl, u.0), group_prints (K.Oper o) (exp_text (length q) a ∷ exp_text (length q) b ∷ []) (x.0 ++ y.0) (x.0, y.0, x.2, (y.0, [], y.2, refl, sym (append-nil y.0)), refl))
@@ -258,9 +261,9 @@ module _ (profile : Profile) where
         let x = mem_prints m q l u.0 h.0 in let y = exp_prints a q l u.1 h.1 in
         (group K.Sel (x.0 ++ y.0), (x.0, y.0, x.1, y.1, refl), group_prints K.Sel (mem_text (length q) m ∷ exp_text (length q) a ∷ []) (x.0 ++ y.0) (x.0, y.0, x.2, (y.0, [], y.2, refl, sym (append-nil y.0)), refl))
 
-    mem_prints : (m : MemExp) (q : List VarSort) → length q ≤ 2 ^ 64 → UsesMem Had m → IsOverMem 32 m q → Printed (SpellsMem profile m (names_of q)) (mem_text (length q) m)
-    mem_prints MMem q l u h = one_lexeme (SpellsMem profile MMem (names_of q)) (codes "m") memory_lexeme refl
-    mem_prints (MVar k) q l u h = let below = under q k OfMem l h in one_lexeme (SpellsMem profile (MVar k) (names_of q)) (name_of (length q - suc k)) (lettered_lexeme 120 (length q - suc k) (omega arith) below) (name_of (length q - suc k), name_is (length q - suc k) below, binding_prints q k OfMem l h, refl)
+    mem_prints : (m : MemExp) (q : List VarSort) → length q ≤ 2 ^ 64 → UsesMem Had m → IsWithinMem left 32 m q → Printed (SpellsMem profile left m (names_of q)) (mem_text (length q) m)
+    mem_prints MMem q l u h = one_lexeme (SpellsMem profile left MMem (names_of q)) (codes "m") memory_lexeme refl
+    mem_prints (MVar k) q l u h = let below = under q k OfMem l h in one_lexeme (SpellsMem profile left (MVar k) (names_of q)) (name_of (length q - suc k)) (lettered_lexeme 120 (length q - suc k) (omega arith) below) (name_of (length q - suc k), name_is (length q - suc k) below, binding_prints q k OfMem l h, refl)
     mem_prints (MUpd m a v) q l u h =
         let x = mem_prints m q l u.0 h.0 in let y = exp_prints a q l u.1 h.1 in let z = exp_prints v q l u.2 h.2 in (
           group K.Upd ((x.0 ++ y.0) ++ z.0),
@@ -279,24 +282,24 @@ module _ (profile : Profile) where
   bound_form h d P R s l f x =
       (group h (Lexeme (name_of d) ∷ x.0), f x.0 x.1, group_prints h (name_of d ∷ s ∷ []) (Lexeme (name_of d) ∷ x.0) (Lexeme (name_of d) ∷ [], x.0, lexeme_prints (name_of d) (lettered_lexeme 120 d (omega arith) l), (x.0, [], x.2, refl, sym (append-nil x.0)), refl))
 
-  form_prints : (A : Form) (q : List VarSort) → length q + binders A < 2 ^ 64 → Uses Had A → IsOver 32 A q → Printed (SpellsForm profile A (names_of q)) (form_text (length q) A)
-  form_prints FTrue q l u h = one_lexeme (SpellsForm profile FTrue (names_of q)) (codes "tt") true_lexeme refl
-  form_prints FFalse q l u h = one_lexeme (SpellsForm profile FFalse (names_of q)) (codes "ff") false_lexeme refl
-  form_prints (FRel p a b) q l u h = two_forms (K.Rel p) (SpellsExp profile a (names_of q)) (SpellsExp profile b (names_of q)) (SpellsForm profile (FRel p a b) (names_of q)) _ _ (λ us vs x y. (us, vs, x, y, refl)) (exp_prints a q (omega arith) u.0 h.0) (exp_prints b q (omega arith) u.1 h.1)
-  form_prints (FRd a) q l u h = one_form K.Rd (SpellsExp profile a (names_of q)) (SpellsForm profile (FRd a) (names_of q)) _ (λ us x. (us, x, refl)) (exp_prints a q (omega arith) u h)
-  form_prints (FWr a) q l u h = one_form K.Wr (SpellsExp profile a (names_of q)) (SpellsForm profile (FWr a) (names_of q)) _ (λ us x. (us, x, refl)) (exp_prints a q (omega arith) u h)
-  form_prints (FAnd A B) q l u h = two_forms K.And (SpellsForm profile A (names_of q)) (SpellsForm profile B (names_of q)) (SpellsForm profile (FAnd A B) (names_of q)) _ _ (λ us vs x y. (us, vs, x, y, refl)) (form_prints A q (omega arith) u.0 h.0) (form_prints B q (omega arith) u.1 h.1)
-  form_prints (FOr A B) q l u h = two_forms K.Or (SpellsForm profile A (names_of q)) (SpellsForm profile B (names_of q)) (SpellsForm profile (FOr A B) (names_of q)) _ _ (λ us vs x y. (us, vs, x, y, refl)) (form_prints A q (omega arith) u.0 h.0) (form_prints B q (omega arith) u.1 h.1)
-  form_prints (FImp A B) q l u h = two_forms K.Imp (SpellsForm profile A (names_of q)) (SpellsForm profile B (names_of q)) (SpellsForm profile (FImp A B) (names_of q)) _ _ (λ us vs x y. (us, vs, x, y, refl)) (form_prints A q (omega arith) u.0 h.0) (form_prints B q (omega arith) u.1 h.1)
+  form_prints : (A : Form) (q : List VarSort) → length q + binders A < 2 ^ 64 → Uses Had A → IsWithin left 32 A q → Printed (SpellsForm profile left A (names_of q)) (form_text (length q) A)
+  form_prints FTrue q l u h = one_lexeme (SpellsForm profile left FTrue (names_of q)) (codes "tt") true_lexeme refl
+  form_prints FFalse q l u h = one_lexeme (SpellsForm profile left FFalse (names_of q)) (codes "ff") false_lexeme refl
+  form_prints (FRel p a b) q l u h = two_forms (K.Rel p) (SpellsExp profile left a (names_of q)) (SpellsExp profile left b (names_of q)) (SpellsForm profile left (FRel p a b) (names_of q)) _ _ (λ us vs x y. (us, vs, x, y, refl)) (exp_prints a q (omega arith) u.0 h.0) (exp_prints b q (omega arith) u.1 h.1)
+  form_prints (FRd a) q l u h = one_form K.Rd (SpellsExp profile left a (names_of q)) (SpellsForm profile left (FRd a) (names_of q)) _ (λ us x. (us, x, refl)) (exp_prints a q (omega arith) u h)
+  form_prints (FWr a) q l u h = one_form K.Wr (SpellsExp profile left a (names_of q)) (SpellsForm profile left (FWr a) (names_of q)) _ (λ us x. (us, x, refl)) (exp_prints a q (omega arith) u h)
+  form_prints (FAnd A B) q l u h = two_forms K.And (SpellsForm profile left A (names_of q)) (SpellsForm profile left B (names_of q)) (SpellsForm profile left (FAnd A B) (names_of q)) _ _ (λ us vs x y. (us, vs, x, y, refl)) (form_prints A q (omega arith) u.0 h.0) (form_prints B q (omega arith) u.1 h.1)
+  form_prints (FOr A B) q l u h = two_forms K.Or (SpellsForm profile left A (names_of q)) (SpellsForm profile left B (names_of q)) (SpellsForm profile left (FOr A B) (names_of q)) _ _ (λ us vs x y. (us, vs, x, y, refl)) (form_prints A q (omega arith) u.0 h.0) (form_prints B q (omega arith) u.1 h.1)
+  form_prints (FImp A B) q l u h = two_forms K.Imp (SpellsForm profile left A (names_of q)) (SpellsForm profile left B (names_of q)) (SpellsForm profile left (FImp A B) (names_of q)) _ _ (λ us vs x y. (us, vs, x, y, refl)) (form_prints A q (omega arith) u.0 h.0) (form_prints B q (omega arith) u.1 h.1)
   form_prints (FAll A) q l u h =
       let w : length q < 2 ^ 64 = omega arith in
-      bound_form K.All (length q) (SpellsForm profile A (names_of (OfWord ∷ q))) (SpellsForm profile (FAll A) (names_of q)) _ w (λ us x. (name_of (length q), us, name_is (length q) w, x, refl)) (form_prints A (OfWord ∷ q) (omega arith) u h)
+      bound_form K.All (length q) (SpellsForm profile left A (names_of (OfWord ∷ q))) (SpellsForm profile left (FAll A) (names_of q)) _ w (λ us x. (name_of (length q), us, name_is (length q) w, x, refl)) (form_prints A (OfWord ∷ q) (omega arith) u h)
   form_prints (FAllm A) q l u h =
       let w : length q < 2 ^ 64 = omega arith in
-      bound_form K.Allm (length q) (SpellsForm profile A (names_of (OfMem ∷ q))) (SpellsForm profile (FAllm A) (names_of q)) _ w (λ us x. (name_of (length q), us, name_is (length q) w, x, refl)) (form_prints A (OfMem ∷ q) (omega arith) u h)
+      bound_form K.Allm (length q) (SpellsForm profile left A (names_of (OfMem ∷ q))) (SpellsForm profile left (FAllm A) (names_of q)) _ w (λ us x. (name_of (length q), us, name_is (length q) w, x, refl)) (form_prints A (OfMem ∷ q) (omega arith) u h)
 
   -- the printed text spells the formula
-  pub print_spells : (f : Form) → IsOver 32 f [] → Uses Had f → binders f < 2 ^ 64 → Spells profile (form_text 0 f) f
+  pub print_spells : (f : Form) → IsWithin left 32 f [] → Uses Had f → binders f < 2 ^ 64 → Spells profile left (form_text 0 f) f
   print_spells f h u few =
       let x = form_prints f [] (omega arith) u h in
       record { tokens = x.0; consists = subst (λ l. Consists paren_class l x.0) (append-nil (form_text 0 f)) (subst (λ l. Consists paren_class (form_text 0 f ++ []) l) (append-nil x.0) (x.2 [] [] refl nothing)); spelled = x.1 }

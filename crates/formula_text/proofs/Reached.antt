@@ -1,10 +1,11 @@
 -- Tokens that are read as a formula spell it.
 use Rattle.std.proofs.Common.{◌≡◌, ℕ, suc, ◌^◌, Bool, true, false, cond, List, [], ◌∷◌, ◌++◌, Option, Some, None, Result, Ok, Err, refl, sym, ap, ◌∙◌, subst, append_assoc, ltb}
-use Rattle.std.specs.Prelude.{codes}
+use Rattle.std.specs.Prelude.{T, codes}
 use Rattle.std.specs.Str.{bytes_eq}
 use Rattle.std.specs.Option.{option_map}
-use Rattle.std.proofs.lemmas.Bool.{ltb-true}
+use Rattle.std.proofs.lemmas.Bool.{ltb-true, and_parts}
 use Rattle.std.proofs.lemmas.List.{append-nil}
+use Rattle.formula_tree.specs.Formulas.{ELeft}
 use Rattle.text_tokens.specs.declared.parens.Paren.{Paren}
 use Rattle.text_tokens.specs.declared.parens.Paren.TheVariants as P
 use Rattle.text_tokens.specs.Tokens.{Token, Mark, Lexeme}
@@ -17,19 +18,19 @@ use Rattle.formula_text.specs.declared.keywords.Keyword.{Keyword}
 use Rattle.formula_text.specs.declared.keywords.Keyword.TheVariants as K
 use Rattle.formula_text.specs.declared.fault.TextFlaw.{TextFlaw}
 use Rattle.formula_text.specs.Keywords.{phrase_sort, binder_sort, keyword_text, keyword_of, has_keyword}
-use Rattle.formula_text.specs.Bindings.{is_name, Bindings, nearest_binding}
+use Rattle.formula_text.specs.Bindings.{is_left, is_name, Bindings, nearest_binding}
 use Rattle.formula_text.specs.Grammar.{group, SpellsExp, SpellsMem, SpellsForm}
 use Rattle.term_table.specs.Steps.{◌>>=◌}
-use Rattle.formula_text.specs.Parsing.{Phrase, AForm, AnExp, AMem, group_phrase, Frame, Expected, Inside, Opened, Binding, Whole, ParseState, with_binding, bindings_of, awaited_sort, number_phrase, variable_exp, variable_mem, register_phrase, lexeme_phrase, put_phrase, put_group, close_group, inside_open, inside_lexeme, opened, same_sort, opened_keyword, binding_step, parse_step}
+use Rattle.formula_text.specs.Parsing.{Phrase, AForm, AnExp, AMem, group_phrase, Frame, Expected, Inside, Opened, Binding, Whole, ParseState, with_binding, bindings_of, awaited_sort, number_phrase, variable_exp, variable_mem, named_exp, register_phrase, lexeme_phrase, put_phrase, put_group, close_group, inside_open, inside_lexeme, opened, same_sort, opened_keyword, binding_step, parse_step}
 use Rattle.formula_text.proofs.Known.{keyword_is, binder_had}
 use Rattle.formula_text.proofs.Running.{parse_steps}
 use Rattle.word_ops.specs.declared.Profile.{Profile}
 
-module _ (profile : Profile) where
+module _ (profile : Profile) (left : Bool) where
   abbrev pub SpellsPhrase : Phrase → Bindings → List (Token Paren) → Type 0
-  SpellsPhrase (AForm A) s ts = SpellsForm profile A s ts
-  SpellsPhrase (AnExp a) s ts = SpellsExp profile a s ts
-  SpellsPhrase (AMem m) s ts = SpellsMem profile m s ts
+  SpellsPhrase (AForm A) s ts = SpellsForm profile left A s ts
+  SpellsPhrase (AnExp a) s ts = SpellsExp profile left a s ts
+  SpellsPhrase (AMem m) s ts = SpellsMem profile left m s ts
 
   abbrev pub SpellsParts : List Phrase → Bindings → List (Token Paren) → Type 0
   SpellsParts [] s ts = ts ≡ []
@@ -42,7 +43,7 @@ module _ (profile : Profile) where
 
   abbrev pub IsBinding : Option PhraseSort → List ℕ → Type 0
   IsBinding None x = Unit {0}
-  IsBinding (Some q) x = is_name profile x ≡ true
+  IsBinding (Some q) x = is_name profile left x ≡ true
 
   abbrev pub opening : Frame → List (Token Paren)
   opening f = (Mark P.Open) ∷ Lexeme (keyword_text f.keyword) ∷ name_tokens (binder_sort f.keyword) f.name
@@ -56,13 +57,13 @@ module _ (profile : Profile) where
   IsReached Inside fs ts = AreOpen fs ts
   IsReached (Opened q) fs ts = (us : List (Token Paren)) × AreOpen fs us × (ts ≡ us ++ ((Mark P.Open) ∷ []))
   IsReached (Binding h) fs ts = (us : List (Token Paren)) × (q : PhraseSort) × AreOpen fs us × (binder_sort h ≡ Some q) × (ts ≡ us ++ ((Mark P.Open) ∷ Lexeme (keyword_text h) ∷ []))
-  IsReached (Whole A) fs ts = SpellsForm profile A [] ts
+  IsReached (Whole A) fs ts = SpellsForm profile left A [] ts
 
   -- ---- the names in scope are names
 
   abbrev AreNames : Bindings → Type 0
   AreNames [] = Unit {0}
-  AreNames (b ∷ bs) = (is_name profile b.0 ≡ true) × AreNames bs
+  AreNames (b ∷ bs) = (is_name profile left b.0 ≡ true) × AreNames bs
 
   binding_names : (o : Option PhraseSort) (x : List ℕ) (s : Bindings) → IsBinding o x → AreNames s → AreNames (with_binding o x s)
   binding_names None x s h g = g
@@ -72,12 +73,12 @@ module _ (profile : Profile) where
   open_names [] ts h = tt
   open_names (f ∷ fs) ts h = binding_names (binder_sort f.keyword) f.name (bindings_of fs) h.3 (open_names fs h.0 h.2)
 
-  binding_by : (b : List ℕ × PhraseSort) (x : List ℕ) (p : ℕ × PhraseSort) (o : Option (ℕ × PhraseSort)) (t : Bool) → bytes_eq b.0 x ≡ t → is_name profile b.0 ≡ true → cond t (Some (0, b.1)) (option_map (λ p. (suc p.0, p.1)) o) ≡ Some p → ((q : ℕ × PhraseSort) → o ≡ Some q → is_name profile x ≡ true) → is_name profile x ≡ true
-  binding_by b x p o true e n f g = subst (λ y. is_name profile y ≡ true) (same_bytes b.0 x e) n
+  binding_by : (b : List ℕ × PhraseSort) (x : List ℕ) (p : ℕ × PhraseSort) (o : Option (ℕ × PhraseSort)) (t : Bool) → bytes_eq b.0 x ≡ t → is_name profile left b.0 ≡ true → cond t (Some (0, b.1)) (option_map (λ p. (suc p.0, p.1)) o) ≡ Some p → ((q : ℕ × PhraseSort) → o ≡ Some q → is_name profile left x ≡ true) → is_name profile left x ≡ true
+  binding_by b x p o true e n f g = subst (λ y. is_name profile left y ≡ true) (same_bytes b.0 x e) n
   binding_by b x p None false e n f g = cc
   binding_by b x p (Some q) false e n f g = g q refl
 
-  binding_name : (s : Bindings) (x : List ℕ) (p : ℕ × PhraseSort) → AreNames s → nearest_binding s x ≡ Some p → is_name profile x ≡ true
+  binding_name : (s : Bindings) (x : List ℕ) (p : ℕ × PhraseSort) → AreNames s → nearest_binding s x ≡ Some p → is_name profile left x ≡ true
   binding_name [] x p n e = cc
   binding_name (b ∷ bs) x p n e = binding_by b x p (nearest_binding bs x) (bytes_eq b.0 x) refl n.0 e (λ q f. binding_name bs x q n.1 f)
 
@@ -111,11 +112,22 @@ module _ (profile : Profile) where
   mem_bound_spells s w x (Some (k, S.Exp)) n e h = cc
   mem_bound_spells s w x (Some (k, S.Form)) n e h = cc
 
-  register_spells : (s : Bindings) (w : List ℕ) (x : Phrase) (o : Option ℕ) → AreNames s → register_of w ≡ o → register_phrase s w o ≡ Ok x → SpellsPhrase x s (Lexeme w ∷ [])
-  register_spells s w x (Some r) n e h = subst (λ y. SpellsPhrase y s (Lexeme w ∷ [])) (same_Ok _ _ h) (w, register_is w r e, refl)
-  register_spells s w x None n e h = exp_bound_spells s w x (nearest_binding s w) n refl h
+  steps_spelled : (w : List ℕ) → is_left left w ≡ true → SpellsExp profile left ELeft [] (Lexeme w ∷ [])
+  steps_spelled w t =
+      let p = and_parts (bytes_eq w (codes "left")) left t in
+      (subst (λ b. T b) (sym p.1) tt, ap (λ y. Lexeme y ∷ []) (same_bytes w (codes "left") p.0))
 
-  lexeme_spells : (s : Bindings) (q : PhraseSort) (w : List ℕ) (x : Phrase) → AreNames s → lexeme_phrase s q w ≡ Ok x → SpellsPhrase x s (Lexeme w ∷ [])
+  named_spells : (s : Bindings) (w : List ℕ) (x : Phrase) → AreNames s → named_exp left s w ≡ Ok x → SpellsPhrase x s (Lexeme w ∷ [])
+  named_spells s w x n h =
+      chosen (is_left left w) _ _ _ h (SpellsPhrase x s (Lexeme w ∷ []))
+      (λ t f. subst (λ y. SpellsPhrase y s (Lexeme w ∷ [])) (same_Ok _ _ f) (steps_spelled w t))
+      (λ t f. exp_bound_spells s w x (nearest_binding s w) n refl f)
+
+  register_spells : (s : Bindings) (w : List ℕ) (x : Phrase) (o : Option ℕ) → AreNames s → register_of w ≡ o → register_phrase left s w o ≡ Ok x → SpellsPhrase x s (Lexeme w ∷ [])
+  register_spells s w x (Some r) n e h = subst (λ y. SpellsPhrase y s (Lexeme w ∷ [])) (same_Ok _ _ h) (w, register_is w r e, refl)
+  register_spells s w x None n e h = named_spells s w x n h
+
+  lexeme_spells : (s : Bindings) (q : PhraseSort) (w : List ℕ) (x : Phrase) → AreNames s → lexeme_phrase left s q w ≡ Ok x → SpellsPhrase x s (Lexeme w ∷ [])
   unfolding lexeme_phrase
   lexeme_spells s S.Form w x n h =
       chosen (bytes_eq w (codes "tt")) _ _ _ h (SpellsPhrase x s (Lexeme w ∷ []))
@@ -142,7 +154,7 @@ module _ (profile : Profile) where
   -- a part for the nearest parentheses
   put_reached : (x : Phrase) (fs : List Frame) (us vs : List (Token Paren)) (s : ParseState) → AreOpen fs us → SpellsPhrase x (bindings_of fs) vs → put_phrase x fs ≡ Ok s → IsReached s.0 s.1 (us ++ vs)
   unfolding put_phrase
-  put_reached (AForm A) [] us vs s o h e = subst (λ n. IsReached n.0 n.1 (us ++ vs)) (same_Ok (Whole A, []) s e) (subst (λ l. SpellsForm profile A [] (l ++ vs)) (sym o) h)
+  put_reached (AForm A) [] us vs s o h e = subst (λ n. IsReached n.0 n.1 (us ++ vs)) (same_Ok (Whole A, []) s e) (subst (λ l. SpellsForm profile left A [] (l ++ vs)) (sym o) h)
   put_reached (AnExp a) [] us vs s o h e = cc
   put_reached (AMem m) [] us vs s o h e = cc
   put_reached x (f ∷ fs) us vs s o h e =
@@ -203,13 +215,13 @@ module _ (profile : Profile) where
   inside_opened fs ts s None h e = cc
   inside_opened fs ts s (Some q) h e = subst (λ n. IsReached n.0 n.1 (ts ++ ((Mark P.Open) ∷ []))) (same_Ok (Opened q, fs) s e) (ts, h, refl)
 
-  worded : (fs : List Frame) (ts : List (Token Paren)) (w : List ℕ) (s : ParseState) (q : PhraseSort) (r : Result Phrase TextFlaw) → lexeme_phrase (bindings_of fs) q w ≡ r → AreOpen fs ts → (r >>= λ x. put_phrase x fs) ≡ Ok s → IsReached s.0 s.1 (ts ++ (Lexeme w ∷ []))
+  worded : (fs : List Frame) (ts : List (Token Paren)) (w : List ℕ) (s : ParseState) (q : PhraseSort) (r : Result Phrase TextFlaw) → lexeme_phrase left (bindings_of fs) q w ≡ r → AreOpen fs ts → (r >>= λ x. put_phrase x fs) ≡ Ok s → IsReached s.0 s.1 (ts ++ (Lexeme w ∷ []))
   worded fs ts w s q (Ok x) f h e = put_reached x fs ts (Lexeme w ∷ []) s h (lexeme_spells (bindings_of fs) q w x (open_names fs ts h) f) e
   worded fs ts w s q (Err flaw) f h e = cc
 
-  inside_worded : (fs : List Frame) (ts : List (Token Paren)) (w : List ℕ) (s : ParseState) (o : Option PhraseSort) → AreOpen fs ts → inside_lexeme fs w o ≡ Ok s → IsReached s.0 s.1 (ts ++ (Lexeme w ∷ []))
+  inside_worded : (fs : List Frame) (ts : List (Token Paren)) (w : List ℕ) (s : ParseState) (o : Option PhraseSort) → AreOpen fs ts → inside_lexeme left fs w o ≡ Ok s → IsReached s.0 s.1 (ts ++ (Lexeme w ∷ []))
   inside_worded fs ts w s None h e = cc
-  inside_worded fs ts w s (Some q) h e = worded fs ts w s q (lexeme_phrase (bindings_of fs) q w) refl h e
+  inside_worded fs ts w s (Some q) h e = worded fs ts w s q (lexeme_phrase left (bindings_of fs) q w) refl h e
 
   begun_reached : (h : Keyword) (fs : List Frame) (us ts : List (Token Paren)) (o : Option PhraseSort) → has_keyword profile h ≡ true → binder_sort h ≡ o → AreOpen fs us → ts ≡ us ++ ((Mark P.Open) ∷ Lexeme (keyword_text h) ∷ []) → IsReached (opened h fs o).0 (opened h fs o).1 ts
   begun_reached h fs us ts None had b o e =
@@ -225,9 +237,9 @@ module _ (profile : Profile) where
       (begun_reached k fs us (ts ++ (Lexeme w ∷ [])) (binder_sort k) word.had refl h (ap (λ l. l ++ (Lexeme w ∷ [])) e ∙ append_assoc us ((Mark P.Open) ∷ []) (Lexeme w ∷ []) ∙ ap (λ y. us ++ ((Mark P.Open) ∷ Lexeme y ∷ [])) word.text)))
       (λ t i. cc)
 
-  binding_reached : (h : Keyword) (fs : List Frame) (ts : List (Token Paren)) (w : List ℕ) (s : ParseState) → IsReached (Binding h) fs ts → binding_step profile h (Lexeme w) fs ≡ Ok s → IsReached s.0 s.1 (ts ++ (Lexeme w ∷ []))
+  binding_reached : (h : Keyword) (fs : List Frame) (ts : List (Token Paren)) (w : List ℕ) (s : ParseState) → IsReached (Binding h) fs ts → binding_step profile left h (Lexeme w) fs ≡ Ok s → IsReached s.0 s.1 (ts ++ (Lexeme w ∷ []))
   binding_reached h fs ts w s r g =
-      chosen (is_name profile w) _ _ _ g (IsReached s.0 s.1 (ts ++ (Lexeme w ∷ [])))
+      chosen (is_name profile left w) _ _ _ g (IsReached s.0 s.1 (ts ++ (Lexeme w ∷ [])))
       (λ t i. subst (λ n. IsReached n.0 n.1 (ts ++ (Lexeme w ∷ []))) (same_Ok _ _ i) (
         r.0,
         [],
@@ -243,7 +255,7 @@ module _ (profile : Profile) where
   close_reached [] ts s h e = cc
   close_reached (f ∷ fs) ts s h e = closed_reached f fs ts s (group_phrase f.keyword f.parts) refl h e
 
-  step_reached : (t : Token Paren) (st : Expected) (fs : List Frame) (s : ParseState) (ts : List (Token Paren)) → IsReached st fs ts → parse_step profile t (st, fs) ≡ Ok s → IsReached s.0 s.1 (ts ++ (t ∷ []))
+  step_reached : (t : Token Paren) (st : Expected) (fs : List Frame) (s : ParseState) (ts : List (Token Paren)) → IsReached st fs ts → parse_step profile left t (st, fs) ≡ Ok s → IsReached s.0 s.1 (ts ++ (t ∷ []))
   unfolding parse_step
   step_reached (Mark P.Open) Inside fs s ts h e = inside_opened fs ts s (awaited_sort fs) h e
   step_reached (Mark P.Close) Inside fs s ts h e = close_reached fs ts s h e
@@ -258,12 +270,12 @@ module _ (profile : Profile) where
   step_reached (Mark P.Close) (Whole A) fs s ts h e = cc
   step_reached (Lexeme w) (Whole A) fs s ts h e = cc
 
-  run_from : (t : Token Paren) (ts us : List (Token Paren)) (s : ParseState) (r : Result ParseState TextFlaw) → ((n : ParseState) → r ≡ Ok n → IsReached n.0 n.1 (us ++ (t ∷ []))) → (r >>= λ n. parse_steps profile ts n) ≡ Ok s →
-      ((n : ParseState) → IsReached n.0 n.1 (us ++ (t ∷ [])) → parse_steps profile ts n ≡ Ok s → IsReached s.0 s.1 ((us ++ (t ∷ [])) ++ ts)) → IsReached s.0 s.1 (us ++ (t ∷ ts))
+  run_from : (t : Token Paren) (ts us : List (Token Paren)) (s : ParseState) (r : Result ParseState TextFlaw) → ((n : ParseState) → r ≡ Ok n → IsReached n.0 n.1 (us ++ (t ∷ []))) → (r >>= λ n. parse_steps profile left ts n) ≡ Ok s →
+      ((n : ParseState) → IsReached n.0 n.1 (us ++ (t ∷ [])) → parse_steps profile left ts n ≡ Ok s → IsReached s.0 s.1 ((us ++ (t ∷ [])) ++ ts)) → IsReached s.0 s.1 (us ++ (t ∷ ts))
   run_from t ts us s (Ok n) f e g = subst (λ l. IsReached s.0 s.1 l) (append_assoc us (t ∷ []) ts) (g n (f n refl) e)
   run_from t ts us s (Err flaw) f e g = cc
 
   -- what is reached by tokens
-  pub run_reached : (ts us : List (Token Paren)) (n s : ParseState) → IsReached n.0 n.1 us → parse_steps profile ts n ≡ Ok s → IsReached s.0 s.1 (us ++ ts)
+  pub run_reached : (ts us : List (Token Paren)) (n s : ParseState) → IsReached n.0 n.1 us → parse_steps profile left ts n ≡ Ok s → IsReached s.0 s.1 (us ++ ts)
   run_reached [] us n s h e = subst (λ l. IsReached s.0 s.1 l) (sym (append-nil us)) (subst (λ m. IsReached m.0 m.1 us) (same_Ok n s e) h)
-  run_reached (t ∷ ts) us n s h e = run_from t ts us s (parse_step profile t n) (λ m f. step_reached t n.0 n.1 m us h f) e (λ m g f. run_reached ts (us ++ (t ∷ [])) m s g f)
+  run_reached (t ∷ ts) us n s h e = run_from t ts us s (parse_step profile left t n) (λ m f. step_reached t n.0 n.1 m us h f) e (λ m g f. run_reached ts (us ++ (t ∷ [])) m s g f)

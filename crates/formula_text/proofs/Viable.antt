@@ -17,15 +17,15 @@ use Rattle.formula_text.specs.declared.keywords.Keyword.TheVariants as K
 use Rattle.formula_text.specs.declared.fault.TextFlaw.{TextFlaw}
 use Rattle.word_ops.specs.Operators.{op_of_keyword}
 use Rattle.formula_text.specs.Keywords.{phrase_sort, part_sorts, binder_sort, keyword_of, keywords}
-use Rattle.formula_text.specs.Bindings.{is_name, Bindings, nearest_binding}
+use Rattle.formula_text.specs.Bindings.{is_left, is_name, Bindings, nearest_binding}
 use Rattle.formula_text.specs.Grammar.{SpellsForm}
 use Rattle.term_table.specs.Steps.{◌>>=◌}
-use Rattle.formula_text.specs.Parsing.{number_phrase, variable_exp, variable_mem, register_phrase, Phrase, AForm, AnExp, AMem, group_phrase, Frame, Expected, Inside, Opened, Binding, Whole, ParseState, bindings_of, awaited_sort, lexeme_phrase, put_phrase, put_group, close_group, inside_open, inside_lexeme, opened, same_sort, opened_keyword, binding_step, parse_step}
+use Rattle.formula_text.specs.Parsing.{number_phrase, variable_exp, variable_mem, named_exp, register_phrase, Phrase, AForm, AnExp, AMem, group_phrase, Frame, Expected, Inside, Opened, Binding, Whole, ParseState, bindings_of, awaited_sort, lexeme_phrase, put_phrase, put_group, close_group, inside_open, inside_lexeme, opened, same_sort, opened_keyword, binding_step, parse_step}
 use Rattle.formula_text.proofs.Running.{parse_steps, parse_steps-append}
 use Rattle.formula_text.proofs.Reached.{run_reached}
 use Rattle.word_ops.specs.declared.Profile.{Profile}
 
-module _ (profile : Profile) where
+module _ (profile : Profile) (left : Bool) where
   -- ---- the parts that have been read, and those that are missing
 
   abbrev sort_part : Phrase → PhraseSort
@@ -83,13 +83,13 @@ module _ (profile : Profile) where
   IsNest (f ∷ fs) = (rest : List PhraseSort) × Misses f.keyword f.parts rest × (awaited_sort fs ≡ Some (phrase_sort f.keyword)) × IsNest fs
 
   abbrev Completes : ParseState → Type 0
-  Completes s = (ts : List (Token Paren)) × (f : Form) × (fs : List Frame) × (parse_steps profile ts s ≡ Ok (Whole f, fs))
+  Completes s = (ts : List (Token Paren)) × (f : Form) × (fs : List Frame) × (parse_steps profile left ts s ≡ Ok (Whole f, fs))
 
   abbrev CompletesAny : Result ParseState TextFlaw → Type 0
   CompletesAny r = (s : ParseState) × (r ≡ Ok s) × Completes s
 
-  step_on : (t : Token Paren) (s : ParseState) → CompletesAny (parse_step profile t s) → Completes s
-  step_on t s h = (t ∷ h.2.0, h.2.1, h.2.2, ap (λ r. r >>= λ n. parse_steps profile h.2.0 n) h.1 ∙ h.2.3)
+  step_on : (t : Token Paren) (s : ParseState) → CompletesAny (parse_step profile left t s) → Completes s
+  step_on t s h = (t ∷ h.2.0, h.2.1, h.2.2, ap (λ r. r >>= λ n. parse_steps profile left h.2.0 n) h.1 ∙ h.2.3)
 
   -- a part of each sort that is one lexeme
   abbrev leaf : PhraseSort → Phrase
@@ -107,11 +107,11 @@ module _ (profile : Profile) where
   leaf_sort S.Exp = refl
   leaf_sort S.Mem = refl
 
-  leaf_step : (fs : List Frame) (q : PhraseSort) → awaited_sort fs ≡ Some q → parse_step profile (Lexeme (leaf_text q)) (Inside, fs) ≡ put_phrase (leaf q) fs
+  leaf_step : (fs : List Frame) (q : PhraseSort) → awaited_sort fs ≡ Some q → parse_step profile left (Lexeme (leaf_text q)) (Inside, fs) ≡ put_phrase (leaf q) fs
   unfolding parse_step lexeme_phrase
-  leaf_step fs S.Form e = ap (inside_lexeme fs (codes "tt")) e
-  leaf_step fs S.Exp e = ap (inside_lexeme fs (codes "0")) e
-  leaf_step fs S.Mem e = ap (inside_lexeme fs (codes "m")) e
+  leaf_step fs S.Form e = ap (inside_lexeme left fs (codes "tt")) e
+  leaf_step fs S.Exp e = ap (inside_lexeme left fs (codes "0")) e
+  leaf_step fs S.Mem e = ap (inside_lexeme left fs (codes "m")) e
 
   -- parentheses with these parts missing, where their whole can be given on
   fill : (rest : List PhraseSort) (h : Keyword) (n : List ℕ) (k : List Phrase) (fs : List Frame) → Misses h k rest → ((x : Phrase) → sort_part x ≡ phrase_sort h → CompletesAny (put_phrase x fs)) → Completes (Inside, record { keyword = h; name = n; parts = k } ∷ fs)
@@ -184,11 +184,14 @@ module _ (profile : Profile) where
   mem_sort (Some (k, S.Exp)) x e = cc
   mem_sort (Some (k, S.Form)) x e = cc
 
-  register_sort : (s : Bindings) (w : List ℕ) (o : Option ℕ) (x : Phrase) → register_phrase s w o ≡ Ok x → sort_part x ≡ S.Exp
-  register_sort s w (Some r) x e = ap sort_part (sym (same_Ok _ _ e))
-  register_sort s w None x e = exp_sort (nearest_binding s w) x e
+  named_sort : (s : Bindings) (w : List ℕ) (x : Phrase) → named_exp left s w ≡ Ok x → sort_part x ≡ S.Exp
+  named_sort s w x e = chosen (is_left left w) _ _ _ e (sort_part x ≡ S.Exp) (λ t f. ap sort_part (sym (same_Ok _ _ f))) (λ t f. exp_sort (nearest_binding s w) x f)
 
-  lexeme_sort : (s : Bindings) (q : PhraseSort) (w : List ℕ) (x : Phrase) → lexeme_phrase s q w ≡ Ok x → sort_part x ≡ q
+  register_sort : (s : Bindings) (w : List ℕ) (o : Option ℕ) (x : Phrase) → register_phrase left s w o ≡ Ok x → sort_part x ≡ S.Exp
+  register_sort s w (Some r) x e = ap sort_part (sym (same_Ok _ _ e))
+  register_sort s w None x e = named_sort s w x e
+
+  lexeme_sort : (s : Bindings) (q : PhraseSort) (w : List ℕ) (x : Phrase) → lexeme_phrase left s q w ≡ Ok x → sort_part x ≡ q
   unfolding lexeme_phrase
   lexeme_sort s S.Form w x e = chosen (bytes_eq w (codes "tt")) _ _ _ e (sort_part x ≡ S.Form) (λ t f. ap sort_part (sym (same_Ok _ _ f))) (λ t f. chosen (bytes_eq w (codes "ff")) _ _ _ f (sort_part x ≡ S.Form) (λ u g. ap sort_part (sym (same_Ok _ _ g))) (λ u g. cc))
   lexeme_sort s S.Exp w x e = chosen (begins_with_digit w) _ _ _ e (sort_part x ≡ S.Exp) (λ t f. number_sort (lexeme_number w) x f) (λ t f. register_sort s w (register_of w) x f)
@@ -219,13 +222,13 @@ module _ (profile : Profile) where
   open_good fs s None a h e = cc
   open_good fs s (Some q) a h e = subst (λ n. IsGood n.0 n.1) (same_Ok (Opened q, fs) s e) (h, a)
 
-  lexeme_good : (fs : List Frame) (w : List ℕ) (s : ParseState) (q : PhraseSort) (r : Result Phrase TextFlaw) → awaited_sort fs ≡ Some q → lexeme_phrase (bindings_of fs) q w ≡ r → IsNest fs → (r >>= λ x. put_phrase x fs) ≡ Ok s → IsGood s.0 s.1
+  lexeme_good : (fs : List Frame) (w : List ℕ) (s : ParseState) (q : PhraseSort) (r : Result Phrase TextFlaw) → awaited_sort fs ≡ Some q → lexeme_phrase left (bindings_of fs) q w ≡ r → IsNest fs → (r >>= λ x. put_phrase x fs) ≡ Ok s → IsGood s.0 s.1
   lexeme_good fs w s q (Ok x) a f h e = given_good x fs s h (a ∙ ap Some (sym (lexeme_sort (bindings_of fs) q w x f))) e
   lexeme_good fs w s q (Err k) a f h e = cc
 
-  inside_good : (fs : List Frame) (w : List ℕ) (s : ParseState) (o : Option PhraseSort) → awaited_sort fs ≡ o → IsNest fs → inside_lexeme fs w o ≡ Ok s → IsGood s.0 s.1
+  inside_good : (fs : List Frame) (w : List ℕ) (s : ParseState) (o : Option PhraseSort) → awaited_sort fs ≡ o → IsNest fs → inside_lexeme left fs w o ≡ Ok s → IsGood s.0 s.1
   inside_good fs w s None a h e = cc
-  inside_good fs w s (Some q) a h e = lexeme_good fs w s q (lexeme_phrase (bindings_of fs) q w) a refl h e
+  inside_good fs w s (Some q) a h e = lexeme_good fs w s q (lexeme_phrase left (bindings_of fs) q w) a refl h e
 
   built_good : (f : Frame) (fs : List Frame) (s : ParseState) (o : Option Phrase) → group_phrase f.keyword f.parts ≡ o → IsNest (f ∷ fs) → put_group o fs ≡ Ok s → IsGood s.0 s.1
   built_good f fs s None b h e = cc
@@ -260,13 +263,13 @@ module _ (profile : Profile) where
       (λ t f. subst (λ n. IsGood n.0 n.1) (same_Ok _ _ f) (opened_good h fs (binder_sort h) g (a ∙ ap Some (sorts_same (phrase_sort h) q t))))
       (λ t f. cc)
 
-  naming_good : (h : Keyword) (fs : List Frame) (w : List ℕ) (s : ParseState) → IsNest fs → awaited_sort fs ≡ Some (phrase_sort h) → binding_step profile h (Lexeme w) fs ≡ Ok s → IsGood s.0 s.1
+  naming_good : (h : Keyword) (fs : List Frame) (w : List ℕ) (s : ParseState) → IsNest fs → awaited_sort fs ≡ Some (phrase_sort h) → binding_step profile left h (Lexeme w) fs ≡ Ok s → IsGood s.0 s.1
   naming_good h fs w s g a e =
-      chosen (is_name profile w) _ _ _ e (IsGood s.0 s.1)
+      chosen (is_name profile left w) _ _ _ e (IsGood s.0 s.1)
       (λ t f. subst (λ n. IsGood n.0 n.1) (same_Ok _ _ f) (new_nest h w fs g a))
       (λ t f. cc)
 
-  step_good : (t : Token Paren) (st : Expected) (fs : List Frame) (s : ParseState) → IsGood st fs → parse_step profile t (st, fs) ≡ Ok s → IsGood s.0 s.1
+  step_good : (t : Token Paren) (st : Expected) (fs : List Frame) (s : ParseState) → IsGood st fs → parse_step profile left t (st, fs) ≡ Ok s → IsGood s.0 s.1
   unfolding parse_step
   step_good (Mark P.Open) Inside fs s h e = open_good fs s (awaited_sort fs) refl h e
   step_good (Mark P.Close) Inside fs s h e = close_good fs s h e
@@ -281,13 +284,13 @@ module _ (profile : Profile) where
   step_good (Mark P.Close) (Whole A) fs s h e = cc
   step_good (Lexeme w) (Whole A) fs s h e = cc
 
-  good_from : (ts : List (Token Paren)) (s : ParseState) (r : Result ParseState TextFlaw) → ((n : ParseState) → r ≡ Ok n → IsGood n.0 n.1) → (r >>= λ n. parse_steps profile ts n) ≡ Ok s → ((n : ParseState) → IsGood n.0 n.1 → parse_steps profile ts n ≡ Ok s → IsGood s.0 s.1) → IsGood s.0 s.1
+  good_from : (ts : List (Token Paren)) (s : ParseState) (r : Result ParseState TextFlaw) → ((n : ParseState) → r ≡ Ok n → IsGood n.0 n.1) → (r >>= λ n. parse_steps profile left ts n) ≡ Ok s → ((n : ParseState) → IsGood n.0 n.1 → parse_steps profile left ts n ≡ Ok s → IsGood s.0 s.1) → IsGood s.0 s.1
   good_from ts s (Ok n) f e g = g n (f n refl) e
   good_from ts s (Err k) f e g = cc
 
-  run_good : (ts : List (Token Paren)) (n s : ParseState) → IsGood n.0 n.1 → parse_steps profile ts n ≡ Ok s → IsGood s.0 s.1
+  run_good : (ts : List (Token Paren)) (n s : ParseState) → IsGood n.0 n.1 → parse_steps profile left ts n ≡ Ok s → IsGood s.0 s.1
   run_good [] n s h e = subst (λ m. IsGood m.0 m.1) (same_Ok n s e) h
-  run_good (t ∷ ts) n s h e = good_from ts s (parse_step profile t n) (λ m f. step_good t n.0 n.1 m h f) e (λ m g f. run_good ts m s g f)
+  run_good (t ∷ ts) n s h e = good_from ts s (parse_step profile left t n) (λ m f. step_good t n.0 n.1 m h f) e (λ m g f. run_good ts m s g f)
 
   -- ---- and can be completed
 
@@ -297,7 +300,7 @@ module _ (profile : Profile) where
   opened_completes fs S.Exp g a = step_on (Lexeme (codes "sel")) (Opened S.Exp, fs) ((Inside, record { keyword = K.Sel; name = []; parts = [] } ∷ fs), refl, inside_completes _ (new_nest K.Sel [] fs g a))
   opened_completes fs S.Mem g a = step_on (Lexeme (codes "upd")) (Opened S.Mem, fs) ((Inside, record { keyword = K.Upd; name = []; parts = [] } ∷ fs), refl, inside_completes _ (new_nest K.Upd [] fs g a))
 
-  x_is_name : is_name profile (codes "x") ≡ true
+  x_is_name : is_name profile left (codes "x") ≡ true
   unfolding is_name register_of registers keyword_of keywords op_of_keyword
   x_is_name = refl
 
@@ -305,12 +308,12 @@ module _ (profile : Profile) where
   unfolding parse_step
   good_completes Inside fs h = inside_completes fs h
   good_completes (Opened q) fs h = opened_completes fs q h.0 h.1
-  good_completes (Binding k) fs h = step_on (Lexeme (codes "x")) (Binding k, fs) ((Inside, record { keyword = k; name = codes "x"; parts = [] } ∷ fs), cond-true (is_name profile (codes "x")) _ _ x_is_name, inside_completes _ (new_nest k (codes "x") fs h.0 h.1))
+  good_completes (Binding k) fs h = step_on (Lexeme (codes "x")) (Binding k, fs) ((Inside, record { keyword = k; name = codes "x"; parts = [] } ∷ fs), cond-true (is_name profile left (codes "x")) _ _ x_is_name, inside_completes _ (new_nest k (codes "x") fs h.0 h.1))
   good_completes (Whole A) fs h = ([], A, fs, refl)
 
   -- what is taken begins some formula
-  pub taken_begins : (ts : List (Token Paren)) (n : ParseState) → parse_steps profile ts (Inside, []) ≡ Ok n → (f : Form) × (more : List (Token Paren)) × SpellsForm profile f [] (ts ++ more)
+  pub taken_begins : (ts : List (Token Paren)) (n : ParseState) → parse_steps profile left ts (Inside, []) ≡ Ok n → (f : Form) × (more : List (Token Paren)) × SpellsForm profile left f [] (ts ++ more)
   taken_begins ts n e =
       let c = good_completes n.0 n.1 (run_good ts (Inside, []) n tt e) in
-      let r : parse_steps profile (ts ++ c.0) (Inside, []) ≡ Ok (Whole c.1, c.2) = parse_steps-append profile ts c.0 (Inside, []) ∙ ap (λ q. q >>= λ m. parse_steps profile c.0 m) e ∙ c.3 in
-      (c.1, c.0, run_reached profile (ts ++ c.0) [] (Inside, []) (Whole c.1, c.2) refl r)
+      let r : parse_steps profile left (ts ++ c.0) (Inside, []) ≡ Ok (Whole c.1, c.2) = parse_steps-append profile left ts c.0 (Inside, []) ∙ ap (λ q. q >>= λ m. parse_steps profile left c.0 m) e ∙ c.3 in
+      (c.1, c.0, run_reached profile left (ts ++ c.0) [] (Inside, []) (Whole c.1, c.2) refl r)

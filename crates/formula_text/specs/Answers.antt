@@ -1,5 +1,5 @@
 -- What answers of calls say.
-use Rattle.std.specs.Prelude.{◌≡◌, ℕ, List, Result, Ok, Err}
+use Rattle.std.specs.Prelude.{◌≡◌, ℕ, Bool, List, Result, Ok, Err}
 use Rattle.word_ops.specs.declared.Profile.{Profile}
 use Rattle.formula_tree.specs.Formulas.{Form}
 use Rattle.formula_text.specs.declared.fault.TextFault.{TextFault}
@@ -14,6 +14,6 @@ Parses view parsed (Err (fault.At p flaw)) = parsed ≡ Err (p, flaw)
 Parses view parsed (Err fault.Memory) = Unit {0}
 
 -- the text spells no formula
-abbrev pub SpellsNone : Profile → List ℕ → TextFault → Type 0
-SpellsNone profile text (fault.At p flaw) = (f : Form) → Spells profile text f → ⊥
-SpellsNone profile text fault.Memory = Unit {0}
+abbrev pub SpellsNone : Profile → Bool → List ℕ → TextFault → Type 0
+SpellsNone profile left text (fault.At p flaw) = (f : Form) → Spells profile left text f → ⊥
+SpellsNone profile left text fault.Memory = Unit {0}

@@ -22,13 +22,20 @@ abbrev pub is_identifier : List ℕ → Bool
 is_identifier [] = false
 is_identifier (b ∷ bs) = is_lower b && are_lower_or_digits bs
 
--- a keyword of the profile, `tt`, `ff` or `m`
-abbrev pub is_reserved : Profile → List ℕ → Bool
-is_reserved profile w = is_some (keyword_of profile w) || (bytes_eq w (codes "tt") || (bytes_eq w (codes "ff") || bytes_eq w (codes "m")))
+-- the name of the steps that are left, where the flag allows it
+abbrev pub is_left : Bool → List ℕ → Bool
+is_left left w = bytes_eq w (codes "left") && left
+
+-- a keyword of the profile, `tt`, `ff` or `m`, or the name of the steps that are left
+abbrev pub is_reserved : Profile → Bool → List ℕ → Bool
+is_reserved profile left w =
+    is_some (keyword_of profile w) || (bytes_eq w (codes "tt")
+    || (bytes_eq w (codes "ff") || (bytes_eq w (codes "m") || is_left left w)))
 
 -- a name that may be bound: an identifier that names no register and isn't reserved
-unfoldable pub is_name : Profile → List ℕ → Bool
-is_name profile w = is_identifier w && (not (is_some (register_of w)) && not (is_reserved profile w))
+unfoldable pub is_name : Profile → Bool → List ℕ → Bool
+is_name profile left w =
+    is_identifier w && (not (is_some (register_of w)) && not (is_reserved profile left w))
 
 -- the names that are bound and what they stand for, the nearest binder first
 abbrev pub Bindings : Type 0

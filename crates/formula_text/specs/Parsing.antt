@@ -3,7 +3,7 @@ use Rattle.term_table.specs.Steps.{◌>>=◌}
 use Rattle.std.specs.Prelude.{ℕ, ◌^◌, Bool, true, false, nat_lt, if◌then◌else◌, List, [], ◌∷◌, ◌++◌, codes, length, slice_get, Option, Some, None, Result, Ok, Err}
 use Rattle.std.specs.Str.{bytes_eq}
 use Rattle.word_ops.specs.declared.Profile.{Profile}
-use Rattle.formula_tree.specs.Formulas.{Exp, EReg, EVar, ELit, EOp, ESel, MemExp, MMem, MVar, MUpd, Form, FTrue, FFalse, FRel, FRd, FWr, FAnd, FOr, FImp, FAll, FAllm}
+use Rattle.formula_tree.specs.Formulas.{Exp, EReg, ELeft, EVar, ELit, EOp, ESel, MemExp, MMem, MVar, MUpd, Form, FTrue, FFalse, FRel, FRd, FWr, FAnd, FOr, FImp, FAll, FAllm}
 use Rattle.text_tokens.specs.declared.parens.Paren.{Paren}
 use Rattle.text_tokens.specs.declared.parens.Paren.TheVariants as P
 use Rattle.text_tokens.specs.Tokens.{Token, Mark, Lexeme, Placed, tokens_at}
@@ -17,7 +17,7 @@ use Rattle.formula_text.specs.declared.keywords.Keyword.TheVariants as K
 use Rattle.formula_text.specs.declared.fault.TextFlaw.{TextFlaw}
 use Rattle.formula_text.specs.declared.fault.TextFlaw.TheVariants.{Shape, Name, Number, Trailing}
 use Rattle.formula_text.specs.Keywords.{phrase_sort, part_sorts, binder_sort, keyword_of}
-use Rattle.formula_text.specs.Bindings.{is_name, Bindings, nearest_binding}
+use Rattle.formula_text.specs.Bindings.{is_left, is_name, Bindings, nearest_binding}
 
 -- a position, and what is wrong there
 abbrev pub FaultAt : Type 0
@@ -93,14 +93,21 @@ abbrev pub variable_mem : Option (ℕ × PhraseSort) → Result Phrase TextFlaw
 variable_mem (Some (n, S.Mem)) = Ok (AMem (MVar n))
 variable_mem found = Err Name
 
--- a register, else a bound name
-abbrev pub register_phrase : Bindings → List ℕ → Option ℕ → Result Phrase TextFlaw
-register_phrase s w (Some r) = Ok (AnExp (EReg r))
-register_phrase s w None = variable_exp (nearest_binding s w)
+-- the steps that are left, where the flag allows their name, else a bound name
+abbrev pub named_exp : Bool → Bindings → List ℕ → Result Phrase TextFlaw
+named_exp left s w =
+    if is_left left w then Ok (AnExp ELeft) else variable_exp (nearest_binding s w)
+
+-- a register, else such a name
+abbrev pub register_phrase : Bool → Bindings → List ℕ → Option ℕ → Result Phrase TextFlaw
+register_phrase left s w (Some r) = Ok (AnExp (EReg r))
+register_phrase left s w None = named_exp left s w
 
 -- a lexeme in the place of an expression
-abbrev pub exp_lexeme : Bindings → List ℕ → Result Phrase TextFlaw
-exp_lexeme s w = if begins_with_digit w then number_phrase (lexeme_number w) else register_phrase s w (register_of w)
+abbrev pub exp_lexeme : Bool → Bindings → List ℕ → Result Phrase TextFlaw
+exp_lexeme left s w =
+    if begins_with_digit w then number_phrase (lexeme_number w) else
+    register_phrase left s w (register_of w)
 
 -- in the place of a memory
 abbrev pub mem_lexeme : Bindings → List ℕ → Result Phrase TextFlaw
@@ -111,10 +118,10 @@ abbrev pub form_lexeme : List ℕ → Result Phrase TextFlaw
 form_lexeme w = if bytes_eq w (codes "tt") then Ok (AForm FTrue) else if bytes_eq w (codes "ff") then Ok (AForm FFalse) else Err Shape
 
 -- what the lexeme stands for in the place of this sort
-unfoldable pub lexeme_phrase : Bindings → PhraseSort → List ℕ → Result Phrase TextFlaw
-lexeme_phrase s S.Form w = form_lexeme w
-lexeme_phrase s S.Exp w = exp_lexeme s w
-lexeme_phrase s S.Mem w = mem_lexeme s w
+unfoldable pub lexeme_phrase : Bool → Bindings → PhraseSort → List ℕ → Result Phrase TextFlaw
+lexeme_phrase left s S.Form w = form_lexeme w
+lexeme_phrase left s S.Exp w = exp_lexeme left s w
+lexeme_phrase left s S.Mem w = mem_lexeme s w
 
 -- ---- one token
 
@@ -144,15 +151,16 @@ inside_open fs None = Err Shape
 inside_open fs (Some q) = Ok (Opened q, fs)
 
 -- a lexeme in the place of such a part
-abbrev pub inside_lexeme : List Frame → List ℕ → Option PhraseSort → Result ParseState TextFlaw
-inside_lexeme fs w None = Err Shape
-inside_lexeme fs w (Some q) = lexeme_phrase (bindings_of fs) q w >>= λ x. put_phrase x fs
+abbrev pub inside_lexeme : Bool → List Frame → List ℕ → Option PhraseSort
+    → Result ParseState TextFlaw
+inside_lexeme left fs w None = Err Shape
+inside_lexeme left fs w (Some q) = lexeme_phrase left (bindings_of fs) q w >>= λ x. put_phrase x fs
 
 -- a token where a part of the nearest parentheses, or their end, may come
-abbrev pub inside_step : Token Paren → List Frame → Result ParseState TextFlaw
-inside_step (Mark P.Open) fs = inside_open fs (awaited_sort fs)
-inside_step (Mark P.Close) fs = close_group fs
-inside_step (Lexeme w) fs = inside_lexeme fs w (awaited_sort fs)
+abbrev pub inside_step : Bool → Token Paren → List Frame → Result ParseState TextFlaw
+inside_step left (Mark P.Open) fs = inside_open fs (awaited_sort fs)
+inside_step left (Mark P.Close) fs = close_group fs
+inside_step left (Lexeme w) fs = inside_lexeme left fs w (awaited_sort fs)
 
 -- whether two sorts are the same
 abbrev pub same_sort : PhraseSort → PhraseSort → Bool
@@ -177,16 +185,20 @@ keyword_step profile q (Mark p) fs = Err Shape
 keyword_step profile q (Lexeme w) fs = opened_keyword q fs (keyword_of profile w)
 
 -- a token where the name that is bound has to come
-abbrev pub binding_step : Profile → Keyword → Token Paren → List Frame → Result ParseState TextFlaw
-binding_step profile k (Mark p) fs = Err Shape
-binding_step profile k (Lexeme w) fs = if is_name profile w then Ok (Inside, record { keyword = k; name = w; parts = [] } ∷ fs) else Err Name
+abbrev pub binding_step : Profile → Bool → Keyword → Token Paren → List Frame
+    → Result ParseState TextFlaw
+binding_step profile left k (Mark p) fs = Err Shape
+binding_step profile left k (Lexeme w) fs =
+    if is_name profile left w then
+    Ok (Inside, record { keyword = k; name = w; parts = [] } ∷ fs)
+    else Err Name
 
 -- the state behind one token, or what is wrong with it
-unfoldable pub parse_step : Profile → Token Paren → ParseState → Result ParseState TextFlaw
-parse_step profile t (Inside, fs) = inside_step t fs
-parse_step profile t (Opened q, fs) = keyword_step profile q t fs
-parse_step profile t (Binding k, fs) = binding_step profile k t fs
-parse_step profile t (Whole f, fs) = Err Trailing
+unfoldable pub parse_step : Profile → Bool → Token Paren → ParseState → Result ParseState TextFlaw
+parse_step profile left t (Inside, fs) = inside_step left t fs
+parse_step profile left t (Opened q, fs) = keyword_step profile q t fs
+parse_step profile left t (Binding k, fs) = binding_step profile left k t fs
+parse_step profile left t (Whole f, fs) = Err Trailing
 
 -- ---- all tokens
 
@@ -201,10 +213,15 @@ parse_end end (Whole f) = Ok f
 parse_end end next = Err (end, Shape)
 
 -- the formula of all tokens, or the first fault
-unfoldable pub parsed_tokens : Profile → ℕ → List (Placed Paren) → ParseState → Result Form FaultAt
-parsed_tokens profile end [] s = parse_end end s.0
-parsed_tokens profile end (t ∷ ts) s = at_position t.0 (parse_step profile t.1 s) >>= λ next. parsed_tokens profile end ts next
+unfoldable pub parsed_tokens : Profile → Bool → ℕ → List (Placed Paren) → ParseState
+    → Result Form FaultAt
+parsed_tokens profile left end [] s = parse_end end s.0
+parsed_tokens profile left end (t ∷ ts) s =
+    at_position t.0 (parse_step profile left t.1 s) >>= λ next.
+    parsed_tokens profile left end ts next
 
--- the formula over the profile's operators that the text is parsed as, or the first fault
-unfoldable pub parsed_form : Profile → List ℕ → Result Form FaultAt
-parsed_form profile text = parsed_tokens profile (length text) (tokens_at paren_class 0 text) (Inside, [])
+-- The formula over the profile's operators that the text is parsed as, or the first fault. The flag
+-- says whether the formula may name the steps that are left.
+unfoldable pub parsed_form : Profile → Bool → List ℕ → Result Form FaultAt
+parsed_form profile left text =
+    parsed_tokens profile left (length text) (tokens_at paren_class 0 text) (Inside, [])

@@ -1,4 +1,5 @@
--- How a formula is printed: one blank between parts, decimal numbers, registers as `r` and their number, and bound names x0, x1, .. from the outermost.
+-- How a formula is printed: one blank between parts, decimal numbers, registers as `r` and their
+-- number, `left` for the steps that are left, and bound names x0, x1, .. from the outermost.
 use Rattle.std.specs.Prelude.{ℕ, suc, ◌-◌, List, [], ◌∷◌, ◌++◌, codes, decimal}
 use Rattle.formula_tree.specs.Formulas.{Exp, EReg, ELeft, EVar, ELit, EOp, ESel, MemExp, MMem, MVar, MUpd, Form, FTrue, FFalse, FRel, FRd, FWr, FAnd, FOr, FImp, FAll, FAllm}
 use Rattle.formula_text.specs.declared.keywords.Keyword.{Keyword}
@@ -18,7 +19,7 @@ spaced (p ∷ ps) = 32 ∷ (p ++ spaced ps)
 abbrev pub group_text : Keyword → List (List ℕ) → List ℕ
 group_text k ps = 40 ∷ (keyword_text k ++ spaced ps)
 
--- an expression, and a memory, under d binders; no text reads as the steps that are left
+-- an expression, and a memory, under d binders
 abbrev mutual
   pub exp_text : ℕ → Exp → List ℕ
   exp_text d (EReg r) = 114 ∷ decimal r

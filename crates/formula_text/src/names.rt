@@ -2,7 +2,7 @@
 
 ghost use Rattle.std.specs.Prelude.{◌≡◌};
 ghost use Rattle.formula_text.specs.Bindings.{is_lower, are_lower_or_digits, is_identifier};
-ghost use Rattle.formula_text.specs.Bindings.{is_reserved, is_name};
+ghost use Rattle.formula_text.specs.Bindings.{is_left, is_reserved, is_name};
 
 use crate::keywords::keyword_named;
 use text_tokens::{is_digit, register};
@@ -35,20 +35,29 @@ fn is_identifier(lexeme: &[u8]) -> bool
     }
 }
 
-/// Whether the lexeme is a keyword of the profile, `tt`, `ff` or `m`.
-fn is_reserved(lexeme: &[u8], profile: Profile) -> bool
-    ensures { result ≡ is_reserved profile lexeme.now }
+/// Whether the lexeme is the name of the steps that are left, where `left` allows it.
+pub fn is_left(lexeme: &[u8], left: bool) -> bool
+    ensures { result ≡ is_left left lexeme.now }
+{
+    lexeme == b"left".as_slice() && left
+}
+
+/// Whether the lexeme is a keyword of the profile, `tt`, `ff` or `m`, or names the steps that are
+/// left.
+fn is_reserved(lexeme: &[u8], profile: Profile, left: bool) -> bool
+    ensures { result ≡ is_reserved profile left lexeme.now }
 {
     keyword_named(lexeme, profile).is_some()
         || lexeme == b"tt".as_slice()
         || lexeme == b"ff".as_slice()
         || lexeme == b"m".as_slice()
+        || is_left(lexeme, left)
 }
 
 /// Whether the lexeme may be bound under the profile.
 #[tactic(auto, unfolding(crate::specs::Bindings::is_name))]
-pub fn is_name(lexeme: &[u8], profile: Profile) -> bool
-    ensures { result ≡ is_name profile lexeme.now }
+pub fn is_name(lexeme: &[u8], profile: Profile, left: bool) -> bool
+    ensures { result ≡ is_name profile left lexeme.now }
 {
-    is_identifier(lexeme) && register(lexeme).is_none() && !is_reserved(lexeme, profile)
+    is_identifier(lexeme) && register(lexeme).is_none() && !is_reserved(lexeme, profile, left)
 }

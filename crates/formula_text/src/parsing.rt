@@ -1,14 +1,14 @@
 //! Parsing a text as a formula, a token at a time.
 
 ghost use Rattle.std.specs.Prelude.{◌≡◌, ◌∷◌, [], Ok, IfOk, IfErr};
-ghost use Rattle.formula_tree.specs.Scope.{IsOver};
+ghost use Rattle.formula_tree.specs.Scope.{IsWithin};
 ghost use Rattle.formula_tree.specs.Views.{form_view};
 ghost use Rattle.text_tokens.specs.Tokens.{token_view};
 ghost use Rattle.text_tokens.specs.Numbers.{lexeme_number};
 ghost use Rattle.formula_text.specs.Bindings.{nearest_binding};
 ghost use Rattle.formula_text.specs.Grammar.{Spells};
 ghost use Rattle.formula_text.specs.Parsing.{Inside, awaited_sort, bindings_of};
-ghost use Rattle.formula_text.specs.Parsing.{number_phrase, variable_exp, variable_mem};
+ghost use Rattle.formula_text.specs.Parsing.{number_phrase, variable_exp, variable_mem, named_exp};
 ghost use Rattle.formula_text.specs.Parsing.{form_lexeme, exp_lexeme, mem_lexeme, lexeme_phrase};
 ghost use Rattle.formula_text.specs.Parsing.{whole_form, put_phrase, close_group, inside_lexeme};
 ghost use Rattle.formula_text.specs.Parsing.{inside_step, keyword_step, binding_step, parse_step};
@@ -21,7 +21,7 @@ use crate::fault::{TextFault, TextFlaw, TokenFault};
 use crate::keywords::{
     Keyword, PhraseSort, binder_sort, is_sort, keyword_named, part_sort, phrase_sort,
 };
-use crate::names::is_name;
+use crate::names::{is_left, is_name};
 use crate::parts::{Phrase, group_phrase};
 use formula_tree::{Exp, Form, MemExp};
 use std::alloc::Global;
@@ -132,16 +132,27 @@ fn variable_mem(frames: &[Frame<'_>], name: &[u8]) -> Result<Phrase, TokenFault>
     }
 }
 
-fn exp_lexeme(frames: &[Frame<'_>], lexeme: &[u8]) -> Result<Phrase, TokenFault>
+/// The steps that are left, where `left` allows their name, else a bound name.
+fn named_exp(frames: &[Frame<'_>], name: &[u8], left: bool) -> Result<Phrase, TokenFault>
     ensures { IsLexemeAnswer phrase_view
-        (exp_lexeme (bindings_of (frames_view frames.now)) lexeme.now) result }
+        (named_exp left (bindings_of (frames_view frames.now)) name.now) result }
+{
+    if is_left(name, left) {
+        return Ok(Phrase::Exp(Exp::Left));
+    }
+    variable_exp(frames, name)
+}
+
+fn exp_lexeme(frames: &[Frame<'_>], lexeme: &[u8], left: bool) -> Result<Phrase, TokenFault>
+    ensures { IsLexemeAnswer phrase_view
+        (exp_lexeme left (bindings_of (frames_view frames.now)) lexeme.now) result }
 {
     if begins_with_digit(lexeme) {
         return number_phrase(lexeme);
     }
     match register(lexeme) {
         Some(number) => Ok(Phrase::Exp(Exp::Reg(number))),
-        None => variable_exp(frames, lexeme),
+        None => named_exp(frames, lexeme, left),
     }
 }
 
@@ -161,13 +172,14 @@ fn lexeme_phrase(
     frames: &[Frame<'_>],
     sort: PhraseSort,
     lexeme: &[u8],
+    left: bool,
 ) -> Result<Phrase, TokenFault>
     ensures { IsLexemeAnswer phrase_view
-        (lexeme_phrase (bindings_of (frames_view frames.now)) sort lexeme.now) result }
+        (lexeme_phrase left (bindings_of (frames_view frames.now)) sort lexeme.now) result }
 {
     match sort {
         PhraseSort::Form => form_lexeme(lexeme),
-        PhraseSort::Exp => exp_lexeme(frames, lexeme),
+        PhraseSort::Exp => exp_lexeme(frames, lexeme, left),
         PhraseSort::Mem => mem_lexeme(frames, lexeme),
     }
 }
@@ -233,14 +245,18 @@ fn close_group<'t>(alloc: Global, frames: &mut Vec<Frame<'t>>) -> Result<Expecte
 }
 
 /// A lexeme in the place of a part.
-fn inside_lexeme<'t>(frames: &mut Vec<Frame<'t>>, lexeme: &[u8]) -> Result<Expected, TokenFault>
-    ensures { Moves (inside_lexeme (frames_view frames.old.items) lexeme.now
+fn inside_lexeme<'t>(
+    frames: &mut Vec<Frame<'t>>,
+    lexeme: &[u8],
+    left: bool,
+) -> Result<Expected, TokenFault>
+    ensures { Moves (inside_lexeme left (frames_view frames.old.items) lexeme.now
         (awaited_sort (frames_view frames.old.items))) (frames_view frames.new.items) result }
 {
     match awaited_sort(frames.as_slice()) {
         None => Err(TokenFault::Flaw(TextFlaw::Shape)),
         Some(sort) => {
-            let phrase = lexeme_phrase(frames.as_slice(), sort, lexeme)?;
+            let phrase = lexeme_phrase(frames.as_slice(), sort, lexeme, left)?;
             put_phrase(frames, phrase)
         }
     }
@@ -250,8 +266,9 @@ fn inside_step<'t>(
     alloc: Global,
     frames: &mut Vec<Frame<'t>>,
     token: Token<'t, Paren>,
+    left: bool,
 ) -> Result<Expected, TokenFault>
-    ensures { Moves (inside_step (token_view token.entry) (frames_view frames.old.items))
+    ensures { Moves (inside_step left (token_view token.entry) (frames_view frames.old.items))
         (frames_view frames.new.items) result }
 {
     match token {
@@ -260,7 +277,7 @@ fn inside_step<'t>(
             None => Err(TokenFault::Flaw(TextFlaw::Shape)),
         },
         Token::Mark(Paren::Close) => close_group(alloc, frames),
-        Token::Lexeme(lexeme) => inside_lexeme(frames, lexeme),
+        Token::Lexeme(lexeme) => inside_lexeme(frames, lexeme, left),
     }
 }
 
@@ -318,15 +335,16 @@ fn binding_step<'t>(
     keyword: Keyword,
     token: Token<'t, Paren>,
     profile: Profile,
+    left: bool,
 ) -> Result<Expected, TokenFault>
     ensures { Moves
-        (binding_step profile keyword (token_view token.entry) (frames_view frames.old.items))
+        (binding_step profile left keyword (token_view token.entry) (frames_view frames.old.items))
         (frames_view frames.new.items) result }
 {
     let Token::Lexeme(lexeme) = token else {
         return Err(TokenFault::Flaw(TextFlaw::Shape));
     };
-    if is_name(lexeme, profile) {
+    if is_name(lexeme, profile, left) {
         open_group(alloc, frames, keyword, lexeme)
     } else {
         Err(TokenFault::Flaw(TextFlaw::Name))
@@ -341,15 +359,16 @@ fn parse_step<'t>(
     expected: Expected,
     token: Token<'t, Paren>,
     profile: Profile,
+    left: bool,
 ) -> Result<Expected, TokenFault>
-    ensures { Moves (parse_step profile (token_view token.entry)
+    ensures { Moves (parse_step profile left (token_view token.entry)
         (expected_view expected, frames_view frames.old.items)) (frames_view frames.new.items)
         result }
 {
     match expected {
-        Expected::Inside => inside_step(alloc, frames, token),
+        Expected::Inside => inside_step(alloc, frames, token, left),
         Expected::Opened(sort) => keyword_step(alloc, frames, sort, token, profile),
-        Expected::Binding(keyword) => binding_step(alloc, frames, keyword, token, profile),
+        Expected::Binding(keyword) => binding_step(alloc, frames, keyword, token, profile, left),
         Expected::Whole(form) => {
             drop(form);
             Err(TokenFault::Flaw(TextFlaw::Trailing))
@@ -364,12 +383,13 @@ fn step_at<'t>(
     expected: Expected,
     placed: Placed<'t, Paren>,
     profile: Profile,
+    left: bool,
 ) -> Result<Expected, TextFault>
-    ensures { MovesAt placed.entry.at (parse_step profile (token_view placed.entry.token)
+    ensures { MovesAt placed.entry.at (parse_step profile left (token_view placed.entry.token)
         (expected_view expected, frames_view frames.old.items)) (frames_view frames.new.items)
         result }
 {
-    match parse_step(alloc, frames, expected, placed.token, profile) {
+    match parse_step(alloc, frames, expected, placed.token, profile, left) {
         Ok(next) => Ok(next),
         Err(TokenFault::Flaw(flaw)) => Err(TextFault::At(placed.at, flaw)),
         Err(TokenFault::Memory) => Err(TextFault::Memory),
@@ -389,14 +409,14 @@ fn parse_end(expected: Expected, end: usize) -> Result<Form, TextFault>
 }
 
 /// The formula that the text is parsed as, or the first fault.
-fn parse(alloc: Global, text: &[u8], profile: Profile) -> Result<Form, TextFault>
-    ensures { Parses form_view (parsed_form profile text.now) result }
+fn parse(alloc: Global, text: &[u8], profile: Profile, left: bool) -> Result<Form, TextFault>
+    ensures { Parses form_view (parsed_form profile left text.now) result }
 {
     let mut frames = Vec::new(alloc);
     let mut expected = Expected::Inside;
     let mut at = 0;
     while let Some(placed) = next_token::<Paren>(text, at) {
-        expected = match step_at(alloc, &mut frames, expected, placed, profile) {
+        expected = match step_at(alloc, &mut frames, expected, placed, profile, left) {
             Ok(next) => next,
             Err(fault) => return Err(fault),
         };
@@ -406,17 +426,24 @@ fn parse(alloc: Global, text: &[u8], profile: Profile) -> Result<Form, TextFault
 }
 
 /// Parses `text` as a formula over the operators of `profile`, in which all variables are bound.
-/// The words of operators that the profile lacks are no keywords, so they may be bound.
+/// The words of operators that the profile lacks are no keywords, so they may be bound. Where
+/// `left` is true the word `left` is the steps that are left (`Exp::Left`) and may not be bound;
+/// else it is a name like others.
 ///
 /// Errors: the first token from the left that may not stand where it stands, or the end, with its
 /// position in bytes; `Memory` says nothing of `text`. The grammar is this project's own
 /// (`specs/Grammar`). It recurses only where it lets a formula go: texts of formulas that are some
 /// 20,000 high take 8 MiB of stack.
-pub fn read_form(alloc: Global, text: &[u8], profile: Profile) -> Result<Form, TextFault>
-    ensures spells { IfOk result (λ f. Spells profile text.now (form_view f)) }
-    ensures closed { IfOk result (λ f. IsOver 32 (form_view f) []) }
-    ensures none { IfErr result (λ e. SpellsNone profile text.now e) }
-    ensures exact { Parses form_view (parsed_form profile text.now) result }
+pub fn read_form(
+    alloc: Global,
+    text: &[u8],
+    profile: Profile,
+    left: bool,
+) -> Result<Form, TextFault>
+    ensures spells { IfOk result (λ f. Spells profile left text.now (form_view f)) }
+    ensures closed { IfOk result (λ f. IsWithin left 32 (form_view f) []) }
+    ensures none { IfErr result (λ e. SpellsNone profile left text.now e) }
+    ensures exact { Parses form_view (parsed_form profile left text.now) result }
 {
-    parse(alloc, text, profile)
+    parse(alloc, text, profile, left)
 }

@@ -1,8 +1,8 @@
 //! Printing a formula.
 
-ghost use Rattle.std.specs.Prelude.{◌≡◌, ◌+◌, ◌<◌, ◌^◌, suc, ◌++◌, ◌∷◌, [], Ok, true};
+ghost use Rattle.std.specs.Prelude.{◌≡◌, ◌+◌, ◌<◌, ◌^◌, suc, ◌++◌, ◌∷◌, [], Ok, Bool, true};
 ghost use Rattle.std.specs.Prelude.{OnOk, IfOk, decimal};
-ghost use Rattle.formula_tree.specs.Scope.{IsOver};
+ghost use Rattle.formula_tree.specs.Scope.{IsWithin};
 ghost use Rattle.formula_tree.specs.Sizes.{binders};
 ghost use Rattle.formula_tree.specs.Views.{exp_view, mem_exp_view, form_view};
 ghost use Rattle.formula_text.specs.Keywords.{keyword_text};
@@ -247,20 +247,23 @@ fn push_form(out: &mut Vec<u8>, depth: u64, form: &Form) -> Result<(), AllocErro
 }
 
 /// The text of `form`: one blank between parts, decimal numbers, registers as `r` and their
-/// number, and bound names x0, x1, .. from the outermost. Fails only for want of memory.
+/// number, `left` for the steps that are left, and bound names x0, x1, .. from the outermost. Fails
+/// only for want of memory.
 ///
-/// Asks that each bound variable of `form` has its binder, of its sort, and that registers are
-/// below 32.
+/// The text is read as `form` under each profile that has its operators, where each bound variable
+/// of `form` has its binder, of its sort, and registers are below 32; where `form` names the steps
+/// that are left, only with the flag that allows their name.
 #[tactic(auto, using(crate::proofs::Printed::print_spells, crate::proofs::Joined::spelled_parsed))]
 pub fn print_form(alloc: Global, form: &Form) -> Result<Vec<u8>, AllocError>
-    requires closed { IsOver 32 (form_view form.now) [] }
     ensures exact { IfOk result (λ v. v.items ≡ form_text 0 (form_view form.now)) }
-    ensures spells { IfOk result (λ v. (p : Profile) →
+    ensures spells { IfOk result (λ v. (p : Profile) (left : Bool) →
+        IsWithin left 32 (form_view form.now) [] →
         Uses (λ o. has_op p o ≡ true) (form_view form.now) →
-        Spells p v.items (form_view form.now)) }
-    ensures round_trip { IfOk result (λ v. (p : Profile) →
+        Spells p left v.items (form_view form.now)) }
+    ensures round_trip { IfOk result (λ v. (p : Profile) (left : Bool) →
+        IsWithin left 32 (form_view form.now) [] →
         Uses (λ o. has_op p o ≡ true) (form_view form.now) →
-        parsed_form p v.items ≡ Ok (form_view form.now)) }
+        parsed_form p left v.items ≡ Ok (form_view form.now)) }
 {
     let mut out = Vec::new(alloc);
     push_form(&mut out, 0, form)?;

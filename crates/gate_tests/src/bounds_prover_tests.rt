@@ -40,7 +40,7 @@ fn faults_in_words(rt: HostRuntime) -> Result<(), Fail> {
     Ok(())
 }
 
-/// Whether there is one invariant, at index 0, and it is truth by the table.
+/// Whether there is no bound and one invariant, at index 0, which is truth by the table.
 fn shows_truth(accepted: &Accepted) -> Made<bool> {
     let table = accepted.table();
     let Some(first) = accepted.invs().first() else {
@@ -48,7 +48,8 @@ fn shows_truth(accepted: &Accepted) -> Made<bool> {
     };
     let (index, inv) = *first;
     known(table, inv)?;
-    Ok(accepted.invs().len() == 1 && index == 0 && table.node(inv) == Node::Const(TT))
+    let alone = accepted.invs().len() == 1 && accepted.bound().is_none();
+    Ok(alone && index == 0 && table.node(inv) == Node::Const(TT))
 }
 
 /// Truth as the invariant of index 0.

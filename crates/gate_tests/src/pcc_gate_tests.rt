@@ -1,11 +1,15 @@
-//! Refusals in words. Which clause refuses a container is in rows of `check` and `prove` (command_rows:
-//! `check.rows`, `gate.rows`).
+//! Refusals in words, and the bound of what is accepted. Which clause refuses a container is in rows of
+//! `check` and `prove` (command_rows: `check.rows`, `gate.rows`).
 
 use alpha_cfg::CodeFlaw;
-use pcc_gate::{MAX_WEIGHT, Refusal, laws};
+use bounds_prover::prove;
+use pcc_gate::{Accepted, GateFault, MAX_WEIGHT, Refusal, gate, laws};
+use policy_set::{Policy, PolicyKind, digest};
 use proof_container::{Flaw, Head};
 use std::alloc::{AllocError, Global};
 use std::test::Fail;
+use test_inputs::containers::{RETURN, bytes_of, put};
+use test_inputs::terms::{Made, made};
 
 /// One refusal by each clause, and its words.
 const IN_WORDS: [(Refusal, &str); 11] = [
@@ -51,5 +55,79 @@ fn refusals_in_words(rt: HostRuntime) -> Result<(), Fail> {
     for (refusal, words) in IN_WORDS.iter() {
         assert!(rt; has_words(rt.alloc(), refusal, words)?, "{words}");
     }
+    Ok(())
+}
+
+/// The magic, and the version of a container with a bound.
+const BOUNDED: [u32; 2] = [0x4143_4350, 3];
+
+/// `ret` for the policy, in at most so many steps, without invariants and a proof.
+fn bounded_return(alloc: Global, policy: &Policy, bound: u32) -> Result<Vec<u8>, AllocError> {
+    let named = digest(alloc, policy)?;
+    let mut bytes = bytes_of(alloc, &[&BOUNDED])?;
+    bytes.extend_from_slice(&named)?;
+    put(&mut bytes, &[bound, 1, RETURN, 0, 0, 0])?;
+    Ok(bytes)
+}
+
+/// The same with a proof.
+fn proved_return(alloc: Global, policy: &Policy, bound: u32) -> Made<Vec<u8>> {
+    let bytes = made(bounded_return(alloc, policy, bound))?;
+    made(prove(alloc, policy, &bytes))
+}
+
+/// What is accepted of it.
+fn accepted_under(alloc: Global, policy: &Policy, bound: u32) -> Made<Accepted> {
+    let bytes = proved_return(alloc, policy, bound)?;
+    made(gate(alloc, policy, &bytes))
+}
+
+/// What is accepted of it under the policy tag.
+fn accepted_return(alloc: Global, bound: u32) -> Made<Accepted> {
+    let policy = made(Policy::of(alloc, PolicyKind::Tag))?;
+    accepted_under(alloc, &policy, bound)
+}
+
+/// Whether what is accepted shows the bound.
+fn shows_bound(alloc: Global, bound: u32) -> Made<bool> {
+    let accepted = accepted_return(alloc, bound)?;
+    Ok(accepted.bound() == Some(bound))
+}
+
+#[test]
+fn bounds_of_what_is_accepted(rt: HostRuntime) -> Result<(), Fail> {
+    for bound in [1, 1_000_000_000] {
+        assert!(rt; shows_bound(rt.alloc(), bound)?, "{bound}");
+    }
+    Ok(())
+}
+
+/// The container with 2 as its bound.
+fn with_two(mut bytes: Vec<u8>) -> Vec<u8> {
+    if let Some(low) = bytes.get_mut(40) {
+        *low = 2;
+    }
+    bytes
+}
+
+/// Whether what is proved of one step is no proof with two under the policy.
+fn is_told_under(alloc: Global, policy: &Policy) -> Made<bool> {
+    let bytes = with_two(proved_return(alloc, policy, 1)?);
+    match gate(alloc, policy, &bytes) {
+        Ok(_) => Ok(false),
+        Err(fault) => Ok(fault == GateFault::Refused(Refusal::NotProof)),
+    }
+}
+
+/// The same under the policy tag.
+fn is_told(alloc: Global) -> Made<bool> {
+    let policy = made(Policy::of(alloc, PolicyKind::Tag))?;
+    is_told_under(alloc, &policy)
+}
+
+/// The bound stands in the condition, so a proof is one for its own bound alone.
+#[test]
+fn a_proof_has_its_bound(rt: HostRuntime) -> Result<(), Fail> {
+    assert!(rt; is_told(rt.alloc())?);
     Ok(())
 }

@@ -47,7 +47,7 @@ fn is_limited(table: &mut Table, cut: &Cut, policy: &Policy, formula: Id) -> boo
     ensures extends { Extends table.old table.new }
 {
     let mut memo = Memo::new(table.allocator(), 1);
-    is_condition_with(table, &mut memo, cut, policy, &[], formula) == Err(VcFault::Results)
+    is_condition_with(table, &mut memo, cut, policy, &[], None, formula) == Err(VcFault::Results)
 }
 
 /// Whether two calls in one memo tell the formula from a word.
@@ -57,8 +57,8 @@ fn is_told(table: &mut Table, cut: &Cut, policy: &Policy, formula: Id) -> Result
 {
     let mut memo = Memo::new(table.allocator(), 1_000);
     let word = table.intern(Node::Lit(0))?;
-    let other = is_condition_with(table, &mut memo, cut, policy, &[], word)?;
-    let is = is_condition_with(table, &mut memo, cut, policy, &[], formula)?;
+    let other = is_condition_with(table, &mut memo, cut, policy, &[], None, word)?;
+    let is = is_condition_with(table, &mut memo, cut, policy, &[], None, formula)?;
     Ok(is && !other)
 }
 
@@ -66,7 +66,7 @@ fn is_told(table: &mut Table, cut: &Cut, policy: &Policy, formula: Id) -> Result
 fn is_answered_in(table: &mut Table, cut: &Cut, policy: &Policy) -> Result<bool, VcFault>
     requires { AreFlags [] (length cut.now.code) cut.now.marks }
 {
-    let formula = vc(table, cut, policy, &[])?;
+    let formula = vc(table, cut, policy, &[], None)?;
     let limited = is_limited(table, cut, policy, formula);
     Ok(is_told(table, cut, policy, formula)? && limited)
 }

@@ -1,8 +1,6 @@
 -- Answers of calls as they are kept, and contexts.
-use Rattle.std.proofs.Common.{◌≡◌, ℕ, suc, Option, Some, Result, Ok, Err, IfOk, Bool, true, false, cond, IfSome, List, refl, sym, ◌∙◌, ap, subst, arith}
+use Rattle.std.proofs.Common.{◌≡◌, ℕ, suc, Option, Result, Ok, Err, IfOk, IfSome, List, sym, ◌∙◌, subst, arith}
 use Rattle.term_table.specs.Table.{TableView, IsKnown, tree_at, Extends, Stands}
-use Rattle.hereditary_subst.specs.Kept.{IsMemo}
-use Rattle.hereditary_subst.specs.declared.kept.Memo.{Memo}
 use Rattle.formula_ids.specs.declared.hypotheses.Hypothesis.{Hypothesis}
 use Rattle.formula_ids.specs.Hypotheses.{AreKnownHyps, AreHyps}
 use Rattle.term_table.specs.Tree.{Var}
@@ -10,16 +8,15 @@ use Rattle.formula_tree.specs.Formulas.{Form, shift_form}
 use Rattle.formula_terms.specs.Encoding.{form_encoding}
 use Rattle.prover_class.specs.Hypotheses.{Hyps, raised_hyps, split_hyps, with_new}
 use Rattle.prover_class.specs.Goals.{absurdity}
-use Rattle.bound_proofs.specs.KeptBounds.{AreUppers}
+use Rattle.bound_proofs.specs.KeptBounds.{AreBounds}
 use Rattle.formula_ids.proofs.HypRows.{known_hyps-more, hyps-before, hyps-after}
 use Rattle.goal_proofs.specs.Provers.{whole_proof, prover_of, IsProofBy}
 use Rattle.goal_proofs.specs.Answers.{IsFoundProof, AreAnswers}
-use Rattle.goal_proofs.specs.Search.{IsSearch, IsContext, IsAfter}
+use Rattle.goal_proofs.specs.Search.{IsContext, IsAfter}
 use Rattle.goal_proofs.specs.Inside.Connectives.{IsUnderBinder, IsUnderHypothesis}
 use Rattle.goal_proofs.specs.declared.answers.Means.{Means}
 use Rattle.goal_proofs.specs.declared.search.Search.{Search}
 use Rattle.goal_proofs.specs.declared.search.Context.{Context}
-use Rattle.goal_proofs.proofs.Kept.{search-more, context-more}
 
 -- what was answered in a later table of an id of an earlier one
 pub made_proof : (t u : TableView) (l : List Hypothesis) (n : ℕ) (means : Means) (goal : ℕ) (o : Option ℕ) → AreKnownHyps t l → IsKnown t goal → Extends t u → IfSome o (IsKnown u) →
@@ -38,7 +35,7 @@ made_after u s c d means goal o h a =
 -- ---- contexts
 
 -- a context that was made of hypotheses
-pub context_made : (t u : TableView) (c : Context) (l : List Hypothesis) → AreKnownHyps t l → Extends t u → c.hyps ≡ l → AreUppers u c.hyps c.bounds → IfSome c.absurd (IsKnown u) → ((Γ : Hyps) → AreHyps t l Γ → Stands u (absurdity Γ) c.absurd) →
+pub context_made : (t u : TableView) (c : Context) (l : List Hypothesis) → AreKnownHyps t l → Extends t u → c.hyps ≡ l → AreBounds u c.hyps c.bounds → IfSome c.absurd (IsKnown u) → ((Γ : Hyps) → AreHyps t l Γ → Stands u (absurdity Γ) c.absurd) →
     AreAnswers u c.hyps c.answers → IsContext u c
 context_made t u c l k x same bounds known absurd answers = record {
   hyps = subst (AreKnownHyps u) (sym same) (known_hyps-more t u l k x);

@@ -1,20 +1,22 @@
 -- How the search by connectives answers, call after call.
-use Rattle.std.proofs.Common.{◌≡◌, ℕ, suc, ◌+◌, max, Option, Some, None, Result, Ok, Err, IfOk, IfSome, List, [], ◌∷◌, option_map, refl, sym, ◌∙◌, ap, subst, arith}
+use Rattle.std.proofs.Common.{◌≡◌, ℕ, suc, ◌+◌, max, Option, Some, None, Result, Ok, Err, IfOk, IfSome, List, option_map, refl, sym, ◌∙◌, ap, subst, arith}
 use Rattle.term_table.specs.Tree.{Tree, Var, Con, App, Lam, Fam, TApp, Pi, shift}
 use Rattle.term_table.specs.Subst.{bind}
 use Rattle.term_table.specs.Table.{TableView, IsKnown, tree_at, Extends, Stands}
 use Rattle.term_table.specs.Measures.{height_of}
 use Rattle.lf_signature.specs.Nodes.{IsIdOf}
-use Rattle.formula_tree.specs.Formulas.{Form, FFalse, FAnd, FOr, FImp, FAll, FAllm, shift_form}
+use Rattle.formula_tree.specs.Formulas.{Exp, Form, FFalse, FRel, FAnd, FOr, FImp, FAll, FAllm, shift_form}
+use Rattle.word_ops.specs.declared.Rel.{Rel}
 use Rattle.formula_terms.specs.Encoding.{form_encoding}
 use Rattle.formula_ids.specs.declared.hypotheses.Hypothesis.{Hypothesis}
 use Rattle.formula_ids.specs.Hypotheses.{AreKnownHyps, AreHyps}
-use Rattle.formula_ids.specs.Nodes.{IsJoin, IsQuantified}
+use Rattle.formula_ids.specs.Nodes.{IsQuantified, right_form}
+use Rattle.formula_ids.specs.declared.forms.Access.{Access}
+use Rattle.formula_ids.specs.declared.forms.Access.TheVariants.{Load, Store}
 use Rattle.formula_terms.specs.ProofTerms.{ff_e, and_i, imp_i}
 use Rattle.prover_class.specs.Hypotheses.{Hyps, find_hyp, raised_hyps, split_hyps, with_new}
 use Rattle.prover_class.specs.Goals.{Prover, first_of, absurdity}
 use Rattle.hyp_proofs.proofs.Raised.{shift-form_encoding}
-use Rattle.formula_ids.proofs.Standing.{ruled}
 use Rattle.formula_ids.proofs.HypRows.{hyps-after}
 use Rattle.goal_proofs.specs.Provers.{whole_proof, IsProofBy}
 use Rattle.goal_proofs.specs.Answers.{IsAbsurdity}
@@ -22,7 +24,6 @@ use Rattle.goal_proofs.specs.Search.{IsAfter}
 use Rattle.goal_proofs.specs.Inside.Connectives.{shape_proof, join_tree, over_tree, IsJoinProof, IsOverProof, IsUnderBinder, IsUnderHypothesis}
 use Rattle.goal_proofs.specs.declared.search.Search.{Search}
 use Rattle.goal_proofs.specs.declared.search.Context.{Context}
-use Rattle.formula_ids.proofs.Standing.{stands-more}
 use Rattle.goal_proofs.proofs.Rounds.{by_found, by_absurdity, by_round}
 
 -- ---- answers of calls
@@ -78,6 +79,34 @@ by_all_memories p t u l n goal b (Err e) is h = tt
 by_all_memories p t u l n goal b (Ok o) is h = λ Γ A g q.
     let j = is A q in
     subst (λ z. Stands u (shape_proof p n Γ z) o) (sym j.is) (h Γ j.body g j.body_is)
+
+-- a shape that leaves the goal to what proves goals without a connective
+pub by_leaf : {E : Type 0} (p : Prover) (t u : TableView) (l : List Hypothesis) (n goal : ℕ)
+    (r : Result (Option ℕ) E)
+    → ((A : Form) → tree_at t goal ≡ form_encoding A → (Γ : Hyps) → shape_proof p n Γ A ≡ p n Γ A)
+    → IfOk r (IsProofBy p t u l n goal) → IfOk r (IsProofBy (shape_proof p) t u l n goal)
+by_leaf p t u l n goal (Err e) same h = tt
+by_leaf p t u l n goal (Ok o) same h = λ Γ A g q.
+    subst (λ z. Stands u z o) (sym (same A q Γ)) (h Γ A g q)
+
+pub falsity-left : (p : Prover) (n : ℕ) (A : Form) → A ≡ FFalse
+    → (Γ : Hyps) → shape_proof p n Γ A ≡ p n Γ A
+falsity-left p n A e Γ = subst (λ (B : Form). shape_proof p n Γ B ≡ p n Γ B) (sym e) refl
+
+pub relation-left : (p : Prover) (n : ℕ) (A : Form) (r : Rel) (a b : Exp) → A ≡ FRel r a b
+    → (Γ : Hyps) → shape_proof p n Γ A ≡ p n Γ A
+relation-left p n A r a b e Γ =
+    subst (λ (B : Form). shape_proof p n Γ B ≡ p n Γ B) (sym e) refl
+
+right-same : (p : Prover) (n : ℕ) (k : Access) (a : Exp) (Γ : Hyps)
+    → shape_proof p n Γ (right_form k a) ≡ p n Γ (right_form k a)
+right-same p n Load a Γ = refl
+right-same p n Store a Γ = refl
+
+pub right-left : (p : Prover) (n : ℕ) (A : Form) (k : Access) (a : Exp) → A ≡ right_form k a
+    → (Γ : Hyps) → shape_proof p n Γ A ≡ p n Γ A
+right-left p n A k a e Γ =
+    subst (λ (B : Form). shape_proof p n Γ B ≡ p n Γ B) (sym e) (right-same p n k a Γ)
 
 -- ---- connectives
 

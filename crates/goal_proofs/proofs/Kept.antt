@@ -1,7 +1,6 @@
 -- What is kept of a search, as the table grows.
 use Rattle.std.proofs.Common.{ℕ, Bool, Option, List}
-use Rattle.term_table.specs.Tree.{Tree}
-use Rattle.term_table.specs.Table.{TableView, IsKnown, Extends, Stands}
+use Rattle.term_table.specs.Table.{TableView, Extends}
 use Rattle.hereditary_subst.proofs.Rows.{memo-more}
 use Rattle.formula_ids.specs.declared.hypotheses.Hypothesis.{Hypothesis}
 use Rattle.formula_ids.specs.Hypotheses.{AreKnownHyps}
@@ -14,7 +13,7 @@ use Rattle.sum_proofs.specs.Lasting.{occurrence-lasts}
 use Rattle.formula_ids.specs.declared.kept.Kept.{Kept}
 use Rattle.formula_ids.proofs.KeptRows.{right-more}
 use Rattle.sum_proofs.proofs.Rounds.{forms-more}
-use Rattle.bound_proofs.proofs.UpperRows.{uppers-more}
+use Rattle.bound_proofs.proofs.BoundRows.{bounds-more}
 use Rattle.formula_ids.proofs.HypRows.{known_hyps-more, hyps-before}
 use Rattle.goal_proofs.specs.Answers.{IsAnswer, AreAnswers, IsAbsurdity}
 use Rattle.goal_proofs.specs.Lasting.{answer-lasts}
@@ -46,7 +45,7 @@ absurd-more t u l o k x h = record {
 pub context-more : (c : Context) (t u : TableView) → IsContext t c → Extends t u → IsContext u c
 context-more c t u h x = record {
   hyps = known_hyps-more t u c.hyps h.hyps x;
-  bounds = uppers-more c.bounds t u c.hyps h.bounds h.hyps x;
+  bounds = bounds-more c.bounds t u c.hyps h.bounds h.hyps x;
   absurd = absurd-more t u c.hyps c.absurd h.hyps x h.absurd;
   answers = answers-more c.answers t u c.hyps h.answers h.hyps x;
 }

@@ -1,12 +1,11 @@
 -- One round of the class's search, and that it doesn't go by how many rounds are left where they are enough.
-use Rattle.std.proofs.Common.{◌≡◌, ℕ, zero, suc, ◌≤◌, max, Option, Some, None, refl, sym, ◌∙◌, ap, arith, option_map}
+use Rattle.std.proofs.Common.{◌≡◌, ℕ, zero, suc, ◌≤◌, max, Option, Some, None, refl, ◌∙◌, ap, arith, option_map}
 use Rattle.term_table.specs.Tree.{Tree, Var}
 use Rattle.term_table.specs.Subst.{bind}
 use Rattle.formula_tree.specs.Formulas.{Form, FTrue, FFalse, FRel, FRd, FWr, FAnd, FOr, FImp, FAll, FAllm, shift_form}
 use Rattle.formula_terms.specs.ProofTerms.{ff_e, and_i, or_l, or_r, imp_i, all_i, allm_i}
 use Rattle.prover_class.specs.Hypotheses.{Hyps, find_hyp, raised_hyps, split_hyps, with_new}
-use Rattle.prover_class.specs.Goals.{first_of, absurdity, Prover, by_shape, goal_proof}
-use Rattle.prover_class.specs.Parts.{levels}
+use Rattle.prover_class.specs.Goals.{first_of, absurdity, levels, Prover, by_shape, goal_proof}
 use Rattle.goal_proofs.specs.Provers.{whole_proof}
 
 pub levels-shift : (A : Form) (k c : ℕ) → levels (shift_form k c A) ≡ levels A

@@ -1,14 +1,14 @@
 -- What is kept of a search, call after call.
-use Rattle.std.proofs.Common.{Result, Ok, Err, IfOk, OnOk, refl, arith}
+use Rattle.std.proofs.Common.{Result, Ok, Err, IfOk, OnOk, refl, ◌∙◌, arith}
 use Rattle.term_table.specs.Table.{TableView, Extends}
 use Rattle.hereditary_subst.specs.Kept.{IsMemo}
 use Rattle.hereditary_subst.specs.declared.kept.Memo.{Memo}
 use Rattle.formula_ids.specs.declared.kept.Kept.{Kept}
 use Rattle.sum_proofs.specs.declared.normal_forms.Place.{Place}
 use Rattle.sum_proofs.specs.declared.normal_forms.Rewritten.{Rewritten}
-use Rattle.bound_proofs.specs.declared.kept_bounds.UpperBounds.{UpperBounds}
+use Rattle.bound_proofs.specs.declared.kept_bounds.KeptBounds.{KeptBounds}
 use Rattle.sum_proofs.specs.NormalForms.{AreNormalForms}
-use Rattle.bound_proofs.specs.KeptBounds.{AreUppers}
+use Rattle.bound_proofs.specs.KeptBounds.{AreBounds}
 use Rattle.hereditary_subst.proofs.Rows.{memo-more}
 use Rattle.goal_proofs.specs.Search.{IsSearch, IsContext, IsAfter}
 use Rattle.goal_proofs.specs.declared.search.Search.{Search}
@@ -18,6 +18,10 @@ use Rattle.goal_proofs.proofs.Kept.{search-more, context-more}
 -- after a call that only reads the context
 pub after_search : (t u : TableView) (r s : Search) (a b : Context) → IsAfter t r a b → Extends t u → IsSearch u s → IsAfter u s a b
 after_search t u r s a b h x g = record { search = g; context = context-more b t u h.context x; hyps = h.hyps; outside = h.outside }
+
+-- one call after another
+pub after_twice : (t u : TableView) (r s : Search) (a b c : Context) → IsAfter t r a b → IsAfter u s b c → IsAfter u s a c
+after_twice t u r s a b c h g = record { search = g.search; context = g.context; hyps = g.hyps ∙ h.hyps; outside = g.outside ∙ h.outside }
 
 -- the context as it was
 pub after_now : (t : TableView) (s : Search) (c : Context) → IsSearch t s → IsContext t c → IsAfter t s c c
@@ -51,7 +55,7 @@ with_forms t u s m f h x k l =
     let g = search-more s t u h x in
     record { memo = k; forms = l; puts = g.puts; occurrences = g.occurrences }
 
-pub with_bounds : (t u : TableView) (c : Context) (b : UpperBounds) → IsContext t c → Extends t u → AreUppers u c.hyps b → IsContext u (record { outside = c.outside; hyps = c.hyps; bounds = b; absurd = c.absurd; answers = c.answers })
+pub with_bounds : (t u : TableView) (c : Context) (b : KeptBounds) → IsContext t c → Extends t u → AreBounds u c.hyps b → IsContext u (record { outside = c.outside; hyps = c.hyps; bounds = b; absurd = c.absurd; answers = c.answers })
 with_bounds t u c b h x k =
     let g = context-more c t u h x in
     record { hyps = g.hyps; bounds = k; absurd = g.absurd; answers = g.answers }

@@ -4,7 +4,7 @@ use Rattle.term_table.specs.Table.{TableView}
 use Rattle.hereditary_subst.specs.Kept.{IsMemo}
 use Rattle.formula_ids.specs.Hypotheses.{AreKnownHyps}
 use Rattle.formula_ids.specs.PutRows.{ArePuts}
-use Rattle.bound_proofs.specs.KeptBounds.{AreUppers}
+use Rattle.bound_proofs.specs.KeptBounds.{AreBounds}
 use Rattle.sum_proofs.specs.NormalForms.{AreNormalForms}
 use Rattle.sum_proofs.specs.Occurrences.{AreOccurrences}
 use Rattle.goal_proofs.specs.Answers.{AreAnswers, IsAbsurdity}
@@ -25,7 +25,7 @@ uncounted t s = length t.trees - s.counted
 -- what is kept under the hypotheses is right of the table
 pub record IsContext (t : TableView) (c : Context) : Type 0 where
   pub hyps : AreKnownHyps t c.hyps
-  pub bounds : AreUppers t c.hyps c.bounds
+  pub bounds : AreBounds t c.hyps c.bounds
   pub absurd : IsAbsurdity t c.hyps c.absurd
   pub answers : AreAnswers t c.hyps c.answers
 

@@ -5,13 +5,14 @@ ghost use Rattle.std.specs.Prelude.{◌≡◌};
 use formula_ids::{Kept, Question, number};
 use term_table::Id;
 
-/// What proves goals that have no connective.
+/// What proves goals that have no connective: alignment, normal forms and bounds, and what is said
+/// here.
 #[derive(Clone, Copy, PartialEq, Eq, PartialOrd, Ord)]
-pub enum Means {
-    /// Alignment, normal forms and bounds.
-    Words,
-    /// These, and access to memory by hypotheses.
-    WordsAndAccess,
+pub struct Means {
+    /// Access to memory by hypotheses.
+    pub access: bool,
+    /// Lower bounds of differences, whose rule is there where steps are counted.
+    pub counted: bool,
 }
 
 /// A goal, how many binders stand outside, and by which means a proof was looked for.

@@ -7,7 +7,7 @@ ghost use Rattle.std.specs.Prelude.{◌≡◌, IfOk, IfSome, OnOk};
 ghost use Rattle.term_table.specs.Table.{IsKnown, tree_at, Extends};
 ghost use Rattle.formula_tree.specs.Formulas.{FAnd, FOr, FImp};
 ghost use Rattle.formula_ids.specs.Nodes.{IsLower};
-ghost use Rattle.prover_class.specs.Access.{without_access, by_all_means};
+ghost use Rattle.prover_class.specs.Access.{without_access};
 ghost use Rattle.goal_proofs.specs.Provers.{IsProofBy, whole_proof, prover_of};
 ghost use Rattle.goal_proofs.specs.Search.{IsSearch, IsContext, IsAfter};
 ghost use Rattle.goal_proofs.specs.Inside.Connectives.{shape_proof, IsJoinProof, IsOverProof};
@@ -236,7 +236,7 @@ fn proof_for_all<L: Leaf>(
 }
 
 /// The proof of `goal` under the hypotheses of `context` by connectives and words alone; none where
-/// they give none.
+/// they give none. `counted` says whether steps are counted.
 ///
 /// Errors: want of memory alone, which more results than `search` may keep are too; each id keeps its
 /// tree.
@@ -244,16 +244,17 @@ pub fn proof_without_access(
     table: &mut Table,
     search: &mut Search,
     context: &mut Context,
+    counted: bool,
     goal: Id,
 ) -> Result<Option<Id>, Exhausted>
     requires goal { IsKnown table.old goal }
     requires search { IsSearch table.old search.old }
     requires context { IsContext table.old context.old }
     ensures known { IfOk result (λ o. IfSome o (IsKnown table.new)) }
-    ensures exact { let c = context.old in
-        IfOk result (IsProofBy without_access table.old table.new c.hyps c.outside goal) }
+    ensures exact { let c = context.old in let p = without_access counted in
+        IfOk result (IsProofBy p table.old table.new c.hyps c.outside goal) }
     ensures extends { Extends table.old table.new }
     ensures after { OnOk result (IsAfter table.new search.new context.old context.new) }
 {
-    goal_proof(table, &WordsAlone, search, context, goal)
+    goal_proof(table, &WordsAlone { counted }, search, context, goal)
 }

@@ -48,17 +48,22 @@ pub trait Leaf {
         ensures after { OnOk result (IsAfter table.new search.new context.old context.new) };
 }
 
-/// Alignment, normal forms and bounds.
+/// Alignment, normal forms and bounds; `counted` says whether steps are counted.
 #[derive(Clone, Copy)]
-pub(crate) struct WordsAlone;
+pub(crate) struct WordsAlone {
+    pub(crate) counted: bool,
+}
 
 impl Leaf for WordsAlone {
-    ghost use Rattle.goal_proofs.specs.declared.answers.Means.TheVariants.{Words};
+    ghost use Rattle.goal_proofs.specs.Provers.{words_alone};
 
-    ghost by = { λ _. Words };
+    ghost by = { λ leaf. words_alone leaf.counted };
 
     fn means(&self) -> Means {
-        Means::Words
+        Means {
+            access: false,
+            counted: self.counted,
+        }
     }
 
     fn leaf_proof(
@@ -68,6 +73,6 @@ impl Leaf for WordsAlone {
         context: &mut Context,
         goal: Id,
     ) -> Result<Option<Id>, Exhausted> {
-        proof_by_words(table, search, context, goal)
+        proof_by_words(table, search, context, self.counted, goal)
     }
 }

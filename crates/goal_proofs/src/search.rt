@@ -8,7 +8,7 @@ ghost use Rattle.hereditary_subst.specs.Limits.{left_of, results_of, Counts};
 ghost use Rattle.goal_proofs.specs.Search.{IsSearch, IsContext, IsAfter, uncounted};
 
 use crate::answers::{Answers, Means, question_of};
-use bound_proofs::UpperBounds;
+use bound_proofs::KeptBounds;
 use formula_ids::Puts;
 use hereditary_subst::{Exhausted, Memo};
 use hyp_proofs::{Hypotheses, absurdity};
@@ -86,7 +86,7 @@ pub struct Context {
     pub outside: u32,
     /// The hypotheses.
     pub hyps: Hypotheses,
-    pub(crate) bounds: UpperBounds,
+    pub(crate) bounds: KeptBounds,
     // a proof of falsity, where the hypotheses are absurd
     pub(crate) absurd: Option<Id>,
     pub(crate) answers: Answers,
@@ -109,7 +109,7 @@ impl Context {
         Ok(Context {
             outside,
             hyps,
-            bounds: UpperBounds::new(alloc),
+            bounds: KeptBounds::new(alloc),
             absurd,
             answers: Answers::new(alloc),
         })

@@ -5,8 +5,7 @@ ghost use Rattle.term_table.specs.Tree.{Tree};
 ghost use Rattle.formula_tree.specs.Formulas.{Form};
 ghost use Rattle.formula_terms.specs.ProofTerms.{ff_e};
 ghost use Rattle.prover_class.specs.Hypotheses.{Hyps, find_hyp};
-ghost use Rattle.prover_class.specs.Goals.{Prover, absurdity, by_shape, goal_proof};
-ghost use Rattle.prover_class.specs.Parts.{levels};
+ghost use Rattle.prover_class.specs.Goals.{Prover, absurdity, by_shape, goal_proof, levels};
 ghost use Rattle.goal_proofs.specs.Provers.{whole_proof};
 
 /// The class's search in rounds: what it gives a goal doesn't go by how many rounds are left, where

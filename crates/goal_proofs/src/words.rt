@@ -138,20 +138,29 @@ fn upper(
 fn lower(
     table: &mut Table,
     search: &mut Search,
-    context: &Context,
+    context: &mut Context,
+    counted: bool,
     e: Id,
 ) -> Result<Bound, Exhausted>
     requires e { IsKnown table.old e }
     requires search { IsSearch table.old search.old }
-    requires context { IsContext table.old context.now }
+    requires context { IsContext table.old context.old }
     ensures known { IfOk result (λ b. IsKnown table.new b.proof) }
-    ensures exact { (Γ : Hyps) (x : Exp) → AreHyps table.old context.now.hyps Γ
+    ensures exact { (Γ : Hyps) (x : Exp) → AreHyps table.old context.old.hyps Γ
         → tree_at table.old e ≡ exp_encoding x
-        → IfOk result (IsBoundOf table.new (lower_bound Γ x)) }
+        → IfOk result (IsBoundOf table.new (lower_bound counted Γ x)) }
     ensures extends { Extends table.old table.new }
-    ensures search { OnOk result (IsSearch table.new search.new) }
+    ensures after { OnOk result (IsAfter table.new search.new context.old context.new) }
 {
-    lower_bound(table, &mut search.memo, context.hyps.as_slice(), e)
+    let hyps = context.hyps.as_slice();
+    lower_bound(
+        table,
+        &mut search.memo,
+        &mut context.bounds,
+        hyps,
+        counted,
+        e,
+    )
 }
 
 /// An upper bound of one expression and a lower bound of another.
@@ -167,6 +176,7 @@ fn bounds_of(
     table: &mut Table,
     search: &mut Search,
     context: &mut Context,
+    counted: bool,
     a: Id,
     b: Id,
 ) -> Result<Bounds, Exhausted>
@@ -179,12 +189,12 @@ fn bounds_of(
     ensures exact { (Γ : Hyps) (x y : Exp) → AreHyps table.old context.old.hyps Γ
         → tree_at table.old a ≡ exp_encoding x → tree_at table.old b ≡ exp_encoding y
         → IfOk result (λ v. IsBoundOf table.new (upper_bound Γ x) v.upper
-        × IsBoundOf table.new (lower_bound Γ y) v.lower) }
+        × IsBoundOf table.new (lower_bound counted Γ y) v.lower) }
     ensures extends { Extends table.old table.new }
     ensures after { OnOk result (IsAfter table.new search.new context.old context.new) }
 {
     let upper = upper(table, search, context, a)?;
-    let lower = lower(table, search, context, b)?;
+    let lower = lower(table, search, context, counted, b)?;
     Ok(Bounds { upper, lower })
 }
 
@@ -194,6 +204,7 @@ fn words_of(
     table: &Table,
     search: &mut Search,
     context: &mut Context,
+    counted: bool,
     a: Id,
     b: Id,
 ) -> Result<BoundWords, Exhausted>
@@ -204,11 +215,19 @@ fn words_of(
     ensures exact { (Γ : Hyps) (x y : Exp) → AreHyps table.now context.old.hyps Γ
         → tree_at table.now a ≡ exp_encoding x → tree_at table.now b ≡ exp_encoding y
         → IfOk result (λ w. (w.upper ≡ (upper_bound Γ x).value)
-        × (w.lower ≡ (lower_bound Γ y).value)) }
+        × (w.lower ≡ (lower_bound counted Γ y).value)) }
     ensures after { OnOk result (IsAfter table.now search.new context.old context.new) }
 {
     let hyps = context.hyps.as_slice();
-    bound_words(table, &mut search.memo, &mut context.bounds, hyps, a, b)
+    bound_words(
+        table,
+        &mut search.memo,
+        &mut context.bounds,
+        hyps,
+        counted,
+        a,
+        b,
+    )
 }
 
 /// The proof that `a` is at most `b`, by bounds.
@@ -217,6 +236,7 @@ fn at_most_by_bounds(
     table: &mut Table,
     search: &mut Search,
     context: &mut Context,
+    counted: bool,
     a: Id,
     b: Id,
 ) -> Result<Option<Id>, Exhausted>
@@ -226,15 +246,15 @@ fn at_most_by_bounds(
     requires context { IsContext table.old context.old }
     ensures known { IfOk result (λ o. IfSome o (IsKnown table.new)) }
     ensures exact { let h = context.old.hyps in
-        IfOk result (IsBoundsProof ule_by table.old table.new h a b) }
+        IfOk result (IsBoundsProof counted ule_by table.old table.new h a b) }
     ensures extends { Extends table.old table.new }
     ensures after { OnOk result (IsAfter table.new search.new context.old context.new) }
 {
-    let words = words_of(table, search, context, a, b)?;
+    let words = words_of(table, search, context, counted, a, b)?;
     if words.lower < words.upper {
         return Ok(None);
     }
-    let bounds = bounds_of(table, search, context, a, b)?;
+    let bounds = bounds_of(table, search, context, counted, a, b)?;
     ule_by(table, a, b, bounds.upper, bounds.lower)
 }
 
@@ -244,6 +264,7 @@ fn at_most(
     table: &mut Table,
     search: &mut Search,
     context: &mut Context,
+    counted: bool,
     a: Id,
     b: Id,
 ) -> Result<Option<Id>, Exhausted>
@@ -253,7 +274,7 @@ fn at_most(
     requires context { IsContext table.old context.old }
     ensures known { IfOk result (λ o. IfSome o (IsKnown table.new)) }
     ensures exact { let h = context.old.hyps in
-        IfOk result (IsRelationProof by_bounds table.old table.new h Ule a b) }
+        IfOk result (IsRelationProof (by_bounds counted) table.old table.new h Ule a b) }
     ensures extends { Extends table.old table.new }
     ensures after { OnOk result (IsAfter table.new search.new context.old context.new) }
 {
@@ -264,7 +285,7 @@ fn at_most(
             Ok(Some(proof))
         }
         None => {
-            let rest = at_most_by_bounds(table, search, context, a, b)?;
+            let rest = at_most_by_bounds(table, search, context, counted, a, b)?;
             Ok(rest)
         }
     }
@@ -276,6 +297,7 @@ fn less(
     table: &mut Table,
     search: &mut Search,
     context: &mut Context,
+    counted: bool,
     a: Id,
     b: Id,
 ) -> Result<Option<Id>, Exhausted>
@@ -285,15 +307,15 @@ fn less(
     requires context { IsContext table.old context.old }
     ensures known { IfOk result (λ o. IfSome o (IsKnown table.new)) }
     ensures exact { let h = context.old.hyps in
-        IfOk result (IsRelationProof by_bounds table.old table.new h Ult a b) }
+        IfOk result (IsRelationProof (by_bounds counted) table.old table.new h Ult a b) }
     ensures extends { Extends table.old table.new }
     ensures after { OnOk result (IsAfter table.new search.new context.old context.new) }
 {
-    let words = words_of(table, search, context, a, b)?;
+    let words = words_of(table, search, context, counted, a, b)?;
     if words.lower <= words.upper {
         return Ok(None);
     }
-    let bounds = bounds_of(table, search, context, a, b)?;
+    let bounds = bounds_of(table, search, context, counted, a, b)?;
     ult_by(table, a, b, bounds.upper, bounds.lower)
 }
 
@@ -303,6 +325,7 @@ fn by_bounds(
     table: &mut Table,
     search: &mut Search,
     context: &mut Context,
+    counted: bool,
     rel: Rel,
     a: Id,
     b: Id,
@@ -313,13 +336,13 @@ fn by_bounds(
     requires context { IsContext table.old context.old }
     ensures known { IfOk result (λ o. IfSome o (IsKnown table.new)) }
     ensures exact { let h = context.old.hyps in
-        IfOk result (IsRelationProof by_bounds table.old table.new h rel a b) }
+        IfOk result (IsRelationProof (by_bounds counted) table.old table.new h rel a b) }
     ensures extends { Extends table.old table.new }
     ensures after { OnOk result (IsAfter table.new search.new context.old context.new) }
 {
     match rel {
-        Rel::Ule => at_most(table, search, context, a, b),
-        Rel::Ult => less(table, search, context, a, b),
+        Rel::Ule => at_most(table, search, context, counted, a, b),
+        Rel::Ult => less(table, search, context, counted, a, b),
         Rel::Eq => Ok(None),
         Rel::Slt => Ok(None),
         Rel::Sle => Ok(None),
@@ -437,6 +460,7 @@ fn relation_by_words(
     table: &mut Table,
     search: &mut Search,
     context: &mut Context,
+    counted: bool,
     rel: Rel,
     a: Id,
     b: Id,
@@ -447,7 +471,7 @@ fn relation_by_words(
     requires context { IsContext table.old context.old }
     ensures known { IfOk result (λ o. IfSome o (IsKnown table.new)) }
     ensures exact { let c = context.old in IfOk result
-        (IsRelationProof (by_words_alone c.outside) table.old table.new c.hyps rel a b) }
+        (IsRelationProof (by_words_alone counted c.outside) table.old table.new c.hyps rel a b) }
     ensures extends { Extends table.old table.new }
     ensures after { OnOk result (IsAfter table.new search.new context.old context.new) }
 {
@@ -456,7 +480,7 @@ fn relation_by_words(
         None => match by_normal(table, search, context.outside, rel, a, b)? {
             Some(proof) => Ok(Some(proof)),
             None => {
-                let rest = by_bounds(table, search, context, rel, a, b)?;
+                let rest = by_bounds(table, search, context, counted, rel, a, b)?;
                 Ok(rest)
             }
         },
@@ -464,7 +488,8 @@ fn relation_by_words(
 }
 
 /// The proof of a goal that words alone prove, under the hypotheses of the context: by alignment, by
-/// normal forms, or by bounds. None where there is none, or the goal has a connective.
+/// normal forms, or by bounds. None where there is none, or the goal has a connective. `counted` says
+/// whether steps are counted.
 ///
 /// Errors: want of memory alone, which more results than the search may keep are too; each id keeps
 /// its tree.
@@ -473,19 +498,22 @@ pub fn proof_by_words(
     table: &mut Table,
     search: &mut Search,
     context: &mut Context,
+    counted: bool,
     goal: Id,
 ) -> Result<Option<Id>, Exhausted>
     requires goal { IsKnown table.old goal }
     requires search { IsSearch table.old search.old }
     requires context { IsContext table.old context.old }
     ensures known { IfOk result (λ o. IfSome o (IsKnown table.new)) }
-    ensures exact { let c = context.old in
-        IfOk result (IsProofBy by_words_alone table.old table.new c.hyps c.outside goal) }
+    ensures exact { let c = context.old in let p = by_words_alone counted in
+        IfOk result (IsProofBy p table.old table.new c.hyps c.outside goal) }
     ensures extends { Extends table.old table.new }
     ensures after { OnOk result (IsAfter table.new search.new context.old context.new) }
 {
     match form_node(table, goal) {
-        FormNode::Relation(rel, a, b) => relation_by_words(table, search, context, rel, a, b),
+        FormNode::Relation(rel, a, b) => relation_by_words(
+            table, search, context, counted, rel, a, b,
+        ),
         FormNode::True => Ok(None),
         FormNode::False => Ok(None),
         FormNode::Right(_, _) => Ok(None),

@@ -10,7 +10,7 @@ ghost use Rattle.lf_signature.specs.Terms.{lit};
 
 use crate::build::{AND, EQ, IMP, Made, con, known, lit, made, sum, var};
 use alpha_cfg::{Code, Cut};
-use lf_encode::put;
+use lf_encode::{MachineIds, put};
 use policy_set::{Policy, PolicyKind};
 use std::alloc::{AllocError, Global};
 use term_table::{Id, Node, Table};
@@ -65,8 +65,12 @@ fn put_word(table: &mut Table, id: Id, word: Id) -> Result<Id, AllocError>
     requires word { IsIdOf table.old (lit 5) word }
     requires low { height_of (tree_at table.old id) < 2 ^ 31 }
 {
-    let regs = [word; 31];
-    put(table, id, &regs, word)
+    let ids = MachineIds {
+        regs: [word; 31],
+        memory: word,
+        left: word,
+    };
+    put(table, id, &ids)
 }
 
 /// The term with 5 for each of the machine's variables.
@@ -133,7 +137,7 @@ pub(crate) fn condition(alloc: Global, table: &mut Table, count: u64, pairs: u64
     let words = words_of(alloc, count, pairs)?;
     let cut = cut_of(alloc, &words)?;
     let policy = made(Policy::of(alloc, PolicyKind::Filter))?;
-    match vc(table, &cut, &policy, &[]) {
+    match vc(table, &cut, &policy, &[], None) {
         Ok(id) => Ok(id),
         Err(_) => Err("no condition"),
     }

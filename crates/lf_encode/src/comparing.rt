@@ -11,7 +11,7 @@ ghost use Rattle.hereditary_subst.specs.Kept.{IsMemo};
 ghost use Rattle.lf_encode.specs.PutTree.{machine_terms_at, put_tree};
 ghost use Rattle.lf_encode.specs.Kept.{IsPutMemo, AreMachineTerms};
 
-use crate::puts::{Place, PutMemo, is_near, number, put_variable};
+use crate::puts::{MachineIds, Place, PutMemo, is_near, number, put_variable};
 use hereditary_subst::{Exhausted, Memo};
 use term_table::{Id, Node, Table};
 
@@ -23,24 +23,23 @@ fn is_put_at(
     table: &mut Table,
     shifts: &mut Memo,
     kept: &mut PutMemo,
-    regs: &[Id],
-    memory: Id,
+    ids: &MachineIds,
     id: Id,
     depth: u32,
     goal: Id,
 ) -> Result<bool, Exhausted>
     requires known { IsKnown table.old id }
     requires goal { IsKnown table.old goal }
-    requires ready { AreMachineTerms table.old regs.now memory }
+    requires ready { AreMachineTerms table.old ids.now }
     requires shifts { IsMemo table.old shifts.old }
-    requires kept { IsPutMemo table.old regs.now memory kept.old }
+    requires kept { IsPutMemo table.old ids.now kept.old }
     requires low { depth + height_of (tree_at table.old id) < 2 ^ 31 }
     ensures exact { let t = table.old in
-        let put = put_tree (machine_terms_at t regs.now memory) depth (tree_at t id) in
+        let put = put_tree (machine_terms_at t ids.now) depth (tree_at t id) in
         IfOk result (λ b. IsTrue b ↔ (tree_at t goal ≡ put)) }
     ensures extends { Extends table.old table.new }
     ensures shifts { IsMemo table.new shifts.new }
-    ensures kept { IsPutMemo table.new regs.now memory kept.new }
+    ensures kept { IsPutMemo table.new ids.now kept.new }
 {
     if is_near(table, id, depth) {
         return Ok(table.same(goal, id));
@@ -49,12 +48,12 @@ fn is_put_at(
         id: number(id),
         depth,
     };
-    if let Some(put) = kept.find(table, regs, memory, &place) {
+    if let Some(put) = kept.find(table, ids, &place) {
         return Ok(table.same(goal, put));
     }
-    let equal = is_put_by_parts(table, shifts, kept, regs, memory, id, depth, goal)?;
+    let equal = is_put_by_parts(table, shifts, kept, ids, id, depth, goal)?;
     if equal {
-        kept.keep(shifts, table, regs, memory, place, goal)?;
+        kept.keep(shifts, table, ids, place, goal)?;
     }
     Ok(equal)
 }
@@ -66,56 +65,55 @@ fn is_put_by_parts(
     table: &mut Table,
     shifts: &mut Memo,
     kept: &mut PutMemo,
-    regs: &[Id],
-    memory: Id,
+    ids: &MachineIds,
     id: Id,
     depth: u32,
     goal: Id,
 ) -> Result<bool, Exhausted>
     requires known { IsKnown table.old id }
     requires goal { IsKnown table.old goal }
-    requires ready { AreMachineTerms table.old regs.now memory }
+    requires ready { AreMachineTerms table.old ids.now }
     requires shifts { IsMemo table.old shifts.old }
-    requires kept { IsPutMemo table.old regs.now memory kept.old }
+    requires kept { IsPutMemo table.old ids.now kept.old }
     requires low { depth + height_of (tree_at table.old id) < 2 ^ 31 }
     ensures exact { let t = table.old in
-        let put = put_tree (machine_terms_at t regs.now memory) depth (tree_at t id) in
+        let put = put_tree (machine_terms_at t ids.now) depth (tree_at t id) in
         IfOk result (λ b. IsTrue b ↔ (tree_at t goal ≡ put)) }
     ensures extends { Extends table.old table.new }
     ensures shifts { IsMemo table.new shifts.new }
-    ensures kept { IsPutMemo table.new regs.now memory kept.new }
+    ensures kept { IsPutMemo table.new ids.now kept.new }
 {
     match table.node(id) {
         Node::Var(n) => {
-            let put = put_variable(table, shifts, regs, memory, n, depth)?;
+            let put = put_variable(table, shifts, ids, n, depth)?;
             Ok(table.same(goal, put))
         }
         Node::App(f, a) => {
             let Node::App(function, argument) = table.node(goal) else {
                 return Ok(false);
             };
-            if !is_put_at(table, shifts, kept, regs, memory, f, depth, function)? {
+            if !is_put_at(table, shifts, kept, ids, f, depth, function)? {
                 return Ok(false);
             }
-            is_put_at(table, shifts, kept, regs, memory, a, depth, argument)
+            is_put_at(table, shifts, kept, ids, a, depth, argument)
         }
         Node::Lam(b) => {
             let Node::Lam(body) = table.node(goal) else {
                 return Ok(false);
             };
-            is_put_at(table, shifts, kept, regs, memory, b, depth + 1, body)
+            is_put_at(table, shifts, kept, ids, b, depth + 1, body)
         }
         _ => Ok(table.same(goal, id)),
     }
 }
 
-/// Whether `goal` is the term that `put` gives of `id` with `regs` and `memory`: the term of `id`,
-/// which is over the context m, r0 to r30, with those of `regs`, 31 ids, for r0 to r30 and that of
-/// `memory` for m. The first difference ends the comparison.
+/// Whether `goal` is the term that `put` gives of `id` with `ids`: the term of `id`, which is over
+/// the context left, m, r0 to r30 or one without left, with the terms of `ids` for these. The first
+/// difference ends the comparison.
 ///
-/// `shifts` and `kept` are what earlier calls on the table kept, `kept` of the same `regs` and
-/// `memory`; it may have results of `put_with` too. What is found equal is kept, and counts in the
-/// limit of `shifts`.
+/// `shifts` and `kept` are what earlier calls on the table kept, `kept` of the same `ids`; it may
+/// have results of `put_with` too. What is found equal is kept, and counts in the limit of
+/// `shifts`.
 ///
 /// Errors: want of memory, and `Exhausted::Results` past that limit; each id keeps its tree.
 pub fn is_put_with(
@@ -123,22 +121,21 @@ pub fn is_put_with(
     shifts: &mut Memo,
     kept: &mut PutMemo,
     id: Id,
-    regs: &[Id],
-    memory: Id,
+    ids: &MachineIds,
     goal: Id,
 ) -> Result<bool, Exhausted>
     requires known { IsKnown table.old id }
     requires goal { IsKnown table.old goal }
-    requires ready { AreMachineTerms table.old regs.now memory }
+    requires ready { AreMachineTerms table.old ids.now }
     requires low { height_of (tree_at table.old id) < 2 ^ 31 }
     requires shifts { IsMemo table.old shifts.old }
-    requires kept { IsPutMemo table.old regs.now memory kept.old }
+    requires kept { IsPutMemo table.old ids.now kept.old }
     ensures exact { let t = table.old in
-        let put = put_tree (machine_terms_at t regs.now memory) 0 (tree_at t id) in
+        let put = put_tree (machine_terms_at t ids.now) 0 (tree_at t id) in
         IfOk result (λ b. IsTrue b ↔ (tree_at t goal ≡ put)) }
     ensures extends { Extends table.old table.new }
     ensures shifts { IsMemo table.new shifts.new }
-    ensures kept { IsPutMemo table.new regs.now memory kept.new }
+    ensures kept { IsPutMemo table.new ids.now kept.new }
 {
-    is_put_at(table, shifts, kept, regs, memory, id, 0, goal)
+    is_put_at(table, shifts, kept, ids, id, 0, goal)
 }

@@ -1,6 +1,6 @@
 //! What holds of encodings, with nothing to run.
 
-ghost use Rattle.std.specs.Prelude.{◌≡◌, ◌<◌, ◌^◌, ℕ, suc, Option, Some};
+ghost use Rattle.std.specs.Prelude.{◌≡◌, ◌<◌, ◌^◌, ℕ, suc, Bool, Option, Some};
 ghost use Rattle.std.specs.Prelude.{List, length, ◌++◌, take, drop};
 ghost use Rattle.term_table.specs.Tree.{Tree, Const};
 ghost use Rattle.term_table.specs.Subst.{Base, hsub};
@@ -10,7 +10,7 @@ ghost use Rattle.lf_signature.specs.Terms.{exp, mem, form};
 ghost use Rattle.lf_signature.specs.Typing.{Checks};
 ghost use Rattle.formula_tree.specs.Formulas.{Exp, MemExp, Form};
 ghost use Rattle.formula_tree.specs.Scope.{VarSort, sort_at, part_sort};
-ghost use Rattle.formula_tree.specs.Scope.{IsOverExp, IsOverMem, IsOver, IsOverPart};
+ghost use Rattle.formula_tree.specs.Scope.{IsOverExp, IsOverMem, IsOver, IsOverPart, IsWithin};
 ghost use Rattle.formula_tree.specs.Sizes.{form_height};
 ghost use Rattle.formula_tree.specs.Substitution.{Substitution, shift_substitution};
 ghost use Rattle.formula_tree.specs.Substitution.{subst_exp, subst_mem, subst_form};
@@ -143,10 +143,11 @@ pub fn scope_laws()
 {}
 
 /// Terms put for the machine's variables in the encoding of a formula, where `B` are the nearer
-/// variables, give the encoding of the formula in which their formulas were put for registers and m.
+/// variables, give the encoding of the formula in which their formulas were put for registers, m and
+/// the steps that are left.
 pub fn put_laws()
-    ensures { (r : ℕ) (F : Form) (B : List VarSort) (s : Substitution) →
-        length s.regs ≡ 31 → IsOver r F B →
+    ensures { (left : Bool) (r : ℕ) (F : Form) (B : List VarSort) (s : Substitution) →
+        length s.regs ≡ 31 → IsWithin left r F B →
         put_tree (machine_terms_of s) (length B)
         (form_encoding (subst_form F (shift_substitution (length B) machine_names)))
         ≡ form_encoding (subst_form F (shift_substitution (length B) s)) }

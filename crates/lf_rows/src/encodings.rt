@@ -9,7 +9,7 @@ ghost use Rattle.lf_signature.specs.Terms.{lit};
 use crate::answers::{constant_number, decided, made};
 use formula_tree::{Exp, Form};
 use hereditary_subst::{Exhausted, Memo};
-use lf_encode::{PutMemo, form_of, is_form, is_put_with, put, quantified};
+use lf_encode::{MachineIds, PutMemo, form_of, is_form, is_put_with, put, quantified};
 use lf_signature::{Sigma1, rel_number};
 use std::alloc::AllocError;
 use term_table::{Id, Node, Table};
@@ -112,8 +112,12 @@ fn put_word(table: &mut Table, id: Id, word: Id) -> Result<Id, AllocError>
     requires word { IsIdOf table.old (lit 5) word }
     requires low { height_of (tree_at table.old id) < 2 ^ 31 }
 {
-    let regs = [word; 31];
-    put(table, id, &regs, word)
+    let ids = MachineIds {
+        regs: [word; 31],
+        memory: word,
+        left: word,
+    };
+    put(table, id, &ids)
 }
 
 /// The next term with 5 for each of the machine's variables.
@@ -131,10 +135,14 @@ fn is_put_word(table: &mut Table, id: Id, word: Id, goal: Id) -> Result<bool, Ex
     requires goal { IsKnown table.old goal }
     requires low { height_of (tree_at table.old id) < 2 ^ 31 }
 {
-    let regs = [word; 31];
+    let ids = MachineIds {
+        regs: [word; 31],
+        memory: word,
+        left: word,
+    };
     let mut shifts = Memo::new(table.allocator(), 1_000);
     let mut kept = PutMemo::new(table.allocator());
-    is_put_with(table, &mut shifts, &mut kept, id, &regs, word, goal)
+    is_put_with(table, &mut shifts, &mut kept, id, &ids, goal)
 }
 
 /// Whether the second of the next terms is the first with 5 for each of the machine's variables.

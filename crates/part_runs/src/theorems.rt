@@ -1,6 +1,6 @@
 //! What holds of the definitions, with nothing to run.
 
-ghost use Rattle.std.specs.Prelude.{ℕ};
+ghost use Rattle.std.specs.Prelude.{ℕ, ◌<◌, IsSome};
 ghost use Rattle.word_ops.specs.Rights.{Rights};
 ghost use Rattle.alpha_cfg.specs.Machine.{IsState, run_of};
 ghost use Rattle.formula_tree.specs.Truth.{IsValid};
@@ -15,14 +15,20 @@ ghost use Rattle.host_steps.specs.Stepping.{EndsUnblocked};
 ghost use Rattle.part_runs.specs.Parts.{PartView, PartFits, open_state, part_at_start, rights_of, IsPartRun, IsPartRunUnder};
 
 /// Of annotated code whose condition is true. The rights of a start that lies in a part and meets
-/// the precondition fit the part (`start`). Under rights that fit, a run that tests no access isn't
-/// blocked (`unblocked`) and is the run of the machine that tests each; out of steps, they fit again
-/// (`run`). From a number on at which their stores end, quadwords that are 0 stay so (`unwritten`).
+/// the precondition fit the part, all steps of the bound being left (`start`); where steps are
+/// bounded, rights fit only while some are left (`left`). Under rights that fit, a run that tests
+/// no access isn't blocked (`unblocked`) and is the run of the machine that tests each; out of
+/// steps, they fit again, its steps fewer being left, and a run that might make all that are left
+/// of a bound returns (`run`). From a number on at which their stores end, quadwords that are 0
+/// stay so (`unwritten`).
 pub fn laws()
     ensures start { (c : AnnotatedCode) (base : ℕ) (setup : StartView) → IsAnnotated c
         → IsValid (condition c) → Fits base setup → IsState (start_state base setup)
         → Satisfies (rights_of setup) (start_regs setup) (start_state base setup).memory c.pre
         → PartFits c (all_steps c.bound) (part_at_start base setup) (rights_of setup) }
+    ensures left { (c : AnnotatedCode) (p : PartView) (left : ℕ) (rights : Rights)
+        → IsAnnotated c → IsValid (condition c) → PartFits c left p rights → IsSome c.bound
+        → 0 < left }
     ensures unblocked { (c : AnnotatedCode) (p : PartView) (n left : ℕ) (rights : Rights)
         → IsAnnotated c → IsValid (condition c) → PartFits c left p rights
         → EndsUnblocked (run_of c.code n (open_state p)).0 }

@@ -1,5 +1,5 @@
 -- What the answers of the code say.
-use Rattle.std.proofs.Common.{◌≡◌, ℕ, ◌*◌, ◌/◌, ◌<◌, ◌≤◌, List, [], ◌∷◌, ◌++◌, length, map, None, Result, Ok, Err, IfOk, IfErr, refl, sym, ap, ◌∙◌, subst, arith}
+use Rattle.std.proofs.Common.{◌≡◌, ℕ, ◌*◌, ◌/◌, ◌<◌, ◌≤◌, List, [], ◌∷◌, ◌++◌, length, map, Bool, Option, None, is_some, Result, Ok, Err, IfOk, IfErr, refl, sym, ap, ◌∙◌, subst, arith}
 use Rattle.std.specs.List.{AllByRecursion}
 use Rattle.std.specs.Result.{IsErrAnd}
 use Rattle.std.proofs.lemmas.List.{length-map}
@@ -7,7 +7,7 @@ use Rattle.alpha_words.specs.declared.insn.Insn.{Insn}
 use Rattle.policy_set.specs.Views.{PolicyView}
 use Rattle.word_ops.specs.declared.Profile.{Profile}
 use Rattle.proof_container.specs.declared.container.Head.{Head}
-use Rattle.proof_container.specs.Versions.{profile_of}
+use Rattle.proof_container.specs.Versions.{IsVersion, IsHead, IsBoundOf, profile_of}
 use Rattle.formula_tree.specs.declared.form.Form as lent
 use Rattle.formula_tree.specs.Formulas.{Form}
 use Rattle.term_table.specs.Tree.{Tree}
@@ -44,20 +44,21 @@ short_from : (xs : List _) → AreUpTo MAX_INSNS (label_views xs) → AreLabelIn
 short_from [] h = tt
 short_from (x ∷ xs) h = (h.0, short_from xs h.1)
 
-closed_from : (prof : Profile) (invs : List (ℕ × Form))
-    → AllByRecursion (λ p. IsTextual prof p.1) invs → AllByRecursion (λ p. IsEncodableForm p.1) invs
-closed_from prof [] h = tt
-closed_from prof (v ∷ invs) h = (textual_closed prof v.1 h.0, closed_from prof invs h.1)
+closed_from : (prof : Profile) (left : Bool) (invs : List (ℕ × Form))
+    → AllByRecursion (λ p. IsTextual prof left p.1) invs → AllByRecursion (λ p. IsEncodableForm left p.1) invs
+closed_from prof left [] h = tt
+closed_from prof left (v ∷ invs) h = (textual_closed prof left v.1 h.0, closed_from prof left invs h.1)
 
 -- an early return keeps what is said of its error
 pub carries : {X : Type 0} (P : Result X AsmFault → Type 0) (e : AsmFault) → P (Err e) → (r : Result X AsmFault) → IsErrAnd r (λ y. y ≡ e) → P r
 carries P e h (Ok x) k = absurd k
 carries P e h (Err y) k = subst (λ z. P (Err z)) (sym k) h
 
-module _ (prof : Profile) (s : code.Source) (h : IsSpelled prof (source_view s)) where
+module _ (prof : Profile) (left : Bool) (s : code.Source)
+    (h : IsSpelled prof left (source_view s)) where
   pub labels_short : AreLabelIndices s.labels.items
   unfolding source_view
-  labels_short = short_from s.labels.items (bounded prof h.0 (source_view s) h.1).labels
+  labels_short = short_from s.labels.items (bounded prof left h.0 (source_view s) h.1).labels
 
   pub insns_few : length s.insns.items ≤ MAX_INSNS
   unfolding source_view
@@ -67,10 +68,10 @@ module _ (prof : Profile) (s : code.Source) (h : IsSpelled prof (source_view s))
   unfolding source_view
   insns_some = let n : length (insn_views s.insns.items) ≡ length s.insns.items = length-map s.insns.items (λ (p : ℕ × SrcInsn). (p.0, source_insn_view p.1)) in omega (arith, n, h.1.sound.some)
 
-  pub invs_closed : AllByRecursion (λ p. IsEncodableForm p.1) (inv_views s.invs.items)
+  pub invs_closed : AllByRecursion (λ p. IsEncodableForm left p.1) (inv_views s.invs.items)
   unfolding source_view
   invs_closed =
-      closed_from prof (inv_views s.invs.items) (bounded prof h.0 (source_view s) h.1).invs
+      closed_from prof left (inv_views s.invs.items) (bounded prof left h.0 (source_view s) h.1).invs
 
   passes_sound : (insns : List Insn) → resolved_insns (label_views s.labels.items) 0
       (insn_views s.insns.items) ≡ Ok insns
@@ -78,7 +79,7 @@ module _ (prof : Profile) (s : code.Source) (h : IsSpelled prof (source_view s))
       → IsSound prof (source_view s) insns
   unfolding source_view
   passes_sound insns e f =
-      sound_by prof h.0 (source_view s) insns h.1 e
+      sound_by prof left h.0 (source_view s) insns h.1 e
       (passes prof (insn_views s.insns.items) insns insns f)
 
   pub insns_encodable : (insns : List Insn)
@@ -133,45 +134,53 @@ bytes_by : (r : Result (List Insn) AsmFlaw) (bytes : List ℕ) → bytes_or_flaw
 bytes_by (Ok insns) bytes e = (insns, refl, bytes_same _ _ e)
 bytes_by (Err k) bytes e = cc
 
-pub err_answer : (v : ℕ) {X : Type 0} (policy : PolicyView) (s : Source) (view : X → List ℕ)
+pub err_answer : (v : ℕ) (bound : Option ℕ) {X : Type 0} (policy : PolicyView) (s : Source) (view : X → List ℕ)
     (k : AsmFault)
     → IsStepAnswer view (bytes_or_flaw (assembled_code (profile_of v) s)) (Err k)
-    → IsAsmAnswer v policy s (Err k)
+    → IsAsmAnswer v bound policy s (Err k)
 unfolding assembled_contents
-err_answer v policy s view F.Memory h = tt
-err_answer v policy s view (F.At flaw) h =
-    ap (with_code v policy s.invs) (flaw_by (assembled_code (profile_of v) s) flaw h)
+err_answer v bound policy s view F.Memory h = tt
+err_answer v bound policy s view (F.At flaw) h =
+    ap (with_code v bound policy s.invs) (flaw_by (assembled_code (profile_of v) s) flaw h)
 
-contents_same : (head : Head) (bytes : List ℕ) (a b : List (ℕ × Tree)) → a ≡ b →
-    ◌≡◌ {A = Contents} (record { head = head; code = bytes; invs = a; proof = None })
-    (record { head = head; code = bytes; invs = b; proof = None })
-contents_same head bytes a b e =
-    ap (λ x. record { head = head; code = bytes; invs = x; proof = None }) e
+-- contents without a proof
+abbrev contents_with : ℕ → Head → Option ℕ → List ℕ → List (ℕ × Tree) → Contents
+contents_with v head bound bytes invs =
+    record { version = v; head = head; bound = bound; code = bytes; invs = invs; proof = None }
 
-pub ok_answer : (v : ℕ) (policy : PolicyView) (s : Source) (head : Head) (bytes : List ℕ)
-    (t : TableView) (ids : List (ℕ × ℕ))
+contents_same : (v : ℕ) (head : Head) (bound : Option ℕ) (bytes : List ℕ) (a b : List (ℕ × Tree))
+    → a ≡ b → contents_with v head bound bytes a ≡ contents_with v head bound bytes b
+contents_same v head bound bytes a b e = ap (contents_with v head bound bytes) e
+
+pub ok_answer : (v : ℕ) (bound : Option ℕ) (policy : PolicyView) (s : Source) (head : Head)
+    (bytes : List ℕ) (t : TableView) (ids : List (ℕ × ℕ))
     → bytes_or_flaw (assembled_code (profile_of v) s) ≡ Ok bytes → head ≡ head_for v policy
-    → AreEncoded t s.invs ids → assembled_contents v policy s ≡ Ok (held_contents head bytes t ids)
+    → AreEncoded t s.invs ids
+    → assembled_contents v bound policy s ≡ Ok (held_contents v head bound bytes t ids)
 unfolding assembled_contents
-ok_answer v policy s head bytes t ids e n k =
+ok_answer v bound policy s head bytes t ids e n k =
     let b = bytes_by (assembled_code (profile_of v) s) bytes e in
-    ap (with_code v policy s.invs) b.1
-    ∙ ap Ok (contents_same (head_for v policy) (code_bytes b.0) (inv_encodings s.invs)
+    ap (with_code v bound policy s.invs) b.1
+    ∙ ap Ok (contents_same v (head_for v policy) bound (code_bytes b.0) (inv_encodings s.invs)
     (id_trees t ids) (sym k.trees))
-    ∙ ap (λ x. Ok (held_contents (head_for v policy) x t ids)) b.2
-    ∙ ap (λ x. Ok (held_contents x bytes t ids)) (sym n)
+    ∙ ap (λ x. Ok (held_contents v (head_for v policy) bound x t ids)) b.2
+    ∙ ap (λ x. Ok (held_contents v x bound bytes t ids)) (sym n)
 
-pub is_held : (v : ℕ) (s : Source) (head : Head) (bytes : List ℕ) (t : TableView)
-    (ids : List (ℕ × ℕ)) → IsSpelled (profile_of v) s
+pub is_held : (v : ℕ) (bound : Option ℕ) (s : Source) (head : Head) (bytes : List ℕ)
+    (t : TableView) (ids : List (ℕ × ℕ)) → IsVersion v → IsHead v head → IsBoundOf v bound
+    → IsSpelled (profile_of v) (is_some bound) s
     → bytes_or_flaw (assembled_code (profile_of v) s) ≡ Ok bytes → AreEncoded t s.invs ids
-    → IsWritableContents t ids (held_contents head bytes t ids)
-is_held v s head bytes t ids h e k =
+    → IsWritableContents t ids (held_contents v head bound bytes t ids)
+is_held v bound s head bytes t ids built named fits h e k =
     let b = bytes_by (assembled_code (profile_of v) s) bytes e in
-    let sound = code_sound (profile_of v) h.0 s b.0 h.1 b.1 in
+    let sound = code_sound (profile_of v) (is_some bound) h.0 s b.0 h.1 b.1 in
     let size : length bytes ≡ 4 * length b.0 = sym (ap length b.2) ∙ bytes_length b.0 in
     let words : length bytes / 4 ≡ length s.insns = omega (arith, size, sound.count) in
     let count : length ids ≡ length s.invs = sym (length-map ids (λ inv. (inv.0, tree_at t inv.1))) ∙ ap length k.trees ∙ length-map s.invs (λ p. (p.0, encoding_in machine_context p.1)) in
     record {
+      version = built;
+      head = named;
+      bound = fits;
       known = k.known;
       terms = subst (λ l. AllTerms (map (λ p. p.1) l ++ [])) (sym k.trees) (all_terms s.invs);
       whole = omega (arith, size);
@@ -179,70 +188,74 @@ is_held v s head bytes t ids h e k =
       short = omega (arith, size, sound.count, h.1.sound.insns);
       entries =
           subst (λ l. length (entries (map (λ p. p.1) l ++ [])) ≤ 262144) (sym k.trees)
-          (entries_few (profile_of v) s.invs h.1.sound.invs
-          (bounded (profile_of v) h.0 s h.1).invs);
+          (entries_few (profile_of v) (is_some bound) s.invs h.1.sound.invs
+          (bounded (profile_of v) (is_some bound) h.0 s h.1).invs);
       invs = omega (arith, count, h.1.sound.invs);
       rising = subst (λ n. AreRising 0 n (id_trees t ids)) (sym words) (subst (AreRising 0 (length s.insns)) (sym k.trees) (rising 0 (length s.insns) s.invs h.1.sound.belong));
     }
 
-contents_by : (v : ℕ) (policy : PolicyView) (s : Source) (c : Contents)
+contents_by : (v : ℕ) (bound : Option ℕ) (policy : PolicyView) (s : Source) (c : Contents)
     (r : Result (List Insn) AsmFlaw)
-    → with_code v policy s.invs r ≡ Ok c → (insns : List Insn) × (r ≡ Ok insns)
-    × (plain_contents v policy s.invs insns ≡ c)
-contents_by v policy s c (Ok insns) e = (insns, refl, contents_ok _ _ e) where
+    → with_code v bound policy s.invs r ≡ Ok c → (insns : List Insn) × (r ≡ Ok insns)
+    × (plain_contents v bound policy s.invs insns ≡ c)
+contents_by v bound policy s c (Ok insns) e = (insns, refl, contents_ok _ _ e) where
   contents_ok : (a b : Contents) → ◌≡◌ {A = Result Contents AsmFlaw} (Ok a) (Ok b) → a ≡ b
   contents_ok a b e = cc
-contents_by v policy s c (Err k) e = cc
+contents_by v bound policy s c (Err k) e = cc
 
-plain_assembles : (v : ℕ) (policy : PolicyView) (s : Source) (insns : List Insn)
-    → IsSpelled (profile_of v) s
-    → IsSound (profile_of v) s insns → Assembles v policy s (plain_contents v policy s.invs insns)
-plain_assembles v policy s insns h k = record {
+plain_assembles : (v : ℕ) (bound : Option ℕ) (policy : PolicyView) (s : Source) (insns : List Insn)
+    → IsSpelled (profile_of v) (is_some bound) s → IsSound (profile_of v) s insns
+    → Assembles v bound policy s (plain_contents v bound policy s.invs insns)
+plain_assembles v bound policy s insns h k = record {
   insns = insns;
-  assembled = sound_assembled (profile_of v) h.0 s insns h.1 k;
+  assembled = sound_assembled (profile_of v) (is_some bound) h.0 s insns h.1 k;
   code = bytes_encode (profile_of v) insns k.ranges k.encodable;
+  version_is = refl;
   head_is = refl;
+  bound_is = refl;
   invs = refl;
   no_proof = refl;
 }
 
-pub contents_sound : (v : ℕ) (policy : PolicyView) (s : Source) (c : Contents)
-    → IsSpelled (profile_of v) s
-    → assembled_contents v policy s ≡ Ok c → (insns : List Insn) × IsSound (profile_of v) s insns
-    × (plain_contents v policy s.invs insns ≡ c)
+pub contents_sound : (v : ℕ) (bound : Option ℕ) (policy : PolicyView) (s : Source) (c : Contents)
+    → IsSpelled (profile_of v) (is_some bound) s
+    → assembled_contents v bound policy s ≡ Ok c
+    → (insns : List Insn) × IsSound (profile_of v) s insns
+    × (plain_contents v bound policy s.invs insns ≡ c)
 unfolding assembled_contents
-contents_sound v policy s c h e =
-    let b = contents_by v policy s c (assembled_code (profile_of v) s) e in
-    (b.0, code_sound (profile_of v) h.0 s b.0 h.1 b.1, b.2)
+contents_sound v bound policy s c h e =
+    let b = contents_by v bound policy s c (assembled_code (profile_of v) s) e in
+    (b.0, code_sound (profile_of v) (is_some bound) h.0 s b.0 h.1 b.1, b.2)
 
-assembles_by : (v : ℕ) (policy : PolicyView) (s : Source) (c : Contents)
-    → IsSpelled (profile_of v) s
-    → assembled_contents v policy s ≡ Ok c → Assembles v policy s c
-assembles_by v policy s c h e =
-    let k = contents_sound v policy s c h e in subst (Assembles v policy s) k.2
-    (plain_assembles v policy s k.0 h k.1)
+assembles_by : (v : ℕ) (bound : Option ℕ) (policy : PolicyView) (s : Source) (c : Contents)
+    → IsSpelled (profile_of v) (is_some bound) s
+    → assembled_contents v bound policy s ≡ Ok c → Assembles v bound policy s c
+assembles_by v bound policy s c h e =
+    let k = contents_sound v bound policy s c h e in subst (Assembles v bound policy s) k.2
+    (plain_assembles v bound policy s k.0 h k.1)
 
-pub answer_assembles : (v : ℕ) (policy : PolicyView) (s : Source) (r : Result Contents AsmFault)
-    → IsSpelled (profile_of v) s → IsAsmAnswer v policy s r → IfOk r (λ c. Assembles v policy s c)
-answer_assembles v policy s (Ok c) h e = assembles_by v policy s c h e
-answer_assembles v policy s (Err k) h e = tt
+pub answer_assembles : (v : ℕ) (bound : Option ℕ) (policy : PolicyView) (s : Source)
+    (r : Result Contents AsmFault) → IsSpelled (profile_of v) (is_some bound) s
+    → IsAsmAnswer v bound policy s r → IfOk r (λ c. Assembles v bound policy s c)
+answer_assembles v bound policy s (Ok c) h e = assembles_by v bound policy s c h e
+answer_assembles v bound policy s (Err k) h e = tt
 
-none_by : (v : ℕ) (policy : PolicyView) (s : Source) (flaw : AsmFlaw)
-    → assembled_contents v policy s
-    ≡ Err flaw → (c : Contents) → Assembles v policy s c → ⊥
+none_by : (v : ℕ) (bound : Option ℕ) (policy : PolicyView) (s : Source) (flaw : AsmFlaw)
+    → assembled_contents v bound policy s
+    ≡ Err flaw → (c : Contents) → Assembles v bound policy s c → ⊥
 unfolding assembled_contents
-none_by v policy s flaw e c a =
-    let f : with_code v policy s.invs (Ok a.insns)
-    ≡ Err flaw = ap (with_code v policy s.invs)
+none_by v bound policy s flaw e c a =
+    let f : with_code v bound policy s.invs (Ok a.insns)
+    ≡ Err flaw = ap (with_code v bound policy s.invs)
     (sym (assembled-code (profile_of v) s a.insns a.assembled)) ∙ e in
     cc
 
-none_of : (v : ℕ) (policy : PolicyView) (s : Source) (k : AsmFault) → IsAsmAnswer v policy s (Err k)
-    → AssemblesNone v policy s k
-none_of v policy s F.Memory h = tt
-none_of v policy s (F.At flaw) h = none_by v policy s flaw h
+none_of : (v : ℕ) (bound : Option ℕ) (policy : PolicyView) (s : Source) (k : AsmFault)
+    → IsAsmAnswer v bound policy s (Err k) → AssemblesNone v bound policy s k
+none_of v bound policy s F.Memory h = tt
+none_of v bound policy s (F.At flaw) h = none_by v bound policy s flaw h
 
-pub answer_none : (v : ℕ) (policy : PolicyView) (s : Source) (r : Result Contents AsmFault)
-    → IsAsmAnswer v policy s r → IfErr r (λ k. AssemblesNone v policy s k)
-answer_none v policy s (Ok c) h = tt
-answer_none v policy s (Err k) h = none_of v policy s k h
+pub answer_none : (v : ℕ) (bound : Option ℕ) (policy : PolicyView) (s : Source)
+    (r : Result Contents AsmFault) → IsAsmAnswer v bound policy s r → IfErr r (λ k. AssemblesNone v bound policy s k)
+answer_none v bound policy s (Ok c) h = tt
+answer_none v bound policy s (Err k) h = none_of v bound policy s k h

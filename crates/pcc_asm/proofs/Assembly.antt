@@ -1,5 +1,5 @@
 -- Instructions are those of a source, and are code, exactly where they pass the tests in their order.
-use Rattle.std.proofs.Common.{◌≡◌, ℕ, zero, suc, ◌+◌, ◌<◌, ◌≤◌, List, [], ◌∷◌, length, slice_get, Some, Result, Ok, Err, refl, sym, ap, ◌∙◌, subst, arith}
+use Rattle.std.proofs.Common.{◌≡◌, ℕ, zero, suc, ◌+◌, ◌<◌, ◌≤◌, Bool, List, [], ◌∷◌, length, slice_get, Some, Result, Ok, Err, refl, sym, ap, ◌∙◌, subst, arith}
 use Rattle.std.specs.Prelude.{ℤ, pos, negsuc, ◌+ℤ◌, ◌≤ℤ◌, ◌↔◌}
 use Rattle.std.specs.List.{AllByRecursion}
 use Rattle.std.proofs.lemmas.Int.{ints}
@@ -111,10 +111,10 @@ pub record IsSound (prof : Profile) (s : Source) (insns : List Insn) : Type 0 wh
   pub encodable : AllByRecursion (IsEncodable prof) insns
   pub ranges : AllByRecursion HasRange insns
 
-pub sound_by : (prof : Profile) (text : List ℕ) (s : Source) (insns : List Insn)
-    → SpellsSource prof text s → resolved_insns s.labels 0 s.insns ≡ Ok insns
+pub sound_by : (prof : Profile) (left : Bool) (text : List ℕ) (s : Source) (insns : List Insn)
+    → SpellsSource prof left text s → resolved_insns s.labels 0 s.insns ≡ Ok insns
     → Passes prof s.insns insns insns → IsSound prof s insns
-sound_by prof text s insns h e p =
+sound_by prof left text s insns h e p =
     let resolved = all-resolved s.labels 0 s.insns insns e in
     let count = resolved-length s.labels 0 s.insns insns resolved in
     let inside = outside-none (length insns) 0 insns p.inside in
@@ -127,7 +127,7 @@ sound_by prof text s insns h e p =
           all_encodable prof (length insns) 0 insns (omega (arith, count, h.sound.insns))
           (omega (arith, count, h.sound.insns)) (unlawful-none prof s.insns insns count p.lawful)
           inside;
-      ranges = all_ranges s.labels 0 s.insns insns resolved (bounded prof text s h).insns;
+      ranges = all_ranges s.labels 0 s.insns insns resolved (bounded prof left text s h).insns;
     }
 
 -- what is written for an instruction encodes it
@@ -137,9 +137,9 @@ sound_word prof s insns k i insn e =
     encodes_word prof insn (at_index HasRange insns i insn k.ranges e)
     (at_index (IsEncodable prof) insns i insn k.encodable e)
 
-pub sound_code : (prof : Profile) (text : List ℕ) (s : Source) (insns : List Insn)
-    → SpellsSource prof text s → IsSound prof s insns → IsCode insns
-sound_code prof text s insns h k = record {
+pub sound_code : (prof : Profile) (left : Bool) (text : List ℕ) (s : Source) (insns : List Insn)
+    → SpellsSource prof left text s → IsSound prof s insns → IsCode insns
+sound_code prof left text s insns h k = record {
   nonempty = omega (arith, k.count, h.sound.some);
   short = omega (arith, k.count, h.sound.insns);
   encoded = λ i insn e. (insn_word insn, (sound_word prof s insns k i insn e).1);
@@ -147,34 +147,34 @@ sound_code prof text s insns h k = record {
   ends = off-false insns (omega (arith, k.count, h.sound.some)) k.passes.ends;
 }
 
-pub sound_assembled : (prof : Profile) (text : List ℕ) (s : Source) (insns : List Insn)
-    → SpellsSource prof text s → IsSound prof s insns → IsAssembled prof s insns
-sound_assembled prof text s insns h k = record {
+pub sound_assembled : (prof : Profile) (left : Bool) (text : List ℕ) (s : Source) (insns : List Insn)
+    → SpellsSource prof left text s → IsSound prof s insns → IsAssembled prof s insns
+sound_assembled prof left text s insns h k = record {
   resolved = k.resolved;
-  code = sound_code prof text s insns h k;
+  code = sound_code prof left text s insns h k;
   profile = λ i insn e. (sound_word prof s insns k i insn e).0;
 }
 
-code_by : (prof : Profile) (text : List ℕ) (s : Source) (insns : List Insn)
-    (r : Result (List Insn) AsmFlaw) → SpellsSource prof text s
+code_by : (prof : Profile) (left : Bool) (text : List ℕ) (s : Source) (insns : List Insn)
+    (r : Result (List Insn) AsmFlaw) → SpellsSource prof left text s
     → resolved_insns s.labels 0 s.insns ≡ r → as_code prof s.insns r ≡ Ok insns
     → IsSound prof s insns
-code_by prof text s insns (Err k) h e f = cc
-code_by prof text s insns (Ok all) h e f =
+code_by prof left text s insns (Err k) h e f = cc
+code_by prof left text s insns (Ok all) h e f =
     let p = passes prof s.insns all insns f in
     let same : all ≡ insns = p.same in
-    sound_by prof text s insns h (e ∙ ap Ok same) (subst (λ y. Passes prof s.insns y insns) same p)
+    sound_by prof left text s insns h (e ∙ ap Ok same) (subst (λ y. Passes prof s.insns y insns) same p)
 
-pub code_sound : (prof : Profile) (text : List ℕ) (s : Source) (insns : List Insn)
-    → SpellsSource prof text s → assembled_code prof s ≡ Ok insns → IsSound prof s insns
+pub code_sound : (prof : Profile) (left : Bool) (text : List ℕ) (s : Source) (insns : List Insn)
+    → SpellsSource prof left text s → assembled_code prof s ≡ Ok insns → IsSound prof s insns
 unfolding assembled_code
-code_sound prof text s insns h e =
-    code_by prof text s insns (resolved_insns s.labels 0 s.insns) h refl e
+code_sound prof left text s insns h e =
+    code_by prof left text s insns (resolved_insns s.labels 0 s.insns) h refl e
 
-pub law : (prof : Profile) (s : Source) (insns : List Insn) → IsSpelled prof s
+pub law : (prof : Profile) (left : Bool) (s : Source) (insns : List Insn) → IsSpelled prof left s
     → IsAssembled prof s insns ↔ (assembled_code prof s ≡ Ok insns)
-law prof s insns h = (
+law prof left s insns h = (
   λ a. assembled-code prof s insns a,
-  λ e. sound_assembled prof h.0 s insns h.1
-      (code_sound prof h.0 s insns h.1 e),
+  λ e. sound_assembled prof left h.0 s insns h.1
+      (code_sound prof left h.0 s insns h.1 e),
 )

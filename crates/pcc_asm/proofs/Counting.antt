@@ -1,4 +1,4 @@
--- The container of a source has few entries. A leaf with a number below 499 of its own can stand there once; each other entry
+-- The container of a source has few entries. A leaf with a number below 500 of its own can stand there once; each other entry
 -- costs two bytes of the invariants' texts.
 use Rattle.std.proofs.Common.{◌≡◌, ⊎_elim, ℕ, zero, suc, ◌+◌, ◌-◌, ◌*◌, ◌<◌, ◌≤◌, Bool, true, false, leb, cond, List, [], ◌∷◌, ◌++◌, length, map, Option, Some, None, refl, sym, ap, ◌∙◌, subst, arith}
 use Rattle.std.specs.Prelude.{◌||◌, ◌&&◌, nat_lt, ◌==◌, slice_get}
@@ -53,7 +53,7 @@ const_number (Deny p a b) = None
 const_number (Lemma n) = None
 
 abbrev leaf_number : Tree → Option ℕ
-leaf_number (Var n) = cond (nat_lt n 372) (Some (127 + n)) None
+leaf_number (Var n) = cond (nat_lt n 373) (Some (127 + n)) None
 leaf_number (Con c) = const_number c
 leaf_number (App f a) = None
 leaf_number (Lam b) = None
@@ -142,15 +142,15 @@ leaf_of n = cond (nat_lt n 27) (Con (Num n)) (cond (nat_lt n 127) (Con (Lit (n -
 
 -- the tree is the number's leaf
 abbrev IsLeafOf : ℕ → Tree → Type 0
-IsLeafOf n t = (t ≡ leaf_of n) × (n < 499)
+IsLeafOf n t = (t ≡ leaf_of n) × (n < 500)
 
 some_same : (x y : ℕ) → Some x ≡ Some y → x ≡ y
 some_same x y e = cc
 
-var_leaf : (k n : ℕ) (b : Bool) → nat_lt k 372 ≡ b → cond b (Some (127 + k)) None ≡ Some n → IsLeafOf n (Var k)
+var_leaf : (k n : ℕ) (b : Bool) → nat_lt k 373 ≡ b → cond b (Some (127 + k)) None ≡ Some n → IsLeafOf n (Var k)
 var_leaf k n false f e = cc
 var_leaf k n true f e =
-    let l : k < 372 = ltb-true k 372 f in
+    let l : k < 373 = ltb-true k 373 f in
     let z : 127 + k ≡ n = some_same _ _ e in
     let d : k ≡ n - 127 = omega (arith, z) in
     (ap Var d ∙ sym (ap (λ b. cond b (Con (Num n)) (cond (nat_lt n 127) (Con (Lit (n - 27))) (Var (n - 127)))) (le-ltb n 27 (omega (arith, z))) ∙ ap (λ b. cond b (Con (Lit (n - 27))) (Var (n - 127))) (le-ltb n 127 (omega (arith, z)))), omega (arith, l, z))
@@ -179,7 +179,7 @@ const_leaf (Deny p a b) n e = cc
 const_leaf (Lemma k) n e = cc
 
 is_leaf : (t : Tree) (n : ℕ) → leaf_number t ≡ Some n → IsLeafOf n t
-is_leaf (Var k) n e = var_leaf k n (nat_lt k 372) refl e
+is_leaf (Var k) n e = var_leaf k n (nat_lt k 373) refl e
 is_leaf (Con c) n e = const_leaf c n e
 is_leaf (App f a) n e = cc
 is_leaf (Lam b) n e = cc
@@ -222,11 +222,11 @@ either : (a b : Bool) → (a || b) ≡ true → (P : Type 0) → (a ≡ true →
 either true b e P f g = f refl
 either false b e P f g = g e
 
-put_below : (t : Tree) (o : Option ℕ) (ns : List ℕ) (q : ℕ) → leaf_number t ≡ o → (list_any (λ n. q == n) ns ≡ true → q < 499) → list_any (λ n. q == n) (put o ns) ≡ true → q < 499
+put_below : (t : Tree) (o : Option ℕ) (ns : List ℕ) (q : ℕ) → leaf_number t ≡ o → (list_any (λ n. q == n) ns ≡ true → q < 500) → list_any (λ n. q == n) (put o ns) ≡ true → q < 500
 put_below t None ns q e h a = h a
-put_below t (Some n) ns q e h a = either (q == n) (list_any (λ m. q == m) ns) a (q < 499) (λ s. let l = (is_leaf t n e).1 in let z : q ≡ n = eqb-true q n s in omega (arith, l, z)) h
+put_below t (Some n) ns q e h a = either (q == n) (list_any (λ m. q == m) ns) a (q < 500) (λ s. let l = (is_leaf t n e).1 in let z : q ≡ n = eqb-true q n s in omega (arith, l, z)) h
 
-numbers_below : (ts : List Tree) (q : ℕ) → list_any (λ n. q == n) (numbers ts) ≡ true → q < 499
+numbers_below : (ts : List Tree) (q : ℕ) → list_any (λ n. q == n) (numbers ts) ≡ true → q < 500
 numbers_below [] q a = cc
 numbers_below (t ∷ ts) q a = put_below t (leaf_number t) (numbers ts) q refl (numbers_below ts q) a
 
@@ -235,7 +235,7 @@ unfolding entries
 roots_few rs h n =
     let es = entries rs in
     let split = length-split es in
-    let one = length-le_from_distinct_below (numbers es) 499 (numbers_distinct es (ArePostorder-different es (entries_grow rs))) (numbers_below es) in
+    let one = length-le_from_distinct_below (numbers es) 500 (numbers_distinct es (ArePostorder-different es (entries_grow rs))) (numbers_below es) in
     let none = all_few rs [] h in
     omega (arith, n, split, one, none)
 
@@ -287,8 +287,8 @@ three_heavy a b d c k l m o n p z h x y w q e = omega (arith, z, h, x, y, w, q, 
 binder_heavy : (a c k x l n : ℕ) → c ≡ 0 → 3 ≤ k → 2 * a ≤ l → n ≡ 2 + (k + (x + l)) → 2 * suc (c + suc a) ≤ n
 binder_heavy a c k x l n z h y e = omega (arith, z, h, y, e)
 
-var_light : (k : ℕ) → k < 372 → heavy (Var k) ≡ 0
-var_light k h = ap (λ b. weigh (cond b (Some (127 + k)) None)) (lt-ltb k 372 h)
+var_light : (k : ℕ) → k < 373 → heavy (Var k) ≡ 0
+var_light k h = ap (λ b. weigh (cond b (Some (127 + k)) None)) (lt-ltb k 373 h)
 
 none_heavy : (t : Tree) (n : ℕ) → heavy t ≡ 0 → 1 ≤ n → 2 * heavy t < n
 none_heavy t n e h = omega (arith, e, h)
@@ -323,10 +323,10 @@ lit_by : (n m : ℕ) (b : Bool) → nat_lt n 100 ≡ b → 1 ≤ m → (100 ≤ 
 lit_by n m true e s h = omega (arith, s)
 lit_by n m false e s h = let l = h (ltb-false n 100 e) in omega (arith, l)
 
-name_some : (prof : Profile) (x : List ℕ) → is_name prof x ≡ true → 1 ≤ length x
+name_some : (prof : Profile) (left : Bool) (x : List ℕ) → is_name prof left x ≡ true → 1 ≤ length x
 unfolding is_name
-name_some prof [] e = cc
-name_some prof (b ∷ x) e = omega arith
+name_some prof left [] e = cc
+name_some prof left (b ∷ x) e = omega arith
 
 -- whether each register's other name has a byte
 abbrev are_named : List (List ℕ × List ℕ) → Bool
@@ -352,123 +352,126 @@ abbrev IsRoom : ℕ → ℕ → Type 0
 IsRoom d n = 6 * d + n ≤ 2044
 
 mutual
-  exp_cost : (prof : Profile) (a : Exp) (s : Bindings) (ts : List (Token Paren))
-      → SpellsExp prof a s ts → IsRoom (length s) (size ts)
+  exp_cost : (prof : Profile) (left : Bool) (a : Exp) (s : Bindings) (ts : List (Token Paren))
+      → SpellsExp prof left a s ts → IsRoom (length s) (size ts)
       → 2 * heavy (exp_encoding (named_exp (length s) a)) < size ts
-  exp_cost prof (EReg r) s ts h room =
+  exp_cost prof left (EReg r) s ts h room =
       let e = ap size h.2 in
       let l = register_some r h.0 h.1 in
       let z = reg_light (length s) r (nat_lt r 31) (omega (arith, room)) in
       omega (arith, z, e, l)
-  exp_cost prof ELeft s ts h room = absurd h
-  exp_cost prof (EVar n) s ts h room =
+  exp_cost prof left ELeft s ts h room =
+      let e = ap size h.1 in
+      none_heavy (Var (32 + length s)) (size ts) (var_light (32 + length s) (omega (arith, e, room)))
+      (omega (arith, e))
+  exp_cost prof left (EVar n) s ts h room =
       let e = ap size h.3 in
-      let x = name_some prof h.0 h.1 in
+      let x = name_some prof left h.0 h.1 in
       let l = binding_below s h.0 (n, S.Exp) h.2 in
       none_heavy (Var n) (size ts) (var_light n (omega (arith, l, room))) (omega (arith, e, x))
-  exp_cost prof (ELit n) s ts h room =
+  exp_cost prof left (ELit n) s ts h room =
       let e = ap size h.3 in
       let l = lit_by n (length h.0) (nat_lt n 100) refl (number_some h.0 n h.1) (number_long h.0 n h.1) in
       omega (arith, e, l)
-  exp_cost prof (EOp o a b) s ts h room =
+  exp_cost prof left (EOp o a b) s ts h room =
       let z = size-two (K.Oper o) h.0 h.1 ts h.4 in
-      let l = exp_cost prof a s h.0 h.2 (omega (arith, z, room)) in
-      let r = exp_cost prof b s h.1 h.3 (omega (arith, z, room)) in
+      let l = exp_cost prof left a s h.0 h.2 (omega (arith, z, room)) in
+      let r = exp_cost prof left b s h.1 h.3 (omega (arith, z, room)) in
       op_heavy _ _ _ (length (op_keyword o)) (size h.0) (size h.1) (size ts) (op_light o)
       (op_long o) l r z
-  exp_cost prof (ESel m a) s ts h room =
+  exp_cost prof left (ESel m a) s ts h room =
       let z = size-two K.Sel h.0 h.1 ts h.4 in
-      let l = mem_cost prof m s h.0 h.2 (omega (arith, z, room)) in
-      let r = exp_cost prof a s h.1 h.3 (omega (arith, z, room)) in
+      let l = mem_cost prof left m s h.0 h.2 (omega (arith, z, room)) in
+      let r = exp_cost prof left a s h.1 h.3 (omega (arith, z, room)) in
       two_heavy _ _ (heavy (Con (Num SEL))) 3 (size h.0) (size h.1) (size ts) refl (omega arith) l r z
 
-  mem_cost : (prof : Profile) (m : MemExp) (s : Bindings) (ts : List (Token Paren))
-      → SpellsMem prof m s ts → IsRoom (length s) (size ts)
+  mem_cost : (prof : Profile) (left : Bool) (m : MemExp) (s : Bindings) (ts : List (Token Paren))
+      → SpellsMem prof left m s ts → IsRoom (length s) (size ts)
       → 2 * heavy (mem_encoding (named_mem (length s) m)) < size ts
-  mem_cost prof MMem s ts h room =
+  mem_cost prof left MMem s ts h room =
       let e = ap size h in none_heavy (Var (31 + length s)) (size ts)
       (var_light (31 + length s) (omega (arith, room))) (omega (arith, e))
-  mem_cost prof (MVar n) s ts h room =
+  mem_cost prof left (MVar n) s ts h room =
       let e = ap size h.3 in
-      let x = name_some prof h.0 h.1 in
+      let x = name_some prof left h.0 h.1 in
       let l = binding_below s h.0 (n, S.Mem) h.2 in
       none_heavy (Var n) (size ts) (var_light n (omega (arith, l, room))) (omega (arith, e, x))
-  mem_cost prof (MUpd m a v) s ts h room =
+  mem_cost prof left (MUpd m a v) s ts h room =
       let y = size-append h.0 h.1 in
       let z = size-two K.Upd (h.0 ++ h.1) h.2 ts h.6 in
-      let l = mem_cost prof m s h.0 h.3 (omega (arith, y, z, room)) in
-      let r = exp_cost prof a s h.1 h.4 (omega (arith, y, z, room)) in
-      let w = exp_cost prof v s h.2 h.5 (omega (arith, y, z, room)) in
+      let l = mem_cost prof left m s h.0 h.3 (omega (arith, y, z, room)) in
+      let r = exp_cost prof left a s h.1 h.4 (omega (arith, y, z, room)) in
+      let w = exp_cost prof left v s h.2 h.5 (omega (arith, y, z, room)) in
       three_heavy _ _ _ (heavy (Con (Num UPD))) 3 (size h.0) (size h.1) (size h.2) (size ts) (size (h.0 ++ h.1)) refl (omega arith) l r w y z
 
-form_cost : (prof : Profile) (F : Form) (s : Bindings) (ts : List (Token Paren))
-    → SpellsForm prof F s ts → IsRoom (length s) (size ts)
+form_cost : (prof : Profile) (left : Bool) (F : Form) (s : Bindings) (ts : List (Token Paren))
+    → SpellsForm prof left F s ts → IsRoom (length s) (size ts)
     → 2 * heavy (form_encoding (named_form (length s) F)) ≤ size ts
-form_cost prof FTrue s ts h room = omega arith
-form_cost prof FFalse s ts h room = omega arith
-form_cost prof (FRel p a b) s ts h room =
+form_cost prof left FTrue s ts h room = omega arith
+form_cost prof left FFalse s ts h room = omega arith
+form_cost prof left (FRel p a b) s ts h room =
     let z = size-two (K.Rel p) h.0 h.1 ts h.4 in
-    let l = exp_cost prof a s h.0 h.2 (omega (arith, z, room)) in
-    let r = exp_cost prof b s h.1 h.3 (omega (arith, z, room)) in
+    let l = exp_cost prof left a s h.0 h.2 (omega (arith, z, room)) in
+    let r = exp_cost prof left b s h.1 h.3 (omega (arith, z, room)) in
     pair_heavy _ _ _ (length (relation_text p)) (size h.0) (size h.1) (size ts) (rel_light p) (rel_long p) (omega (arith, l)) (omega (arith, r)) z
-form_cost prof (FRd a) s ts h room =
+form_cost prof left (FRd a) s ts h room =
     let z = size-one K.Rd h.0 ts h.2 in
-    let l = exp_cost prof a s h.0 h.1 (omega (arith, z, room)) in
+    let l = exp_cost prof left a s h.0 h.1 (omega (arith, z, room)) in
     one_heavy _ (heavy (Con (Num RD))) 2 (size h.0) (size ts) refl (omega arith) l z
-form_cost prof (FWr a) s ts h room =
+form_cost prof left (FWr a) s ts h room =
     let z = size-one K.Wr h.0 ts h.2 in
-    let l = exp_cost prof a s h.0 h.1 (omega (arith, z, room)) in
+    let l = exp_cost prof left a s h.0 h.1 (omega (arith, z, room)) in
     one_heavy _ (heavy (Con (Num WR))) 2 (size h.0) (size ts) refl (omega arith) l z
-form_cost prof (FAnd A B) s ts h room =
+form_cost prof left (FAnd A B) s ts h room =
     let z = size-two K.And h.0 h.1 ts h.4 in
-    let l = form_cost prof A s h.0 h.2 (omega (arith, z, room)) in
-    let r = form_cost prof B s h.1 h.3 (omega (arith, z, room)) in
+    let l = form_cost prof left A s h.0 h.2 (omega (arith, z, room)) in
+    let r = form_cost prof left B s h.1 h.3 (omega (arith, z, room)) in
     pair_heavy _ _ (heavy (Con (Num AND))) 3 (size h.0) (size h.1) (size ts) refl (omega arith) l r z
-form_cost prof (FOr A B) s ts h room =
+form_cost prof left (FOr A B) s ts h room =
     let z = size-two K.Or h.0 h.1 ts h.4 in
-    let l = form_cost prof A s h.0 h.2 (omega (arith, z, room)) in
-    let r = form_cost prof B s h.1 h.3 (omega (arith, z, room)) in
+    let l = form_cost prof left A s h.0 h.2 (omega (arith, z, room)) in
+    let r = form_cost prof left B s h.1 h.3 (omega (arith, z, room)) in
     pair_heavy _ _ (heavy (Con (Num OR))) 2 (size h.0) (size h.1) (size ts) refl (omega arith) l r z
-form_cost prof (FImp A B) s ts h room =
+form_cost prof left (FImp A B) s ts h room =
     let z = size-two K.Imp h.0 h.1 ts h.4 in
-    let l = form_cost prof A s h.0 h.2 (omega (arith, z, room)) in
-    let r = form_cost prof B s h.1 h.3 (omega (arith, z, room)) in
+    let l = form_cost prof left A s h.0 h.2 (omega (arith, z, room)) in
+    let r = form_cost prof left B s h.1 h.3 (omega (arith, z, room)) in
     pair_heavy _ _ (heavy (Con (Num IMP))) 3 (size h.0) (size h.1) (size ts) refl (omega arith) l r z
-form_cost prof (FAll A) s ts h room =
+form_cost prof left (FAll A) s ts h room =
     let z = size-one K.All (Lexeme h.0 ∷ h.1) ts h.4 in
-    let x = name_some prof h.0 h.2 in
-    let l = form_cost prof A ((h.0, S.Exp) ∷ s) h.1 h.3 (omega (arith, z, x, room)) in
+    let x = name_some prof left h.0 h.2 in
+    let l = form_cost prof left A ((h.0, S.Exp) ∷ s) h.1 h.3 (omega (arith, z, x, room)) in
     binder_heavy _ (heavy (Con (Num ALL))) 3 (length h.0) (size h.1) (size ts) refl (omega arith) l z
-form_cost prof (FAllm A) s ts h room =
+form_cost prof left (FAllm A) s ts h room =
     let z = size-one K.Allm (Lexeme h.0 ∷ h.1) ts h.4 in
-    let x = name_some prof h.0 h.2 in
-    let l = form_cost prof A ((h.0, S.Mem) ∷ s) h.1 h.3 (omega (arith, z, x, room)) in
+    let x = name_some prof left h.0 h.2 in
+    let l = form_cost prof left A ((h.0, S.Mem) ∷ s) h.1 h.3 (omega (arith, z, x, room)) in
     binder_heavy _ (heavy (Con (Num ALLM))) 4 (length h.0) (size h.1) (size ts) refl (omega arith) l z
 
 pub encoding-named : (F : Form) → encoding_in machine_context F ≡ form_encoding (named_form 0 F)
 encoding-named F = ap form_encoding (ap (λ B. subst_form F (shift_substitution (length B) machine_names)) bound_sorts-machine ∙ named_form-is 0 F)
 
-pub textual_light : (prof : Profile) (F : Form) → IsTextual prof F
+pub textual_light : (prof : Profile) (left : Bool) (F : Form) → IsTextual prof left F
     → heavy (encoding_in machine_context F) ≤ 1022
-textual_light prof F h =
+textual_light prof left F h =
     let w = size-within h.0 h.2.tokens h.2.consists in
-    let c = form_cost prof F [] h.2.tokens h.2.spelled (omega (arith, w, h.1)) in
+    let c = form_cost prof left F [] h.2.tokens h.2.spelled (omega (arith, w, h.1)) in
     let e = ap heavy (encoding-named F) in
     omega (arith, w, c, e, h.1)
 
-trees_light : (prof : Profile) (invs : List (ℕ × Form))
-    → AllByRecursion (λ x. IsTextual prof x.1) invs
+trees_light : (prof : Profile) (left : Bool) (invs : List (ℕ × Form))
+    → AllByRecursion (λ x. IsTextual prof left x.1) invs
     → AllLight (map (λ p. p.1) (inv_encodings invs) ++ [])
-trees_light prof [] h = tt
-trees_light prof (v ∷ invs) h = (textual_light prof v.1 h.0, trees_light prof invs h.1)
+trees_light prof left [] h = tt
+trees_light prof left (v ∷ invs) h = (textual_light prof left v.1 h.0, trees_light prof left invs h.1)
 
 length-trees : (invs : List (ℕ × Form)) → length (map (λ p. p.1) (inv_encodings invs) ++ []) ≡ length invs
 length-trees [] = refl
 length-trees (v ∷ invs) = ap suc (length-trees invs)
 
-pub entries_few : (prof : Profile) (invs : List (ℕ × Form)) → length invs ≤ 256
-    → AllByRecursion (λ x. IsTextual prof x.1) invs
+pub entries_few : (prof : Profile) (left : Bool) (invs : List (ℕ × Form)) → length invs ≤ 256
+    → AllByRecursion (λ x. IsTextual prof left x.1) invs
     → length (entries (map (λ p. p.1) (inv_encodings invs) ++ [])) ≤ 262144
-entries_few prof invs n h =
+entries_few prof left invs n h =
     let e = length-trees invs in roots_few (map (λ p. p.1) (inv_encodings invs) ++ [])
-    (trees_light prof invs h) (omega (arith, n, e))
+    (trees_light prof left invs h) (omega (arith, n, e))

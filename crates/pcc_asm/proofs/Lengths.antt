@@ -1,12 +1,12 @@
 -- What is assembled keeps to the limits: its terms are low, and its entries short.
-use Rattle.std.proofs.Common.{◌≡◌, ℕ, suc, ◌+◌, ◌*◌, ◌/◌, ◌≤◌, ◌==◌, Bool, true, false, cond, List, [], ◌∷◌, ◌++◌, length, map, Result, Ok, Err, IfOk, refl, sym, subst, arith, length-append}
+use Rattle.std.proofs.Common.{◌≡◌, ℕ, suc, ◌+◌, ◌*◌, ◌/◌, ◌≤◌, ◌==◌, Bool, true, false, cond, List, [], ◌∷◌, ◌++◌, length, map, Option, Some, None, is_some, Result, Ok, Err, IfOk, refl, sym, subst, arith, length-append}
 use Rattle.std.specs.Prelude.{nat_lt}
 use Rattle.std.specs.List.{AllByRecursion, flat_map}
 use Rattle.std.proofs.lemmas.List.{length-map}
 use Rattle.alpha_words.specs.declared.insn.Insn.{Insn}
 use Rattle.policy_set.specs.Views.{PolicyView}
 use Rattle.formula_tree.specs.Formulas.{Exp, EReg, ELeft, EVar, ELit, EOp, ESel, MemExp, MMem, MVar, MUpd, Form, FTrue, FFalse, FRel, FRd, FWr, FAnd, FOr, FImp, FAll, FAllm}
-use Rattle.formula_tree.specs.Scope.{VarSort, OfWord, OfMem, IsOverExp, IsOverMem, IsOver}
+use Rattle.formula_tree.specs.Scope.{VarSort, OfWord, OfMem, IsWithinExp, IsWithinMem, IsWithin}
 use Rattle.term_table.specs.Tree.{Tree, Var, Con, App, Lam, Fam, TApp, Pi, Const, Num, Lit, Calc, Fact, Deny, Lemma}
 use Rattle.term_table.specs.Measures.{height_of}
 use Rattle.lf_encode.specs.Encoding.{exp_encoding, mem_encoding, form_encoding}
@@ -14,10 +14,10 @@ use Rattle.lf_encode.specs.Contexts.{machine_context, encoding_in}
 use Rattle.lf_encode.specs.Naming.{named_exp, named_mem, named_form}
 use Rattle.proof_container.specs.Contents.{Contents, roots}
 use Rattle.proof_container.specs.Postorder.{is_emitted, emitted_with, emitted_with_all, entries}
-use Rattle.proof_container.specs.Encoding.{field_bytes, entry_fields, inv_fields, proof_field, magic, policy_bytes, head_bytes, tail_fields, encoding_of}
+use Rattle.proof_container.specs.Encoding.{field_bytes, entry_fields, inv_fields, proof_field, magic, policy_bytes, bound_fields, head_bytes, tail_fields, encoding_of}
 use Rattle.proof_container.specs.declared.container.Head.{Head}
 use Rattle.proof_container.specs.declared.container.Head.TheVariants.{Number, Digest}
-use Rattle.proof_container.specs.Versions.{version_of, profile_of}
+use Rattle.proof_container.specs.Versions.{profile_of}
 use Rattle.policy_set.specs.Names.{policy_number}
 use Rattle.policy_set.specs.Digest.{policy_text, digest_of}
 use Rattle.sha2.proofs.Facts256.{length-sha256}
@@ -47,12 +47,12 @@ high-heavy (Fam a) = omega arith
 high-heavy (TApp p a) = let h = high-heavy p in let g = high-heavy a in omega (arith, h, g)
 high-heavy (Pi a b) = let h = high-heavy a in let g = high-heavy b in omega (arith, h, g)
 
-all_low : (prof : Profile) (invs : List (ℕ × Form)) → AllByRecursion (λ x. IsTextual prof x.1) invs
+all_low : (prof : Profile) (left : Bool) (invs : List (ℕ × Form)) → AllByRecursion (λ x. IsTextual prof left x.1) invs
     → AllByRecursion (λ p. height_of p.1 ≤ MAX_LINE) (inv_encodings invs)
-all_low prof [] h = tt
-all_low prof (v ∷ invs) h =
-    let l = textual_light prof v.1 h.0 in let k = high-heavy (encoding_in machine_context v.1) in
-    (omega (arith, l, k), all_low prof invs h.1)
+all_low prof left [] h = tt
+all_low prof left (v ∷ invs) h =
+    let l = textual_light prof left v.1 h.0 in let k = high-heavy (encoding_in machine_context v.1) in
+    (omega (arith, l, k), all_low prof left invs h.1)
 
 -- ---- entries of at most three fields
 
@@ -79,30 +79,33 @@ reg_plain n true = tt
 reg_plain n false = tt
 
 mutual
-  exp_plain : (a : Exp) (d : ℕ) (G : List VarSort) → IsOverExp 32 a G → IsPlain (exp_encoding (named_exp d a))
-  exp_plain (EReg r) d G h = reg_plain _ (nat_lt r 31)
-  exp_plain ELeft d G h = absurd h
-  exp_plain (EVar n) d G h = tt
-  exp_plain (ELit w) d G h = tt
-  exp_plain (EOp o a b) d G h = ((tt, exp_plain a d G h.0), exp_plain b d G h.1)
-  exp_plain (ESel m a) d G h = ((tt, mem_plain m d G h.0), exp_plain a d G h.1)
+  exp_plain : (l : Bool) (a : Exp) (d : ℕ) (G : List VarSort) → IsWithinExp l 32 a G
+      → IsPlain (exp_encoding (named_exp d a))
+  exp_plain l (EReg r) d G h = reg_plain _ (nat_lt r 31)
+  exp_plain l ELeft d G h = tt
+  exp_plain l (EVar n) d G h = tt
+  exp_plain l (ELit w) d G h = tt
+  exp_plain l (EOp o a b) d G h = ((tt, exp_plain l a d G h.0), exp_plain l b d G h.1)
+  exp_plain l (ESel m a) d G h = ((tt, mem_plain l m d G h.0), exp_plain l a d G h.1)
 
-  mem_plain : (m : MemExp) (d : ℕ) (G : List VarSort) → IsOverMem 32 m G → IsPlain (mem_encoding (named_mem d m))
-  mem_plain MMem d G h = tt
-  mem_plain (MVar n) d G h = tt
-  mem_plain (MUpd m a v) d G h = (((tt, mem_plain m d G h.0), exp_plain a d G h.1), exp_plain v d G h.2)
+  mem_plain : (l : Bool) (m : MemExp) (d : ℕ) (G : List VarSort) → IsWithinMem l 32 m G
+      → IsPlain (mem_encoding (named_mem d m))
+  mem_plain l MMem d G h = tt
+  mem_plain l (MVar n) d G h = tt
+  mem_plain l (MUpd m a v) d G h = (((tt, mem_plain l m d G h.0), exp_plain l a d G h.1), exp_plain l v d G h.2)
 
-form_plain : (F : Form) (d : ℕ) (G : List VarSort) → IsOver 32 F G → IsPlain (form_encoding (named_form d F))
-form_plain FTrue d G h = tt
-form_plain FFalse d G h = tt
-form_plain (FRel p a b) d G h = ((tt, exp_plain a d G h.0), exp_plain b d G h.1)
-form_plain (FRd a) d G h = (tt, exp_plain a d G h)
-form_plain (FWr a) d G h = (tt, exp_plain a d G h)
-form_plain (FAnd A B) d G h = ((tt, form_plain A d G h.0), form_plain B d G h.1)
-form_plain (FOr A B) d G h = ((tt, form_plain A d G h.0), form_plain B d G h.1)
-form_plain (FImp A B) d G h = ((tt, form_plain A d G h.0), form_plain B d G h.1)
-form_plain (FAll A) d G h = (tt, form_plain A (suc d) (OfWord ∷ G) h)
-form_plain (FAllm A) d G h = (tt, form_plain A (suc d) (OfMem ∷ G) h)
+form_plain : (l : Bool) (F : Form) (d : ℕ) (G : List VarSort) → IsWithin l 32 F G
+    → IsPlain (form_encoding (named_form d F))
+form_plain l FTrue d G h = tt
+form_plain l FFalse d G h = tt
+form_plain l (FRel p a b) d G h = ((tt, exp_plain l a d G h.0), exp_plain l b d G h.1)
+form_plain l (FRd a) d G h = (tt, exp_plain l a d G h)
+form_plain l (FWr a) d G h = (tt, exp_plain l a d G h)
+form_plain l (FAnd A B) d G h = ((tt, form_plain l A d G h.0), form_plain l B d G h.1)
+form_plain l (FOr A B) d G h = ((tt, form_plain l A d G h.0), form_plain l B d G h.1)
+form_plain l (FImp A B) d G h = ((tt, form_plain l A d G h.0), form_plain l B d G h.1)
+form_plain l (FAll A) d G h = (tt, form_plain l A (suc d) (OfWord ∷ G) h)
+form_plain l (FAllm A) d G h = (tt, form_plain l A (suc d) (OfMem ∷ G) h)
 
 abbrev AllPlain : List Tree → Type 0
 AllPlain ts = AllByRecursion IsPlain ts
@@ -132,13 +135,13 @@ entries_plain : (rs : List Tree) → AllPlain rs → AllPlain (entries rs)
 unfolding entries
 entries_plain rs k = all_plain rs [] k tt
 
-roots_plain : (prof : Profile) (invs : List (ℕ × Form))
-    → AllByRecursion (λ x. IsTextual prof x.1) invs
+roots_plain : (prof : Profile) (left : Bool) (invs : List (ℕ × Form))
+    → AllByRecursion (λ x. IsTextual prof left x.1) invs
     → AllPlain (map (λ p. p.1) (inv_encodings invs) ++ [])
-roots_plain prof [] h = tt
-roots_plain prof (v ∷ invs) h = (
-  subst IsPlain (sym (encoding-named v.1)) (form_plain v.1 0 [] (textual_closed prof v.1 h.0).0),
-  roots_plain prof invs h.1,
+roots_plain prof left [] h = tt
+roots_plain prof left (v ∷ invs) h = (
+  subst IsPlain (sym (encoding-named v.1)) (form_plain left v.1 0 [] (textual_closed prof left v.1 h.0).0),
+  roots_plain prof left invs h.1,
 )
 
 const_short : (es : List Tree) (c : Const) → IsPlainConst c → length (entry_fields es (Con c)) ≤ 3
@@ -181,27 +184,35 @@ tail_length es c =
     let b = length-append (length c.invs ∷ inv_part) last in
     omega (arith, a, b)
 
-head_size : (h : Head) (words : ℕ) → length (head_bytes h words) ≡ 12 + length (policy_bytes h)
-head_size h words =
-    let first = field_bytes (magic ∷ version_of h ∷ []) in
-    let last = field_bytes (words ∷ []) in
-    let a = length-append first (policy_bytes h ++ last) in
-    let b = length-append (policy_bytes h) last in
-    let f : length first ≡ 8 = length-field_bytes (magic ∷ version_of h ∷ []) in
-    let l : length last ≡ 4 = length-field_bytes (words ∷ []) in
-    omega (arith, a, b, f, l)
+-- a bound has one field
+bound_length : (bound : Option ℕ) → length (bound_fields bound) ≤ 1
+bound_length None = omega arith
+bound_length (Some n) = omega arith
+
+head_size : (c : Contents) (words : ℕ) → length (head_bytes c words)
+    ≡ 12 + (length (policy_bytes c.head) + 4 * length (bound_fields c.bound))
+head_size c words =
+    let first = field_bytes (magic ∷ c.version ∷ []) in
+    let last = field_bytes (bound_fields c.bound ++ words ∷ []) in
+    let a = length-append first (policy_bytes c.head ++ last) in
+    let b = length-append (policy_bytes c.head) last in
+    let d = length-append (bound_fields c.bound) (words ∷ []) in
+    let f : length first ≡ 8 = length-field_bytes (magic ∷ c.version ∷ []) in
+    let l : length last ≡ 4 * length (bound_fields c.bound ++ words ∷ []) =
+    length-field_bytes (bound_fields c.bound ++ words ∷ []) in
+    omega (arith, a, b, d, f, l)
 
 encoding_length : (c : Contents) → length (encoding_of c)
-    ≡ 12 + (length (policy_bytes c.head)
+    ≡ 12 + (length (policy_bytes c.head) + 4 * length (bound_fields c.bound)
     + (length c.code + 4 * length (tail_fields (entries (roots c)) c)))
 unfolding encoding_of
 encoding_length c =
-    let head = head_bytes c.head (length c.code / 4) in
+    let head = head_bytes c (length c.code / 4) in
     let tail = field_bytes (tail_fields (entries (roots c)) c) in
     let a = length-append head (c.code ++ tail) in
     let b = length-append c.code tail in
-    let h : length head ≡ 12 + length (policy_bytes c.head) = head_size c.head
-    (length c.code / 4) in
+    let h : length head ≡ 12 + (length (policy_bytes c.head) + 4 * length (bound_fields c.bound)) =
+    head_size c (length c.code / 4) in
     let t : length tail ≡ 4 * length (tail_fields (entries (roots c)) c) = length-field_bytes (tail_fields (entries (roots c)) c) in
     omega (arith, a, b, h, t)
 
@@ -218,24 +229,25 @@ head_length v policy = go (v == 1)
     go true = omega (arith, number_length (policy_number policy))
     go false = omega (arith, length-sha256 (policy_text policy))
 
-pub within_limits : (v : ℕ) (policy : PolicyView) (s : Source) (insns : List Insn)
-    → IsSpelled (profile_of v) s
-    → IsSound (profile_of v) s insns → IsWithinLimits (plain_contents v policy s.invs insns)
-within_limits v policy s insns h k =
-    let texts = (bounded (profile_of v) h.0 s h.1).invs in
-    let c = plain_contents v policy s.invs insns in
+pub within_limits : (v : ℕ) (bound : Option ℕ) (policy : PolicyView) (s : Source) (insns : List Insn)
+    → IsSpelled (profile_of v) (is_some bound) s
+    → IsSound (profile_of v) s insns → IsWithinLimits (plain_contents v bound policy s.invs insns)
+within_limits v bound policy s insns h k =
+    let texts = (bounded (profile_of v) (is_some bound) h.0 s h.1).invs in
+    let c = plain_contents v bound policy s.invs insns in
     let es = entries (roots c) in
-    let few = entries_few (profile_of v) s.invs h.1.sound.invs texts in
+    let few = entries_few (profile_of v) (is_some bound) s.invs h.1.sound.invs texts in
     let fields = entries_short es es (entries_plain (roots c)
-    (roots_plain (profile_of v) s.invs texts)) in
+    (roots_plain (profile_of v) (is_some bound) s.invs texts)) in
     let count : length (inv_encodings s.invs) ≡ length s.invs = length-map s.invs (λ (p : ℕ × Form). (p.0, encoding_in machine_context p.1)) in
     let places = invs_short es (inv_encodings s.invs) in
     let tail = tail_length es c in
     let all = encoding_length c in
     let head = head_length v policy in
+    let more = bound_length bound in
     let code = bytes_length insns in
     record {
-      low = all_low (profile_of v) s.invs texts;
+      low = all_low (profile_of v) (is_some bound) s.invs texts;
       bytes = omega (
         arith,
         few,
@@ -245,6 +257,7 @@ within_limits v policy s insns h k =
         tail,
         all,
         head,
+        more,
         code,
         k.count,
         h.1.sound.insns,
@@ -252,10 +265,10 @@ within_limits v policy s insns h k =
       );
     }
 
-pub answer_limits : (v : ℕ) (policy : PolicyView) (s : Source) (r : Result Contents AsmFault)
-    → IsSpelled (profile_of v) s
-    → IsAsmAnswer v policy s r → IfOk r IsWithinLimits
-answer_limits v policy s (Ok c) h e =
-    let k = contents_sound v policy s c h e in subst IsWithinLimits k.2
-    (within_limits v policy s k.0 h k.1)
-answer_limits v policy s (Err f) h e = tt
+pub answer_limits : (v : ℕ) (bound : Option ℕ) (policy : PolicyView) (s : Source)
+    (r : Result Contents AsmFault) → IsSpelled (profile_of v) (is_some bound) s
+    → IsAsmAnswer v bound policy s r → IfOk r IsWithinLimits
+answer_limits v bound policy s (Ok c) h e =
+    let k = contents_sound v bound policy s c h e in subst IsWithinLimits k.2
+    (within_limits v bound policy s k.0 h k.1)
+answer_limits v bound policy s (Err f) h e = tt

@@ -94,85 +94,85 @@ before-shorter [] = omega arith
 before-shorter (b ∷ bs) = shorter_by (b == 35) b (before_comment bs) bs (before-shorter bs)
 
 -- the statement of a line, in a text that isn't longer
-abbrev Says : Profile → Statement → ℕ → Type 0
-Says prof s n = (text : List ℕ) × (length text ≤ n) × SpellsStatement prof s text
+abbrev Says : Profile → Bool → Statement → ℕ → Type 0
+Says prof left s n = (text : List ℕ) × (length text ≤ n) × SpellsStatement prof left s text
 
-behind_label : (prof : Profile) (l : Option (List ℕ)) (s : Statement) (text : List ℕ)
-    → SpellsBody prof l s text → Says prof s (length text)
-behind_label prof None s text h = (text, omega arith, h)
-behind_label prof (Some l) s text h =
+behind_label : (prof : Profile) (left : Bool) (l : Option (List ℕ)) (s : Statement) (text : List ℕ)
+    → SpellsBody prof left l s text → Says prof left s (length text)
+behind_label prof left None s text h = (text, omega arith, h)
+behind_label prof left (Some l) s text h =
     let p = h.1 in
     let a = ap length p.5 ∙ length-append p.0 (l ++ (p.1 ++ (58 ∷ h.0))) in
     let b = length-append l (p.1 ++ (58 ∷ h.0)) in
     let d = length-append p.1 (58 ∷ h.0) in
     (h.0, omega (arith, a, b, d), h.2)
 
-line_says : (prof : Profile) (line : List ℕ) (c : Content) → SpellsLine prof line c
-    → Says prof c.statement MAX_LINE
-line_says prof line c h =
-    let s = behind_label prof c.label c.statement (before_comment line) h.body in
+line_says : (prof : Profile) (left : Bool) (line : List ℕ) (c : Content) → SpellsLine prof left line c
+    → Says prof left c.statement MAX_LINE
+line_says prof left line c h =
+    let s = behind_label prof left c.label c.statement (before_comment line) h.body in
     (s.0, omega (arith, s.1, before-shorter line, h.short), s.2)
 
 -- a text of at most 2,044 bytes spells the formula
-abbrev pub IsTextual : Profile → Form → Type 0
-IsTextual prof F = (text : List ℕ) × (length text ≤ 2044) × Spells prof text F
+abbrev pub IsTextual : Profile → Bool → Form → Type 0
+IsTextual prof left F = (text : List ℕ) × (length text ≤ 2044) × Spells prof left text F
 
 -- what a statement's numbers are
-abbrev Fits : Profile → Statement → Type 0
-Fits prof NoStatement = Unit {0}
-Fits prof (AnInsn i) = SaysRange i
-Fits prof (AnInv F) = IsTextual prof F
+abbrev Fits : Profile → Bool → Statement → Type 0
+Fits prof left NoStatement = Unit {0}
+Fits prof left (AnInsn i) = SaysRange i
+Fits prof left (AnInv F) = IsTextual prof left F
 
-fits : (prof : Profile) (s : Statement) → Says prof s MAX_LINE → Fits prof s
-fits prof NoStatement h = tt
-fits prof (AnInsn i) h = insn_range prof i h.2.0 h.2.2
-fits prof (AnInv F) h =
+fits : (prof : Profile) (left : Bool) (s : Statement) → Says prof left s MAX_LINE → Fits prof left s
+fits prof left NoStatement h = tt
+fits prof left (AnInsn i) h = insn_range prof i h.2.0 h.2.2
+fits prof left (AnInv F) h =
     let t = h.2 in
     let p = t.1 in
     let a = ap length p.3 ∙ length-append p.0 (codes ".inv" ++ t.0) in
     let b = length-append (codes ".inv") t.0 in
     (t.0, omega (arith, a, b, h.1), t.2)
 
-abbrev AllFit : Profile → List Content → Type 0
-AllFit prof cs = AllByRecursion (λ c. Fits prof c.statement) cs
+abbrev AllFit : Profile → Bool → List Content → Type 0
+AllFit prof left cs = AllByRecursion (λ c. Fits prof left c.statement) cs
 
-all_fit : (prof : Profile) (lines : List (List ℕ)) (cs : List Content) → AreSpelled prof lines cs
-    → AllFit prof cs
-all_fit prof [] [] h = tt
-all_fit prof [] (c ∷ cs) h = absurd h
-all_fit prof (l ∷ lines) [] h = absurd h
-all_fit prof (l ∷ lines) (c ∷ cs) h =
-    (fits prof c.statement (line_says prof l c h.0), all_fit prof lines cs h.1)
+all_fit : (prof : Profile) (left : Bool) (lines : List (List ℕ)) (cs : List Content) → AreSpelled prof left lines cs
+    → AllFit prof left cs
+all_fit prof left [] [] h = tt
+all_fit prof left [] (c ∷ cs) h = absurd h
+all_fit prof left (l ∷ lines) [] h = absurd h
+all_fit prof left (l ∷ lines) (c ∷ cs) h =
+    (fits prof left c.statement (line_says prof left l c h.0), all_fit prof left lines cs h.1)
 
 -- ---- what is collected
 
-add_insn-range : (prof : Profile) (n : ℕ) (s : Statement) (rest : List (ℕ × SourceInsn))
-    → Fits prof s → AllByRecursion (λ x. SaysRange x.1) rest
+add_insn-range : (prof : Profile) (left : Bool) (n : ℕ) (s : Statement) (rest : List (ℕ × SourceInsn))
+    → Fits prof left s → AllByRecursion (λ x. SaysRange x.1) rest
     → AllByRecursion (λ x. SaysRange x.1) (add_insn n s rest)
-add_insn-range prof n NoStatement rest f h = h
-add_insn-range prof n (AnInsn i) rest f h = (f, h)
-add_insn-range prof n (AnInv F) rest f h = h
+add_insn-range prof left n NoStatement rest f h = h
+add_insn-range prof left n (AnInsn i) rest f h = (f, h)
+add_insn-range prof left n (AnInv F) rest f h = h
 
-insns_from-range : (prof : Profile) (n : ℕ) (cs : List Content) → AllFit prof cs
+insns_from-range : (prof : Profile) (left : Bool) (n : ℕ) (cs : List Content) → AllFit prof left cs
     → AllByRecursion (λ x. SaysRange x.1) (insns_from n cs)
-insns_from-range prof n [] h = tt
-insns_from-range prof n (c ∷ cs) h =
-    add_insn-range prof n c.statement (insns_from (suc n) cs) h.0
-    (insns_from-range prof (suc n) cs h.1)
+insns_from-range prof left n [] h = tt
+insns_from-range prof left n (c ∷ cs) h =
+    add_insn-range prof left n c.statement (insns_from (suc n) cs) h.0
+    (insns_from-range prof left (suc n) cs h.1)
 
-add_inv-textual : (prof : Profile) (i : ℕ) (s : Statement) (rest : List (ℕ × Form)) → Fits prof s
-    → AllByRecursion (λ x. IsTextual prof x.1) rest
-    → AllByRecursion (λ x. IsTextual prof x.1) (add_inv i s rest)
-add_inv-textual prof i NoStatement rest f h = h
-add_inv-textual prof i (AnInsn j) rest f h = h
-add_inv-textual prof i (AnInv F) rest f h = (f, h)
+add_inv-textual : (prof : Profile) (left : Bool) (i : ℕ) (s : Statement) (rest : List (ℕ × Form)) → Fits prof left s
+    → AllByRecursion (λ x. IsTextual prof left x.1) rest
+    → AllByRecursion (λ x. IsTextual prof left x.1) (add_inv i s rest)
+add_inv-textual prof left i NoStatement rest f h = h
+add_inv-textual prof left i (AnInsn j) rest f h = h
+add_inv-textual prof left i (AnInv F) rest f h = (f, h)
 
-invs_from-textual : (prof : Profile) (i : ℕ) (cs : List Content) → AllFit prof cs
-    → AllByRecursion (λ x. IsTextual prof x.1) (invs_from i cs)
-invs_from-textual prof i [] h = tt
-invs_from-textual prof i (c ∷ cs) h =
-    add_inv-textual prof i c.statement (invs_from (i + insn_count c.statement) cs) h.0
-    (invs_from-textual prof (i + insn_count c.statement) cs h.1)
+invs_from-textual : (prof : Profile) (left : Bool) (i : ℕ) (cs : List Content) → AllFit prof left cs
+    → AllByRecursion (λ x. IsTextual prof left x.1) (invs_from i cs)
+invs_from-textual prof left i [] h = tt
+invs_from-textual prof left i (c ∷ cs) h =
+    add_inv-textual prof left i c.statement (invs_from (i + insn_count c.statement) cs) h.0
+    (invs_from-textual prof left (i + insn_count c.statement) cs h.1)
 
 length-add_insn : (n : ℕ) (s : Statement) (rest : List (ℕ × SourceInsn)) → length (add_insn n s rest) ≡ insn_count s + length rest
 length-add_insn n NoStatement rest = omega arith
@@ -194,19 +194,19 @@ labels_from-up n i m (c ∷ cs) h =
     add_label-up n i c.label (labels_from (i + insn_count c.statement) cs) (omega (arith, h)) (labels_from-up n (i + insn_count c.statement) (suc m) cs (omega (arith, h, e)))
 
 -- what is within bounds in a source that some text spells
-pub record IsBounded (prof : Profile) (s : Source) : Type 0 where
+pub record IsBounded (prof : Profile) (left : Bool) (s : Source) : Type 0 where
   pub insns : AllByRecursion (λ x. SaysRange x.1) s.insns
   pub labels : AreUpTo MAX_INSNS s.labels
-  pub invs : AllByRecursion (λ x. IsTextual prof x.1) s.invs
+  pub invs : AllByRecursion (λ x. IsTextual prof left x.1) s.invs
 
-pub bounded : (prof : Profile) (text : List ℕ) (s : Source) → SpellsSource prof text s
-    → IsBounded prof s
-bounded prof text s h =
+pub bounded : (prof : Profile) (left : Bool) (text : List ℕ) (s : Source) → SpellsSource prof left text s
+    → IsBounded prof left s
+bounded prof left text s h =
     let cs = h.contents in
-    let fit = all_fit prof h.lines cs h.spelled in
+    let fit = all_fit prof left h.lines cs h.spelled in
     let short : length (insns_from 1 cs) ≤ MAX_INSNS = subst (λ (y : Source). length y.insns ≤ MAX_INSNS) h.collected h.sound.insns in
-    subst (IsBounded prof) (sym h.collected) (record {
-      insns = insns_from-range prof 1 cs fit;
+    subst (IsBounded prof left) (sym h.collected) (record {
+      insns = insns_from-range prof left 1 cs fit;
       labels = labels_from-up MAX_INSNS 0 1 cs (omega (arith, short));
-      invs = invs_from-textual prof 0 cs fit;
+      invs = invs_from-textual prof left 0 cs fit;
     })

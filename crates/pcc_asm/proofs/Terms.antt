@@ -1,18 +1,15 @@
 -- Encodings of invariants are terms, and stand for them as a table grows.
-use Rattle.std.proofs.Common.{◌≡◌, ℕ, zero, suc, ◌+◌, ◌<◌, ◌≤◌, List, [], ◌∷◌, ◌++◌, length, take, get_or, map, refl, sym, ap, ◌∙◌, subst, arith}
+use Rattle.std.proofs.Common.{◌≡◌, ℕ, zero, suc, ◌+◌, ◌<◌, ◌≤◌, Bool, List, [], ◌∷◌, ◌++◌, length, take, get_or, map, refl, sym, ap, ◌∙◌, subst, arith}
 use Rattle.std.specs.List.{AllByRecursion}
 use Rattle.std.proofs.lemmas.List.{take_more, take_all, map-append}
 use Rattle.formula_tree.specs.Formulas.{Exp, EReg, ELeft, EVar, ELit, EOp, ESel, MemExp, MMem, MVar, MUpd, Form, FTrue, FFalse, FRel, FRd, FWr, FAnd, FOr, FImp, FAll, FAllm}
-use Rattle.formula_tree.specs.Scope.{IsOver}
 use Rattle.formula_tree.specs.declared.form.Form as lent
 use Rattle.formula_tree.specs.Views.{form_view}
 use Rattle.formula_tree.specs.Substitution.{subst_form}
 use Rattle.term_table.specs.Table.{TableView, IsKnown, tree_at, Extends, id_trees}
 use Rattle.lf_signature.specs.Nodes.{IsIdOf}
-use Rattle.lf_encode.specs.declared.contexts.Sort.{Sort}
 use Rattle.lf_encode.specs.Encoding.{exp_encoding, mem_encoding, form_encoding}
-use Rattle.lf_encode.specs.Contexts.{machine_context, names_in, IsFormIn, encoding_in}
-use Rattle.lf_encode.proofs.MachineContext.{in-machine}
+use Rattle.lf_encode.specs.Contexts.{machine_context, names_in, encoding_in}
 use Rattle.proof_container.specs.Views.{AllTerms}
 use Rattle.proof_container.specs.Encoding.{AreRising, IsEntryTerm}
 use Rattle.asm_text.specs.Sources.{HaveInsns}
@@ -51,9 +48,6 @@ pub all_terms : (invs : List (ℕ × Form)) → AllTerms (map (λ p. p.1) (inv_e
 all_terms [] = tt
 all_terms (v ∷ invs) = (form_term (subst_form v.1 (names_in machine_context)), all_terms invs)
 
-over_machine : (F : Form) → IsOver 32 F [] → IsFormIn machine_context 32 F
-over_machine F h = in-machine F h
-
 -- ---- places
 
 pub rising : (low count : ℕ) (invs : List (ℕ × Form)) → HaveInsns low count invs → AreRising low count (inv_encodings invs)
@@ -83,29 +77,39 @@ taken xs i d h =
     ∙ ap inv_encodings (map-append (λ p. (p.0, form_view p.1)) (take i xs) (get_or xs i d ∷ []))
     ∙ map-append (λ p. (p.0, encoding_in machine_context p.1)) (inv_views (take i xs)) (((get_or xs i d).0, form_view (get_or xs i d).1) ∷ [])
 
-pub more_encoded : (t u : TableView) (ctx : List Sort) (xs : List (ℕ × lent.Form)) (i : ℕ) (d : ℕ × lent.Form) (ids all : List (ℕ × ℕ)) (id : ℕ) → i < length xs → ctx ≡ machine_context → d ≡ get_or xs i d → AreEncoded t (inv_views (take i xs)) ids → Extends t u →
-    IsIdOf u (encoding_in ctx (form_view d.1)) id → all ≡ ids ++ ((d.0, id) ∷ []) → AreEncoded u (inv_views (take (i + 1) xs)) all
-more_encoded t u ctx xs i d ids all id h c s k e is a =
+pub more_encoded : (t u : TableView) (xs : List (ℕ × lent.Form)) (i : ℕ) (d : ℕ × lent.Form)
+    (ids all : List (ℕ × ℕ)) (id : ℕ) → i < length xs → d ≡ get_or xs i d
+    → AreEncoded t (inv_views (take i xs)) ids → Extends t u
+    → IsIdOf u (encoding_in machine_context (form_view d.1)) id → all ≡ ids ++ ((d.0, id) ∷ [])
+    → AreEncoded u (inv_views (take (i + 1) xs)) all
+more_encoded t u xs i d ids all id h s k e is a =
     let front = inv_encodings (inv_views (take i xs)) in
     let trees : id_trees u (ids ++ ((d.0, id) ∷ [])) ≡ inv_encodings (inv_views (take (i + 1) xs)) =
     map-append (λ (inv : ℕ × ℕ). (inv.0, tree_at u inv.1)) ids ((d.0, id) ∷ [])
     ∙ ap (λ l. l ++ ((d.0, tree_at u id) ∷ [])) (trees_same t u ids e k.known.0 ∙ k.trees)
     ∙ ap (λ y. front ++ ((d.0, y) ∷ [])) is.is
-    ∙ ap (λ x. front ++ ((d.0, encoding_in x (form_view d.1)) ∷ [])) c
-    ∙ ap (λ (p : ℕ × lent.Form). front ++ ((p.0, encoding_in machine_context (form_view p.1)) ∷ [])) s
+    ∙ ap (λ (p : ℕ × lent.Form).
+    front ++ ((p.0, encoding_in machine_context (form_view p.1)) ∷ [])) s
     ∙ sym (taken xs i d h) in
-    subst (λ l. AreEncoded u (inv_views (take (i + 1) xs)) l) (sym a) (record { known = (known_last u ids (d.0, id) (known_more t u ids e k.known.0) is.known, tt); trees = trees })
+    subst (λ l. AreEncoded u (inv_views (take (i + 1) xs)) l) (sym a)
+    (record {
+      known = (known_last u ids (d.0, id) (known_more t u ids e k.known.0) is.known, tt);
+      trees = trees;
+    })
 
-closed_at : (xs : List (ℕ × lent.Form)) (i : ℕ) (d : ℕ × lent.Form) → AllByRecursion (λ p. IsEncodableForm p.1) (inv_views xs) → i < length xs → IsEncodableForm (form_view (get_or xs i d).1)
-closed_at [] i d h l = absurd (omega arith)
-closed_at (x ∷ xs) zero d h l = h.0
-closed_at (x ∷ xs) (suc i) d h l = closed_at xs i d h.1 (omega (arith, l))
+closed_at : (left : Bool) (xs : List (ℕ × lent.Form)) (i : ℕ) (d : ℕ × lent.Form)
+    → AllByRecursion (λ p. IsEncodableForm left p.1) (inv_views xs) → i < length xs
+    → IsEncodableForm left (form_view (get_or xs i d).1)
+closed_at left [] i d h l = absurd (omega arith)
+closed_at left (x ∷ xs) zero d h l = h.0
+closed_at left (x ∷ xs) (suc i) d h l = closed_at left xs i d h.1 (omega (arith, l))
 
-pub closed_here : (xs : List (ℕ × lent.Form)) (i : ℕ) (d : ℕ × lent.Form) → AllByRecursion (λ p. IsEncodableForm p.1) (inv_views xs) → i < length xs → d ≡ get_or xs i d → IsEncodableForm (form_view d.1)
-closed_here xs i d h l s = subst (λ (p : ℕ × lent.Form). IsEncodableForm (form_view p.1)) (sym s) (closed_at xs i d h l)
-
-pub over_context : (ctx : List Sort) (F : Form) → ctx ≡ machine_context → IsOver 32 F [] → IsFormIn ctx 32 F
-over_context ctx F c h = subst (λ x. IsFormIn x 32 F) (sym c) (over_machine F h)
+pub closed_here : (left : Bool) (xs : List (ℕ × lent.Form)) (i : ℕ) (d : ℕ × lent.Form)
+    → AllByRecursion (λ p. IsEncodableForm left p.1) (inv_views xs) → i < length xs
+    → d ≡ get_or xs i d → IsEncodableForm left (form_view d.1)
+closed_here left xs i d h l s =
+    subst (λ (p : ℕ × lent.Form). IsEncodableForm left (form_view p.1)) (sym s)
+    (closed_at left xs i d h l)
 
 pub all_encoded : (t : TableView) (xs : List (ℕ × lent.Form)) (i : ℕ) (ids : List (ℕ × ℕ)) → length xs ≤ i → AreEncoded t (inv_views (take i xs)) ids → AreEncoded t (inv_views xs) ids
 all_encoded t xs i ids h k = subst (λ l. AreEncoded t (inv_views l) ids) (take_all i xs h) k

@@ -32,7 +32,8 @@ abbrev pub label_index : List (List ℕ × ℕ) → List ℕ → Option ℕ
 label_index [] l = None
 label_index (x ∷ xs) l = if bytes_eq x.0 l then Some x.1 else label_index xs l
 
--- the invariants, each as the term that encodes it over m and r0 to r30
+-- the invariants, each as the term that encodes it over m and r0 to r30, and over the steps that are
+-- left, whose variable stands outside these
 abbrev pub inv_encodings : List (ℕ × Form) → List (ℕ × Tree)
 inv_encodings invs = map (λ p. (p.0, encoding_in machine_context p.1)) invs
 
@@ -62,13 +63,16 @@ pub record IsAssembled (p : Profile) (s : Source) (insns : List Insn) : Type 0 w
 abbrev pub head_for : ℕ → PolicyView → Head
 head_for v policy = if v == 1 then Number (policy_number policy) else Digest (digest_of policy)
 
--- The contents are those of the source for the policy in the version: words that encode its
--- instructions, the encodings of its invariants, and no proof.
-pub record Assembles (v : ℕ) (policy : PolicyView) (s : Source) (c : Contents) : Type 0 where
+-- The contents are those of the source for the policy in the version, with the bound: words that
+-- encode its instructions, the encodings of its invariants, and no proof.
+pub record Assembles (v : ℕ) (bound : Option ℕ) (policy : PolicyView) (s : Source)
+    (c : Contents) : Type 0 where
   pub insns : List Insn
   pub assembled : IsAssembled (profile_of v) s insns
   pub code : EncodesCode (profile_of v) c.code insns
+  pub version_is : c.version ≡ v
   pub head_is : c.head ≡ head_for v policy
+  pub bound_is : c.bound ≡ bound
   pub invs : c.invs ≡ inv_encodings s.invs
   pub no_proof : c.proof ≡ None
 
@@ -128,22 +132,25 @@ as_code p said (Err flaw) = Err flaw
 unfoldable pub assembled_code : Profile → Source → Result (List Insn) AsmFlaw
 assembled_code p s = as_code p s.insns (resolved_insns s.labels 0 s.insns)
 
--- what a container of the version for the policy holds, of this code and these invariants
-abbrev pub plain_contents : ℕ → PolicyView → List (ℕ × Form) → List Insn → Contents
-plain_contents v policy invs insns = record {
+-- what a container of the version for the policy holds, with this bound, code and invariants
+abbrev pub plain_contents : ℕ → Option ℕ → PolicyView → List (ℕ × Form) → List Insn → Contents
+plain_contents v bound policy invs insns = record {
+  version = v;
   head = head_for v policy;
+  bound = bound;
   code = code_bytes insns;
   invs = inv_encodings invs;
   proof = None;
 }
 
 -- the contents of code that was assembled
-abbrev pub with_code : ℕ → PolicyView → List (ℕ × Form) → Result (List Insn) AsmFlaw
+abbrev pub with_code : ℕ → Option ℕ → PolicyView → List (ℕ × Form) → Result (List Insn) AsmFlaw
     → Result Contents AsmFlaw
-with_code v policy invs (Ok insns) = Ok (plain_contents v policy invs insns)
-with_code v policy invs (Err flaw) = Err flaw
+with_code v bound policy invs (Ok insns) = Ok (plain_contents v bound policy invs insns)
+with_code v bound policy invs (Err flaw) = Err flaw
 
--- what a container of the source for the policy holds in the version, or the first line that is
--- wrong
-unfoldable pub assembled_contents : ℕ → PolicyView → Source → Result Contents AsmFlaw
-assembled_contents v policy s = with_code v policy s.invs (assembled_code (profile_of v) s)
+-- what a container of the source for the policy holds in the version, with the bound, or the first
+-- line that is wrong
+unfoldable pub assembled_contents : ℕ → Option ℕ → PolicyView → Source → Result Contents AsmFlaw
+assembled_contents v bound policy s =
+    with_code v bound policy s.invs (assembled_code (profile_of v) s)

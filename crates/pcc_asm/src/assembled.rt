@@ -10,7 +10,9 @@ use term_table::{Id, Table};
 /// What a container of a source for a policy holds. Contracts see its contents.
 #[derive(Drop)]
 pub struct Assembled {
+    pub(crate) version: u32,
     pub(crate) head: Head,
+    pub(crate) bound: Option<u32>,
     pub(crate) code: Vec<u8>,
     pub(crate) table: Table,
     pub(crate) invs: Vec<(u32, Id)>,
@@ -27,10 +29,11 @@ impl Model for Assembled {
 
     ghost coded = { Prim.hlevel (codes, tree_code) };
 
-    ghost view = { λ a. held_contents a.head a.code.items a.table a.invs.items };
+    ghost view = { λ a. held_contents a.version a.head a.bound a.code.items a.table
+        a.invs.items };
 
     ghost invariant = { λ a. IsWritableContents a.table a.invs.items
-        (held_contents a.head a.code.items a.table a.invs.items) };
+        (held_contents a.version a.head a.bound a.code.items a.table a.invs.items) };
 }
 
 impl Assembled {
@@ -40,7 +43,9 @@ impl Assembled {
         ensures writable { IsWritable result }
     {
         View {
+            version: self.version,
             head: self.head,
+            bound: self.bound,
             code: &self.code,
             table: &self.table,
             invs: &self.invs,

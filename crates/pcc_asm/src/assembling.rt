@@ -1,9 +1,9 @@
 //! Assembling a source.
 
-ghost use Rattle.std.specs.Prelude.{IfOk, IfErr};
+ghost use Rattle.std.specs.Prelude.{IfOk, IfErr, is_some};
 ghost use Rattle.asm_text.specs.Views.{source_view};
 ghost use Rattle.std.specs.Prelude.{◌≡◌};
-ghost use Rattle.proof_container.specs.Versions.{profile_of};
+ghost use Rattle.proof_container.specs.Versions.{profile_of, IsVersion, IsHead, IsBoundOf};
 ghost use Rattle.pcc_asm.specs.Assembling.{head_for, Assembles, assembled_code};
 ghost use Rattle.pcc_asm.specs.Limits.{IsWithinLimits};
 ghost use Rattle.pcc_asm.specs.Views.{IsSpelled, IsAsmAnswer, AssemblesNone};
@@ -24,11 +24,17 @@ use term_table::Table;
 use word_ops::Profile;
 
 /// The bytes of the source's code in the profile, or the first line that is wrong.
-fn code_of(alloc: Global, source: &Source, profile: Profile) -> Result<Vec<u8>, AsmFault>
-    requires spelled { IsSpelled profile (source_view source.now) }
+fn code_of(
+    alloc: Global,
+    source: &Source,
+    profile: Profile,
+    left: bool,
+) -> Result<Vec<u8>, AsmFault>
+    requires spelled { IsSpelled profile left (source_view source.now) }
     ensures exact { IsStepAnswer (λ v. v.items)
         (bytes_or_flaw (assembled_code profile (source_view source.now))) result }
 {
+    let _ = left; // only the clauses speak of it
     let labels = index_labels(alloc, &source.labels)?;
     let code = resolve_all(alloc, &labels, &source.insns)?;
     check(&source.insns, &code, profile)?;
@@ -38,7 +44,8 @@ fn code_of(alloc: Global, source: &Source, profile: Profile) -> Result<Vec<u8>, 
 
 /// What names the policy in a container of the version. Fails only for want of memory.
 fn head_for(alloc: Global, policy: &Policy, version: u32) -> Result<Head, AllocError>
-    ensures { IfOk result (λ h. h ≡ head_for version policy.now) }
+    ensures exact { IfOk result (λ h. h ≡ head_for version policy.now) }
+    ensures lawful { IfOk result (IsHead version) }
 {
     if version == 1 {
         Ok(Head::Number(policy.number()))
@@ -48,31 +55,39 @@ fn head_for(alloc: Global, policy: &Policy, version: u32) -> Result<Head, AllocE
     }
 }
 
-/// What a container of the source holds in the version, or the first line that is wrong.
+/// What a container of the source holds in the version, with the bound, or the first line that is
+/// wrong.
 fn make(
     alloc: Global,
     source: &Source,
     policy: &Policy,
     version: u32,
+    bound: Option<u32>,
 ) -> Result<Assembled, AsmFault>
-    requires spelled { IsSpelled (profile_of version) (source_view source.now) }
-    ensures { IsAsmAnswer version policy.now (source_view source.now) result }
+    requires spelled { IsSpelled (profile_of version) (is_some bound) (source_view source.now) }
+    requires version { IsVersion version }
+    requires bound { IsBoundOf version bound }
+    ensures { IsAsmAnswer version bound policy.now (source_view source.now) result }
 {
-    let code = code_of(alloc, source, profile_of(version))?;
+    let left = bound.is_some();
+    let code = code_of(alloc, source, profile_of(version), left)?;
     let head = head_for(alloc, policy, version)?;
     let mut table = Table::new(alloc, signature_of(version).places());
-    let invs = encode_invs(alloc, &mut table, &source.invs)?;
+    let invs = encode_invs(alloc, &mut table, &source.invs, left)?;
     Ok(Assembled {
+        version,
         head,
+        bound,
         code,
         table,
         invs,
     })
 }
 
-/// Assembles `source` for `policy` in `version` of containers, 1 or 2 (any other is taken as 2):
-/// labels become displacements, and each invariant becomes the term that encodes it over m and r0
-/// to r30. The profile is the version's.
+/// Assembles `source` for `policy` in `version` of containers, 1 to 3: labels become displacements,
+/// and each invariant becomes the term that encodes it over m and r0 to r30, in version 3 over the
+/// steps that are left too. The profile is the version's, and `bound` the most steps that the code
+/// is to make.
 ///
 /// Errors: the first line whose label stands nowhere; else the first whose instruction the profile
 /// refuses; else the first that branches outside the code; else the last instruction's, where the
@@ -82,18 +97,25 @@ fn make(
 /// No invariant's term is higher than a line may be long, and the container has at most
 /// `proof_container::MAX_BYTES` bytes.
 ///
-/// Asks that some text spells `source` in that profile, as `asm_text::read_source` promises.
+/// Asks that some text spells `source` in that profile, as `asm_text::read_source` promises, whose
+/// invariants name the steps that are left only where there is a bound; and that the bound is there
+/// exactly in version 3, from 1 to `proof_container::MAX_BOUND`.
 pub fn assemble(
     alloc: Global,
     source: &Source,
     policy: &Policy,
     version: u32,
+    bound: Option<u32>,
 ) -> Result<Assembled, AsmFault>
-    requires spelled { IsSpelled (profile_of version) (source_view source.now) }
-    ensures exact { IsAsmAnswer version policy.now (source_view source.now) result }
-    ensures assembles { IfOk result (λ a. Assembles version policy.now (source_view source.now) a) }
-    ensures none { IfErr result (λ e. AssemblesNone version policy.now (source_view source.now) e) }
+    requires spelled { IsSpelled (profile_of version) (is_some bound) (source_view source.now) }
+    requires version { IsVersion version }
+    requires bound { IsBoundOf version bound }
+    ensures exact { IsAsmAnswer version bound policy.now (source_view source.now) result }
+    ensures assembles { IfOk result
+        (λ a. Assembles version bound policy.now (source_view source.now) a) }
+    ensures none { IfErr result
+        (λ e. AssemblesNone version bound policy.now (source_view source.now) e) }
     ensures limits { IfOk result (λ a. IsWithinLimits a) }
 {
-    make(alloc, source, policy, version)
+    make(alloc, source, policy, version, bound)
 }

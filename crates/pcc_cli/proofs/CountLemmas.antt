@@ -13,6 +13,7 @@ use Rattle.safe_host.specs.Counts.{steps_of, MakesSteps}
 use Rattle.host_steps.specs.declared.ended.Ended.{Ended}
 use Rattle.demo_input.specs.Packets.{demo_packet}
 use Rattle.pcc_cli.specs.Commands.Demo.{ones_of, count_from, both_counts, packet_counts}
+use Rattle.vcgen.specs.Safety.{all_steps}
 use Rattle.pcc_cli.specs.declared.commands.demo.Counts.{Counts}
 
 abbrev pub nothing : Counts
@@ -31,10 +32,11 @@ ran-count old begun after budget steps result None l run made = let wrong : true
 ran-count old begun after budget steps result (Some setup) l run made =
     let rights = start_rights setup in
     let same : begun ≡ _ = l.1 in
+    let left = all_steps old.accepted.bound in
     let ended : (outcome_of result, state_under after rights) ≡ run_of old.accepted.code budget (start_state ARENA setup) =
-    sym (run rights l.3).same ∙ ap (λ (h : HostView). run_of h.accepted.code budget (state_under h rights)) same in
+    sym (run left rights l.3).same ∙ ap (λ (h : HostView). run_of h.accepted.code budget (state_under h rights)) same in
     let count : steps ≡ steps_of old.accepted.code budget (start_state ARENA setup) =
-    made rights l.3 ∙ ap (λ (h : HostView). steps_of h.accepted.code budget (state_under h rights)) same in
+    made left rights l.3 ∙ ap (λ (h : HostView). steps_of h.accepted.code budget (state_under h rights)) same in
     let one : ones_of (outcome_of result) ≡ ones_of (run_of old.accepted.code budget (start_state ARENA setup)).0 = ap (λ (q : Outcome × State). ones_of q.0) ended in
     λ i. record { steps = count i; ones = one i }
 

@@ -7,7 +7,7 @@ use Rattle.file_port.specs.Sink.{SinkState}
 use Rattle.file_port.specs.declared.Put.{Put}
 use Rattle.alpha_words.specs.declared.insn.Insn.{Insn}
 use Rattle.alpha_cfg.specs.Isolation.{ChangesWritable, DependsOnReadable}
-use Rattle.alpha_cfg.specs.Machine.{State, IsState}
+use Rattle.alpha_cfg.specs.Machine.{State, IsState, run_of}
 use Rattle.policy_set.specs.Views.{PolicyView, IsPolicy}
 use Rattle.policy_set.proofs.Closed.{policy_of-is}
 use Rattle.policy_set.specs.Names.{policy_of}
@@ -17,15 +17,16 @@ use Rattle.packet_store.specs.declared.fault.PacketFault.{PacketFault}
 use Rattle.packet_store.specs.declared.reader.TheConstants.{MAX_PACKET}
 use Rattle.packet_store.specs.PacketDecoding.{decoded_packets}
 use Rattle.packet_store.specs.PolicyStarts.{start_from, start_of}
-use Rattle.packet_store.specs.Results.{packet_result}
+use Rattle.packet_store.specs.Results.{result_from, packet_result}
 use Rattle.packet_store.specs.StartMeets.{StartMeets, StartMeetsIn}
 use Rattle.term_table.specs.Bytes.{IsBytes}
 use Rattle.asm_text.specs.declared.limits.TheConstants.{MAX_SOURCE}
+use Rattle.vcgen.specs.Safety.{IsReturn}
 use Rattle.pcc_gate.specs.declared.refusal.Refusal.{Refusal}
 use Rattle.pcc_gate.specs.Accepted.{IsAccepted}
 use Rattle.pcc_gate.specs.First.{first_refusal}
 use Rattle.pcc_gate.specs.Laws.{AcceptedFirst}
-use Rattle.pcc_gate.specs.Safe.{AcceptedSafe}
+use Rattle.pcc_gate.specs.Safe.{AcceptedSafe, AcceptedReturns}
 use Rattle.bounds_prover.specs.declared.fault.ProveFault.{ProveFault}
 use Rattle.bounds_prover.specs.Proving.{proved_container}
 use Rattle.bounds_prover.specs.ProvedLaws.{ProvedAccepted}
@@ -72,7 +73,7 @@ use Rattle.word_ops.specs.Rights.{Rights}
 use Rattle.turn_laws.specs.Parts.{AreApart, LieIn, LieBetween, part_from}
 use Rattle.agent_host.specs.declared.host.TheConstants.{MAX_AGENTS}
 use Rattle.agent_host.specs.Agents.{base_of}
-use Rattle.pcc_cli.specs.Headline.{agent_part, StaysInPart, AgentsStayInParts, IsJudged, lines_exit, run_exit, RunsCode, not_accepted, accepted, Refs, no_code, ran, Makes, not_made, made, StopsWith, AssemblesTo, ProvesTo, UpgradesTo, CompilesTo, IsToldOf, Checks, UnderNamed, Does, Means, came, out_of_memory, MeansIfCommand, AcceptedRunsSafely}
+use Rattle.pcc_cli.specs.Headline.{agent_part, StaysInPart, AgentsStayInParts, IsJudged, lines_exit, run_exit, RunsCode, not_accepted, accepted, Refs, no_code, ran, Makes, not_made, made, StopsWith, AssemblesTo, ProvesTo, UpgradesTo, CompilesTo, IsToldOf, Checks, UnderNamed, Does, Means, came, out_of_memory, MeansIfCommand, AcceptedRunsSafely, IsShortOrReturns, BoundedReturns}
 use Rattle.pcc_cli.proofs.RunLemmas.{code_given, accepted_code_of_bytes}
 use Rattle.pcc_cli.proofs.CheckLemmas.{ReadsPolicies, checks_from}
 use Rattle.pcc_cli.proofs.CompileLemmas.{ReadsPrograms, CompilesPrograms, compiles, told}
@@ -492,15 +493,15 @@ module _
   does : (invocation : Invocation) (events : List Event) (exit : Exit) (f g : FilesState) → Happens events f g → Ended (stage_of invocation) events exit
       → Does invocation events exit
   unfolding asm_command prove_command check_command run_command ref_command demo_command upgrade_command host_command script_of bpf_command policy_from assembled_of proved_of upgraded_of accepted_of accepted_code_of code_of compiled_of accepted_in
-  does (asm policy input output version) events exit f g happened e =
+  does (asm policy input output version bound) events exit f g happened e =
       under_named
-      (λ under. Makes input output MAX_SOURCE (AssemblesTo version under)
-      (StopsWith input (refused source_too_long_line) (assembled_in version under)) events exit)
+      (λ under. Makes input output MAX_SOURCE (AssemblesTo version bound under)
+      (StopsWith input (refused source_too_long_line) (assembled_in version bound under)) events exit)
       (λ under. reads input MAX_SOURCE (refused source_too_long_line)
-      (λ b. assembled_in version under b >>= λ out. writing output out)) events exit
+      (λ b. assembled_in version bound under b >>= λ out. writing output out)) events exit
       (λ under kept e. makes input output MAX_SOURCE (refused source_too_long_line)
-      (assembled_in version under) (assembled_in-ends version under) (AssemblesTo version under)
-      (StopsWith input (refused source_too_long_line) (assembled_in version under)) events exit
+      (assembled_in version bound under) (assembled_in-ends version bound under) (AssemblesTo version bound under)
+      (StopsWith input (refused source_too_long_line) (assembled_in version bound under)) events exit
       (λ b out rest split is. is) (λ given exit' rest split why. why) e) (policy_of policy)
       (policy_of-is policy) e
   does (prove policy input output) events exit f g happened e =
@@ -627,3 +628,43 @@ stays_in_parts accepted_safe changes depends apart spans = record { parts = apar
             depends = depends it.code budget start;
           };
         }
+
+-- ---- code whose steps are bounded
+
+module _ (returns : AcceptedReturns) (state : StartsState) (meets : StartsMeet)
+    (policy : PolicyView) (bytes : List ℕ) (kept : IsPolicy policy)
+    (a : IsAccepted policy bytes) (bound : ℕ) (is : a.contents.bound ≡ Some bound) where
+  -- with at least as many steps as the bound, a packet's run returns, where it has a start
+  from_start : (packet : List ℕ) (steps : ℕ) → IsBytes packet → length packet ≤ MAX_PACKET
+      → bound ≤ steps → (o : Option StartView) → start_of policy packet ≡ o
+      → IsShortOrReturns (result_from a.code steps o)
+  unfolding result_from
+  from_start packet steps held short enough None e = tt
+  from_start packet steps held short enough (Some setup) e =
+      returns policy bytes a.contents a.code a.marks kept a.accepts bound is
+      (start_state ARENA setup) (state policy packet setup short held e) refl
+      (meets policy packet setup kept short e) steps enough
+
+  -- an agent returns from a start in its part
+  from_part : (agent : ℕ) (packet : List ℕ) (setup : StartView) (budget : ℕ)
+      → agent < MAX_AGENTS → IsBytes packet → length packet ≤ MAX_PACKET
+      → start_from (base_of agent) policy.kind packet ≡ Some setup → bound ≤ budget
+      → IsReturn (run_of a.code budget (start_state (base_of agent) setup)).0
+  from_part agent packet setup budget few held short e enough =
+      let low : base_of agent < 2 ^ 32 = omega (arith, few) in
+      let aligned : base_of agent % 8 ≡ 0 = omega arith in
+      let start : State = start_state (base_of agent) setup in
+      let good : IsState start =
+      start_from-state (base_of agent) policy.kind packet setup aligned low short held e in
+      let begun : StartMeetsIn (base_of agent) setup policy.pre =
+      start_from-meets (base_of agent) policy packet setup kept low short e in
+      returns policy bytes a.contents a.code a.marks kept a.accepts bound is start good refl begun
+      budget enough
+
+pub bounded_returns : AcceptedReturns → StartsState → StartsMeet → BoundedReturns
+bounded_returns returns state meets policy bytes kept a bound is = record {
+  packets = λ packet steps held short enough.
+      from_start returns state meets policy bytes kept a bound is packet steps held short enough
+      (start_of policy packet) refl;
+  agents = from_part returns state meets policy bytes kept a bound is;
+}

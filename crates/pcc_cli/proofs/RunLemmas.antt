@@ -10,7 +10,7 @@ use Rattle.alpha_cfg.specs.declared.fault.CodeFlaw.{CodeFlaw}
 use Rattle.word_ops.specs.declared.Profile.{Profile}
 use Rattle.proof_container.specs.Contents.{Contents}
 use Rattle.pcc_gate.specs.Passing.{Passes}
-use Rattle.pcc_gate.specs.Versions.{head_profile}
+use Rattle.proof_container.specs.Versions.{profile_of}
 use Rattle.pcc_gate.proofs.ForPolicy.{for-true}
 use Rattle.pcc_gate.specs.First.{first_refusal}
 use Rattle.pcc_gate.specs.Answers.{IsAcceptedBy}
@@ -27,13 +27,13 @@ use Rattle.pcc_cli.proofs.StageLemmas.{pure_stops}
 -- the code of a container that was found, read in a profile that is its version's
 pub code-read : (policy : PolicyView) (bytes : List ℕ) (contents : Contents) (profile : Profile)
     (r : Result (List Insn) CodeFlaw) → container_in policy bytes ≡ gives contents
-    → profile ≡ head_profile contents.head → r ≡ decoded_code profile contents.code
+    → profile ≡ profile_of contents.version → r ≡ decoded_code profile contents.code
     → code_in policy bytes ≡ code_found r
 unfolding code_in
 code-read policy bytes contents profile r found same read =
     ap
     (λ c. c >>= λ container. code_found
-    (decoded_code (head_profile container.head) container.code)) found
+    (decoded_code (profile_of container.version) container.code)) found
     ∙ ap (λ (p : Profile). code_found (decoded_code p contents.code)) (sym same)
     ∙ ap code_found (sym read)
 
@@ -52,9 +52,9 @@ module _ (policy : PolicyView) (bytes : List ℕ) (contents : Contents) (code : 
   code_given =
       ap
       (λ c. c >>= λ container. code_found
-      (decoded_code (head_profile container.head) container.code)) container_given
+      (decoded_code (profile_of container.version) container.code)) container_given
       ∙ ap code_found
-      (sym (decoded_code-ok (head_profile contents.head) contents.code code passes.encoded
+      (sym (decoded_code-ok (profile_of contents.version) contents.code code passes.encoded
       passes.code))
 
   -- what is accepted has the code that the bytes hold

@@ -29,6 +29,7 @@ use Rattle.pcc_cli.specs.Stages.Hosting.{Member}
 use Rattle.pcc_cli.specs.Commands.Host.{turn_outcome, region_sum, turn_line_from, agent_turn_line, turn_lines}
 use Rattle.pcc_cli.specs.Inside.Standing.{HasStart, HaveStarts, AreTurnsOf, members_with, StandsAt, IsWhereTurnsLead, AreWhereTurnsLead}
 use Rattle.pcc_cli.specs.Inside.Turning.{member_view, AreReadyFrom}
+use Rattle.vcgen.specs.Safety.{all_steps}
 use Rattle.pcc_cli.proofs.TurnLemmas.{stands-start, stands-turn, turn-shown, turn-loaded, stands-sum}
 
 -- ---- members of lists
@@ -140,7 +141,9 @@ module _
       (same ∙ ap (λ (x : Vec ℕ Global). x.items) packet)
       ∙ start.1 in
       let known : LoadsAt (Some start.0) result r.was r.is = subst (λ (o : Option StartView). LoadsAt o result r.was r.is) begins r.known in
-      let fits : RightsFitAgent (agent_at r.was start.0) (rights_of start.0) = subst (λ (x : HostedView). RightsFitAgent x (rights_of start.0)) known.1 known.3 in
+      let left : ℕ = all_steps r.was.accepted.bound in
+      let fits : RightsFitAgent (agent_at r.was start.0) left (rights_of start.0) =
+      subst (λ (x : HostedView). RightsFitAgent x left (rights_of start.0)) known.1 known.3 in
       record {
         setup = start.0;
         starts = ap (λ (q : PolicyView). start_from (base_of a) q.kind agent.packet) (sym i.policy)
@@ -148,7 +151,7 @@ module _
         m = r.is;
         at = ap (λ (xs : List HostedView). slice_get xs a) r.rest ∙ set_at now a r.is r.was r.at;
         stands = subst (StandsAt a agent start.0 0) (sym known.1)
-            (stands-start a agent start.0 r.was (ap (λ (x : HostedView). x.accepted.policy) was ∙ i.policy) (ap (λ (x : HostedView). x.accepted.code) was ∙ i.code) base fits);
+            (stands-start a agent start.0 r.was left (ap (λ (x : HostedView). x.accepted.policy) was ∙ i.policy) (ap (λ (x : HostedView). x.accepted.code) was ∙ i.code) base fits);
       }
 
   -- another's place

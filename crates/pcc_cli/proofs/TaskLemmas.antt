@@ -1,5 +1,5 @@
 -- What the arguments ask for is suited: the stages stop with refusals that go with what the arguments are, and read the named files.
-use Rattle.std.proofs.Common.{◌≡◌, ◌≢◌, ◌⊎◌, ℕ, suc, ◌<◌, Bool, true, false, List, [], ◌∷◌, length, ◌==◌, if◌then◌else◌, get_or, Option, Some, None, Result, Ok, Err, Contains, IfSome, refl, ap, arith, inl, inr}
+use Rattle.std.proofs.Common.{◌≡◌, ◌≢◌, ◌⊎◌, ℕ, suc, ◌<◌, Bool, true, false, List, [], ◌∷◌, length, ◌==◌, if◌then◌else◌, get_or, Option, Some, None, is_some, Result, Ok, Err, Contains, IfSome, refl, ap, arith, inl, inr}
 use Rattle.packet_store.specs.declared.fault.PacketFault.{PacketFault}
 use Rattle.packet_store.specs.declared.fault.PacketFault.TheVariants as packet
 use Rattle.packet_store.specs.PacketDecoding.{decoded_packets}
@@ -16,7 +16,7 @@ use Rattle.formula_text.specs.declared.fault.TextFault.TheVariants as text_fault
 use Rattle.formula_text.specs.Names.{text_flaw_name}
 use Rattle.proof_container.specs.Contents.{Contents}
 use Rattle.proof_container.specs.Decoding.{Fault, decoded_container}
-use Rattle.proof_container.specs.Versions.{profile_of}
+use Rattle.proof_container.specs.Versions.{profile_of, IsVersion, IsBoundOf}
 use Rattle.proof_container.specs.declared.container.Head.TheVariants.{Number}
 use Rattle.asm_text.specs.declared.fault.LineFlaw.{LineFlaw}
 use Rattle.asm_text.specs.declared.limits.TheConstants.{MAX_SOURCE}
@@ -41,10 +41,10 @@ use Rattle.pcc_gate.specs.declared.refusal.Refusal.{Refusal}
 use Rattle.pcc_gate.specs.declared.refusal.Refusal.TheVariants as refusal
 use Rattle.pcc_gate.specs.First.{first_refusal}
 use Rattle.pcc_gate.specs.ForPolicy.{is_for}
-use Rattle.pcc_gate.specs.Versions.{head_profile}
 use Rattle.container_upgrade.specs.declared.fault.UpgradeFault.{UpgradeFault}
 use Rattle.container_upgrade.specs.declared.fault.UpgradeFault.TheVariants as upgrade_fault
 use Rattle.container_upgrade.specs.Upgrading.{upgraded_container}
+use Rattle.pcc_words.specs.Commands.{IsVersionOf}
 use Rattle.pcc_words.specs.Invocations.{named, from_file, Invocation, asm, prove, check, run, ref, demo, upgrade, host, bpf}
 use Rattle.reference_machine.specs.Starts.{StartView}
 use Rattle.packet_store.specs.PolicyStarts.{start_from}
@@ -92,6 +92,19 @@ use Rattle.pcc_cli.specs.Commands.Running.{run_command}
 use Rattle.pcc_cli.specs.Commands.Upgrade.{upgrade_command}
 use Rattle.pcc_cli.specs.Commands.Demo.{summary_of, demo_container, demo_told, demo_effect, demo_policy, demo_command}
 use Rattle.pcc_cli.specs.Tasks.{standing_on, task_of_command}
+
+-- ---- versions and bounds
+
+-- the version that `asm` makes is one that is built
+pub built-version : (bound : Option ℕ) (version : ℕ) → IsVersionOf bound version → IsVersion version
+built-version None version h = (h.0, omega (arith, h.1))
+built-version (Some n) version h = let is = h.0 in (omega (arith, is), omega (arith, is))
+
+-- and its bound is one that the version may have
+pub bound-in-range : (bound : Option ℕ) (version : ℕ) → IsVersionOf bound version
+    → IsBoundOf version bound
+bound-in-range None version h = λ is. omega (arith, h.1, is)
+bound-in-range (Some n) version h = h
 
 -- ---- lines
 
@@ -235,9 +248,9 @@ module _ (names : Option (List (List ℕ))) where
   unfolding code_in
   code_in-fits policy bytes =
       behind
-      (λ container. code_found (decoded_code (head_profile container.head) container.code))
+      (λ container. code_found (decoded_code (profile_of container.version) container.code))
       (container_in policy bytes) (container_in-fits policy bytes)
-      (λ c. code_found-fits (decoded_code (head_profile c.head) c.code))
+      (λ c. code_found-fits (decoded_code (profile_of c.version) c.code))
 
   unless_refused-fits : (r : Option Refusal) → Fits (unless_refused r)
   unless_refused-fits None = refl
@@ -274,13 +287,13 @@ module _ (names : Option (List (List ℕ))) where
   container_made-fits (Ok contents) = refl
   container_made-fits (Err flaw) = inl (source_stop (asm_flaw_line flaw) (asm_flaw_name flaw))
 
-  assembled_in-fits : (version : ℕ) (policy : PolicyView) (text : List ℕ)
-      → Fits (assembled_in version policy text)
+  assembled_in-fits : (version : ℕ) (bound : Option ℕ) (policy : PolicyView) (text : List ℕ)
+      → Fits (assembled_in version bound policy text)
   unfolding assembled_in source_in assembled_as
-  assembled_in-fits version policy text =
-      behind (λ source. assembled_as version policy source) (source_in version text)
-      (source_found-fits (parsed_source (profile_of version) text))
-      (λ source. container_made-fits (assembled_contents version policy source))
+  assembled_in-fits version bound policy text =
+      behind (λ source. assembled_as version bound policy source) (source_in version bound text)
+      (source_found-fits (parsed_source (profile_of version) (is_some bound) text))
+      (λ source. container_made-fits (assembled_contents version bound policy source))
 
   container_proved-fits : (r : Result (List ℕ) ProveFault) → Fits (container_proved r)
   container_proved-fits (Ok bytes) = refl
@@ -345,8 +358,8 @@ module _ (names : Option (List (List ℕ))) where
   demo_effect-fits policy n =
       behind (λ told. printing (demo_lines told)) (demo_told policy n)
       (behind (λ container. shown_in policy container >>= λ shown. gives (summary_of policy n shown)) (demo_container policy n)
-      (behind (λ container. proved_in policy container) (assembled_in 1 policy (demo_source n))
-      (assembled_in-fits 1 policy (demo_source n)) (λ container. proved_in-fits policy container))
+      (behind (λ container. proved_in policy container) (assembled_in 1 None policy (demo_source n))
+      (assembled_in-fits 1 None policy (demo_source n)) (λ container. proved_in-fits policy container))
       (λ container. behind (λ shown. gives (summary_of policy n shown)) (shown_in policy container) (shown_in-fits policy container) (λ shown. refl)))
       (λ told. refl)
 
@@ -361,10 +374,11 @@ no_reads (reads name max more on) h = let none = h.1.1 in absurd (omega arith)
 pub code_in-ends : (policy : PolicyView) (bytes : List ℕ) → is_read (code_in policy bytes) ≡ false
 code_in-ends policy bytes = no_reads (code_in policy bytes) (code_in-fits (Some []) policy bytes)
 
-pub assembled_in-ends : (version : ℕ) (policy : PolicyView) (text : List ℕ)
-    → is_read (assembled_in version policy text) ≡ false
-assembled_in-ends version policy text =
-    no_reads (assembled_in version policy text) (assembled_in-fits (Some []) version policy text)
+pub assembled_in-ends : (version : ℕ) (bound : Option ℕ) (policy : PolicyView) (text : List ℕ)
+    → is_read (assembled_in version bound policy text) ≡ false
+assembled_in-ends version bound policy text =
+    no_reads (assembled_in version bound policy text)
+    (assembled_in-fits (Some []) version bound policy text)
 
 pub policy_in-ends : (bytes : List ℕ) → is_read (policy_in bytes) ≡ false
 policy_in-ends bytes = no_reads (policy_in bytes) (policy_in-fits (Some []) bytes)
@@ -505,16 +519,16 @@ second_name a b = (1, omega arith, refl)
 pub suited : (o : Option Invocation) → let task = task_of_command o in IsSuited texts task.standing task.names task.stage
 unfolding asm_command prove_command check_command run_command ref_command demo_command upgrade_command host_command bpf_command script_of script_in policy_from assembled_of proved_of upgraded_of accepted_of accepted_code_of code_of compiled_of
 suited None = inl (record { suits = refl; some = omega arith; in_range = omega arith })
-suited (Some (asm policy input output version)) =
+suited (Some (asm policy input output version bound)) =
     begins (Some (input ∷ []))
-    (λ under. assembled_of version under input >>= λ container. writing output container)
+    (λ under. assembled_of version bound under input >>= λ container. writing output container)
     (policy_of policy) (λ under.
     read (Some (input ∷ [])) input MAX_SOURCE source_too_long_line
-    (λ b. assembled_in version under b >>= λ container. writing output container) (only input)
+    (λ b. assembled_in version bound under b >>= λ container. writing output container) (only input)
     (omega arith) (λ b.
     behind (Some (input ∷ [])) (λ container. writing output container)
-    (assembled_in version under b)
-    (assembled_in-fits (Some (input ∷ [])) version under b) (λ container. refl)))
+    (assembled_in version bound under b)
+    (assembled_in-fits (Some (input ∷ [])) version bound under b) (λ container. refl)))
 suited (Some (prove policy input output)) =
     begins (Some (input ∷ []))
     (λ under. proved_of under input >>= λ container. writing output container)

@@ -28,6 +28,7 @@ use Rattle.agent_host.specs.Agents.{HostedView, base_of, part_of, RightsFitAgent
 use Rattle.agent_host.specs.Turns.{phase_after, RunsTo, TurnsTo, outcome_shown}
 use Rattle.pcc_cli.specs.Stages.Hosting.{Member}
 use Rattle.pcc_cli.specs.Commands.Host.{alone, turn_outcome, region_sum}
+use Rattle.vcgen.specs.Safety.{steps_after}
 use Rattle.pcc_cli.specs.Inside.Standing.{StandsAt}
 
 -- phases are apart
@@ -55,9 +56,11 @@ after-returned ended.OutOfSteps e = absurd (true≢false (ap is_ready e))
 
 module _ (a : ℕ) (agent : Member) (setup : StartView) where
   -- at its start
-  pub stands-start : (m : HostedView) → m.accepted.policy ≡ agent.policy → m.accepted.code ≡ agent.code → m.base ≡ base_of a → RightsFitAgent (agent_at m setup) (rights_of setup)
+  pub stands-start : (m : HostedView) (left : ℕ) → m.accepted.policy ≡ agent.policy
+      → m.accepted.code ≡ agent.code → m.base ≡ base_of a
+      → RightsFitAgent (agent_at m setup) left (rights_of setup)
       → StandsAt a agent setup 0 (agent_at m setup)
-  stands-start m policy code base fits = record {
+  stands-start m left policy code base fits = record {
     policy = policy;
     code = code;
     base = base;
@@ -65,7 +68,7 @@ module _ (a : ℕ) (agent : Member) (setup : StartView) where
     state = ap (λ b. start_state b setup) (sym base);
     loaded = λ e. true≢false (ap is_ready e);
     out = λ _. refl;
-    fits = λ _. fits;
+    fits = λ _. (left, fits);
     ended = λ e. absurd (true≢false (ap is_ready e));
   }
 
@@ -76,7 +79,7 @@ module _ (a : ℕ) (agent : Member) (setup : StartView) where
       ap (λ (o : Outcome). (o, (alone a agent setup n).1)) (s.out t.ready) ∙ ap (λ (x : State). (outcomes.OutOfSteps, x)) s.state in
       run-behind agent.code n k (start_state (base_of a) setup) (part_state (part_of m) (rights_of setup)) here
       ∙ ap (λ (l : List Insn). run_of l k (part_state (part_of m) (rights_of setup))) (sym s.code)
-      ∙ (t.under (rights_of setup) (s.fits t.ready)).same
+      ∙ (let f = s.fits t.ready in (t.under f.0 (rights_of setup) f.1).same)
 
   stands-run : (n k : ℕ) (m q : HostedView) (result : Ended) → StandsAt a agent setup n m → RunsTo k result m q → StandsAt a agent setup (n + k) q
   stands-run n k m q result s t =
@@ -90,8 +93,15 @@ module _ (a : ℕ) (agent : Member) (setup : StartView) where
         state = ap (λ p. p.1) there;
         loaded = λ e. after-loaded result (sym phase ∙ e);
         out = λ e. ap (λ p. p.0) there ∙ ap outcome_of (after-out result (sym phase ∙ e));
-        fits = λ e. let f = (t.under (rights_of setup) (s.fits t.ready)).fits (after-out result (sym phase ∙ e)) in
-            subst (λ c. RightsFitAgent (record q { accepted = c }) (rights_of setup)) (sym (ap (λ (h : HostedView). h.accepted) t.kept)) (record { reads = f.reads; writes = f.writes; holds = f.holds });
+        fits = λ e.
+            let old = s.fits t.ready in
+            let on = (t.under old.0 (rights_of setup) old.1).fits (after-out result (sym phase ∙ e)) in
+            let left : ℕ = steps_after m.accepted.bound k old.0 in (
+              left,
+              subst (λ c. RightsFitAgent (record q { accepted = c }) left (rights_of setup))
+                  (sym (ap (λ (h : HostedView). h.accepted) t.kept))
+                  (record { reads = on.reads; writes = on.writes; few = on.few; holds = on.holds }),
+            );
         ended = λ e. ap (λ p. may_go_on p.0) there ∙ after-returned result (sym phase ∙ e);
       }
 

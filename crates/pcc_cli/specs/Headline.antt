@@ -17,12 +17,13 @@ use Rattle.reference_machine.specs.declared.layout.TheConstants.{ARENA, QUADWORD
 use Rattle.reference_machine.specs.Starts.{StartView, start_state}
 use Rattle.packet_store.specs.declared.reader.TheConstants.{MAX_PACKET}
 use Rattle.packet_store.specs.declared.fault.PacketFault.{PacketFault}
-use Rattle.packet_store.specs.declared.results.PacketResult.TheVariants.{Ran}
+use Rattle.packet_store.specs.declared.results.PacketResult.{PacketResult}
+use Rattle.packet_store.specs.declared.results.PacketResult.TheVariants.{Short, Ran}
 use Rattle.packet_store.specs.PacketDecoding.{decoded_packets}
 use Rattle.packet_store.specs.PolicyStarts.{start_from, start_of}
 use Rattle.packet_store.specs.Results.{packet_result}
 use Rattle.term_table.specs.Bytes.{IsBytes}
-use Rattle.vcgen.specs.Safety.{IsGoodEnd}
+use Rattle.vcgen.specs.Safety.{IsGoodEnd, IsReturn}
 use Rattle.pcc_gate.specs.declared.refusal.Refusal.{Refusal}
 use Rattle.pcc_gate.specs.Accepted.{IsAccepted}
 use Rattle.pcc_gate.specs.First.{first_refusal}
@@ -157,9 +158,9 @@ pub data Makes (input output : List ℕ) (max : ℕ) (IsMade : List ℕ → List
 abbrev pub StopsWith : List ℕ → Exit → (List ℕ → Stage (List ℕ)) → Given → Exit → Type 0
 StopsWith input too_long_exit stage given exit = went_on texts input too_long_exit stage given ≡ stops exit
 
--- `asm` makes of a source the container of the version that it is assembled into
-abbrev pub AssemblesTo : ℕ → PolicyView → List ℕ → List ℕ → Type 0
-AssemblesTo version policy text out = assembled_in version policy text ≡ gives out
+-- `asm` makes of a source the container of the version and the bound that it is assembled into
+abbrev pub AssemblesTo : ℕ → Option ℕ → PolicyView → List ℕ → List ℕ → Type 0
+AssemblesTo version bound policy text out = assembled_in version bound policy text ≡ gives out
 
 -- `prove` makes of a container one that is accepted under the policy
 pub record ProvesTo (policy : PolicyView) (bytes out : List ℕ) : Type 0 where
@@ -285,10 +286,10 @@ UnderNamed (Some under) Did events exit = Did under
 
 -- what a command did that came to an exit
 abbrev pub Does : Invocation → List Event → Exit → Type 0
-Does (asm policy input output version) events exit =
+Does (asm policy input output version bound) events exit =
     UnderNamed (policy_of policy) (λ under.
-    Makes input output MAX_SOURCE (AssemblesTo version under)
-    (StopsWith input (refused source_too_long_line) (assembled_in version under)) events exit)
+    Makes input output MAX_SOURCE (AssemblesTo version bound under)
+    (StopsWith input (refused source_too_long_line) (assembled_in version bound under)) events exit)
     events exit
 Does (prove policy input output) events exit =
     UnderNamed (policy_of policy) (λ under. Makes input output MAX_FILE (ProvesTo under)
@@ -363,3 +364,27 @@ pub record AgentsStayInParts : Type 0 where
       → a < MAX_AGENTS → IsBytes packet → length packet ≤ MAX_PACKET
       → start_from (base_of a) policy.kind packet ≡ Some setup
       → StaysInPart a policy it.code budget setup
+
+-- ---- code whose steps are bounded
+
+-- a packet was short, or its run returned: it wasn't out of steps
+abbrev pub IsShortOrReturns : PacketResult → Type 0
+IsShortOrReturns Short = Unit {0}
+IsShortOrReturns (Ran outcome sum) = IsReturn outcome
+
+-- With at least as many steps for a packet as the bound, no packet of `run` is out of steps; and
+-- from a start in its part, with a budget of at least the bound, an agent of `host` returns.
+pub record ReturnsInTime (policy : PolicyView) (code : List Insn) (bound : ℕ) : Type 0 where
+  pub packets : (packet : List ℕ) (steps : ℕ) → IsBytes packet → length packet ≤ MAX_PACKET
+      → bound ≤ steps → IsShortOrReturns (packet_result policy code steps packet)
+  pub agents : (a : ℕ) (packet : List ℕ) (setup : StartView) (budget : ℕ) → a < MAX_AGENTS
+      → IsBytes packet → length packet ≤ MAX_PACKET
+      → start_from (base_of a) policy.kind packet ≡ Some setup → bound ≤ budget
+      → IsReturn (run_of code budget (start_state (base_of a) setup)).0
+
+-- code that is accepted under a policy, which keeps what each does, with a bound of its steps,
+-- returns in time
+abbrev pub BoundedReturns : Type 0
+BoundedReturns =
+    (policy : PolicyView) (bytes : List ℕ) → IsPolicy policy → (a : IsAccepted policy bytes)
+    (bound : ℕ) → a.contents.bound ≡ Some bound → ReturnsInTime policy a.code bound

@@ -21,7 +21,7 @@ use Rattle.pcc_cli.specs.Commands.Host.{host_command}
 
 -- what a command does
 abbrev pub stage_of : Invocation → Stage Effect
-stage_of (asm policy input output version) = asm_command version policy input output
+stage_of (asm policy input output version bound) = asm_command version bound policy input output
 stage_of (prove policy input output) = prove_command policy input output
 stage_of (check word file) = check_command word file
 stage_of (run policy file packets steps) = run_command policy file packets steps
@@ -33,7 +33,7 @@ stage_of (bpf input output) = bpf_command input output
 
 -- the files that a command reads, whatever they hold; none where they come from what a file holds
 abbrev pub names_of : Invocation → Option (List (List ℕ))
-names_of (asm policy input output version) = Some (input ∷ [])
+names_of (asm policy input output version bound) = Some (input ∷ [])
 names_of (prove policy input output) = Some (input ∷ [])
 names_of (check (named policy) file) = Some (file ∷ [])
 names_of (check (from_file name) file) = Some (name ∷ file ∷ [])
@@ -52,7 +52,7 @@ standing_on (Some policy) = command
 -- the name of the policy that a command names, or is always under; none where a file tells it, or
 -- there is none
 abbrev pub policy_name_of : Invocation → Option (List ℕ)
-policy_name_of (asm policy input output version) = Some policy
+policy_name_of (asm policy input output version bound) = Some policy
 policy_name_of (prove policy input output) = Some policy
 policy_name_of (check (named policy) file) = Some policy
 policy_name_of (check (from_file name) file) = None

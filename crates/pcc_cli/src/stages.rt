@@ -1,7 +1,8 @@
 //! The stages of commands: each gives its value, or what ends the command there. A stage stands in
 //! `specs/Stages` under the same name.
 
-ghost use Rattle.std.specs.Prelude.{◌≡◌, ◌≤◌, ◌<◌, ℕ, length, slice_index, IfOk, IfErr};
+ghost use Rattle.std.specs.Prelude.{◌≡◌, ◌≤◌, ◌<◌, ℕ, length, slice_index, is_some};
+ghost use Rattle.std.specs.Prelude.{IfOk, IfErr};
 ghost use Rattle.proof_container.specs.Views.{contents_of};
 ghost use Rattle.asm_text.specs.declared.limits.TheConstants.{MAX_SOURCE};
 ghost use Rattle.asm_text.specs.Views.{source_view};
@@ -10,7 +11,7 @@ ghost use Rattle.proof_container.specs.Versions.{profile_of};
 ghost use Rattle.pcc_gate.specs.Answers.{IsAcceptedBy};
 ghost use Rattle.bpf_words.specs.Programs.{IsProgram};
 ghost use Rattle.pcc_exit.specs.Stages.{reads, gives};
-ghost use Rattle.pcc_words.specs.Commands.{word_view};
+ghost use Rattle.pcc_words.specs.Commands.{word_view, IsVersionOf};
 ghost use Rattle.pcc_cli.specs.Stages.Common as common;
 ghost use Rattle.pcc_cli.specs.Stages.Policies as policies;
 ghost use Rattle.pcc_cli.specs.Stages.Containers as containers;
@@ -41,7 +42,7 @@ use file_port::{Files, Got, Put};
 use formula_text::TextFault;
 use packet_store::PacketFile;
 use pcc_asm::{AsmFault, assemble};
-use pcc_gate::{Accepted, GateFault, Refusal, gate, head_profile, is_for};
+use pcc_gate::{Accepted, GateFault, Refusal, gate, is_for};
 use pcc_words::PolicyWord;
 use policy_set::{Policy, PolicyFault, by_name, read_policy};
 use proof_container::{Container, Head, Malformed, profile_of, read, write};
@@ -185,7 +186,7 @@ fn code_in<'a>(alloc: Global, policy: &Policy, bytes: &[u8]) -> Result<Code, Sto
         Ok(container) => container,
         Err(stop) => return Err(stop),
     };
-    let profile = head_profile(container.head);
+    let profile = profile_of(container.version);
     match Code::of(alloc, container.code, profile) {
         Ok(code) => Ok(code),
         Err(CodeFault::At(flaw)) => Err(Stop::Refused(RefusedLine::Container(Refusal::BadCode(
@@ -235,32 +236,42 @@ pub fn proved_in<'a>(alloc: Global, policy: &Policy, bytes: &[u8]) -> Result<Vec
     }
 }
 
-/// The source that the text spells in the profile of the version.
+/// The source that the text spells in the profile of the version; its invariants may name the steps
+/// that are left where there is a bound.
 #[tactic(auto, unfolding(crate::specs::Stages::Assembling::source_in))]
-fn source_in<'a>(alloc: Global, version: u32, text: &[u8]) -> Result<Source, Stop<'a>>
+fn source_in<'a>(
+    alloc: Global,
+    version: u32,
+    bound: Option<u32>,
+    text: &[u8],
+) -> Result<Source, Stop<'a>>
     requires short { length text.now ≤ MAX_SOURCE }
-    ensures exact { GivesPure source_view (assembling.source_in version text.now) result }
-    ensures spelled { IfOk result (λ s. IsSpelled (profile_of version) (source_view s)) }
+    ensures exact { GivesPure source_view (assembling.source_in version bound text.now) result }
+    ensures spelled { IfOk result
+        (λ s. IsSpelled (profile_of version) (is_some bound) (source_view s)) }
 {
-    match read_source(alloc, text, profile_of(version)) {
+    match read_source(alloc, text, profile_of(version), bound.is_some()) {
         Ok(source) => Ok(source),
         Err(LineFault::At(line, flaw)) => Err(Stop::Refused(RefusedLine::BadLine(line, flaw))),
         Err(LineFault::Memory) => Err(Stop::Memory),
     }
 }
 
-/// The container of the version, as bytes, that the source is assembled into for the policy.
+/// The container of the version and the bound, as bytes, that the source is assembled into for the
+/// policy.
 fn assembled_as<'a>(
     alloc: Global,
     version: u32,
+    bound: Option<u32>,
     policy: &Policy,
     source: &Source,
 ) -> Result<Vec<u8>, Stop<'a>>
-    requires spelled { IsSpelled (profile_of version) (source_view source.now) }
+    requires spelled { IsSpelled (profile_of version) (is_some bound) (source_view source.now) }
+    requires fits { IsVersionOf bound version }
     ensures { GivesPure (λ bytes. bytes.items)
-        (assembling.assembled_as version policy.now (source_view source.now)) result }
+        (assembling.assembled_as version bound policy.now (source_view source.now)) result }
 {
-    match assemble(alloc, source, policy, version) {
+    match assemble(alloc, source, policy, version, bound) {
         Ok(assembled) => match write(alloc, &assembled.view()) {
             Ok(bytes) => Ok(bytes),
             Err(_) => Err(Stop::Memory),
@@ -270,23 +281,25 @@ fn assembled_as<'a>(
     }
 }
 
-/// The container of the version, as bytes, that the source which the text spells is assembled into
-/// for the policy.
+/// The container of the version and the bound, as bytes, that the source which the text spells is
+/// assembled into for the policy.
 pub fn assembled_in<'a>(
     alloc: Global,
     version: u32,
+    bound: Option<u32>,
     policy: &Policy,
     text: &[u8],
 ) -> Result<Vec<u8>, Stop<'a>>
     requires short { length text.now ≤ MAX_SOURCE }
+    requires fits { IsVersionOf bound version }
     ensures { GivesPure (λ bytes. bytes.items)
-        (assembling.assembled_in version policy.now text.now) result }
+        (assembling.assembled_in version bound policy.now text.now) result }
 {
-    let source = match source_in(alloc, version, text) {
+    let source = match source_in(alloc, version, bound, text) {
         Ok(source) => source,
         Err(stop) => return Err(stop),
     };
-    assembled_as(alloc, version, policy, &source)
+    assembled_as(alloc, version, bound, policy, &source)
 }
 
 /// The packets that the bytes are.
@@ -369,17 +382,19 @@ pub fn packets_of<'a, F: Files>(
     packets_in(bytes)
 }
 
-/// The container of the version, as bytes, that the source in the file of the name is assembled
-/// into for the policy.
+/// The container of the version and the bound, as bytes, that the source in the file of the name is
+/// assembled into for the policy.
 pub fn assembled_of<'a, F: Files>(
     alloc: Global,
     version: u32,
+    bound: Option<u32>,
     policy: &Policy,
     name: &'a str,
     files: &mut F,
 ) -> Result<Vec<u8>, Stop<'a>>
+    requires fits { IsVersionOf bound version }
     ensures { Gives (λ bytes. bytes.items)
-        (assembling.assembled_of version policy.now name.entry.now)
+        (assembling.assembled_of version bound policy.now name.entry.now)
         (F.log files.old) (F.log files.new) (F.state files.old) (F.state files.new) result }
 {
     let text = bytes_of(
@@ -389,7 +404,7 @@ pub fn assembled_of<'a, F: Files>(
         RefusedLine::SourceTooLong,
         files,
     )?;
-    assembled_in(alloc, version, policy, &text)
+    assembled_in(alloc, version, bound, policy, &text)
 }
 
 /// The container of version 2, as bytes, that the container in the bytes is upgraded to.

@@ -12,6 +12,7 @@ ghost use Rattle.pcc_cli.specs.Texts.{texts};
 ghost use Rattle.pcc_cli.specs.Tasks.{task_of, request_of};
 ghost use Rattle.pcc_gate.specs.Safe.{AcceptedSafe};
 ghost use Rattle.pcc_cli.specs.Headline.{MeansIfCommand, AcceptedRunsSafely, AgentsStayInParts};
+ghost use Rattle.pcc_cli.specs.Headline.{BoundedReturns};
 ghost use Rattle.pcc_cli.specs.Inside.Decisions.{Decides, exit_of};
 
 use crate::commands::{
@@ -91,7 +92,9 @@ fn print<S: Sink>(decision: Result<Report, Stop<'_>>, out: &mut S) -> u8
 /// By `safe`, the same holds of the starts of the policy that `run` takes, and such a run neither
 /// changes nor depends on anything outside its rights; by `apart`, no address is in the parts of
 /// two agents of a host, and the rights of each agent at its start lie in its own part, from where
-/// the same holds: so none changes or learns anything of another's.
+/// the same holds: so none changes or learns anything of another's. By `returns`, where accepted
+/// bytes bound their steps, no packet of `run` is out of steps with at least as many for each, and
+/// an agent of a host returns within them.
 pub fn pcc<F: Files, S: Sink>(alloc: Global, words: Vec<String>, files: &mut F, out: &mut S) -> u8
     ensures runs { Runs texts (task_of (map string_bytes words.items)).stage
         (F.log files.old) (F.log files.new) (F.state files.old) (F.state files.new)
@@ -101,6 +104,7 @@ pub fn pcc<F: Files, S: Sink>(alloc: Global, words: Vec<String>, files: &mut F, 
     ensures sound { AcceptedSafe }
     ensures safe { AcceptedRunsSafely }
     ensures apart { AgentsStayInParts }
+    ensures returns { BoundedReturns }
 {
     pcc_gate::laws();
     packet_store::laws();

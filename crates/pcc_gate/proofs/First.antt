@@ -11,15 +11,16 @@ use Rattle.lf_signature.specs.Terms.{pf}
 use Rattle.lf_signature.specs.Typing.{Checks}
 use Rattle.lf_signature.specs.Laws.Decided.{checks_is, checks_follows}
 use Rattle.formula_tree.specs.Formulas.{Form}
-use Rattle.lf_encode.specs.Contexts.{machine_context, EncodesForm}
+use Rattle.lf_encode.specs.declared.contexts.Sort as sort
+use Rattle.lf_encode.specs.Contexts.{bound_sorts, EncodesForm}
 use Rattle.lf_encode.specs.Naming.{unnamed_form}
 use Rattle.lf_encode.specs.Reading.{form_of}
 use Rattle.lf_encode.proofs.Named.{form_encoded}
 use Rattle.lf_encode.proofs.Decoded.{form_of-encoding}
-use Rattle.lf_encode.proofs.MachineContext.{bound_sorts-machine}
+use Rattle.lf_encode.proofs.MachineContext.{bound_sorts-machine, bound_sorts-left}
 use Rattle.proof_container.specs.Contents.{Contents}
 use Rattle.term_table.specs.Bytes.{IsBytes}
-use Rattle.vcgen.specs.Encoded.{AreForms, AreEncodings, EncodesCondition}
+use Rattle.vcgen.specs.Encoded.{context_of, AreForms, AreEncodings, EncodesCondition}
 use Rattle.vcgen.proofs.Encodings.{encoding-unique}
 use Rattle.pcc_gate.specs.declared.limits.TheConstants.{MAX_WEIGHT}
 use Rattle.pcc_gate.specs.declared.refusal.Refusal.{Refusal}
@@ -32,7 +33,7 @@ use Rattle.pcc_gate.proofs.Searches.{past, within}
 use Rattle.pcc_gate.proofs.FirstFront.{told, after_all, front_finds, front_decided}
 use Rattle.lf_signature.specs.declared.WordSignature.{WordSignature}
 use Rattle.lf_signature.specs.declared.WordSignature.TheVariants.{Sigma1}
-use Rattle.pcc_gate.specs.Versions.{head_signature}
+use Rattle.proof_container.specs.Versions.{signature_of}
 use Rattle.std.proofs.lemmas.List.Elements.{All-nil, All-cons}
 use Rattle.lf_signature.specs.Known.{HasOp}
 use Rattle.lf_signature.specs.Laws.Within.{declared_known, declared-first}
@@ -42,42 +43,56 @@ use Rattle.word_ops.specs.Operators.{IsFirstOp}
 
 -- ---- the condition's term
 
-formula_of-encoding : (t : Tree) (F : Form) → EncodesForm machine_context F t → formula_of t ≡ F
-formula_of-encoding t F e = ap (λ B. unnamed_form (length B) (form_of t)) (sym bound_sorts-machine) ∙ form_of-encoding machine_context t F e
+-- none of the context's variables is bound
+none-bound : (bound : Option ℕ) → bound_sorts (context_of bound) ≡ []
+none-bound None = bound_sorts-machine
+none-bound (Some most) = bound_sorts-left
 
-module _ (s : WordSignature) where
-  pub formulas-encoded : (ps : List (ℕ × Tree)) → AreForms s ps → AreEncodings ps (formulas ps)
-  formulas-encoded [] h = tt
-  formulas-encoded (p ∷ ps) h =
-      let f = form_encoded (declared s) (declared_known s) machine_context p.1 h.0 in (
-        refl,
-        subst (λ F. EncodesForm machine_context F p.1) (sym (formula_of-encoding p.1 f.0 f.1)) f.1,
-        formulas-encoded ps h.1,
-      )
+formula_of-encoding : (bound : Option ℕ) (t : Tree) (F : Form) → EncodesForm (context_of bound) F t
+    → formula_of t ≡ F
+formula_of-encoding bound t F e =
+    ap (λ B. unnamed_form (length B) (form_of t)) (sym (none-bound bound))
+    ∙ form_of-encoding (context_of bound) t F e
 
-  pub vc_of-encodes : (policy : PolicyView) (code : List Insn) (ps : List (ℕ × Tree))
-      → AreForms s ps → EncodesCondition policy code ps (vc_of policy code ps)
-  vc_of-encodes policy code ps h =
-      record { formulas = formulas ps; encoded = formulas-encoded ps h; is = refl }
+-- each invariant encodes its formula
+pub formulas-encoded : (s : WordSignature) (bound : Option ℕ) (ps : List (ℕ × Tree))
+    → AreForms s bound ps → AreEncodings bound ps (formulas ps)
+formulas-encoded s bound [] h = tt
+formulas-encoded s bound (p ∷ ps) h =
+    let ctx : List sort.Sort = context_of bound in
+    let f = form_encoded (declared s) (declared_known s) ctx p.1 h.0 in (
+      refl,
+      subst (λ F. EncodesForm ctx F p.1) (sym (formula_of-encoding bound p.1 f.0 f.1)) f.1,
+      formulas-encoded s bound ps h.1,
+    )
+
+pub vc_of-encodes : (s : WordSignature) (policy : PolicyView) (bound : Option ℕ) (code : List Insn)
+    (ps : List (ℕ × Tree)) → AreForms s bound ps
+    → EncodesCondition policy bound code ps (vc_of policy bound code ps)
+vc_of-encodes s policy bound code ps h =
+    record { formulas = formulas ps; encoded = formulas-encoded s bound ps h; is = refl }
 
 -- the operators of those over the first signature are the first profile's
-pub formulas-first : (ps : List (ℕ × Tree)) → AreForms Sigma1 ps
+pub formulas-first : (bound : Option ℕ) (ps : List (ℕ × Tree)) → AreForms Sigma1 bound ps
     → All (λ q. Uses IsFirstOp q.1) (formulas ps)
-formulas-first [] h = All-nil (λ (q : ℕ × Form). Uses IsFirstOp q.1)
-formulas-first (p ∷ ps) h =
-    let f = form_encoded (declared Sigma1) (declared_known Sigma1) machine_context p.1 h.0 in
-    let used = subst (λ F. Uses (HasOp (declared Sigma1)) F) (sym (formula_of-encoding p.1 f.0 f.1)) f.2 in
+formulas-first bound [] h = All-nil (λ (q : ℕ × Form). Uses IsFirstOp q.1)
+formulas-first bound (p ∷ ps) h =
+    let f = form_encoded (declared Sigma1) (declared_known Sigma1) (context_of bound) p.1 h.0 in
+    let used = subst (λ F. Uses (HasOp (declared Sigma1)) F)
+    (sym (formula_of-encoding bound p.1 f.0 f.1)) f.2 in
     All-cons (λ (q : ℕ × Form). Uses IsFirstOp q.1) (p.0, formula_of p.1) (formulas ps)
-    (uses-more (HasOp (declared Sigma1)) IsFirstOp declared-first (formula_of p.1) used) (formulas-first ps h.1)
+    (uses-more (HasOp (declared Sigma1)) IsFirstOp declared-first (formula_of p.1) used)
+    (formulas-first bound ps h.1)
 
 -- ---- whether it is proved
 
 -- a condition's term is that of the first refusal
-pub condition-one : (s : WordSignature) (policy : PolicyView) (code : List Insn)
-    (ps : List (ℕ × Tree)) (vc : Tree) → AreForms s ps → EncodesCondition policy code ps vc
-    → vc ≡ vc_of policy code ps
-condition-one s policy code ps vc h e =
-    encoding-unique policy code ps vc (vc_of policy code ps) e (vc_of-encodes s policy code ps h)
+pub condition-one : (s : WordSignature) (policy : PolicyView) (bound : Option ℕ) (code : List Insn)
+    (ps : List (ℕ × Tree)) (vc : Tree) → AreForms s bound ps
+    → EncodesCondition policy bound code ps vc → vc ≡ vc_of policy bound code ps
+condition-one s policy bound code ps vc h e =
+    encoding-unique policy bound code ps vc (vc_of policy bound code ps) e
+    (vc_of-encodes s policy bound code ps h)
 
 -- whether it proves it, by an answer to words
 pub proves-true : (s : WordSignature) (proof vc : Tree) → Checks (declared s) [] proof (pf vc)
@@ -94,18 +109,19 @@ proves-false s proof vc h =
     not-true true n = absurd (n refl)
     not-true false n = refl
 
-module _ (s : WordSignature) (policy : PolicyView) (code : List Insn) (ps : List (ℕ × Tree))
-    (proof vc : Tree) (h : AreForms s ps) (e : EncodesCondition policy code ps vc) where
+module _ (s : WordSignature) (policy : PolicyView) (bound : Option ℕ) (code : List Insn)
+    (ps : List (ℕ × Tree)) (proof vc : Tree) (h : AreForms s bound ps)
+    (e : EncodesCondition policy bound code ps vc) where
   pub judged-true : Checks (declared s) [] proof (pf vc)
-      → proves s proof (vc_of policy code ps) ≡ true
+      → proves s proof (vc_of policy bound code ps) ≡ true
   judged-true k =
-      subst (λ x. proves s proof x ≡ true) (condition-one s policy code ps vc h e)
+      subst (λ x. proves s proof x ≡ true) (condition-one s policy bound code ps vc h e)
       (proves-true s proof vc k)
 
   pub judged-false : (Checks (declared s) [] proof (pf vc) → ⊥)
-      → proves s proof (vc_of policy code ps) ≡ false
+      → proves s proof (vc_of policy bound code ps) ≡ false
   judged-false k =
-      subst (λ x. proves s proof x ≡ false) (condition-one s policy code ps vc h e)
+      subst (λ x. proves s proof x ≡ false) (condition-one s policy bound code ps vc h e)
       (proves-false s proof vc k)
 
 -- ---- clauses 9 to 11
@@ -113,20 +129,20 @@ module _ (s : WordSignature) (policy : PolicyView) (code : List Insn) (ps : List
 module _ (policy : PolicyView) (bytes : List ℕ) (c : Contents) (code : List Insn)
     (flags : List Bool) (proof : Tree) where
   abbrev sig : WordSignature
-  sig = head_signature c.head
+  sig = signature_of c.version
 
   abbrev weight : ℕ
   weight = weight_of (places_of sig) proof
 
   -- what comes of a proof that isn't too heavy
   abbrev judged : Option Refusal
-  judged = cond (proves sig proof (vc_of policy code c.invs)) None (told refusal.NotProof)
+  judged = cond (proves sig proof (vc_of policy c.bound code c.invs)) None (told refusal.NotProof)
 
   -- such a proof is tried
   light_tried : HasLightProof policy bytes c code flags proof →
       first_front policy bytes (first_after policy) ≡ judged
   light_tried h =
-      let vc : Tree = vc_of policy code c.invs in
+      let vc : Tree = vc_of policy c.bound code c.invs in
       after_all policy bytes (first_after policy) c code flags h.before.passes
       ∙ ap (first_proof sig vc) h.before.given
       ∙ within MAX_WEIGHT weight (told (refusal.ProofWeight (capped weight))) judged h.weight
@@ -134,19 +150,19 @@ module _ (policy : PolicyView) (bytes : List ℕ) (c : Contents) (code : List In
   heavy_found : (n : ℕ) → HasProof policy bytes c code flags proof → IsPastWeight sig proof n →
       first_front policy bytes (first_after policy) ≡ Some (refusal.ProofWeight n)
   heavy_found n h p =
-      let vc : Tree = vc_of policy code c.invs in
+      let vc : Tree = vc_of policy c.bound code c.invs in
       after_all policy bytes (first_after policy) c code flags h.passes
       ∙ ap (first_proof sig vc) h.given
       ∙ past MAX_WEIGHT weight (told (refusal.ProofWeight (capped weight))) judged p.heavy
       ∙ ap (λ k. told (refusal.ProofWeight k)) (sym p.is)
 
   unproved_found : HasLightProof policy bytes c code flags proof
-      → IsNoProof sig policy code c.invs proof →
+      → IsNoProof sig policy c.bound code c.invs proof →
       first_front policy bytes (first_after policy) ≡ Some refusal.NotProof
   unproved_found h p =
       light_tried h
-      ∙ cond-false (proves sig proof (vc_of policy code c.invs)) None (told refusal.NotProof)
-      (judged-false sig policy code c.invs proof p.vc h.before.passes.forms p.condition p.unproved)
+      ∙ cond-false (proves sig proof (vc_of policy c.bound code c.invs)) None (told refusal.NotProof)
+      (judged-false sig policy c.bound code c.invs proof p.vc h.before.passes.forms p.condition p.unproved)
 
 whole_finds : (policy : PolicyView) (bytes : List ℕ) (r : Refusal) → IsFirstRefusal policy bytes r
     → first_front policy bytes (first_after policy) ≡ Some r
@@ -168,7 +184,7 @@ whole_finds policy bytes (refusal.UnfoldLimit n) h =
     front_finds policy bytes (first_after policy) (refusal.UnfoldLimit n) h tt
 whole_finds policy bytes refusal.NoProof h =
     after_all policy bytes (first_after policy) h.0 h.1 h.2 h.3
-    ∙ ap (first_proof (head_signature h.0.head) (vc_of policy h.1 h.0.invs)) h.4
+    ∙ ap (first_proof (signature_of h.0.version) (vc_of policy h.0.bound h.1 h.0.invs)) h.4
 whole_finds policy bytes (refusal.ProofWeight n) h = heavy_found policy bytes h.0 h.1 h.2 h.3 n h.4 h.5
 whole_finds policy bytes refusal.NotProof h = unproved_found policy bytes h.0 h.1 h.2 h.3 h.4 h.5
 
@@ -182,11 +198,11 @@ module _ (policy : PolicyView) (bytes : List ℕ) where
     from_eleventh : (proof : Tree) → HasLightProof policy bytes c code flags proof
         → Outcome policy bytes
     from_eleventh proof h =
-        let s : WordSignature = head_signature c.head in
-        let vc : Tree = vc_of policy code c.invs in
+        let s : WordSignature = signature_of c.version in
+        let vc : Tree = vc_of policy c.bound code c.invs in
         let given : HasProof policy bytes c code flags proof = h.before in
-        let encodes : EncodesCondition policy code c.invs vc =
-        vc_of-encodes s policy code c.invs given.passes.forms in
+        let encodes : EncodesCondition policy c.bound code c.invs vc =
+        vc_of-encodes s policy c.bound code c.invs given.passes.forms in
         elim (cases_Bool (proves s proof vc)) [
           | inl right ↦
               let proved : Checks (declared s) [] proof (pf vc) =
@@ -222,7 +238,7 @@ module _ (policy : PolicyView) (bytes : List ℕ) where
     from_ninth p None e = inr (refusal.NoProof, (c, code, flags, p, e))
     from_ninth p (Some proof) e =
         let h : HasProof policy bytes c code flags proof = record { passes = p; given = e } in
-        let w : ℕ = weight_of (places_of (head_signature c.head)) proof in
+        let w : ℕ = weight_of (places_of (signature_of c.version)) proof in
         elim (cases_lt MAX_WEIGHT w) [
           | inl heavy ↦ inr (
             refusal.ProofWeight (capped w),
@@ -253,12 +269,12 @@ unfolding first_refusal
 accepted-none policy bytes h =
     let a : Accepts policy bytes h.contents h.code h.marks = h.accepts in
     let c : Contents = h.contents in
-    let s : WordSignature = head_signature c.head in
+    let s : WordSignature = signature_of c.version in
     let given : HasProof policy bytes c h.code h.marks a.proof =
     record { passes = a.passes; given = a.given } in
-    let b : Bool = proves s a.proof (vc_of policy h.code c.invs) in
+    let b : Bool = proves s a.proof (vc_of policy c.bound h.code c.invs) in
     let right : b ≡ true =
-    judged-true s policy h.code c.invs a.proof a.vc a.passes.forms a.condition a.proved in
+    judged-true s policy c.bound h.code c.invs a.proof a.vc a.passes.forms a.condition a.proved in
     light_tried policy bytes c h.code h.marks a.proof (record { before = given; weight = a.weight })
     ∙ cond-true b None (told refusal.NotProof) right
 

@@ -13,7 +13,7 @@ use Rattle.alpha_cfg.proofs.Readings.{decoded_code-ok, IsDecoded-IsCodeAnswer}
 use Rattle.alpha_cfg.proofs.Deciding.{flags_are, flags_only, uncut_some, uncut_none, cut_none, uncut_is}
 use Rattle.policy_set.specs.Views.{PolicyView}
 use Rattle.proof_container.specs.declared.container.Head.{Head}
-use Rattle.pcc_gate.specs.Versions.{head_profile, head_signature}
+use Rattle.proof_container.specs.Versions.{profile_of, signature_of}
 use Rattle.pcc_gate.specs.ForPolicy.{is_for}
 use Rattle.pcc_gate.proofs.ForPolicy.{for-true, for-is, for-not, for-false}
 use Rattle.term_table.specs.Tree.{Tree}
@@ -99,7 +99,7 @@ from_cut code flags next = refused_by refusal.Uncut (uncut_of code flags) (first
 
 abbrev from_forms : Contents → List Insn → Option Refusal → Option Refusal
 from_forms c code next =
-    refused_by refusal.InvNotForm (formless (head_signature c.head) 0 c.invs)
+    refused_by refusal.InvNotForm (formless (signature_of c.version) c.bound 0 c.invs)
     (from_cut code (marks_of c code) next)
 
 module _ (policy : PolicyView) (bytes : List ℕ) (next : Contents → List Insn → Option Refusal) where
@@ -110,19 +110,19 @@ module _ (policy : PolicyView) (bytes : List ℕ) (next : Contents → List Insn
   after_contents c h = after_size h.size ∙ ap (λ r. first_read policy r next) (container_again bytes c h.container)
 
   pub after_policy : (c : Contents) → IsForPolicy policy bytes c → first_front policy bytes next
-      ≡ first_code c (decoded_code (head_profile c.head) c.code) (next c)
+      ≡ first_code c (decoded_code (profile_of c.version) c.code) (next c)
   after_policy c h =
       after_contents c h.held ∙ cond-true (is_for policy c.head)
-      (first_code c (decoded_code (head_profile c.head) c.code) (next c))
+      (first_code c (decoded_code (profile_of c.version) c.code) (next c))
       (told (refusal.OtherPolicy c.head))
       (for-true policy c.head h.named)
 
   module _ (c : Contents) (code : List Insn) where
     after_code : HasCode policy bytes c code → first_front policy bytes next
-        ≡ first_shape (head_signature c.head) c code (next c code)
+        ≡ first_shape (signature_of c.version) c code (next c code)
     after_code h =
         after_policy c h.before ∙ ap (λ r. first_code c r (next c))
-        (sym (decoded_code-ok (head_profile c.head) c.code code h.encoded h.code))
+        (sym (decoded_code-ok (profile_of c.version) c.code code h.encoded h.code))
 
     after_roots : HasLowRoots policy bytes c code → first_front policy bytes next ≡ from_forms c code (next c code)
     after_roots h =
@@ -133,7 +133,7 @@ module _ (policy : PolicyView) (bytes : List ℕ) (next : Contents → List Insn
     after_forms h =
         let rest : Option Refusal = from_cut code (marks_of c code) (next c code) in
         after_roots h.before ∙ ap (λ o. refused_by refusal.InvNotForm o rest)
-        (forms_none (head_signature c.head) c.invs 0 h.forms)
+        (forms_none (signature_of c.version) c.bound c.invs 0 h.forms)
 
     after_flags : (flags : List Bool) → HasFlags policy bytes c code flags → first_front policy bytes next ≡ from_cut code flags (next c code)
     after_flags flags h =
@@ -163,14 +163,14 @@ module _ (policy : PolicyView) (bytes : List ℕ) (next : Contents → List Insn
       let c : Contents = h.0 in
       after_contents c h.1
       ∙ cond-false (is_for policy c.head)
-      (first_code c (decoded_code (head_profile c.head) c.code) (next c))
+      (first_code c (decoded_code (profile_of c.version) c.code) (next c))
       (told (refusal.OtherPolicy c.head))
       (for-false policy c.head h.2)
       ∙ ap (λ (k : Head). told (refusal.OtherPolicy k)) (sym h.3)
   front_finds (refusal.BadCode flaw) h b =
       let c : Contents = h.0 in
       after_policy c h.1 ∙ ap (λ r. first_code c r (next c))
-      (sym (IsDecoded-IsCodeAnswer (head_profile c.head) c.code (Err (fault.At flaw)) h.2))
+      (sym (IsDecoded-IsCodeAnswer (profile_of c.version) c.code (Err (fault.At flaw)) h.2))
   front_finds (refusal.Height x) h b =
       let c : Contents = h.0 in
       let rest : Option Refusal = from_forms c h.1 (next c h.1) in
@@ -180,7 +180,7 @@ module _ (policy : PolicyView) (bytes : List ℕ) (next : Contents → List Insn
       let c : Contents = h.0 in
       let rest : Option Refusal = from_cut h.1 (marks_of c h.1) (next c h.1) in
       after_roots c h.1 h.2 ∙ ap (λ o. refused_by refusal.InvNotForm o rest)
-      (first_no_form (head_signature c.head) c.invs k h.3)
+      (first_no_form (signature_of c.version) c.bound c.invs k h.3)
   front_finds (refusal.Uncut i) h b =
       let found : uncut_of h.1 h.2 ≡ Some i = uncut_is h.1 h.2 i h.3.before.before.before.code h.4 in
       after_flags h.0 h.1 h.2 h.3 ∙ ap (λ o. refused_by refusal.Uncut o (first_long h.1 h.2 (next h.0 h.1))) found
@@ -223,13 +223,13 @@ module _ (policy : PolicyView) (bytes : List ℕ) where
         let fourth : HasCode policy bytes c code = h.before.before in
         record {
           before = h;
-          annotated = annotated_flags (head_profile c.head) c code
+          annotated = annotated_flags (profile_of c.version) c code
               fourth.before.held.container.contents fourth.encoded;
         }
 
     from_sixth : HasLowRoots policy bytes c code → Outcome policy bytes
     from_sixth h =
-        elim (forms_decided (head_signature c.head) c.invs) [
+        elim (forms_decided (signature_of c.version) c.bound c.invs) [
           | inl forms ↦ from_seventh (marks_of c code) (flagged (record { before = h; forms = forms })) (uncut_of code (marks_of c code)) refl
           | inr f ↦ inr (record { why = refusal.InvNotForm f.0; first = (c, code, h, f.1); before = tt })
         ]
@@ -244,7 +244,7 @@ module _ (policy : PolicyView) (bytes : List ℕ) where
   from_fourth : (c : Contents) → IsForPolicy policy bytes c → Outcome policy bytes
   from_fourth c h =
       let s : IsContents c = h.held.container.contents in
-      elim (code_decided (head_profile c.head) c.code s.whole s.some s.short) [
+      elim (code_decided (profile_of c.version) c.code s.whole s.some s.short) [
         | inl k ↦ from_fifth c k.insns (record { before = h; encoded = k.encoded; code = k.code })
         | inr f ↦ inr (record { why = refusal.BadCode f.which; first = (c, h, f.is); before = tt })
       ]
@@ -310,9 +310,9 @@ pub passed-one : (policy : PolicyView) (bytes : List ℕ) (c d : Contents) (code
     → (c ≡ d) × (code ≡ other) × (marks ≡ flags)
 passed-one policy bytes c d code other marks flags p q =
     let e : c ≡ d = one_content bytes c d p.container q.container in
-    let k : code ≡ other = code-one (head_profile c.head) (head_profile d.head) c.code d.code code
+    let k : code ≡ other = code-one (profile_of c.version) (profile_of d.version) c.code d.code code
     other
-    (ap (λ (z : Contents). head_profile z.head) e) (ap (λ (z : Contents). z.code) e)
+    (ap (λ (z : Contents). profile_of z.version) e) (ap (λ (z : Contents). z.code) e)
     p.encoded p.code q.encoded q.code in
     let mine : marks ≡ flags_of (map (λ p. p.0) c.invs) (length code) = flags_only (map (λ p. p.0) c.invs) (length code) marks p.annotated in
     let theirs : flags ≡ flags_of (map (λ p. p.0) d.invs) (length other) = flags_only (map (λ p. p.0) d.invs) (length other) flags q.annotated in

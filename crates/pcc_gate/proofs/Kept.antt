@@ -1,11 +1,11 @@
 -- What stays as a table grows.
-use Rattle.std.proofs.Common.{◌≡◌, ℕ, zero, suc, ◌≤◌, List, [], ◌∷◌, drop, Option, Some, None, IfSome, replicate, slice_set, refl, sym, ◌∙◌, ap, subst, arith}
+use Rattle.std.proofs.Common.{◌≡◌, ℕ, zero, suc, ◌≤◌, List, [], ◌∷◌, drop, Option, Some, None, IfSome, Result, Ok, Err, IfOk, replicate, slice_set, refl, sym, ◌∙◌, ap, subst, arith}
 use Rattle.std.specs.List.{AllByRecursion}
 use Rattle.std.specs.Option.{option_map}
 use Rattle.term_table.specs.Tree.{Tree, Fam}
 use Rattle.term_table.specs.Table.{TableView, IsKnown, AllKnown, tree_at, put_last, ctx_of, Extends, id_trees}
 use Rattle.lf_signature.specs.Nodes.{IsIdOf}
-use Rattle.lf_encode.specs.Contexts.{machine_context, sort_types}
+use Rattle.lf_encode.specs.Contexts.{machine_context, left_context, sort_types}
 use Rattle.term_table.specs.Measures.{height_of}
 use Rattle.vcgen.specs.Answers.{AreLowInvs}
 use Rattle.vcgen.specs.declared.condition.TheConstants.{MAX_HEIGHT}
@@ -54,6 +54,31 @@ trees-drop t (p ∷ ps) (suc n) k = trees-drop t ps n k.1
 pub types-machine : (t : TableView) (word memory : ℕ) → tree_at t word ≡ Fam 0 → tree_at t memory ≡ Fam 1 → ctx_of t (slice_set (replicate 32 word) 0 memory) ≡ sort_types machine_context
 unfolding machine_context
 types-machine t word memory w m = rw (w, m) refl
+
+-- and with one more before them, which is how many steps are left
+pub types-left : (t : TableView) (word memory : ℕ) → tree_at t word ≡ Fam 0
+    → tree_at t memory ≡ Fam 1
+    → ctx_of t (slice_set (replicate 33 word) 1 memory) ≡ sort_types left_context
+unfolding left_context machine_context
+types-left t word memory w m = rw (w, m) refl
+
+known-words : (t : TableView) (word n : ℕ) → IsKnown t word → AllKnown t (replicate n word)
+known-words t word zero k = tt
+known-words t word (suc n) k = (k, known-words t word n k)
+
+pub known-machine : (t : TableView) (word memory : ℕ) → IsKnown t word → IsKnown t memory
+    → AllKnown t (slice_set (replicate 32 word) 0 memory)
+known-machine t word memory w m = (m, known-words t word 31 w)
+
+pub known-left : (t : TableView) (word memory : ℕ) → IsKnown t word → IsKnown t memory
+    → AllKnown t (slice_set (replicate 33 word) 1 memory)
+known-left t word memory w m = (w, (m, known-words t word 31 w))
+
+-- what holds of the items that a result is said to have holds of its items
+pub of-items : {V E : Type 0} (r : Result V E) (items : V → List ℕ) (P : List ℕ → Type 0)
+    (xs : List ℕ) → P xs → IfOk r (λ v. items v ≡ xs) → IfOk r (λ v. P (items v))
+of-items (Ok v) items P xs h e = subst P (sym e) h
+of-items (Err f) items P xs h e = tt
 
 pub grown-twice : (s t u : TableView) → Extends s t → Extends t u → Extends s u
 grown-twice s t u e h = record {

@@ -39,7 +39,7 @@ module _ (s : WordSignature) (c : Contents) (code : List Insn) where
       → Refuses (first_shape s c code) (fault.Refused (refusal.Height h))
   shape-height h e = λ next. height-some (too_high (roots c)) h _ e
 
-  shape-uncut : too_high (roots c) ≡ None → formless s 0 c.invs ≡ None → (next : Option Refusal)
+  shape-uncut : too_high (roots c) ≡ None → formless s c.bound 0 c.invs ≡ None → (next : Option Refusal)
       → first_shape s c code next ≡ first_uncut code (map (λ p. p.0) c.invs)
       (first_long code (marks_of c code) next)
   shape-uncut low forms next =
@@ -47,33 +47,33 @@ module _ (s : WordSignature) (c : Contents) (code : List Insn) where
       λ i. refused_by (λ h. refusal.Height (capped h)) (low i) (refused_by refusal.InvNotForm (forms i) last)
 
   shape-form : too_high (roots c) ≡ None → (next : Option Refusal)
-      → first_shape s c code next ≡ first_no_form s c.invs
+      → first_shape s c code next ≡ first_no_form s c.bound c.invs
       (first_uncut code (map (λ p. p.0) c.invs) (first_long code (marks_of c code) next))
   shape-form low next =
       let last : Option Refusal = first_uncut code (map (λ p. p.0) c.invs) (first_long code (marks_of c code) next) in
       λ i. refused_by (λ h. refusal.Height (capped h)) (low i)
-      (refused_by refusal.InvNotForm (formless s 0 c.invs) last)
+      (refused_by refusal.InvNotForm (formless s c.bound 0 c.invs) last)
 
   pub forms-refuse : too_high (roots c) ≡ None → (e : GateFault)
-      → Refuses (first_no_form s c.invs) e → Refuses (first_shape s c code) e
+      → Refuses (first_no_form s c.bound c.invs) e → Refuses (first_shape s c code) e
   forms-refuse low e h =
-      refuses-into (first_shape s c code) (first_no_form s c.invs)
+      refuses-into (first_shape s c code) (first_no_form s c.bound c.invs)
       (λ next. first_uncut code (map (λ p. p.0) c.invs) (first_long code (marks_of c code) next))
       (shape-form low) e h
 
-  pub uncut-refuses : too_high (roots c) ≡ None → formless s 0 c.invs ≡ None → (e : GateFault)
+  pub uncut-refuses : too_high (roots c) ≡ None → formless s c.bound 0 c.invs ≡ None → (e : GateFault)
       → Refuses (first_uncut code (map (λ p. p.0) c.invs)) e → Refuses (first_shape s c code) e
   uncut-refuses low forms e h =
       refuses-into (first_shape s c code) (first_uncut code (map (λ p. p.0) c.invs))
       (first_long code (marks_of c code)) (shape-uncut low forms) e h
 
   -- clauses 5 to 7 pass
-  pub shape-long : too_high (roots c) ≡ None → formless s 0 c.invs ≡ None
+  pub shape-long : too_high (roots c) ≡ None → formless s c.bound 0 c.invs ≡ None
       → uncut_of code (marks_of c code) ≡ None → (next : Option Refusal)
       → first_shape s c code next ≡ first_long code (marks_of c code) next
   shape-long low forms uncut next = shape-uncut low forms next ∙ ap (λ o. refused_by refusal.Uncut o (first_long code (marks_of c code) next)) uncut
 
-  pub long-refuses : too_high (roots c) ≡ None → formless s 0 c.invs ≡ None
+  pub long-refuses : too_high (roots c) ≡ None → formless s c.bound 0 c.invs ≡ None
       → uncut_of code (marks_of c code) ≡ None → (e : GateFault)
       → Refuses (first_long code (marks_of c code)) e → Refuses (first_shape s c code) e
   long-refuses low forms uncut e h =

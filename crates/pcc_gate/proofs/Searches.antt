@@ -1,6 +1,6 @@
 -- The first root that is too high, and the first invariant that is no formula: the searches find them, and else there is none.
 use Rattle.std.proofs.Common.{◌≡◌, ℕ, suc, ◌+◌, ◌<◌, ◌≤◌, ◌⊎◌, inl, inr, Bool, true, false, cond, ltb, le-ltb, lt-ltb, List, [], ◌∷◌, ◌++◌, length}
-use Rattle.std.proofs.Common.{Some, None, refl, sym, ◌∙◌, ap, arith}
+use Rattle.std.proofs.Common.{Option, Some, None, refl, sym, ◌∙◌, ap, arith}
 use Rattle.std.proofs.lemmas.Bool.{cases_Bool, cases_lt, cond-true, cond-false, false≢true}
 use Rattle.std.proofs.lemmas.Option.{none-some}
 use Rattle.std.proofs.lemmas.List.Elements.{All-nil, All-cons, All-head, All-tail}
@@ -10,9 +10,9 @@ use Rattle.lf_signature.specs.Constants.{declared}
 use Rattle.lf_signature.specs.Terms.{form}
 use Rattle.lf_signature.specs.Typing.{Checks}
 use Rattle.lf_signature.specs.Laws.Decided.{checks_is, checks_follows}
-use Rattle.lf_encode.specs.Contexts.{machine_context, sort_types}
+use Rattle.lf_encode.specs.Contexts.{sort_types}
 use Rattle.vcgen.specs.declared.condition.TheConstants.{MAX_HEIGHT}
-use Rattle.vcgen.specs.Encoded.{AreForms}
+use Rattle.vcgen.specs.Encoded.{context_of, AreForms}
 use Rattle.pcc_gate.specs.Passing.{AreLow}
 use Rattle.pcc_gate.specs.First.{has_form, too_high, formless}
 use Rattle.pcc_gate.specs.Refusals.{IsFirstHeight, IsFirstNoForm}
@@ -69,51 +69,51 @@ none_low ts e = elim (low_decided ts) [ inl low ↦ low | inr f ↦ absurd (none
 
 -- ---- forms
 
-module _ (s : WordSignature) where
+module _ (s : WordSignature) (bound : Option ℕ) where
   abbrev IsForm : Tree → Type 0
-  IsForm t = Checks (declared s) (sort_types machine_context) t form
+  IsForm t = Checks (declared s) (sort_types (context_of bound)) t form
 
   form_decided : (t : Tree) → IsForm t ⊎ (IsForm t → ⊥)
   form_decided t =
-      elim (cases_Bool (has_form s t)) [
-        | inl right ↦ inl (checks_follows (declared s) t (sort_types machine_context) form right)
+      elim (cases_Bool (has_form s bound t)) [
+        | inl right ↦ inl (checks_follows (declared s) t (sort_types (context_of bound)) form right)
         | inr wrong ↦ inr (λ h. false≢true (sym wrong ∙ checks_is (declared s) h))
       ]
 
   -- what isn't derived fails the test
-  not_form : (t : Tree) → (IsForm t → ⊥) → has_form s t ≡ false
-  not_form t wrong = go (has_form s t) refl where
-    go : (b : Bool) → has_form s t ≡ b → has_form s t ≡ false
-    go true e = absurd (wrong (checks_follows (declared s) t (sort_types machine_context) form e))
+  not_form : (t : Tree) → (IsForm t → ⊥) → has_form s bound t ≡ false
+  not_form t wrong = go (has_form s bound t) refl where
+    go : (b : Bool) → has_form s bound t ≡ b → has_form s bound t ≡ false
+    go true e = absurd (wrong (checks_follows (declared s) t (sort_types (context_of bound)) form e))
     go false e = e
 
-  pub forms_none : (ps : List (ℕ × Tree)) (k : ℕ) → AreForms s ps → formless s k ps ≡ None
+  pub forms_none : (ps : List (ℕ × Tree)) (k : ℕ) → AreForms s bound ps → formless s bound k ps ≡ None
   forms_none [] k h = refl
   forms_none (p ∷ ps) k h =
-      cond-true (has_form s p.1) (formless s (suc k) ps) (Some k) (checks_is (declared s) h.0)
+      cond-true (has_form s bound p.1) (formless s bound (suc k) ps) (Some k) (checks_is (declared s) h.0)
       ∙ forms_none ps (suc k) h.1
 
   no_form_found : (front : List (ℕ × Tree)) (p : ℕ × Tree) (rest : List (ℕ × Tree)) (k : ℕ)
-      → AreForms s front → (IsForm p.1 → ⊥) →
-      formless s k (front ++ p ∷ rest) ≡ Some (k + length front)
+      → AreForms s bound front → (IsForm p.1 → ⊥) →
+      formless s bound k (front ++ p ∷ rest) ≡ Some (k + length front)
   no_form_found [] p rest k forms wrong =
       let e : k ≡ k + 0 = omega arith in
-      cond-false (has_form s p.1) (formless s (suc k) rest) (Some k) (not_form p.1 wrong)
+      cond-false (has_form s bound p.1) (formless s bound (suc k) rest) (Some k) (not_form p.1 wrong)
       ∙ ap Some e
   no_form_found (q ∷ qs) p rest k forms wrong =
       let e : suc k + length qs ≡ k + suc (length qs) = omega arith in
-      cond-true (has_form s q.1) (formless s (suc k) (qs ++ p ∷ rest)) (Some k)
+      cond-true (has_form s bound q.1) (formless s bound (suc k) (qs ++ p ∷ rest)) (Some k)
       (checks_is (declared s) forms.0)
       ∙ no_form_found qs p rest (suc k) forms.1 wrong ∙ ap Some e
 
-  pub first_no_form : (ps : List (ℕ × Tree)) (k : ℕ) → IsFirstNoForm s ps k
-      → formless s 0 ps ≡ Some k
+  pub first_no_form : (ps : List (ℕ × Tree)) (k : ℕ) → IsFirstNoForm s bound ps k
+      → formless s bound 0 ps ≡ Some k
   first_no_form ps k f =
       let e : 0 + length f.front ≡ k = omega (arith, f.is) in
-      ap (formless s 0) f.split ∙ no_form_found f.front f.inv f.rest 0 f.forms f.no_form ∙ ap Some e
+      ap (formless s bound 0) f.split ∙ no_form_found f.front f.inv f.rest 0 f.forms f.no_form ∙ ap Some e
 
-  behind_form : (p : ℕ × Tree) (ps : List (ℕ × Tree)) (k : ℕ) → IsForm p.1 → IsFirstNoForm s ps k
-      → IsFirstNoForm s (p ∷ ps) (suc k)
+  behind_form : (p : ℕ × Tree) (ps : List (ℕ × Tree)) (k : ℕ) → IsForm p.1 → IsFirstNoForm s bound ps k
+      → IsFirstNoForm s bound (p ∷ ps) (suc k)
   behind_form p ps k right f = record {
     front = p ∷ f.front;
     inv = f.inv;
@@ -124,7 +124,7 @@ module _ (s : WordSignature) where
     is = ap suc f.is;
   }
 
-  pub forms_decided : (ps : List (ℕ × Tree)) → AreForms s ps ⊎ ((k : ℕ) × IsFirstNoForm s ps k)
+  pub forms_decided : (ps : List (ℕ × Tree)) → AreForms s bound ps ⊎ ((k : ℕ) × IsFirstNoForm s bound ps k)
   forms_decided [] = inl tt
   forms_decided (p ∷ ps) =
       elim (form_decided p.1) [
@@ -144,10 +144,10 @@ module _ (s : WordSignature) where
             [ inl all ↦ inl (right, all) | inr f ↦ inr (suc f.0, behind_form p ps f.0 right f.1) ]
       ]
 
-  pub none_forms : (ps : List (ℕ × Tree)) (k : ℕ) → formless s k ps ≡ None → AreForms s ps
+  pub none_forms : (ps : List (ℕ × Tree)) (k : ℕ) → formless s bound k ps ≡ None → AreForms s bound ps
   none_forms ps k e = elim (forms_decided ps) [
     | inl forms ↦ forms
     | inr f ↦ absurd (none-some (k + length f.1.front)
-        (sym e ∙ ap (formless s k) f.1.split
+        (sym e ∙ ap (formless s bound k) f.1.split
         ∙ no_form_found f.1.front f.1.inv f.1.rest k f.1.forms f.1.no_form))
   ]

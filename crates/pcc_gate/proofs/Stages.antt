@@ -8,7 +8,7 @@ use Rattle.std.specs.List.{AllByRecursion}
 use Rattle.term_table.specs.Table.{TableView, IsKnown, Extends, tree_at, id_trees}
 use Rattle.vcgen.specs.Encoded.{AreForms, AreEncodings}
 use Rattle.pcc_gate.proofs.Kept.{known-more, trees-same}
-use Rattle.pcc_gate.proofs.Safe.{AreSound, accepted-safe, accepted-valid}
+use Rattle.pcc_gate.proofs.Safe.{AreSound, bound-fits, accepted-safe, accepted-returns, accepted-valid}
 use Rattle.vcgen.specs.Answers.{AreLowInvs}
 use Rattle.term_table.specs.Tree.{Tree}
 use Rattle.term_table.specs.Measures.{height_of, weight_of, capped}
@@ -39,11 +39,13 @@ use Rattle.pcc_gate.proofs.Refusing.{refuses-into}
 use Rattle.lf_signature.specs.declared.WordSignature.{WordSignature}
 use Rattle.lf_signature.specs.declared.WordSignature.TheVariants.{Sigma3}
 use Rattle.vcgen.proofs.Encodings.{forms-wider}
-use Rattle.pcc_gate.specs.Versions.{head_profile, head_signature}
+use Rattle.proof_container.specs.Versions.{profile_of, signature_of}
+use Rattle.pcc_gate.specs.Safe.{ReturnsInBound}
+use Rattle.pcc_gate.specs.Views.{AcceptedView}
 
 module _ (policy : PolicyView) (bytes : List ℕ) where
   read-first : (c : Contents) → IsRead policy bytes c → (next : Contents → List Insn → Option Refusal) →
-      first_front policy bytes next ≡ first_code c (decoded_code (head_profile c.head) c.code)
+      first_front policy bytes next ≡ first_code c (decoded_code (profile_of c.version) c.code)
       (next c)
   read-first c r next =
       after_policy policy bytes next c
@@ -57,7 +59,7 @@ module _ (policy : PolicyView) (bytes : List ℕ) where
     encoded = k.encoded;
     code = k.is;
     heights = none_low (roots c) k.shaped.low;
-    forms = none_forms (head_signature c.head) c.invs 0 k.shaped.forms;
+    forms = none_forms (signature_of c.version) c.bound c.invs 0 k.shaped.forms;
     annotated = k.shaped.made.flags;
     cut = k.shaped.made.cuts;
     unfolded = k.shaped.short;
@@ -71,12 +73,12 @@ module _ (policy : PolicyView) (bytes : List ℕ) where
 
 -- clause 4 passes
 pub code-refuses : (c : Contents) (code : List Insn)
-    → decoded_code (head_profile c.head) c.code ≡ Ok code → (e : GateFault)
-    → Refuses (first_shape (head_signature c.head) c code) e
-    → Refuses (first_code c (decoded_code (head_profile c.head) c.code)) e
+    → decoded_code (profile_of c.version) c.code ≡ Ok code → (e : GateFault)
+    → Refuses (first_shape (signature_of c.version) c code) e
+    → Refuses (first_code c (decoded_code (profile_of c.version) c.code)) e
 code-refuses c code h e k =
-    refuses-into (first_code c (decoded_code (head_profile c.head) c.code))
-    (first_shape (head_signature c.head) c code) (λ next. next code)
+    refuses-into (first_code c (decoded_code (profile_of c.version) c.code))
+    (first_shape (signature_of c.version) c code) (λ next. next code)
     (λ next. ap (λ r. first_code c r next) h) e k
 
 -- the container that passed
@@ -101,12 +103,12 @@ module _ (policy : PolicyView) (bytes : List ℕ) (c : Contents) (code : List In
   front-next next = after_all policy bytes next c code marks p
 
   abbrev sig : WordSignature
-  sig = head_signature c.head
+  sig = signature_of c.version
 
   pub gate-refused : (e : GateFault) → Refuses (λ vc. first_proof sig vc c.proof) e
       → IsGateAnswer policy bytes (Err e)
   unfolding first_refusal
-  gate-refused (fault.Refused r) h = front-next (first_after policy) ∙ h (vc_of policy code c.invs)
+  gate-refused (fault.Refused r) h = front-next (first_after policy) ∙ h (vc_of policy c.bound code c.invs)
   gate-refused fault.Memory h = p.size
   gate-refused fault.Results h = p.size
 
@@ -121,32 +123,32 @@ module _ (policy : PolicyView) (bytes : List ℕ) (c : Contents) (code : List In
         ap (first_proof sig vc) given
         ∙ within MAX_WEIGHT w (Some (refusal.ProofWeight (capped w))) (judged vc) weight
 
-    pub gate-judged : (e : GateFault) → IsProofAnswer sig policy code c.invs proof (Err e)
+    pub gate-judged : (e : GateFault) → IsProofAnswer sig policy c.bound code c.invs proof (Err e)
         → IsGateAnswer policy bytes (Err e)
     unfolding first_refusal
     gate-judged (fault.Refused r) h =
-        front-next (first_after policy) ∙ light (vc_of policy code c.invs)
+        front-next (first_after policy) ∙ light (vc_of policy c.bound code c.invs)
         ∙ ap (λ b. cond b None (Some refusal.NotProof)) h.0 ∙ ap Some (sym h.1)
     gate-judged fault.Memory h = p.size
     gate-judged fault.Results h = p.size
 
-    pub gate-none : proves sig proof (vc_of policy code c.invs) ≡ true
+    pub gate-none : proves sig proof (vc_of policy c.bound code c.invs) ≡ true
         → first_refusal policy bytes ≡ None
     unfolding first_refusal
     gate-none h =
-        front-next (first_after policy) ∙ light (vc_of policy code c.invs)
+        front-next (first_after policy) ∙ light (vc_of policy c.bound code c.invs)
         ∙ ap (λ b. cond b None (Some refusal.NotProof)) h
 
-    pub gate-accepts : proves sig proof (vc_of policy code c.invs) ≡ true
+    pub gate-accepts : proves sig proof (vc_of policy c.bound code c.invs) ≡ true
         → Accepts policy bytes c code marks
     gate-accepts h = record {
       passes = p;
       proof = proof;
-      vc = vc_of policy code c.invs;
+      vc = vc_of policy c.bound code c.invs;
       given = given;
       weight = weight;
-      condition = vc_of-encodes sig policy code c.invs p.forms;
-      proved = checks_follows (declared sig) proof [] (pf (vc_of policy code c.invs)) h;
+      condition = vc_of-encodes sig policy c.bound code c.invs p.forms;
+      proved = checks_follows (declared sig) proof [] (pf (vc_of policy c.bound code c.invs)) h;
     }
 
 -- what is refused by clauses 1 to 8 is refused by the gate
@@ -168,19 +170,30 @@ low-invs t (p ∷ ps) more k l =
 pub proved-by : AreSound → (policy : PolicyView) → IsPolicy policy
     → (bytes : List ℕ) (c : Contents) (cut : CutView) (t u : TableView) (ps : List (ℕ × ℕ))
     → Extends t u → AllByRecursion (λ (inv : ℕ × ℕ). IsKnown t inv.1) ps → c.invs ≡ id_trees t ps
-    → Accepts policy bytes c cut.code cut.marks → IsProved policy cut u ps
+    → Accepts policy bytes c cut.code cut.marks → IsProved policy c.bound cut u ps
 proved-by sound policy kept bytes c cut t u ps grown known is a =
     let same : c.invs ≡ id_trees u ps = is ∙ trees-same t u ps grown known in
     record {
       policy_is = kept;
+      fits = bound-fits c.version c.bound a.passes.container.contents.bound;
       code = a.passes.code;
       flags = subst (λ (l : List (ℕ × Tree)). AreFlags (map (λ p. p.0) l) (length cut.code) cut.marks) same a.passes.annotated;
       cuts = a.passes.cut;
       known = known-more t u ps grown known;
-      forms = subst (λ l. AreForms Sigma3 l) same
-          (forms-wider (head_signature c.head) c.invs a.passes.forms);
+      forms = subst (λ l. AreForms Sigma3 c.bound l) same
+          (forms-wider (signature_of c.version) c.bound c.invs a.passes.forms);
       safe = accepted-safe sound policy bytes c cut.code cut.marks kept a;
+      returns = accepted-returns sound policy bytes c cut.code cut.marks kept a;
       valid =
           λ fs enc. accepted-valid sound policy bytes c cut.code cut.marks kept a fs
-          (subst (λ l. AreEncodings l fs) (sym same) enc);
+          (subst (λ l. AreEncodings c.bound l fs) (sym same) enc);
     }
+
+-- where steps are bounded, what the gate accepted returns within the bound
+pub gate-returns : AreSound → (policy : PolicyView) → IsPolicy policy → (bytes : List ℕ)
+    (r : Result AcceptedView GateFault) → IsGateAnswer policy bytes r
+    → IfOk r (λ a. ReturnsInBound policy a.bound a.code)
+gate-returns sound policy kept bytes (Err e) h = tt
+gate-returns sound policy kept bytes (Ok a) h =
+    subst (λ b. ReturnsInBound policy b a.code) (sym h.bound_is)
+    (accepted-returns sound policy bytes h.contents a.code a.marks kept h.accepts)

@@ -29,7 +29,7 @@ use Rattle.policy_set.specs.Views.{built_in}
 use Rattle.proof_container.specs.Contents.{Contents, roots}
 use Rattle.proof_container.specs.declared.container.Head.TheVariants.{Number}
 use Rattle.term_table.specs.Bytes.{IsBytes}
-use Rattle.proof_container.specs.Encoding.{IsContents, IsEntryTerm, AreTerms, policy_bytes, encoding_of}
+use Rattle.proof_container.specs.Encoding.{IsContents, IsEntryTerm, AreTerms, policy_bytes, bound_fields, encoding_of}
 use Rattle.proof_container.specs.Postorder.{is_emitted, unless_emitted, emitted_with, entries}
 use Rattle.proof_container.specs.Inside.Walked.{nodes}
 use Rattle.proof_container.specs.Decoding.{entry_size}
@@ -149,7 +149,9 @@ invariant = FAnd (FRd (EOp Add (EReg 16) (ELit 0))) (FWr (EOp Add (EReg 16) (ELi
 abbrev contents : Contents
 contents =
     record {
+      version = 1;
       head = Number 2;
+      bound = None;
       code = code_bytes;
       invs = (2, form_encoding (kept 0))
           ∷ [];
@@ -305,7 +307,9 @@ code_is_bytes = bytes_from code_bytes refl
 
 is_contents : IsContents contents
 is_contents = record {
-  head = omega arith;
+  version = (omega arith, omega arith);
+  head = (refl, omega arith);
+  bound = λ e. omega (arith, e);
   bytes = code_is_bytes;
   whole = refl;
   some = omega arith;
@@ -320,11 +324,16 @@ is_contents = record {
 head_size : length (policy_bytes (Number 2)) ≡ 4
 head_size = refl
 
+-- and it has no bound
+no_bound : length (bound_fields contents.bound) ≡ 0
+no_bound = refl
+
 size : length (encoding_of contents) ≤ 4194304
 size =
     omega (
       arith,
       head_size,
+      no_bound,
       length-encoding_of contents,
       all_fields_few (entries (roots contents)),
       entries_few,
@@ -371,13 +380,13 @@ inv_formed : checks_of (declared Sigma1) inv_term (sort_types machine_context) f
 unfolding constant_types the_rules machine_context
 inv_formed = refl
 
-forms : AreForms Sigma1 ((2, inv_term) ∷ [])
+forms : AreForms Sigma1 None ((2, inv_term) ∷ [])
 forms = (checks_follows (declared Sigma1) inv_term (sort_types machine_context) form inv_formed, tt)
 
 abbrev said : Form
 said = FAnd (closed entry_part) (FAnd (closed loop_part) FTrue)
 
-is_said : form_encoding (condition (annotated (built_in Tag) loop_code ((2, invariant) ∷ [])))
+is_said : form_encoding (condition (annotated (built_in Tag) None loop_code ((2, invariant) ∷ [])))
     ≡ form_encoding said
 unfolding machine_names unchanged
 is_said = refl

@@ -11,7 +11,7 @@ use Rattle.proof_container.specs.Contents.{Contents}
 use Rattle.vcgen.specs.Encoded.{EncodesCondition}
 use Rattle.pcc_gate.specs.declared.limits.TheConstants.{MAX_WEIGHT}
 use Rattle.pcc_gate.specs.Passing.{Passes}
-use Rattle.pcc_gate.specs.Versions.{head_signature}
+use Rattle.proof_container.specs.Versions.{signature_of}
 
 -- The eleven clauses: clauses 1 to 8, and those of the proof, in their order.
 pub record Accepts (policy : PolicyView) (bytes : List ℕ) (contents : Contents) (insns : List Insn)
@@ -22,11 +22,11 @@ pub record Accepts (policy : PolicyView) (bytes : List ℕ) (contents : Contents
   -- 9: there is a proof
   pub given : contents.proof ≡ Some proof
   -- 10: which isn't too heavy, by the parameters of the version's signature
-  pub weight : weight_of (places_of (head_signature contents.head)) proof ≤ MAX_WEIGHT
-  -- 11: over that signature it proves the verification condition of the policy, the code and the
-  -- invariants
-  pub condition : EncodesCondition policy insns contents.invs vc
-  pub proved : Checks (declared (head_signature contents.head)) [] proof (pf vc)
+  pub weight : weight_of (places_of (signature_of contents.version)) proof ≤ MAX_WEIGHT
+  -- 11: over that signature it proves the verification condition of the policy, the bound, the code
+  -- and the invariants
+  pub condition : EncodesCondition policy contents.bound insns contents.invs vc
+  pub proved : Checks (declared (signature_of contents.version)) [] proof (pf vc)
 
 -- the bytes are accepted under the policy
 pub record IsAccepted (policy : PolicyView) (bytes : List ℕ) : Type 0 where

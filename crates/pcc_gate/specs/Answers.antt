@@ -13,14 +13,14 @@ use Rattle.pcc_gate.specs.declared.passing.Passed.{Passed}
 use Rattle.pcc_gate.specs.Passing.{Passes}
 use Rattle.pcc_gate.specs.First.{front_refusal, first_refusal}
 use Rattle.pcc_gate.specs.Accepted.{Accepts}
-use Rattle.pcc_gate.specs.Versions.{head_signature}
+use Rattle.proof_container.specs.Versions.{signature_of}
 use Rattle.pcc_gate.specs.Views.{AcceptedView}
 
 -- the container's terms are the table's, whose weights go by the parameters of the version's
 -- signature
 pub record IsHeld (c : Container) : Type 0 where
   pub known : AreKnown c.table c.invs.items c.proof
-  pub places : c.table.places ≡ places_of (head_signature c.head)
+  pub places : c.table.places ≡ places_of (signature_of c.version)
 
 -- Clauses 1 to 8 hold of what is passed on; a refusal is the first of them that fails; where memory or the results that may be
 -- kept ran out, the bytes aren't too many.
@@ -30,10 +30,12 @@ IsFrontAnswer policy bytes (Err (Refused r)) = front_refusal policy bytes ≡ So
 IsFrontAnswer policy bytes (Err Memory) = length bytes ≤ MAX_BYTES
 IsFrontAnswer policy bytes (Err Results) = length bytes ≤ MAX_BYTES
 
--- What the gate shows of accepted bytes: the policy, the code with its flags, and the invariants of their contents.
+-- What the gate shows of accepted bytes: the policy, the bound, the code with its flags, and the
+-- invariants of their contents.
 pub record IsAcceptedBy (policy : PolicyView) (bytes : List ℕ) (a : AcceptedView) : Type 0 where
   pub contents : Contents
   pub policy_is : a.policy ≡ policy
+  pub bound_is : a.bound ≡ contents.bound
   pub invs_are : contents.invs ≡ id_trees a.table a.invs
   pub accepts : Accepts policy bytes contents a.code a.marks
   pub first : first_refusal policy bytes ≡ None

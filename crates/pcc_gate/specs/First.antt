@@ -14,29 +14,29 @@ use Rattle.lf_signature.specs.Constants.{places_of, declared}
 use Rattle.lf_signature.specs.Terms.{form, pf}
 use Rattle.lf_signature.specs.Decide.{checks_of}
 use Rattle.lf_encode.specs.Encoding.{form_encoding}
-use Rattle.lf_encode.specs.Contexts.{machine_context, sort_types}
+use Rattle.lf_encode.specs.Contexts.{sort_types}
 use Rattle.lf_encode.specs.Naming.{unnamed_form}
 use Rattle.lf_encode.specs.Reading.{form_of}
 use Rattle.proof_container.specs.Contents.{Contents, roots}
 use Rattle.proof_container.specs.Decoding.{Fault, decoded_container}
 use Rattle.proof_container.specs.declared.limits.TheConstants.{MAX_BYTES}
 use Rattle.vcgen.specs.Conditions.{condition}
-use Rattle.vcgen.specs.Encoded.{annotated}
+use Rattle.vcgen.specs.Encoded.{context_of, annotated}
 use Rattle.vcgen.specs.declared.condition.TheConstants.{MAX_HEIGHT, MAX_UNFOLDED}
 use Rattle.pcc_gate.specs.declared.limits.TheConstants.{MAX_WEIGHT}
 use Rattle.pcc_gate.specs.declared.refusal.Refusal.{Refusal}
 use Rattle.pcc_gate.specs.declared.refusal.Refusal.TheVariants as refusal
 use Rattle.lf_signature.specs.declared.WordSignature.{WordSignature}
-use Rattle.pcc_gate.specs.Versions.{head_profile, head_signature}
+use Rattle.proof_container.specs.Versions.{profile_of, signature_of}
 use Rattle.pcc_gate.specs.ForPolicy.{is_for}
 
 -- ---- the questions
 
--- whether a term has type form over the signature, in the context m, r0 to r30
-abbrev pub has_form : WordSignature → Tree → Bool
-has_form s t = checks_of (declared s) t (sort_types machine_context) form
+-- whether a term has type form over the signature, in the context of code with that bound
+abbrev pub has_form : WordSignature → Option ℕ → Tree → Bool
+has_form s bound t = checks_of (declared s) t (sort_types (context_of bound)) form
 
--- the formula over m and r0 to r30 that a term of type form encodes
+-- the formula over that context that a term of type form encodes
 abbrev pub formula_of : Tree → Form
 formula_of t = unnamed_form 0 (form_of t)
 
@@ -45,8 +45,9 @@ abbrev pub formulas : List (ℕ × Tree) → List (ℕ × Form)
 formulas invs = map (λ p. (p.0, formula_of p.1)) invs
 
 -- the encoding of the verification condition
-abbrev pub vc_of : PolicyView → List Insn → List (ℕ × Tree) → Tree
-vc_of policy code invs = form_encoding (condition (annotated policy code (formulas invs)))
+abbrev pub vc_of : PolicyView → Option ℕ → List Insn → List (ℕ × Tree) → Tree
+vc_of policy bound code invs =
+    form_encoding (condition (annotated policy bound code (formulas invs)))
 
 -- whether a term is a proof of it over the signature
 abbrev pub proves : WordSignature → Tree → Tree → Bool
@@ -62,9 +63,9 @@ too_high [] = None
 too_high (t ∷ ts) = if nat_lt MAX_HEIGHT (height_of t) then Some (height_of t) else too_high ts
 
 -- the first invariant that is no formula, counted from k
-abbrev pub formless : WordSignature → ℕ → List (ℕ × Tree) → Option ℕ
-formless s k [] = None
-formless s k (p ∷ ps) = if has_form s p.1 then formless s (suc k) ps else Some k
+abbrev pub formless : WordSignature → Option ℕ → ℕ → List (ℕ × Tree) → Option ℕ
+formless s bound k [] = None
+formless s bound k (p ∷ ps) = if has_form s bound p.1 then formless s bound (suc k) ps else Some k
 
 -- ---- the clauses
 
@@ -81,14 +82,14 @@ first_long code marks next = if nat_lt MAX_UNFOLDED (unfolded_of code marks) the
 abbrev pub first_shape : WordSignature → Contents → List Insn → Option Refusal → Option Refusal
 first_shape s c code next =
     refused_by (λ h. refusal.Height (capped h)) (too_high (roots c))
-    (refused_by refusal.InvNotForm (formless s 0 c.invs)
+    (refused_by refusal.InvNotForm (formless s c.bound 0 c.invs)
     (refused_by refusal.Uncut (uncut_of code (marks_of c code))
     (first_long code (marks_of c code) next)))
 
 -- clauses 4 to 8, and what comes after, by the code
 abbrev pub first_code : Contents → Result (List Insn) CodeFlaw → (List Insn → Option Refusal) → Option Refusal
 first_code c (Err flaw) next = Some (refusal.BadCode flaw)
-first_code c (Ok code) next = first_shape (head_signature c.head) c code (next code)
+first_code c (Ok code) next = first_shape (signature_of c.version) c code (next code)
 
 -- clauses 2 to 8, and what comes after, by the contents and the code
 abbrev pub first_read : PolicyView → Result Contents Fault → (Contents → List Insn → Option Refusal)
@@ -96,7 +97,7 @@ abbrev pub first_read : PolicyView → Result Contents Fault → (Contents → L
 first_read policy (Err fault) next = Some (refusal.Malformed fault.0 fault.1)
 first_read policy (Ok c) next =
     if is_for policy c.head
-    then first_code c (decoded_code (head_profile c.head) c.code) (next c)
+    then first_code c (decoded_code (profile_of c.version) c.code) (next c)
     else Some (refusal.OtherPolicy c.head)
 
 -- clauses 1 to 8, and what comes after
@@ -119,7 +120,7 @@ first_proof s vc (Some proof) =
 -- the same of contents and their code
 abbrev pub first_after : PolicyView → Contents → List Insn → Option Refusal
 first_after policy c code =
-    first_proof (head_signature c.head) (vc_of policy code c.invs) c.proof
+    first_proof (signature_of c.version) (vc_of policy c.bound code c.invs) c.proof
 
 -- the first of clauses 1 to 8 that fails
 unfoldable pub front_refusal : PolicyView → List ℕ → Option Refusal

@@ -1,4 +1,3 @@
-pub mod Versions
 pub mod ForPolicy
 pub mod Passing
 pub mod Accepted

@@ -13,7 +13,7 @@ use Rattle.proof_container.specs.Encoding.{EncodesContents}
 use Rattle.proof_container.specs.declared.limits.TheConstants.{MAX_BYTES}
 use Rattle.vcgen.specs.declared.condition.TheConstants.{MAX_HEIGHT, MAX_UNFOLDED}
 use Rattle.vcgen.specs.Encoded.{AreForms}
-use Rattle.pcc_gate.specs.Versions.{head_profile, head_signature}
+use Rattle.proof_container.specs.Versions.{profile_of, signature_of}
 use Rattle.pcc_gate.specs.ForPolicy.{IsFor}
 
 -- no root is higher than the limit
@@ -30,12 +30,13 @@ pub record Passes (policy : PolicyView) (bytes : List ℕ) (contents : Contents)
   -- 3: which are for the policy
   pub named : IsFor policy contents.head
   -- 4: the code bytes encode code, in the profile of the version
-  pub encoded : EncodesCode (head_profile contents.head) contents.code insns
+  pub encoded : EncodesCode (profile_of contents.version) contents.code insns
   pub code : IsCode insns
   -- 5: no root is too high
   pub heights : AreLow (roots contents)
-  -- 6: each invariant is a formula over m and r0 to r30, in the signature of the version
-  pub forms : AreForms (head_signature contents.head) contents.invs
+  -- 6: each invariant is a formula over m and r0 to r30, and the steps that are left where they are
+  -- bounded, in the signature of the version
+  pub forms : AreForms (signature_of contents.version) contents.bound contents.invs
   -- 7: the annotated indices cut the code
   pub annotated : AreFlags (map (λ p. p.0) contents.invs) (length insns) flags
   pub cut : IsCut insns flags

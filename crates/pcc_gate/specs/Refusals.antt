@@ -1,6 +1,6 @@
 -- What each refusal means: the clauses before it hold, its own fails, and its value is what that clause says of the bytes. The
 -- relations are those of the layers below, and nothing of the tests that find the refusal.
-use Rattle.std.specs.Prelude.{◌≡◌, ℕ, ◌<◌, ◌≤◌, Bool, List, [], ◌∷◌, ◌++◌, map, length, None, Some, Err}
+use Rattle.std.specs.Prelude.{◌≡◌, ℕ, ◌<◌, ◌≤◌, Bool, List, [], ◌∷◌, ◌++◌, map, length, Option, None, Some, Err}
 use Rattle.alpha_words.specs.declared.insn.Insn.{Insn}
 use Rattle.alpha_cfg.specs.Flow.{IsCode}
 use Rattle.alpha_cfg.specs.CodeBytes.{EncodesCode, IsFlaw}
@@ -11,20 +11,20 @@ use Rattle.term_table.specs.Measures.{height_of, weight_of, capped}
 use Rattle.lf_signature.specs.Constants.{places_of, declared}
 use Rattle.lf_signature.specs.Terms.{form, pf}
 use Rattle.lf_signature.specs.Typing.{Checks}
-use Rattle.lf_encode.specs.Contexts.{machine_context, sort_types}
+use Rattle.lf_encode.specs.Contexts.{sort_types}
 use Rattle.proof_container.specs.Contents.{Contents, roots}
 use Rattle.proof_container.specs.Encoding.{EncodesContents}
 use Rattle.proof_container.specs.Decoding.{decoded_container}
 use Rattle.proof_container.specs.declared.fault.Flaw.{Flaw}
 use Rattle.proof_container.specs.declared.limits.TheConstants.{MAX_BYTES}
 use Rattle.vcgen.specs.declared.condition.TheConstants.{MAX_HEIGHT, MAX_UNFOLDED}
-use Rattle.vcgen.specs.Encoded.{AreForms, EncodesCondition}
+use Rattle.vcgen.specs.Encoded.{context_of, AreForms, EncodesCondition}
 use Rattle.pcc_gate.specs.declared.limits.TheConstants.{MAX_WEIGHT}
 use Rattle.pcc_gate.specs.declared.refusal.Refusal.{Refusal}
 use Rattle.pcc_gate.specs.declared.refusal.Refusal.TheVariants as refusal
 use Rattle.pcc_gate.specs.Passing.{AreLow, Passes}
 use Rattle.lf_signature.specs.declared.WordSignature.{WordSignature}
-use Rattle.pcc_gate.specs.Versions.{head_profile, head_signature}
+use Rattle.proof_container.specs.Versions.{profile_of, signature_of}
 use Rattle.pcc_gate.specs.ForPolicy.{IsFor}
 
 -- ---- the clauses up to each, in their order
@@ -43,7 +43,7 @@ pub record IsForPolicy (policy : PolicyView) (bytes : List ℕ) (contents : Cont
 pub record HasCode (policy : PolicyView) (bytes : List ℕ) (contents : Contents)
     (insns : List Insn) : Type 0 where
   pub before : IsForPolicy policy bytes contents
-  pub encoded : EncodesCode (head_profile contents.head) contents.code insns
+  pub encoded : EncodesCode (profile_of contents.version) contents.code insns
   pub code : IsCode insns
 
 -- clauses 1 to 5: no root is too high
@@ -52,11 +52,12 @@ pub record HasLowRoots (policy : PolicyView) (bytes : List ℕ) (contents : Cont
   pub before : HasCode policy bytes contents insns
   pub heights : AreLow (roots contents)
 
--- clauses 1 to 6: each invariant is a formula over m and r0 to r30, in the signature of the version
+-- clauses 1 to 6: each invariant is a formula over m and r0 to r30, and the steps that are left where
+-- they are bounded, in the signature of the version
 pub record HasForms (policy : PolicyView) (bytes : List ℕ) (contents : Contents)
     (insns : List Insn) : Type 0 where
   pub before : HasLowRoots policy bytes contents insns
-  pub forms : AreForms (head_signature contents.head) contents.invs
+  pub forms : AreForms (signature_of contents.version) contents.bound contents.invs
 
 -- clauses 1 to 6, and the flags of the annotated indices
 pub record HasFlags (policy : PolicyView) (bytes : List ℕ) (contents : Contents) (insns : List Insn)
@@ -80,7 +81,7 @@ pub record HasProof (policy : PolicyView) (bytes : List ℕ) (contents : Content
 pub record HasLightProof (policy : PolicyView) (bytes : List ℕ) (contents : Contents)
     (insns : List Insn) (flags : List Bool) (proof : Tree) : Type 0 where
   pub before : HasProof policy bytes contents insns flags proof
-  pub weight : weight_of (places_of (head_signature contents.head)) proof ≤ MAX_WEIGHT
+  pub weight : weight_of (places_of (signature_of contents.version)) proof ≤ MAX_WEIGHT
 
 -- ---- what is wrong
 
@@ -100,14 +101,16 @@ pub record IsFirstHeight (trees : List Tree) (height : ℕ) : Type 0 where
   pub high : MAX_HEIGHT < height_of tree
   pub is : height ≡ capped (height_of tree)
 
--- the first invariant that is no formula over m and r0 to r30, in the signature, has this place
-pub record IsFirstNoForm (s : WordSignature) (invs : List (ℕ × Tree)) (place : ℕ) : Type 0 where
+-- the first invariant that is no formula over the context of code with that bound, in the
+-- signature, has this place
+pub record IsFirstNoForm (s : WordSignature) (bound : Option ℕ) (invs : List (ℕ × Tree))
+    (place : ℕ) : Type 0 where
   pub front : List (ℕ × Tree)
   pub inv : ℕ × Tree
   pub rest : List (ℕ × Tree)
   pub split : invs ≡ front ++ inv ∷ rest
-  pub forms : AreForms s front
-  pub no_form : Checks (declared s) (sort_types machine_context) inv.1 form → ⊥
+  pub forms : AreForms s bound front
+  pub no_form : Checks (declared s) (sort_types (context_of bound)) inv.1 form → ⊥
   pub is : place ≡ length front
 
 -- the unfolded length is past its limit
@@ -121,10 +124,10 @@ pub record IsPastWeight (s : WordSignature) (proof : Tree) (weight : ℕ) : Type
   pub is : weight ≡ capped (weight_of (places_of s) proof)
 
 -- over the signature the term isn't a proof of the verification condition
-pub record IsNoProof (s : WordSignature) (policy : PolicyView) (insns : List Insn)
-    (invs : List (ℕ × Tree)) (proof : Tree) : Type 0 where
+pub record IsNoProof (s : WordSignature) (policy : PolicyView) (bound : Option ℕ)
+    (insns : List Insn) (invs : List (ℕ × Tree)) (proof : Tree) : Type 0 where
   pub vc : Tree
-  pub condition : EncodesCondition policy insns invs vc
+  pub condition : EncodesCondition policy bound insns invs vc
   pub unproved : Checks (declared s) [] proof (pf vc) → ⊥
 
 -- ---- the refusals
@@ -136,11 +139,11 @@ IsFirstRefusal policy bytes (refusal.Malformed at flaw) = IsMalformed bytes at f
 IsFirstRefusal policy bytes (refusal.OtherPolicy h) =
     (c : Contents) × HasContents bytes c × (IsFor policy c.head → ⊥) × (h ≡ c.head)
 IsFirstRefusal policy bytes (refusal.BadCode flaw) =
-    (c : Contents) × IsForPolicy policy bytes c × IsFlaw (head_profile c.head) c.code flaw
+    (c : Contents) × IsForPolicy policy bytes c × IsFlaw (profile_of c.version) c.code flaw
 IsFirstRefusal policy bytes (refusal.Height h) = (c : Contents) × (code : List Insn) × HasCode policy bytes c code × IsFirstHeight (roots c) h
 IsFirstRefusal policy bytes (refusal.InvNotForm k) =
     (c : Contents) × (code : List Insn) × HasLowRoots policy bytes c code
-    × IsFirstNoForm (head_signature c.head) c.invs k
+    × IsFirstNoForm (signature_of c.version) c.bound c.invs k
 IsFirstRefusal policy bytes (refusal.Uncut i) =
     (c : Contents) × (code : List Insn) × (flags : List Bool) × HasFlags policy bytes c code flags × IsUncut code flags i
 IsFirstRefusal policy bytes (refusal.UnfoldLimit n) =
@@ -149,11 +152,11 @@ IsFirstRefusal policy bytes refusal.NoProof =
     (c : Contents) × (code : List Insn) × (flags : List Bool) × Passes policy bytes c code flags × (c.proof ≡ None)
 IsFirstRefusal policy bytes (refusal.ProofWeight n) =
     (c : Contents) × (code : List Insn) × (flags : List Bool) × (proof : Tree) ×
-    HasProof policy bytes c code flags proof × IsPastWeight (head_signature c.head) proof n
+    HasProof policy bytes c code flags proof × IsPastWeight (signature_of c.version) proof n
 IsFirstRefusal policy bytes refusal.NotProof =
     (c : Contents) × (code : List Insn) × (flags : List Bool) × (proof : Tree) ×
     HasLightProof policy bytes c code flags proof
-    × IsNoProof (head_signature c.head) policy code c.invs proof
+    × IsNoProof (signature_of c.version) policy c.bound code c.invs proof
 
 -- a refusal by one of clauses 1 to 8
 abbrev pub IsBeforeProof : Refusal → Type 0

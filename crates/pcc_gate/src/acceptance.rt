@@ -6,6 +6,7 @@ ghost use Rattle.term_table.specs.Table.{IsKnown, id_trees};
 ghost use Rattle.lf_signature.specs.declared.WordSignature.TheVariants.{Sigma3};
 ghost use Rattle.vcgen.specs.Encoded.{AreForms};
 ghost use Rattle.vcgen.specs.Safety.{IsSafe};
+ghost use Rattle.pcc_gate.specs.Safe.{ReturnsInBound};
 ghost use Rattle.pcc_gate.specs.Views.{IsConditionTrue, AreAnnotations};
 
 use alpha_cfg::Cut;
@@ -13,11 +14,12 @@ use policy_set::Policy;
 use std::marker::Model;
 use term_table::{Id, Table};
 
-/// Code that was accepted under a policy. Contracts see the policy, the code with its flags, and
-/// the invariants as ids of the table.
+/// Code that was accepted under a policy. Contracts see the policy, the bound of its steps, the code
+/// with its flags, and the invariants as ids of the table.
 #[derive(Drop)]
 pub struct Accepted {
     pub(crate) policy: Policy,
+    pub(crate) bound: Option<u32>,
     pub(crate) cut: Cut,
     pub(crate) table: Table,
     pub(crate) invs: Vec<(u32, Id)>,
@@ -37,13 +39,14 @@ impl Model for Accepted {
 
     ghost view = { λ a. record {
       policy = a.policy;
+      bound = a.bound;
       code = a.cut.code;
       marks = a.cut.marks;
       table = a.table;
       invs = a.invs.items;
     } };
 
-    ghost invariant = { λ a. IsProved a.policy a.cut a.table a.invs.items };
+    ghost invariant = { λ a. IsProved a.policy a.bound a.cut a.table a.invs.items };
 }
 
 impl Accepted {
@@ -52,6 +55,14 @@ impl Accepted {
         ensures { result.now ≡ self.now.policy }
     {
         &self.policy
+    }
+
+    /// The most steps that the code makes, as its container says; `None` exactly where the
+    /// container's version isn't 3. Takes no memory.
+    pub fn bound(&self) -> Option<u32>
+        ensures { result ≡ self.now.bound }
+    {
+        self.bound
     }
 
     /// The code with its annotated indices.
@@ -77,12 +88,14 @@ impl Accepted {
         &self.invs
     }
 
-    /// What acceptance promises, with nothing to run: the code is safe for the policy; the
-    /// invariants encode formulas, which annotate the code; and the verification condition of the
-    /// policy, the code and these formulas is true in every structure.
+    /// What acceptance promises, with nothing to run: the code is safe for the policy, and where its
+    /// steps are bounded, it returns within the bound; the invariants encode formulas, which annotate
+    /// the code; and the verification condition of the policy, the bound, the code and these formulas
+    /// is true in every structure.
     pub fn laws(&self)
         ensures safe { IsSafe self.now.code self.now.policy.pre self.now.policy.post }
-        ensures forms { AreForms Sigma3 (id_trees self.now.table self.now.invs) }
+        ensures returns { ReturnsInBound self.now.policy self.now.bound self.now.code }
+        ensures forms { AreForms Sigma3 self.now.bound (id_trees self.now.table self.now.invs) }
         ensures annotates { AreAnnotations self.now }
         ensures valid { IsConditionTrue self.now }
     {

@@ -1,6 +1,7 @@
 //! The clauses before the proof, a function for each.
 
 ghost use Rattle.std.specs.Prelude.{◌≡◌, ◌≤◌, ◌+◌, ◌<◌, ◌*◌, ◌%◌, [], ◌∷◌, length, drop, map, All, IfOk};
+ghost use Rattle.std.specs.Prelude.{replicate, slice_set};
 ghost use Rattle.std.specs.List.Sorted.{IsStrictlyIncreasing};
 ghost use Rattle.std.specs.List.{AllByRecursion};
 ghost use Rattle.std.specs.Option.{option_map};
@@ -11,9 +12,10 @@ ghost use Rattle.lf_signature.specs.Nodes.{IsIdOf};
 ghost use Rattle.lf_signature.specs.Constants.{declared};
 ghost use Rattle.term_table.specs.Tree.{Fam};
 ghost use Rattle.lf_check.specs.Kept.{AreKept};
-ghost use Rattle.lf_encode.specs.Contexts.{machine_context, sort_types};
+ghost use Rattle.lf_encode.specs.Contexts.{sort_types};
 ghost use Rattle.proof_container.specs.Views.{AreKnown};
 ghost use Rattle.proof_container.specs.declared.limits.TheConstants.{MAX_INVS};
+ghost use Rattle.vcgen.specs.Encoded.{context_of};
 ghost use Rattle.pcc_gate.specs.First.{too_high, has_form, formless};
 ghost use Rattle.pcc_gate.specs.Inside.Stages.{IsContainerAnswer, IsCodeRead, measured_trees};
 ghost use Rattle.pcc_gate.specs.Inside.Stages.{IsCutMade, IsLengthAnswer};
@@ -112,24 +114,49 @@ pub(crate) fn first_too_high(
 }
 
 /// The types of m and r0 to r30.
-pub(crate) fn machine_types(alloc: Global, table: &mut Table) -> Result<Vec<Id>, AllocError>
-    ensures known { IfOk result (λ ids. AllKnown table.new ids.items) }
-    ensures types { IfOk result
-        (λ ids. ctx_of table.new ids.items ≡ sort_types machine_context) }
-    ensures extends { Extends table.old table.new }
+fn machine_types(alloc: Global, word: Id, memory: Id) -> Result<Vec<Id>, AllocError>
+    ensures { IfOk result (λ ids. ids.items ≡ slice_set (replicate 32 word) 0 memory) }
 {
-    let word = table.intern(Node::Fam(EXP))?;
-    let memory = table.intern(Node::Fam(MEM))?;
     let mut types = vec![in alloc; word; 32]?;
     types[0] = memory;
     Ok(types)
 }
 
-/// Whether the term has type form over the signature in the context of m and r0 to r30.
+/// The types of the steps that are left, m and r0 to r30.
+fn left_types(alloc: Global, word: Id, memory: Id) -> Result<Vec<Id>, AllocError>
+    ensures { IfOk result (λ ids. ids.items ≡ slice_set (replicate 33 word) 1 memory) }
+{
+    let mut types = vec![in alloc; word; 33]?;
+    types[1] = memory;
+    Ok(types)
+}
+
+/// The types of what invariants of code with that bound are over.
+pub(crate) fn context_types(
+    alloc: Global,
+    table: &mut Table,
+    bound: Option<u32>,
+) -> Result<Vec<Id>, AllocError>
+    ensures known { IfOk result (λ ids. AllKnown table.new ids.items) }
+    ensures types { IfOk result
+        (λ ids. ctx_of table.new ids.items ≡ sort_types (context_of bound)) }
+    ensures extends { Extends table.old table.new }
+{
+    let word = table.intern(Node::Fam(EXP))?;
+    let memory = table.intern(Node::Fam(MEM))?;
+    match bound {
+        None => machine_types(alloc, word, memory),
+        Some(_) => left_types(alloc, word, memory),
+    }
+}
+
+/// Whether the term has type form over the signature in the context of code with that bound, whose
+/// types are `context`.
 fn has_form(
     table: &mut Table,
     kept: &mut Kept,
     signature: WordSignature,
+    bound: Option<u32>,
     context: &[Id],
     form: Id,
     id: Id,
@@ -137,22 +164,24 @@ fn has_form(
     requires id { IsKnown table.old id }
     requires form { IsIdOf table.old (Fam 2) form }
     requires context { AllKnown table.old context.now }
-    requires types { ctx_of table.old context.now ≡ sort_types machine_context }
+    requires types { ctx_of table.old context.now ≡ sort_types (context_of bound) }
     requires kept { AreKept (declared signature) table.old kept.old }
-    ensures exact { IfOk result (λ b. b ≡ has_form signature (tree_at table.old id)) }
+    ensures exact { IfOk result (λ b. b ≡ has_form signature bound (tree_at table.old id)) }
     ensures extends { Extends table.old table.new }
     ensures kept { AreKept (declared signature) table.new kept.new }
 {
+    let _ = bound; // only the clauses speak of it
     typing_laws();
     check_term_with(table, kept, &signature, context, id, form)
 }
 
-/// Clause 6: the first invariant, from this place on, that is no formula over m and r0 to r30 in
-/// the signature.
+/// Clause 6: the first invariant, from this place on, that is no formula over the context of code
+/// with that bound in the signature.
 pub(crate) fn first_formless(
     table: &mut Table,
     kept: &mut Kept,
     signature: WordSignature,
+    bound: Option<u32>,
     context: &[Id],
     form: Id,
     invs: &[(u32, Id)],
@@ -163,10 +192,10 @@ pub(crate) fn first_formless(
     requires from { from ≤ length invs.now }
     requires form { IsIdOf table.old (Fam 2) form }
     requires context { AllKnown table.old context.now }
-    requires types { ctx_of table.old context.now ≡ sort_types machine_context }
+    requires types { ctx_of table.old context.now ≡ sort_types (context_of bound) }
     requires kept { AreKept (declared signature) table.old kept.old }
     ensures exact { let rest = id_trees table.old (drop from invs.now) in
-        IfOk result (λ found. found ≡ formless signature from rest) }
+        IfOk result (λ found. found ≡ formless signature bound from rest) }
     ensures extends { Extends table.old table.new }
     ensures kept { AreKept (declared signature) table.new kept.new }
 {
@@ -174,10 +203,10 @@ pub(crate) fn first_formless(
         return Ok(None);
     }
     let (_, inv) = invs[from];
-    if !has_form(table, kept, signature, context, form, inv)? {
+    if !has_form(table, kept, signature, bound, context, form, inv)? {
         return Ok(Some(from as u32));
     }
-    first_formless(table, kept, signature, context, form, invs, from + 1)
+    first_formless(table, kept, signature, bound, context, form, invs, from + 1)
 }
 
 /// The annotated indices.

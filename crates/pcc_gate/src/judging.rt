@@ -1,21 +1,22 @@
 //! The gate.
 
+ghost use Rattle.std.specs.Prelude.{IfOk};
 ghost use Rattle.proof_container.specs.Views.{contents_of};
-ghost use Rattle.term_table.specs.Table.{TableView};
 ghost use Rattle.lf_signature.specs.Constants.{declared};
 ghost use Rattle.lf_check.specs.Kept.{AreKept};
 ghost use Rattle.pcc_gate.specs.Answers.{IsHeld, IsGateAnswer};
 ghost use Rattle.pcc_gate.specs.Passing.{Passes};
-ghost use Rattle.pcc_gate.specs.Versions.{head_signature};
+ghost use Rattle.proof_container.specs.Versions.{signature_of};
+ghost use Rattle.pcc_gate.specs.Safe.{ReturnsInBound};
 
 use crate::acceptance::Accepted;
 use crate::fault::GateFault;
 use crate::passing::{Passed, pass};
 use crate::proving::{proof_in, proved};
-use crate::versions::head_signature;
 use lf_check::{Kept, MOST_RESULTS};
 use lf_truth::truth_laws;
 use policy_set::Policy;
+use proof_container::signature_of;
 use std::alloc::Global;
 
 /// Clauses 9 to 11 of what passed those before.
@@ -29,7 +30,7 @@ fn judge(
     requires passes { let contents = contents_of passed.container in
         Passes policy.now bytes.now contents passed.cut.code passed.cut.marks }
     requires held { IsHeld passed.container }
-    requires kept { let s = head_signature passed.container.head in
+    requires kept { let s = signature_of passed.container.version in
         AreKept (declared s) passed.container.table kept.old }
     ensures { IsGateAnswer policy.now bytes.now result }
 {
@@ -37,16 +38,20 @@ fn judge(
     truth_laws();
     policy.laws(); // tells the prover what the formulas name
     let container = passed.container;
-    let signature = head_signature(container.head);
+    let signature = signature_of(container.version);
+    let bound = container.bound;
     let cut = passed.cut;
     let mut table = container.table;
     let invs = container.invs;
     let found = container.proof;
     let proof = proof_in(&table, signature, found)?;
-    proved(&mut table, kept, signature, policy, &cut, &invs, proof)?;
+    proved(
+        &mut table, kept, signature, policy, bound, &cut, &invs, proof,
+    )?;
     let policy = policy.copy(alloc)?;
     Ok(Accepted {
         policy,
+        bound,
         cut,
         table,
         invs,
@@ -54,8 +59,10 @@ fn judge(
 }
 
 /// What `bytes` hold, where they are accepted under `policy`: all eleven clauses hold, the last of
-/// which is that the proof proves the verification condition of the policy, the code and the
-/// invariants.
+/// which is that the proof proves the verification condition of the policy, the bound, the code and
+/// the invariants. Where the container has a bound, from every state at index 0 that meets the
+/// precondition, under whatever rights, a run of the code with a budget of at least the bound
+/// returns.
 ///
 /// Errors: `Refused` names the first clause that fails (`specs/First`), exactly where one does;
 /// `Memory` says nothing of `bytes`. The clauses are tried in their order. One memory of at most
@@ -63,7 +70,10 @@ fn judge(
 /// that the answer is `Memory`.
 pub fn gate(alloc: Global, policy: &Policy, bytes: &[u8]) -> Result<Accepted, GateFault>
     ensures exact { IsGateAnswer policy.now bytes.now result }
+    ensures returns { IfOk result (λ a. ReturnsInBound policy.now a.bound a.code) }
 {
+    truth_laws();
+    policy.laws(); // tells the prover what the formulas name
     let mut kept = Kept::new(alloc, MOST_RESULTS);
     match pass(alloc, &mut kept, policy, bytes) {
         Err(fault) => Err(fault),

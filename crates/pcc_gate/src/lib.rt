@@ -2,11 +2,11 @@
 //!
 //! The layers above use that `gate` accepts bytes exactly where eleven clauses hold, and else names
 //! the first that fails; `front` does the same of the clauses before the proof; and that the code
-//! of what is accepted is safe (`Accepted::laws`, `laws`). Which container is for a policy stands
-//! in `specs/ForPolicy`, what its version decides in `specs/Versions`. The clauses stand in
-//! `specs/Passing` and `specs/Accepted`, what each refusal means in `specs/Refusals`, the first
-//! clause that fails as a function in `specs/First`, what the calls answer in `specs/Answers`, what
-//! is promised in `specs/Safe`. Source: Necula, Proof-Carrying Code, POPL 1997.
+//! of what is accepted is safe, and returns within its bound where it has one (`Accepted::laws`,
+//! `laws`). Which container is for a policy stands in `specs/ForPolicy`, what its version decides in
+//! proof_container (`specs/Versions`). The clauses stand in `specs/Passing` and `specs/Accepted`,
+//! what each refusal means in `specs/Refusals`, the first clause that fails as a function in
+//! `specs/First`, what the calls answer in `specs/Answers`, what is promised in `specs/Safe`. Source: Necula, Proof-Carrying Code, POPL 1997.
 #![tactic(auto)]
 
 mod acceptance;
@@ -19,7 +19,6 @@ mod passing;
 mod proving;
 mod refusal;
 mod theorems;
-mod versions;
 
 pub use acceptance::Accepted;
 pub use fault::GateFault;
@@ -29,4 +28,3 @@ pub use limits::MAX_WEIGHT;
 pub use passing::{Passed, front};
 pub use refusal::Refusal;
 pub use theorems::laws;
-pub use versions::{head_profile, head_signature};

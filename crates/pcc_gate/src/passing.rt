@@ -1,6 +1,6 @@
 //! The clauses before the proof.
 
-ghost use Rattle.std.specs.Prelude.{◌≡◌, ◌≤◌, ◌<◌, length, map, All, IfOk, OnOk};
+ghost use Rattle.std.specs.Prelude.{◌≤◌, ◌<◌, length, map, All, IfOk, OnOk};
 ghost use Rattle.std.specs.List.{AllByRecursion};
 ghost use Rattle.std.specs.List.Sorted.{IsStrictlyIncreasing};
 ghost use Rattle.term_table.specs.Table.{TableView, IsKnown, Extends, id_trees};
@@ -13,20 +13,19 @@ ghost use Rattle.pcc_gate.specs.Answers.{IsHeld, IsFrontAnswer};
 ghost use Rattle.pcc_gate.specs.Inside.Stages.{with_roots, AreFormed, IsShapeAnswer};
 ghost use Rattle.pcc_gate.specs.Inside.Passed.{IsRestAnswer, IsPassedAnswer};
 ghost use Rattle.lf_signature.specs.declared.WordSignature.{WordSignature};
-ghost use Rattle.pcc_gate.specs.Versions.{head_signature};
+ghost use Rattle.proof_container.specs.Versions.{signature_of};
 
 use crate::clauses::{
-    code_in, container_for, cut_at, first_formless, first_too_high, machine_types, short,
+    code_in, container_for, context_types, cut_at, first_formless, first_too_high, short,
 };
 use crate::fault::GateFault;
 use crate::refusal::Refusal;
-use crate::versions::{head_profile, head_signature};
 use alpha_cfg::{Code, Cut};
 use lf_check::{Kept, MOST_RESULTS};
 use lf_signature::WordSignature;
 use lf_signature::numbers::FORM;
 use policy_set::Policy;
-use proof_container::Container;
+use proof_container::{Container, profile_of, signature_of};
 use std::alloc::Global;
 use term_table::{Id, Node, Table};
 
@@ -39,24 +38,25 @@ pub struct Passed<'b> {
     pub cut: Cut,
 }
 
-/// Clause 6: each invariant is a formula over m and r0 to r30 in the signature.
+/// Clause 6: each invariant is a formula over the context of code with that bound in the signature.
 fn formed(
     alloc: Global,
     kept: &mut Kept,
     table: &mut Table,
     signature: WordSignature,
+    bound: Option<u32>,
     invs: &[(u32, Id)],
 ) -> Result<(), GateFault>
     requires known { AllByRecursion (λ inv. IsKnown table.old inv.1) invs.now }
     requires few { length invs.now ≤ MAX_INVS }
     requires kept { (t : TableView) → AreKept (declared signature) t kept.old }
-    ensures answer { AreFormed signature (id_trees table.old invs.now) result }
+    ensures answer { AreFormed signature bound (id_trees table.old invs.now) result }
     ensures extends { Extends table.old table.new }
     ensures kept { OnOk result (AreKept (declared signature) table.new kept.new) }
 {
-    let context = machine_types(alloc, table)?;
+    let context = context_types(alloc, table, bound)?;
     let form = table.intern(Node::Fam(FORM))?;
-    match first_formless(table, kept, signature, &context, form, invs, 0)? {
+    match first_formless(table, kept, signature, bound, &context, form, invs, 0)? {
         Some(inv) => Err(GateFault::Refused(Refusal::InvNotForm(inv))),
         None => Ok(()),
     }
@@ -68,6 +68,7 @@ fn shaped(
     kept: &mut Kept,
     table: &mut Table,
     signature: WordSignature,
+    bound: Option<u32>,
     code: Code,
     invs: &[(u32, Id)],
     proof: Option<Id>,
@@ -77,7 +78,7 @@ fn shaped(
     requires rising { IsStrictlyIncreasing (map (λ p. p.0) invs.now) }
     requires below { All (λ k. k < length code) (map (λ p. p.0) invs.now) }
     requires kept { (t : TableView) → AreKept (declared signature) t kept.old }
-    ensures answer { let roots = with_roots table.old invs.now proof in
+    ensures answer { let roots = with_roots table.old bound invs.now proof in
         IsShapeAnswer signature roots code result }
     ensures extends { Extends table.old table.new }
     ensures kept { OnOk result (AreKept (declared signature) table.new kept.new) }
@@ -85,7 +86,7 @@ fn shaped(
     if let Some(height) = first_too_high(table, invs, proof, 0) {
         return Err(GateFault::Refused(Refusal::Height(height)));
     }
-    formed(alloc, kept, table, signature, invs)?;
+    formed(alloc, kept, table, signature, bound, invs)?;
     let cut = cut_at(alloc, code, invs)?;
     short(&cut)?;
     Ok(cut)
@@ -101,12 +102,12 @@ fn rest<'b>(
     requires held { IsHeld container }
     requires kept { (s : WordSignature) (t : TableView) → AreKept (declared s) t kept.old }
     ensures answer { IsRestAnswer (contents_of container.entry) result }
-    ensures kept { IfOk result (λ p. let s = head_signature p.container.head in
+    ensures kept { IfOk result (λ p. let s = signature_of p.container.version in
         AreKept (declared s) p.container.table kept.new) }
 {
     let mut container = container;
-    let profile = head_profile(container.head);
-    let signature = head_signature(container.head);
+    let profile = profile_of(container.version);
+    let signature = signature_of(container.version);
     let insns = code_in(alloc, container.code, profile)?;
     let held = &mut container;
     let cut = shaped(
@@ -114,6 +115,7 @@ fn rest<'b>(
         kept,
         &mut held.table,
         signature,
+        held.bound,
         insns,
         &held.invs,
         held.proof,
@@ -130,7 +132,7 @@ pub(crate) fn pass<'b>(
 ) -> Result<Passed<'b>, GateFault>
     requires kept { (s : WordSignature) (t : TableView) → AreKept (declared s) t kept.old }
     ensures answer { IsPassedAnswer policy.now bytes.now result }
-    ensures kept { IfOk result (λ p. let s = head_signature p.container.head in
+    ensures kept { IfOk result (λ p. let s = signature_of p.container.version in
         AreKept (declared s) p.container.table kept.new) }
 {
     match container_for(alloc, policy, bytes) {
@@ -141,8 +143,8 @@ pub(crate) fn pass<'b>(
 
 /// The container in `bytes`, and its code with its annotated indices, where the clauses before the
 /// proof hold: the bytes are a container for `policy`, its code bytes are code, no term is too high,
-/// each invariant is a formula, the annotated indices cut the code, and its unfolded length is
-/// within the limit. The container's terms are its table's, whose weights go by the rules' parameters.
+/// each invariant is a formula, which names the steps that are left only where these are bounded,
+/// the annotated indices cut the code, and its unfolded length is within the limit. The container's terms are its table's, whose weights go by the rules' parameters.
 ///
 /// Errors: `Refused` names the first of these clauses that fails (`specs/First`), exactly where one
 /// does; `Memory` says nothing of `bytes`. One memory of at most `MOST_RESULTS` results and

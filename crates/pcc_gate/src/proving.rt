@@ -44,7 +44,7 @@ pub(crate) fn proof_in(
     }
 }
 
-/// Clause 11: over the signature the proof proves the verification condition. What it proves is
+/// Clause 11: over the signature the proof proves the verification condition with that bound. What it proves is
 /// found first and the condition compared with that, so no condition is written out that a proof is
 /// too small for.
 pub(crate) fn proved(
@@ -52,24 +52,27 @@ pub(crate) fn proved(
     kept: &mut Kept,
     signature: WordSignature,
     policy: &Policy,
+    bound: Option<u32>,
     cut: &Cut,
     invs: &[(u32, Id)],
     proof: Id,
 ) -> Result<(), GateFault>
     requires invs { AreLowInvs table.old invs.now }
-    requires forms { AreForms signature (id_trees table.old invs.now) }
+    requires forms { AreForms signature bound (id_trees table.old invs.now) }
     requires marks { AreFlags (map (λ p. p.0) invs.now) (length cut.now.code) cut.now.marks }
     requires short { unfolded_of cut.now.code cut.now.marks ≤ MAX_UNFOLDED }
     requires proof { IsKnown table.old proof }
     requires kept { AreKept (declared signature) table.old kept.old }
-    ensures answer { let invs = id_trees table.old invs.now in
-        IsProofAnswer signature policy.now cut.now.code invs (tree_at table.old proof) result }
+    ensures answer { let invs = id_trees table.old invs.now in let code = cut.now.code in
+        let proof = tree_at table.old proof in
+        IsProofAnswer signature policy.now bound code invs proof result }
     ensures extends { Extends table.old table.new }
 {
     let Some(formula) = proved_formula_with(table, kept, &signature, proof)? else {
         return Err(GateFault::Refused(Refusal::NotProof));
     };
-    let equal = match is_condition_with(table, &mut kept.memo, cut, policy, invs, formula) {
+    let memo = &mut kept.memo;
+    let equal = match is_condition_with(table, memo, cut, policy, invs, bound, formula) {
         Ok(equal) => equal,
         Err(VcFault::Memory) => return Err(GateFault::Memory),
         Err(VcFault::Results) => return Err(GateFault::Results),

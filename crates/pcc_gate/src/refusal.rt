@@ -22,7 +22,8 @@ pub enum Refusal {
     /// The first root that is higher than `MAX_HEIGHT` has this height.
     #[error("a term is {0} high")]
     Height(u32),
-    /// The least invariant, counted from 0, that is no formula over m and r0 to r30.
+    /// The least invariant, counted from 0, that is no formula over m and r0 to r30, and the steps
+    /// that are left where these are bounded.
     #[error("invariant {0} is no formula")]
     InvNotForm(u32),
     /// The least index on a cycle that has no annotated index.

@@ -10,7 +10,7 @@ use Rattle.clap.specs.Lexer.{strip_byte}
 use Rattle.clap.specs.Simple.{on_top}
 use Rattle.clap.specs.declared.builder.action.ArgAction.TheVariants.{SetTrue}
 use Rattle.clap.specs.declared.builder.value_parser.ValueParser.TheVariants as parser
-use Rattle.pcc_words.specs.declared.limits.TheConstants.{MAX_DEMO, MAX_STEPS}
+use Rattle.pcc_words.specs.declared.limits.TheConstants.{MAX_BOUND, MAX_DEMO, MAX_STEPS}
 
 -- ---- the command line
 
@@ -29,6 +29,13 @@ steps_rule = record (new_rule (codes "steps")) {
 -- `--v2`, without a value
 abbrev pub version_rule : Rule
 version_rule = record (new_rule (codes "v2")) { long = Some (codes "v2"); action = Some SetTrue }
+
+-- `--bound N`, from 1 to 1,000,000,000
+abbrev pub bound_rule : Rule
+bound_rule = record (new_rule (codes "bound")) {
+  long = Some (codes "bound");
+  parser = Some (parser.Unsigned 1 MAX_BOUND);
+}
 
 -- `NAME N`, N from 1 to 400
 abbrev pub number_app : Text → App
@@ -53,6 +60,10 @@ copy_app name = with_rule (input_app name) (positional (codes "OUT"))
 -- `NAME POLICY IN OUT [--v2]`
 abbrev pub versioned_app : Text → App
 versioned_app name = with_rule (copy_app name) version_rule
+
+-- `NAME POLICY IN OUT [--v2] [--bound N]`
+abbrev pub bounded_app : Text → App
+bounded_app name = with_rule (versioned_app name) bound_rule
 
 -- `NAME SCRIPT`
 abbrev pub script_app : Text → App
@@ -80,7 +91,7 @@ bare_app = on_top (λ top. record top { no_binary_name = true }) (new_app (codes
 
 -- the command line with `asm`
 abbrev pub asm_app : App
-asm_app = with_subcommand bare_app (versioned_app (codes "asm")).top
+asm_app = with_subcommand bare_app (bounded_app (codes "asm")).top
 
 -- with `prove`
 abbrev pub copies_app : App
@@ -129,8 +140,8 @@ policy_word text = option_map_or from_file (strip_byte 64 text) (named text)
 
 -- a command with its values
 pub data Invocation : Type 0 where
-  -- `asm POLICY IN OUT [--v2]`, and the version of the container
-  asm : Text → Text → Text → ℕ → Invocation
+  -- `asm POLICY IN OUT [--v2] [--bound N]`, the container's version, and its bound if it has one
+  asm : Text → Text → Text → ℕ → Option ℕ → Invocation
   -- `prove POLICY IN OUT`
   prove : Text → Text → Text → Invocation
   -- `check POLICY FILE`
@@ -156,23 +167,34 @@ value_of id rows = unwrap_or (first_of id rows) []
 abbrev pub is_given : Text → List Row → Bool
 is_given id rows = bytes_eq (value_of id rows) (codes "true")
 
--- the version of the container that `asm` makes
-abbrev pub version_at : List Row → ℕ
-version_at rows = if is_given (codes "v2") rows then 2 else 1
-
 -- the text says a u64 in digits, which a plus may precede
 abbrev pub is_number : Text → Bool
 is_number text =
     let ds = without_leading_plus text in
     nat_lt 0 (length ds) && list_all (λ d. nat_lt (digit_value d) 10) ds && nat_lt (digits_value 10 ds) (2 ^ 64)
 
--- the number, or 0 where the text says none
-abbrev pub number_of : Text → ℕ
-number_of text = if is_number text then digits_value 10 (without_leading_plus text) else 0
+-- the number that the text says, if it says one
+abbrev pub number_of : Text → Option ℕ
+number_of text = if is_number text then Some (digits_value 10 (without_leading_plus text)) else None
 
--- the number of an optional argument
+-- the number of an optional argument, if it has one
+abbrev pub optional_number : Text → List Row → Option ℕ
+optional_number id rows = option_and_then number_of (one_of id rows)
+
+-- the same, or 0
 abbrev pub number_at : Text → List Row → ℕ
-number_at id rows = number_of (unwrap_or (one_of id rows) [])
+number_at id rows = unwrap_or (optional_number id rows) 0
+
+-- no bound, or one from 1 to 1,000,000,000
+abbrev pub is_bound : Option ℕ → Bool
+is_bound None = true
+is_bound (Some n) = nat_le 1 n && nat_le n MAX_BOUND
+
+-- The version of the container that `asm` makes: 3 where it is given a bound, else 2 where that is
+-- asked for, else 1.
+abbrev pub version_at : Option ℕ → List Row → ℕ
+version_at (Some bound) rows = 3
+version_at None rows = if is_given (codes "v2") rows then 2 else 1
 
 -- from 1 to 1,000,000,000
 abbrev pub is_step_count : ℕ → Bool
@@ -202,10 +224,16 @@ copy_invocation command rows = command (value_of (codes "POLICY") rows) (value_o
 abbrev pub path_invocation : (Text → Text → Invocation) → List Row → Invocation
 path_invocation command rows = command (value_of (codes "IN") rows) (value_of (codes "OUT") rows)
 
--- `asm` of these rows
-abbrev pub asm_invocation : List Row → Invocation
+-- `asm` of these rows with this bound, if it has one
+abbrev pub asm_with : Option ℕ → List Row → Invocation
+asm_with bound rows =
+    copy_invocation (λ policy input output. asm policy input output (version_at bound rows) bound) rows
+
+-- `asm` of these rows. The parse takes no other bounds, so the test refuses none of them.
+abbrev pub asm_invocation : List Row → Option Invocation
 asm_invocation rows =
-    copy_invocation (λ policy input output. asm policy input output (version_at rows)) rows
+    let bound = optional_number (codes "bound") rows in
+    if is_bound bound then Some (asm_with bound rows) else None
 
 -- `check` of these rows
 abbrev pub check_invocation : List Row → Invocation
@@ -215,7 +243,7 @@ check_invocation rows =
 -- what was found for the subcommand of this name
 abbrev pub invocation_at : Text → List Row → Option Invocation
 invocation_at name rows =
-    if bytes_eq name (codes "asm") then Some (asm_invocation rows) else
+    if bytes_eq name (codes "asm") then asm_invocation rows else
     if bytes_eq name (codes "prove") then Some (copy_invocation prove rows) else
     if bytes_eq name (codes "check") then Some (check_invocation rows) else
     if bytes_eq name (codes "run") then run_invocation run rows else

@@ -5,12 +5,13 @@ ghost use Rattle.clap.specs.declared.Command.TheViews.{out-Command as fields_of}
 ghost use Rattle.pcc_words.specs.Invocations.{policy_app, file_app, input_app, copy_app};
 ghost use Rattle.pcc_words.specs.Invocations.{packets_app, run_app, number_app, steps_rule};
 ghost use Rattle.pcc_words.specs.Invocations.{version_rule, versioned_app, upgrades_app};
+ghost use Rattle.pcc_words.specs.Invocations.{bound_rule, bounded_app};
 ghost use Rattle.pcc_words.specs.Invocations.{asm_app, copies_app, file_commands_app};
 ghost use Rattle.pcc_words.specs.Invocations.{runs_app, named_files_app, demos_app, pcc_app};
 ghost use Rattle.pcc_words.specs.Invocations.{path_app, paths_app, script_app, hosts_app};
 ghost use Rattle.pcc_words.specs.Invocations.{positional as positional_rule};
 
-use crate::limits::{MAX_DEMO, MAX_STEPS};
+use crate::limits::{MAX_BOUND, MAX_DEMO, MAX_STEPS};
 use clap::{Arg, ArgAction, Command, value_parser};
 use std::alloc::{AllocError, Global};
 
@@ -39,6 +40,16 @@ fn version_flag<'a>(alloc: Global) -> Arg<'a>
     ensures local { result.global ≡ false }
 {
     Arg::new(alloc, "v2").long("v2").action(ArgAction::SetTrue)
+}
+
+/// `--bound N`
+fn bound<'a>(alloc: Global) -> Arg<'a>
+    ensures rule { rule_of result ≡ bound_rule }
+    ensures local { result.global ≡ false }
+{
+    Arg::new(alloc, "bound")
+        .long("bound")
+        .value_parser(value_parser!(u64).range(1..=MAX_BOUND as i64))
 }
 
 /// `NAME N`
@@ -90,6 +101,14 @@ fn versioned_command<'a>(alloc: Global, name: &'a str) -> Result<Command<'a>, Al
     copy_command(alloc, name)?.arg(version_flag(alloc))
 }
 
+/// `NAME POLICY IN OUT [--v2] [--bound N]`
+fn bounded_command<'a>(alloc: Global, name: &'a str) -> Result<Command<'a>, AllocError>
+    ensures app { IfOk result (λ c. app_of c ≡ bounded_app name.entry.now) }
+    ensures local { IfOk result (λ c. (fields_of c).has_globals ≡ false) }
+{
+    versioned_command(alloc, name)?.arg(bound(alloc))
+}
+
 /// `NAME SCRIPT`
 fn script_command<'a>(alloc: Global, name: &'a str) -> Result<Command<'a>, AllocError>
     ensures app { IfOk result (λ c. app_of c ≡ script_app name.entry.now) }
@@ -134,7 +153,7 @@ fn run_command<'a>(alloc: Global, name: &'a str) -> Result<Command<'a>, AllocErr
 fn asm_command<'a>(alloc: Global) -> Result<Command<'a>, AllocError>
     ensures app { IfOk result (λ c. app_of c ≡ asm_app) }
 {
-    let added = versioned_command(alloc, "asm")?;
+    let added = bounded_command(alloc, "asm")?;
     Command::new(alloc, "pcc")
         .no_binary_name(true)
         .subcommand(added)

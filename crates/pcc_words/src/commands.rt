@@ -9,7 +9,7 @@ pub enum PolicyWord<'a> {
     FromFile(&'a str),
 }
 
-/// The arguments of `asm`: `POLICY IN OUT [--v2]`.
+/// The arguments of `asm`: `POLICY IN OUT [--v2] [--bound N]`.
 #[derive(Clone, Copy, Debug, PartialEq, Eq)]
 pub struct AsmArgs<'a> {
     /// The policy's name.
@@ -18,8 +18,10 @@ pub struct AsmArgs<'a> {
     pub input: &'a str,
     /// The name of the file that is written, which may be the same.
     pub output: &'a str,
-    /// The version of the container: 2 where it is asked for, and else 1.
+    /// The container's version: 3 where it has a bound, else 2 where that is asked for, else 1.
     pub version: u32,
+    /// The container's bound on the steps, from 1 to `MAX_BOUND`, if it has one.
+    pub bound: Option<u32>,
 }
 
 /// The arguments of a command that makes a file of another: `POLICY IN OUT`.

@@ -20,7 +20,7 @@ ghost use Rattle.pcc_words.specs.Commands.{invocation_of, IsInRange};
 use builders::pcc_command;
 use clap::error::ErrorKind;
 pub use commands::{AsmArgs, CheckArgs, Command, CopyArgs, PathArgs, PolicyWord, RunArgs};
-pub use limits::{MAX_DEMO, MAX_STEPS};
+pub use limits::{MAX_BOUND, MAX_DEMO, MAX_STEPS};
 use std::alloc::{AllocError, Global};
 pub use theorems::{worked_commands, worked_faults};
 use values::command_found;

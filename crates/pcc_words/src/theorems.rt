@@ -6,16 +6,34 @@ ghost use Rattle.pcc_words.specs.Invocations.{upgrade, host, bpf, named, from_fi
 /// Arguments that are a command.
 pub fn worked_commands()
     ensures asm { command_of (codes "asm" ∷ codes "filter" ∷ codes "S1" ∷ codes "C1" ∷ [])
-        ≡ Some (asm (codes "filter") (codes "S1") (codes "C1") 1) }
+        ≡ Some (asm (codes "filter") (codes "S1") (codes "C1") 1 None) }
     ensures asm_version { command_of (codes "asm" ∷ codes "filter" ∷ codes "S1" ∷ codes "C1"
-        ∷ codes "--v2" ∷ []) ≡ Some (asm (codes "filter") (codes "S1") (codes "C1") 2) }
+        ∷ codes "--v2" ∷ []) ≡ Some (asm (codes "filter") (codes "S1") (codes "C1") 2 None) }
     ensures version_first { command_of (codes "asm" ∷ codes "--v2" ∷ codes "filter" ∷ codes "S1"
-        ∷ codes "C1" ∷ []) ≡ Some (asm (codes "filter") (codes "S1") (codes "C1") 2) }
+        ∷ codes "C1" ∷ []) ≡ Some (asm (codes "filter") (codes "S1") (codes "C1") 2 None) }
     ensures version_behind_dashes { command_of (codes "asm" ∷ codes "filter" ∷ codes "--"
         ∷ codes "--v2" ∷ codes "C1" ∷ [])
-        ≡ Some (asm (codes "filter") (codes "--v2") (codes "C1") 1) }
+        ≡ Some (asm (codes "filter") (codes "--v2") (codes "C1") 1 None) }
+    ensures bound { command_of (codes "asm" ∷ codes "filter" ∷ codes "S1" ∷ codes "C1"
+        ∷ codes "--bound" ∷ codes "1" ∷ [])
+        ≡ Some (asm (codes "filter") (codes "S1") (codes "C1") 3 (Some 1)) }
+    ensures bound_most { command_of (codes "asm" ∷ codes "--bound" ∷ codes "1000000000"
+        ∷ codes "filter" ∷ codes "S1" ∷ codes "C1" ∷ [])
+        ≡ Some (asm (codes "filter") (codes "S1") (codes "C1") 3 (Some 1000000000)) }
+    ensures bound_attached { command_of (codes "asm" ∷ codes "filter" ∷ codes "S1"
+        ∷ codes "--bound=2" ∷ codes "C1" ∷ [])
+        ≡ Some (asm (codes "filter") (codes "S1") (codes "C1") 3 (Some 2)) }
+    ensures bound_zeros { command_of (codes "asm" ∷ codes "filter" ∷ codes "S1" ∷ codes "C1"
+        ∷ codes "--bound" ∷ codes "+002" ∷ [])
+        ≡ Some (asm (codes "filter") (codes "S1") (codes "C1") 3 (Some 2)) }
+    ensures bound_behind_version { command_of (codes "asm" ∷ codes "filter" ∷ codes "S1"
+        ∷ codes "C1" ∷ codes "--v2" ∷ codes "--bound" ∷ codes "2" ∷ [])
+        ≡ Some (asm (codes "filter") (codes "S1") (codes "C1") 3 (Some 2)) }
+    ensures bound_before_version { command_of (codes "asm" ∷ codes "--bound=2" ∷ codes "--v2"
+        ∷ codes "filter" ∷ codes "S1" ∷ codes "C1" ∷ [])
+        ≡ Some (asm (codes "filter") (codes "S1") (codes "C1") 3 (Some 2)) }
     ensures asm_at { command_of (codes "asm" ∷ codes "@F" ∷ codes "S1" ∷ codes "C1" ∷ [])
-        ≡ Some (asm (codes "@F") (codes "S1") (codes "C1") 1) }
+        ≡ Some (asm (codes "@F") (codes "S1") (codes "C1") 1 None) }
     ensures prove { command_of (codes "prove" ∷ codes "tag" ∷ codes "C1" ∷ codes "C2" ∷ [])
         ≡ Some (prove (codes "tag") (codes "C1") (codes "C2")) }
     ensures check { command_of (codes "check" ∷ codes "filter" ∷ codes "C1" ∷ [])
@@ -98,6 +116,22 @@ pub fn worked_faults()
         ∷ codes "C1" ∷ codes "--v2=2" ∷ []) ≡ None }
     ensures version_shortened { command_of (codes "asm" ∷ codes "filter" ∷ codes "S1"
         ∷ codes "C1" ∷ codes "--v" ∷ []) ≡ None }
+    ensures bound_zero { command_of (codes "asm" ∷ codes "filter" ∷ codes "S1" ∷ codes "C1"
+        ∷ codes "--bound" ∷ codes "0" ∷ []) ≡ None }
+    ensures bound_above { command_of (codes "asm" ∷ codes "filter" ∷ codes "S1" ∷ codes "C1"
+        ∷ codes "--bound" ∷ codes "1000000001" ∷ []) ≡ None }
+    ensures bound_above_with_version { command_of (codes "asm" ∷ codes "filter" ∷ codes "S1"
+        ∷ codes "C1" ∷ codes "--v2" ∷ codes "--bound=1000000001" ∷ []) ≡ None }
+    ensures bound_negative { command_of (codes "asm" ∷ codes "filter" ∷ codes "S1" ∷ codes "C1"
+        ∷ codes "--bound=-1" ∷ []) ≡ None }
+    ensures bound_letters { command_of (codes "asm" ∷ codes "filter" ∷ codes "S1" ∷ codes "C1"
+        ∷ codes "--bound" ∷ codes "x" ∷ []) ≡ None }
+    ensures bound_without_value { command_of (codes "asm" ∷ codes "filter" ∷ codes "S1"
+        ∷ codes "C1" ∷ codes "--bound" ∷ []) ≡ None }
+    ensures bound_twice { command_of (codes "asm" ∷ codes "filter" ∷ codes "S1" ∷ codes "C1"
+        ∷ codes "--bound=2" ∷ codes "--bound=2" ∷ []) ≡ None }
+    ensures bound_of_prove { command_of (codes "prove" ∷ codes "tag" ∷ codes "C1" ∷ codes "C2"
+        ∷ codes "--bound=2" ∷ []) ≡ None }
     ensures version_of_prove { command_of (codes "prove" ∷ codes "tag" ∷ codes "C1" ∷ codes "C2"
         ∷ codes "--v2" ∷ []) ≡ None }
     ensures prove_too_few { command_of (codes "prove" ∷ codes "tag" ∷ codes "C1" ∷ []) ≡ None }

@@ -1,21 +1,34 @@
 //! The values of a command, from the matches of a parse.
-ghost use Rattle.std.specs.Prelude.{◌≡◌, IfSome, Some, None, codes, if◌then◌else◌, option_and_then, option_map};
+ghost use Rattle.std.specs.Prelude.{◌≡◌, true, IfSome, Some, None, codes, if◌then◌else◌, option_and_then, option_map};
 ghost use Rattle.clap.specs.Lexer.{strip_byte};
 ghost use Rattle.clap.specs.Words.{found_of, rows_of, subcommand_rows_of};
-ghost use Rattle.pcc_words.specs.Invocations.{is_step_count, is_demo_size, number_at, value_of};
-ghost use Rattle.pcc_words.specs.Invocations.{is_given, version_at, policy_word};
+ghost use Rattle.pcc_words.specs.Invocations.{is_step_count, is_demo_size, is_bound, value_of};
+ghost use Rattle.pcc_words.specs.Invocations.{optional_number, number_at};
+ghost use Rattle.pcc_words.specs.Invocations.{is_given, version_at, asm_invocation, policy_word};
 ghost use Rattle.pcc_words.specs.Invocations.{invocation_at, invocation_of_subcommand};
-ghost use Rattle.pcc_words.specs.Commands.{word_view, invocation_of, IsInRange};
+ghost use Rattle.pcc_words.specs.Commands.{word_view, asm_of, invocation_of};
+ghost use Rattle.pcc_words.specs.Commands.{IsVersionOf, IsInRange};
 
 use crate::commands::{AsmArgs, CheckArgs, Command, CopyArgs, PathArgs, PolicyWord, RunArgs};
-use crate::limits::{MAX_DEMO, MAX_STEPS};
+use crate::limits::{MAX_BOUND, MAX_DEMO, MAX_STEPS};
 use clap::ArgMatches;
 
-/// The number of an optional argument, or 0 where it says none.
+/// The number of an optional argument, if it has one.
+fn optional_number(matches: &ArgMatches<'_>, id: &str) -> Option<u64>
+    ensures { result ≡ optional_number id.now (rows_of (found_of matches.now)) }
+{
+    // by cases, since what clap says of an answer is by cases too
+    match matches.get_one::<u64>(id) {
+        Some(number) => Some(number),
+        None => None,
+    }
+}
+
+/// The number of an optional argument, or 0 where it has none.
 fn number_given(matches: &ArgMatches<'_>, id: &str) -> u64
     ensures { result ≡ number_at id.now (rows_of (found_of matches.now)) }
 {
-    match matches.get_one::<u64>(id) {
+    match optional_number(matches, id) {
         Some(number) => number,
         None => 0,
     }
@@ -38,27 +51,47 @@ fn is_given(matches: &ArgMatches<'_>, id: &str) -> bool
     text_given(matches, id) == "true"
 }
 
-/// The version of the container that `asm` makes.
-fn version_given(matches: &ArgMatches<'_>) -> u32
-    ensures { result ≡ version_at (rows_of (found_of matches.now)) }
+/// The bound, where there is none or it is in its range.
+fn bound_in_range(bound: Option<u64>) -> Option<Option<u32>>
+    ensures exact { result ≡ (if is_bound bound then Some bound else None) }
+    ensures in_range { IfSome result (λ b. is_bound b ≡ true) }
 {
-    if is_given(matches, "v2") { 2 } else { 1 }
+    match bound {
+        Some(n) => {
+            if 1 <= n && n <= MAX_BOUND {
+                Some(Some(n as u32))
+            } else {
+                None
+            }
+        }
+        None => Some(None),
+    }
 }
 
-/// The arguments of `asm`.
-fn asm_args_given<'a>(matches: &ArgMatches<'a>) -> AsmArgs<'a>
-    ensures policy { result.policy.now ≡ value_of (codes "POLICY") (rows_of
-        (found_of matches.now)) }
-    ensures input { result.input.now ≡ value_of (codes "IN") (rows_of (found_of matches.now)) }
-    ensures output { result.output.now ≡ value_of (codes "OUT") (rows_of (found_of matches.now)) }
-    ensures version { result.version ≡ version_at (rows_of (found_of matches.now)) }
+/// The version of the container that `asm` makes.
+fn version_given(matches: &ArgMatches<'_>, bound: Option<u32>) -> u32
+    ensures { result ≡ version_at bound (rows_of (found_of matches.now)) }
 {
-    AsmArgs {
+    match bound {
+        Some(_) => 3,
+        None => { if is_given(matches, "v2") { 2 } else { 1 } }
+    }
+}
+
+/// The arguments of `asm`, where the bound is in its range. As of the number of steps (see
+/// `with_steps_in_range`), clap took no other.
+fn asm_args_given<'a>(matches: &ArgMatches<'a>) -> Option<AsmArgs<'a>>
+    ensures exact { option_map asm_of result ≡ asm_invocation (rows_of (found_of matches.now)) }
+    ensures in_range { IfSome result (λ args. IsVersionOf args.bound args.version) }
+{
+    let bound = bound_in_range(optional_number(matches, "bound"))?;
+    Some(AsmArgs {
         policy: text_given(matches, "POLICY"),
         input: text_given(matches, "IN"),
         output: text_given(matches, "OUT"),
-        version: version_given(matches),
-    }
+        version: version_given(matches, bound),
+        bound,
+    })
 }
 
 /// The arguments of a command that makes a file of another.
@@ -163,7 +196,7 @@ fn command_given<'a>(name: &str, matches: &ArgMatches<'a>) -> Option<Command<'a>
     ensures in_range { IfSome result IsInRange }
 {
     match name {
-        "asm" => Some(Command::Asm(asm_args_given(matches))),
+        "asm" => Some(Command::Asm(asm_args_given(matches)?)),
         "prove" => Some(Command::Prove(copy_args_given(matches))),
         "check" => Some(Command::Check(check_args_given(matches))),
         "run" => Some(Command::Run(with_steps_in_range(run_args_given(matches))?)),

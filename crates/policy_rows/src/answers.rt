@@ -32,7 +32,6 @@ fn text_of(alloc: Global, bytes: &[u8]) -> Result<String, AllocError> {
 
 /// Both formulas as they are printed, with `\n` for each LF.
 fn policy_text(alloc: Global, policy: &Policy) -> Result<String, AllocError> {
-    policy.laws(); // the formulas are closed, as printing asks
     let pre = print_form(alloc, policy.pre())?;
     let post = print_form(alloc, policy.post())?;
     let first = text_of(alloc, pre.as_slice())?;

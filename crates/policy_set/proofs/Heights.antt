@@ -1,6 +1,6 @@
 -- A formula is less high than its text is long: what stands within another has parentheses and a
 -- keyword around it.
-use Rattle.std.proofs.Common.{◌≡◌, ℕ, ◌+◌, ◌*◌, ◌≤◌, List, [], ◌∷◌, ◌++◌, length, length-append, ap, arith}
+use Rattle.std.proofs.Common.{◌≡◌, ℕ, ◌+◌, ◌*◌, ◌≤◌, false, List, [], ◌∷◌, ◌++◌, length, length-append, ap, arith}
 use Rattle.word_ops.specs.declared.Profile.{Profile}
 use Rattle.formula_tree.specs.Formulas.{Exp, EReg, ELeft, EVar, ELit, EOp, ESel, MemExp, MMem, MVar, MUpd, Form, FTrue, FFalse, FRel, FRd, FWr, FAnd, FOr, FImp, FAll, FAllm}
 use Rattle.formula_tree.specs.Sizes.{exp_height, mem_height, form_height}
@@ -45,10 +45,10 @@ three-length k us vs ws ts e =
 
 module _ (profile : Profile) where
   mutual
-    exp-low : (a : Exp) (s : Bindings) (ts : List (Token Paren)) → SpellsExp profile a s ts
+    exp-low : (a : Exp) (s : Bindings) (ts : List (Token Paren)) → SpellsExp profile false a s ts
         → 3 * exp_height a ≤ length ts + 2
     exp-low (EReg r) s ts h = omega (arith, ap length h.2)
-    exp-low ELeft s ts h = absurd h
+    exp-low ELeft s ts h = absurd h.0
     exp-low (EVar n) s ts h = omega (arith, ap length h.3)
     exp-low (ELit n) s ts h = omega (arith, ap length h.3)
     exp-low (EOp o a b) s ts h =
@@ -58,7 +58,7 @@ module _ (profile : Profile) where
         let l = two-length K.Sel h.0 h.1 ts h.4 in
         omega (arith, l, mem-low m s h.0 h.2, exp-low a s h.1 h.3)
 
-    mem-low : (m : MemExp) (s : Bindings) (ts : List (Token Paren)) → SpellsMem profile m s ts
+    mem-low : (m : MemExp) (s : Bindings) (ts : List (Token Paren)) → SpellsMem profile false m s ts
         → 3 * mem_height m ≤ length ts + 2
     mem-low MMem s ts h = omega (arith, ap length h)
     mem-low (MVar n) s ts h = omega (arith, ap length h.3)
@@ -66,7 +66,7 @@ module _ (profile : Profile) where
         let l = three-length K.Upd h.0 h.1 h.2 ts h.6 in
         omega (arith, l, mem-low m s h.0 h.3, exp-low a s h.1 h.4, exp-low v s h.2 h.5)
 
-  form-low : (A : Form) (s : Bindings) (ts : List (Token Paren)) → SpellsForm profile A s ts
+  form-low : (A : Form) (s : Bindings) (ts : List (Token Paren)) → SpellsForm profile false A s ts
       → 3 * form_height A ≤ length ts + 2
   form-low FTrue s ts h = omega (arith, ap length h)
   form-low FFalse s ts h = omega (arith, ap length h)
@@ -92,7 +92,7 @@ module _ (profile : Profile) where
       omega (arith, l, form-low A ((h.0, S.Mem) ∷ s) h.1 h.3)
 
   -- a formula whose text isn't long isn't high
-  pub spelled-low : (text : List ℕ) (F : Form) → Spells profile text F → length text ≤ MAX_FORM_LINE
+  pub spelled-low : (text : List ℕ) (F : Form) → Spells profile false text F → length text ≤ MAX_FORM_LINE
       → form_height F ≤ MAX_FORM_HEIGHT
   spelled-low text F h short =
       omega (arith, short, tokens-few paren_class text h.tokens h.consists, form-low F [] h.tokens h.spelled)

@@ -44,8 +44,8 @@ of-formulas policy e =
 pub spelled-read : (bytes : List ℕ) (policy : PolicyView) → SpellsPolicy bytes policy
     → policy_read bytes ≡ Ok policy
 spelled-read bytes policy h =
-    let asked = spelled_parsed Two h.first policy.pre h.asked in
-    let promised = spelled_parsed Two h.second policy.post h.promised in
+    let asked = spelled_parsed Two false h.first policy.pre h.asked in
+    let promised = spelled_parsed Two false h.second policy.post h.promised in
     ap (λ (ls : List (List ℕ)). form_lines ls >>= both_forms)
     (lines_are bytes (h.first ∷ h.second ∷ []) h.lines)
     ∙ ap (λ (o : Result (List ℕ × List ℕ) PolicyFault). o >>= both_forms)
@@ -61,8 +61,8 @@ spelled-read bytes policy h =
 module _ (bytes : List ℕ) (policy : PolicyView) where
   by-forms : (first second : List ℕ) → lines_of bytes ≡ first ∷ second ∷ []
       → length first ≤ MAX_FORM_LINE → length second ≤ MAX_FORM_LINE
-      → (x : Result Form FaultAt) → parsed_form Two first ≡ x
-      → (y : Result Form FaultAt) → parsed_form Two second ≡ y
+      → (x : Result Form FaultAt) → parsed_form Two false first ≡ x
+      → (y : Result Form FaultAt) → parsed_form Two false second ≡ y
       → (in_line 1 x >>= λ pre. in_line 2 y >>= λ post. Ok (from_file pre post)) ≡ Ok policy
       → SpellsPolicy bytes policy
   by-forms first second e p q (Err (at, flaw)) x y f h = cc
@@ -76,8 +76,8 @@ module _ (bytes : List ℕ) (policy : PolicyView) where
         lines = subst (λ ls. AreLines bytes ls) e (are_lines bytes);
         first_short = p;
         second_short = q;
-        asked = parsed_spelled Two first F x;
-        promised = parsed_spelled Two second G y;
+        asked = parsed_spelled Two false first F x;
+        promised = parsed_spelled Two false second G y;
         no_kind = refl;
       })
 
@@ -88,7 +88,7 @@ module _ (bytes : List ℕ) (policy : PolicyView) where
   by-second first second e p true l h = cc
   by-second first second e p false l h =
       by-forms first second e p (ltb-false MAX_FORM_LINE (length second) l)
-      (parsed_form Two first) refl (parsed_form Two second) refl h
+      (parsed_form Two false first) refl (parsed_form Two false second) refl h
 
   by-first : (first second : List ℕ) → lines_of bytes ≡ first ∷ second ∷ []
       → (t : Bool) → nat_lt MAX_FORM_LINE (length first) ≡ t
@@ -139,11 +139,11 @@ pub spelled-is : (bytes : List ℕ) (policy : PolicyView) → SpellsPolicy bytes
     → IsPolicy policy
 spelled-is bytes policy h = record {
   asked = record {
-    over = spelled_closed Two h.first policy.pre h.asked;
+    over = spelled_closed Two false h.first policy.pre h.asked;
     low = spelled-low Two h.first policy.pre h.asked h.first_short;
   };
   promised = record {
-    over = spelled_closed Two h.second policy.post h.promised;
+    over = spelled_closed Two false h.second policy.post h.promised;
     low = spelled-low Two h.second policy.post h.promised h.second_short;
   };
   of_kind =

@@ -188,18 +188,18 @@ binders-low (FAllm A) = omega (arith, binders-low A)
 binders-few : (F : Form) → IsPolicyForm F → 0 + binders F < 2 ^ 64
 binders-few F f = omega (arith, binders-low F, f.low)
 
-spells-again : (F : Form) → IsPolicyForm F → Spells Two (form_text 0 F) F
+spells-again : (F : Form) → IsPolicyForm F → Spells Two false (form_text 0 F) F
 spells-again F f =
-    print_spells Two F f.over (form-uses F) (omega (arith, binders-few F f))
+    print_spells Two false F f.over (form-uses F) (omega (arith, binders-few F f))
 
 text-bare : (F : Form) → IsPolicyForm F → IsBare (form_text 0 F)
 text-bare F f = form-bare F 0 [] (binders-few F f) f.over
 
 same-form : (F G : Form) → IsPolicyForm F → IsPolicyForm G → form_text 0 F ≡ form_text 0 G → F ≡ G
 same-form F G f g e =
-    let p = spelled_parsed Two (form_text 0 F) F (spells-again F f) in
-    let q = spelled_parsed Two (form_text 0 G) G (spells-again G g) in
-    let same : Ok F ≡ Ok G = sym p ∙ ap (parsed_form Two) e ∙ q in cc
+    let p = spelled_parsed Two false (form_text 0 F) F (spells-again F f) in
+    let q = spelled_parsed Two false (form_text 0 G) G (spells-again G g) in
+    let same : Ok F ≡ Ok G = sym p ∙ ap (parsed_form Two false) e ∙ q in cc
 
 -- ---- two lines
 

@@ -1,5 +1,5 @@
 -- Policies from files: which bytes spell a policy, and what is wrong with others.
-use Rattle.std.specs.Prelude.{◌≡◌, ◌≤◌, ℕ, nat_lt, if◌then◌else◌, List, [], ◌∷◌, length, None, Result, Ok, Err}
+use Rattle.std.specs.Prelude.{◌≡◌, ◌≤◌, ℕ, nat_lt, if◌then◌else◌, false, List, [], ◌∷◌, length, None, Result, Ok, Err}
 use Rattle.word_ops.specs.declared.Profile.TheVariants.{Two}
 use Rattle.term_table.specs.Steps.{◌>>=◌}
 use Rattle.text_lines.specs.Lines.{AreLines, lines_of}
@@ -13,15 +13,15 @@ use Rattle.policy_set.specs.declared.limits.TheConstants.{MAX_FORM_LINE}
 use Rattle.policy_set.specs.Views.{PolicyView}
 
 -- The bytes spell the policy: they are two lines, neither is long, and each spells a formula over
--- the operators of both profiles. Such a policy has no kind.
+-- the operators of both profiles, without the steps that are left. Such a policy has no kind.
 pub record SpellsPolicy (bytes : List ℕ) (policy : PolicyView) : Type 0 where
   pub first : List ℕ
   pub second : List ℕ
   pub lines : AreLines bytes (first ∷ second ∷ [])
   pub first_short : length first ≤ MAX_FORM_LINE
   pub second_short : length second ≤ MAX_FORM_LINE
-  pub asked : Spells Two first policy.pre
-  pub promised : Spells Two second policy.post
+  pub asked : Spells Two false first policy.pre
+  pub promised : Spells Two false second policy.post
   pub no_kind : policy.kind ≡ None
 
 -- ---- the same as a function
@@ -45,7 +45,7 @@ in_line n (Err (at, flaw)) = Err (fault.Form n (text.At at flaw))
 
 -- the formula of a line, or its first fault
 abbrev pub line_form : ℕ → List ℕ → Result Form PolicyFault
-line_form n line = in_line n (parsed_form Two line)
+line_form n line = in_line n (parsed_form Two false line)
 
 -- the policy that the bytes spell, or the first of their faults: both lengths come before both
 -- formulas

@@ -26,7 +26,6 @@ fn lines_digest(first: &[u8], second: &[u8]) -> [u8; 32]
 pub fn digest(alloc: Global, policy: &Policy) -> Result<[u8; 32], AllocError>
     ensures exact { IfOk result (λ d. d ≡ digest_of policy.now) }
 {
-    policy.laws(); // the formulas name registers and bound variables alone, as printing asks
     let pre = print_form(alloc, policy.pre())?;
     let post = print_form(alloc, policy.post())?;
     Ok(lines_digest(&pre, &post))

@@ -39,14 +39,14 @@ fn form_lines(bytes: &[u8]) -> Result<(&[u8], &[u8]), PolicyFault>
     Ok((first, second))
 }
 
-/// The formula of a line, which every policy may have. Errors: `Form` with the line's number, and
-/// `Memory`.
+/// The formula of a line, which every policy may have; none names the steps that are left. Errors:
+/// `Form` with the line's number, and `Memory`.
 fn line_form(alloc: Global, number: u32, line: &[u8]) -> Result<Form, PolicyFault>
     requires short { length line.now ≤ MAX_FORM_LINE }
     ensures form { IfOk result (λ form. IsPolicyForm (form_view form)) }
     ensures exact { IsPolicyAnswer form_view (line_form number line.now) result }
 {
-    match read_form(alloc, line, Profile::Two) {
+    match read_form(alloc, line, Profile::Two, false) {
         Ok(form) => Ok(form),
         Err(TextFault::At(position, flaw)) => {
             Err(PolicyFault::Form(number, TextFault::At(position, flaw)))

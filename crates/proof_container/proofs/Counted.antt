@@ -1,127 +1,265 @@
 -- The start and the end of a container, and its entries and invariants with their counts.
-use Rattle.std.proofs.Common.{◌≡◌, ℕ, zero, suc, ◌+◌, ◌*◌, ◌/◌, ◌<◌, ◌≤◌, false, ltb, List, [], ◌∷◌, ◌++◌, length, drop, Option, Some, None, Result, Ok, refl, sym, ap, subst, ◌∙◌, append_assoc, arith}
+use Rattle.term_table.specs.Steps.{◌>>=◌}
+use Rattle.std.proofs.Common.{◌≡◌, ◌≢◌, ℕ, suc, ◌+◌, ◌*◌, ◌/◌, ◌<◌, ◌≤◌, false, ltb, eqb, List, [], ◌∷◌, ◌++◌, length, drop, Option, Some, None, Result, Ok, refl, sym, ap, subst, ◌∙◌, append_assoc, length-append, inl, inr, arith}
 use Rattle.std.specs.List.{flat_map}
-use Rattle.std.proofs.lemmas.Bool.{ltb-false, le-ltb}
+use Rattle.std.proofs.lemmas.Bool.{ltb-false, le-ltb, ne_eqb, cases_eq}
 use Rattle.term_table.specs.Tree.{Tree}
 use Rattle.proof_container.specs.declared.container.Head.{Head}
 use Rattle.proof_container.specs.declared.container.Head.TheVariants.{Number, Digest}
 use Rattle.proof_container.specs.declared.fault.Flaw.TheVariants.{Magic, Version, Count}
-use Rattle.proof_container.specs.Versions.{version_of, policy_size, code_field, IsHead}
+use Rattle.proof_container.specs.Versions.{policy_size, bound_size, code_field, IsVersion, IsHead, IsBoundOf}
 use Rattle.proof_container.specs.Contents.{Contents, roots}
 use Rattle.proof_container.specs.Postorder.{entries, ArePostorder}
 use Rattle.term_table.specs.Bytes.{IsBytes}
-use Rattle.proof_container.specs.Encoding.{field_bytes, entry_fields, magic, policy_bytes, head_bytes, AreTerms}
-use Rattle.proof_container.specs.Decoding.{Fault, field_at, exact_at, between_at, raw_at, policy_at, decoded_head, entries_at, decoded_entries, invs_at, decoded_invs, first_misplaced, unless_misplaced, decoded_end}
+use Rattle.proof_container.specs.Encoding.{field_bytes, entry_fields, magic, policy_bytes, bound_fields, head_bytes, AreTerms}
+use Rattle.proof_container.specs.Decoding.{Fault, field_at, exact_at, between_at, raw_at, policy_at, bound_at, Front, decoded_head, entries_at, decoded_entries, invs_at, decoded_invs, first_misplaced, unless_misplaced, decoded_end}
 use Rattle.proof_container.proofs.Walks.{ArePostorder-different, misplaced_none}
-use Rattle.proof_container.proofs.FieldLaws.{bind_ok, guard_ok, ok_is, field_takes, exact_takes, exact_again, between_takes, between_again, Stands, Stands-there, Stands-again, IsPiece, piece_then, fields_piece, behind_piece, IsRaw, raw_takes, raw_again}
+use Rattle.proof_container.proofs.FieldLaws.{bind_ok, guard_ok, done, ok_is, field_takes, exact_takes, exact_again, between_takes, between_again, field_there, Stands, Stands-there, Stands-again, Stands-append, Stands-split, AreFields, AreFields-append, length-field_bytes, IsPiece, piece_then, fields_piece, behind_piece, IsRaw, raw_takes, raw_again}
 use Rattle.proof_container.proofs.Sections.{entries_take, entries_again, AreInvs, invs_take, invs_again}
 
--- ---- what names the policy
+-- ---- what names the policy, and the bound
 
 -- what names the policy was read in this version
 pub record IsNamed (bytes : List ℕ) (version : ℕ) (h : Head) : Type 0 where
-  pub version_is : version_of h ≡ version
-  pub named : IsHead h
+  pub named : IsHead version h
   pub stands : IsPiece bytes 2 (policy_bytes h) (2 + policy_size version)
 
-pub policy_takes : (bytes : List ℕ) (version : ℕ) (h : Head) → IsBytes bytes → 1 ≤ version
-    → version ≤ 2 → policy_at bytes version ≡ Ok h → IsNamed bytes version h
+-- in version 1 it is a number
+number_takes : (bytes : List ℕ) (h : Head) → IsBytes bytes → policy_at bytes 1 ≡ Ok h
+    → IsNamed bytes 1 h
 unfolding policy_at
-policy_takes bytes zero h fits some known e = absurd (omega (arith, some))
-policy_takes bytes (suc zero) h fits some known e =
+number_takes bytes h fits e =
     let n = bind_ok (field_at bytes 2) _ h e in
     let made : IsNamed bytes 1 (Number n.0) = record {
-      version_is = refl;
-      named = (field_takes bytes 2 n.0 fits n.1).small;
+      named = (refl, (field_takes bytes 2 n.0 fits n.1).small);
       stands = fields_piece bytes 2 (n.0 ∷ []) fits (n.1, tt);
     } in
     subst (λ (x : Head). IsNamed bytes 1 x) (ok_is (Number n.0) h n.2) made
-policy_takes bytes (suc (suc zero)) h fits some known e =
-    let d = bind_ok (raw_at bytes 2 8) _ h e in
-    let raw : IsRaw bytes 2 8 d.0 = raw_takes bytes 2 8 d.0 fits d.1 in
-    let made : IsNamed bytes 2 (Digest d.0) = record {
-      version_is = refl;
-      named = (raw.long, raw.fits);
-      stands = raw.stands;
-    } in
-    subst (λ (x : Head). IsNamed bytes 2 x) (ok_is (Digest d.0) h d.2) made
-policy_takes bytes (suc (suc (suc v))) h fits some known e = absurd (omega (arith, known))
 
-pub policy_again : (bytes : List ℕ) (h : Head) (rest : List ℕ) → IsHead h
-    → drop (4 * 2) bytes ≡ policy_bytes h ++ rest → policy_at bytes (version_of h) ≡ Ok h
+-- in each other it is a digest
+digest_takes : (bytes : List ℕ) (version : ℕ) (h : Head) → IsBytes bytes → version ≢ 1
+    → policy_at bytes version ≡ Ok h → IsNamed bytes version h
 unfolding policy_at
-policy_again bytes (Number n) rest named e =
-    let there : Stands bytes 2 (n ∷ []) = Stands-again bytes 2 (n ∷ []) rest e (named, tt) in
-    rw there.0 refl
-policy_again bytes (Digest d) rest named e =
-    rw (raw_again bytes 2 8 d rest e named.0 (omega arith)) refl
+digest_takes bytes version h fits later e =
+    let not_first : eqb version 1 ≡ false = ne_eqb version 1 later in
+    let read : policy_at bytes version ≡ raw_at bytes 2 8 >>= (λ d. Ok (Digest d)) =
+    rw not_first refl in
+    let d = bind_ok (raw_at bytes 2 8) _ h (sym read ∙ e) in
+    let raw : IsRaw bytes 2 8 d.0 = raw_takes bytes 2 8 d.0 fits d.1 in
+    let size : policy_size version ≡ 8 = rw not_first refl in
+    let made : IsNamed bytes version (Digest d.0) = record {
+      named = (later, raw.long, raw.fits);
+      stands = subst (λ (n : ℕ). IsPiece bytes 2 d.0 (2 + n)) (sym size) raw.stands;
+    } in
+    subst (λ (x : Head). IsNamed bytes version x) (ok_is (Digest d.0) h d.2) made
 
-pub length-policy : (h : Head) → IsHead h → length (policy_bytes h) ≡ 4 * policy_size (version_of h)
-length-policy (Number n) named = refl
-length-policy (Digest d) named = named.0
+pub policy_takes : (bytes : List ℕ) (version : ℕ) (h : Head) → IsBytes bytes
+    → policy_at bytes version ≡ Ok h → IsNamed bytes version h
+policy_takes bytes version h fits e =
+    elim (cases_eq version 1) [
+      | inl first ↦
+          let there = subst (λ (v : ℕ). policy_at bytes v ≡ Ok h) first e in
+          subst (λ (v : ℕ). IsNamed bytes v h) (sym first) (number_takes bytes h fits there)
+      | inr later ↦ digest_takes bytes version h fits later e
+    ]
 
-version_small : (h : Head) → (1 ≤ version_of h) × (version_of h ≤ 2)
-version_small (Number n) = (omega arith, omega arith)
-version_small (Digest d) = (omega arith, omega arith)
+pub policy_again : (bytes : List ℕ) (version : ℕ) (h : Head) (rest : List ℕ) → IsHead version h
+    → drop (4 * 2) bytes ≡ policy_bytes h ++ rest → policy_at bytes version ≡ Ok h
+unfolding policy_at
+policy_again bytes version (Number n) rest named e =
+    let there : Stands bytes 2 (n ∷ []) = Stands-again bytes 2 (n ∷ []) rest e (named.1, tt) in
+    let here : policy_at bytes 1 ≡ Ok (Number n) = rw there.0 refl in
+    subst (λ (v : ℕ). policy_at bytes v ≡ Ok (Number n)) (sym named.0) here
+policy_again bytes version (Digest d) rest named e =
+    let later : eqb version 1 ≡ false = ne_eqb version 1 named.0 in
+    rw (later, raw_again bytes 2 8 d rest e named.1 (omega arith)) refl
+
+pub length-policy : (version : ℕ) (h : Head) → IsHead version h
+    → length (policy_bytes h) ≡ 4 * policy_size version
+length-policy version (Number n) named =
+    ap (λ (v : ℕ). 4 * policy_size v) (sym named.0)
+length-policy version (Digest d) named =
+    let later : eqb version 1 ≡ false = ne_eqb version 1 named.0 in
+    rw later named.1
+
+-- the bound was read in this version
+pub record IsBounded (bytes : List ℕ) (version : ℕ) (b : Option ℕ) : Type 0 where
+  pub bounded : IsBoundOf version b
+  pub small : AreFields (bound_fields b)
+  pub stands : Stands bytes (2 + policy_size version) (bound_fields b)
+  pub long : length (bound_fields b) ≡ bound_size version
+
+-- no bound
+abbrev no_steps : Option ℕ
+no_steps = None
+
+no_bound : (bytes : List ℕ) (version : ℕ) (b : Option ℕ) → version ≢ 3
+    → bound_at bytes version ≡ Ok b → IsBounded bytes version b
+unfolding bound_at
+no_bound bytes version b other e =
+    let not_third : eqb version 3 ≡ false = ne_eqb version 3 other in
+    let read : bound_at bytes version ≡ done no_steps = rw not_third refl in
+    let size : bound_size version ≡ 0 = rw not_third refl in
+    let made : IsBounded bytes version None =
+    record { bounded = other; small = tt; stands = tt; long = sym size } in
+    subst (λ (x : Option ℕ). IsBounded bytes version x) (ok_is None b (sym read ∙ e)) made
+
+-- in version 3 it is one of its numbers
+third_bound : (bytes : List ℕ) (b : Option ℕ) → bound_at bytes 3 ≡ Ok b → IsBounded bytes 3 b
+unfolding bound_at
+third_bound bytes b e =
+    let a = bind_ok (between_at bytes 10 1 1000000000 Count) _ b e in
+    let n = between_takes bytes 10 1 1000000000 a.0 Count a.1 in
+    let made : IsBounded bytes 3 (Some a.0) = record {
+      bounded = (refl, n.1, n.2);
+      small = (omega (arith, n.2), tt);
+      stands = (n.0, tt);
+      long = refl;
+    } in
+    subst (λ (x : Option ℕ). IsBounded bytes 3 x) (ok_is (Some a.0) b a.2) made
+
+pub bound_takes : (bytes : List ℕ) (version : ℕ) (b : Option ℕ)
+    → bound_at bytes version ≡ Ok b → IsBounded bytes version b
+bound_takes bytes version b e =
+    elim (cases_eq version 3) [
+      | inl third ↦
+          let there = subst (λ (v : ℕ). bound_at bytes v ≡ Ok b) third e in
+          subst (λ (v : ℕ). IsBounded bytes v b) (sym third) (third_bound bytes b there)
+      | inr other ↦ no_bound bytes version b other e
+    ]
+
+pub bound_again : (bytes : List ℕ) (version : ℕ) (b : Option ℕ) → IsBoundOf version b
+    → Stands bytes (2 + policy_size version) (bound_fields b) → bound_at bytes version ≡ Ok b
+unfolding bound_at
+bound_again bytes version None bounded stands =
+    let other : eqb version 3 ≡ false = ne_eqb version 3 bounded in
+    rw other refl
+bound_again bytes version (Some n) bounded stands =
+    let there : Stands bytes 10 (n ∷ []) =
+    subst (λ (v : ℕ). Stands bytes (2 + policy_size v) (n ∷ [])) bounded.0 stands in
+    let read : between_at bytes 10 1 1000000000 Count ≡ Ok n =
+    between_again bytes 10 1 1000000000 n Count there.0 bounded.1 bounded.2 in
+    let here : bound_at bytes 3 ≡ Ok (Some n) = rw read refl in
+    subst (λ (v : ℕ). bound_at bytes v ≡ Ok (Some n)) (sym bounded.0) here
+
+bound_small : (version : ℕ) (b : Option ℕ) → IsBoundOf version b → AreFields (bound_fields b)
+bound_small version None bounded = tt
+bound_small version (Some n) bounded = (omega (arith, bounded.2), tt)
+
+pub length-bound : (version : ℕ) (b : Option ℕ) → IsBoundOf version b
+    → length (bound_fields b) ≡ bound_size version
+length-bound version None bounded =
+    let other : eqb version 3 ≡ false = ne_eqb version 3 bounded in
+    rw other refl
+length-bound version (Some n) bounded = ap bound_size (sym bounded.0)
 
 -- ---- what stands before the entries
 
--- what names the policy and the code were read, up to the field before next
-pub record IsStart (bytes : List ℕ) (h : Head) (code : List ℕ) (next : ℕ) : Type 0 where
-  pub named : IsHead h
-  pub fits : IsBytes code
-  pub whole : 4 * (length code / 4) ≡ length code
-  pub some : 0 < length code
-  pub short : length code ≤ 4 * 1024
-  pub stands : IsPiece bytes 0 (head_bytes h (length code / 4) ++ code) next
+-- the contents with this front
+abbrev pub with_front : Front → List (ℕ × Tree) → Option Tree → Contents
+with_front f invs proof = record {
+  version = f.version;
+  head = f.head;
+  bound = f.bound;
+  code = f.code;
+  invs = invs;
+  proof = proof;
+}
 
-pub start_takes : (bytes : List ℕ) (h : Head) (code : List ℕ) (next : ℕ) → IsBytes bytes
-    → decoded_head bytes ≡ Ok (h, code, next) → IsStart bytes h code next
+-- the front of the contents, whose count of entries is field next
+abbrev pub front_with : Contents → ℕ → Front
+front_with c next = record {
+  version = c.version;
+  head = c.head;
+  bound = c.bound;
+  code = c.code;
+  next = next;
+}
+
+-- a front was read
+pub record IsStart (bytes : List ℕ) (f : Front) : Type 0 where
+  pub version : IsVersion f.version
+  pub named : IsHead f.version f.head
+  pub bounded : IsBoundOf f.version f.bound
+  pub fits : IsBytes f.code
+  pub whole : 4 * (length f.code / 4) ≡ length f.code
+  pub some : 0 < length f.code
+  pub short : length f.code ≤ 4 * 1024
+  pub stands : IsPiece bytes 0
+      (head_bytes (with_front f [] None) (length f.code / 4) ++ f.code) f.next
+
+-- the fields before the policy, the policy, the bound, and how many words of code follow
+head_stands : (bytes : List ℕ) (c : Contents) (words i : ℕ) → IsBytes bytes
+    → Stands bytes 0 (magic ∷ c.version ∷ []) → IsPiece bytes 2 (policy_bytes c.head) i
+    → Stands bytes i (bound_fields c.bound)
+    → field_at bytes (i + length (bound_fields c.bound)) ≡ Ok words
+    → IsPiece bytes 0 (head_bytes c words) (i + length (bound_fields c.bound) + 1)
+head_stands bytes c words i fits first policy bound count =
+    let n : ℕ = length (bound_fields c.bound) in
+    let begin : List ℕ = field_bytes (magic ∷ c.version ∷ []) in
+    let counts : List ℕ = bound_fields c.bound ++ words ∷ [] in
+    let fields : Stands bytes i counts =
+    Stands-append bytes i (i + n) (bound_fields c.bound) (words ∷ []) refl bound (count, tt) in
+    let long : i + length counts ≡ i + n + 1 =
+    omega (arith, length-append (bound_fields c.bound) (words ∷ [])) in
+    let last : IsPiece bytes i (field_bytes counts) (i + n + 1) =
+    subst (λ (k : ℕ). IsPiece bytes i (field_bytes counts) k) long
+    (fields_piece bytes i counts fits fields) in
+    let opening : IsPiece bytes 0 begin 2 =
+    fields_piece bytes 0 (magic ∷ c.version ∷ []) fits first in
+    piece_then bytes 0 2 2 (i + n + 1) begin (policy_bytes c.head ++ field_bytes counts) refl opening
+    (piece_then bytes 2 i i (i + n + 1) (policy_bytes c.head) (field_bytes counts) refl policy last)
+
+pub start_takes : (bytes : List ℕ) (f : Front) → IsBytes bytes → decoded_head bytes ≡ Ok f
+    → IsStart bytes f
 unfolding decoded_head
-start_takes bytes h code next fits e =
-    let a = bind_ok (exact_at bytes 0 magic Magic) _ (h, code, next) e in
-    let b = bind_ok (between_at bytes 1 1 2 Version) _ (h, code, next) a.2 in
-    let c = bind_ok (policy_at bytes b.0) _ (h, code, next) b.2 in
-    let d = bind_ok (between_at bytes (2 + policy_size b.0) 1 1024 Count) _ (h, code, next) c.2 in
-    let r = bind_ok (raw_at bytes (code_field b.0) d.0) _ (h, code, next) d.2 in
-    let version = between_takes bytes 1 1 2 b.0 Version b.1 in
-    let policy : IsNamed bytes b.0 c.0 = policy_takes bytes b.0 c.0 fits version.1 version.2 c.1 in
-    let words = between_takes bytes (2 + policy_size b.0) 1 1024 d.0 Count d.1 in
+start_takes bytes f fits e =
+    let a = bind_ok (exact_at bytes 0 magic Magic) _ f e in
+    let b = bind_ok (between_at bytes 1 1 3 Version) _ f a.2 in
+    let c = bind_ok (policy_at bytes b.0) _ f b.2 in
+    let n = bind_ok (bound_at bytes b.0) _ f c.2 in
+    let third : ℕ = 2 + policy_size b.0 in
+    let fourth : ℕ = third + bound_size b.0 in
+    let d = bind_ok (between_at bytes fourth 1 1024 Count) _ f n.2 in
+    let r = bind_ok (raw_at bytes (code_field b.0) d.0) _ f d.2 in
+    let version = between_takes bytes 1 1 3 b.0 Version b.1 in
+    let policy : IsNamed bytes b.0 c.0 = policy_takes bytes b.0 c.0 fits c.1 in
+    let bound : IsBounded bytes b.0 n.0 = bound_takes bytes b.0 n.0 n.1 in
+    let words = between_takes bytes fourth 1 1024 d.0 Count d.1 in
     let raw : IsRaw bytes (code_field b.0) d.0 r.0 =
     raw_takes bytes (code_field b.0) d.0 r.0 fits r.1 in
     let count : d.0 ≡ length r.0 / 4 = omega (arith, raw.long) in
-    let first : IsPiece bytes 0 (field_bytes (magic ∷ b.0 ∷ [])) 2 =
-    fields_piece bytes 0 (magic ∷ b.0 ∷ []) fits
+    let read : Front = record {
+      version = b.0;
+      head = c.0;
+      bound = n.0;
+      code = r.0;
+      next = code_field b.0 + d.0;
+    } in
+    let held : Contents = with_front read [] None in
+    let size : ℕ = length (bound_fields n.0) in
+    let counted : field_at bytes (third + size) ≡ Ok d.0 =
+    field_there bytes fourth (third + size) d.0 (omega (arith, bound.long)) words.0 in
+    let opening : Stands bytes 0 (magic ∷ b.0 ∷ []) =
     (exact_takes bytes 0 magic a.0 Magic a.1, (version.0, tt)) in
-    let third : ℕ = 2 + policy_size b.0 in
-    let begin : List ℕ = field_bytes (magic ∷ b.0 ∷ []) in
-    let counted : List ℕ = field_bytes (d.0 ∷ []) in
-    let last : IsPiece bytes third counted (third + 1) =
-    fields_piece bytes third (d.0 ∷ []) fits (words.0, tt) in
-    let front : IsPiece bytes 0 (begin ++ (policy_bytes c.0 ++ counted)) (third + 1) =
-    piece_then bytes 0 2 2 (third + 1) begin (policy_bytes c.0 ++ counted) refl first
-    (piece_then bytes 2 third third (third + 1) (policy_bytes c.0) counted refl
-    policy.stands last) in
-    let next_field : ℕ = code_field b.0 + d.0 in
-    let all : IsPiece bytes 0 ((begin ++ (policy_bytes c.0 ++ counted)) ++ r.0) next_field =
-    piece_then bytes 0 (third + 1) (code_field b.0) (code_field b.0 + d.0)
-    (begin ++ (policy_bytes c.0 ++ counted)) r.0 (omega arith) front raw.stands in
-    let spelled : IsPiece bytes 0 (head_bytes c.0 d.0 ++ r.0) (code_field b.0 + d.0) =
-    subst (λ (v : ℕ). IsPiece bytes 0
-    ((field_bytes (magic ∷ v ∷ []) ++ (policy_bytes c.0 ++ counted)) ++ r.0)
-    (code_field b.0 + d.0)) (sym policy.version_is) all in
-    let made : IsStart bytes c.0 r.0 (code_field b.0 + d.0) = record {
+    let front : IsPiece bytes 0 (head_bytes held d.0) (third + size + 1) =
+    head_stands bytes held d.0 third fits opening policy.stands bound.stands counted in
+    let all : IsPiece bytes 0 (head_bytes held d.0 ++ r.0) (code_field b.0 + d.0) =
+    piece_then bytes 0 (third + size + 1) (code_field b.0) (code_field b.0 + d.0)
+    (head_bytes held d.0) r.0 (omega (arith, bound.long)) front raw.stands in
+    let made : IsStart bytes read = record {
+      version = (version.1, version.2);
       named = policy.named;
+      bounded = bound.bounded;
       fits = raw.fits;
       whole = omega (arith, raw.long);
       some = omega (arith, raw.long, words.1);
       short = omega (arith, raw.long, words.2);
       stands =
-          subst (λ (n : ℕ). IsPiece bytes 0 (head_bytes c.0 n ++ r.0) (code_field b.0 + d.0))
-          count spelled;
+          subst (λ (k : ℕ). IsPiece bytes 0 (head_bytes held k ++ r.0) (code_field b.0 + d.0))
+          count all;
     } in
-    subst (λ (x : Head × List ℕ × ℕ). IsStart bytes x.0 x.1 x.2)
-    (ok_is (c.0, r.0, code_field b.0 + d.0) (h, code, next) r.2) made
+    subst (λ (x : Front). IsStart bytes x) (ok_is read f r.2) made
 
 -- what was read of the same bytes, at the same field
 pub read_there : {A : Type 0} (f : List ℕ → ℕ → Result A Fault) (b bytes : List ℕ) (j i : ℕ) (x : A)
@@ -130,61 +268,87 @@ read_there f b bytes j i x same place e =
     sym (ap (λ (k : ℕ). f bytes k) place) ∙ (sym (ap (λ (z : List ℕ). f z j) same) ∙ e)
 
 -- the parts before the entries, one after the other
-pub start_read : (bytes : List ℕ) (first version : ℕ) (h : Head) (words : ℕ) (code : List ℕ)
-    (next : ℕ)
-    → exact_at bytes 0 magic Magic ≡ Ok first → between_at bytes 1 1 2 Version ≡ Ok version
-    → policy_at bytes version ≡ Ok h
-    → between_at bytes (2 + policy_size version) 1 1024 Count ≡ Ok words
-    → raw_at bytes (code_field version) words ≡ Ok code
-    → next ≡ code_field version + words → decoded_head bytes ≡ Ok (h, code, next)
+pub start_read : (bytes : List ℕ) (first words : ℕ) (f : Front)
+    → exact_at bytes 0 magic Magic ≡ Ok first → between_at bytes 1 1 3 Version ≡ Ok f.version
+    → policy_at bytes f.version ≡ Ok f.head → bound_at bytes f.version ≡ Ok f.bound
+    → between_at bytes (2 + policy_size f.version + bound_size f.version) 1 1024 Count ≡ Ok words
+    → raw_at bytes (code_field f.version) words ≡ Ok f.code
+    → f.next ≡ code_field f.version + words → decoded_head bytes ≡ Ok f
 unfolding decoded_head
-start_read bytes first version h words code next a b c d e place = rw (a, b, c, d, e, place) refl
+start_read bytes first words f a b c d n e place =
+    let at : ℕ → Front = front_with (with_front f [] None) in
+    let read : decoded_head bytes ≡ Ok (at (code_field f.version + words)) =
+    rw (a, b, c, d, n, e) refl in
+    read ∙ ap (λ (k : ℕ). done (at k)) (sym place)
 
--- what names the policy, and n words of code, are read, and the rest is left
-pub record IsBegun (bytes code : List ℕ) (h : Head) (n : ℕ) (rest : List ℕ) : Type 0 where
-  pub read : decoded_head bytes ≡ Ok (h, code, code_field (version_of h) + n)
-  pub left : drop (4 * (code_field (version_of h) + n)) bytes ≡ rest
+-- the front of the contents, with n words of code, is read, and the rest is left
+pub record IsBegun (bytes : List ℕ) (c : Contents) (n : ℕ) (rest : List ℕ) : Type 0 where
+  pub read : decoded_head bytes ≡ Ok (front_with c (code_field c.version + n))
+  pub left : drop (4 * (code_field c.version + n)) bytes ≡ rest
 
-pub start_again : (bytes : List ℕ) (h : Head) (code : List ℕ) (words : ℕ) (rest : List ℕ) → IsHead h
-    → length code ≡ 4 * words → 1 ≤ words → words ≤ 1024
-    → bytes ≡ head_bytes h words ++ (code ++ rest) → IsBegun bytes code h words rest
+-- the bound and the count of words stand behind the policy, and the rest behind them
+counts_again : (bytes : List ℕ) (i words : ℕ) (b : Option ℕ) (rest : List ℕ)
+    → AreFields (bound_fields b) → words ≤ 1024
+    → drop (4 * i) bytes ≡ field_bytes (bound_fields b ++ words ∷ []) ++ rest
+    → Stands bytes i (bound_fields b) × (field_at bytes (i + length (bound_fields b)) ≡ Ok words)
+    × (drop (4 * (i + (length (bound_fields b) + 1))) bytes ≡ rest)
+counts_again bytes i words b rest small short e =
+    let n : ℕ = length (bound_fields b) in
+    let counts : List ℕ = bound_fields b ++ words ∷ [] in
+    let all : Stands bytes i counts =
+    Stands-again bytes i counts rest e
+    (AreFields-append (bound_fields b) (words ∷ []) small (omega (arith, short), tt)) in
+    let both = Stands-split bytes i (i + n) (bound_fields b) (words ∷ []) refl all in
+    let long : length (field_bytes counts) ≡ 4 * (n + 1) =
+    omega (arith, length-field_bytes counts, length-append (bound_fields b) (words ∷ [])) in
+    (both.0, both.1.0, behind_piece bytes i (n + 1) (field_bytes counts) rest e long)
+
+pub start_again : (bytes : List ℕ) (c : Contents) (words : ℕ) (rest : List ℕ)
+    → IsVersion c.version → IsHead c.version c.head → IsBoundOf c.version c.bound
+    → length c.code ≡ 4 * words → 1 ≤ words → words ≤ 1024
+    → bytes ≡ head_bytes c words ++ (c.code ++ rest) → IsBegun bytes c words rest
 unfolding decoded_head
-start_again bytes h code words rest named long some short e =
-    let v : ℕ = version_of h in
-    let known = version_small h in
+start_again bytes c words rest known named bounded long some short e =
+    let v : ℕ = c.version in
+    let i : ℕ = 2 + policy_size v in
+    let n : ℕ = length (bound_fields c.bound) in
     let front : List ℕ = field_bytes (magic ∷ v ∷ []) in
-    let count : List ℕ = field_bytes (words ∷ []) in
-    let at_front : bytes ≡ front ++ (policy_bytes h ++ (count ++ (code ++ rest))) =
-    e ∙ append_assoc front (policy_bytes h ++ count) (code ++ rest)
-    ∙ ap (λ (x : List ℕ). front ++ x) (append_assoc (policy_bytes h) count (code ++ rest)) in
+    let counts : List ℕ = field_bytes (bound_fields c.bound ++ words ∷ []) in
+    let behind : List ℕ = policy_bytes c.head ++ (counts ++ (c.code ++ rest)) in
+    let at_front : bytes ≡ front ++ behind =
+    e ∙ append_assoc front (policy_bytes c.head ++ counts) (c.code ++ rest)
+    ∙ ap (λ (x : List ℕ). front ++ x) (append_assoc (policy_bytes c.head) counts (c.code ++ rest)) in
     let first : Stands bytes 0 (magic ∷ v ∷ []) =
-    Stands-again bytes 0 (magic ∷ v ∷ []) (policy_bytes h ++ (count ++ (code ++ rest))) at_front
+    Stands-again bytes 0 (magic ∷ v ∷ []) behind at_front
     (omega arith, (omega (arith, known.1), tt)) in
-    let at_policy : drop (4 * 2) bytes ≡ policy_bytes h ++ (count ++ (code ++ rest)) =
-    behind_piece bytes 0 2 front (policy_bytes h ++ (count ++ (code ++ rest))) at_front refl in
-    let at_count : drop (4 * (2 + policy_size v)) bytes ≡ count ++ (code ++ rest) =
-    behind_piece bytes 2 (policy_size v) (policy_bytes h) (count ++ (code ++ rest)) at_policy
-    (length-policy h named) in
-    let third : Stands bytes (2 + policy_size v) (words ∷ []) =
-    Stands-again bytes (2 + policy_size v) (words ∷ []) (code ++ rest) at_count
-    (omega (arith, short), tt) in
-    let here : 2 + policy_size v + 1 ≡ code_field v = omega arith in
-    let at_code : drop (4 * code_field v) bytes ≡ code ++ rest =
-    subst (λ (k : ℕ). drop (4 * k) bytes ≡ code ++ rest) here
-    (behind_piece bytes (2 + policy_size v) 1 count (code ++ rest) at_count refl) in
+    let at_policy : drop (4 * 2) bytes ≡ behind =
+    behind_piece bytes 0 2 front behind at_front refl in
+    let at_counts : drop (4 * i) bytes ≡ counts ++ (c.code ++ rest) =
+    behind_piece bytes 2 (policy_size v) (policy_bytes c.head) (counts ++ (c.code ++ rest)) at_policy
+    (length-policy v c.head named) in
+    let both = counts_again bytes i words c.bound (c.code ++ rest)
+    (bound_small v c.bound bounded) short at_counts in
+    let size : n ≡ bound_size v = length-bound v c.bound bounded in
+    let at_code : drop (4 * code_field v) bytes ≡ c.code ++ rest =
+    subst (λ (k : ℕ). drop (4 * k) bytes ≡ c.code ++ rest) (omega (arith, size)) both.2 in
     let magic_is : exact_at bytes 0 magic Magic ≡ Ok magic =
     exact_again bytes 0 magic Magic first.0 in
-    let version_is : between_at bytes 1 1 2 Version ≡ Ok v =
-    between_again bytes 1 1 2 v Version first.1.0 known.0 known.1 in
-    let policy_is : policy_at bytes v ≡ Ok h =
-    policy_again bytes h (count ++ (code ++ rest)) named at_policy in
-    let words_are : between_at bytes (2 + policy_size v) 1 1024 Count ≡ Ok words =
-    between_again bytes (2 + policy_size v) 1 1024 words Count third.0 some short in
-    let code_is : raw_at bytes (code_field v) words ≡ Ok code =
-    raw_again bytes (code_field v) words code rest at_code long some in
+    let version_is : between_at bytes 1 1 3 Version ≡ Ok v =
+    between_again bytes 1 1 3 v Version first.1.0 known.0 known.1 in
+    let policy_is : policy_at bytes v ≡ Ok c.head =
+    policy_again bytes v c.head (counts ++ (c.code ++ rest)) named at_policy in
+    let bound_is : bound_at bytes v ≡ Ok c.bound =
+    bound_again bytes v c.bound bounded both.0 in
+    let words_there : field_at bytes (i + bound_size v) ≡ Ok words =
+    field_there bytes (i + n) (i + bound_size v) words (omega (arith, size)) both.1 in
+    let words_are : between_at bytes (i + bound_size v) 1 1024 Count ≡ Ok words =
+    between_again bytes (i + bound_size v) 1 1024 words Count words_there some short in
+    let code_is : raw_at bytes (code_field v) words ≡ Ok c.code =
+    raw_again bytes (code_field v) words c.code rest at_code long some in
     record {
-      read = rw (magic_is, version_is, policy_is, words_are, code_is) refl;
-      left = behind_piece bytes (code_field v) words code rest at_code long;
+      read = start_read bytes magic words (front_with c (code_field v + words))
+          magic_is version_is policy_is bound_is words_are code_is refl;
+      left = behind_piece bytes (code_field v) words c.code rest at_code long;
     }
 
 -- ---- entries and invariants with their counts

@@ -4,6 +4,7 @@ pub mod FieldLaws
 pub mod EntryLaws
 pub mod Sections
 pub mod Counted
+pub mod Opening
 pub mod Small
 pub mod Whole
 pub mod Verdicts

@@ -1,13 +1,11 @@
 -- A view that can be written: what its walk has left, and what it holds.
 use Rattle.std.proofs.Common.{◌≡◌, ℕ, ◌/◌, true, List, [], ◌∷◌, ◌++◌, length, map, Option, Some, None, IfSome, sym, ◌∙◌, ap, subst, append_assoc, arith}
-use Rattle.std.specs.List.{AllByRecursion}
 use Rattle.std.specs.Option.{option_map}
 use Rattle.std.proofs.lemmas.List.{length-map}
 use Rattle.term_table.specs.Tree.{Tree, Var, Con, App, Lam, Fam, TApp, Pi}
-use Rattle.term_table.specs.Table.{TableView, IsKnown, tree_at, AreSmall, id_trees}
+use Rattle.term_table.specs.Table.{TableView, tree_at, AreSmall, id_trees}
 use Rattle.proof_container.specs.declared.container.View.{View}
 use Rattle.proof_container.specs.declared.walk.Walk.{Walk}
-use Rattle.proof_container.specs.Versions.{IsHead}
 use Rattle.proof_container.specs.Contents.{Contents, one_or_none, roots}
 use Rattle.proof_container.specs.Postorder.{is_emitted, HasPartsFirst, ArePostorder, AreEmitted, entries}
 use Rattle.term_table.specs.Bytes.{IsBytes}
@@ -67,10 +65,12 @@ root_terms t [] None known small terms = tt
 root_terms t [] (Some id) known small terms = (terms.0, small id known.1, tt)
 root_terms t (inv ∷ invs) proof known small terms = (terms.0, small inv.1 known.0.0, root_terms t invs proof (known.0.1, known.1) small terms.1)
 
-pub view_holds : (v : View) → IsWritable v → IsHead v.head → IsBytes v.code.now
-    → AreSmall v.table.now.trees → IsContents (view_contents v)
-view_holds v writable head bytes small = record {
-  head = head;
+pub view_holds : (v : View) → IsWritable v → IsBytes v.code.now → AreSmall v.table.now.trees
+    → IsContents (view_contents v)
+view_holds v writable bytes small = record {
+  version = writable.version;
+  head = writable.head;
+  bound = writable.bound;
   bytes = bytes;
   whole = writable.whole;
   some = writable.some;
@@ -82,10 +82,10 @@ view_holds v writable head bytes small = record {
 }
 
 pub is_spelling : (c : Contents) (es : List Tree) (out : List ℕ) → es ≡ entries (roots c)
-    → out ≡ (head_bytes c.head (length c.code / 4) ++ c.code) ++ field_bytes (tail_fields es c)
+    → out ≡ (head_bytes c (length c.code / 4) ++ c.code) ++ field_bytes (tail_fields es c)
     → out ≡ encoding_of c
 unfolding encoding_of
 is_spelling c es out same e =
-    let front : List ℕ = head_bytes c.head (length c.code / 4) in
+    let front : List ℕ = head_bytes c (length c.code / 4) in
     e ∙ ap (λ (z : List Tree). (front ++ c.code) ++ field_bytes (tail_fields z c)) same
     ∙ append_assoc front c.code (field_bytes (tail_fields (entries (roots c)) c))

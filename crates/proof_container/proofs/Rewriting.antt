@@ -15,7 +15,7 @@ AreTerms-all (t ∷ ts) h = (h.0, AreTerms-all ts h.2)
 
 -- a view of it shows what it holds
 shown : (c : Container) (v : View) → Shows c v → view_contents v ≡ contents_of c
-shown c v s = rw (s.head, s.code, s.table, s.invs, s.proof) refl
+shown c v s = rw (s.version, s.head, s.bound, s.code, s.table, s.invs, s.proof) refl
 
 pub rewritable : (bytes : List ℕ) (c : Container) (v : View) → EncodesContents bytes (contents_of c) → IsCanonical c → Shows c v → IsWritable v
 rewritable bytes c v p q s =
@@ -23,4 +23,16 @@ rewritable bytes c v p q s =
     let known : AreKnown v.table.now v.invs.now v.proof = rw (s.table, s.invs, s.proof) q.known in
     let tree : ℕ × ℕ → ℕ × Tree = λ inv. (inv.0, tree_at v.table.now inv.1) in
     let few : length v.invs.now ≤ 256 = omega (arith, h.invs, length-map v.invs.now tree) in
-    record { known = known; terms = AreTerms-all (roots (view_contents v)) h.terms; whole = h.whole; some = h.some; short = h.short; entries = h.entries; invs = few; rising = h.rising }
+    record {
+      version = h.version;
+      head = h.head;
+      bound = h.bound;
+      known = known;
+      terms = AreTerms-all (roots (view_contents v)) h.terms;
+      whole = h.whole;
+      some = h.some;
+      short = h.short;
+      entries = h.entries;
+      invs = few;
+      rising = h.rising;
+    }

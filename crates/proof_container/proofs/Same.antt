@@ -7,7 +7,7 @@ use Rattle.term_table.specs.Tree.{Tree}
 use Rattle.term_table.specs.Table.{TableView, IsKnown, AreDifferent, tree_at, id_trees}
 use Rattle.proof_container.specs.declared.container.Container.{Container}
 use Rattle.lf_signature.specs.Constants.{places_of}
-use Rattle.proof_container.specs.Versions.{version_of, signature_of}
+use Rattle.proof_container.specs.Versions.{signature_of}
 use Rattle.proof_container.specs.Contents.{Contents, roots}
 use Rattle.proof_container.specs.Postorder.{entries}
 use Rattle.proof_container.specs.Views.{IsCanonical, AreSame, AreKnown, contents_of}
@@ -45,7 +45,7 @@ same_canonical c d p q e =
     let rs : List Tree = roots (contents_of c) in
     let trees : c.table.trees ≡ d.table.trees = p.trees ∙ ap (λ (z : Contents). entries (roots z)) e ∙ sym q.trees in
     let places : c.table.places ≡ d.table.places =
-    p.places ∙ ap (λ (z : Contents). places_of (signature_of (version_of z.head))) e
+    p.places ∙ ap (λ (z : Contents). places_of (signature_of z.version)) e
     ∙ sym q.places in
     let table : c.table ≡ d.table = λ i. record { trees = trees i; places = places i } in
     let different : AreDifferent c.table.trees = subst (λ (z : List Tree). AreDifferent z) (sym p.trees) (ArePostorder-different (entries rs) (entries_grow rs)) in
@@ -53,7 +53,9 @@ same_canonical c d p q e =
     let invs : id_trees c.table c.invs.items ≡ id_trees c.table d.invs.items = ap (λ (z : Contents). z.invs) e ∙ ap (λ (t : TableView). id_trees t d.invs.items) (sym table) in
     let proof : option_map (tree_at c.table) c.proof ≡ option_map (tree_at c.table) d.proof = ap (λ (z : Contents). z.proof) e ∙ ap (λ (t : TableView). option_map (tree_at t) d.proof) (sym table) in
     record {
+      version = ap (λ (z : Contents). z.version) e;
       head = ap (λ (z : Contents). z.head) e;
+      bound = ap (λ (z : Contents). z.bound) e;
       code = ap (λ (z : Contents). z.code) e;
       table = table;
       invs = same_invs c.table c.invs.items d.invs.items different p.known.0 known.0 invs;

@@ -2,25 +2,24 @@
 use Rattle.std.proofs.Common.{◌≡◌, ℕ, ◌+◌, ◌*◌, ◌/◌, ◌<◌, ◌≤◌, List, [], ◌∷◌, ◌++◌, length, take, drop, Option, None, Ok, Err, refl, sym, ap, subst, ◌∙◌, append_assoc, append-nil, length-append, length-drop, take_all, arith}
 use Rattle.std.specs.List.{flat_map}
 use Rattle.term_table.specs.Tree.{Tree}
-use Rattle.proof_container.specs.declared.container.Head.{Head}
-use Rattle.proof_container.specs.Versions.{version_of, code_field}
+use Rattle.proof_container.specs.Versions.{code_field}
 use Rattle.proof_container.specs.Contents.{Contents, one_or_none, roots}
 use Rattle.proof_container.specs.Postorder.{entries, ArePostorder, AreEmitted}
 use Rattle.term_table.specs.Bytes.{IsBytes}
 use Rattle.proof_container.specs.Encoding.{field_bytes, entry_fields, inv_fields, proof_field, head_bytes, tail_fields, encoding_of, AreRising, AreTerms, IsContents, EncodesContents}
-use Rattle.proof_container.specs.Decoding.{Fault, decoded_head, decoded_entries, decoded_invs, decoded_proof, first_misplaced, decoded_end, decoded_container}
+use Rattle.proof_container.specs.Decoding.{Fault, Front, decoded_head, decoded_entries, decoded_invs, decoded_proof, first_misplaced, decoded_end, decoded_container}
 use Rattle.proof_container.proofs.Walks.{entries_grow, entries_listed, entries_terms, ArePostorder-different, ordered_is}
 use Rattle.proof_container.proofs.FieldLaws.{bind_ok, ok_is, Stands, Stands-append, Stands-split, Stands-takes, Stands-again, length-field_bytes}
 use Rattle.proof_container.proofs.EntryLaws.{AreTerms-listed}
 use Rattle.proof_container.proofs.Sections.{inv_trees_of, length-invs, proof_takes, proof_again}
-use Rattle.proof_container.proofs.Counted.{IsStart, start_takes, IsBegun, start_again, AreEntries, entries_read_takes, entries_read_again, invs_read_takes, invs_read_again, end_takes, end_again}
+use Rattle.proof_container.proofs.Counted.{with_front, front_with, IsStart, start_takes, IsBegun, start_again, AreEntries, entries_read_takes, entries_read_again, invs_read_takes, invs_read_again, end_takes, end_again}
 use Rattle.proof_container.proofs.Small.{AreEmitted-split, AreEmitted-append, words_short, tail_small}
 
 -- ---- what is read is encoded so
 
 -- the parts of a container as they are read: field i is the count of entries, which are es
 pub record IsParsed (bytes : List ℕ) (i : ℕ) (es : List Tree) (c : Contents) : Type 0 where
-  pub start : IsStart bytes c.head c.code i
+  pub start : IsStart bytes (front_with c i)
   pub extends : ArePostorder [] es
   pub terms : AreTerms es
   pub few : length es ≤ 262144
@@ -40,7 +39,9 @@ AreTerms-roots es (r ∷ rs) terms listed =
 parsed_contents : (bytes : List ℕ) (i : ℕ) (es : List Tree) (c : Contents) → IsParsed bytes i es c
     → es ≡ entries (roots c) → IsContents c
 parsed_contents bytes i es c p same = record {
+  version = p.start.version;
   head = p.start.named;
+  bound = p.start.bounded;
   bytes = p.start.fits;
   whole = p.start.whole;
   some = p.start.some;
@@ -55,7 +56,7 @@ parsed_spelling : (bytes : List ℕ) (i : ℕ) (es : List Tree) (c : Contents) �
     → IsParsed bytes i es c → es ≡ entries (roots c) → bytes ≡ encoding_of c
 unfolding encoding_of
 parsed_spelling bytes i es c fits p same =
-    let front : List ℕ = head_bytes c.head (length c.code / 4) in
+    let front : List ℕ = head_bytes c (length c.code / 4) in
     let tail : List ℕ = tail_fields es c in
     let whole : bytes ≡ (front ++ c.code) ++ drop (4 * i) bytes = p.start.stands in
     let left : length (drop (4 * i) bytes) ≤ 4 * length tail =
@@ -83,16 +84,17 @@ parsed_spells bytes i es c fits p =
     }
 
 -- the parts that were read, one after the other
-pub parts_parsed : (bytes : List ℕ) (h : Head) (code : List ℕ) (i : ℕ) (es : List Tree) (next : ℕ)
+pub parts_parsed : (bytes : List ℕ) (f : Front) (es : List Tree) (next : ℕ)
     (invs : List (ℕ × Tree)) (proof : Option Tree) (c : Contents) → IsBytes bytes
-    → decoded_head bytes ≡ Ok (h, code, i) → decoded_entries bytes i ≡ Ok (es, next)
-    → decoded_invs bytes next es (length code / 4) ≡ Ok invs
+    → decoded_head bytes ≡ Ok f → decoded_entries bytes f.next ≡ Ok (es, next)
+    → decoded_invs bytes next es (length f.code / 4) ≡ Ok invs
     → decoded_proof bytes (next + 1 + 2 * length invs) es ≡ Ok proof
-    → decoded_end bytes (next + 2 + 2 * length invs) i es
-    (record { head = h; code = code; invs = invs; proof = proof }) ≡ Ok c
-    → IsParsed bytes i es c
-parts_parsed bytes h code i es next invs proof c fits head_is entries_are invs_are proof_is end_is =
-    let start : IsStart bytes h code i = start_takes bytes h code i fits head_is in
+    → decoded_end bytes (next + 2 + 2 * length invs) f.next es (with_front f invs proof) ≡ Ok c
+    → IsParsed bytes f.next es c
+parts_parsed bytes f es next invs proof c fits head_is entries_are invs_are proof_is end_is =
+    let i : ℕ = f.next in
+    let code : List ℕ = f.code in
+    let start : IsStart bytes f = start_takes bytes f fits head_is in
     let all : AreEntries bytes i es next = entries_read_takes bytes i es next fits entries_are in
     let n = invs_read_takes bytes next es (length code / 4) invs all.extends invs_are in
     let p = proof_takes bytes (next + 1 + 2 * length invs) es proof (ArePostorder-different es all.extends) proof_is in
@@ -104,7 +106,7 @@ parts_parsed bytes h code i es next invs proof c fits head_is entries_are invs_a
     let last : Stands bytes next (of_invs ++ of_proof) =
     Stands-append bytes next (next + 1 + 2 * length invs) of_invs of_proof behind_invs
     (n.1, n.2.stands) (p.0, tt) in
-    let made : Contents = record { head = h; code = code; invs = invs; proof = proof } in
+    let made : Contents = with_front f invs proof in
     let tail : Stands bytes i (tail_fields es made) =
     Stands-append bytes i next of_entries (of_invs ++ of_proof) all.behind all.stands last in
     let long : length (tail_fields es made) ≡ length of_entries + length (of_invs ++ of_proof) =
@@ -133,24 +135,24 @@ pub container_takes : (bytes : List ℕ) (c : Contents) → IsBytes bytes → de
 unfolding decoded_container
 container_takes bytes c fits e =
     let head = bind_ok (decoded_head bytes) _ c e in
-    let es = bind_ok (decoded_entries bytes head.0.2) _ c head.2 in
-    let invs = bind_ok (decoded_invs bytes es.0.1 es.0.0 (length head.0.1 / 4)) _ c es.2 in
+    let es = bind_ok (decoded_entries bytes head.0.next) _ c head.2 in
+    let invs = bind_ok (decoded_invs bytes es.0.1 es.0.0 (length head.0.code / 4)) _ c es.2 in
     let proof = bind_ok (decoded_proof bytes (es.0.1 + 1 + 2 * length invs.0) es.0.0) _ c invs.2 in
-    parsed_spells bytes head.0.2 es.0.0 c fits
-    (parts_parsed bytes head.0.0 head.0.1 head.0.2 es.0.0 es.0.1 invs.0 proof.0 c fits
+    parsed_spells bytes head.0.next es.0.0 c fits
+    (parts_parsed bytes head.0 es.0.0 es.0.1 invs.0 proof.0 c fits
     head.1 es.1 invs.1 proof.1 proof.2)
 
 -- ---- what is encoded is read
 
 -- where the parts of encoded contents stand
 record PartsStand (bytes : List ℕ) (c : Contents) (i : ℕ) (es : List Tree) : Type 0 where
-  start : decoded_head bytes ≡ Ok (c.head, c.code, i)
+  start : decoded_head bytes ≡ Ok (front_with c i)
   tail : Stands bytes i (tail_fields es c)
   ended : length bytes ≤ 4 * (i + length (tail_fields es c))
 
 -- the field behind the code
 abbrev behind_code : Contents → ℕ
-behind_code c = code_field (version_of c.head) + length c.code / 4
+behind_code c = code_field c.version + length c.code / 4
 
 encoded_parts : (bytes : List ℕ) (c : Contents) → EncodesContents bytes c
     → PartsStand bytes c (behind_code c) (entries (roots c))
@@ -161,9 +163,9 @@ encoded_parts bytes c s =
     let tail : List ℕ = tail_fields (entries (roots c)) c in
     let some : 0 < length c.code = p.some in
     let whole : 4 * (length c.code / 4) ≡ length c.code = p.whole in
-    let begun : IsBegun bytes c.code c.head (length c.code / 4) (field_bytes tail) =
-    start_again bytes c.head c.code (length c.code / 4) (field_bytes tail) p.head (sym p.whole)
-    (omega arith) (words_short c p) s.encoded in
+    let begun : IsBegun bytes c (length c.code / 4) (field_bytes tail) =
+    start_again bytes c (length c.code / 4) (field_bytes tail) p.version p.head p.bound
+    (sym p.whole) (omega arith) (words_short c p) s.encoded in
     let left : length (drop (4 * i) bytes) ≡ 4 * length tail =
     ap length begun.left ∙ length-field_bytes tail in
     record {
@@ -188,7 +190,7 @@ parts_again bytes c i es p same extends terms listed has =
     let b = Stands-split bytes next last of_invs of_proof (omega arith) a.1 in
     let both = AreEmitted-split es (inv_trees_of c.invs) (one_or_none c.proof) listed in
     let few : length es ≤ 262144 = subst (λ (ts : List Tree). length ts ≤ 262144) (sym same) p.entries in
-    let head_is : decoded_head bytes ≡ Ok (c.head, c.code, i) = has.start in
+    let head_is : decoded_head bytes ≡ Ok (front_with c i) = has.start in
     let entries_are : decoded_entries bytes i ≡ Ok (es, next) =
     entries_read_again bytes i es next
     (record { extends = extends; terms = terms; few = few; stands = a.0; behind = refl }) in

@@ -1,5 +1,5 @@
 -- What is written so far, and one piece more; how long it is.
-use Rattle.std.proofs.Common.{◌≡◌, ℕ, zero, suc, ◌+◌, ◌*◌, ◌/◌, ◌<◌, ◌≤◌, true, List, [], ◌∷◌, ◌++◌, length, map, take, get_or, refl, sym, ◌∙◌, ap, subst, append_assoc, length-append, arith}
+use Rattle.std.proofs.Common.{◌≡◌, ℕ, zero, suc, ◌+◌, ◌*◌, ◌/◌, ◌<◌, true, List, [], ◌∷◌, ◌++◌, length, map, take, get_or, refl, sym, ◌∙◌, ap, subst, append_assoc, length-append, arith}
 use Rattle.std.specs.Prelude.{sum_by}
 use Rattle.std.specs.List.{flat_map}
 use Rattle.std.specs.Int.{w32, to_le_bytes}
@@ -9,12 +9,9 @@ use Rattle.std.proofs.lemmas.List.Concat.{flat_map-cons}
 use Rattle.std.proofs.lemmas.List.Sums.{sum_by-cons}
 use Rattle.term_table.specs.Tree.{Tree, Var}
 use Rattle.term_table.specs.Table.{TableView, tree_at}
-use Rattle.proof_container.specs.declared.container.Head.{Head}
-use Rattle.proof_container.specs.declared.container.Head.TheVariants.{Number, Digest}
-use Rattle.proof_container.specs.Versions.{version_of, IsHead}
 use Rattle.proof_container.specs.Contents.{Contents, roots}
 use Rattle.proof_container.specs.Postorder.{is_emitted, HasPartsFirst, AreEmitted, entries}
-use Rattle.proof_container.specs.Encoding.{field_bytes, entry_fields, inv_fields, proof_field, magic, policy_bytes, head_bytes, tail_fields, encoding_of}
+use Rattle.proof_container.specs.Encoding.{field_bytes, entry_fields, inv_fields, proof_field, magic, policy_bytes, bound_fields, head_bytes, tail_fields, encoding_of}
 use Rattle.proof_container.specs.Decoding.{entry_size}
 use Rattle.proof_container.specs.Inside.Walked.{HaveParts}
 use Rattle.proof_container.proofs.FieldLaws.{length-field_bytes}
@@ -55,34 +52,33 @@ length-entries es [] = refl
 length-entries es (u ∷ us) =
     ap length (flat_map-cons (entry_fields es) u us) ∙ omega (arith, length-append (entry_fields es u) (flat_map (entry_fields es) us), length-entries es us, entry_size_is es u, sum_by-cons entry_size u us)
 
--- what names a policy has at most as many bytes as a digest
-pub policy_short : (h : Head) → IsHead h → length (policy_bytes h) ≤ 32
-policy_short (Number n) named = omega arith
-policy_short (Digest d) named = omega (arith, named.0)
-
-length-head : (h : Head) (words : ℕ) → length (head_bytes h words) ≡ 12 + length (policy_bytes h)
-length-head h words =
-    let first : List ℕ = field_bytes (magic ∷ version_of h ∷ []) in
-    let last : List ℕ = field_bytes (words ∷ []) in
-    let rest : length (policy_bytes h ++ last) ≡ length (policy_bytes h) + length last =
-    length-append (policy_bytes h) last in
-    let all : length (head_bytes h words) ≡ length first + length (policy_bytes h ++ last) =
-    length-append first (policy_bytes h ++ last) in
+pub length-head : (c : Contents) (words : ℕ) → length (head_bytes c words)
+    ≡ 12 + length (policy_bytes c.head) + 4 * length (bound_fields c.bound)
+length-head c words =
+    let opening : List ℕ = magic ∷ c.version ∷ [] in
+    let counts : List ℕ = bound_fields c.bound ++ words ∷ [] in
+    let first : List ℕ = field_bytes opening in
+    let last : List ℕ = field_bytes counts in
+    let rest : length (policy_bytes c.head ++ last) ≡ length (policy_bytes c.head) + length last =
+    length-append (policy_bytes c.head) last in
+    let all : length (head_bytes c words) ≡ length first + length (policy_bytes c.head ++ last) =
+    length-append first (policy_bytes c.head ++ last) in
     omega (
       arith,
       all,
       rest,
-      length-field_bytes (magic ∷ version_of h ∷ []),
-      length-field_bytes (words ∷ []),
+      length-field_bytes opening,
+      length-field_bytes counts,
+      length-append (bound_fields c.bound) (words ∷ []),
     )
 
 pub length-encoding_of : (c : Contents) → length (encoding_of c)
-    ≡ length (policy_bytes c.head)
+    ≡ length (policy_bytes c.head) + 4 * length (bound_fields c.bound)
     + 4 * (6 + sum_by entry_size (entries (roots c)) + 2 * length c.invs) + length c.code
 unfolding encoding_of
 length-encoding_of c =
     let es : List Tree = entries (roots c) in
-    let front : List ℕ = head_bytes c.head (length c.code / 4) in
+    let front : List ℕ = head_bytes c (length c.code / 4) in
     let first : List ℕ = length es ∷ flat_map (entry_fields es) es in
     let invs : List ℕ = length c.invs ∷ flat_map (inv_fields es) c.invs in
     let last : List ℕ = proof_field es c.proof ∷ [] in
@@ -100,7 +96,7 @@ length-encoding_of c =
       code,
       tail,
       rest,
-      length-head c.head (length c.code / 4),
+      length-head c (length c.code / 4),
       length-field_bytes (tail_fields es c),
       length-entries es es,
       length-invs es c.invs,

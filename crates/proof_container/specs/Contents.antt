@@ -3,9 +3,12 @@ use Rattle.std.specs.Prelude.{ℕ, List, [], ◌∷◌, ◌++◌, map, Option, S
 use Rattle.term_table.specs.Tree.{Tree}
 use Rattle.proof_container.specs.declared.container.Head.{Head}
 
--- what names the policy, code as bytes, the invariants with their indices, and the proof, if any
+-- the version, what names the policy, how many steps the code makes at most, where they are bounded,
+-- code as bytes, the invariants with their indices, and the proof, if any
 pub record Contents : Type 0 where
+  pub version : ℕ
   pub head : Head
+  pub bound : Option ℕ
   pub code : List ℕ
   pub invs : List (ℕ × Tree)
   pub proof : Option Tree

@@ -3,17 +3,17 @@ use Rattle.term_table.specs.Steps.{◌>>=◌}
 use Rattle.std.specs.Prelude.{ℕ, zero, suc, ◌+◌, ◌*◌, ◌/◌, ◌-◌, Bool, true, false, ◌||◌, ◌==◌, nat_lt, if◌then◌else◌, List, [], ◌∷◌, ◌++◌, length, take, drop, slice_range, sum_by, Option, Some, None, Result, Ok, Err}
 use Rattle.std.specs.Option.{option_map}
 use Rattle.std.specs.Int.{w32, from_le_bytes}
-use Rattle.term_table.specs.Tree.{Tree, Var, Con, App, Lam, Fam, TApp, Pi, Num, Lit, Calc, Fact, Deny, Lemma}
+use Rattle.term_table.specs.Tree.{Tree, Var, Con, App, Lam, Num, Lit, Calc, Fact, Deny, Lemma}
 use Rattle.term_table.specs.Equality.{tree_eq}
 use Rattle.term_table.specs.Table.{tree_in}
 use Rattle.proof_container.specs.declared.container.Head.{Head}
 use Rattle.proof_container.specs.declared.container.Head.TheVariants.{Number, Digest}
 use Rattle.proof_container.specs.declared.fault.Flaw.{Flaw}
 use Rattle.proof_container.specs.declared.fault.Flaw.TheVariants.{Cut, Magic, Version, Count, EntryKind, ForwardRef, DoubleEntry, Order, LambdaHead, InvOrder, Trailing}
-use Rattle.proof_container.specs.Versions.{version_of, policy_size, code_field}
+use Rattle.proof_container.specs.Versions.{policy_size, bound_size, code_field}
 use Rattle.proof_container.specs.Contents.{Contents, roots}
 use Rattle.proof_container.specs.Postorder.{is_emitted, entries}
-use Rattle.proof_container.specs.declared.limits.TheConstants.{MAX_VERSION, MAX_WORDS, MAX_ENTRIES, MAX_INVS}
+use Rattle.proof_container.specs.declared.limits.TheConstants.{MAX_VERSION, MAX_BOUND, MAX_WORDS, MAX_ENTRIES, MAX_INVS}
 use Rattle.proof_container.specs.Encoding.{magic}
 
 -- an offset, and what is wrong there
@@ -49,7 +49,7 @@ word_at bytes i = do
   high ← field_at bytes (i + 1)
   Ok (low + 4294967296 * high)
 
--- ---- the magic, the version, the policy and the code
+-- ---- the magic, the version, the policy, the bound and the code
 
 -- what names the policy, from field 2 on
 unfoldable pub policy_at : List ℕ → ℕ → Result Head Fault
@@ -58,15 +58,37 @@ policy_at bytes version =
     then field_at bytes 2 >>= (λ n. Ok (Number n))
     else raw_at bytes 2 (policy_size version) >>= (λ d. Ok (Digest d))
 
--- what names the policy, the code, and the field behind it
-unfoldable pub decoded_head : List ℕ → Result (Head × List ℕ × ℕ) Fault
+-- how many steps the code makes at most, where the version bounds them
+unfoldable pub bound_at : List ℕ → ℕ → Result (Option ℕ) Fault
+bound_at bytes version =
+    if version == 3
+    then between_at bytes (2 + policy_size version) 1 MAX_BOUND Count >>= (λ n. Ok (Some n))
+    else Ok None
+
+-- what stands before the entries, and the field behind it
+pub record Front : Type 0 where
+  pub version : ℕ
+  pub head : Head
+  pub bound : Option ℕ
+  pub code : List ℕ
+  pub next : ℕ
+
+-- the front of a container
+unfoldable pub decoded_head : List ℕ → Result Front Fault
 decoded_head bytes = do
   first ← exact_at bytes 0 magic Magic
   version ← between_at bytes 1 1 MAX_VERSION Version
   head ← policy_at bytes version
-  words ← between_at bytes (2 + policy_size version) 1 MAX_WORDS Count
+  bound ← bound_at bytes version
+  words ← between_at bytes (2 + policy_size version + bound_size version) 1 MAX_WORDS Count
   code ← raw_at bytes (code_field version) words
-  Ok (head, code, code_field version + words)
+  Ok (record {
+    version = version;
+    head = head;
+    bound = bound;
+    code = code;
+    next = code_field version + words;
+  })
 
 -- ---- entries, the trees of the earlier ones being ts
 
@@ -196,13 +218,15 @@ decoded_end bytes last i es c =
 -- the contents of the container that the bytes are, or the first fault
 unfoldable pub decoded_container : List ℕ → Result Contents Fault
 decoded_container bytes = do
-  head ← decoded_head bytes
-  es ← decoded_entries bytes head.2
-  invs ← decoded_invs bytes es.1 es.0 (length head.1 / 4)
+  front ← decoded_head bytes
+  es ← decoded_entries bytes front.next
+  invs ← decoded_invs bytes es.1 es.0 (length front.code / 4)
   proof ← decoded_proof bytes (es.1 + 1 + 2 * length invs) es.0
-  decoded_end bytes (es.1 + 2 + 2 * length invs) head.2 es.0 (record {
-    head = head.0;
-    code = head.1;
+  decoded_end bytes (es.1 + 2 + 2 * length invs) front.next es.0 (record {
+    version = front.version;
+    head = front.head;
+    bound = front.bound;
+    code = front.code;
     invs = invs;
     proof = proof;
   })

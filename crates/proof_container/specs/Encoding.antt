@@ -1,7 +1,7 @@
 -- The grammar of containers. All fields are little-endian numbers of four bytes, but for a digest,
 -- which is bytes as they stand. The format is this project's own.
 use Rattle.term_table.specs.Bytes.{IsBytes}
-use Rattle.std.specs.Prelude.{◌≡◌, ℕ, suc, ◌+◌, ◌*◌, ◌/◌, ◌%◌, ◌^◌, ◌<◌, ◌≤◌, if◌then◌else◌, List, [], ◌∷◌, ◌++◌, length, slice_index, Option, Some, None}
+use Rattle.std.specs.Prelude.{◌≡◌, ℕ, suc, ◌+◌, ◌*◌, ◌/◌, ◌%◌, ◌^◌, ◌<◌, ◌≤◌, if◌then◌else◌, List, [], ◌∷◌, ◌++◌, length, Option, Some, None}
 use Rattle.std.specs.List.{flat_map}
 use Rattle.std.specs.Int.{w32, to_le_bytes}
 use Rattle.term_table.specs.Tree.{Tree, Var, Con, App, Lam, Fam, TApp, Pi, Const, Num, Lit, Calc, Fact, Deny, Lemma, IsAtomic}
@@ -10,7 +10,7 @@ use Rattle.term_table.specs.Table.{IsSmall}
 use Rattle.proof_container.specs.declared.container.Head.{Head}
 use Rattle.proof_container.specs.declared.container.Head.TheVariants.{Number, Digest}
 use Rattle.proof_container.specs.declared.limits.TheConstants.{MAX_WORDS, MAX_ENTRIES, MAX_INVS}
-use Rattle.proof_container.specs.Versions.{version_of, IsHead}
+use Rattle.proof_container.specs.Versions.{IsVersion, IsHead, IsBoundOf}
 use Rattle.proof_container.specs.Contents.{Contents, roots}
 use Rattle.proof_container.specs.Postorder.{entries}
 
@@ -62,10 +62,16 @@ abbrev pub policy_bytes : Head → List ℕ
 policy_bytes (Number n) = field_bytes (n ∷ [])
 policy_bytes (Digest d) = d
 
--- the magic, the version, the policy, and how many words of code follow
-abbrev pub head_bytes : Head → ℕ → List ℕ
-head_bytes h words =
-    field_bytes (magic ∷ version_of h ∷ []) ++ (policy_bytes h ++ field_bytes (words ∷ []))
+-- the bound, if there is one
+abbrev pub bound_fields : Option ℕ → List ℕ
+bound_fields None = []
+bound_fields (Some n) = n ∷ []
+
+-- the magic, the version, the policy, the bound, and how many words of code follow
+abbrev pub head_bytes : Contents → ℕ → List ℕ
+head_bytes c words =
+    field_bytes (magic ∷ c.version ∷ [])
+    ++ (policy_bytes c.head ++ field_bytes (bound_fields c.bound ++ words ∷ []))
 
 -- what stands behind the code, these being the entries
 abbrev pub tail_fields : List Tree → Contents → List ℕ
@@ -74,7 +80,7 @@ tail_fields es c = (length es ∷ flat_map (entry_fields es) es) ++ ((length c.i
 -- the one encoding of the contents
 unfoldable pub encoding_of : Contents → List ℕ
 encoding_of c =
-    head_bytes c.head (length c.code / 4)
+    head_bytes c (length c.code / 4)
     ++ (c.code ++ field_bytes (tail_fields (entries (roots c)) c))
 
 -- the invariants' indices rise from this one on, and lie below the count of words
@@ -100,7 +106,9 @@ AreTerms (t ∷ ts) = IsEntryTerm t × IsSmall t × AreTerms ts
 
 -- what a container may hold
 pub record IsContents (c : Contents) : Type 0 where
-  pub head : IsHead c.head
+  pub version : IsVersion c.version
+  pub head : IsHead c.version c.head
+  pub bound : IsBoundOf c.version c.bound
   pub bytes : IsBytes c.code
   pub whole : 4 * (length c.code / 4) ≡ length c.code
   pub some : 0 < length c.code

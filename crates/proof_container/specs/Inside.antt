@@ -1,3 +1,4 @@
 -- The words of private functions.
 pub mod Cursor
+pub mod Fronts
 pub mod Walked

@@ -1,7 +1,7 @@
 -- The walk that orders a container's entries: it leaves each tree once, after its parts.
 use Rattle.std.specs.Prelude.{◌≡◌, Bool, true, false, if◌then◌else◌, List, [], ◌∷◌, ◌++◌}
 use Rattle.std.specs.List.{list_any}
-use Rattle.term_table.specs.Tree.{Tree, Var, Con, App, Lam, Fam, TApp, Pi}
+use Rattle.term_table.specs.Tree.{Tree, App, Lam, TApp, Pi}
 use Rattle.term_table.specs.Equality.{tree_eq}
 
 -- whether a tree is one of these

@@ -1,32 +1,43 @@
--- What the versions of containers differ in: what names the policy, and so where the code begins;
--- and which profile the code is of, and which signature the terms, by whose parameters proofs
--- weigh.
-use Rattle.std.specs.Prelude.{◌≡◌, ℕ, ◌+◌, ◌<◌, ◌^◌, ◌==◌, if◌then◌else◌, length}
+-- What the versions of containers differ in: what names the policy, whether steps are bounded, and so
+-- where the code begins; which profile the code is of, and which signature the terms are over, by
+-- whose parameters proofs weigh.
+use Rattle.std.specs.Prelude.{◌≡◌, ◌≢◌, ℕ, ◌+◌, ◌<◌, ◌≤◌, ◌^◌, ◌==◌, if◌then◌else◌, length, Option, Some, None}
 use Rattle.word_ops.specs.declared.Profile.{Profile}
 use Rattle.word_ops.specs.declared.Profile.TheVariants.{One, Two}
 use Rattle.term_table.specs.Bytes.{IsBytes}
 use Rattle.lf_signature.specs.declared.WordSignature.{WordSignature}
-use Rattle.lf_signature.specs.declared.WordSignature.TheVariants.{Sigma1, Sigma2}
+use Rattle.lf_signature.specs.declared.WordSignature.TheVariants.{Sigma1, Sigma2, Sigma3}
 use Rattle.proof_container.specs.declared.container.Head.{Head}
 use Rattle.proof_container.specs.declared.container.Head.TheVariants.{Number, Digest}
+use Rattle.proof_container.specs.declared.limits.TheConstants.{MAX_VERSION, MAX_BOUND}
 
--- the version of a container whose policy is named so
-abbrev pub version_of : Head → ℕ
-version_of (Number n) = 1
-version_of (Digest d) = 2
+-- the versions that are built
+abbrev pub IsVersion : ℕ → Type 0
+IsVersion v = (1 ≤ v) × (v ≤ MAX_VERSION)
 
 -- how many fields name the policy
 abbrev pub policy_size : ℕ → ℕ
 policy_size v = if v == 1 then 1 else 8
 
--- how many fields stand before the code: magic and version, the policy, and the count of words
-abbrev pub code_field : ℕ → ℕ
-code_field v = 3 + policy_size v
+-- how many fields bound the steps
+abbrev pub bound_size : ℕ → ℕ
+bound_size v = if v == 3 then 1 else 0
 
--- a number that fits its field, or as many bytes as a digest has
-abbrev pub IsHead : Head → Type 0
-IsHead (Number n) = n < 2 ^ 32
-IsHead (Digest d) = (length d ≡ 32) × IsBytes d
+-- how many fields stand before the code: magic and version, the policy, the bound, and the count of
+-- words
+abbrev pub code_field : ℕ → ℕ
+code_field v = 3 + policy_size v + bound_size v
+
+-- version 1 names the policy by a number that fits its field, each other by as many bytes as a
+-- digest has
+abbrev pub IsHead : ℕ → Head → Type 0
+IsHead v (Number n) = (v ≡ 1) × (n < 2 ^ 32)
+IsHead v (Digest d) = (v ≢ 1) × (length d ≡ 32) × IsBytes d
+
+-- version 3 bounds the steps, by 1 to 1,000,000,000, and no other does
+abbrev pub IsBoundOf : ℕ → Option ℕ → Type 0
+IsBoundOf v None = v ≢ 3
+IsBoundOf v (Some n) = (v ≡ 3) × (1 ≤ n) × (n ≤ MAX_BOUND)
 
 -- the profile that the code is of
 abbrev pub profile_of : ℕ → Profile
@@ -34,4 +45,4 @@ profile_of v = if v == 1 then One else Two
 
 -- the signature that the terms are over, by whose parameters proofs weigh
 abbrev pub signature_of : ℕ → WordSignature
-signature_of v = if v == 1 then Sigma1 else Sigma2
+signature_of v = if v == 1 then Sigma1 else if v == 3 then Sigma3 else Sigma2

@@ -1,6 +1,6 @@
 -- The contents of a container as it stands in memory, and what answers of calls say.
 use Rattle.term_table.specs.Table.{id_trees}
-use Rattle.std.specs.Prelude.{◌≡◌, ℕ, ◌*◌, ◌/◌, ◌<◌, ◌≤◌, List, [], ◌∷◌, length, map, Option, Result, Ok, Err, IfSome}
+use Rattle.std.specs.Prelude.{◌≡◌, ℕ, ◌*◌, ◌/◌, ◌<◌, ◌≤◌, List, [], ◌∷◌, length, Option, Result, Ok, Err, IfSome}
 use Rattle.std.specs.List.{AllByRecursion}
 use Rattle.std.specs.Option.{option_map}
 use Rattle.term_table.specs.Tree.{Tree}
@@ -11,7 +11,7 @@ use Rattle.proof_container.specs.declared.fault.Malformed.{Malformed}
 use Rattle.proof_container.specs.declared.fault.Malformed.TheVariants as malformed
 use Rattle.proof_container.specs.declared.limits.TheConstants.{MAX_WORDS, MAX_ENTRIES, MAX_INVS}
 use Rattle.lf_signature.specs.Constants.{places_of}
-use Rattle.proof_container.specs.Versions.{version_of, signature_of}
+use Rattle.proof_container.specs.Versions.{IsVersion, IsHead, IsBoundOf, signature_of}
 use Rattle.proof_container.specs.Contents.{Contents, roots}
 use Rattle.proof_container.specs.Postorder.{entries}
 use Rattle.proof_container.specs.Encoding.{AreRising, IsEntryTerm, EncodesContents}
@@ -20,7 +20,9 @@ use Rattle.proof_container.specs.Decoding.{Fault}
 -- what a container holds
 abbrev pub contents_of : Container → Contents
 contents_of c = record {
+  version = c.version;
   head = c.head;
+  bound = c.bound;
   code = c.code.now;
   invs = id_trees c.table c.invs.items;
   proof = option_map (tree_at c.table) c.proof;
@@ -29,7 +31,9 @@ contents_of c = record {
 -- what a view shows
 abbrev pub view_contents : View → Contents
 view_contents v = record {
+  version = v.version;
   head = v.head;
+  bound = v.bound;
   code = v.code.now;
   invs = id_trees v.table.now v.invs.now;
   proof = option_map (tree_at v.table.now) v.proof;
@@ -41,7 +45,9 @@ AreKnown t invs proof = AllByRecursion (λ inv. IsKnown t inv.1) invs × IfSome 
 
 -- the view shows the container's fields
 pub record Shows (c : Container) (v : View) : Type 0 where
+  pub version : v.version ≡ c.version
   pub head : v.head ≡ c.head
+  pub bound : v.bound ≡ c.bound
   pub code : v.code.now ≡ c.code.now
   pub table : v.table.now ≡ c.table
   pub invs : v.invs.now ≡ c.invs.items
@@ -67,16 +73,20 @@ Decodes view read (Err e) = IsFault read e
 pub record IsCanonical (c : Container) : Type 0 where
   pub known : AreKnown c.table c.invs.items c.proof
   pub trees : c.table.trees ≡ entries (roots (contents_of c))
-  pub places : c.table.places ≡ places_of (signature_of (version_of c.head))
+  pub places : c.table.places ≡ places_of (signature_of c.version)
 
 -- each of these trees is a term that cites no lemma
 abbrev pub AllTerms : List Tree → Type 0
 AllTerms [] = Unit {0}
 AllTerms (t ∷ ts) = IsEntryTerm t × AllTerms ts
 
--- a view that can be written: its roots are terms of its table that cite no lemma, its code is whole
--- words, its counts are within the limits, and its indices rise below the count of words
+-- a view that can be written: its version is one that is built, what names the policy and the bound
+-- are that version's, its roots are terms of its table that cite no lemma, its code is whole words,
+-- its counts are within the limits, and its indices rise below the count of words
 pub record IsWritable (v : View) : Type 0 where
+  pub version : IsVersion v.version
+  pub head : IsHead v.version v.head
+  pub bound : IsBoundOf v.version v.bound
   pub known : AreKnown v.table.now v.invs.now v.proof
   pub terms : AllTerms (roots (view_contents v))
   pub whole : 4 * (length v.code.now / 4) ≡ length v.code.now
@@ -88,7 +98,9 @@ pub record IsWritable (v : View) : Type 0 where
 
 -- the containers are the same, wherever their code lies
 pub record AreSame (c d : Container) : Type 0 where
+  pub version : c.version ≡ d.version
   pub head : c.head ≡ d.head
+  pub bound : c.bound ≡ d.bound
   pub code : c.code.now ≡ d.code.now
   pub table : c.table ≡ d.table
   pub invs : c.invs.items ≡ d.invs.items

@@ -1,7 +1,5 @@
 //! Containers, and views of them.
 
-ghost use Rattle.std.specs.Prelude.{◌≡◌};
-ghost use Rattle.proof_container.specs.Versions.{version_of};
 ghost use Rattle.proof_container.specs.Views.{Shows};
 
 use term_table::{Id, Table};
@@ -11,28 +9,20 @@ use term_table::{Id, Table};
 pub enum Head {
     /// The policy's number, in version 1.
     Number(u32),
-    /// The digest of the policy's text, in version 2.
+    /// The digest of the policy's text, in the later versions.
     Digest([u8; 32]),
-}
-
-impl Head {
-    /// The version of the containers whose policy is named so.
-    pub fn version(&self) -> u32
-        ensures exact { result ≡ version_of self.now }
-    {
-        match self {
-            Head::Number(_) => 1,
-            Head::Digest(_) => 2,
-        }
-    }
 }
 
 /// Code with its invariants and, where it has one, its proof. The code lies in the bytes that were
 /// read.
 #[derive(Drop)]
 pub struct Container<'b> {
-    /// What names the policy that the code is for, and so tells the version.
+    /// The version, from 1 to `MAX_VERSION`.
+    pub version: u32,
+    /// What names the policy that the code is for.
     pub head: Head,
+    /// How many steps the code makes at most, from 1 to `MAX_BOUND`, in version 3; else none.
+    pub bound: Option<u32>,
     /// The words of the code, of four bytes each.
     pub code: &'b [u8],
     /// The terms of the invariants and of the proof.
@@ -46,8 +36,12 @@ pub struct Container<'b> {
 /// A container whose terms and invariants are lent.
 #[derive(Clone, Copy)]
 pub struct View<'v> {
-    /// What names the policy that the code is for, and so tells the version.
+    /// The version, from 1 to `MAX_VERSION`.
+    pub version: u32,
+    /// What names the policy that the code is for.
     pub head: Head,
+    /// How many steps the code makes at most, from 1 to `MAX_BOUND`, in version 3; else none.
+    pub bound: Option<u32>,
     /// The words of the code, of four bytes each.
     pub code: &'v [u8],
     /// The terms of the invariants and of the proof.
@@ -64,7 +58,9 @@ impl Container<'_> {
         ensures shows { Shows self.now result }
     {
         View {
+            version: self.version,
             head: self.head,
+            bound: self.bound,
             code: self.code,
             table: &self.table,
             invs: &self.invs,

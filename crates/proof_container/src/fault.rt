@@ -15,10 +15,10 @@ pub enum Flaw {
     /// The first four bytes aren't `PCCA`.
     #[error("the magic is wrong")]
     Magic,
-    /// The version is neither 1 nor 2.
+    /// The version is none of 1 to 3.
     #[error("the version is unknown")]
     Version,
-    /// A count is past its limit, or there is no code.
+    /// A count or the bound of steps is past its limits, or there is no code.
     #[error("a count is past its limits")]
     Count,
     /// The kind of the entry is above 7.

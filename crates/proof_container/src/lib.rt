@@ -21,7 +21,7 @@ mod writing;
 
 pub use container::{Container, Head, View};
 pub use fault::{Flaw, MAX_KIND, Malformed};
-pub use limits::{MAX_BYTES, MAX_ENTRIES, MAX_INVS, MAX_VERSION, MAX_WORDS};
+pub use limits::{MAX_BOUND, MAX_BYTES, MAX_ENTRIES, MAX_INVS, MAX_VERSION, MAX_WORDS};
 pub use reading::read;
 pub use theorems::laws;
 pub use versions::{profile_of, signature_of};

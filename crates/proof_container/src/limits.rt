@@ -1,7 +1,10 @@
 //! The limits of a container.
 
 /// The greatest version.
-pub const MAX_VERSION: u32 = 2;
+pub const MAX_VERSION: u32 = 3;
+
+/// The greatest bound of steps.
+pub const MAX_BOUND: u32 = 1_000_000_000;
 
 /// The most words that code may have.
 pub const MAX_WORDS: u32 = 1_024;

@@ -5,15 +5,16 @@ ghost use Rattle.std.specs.Prelude.{IfOk, IfErr, IfSome, IsTrue, OnOk};
 ghost use Rattle.std.specs.List.{AllByRecursion};
 ghost use Rattle.std.specs.Option.{option_map};
 ghost use Rattle.term_table.specs.Table.{IsKnown, AllKnown, tree_at, id_trees};
-ghost use Rattle.proof_container.specs.Versions.{version_of, policy_size};
+ghost use Rattle.proof_container.specs.Versions.{policy_size, bound_size};
 ghost use Rattle.proof_container.specs.Encoding.{EncodesContents};
-ghost use Rattle.proof_container.specs.Decoding.{policy_at, decoded_head};
+ghost use Rattle.proof_container.specs.Decoding.{policy_at, bound_at, decoded_head};
 ghost use Rattle.proof_container.specs.Decoding.{inv_at, invs_at, decoded_invs, decoded_proof};
 ghost use Rattle.proof_container.specs.Decoding.{first_misplaced, entry_offset, decoded_end};
 ghost use Rattle.proof_container.specs.Decoding.{decoded_container};
-ghost use Rattle.proof_container.specs.declared.limits.TheConstants.{MAX_VERSION, MAX_WORDS};
+ghost use Rattle.proof_container.specs.declared.limits.TheConstants.{MAX_WORDS};
 ghost use Rattle.proof_container.specs.declared.limits.TheConstants.{MAX_ENTRIES, MAX_INVS};
 ghost use Rattle.proof_container.specs.Inside.Cursor.{IsPast};
+ghost use Rattle.proof_container.specs.Inside.Fronts.{front_of};
 ghost use Rattle.proof_container.specs.Inside.Walked.{IsPlaced};
 ghost use Rattle.proof_container.specs.Views.{Decodes, IsNone, IsCanonical, AreKnown};
 ghost use Rattle.proof_container.specs.Views.{contents_of};
@@ -22,7 +23,7 @@ use crate::container::{Container, Head};
 use crate::entry::{entries, part, size};
 use crate::fault::{Flaw, Malformed};
 use crate::fields::{Fields, MAGIC};
-use crate::limits::{MAX_INVS, MAX_VERSION, MAX_WORDS};
+use crate::limits::{MAX_BOUND, MAX_INVS, MAX_VERSION, MAX_WORDS};
 use crate::versions::signature_of;
 use crate::walk::walk_from;
 use std::alloc::Global;
@@ -31,7 +32,9 @@ use term_table::{Id, Table};
 /// What stands before the entries.
 #[derive(Clone, Copy)]
 struct Start<'b> {
+    version: u32,
     head: Head,
+    bound: Option<u32>,
     code: &'b [u8],
 }
 
@@ -39,11 +42,8 @@ struct Start<'b> {
 #[tactic(auto, unfolding(crate::specs::Decoding::policy_at))]
 fn policy(fields: &mut Fields<'_>, version: u32) -> Result<Head, Malformed>
     requires place { fields.old.read ≡ 2 }
-    requires low { 1 ≤ version }
-    requires high { version ≤ MAX_VERSION }
     ensures read { Decodes (λ h. h) (policy_at fields.old.bytes.now version) result }
     ensures moves { OnOk result (IsPast fields.old fields.new (policy_size version)) }
-    ensures version { IfOk result (λ h. version_of h ≡ version) }
 {
     if version == 1 {
         return Ok(Head::Number(fields.field()?));
@@ -53,11 +53,26 @@ fn policy(fields: &mut Fields<'_>, version: u32) -> Result<Head, Malformed>
     Ok(Head::Digest(digest))
 }
 
-/// What names the policy, and the code; the next field is the one behind it.
+/// How many steps the code makes at most, if this version bounds them: the next field.
+#[tactic(auto, unfolding(crate::specs::Decoding::bound_at))]
+fn bound(fields: &mut Fields<'_>, version: u32) -> Result<Option<u32>, Malformed>
+    requires place { fields.old.read ≡ 2 + policy_size version }
+    ensures read { Decodes (λ b. b) (bound_at fields.old.bytes.now version) result }
+    ensures moves { OnOk result (IsPast fields.old fields.new (bound_size version)) }
+{
+    if version != 3 {
+        return Ok(None);
+    }
+    let steps = fields.between(1, MAX_BOUND, Flaw::Count)?;
+    Ok(Some(steps))
+}
+
+/// The version, what names the policy, the bound of steps and the code; the next field is the one
+/// behind it.
 #[tactic(auto, unfolding(crate::specs::Decoding::decoded_head))]
 fn start_of<'b>(fields: &mut Fields<'b>) -> Result<Start<'b>, Malformed>
     requires { fields.old.read ≡ 0 }
-    ensures read { Decodes (λ s. (s.head, s.code.now, fields.new.read))
+    ensures read { Decodes (λ s. front_of s fields.new)
         (decoded_head fields.old.bytes.now) result }
     ensures bytes { OnOk result (fields.new.bytes.now ≡ fields.old.bytes.now) }
     ensures near { OnOk result (fields.new.read < 2 ^ 32) }
@@ -66,9 +81,15 @@ fn start_of<'b>(fields: &mut Fields<'b>) -> Result<Start<'b>, Malformed>
     fields.exact(MAGIC, Flaw::Magic)?;
     let version = fields.between(1, MAX_VERSION, Flaw::Version)?;
     let head = policy(fields, version)?;
+    let bound = bound(fields, version)?;
     let words = fields.between(1, MAX_WORDS, Flaw::Count)?;
     let code = fields.raw(words as usize)?;
-    Ok(Start { head, code })
+    Ok(Start {
+        version,
+        head,
+        bound,
+        code,
+    })
 }
 
 /// The next invariant. Its index is at least `low` and below the count of words.
@@ -232,13 +253,15 @@ fn parse(alloc: Global, bytes: &[u8]) -> Result<Container<'_>, Malformed>
     let start = start_of(&mut fields)?;
     let words = start.code.len() / 4;
     let at = fields.place();
-    let signature = signature_of(start.head.version());
+    let signature = signature_of(start.version);
     let mut table = Table::new(alloc, signature.places());
     entries(&mut fields, &mut table)?;
     let invs = invs(alloc, &mut fields, &table, words)?;
     let proof = proof(&mut fields, &table)?;
     let container = Container {
+        version: start.version,
         head: start.head,
+        bound: start.bound,
         code: start.code,
         table,
         invs,

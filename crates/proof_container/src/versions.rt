@@ -24,6 +24,8 @@ pub fn signature_of(version: u32) -> WordSignature
 {
     if version == 1 {
         WordSignature::Sigma1
+    } else if version == 3 {
+        WordSignature::Sigma3
     } else {
         WordSignature::Sigma2
     }

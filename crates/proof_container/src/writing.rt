@@ -1,17 +1,16 @@
 //! Writing a container, and how long it will be.
 
 ghost use Rattle.std.specs.Prelude.{◌≡◌, ℕ, ◌-◌, ◌+◌, ◌*◌, ◌<◌, ◌≤◌, ◌^◌, ◌++◌, ◌%◌, ◌/◌, min};
-ghost use Rattle.std.specs.Prelude.{sum_by, slice_index, length, map, true, None, Ok};
+ghost use Rattle.std.specs.Prelude.{sum_by, slice_index, length, map, true, None, Ok, [], ◌∷◌};
 ghost use Rattle.std.specs.Prelude.{IfOk, IfSome, OnOk};
 ghost use Rattle.std.specs.List.{flat_map};
 ghost use Rattle.std.specs.Option.{option_map};
 ghost use Rattle.term_table.specs.Table.{IsKnown, AllKnown, tree_at, id_trees};
-ghost use Rattle.proof_container.specs.Versions.{IsHead};
 ghost use Rattle.proof_container.specs.Contents.{roots};
 ghost use Rattle.proof_container.specs.Postorder.{entries, is_emitted, HasPartsFirst, AreEmitted};
 ghost use Rattle.proof_container.specs.Encoding.{field_bytes, entry_number, entry_fields};
 ghost use Rattle.proof_container.specs.Encoding.{inv_fields, proof_field, tail_fields};
-ghost use Rattle.proof_container.specs.Encoding.{policy_bytes, head_bytes};
+ghost use Rattle.proof_container.specs.Encoding.{policy_bytes, bound_fields, head_bytes};
 ghost use Rattle.proof_container.specs.Encoding.{encoding_of, EncodesContents};
 ghost use Rattle.proof_container.specs.declared.limits.TheConstants.{MAX_ENTRIES};
 ghost use Rattle.proof_container.specs.Decoding.{entry_size, decoded_container};
@@ -162,15 +161,11 @@ fn put_tail(out: &mut Vec<u8>, view: &View<'_>, walk: &Walk) -> Result<(), Alloc
     put(out, &[proof_number(view.table, walk, view.proof)])
 }
 
-/// What their types say of what names a policy, and of code.
-fn limits(head: Head, code: &[u8])
-    ensures head { IsHead head }
-    ensures code { (i : ℕ) → slice_index code.now i < 256 }
+/// What its type says of code.
+fn limits(code: &[u8])
+    ensures { (i : ℕ) → slice_index code.now i < 256 }
 {
     let _ = code; // opens its bytes' range for the prover
-    match head {
-        Head::Number(_) | Head::Digest(_) => {} // opens the ranges of what it has
-    }
 }
 
 /// Adds what names the policy.
@@ -183,13 +178,25 @@ fn put_policy(out: &mut Vec<u8>, head: &Head) -> Result<(), AllocError>
     }
 }
 
-/// Adds what stands before the code, which has so many words.
-fn put_head(out: &mut Vec<u8>, head: &Head, words: u32) -> Result<(), AllocError>
-    ensures { OnOk result (out.new.items ≡ out.old.items ++ head_bytes head.now words) }
+/// Adds the bound, if there is one, and how many words of code follow.
+fn put_counts(out: &mut Vec<u8>, bound: Option<u32>, words: u32) -> Result<(), AllocError>
+    ensures { let fields = bound_fields bound ++ words ∷ [] in
+        OnOk result (out.new.items ≡ out.old.items ++ field_bytes fields) }
 {
-    put(out, &[MAGIC, head.version()])?;
-    put_policy(out, head)?;
-    put(out, &[words])
+    match bound {
+        None => put(out, &[words]),
+        Some(steps) => put(out, &[steps, words]),
+    }
+}
+
+/// Adds what stands before the code, which has so many words.
+fn put_head(out: &mut Vec<u8>, view: &View<'_>, words: u32) -> Result<(), AllocError>
+    ensures { let held = view_contents view.now in
+        OnOk result (out.new.items ≡ out.old.items ++ head_bytes held words) }
+{
+    put(out, &[MAGIC, view.version])?;
+    put_policy(out, &view.head)?;
+    put_counts(out, view.bound, words)
 }
 
 /// Encodes the contents of `view`: the entries stand in the order of the walk from the invariants
@@ -205,10 +212,10 @@ pub fn write(alloc: Global, view: &View<'_>) -> Result<Vec<u8>, AllocError>
 {
     view.table.laws();
     let code = view.code;
-    limits(view.head, code);
+    limits(code);
     let walk = walk_from(alloc, view.table, view.invs, view.proof)?;
     let mut out = Vec::new(alloc);
-    put_head(&mut out, &view.head, (code.len() / 4) as u32)?;
+    put_head(&mut out, view, (code.len() / 4) as u32)?;
     out.extend_from_slice(code)?;
     put_tail(&mut out, view, &walk)?;
     Ok(out)
@@ -237,6 +244,17 @@ fn policy_len(head: Head) -> u64
     }
 }
 
+/// How many fields bound the steps.
+fn bound_len(bound: Option<u32>) -> u64
+    ensures value { result ≡ length (bound_fields bound) }
+    ensures small { result ≤ 1 }
+{
+    match bound {
+        None => 0,
+        Some(_) => 1,
+    }
+}
+
 /// Measures the container of `view`: how many entries it has, and how many bytes; past
 /// 18,446,744,073,709,551,615 bytes it answers that.
 ///
@@ -250,7 +268,7 @@ pub fn extent(alloc: Global, view: &View<'_>) -> Result<(u64, u64), AllocError>
     let walk = walk_from(alloc, view.table, view.invs, view.proof)?;
     let count = view.invs.len() as u64;
     let fields = entries_len(view.table, &walk)
-        .saturating_add(6 + policy_len(view.head))
+        .saturating_add(6 + policy_len(view.head) + bound_len(view.bound))
         .saturating_add(2 * count);
     let bytes = fields
         .saturating_mul(4)

@@ -17,8 +17,7 @@ use Rattle.prover_class.proofs.Encoded.{splits_first, over_put_exp, over_put}
 use Rattle.formula_terms.specs.ProofTerms.{AForm, and_l, and_r, imp_e, all_e, move}
 use Rattle.prover_class.specs.Hypotheses.{Hyps, same_exp}
 use Rattle.prover_class.specs.NormalForms.{normal_form, equal_proof}
-use Rattle.prover_class.specs.Goals.{Prover, by_words_alone}
-use Rattle.prover_class.specs.Parts.{levels}
+use Rattle.prover_class.specs.Goals.{Prover, levels, by_words_alone}
 use Rattle.prover_class.specs.Access.{Access, Load, Store, access_form, right_address, Side, Left, Right, down, same_address, access_move, moved, Opened, opening_of, opened_by, opened_with, opened_at, from_side, first_way, first_opened, granted, granted_by, by_grant, has_var, summands, literal, without, all_without, sum_with, rest_of, eighth, instance_of, by_hyp, by_hyps, by_access, without_access, by_all_means}
 use Rattle.prover_class.proofs.Proved.{Proves, IsHyp, AreHyps}
 use Rattle.prover_class.proofs.Uses.{rule_proves, stays_now}
@@ -267,13 +266,18 @@ module _ (sig : WordSignature) (e d : ℕ) (room : e + (d + d + d) + 16 ≤ 2 ^ 
     by_access_says (FWr a) t o q = by_hyps_says Store a o Γ are t q
     by_access_says _ t o q = cc
 
-module _ (sig : WordSignature) (e d : ℕ) (room : e + (d + d + d) + 16 ≤ 2 ^ 32) (some : 0 < d) (plain : IsSound sig e d room some 0 by_words_alone) (roomy : IsSound sig e d room some d by_words_alone) where
-  low_sound : IsSound sig e d room some 0 without_access
-  low_sound k out ctx Γ A p w g o nk nd q = goal_sound sig e d room some 0 by_words_alone plain (levels A) k out ctx Γ A p w g o nk nd q
+module _ (sig : WordSignature) (e d : ℕ) (room : e + (d + d + d) + 16 ≤ 2 ^ 32) (some : 0 < d) (counted : Bool)
+    (plain : IsSound sig e d room some 0 (by_words_alone counted)) (roomy : IsSound sig e d room some d (by_words_alone counted)) where
+  low_sound : IsSound sig e d room some 0 (without_access counted)
+  low_sound k out ctx Γ A p w g o nk nd q =
+      goal_sound sig e d room some 0 (by_words_alone counted) plain (levels A) k out ctx Γ A p w g o nk nd q
 
-  pub all_sound : IsSound sig e d room some d by_all_means
-  all_sound k out ctx Γ A p w g o nk nd q = go (else_some (by_words_alone out Γ A) (by_access without_access out Γ A) p q)
+  pub all_sound : IsSound sig e d room some d (by_all_means counted)
+  all_sound k out ctx Γ A p w g o nk nd q =
+      go (else_some (by_words_alone counted out Γ A) (by_access (without_access counted) out Γ A) p q)
     where
-      go : (by_words_alone out Γ A ≡ Some p) ⊎ (by_access without_access out Γ A ≡ Some p) → Proves sig (e + d) ctx (pf (form_encoding A)) p
+      go : (by_words_alone counted out Γ A ≡ Some p) ⊎ (by_access (without_access counted) out Γ A ≡ Some p) → Proves sig (e + d) ctx (pf (form_encoding A)) p
       go (inl f) = roomy k out ctx Γ A p w g o nk nd f
-      go (inr f) = by_access_says sig e d room some k ctx w without_access low_sound (omega (arith, nk)) out Γ g A p o f
+      go (inr f) =
+          by_access_says sig e d room some k ctx w (without_access counted) low_sound
+          (omega (arith, nk)) out Γ g A p o f

@@ -10,14 +10,14 @@ use Rattle.word_ops.specs.declared.Rel.TheVariants.{Eq, Ult, Ule}
 use Rattle.word_ops.specs.Words.{word_of}
 use Rattle.word_ops.proofs.Bounds.{word_of-below}
 use Rattle.lf_signature.specs.Terms.{exp, pf, lit, rel_term}
-use Rattle.lf_signature.specs.Constants.{the_rules}
+use Rattle.lf_signature.specs.Constants.{the_rules, size_of}
 use Rattle.formula_tree.specs.Formulas.{Exp, EVar, ELit, EOp, ESel, Form, FRel, EReg, ELeft}
 use Rattle.formula_terms.specs.Encoding.{exp_encoding, form_encoding}
 use Rattle.prover_class.proofs.Scope.{OverExp, has_operator}
-use Rattle.prover_class.proofs.Signatures.{later_rule}
+use Rattle.prover_class.proofs.Signatures.{later_rule, last_rule}
 use Rattle.formula_terms.specs.ProofTerms.{AExp, word_rule, move, swap, up, calc, fact}
 use Rattle.prover_class.specs.Hypotheses.{Hyps, same_exp}
-use Rattle.prover_class.specs.Bounds.{WordBound, word_bound, least_bound, greatest_bound, max_word, folded, fit_proof, upper_of, uppers, op_bounds, own_bounds, upper_bound, lower_of, lowers, lower_bound}
+use Rattle.prover_class.specs.Bounds.{WordBound, word_bound, least_bound, greatest_bound, max_word, folded, folded_below, fit_proof, upper_of, uppers, op_bounds, own_bounds, upper_bound, lower_of, lowers, zero_bound, difference_bound, part_lowers, lower_bound}
 use Rattle.prover_class.proofs.Proved.{Proves, IsHyp, AreHyps}
 use Rattle.prover_class.proofs.Uses.{rule_proves, stays_now}
 use Rattle.prover_class.proofs.Named.{move_proves, swap_proves, calc_proves, fact_proves, plain_subst-up, over-up}
@@ -94,6 +94,18 @@ module _ (sig : WordSignature) (e d : ℕ) (room : e + (d + d + d) + 16 ≤ 2 ^ 
   folded_is a oa o has x y hx hy p h =
       record { word = word_of-below o x y hx hy; proved = move_right a (EOp o (ELit x) (ELit y)) (ELit (word_of o x y)) oa (hx, hy, has) (word_of-below o x y hx hy) (calc o x y) p (calc_proves sig (e + d) ctx o has x y hx hy) h }
 
+  folded_below_is : (a : Exp) → OverExp sig a ctx → (o : Op) → has_operator sig o ≡ true
+      → (x y : ℕ) → x < 2 ^ 64 → y < 2 ^ 64 → (p : Tree) → Has Ule (EOp o (ELit x) (ELit y)) a p
+      → IsLower a (folded_below a o x y p)
+  folded_below_is a oa o has x y hx hy p h =
+      let b = word_of-below o x y hx hy in
+      record {
+        word = b;
+        proved =
+            move_left a (EOp o (ELit x) (ELit y)) (ELit (word_of o x y)) oa (hx, hy, has) b
+            (calc o x y) p (calc_proves sig (e + d) ctx o has x y hx hy) h;
+      }
+
   fit_proof_is : (v : ℕ) (o : Op) → has_operator sig o ≡ true → (x y : ℕ) → v < 2 ^ 64 → x < 2 ^ 64 → y < 2 ^ 64 → v ≤ word_of o x y → Has Ule (ELit v) (EOp o (ELit x) (ELit y)) (fit_proof v o x y)
   fit_proof_is v o has x y hv hx hy h =
       let b = word_of-below o x y hx hy in
@@ -149,9 +161,29 @@ module _ (sig : WordSignature) (e d : ℕ) (room : e + (d + d + d) + 16 ≤ 2 ^ 
   unfolding the_rules
   max_is a oa = record { word = omega arith; proved = rule_proves sig e d room 62 _ refl ctx wide (AExp a ∷ []) [] (oa, tt) tt }
 
-  zero_is : (a : Exp) → OverExp sig a ctx → IsLower a (word_bound 0 (word_rule 61 (a ∷ []) []))
+  zero_is : (a : Exp) → OverExp sig a ctx → IsLower a (zero_bound a)
   unfolding the_rules
   zero_is a oa = record { word = omega arith; proved = rule_proves sig e d room 61 _ refl ctx wide (AExp a ∷ []) [] (oa, tt) tt }
+
+  difference_is : 104 < size_of sig → (a : Exp) (u : ℕ) (v : WordBound)
+      → OverExp sig (EOp Sub a (ELit u)) ctx → IsLower a v → nat_le u v.value ≡ true
+      → IsLower (EOp Sub a (ELit u)) (difference_bound a u v)
+  unfolding the_rules
+  difference_is rule a u v o h t =
+      folded_below_is (EOp Sub a (ELit u)) o Sub refl v.value u h.word o.1
+      (word_rule 104 (a ∷ ELit v.value ∷ ELit u ∷ []) (v.proof ∷ fact Ule u v.value ∷ []))
+      (rule_proves sig e d room 104 _ (last_rule sig rule) ctx wide
+      (AExp a ∷ AExp (ELit v.value) ∷ AExp (ELit u) ∷ []) (v.proof ∷ fact Ule u v.value ∷ [])
+      (o.0, (h.word, (o.1, tt)))
+      (h.proved, (fact_proves sig (e + d) ctx Ule u v.value o.1 h.word t, tt)))
+
+  part_lowers_are : (counted : Bool) → (counted ≡ true → 104 < size_of sig) → (f : Op) (a b : Exp)
+      (v : WordBound) → OverExp sig (EOp f a b) ctx → IsLower a v
+      → AllLower (EOp f a b) (part_lowers counted f a b v)
+  part_lowers_are true rule Sub a (ELit u) v o h =
+      lower_if (EOp Sub a (ELit u)) (nat_le u v.value) (difference_bound a u v)
+      (λ t. difference_is (rule refl) a u v o h t)
+  part_lowers_are counted rule f a b v o h = tt
 
   fixed_is : (n w : ℕ) → w < 2 ^ 64 → (a b x : Exp) →
       Has Ule x (ELit w) (word_rule n (a ∷ b ∷ []) []) →
@@ -210,7 +242,7 @@ module _ (sig : WordSignature) (e d : ℕ) (room : e + (d + d + d) + 16 ≤ 2 ^ 
           rule_proves sig e d room 64 _ refl ctx wide
           (AExp (EOp Bic a b) ∷ AExp a ∷ AExp (ELit v.value) ∷ [])
           (word_rule 97 (a ∷ b ∷ []) [] ∷ v.proof ∷ []) ((oa, ob, has), (oa, (hv.word, tt))) (
-            rule_proves sig e d room 97 _ (later_rule sig has 97) ctx wide
+            rule_proves sig e d room 97 _ (later_rule sig has 97 refl) ctx wide
                 (AExp a ∷ AExp b ∷ []) [] (oa, (ob, tt)) tt,
             (hv.proved, tt),
           );
@@ -219,15 +251,15 @@ module _ (sig : WordSignature) (e d : ℕ) (room : e + (d + d + d) + 16 ≤ 2 ^ 
   )
   op_bounds_are Extb a b v u has oa ob hv hu =
       fixed_is 100 255 (omega arith) a b (EOp Extb a b)
-      (rule_proves sig e d room 100 _ (later_rule sig has 100) ctx wide (AExp a ∷ AExp b ∷ []) []
+      (rule_proves sig e d room 100 _ (later_rule sig has 100 refl) ctx wide (AExp a ∷ AExp b ∷ []) []
       (oa, (ob, tt)) tt)
   op_bounds_are Extw a b v u has oa ob hv hu =
       fixed_is 101 65535 (omega arith) a b (EOp Extw a b)
-      (rule_proves sig e d room 101 _ (later_rule sig has 101) ctx wide (AExp a ∷ AExp b ∷ []) []
+      (rule_proves sig e d room 101 _ (later_rule sig has 101 refl) ctx wide (AExp a ∷ AExp b ∷ []) []
       (oa, (ob, tt)) tt)
   op_bounds_are Extl a b v u has oa ob hv hu =
       fixed_is 102 4294967295 (omega arith) a b (EOp Extl a b)
-      (rule_proves sig e d room 102 _ (later_rule sig has 102) ctx wide (AExp a ∷ AExp b ∷ []) []
+      (rule_proves sig e d room 102 _ (later_rule sig has 102 refl) ctx wide (AExp a ∷ AExp b ∷ []) []
       (oa, (ob, tt)) tt)
   op_bounds_are Srl a (EReg r) v u has oa ob hv hu = elim ob [ ]
   op_bounds_are Srl a ELeft v u has oa ob hv hu = elim ob [ ]
@@ -262,5 +294,16 @@ module _ (sig : WordSignature) (e d : ℕ) (room : e + (d + d + d) + 16 ≤ 2 ^ 
     own_bounds_are (EOp f a b) o = tt
     own_bounds_are (ESel m a) o = tt
 
-    pub lower_bound_is : (a : Exp) → OverExp sig a ctx → IsLower a (lower_bound Γ a)
-    lower_bound_is a o = greatest_is a (own_bounds a ++ lowers a Γ) (word_bound 0 (word_rule 61 (a ∷ []) [])) (lower_append a (own_bounds a) (lowers a Γ) (own_bounds_are a o) (lowers_are a o Γ are)) (zero_is a o)
+    pub lower_bound_is : (counted : Bool) → (counted ≡ true → 104 < size_of sig) → (a : Exp)
+        → OverExp sig a ctx → IsLower a (lower_bound counted Γ a)
+    lower_bound_is counted rule (EOp f a b) o =
+        let x = EOp f a b in
+        let parts = part_lowers counted f a b (lower_bound counted Γ a) in
+        greatest_is x (lowers x Γ) (greatest_bound parts (zero_bound x)) (lowers_are x o Γ are)
+        (greatest_is x parts (zero_bound x)
+        (part_lowers_are counted rule f a b (lower_bound counted Γ a) o
+        (lower_bound_is counted rule a o.0)) (zero_is x o))
+    lower_bound_is counted rule a o =
+        greatest_is a (own_bounds a ++ lowers a Γ) (zero_bound a)
+        (lower_append a (own_bounds a) (lowers a Γ) (own_bounds_are a o) (lowers_are a o Γ are))
+        (zero_is a o)

@@ -6,7 +6,7 @@ use Rattle.term_table.proofs.Options.{bind_some, map_some, some_injective}
 use Rattle.word_ops.specs.declared.Op.TheVariants.{Add, Band, Sll}
 use Rattle.word_ops.specs.declared.Rel.TheVariants.{Eq, Ult, Ule}
 use Rattle.lf_signature.specs.Terms.{exp, pf, lit, rel_term, op_term}
-use Rattle.lf_signature.specs.Constants.{the_rules}
+use Rattle.lf_signature.specs.Constants.{the_rules, size_of}
 use Rattle.formula_tree.specs.Formulas.{Exp, EVar, ELit, EOp, Form, FRel}
 use Rattle.formula_terms.specs.Encoding.{exp_encoding, form_encoding}
 use Rattle.prover_class.proofs.Scope.{OverExp, Over}
@@ -124,11 +124,21 @@ module _ (sig : WordSignature) (e d : ℕ) (room : e + (d + d + d) + 16 ≤ 2 ^ 
         let m = map_some (find_hyp Γ (FRel Ult a b)) (λ h. word_rule 65 (a ∷ b ∷ []) (h ∷ [])) p q in
         subst (λ z. Says (FRel Ule a b) z) m.2 (rule_proves sig e d room 65 _ refl ctx wide (AExp a ∷ AExp b ∷ []) (m.0 ∷ []) (oa, (ob, tt)) (find_proves sig (e + d) d k ctx Γ are (FRel Ult a b) m.0 m.1, tt))
 
-    ule_either : (a b : Exp) (p : Tree) → OverExp sig a ctx → OverExp sig b ctx → (option_map (λ h. word_rule 65 (a ∷ b ∷ []) (h ∷ [])) (find_hyp Γ (FRel Ult a b)) ≡ Some p) ⊎ (ule_by a b (upper_bound Γ a) (lower_bound Γ b) ≡ Some p) → Says (FRel Ule a b) p
-    ule_either a b p oa ob (inl q) = weaker a b p oa ob q
-    ule_either a b p oa ob (inr q) = ule_says a b (upper_bound Γ a) (lower_bound Γ b) p oa ob (upper_bound_is sig e d room some k ctx w Γ are a oa) (lower_bound_is sig e d room some k ctx w Γ are b ob) q
+    module _ (counted : Bool) (rule : counted ≡ true → 104 < size_of sig) where
+      ule_either : (a b : Exp) (p : Tree) → OverExp sig a ctx → OverExp sig b ctx → (option_map (λ h. word_rule 65 (a ∷ b ∷ []) (h ∷ [])) (find_hyp Γ (FRel Ult a b)) ≡ Some p) ⊎ (ule_by a b (upper_bound Γ a) (lower_bound counted Γ b) ≡ Some p) → Says (FRel Ule a b) p
+      ule_either a b p oa ob (inl q) = weaker a b p oa ob q
+      ule_either a b p oa ob (inr q) =
+          ule_says a b (upper_bound Γ a) (lower_bound counted Γ b) p oa ob
+          (upper_bound_is sig e d room some k ctx w Γ are a oa)
+          (lower_bound_is sig e d room some k ctx w Γ are counted rule b ob) q
 
-    pub by_bounds_says : (A : Form) (p : Tree) → Over sig A ctx → by_bounds Γ A ≡ Some p → Says A p
-    by_bounds_says (FRel Ule a b) p o q = ule_either a b p o.0 o.1 (else_some (option_map (λ h. word_rule 65 (a ∷ b ∷ []) (h ∷ [])) (find_hyp Γ (FRel Ult a b))) (ule_by a b (upper_bound Γ a) (lower_bound Γ b)) p q)
-    by_bounds_says (FRel Ult a b) p o q = ult_says a b (upper_bound Γ a) (lower_bound Γ b) p o.0 o.1 (upper_bound_is sig e d room some k ctx w Γ are a o.0) (lower_bound_is sig e d room some k ctx w Γ are b o.1) q
-    by_bounds_says _ p o q = cc
+      pub by_bounds_says : (A : Form) (p : Tree) → Over sig A ctx → by_bounds counted Γ A ≡ Some p → Says A p
+      by_bounds_says (FRel Ule a b) p o q =
+          ule_either a b p o.0 o.1
+          (else_some (option_map (λ h. word_rule 65 (a ∷ b ∷ []) (h ∷ [])) (find_hyp Γ (FRel Ult a b)))
+          (ule_by a b (upper_bound Γ a) (lower_bound counted Γ b)) p q)
+      by_bounds_says (FRel Ult a b) p o q =
+          ult_says a b (upper_bound Γ a) (lower_bound counted Γ b) p o.0 o.1
+          (upper_bound_is sig e d room some k ctx w Γ are a o.0)
+          (lower_bound_is sig e d room some k ctx w Γ are counted rule b o.1) q
+      by_bounds_says _ p o q = cc

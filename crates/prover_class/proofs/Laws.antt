@@ -1,20 +1,18 @@
 -- The class is sound, and gives a condition a proof exactly where no part is refused.
-use Rattle.std.proofs.Common.{◌≡◌, ℕ, suc, ◌^◌, ◌≤◌, Option, Some, None, List, [], ◌∷◌, ◌↔◌, refl, ap, option_map, arith}
+use Rattle.std.proofs.Common.{◌≡◌, ℕ, suc, ◌^◌, ◌<◌, ◌≤◌, Bool, true, Option, Some, None, List, [], ◌∷◌, ◌↔◌, refl, ap, option_map, arith}
 use Rattle.term_table.specs.Tree.{Tree}
 use Rattle.term_table.specs.Subst.{bind}
 use Rattle.term_table.proofs.Options.{map_some}
 use Rattle.lf_signature.specs.Terms.{pf}
 use Rattle.lf_signature.specs.Typing.{Checks}
-use Rattle.lf_signature.specs.Constants.{declared}
+use Rattle.lf_signature.specs.Constants.{size_of, declared}
 use Rattle.formula_tree.specs.Formulas.{Exp, EReg, ELeft, EVar, ELit, EOp, ESel, MemExp, MMem, MVar, MUpd, Form, FTrue, FFalse, FRel, FRd, FWr, FAnd, FOr, FImp, FAll, FAllm}
 use Rattle.formula_tree.specs.Scope.{VarSort, OfWord, OfMem, IsOverExp, IsOverMem, IsOver}
 use Rattle.formula_tree.specs.Sizes.{form_height}
 use Rattle.formula_terms.specs.Encoding.{form_encoding, var_types}
 use Rattle.formula_terms.proofs.Encoded.{at-word, at-mem}
 use Rattle.formula_terms.specs.ProofTerms.{tt_i, and_i}
-use Rattle.prover_class.specs.Goals.{Prover}
 use Rattle.prover_class.specs.Parts.{conjoined, part_proof, condition_proof, refused_at, first_not_easy}
-use Rattle.prover_class.specs.Access.{by_all_means}
 use Rattle.prover_class.proofs.Scope.{OverExp, OverMem, Over, nesting}
 use Rattle.prover_class.proofs.Parts.{class_checks}
 use Rattle.prover_class.proofs.Signatures.{declared-operator}
@@ -67,26 +65,28 @@ nesting-height (FImp A B) = omega (arith, nesting-height A, nesting-height B)
 nesting-height (FAll A) = omega (arith, nesting-height A)
 nesting-height (FAllm A) = omega (arith, nesting-height A)
 
-pub sound : (sig : WordSignature) (parts : List Form) (p : Tree) → IsOver 0 (conjoined parts) []
+pub sound : (sig : WordSignature) (counted : Bool) (parts : List Form) (p : Tree)
+    → (counted ≡ true → 104 < size_of sig) → IsOver 0 (conjoined parts) []
     → Uses (HasOp (declared sig)) (conjoined parts) → form_height (conjoined parts) ≤ 2 ^ 29
-    → condition_proof by_all_means parts ≡ Some p
+    → condition_proof counted parts ≡ Some p
     → Checks (declared sig) [] p (pf (form_encoding (conjoined parts)))
-sound sig parts p o u r q =
-    class_checks sig parts p (over_form sig (conjoined parts) [] o u)
+sound sig counted parts p rule o u r q =
+    class_checks sig counted rule parts p (over_form sig (conjoined parts) [] o u)
     (omega (arith, r, nesting-height (conjoined parts))) q
 
 -- the parts' proof is there
-abbrev HasProof : Prover → List Form → Type 0
-HasProof leaf parts = (p : Tree) × (condition_proof leaf parts ≡ Some p)
+abbrev HasProof : Bool → List Form → Type 0
+HasProof counted parts = (p : Tree) × (condition_proof counted parts ≡ Some p)
 
-pub exact : (leaf : Prover) (parts : List Form) (n : ℕ) → (first_not_easy leaf n parts ≡ None) ↔ HasProof leaf parts
-exact leaf [] n = (λ q. (tt_i, refl), λ h. refl)
-exact leaf (A ∷ l) n = go (part_proof leaf A) (exact leaf l (suc n))
+pub exact : (counted : Bool) (parts : List Form) (n : ℕ)
+    → (first_not_easy counted n parts ≡ None) ↔ HasProof counted parts
+exact counted [] n = (λ q. (tt_i, refl), λ h. refl)
+exact counted (A ∷ l) n = go (part_proof counted A) (exact counted l (suc n))
   where
-    go : (o : Option Tree) → (first_not_easy leaf (suc n) l ≡ None) ↔ HasProof leaf l →
-        (refused_at n o (first_not_easy leaf (suc n) l) ≡ None) ↔ ((p : Tree) × (bind o (λ p. option_map (and_i A (conjoined l) p) (condition_proof leaf l)) ≡ Some p))
+    go : (o : Option Tree) → (first_not_easy counted (suc n) l ≡ None) ↔ HasProof counted l →
+        (refused_at n o (first_not_easy counted (suc n) l) ≡ None) ↔ ((p : Tree) × (bind o (λ p. option_map (and_i A (conjoined l) p) (condition_proof counted l)) ≡ Some p))
     go (Some q) h = (
       λ e. let s = h.0 e in (and_i A (conjoined l) q s.0, ap (option_map (and_i A (conjoined l) q)) s.1),
-      λ g. let m = map_some (condition_proof leaf l) (and_i A (conjoined l) q) g.0 g.1 in h.1 (m.0, m.1),
+      λ g. let m = map_some (condition_proof counted l) (and_i A (conjoined l) q) g.0 g.1 in h.1 (m.0, m.1),
     )
     go None h = (λ e. cc, λ g. cc)

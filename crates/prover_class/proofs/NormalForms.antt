@@ -138,28 +138,28 @@ module _ (sig : WordSignature) (e d : ℕ) (room : e + (d + d + d) + 16 ≤ 2 ^ 
       Eqs (EOp S4add a b) (EOp Add (EOp Sll a (ELit 2)) b) (word_rule 98 (a ∷ b ∷ []) [])
   unfolding the_rules
   four_times a b has oa ob =
-      rule_proves sig e d room 98 _ (later_rule sig has 98) ctx wide (AExp a ∷ AExp b ∷ []) []
+      rule_proves sig e d room 98 _ (later_rule sig has 98 refl) ctx wide (AExp a ∷ AExp b ∷ []) []
       (oa, (ob, tt)) tt
 
   eight_times : (a b : Exp) → has_later sig ≡ true → OverExp sig a ctx → OverExp sig b ctx →
       Eqs (EOp S8add a b) (EOp Add (EOp Sll a (ELit 3)) b) (word_rule 99 (a ∷ b ∷ []) [])
   unfolding the_rules
   eight_times a b has oa ob =
-      rule_proves sig e d room 99 _ (later_rule sig has 99) ctx wide (AExp a ∷ AExp b ∷ []) []
+      rule_proves sig e d room 99 _ (later_rule sig has 99 refl) ctx wide (AExp a ∷ AExp b ∷ []) []
       (oa, (ob, tt)) tt
 
   complement : (a b : Exp) → has_later sig ≡ true → OverExp sig a ctx → OverExp sig b ctx →
       Eqs (EOp Bic a b) (EOp Band a (EOp Xor b (ELit max_word))) (word_rule 103 (a ∷ b ∷ []) [])
   unfolding the_rules
   complement a b has oa ob =
-      rule_proves sig e d room 103 _ (later_rule sig has 103) ctx wide (AExp a ∷ AExp b ∷ []) []
+      rule_proves sig e d room 103 _ (later_rule sig has 103 refl) ctx wide (AExp a ∷ AExp b ∷ []) []
       (oa, (ob, tt)) tt
 
   itself : (a : Exp) → has_later sig ≡ true → OverExp sig a ctx →
       Eqs (EOp Xor a a) (ELit 0) (word_rule 96 (a ∷ []) [])
   unfolding the_rules
   itself a has oa =
-      rule_proves sig e d room 96 _ (later_rule sig has 96) ctx wide (AExp a ∷ []) [] (oa, tt) tt
+      rule_proves sig e d room 96 _ (later_rule sig has 96 refl) ctx wide (AExp a ∷ []) [] (oa, tt) tt
 
   -- an exclusive or of two expressions that are one
   cancelled : (a b : Exp) → has_later sig ≡ true → OverExp sig a ctx → same_exp a b ≡ true →

@@ -8,7 +8,7 @@ use Rattle.word_ops.specs.Words.{word_of}
 use Rattle.formula_tree.specs.Formulas.{Exp, EReg, ELeft, EVar, ELit, EOp, ESel, Form, FRel}
 use Rattle.formula_terms.specs.ProofTerms.{word_rule, move, up}
 use Rattle.prover_class.specs.Hypotheses.{Hyps, same_exp}
-use Rattle.prover_class.specs.Bounds.{WordBound, word_bound, lesser, greater, least_bound, greatest_bound, max_word, folded, upper_of, uppers, op_bounds, own_bounds, upper_bound, lower_of, lowers, lower_bound}
+use Rattle.prover_class.specs.Bounds.{WordBound, word_bound, lesser, greater, least_bound, greatest_bound, max_word, folded, upper_of, uppers, op_bounds, own_bounds, upper_bound, lower_of, lowers, zero_bound, part_lowers, lower_bound}
 use Rattle.prover_class.proofs.Repeats.{IsUse, fold_use}
 
 -- what is said from a proof: nothing, or one bound whose value is the same for all proofs
@@ -145,8 +145,16 @@ upper_use (EOp o a b) = λ Γ l h q.
     ∙ ap (λ z. least_bound (uppers e more) (least_bound z (most e))) same ∙ sym (least-append (uppers e more) (parts more) (most e))
 upper_use (ESel m a) = uppers_use (ESel m a) (most (ESel m a))
 
-pub lower_use : (e : Exp) → IsUse (λ Γ. lower_bound Γ e)
-lower_use e Γ l h q =
-    let last : WordBound = word_bound 0 (word_rule 61 (e ∷ []) []) in
-    greatest-append (own_bounds e) (lowers e (Γ ++ l)) last ∙ ap (greatest_bound (own_bounds e)) (lowers_use e last Γ l h q)
-    ∙ sym (greatest-append (own_bounds e) (lowers e (Γ ++ h ∷ l)) last)
+pub lower_use : (counted : Bool) (e : Exp) → IsUse (λ Γ. lower_bound counted Γ e)
+lower_use counted (EOp o a b) = λ Γ l h q.
+    let e : Exp = EOp o a b in
+    let old : Hyps = Γ ++ l in
+    let more : Hyps = Γ ++ h ∷ l in
+    let last : WordBound → WordBound =
+    λ v. greatest_bound (part_lowers counted o a b v) (zero_bound e) in
+    lowers_use e (last (lower_bound counted old a)) Γ l h q
+    ∙ ap (λ v. greatest_bound (lowers e more) (last v)) (lower_use counted a Γ l h q)
+lower_use counted e = λ Γ l h q.
+    greatest-append (own_bounds e) (lowers e (Γ ++ l)) (zero_bound e)
+    ∙ ap (greatest_bound (own_bounds e)) (lowers_use e (zero_bound e) Γ l h q)
+    ∙ sym (greatest-append (own_bounds e) (lowers e (Γ ++ h ∷ l)) (zero_bound e))

@@ -7,8 +7,8 @@ use Rattle.word_ops.specs.declared.Rel.TheVariants.{Eq, Ult, Ule}
 use Rattle.formula_tree.specs.Formulas.{Exp, ELit, EOp, Form, FTrue, FFalse, FRel, FRd, FWr, FAnd, FOr, FImp, FAll, FAllm, shift_form}
 use Rattle.formula_terms.specs.ProofTerms.{ff_e, and_i, or_l, or_r, imp_i, all_i, allm_i, word_rule}
 use Rattle.prover_class.specs.Hypotheses.{Hyps, find_hyp, raised_hyps, split_hyps, with_new}
-use Rattle.prover_class.specs.Goals.{first_of, absurdity, Prover, by_shape, goal_proof, aligned_form, alignment_proof, by_aligned, ule_by, ult_by, by_bounds, by_normal, by_words_alone}
-use Rattle.prover_class.specs.Parts.{levels, part_proof}
+use Rattle.prover_class.specs.Goals.{first_of, absurdity, levels, Prover, by_shape, goal_proof, aligned_form, alignment_proof, by_aligned, ule_by, ult_by, by_bounds, by_normal, by_words_alone}
+use Rattle.prover_class.specs.Parts.{outside_part, part_proof}
 use Rattle.prover_class.specs.Access.{Access, Load, Store, right_address, same_address, access_move, moved, opened_at, first_opened, granted_by, by_grant, by_hyp, by_hyps, by_access, without_access, by_all_means}
 use Rattle.prover_class.specs.Repeats.{Adding, with_repeats, by_shape_adding, goal_proof_adding, without_access_adding, by_all_means_adding, part_proof_adding}
 use Rattle.prover_class.proofs.Repeats.{IsUse, find_use, first_use, absurdity_use, raised_use, new_same, new_use}
@@ -32,19 +32,22 @@ aligned_use : (A : Form) → IsUse (λ Γ. by_aligned Γ A)
 aligned_use (FRel Eq (EOp Band e (ELit (suc (suc (suc (suc (suc (suc (suc zero))))))))) (ELit zero)) = alignment_use e
 aligned_use _ = λ Γ l h q. refl
 
-bounds_use : (A : Form) → IsUse (λ Γ. by_bounds Γ A)
-bounds_use (FRel Ule a b) = λ Γ l h q i.
+bounds_use : (counted : Bool) (A : Form) → IsUse (λ Γ. by_bounds counted Γ A)
+bounds_use counted (FRel Ule a b) = λ Γ l h q i.
     first_of (option_map (λ h. word_rule 65 (a ∷ b ∷ []) (h ∷ [])) (find_use (FRel Ult a b) Γ l h q i))
-    (ule_by a b (upper_use a Γ l h q i) (lower_use b Γ l h q i))
-bounds_use (FRel Ult a b) = λ Γ l h q i. ult_by a b (upper_use a Γ l h q i) (lower_use b Γ l h q i)
-bounds_use _ = λ Γ l h q. refl
+    (ule_by a b (upper_use a Γ l h q i) (lower_use counted b Γ l h q i))
+bounds_use counted (FRel Ult a b) = λ Γ l h q i.
+    ult_by a b (upper_use a Γ l h q i) (lower_use counted b Γ l h q i)
+bounds_use counted _ = λ Γ l h q. refl
 
 normal_use : (out : ℕ) (A : Form) → IsUse (λ Γ. by_normal out Γ A)
 normal_use out (FRel r a b) = λ Γ l h q. refl
 normal_use out _ = λ Γ l h q. refl
 
-pub words_take : Takes by_words_alone
-words_take out A Γ l h q = λ i. first_of (aligned_use A Γ l h q i) (first_of (normal_use out A Γ l h q i) (bounds_use A Γ l h q i))
+pub words_take : (counted : Bool) → Takes (by_words_alone counted)
+words_take counted out A Γ l h q = λ i.
+    first_of (aligned_use A Γ l h q i)
+    (first_of (normal_use out A Γ l h q i) (bounds_use counted A Γ l h q i))
 
 -- the search by shape
 module _ (leaf : Prover) (takes : Takes leaf) where
@@ -117,11 +120,13 @@ module _ (f : Prover) (t : Takes f) where
   access_takes out (FWr a) = hyps_take out Store a
   access_takes out _ = λ Γ l h q. refl
 
-without_takes : Takes without_access
-without_takes out A = goal_takes by_words_alone words_take (levels A) out A
+without_takes : (counted : Bool) → Takes (without_access counted)
+without_takes counted out A = goal_takes (by_words_alone counted) (words_take counted) (levels A) out A
 
-all_take : Takes by_all_means
-all_take out A Γ l h q = λ i. first_of (words_take out A Γ l h q i) (access_takes without_access without_takes out A Γ l h q i)
+all_take : (counted : Bool) → Takes (by_all_means counted)
+all_take counted out A Γ l h q = λ i.
+    first_of (words_take counted out A Γ l h q i)
+    (access_takes (without_access counted) (without_takes counted) out A Γ l h q i)
 
 -- a way of adding between which and with_new no use tells
 module _ (add : Adding) (alike : (G : Hyps → Option Tree) → IsUse G → (Γ l : Hyps) → G (add Γ l) ≡ G (with_new Γ l)) where
@@ -147,16 +152,23 @@ module _ (add : Adding) (alike : (G : Hyps → Option Tree) → IsUse G → (Γ 
       ap (λ o. first_of (find_hyp Γ A) (first_of (option_map (ff_e A) (absurdity Γ)) o))
       (shape_alike (goal_proof_adding add leaf n) (goal_proof leaf n) leaf (goal_takes leaf t n) (goal_alike leaf t n) out Γ A)
 
-  all_alike : (out : ℕ) (Γ : Hyps) (A : Form) → by_all_means_adding add out Γ A ≡ by_all_means out Γ A
-  all_alike out Γ A =
-      ap (first_of (by_words_alone out Γ A))
-      (access_same (without_access_adding add) without_access out Γ (λ P. goal_alike by_words_alone words_take (levels P) out Γ P) A)
+  all_alike : (counted : Bool) (out : ℕ) (Γ : Hyps) (A : Form)
+      → by_all_means_adding add counted out Γ A ≡ by_all_means counted out Γ A
+  all_alike counted out Γ A =
+      let words = by_words_alone counted in
+      ap (first_of (words out Γ A))
+      (access_same (without_access_adding add counted) (without_access counted) out Γ
+      (λ P. goal_alike words (words_take counted) (levels P) out Γ P) A)
 
-  pub part_alike : (A : Form) → part_proof_adding add A ≡ part_proof by_all_means A
-  part_alike A = (λ i. goal_proof_adding add (λ out Γ B. all_alike out Γ B i) (levels A) 0 [] A) ∙ goal_alike by_all_means all_take (levels A) 0 [] A
+  pub part_alike : (counted : Bool) (A : Form)
+      → part_proof_adding add counted A ≡ part_proof counted A
+  part_alike counted A =
+      (λ i. goal_proof_adding add (λ out Γ B. all_alike counted out Γ B i) (levels A)
+      (outside_part counted) [] A)
+      ∙ goal_alike (by_all_means counted) (all_take counted) (levels A) (outside_part counted) [] A
 
-pub unchanged : (A : Form) → part_proof_adding with_new A ≡ part_proof by_all_means A
+pub unchanged : (counted : Bool) (A : Form) → part_proof_adding with_new counted A ≡ part_proof counted A
 unchanged = part_alike with_new (λ G u Γ l. refl)
 
-pub repeats : (A : Form) → part_proof_adding with_repeats A ≡ part_proof by_all_means A
+pub repeats : (counted : Bool) (A : Form) → part_proof_adding with_repeats counted A ≡ part_proof counted A
 repeats = part_alike with_repeats (λ G u Γ l. sym (new_same G u l Γ))

@@ -1,6 +1,6 @@
 -- Which operators and rules a signature has.
-use Rattle.std.proofs.Common.{◌≡◌, ℕ, ◌<◌, ◌≤◌, ◌&&◌, nat_lt, Bool, true, false, cond, Option, None, refl, ap, arith}
-use Rattle.std.proofs.lemmas.Bool.{ltb-true}
+use Rattle.std.proofs.Common.{◌≡◌, ℕ, ◌<◌, ◌≤◌, nat_lt, Bool, true, false, cond, Option, None, refl, sym, ◌∙◌, ap, arith}
+use Rattle.std.proofs.lemmas.Bool.{ltb-true, lt-ltb}
 use Rattle.word_ops.specs.declared.Op.{Op}
 use Rattle.word_ops.specs.declared.Profile.TheVariants.{One}
 use Rattle.word_ops.specs.Operators.{op_number, has_op}
@@ -49,7 +49,8 @@ declared-operator Sigma3 o h = always (has_op One o)
 
 -- whether the signature has the constant of this number among the class's rules
 abbrev pub has_rule : WordSignature → ℕ → Bool
-has_rule sig n = cond (nat_lt n 88) true (has_later sig && nat_lt n 104)
+has_rule sig n =
+    cond (nat_lt n 88) true (cond (nat_lt n 104) (has_later sig) (nat_lt n (size_of sig)))
 
 -- the rule of a number, where the signature has it
 abbrev pub rule_of : WordSignature → ℕ → Option Rule
@@ -60,23 +61,35 @@ first-below Sigma1 = omega arith
 first-below Sigma2 = omega arith
 first-below Sigma3 = omega arith
 
-later-below : (sig : WordSignature) (n : ℕ) → (has_later sig && nat_lt n 104) ≡ true
-    → n < size_of sig
-later-below Sigma1 n h = cc
-later-below Sigma2 n h = ltb-true n 104 h
-later-below Sigma3 n h = omega (arith, ltb-true n 104 h)
+later-below : (sig : WordSignature) (n : ℕ) → n < 104 → has_later sig ≡ true → n < size_of sig
+later-below Sigma1 n l h = cc
+later-below Sigma2 n l h = l
+later-below Sigma3 n l h = omega (arith, l)
 
 -- a rule that the signature has is below its count
 pub rule-below : (sig : WordSignature) (n : ℕ) → has_rule sig n ≡ true → n < size_of sig
-rule-below sig n h = go (nat_lt n 88) refl h
+rule-below sig n h = first (nat_lt n 88) refl h
   where
-    go : (b : Bool) → nat_lt n 88 ≡ b → cond b true (has_later sig && nat_lt n 104) ≡ true
-        → n < size_of sig
-    go true e h = omega (arith, ltb-true n 88 e, first-below sig)
-    go false e h = later-below sig n h
+    later : (b : Bool) → nat_lt n 104 ≡ b
+        → cond b (has_later sig) (nat_lt n (size_of sig)) ≡ true → n < size_of sig
+    later true e h = later-below sig n (ltb-true n 104 e) h
+    later false e h = ltb-true n (size_of sig) h
 
--- where the signature has the second profile's operators, its rules are the second's
-pub later_rule : (sig : WordSignature) → has_later sig ≡ true → (n : ℕ)
+    first : (b : Bool) → nat_lt n 88 ≡ b
+        → cond b true (cond (nat_lt n 104) (has_later sig) (nat_lt n (size_of sig))) ≡ true
+        → n < size_of sig
+    first true e h = omega (arith, ltb-true n 88 e, first-below sig)
+    first false e h = later (nat_lt n 104) refl h
+
+-- where the signature has the second profile's operators, its rules are the second's, as far as those go
+pub later_rule : (sig : WordSignature) → has_later sig ≡ true → (n : ℕ) → nat_lt n 104 ≡ true
     → rule_of sig n ≡ rule_of Sigma2 n
-later_rule sig h n =
-    ap (λ b. cond (cond (nat_lt n 88) true (b && nat_lt n 104)) (rule_at n) None) h
+later_rule sig h n q =
+    ap (λ b. cond (cond (nat_lt n 88) true (cond b (has_later sig) (nat_lt n (size_of sig))))
+    (rule_at n) None) q
+    ∙ ap (λ b. cond (cond (nat_lt n 88) true b) (rule_at n) None) h
+    ∙ sym (ap (λ b. cond (cond (nat_lt n 88) true (cond b true (nat_lt n 104))) (rule_at n) None) q)
+
+-- the rule for differences, where the signature has it, is the third's
+pub last_rule : (sig : WordSignature) → 104 < size_of sig → rule_of sig 104 ≡ rule_of Sigma3 104
+last_rule sig h = ap (λ b. cond b (rule_at 104) None) (lt-ltb 104 (size_of sig) h)

@@ -10,8 +10,7 @@ use Rattle.formula_tree.specs.Variables.{PExp, subst_var_exp, subst_var}
 use Rattle.formula_terms.specs.ProofTerms.{and_l, and_r, imp_e, all_e, move}
 use Rattle.prover_class.specs.Hypotheses.{Hyps, same_exp}
 use Rattle.prover_class.specs.NormalForms.{normal_form, equal_proof}
-use Rattle.prover_class.specs.Goals.{first_of, Prover, goal_proof, by_words_alone}
-use Rattle.prover_class.specs.Parts.{levels}
+use Rattle.prover_class.specs.Goals.{first_of, Prover, levels, goal_proof, by_words_alone}
 
 -- loads and stores
 pub data Access : Type 0 where
@@ -181,9 +180,10 @@ by_access without_access out Γ (FWr a) = by_hyps without_access out Γ Store a 
 by_access without_access out Γ A = None
 
 -- without access
-abbrev pub without_access : Prover
-without_access out Γ A = goal_proof by_words_alone (levels A) out Γ A
+abbrev pub without_access : Bool → Prover
+without_access counted out Γ A = goal_proof (by_words_alone counted) (levels A) out Γ A
 
 -- all that proves goals without parts
-abbrev pub by_all_means : Prover
-by_all_means out Γ A = first_of (by_words_alone out Γ A) (by_access without_access out Γ A)
+abbrev pub by_all_means : Bool → Prover
+by_all_means counted out Γ A =
+    first_of (by_words_alone counted out Γ A) (by_access (without_access counted) out Γ A)

@@ -1,5 +1,5 @@
 -- Upper and lower bounds of expressions under hypotheses, each with its proof.
-use Rattle.std.specs.Prelude.{ℕ, suc, ◌+◌, ◌^◌, if◌then◌else◌, nat_lt, nat_le, List, [], ◌∷◌, ◌++◌}
+use Rattle.std.specs.Prelude.{ℕ, suc, ◌+◌, ◌^◌, Bool, true, if◌then◌else◌, nat_lt, nat_le, List, [], ◌∷◌, ◌++◌}
 use Rattle.term_table.specs.Tree.{Tree}
 use Rattle.word_ops.specs.declared.Op.{Op}
 use Rattle.word_ops.specs.declared.Op.TheVariants.{Add, Sub, Band, Sll, Srl, Cmpeq, Cmplt, Cmple, Cmpult, Cmpule, Bic, Extb, Extw, Extl}
@@ -43,6 +43,12 @@ max_word = 18446744073709551615
 -- from (ule e (o v w)) to (ule e value)
 abbrev pub folded : Exp → Op → ℕ → ℕ → Tree → WordBound
 folded e o v w p = word_bound (word_of o v w) (move (FRel Ule (up e) (EVar 0)) (EOp o (ELit v) (ELit w)) (ELit (word_of o v w)) (calc o v w) p)
+
+-- from (ule (o v w) e) to (ule value e)
+abbrev pub folded_below : Exp → Op → ℕ → ℕ → Tree → WordBound
+folded_below e o v w p =
+    word_bound (word_of o v w)
+    (move (FRel Ule (EVar 0) (up e)) (EOp o (ELit v) (ELit w)) (ELit (word_of o v w)) (calc o v w) p)
 
 -- (ule v (o a b))
 abbrev pub fit_proof : ℕ → Op → ℕ → ℕ → Tree
@@ -117,6 +123,26 @@ abbrev pub lowers : Exp → Hyps → List WordBound
 lowers e [] = []
 lowers e (h ∷ l) = lower_of e h.0 h.1 ++ lowers e l
 
--- the greatest lower bound that is found: (ule value e)
-abbrev pub lower_bound : Hyps → Exp → WordBound
-lower_bound Γ e = greatest_bound (own_bounds e ++ lowers e Γ) (word_bound 0 (word_rule 61 (e ∷ []) []))
+-- no word is less than 0
+abbrev pub zero_bound : Exp → WordBound
+zero_bound e = word_bound 0 (word_rule 61 (e ∷ []) [])
+
+-- what (sub a w) is at least, where a is at least v, and v at least w
+abbrev pub difference_bound : Exp → ℕ → WordBound → WordBound
+difference_bound a w v =
+    folded_below (EOp Sub a (ELit w)) Sub v.value w
+    (word_rule 104 (a ∷ ELit v.value ∷ ELit w ∷ []) (v.proof ∷ fact Ule w v.value ∷ []))
+
+-- What an operator's left part, bounded by v, says of it from below: something of a difference from a
+-- word that is no more than v, by a rule that is there where steps are counted.
+abbrev pub part_lowers : Bool → Op → Exp → Exp → WordBound → List WordBound
+part_lowers true Sub a (ELit w) v = if nat_le w v.value then difference_bound a w v ∷ [] else []
+part_lowers counted o a b v = []
+
+-- The greatest lower bound that is found: (ule value e). Of equal ones a hypothesis' stands before the
+-- part's.
+abbrev pub lower_bound : Bool → Hyps → Exp → WordBound
+lower_bound counted Γ (EOp o a b) =
+    greatest_bound (lowers (EOp o a b) Γ)
+    (greatest_bound (part_lowers counted o a b (lower_bound counted Γ a)) (zero_bound (EOp o a b)))
+lower_bound counted Γ e = greatest_bound (own_bounds e ++ lowers e Γ) (zero_bound e)

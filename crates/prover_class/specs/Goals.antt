@@ -1,11 +1,11 @@
 -- Which formulas are easy under hypotheses, and their proofs.
-use Rattle.std.specs.Prelude.{ℕ, zero, suc, ◌%◌, if◌then◌else◌, nat_lt, nat_le, ◌==◌, Option, Some, None, [], ◌∷◌}
+use Rattle.std.specs.Prelude.{ℕ, zero, suc, max, ◌%◌, Bool, if◌then◌else◌, nat_lt, nat_le, ◌==◌, Option, Some, None, [], ◌∷◌}
 use Rattle.std.specs.Option.{option_map}
 use Rattle.term_table.specs.Tree.{Tree, Var}
 use Rattle.term_table.specs.Subst.{bind}
 use Rattle.word_ops.specs.declared.Op.TheVariants.{Add, Band, Sll}
 use Rattle.word_ops.specs.declared.Rel.TheVariants.{Eq, Ult, Ule}
-use Rattle.formula_tree.specs.Formulas.{Exp, EVar, ELit, EOp, Form, FTrue, FFalse, FRel, FAnd, FOr, FImp, FAll, FAllm, shift_form}
+use Rattle.formula_tree.specs.Formulas.{Exp, EVar, ELit, EOp, Form, FTrue, FFalse, FRel, FRd, FWr, FAnd, FOr, FImp, FAll, FAllm, shift_form}
 use Rattle.formula_terms.specs.ProofTerms.{tt_i, ff_e, and_i, or_l, or_r, imp_i, imp_e, all_i, allm_i, word_rule, eq_refl, move, up, calc, fact}
 use Rattle.prover_class.specs.Hypotheses.{Hyps, find_hyp, raised_hyps, split_hyps, with_new}
 use Rattle.prover_class.specs.Bounds.{WordBound, upper_bound, lower_bound}
@@ -29,6 +29,19 @@ refuted Γ (h ∷ l) = first_of (refute Γ h.0 h.1) (refuted Γ l)
 -- a proof of ff: a hypothesis, or the first refutation
 abbrev pub absurdity : Hyps → Option Tree
 absurdity Γ = first_of (find_hyp Γ FFalse) (refuted Γ Γ)
+
+-- how many connectives stand in one another
+abbrev pub levels : Form → ℕ
+levels FTrue = 1
+levels FFalse = 1
+levels (FRel r a b) = 1
+levels (FRd a) = 1
+levels (FWr a) = 1
+levels (FAnd A B) = suc (max (levels A) (levels B))
+levels (FOr A B) = suc (max (levels A) (levels B))
+levels (FImp A B) = suc (max (levels A) (levels B))
+levels (FAll A) = suc (levels A)
+levels (FAllm A) = suc (levels A)
 
 -- What proves a goal under hypotheses, where so many binders stand outside.
 abbrev pub Prover : Type 0
@@ -91,10 +104,12 @@ ult_by a b v w =
     else None
 
 -- a comparison by bounds; (ule a b) first by a hypothesis (ult a b)
-abbrev pub by_bounds : Hyps → Form → Option Tree
-by_bounds Γ (FRel Ule a b) = first_of (option_map (λ h. word_rule 65 (a ∷ b ∷ []) (h ∷ [])) (find_hyp Γ (FRel Ult a b))) (ule_by a b (upper_bound Γ a) (lower_bound Γ b))
-by_bounds Γ (FRel Ult a b) = ult_by a b (upper_bound Γ a) (lower_bound Γ b)
-by_bounds Γ A = None
+abbrev pub by_bounds : Bool → Hyps → Form → Option Tree
+by_bounds counted Γ (FRel Ule a b) =
+    first_of (option_map (λ h. word_rule 65 (a ∷ b ∷ []) (h ∷ [])) (find_hyp Γ (FRel Ult a b)))
+    (ule_by a b (upper_bound Γ a) (lower_bound counted Γ b))
+by_bounds counted Γ (FRel Ult a b) = ult_by a b (upper_bound Γ a) (lower_bound counted Γ b)
+by_bounds counted Γ A = None
 
 -- a relation by the normal forms of its two expressions
 abbrev pub by_normal : Prover
@@ -105,5 +120,6 @@ by_normal out Γ (FRel r a b) =
 by_normal out Γ A = None
 
 -- what has no parts: alignment, normal forms, bounds
-abbrev pub by_words_alone : Prover
-by_words_alone out Γ A = first_of (by_aligned Γ A) (first_of (by_normal out Γ A) (by_bounds Γ A))
+abbrev pub by_words_alone : Bool → Prover
+by_words_alone counted out Γ A =
+    first_of (by_aligned Γ A) (first_of (by_normal out Γ A) (by_bounds counted Γ A))

@@ -27,9 +27,11 @@ rewriting i f t p = record { into = i; from = f; to = t; proof = p }
 abbrev pub whole_step : Exp → Exp → Tree → List Rewriting
 whole_step f t p = rewriting (EVar 0) f t p ∷ []
 
--- The order of summands: registers by number, then all else, then literals. So many binders stand outside; the second outermost is r0, the 32nd r30.
+-- The order of summands: registers by number, then all else, then literals. So many binders stand
+-- outside, the steps' that are left among them, also where no steps are counted: the third outermost is
+-- r0, the 33rd r30.
 abbrev pub summand_key : ℕ → Exp → ℕ
-summand_key outside (EVar n) = if nat_le 2 (outside - n) && nat_le (outside - n) 32 then outside - n - 2 else 31
+summand_key outside (EVar n) = if nat_le 3 (outside - n) && nat_le (outside - n) 33 then outside - n - 3 else 31
 summand_key outside (EReg r) = r
 summand_key outside ELeft = 31
 summand_key outside (ELit w) = 32

@@ -1,38 +1,37 @@
 -- A condition and its proof: one part after another.
-use Rattle.std.specs.Prelude.{ℕ, suc, max, Option, Some, None, List, [], ◌∷◌}
+--
+-- The class goes by whether steps are counted: then the rule for differences is among the rules, and
+-- the outermost binder of each part is that of the steps that are left.
+use Rattle.std.specs.Prelude.{ℕ, suc, Bool, true, false, Option, Some, None, List, [], ◌∷◌}
 use Rattle.std.specs.Option.{option_map}
 use Rattle.term_table.specs.Tree.{Tree}
 use Rattle.term_table.specs.Subst.{bind}
-use Rattle.formula_tree.specs.Formulas.{Form, FTrue, FFalse, FRel, FRd, FWr, FAnd, FOr, FImp, FAll, FAllm}
+use Rattle.formula_tree.specs.Formulas.{Form, FTrue, FAnd}
 use Rattle.formula_terms.specs.ProofTerms.{tt_i, and_i}
-use Rattle.prover_class.specs.Goals.{Prover, goal_proof}
+use Rattle.prover_class.specs.Goals.{levels, goal_proof}
+use Rattle.prover_class.specs.Access.{by_all_means}
 
 -- the parts, one after another, ended by truth
 abbrev pub conjoined : List Form → Form
 conjoined [] = FTrue
 conjoined (A ∷ l) = FAnd A (conjoined l)
 
--- how many connectives stand in one another
-abbrev pub levels : Form → ℕ
-levels FTrue = 1
-levels FFalse = 1
-levels (FRel r a b) = 1
-levels (FRd a) = 1
-levels (FWr a) = 1
-levels (FAnd A B) = suc (max (levels A) (levels B))
-levels (FOr A B) = suc (max (levels A) (levels B))
-levels (FImp A B) = suc (max (levels A) (levels B))
-levels (FAll A) = suc (levels A)
-levels (FAllm A) = suc (levels A)
+-- how many binders count as outside of a part: where no steps are counted, that of the steps that are
+-- left, which isn't there
+abbrev pub outside_part : Bool → ℕ
+outside_part true = 0
+outside_part false = 1
 
 -- the proof of a part from no hypotheses: the part is easy where there is one
-abbrev pub part_proof : Prover → Form → Option Tree
-part_proof leaf A = goal_proof leaf (levels A) 0 [] A
+abbrev pub part_proof : Bool → Form → Option Tree
+part_proof counted A = goal_proof (by_all_means counted) (levels A) (outside_part counted) [] A
 
 -- the proof of all parts
-abbrev pub condition_proof : Prover → List Form → Option Tree
-condition_proof leaf [] = Some tt_i
-condition_proof leaf (A ∷ l) = bind (part_proof leaf A) (λ p. option_map (and_i A (conjoined l) p) (condition_proof leaf l))
+abbrev pub condition_proof : Bool → List Form → Option Tree
+condition_proof counted [] = Some tt_i
+condition_proof counted (A ∷ l) =
+    bind (part_proof counted A)
+    (λ p. option_map (and_i A (conjoined l) p) (condition_proof counted l))
 
 -- the first part that isn't easy, counted from n
 abbrev pub refused_at : ℕ → Option Tree → Option ℕ → Option ℕ
@@ -40,6 +39,7 @@ refused_at n (Some p) rest = rest
 refused_at n None rest = Some n
 
 -- the number of the first part without a proof, where the list begins at n
-abbrev pub first_not_easy : Prover → ℕ → List Form → Option ℕ
-first_not_easy leaf n [] = None
-first_not_easy leaf n (A ∷ l) = refused_at n (part_proof leaf A) (first_not_easy leaf (suc n) l)
+abbrev pub first_not_easy : Bool → ℕ → List Form → Option ℕ
+first_not_easy counted n [] = None
+first_not_easy counted n (A ∷ l) =
+    refused_at n (part_proof counted A) (first_not_easy counted (suc n) l)

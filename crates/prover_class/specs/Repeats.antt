@@ -1,13 +1,13 @@
 -- The search with its way of adding hypotheses as a parameter; all else is the search as it is.
-use Rattle.std.specs.Prelude.{ℕ, zero, suc, Option, None, [], ◌++◌}
+use Rattle.std.specs.Prelude.{ℕ, zero, suc, Bool, Option, None, [], ◌++◌}
 use Rattle.std.specs.Option.{option_map}
 use Rattle.term_table.specs.Tree.{Tree, Var}
 use Rattle.formula_tree.specs.Formulas.{Form, FImp, shift_form}
 use Rattle.formula_terms.specs.ProofTerms.{ff_e, imp_i}
 use Rattle.prover_class.specs.Hypotheses.{Hyps, find_hyp, raised_hyps, split_hyps}
-use Rattle.prover_class.specs.Goals.{first_of, absurdity, Prover, by_shape, by_words_alone}
-use Rattle.prover_class.specs.Parts.{levels}
+use Rattle.prover_class.specs.Goals.{first_of, absurdity, levels, Prover, by_shape, by_words_alone}
 use Rattle.prover_class.specs.Access.{by_access}
+use Rattle.prover_class.specs.Parts.{outside_part}
 
 -- a way of adding hypotheses to those that there are
 abbrev pub Adding : Type 0
@@ -30,13 +30,16 @@ goal_proof_adding add leaf (suc n) out Γ A =
     first_of (find_hyp Γ A) (first_of (option_map (ff_e A) (absurdity Γ)) (by_shape_adding add (goal_proof_adding add leaf n) leaf out Γ A))
 
 -- this search without access
-abbrev pub without_access_adding : Adding → Prover
-without_access_adding add out Γ A = goal_proof_adding add by_words_alone (levels A) out Γ A
+abbrev pub without_access_adding : Adding → Bool → Prover
+without_access_adding add counted out Γ A =
+    goal_proof_adding add (by_words_alone counted) (levels A) out Γ A
 
 -- all that proves goals without parts, where premises of access are proved by this search
-abbrev pub by_all_means_adding : Adding → Prover
-by_all_means_adding add out Γ A = first_of (by_words_alone out Γ A) (by_access (without_access_adding add) out Γ A)
+abbrev pub by_all_means_adding : Adding → Bool → Prover
+by_all_means_adding add counted out Γ A =
+    first_of (by_words_alone counted out Γ A) (by_access (without_access_adding add counted) out Γ A)
 
 -- the proof of a part by this search, from no hypotheses
-abbrev pub part_proof_adding : Adding → Form → Option Tree
-part_proof_adding add A = goal_proof_adding add (by_all_means_adding add) (levels A) 0 [] A
+abbrev pub part_proof_adding : Adding → Bool → Form → Option Tree
+part_proof_adding add counted A =
+    goal_proof_adding add (by_all_means_adding add counted) (levels A) (outside_part counted) [] A

@@ -1,6 +1,6 @@
 //! Questions on bounds and normal forms of expressions.
 
-use bound_proofs::{UpperBounds, lower_bound, upper_bound};
+use bound_proofs::{KeptBounds, lower_bound, upper_bound};
 use formula_ids::Hypothesis;
 use goal_proofs::{Search, normal};
 use hereditary_subst::{MOST_RESULTS, Memo};
@@ -20,21 +20,23 @@ fn upper(alloc: Global, table: &mut Table, form: Id, e: Id) -> Read<Answer> {
     known(table, e)?;
     let hyps = [Hypothesis { form, proof }];
     let mut memo = Memo::new(alloc, MOST_RESULTS);
-    let mut kept = UpperBounds::new(alloc);
+    let mut kept = KeptBounds::new(alloc);
     match upper_bound(table, &mut memo, &mut kept, &hyps, e) {
         Ok(bound) => Ok(Answer::Number(bound.value)),
         Err(_) => Ok(Answer::Memory),
     }
 }
 
-/// The lower bound of an expression under a hypothesis that variable 1 proves.
-fn lower(alloc: Global, table: &mut Table, form: Id, e: Id) -> Read<Answer> {
+/// The lower bound of an expression under a hypothesis that variable 1 proves, where steps are counted
+/// or aren't.
+fn lower(alloc: Global, table: &mut Table, counted: bool, form: Id, e: Id) -> Read<Answer> {
     let proof = table.intern(Node::Var(1))?;
     known(table, form)?;
     known(table, e)?;
     let hyps = [Hypothesis { form, proof }];
     let mut memo = Memo::new(alloc, MOST_RESULTS);
-    match lower_bound(table, &mut memo, &hyps, e) {
+    let mut kept = KeptBounds::new(alloc);
+    match lower_bound(table, &mut memo, &mut kept, &hyps, counted, e) {
         Ok(bound) => Ok(Answer::Number(bound.value)),
         Err(_) => Ok(Answer::Memory),
     }
@@ -49,7 +51,8 @@ pub(crate) fn about_bounds(
     cursor: &mut Cursor<'_>,
 ) -> Read<Option<Answer>> {
     let is_upper = question == b"upper".as_slice();
-    if !is_upper && question != b"lower".as_slice() {
+    let is_counted = question == b"counted_lower".as_slice();
+    if !is_upper && !is_counted && question != b"lower".as_slice() {
         return Ok(None);
     }
     let form = read_term(table, names, cursor)?;
@@ -57,7 +60,7 @@ pub(crate) fn about_bounds(
     if is_upper {
         return Ok(Some(upper(alloc, table, form, e)?));
     }
-    Ok(Some(lower(alloc, table, form, e)?))
+    Ok(Some(lower(alloc, table, is_counted, form, e)?))
 }
 
 /// The normal form of an expression under so many binders.

@@ -33,18 +33,18 @@ fn by_words(table: &mut Table, form: Id, goal: Id) -> Read<Option<Id>> {
     let mut context = context_of(table, form)?;
     let mut search = Search::new(table, MOST_RESULTS);
     known(table, goal)?;
-    match proof_by_words(table, &mut search, &mut context, goal) {
+    match proof_by_words(table, &mut search, &mut context, false, goal) {
         Ok(found) => Ok(found),
         Err(_) => Err(RowFault::Memory),
     }
 }
 
-/// What proves the goal by connectives and words.
-fn by_connectives(table: &mut Table, form: Id, goal: Id) -> Read<Option<Id>> {
+/// What proves the goal by connectives and words, where steps are counted or aren't.
+fn by_connectives(table: &mut Table, counted: bool, form: Id, goal: Id) -> Read<Option<Id>> {
     let mut context = context_of(table, form)?;
     let mut search = Search::new(table, MOST_RESULTS);
     known(table, goal)?;
-    match proof_without_access(table, &mut search, &mut context, goal) {
+    match proof_without_access(table, &mut search, &mut context, counted, goal) {
         Ok(found) => Ok(found),
         Err(_) => Err(RowFault::Memory),
     }
@@ -55,7 +55,7 @@ fn by_access(table: &mut Table, form: Id, goal: Id) -> Read<Option<Id>> {
     let mut context = context_of(table, form)?;
     let mut search = Search::new(table, MOST_RESULTS);
     known(table, goal)?;
-    match proof_by_access(table, &mut search, &mut context, goal) {
+    match proof_by_access(table, &mut search, &mut context, false, goal) {
         Ok(found) => Ok(found),
         Err(_) => Err(RowFault::Memory),
     }
@@ -70,7 +70,9 @@ pub(crate) fn about_goals(
 ) -> Read<Option<Answer>> {
     let is_words = question == b"words".as_slice();
     let is_access = question == b"access".as_slice();
-    if !is_words && !is_access && question != b"connectives".as_slice() {
+    let is_counted = question == b"counted_connectives".as_slice();
+    let is_connectives = is_counted || question == b"connectives".as_slice();
+    if !is_words && !is_access && !is_connectives {
         return Ok(None);
     }
     let form = read_term(table, names, cursor)?;
@@ -83,5 +85,5 @@ pub(crate) fn about_goals(
         let found = by_access(table, form, goal)?;
         return Ok(Some(Answer::holds(found.is_some())));
     }
-    Ok(Some(Answer::tree(by_connectives(table, form, goal)?)))
+    Ok(Some(Answer::tree(by_connectives(table, is_counted, form, goal)?)))
 }

@@ -9,11 +9,13 @@
 //! - `first G F p ..`: the proof of the first hypothesis F with the formula G, of those with their
 //!   proofs p behind it; `aligned e`: what proves without hypotheses that e is a multiple of 8;
 //! - `upper F e` and `lower F e`: the word that is a bound of e where variable 1 proves F;
-//! - `normal N e`: the normal form under N binders; `rewritten N e`: the same as the search keeps it;
+//!   `counted_lower F e`: the same where steps are counted;
+//! - `normal N e`: the normal form under N binders, that of the steps that are left among them;
+//!   `rewritten N e`: the same as the search keeps it;
 //! - `rest a b`, `eighth e`, `occurs e`: what is left of a without b, the eighth of e, and whether
 //!   variable 0 stands in e;
 //! - `words F G`, `connectives F G`, `access F G`: what proves G by words, by connectives and words, or
-//!   as an access, under the hypothesis F.
+//!   as an access, under the hypothesis F; `counted_connectives F G`: where steps are counted.
 #![tactic(auto)]
 
 mod expressions;

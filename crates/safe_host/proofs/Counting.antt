@@ -1,5 +1,5 @@
 -- Runs that go on after one another, and their steps.
-use Rattle.std.proofs.Common.{◌≡◌, ℕ, zero, suc, ◌+◌, List, true, false, refl, sym, ◌∙◌, ap, subst, arith}
+use Rattle.std.proofs.Common.{◌≡◌, ℕ, zero, suc, ◌+◌, ◌<◌, ◌≤◌, List, Option, IsSome, true, false, refl, sym, ◌∙◌, ap, subst, arith}
 use Rattle.word_ops.specs.Rights.{Rights}
 use Rattle.alpha_words.specs.declared.insn.Insn.{Insn}
 use Rattle.alpha_cfg.specs.Machine.{State, step_of, ends_with, run_of}
@@ -8,9 +8,11 @@ use Rattle.alpha_cfg.specs.declared.outcome.Step.{Step}
 use Rattle.alpha_cfg.specs.declared.outcome.Step.TheVariants as steps
 use Rattle.alpha_cfg.specs.declared.outcome.Outcome.{Outcome}
 use Rattle.alpha_cfg.specs.declared.outcome.Outcome.TheVariants as outcomes
+use Rattle.vcgen.specs.Safety.{IsReturn, steps_after}
 use Rattle.host_steps.specs.declared.ended.Ended.{Ended}
 use Rattle.host_steps.specs.declared.ended.Ended.TheVariants as ended
-use Rattle.safe_host.specs.Hosts.{HostView, state_under, RightsFit}
+use Rattle.part_runs.proofs.Counted.{steps_after-none, steps_after-more, rest-after}
+use Rattle.safe_host.specs.Hosts.{HostView, state_under, RightsFit, FitWhileLeft}
 use Rattle.safe_host.specs.Runs.{IsRun, outcome_of, goes_on_after}
 use Rattle.safe_host.specs.Counts.{steps_behind, steps_of, MakesSteps}
 
@@ -63,60 +65,119 @@ pub record HasMade (old : HostView) (count : ℕ) (now : HostView) : Type 0 wher
   pub region : now.region ≡ old.region
   pub live : now.live ≡ true
 
+-- none are made yet; where steps are bounded, some are left, so that this isn't a whole run
+pub made-none : (h : HostView) → h.live ≡ true → FitWhileLeft h → HasMade h 0 h
+made-none h live while_left = record {
+  run = λ left r f. record {
+    same = refl;
+    fits = λ _. subst (λ k. RightsFit h k r) (sym (steps_after-none h.accepted.bound left)) f;
+    returns = λ counted enough.
+        let some : 0 < left = while_left counted left r f in absurd (omega (arith, some, enough));
+  };
+  accepted = refl;
+  region = refl;
+  live = live;
+}
+
 module _ (old : HostView) (count : ℕ) (now : HostView) (made : HasMade old count now) where
+  abbrev then_left : ℕ → ℕ
+  then_left left = steps_after old.accepted.bound count left
+
   code-is : now.accepted.code ≡ old.accepted.code
   code-is = ap (λ a. a.code) made.accepted
 
-  -- under rights that fit, the host is where the machine is
-  at : (r : Rights) → RightsFit old r → run_of old.accepted.code count (state_under old r) ≡ (outcomes.OutOfSteps, state_under now r)
-  at r f = (made.run r f).same
+  bound-is : now.accepted.bound ≡ old.accepted.bound
+  bound-is = ap (λ a. a.bound) made.accepted
 
-  now-fits : (r : Rights) → RightsFit old r → RightsFit now r
-  now-fits r f = (made.run r f).fits refl
+  -- under rights that fit, the host is where the machine is
+  at : (left : ℕ) (r : Rights) → RightsFit old left r
+      → run_of old.accepted.code count (state_under old r) ≡ (outcomes.OutOfSteps, state_under now r)
+  at left r f = (made.run left r f).same
+
+  now-fits : (left : ℕ) (r : Rights) → RightsFit old left r → RightsFit now (then_left left) r
+  now-fits left r f = (made.run left r f).fits refl
 
   module _ (result : Ended) (new : HostView) (run : IsRun now 1 result new) where
-    behind : (r : Rights) → RightsFit old r → run_of old.accepted.code 1 (state_under now r) ≡ (outcome_of result, state_under new r)
-    behind r f = ap (λ (l : List Insn). run_of l 1 (state_under now r)) (sym code-is) ∙ (run r (now-fits r f)).same
+    behind : (left : ℕ) (r : Rights) → RightsFit old left r
+        → run_of old.accepted.code 1 (state_under now r) ≡ (outcome_of result, state_under new r)
+    behind left r f =
+        ap (λ (l : List Insn). run_of l 1 (state_under now r)) (sym code-is)
+        ∙ (run (then_left left) r (now-fits left r f)).same
+
+    then-fits : (left : ℕ) (r : Rights) → RightsFit old left r → result ≡ ended.OutOfSteps
+        → RightsFit new (steps_after old.accepted.bound (count + 1) left) r
+    then-fits left r f out =
+        let one : steps_after now.accepted.bound 1 (then_left left)
+        ≡ steps_after old.accepted.bound (count + 1) left =
+        ap (λ b. steps_after b 1 (then_left left)) bound-is
+        ∙ steps_after-more old.accepted.bound count 1 left in
+        subst (λ k. RightsFit new k r) one
+        ((run (then_left left) r (now-fits left r f)).fits out)
+
+    then-returns : (left : ℕ) (r : Rights) → RightsFit old left r → IsSome old.accepted.bound
+        → left ≤ count + 1 → IsReturn (outcome_of result)
+    then-returns left r f counted enough =
+        (run (then_left left) r (now-fits left r f)).returns
+        (subst (λ (b : Option ℕ). IsSome b) (sym bound-is) counted)
+        (rest-after old.accepted.bound count 1 left counted enough)
 
     -- one step more
-    pub more : result ≡ ended.OutOfSteps → new.accepted ≡ now.accepted → new.region ≡ now.region → new.live ≡ goes_on_after result → HasMade old (count + 1) new
+    pub more : result ≡ ended.OutOfSteps → new.accepted ≡ now.accepted
+        → new.region ≡ now.region → new.live ≡ goes_on_after result → HasMade old (count + 1) new
     more out accepted region live = record {
-      run = λ r f. record {
-        same = run-behind old.accepted.code count 1 (state_under old r) (state_under now r) (at r f) ∙ behind r f ∙ ap (λ (e : Ended). (outcome_of e, state_under new r)) out;
-        fits = λ _. (run r (now-fits r f)).fits out;
+      run = λ left r f. record {
+        same = run-behind old.accepted.code count 1 (state_under old r) (state_under now r)
+            (at left r f) ∙ behind left r f
+            ∙ ap (λ (e : Ended). (outcome_of e, state_under new r)) out;
+        fits = λ _. then-fits left r f out;
+        returns = λ counted enough.
+            subst (λ (e : Ended). IsReturn (outcome_of e)) out
+            (then-returns left r f counted enough);
       };
       accepted = accepted ∙ made.accepted;
       region = region ∙ made.region;
       live = live ∙ ap goes_on_after out;
     }
 
-    module _ (budget rest word : ℕ) (left : budget ≡ count + suc rest) (back : result ≡ ended.Returned word) where
-      returns-here : (r : Rights) → RightsFit old r → run_of old.accepted.code 1 (state_under now r) ≡ (outcomes.Returned word, state_under new r)
-      returns-here r f = behind r f ∙ ap (λ (e : Ended). (outcome_of e, state_under new r)) back
+    module _ (budget rest word : ℕ) (all : budget ≡ count + suc rest)
+        (back : result ≡ ended.Returned word) where
+      returns-here : (left : ℕ) (r : Rights) → RightsFit old left r
+          → run_of old.accepted.code 1 (state_under now r)
+          ≡ (outcomes.Returned word, state_under new r)
+      returns-here left r f =
+          behind left r f ∙ ap (λ (e : Ended). (outcome_of e, state_under new r)) back
 
       -- the run that ends with this return
       pub ends-run : IsRun old budget result new
-      ends-run r f = record {
-        same = ap (λ n. run_of old.accepted.code n (state_under old r)) left
-            ∙ run-behind old.accepted.code count (suc rest) (state_under old r) (state_under now r) (at r f)
-            ∙ run-returned-at old.accepted.code rest word (state_under now r) (state_under new r) (returns-here r f)
+      ends-run left r f = record {
+        same = ap (λ n. run_of old.accepted.code n (state_under old r)) all
+            ∙ run-behind old.accepted.code count (suc rest) (state_under old r)
+            (state_under now r) (at left r f)
+            ∙ run-returned-at old.accepted.code rest word (state_under now r) (state_under new r)
+            (returns-here left r f)
             ∙ ap (λ (e : Ended). (outcome_of e, state_under new r)) (sym back);
-        fits = λ out. let wrong : ended.Returned word ≡ ended.OutOfSteps = sym back ∙ out in not-out word wrong (RightsFit new r);
+        fits = λ out.
+            let wrong : ended.Returned word ≡ ended.OutOfSteps = sym back ∙ out in
+            not-out word wrong (RightsFit new (steps_after old.accepted.bound budget left) r);
+        returns = λ _ _. subst (λ (e : Ended). IsReturn (outcome_of e)) (sym back) tt;
       }
 
       pub ends-steps : MakesSteps old budget (count + 1)
-      ends-steps r f = sym (
-          ap (λ n. steps_of old.accepted.code n (state_under old r)) left
-          ∙ steps-behind old.accepted.code count (suc rest) (state_under old r) (state_under now r) (at r f)
-          ∙ ap (λ n. count + n) (steps-returned-at old.accepted.code rest word (state_under now r) (state_under new r) (returns-here r f)))
+      ends-steps left r f = sym (
+          ap (λ n. steps_of old.accepted.code n (state_under old r)) all
+          ∙ steps-behind old.accepted.code count (suc rest) (state_under old r)
+          (state_under now r) (at left r f)
+          ∙ ap (λ n. count + n) (steps-returned-at old.accepted.code rest word
+          (state_under now r) (state_under new r) (returns-here left r f)))
 
   -- the whole budget was made
   pub out-steps : MakesSteps old count count
-  out-steps r f =
+  out-steps left r f =
       let code = old.accepted.code in
       let none : count ≡ count + 0 = omega arith in
       let none_of : count + 0 ≡ count = omega arith in
-      sym (ap (λ n. steps_of code n (state_under old r)) none ∙ steps-behind code count 0 (state_under old r) (state_under now r) (at r f) ∙ none_of)
+      sym (ap (λ n. steps_of code n (state_under old r)) none
+      ∙ steps-behind code count 0 (state_under old r) (state_under now r) (at left r f) ∙ none_of)
 
 -- what ends a run is a return
 pub returned-word : (result : Ended) → goes_on_after result ≡ false → (word : ℕ) × (result ≡ ended.Returned word)

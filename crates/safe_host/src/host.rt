@@ -5,7 +5,8 @@ ghost use Rattle.reference_machine.specs.declared.layout.TheConstants.{ARENA};
 ghost use Rattle.reference_machine.specs.Arena.{sum_of, map_of};
 ghost use Rattle.packet_store.specs.declared.reader.TheConstants.{MAX_PACKET};
 ghost use Rattle.packet_store.specs.PolicyStarts.{start_of};
-ghost use Rattle.safe_host.specs.Hosts.{HasRights};
+ghost use Rattle.part_runs.specs.Parts.{ReturnedInBound};
+ghost use Rattle.safe_host.specs.Hosts.{HasRights, FitWhileLeft};
 ghost use Rattle.safe_host.specs.Counts.{MakesSteps};
 ghost use Rattle.safe_host.specs.Runs.{Loads, IsRun, goes_on_after};
 
@@ -75,9 +76,9 @@ impl Host {
 }
 
 impl Host {
-    /// Begins anew at the start of the policy on `packet`, which has at most `MAX_PACKET` bytes: its
-    /// bytes stand in the arena, every other quadword is 0, and nothing of an earlier run is left.
-    /// The rights of the start then fit. Takes no memory.
+    /// Begins anew at the start of the policy on `packet`, which has at most `MAX_PACKET` bytes:
+    /// its bytes stand in the arena, every other quadword is 0, and nothing of an earlier run is
+    /// left. The rights of the start then fit, with all steps of the bound left. Takes no memory.
     ///
     /// Answers false exactly where the packet is short; the host is then unchanged.
     pub fn load(&mut self, packet: &[u8]) -> bool
@@ -101,10 +102,13 @@ impl Host {
 
     /// Makes at most `budget` steps, a return among them, and answers how the run ended. No access
     /// is tested: under all rights that fit, this is the run of the machine that tests each. Where
-    /// it is out of steps, they fit again, and it may go on; after a return it isn't live.
+    /// it is out of steps, they fit again, the budget fewer being left, and it may go on; after a
+    /// return it isn't live. Where steps are bounded, a budget of at least the bound ends by a
+    /// return.
     pub fn run(&mut self, budget: u64) -> Ended
         requires { self.old.live ≡ true }
         ensures under { IsRun self.old budget result self.new }
+        ensures returns { ReturnedInBound self.old.accepted.bound budget result }
         ensures accepted { self.new.accepted ≡ self.old.accepted }
         ensures region { self.new.region ≡ self.old.region }
         ensures live { self.new.live ≡ goes_on_after result }
@@ -128,12 +132,14 @@ impl Host {
     pub fn run_counted(&mut self, budget: u64) -> Counted
         requires { self.old.live ≡ true }
         ensures under { IsRun self.old budget result.ended self.new }
+        ensures returns { ReturnedInBound self.old.accepted.bound budget result.ended }
         ensures steps { MakesSteps self.old budget result.steps }
         ensures few { result.steps ≤ budget }
         ensures accepted { self.new.accepted ≡ self.old.accepted }
         ensures region { self.new.region ≡ self.old.region }
         ensures live { self.new.live ≡ goes_on_after result.ended }
     {
+        self.laws(); // tells the prover that some steps of a bound are left
         let mut steps: u64 = 0;
         while steps < budget {
             let ended = self.run(1);
@@ -188,10 +194,12 @@ impl Host {
         accepted
     }
 
-    /// What holds of every host, with nothing to run: while it is live, some rights fit it.
+    /// What holds of every host, with nothing to run: while it is live, some rights fit it
+    /// (`rights`); where its steps are bounded, rights fit only while some are left (`left`).
     pub fn laws(&self)
-        ensures { self.now.live ≡ true → HasRights self.now }
+        ensures rights { self.now.live ≡ true → HasRights self.now }
+        ensures left { FitWhileLeft self.now }
     {
-        let _ = &self.live; // opens the invariant for the prover
+        self.accepted.laws(); // tells the prover that the condition is true
     }
 }

@@ -224,7 +224,8 @@ fn fresh_normal_form(
 }
 
 /// The normal form of the expression `e`, where `outside` binders stand outside, with the proof of
-/// their equation.
+/// their equation. The outermost binder is that of the steps that are left; where none are counted it
+/// isn't there, and counts all the same.
 ///
 /// Errors: want of memory alone, which more results than the memo may keep are too.
 #[tactic(auto, using(crate::proofs::Growing::forms))]

@@ -83,7 +83,7 @@ enum Rule {
     Cancelled,
 }
 
-/// The order of summands, where `outside` binders stand outside.
+/// The order of summands, where `outside` binders stand outside, the steps' that are left among them.
 fn summand_key(table: &Table, outside: u32, e: Id) -> u32
     requires { IsKnown table.now e }
     ensures { (x : Exp) → tree_at table.now e ≡ exp_encoding x → result ≡ summand_key outside x }
@@ -91,8 +91,8 @@ fn summand_key(table: &Table, outside: u32, e: Id) -> u32
     match table.node(e) {
         Node::Var(n) => {
             let inward = outside.saturating_sub(n);
-            if 2 <= inward && inward <= 32 {
-                inward - 2
+            if 3 <= inward && inward <= 33 {
+                inward - 3
             } else {
                 31
             }

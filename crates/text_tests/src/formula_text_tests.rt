@@ -131,17 +131,73 @@ static TRAILING: [(&str, usize); 5] = [
     ("(rd 0) 18446744073709551616", 7),
 ];
 
-/// Reads the text and prints its formula.
-fn printed(alloc: Global, text: &[u8]) -> Result<Vec<u8>, TextFault> {
-    let form = read_form(alloc, text, Profile::One)?;
+/// Texts that name the steps that are left, with what is printed of their formulas.
+static LEFT_READ: [(&str, &str); 7] = [
+    ("(ult 0 left)", "(ult 0 left)"),
+    (
+        "(and (eq left r4)(ule 4 r4))",
+        "(and (eq left r4) (ule 4 r4))",
+    ),
+    (
+        "(all x (ule (sub left 1) x))",
+        "(all x0 (ule (sub left 1) x0))",
+    ),
+    (
+        "(all left1 (allm lef (eq (sel lef left1) left)))",
+        "(all x0 (allm x1 (eq (sel x1 x0) left)))",
+    ),
+    ("(rd(sel m left))", "(rd (sel m left))"),
+    (
+        "(wr (sel (upd m left (add left left)) left))",
+        "(wr (sel (upd m left (add left left)) left))",
+    ),
+    (
+        "(imp (slt 5 left) (rd left))",
+        "(imp (slt 5 left) (rd left))",
+    ),
+];
+
+/// Texts that are refused where the steps that are left may be named, with what is wrong.
+static LEFT_FAULTS: [(&str, usize, TextFlaw); 10] = [
+    ("left", 0, TextFlaw::Shape),
+    ("(left)", 1, TextFlaw::Shape),
+    ("(and left tt)", 5, TextFlaw::Shape),
+    ("(all left tt)", 5, TextFlaw::Name),
+    ("(allm left tt)", 6, TextFlaw::Name),
+    ("(all x (all left (eq left x)))", 12, TextFlaw::Name),
+    ("(rd (sel left 0))", 9, TextFlaw::Name),
+    ("(rd (sel (upd left 0 0) 0))", 14, TextFlaw::Name),
+    ("(eq Left 0)", 4, TextFlaw::Name),
+    ("(eq left left 0)", 14, TextFlaw::Shape),
+];
+
+/// Texts in which `left` is a bound name, with what is printed of their formulas.
+static LEFT_BOUND: [(&str, &str); 4] = [
+    ("(all left tt)", "(all x0 tt)"),
+    ("(all left (ult 0 left))", "(all x0 (ult 0 x0))"),
+    ("(allm left (rd (sel left 0)))", "(allm x0 (rd (sel x0 0)))"),
+    (
+        "(all x (all left (eq left x)))",
+        "(all x0 (all x1 (eq x1 x0)))",
+    ),
+];
+
+/// Reads the text, with or without the steps that are left, and prints its formula.
+fn printed_with(alloc: Global, text: &[u8], left: bool) -> Result<Vec<u8>, TextFault> {
+    let form = read_form(alloc, text, Profile::One, left)?;
     match print_form(alloc, &form) {
         Ok(out) => Ok(out),
         Err(_) => Err(TextFault::Memory),
     }
 }
 
-fn test_read(rt: &impl Abort, alloc: Global, text: &str, want: &str) {
-    match printed(alloc, text.as_bytes()) {
+/// The same without them.
+fn printed(alloc: Global, text: &[u8]) -> Result<Vec<u8>, TextFault> {
+    printed_with(alloc, text, false)
+}
+
+fn test_read(rt: &impl Abort, alloc: Global, text: &str, want: &str, left: bool) {
+    match printed_with(alloc, text.as_bytes(), left) {
         Ok(out) => assert!(rt; out.as_slice() == want.as_bytes(), "{text}"),
         Err(fault) => assert!(rt; false, "{text}: {fault}"),
     }
@@ -155,14 +211,14 @@ fn laws_of_texts() {
 #[test]
 fn what_is_read_is_printed(rt: HostRuntime) {
     for &(text, want) in READ.iter() {
-        test_read(&rt, rt.alloc(), text, want);
-        test_read(&rt, rt.alloc(), want, want);
+        test_read(&rt, rt.alloc(), text, want, false);
+        test_read(&rt, rt.alloc(), want, want, false);
     }
 }
 
 /// Whether the profile refuses the text by this flaw at this position.
 fn is_refused(alloc: Global, profile: Profile, text: &str, at: usize, flaw: TextFlaw) -> bool {
-    match read_form(alloc, text.as_bytes(), profile) {
+    match read_form(alloc, text.as_bytes(), profile, false) {
         Err(fault) => fault == TextFault::At(at, flaw),
         Ok(_) => false,
     }
@@ -192,7 +248,7 @@ fn flaws_have_names(rt: HostRuntime) {
 
 #[test]
 fn the_tree_of_a_text(rt: HostRuntime) {
-    match read_form(rt.alloc(), b"(eq r31 0)", Profile::One) {
+    match read_form(rt.alloc(), b"(eq r31 0)", Profile::One, false) {
         Ok(form) => assert!(rt; form == Form::Rel(Rel::Eq, Exp::Reg(31), Exp::Lit(0))),
         Err(fault) => assert!(rt; false, "{fault}"),
     }
@@ -200,9 +256,53 @@ fn the_tree_of_a_text(rt: HostRuntime) {
 
 #[test]
 fn the_second_profile_has_more_operators(rt: HostRuntime) {
-    assert!(rt; read_form(rt.alloc(), b"(rd (xor r1 r2))", Profile::Two).is_ok());
+    assert!(rt; read_form(rt.alloc(), b"(rd (xor r1 r2))", Profile::Two, false).is_ok());
     assert!(rt; is_refused(rt.alloc(), Profile::Two, "(xor r1 r2)", 1, TextFlaw::Shape));
     assert!(rt; is_refused(rt.alloc(), Profile::Two, "(all xor tt)", 5, TextFlaw::Name));
+}
+
+/// Whether the text is refused so where the steps that are left may be named.
+fn is_refused_with_left(alloc: Global, text: &str, at: usize, flaw: TextFlaw) -> bool {
+    match read_form(alloc, text.as_bytes(), Profile::Two, true) {
+        Err(fault) => fault == TextFault::At(at, flaw),
+        Ok(_) => false,
+    }
+}
+
+/// What names the steps that are left is read and printed where that is allowed, and refused by
+/// their name elsewhere.
+#[test]
+fn the_steps_that_are_left(rt: HostRuntime) {
+    for &(text, want) in LEFT_READ.iter() {
+        test_read(&rt, rt.alloc(), text, want, true);
+        test_read(&rt, rt.alloc(), want, want, true);
+        assert!(rt; printed(rt.alloc(), text.as_bytes()).is_err(), "{text}");
+    }
+    assert!(rt; is_refused(rt.alloc(), Profile::Two, "(ult 0 left)", 7, TextFlaw::Name));
+    for &(text, at, flaw) in LEFT_FAULTS.iter() {
+        assert!(rt; is_refused_with_left(rt.alloc(), text, at, flaw), "{text}");
+    }
+}
+
+#[test]
+fn left_as_a_bound_name(rt: HostRuntime) {
+    for &(text, want) in LEFT_BOUND.iter() {
+        test_read(&rt, rt.alloc(), text, want, false);
+        test_read(&rt, rt.alloc(), want, want, true);
+        assert!(rt;
+            printed_with(rt.alloc(), text.as_bytes(), true).is_err(),
+            "{text}"
+        );
+    }
+}
+
+/// The tree of a text with the steps that are left.
+#[test]
+fn the_tree_with_left(rt: HostRuntime) {
+    match read_form(rt.alloc(), b"(ult 0 left)", Profile::One, true) {
+        Ok(form) => assert!(rt; form == Form::Rel(Rel::Ult, Exp::Lit(0), Exp::Left)),
+        Err(fault) => assert!(rt; false, "{fault}"),
+    }
 }
 
 /// `front` so often, `inner`, and `back` as often.
@@ -227,8 +327,8 @@ fn nested(
 /// Whether what is printed of the text's formula is read as that formula.
 fn is_read_back(alloc: Global, text: &[u8]) -> Result<bool, TextFault> {
     let again = printed(alloc, text)?;
-    let form = read_form(alloc, text, Profile::One)?;
-    Ok(read_form(alloc, &again, Profile::One)? == form)
+    let form = read_form(alloc, text, Profile::One, false)?;
+    Ok(read_form(alloc, &again, Profile::One, false)? == form)
 }
 
 /// Whether the text is as long as it can be, and its formula is printed and read back.

@@ -4,6 +4,8 @@
 #![tactic(auto)]
 
 #[cfg(test)]
+mod asm_text_tests;
+#[cfg(test)]
 mod formula_text_tests;
 #[cfg(test)]
 mod formula_tree_tests;

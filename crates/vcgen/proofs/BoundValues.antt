@@ -1,5 +1,5 @@
 -- What has to hold says nothing of the values of bound variables where no variable is free.
-use Rattle.std.proofs.Common.{◌≡◌, ℕ, zero, suc, ◌+◌, ◌<◌, ◌^◌, ◌↔◌, true, eqb, List, [], ◌∷◌, length, map, Option, Some, None, slice_get, refl, sym, ◌∙◌, ap, subst, arith, inl, inr, set}
+use Rattle.std.proofs.Common.{◌≡◌, ℕ, zero, suc, ◌+◌, ◌<◌, ◌^◌, ◌↔◌, Bool, true, false, eqb, List, [], ◌∷◌, length, map, Option, Some, None, slice_get, refl, sym, ◌∙◌, ap, subst, arith, inl, inr, set}
 use Rattle.std.proofs.lemmas.List.{length-map, length-set}
 use Rattle.std.proofs.lemmas.Bool.{cases_Bool}
 use Rattle.word_ops.specs.Words.{word_of, test_of}
@@ -17,7 +17,7 @@ use Rattle.alpha_cfg.specs.Actions as actions
 use Rattle.alpha_cfg.specs.Flow.{jump_of}
 use Rattle.formula_tree.specs.Formulas.{Exp, EReg, ELeft, EVar, ELit, EOp, ESel, MemExp, MMem, MVar, MUpd, Form, FTrue, FFalse, FRel, FRd, FWr, FAnd, FOr, FImp, FAll, FAllm}
 use Rattle.formula_tree.specs.Substitution.{Substitution, subst_form}
-use Rattle.formula_tree.specs.Scope.{VarSort, OfWord, OfMem, IsOverExp, IsOverMem, IsOver}
+use Rattle.formula_tree.specs.Scope.{VarSort, OfWord, OfMem, IsWithinExp, IsWithinMem, IsWithin}
 use Rattle.formula_tree.specs.Truth.{Valuation, Bound, BWord, BMem, bound_at, bound_word, bound_memory, exp_value, mem_value, IsTrueIn, substitution_value}
 use Rattle.formula_tree.proofs.Meaning.{both_ways, subst-truth}
 use Rattle.lf_encode.proofs.Naming.{below}
@@ -67,30 +67,30 @@ true-agree R n (FAllm A) v ρ σ o h = λ i. (m : Memory) → IsMemory m → tru
 -- ---- formulas over a context
 
 mutual
-  vars-exp : (r : ℕ) (e : Exp) (G : List VarSort) → IsOverExp r e G → HasVarsBelowExp (length G) e
-  vars-exp r (EReg k) G o = tt
-  vars-exp r ELeft G o = tt
-  vars-exp r (EVar k) G o = below G k OfWord o
-  vars-exp r (ELit w) G o = tt
-  vars-exp r (EOp p a b) G o = (vars-exp r a G o.0, vars-exp r b G o.1)
-  vars-exp r (ESel m a) G o = (vars-mem r m G o.0, vars-exp r a G o.1)
+  vars-exp : (l : Bool) (r : ℕ) (e : Exp) (G : List VarSort) → IsWithinExp l r e G → HasVarsBelowExp (length G) e
+  vars-exp l r (EReg k) G o = tt
+  vars-exp l r ELeft G o = tt
+  vars-exp l r (EVar k) G o = below G k OfWord o
+  vars-exp l r (ELit w) G o = tt
+  vars-exp l r (EOp p a b) G o = (vars-exp l r a G o.0, vars-exp l r b G o.1)
+  vars-exp l r (ESel m a) G o = (vars-mem l r m G o.0, vars-exp l r a G o.1)
 
-  vars-mem : (r : ℕ) (m : MemExp) (G : List VarSort) → IsOverMem r m G → HasVarsBelowMem (length G) m
-  vars-mem r MMem G o = tt
-  vars-mem r (MVar k) G o = below G k OfMem o
-  vars-mem r (MUpd m a v) G o = (vars-mem r m G o.0, vars-exp r a G o.1, vars-exp r v G o.2)
+  vars-mem : (l : Bool) (r : ℕ) (m : MemExp) (G : List VarSort) → IsWithinMem l r m G → HasVarsBelowMem (length G) m
+  vars-mem l r MMem G o = tt
+  vars-mem l r (MVar k) G o = below G k OfMem o
+  vars-mem l r (MUpd m a v) G o = (vars-mem l r m G o.0, vars-exp l r a G o.1, vars-exp l r v G o.2)
 
-pub vars-form : (r : ℕ) (F : Form) (G : List VarSort) → IsOver r F G → HasVarsBelow (length G) F
-vars-form r FTrue G o = tt
-vars-form r FFalse G o = tt
-vars-form r (FRel p a b) G o = (vars-exp r a G o.0, vars-exp r b G o.1)
-vars-form r (FRd a) G o = vars-exp r a G o
-vars-form r (FWr a) G o = vars-exp r a G o
-vars-form r (FAnd A B) G o = (vars-form r A G o.0, vars-form r B G o.1)
-vars-form r (FOr A B) G o = (vars-form r A G o.0, vars-form r B G o.1)
-vars-form r (FImp A B) G o = (vars-form r A G o.0, vars-form r B G o.1)
-vars-form r (FAll A) G o = vars-form r A (OfWord ∷ G) o
-vars-form r (FAllm A) G o = vars-form r A (OfMem ∷ G) o
+pub vars-form : (l : Bool) (r : ℕ) (F : Form) (G : List VarSort) → IsWithin l r F G → HasVarsBelow (length G) F
+vars-form l r FTrue G o = tt
+vars-form l r FFalse G o = tt
+vars-form l r (FRel p a b) G o = (vars-exp l r a G o.0, vars-exp l r b G o.1)
+vars-form l r (FRd a) G o = vars-exp l r a G o
+vars-form l r (FWr a) G o = vars-exp l r a G o
+vars-form l r (FAnd A B) G o = (vars-form l r A G o.0, vars-form l r B G o.1)
+vars-form l r (FOr A B) G o = (vars-form l r A G o.0, vars-form l r B G o.1)
+vars-form l r (FImp A B) G o = (vars-form l r A G o.0, vars-form l r B G o.1)
+vars-form l r (FAll A) G o = vars-form l r A (OfWord ∷ G) o
+vars-form l r (FAllm A) G o = vars-form l r A (OfMem ∷ G) o
 
 -- ---- formulas that say nothing of bound values
 
@@ -225,10 +225,10 @@ ignores-else (Some I) F kept h = ignores-closed I (kept I refl)
 
 module _ (c : AnnotatedCode) (is : IsAnnotated c) where
   pub ignores-post : IgnoresBound c.post
-  ignores-post = ignores-closed c.post (vars-form 32 c.post [] is.post)
+  ignores-post = ignores-closed c.post (vars-form false 32 c.post [] is.post)
 
   pub ignores-pre : IgnoresBound c.pre
-  ignores-pre = ignores-closed c.pre (vars-form 32 c.pre [] is.pre)
+  ignores-pre = ignores-closed c.pre (vars-form false 32 c.pre [] is.pre)
 
   ignores-wp_within : (n i : ℕ) → IgnoresBound (wp_within c n i)
   ignores-wp_within zero i = ignores-else (invariant_at c.invs i) FFalse (is.invs i) (ignores-closed FFalse tt)

@@ -23,7 +23,7 @@ scoped-lacks n (Pi a b) h = tt
 
 -- each of the machine's variables stands for itself, or doesn't occur where d variables are nearer
 abbrev pub AreIdle : MachineTerms → ℕ → Tree → Type 0
-AreIdle p d t = (k : ℕ) → k < 32 → (put_for p k ≡ Var k) ⊎ IsFreeOf (k + d) t
+AreIdle p d t = (k : ℕ) → k < 33 → (put_for p k ≡ Var k) ⊎ IsFreeOf (k + d) t
 
 near : (p : MachineTerms) (d k : ℕ) → k < d → put_tree p d (Var k) ≡ Var k
 near p d k h = ap (λ b. cond b (Var k) (shift d 0 (put_for p (k - d)))) (lt-ltb k d h)
@@ -34,7 +34,7 @@ far p d k e =
     let turn : d + k ≡ k + d = omega arith in
     ap (λ b. cond b (Var (k + d)) (shift d 0 (put_for p ((k + d) - d)))) (le-ltb (k + d) d (omega arith)) ∙ ap (λ n. shift d 0 (put_for p n)) same ∙ ap (shift d 0) e ∙ ap Var turn
 
-variable-stays : (p : MachineTerms) (d n : ℕ) → n < 32 + d → AreIdle p d (Var n) → put_tree p d (Var n) ≡ Var n
+variable-stays : (p : MachineTerms) (d n : ℕ) → n < 33 + d → AreIdle p d (Var n) → put_tree p d (Var n) ≡ Var n
 variable-stays p d n h idle =
     elim (cases_lt n d) [
       | inl e ↦ near p d n e
@@ -50,8 +50,8 @@ lacks-under k d b h =
     let same : suc (k + d) ≡ k + suc d = omega arith in
     subst (λ n. IsFreeOf n b) same h
 
-pub stays : (p : MachineTerms) (d : ℕ) (t : Tree) → is_scoped (32 + d) t ≡ true → AreIdle p d t → put_tree p d t ≡ t
-stays p d (Var n) h idle = variable-stays p d n (ltb-true n (32 + d) h) idle
+pub stays : (p : MachineTerms) (d : ℕ) (t : Tree) → is_scoped (33 + d) t ≡ true → AreIdle p d t → put_tree p d t ≡ t
+stays p d (Var n) h idle = variable-stays p d n (ltb-true n (33 + d) h) idle
 stays p d (Con c) h idle = refl
 stays p d (App f a) h idle =
     let q = both _ _ (both _ _ h).1 in
@@ -60,23 +60,23 @@ stays p d (App f a) h idle =
     λ i. App (stays p d f q.0 first i) (stays p d a q.1 second i)
 stays p d (Lam b) h idle =
     let under : AreIdle p (suc d) b = λ k l. elim (idle k l) [ inl e ↦ inl e | inr e ↦ inr (lacks-under k d b e) ] in
-    let room : suc (32 + d) ≡ 32 + suc d = omega arith in
+    let room : suc (33 + d) ≡ 33 + suc d = omega arith in
     ap Lam (stays p (suc d) b (subst (λ n. is_scoped n b ≡ true) room (both _ _ h).1) under)
 stays p d (Fam a) h idle = refl
 stays p d (TApp f a) h idle = refl
 stays p d (Pi a b) h idle = refl
 
 -- what stays at the machine's own variables
-pub stays_whole : (p : MachineTerms) (t : Tree) → is_scoped 32 t ≡ true → AreIdleFrom 0 p t → put_tree p 0 t ≡ t
+pub stays_whole : (p : MachineTerms) (t : Tree) → is_scoped 33 t ≡ true → AreIdleFrom 0 p t → put_tree p 0 t ≡ t
 stays_whole p t h idle =
-    let room : 32 ≡ 32 + 0 = omega arith in
+    let room : 33 ≡ 33 + 0 = omega arith in
     let each : AreIdle p 0 t = λ k l. elim (idle k (omega arith) l) [ inl e ↦ inl e | inr e ↦ inr (lacks-at k t e) ] in
     stays p 0 t (subst (λ n. is_scoped n t ≡ true) room h) each
   where
     lacks-at : (k : ℕ) (t : Tree) → IsFreeOf k t → IsFreeOf (k + 0) t
     lacks-at k t h = let same : k ≡ k + 0 = omega arith in subst (λ n. IsFreeOf n t) same h
 
-pub idle_none : (p : MachineTerms) (t : Tree) (k : ℕ) → 32 ≤ k → AreIdleFrom k p t
+pub idle_none : (p : MachineTerms) (t : Tree) (k : ℕ) → 33 ≤ k → AreIdleFrom k p t
 idle_none p t k h = λ j l m. absurd (omega (arith, h, l, m))
 
 pub idle_more : (p : MachineTerms) (t : Tree) (k : ℕ) → IsIdle k p t → AreIdleFrom (k + 1) p t → AreIdleFrom k p t

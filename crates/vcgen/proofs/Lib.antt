@@ -7,6 +7,7 @@ pub mod StepCounts
 pub mod Closing
 pub mod Outcomes
 pub mod Steps
+pub mod Within
 pub mod Scopes
 pub mod Encodings
 pub mod PolicyHeights

@@ -1,5 +1,5 @@
 -- Terms that stand for registers and memory, with one of them changed.
-use Rattle.std.proofs.Common.{◌≡◌, ℕ, zero, suc, ◌+◌, ◌-◌, ◌^◌, ◌<◌, ◌≤◌, Bool, true, false, cond, List, [], ◌∷◌, map, length, get_or, set, option_map, refl, sym, ◌∙◌, ap, subst, arith, eqb, inl, inr, lt-ltb, Result, IfOk}
+use Rattle.std.proofs.Common.{◌≡◌, ℕ, zero, suc, ◌+◌, ◌-◌, ◌^◌, ◌<◌, ◌≤◌, Bool, true, false, cond, List, [], ◌∷◌, map, length, get_or, set, option_map, refl, sym, ◌∙◌, ap, subst, arith, eqb, ltb, inl, inr, lt-ltb, Result, IfOk}
 use Rattle.std.proofs.lemmas.Bool.{cases_Bool, cases_lt, ne_eqb}
 use Rattle.alpha_words.specs.declared.insn.Rhs.{Rhs}
 use Rattle.alpha_words.specs.declared.insn.Rhs.TheVariants.{Reg, Lit}
@@ -16,6 +16,7 @@ use Rattle.lf_encode.proofs.KeptRows.{ready-same}
 use Rattle.word_ops.specs.declared.Op.{Op}
 use Rattle.lf_encode.specs.PutTree.{MachineTerms, machine_terms_at, put_for, HasRoomUnder}
 use Rattle.lf_encode.specs.Kept.{AreMachineTerms}
+use Rattle.lf_encode.specs.declared.puts.MachineIds.{MachineIds}
 use Rattle.vcgen.specs.Inside.WalkTree.{reg_term, rhs_term, with_reg, inv_term, var_terms, start_terms}
 use Rattle.vcgen.specs.Inside.Symbols.{IsTermFor, inv_id}
 
@@ -45,17 +46,15 @@ known-set t (x ∷ regs) (suc r) id h k = (h.0, known-set t regs r id h.1 k)
 
 -- ---- room
 
-room-reg : (k : ℕ) (p : MachineTerms) (r : ℕ) (u : Tree) → HasRoomUnder k p → fits (shift k 0 u) ≡ true → HasRoomUnder k (with_reg p r u)
-room-reg k p r u h new = record {
-  each = λ n. go n (h.each n);
-}
+-- what holds of each thing that is put holds of the terms of all variables, and the other way
+room-all : (k : ℕ) (p : MachineTerms) → ((j : ℕ) → fits (shift k 0 (get_or p.regs j (lit 0))) ≡ true) → fits (shift k 0 p.memory) ≡ true
+    → fits (shift k 0 p.left) ≡ true → HasRoomUnder k p
+room-all k p regs memory left = record { each = λ n. by n (ltb n 31) (eqb n 31) }
   where
-    by : (n : ℕ) (b : Bool) → fits (shift k 0 (cond b (get_or p.regs (30 - n) (lit 0)) p.memory)) ≡ true → fits (shift k 0 (cond b (get_or (set p.regs r u) (30 - n) (lit 0)) p.memory)) ≡ true
-    by n true old = set-holds (λ x. fits (shift k 0 x) ≡ true) p.regs r (30 - n) u (lit 0) new old
-    by n false old = old
-
-    go : (n : ℕ) → fits (shift k 0 (put_for p n)) ≡ true → fits (shift k 0 (put_for (with_reg p r u) n)) ≡ true
-    go n old = by n _ old
+    by : (n : ℕ) (b d : Bool) → fits (shift k 0 (cond b (get_or p.regs (30 - n) (lit 0)) (cond d p.memory p.left))) ≡ true
+    by n true d = regs (30 - n)
+    by n false true = memory
+    by n false false = left
 
 -- the term can be shifted over the binders of any formula
 abbrev pub HasRoom : Tree → Type 0
@@ -67,37 +66,43 @@ room-app2 c a b h k = and_of _ _ h k
 pub room-app3 : (c : ℕ) (a b d : Tree) → HasRoom a → HasRoom b → HasRoom d → HasRoom (app3 c a b d)
 room-app3 c a b d h k l = and_of _ _ (room-app2 c a b h k) l
 
-pub memory-room : (t : TableView) (regs : List ℕ) (memory : ℕ) → AreMachineTerms t regs memory → HasRoom (tree_at t memory)
-memory-room t regs memory h = h.room.each 31
+pub memory-room : (t : TableView) (ids : MachineIds) → AreMachineTerms t ids → HasRoom (tree_at t ids.memory)
+memory-room t ids h = h.room.each 31
 
-pub reg-room : (t : TableView) (regs : List ℕ) (memory r : ℕ) → AreMachineTerms t regs memory → HasRoom (reg_term (machine_terms_at t regs memory) r)
-reg-room t regs memory r h =
-    elim (cases_Bool (eqb r 31)) [
-      | inl e ↦ rw e refl
-      | inr e ↦ rw e (small r)
+pub left-room : (t : TableView) (ids : MachineIds) → AreMachineTerms t ids → HasRoom (tree_at t ids.left)
+left-room t ids h = h.room.each 32
+
+-- each register's term, also where there is none
+register-room : (t : TableView) (ids : MachineIds) → AreMachineTerms t ids → (j : ℕ) → HasRoom (get_or (machine_terms_at t ids).regs j (lit 0))
+register-room t ids h j =
+    elim (cases_lt j 31) [
+      | inl lt ↦
+          let back : 30 - (30 - j) ≡ j = omega (arith, lt) in
+          let low : 30 - j < 31 = omega arith in
+          let at : HasRoom (put_for p (30 - j)) = h.room.each (30 - j) in
+          subst (λ k. HasRoom (get_or p.regs k (lit 0))) back
+          (subst (λ b. HasRoom (cond b (get_or p.regs (30 - (30 - j)) (lit 0)) (cond (eqb (30 - j) 31) p.memory p.left))) (lt-ltb (30 - j) 31 low) at)
+      | inr ge ↦ let same : length p.regs ≡ length ids.regs = mapped (λ i. tree_at t i) ids.regs in past p.regs j (omega (arith, ge, same, h.many))
     ]
   where
-    terms : List Tree
-    terms = map (λ id. tree_at t id) regs
+    p : MachineTerms
+    p = machine_terms_at t ids
 
     past : (l : List Tree) (j : ℕ) → length l ≤ j → HasRoom (get_or l j (lit 0))
-    past [] j p = refl
-    past (x ∷ l) zero p = absurd (omega (arith, p))
-    past (x ∷ l) (suc j) p = past l j (omega (arith, p))
+    past [] j q = refl
+    past (x ∷ l) zero q = absurd (omega (arith, q))
+    past (x ∷ l) (suc j) q = past l j (omega (arith, q))
 
-    small : (j : ℕ) → HasRoom (get_or terms j (lit 0))
-    small j =
-        elim (cases_lt j 31) [
-          | inl lt ↦
-              let back : 30 - (30 - j) ≡ j = omega (arith, lt) in
-              let low : 30 - j < 31 = omega arith in
-              subst (λ k. HasRoom (get_or terms k (lit 0))) back (subst (λ b. HasRoom (cond b (get_or terms (30 - (30 - j)) (lit 0)) (tree_at t memory))) (lt-ltb (30 - j) 31 low) (h.room.each (30 - j)))
-          | inr ge ↦ let same : length terms ≡ length regs = mapped (λ i. tree_at t i) regs in past terms j (omega (arith, ge, same, h.many))
-        ]
+pub reg-room : (t : TableView) (ids : MachineIds) (r : ℕ) → AreMachineTerms t ids → HasRoom (reg_term (machine_terms_at t ids) r)
+reg-room t ids r h =
+    elim (cases_Bool (eqb r 31)) [
+      | inl e ↦ rw e refl
+      | inr e ↦ rw e (register-room t ids h r)
+    ]
 
-pub rhs-room : (t : TableView) (regs : List ℕ) (memory : ℕ) (rhs : Rhs) → AreMachineTerms t regs memory → HasRoom (rhs_term (machine_terms_at t regs memory) rhs)
-rhs-room t regs memory (Reg r) h = reg-room t regs memory r h
-rhs-room t regs memory (Lit n) h = refl
+pub rhs-room : (t : TableView) (ids : MachineIds) (rhs : Rhs) → AreMachineTerms t ids → HasRoom (rhs_term (machine_terms_at t ids) rhs)
+rhs-room t ids (Reg r) h = reg-room t ids r h
+rhs-room t ids (Lit n) h = refl
 
 -- what stands for a term with room
 pub ok-term : {E : Type 0} (t : TableView) (tree : Tree) (r : Result ℕ E) → HasRoom tree → IfOk r (IsIdOf t tree) → IfOk r (IsTermFor t tree)
@@ -114,26 +119,50 @@ regs-tree t (r ∷ regs) zero d l = refl
 regs-tree t (r ∷ regs) (suc i) d l = regs-tree t regs i d (omega (arith, l))
 
 -- a register's id
-pub reg-stands : (t : TableView) (regs : List ℕ) (memory r d : ℕ) → AreMachineTerms t regs memory → r < 31 → IsTermFor t (reg_term (machine_terms_at t regs memory) r) (get_or regs r d)
-reg-stands t regs memory r d h lt = record {
+pub reg-stands : (t : TableView) (ids : MachineIds) (r d : ℕ) → AreMachineTerms t ids → r < 31 → IsTermFor t (reg_term (machine_terms_at t ids) r) (get_or ids.regs r d)
+reg-stands t ids r d h lt = record {
   stands = record {
-    known = regs-known t regs r d h.regs (omega (arith, h.many, lt));
-    is = regs-tree t regs r d (omega (arith, h.many, lt)) ∙ sym (ap (λ b. cond b (lit 0) (get_or (map (λ id. tree_at t id) regs) r (lit 0))) (ne_eqb r 31 (omega (arith, lt))));
+    known = regs-known t ids.regs r d h.regs (omega (arith, h.many, lt));
+    is = regs-tree t ids.regs r d (omega (arith, h.many, lt)) ∙ sym (ap (λ b. cond b (lit 0) (get_or (map (λ id. tree_at t id) ids.regs) r (lit 0))) (ne_eqb r 31 (omega (arith, lt))));
   };
-  room = reg-room t regs memory r h;
+  room = reg-room t ids r h;
 }
 
 -- ---- the machine's terms with another one
 
-pub terms-reg : (t : TableView) (regs : List ℕ) (memory r id : ℕ) → machine_terms_at t (set regs r id) memory ≡ with_reg (machine_terms_at t regs memory) r (tree_at t id)
-terms-reg t regs memory r id = ap (λ l. record { regs = l; memory = tree_at t memory }) (map-set (λ i. tree_at t i) regs r id)
+pub terms-reg : (t : TableView) (ids : MachineIds) (r id : ℕ) → machine_terms_at t (record ids { regs = set ids.regs r id }) ≡ with_reg (machine_terms_at t ids) r (tree_at t id)
+terms-reg t ids r id = ap (λ l. record { regs = l; memory = tree_at t ids.memory; left = tree_at t ids.left }) (map-set (λ i. tree_at t i) ids.regs r id)
 
-pub ready-reg : (t : TableView) (regs : List ℕ) (memory r id : ℕ) → AreMachineTerms t regs memory → IsKnown t id → fits (shift 2147483648 0 (tree_at t id)) ≡ true → AreMachineTerms t (set regs r id) memory
-ready-reg t regs memory r id h k room = record {
-  regs = known-set t regs r id h.regs k;
+pub ready-reg : (t : TableView) (ids : MachineIds) (r id : ℕ) → AreMachineTerms t ids → IsKnown t id → HasRoom (tree_at t id) → AreMachineTerms t (record ids { regs = set ids.regs r id })
+ready-reg t ids r id h k room = record {
+  regs = known-set t ids.regs r id h.regs k;
   memory = h.memory;
-  many = omega (arith, h.many, length-set regs r id);
-  room = subst (HasRoomUnder 2147483648) (sym (terms-reg t regs memory r id)) (room-reg 2147483648 (machine_terms_at t regs memory) r (tree_at t id) h.room room);
+  left = h.left;
+  many = omega (arith, h.many, length-set ids.regs r id);
+  room = subst (HasRoomUnder 2147483648) (sym (terms-reg t ids r id))
+      (room-all 2147483648 (with_reg p r (tree_at t id))
+      (λ j. set-holds HasRoom p.regs r j (tree_at t id) (lit 0) room (register-room t ids h j)) (memory-room t ids h) (left-room t ids h));
+}
+  where
+    p : MachineTerms
+    p = machine_terms_at t ids
+
+pub ready-memory : (t : TableView) (ids : MachineIds) (id : ℕ) → AreMachineTerms t ids → IsKnown t id → HasRoom (tree_at t id) → AreMachineTerms t (record ids { memory = id })
+ready-memory t ids id h k room = record {
+  regs = h.regs;
+  memory = k;
+  left = h.left;
+  many = h.many;
+  room = room-all 2147483648 (machine_terms_at t (record ids { memory = id })) (register-room t ids h) room (left-room t ids h);
+}
+
+pub ready-left : (t : TableView) (ids : MachineIds) (id : ℕ) → AreMachineTerms t ids → IsKnown t id → HasRoom (tree_at t id) → AreMachineTerms t (record ids { left = id })
+ready-left t ids id h k room = record {
+  regs = h.regs;
+  memory = h.memory;
+  left = k;
+  many = h.many;
+  room = room-all 2147483648 (machine_terms_at t (record ids { left = id })) (register-room t ids h) (memory-room t ids h) room;
 }
 
 -- ---- invariants by their ids and by their terms
@@ -144,34 +173,35 @@ inv_term-is t (p ∷ ps) i = elim (cases_Bool (eqb p.0 i)) [ inl e ↦ rw e refl
 
 -- ---- the terms of operands, made one after the other
 
-pub operated-ok : {E : Type 0} (t u v w : TableView) (regs : List ℕ) (memory : ℕ) (op : Op) (r : ℕ) (rhs : Rhs) (left right constant : ℕ) (answer : Result ℕ E) → constant ≡ op_constant op → AreMachineTerms t regs memory → Extends t u → Extends u v →
-    IsTermFor u (reg_term (machine_terms_at t regs memory) r) left → IsTermFor v (rhs_term (machine_terms_at u regs memory) rhs) right →
-    IfOk answer (IsIdOf w (app2 constant (tree_at v left) (tree_at v right))) → IfOk answer (IsTermFor w (op_term op (reg_term (machine_terms_at t regs memory) r) (rhs_term (machine_terms_at t regs memory) rhs)))
-operated-ok t u v w regs memory op r rhs left right constant answer same ready tu uv f g h =
-    let terms = machine_terms_at t regs memory in
+pub operated-ok : {E : Type 0} (t u v w : TableView) (ids : MachineIds) (op : Op) (r : ℕ) (rhs : Rhs) (left right constant : ℕ) (answer : Result ℕ E) → constant ≡ op_constant op → AreMachineTerms t ids → Extends t u → Extends u v →
+    IsTermFor u (reg_term (machine_terms_at t ids) r) left → IsTermFor v (rhs_term (machine_terms_at u ids) rhs) right →
+    IfOk answer (IsIdOf w (app2 constant (tree_at v left) (tree_at v right))) → IfOk answer (IsTermFor w (op_term op (reg_term (machine_terms_at t ids) r) (rhs_term (machine_terms_at t ids) rhs)))
+operated-ok t u v w ids op r rhs left right constant answer same ready tu uv f g h =
+    let terms = machine_terms_at t ids in
     let first : tree_at v left ≡ reg_term terms r = uv.same left f.stands.known ∙ f.stands.is in
-    let second : tree_at v right ≡ rhs_term terms rhs = g.stands.is ∙ ap (λ s. rhs_term s rhs) (ready-same t u regs memory ready tu) in
-    ok-term w (op_term op (reg_term terms r) (rhs_term terms rhs)) answer (room-app2 (op_constant op) (reg_term terms r) (rhs_term terms rhs) (reg-room t regs memory r ready) (rhs-room t regs memory rhs ready))
+    let second : tree_at v right ≡ rhs_term terms rhs = g.stands.is ∙ ap (λ s. rhs_term s rhs) (ready-same t u ids ready tu) in
+    ok-term w (op_term op (reg_term terms r) (rhs_term terms rhs)) answer (room-app2 (op_constant op) (reg_term terms r) (rhs_term terms rhs) (reg-room t ids r ready) (rhs-room t ids rhs ready))
     (subst (λ z. IfOk answer (IsIdOf w z)) (λ i. app2 (same i) (first i) (second i)) h)
 
-pub stored-ok : {E : Type 0} (t u w : TableView) (regs : List ℕ) (memory address r word : ℕ) (answer : Result ℕ E) → AreMachineTerms t regs memory → IsKnown t address → HasRoom (tree_at t address) → Extends t u →
-    IsTermFor u (reg_term (machine_terms_at t regs memory) r) word → IfOk answer (IsIdOf w (upd (tree_at u memory) (tree_at u address) (tree_at u word))) →
-    IfOk answer (IsTermFor w (upd (tree_at t memory) (tree_at t address) (reg_term (machine_terms_at t regs memory) r)))
-stored-ok t u w regs memory address r word answer ready known room tu f h =
-    let terms = machine_terms_at t regs memory in
-    let m : tree_at u memory ≡ tree_at t memory = tu.same memory ready.memory in
+pub stored-ok : {E : Type 0} (t u w : TableView) (ids : MachineIds) (address r word : ℕ) (answer : Result ℕ E) → AreMachineTerms t ids → IsKnown t address → HasRoom (tree_at t address) → Extends t u →
+    IsTermFor u (reg_term (machine_terms_at t ids) r) word → IfOk answer (IsIdOf w (upd (tree_at u ids.memory) (tree_at u address) (tree_at u word))) →
+    IfOk answer (IsTermFor w (upd (tree_at t ids.memory) (tree_at t address) (reg_term (machine_terms_at t ids) r)))
+stored-ok t u w ids address r word answer ready known room tu f h =
+    let terms = machine_terms_at t ids in
+    let m : tree_at u ids.memory ≡ tree_at t ids.memory = tu.same ids.memory ready.memory in
     let a : tree_at u address ≡ tree_at t address = tu.same address known in
-    ok-term w (upd (tree_at t memory) (tree_at t address) (reg_term terms r)) answer (room-app3 12 (tree_at t memory) (tree_at t address) (reg_term terms r) (memory-room t regs memory ready) room f.room)
+    ok-term w (upd (tree_at t ids.memory) (tree_at t address) (reg_term terms r)) answer (room-app3 12 (tree_at t ids.memory) (tree_at t address) (reg_term terms r) (memory-room t ids ready) room f.room)
     (subst (λ z. IfOk answer (IsIdOf w z)) (λ i. upd (m i) (a i) (f.stands.is i)) h)
 
--- ---- each register and m for itself
+-- ---- each of the machine's variables for itself
 
 -- so many of the registers have ids of their variables
-pub record IsStarted (o t : TableView) (regs : List ℕ) (memory k : ℕ) : Type 0 where
+pub record IsStarted (o t : TableView) (regs : List ℕ) (memory left k : ℕ) : Type 0 where
   pub extends : Extends o t
   pub many : length regs ≡ 31
   pub known : AllKnown t regs
   pub variable : IsIdOf t (Var 31) memory
+  pub steps : IsIdOf t (Var 32) left
   pub each : (j d : ℕ) → j < k → tree_at t (get_or regs j d) ≡ Var (30 - j)
 
 all-known-more : (t u : TableView) (regs : List ℕ) → AllKnown t regs → Extends t u → AllKnown u regs
@@ -189,12 +219,13 @@ set-other (y ∷ l) zero j x d h = absurd (omega (arith, h))
 set-other (y ∷ l) (suc r) zero x d h = refl
 set-other (y ∷ l) (suc r) (suc j) x d h = set-other l r j x d (omega (arith, h))
 
-pub started-more : (o t u : TableView) (regs : List ℕ) (memory k id : ℕ) → IsStarted o t regs memory k → k < 31 → Extends t u → IsIdOf u (Var (30 - k)) id → IsStarted o u (set regs k id) memory (k + 1)
-started-more o t u regs memory k id h lt e s = record {
+pub started-more : (o t u : TableView) (regs : List ℕ) (memory left k id : ℕ) → IsStarted o t regs memory left k → k < 31 → Extends t u → IsIdOf u (Var (30 - k)) id → IsStarted o u (set regs k id) memory left (k + 1)
+started-more o t u regs memory left k id h lt e s = record {
   extends = grows_more o t u h.extends e;
   many = omega (arith, h.many, length-set regs k id);
   known = known-set u regs k id (all-known-more t u regs h.known e) s.known;
   variable = record { known = omega (arith, h.variable.known, e.longer); is = e.same memory h.variable.known ∙ h.variable.is };
+  steps = record { known = omega (arith, h.steps.known, e.longer); is = e.same left h.steps.known ∙ h.steps.is };
   each = each;
 }
   where
@@ -220,7 +251,7 @@ vars-are (suc n) (x ∷ l) len each =
     let rest : l ≡ var_terms n = vars-are n l (omega (arith, len)) (λ j p. let down : suc n - 1 - suc j ≡ n - 1 - j = omega arith in each (suc j) (omega (arith, p)) ∙ ap Var down) in
     λ i. first i ∷ rest i
 
-room-var : (n : ℕ) → n < 32 → HasRoom (Var n)
+room-var : (n : ℕ) → n < 33 → HasRoom (Var n)
 room-var n h = lt-ltb (2147483648 + n) (2 ^ 32) (omega (arith, h))
 
 room-vars : (n j : ℕ) → n ≤ 31 → HasRoom (get_or (var_terms n) j (lit 0))
@@ -228,25 +259,22 @@ room-vars zero j h = refl
 room-vars (suc n) zero h = room-var n (omega (arith, h))
 room-vars (suc n) (suc j) h = room-vars n j (omega (arith, h))
 
-pub started-terms : (o t : TableView) (regs : List ℕ) (memory k : ℕ) → IsStarted o t regs memory k → 31 ≤ k → machine_terms_at t regs memory ≡ start_terms
+pub started-terms : (o t : TableView) (regs : List ℕ) (memory left k : ℕ) → IsStarted o t regs memory left k → 31 ≤ k → machine_terms_at t (record { regs = regs; memory = memory; left = left }) ≡ start_terms
 unfolding start_terms
-started-terms o t regs memory k h past =
+started-terms o t regs memory left k h past =
     let long : length (map (λ i. tree_at t i) regs) ≡ 31 = mapped (λ i. tree_at t i) regs ∙ h.many in
     let are : map (λ i. tree_at t i) regs ≡ var_terms 31 = vars-are 31 (map (λ i. tree_at t i) regs) long (λ j p. sym (regs-tree t regs j 0 (omega (arith, p, h.many))) ∙ h.each j 0 (omega (arith, p, past))) in
-    λ i. record { regs = are i; memory = h.variable.is i }
+    λ i. record { regs = are i; memory = h.variable.is i; left = h.steps.is i }
 
 start-room : HasRoomUnder 2147483648 start_terms
 unfolding start_terms
-start-room = record { each = λ n. by n _ }
-  where
-    by : (n : ℕ) (b : Bool) → HasRoom (cond b (get_or (var_terms 31) (30 - n) (lit 0)) (Var 31))
-    by n true = room-vars 31 (30 - n) (omega arith)
-    by n false = room-var 31 (omega arith)
+start-room = room-all 2147483648 start_terms (λ j. room-vars 31 j (omega arith)) (room-var 31 (omega arith)) (room-var 32 (omega arith))
 
-pub started-ready : (o t : TableView) (regs : List ℕ) (memory k : ℕ) → IsStarted o t regs memory k → 31 ≤ k → AreMachineTerms t regs memory
-started-ready o t regs memory k h past = record {
+pub started-ready : (o t : TableView) (regs : List ℕ) (memory left k : ℕ) → IsStarted o t regs memory left k → 31 ≤ k → AreMachineTerms t (record { regs = regs; memory = memory; left = left })
+started-ready o t regs memory left k h past = record {
   regs = h.known;
   memory = h.variable.known;
+  left = h.steps.known;
   many = h.many;
-  room = subst (HasRoomUnder 2147483648) (sym (started-terms o t regs memory k h past)) start-room;
+  room = subst (HasRoomUnder 2147483648) (sym (started-terms o t regs memory left k h past)) start-room;
 }

@@ -8,7 +8,7 @@ use Rattle.lf_signature.specs.Terms.{app2, imp_term, all_term, allm_term}
 use Rattle.lf_encode.proofs.Comparisons.{IsOneToOne}
 use Rattle.vcgen.specs.declared.goals.Pair.{Pair}
 use Rattle.vcgen.specs.Inside.Goals.{AreSides}
-use Rattle.vcgen.specs.Inside.WalkTree.{all_terms, closed_term}
+use Rattle.vcgen.specs.Inside.WalkTree.{all_terms, machine_term, closed_term}
 
 app2-first : (c : ℕ) (a b p q : Tree) → app2 c a b ≡ app2 c p q → a ≡ p
 app2-first c a b p q e = cc
@@ -32,14 +32,19 @@ allm_term-same a b e = cc
 closed-same : (n : ℕ) (a b : Tree) → allm_term (all_terms n a) ≡ allm_term (all_terms n b) → a ≡ b
 closed-same n a b e = all_terms-same n a b (allm_term-same (all_terms n a) (all_terms n b) e)
 
-closed_term-same : (a b : Tree) → closed_term a ≡ closed_term b → a ≡ b
-unfolding closed_term
-closed_term-same a b e = closed-same 31 a b e
+machine_term-same : (a b : Tree) → machine_term a ≡ machine_term b → a ≡ b
+unfolding machine_term
+machine_term-same a b e = closed-same 31 a b e
 
-pub closed-one : IsOneToOne (λ a b. closed_term (imp_term a b))
-closed-one = record {
-  first = λ a b p q e. app2-first _ a b p q (closed_term-same (imp_term a b) (imp_term p q) e);
-  second = λ a b p q e. app2-second _ a b p q (closed_term-same (imp_term a b) (imp_term p q) e);
+closed_term-same : (bound : Option ℕ) (a b : Tree) → closed_term bound a ≡ closed_term bound b → a ≡ b
+closed_term-same None a b e = machine_term-same a b e
+closed_term-same (Some bound) a b e =
+    machine_term-same a b (all_term-same (machine_term a) (machine_term b) e)
+
+pub closed-one : (bound : Option ℕ) → IsOneToOne (λ a b. closed_term bound (imp_term a b))
+closed-one bound = record {
+  first = λ a b p q e. app2-first _ a b p q (closed_term-same bound (imp_term a b) (imp_term p q) e);
+  second = λ a b p q e. app2-second _ a b p q (closed_term-same bound (imp_term a b) (imp_term p q) e);
 }
 
 -- ---- what the readers answer
@@ -68,12 +73,26 @@ memory-sides : (t : TableView) (tree words : Tree) (n : ℕ) (o : Option Pair) �
 memory-sides t tree words n None is h = λ a b e. h a b (allm_term-same words (all_terms n (imp_term a b)) (sym is ∙ e))
 memory-sides t tree words n (Some p) is h = (h.0, h.1, is ∙ ap allm_term h.2)
 
-pub closed-none : (t : TableView) (tree : Tree) (o : Option ℕ) → IsResult t (λ b. tree ≡ allm_term b) o → o ≡ None → (a b : Tree) → tree ≡ closed_term
+pub machine-none : (t : TableView) (tree : Tree) (o : Option ℕ) → IsResult t (λ b. tree ≡ allm_term b) o → o ≡ None → (a b : Tree) → tree ≡ machine_term
     (imp_term a b) → ⊥
-unfolding closed_term
-closed-none t tree o h e a b k = memory-none tree 31 (subst (λ z. IsResult t (λ b. tree ≡ allm_term b) z) e h) a b k
+unfolding machine_term
+machine-none t tree o h e a b k = memory-none tree 31 (subst (λ z. IsResult t (λ b. tree ≡ allm_term b) z) e h) a b k
 
-pub closed-sides : (t : TableView) (tree words : Tree) (o : Option Pair) → tree ≡ allm_term words → AreSides (λ a b. all_terms 31 (imp_term a b)) t words o
-    → AreSides (λ a b. closed_term (imp_term a b)) t tree o
-unfolding closed_term
-closed-sides t tree words o is h = memory-sides t tree words 31 o is h
+pub machine-sides : (t : TableView) (tree words : Tree) (o : Option Pair) → tree ≡ allm_term words → AreSides (λ a b. all_terms 31 (imp_term a b)) t words o
+    → AreSides (λ a b. machine_term (imp_term a b)) t tree o
+unfolding machine_term
+machine-sides t tree words o is h = memory-sides t tree words 31 o is h
+
+pub counted-none : (t : TableView) (tree : Tree) (o : Option ℕ) → IsResult t (λ b. tree ≡ all_term b) o → o ≡ None → (a b : Tree)
+    → tree ≡ all_term (machine_term (imp_term a b)) → ⊥
+counted-none t tree o h e a b k = subst (λ z. IsResult t (λ b. tree ≡ all_term b) z) e h (machine_term (imp_term a b)) k
+
+pub counted-sides : (t : TableView) (tree inner : Tree) (o : Option Pair) → tree ≡ all_term inner → AreSides (λ a b. machine_term (imp_term a b)) t inner o
+    → AreSides (λ a b. all_term (machine_term (imp_term a b))) t tree o
+counted-sides t tree inner None is h = λ a b e. h a b (all_term-same inner (machine_term (imp_term a b)) (sym is ∙ e))
+counted-sides t tree inner (Some p) is h = (h.0, h.1, is ∙ ap all_term h.2)
+
+-- the sides of a closed formula, for code with a bound
+pub closed-by : (bound : Option ℕ) (t : TableView) (tree : Tree) (b : Option ℕ) (o : Option Pair) → b ≡ bound
+    → AreSides (λ x y. closed_term b (imp_term x y)) t tree o → AreSides (λ x y. closed_term bound (imp_term x y)) t tree o
+closed-by bound t tree b o e h = subst (λ (z : Option ℕ). AreSides (λ x y. closed_term z (imp_term x y)) t tree o) e h

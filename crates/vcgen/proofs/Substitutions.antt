@@ -4,7 +4,8 @@ use Rattle.std.proofs.lemmas.List.{map-set}
 use Rattle.std.proofs.Math.ListN.{get_or-map}
 use Rattle.formula_tree.specs.Formulas.{Exp, EReg, ELeft, EVar, ELit, EOp, ESel, MemExp, MMem, MVar, MUpd, Form, FTrue, FFalse, FRel, FRd, FWr, FAnd, FOr, FImp, FAll, FAllm, shift_exp, shift_mem}
 use Rattle.formula_tree.specs.Substitution.{Substitution, shift_substitution, subst_exp, subst_mem, subst_form}
-use Rattle.vcgen.specs.Assignments.{regs_from, unchanged, for_reg, for_memory}
+use Rattle.formula_tree.specs.Scope.{VarSort, OfWord, OfMem, IsOverExp, IsOverMem, IsOver}
+use Rattle.vcgen.specs.Assignments.{regs_from, unchanged, for_reg, for_memory, for_left}
 
 -- first s, then t in what s puts
 abbrev pub composition : Substitution → Substitution → Substitution
@@ -112,3 +113,35 @@ subst-for_reg F r e t len =
 
 pub subst-for_memory : (F : Form) (m : MemExp) (t : Substitution) → length t.regs ≡ 31 → subst_form (subst_form F (for_memory m)) t ≡ subst_form F (record t { memory = subst_mem m t })
 subst-for_memory F m t len = subst_form-subst_form F (for_memory m) t ∙ (λ i. subst_form F (record { regs = unchanged-then t len i; memory = subst_mem m t; left = left-then t i }))
+
+pub subst-for_left : (F : Form) (e : Exp) (t : Substitution) → length t.regs ≡ 31 → subst_form (subst_form F (for_left e)) t ≡ subst_form F (record t { left = subst_exp e t })
+subst-for_left F e t len = subst_form-subst_form F (for_left e) t ∙ (λ i. subst_form F (record { regs = unchanged-then t len i; memory = memory-then t i; left = subst_exp e t }))
+
+-- ---- a formula that doesn't name the steps that are left
+
+mutual
+  subst_exp-other : (r : ℕ) (e : Exp) (G : List VarSort) (t : Substitution) (q : Exp) → IsOverExp r e G → subst_exp e (record t { left = q }) ≡ subst_exp e t
+  subst_exp-other r (EReg k) G t q o = refl
+  subst_exp-other r ELeft G t q o = absurd o
+  subst_exp-other r (EVar n) G t q o = refl
+  subst_exp-other r (ELit w) G t q o = refl
+  subst_exp-other r (EOp p a b) G t q o = λ i. EOp p (subst_exp-other r a G t q o.0 i) (subst_exp-other r b G t q o.1 i)
+  subst_exp-other r (ESel m a) G t q o = λ i. ESel (subst_mem-other r m G t q o.0 i) (subst_exp-other r a G t q o.1 i)
+
+  subst_mem-other : (r : ℕ) (m : MemExp) (G : List VarSort) (t : Substitution) (q : Exp) → IsOverMem r m G → subst_mem m (record t { left = q }) ≡ subst_mem m t
+  subst_mem-other r MMem G t q o = refl
+  subst_mem-other r (MVar n) G t q o = refl
+  subst_mem-other r (MUpd m a v) G t q o = λ i. MUpd (subst_mem-other r m G t q o.0 i) (subst_exp-other r a G t q o.1 i) (subst_exp-other r v G t q o.2 i)
+
+-- it is the same whatever is put for these
+pub subst-other : (r : ℕ) (F : Form) (G : List VarSort) (t : Substitution) (q : Exp) → IsOver r F G → subst_form F (record t { left = q }) ≡ subst_form F t
+subst-other r FTrue G t q o = refl
+subst-other r FFalse G t q o = refl
+subst-other r (FRel p a b) G t q o = λ i. FRel p (subst_exp-other r a G t q o.0 i) (subst_exp-other r b G t q o.1 i)
+subst-other r (FRd a) G t q o = ap FRd (subst_exp-other r a G t q o)
+subst-other r (FWr a) G t q o = ap FWr (subst_exp-other r a G t q o)
+subst-other r (FAnd A B) G t q o = λ i. FAnd (subst-other r A G t q o.0 i) (subst-other r B G t q o.1 i)
+subst-other r (FOr A B) G t q o = λ i. FOr (subst-other r A G t q o.0 i) (subst-other r B G t q o.1 i)
+subst-other r (FImp A B) G t q o = λ i. FImp (subst-other r A G t q o.0 i) (subst-other r B G t q o.1 i)
+subst-other r (FAll A) G t q o = ap FAll (subst-other r A (OfWord ∷ G) (shift_substitution 1 t) (shift_exp 1 0 q) o)
+subst-other r (FAllm A) G t q o = ap FAllm (subst-other r A (OfMem ∷ G) (shift_substitution 1 t) (shift_exp 1 0 q) o)

@@ -1,10 +1,11 @@
--- The condition's operators are those of the code, of its formulas, and of addresses and tests.
+-- The condition's operators are those of the code, of its formulas, of addresses and tests, and of
+-- counting.
 use Rattle.std.proofs.Common.{◌≡◌, ℕ, zero, suc, ◌+◌, All, List, [], ◌∷◌, length, slice_get, Option, Some, None, refl, sym, subst, inl, inr, eqb, cond, true, false}
 use Rattle.std.proofs.lemmas.Bool.{cases_Bool}
 use Rattle.std.proofs.lemmas.Option.{same_Some}
 use Rattle.std.proofs.lemmas.List.Elements.{All-head, All-tail}
 use Rattle.word_ops.specs.declared.Op.{Op}
-use Rattle.word_ops.specs.declared.Op.TheVariants.{Add, Band}
+use Rattle.word_ops.specs.declared.Op.TheVariants.{Add, Sub, Band}
 use Rattle.alpha_words.specs.declared.insn.Rhs.{Rhs}
 use Rattle.alpha_words.specs.declared.insn.Rhs.TheVariants.{Reg, Lit}
 use Rattle.alpha_words.specs.declared.insn.Cond.{Cond}
@@ -12,14 +13,14 @@ use Rattle.alpha_words.specs.declared.insn.Cond.TheVariants.{LowClear, Zero, Neg
 use Rattle.alpha_words.specs.declared.insn.Insn.{Insn}
 use Rattle.alpha_words.specs.declared.insn.Insn.TheVariants.{Oper}
 use Rattle.alpha_cfg.specs.Flow.{jump_of, AreOfProfile}
-use Rattle.formula_tree.specs.Formulas.{Exp, EReg, ELit, ESel, MemExp, MMem, MUpd, Form, FFalse, FImp}
+use Rattle.formula_tree.specs.Formulas.{Exp, EReg, ELeft, ELit, EOp, ESel, MemExp, MMem, MUpd, Form, FFalse, FImp}
 use Rattle.formula_tree.specs.Substitution.{subst_form}
 use Rattle.formula_tree.specs.Operators.{UsesExp, UsesMem, Uses}
 use Rattle.formula_tree.proofs.Used.{AllUse, all-set, PutsIn, subst_form-uses}
 use Rattle.lf_encode.specs.Contexts.{machine_names}
 use Rattle.lf_encode.proofs.Named.{named_form-uses}
-use Rattle.vcgen.specs.Assignments.{regs_from, unchanged, for_reg, for_memory}
-use Rattle.vcgen.specs.Conditions.{AnnotatedCode, reg_exp, rhs_exp, address_exp, aligned_exp, taken_if, passed_if, at_target, computed_exp, action_condition, condition_at, invariant_at, or_else, wp_within, wp, body, alls, close, entered, inv_parts, condition}
+use Rattle.vcgen.specs.Assignments.{regs_from, unchanged, for_reg, for_memory, for_left}
+use Rattle.vcgen.specs.Conditions.{AnnotatedCode, reg_exp, rhs_exp, address_exp, aligned_exp, taken_if, passed_if, at_target, computed_exp, action_condition, insn_condition, one_step_less, condition_at, invariant_at, or_else, wp_within, wp, body, alls, close, entered, inv_parts, condition}
 use Rattle.vcgen.proofs.WalkTrees.{subst-names}
 use Rattle.word_ops.specs.declared.Profile.TheVariants.{One}
 use Rattle.alpha_words.specs.Encoding.{has_insn}
@@ -40,8 +41,8 @@ first-operators code one i insn e = go insn (one i insn e)
     go (Oper op ra rhs rc) h = h
     go _ h = tt
 
--- addresses and tests take sums and conjunctions
-module _ (P : Op → Type 0) (sums : P Add) (ands : P Band) where
+-- addresses and tests take sums and conjunctions, counted steps differences
+module _ (P : Op → Type 0) (sums : P Add) (ands : P Band) (subs : P Sub) where
   uses-reg : (r : ℕ) → UsesExp P (reg_exp r)
   uses-reg r = elim (eqb r 31) as (λ b. UsesExp P (cond b (ELit 0) (EReg r))) [ true ↦ tt | false ↦ tt ]
 
@@ -86,6 +87,9 @@ module _ (P : Op → Type 0) (sums : P Add) (ands : P Band) where
   uses-stored : (F : Form) (m : MemExp) → Uses P F → UsesMem P m → Uses P (subst_form F (for_memory m))
   uses-stored F m h u = subst_form-uses P F (for_memory m) h (record { regs = puts-unchanged.regs; memory = u; left = puts-unchanged.left })
 
+  uses-counted : (F : Form) (e : Exp) → Uses P F → UsesExp P e → Uses P (subst_form F (for_left e))
+  uses-counted F e h u = subst_form-uses P F (for_left e) h (record { regs = puts-unchanged.regs; memory = puts-unchanged.memory; left = u })
+
   -- ---- what has to hold
 
   uses-target : (next : ℕ → Form) (o : Option ℕ) → ((j : ℕ) → Uses P (next j)) → Uses P (at_target next o)
@@ -112,10 +116,19 @@ module _ (P : Op → Type 0) (sums : P Add) (ands : P Band) where
       ((uses-taken c (reg_exp reg) (uses-reg reg), uses-target next jump h), (uses-passed c (reg_exp reg) (uses-reg reg), h (i + 1)))
   uses-action next post i jump actions.Return o h p = p
 
-  uses-at : (next : ℕ → Form) (post : Form) (i : ℕ) (found : Option Insn) → ((insn : Insn) → found ≡ Some insn → HasOperator P (action_of insn)) → ((j : ℕ) → Uses P (next j)) → Uses P post →
-      Uses P (condition_at None next post i found)
-  uses-at next post i None o h p = tt
-  uses-at next post i (Some insn) o h p = uses-action next post i (jump_of i insn) (action_of insn) (o insn refl) h p
+  uses-insn : (next : ℕ → Form) (post : Form) (i : ℕ) (insn : Insn) → HasOperator P (action_of insn)
+      → ((j : ℕ) → Uses P (next j)) → Uses P post → Uses P (insn_condition next post i insn)
+  uses-insn next post i insn o h p = uses-action next post i (jump_of i insn) (action_of insn) o h p
+
+  uses-at : (bound : Option ℕ) (next : ℕ → Form) (post : Form) (i : ℕ) (found : Option Insn) → ((insn : Insn) → found ≡ Some insn → HasOperator P (action_of insn)) → ((j : ℕ) → Uses P (next j)) → Uses P post →
+      Uses P (condition_at bound next post i found)
+  uses-at bound next post i None o h p = tt
+  uses-at None next post i (Some insn) o h p = uses-insn next post i insn (o insn refl) h p
+  uses-at (Some bound) next post i (Some insn) o h p = (
+    (tt, tt),
+    uses-insn (λ j. one_step_less (next j)) post i insn (o insn refl)
+        (λ j. uses-counted (next j) (EOp Sub ELeft (ELit 1)) (h j) (subs, tt, tt)) p,
+  )
 
   uses-else : (o : Option Form) (F : Form) → ((I : Form) → o ≡ Some I → Uses P I) → Uses P F → Uses P (or_else o F)
   uses-else None F k h = h
@@ -135,16 +148,26 @@ module _ (P : Op → Type 0) (sums : P Add) (ands : P Band) where
   uses-alls zero F h = h
   uses-alls (suc n) F h = uses-alls n F h
 
-  uses-close : (F : Form) → Uses P F → Uses P (close None F)
-  uses-close F h = uses-alls 31 (subst_form F machine_names) (subst (λ E. Uses P E) (sym (subst-names F)) (named_form-uses P 0 F h))
+  uses-close : (bound : Option ℕ) (F : Form) → Uses P F → Uses P (close bound F)
+  uses-close bound F h = go bound
+    where
+      named : Uses P (subst_form F machine_names)
+      named = subst (λ E. Uses P E) (sym (subst-names F)) (named_form-uses P 0 F h)
+
+      go : (b : Option ℕ) → Uses P (close b F)
+      go None = uses-alls 31 (subst_form F machine_names) named
+      go (Some n) = uses-alls 31 (subst_form F machine_names) named
+
+  uses-entered : (bound : Option ℕ) (F : Form) → Uses P F → Uses P (entered bound F)
+  uses-entered None F h = h
+  uses-entered (Some bound) F h = uses-counted F (ELit bound) h tt
 
   -- ---- the condition
 
-  module _ (c : AnnotatedCode) (code : (i : ℕ) (insn : Insn) → slice_get c.code i ≡ Some insn → HasOperator P (action_of insn)) (uncounted : c.bound ≡ None)
+  module _ (c : AnnotatedCode) (code : (i : ℕ) (insn : Insn) → slice_get c.code i ≡ Some insn → HasOperator P (action_of insn))
       (pre : Uses P c.pre) (post : Uses P c.post) (invs : All (λ p. Uses P p.1) c.invs) where
     uses-index : (next : ℕ → Form) (i : ℕ) → ((j : ℕ) → Uses P (next j)) → Uses P (condition_at c.bound next c.post i (slice_get c.code i))
-    uses-index next i h =
-        subst (λ b. Uses P (condition_at b next c.post i (slice_get c.code i))) (sym uncounted) (uses-at next c.post i (slice_get c.code i) (code i) h post)
+    uses-index next i h = uses-at c.bound next c.post i (slice_get c.code i) (code i) h post
 
     uses-wp_within : (n i : ℕ) → Uses P (wp_within c n i)
     uses-wp_within zero i = uses-else (invariant_at c.invs i) FFalse (uses-inv c.invs invs i) tt
@@ -154,18 +177,16 @@ module _ (P : Op → Type 0) (sums : P Add) (ands : P Band) where
     uses-body : (i : ℕ) → Uses P (body c i)
     uses-body i = uses-index (wp c) i (uses-wp_within (length c.code))
 
-    uses-closed : (F : Form) → Uses P F → Uses P (close c.bound F)
-    uses-closed F h = subst (λ b. Uses P (close b F)) (sym uncounted) (uses-close F h)
-
     uses-parts : (ps : List (ℕ × Form)) → All (λ p. Uses P p.1) ps → Uses P (inv_parts c ps)
     uses-parts [] h = tt
     uses-parts (p ∷ ps) h = (
-      uses-closed (FImp p.1 (body c p.0)) (All-head (λ (q : ℕ × Form). Uses P q.1) p ps h, uses-body p.0),
+      uses-close c.bound (FImp p.1 (body c p.0)) (All-head (λ (q : ℕ × Form). Uses P q.1) p ps h, uses-body p.0),
       uses-parts ps (All-tail (λ (q : ℕ × Form). Uses P q.1) p ps h),
     )
 
-    uses-entered : Uses P (entered c.bound (wp c 0))
-    uses-entered = subst (λ b. Uses P (entered b (wp c 0))) (sym uncounted) (uses-wp_within (length c.code) 0)
-
     pub condition-uses : Uses P (condition c)
-    condition-uses = (uses-closed (FImp c.pre (entered c.bound (wp c 0))) (pre, uses-entered), uses-parts c.invs invs)
+    condition-uses = (
+      uses-close c.bound (FImp c.pre (entered c.bound (wp c 0)))
+          (pre, uses-entered c.bound (wp c 0) (uses-wp_within (length c.code) 0)),
+      uses-parts c.invs invs,
+    )

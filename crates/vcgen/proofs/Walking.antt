@@ -1,24 +1,26 @@
 -- What a walk goes by, as the table grows.
-use Rattle.std.proofs.Common.{◌≡◌, ℕ, zero, suc, ◌+◌, ◌-◌, ◌<◌, ◌^◌, List, [], ◌∷◌, Option, Some, None, option_map, slice_get, refl, sym, ◌∙◌, ap, subst, arith, eqb, inl, inr}
+use Rattle.std.proofs.Common.{◌≡◌, ℕ, zero, suc, ◌+◌, ◌-◌, ◌<◌, ◌^◌, List, [], ◌∷◌, length, Option, Some, None, option_map, slice_get, refl, sym, ◌∙◌, ap, subst, arith, eqb, inl, inr}
 use Rattle.std.proofs.lemmas.Bool.{cases_Bool}
 use Rattle.term_table.proofs.Options.{some_injective}
-use Rattle.lf_signature.specs.Terms.{falsity}
+use Rattle.word_ops.specs.declared.Rel.TheVariants.{Ult}
+use Rattle.lf_signature.specs.Terms.{falsity, lit, rel_term, and_term}
 use Rattle.alpha_words.specs.declared.insn.Insn.{Insn}
 use Rattle.term_table.specs.Tree.{Tree}
 use Rattle.term_table.specs.Measures.{height_of}
 use Rattle.term_table.specs.Table.{TableView, IsKnown, tree_at, Extends, id_trees}
 use Rattle.hereditary_subst.specs.declared.kept.Memo.{Memo}
 use Rattle.hereditary_subst.proofs.Rows.{memo-more}
+use Rattle.lf_encode.specs.declared.puts.MachineIds.{MachineIds}
 use Rattle.lf_encode.specs.declared.puts.PutMemo.{PutMemo}
 use Rattle.lf_encode.specs.PutTree.{MachineTerms, machine_terms_at, put_tree}
 use Rattle.lf_encode.specs.Kept.{AreMachineTerms}
 use Rattle.lf_encode.proofs.KeptRows.{ready-more, ready-same, kept-ready}
 use Rattle.vcgen.specs.declared.symbols.Symbols.{Symbols}
 use Rattle.vcgen.specs.declared.comparisons.Comparisons.{Comparisons}
-use Rattle.vcgen.specs.Inside.WalkTree.{with_reg, with_memory, InsnEffect, Computed, Access, Split, Jump, Return, insn_effect, walked_on, walked, walked_at, ended}
+use Rattle.vcgen.specs.Inside.WalkTree.{with_reg, with_memory, with_left, one_less, InsnEffect, Computed, Access, Split, Jump, Return, insn_effect, walked_on, walked, walked_at, ended}
 use Rattle.vcgen.proofs.Lacking.{uses-more}
 use Rattle.vcgen.proofs.MachineRegs.{inv_term-is}
-use Rattle.vcgen.specs.Inside.Symbols.{inv_id, AreInvs, IsProgram, IsWalking, AreComparisons, IsComparing, StandFor, IsEffect}
+use Rattle.vcgen.specs.Inside.Symbols.{ids_of, inv_id, AreInvs, IsProgram, IsWalking, AreComparisons, IsComparing, StandFor, IsEffect}
 use Rattle.vcgen.specs.declared.effects.Effect.TheVariants as E
 use Rattle.lf_signature.specs.Nodes.{IsIdOf}
 
@@ -34,31 +36,31 @@ program-more t u insns ids at_end h e = record {
   low = subst (λ z. height_of z < 2 ^ 31) (sym (e.same at_end h.post)) h.low;
 }
 
-pub walking-more : (t u : TableView) (insns : List Insn) (ids : List (ℕ × ℕ)) (at_end : ℕ) (registers : List ℕ) (m : ℕ) (memo : Memo) (puts : PutMemo) →
-    IsWalking t insns ids at_end registers m memo puts → Extends t u → IsWalking u insns ids at_end registers m memo puts
-walking-more t u insns ids at_end registers m memo puts h e = record {
+pub walking-more : (t u : TableView) (insns : List Insn) (ids : List (ℕ × ℕ)) (at_end : ℕ) (machine : MachineIds) (memo : Memo) (puts : PutMemo) →
+    IsWalking t insns ids at_end machine memo puts → Extends t u → IsWalking u insns ids at_end machine memo puts
+walking-more t u insns ids at_end machine memo puts h e = record {
   program = program-more t u insns ids at_end h.program e;
-  ready = ready-more t u registers m h.ready e;
+  ready = ready-more t u machine h.ready e;
   shifts = memo-more memo t u h.shifts e;
-  kept = kept-ready puts t u registers m h.kept h.ready e;
+  kept = kept-ready puts t u machine h.kept h.ready e;
 }
 
-pub comparisons-more : (c : Comparisons) (t u : TableView) (registers : List ℕ) (m : ℕ) → AreComparisons t registers m c → AreMachineTerms t registers m → Extends t u →
-    AreComparisons u registers m c
-comparisons-more c t u registers m h r e = record {
-  puts = kept-ready c.puts t u registers m h.puts r e;
-  ready = ready-more t u c.earlier.regs c.earlier.memory h.ready e;
-  before = kept-ready c.before t u c.earlier.regs c.earlier.memory h.before h.ready e;
+pub comparisons-more : (c : Comparisons) (t u : TableView) (machine : MachineIds) → AreComparisons t machine c → AreMachineTerms t machine → Extends t u →
+    AreComparisons u machine c
+comparisons-more c t u machine h r e = record {
+  puts = kept-ready c.puts t u machine h.puts r e;
+  ready = ready-more t u (ids_of c.earlier) h.ready e;
+  before = kept-ready c.before t u (ids_of c.earlier) h.before h.ready e;
   uses = uses-more c.uses t u h.uses e;
 }
 
-pub comparing-more : (t u : TableView) (insns : List Insn) (ids : List (ℕ × ℕ)) (at_end : ℕ) (registers : List ℕ) (m : ℕ) (memo : Memo) (c : Comparisons) →
-    IsComparing t insns ids at_end registers m memo c → Extends t u → IsComparing u insns ids at_end registers m memo c
-comparing-more t u insns ids at_end registers m memo c h e = record {
+pub comparing-more : (t u : TableView) (insns : List Insn) (ids : List (ℕ × ℕ)) (at_end : ℕ) (machine : MachineIds) (memo : Memo) (c : Comparisons) →
+    IsComparing t insns ids at_end machine memo c → Extends t u → IsComparing u insns ids at_end machine memo c
+comparing-more t u insns ids at_end machine memo c h e = record {
   program = program-more t u insns ids at_end h.program e;
-  ready = ready-more t u registers m h.ready e;
+  ready = ready-more t u machine h.ready e;
   shifts = memo-more memo t u h.shifts e;
-  kept = comparisons-more c t u registers m h.kept h.ready e;
+  kept = comparisons-more c t u machine h.kept h.ready e;
 }
 
 -- ---- the terms stay
@@ -70,18 +72,25 @@ invs-same t u (p ∷ ids) h e = λ i. (p.0, e.same p.1 h.0 i) ∷ invs-same t u 
 -- ---- what an effect goes on with
 
 -- terms with another one for a register, made at a later table
-pub reg-after : (t u : TableView) (s after : Symbols) (r id : ℕ) (tree : Tree) → AreMachineTerms t s.regs s.memory → Extends t u → tree_at u id ≡ tree → AreMachineTerms u after.regs after.memory →
-    machine_terms_at u after.regs after.memory ≡ with_reg (machine_terms_at u s.regs s.memory) r (tree_at u id) → StandFor u after (with_reg (machine_terms_at t s.regs s.memory) r tree)
+pub reg-after : (t u : TableView) (s after : Symbols) (r id : ℕ) (tree : Tree) → AreMachineTerms t (ids_of s) → Extends t u → tree_at u id ≡ tree → AreMachineTerms u (ids_of after) →
+    machine_terms_at u (ids_of after) ≡ with_reg (machine_terms_at u (ids_of s)) r (tree_at u id) → StandFor u after (with_reg (machine_terms_at t (ids_of s)) r tree)
 reg-after t u s after r id tree h e is ready are = record {
   ready = ready;
-  are = are ∙ (λ i. with_reg (ready-same t u s.regs s.memory h e i) r (is i));
+  are = are ∙ (λ i. with_reg (ready-same t u (ids_of s) h e i) r (is i));
 }
 
-pub memory-after : (t u : TableView) (s after : Symbols) (id : ℕ) (tree : Tree) → AreMachineTerms t s.regs s.memory → Extends t u → tree_at u id ≡ tree → AreMachineTerms u after.regs after.memory →
-    machine_terms_at u after.regs after.memory ≡ with_memory (machine_terms_at u s.regs s.memory) (tree_at u id) → StandFor u after (with_memory (machine_terms_at t s.regs s.memory) tree)
+pub memory-after : (t u : TableView) (s after : Symbols) (id : ℕ) (tree : Tree) → AreMachineTerms t (ids_of s) → Extends t u → tree_at u id ≡ tree → AreMachineTerms u (ids_of after) →
+    machine_terms_at u (ids_of after) ≡ with_memory (machine_terms_at u (ids_of s)) (tree_at u id) → StandFor u after (with_memory (machine_terms_at t (ids_of s)) tree)
 memory-after t u s after id tree h e is ready are = record {
   ready = ready;
-  are = are ∙ (λ i. with_memory (ready-same t u s.regs s.memory h e i) (is i));
+  are = are ∙ (λ i. with_memory (ready-same t u (ids_of s) h e i) (is i));
+}
+
+pub left-after : (t u : TableView) (s after : Symbols) (id : ℕ) (tree : Tree) → AreMachineTerms t (ids_of s) → Extends t u → tree_at u id ≡ tree → AreMachineTerms u (ids_of after) →
+    machine_terms_at u (ids_of after) ≡ with_left (machine_terms_at u (ids_of s)) (tree_at u id) → StandFor u after (with_left (machine_terms_at t (ids_of s)) tree)
+left-after t u s after id tree h e is ready are = record {
+  ready = ready;
+  are = are ∙ (λ i. with_left (ready-same t u (ids_of s) h e i) (is i));
 }
 
 -- ---- one turn of the walk
@@ -97,29 +106,35 @@ inv-found t (p ∷ ids) i inv h q =
 pub inv-known : (t : TableView) (ids : List (ℕ × ℕ)) (i inv : ℕ) (r : Option ℕ) → AreInvs t ids → r ≡ inv_id ids i → r ≡ Some inv → IsKnown t inv × (height_of (tree_at t inv) < 2 ^ 31)
 inv-known t ids i inv r h e q = inv-found t ids i inv h (sym e ∙ q)
 
-module _ (t : TableView) (insns : List Insn) (ids : List (ℕ × ℕ)) (post : Tree) (i : ℕ) (s : MachineTerms) where
+module _ (bound : Option ℕ) (t : TableView) (insns : List Insn) (ids : List (ℕ × ℕ)) (post : Tree) (i : ℕ) (s : MachineTerms) where
   -- the term of the walk
   abbrev walk : ℕ → Tree
-  walk n = walked insns (id_trees t ids) post n i s
+  walk n = walked bound insns (id_trees t ids) post n i s
 
   pub walk-ended : (n inv : ℕ) (r : Option ℕ) → r ≡ inv_id ids i → r ≡ Some inv → walk n ≡ put_tree s 0 (tree_at t inv)
   walk-ended zero inv r e q = ap (λ o. ended o falsity s) (inv_term-is t ids i ∙ ap (option_map (λ id. tree_at t id)) (sym e ∙ q))
-  walk-ended (suc n) inv r e q = ap (λ o. ended o (walked_at (walked insns (id_trees t ids) post n) post i (slice_get insns i) s) s) (inv_term-is t ids i ∙ ap (option_map (λ id. tree_at t id)) (sym e ∙ q))
+  walk-ended (suc n) inv r e q = ap (λ o. ended o (walked_at bound (walked bound insns (id_trees t ids) post n) post i (slice_get insns i) s) s) (inv_term-is t ids i ∙ ap (option_map (λ id. tree_at t id)) (sym e ∙ q))
 
   pub walk-spent : (n : ℕ) (r : Option ℕ) → n ≡ 0 → r ≡ inv_id ids i → r ≡ None → walk n ≡ falsity
   walk-spent n r z e q = ap walk z ∙ ap (λ o. ended o falsity s) (inv_term-is t ids i ∙ ap (option_map (λ id. tree_at t id)) (sym e ∙ q))
 
-  pub walk-on : (n : ℕ) (r : Option ℕ) → 0 < n → r ≡ inv_id ids i → r ≡ None → walk n ≡ walked_at (walked insns (id_trees t ids) post (n - 1)) post i (slice_get insns i) s
+  pub walk-on : (n : ℕ) (r : Option ℕ) → 0 < n → r ≡ inv_id ids i → r ≡ None → walk n ≡ walked_at bound (walked bound insns (id_trees t ids) post (n - 1)) post i (slice_get insns i) s
   walk-on zero r p e q = absurd (omega (arith, p))
   walk-on (suc n) r p e q =
       let less : suc n - 1 ≡ n = omega arith in
-      ap (λ o. ended o (walked_at (walked insns (id_trees t ids) post n) post i (slice_get insns i) s) s) (inv_term-is t ids i ∙ ap (option_map (λ id. tree_at t id)) (sym e ∙ q))
-      ∙ sym (ap (λ k. walked_at (walked insns (id_trees t ids) post k) post i (slice_get insns i) s) less)
+      ap (λ o. ended o (walked_at bound (walked bound insns (id_trees t ids) post n) post i (slice_get insns i) s) s) (inv_term-is t ids i ∙ ap (option_map (λ id. tree_at t id)) (sym e ∙ q))
+      ∙ sym (ap (λ k. walked_at bound (walked bound insns (id_trees t ids) post k) post i (slice_get insns i) s) less)
 
 -- a walk by a later table's ids is the one by an earlier table's
-pub walk-same : (t u : TableView) (insns : List Insn) (ids : List (ℕ × ℕ)) (at_end n i : ℕ) (s z : MachineTerms) → IsProgram t insns ids at_end → Extends t u → s ≡ z →
-    walked insns (id_trees u ids) (tree_at u at_end) n i s ≡ walked insns (id_trees t ids) (tree_at t at_end) n i z
-walk-same t u insns ids at_end n i s z h e q k = walked insns (invs-same t u ids h.invs e k) (e.same at_end h.post k) n i (q k)
+pub walk-same : (bound : Option ℕ) (t u : TableView) (insns : List Insn) (ids : List (ℕ × ℕ)) (at_end n i : ℕ) (s z : MachineTerms) → IsProgram t insns ids at_end → Extends t u → s ≡ z →
+    walked bound insns (id_trees u ids) (tree_at u at_end) n i s ≡ walked bound insns (id_trees t ids) (tree_at t at_end) n i z
+walk-same bound t u insns ids at_end n i s z h e q k = walked bound insns (invs-same t u ids h.invs e k) (e.same at_end h.post k) n i (q k)
+
+-- the same of the walk from an instruction whose step isn't counted
+pub walked_at-same : (bound : Option ℕ) (t u : TableView) (insns : List Insn) (ids : List (ℕ × ℕ)) (at_end n i : ℕ) (o : Option Insn) (s z : MachineTerms) → IsProgram t insns ids at_end → Extends t u → s ≡ z →
+    walked_at None (walked bound insns (id_trees u ids) (tree_at u at_end) n) (tree_at u at_end) i o s ≡ walked_at None (walked bound insns (id_trees t ids) (tree_at t at_end) n) (tree_at t at_end) i o z
+walked_at-same bound t u insns ids at_end n i o s z h e q k =
+    walked_at None (walked bound insns (invs-same t u ids h.invs e k) (e.same at_end h.post k) n) (e.same at_end h.post k) i o (q k)
 
 -- ---- what an effect says
 
@@ -159,7 +174,27 @@ at-return u count i (Jump to) h = absurd h
 at-return u count i Return h = refl
 
 -- the walk from an instruction, by its effect
-pub walked_at-effect : (next : ℕ → MachineTerms → Tree) (post : Tree) (i : ℕ) (o : Option Insn) (insn : Insn) (s : MachineTerms) (e : InsnEffect) → o ≡ Some insn → insn_effect i insn s ≡ e → walked_at next post i o s ≡ walked_on next post i s e
-walked_at-effect next post i o insn s e at is = ap (λ x. walked_at next post i x s) at ∙ ap (walked_on next post i s) is
+pub walked_at-effect : (next : ℕ → MachineTerms → Tree) (post : Tree) (i : ℕ) (o : Option Insn) (insn : Insn) (s : MachineTerms) (e : InsnEffect) → o ≡ Some insn → insn_effect i insn s ≡ e → walked_at None next post i o s ≡ walked_on next post i s e
+walked_at-effect next post i o insn s e at is = ap (λ x. walked_at None next post i x s) at ∙ ap (walked_on next post i s) is
+
+-- ---- counted steps
+
+insn-at : (insns : List Insn) (i : ℕ) → i < length insns → (insn : Insn) × (slice_get insns i ≡ Some insn)
+insn-at [] i h = absurd (omega (arith, h))
+insn-at (insn ∷ insns) zero h = (insn, refl)
+insn-at (insn ∷ insns) (suc i) h = insn-at insns i (omega (arith, h))
+
+-- the walk from an instruction whose step isn't counted, and from one whose step is
+pub walked_at-uncounted : (bound : Option ℕ) (next : ℕ → MachineTerms → Tree) (post : Tree) (i : ℕ) (o : Option Insn) (s : MachineTerms) → bound ≡ None
+    → walked_at None next post i o s ≡ walked_at bound next post i o s
+walked_at-uncounted bound next post i o s e = ap (λ (b : Option ℕ). walked_at b next post i o s) (sym e)
+
+pub walked_at-counted : (bound : Option ℕ) (n : ℕ) (next : ℕ → MachineTerms → Tree) (post : Tree) (insns : List Insn) (i : ℕ) (s : MachineTerms) → i < length insns → bound ≡ Some n
+    → and_term (rel_term Ult (lit 0) s.left) (walked_at None next post i (slice_get insns i) (one_less s))
+    ≡ walked_at bound next post i (slice_get insns i) s
+walked_at-counted bound n next post insns i s h e =
+    let there = insn-at insns i h in
+    ap (λ o. and_term (rel_term Ult (lit 0) s.left) (walked_at None next post i o (one_less s))) there.1
+    ∙ sym (λ k. walked_at (e k) next post i (there.1 k) s)
 
 pub ruleset memos = (memo-more)

@@ -1,5 +1,5 @@
 -- What `vc` and `is_condition_with` answer.
-use Rattle.std.specs.Prelude.{◌≡◌, ◌↔◌, ℕ, ◌<◌, ◌≤◌, List, [], ◌∷◌, Bool, IsTrue, Result, Ok, Err}
+use Rattle.std.specs.Prelude.{◌≡◌, ◌↔◌, ℕ, ◌<◌, ◌≤◌, List, [], ◌∷◌, Bool, IsTrue, Option, Result, Ok, Err}
 use Rattle.alpha_cfg.specs.Cuts.{CutView, unfolded_of}
 use Rattle.alpha_cfg.specs.Graph.{as_u32}
 use Rattle.policy_set.specs.Views.{PolicyView}
@@ -24,17 +24,17 @@ shortage_of exhausted.Memory = Memory
 shortage_of exhausted.Results = Results
 
 -- The condition's encoding where the unfolded length is within its limit, which is tested before any memory is taken; else that length.
-abbrev pub IsVcAnswer : PolicyView → CutView → List (ℕ × Tree) → TableView → Result ℕ VcFault
+abbrev pub IsVcAnswer : PolicyView → Option ℕ → CutView → List (ℕ × Tree) → TableView → Result ℕ VcFault
     → Type 0
-IsVcAnswer policy cut invs t (Ok id) = (unfolded_of cut.code cut.marks ≤ MAX_UNFOLDED) × IsKnown t id × EncodesCondition policy cut.code invs (tree_at t id)
-IsVcAnswer policy cut invs t (Err (UnfoldLimit n)) = (MAX_UNFOLDED < unfolded_of cut.code cut.marks) × (n ≡ as_u32 (unfolded_of cut.code cut.marks))
-IsVcAnswer policy cut invs t (Err Memory) = unfolded_of cut.code cut.marks ≤ MAX_UNFOLDED
-IsVcAnswer policy cut invs t (Err Results) = unfolded_of cut.code cut.marks ≤ MAX_UNFOLDED
+IsVcAnswer policy bound cut invs t (Ok id) = (unfolded_of cut.code cut.marks ≤ MAX_UNFOLDED) × IsKnown t id × EncodesCondition policy bound cut.code invs (tree_at t id)
+IsVcAnswer policy bound cut invs t (Err (UnfoldLimit n)) = (MAX_UNFOLDED < unfolded_of cut.code cut.marks) × (n ≡ as_u32 (unfolded_of cut.code cut.marks))
+IsVcAnswer policy bound cut invs t (Err Memory) = unfolded_of cut.code cut.marks ≤ MAX_UNFOLDED
+IsVcAnswer policy bound cut invs t (Err Results) = unfolded_of cut.code cut.marks ≤ MAX_UNFOLDED
 
 -- Whether the formula is the condition's encoding where the unfolded length is within its limit, which is tested first; else that length.
-abbrev pub IsConditionAnswer : PolicyView → CutView → List (ℕ × Tree) → Tree → Result Bool VcFault
+abbrev pub IsConditionAnswer : PolicyView → Option ℕ → CutView → List (ℕ × Tree) → Tree → Result Bool VcFault
     → Type 0
-IsConditionAnswer policy cut invs formula (Ok b) = (unfolded_of cut.code cut.marks ≤ MAX_UNFOLDED) × (IsTrue b ↔ EncodesCondition policy cut.code invs formula)
-IsConditionAnswer policy cut invs formula (Err (UnfoldLimit n)) = (MAX_UNFOLDED < unfolded_of cut.code cut.marks) × (n ≡ as_u32 (unfolded_of cut.code cut.marks))
-IsConditionAnswer policy cut invs formula (Err Memory) = unfolded_of cut.code cut.marks ≤ MAX_UNFOLDED
-IsConditionAnswer policy cut invs formula (Err Results) = unfolded_of cut.code cut.marks ≤ MAX_UNFOLDED
+IsConditionAnswer policy bound cut invs formula (Ok b) = (unfolded_of cut.code cut.marks ≤ MAX_UNFOLDED) × (IsTrue b ↔ EncodesCondition policy bound cut.code invs formula)
+IsConditionAnswer policy bound cut invs formula (Err (UnfoldLimit n)) = (MAX_UNFOLDED < unfolded_of cut.code cut.marks) × (n ≡ as_u32 (unfolded_of cut.code cut.marks))
+IsConditionAnswer policy bound cut invs formula (Err Memory) = unfolded_of cut.code cut.marks ≤ MAX_UNFOLDED
+IsConditionAnswer policy bound cut invs formula (Err Results) = unfolded_of cut.code cut.marks ≤ MAX_UNFOLDED

@@ -8,4 +8,5 @@ pub mod Encoded
 pub mod Answers
 pub mod Laws
 pub mod Worked
+pub mod WorkedCounted
 pub mod Inside

@@ -9,12 +9,12 @@ ghost use Rattle.term_table.specs.Measures.{height_of};
 ghost use Rattle.hereditary_subst.specs.Kept.{IsMemo};
 ghost use Rattle.lf_encode.specs.PutTree.{machine_terms_at, put_tree};
 ghost use Rattle.lf_encode.specs.Kept.{AreMachineTerms};
-ghost use Rattle.vcgen.specs.Inside.Symbols.{AreComparisons};
+ghost use Rattle.vcgen.specs.Inside.Symbols.{ids_of, AreComparisons};
 
 use crate::symbols::Symbols;
 use crate::uses::{Uses, stays};
 use hereditary_subst::{Exhausted, Memo};
-use lf_encode::{PutMemo, is_put_with};
+use lf_encode::{MachineIds, PutMemo, is_put_with};
 use std::mem;
 use term_table::{Id, Table};
 
@@ -33,8 +33,8 @@ pub(crate) struct Comparisons {
 impl Comparisons {
     /// No results yet.
     pub(crate) fn new(table: &Table, symbols: &Symbols) -> Comparisons
-        requires { AreMachineTerms table.now symbols.now.regs symbols.now.memory }
-        ensures { AreComparisons table.now symbols.now.regs symbols.now.memory result }
+        requires { AreMachineTerms table.now (ids_of symbols.now) }
+        ensures { AreComparisons table.now (ids_of symbols.now) result }
     {
         let alloc = table.allocator();
         Comparisons {
@@ -49,10 +49,10 @@ impl Comparisons {
     /// What is kept for a walk with the terms of `after`: the results of before, where these are
     /// theirs. They go along with that walk.
     pub(crate) fn inner(&mut self, table: &Table, symbols: &Symbols, after: &Symbols) -> Comparisons
-        requires kept { AreComparisons table.now symbols.now.regs symbols.now.memory self.old }
-        requires after { AreMachineTerms table.now after.now.regs after.now.memory }
-        ensures inner { AreComparisons table.now after.now.regs after.now.memory result }
-        ensures kept { AreComparisons table.now symbols.now.regs symbols.now.memory self.new }
+        requires kept { AreComparisons table.now (ids_of symbols.now) self.old }
+        requires after { AreMachineTerms table.now (ids_of after.now) }
+        ensures inner { AreComparisons table.now (ids_of after.now) result }
+        ensures kept { AreComparisons table.now (ids_of symbols.now) self.new }
     {
         let _ = symbols; // only the clauses speak of it
         let alloc = table.allocator();
@@ -84,10 +84,10 @@ impl Comparisons {
         after: &Symbols,
         inner: Comparisons,
     )
-        requires kept { AreComparisons table.now symbols.now.regs symbols.now.memory self.old }
-        requires after { AreMachineTerms table.now after.now.regs after.now.memory }
-        requires inner { AreComparisons table.now after.now.regs after.now.memory inner }
-        ensures { AreComparisons table.now symbols.now.regs symbols.now.memory self.new }
+        requires kept { AreComparisons table.now (ids_of symbols.now) self.old }
+        requires after { AreMachineTerms table.now (ids_of after.now) }
+        requires inner { AreComparisons table.now (ids_of after.now) inner }
+        ensures { AreComparisons table.now (ids_of symbols.now) self.new }
     {
         let _ = table; // only the clauses speak of it
         let _ = symbols; // only the clauses speak of it
@@ -114,15 +114,15 @@ fn is_left_alone(
 ) -> Result<bool, Exhausted>
     requires known { IsKnown table.now id }
     requires goal { IsKnown table.now goal }
-    requires ready { AreMachineTerms table.now symbols.now.regs symbols.now.memory }
+    requires ready { AreMachineTerms table.now (ids_of symbols.now) }
     requires shifts { IsMemo table.now shifts.old }
-    requires kept { AreComparisons table.now symbols.now.regs symbols.now.memory kept.old }
+    requires kept { AreComparisons table.now (ids_of symbols.now) kept.old }
     ensures exact { let t = table.now in
-        let terms = machine_terms_at t symbols.now.regs symbols.now.memory in
+        let terms = machine_terms_at t (ids_of symbols.now) in
         let put = put_tree terms 0 (tree_at t id) in
         IfOk result (λ b. IsTrue b → tree_at t goal ≡ put) }
     ensures shifts { IsMemo table.now shifts.new }
-    ensures kept { AreComparisons table.now symbols.now.regs symbols.now.memory kept.new }
+    ensures kept { AreComparisons table.now (ids_of symbols.now) kept.new }
 {
     if !table.same(goal, id) {
         return Ok(false);
@@ -141,29 +141,26 @@ pub(crate) fn is_put_by(
 ) -> Result<bool, Exhausted>
     requires known { IsKnown table.old id }
     requires goal { IsKnown table.old goal }
-    requires ready { AreMachineTerms table.old symbols.now.regs symbols.now.memory }
+    requires ready { AreMachineTerms table.old (ids_of symbols.now) }
     requires low { height_of (tree_at table.old id) < 2 ^ 31 }
     requires shifts { IsMemo table.old shifts.old }
-    requires kept { AreComparisons table.old symbols.now.regs symbols.now.memory kept.old }
+    requires kept { AreComparisons table.old (ids_of symbols.now) kept.old }
     ensures exact { let t = table.old in
-        let terms = machine_terms_at t symbols.now.regs symbols.now.memory in
+        let terms = machine_terms_at t (ids_of symbols.now) in
         let put = put_tree terms 0 (tree_at t id) in
         IfOk result (λ b. IsTrue b ↔ (tree_at t goal ≡ put)) }
     ensures extends { Extends table.old table.new }
     ensures shifts { IsMemo table.new shifts.new }
-    ensures kept { AreComparisons table.new symbols.now.regs symbols.now.memory kept.new }
+    ensures kept { AreComparisons table.new (ids_of symbols.now) kept.new }
 {
     if is_left_alone(table, shifts, kept, id, symbols, goal)? {
         return Ok(true);
     }
     kept.compared = true;
-    is_put_with(
-        table,
-        shifts,
-        &mut kept.puts,
-        id,
-        &symbols.regs,
-        symbols.memory,
-        goal,
-    )
+    let ids = MachineIds {
+        regs: symbols.regs,
+        memory: symbols.memory,
+        left: symbols.left,
+    };
+    is_put_with(table, shifts, &mut kept.puts, id, &ids, goal)
 }

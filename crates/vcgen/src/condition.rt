@@ -11,13 +11,14 @@ ghost use Rattle.lf_encode.specs.Contexts.{machine_context, encoding_in};
 ghost use Rattle.lf_signature.specs.declared.WordSignature.TheVariants.{Sigma3};
 ghost use Rattle.vcgen.specs.Encoded.{AreForms};
 ghost use Rattle.vcgen.specs.Answers.{IsVcAnswer, AreLowInvs};
-ghost use Rattle.vcgen.specs.Inside.WalkTree.{start_terms, all_terms, closed_term};
+ghost use Rattle.vcgen.specs.Inside.WalkTree.{start_terms, all_terms};
+ghost use Rattle.vcgen.specs.Inside.WalkTree.{machine_term, closed_term};
 ghost use Rattle.vcgen.specs.Inside.WalkTree.{part_terms, condition_term};
-ghost use Rattle.vcgen.specs.Inside.Symbols.{IsProgram, Walks};
+ghost use Rattle.vcgen.specs.Inside.Symbols.{ids_of, IsProgram, Walks};
 
 use crate::fault::VcFault;
 use crate::symbols::Symbols;
-use crate::walk::{Program, walk, walk_from};
+use crate::walk::{Program, walk_entry, walk_from};
 use alpha_cfg::{Code, Cut};
 use hereditary_subst::{Exhausted, MOST_RESULTS, Memo};
 use lf_encode::{PutMemo, encode_form, machine_context, quantified};
@@ -46,17 +47,40 @@ fn all_words(table: &mut Table, count: u32, formula: Id) -> Result<Id, AllocErro
     quantified(table, ALL, body)
 }
 
-/// That one formula leads to the other, for all memories and registers.
-fn part(table: &mut Table, from: Id, to: Id) -> Result<Id, AllocError>
+/// The formula of a term for all memories and registers.
+fn whole_machine(table: &mut Table, formula: Id) -> Result<Id, AllocError>
+    requires { IsKnown table.old formula }
+    ensures id { IfOk result (IsIdOf table.new (machine_term (tree_at table.old formula))) }
+    ensures extends { Extends table.old table.new }
+{
+    let words = all_words(table, 31, formula)?;
+    quantified(table, ALLM, words)
+}
+
+/// The same, and where steps are counted for all numbers of them.
+fn closed(table: &mut Table, bound: Option<u32>, formula: Id) -> Result<Id, AllocError>
+    requires { IsKnown table.old formula }
+    ensures id { IfOk result (IsIdOf table.new (closed_term bound (tree_at table.old formula))) }
+    ensures extends { Extends table.old table.new }
+{
+    let machine = whole_machine(table, formula)?;
+    match bound {
+        None => Ok(machine),
+        Some(_) => quantified(table, ALL, machine),
+    }
+}
+
+/// That one formula leads to the other, for all memories and registers, and where steps are counted
+/// for all numbers of them.
+fn part(table: &mut Table, bound: Option<u32>, from: Id, to: Id) -> Result<Id, AllocError>
     requires from { IsKnown table.old from }
     requires to { IsKnown table.old to }
     ensures id { IfOk result (IsIdOf table.new
-        (closed_term (imp_term (tree_at table.old from) (tree_at table.old to)))) }
+        (closed_term bound (imp_term (tree_at table.old from) (tree_at table.old to)))) }
     ensures extends { Extends table.old table.new }
 {
     let implied = app2(table, IMP, from, to)?;
-    let words = all_words(table, 31, implied)?;
-    quantified(table, ALLM, words)
+    closed(table, bound, implied)
 }
 
 /// The parts of the invariants from place `from` on.
@@ -72,12 +96,13 @@ fn inv_parts(
     requires walking { Walks table.old program.now start.now shifts.old kept.old }
     requires inside { All (λ p. p.0 < length program.now.code.now) program.now.invs.now }
     requires from { from ≤ length program.now.invs.now }
-    requires start { machine_terms_at table.old start.now.regs start.now.memory ≡ start_terms }
+    requires start { machine_terms_at table.old (ids_of start.now) ≡ start_terms }
     ensures id { let t = table.old in
-        let invs = id_trees t program.now.invs.now in
-        let rest = id_trees t (drop from program.now.invs.now) in
+        let p = program.now in
+        let invs = id_trees t p.invs.now in
+        let rest = id_trees t (drop from p.invs.now) in
         IfOk result (IsIdOf table.new
-        (part_terms program.now.code.now invs (tree_at t program.now.post) rest)) }
+        (part_terms p.bound p.code.now invs (tree_at t p.post) rest)) }
     ensures extends { Extends table.old table.new }
     ensures shifts { IsMemo table.new shifts.new }
 {
@@ -88,7 +113,7 @@ fn inv_parts(
     let (index, inv) = pair;
     let count = program.code.count();
     let walked = walk_from(table, shifts, kept, program, count, index, start)?;
-    let here = part(table, inv, walked)?;
+    let here = part(table, program.bound, inv, walked)?;
     let rest = inv_parts(table, shifts, kept, program, start, from + 1)?;
     Ok(app2(table, AND, here, rest)?)
 }
@@ -107,17 +132,17 @@ fn condition_of(
     requires pre { IsKnown table.old pre }
     requires shifts { IsMemo table.old shifts.old }
     ensures id { let t = table.old in
-        let invs = id_trees t program.now.invs.now in
+        let p = program.now in
+        let invs = id_trees t p.invs.now in
         IfOk result (IsIdOf table.new
-        (condition_term program.now.code.now invs (tree_at t pre) (tree_at t program.now.post))) }
+        (condition_term p.bound p.code.now invs (tree_at t pre) (tree_at t p.post))) }
     ensures extends { Extends table.old table.new }
     ensures shifts { IsMemo table.new shifts.new }
 {
     let mut kept = PutMemo::new(table.allocator());
     let start = Symbols::start(table)?;
-    let count = program.code.count();
-    let walked = walk(table, shifts, &mut kept, program, count, 0, &start)?;
-    let entry = part(table, pre, walked)?;
+    let walked = walk_entry(table, shifts, &mut kept, program, &start)?;
+    let entry = part(table, program.bound, pre, walked)?;
     let rest = inv_parts(table, shifts, &mut kept, program, &start, 0)?;
     Ok(app2(table, AND, entry, rest)?)
 }
@@ -130,6 +155,7 @@ fn encoded_condition(
     code: &Code,
     policy: &Policy,
     invs: &[(u32, Id)],
+    bound: Option<u32>,
 ) -> Result<Id, Exhausted>
     requires invs { AreLowInvs table.old invs.now }
     requires inside { All (λ p. p.0 < length code.now) invs.now }
@@ -138,7 +164,7 @@ fn encoded_condition(
         let pre = encoding_in machine_context policy.now.pre in
         let post = encoding_in machine_context policy.now.post in
         IfOk result (IsIdOf table.new
-        (condition_term code.now (id_trees t invs.now) pre post)) }
+        (condition_term bound code.now (id_trees t invs.now) pre post)) }
     ensures extends { Extends table.old table.new }
     ensures shifts { IsMemo table.new shifts.new }
 {
@@ -147,23 +173,37 @@ fn encoded_condition(
     let context = machine_context();
     let pre = encode_form(table, policy.pre(), &context)?;
     let post = encode_form(table, policy.post(), &context)?;
-    let program = Program { code, invs, post };
+    let program = Program {
+        code,
+        invs,
+        post,
+        bound,
+    };
     condition_of(table, shifts, &program, pre)
 }
 
-/// The encoding of the verification condition of `cut` under `policy`, the formulas of its
-/// invariants being those that the terms of `invs` encode: each annotated index with a term of type
-/// form over the longest signature of word arithmetic, in the context m, r0 to r30, at most
-/// `MAX_HEIGHT` high, in rising order of indices.
+/// The encoding of the verification condition of `cut` under `policy` and `bound`, the formulas of
+/// its invariants being those that the terms of `invs` encode: each annotated index with a term of
+/// type form over the longest signature of word arithmetic, at most `MAX_HEIGHT` high, in rising
+/// order of indices. Where `bound` is None steps aren't counted, and the terms are in the context
+/// m, r0 to r30; else it is the most steps that the code may make, and they are in the context
+/// left, m, r0 to r30.
 ///
 /// Errors: `UnfoldLimit` names the unfolded length exactly where it exceeds `MAX_UNFOLDED`, which is
 /// tested first; `Memory` says nothing of the condition, nor does `Results`, which more than
 /// `MOST_RESULTS` results of substitution are. Each id keeps its tree.
-pub fn vc(table: &mut Table, cut: &Cut, policy: &Policy, invs: &[(u32, Id)]) -> Result<Id, VcFault>
+pub fn vc(
+    table: &mut Table,
+    cut: &Cut,
+    policy: &Policy,
+    invs: &[(u32, Id)],
+    bound: Option<u32>,
+) -> Result<Id, VcFault>
     requires invs { AreLowInvs table.old invs.now }
-    requires forms { AreForms Sigma3 (id_trees table.old invs.now) }
+    requires forms { AreForms Sigma3 bound (id_trees table.old invs.now) }
     requires marks { AreFlags (map (λ p. p.0) invs.now) (length cut.now.code) cut.now.marks }
-    ensures exact { IsVcAnswer policy.now cut.now (id_trees table.old invs.now) table.new result }
+    ensures exact { let trees = id_trees table.old invs.now in
+        IsVcAnswer policy.now bound cut.now trees table.new result }
     ensures extends { Extends table.old table.new }
 {
     let unfolded = cut.unfolded();
@@ -172,5 +212,5 @@ pub fn vc(table: &mut Table, cut: &Cut, policy: &Policy, invs: &[(u32, Id)]) -> 
     }
     policy.laws(); // tells the prover what the formulas name
     let mut memo = Memo::new(table.allocator(), MOST_RESULTS);
-    Ok(encoded_condition(table, &mut memo, cut.code(), policy, invs)?)
+    Ok(encoded_condition(table, &mut memo, cut.code(), policy, invs, bound)?)
 }

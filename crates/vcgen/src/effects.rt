@@ -1,4 +1,4 @@
-//! What an instruction does to the terms for registers and memory.
+//! What an instruction does to the terms for registers, memory and the steps that are left.
 
 ghost use Rattle.std.specs.Prelude.{◌≡◌, ◌<◌, Some, IfOk, IfSome, length, slice_get};
 ghost use Rattle.alpha_cfg.specs.Flow.{next_of};
@@ -6,11 +6,12 @@ ghost use Rattle.term_table.specs.Table.{Extends};
 ghost use Rattle.lf_encode.specs.PutTree.{machine_terms_at};
 ghost use Rattle.lf_encode.specs.Kept.{AreMachineTerms};
 ghost use Rattle.lf_signature.specs.Nodes.{IsIdOf};
-ghost use Rattle.lf_signature.specs.Terms.{rd, wr, sel, upd};
+ghost use Rattle.lf_signature.specs.Terms.{lit, rd, wr, sel, upd, rel_term};
+ghost use Rattle.word_ops.specs.declared.Rel.TheVariants.{Ult};
 ghost use Rattle.vcgen.specs.Inside.WalkTree.{insn_effect, reg_term, address_term, aligned_term};
-ghost use Rattle.vcgen.specs.Inside.WalkTree.{with_reg, with_memory};
+ghost use Rattle.vcgen.specs.Inside.WalkTree.{with_reg, with_memory, one_less};
 ghost use Rattle.vcgen.specs.Inside.WalkTree.{tested_term, taken_term, passed_term};
-ghost use Rattle.vcgen.specs.Inside.Symbols.{IsEffect, StandFor};
+ghost use Rattle.vcgen.specs.Inside.Symbols.{ids_of, IsEffect, StandFor};
 
 use crate::branches::{passed, taken, tested};
 use crate::symbols::Symbols;
@@ -44,10 +45,10 @@ fn load(
     rb: Reg,
     disp: i16,
 ) -> Result<(Id, Symbols), AllocError>
-    requires ready { AreMachineTerms table.old symbols.now.regs symbols.now.memory }
-    ensures allowed { let terms = machine_terms_at table.old symbols.now.regs symbols.now.memory in
+    requires ready { AreMachineTerms table.old (ids_of symbols.now) }
+    ensures allowed { let terms = machine_terms_at table.old (ids_of symbols.now) in
         IfOk result (λ r. IsIdOf table.new (rd (address_term terms rb disp)) r.0) }
-    ensures after { let terms = machine_terms_at table.old symbols.now.regs symbols.now.memory in
+    ensures after { let terms = machine_terms_at table.old (ids_of symbols.now) in
         IfOk result (λ r. StandFor table.new r.1
         (with_reg terms ra (sel terms.memory (address_term terms rb disp)))) }
     ensures extends { Extends table.old table.new }
@@ -66,10 +67,10 @@ fn load_aligned(
     rb: Reg,
     disp: i16,
 ) -> Result<(Id, Symbols), AllocError>
-    requires ready { AreMachineTerms table.old symbols.now.regs symbols.now.memory }
-    ensures allowed { let terms = machine_terms_at table.old symbols.now.regs symbols.now.memory in
+    requires ready { AreMachineTerms table.old (ids_of symbols.now) }
+    ensures allowed { let terms = machine_terms_at table.old (ids_of symbols.now) in
         IfOk result (λ r. IsIdOf table.new (rd (aligned_term (address_term terms rb disp))) r.0) }
-    ensures after { let terms = machine_terms_at table.old symbols.now.regs symbols.now.memory in
+    ensures after { let terms = machine_terms_at table.old (ids_of symbols.now) in
         IfOk result (λ r. StandFor table.new r.1
         (with_reg terms ra (sel terms.memory (aligned_term (address_term terms rb disp))))) }
     ensures extends { Extends table.old table.new }
@@ -88,10 +89,10 @@ fn store(
     rb: Reg,
     disp: i16,
 ) -> Result<(Id, Symbols), AllocError>
-    requires ready { AreMachineTerms table.old symbols.now.regs symbols.now.memory }
-    ensures allowed { let terms = machine_terms_at table.old symbols.now.regs symbols.now.memory in
+    requires ready { AreMachineTerms table.old (ids_of symbols.now) }
+    ensures allowed { let terms = machine_terms_at table.old (ids_of symbols.now) in
         IfOk result (λ r. IsIdOf table.new (wr (address_term terms rb disp)) r.0) }
-    ensures after { let terms = machine_terms_at table.old symbols.now.regs symbols.now.memory in
+    ensures after { let terms = machine_terms_at table.old (ids_of symbols.now) in
         IfOk result (λ r. StandFor table.new r.1
         (with_memory terms (upd terms.memory (address_term terms rb disp) (reg_term terms ra)))) }
     ensures extends { Extends table.old table.new }
@@ -102,13 +103,27 @@ fn store(
     Ok((allowed, symbols.with_memory(table, memory)))
 }
 
+/// A step, where steps are counted: one has to be left, and after it there is one less.
+pub(crate) fn step(table: &mut Table, symbols: &Symbols) -> Result<(Id, Symbols), AllocError>
+    requires ready { AreMachineTerms table.old (ids_of symbols.now) }
+    ensures allowed { let terms = machine_terms_at table.old (ids_of symbols.now) in
+        IfOk result (λ r. IsIdOf table.new (rel_term Ult (lit 0) terms.left) r.0) }
+    ensures after { let terms = machine_terms_at table.old (ids_of symbols.now) in
+        IfOk result (λ r. StandFor table.new r.1 (one_less terms)) }
+    ensures extends { Extends table.old table.new }
+{
+    let allowed = symbols.one_left(table)?;
+    let after = symbols.one_less(table)?;
+    Ok((allowed, after))
+}
+
 /// What has to hold where a conditional branch is taken, and where it isn't.
 fn split(table: &mut Table, symbols: &Symbols, cond: Cond, ra: Reg) -> Result<(Id, Id), AllocError>
-    requires ready { AreMachineTerms table.old symbols.now.regs symbols.now.memory }
-    ensures taken { let terms = machine_terms_at table.old symbols.now.regs symbols.now.memory in
+    requires ready { AreMachineTerms table.old (ids_of symbols.now) }
+    ensures taken { let terms = machine_terms_at table.old (ids_of symbols.now) in
         let tested = tested_term cond (reg_term terms ra) in
         IfOk result (λ r. IsIdOf table.new (taken_term cond tested) r.0) }
-    ensures passed { let terms = machine_terms_at table.old symbols.now.regs symbols.now.memory in
+    ensures passed { let terms = machine_terms_at table.old (ids_of symbols.now) in
         let tested = tested_term cond (reg_term terms ra) in
         IfOk result (λ r. IsIdOf table.new (passed_term cond tested) r.1) }
     ensures extends { Extends table.old table.new }
@@ -129,8 +144,8 @@ pub(crate) fn effect_at(
 ) -> Result<Effect, AllocError>
     requires at { slice_get code.now index ≡ Some insn }
     requires on { IfSome (next_of index insn) (λ j. j < length code.now) }
-    requires ready { AreMachineTerms table.old symbols.now.regs symbols.now.memory }
-    ensures exact { let terms = machine_terms_at table.old symbols.now.regs symbols.now.memory in
+    requires ready { AreMachineTerms table.old (ids_of symbols.now) }
+    ensures exact { let terms = machine_terms_at table.old (ids_of symbols.now) in
         IfOk result
         (λ e. IsEffect table.new (length code.now) index e (insn_effect index insn terms)) }
     ensures extends { Extends table.old table.new }

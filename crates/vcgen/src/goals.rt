@@ -4,9 +4,9 @@ ghost use Rattle.std.specs.Prelude.{◌≡◌, ◌↔◌, IsTrue};
 ghost use Rattle.term_table.specs.Tree.{Con, Num, Lam};
 ghost use Rattle.term_table.specs.Table.{IsKnown, tree_at};
 ghost use Rattle.hereditary_subst.specs.Simples.{IsResult};
-ghost use Rattle.lf_signature.specs.Terms.{app1, app2, imp_term};
+ghost use Rattle.lf_signature.specs.Terms.{app1, app2, imp_term, all_term};
 ghost use Rattle.vcgen.specs.Inside.Goals.{AreSides};
-ghost use Rattle.vcgen.specs.Inside.WalkTree.{all_terms, closed_term};
+ghost use Rattle.vcgen.specs.Inside.WalkTree.{all_terms, machine_term, closed_term};
 
 use lf_signature::numbers::{ALL, ALLM, IMP};
 use term_table::{Id, Node, Table};
@@ -101,13 +101,38 @@ fn sides_under_words(table: &Table, count: u32, id: Id) -> Option<Pair>
 }
 
 /// The sides where the formula is that one leads to the other, for all memories and registers.
-pub(crate) fn closed_sides(table: &Table, id: Id) -> Option<Pair>
+fn machine_sides(table: &Table, id: Id) -> Option<Pair>
     requires { IsKnown table.now id }
-    ensures { AreSides (λ a b. closed_term (imp_term a b)) table.now
+    ensures { AreSides (λ a b. machine_term (imp_term a b)) table.now
         (tree_at table.now id) result }
 {
     match body(table, ALLM, id) {
         None => None,
         Some(words) => sides_under_words(table, 31, words),
+    }
+}
+
+/// The same where steps are counted, for all numbers of them.
+fn counted_sides(table: &Table, id: Id) -> Option<Pair>
+    requires { IsKnown table.now id }
+    ensures { AreSides (λ a b. all_term (machine_term (imp_term a b))) table.now
+        (tree_at table.now id) result }
+{
+    match body(table, ALL, id) {
+        None => None,
+        Some(machine) => machine_sides(table, machine),
+    }
+}
+
+/// The sides where the formula is that one leads to the other, for all memories and registers, and
+/// where steps are counted for all numbers of them.
+pub(crate) fn closed_sides(table: &Table, bound: Option<u32>, id: Id) -> Option<Pair>
+    requires { IsKnown table.now id }
+    ensures { AreSides (λ a b. closed_term bound (imp_term a b)) table.now
+        (tree_at table.now id) result }
+{
+    match bound {
+        None => machine_sides(table, id),
+        Some(_) => counted_sides(table, id),
     }
 }

@@ -2,7 +2,7 @@
 //!
 //! The layers above use that `vc` makes the encoding of the verification condition of code under a
 //! policy, that `is_condition_with` tells it from other formulas without making it, and the laws: code
-//! whose condition is true is safe.
+//! whose condition is true is safe, and where its steps are counted it returns within the bound.
 //! Conditions stand in `specs/Conditions`, what safe is in `specs/Safety`. Source: Necula,
 //! Proof-Carrying Code, POPL 1997; Necula and Lee, Safe Kernel Extensions Without Run-Time Checking,
 //! OSDI 1996.

@@ -14,11 +14,12 @@ ghost use Rattle.lf_encode.specs.Contexts.{machine_context, encoding_in};
 ghost use Rattle.lf_signature.specs.declared.WordSignature.TheVariants.{Sigma3};
 ghost use Rattle.vcgen.specs.Encoded.{AreForms};
 ghost use Rattle.vcgen.specs.Answers.{IsConditionAnswer, AreLowInvs};
-ghost use Rattle.vcgen.specs.Inside.WalkTree.{start_terms, closed_term, walked, walked_from};
+ghost use Rattle.vcgen.specs.Inside.WalkTree.{start_terms, entry_terms, closed_term};
+ghost use Rattle.vcgen.specs.Inside.WalkTree.{walked, walked_from};
 ghost use Rattle.vcgen.specs.Inside.WalkTree.{part_terms, condition_term};
-ghost use Rattle.vcgen.specs.Inside.Symbols.{IsProgram, Compares};
+ghost use Rattle.vcgen.specs.Inside.Symbols.{ids_of, IsProgram, Compares};
 
-use crate::comparing::{is_walk, is_walk_from};
+use crate::comparing::{is_walk_entry, is_walk_from};
 use crate::comparisons::Comparisons;
 use crate::condition::MAX_UNFOLDED;
 use crate::fault::VcFault;
@@ -44,26 +45,26 @@ fn is_entry(
     goal: Id,
 ) -> Result<bool, Exhausted>
     requires walking { Compares table.old program.now start.now shifts.old kept.old }
-    requires start { machine_terms_at table.old start.now.regs start.now.memory ≡ start_terms }
+    requires start { machine_terms_at table.old (ids_of start.now) ≡ start_terms }
     requires pre { IsKnown table.old pre }
     requires goal { IsKnown table.old goal }
     ensures exact { let t = table.old in
         let p = program.now in
         let all = length p.code.now in
-        let walk = walked p.code.now (id_trees t p.invs.now) (tree_at t p.post) all in
-        let made = closed_term (imp_term (tree_at t pre) (walk 0 start_terms)) in
+        let walk = walked p.bound p.code.now (id_trees t p.invs.now) (tree_at t p.post) all in
+        let entry = walk 0 (entry_terms p.bound) in
+        let made = closed_term p.bound (imp_term (tree_at t pre) entry) in
         IfOk result (λ b. IsTrue b ↔ (tree_at t goal ≡ made)) }
     ensures extends { Extends table.old table.new }
     ensures walking { Compares table.new program.now start.now shifts.new kept.new }
 {
-    let Some(parts) = closed_sides(table, goal) else {
+    let Some(parts) = closed_sides(table, program.bound, goal) else {
         return Ok(false);
     };
     if !table.same(parts.first, pre) {
         return Ok(false);
     }
-    let count = program.code.count();
-    is_walk(table, shifts, kept, program, count, 0, start, parts.second)
+    is_walk_entry(table, shifts, kept, program, start, parts.second)
 }
 
 /// Whether `goal` is the part of an annotated index: that its invariant leads to the walk from there.
@@ -79,20 +80,20 @@ fn is_inv_part(
     goal: Id,
 ) -> Result<bool, Exhausted>
     requires walking { Compares table.old program.now start.now shifts.old kept.old }
-    requires start { machine_terms_at table.old start.now.regs start.now.memory ≡ start_terms }
+    requires start { machine_terms_at table.old (ids_of start.now) ≡ start_terms }
     requires within { index < length program.now.code.now }
     requires inv { IsKnown table.old inv }
     requires goal { IsKnown table.old goal }
     ensures exact { let t = table.old in
         let p = program.now in
         let invs = id_trees t p.invs.now in
-        let walk = walked_from p.code.now invs (tree_at t p.post) index start_terms in
-        let made = closed_term (imp_term (tree_at t inv) walk) in
+        let walk = walked_from p.bound p.code.now invs (tree_at t p.post) index start_terms in
+        let made = closed_term p.bound (imp_term (tree_at t inv) walk) in
         IfOk result (λ b. IsTrue b ↔ (tree_at t goal ≡ made)) }
     ensures extends { Extends table.old table.new }
     ensures walking { Compares table.new program.now start.now shifts.new kept.new }
 {
-    let Some(parts) = closed_sides(table, goal) else {
+    let Some(parts) = closed_sides(table, program.bound, goal) else {
         return Ok(false);
     };
     if !table.same(parts.first, inv) {
@@ -117,13 +118,13 @@ fn are_inv_parts(
     requires walking { Compares table.old program.now start.now shifts.old kept.old }
     requires inside { All (λ p. p.0 < length program.now.code.now) program.now.invs.now }
     requires from { from ≤ length program.now.invs.now }
-    requires start { machine_terms_at table.old start.now.regs start.now.memory ≡ start_terms }
+    requires start { machine_terms_at table.old (ids_of start.now) ≡ start_terms }
     requires goal { IsKnown table.old goal }
     ensures exact { let t = table.old in
         let p = program.now in
         let invs = id_trees t p.invs.now in
         let rest = id_trees t (drop from p.invs.now) in
-        let made = part_terms p.code.now invs (tree_at t p.post) rest in
+        let made = part_terms p.bound p.code.now invs (tree_at t p.post) rest in
         IfOk result (λ b. IsTrue b ↔ (tree_at t goal ≡ made)) }
     ensures extends { Extends table.old table.new }
     ensures shifts { IsMemo table.new shifts.new }
@@ -163,7 +164,7 @@ fn is_condition_of(
     ensures exact { let t = table.old in
         let p = program.now in
         let invs = id_trees t p.invs.now in
-        let made = condition_term p.code.now invs (tree_at t pre) (tree_at t p.post) in
+        let made = condition_term p.bound p.code.now invs (tree_at t pre) (tree_at t p.post) in
         IfOk result (λ b. IsTrue b ↔ (tree_at t goal ≡ made)) }
     ensures extends { Extends table.old table.new }
     ensures shifts { IsMemo table.new shifts.new }
@@ -190,6 +191,7 @@ fn is_encoded_condition(
     code: &Code,
     policy: &Policy,
     invs: &[(u32, Id)],
+    bound: Option<u32>,
     goal: Id,
 ) -> Result<bool, Exhausted>
     requires invs { AreLowInvs table.old invs.now }
@@ -199,7 +201,7 @@ fn is_encoded_condition(
     ensures exact { let t = table.old in
         let pre = encoding_in machine_context policy.now.pre in
         let post = encoding_in machine_context policy.now.post in
-        let made = condition_term code.now (id_trees t invs.now) pre post in
+        let made = condition_term bound code.now (id_trees t invs.now) pre post in
         IfOk result (λ b. IsTrue b ↔ (tree_at t goal ≡ made)) }
     ensures extends { Extends table.old table.new }
     ensures shifts { IsMemo table.new shifts.new }
@@ -209,13 +211,18 @@ fn is_encoded_condition(
     let context = machine_context();
     let pre = encode_form(table, policy.pre(), &context)?;
     let post = encode_form(table, policy.post(), &context)?;
-    let program = Program { code, invs, post };
+    let program = Program {
+        code,
+        invs,
+        post,
+        bound,
+    };
     is_condition_of(table, shifts, &program, pre, goal)
 }
 
-/// Whether `formula` is what `vc` gives of `cut`, `policy` and `invs`, as the arguments stand there:
-/// the encoding of the verification condition of `cut` under `policy`. The condition isn't written
-/// out, and the first difference ends the comparison.
+/// Whether `formula` is what `vc` gives of `cut`, `policy`, `invs` and `bound`, as the arguments
+/// stand there: the encoding of the verification condition of `cut` under `policy` and `bound`. The
+/// condition isn't written out, and the first difference ends the comparison.
 ///
 /// `memo` has the results of earlier calls on the table; what is kept here counts in its limit.
 ///
@@ -228,15 +235,16 @@ pub fn is_condition_with(
     cut: &Cut,
     policy: &Policy,
     invs: &[(u32, Id)],
+    bound: Option<u32>,
     formula: Id,
 ) -> Result<bool, VcFault>
     requires invs { AreLowInvs table.old invs.now }
-    requires forms { AreForms Sigma3 (id_trees table.old invs.now) }
+    requires forms { AreForms Sigma3 bound (id_trees table.old invs.now) }
     requires marks { AreFlags (map (λ p. p.0) invs.now) (length cut.now.code) cut.now.marks }
     requires formula { IsKnown table.old formula }
     requires memo { IsMemo table.old memo.old }
     ensures exact { let trees = id_trees table.old invs.now in
-        IsConditionAnswer policy.now cut.now trees (tree_at table.old formula) result }
+        IsConditionAnswer policy.now bound cut.now trees (tree_at table.old formula) result }
     ensures extends { Extends table.old table.new }
     ensures memo { IsMemo table.new memo.new }
 {
@@ -245,6 +253,6 @@ pub fn is_condition_with(
         return Err(VcFault::UnfoldLimit(unfolded));
     }
     policy.laws(); // tells the prover what the formulas name
-    let equal = is_encoded_condition(table, memo, cut.code(), policy, invs, formula)?;
+    let equal = is_encoded_condition(table, memo, cut.code(), policy, invs, bound, formula)?;
     Ok(equal)
 }

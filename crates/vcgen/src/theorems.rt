@@ -1,6 +1,6 @@
 //! What holds of verification conditions, with nothing to run.
 
-ghost use Rattle.std.specs.Prelude.{◌≡◌, []};
+ghost use Rattle.std.specs.Prelude.{◌≡◌, [], None, Some};
 ghost use Rattle.policy_set.specs.declared.kind.PolicyKind.TheVariants.{Filter, Tag, Table};
 ghost use Rattle.policy_set.specs.Views.{built_in};
 ghost use Rattle.vcgen.specs.Conditions.{condition};
@@ -9,10 +9,15 @@ ghost use Rattle.vcgen.specs.Worked.{ret_alone, filter_ret, tag_ret, table_ret};
 ghost use Rattle.vcgen.specs.Worked.{counting, counting_invs, counting_condition};
 ghost use Rattle.vcgen.specs.Worked.{guarded, guarded_condition};
 ghost use Rattle.vcgen.specs.Worked.{twice, twice_condition, computing, computing_condition};
+ghost use Rattle.vcgen.specs.WorkedCounted.{bounded_ret, storing, bounded_store};
+ghost use Rattle.vcgen.specs.WorkedCounted.{branching, bounded_branch, looping, looping_invs};
+ghost use Rattle.vcgen.specs.WorkedCounted.{bounded_loop, staying, staying_invs, bounded_entry};
+ghost use Rattle.vcgen.specs.WorkedCounted.{losing, bounded_zero, tagging, tagging_invs};
+ghost use Rattle.vcgen.specs.WorkedCounted.{bounded_access};
 ghost use Rattle.vcgen.specs.Laws.{WpUnfolds, ConditionSafe, ConditionReturns, HoldsAtStart};
 ghost use Rattle.vcgen.specs.Laws.{StepsGood, RunsGood, ConditionClosed};
 ghost use Rattle.vcgen.specs.Laws.{FormsWider, EncodingExists, EncodingUnique};
-ghost use Rattle.vcgen.specs.Laws.{EncodedAnnotates, PolicySafe};
+ghost use Rattle.vcgen.specs.Laws.{EncodedAnnotates, PolicySafe, PolicyReturns};
 
 /// Code whose verification condition is true in every structure is safe: from each state at index 0
 /// that satisfies the precondition no run is blocked, and a return satisfies the postcondition; where
@@ -29,25 +34,41 @@ pub fn condition_laws()
 {}
 
 /// Invariants that are terms of type form, over any signature of word arithmetic, have under a
-/// policy exactly one condition; where it is true, the code is safe for the policy.
+/// policy exactly one condition; where it is true, the code is safe for the policy, and returns
+/// within the bound where there is one.
 pub fn encoding_laws()
     ensures wider { FormsWider }
     ensures exists { EncodingExists }
     ensures unique { EncodingUnique }
     ensures annotates { EncodedAnnotates }
     ensures safe { PolicySafe }
+    ensures returns { PolicyReturns }
 {}
 
-/// The conditions of small code under the policies are those of `specs/Worked`, which were written
-/// out by hand.
+/// The conditions of small code under the policies are those of `specs/Worked`, and with bounds those
+/// of `specs/WorkedCounted`, which were written out by hand.
 pub fn worked_conditions()
-    ensures filter_ret { condition (annotated (built_in Filter) ret_alone []) ≡ filter_ret }
-    ensures tag_ret { condition (annotated (built_in Tag) ret_alone []) ≡ tag_ret }
-    ensures table_ret { condition (annotated (built_in Table) ret_alone []) ≡ table_ret }
-    ensures counting { condition (annotated (built_in Filter) counting counting_invs)
+    ensures filter_ret { condition (annotated (built_in Filter) None ret_alone []) ≡ filter_ret }
+    ensures tag_ret { condition (annotated (built_in Tag) None ret_alone []) ≡ tag_ret }
+    ensures table_ret { condition (annotated (built_in Table) None ret_alone []) ≡ table_ret }
+    ensures counting { condition (annotated (built_in Filter) None counting counting_invs)
         ≡ counting_condition }
-    ensures guarded { condition (annotated (built_in Tag) guarded []) ≡ guarded_condition }
-    ensures twice { condition (annotated (built_in Tag) twice []) ≡ twice_condition }
-    ensures computing { condition (annotated (built_in Filter) computing [])
+    ensures guarded { condition (annotated (built_in Tag) None guarded []) ≡ guarded_condition }
+    ensures twice { condition (annotated (built_in Tag) None twice []) ≡ twice_condition }
+    ensures computing { condition (annotated (built_in Filter) None computing [])
         ≡ computing_condition }
+    ensures bounded_ret { condition (annotated (built_in Filter) (Some 7) ret_alone [])
+        ≡ bounded_ret }
+    ensures bounded_store { condition (annotated (built_in Tag) (Some 2) storing [])
+        ≡ bounded_store }
+    ensures bounded_branch { condition (annotated (built_in Tag) (Some 3) branching [])
+        ≡ bounded_branch }
+    ensures bounded_loop { condition (annotated (built_in Tag) (Some 41) looping looping_invs)
+        ≡ bounded_loop }
+    ensures bounded_entry { condition
+        (annotated (built_in Tag) (Some 1000000000) staying staying_invs) ≡ bounded_entry }
+    ensures bounded_zero { condition (annotated (built_in Filter) (Some 3) losing [])
+        ≡ bounded_zero }
+    ensures bounded_access { condition (annotated (built_in Tag) (Some 3) tagging tagging_invs)
+        ≡ bounded_access }
 {}

@@ -8,6 +8,7 @@ ghost use Rattle.hereditary_subst.specs.Kept.{IsMemo};
 ghost use Rattle.hereditary_subst.specs.Limits.{left_of};
 ghost use Rattle.lf_encode.specs.PutTree.{machine_terms_at, put_tree};
 ghost use Rattle.lf_encode.specs.Kept.{AreMachineTerms};
+ghost use Rattle.vcgen.specs.Inside.Symbols.{ids_of};
 ghost use Rattle.vcgen.specs.Inside.Uses.{IsFreeOf, IsIdle, AreIdleFrom, IsRow, AreUses};
 
 use crate::symbols::Symbols;
@@ -160,8 +161,8 @@ fn is_var(table: &Table, id: Id, k: u32) -> bool
     }
 }
 
-/// Whether the variable `k` of the context m, r0 to r30 stands for itself, or doesn't occur in the
-/// term: where that is found.
+/// Whether the variable `k` of the context left, m, r0 to r30 stands for itself, or doesn't occur
+/// in the term: where that is found.
 fn is_idle(
     table: &Table,
     shifts: &mut Memo,
@@ -170,13 +171,13 @@ fn is_idle(
     id: Id,
     k: u32,
 ) -> Result<bool, Exhausted>
-    requires ready { AreMachineTerms table.now symbols.now.regs symbols.now.memory }
+    requires ready { AreMachineTerms table.now (ids_of symbols.now) }
     requires known { IsKnown table.now id }
-    requires low { k < 32 }
+    requires low { k < 33 }
     requires shifts { IsMemo table.now shifts.old }
     requires uses { AreUses table.now uses.old }
     ensures idle { let t = table.now in
-        let terms = machine_terms_at t symbols.now.regs symbols.now.memory in
+        let terms = machine_terms_at t (ids_of symbols.now) in
         IfOk result (λ b. IsTrue b → IsIdle k terms (tree_at t id)) }
     ensures shifts { IsMemo table.now shifts.new }
     ensures uses { AreUses table.now uses.new }
@@ -189,11 +190,12 @@ fn is_idle(
     lacks(table, shifts, uses, id, u64::from(k))
 }
 
-/// How many of the variables of the context m, r0 to r30 from `k` on don't stand for themselves.
+/// How many of the variables of the context left, m, r0 to r30 from `k` on don't stand for
+/// themselves.
 fn changed_from(table: &Table, symbols: &Symbols, k: u32) -> u32
-    requires { AreMachineTerms table.now symbols.now.regs symbols.now.memory }
+    requires { AreMachineTerms table.now (ids_of symbols.now) }
 {
-    if k >= 32 {
+    if k >= 33 {
         return 0;
     }
     let later = changed_from(table, symbols, k + 1);
@@ -213,17 +215,17 @@ fn are_idle(
     id: Id,
     k: u32,
 ) -> Result<bool, Exhausted>
-    requires ready { AreMachineTerms table.now symbols.now.regs symbols.now.memory }
+    requires ready { AreMachineTerms table.now (ids_of symbols.now) }
     requires known { IsKnown table.now id }
     requires shifts { IsMemo table.now shifts.old }
     requires uses { AreUses table.now uses.old }
     ensures idle { let t = table.now in
-        let terms = machine_terms_at t symbols.now.regs symbols.now.memory in
+        let terms = machine_terms_at t (ids_of symbols.now) in
         IfOk result (λ b. IsTrue b → AreIdleFrom k terms (tree_at t id)) }
     ensures shifts { IsMemo table.now shifts.new }
     ensures uses { AreUses table.now uses.new }
 {
-    if k >= 32 {
+    if k >= 33 {
         return Ok(true);
     }
     if !is_idle(table, shifts, uses, symbols, id, k)? {
@@ -241,17 +243,17 @@ pub(crate) fn stays(
     symbols: &Symbols,
     id: Id,
 ) -> Result<bool, Exhausted>
-    requires ready { AreMachineTerms table.now symbols.now.regs symbols.now.memory }
+    requires ready { AreMachineTerms table.now (ids_of symbols.now) }
     requires known { IsKnown table.now id }
     requires shifts { IsMemo table.now shifts.old }
     requires uses { AreUses table.now uses.old }
     ensures same { let t = table.now in
-        let terms = machine_terms_at t symbols.now.regs symbols.now.memory in
+        let terms = machine_terms_at t (ids_of symbols.now) in
         IfOk result (λ b. IsTrue b → put_tree terms 0 (tree_at t id) ≡ tree_at t id) }
     ensures shifts { IsMemo table.now shifts.new }
     ensures uses { AreUses table.now uses.new }
 {
-    if !is_within(table, id, 32) {
+    if !is_within(table, id, 33) {
         return Ok(false);
     }
     if changed_from(table, symbols, 0) > MOST_CHANGED {

@@ -4,30 +4,35 @@
 //! meets no index twice on its way, so it recurses at most once for each instruction, of which there
 //! are at most 1,024; what it visits in all is the unfolded length.
 
-ghost use Rattle.std.specs.Prelude.{◌≡◌, ◌<◌, IfOk, length, slice_get};
+ghost use Rattle.std.specs.Prelude.{◌≡◌, ◌<◌, IfOk, None, length, slice_get};
+ghost use Rattle.word_ops.specs.declared.Rel.TheVariants.{Ult};
 ghost use Rattle.term_table.specs.Table.{IsKnown, tree_at, Extends, id_trees};
 ghost use Rattle.lf_signature.specs.Nodes.{IsIdOf};
-ghost use Rattle.lf_signature.specs.Terms.{and_term, imp_term};
+ghost use Rattle.lf_signature.specs.Terms.{lit, rel_term, and_term, imp_term};
 ghost use Rattle.lf_encode.specs.PutTree.{machine_terms_at};
 ghost use Rattle.lf_encode.specs.Kept.{AreMachineTerms};
-ghost use Rattle.vcgen.specs.Inside.WalkTree.{walked, walked_at};
-ghost use Rattle.vcgen.specs.Inside.Symbols.{inv_id, Walks};
+ghost use Rattle.vcgen.specs.Inside.WalkTree.{walked, walked_at, one_less};
+ghost use Rattle.vcgen.specs.Inside.WalkTree.{start_terms, entry_terms};
+ghost use Rattle.vcgen.specs.Inside.Symbols.{ids_of, inv_id, Walks};
 
-use crate::effects::{Effect, effect_at};
+use crate::effects::{Effect, effect_at, step};
 use crate::symbols::Symbols;
 use alpha_cfg::Code;
 use hereditary_subst::{Exhausted, Memo};
-use lf_encode::{PutMemo, put_with};
+use lf_encode::PutMemo;
 use lf_signature::app2;
 use lf_signature::numbers::{AND, FF, IMP};
 use term_table::{Id, Node, Table};
 
-/// What a walk goes by: the code, its invariants by their indices, and what has to hold at its end.
+/// What a walk goes by: the code, its invariants by their indices, what has to hold at its end, and
+/// the bound on its steps.
 #[derive(Clone, Copy)]
 pub(crate) struct Program<'a> {
     pub(crate) code: &'a Code,
     pub(crate) invs: &'a [(u32, Id)],
     pub(crate) post: Id,
+    /// The most steps that the code may make, where these are counted.
+    pub(crate) bound: Option<u32>,
 }
 
 /// The invariant of an index, if it is annotated.
@@ -52,15 +57,15 @@ pub(crate) fn walk(
     requires walking { Walks table.old program.now symbols.now shifts.old kept.old }
     requires within { index < length program.now.code.now }
     ensures id { let t = table.old in
-        let terms = machine_terms_at t symbols.now.regs symbols.now.memory in
+        let terms = machine_terms_at t (ids_of symbols.now) in
         let p = program.now in
-        let walk = walked p.code.now (id_trees t p.invs.now) (tree_at t p.post) fuel in
+        let walk = walked p.bound p.code.now (id_trees t p.invs.now) (tree_at t p.post) fuel in
         IfOk result (IsIdOf table.new (walk index terms)) }
     ensures extends { Extends table.old table.new }
     ensures walking { Walks table.new program.now symbols.now shifts.new kept.new }
 {
     match invariant(program.invs, index) {
-        Some(inv) => put_with(table, shifts, kept, inv, &symbols.regs, symbols.memory),
+        Some(inv) => symbols.put(table, shifts, kept, inv),
         None => {
             if fuel == 0 {
                 return Ok(table.intern(Node::Const(FF))?);
@@ -73,7 +78,7 @@ pub(crate) fn walk(
 /// The same with the terms of `after`; of these nothing is kept beyond the walk. What it keeps
 /// meanwhile counts on in the limit of `shifts`.
 #[cycle(walking)]
-fn walk_with(
+pub(crate) fn walk_with(
     table: &mut Table,
     shifts: &mut Memo,
     kept: &mut PutMemo,
@@ -85,11 +90,11 @@ fn walk_with(
 ) -> Result<Id, Exhausted>
     requires walking { Walks table.old program.now symbols.now shifts.old kept.old }
     requires within { index < length program.now.code.now }
-    requires after { AreMachineTerms table.old after.now.regs after.now.memory }
+    requires after { AreMachineTerms table.old (ids_of after.now) }
     ensures id { let t = table.old in
-        let terms = machine_terms_at t after.now.regs after.now.memory in
+        let terms = machine_terms_at t (ids_of after.now) in
         let p = program.now in
-        let walk = walked p.code.now (id_trees t p.invs.now) (tree_at t p.post) fuel in
+        let walk = walked p.bound p.code.now (id_trees t p.invs.now) (tree_at t p.post) fuel in
         IfOk result (IsIdOf table.new (walk index terms)) }
     ensures extends { Extends table.old table.new }
     ensures walking { Walks table.new program.now symbols.now shifts.new kept.new }
@@ -119,9 +124,9 @@ fn walk_both(
     requires taken { IsKnown table.old taken.0 }
     requires passed { IsKnown table.old passed.0 }
     ensures id { let t = table.old in
-        let terms = machine_terms_at t symbols.now.regs symbols.now.memory in
+        let terms = machine_terms_at t (ids_of symbols.now) in
         let p = program.now in
-        let walk = walked p.code.now (id_trees t p.invs.now) (tree_at t p.post) fuel in
+        let walk = walked p.bound p.code.now (id_trees t p.invs.now) (tree_at t p.post) fuel in
         IfOk result (IsIdOf table.new (and_term
         (imp_term (tree_at t taken.0) (walk taken.1 terms))
         (imp_term (tree_at t passed.0) (walk passed.1 terms)))) }
@@ -151,11 +156,11 @@ fn walk_behind(
     requires walking { Walks table.old program.now symbols.now shifts.old kept.old }
     requires within { index < length program.now.code.now }
     requires allowed { IsKnown table.old allowed }
-    requires after { AreMachineTerms table.old after.now.regs after.now.memory }
+    requires after { AreMachineTerms table.old (ids_of after.now) }
     ensures id { let t = table.old in
-        let terms = machine_terms_at t after.now.regs after.now.memory in
+        let terms = machine_terms_at t (ids_of after.now) in
         let p = program.now in
-        let walk = walked p.code.now (id_trees t p.invs.now) (tree_at t p.post) fuel in
+        let walk = walked p.bound p.code.now (id_trees t p.invs.now) (tree_at t p.post) fuel in
         IfOk result (IsIdOf table.new (and_term (tree_at t allowed) (walk index terms))) }
     ensures extends { Extends table.old table.new }
     ensures walking { Walks table.new program.now symbols.now shifts.new kept.new }
@@ -164,9 +169,10 @@ fn walk_behind(
     Ok(app2(table, AND, allowed, rest)?)
 }
 
-/// The term of the walk from the instruction at `index`, whether that is annotated or not.
+/// The term of the walk from the instruction at `index`, whether that is annotated or not; its own
+/// step isn't counted.
 #[cycle(walking)]
-pub(crate) fn walk_from(
+fn walk_insn(
     table: &mut Table,
     shifts: &mut Memo,
     kept: &mut PutMemo,
@@ -178,12 +184,12 @@ pub(crate) fn walk_from(
     requires walking { Walks table.old program.now symbols.now shifts.old kept.old }
     requires within { index < length program.now.code.now }
     ensures id { let t = table.old in
-        let terms = machine_terms_at t symbols.now.regs symbols.now.memory in
+        let terms = machine_terms_at t (ids_of symbols.now) in
         let p = program.now in
         let post = tree_at t p.post in
-        let walk = walked p.code.now (id_trees t p.invs.now) post fuel in
+        let walk = walked p.bound p.code.now (id_trees t p.invs.now) post fuel in
         let insn = slice_get p.code.now index in
-        IfOk result (IsIdOf table.new (walked_at walk post index insn terms)) }
+        IfOk result (IsIdOf table.new (walked_at None walk post index insn terms)) }
     ensures extends { Extends table.old table.new }
     ensures walking { Walks table.new program.now symbols.now shifts.new kept.new }
 {
@@ -203,13 +209,126 @@ pub(crate) fn walk_from(
             walk_both(table, shifts, kept, program, fuel, symbols, taken, passed)
         }
         Effect::Jump(target) => walk(table, shifts, kept, program, fuel, target, symbols),
-        Effect::Return => put_with(
-            table,
-            shifts,
-            kept,
-            program.post,
-            &symbols.regs,
-            symbols.memory,
-        ),
+        Effect::Return => symbols.put(table, shifts, kept, program.post),
+    }
+}
+
+/// The same with the terms of `after`; of these nothing is kept beyond the walk.
+#[cycle(walking)]
+fn walk_insn_with(
+    table: &mut Table,
+    shifts: &mut Memo,
+    kept: &mut PutMemo,
+    program: &Program,
+    fuel: u32,
+    index: u32,
+    symbols: &Symbols,
+    after: &Symbols,
+) -> Result<Id, Exhausted>
+    requires walking { Walks table.old program.now symbols.now shifts.old kept.old }
+    requires within { index < length program.now.code.now }
+    requires after { AreMachineTerms table.old (ids_of after.now) }
+    ensures id { let t = table.old in
+        let terms = machine_terms_at t (ids_of after.now) in
+        let p = program.now in
+        let post = tree_at t p.post in
+        let walk = walked p.bound p.code.now (id_trees t p.invs.now) post fuel in
+        let insn = slice_get p.code.now index in
+        IfOk result (IsIdOf table.new (walked_at None walk post index insn terms)) }
+    ensures extends { Extends table.old table.new }
+    ensures walking { Walks table.new program.now symbols.now shifts.new kept.new }
+{
+    // Only the clauses speak of them.
+    let _ = symbols;
+    let _ = &kept;
+    let mut fresh = PutMemo::new(table.allocator());
+    walk_insn(table, shifts, &mut fresh, program, fuel, index, after)
+}
+
+/// The same where steps are counted: one has to be left, and the walk goes on with one less.
+#[cycle(walking)]
+fn walk_counted(
+    table: &mut Table,
+    shifts: &mut Memo,
+    kept: &mut PutMemo,
+    program: &Program,
+    fuel: u32,
+    index: u32,
+    symbols: &Symbols,
+) -> Result<Id, Exhausted>
+    requires walking { Walks table.old program.now symbols.now shifts.old kept.old }
+    requires within { index < length program.now.code.now }
+    ensures id { let t = table.old in
+        let terms = machine_terms_at t (ids_of symbols.now) in
+        let p = program.now in
+        let post = tree_at t p.post in
+        let walk = walked p.bound p.code.now (id_trees t p.invs.now) post fuel in
+        let insn = slice_get p.code.now index in
+        let here = rel_term Ult (lit 0) terms.left in
+        let rest = walked_at None walk post index insn (one_less terms) in
+        IfOk result (IsIdOf table.new (and_term here rest)) }
+    ensures extends { Extends table.old table.new }
+    ensures walking { Walks table.new program.now symbols.now shifts.new kept.new }
+{
+    let (here, after) = step(table, symbols)?;
+    let rest = walk_insn_with(table, shifts, kept, program, fuel, index, symbols, &after)?;
+    Ok(app2(table, AND, here, rest)?)
+}
+
+/// The term of the walk from the instruction at `index`, whether that is annotated or not.
+#[cycle(walking)]
+pub(crate) fn walk_from(
+    table: &mut Table,
+    shifts: &mut Memo,
+    kept: &mut PutMemo,
+    program: &Program,
+    fuel: u32,
+    index: u32,
+    symbols: &Symbols,
+) -> Result<Id, Exhausted>
+    requires walking { Walks table.old program.now symbols.now shifts.old kept.old }
+    requires within { index < length program.now.code.now }
+    ensures id { let t = table.old in
+        let terms = machine_terms_at t (ids_of symbols.now) in
+        let p = program.now in
+        let post = tree_at t p.post in
+        let walk = walked p.bound p.code.now (id_trees t p.invs.now) post fuel in
+        let insn = slice_get p.code.now index in
+        IfOk result (IsIdOf table.new (walked_at p.bound walk post index insn terms)) }
+    ensures extends { Extends table.old table.new }
+    ensures walking { Walks table.new program.now symbols.now shifts.new kept.new }
+{
+    match program.bound {
+        None => walk_insn(table, shifts, kept, program, fuel, index, symbols),
+        Some(_) => walk_counted(table, shifts, kept, program, fuel, index, symbols),
+    }
+}
+
+/// The term of the walk from index 0, where all steps are left, if they are counted; `start` is
+/// each of the machine's variables for itself.
+pub(crate) fn walk_entry(
+    table: &mut Table,
+    shifts: &mut Memo,
+    kept: &mut PutMemo,
+    program: &Program,
+    start: &Symbols,
+) -> Result<Id, Exhausted>
+    requires walking { Walks table.old program.now start.now shifts.old kept.old }
+    requires start { machine_terms_at table.old (ids_of start.now) ≡ start_terms }
+    ensures id { let t = table.old in
+        let p = program.now in
+        let all = length p.code.now in
+        let walk = walked p.bound p.code.now (id_trees t p.invs.now) (tree_at t p.post) all in
+        IfOk result (IsIdOf table.new (walk 0 (entry_terms p.bound))) }
+    ensures extends { Extends table.old table.new }
+    ensures walking { Walks table.new program.now start.now shifts.new kept.new }
+{
+    let count = program.code.count();
+    match program.bound {
+        None => walk(table, shifts, kept, program, count, 0, start),
+        Some(bound) => {
+            let entry = start.bounded(table, bound)?;
+            walk_with(table, shifts, kept, program, count, 0, start, &entry)
+        }
     }
 }

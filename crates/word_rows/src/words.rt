@@ -44,7 +44,7 @@ fn source_text(alloc: Global, text: &str, profile: Profile) -> Result<String, Al
     if bytes.len() > MAX_SOURCE {
         return format!(in alloc; "too long");
     }
-    match read_source(alloc, bytes, profile) {
+    match read_source(alloc, bytes, profile, false) {
         Ok(source) => first_text(alloc, &source, profile),
         Err(LineFault::At(_, flaw)) => format!(in alloc; "{flaw:?}"),
         Err(LineFault::Memory) => format!(in alloc; "no memory"),

@@ -1,4 +1,4 @@
-use Rattle.class_rows.proofs.Rows.{small_worked, returns_worked, loads_worked, shapes_worked, forms_worked, bounds_worked, access_worked, later_sums_worked, later_bits_worked, later_bytes_worked, later_others_worked}
+use Rattle.class_rows.proofs.Rows.{small_worked, returns_worked, loads_worked, shapes_worked, forms_worked, bounds_worked, access_worked, later_sums_worked, later_bits_worked, later_bytes_worked, later_others_worked, differences_worked, counted_sums_worked, uncounted_worked}
 use Rattle.class_rows.proofs.worked_rows.Goals as goal
 
 pub returns : goal.returns
@@ -14,4 +14,7 @@ returns c = record {
   later_bits = later_bits_worked;
   later_bytes = later_bytes_worked;
   later_others = later_others_worked;
+  differences = differences_worked;
+  counted_sums = counted_sums_worked;
+  uncounted = uncounted_worked;
 }

@@ -102,25 +102,25 @@ pub record AreMeant (t : TableView) (ids : List Hypothesis) (asked : Asked) (gra
 abbrev pub IsOpeningAt : TableView → TableView → List Hypothesis → ℕ → Asked → Grant → ℕ → Option Opening → Type 0
 IsOpeningAt t u hyps outside asked grant z o =
     (Γ : Hyps) (a : Exp) (P : Form) (x : Exp) → AreMeant t hyps asked grant Γ a P → tree_at t z ≡ exp_encoding x →
-    IfOpened u (opened_at class.without_access grant.quantified outside Γ a P x) o
+    IfOpened u (opened_at (class.without_access asked.counted) grant.quantified outside Γ a P x) o
 
 -- the same, with the way from the address to itself
 abbrev pub IsFoundHere : TableView → TableView → List Hypothesis → ℕ → Asked → Grant → ℕ → Option Found → Type 0
 IsFoundHere t u hyps outside asked grant z o =
     (Γ : Hyps) (a : Exp) (P : Form) (x : Exp) → AreMeant t hyps asked grant Γ a P → tree_at t z ≡ exp_encoding x →
-    IfFound u (no_way (opened_at class.without_access grant.quantified outside Γ a P x)) o
+    IfFound u (no_way (opened_at (class.without_access asked.counted) grant.quantified outside Γ a P x)) o
 
 -- the first address of the formula that gives something, whatever the ids stand for
 abbrev pub IsWalk : TableView → TableView → List Hypothesis → ℕ → Asked → Grant → ℕ → Option Found → Type 0
 IsWalk t u hyps outside asked grant form o =
     (Γ : Hyps) (a : Exp) (P A : Form) → AreMeant t hyps asked grant Γ a P → tree_at t form ≡ form_encoding A →
-    IfFound u (first_opened (access_of asked.access) (opened_at class.without_access grant.quantified outside Γ a P) A) o
+    IfFound u (first_opened (access_of asked.access) (opened_at (class.without_access asked.counted) grant.quantified outside Γ a P) A) o
 
 -- the same of a conjunction
 abbrev pub IsBothWalk : TableView → TableView → List Hypothesis → ℕ → Asked → Grant → ℕ → ℕ → Option Found → Type 0
 IsBothWalk t u hyps outside asked grant left right o =
     (Γ : Hyps) (a : Exp) (P A B : Form) → AreMeant t hyps asked grant Γ a P → tree_at t left ≡ form_encoding A → tree_at t right ≡ form_encoding B →
-    IfFound u (first_opened (access_of asked.access) (opened_at class.without_access grant.quantified outside Γ a P) (FAnd A B)) o
+    IfFound u (first_opened (access_of asked.access) (opened_at (class.without_access asked.counted) grant.quantified outside Γ a P) (FAnd A B)) o
 
 -- nothing opens in the formulas that were gone through
 abbrev pub AreMisses : TableView → List Hypothesis → ℕ → Asked → Grant → BTreeSet Part → Type 0
@@ -131,7 +131,7 @@ AreMisses t hyps outside asked grant misses =
 abbrev pub IsGranted : TableView → TableView → List Hypothesis → ℕ → Asked → Grant → Option ℕ → Type 0
 IsGranted t u hyps outside asked grant o =
     (Γ : Hyps) (a : Exp) (P Q : Form) → AreMeant t hyps asked grant Γ a P → tree_at t grant.conclusion ≡ form_encoding Q →
-    Stands u (by_grant class.without_access grant.quantified outside Γ (access_of asked.access) a P Q (tree_at t grant.proof)) o
+    Stands u (by_grant (class.without_access asked.counted) grant.quantified outside Γ (access_of asked.access) a P Q (tree_at t grant.proof)) o
 
 -- ---- hypotheses
 
@@ -139,10 +139,10 @@ IsGranted t u hyps outside asked grant o =
 abbrev pub IsHypProof : TableView → TableView → List Hypothesis → ℕ → Asked → ℕ → ℕ → Option ℕ → Type 0
 IsHypProof t u hyps outside asked form proof o =
     (Γ : Hyps) (a : Exp) (A : Form) → AreHyps t hyps Γ → tree_at t asked.address ≡ exp_encoding a → tree_at t form ≡ form_encoding A →
-    Stands u (class.by_hyp class.without_access outside Γ (access_of asked.access) a A (tree_at t proof)) o
+    Stands u (class.by_hyp (class.without_access asked.counted) outside Γ (access_of asked.access) a A (tree_at t proof)) o
 
 -- access by a quantified hypothesis over a body
 abbrev pub IsBodyProof : TableView → TableView → List Hypothesis → ℕ → Asked → ℕ → ℕ → Option ℕ → Type 0
 IsBodyProof t u hyps outside asked body proof o =
     (Γ : Hyps) (a : Exp) (B : Form) → AreHyps t hyps Γ → tree_at t asked.address ≡ exp_encoding a → tree_at t body ≡ form_encoding B →
-    Stands u (class.by_hyp class.without_access outside Γ (access_of asked.access) a (FAll B) (tree_at t proof)) o
+    Stands u (class.by_hyp (class.without_access asked.counted) outside Γ (access_of asked.access) a (FAll B) (tree_at t proof)) o

@@ -1,5 +1,5 @@
 -- Relations that words alone prove, on ids.
-use Rattle.std.specs.Prelude.{◌≡◌, ℕ, Option, Some, None, List, [], ◌∷◌}
+use Rattle.std.specs.Prelude.{◌≡◌, ℕ, Bool, Option, Some, None, List, [], ◌∷◌}
 use Rattle.term_table.specs.Tree.{Tree}
 use Rattle.term_table.specs.Table.{TableView, tree_at, Stands}
 use Rattle.word_ops.specs.declared.Rel.{Rel}
@@ -29,9 +29,9 @@ IsRelationProof prove t u hyps rel a b o =
     (Γ : Hyps) (x y : Exp) → AreHyps t hyps Γ → tree_at t a ≡ exp_encoding x → tree_at t b ≡ exp_encoding y → Stands u (prove Γ (FRel rel x y)) o
 
 -- what is given by bounds of whatever expressions the ids stand for, or none
-abbrev pub IsBoundsProof : (Exp → Exp → WordBound → WordBound → Option Tree) → TableView → TableView → List Hypothesis → ℕ → ℕ → Option ℕ → Type 0
-IsBoundsProof prove t u hyps a b o =
-    (Γ : Hyps) (x y : Exp) → AreHyps t hyps Γ → tree_at t a ≡ exp_encoding x → tree_at t b ≡ exp_encoding y → Stands u (prove x y (upper_bound Γ x) (lower_bound Γ y)) o
+abbrev pub IsBoundsProof : Bool → (Exp → Exp → WordBound → WordBound → Option Tree) → TableView → TableView → List Hypothesis → ℕ → ℕ → Option ℕ → Type 0
+IsBoundsProof counted prove t u hyps a b o =
+    (Γ : Hyps) (x y : Exp) → AreHyps t hyps Γ → tree_at t a ≡ exp_encoding x → tree_at t b ≡ exp_encoding y → Stands u (prove x y (upper_bound Γ x) (lower_bound counted Γ y)) o
 
 -- an expression that a formula says to be a multiple of 8
 pub record IsAlignedOf (t : TableView) (A : Form) (id : ℕ) : Type 0 where

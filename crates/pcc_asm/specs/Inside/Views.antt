@@ -1,5 +1,5 @@
 -- Parts of a source as they stand in memory, without addresses, and what private functions say of them.
-use Rattle.std.specs.Prelude.{◌≡◌, ℕ, ◌<◌, ◌≤◌, ◌^◌, List, [], map, None, Result, Ok, Err}
+use Rattle.std.specs.Prelude.{◌≡◌, ℕ, ◌<◌, ◌≤◌, ◌^◌, Bool, List, [], map, None, Result, Ok, Err}
 use Rattle.std.specs.Borrow.{Bor}
 use Rattle.std.specs.List.{AllByRecursion}
 use Rattle.std.specs.Ordering.{nat_cmp}
@@ -9,7 +9,7 @@ use Rattle.alpha_words.specs.declared.insn.Insn.{Insn}
 use Rattle.alpha_words.specs.Lawful.{fault_of, HasFormat}
 use Rattle.formula_tree.specs.declared.form.Form as lent
 use Rattle.formula_tree.specs.Formulas.{Form}
-use Rattle.formula_tree.specs.Scope.{IsOver}
+use Rattle.formula_tree.specs.Scope.{IsWithin}
 use Rattle.formula_tree.specs.Sizes.{form_height}
 use Rattle.formula_tree.specs.Views.{form_view}
 use Rattle.term_table.specs.Table.{TableView, id_trees}
@@ -67,9 +67,10 @@ abbrev pub bytes_or_flaw : Result (List Insn) AsmFlaw → Result (List ℕ) AsmF
 bytes_or_flaw (Ok insns) = Ok (code_bytes insns)
 bytes_or_flaw (Err flaw) = Err flaw
 
--- a formula over m and registers below 32 that isn't too high to be encoded
-abbrev pub IsEncodableForm : Form → Type 0
-IsEncodableForm F = IsOver 32 F [] × (form_height F < 2 ^ 31)
+-- a formula over m and registers below 32, which may name the steps that are left where the flag is
+-- true, that isn't too high to be encoded
+abbrev pub IsEncodableForm : Bool → Form → Type 0
+IsEncodableForm left F = IsWithin left 32 F [] × (form_height F < 2 ^ 31)
 
 -- the ids stand for the encodings of the invariants
 pub record AreEncoded (t : TableView) (invs : List (ℕ × Form)) (ids : List (ℕ × ℕ)) : Type 0 where

@@ -57,7 +57,7 @@ summary_of policy n shown =
 -- the container of version 1 with its proof
 unfoldable pub demo_container : PolicyView → ℕ → Stage (List ℕ)
 demo_container policy n = do
-  container ← assembled_in 1 policy (demo_source n)
+  container ← assembled_in 1 None policy (demo_source n)
   proved_in policy container
 
 -- what is told

@@ -34,8 +34,8 @@ members_with [] packets = []
 members_with (m ∷ host) [] = []
 members_with (m ∷ host) (packet ∷ packets) = record { policy = m.accepted.policy; code = m.accepted.code; packet = packet.items } ∷ members_with host packets
 
--- Agent a of a host is where its run alone takes it from a start with so many steps: out of steps it may go on, and the rights of the
--- start fit it; or it has returned.
+-- Agent a of a host is where its run alone takes it from a start with so many steps: out of steps it
+-- may go on, and the rights of the start fit it, with some number of steps left; or it has returned.
 pub record StandsAt (a : ℕ) (agent : Member) (setup : StartView) (steps : ℕ) (m : HostedView) : Type 0 where
   pub policy : m.accepted.policy ≡ agent.policy
   pub code : m.accepted.code ≡ agent.code
@@ -44,7 +44,7 @@ pub record StandsAt (a : ℕ) (agent : Member) (setup : StartView) (steps : ℕ)
   pub state : (alone a agent setup steps).1 ≡ part_state (part_of m) (rights_of setup)
   pub loaded : m.phase ≢ phases.Unloaded
   pub out : m.phase ≡ phases.Ready → (alone a agent setup steps).0 ≡ outcomes.OutOfSteps
-  pub fits : m.phase ≡ phases.Ready → RightsFitAgent m (rights_of setup)
+  pub fits : m.phase ≡ phases.Ready → (left : ℕ) × RightsFitAgent m left (rights_of setup)
   pub ended : m.phase ≡ phases.Returned → may_go_on (alone a agent setup steps).0 ≡ false
 
 -- agent a of a host is where turns take it from the start of its packet

@@ -5,12 +5,12 @@ use Rattle.alpha_cfg.specs.declared.fault.CodeFlaw.{CodeFlaw}
 use Rattle.alpha_cfg.specs.CodeDecoding.{decoded_code}
 use Rattle.policy_set.specs.Views.{PolicyView}
 use Rattle.proof_container.specs.Contents.{Contents}
+use Rattle.proof_container.specs.Versions.{profile_of}
 use Rattle.proof_container.specs.Decoding.{Fault, decoded_container}
 use Rattle.pcc_lines.specs.Fixed.{container_too_long_line}
 use Rattle.pcc_lines.specs.Refusals.{refusal_line}
 use Rattle.pcc_gate.specs.declared.refusal.Refusal.TheVariants as refusal
 use Rattle.pcc_gate.specs.ForPolicy.{is_for}
-use Rattle.pcc_gate.specs.Versions.{head_profile}
 use Rattle.pcc_exit.specs.Stages.{Stage, stops, gives, reads, ◌>>=◌}
 use Rattle.pcc_cli.specs.Stages.Common.{refused}
 use Rattle.pcc_cli.specs.declared.stages.TheConstants.{MAX_FILE}
@@ -35,7 +35,7 @@ code_found (Err flaw) = stops (refused (refusal_line (refusal.BadCode flaw)))
 unfoldable pub code_in : PolicyView → List ℕ → Stage (List Insn)
 code_in policy bytes = do
   container ← container_in policy bytes
-  code_found (decoded_code (head_profile container.head) container.code)
+  code_found (decoded_code (profile_of container.version) container.code)
 
 -- the bytes of the container's file of the name
 abbrev pub container_bytes_of : List ℕ → Stage (List ℕ)

@@ -1,6 +1,6 @@
-//! `asm POLICY IN OUT [--v2]`: assembles a source into a container without a proof.
+//! `asm POLICY IN OUT [--v2] [--bound N]`: assembles a source into a container without a proof.
 
-ghost use Rattle.pcc_words.specs.Invocations.{asm};
+ghost use Rattle.pcc_words.specs.Commands.{asm_of, IsVersionOf};
 ghost use Rattle.pcc_cli.specs.Tasks.{stage_of};
 ghost use Rattle.pcc_cli.specs.Inside.Decisions.{Decides};
 
@@ -18,12 +18,12 @@ pub fn asm_command<'a, F: Files>(
     args: AsmArgs<'a>,
     files: &mut F,
 ) -> Result<Report, Stop<'a>>
-    ensures { let a = args.entry in
-        Decides (stage_of (asm a.policy.now a.input.now a.output.now a.version))
+    requires { IsVersionOf args.bound args.version }
+    ensures { Decides (stage_of (asm_of args.entry))
         (F.log files.old) (F.log files.new) (F.state files.old) (F.state files.new) result }
 {
     let policy = policy_named(alloc, args.policy)?;
-    let container = assembled_of(alloc, args.version, &policy, args.input, files)?;
+    let container = assembled_of(alloc, args.version, args.bound, &policy, args.input, files)?;
     drop(policy);
     write_to(args.output, &container, files)
 }

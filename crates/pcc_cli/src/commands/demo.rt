@@ -112,7 +112,7 @@ fn proved_demo<'a>(alloc: Global, policy: &Policy, n: u32) -> Result<Vec<u8>, St
     let Ok(source) = demo_source(alloc, n) else {
         return Err(Stop::Memory);
     };
-    let container = match assembled_in(alloc, 1, policy, &source) {
+    let container = match assembled_in(alloc, 1, None, policy, &source) {
         Ok(container) => container,
         Err(stop) => return Err(stop),
     };

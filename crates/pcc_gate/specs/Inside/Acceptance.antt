@@ -16,7 +16,8 @@ use Rattle.lf_signature.specs.declared.WordSignature.TheVariants.{Sigma3}
 use Rattle.term_table.specs.Table.{TableView, IsKnown, tree_at, id_trees}
 use Rattle.vcgen.specs.Conditions.{condition}
 use Rattle.vcgen.specs.Encoded.{annotated, AreForms, AreEncodings}
-use Rattle.vcgen.specs.Safety.{IsSafe}
+use Rattle.vcgen.specs.Safety.{IsBound, IsSafe}
+use Rattle.pcc_gate.specs.Safe.{ReturnsInBound}
 use Rattle.pcc_gate.specs.declared.fault.GateFault.{GateFault}
 use Rattle.pcc_gate.specs.declared.fault.GateFault.TheVariants as fault
 use Rattle.pcc_gate.specs.declared.limits.TheConstants.{MAX_WEIGHT}
@@ -24,17 +25,21 @@ use Rattle.pcc_gate.specs.declared.refusal.Refusal.TheVariants as refusal
 use Rattle.pcc_gate.specs.First.{vc_of, proves, first_proof}
 use Rattle.pcc_gate.specs.Inside.Stages.{Refuses}
 
--- the code is safe for the policy, its invariants are forms, and the condition of their formulas is true in every structure
-pub record IsProved (policy : PolicyView) (cut : CutView) (table : TableView)
+-- the code is safe for the policy, and returns within the bound, its invariants are forms, and the
+-- condition of their formulas is true in every structure
+pub record IsProved (policy : PolicyView) (bound : Option ℕ) (cut : CutView) (table : TableView)
     (invs : List (ℕ × ℕ)) : Type 0 where
   pub policy_is : IsPolicy policy
+  pub fits : IsBound bound
   pub code : IsCode cut.code
   pub flags : AreFlags (map (λ p. p.0) (id_trees table invs)) (length cut.code) cut.marks
   pub cuts : IsCut cut.code cut.marks
   pub known : AllByRecursion (λ (inv : ℕ × ℕ). IsKnown table inv.1) invs
-  pub forms : AreForms Sigma3 (id_trees table invs)
+  pub forms : AreForms Sigma3 bound (id_trees table invs)
   pub safe : IsSafe cut.code policy.pre policy.post
-  pub valid : (formulas : List (ℕ × Form)) → AreEncodings (id_trees table invs) formulas → IsValid (condition (annotated policy cut.code formulas))
+  pub returns : ReturnsInBound policy bound cut.code
+  pub valid : (formulas : List (ℕ × Form)) → AreEncodings bound (id_trees table invs) formulas
+      → IsValid (condition (annotated policy bound cut.code formulas))
 
 -- the proof isn't too heavy, by the parameters of the signature, and is the one that there is
 abbrev pub IsProofFound : WordSignature → TableView → Option ℕ → Result ℕ GateFault → Type 0
@@ -42,11 +47,12 @@ IsProofFound s t proof (Ok id) =
     (proof ≡ Some id) × IsKnown t id × (weight_of (places_of s) (tree_at t id) ≤ MAX_WEIGHT)
 IsProofFound s t proof (Err e) = Refuses (λ vc. first_proof s vc (option_map (tree_at t) proof)) e
 
--- clause 11 over the signature, the proof's term being given
-abbrev pub IsProofAnswer : WordSignature → PolicyView → List Insn → List (ℕ × Tree) → Tree
-    → Result Unit GateFault → Type 0
-IsProofAnswer s policy code invs proof (Ok _) = proves s proof (vc_of policy code invs) ≡ true
-IsProofAnswer s policy code invs proof (Err (fault.Refused r)) =
-    (proves s proof (vc_of policy code invs) ≡ false) × (r ≡ refusal.NotProof)
-IsProofAnswer s policy code invs proof (Err fault.Memory) = Unit {0}
-IsProofAnswer s policy code invs proof (Err fault.Results) = Unit {0}
+-- clause 11 over the signature, with the bound, the proof's term being given
+abbrev pub IsProofAnswer : WordSignature → PolicyView → Option ℕ → List Insn → List (ℕ × Tree)
+    → Tree → Result Unit GateFault → Type 0
+IsProofAnswer s policy bound code invs proof (Ok _) =
+    proves s proof (vc_of policy bound code invs) ≡ true
+IsProofAnswer s policy bound code invs proof (Err (fault.Refused r)) =
+    (proves s proof (vc_of policy bound code invs) ≡ false) × (r ≡ refusal.NotProof)
+IsProofAnswer s policy bound code invs proof (Err fault.Memory) = Unit {0}
+IsProofAnswer s policy bound code invs proof (Err fault.Results) = Unit {0}

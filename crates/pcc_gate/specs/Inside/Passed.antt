@@ -12,20 +12,20 @@ use Rattle.pcc_gate.specs.First.{first_code}
 use Rattle.pcc_gate.specs.Passing.{Passes}
 use Rattle.pcc_gate.specs.Answers.{IsHeld}
 use Rattle.pcc_gate.specs.Inside.Stages.{Refuses, RefusesBytes, IsShaped}
-use Rattle.pcc_gate.specs.Versions.{head_profile, head_signature}
+use Rattle.proof_container.specs.Versions.{profile_of, signature_of}
 
 -- what passed clauses 4 to 8 of the contents
 pub record IsRest (c : Contents) (p : Passed) : Type 0 where
   pub contents : contents_of p.container ≡ c
   pub held : IsHeld p.container
-  pub encoded : EncodesCode (head_profile c.head) c.code p.cut.code
+  pub encoded : EncodesCode (profile_of c.version) c.code p.cut.code
   pub is : IsCode p.cut.code
-  pub shaped : IsShaped (head_signature c.head) c p.cut.code p.cut
+  pub shaped : IsShaped (signature_of c.version) c p.cut.code p.cut
 
 -- clauses 4 to 8
 abbrev pub IsRestAnswer : Contents → Result Passed GateFault → Type 0
 IsRestAnswer c (Ok p) = IsRest c p
-IsRestAnswer c (Err e) = Refuses (first_code c (decoded_code (head_profile c.head) c.code)) e
+IsRestAnswer c (Err e) = Refuses (first_code c (decoded_code (profile_of c.version) c.code)) e
 
 -- clauses 1 to 8
 abbrev pub IsPassedAnswer : PolicyView → List ℕ → Result Passed GateFault → Type 0

@@ -82,29 +82,32 @@ abbrev pub IsLengthAnswer : List Insn → List Bool → Result Unit GateFault �
 IsLengthAnswer code marks (Ok _) = unfolded_of code marks ≤ MAX_UNFOLDED
 IsLengthAnswer code marks (Err e) = Refuses (first_long code marks) e
 
--- contents of which the roots alone are of interest, by their ids
-abbrev pub with_roots : TableView → List (ℕ × ℕ) → Option ℕ → Contents
-with_roots t invs proof = record {
+-- contents of which the bound and the roots alone are of interest, these by their ids
+abbrev pub with_roots : TableView → Option ℕ → List (ℕ × ℕ) → Option ℕ → Contents
+with_roots t bound invs proof = record {
+  version = 1;
   head = Number 0;
+  bound = bound;
   code = [];
   invs = id_trees t invs;
   proof = option_map (tree_at t) proof;
 }
 
--- the first refusal by clause 6 over the signature, and what comes after
-abbrev pub first_no_form : WordSignature → List (ℕ × Tree) → Option Refusal → Option Refusal
-first_no_form s invs next = refused_by refusal.InvNotForm (formless s 0 invs) next
+-- the first refusal by clause 6 over the signature, with the bound, and what comes after
+abbrev pub first_no_form : WordSignature → Option ℕ → List (ℕ × Tree) → Option Refusal
+    → Option Refusal
+first_no_form s bound invs next = refused_by refusal.InvNotForm (formless s bound 0 invs) next
 
 -- clause 6
-abbrev pub AreFormed : WordSignature → List (ℕ × Tree) → Result Unit GateFault → Type 0
-AreFormed s invs (Ok _) = formless s 0 invs ≡ None
-AreFormed s invs (Err e) = Refuses (first_no_form s invs) e
+abbrev pub AreFormed : WordSignature → Option ℕ → List (ℕ × Tree) → Result Unit GateFault → Type 0
+AreFormed s bound invs (Ok _) = formless s bound 0 invs ≡ None
+AreFormed s bound invs (Err e) = Refuses (first_no_form s bound invs) e
 
 -- cut code of contents that pass clauses 5 to 8 over the signature
 pub record IsShaped (s : WordSignature) (c : Contents) (code : List Insn) (cut : CutView)
     : Type 0 where
   pub low : too_high (roots c) ≡ None
-  pub forms : formless s 0 c.invs ≡ None
+  pub forms : formless s c.bound 0 c.invs ≡ None
   pub made : IsMade code (map (λ p. p.0) c.invs) cut
   pub short : unfolded_of code cut.marks ≤ MAX_UNFOLDED
 

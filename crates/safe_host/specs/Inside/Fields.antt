@@ -12,9 +12,11 @@ use Rattle.safe_host.specs.Hosts.{HostView, RightsFit}
 abbrev pub host_view : Inside → HostView
 host_view h = record { accepted = h.accepted; index = h.index; regs = h.slots; words = h.words.items; region = h.region; live = h.live }
 
--- some rights fit, whose stores end at a place of the arena or before it
+-- some rights fit, with some number of steps left, whose stores end at a place of the arena or
+-- before it
 abbrev pub HasRightsBefore : ℕ → HostView → Type 0
-HasRightsBefore end h = (rights : Rights) × (RightsFit h rights) × (EndBy ARENA end rights.writes)
+HasRightsBefore end h =
+    (left : ℕ) × (rights : Rights) × RightsFit h left rights × EndBy ARENA end rights.writes
 
 -- what holds of every host
 pub record IsHost (h : Inside) : Type 0 where

@@ -8,6 +8,7 @@ use Rattle.term_table.specs.Table.{TableView, IsKnown, tree_at}
 use Rattle.hereditary_subst.specs.declared.kept.Memo.{Memo}
 use Rattle.hereditary_subst.specs.Kept.{IsMemo}
 use Rattle.lf_signature.specs.Nodes.{IsIdOf}
+use Rattle.lf_encode.specs.declared.puts.MachineIds.{MachineIds}
 use Rattle.lf_encode.specs.declared.puts.PutMemo.{PutMemo}
 use Rattle.lf_encode.specs.PutTree.{MachineTerms, machine_terms_at}
 use Rattle.lf_encode.specs.Kept.{IsPutMemo, AreMachineTerms}
@@ -18,6 +19,10 @@ use Rattle.vcgen.specs.declared.effects.Effect as rust
 use Rattle.vcgen.specs.declared.effects.Effect.TheVariants as E
 use Rattle.vcgen.specs.Inside.Uses.{AreUses}
 use Rattle.vcgen.specs.Inside.WalkTree.{InsnEffect, Computed, Access, Split, Jump, Return}
+
+-- the terms of a walk, as they are put
+abbrev pub ids_of : Symbols → MachineIds
+ids_of s = record { regs = s.regs; memory = s.memory; left = s.left }
 
 -- the id stands for the term, which can be shifted over so many binders as a formula may have
 pub record IsTermFor (t : TableView) (tree : Tree) (id : ℕ) : Type 0 where
@@ -41,16 +46,16 @@ pub record IsProgram (t : TableView) (insns : List Insn) (ids : List (ℕ × ℕ
   pub low : height_of (tree_at t at_end) < 2 ^ 31
 
 -- a program, ids for the machine's variables, and what is kept of their terms, are right of the table
-pub record IsWalking (t : TableView) (insns : List Insn) (ids : List (ℕ × ℕ)) (at_end : ℕ) (registers : List ℕ) (m : ℕ) (memo : Memo) (puts : PutMemo) : Type 0 where
+pub record IsWalking (t : TableView) (insns : List Insn) (ids : List (ℕ × ℕ)) (at_end : ℕ) (machine : MachineIds) (memo : Memo) (puts : PutMemo) : Type 0 where
   pub program : IsProgram t insns ids at_end
-  pub ready : AreMachineTerms t registers m
+  pub ready : AreMachineTerms t machine
   pub shifts : IsMemo t memo
-  pub kept : IsPutMemo t registers m puts
+  pub kept : IsPutMemo t machine puts
 
 -- the symbols stand for the terms
 pub record StandFor (t : TableView) (s : Symbols) (terms : MachineTerms) : Type 0 where
-  pub ready : AreMachineTerms t s.regs s.memory
-  pub are : machine_terms_at t s.regs s.memory ≡ terms
+  pub ready : AreMachineTerms t (ids_of s)
+  pub are : machine_terms_at t (ids_of s) ≡ terms
 
 -- An effect by ids is the one on terms, and what it goes on to is an index below the count.
 abbrev pub IsEffect : TableView → ℕ → ℕ → rust.Effect → InsnEffect → Type 0
@@ -63,22 +68,22 @@ IsEffect t count i _ _ = ⊥
 
 -- the same of what a walk has in memory
 abbrev pub Walks : TableView → Program → Symbols → Memo → PutMemo → Type 0
-Walks t p s memo puts = IsWalking t p.code.now p.invs.now p.post s.regs s.memory memo puts
+Walks t p s memo puts = IsWalking t p.code.now p.invs.now p.post (ids_of s) memo puts
 
 -- results of the terms that ids stand for, and of earlier ones, are right
-pub record AreComparisons (t : TableView) (registers : List ℕ) (m : ℕ) (c : Comparisons) : Type 0 where
-  pub puts : IsPutMemo t registers m c.puts
-  pub ready : AreMachineTerms t c.earlier.regs c.earlier.memory
-  pub before : IsPutMemo t c.earlier.regs c.earlier.memory c.before
+pub record AreComparisons (t : TableView) (machine : MachineIds) (c : Comparisons) : Type 0 where
+  pub puts : IsPutMemo t machine c.puts
+  pub ready : AreMachineTerms t (ids_of c.earlier)
+  pub before : IsPutMemo t (ids_of c.earlier) c.before
   pub uses : AreUses t c.uses
 
 -- a program, ids for the machine's variables, and what comparisons with their terms kept, are right of the table
-pub record IsComparing (t : TableView) (insns : List Insn) (ids : List (ℕ × ℕ)) (at_end : ℕ) (registers : List ℕ) (m : ℕ) (memo : Memo) (c : Comparisons) : Type 0 where
+pub record IsComparing (t : TableView) (insns : List Insn) (ids : List (ℕ × ℕ)) (at_end : ℕ) (machine : MachineIds) (memo : Memo) (c : Comparisons) : Type 0 where
   pub program : IsProgram t insns ids at_end
-  pub ready : AreMachineTerms t registers m
+  pub ready : AreMachineTerms t machine
   pub shifts : IsMemo t memo
-  pub kept : AreComparisons t registers m c
+  pub kept : AreComparisons t machine c
 
 -- the same of what a walk that compares has in memory
 abbrev pub Compares : TableView → Program → Symbols → Memo → Comparisons → Type 0
-Compares t p s memo c = IsComparing t p.code.now p.invs.now p.post s.regs s.memory memo c
+Compares t p s memo c = IsComparing t p.code.now p.invs.now p.post (ids_of s) memo c

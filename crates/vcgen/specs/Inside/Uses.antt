@@ -24,7 +24,7 @@ IsIdle k p t = (put_for p k ≡ Var k) ⊎ IsFreeOf k t
 
 -- so does each of the machine's variables from this one on
 abbrev pub AreIdleFrom : ℕ → MachineTerms → Tree → Type 0
-AreIdleFrom k p t = (j : ℕ) → k ≤ j → j < 32 → IsIdle j p t
+AreIdleFrom k p t = (j : ℕ) → k ≤ j → j < 33 → IsIdle j p t
 
 -- of a kept answer: where it is true, the place's term lacks the place's variable
 abbrev pub IsRow : TableView → Place → Bool → Type 0

@@ -1,8 +1,9 @@
--- The term of the verification condition by a walk forward on terms: what stands for r0 to r30 and m are terms in the context m, r0 to r30.
+-- The term of the verification condition by a walk forward on terms: what stands for r0 to r30, m
+-- and the steps that are left are terms in the context left, m, r0 to r30.
 use Rattle.std.specs.Prelude.{ℕ, zero, suc, ◌+◌, ◌==◌, if◌then◌else◌, List, [], ◌∷◌, length, slice_get, slice_index_or, slice_set, Option, Some, None, ℤ, ◌-◌, ◌^◌}
 use Rattle.std.specs.Int.{cast_unsigned, w64}
-use Rattle.word_ops.specs.declared.Op.TheVariants.{Add, Band}
-use Rattle.word_ops.specs.declared.Rel.TheVariants.{Eq, Slt, Sle}
+use Rattle.word_ops.specs.declared.Op.TheVariants.{Add, Sub, Band}
+use Rattle.word_ops.specs.declared.Rel.TheVariants.{Eq, Ult, Slt, Sle}
 use Rattle.alpha_words.specs.declared.insn.Rhs.{Rhs}
 use Rattle.alpha_words.specs.declared.insn.Rhs.TheVariants.{Reg, Lit}
 use Rattle.alpha_words.specs.declared.insn.Cond.{Cond}
@@ -120,10 +121,27 @@ walked_on next post i s (Split a b to) = and_term (imp_term a (walked_to next to
 walked_on next post i s (Jump to) = walked_to next to s
 walked_on next post i s Return = put_tree s 0 post
 
+-- the same of the instruction at i
+abbrev pub walked_insn : (ℕ → MachineTerms → Tree) → Tree → ℕ → Insn → MachineTerms → Tree
+walked_insn next post i insn s = walked_on next post i s (insn_effect i insn s)
+
+-- a term for the steps that are left
+abbrev pub with_left : MachineTerms → Tree → MachineTerms
+with_left s t = record s { left = t }
+
+-- one step less is left
+abbrev pub one_less : MachineTerms → MachineTerms
+one_less s = with_left s (op_term Sub s.left (lit 1))
+
+-- The same where steps are counted: one has to be left, and after it there is one less.
+abbrev pub walked_counted : Option ℕ → (ℕ → MachineTerms → Tree) → Tree → ℕ → Insn → MachineTerms → Tree
+walked_counted None next post i insn s = walked_insn next post i insn s
+walked_counted (Some bound) next post i insn s = and_term (rel_term Ult (lit 0) s.left) (walked_insn next post i insn (one_less s))
+
 -- the same of the instruction at i, if there is one
-abbrev pub walked_at : (ℕ → MachineTerms → Tree) → Tree → ℕ → Option Insn → MachineTerms → Tree
-walked_at next post i None s = falsity
-walked_at next post i (Some insn) s = walked_on next post i s (insn_effect i insn s)
+abbrev pub walked_at : Option ℕ → (ℕ → MachineTerms → Tree) → Tree → ℕ → Option Insn → MachineTerms → Tree
+walked_at bound next post i None s = falsity
+walked_at bound next post i (Some insn) s = walked_counted bound next post i insn s
 
 -- the term of an index's invariant, if it is annotated
 abbrev pub inv_term : List (ℕ × Tree) → ℕ → Option Tree
@@ -136,13 +154,13 @@ ended None t s = t
 ended (Some inv) t s = put_tree s 0 inv
 
 -- the walk over at most so many instructions
-abbrev pub walked : List Insn → List (ℕ × Tree) → Tree → ℕ → ℕ → MachineTerms → Tree
-walked code invs post zero i s = ended (inv_term invs i) falsity s
-walked code invs post (suc n) i s = ended (inv_term invs i) (walked_at (walked code invs post n) post i (slice_get code i) s) s
+abbrev pub walked : Option ℕ → List Insn → List (ℕ × Tree) → Tree → ℕ → ℕ → MachineTerms → Tree
+walked bound code invs post zero i s = ended (inv_term invs i) falsity s
+walked bound code invs post (suc n) i s = ended (inv_term invs i) (walked_at bound (walked bound code invs post n) post i (slice_get code i) s) s
 
 -- the same from an index whose own invariant doesn't end it
-abbrev pub walked_from : List Insn → List (ℕ × Tree) → Tree → ℕ → MachineTerms → Tree
-walked_from code invs post i s = walked_at (walked code invs post (length code)) post i (slice_get code i) s
+abbrev pub walked_from : Option ℕ → List Insn → List (ℕ × Tree) → Tree → ℕ → MachineTerms → Tree
+walked_from bound code invs post i s = walked_at bound (walked bound code invs post (length code)) post i (slice_get code i) s
 
 -- ---- the condition
 
@@ -151,9 +169,14 @@ abbrev pub var_terms : ℕ → List Tree
 var_terms zero = []
 var_terms (suc n) = Var n ∷ var_terms n
 
--- each of r0 to r30 and m for itself
+-- each of r0 to r30, m and the steps that are left for itself
 unfoldable pub start_terms : MachineTerms
-start_terms = record { regs = var_terms 31; memory = Var 31 }
+start_terms = record { regs = var_terms 31; memory = Var 31; left = Var 32 }
+
+-- the same at index 0, where all steps are left
+abbrev pub entry_terms : Option ℕ → MachineTerms
+entry_terms None = start_terms
+entry_terms (Some bound) = with_left start_terms (lit bound)
 
 -- n quantifiers over words
 abbrev pub all_terms : ℕ → Tree → Tree
@@ -161,14 +184,19 @@ all_terms zero t = t
 all_terms (suc n) t = all_term (all_terms n t)
 
 -- for all memories and registers
-unfoldable pub closed_term : Tree → Tree
-closed_term t = allm_term (all_terms 31 t)
+unfoldable pub machine_term : Tree → Tree
+machine_term t = allm_term (all_terms 31 t)
+
+-- the same, and where steps are counted for all numbers of them first
+abbrev pub closed_term : Option ℕ → Tree → Tree
+closed_term None t = machine_term t
+closed_term (Some bound) t = all_term (machine_term t)
 
 -- the parts of invariants, and'ed to the right
-abbrev pub part_terms : List Insn → List (ℕ × Tree) → Tree → List (ℕ × Tree) → Tree
-part_terms code invs post [] = truth
-part_terms code invs post (p ∷ ps) = and_term (closed_term (imp_term p.1 (walked_from code invs post p.0 start_terms))) (part_terms code invs post ps)
+abbrev pub part_terms : Option ℕ → List Insn → List (ℕ × Tree) → Tree → List (ℕ × Tree) → Tree
+part_terms bound code invs post [] = truth
+part_terms bound code invs post (p ∷ ps) = and_term (closed_term bound (imp_term p.1 (walked_from bound code invs post p.0 start_terms))) (part_terms bound code invs post ps)
 
 -- the condition, from the terms of what holds at the start and at the end, and of the invariants
-abbrev pub condition_term : List Insn → List (ℕ × Tree) → Tree → Tree → Tree
-condition_term code invs pre post = and_term (closed_term (imp_term pre (walked code invs post (length code) 0 start_terms))) (part_terms code invs post invs)
+abbrev pub condition_term : Option ℕ → List Insn → List (ℕ × Tree) → Tree → Tree → Tree
+condition_term bound code invs pre post = and_term (closed_term bound (imp_term pre (walked bound code invs post (length code) 0 (entry_terms bound)))) (part_terms bound code invs post invs)

@@ -8,7 +8,7 @@ abbrev pub invariant-lines : goal.invariant-lines
 invariant-lines l = record {
   sound : IsSoundProgress l.progress;
   near : l.n + length l.rest ≤ length l.fn.text + 1;
-  taken : take_lines l.fn.profile l.n (lines_of l.rest) (progress_view l.progress) ≡ parsed_source l.fn.profile l.fn.text;
+  taken : take_lines l.fn.profile l.fn.left l.n (lines_of l.rest) (progress_view l.progress) ≡ parsed_source l.fn.profile l.fn.left l.fn.text;
 }
 
 abbrev pub decreases-lines : goal.decreases-lines

@@ -10,7 +10,10 @@ pub returns : goal.returns
 returns c = record {
   insns = λ p ts i. (insn.spelled_parsed p ts i, insn.parsed_spelled p ts i);
   lines = λ text ls. (lines_are text ls, λ e. subst (λ l. AreLines text l) e (are_lines text));
-  sources = λ p text s. (source.spelled_parsed p text s, source.parsed_spelled p text s);
-  faults = λ p text n flaw. (fault_is p text n flaw, is_fault p text n flaw);
-  begins = λ p text n flaw lines h a. none_begins p text n flaw lines h a;
+  sources = λ p left text s. (
+    source.spelled_parsed p left text s,
+    source.parsed_spelled p left text s,
+  );
+  faults = λ p left text n flaw. (fault_is p left text n flaw, is_fault p left text n flaw);
+  begins = λ p left text n flaw lines h a. none_begins p left text n flaw lines h a;
 }

@@ -42,7 +42,7 @@ returns-in-Some-literal c = λ Γ x y qb qv qw.
     let e = EOp Sll x (ELit n) in
     let r = c.or_last_if.result in
     let found = c.or_last_if.ensures Γ e (limit Upper e) (c.apply-in-Some-literal.ensures ∙ ap (λ v. word_of Sll v n) qv) (c.limited-last.ensures Γ e) in
-    let fits = c.fits_shift.ensures ∙ ap (λ v. nat_le v (word_of Srl max_word n)) qv in
+    let fits = c.fits_shift-fits.ensures ∙ ap (λ v. nat_le v (word_of Srl max_word n)) qv in
     subst (IsPartChoice Γ x y r) (sym c.in-Sll.is)
     (subst (λ (z : Exp). IsPartChoice Γ x z r Sll) (sym is) (subst (λ (b : Bool). IsChoice Upper Γ e (least_bound (if b then by_left_shift e x n (upper_bound Γ x) ∷ [] else []) (limit Upper e)) r) fits found))
 

@@ -1,4 +1,4 @@
-use Rattle.std.proofs.Common.{◌≡◌, ℕ, ◌≤◌, List, length, map, Some, sym, ◌∙◌, ap, subst}
+use Rattle.std.proofs.Common.{◌≡◌, ℕ, ◌≤◌, List, length, map, Some, is_some, sym, ◌∙◌, ap, subst}
 use Rattle.std.specs.List.{AllByRecursion}
 use Rattle.alpha_cfg.specs.Cuts.{AreFlags}
 use Rattle.term_table.specs.Table.{IsKnown, tree_at, id_trees}
@@ -11,12 +11,11 @@ use Rattle.vcgen.specs.Answers.{AreLowInvs}
 use Rattle.vcgen.specs.Encoded.{AreForms}
 use Rattle.vcgen.proofs.Encodings.{forms-wider}
 use Rattle.lf_signature.specs.declared.WordSignature.TheVariants.{Sigma3}
-use Rattle.pcc_gate.specs.Versions.{head_signature}
+use Rattle.proof_container.specs.Versions.{signature_of}
 use Rattle.pcc_gate.proofs.Kept.{known-more, trees-same}
 use Rattle.pcc_gate.proofs.Refusing.{keys}
 use Rattle.pcc_gate.proofs.Stages.{low-invs}
 use Rattle.prover_class.specs.Parts.{condition_proof, first_not_easy}
-use Rattle.prover_class.specs.Access.{by_all_means}
 use Rattle.condition_prover.specs.Conditions.{condition_parts, IsKnownAnswer, IsPartsAnswer}
 use Rattle.bounds_prover.specs.Proving.{excess, encoded_unless, IsMadeAnswer}
 use Rattle.bounds_prover.proofs.Making.{same_invs, made-contents, not_easy-made, proof-made}
@@ -30,8 +29,9 @@ prove_condition-requires-clause-invs c =
 pub prove_condition-requires-clause-forms : goal.prove_condition-requires-clause-forms
 prove_condition-requires-clause-forms c =
     let k = c.args.passed.container in
-    subst (λ l. AreForms Sigma3 (id_trees k.table l)) (sym c.deref.ensures.value)
-    (forms-wider (head_signature k.head) (id_trees k.table k.invs.items) c.requires.passes.forms)
+    subst (λ l. AreForms Sigma3 k.bound (id_trees k.table l)) (sym c.deref.ensures.value)
+    (forms-wider (signature_of k.version) k.bound (id_trees k.table k.invs.items)
+    c.requires.passes.forms)
 
 pub prove_condition-requires-clause-marks : goal.prove_condition-requires-clause-marks
 prove_condition-requires-clause-marks c =
@@ -43,9 +43,9 @@ prove_condition-requires-clause-marks c =
 pub returns-in-NotEasy : goal.returns-in-NotEasy
 returns-in-NotEasy c =
     let k = c.args.passed.container in
-    let parts = λ (l : List (ℕ × ℕ)). condition_parts c.args.policy.now c.args.passed.cut.code (id_trees k.table l) in
-    let answer = subst (IsPartsAnswer c.prove_condition.new.table 0 (parts c.deref.result.now)) c.in-NotEasy.is c.in-Ok.ensures.exact in
-    not_easy-made (contents_of k) (parts k.invs.items) c.in-NotEasy.part (subst (λ l. first_not_easy by_all_means 0 (parts l) ≡ Some c.in-NotEasy.part) c.deref.ensures.value answer)
+    let parts = λ (l : List (ℕ × ℕ)). condition_parts c.args.policy.now k.bound c.args.passed.cut.code (id_trees k.table l) in
+    let answer = subst (IsPartsAnswer c.prove_condition.new.table (is_some k.bound) 0 (parts c.deref.result.now)) c.in-NotEasy.is c.in-Ok.ensures.exact in
+    not_easy-made (contents_of k) (parts k.invs.items) c.in-NotEasy.part (subst (λ l. first_not_easy (is_some k.bound) 0 (parts l) ≡ Some c.in-NotEasy.part) c.deref.ensures.value answer)
 
 pub written-requires-clause-roots : goal.written-requires-clause-roots
 written-requires-clause-roots c =
@@ -62,9 +62,9 @@ written-requires-clause-contents c = λ low few.
     let ps = k.invs.items in
     let p = tree_at u c.in-Proved.proof in
     let cut = c.args.passed.cut in
-    let parts = λ (l : List (ℕ × ℕ)). condition_parts c.args.policy.now cut.code (id_trees t l) in
-    let answer = subst (IsPartsAnswer u 0 (parts c.deref.result.now)) c.in-Proved.is c.in-Ok.ensures.exact in
-    let given = subst (λ l. condition_proof by_all_means (parts l) ≡ Some p) c.deref.ensures.value answer in
+    let parts = λ (l : List (ℕ × ℕ)). condition_parts c.args.policy.now k.bound cut.code (id_trees t l) in
+    let answer = subst (IsPartsAnswer u (is_some k.bound) 0 (parts c.deref.result.now)) c.in-Proved.is c.in-Ok.ensures.exact in
+    let given = subst (λ l. condition_proof (is_some k.bound) (parts l) ≡ Some p) c.deref.ensures.value answer in
     let same = same_invs (contents_of k) (id_trees u c.deref-in-Proved.result.now) p (ap (id_trees u) c.deref-in-Proved.ensures.value ∙ sym (trees-same t u ps c.in-Ok.ensures.extends c.requires.held.known.0)) in
     subst IsContents (sym same)
     (made-contents c.class_laws.ensures.sound c.args.policy.now c.laws.ensures c.args.bytes.now
@@ -78,9 +78,9 @@ returns c =
     let u = c.prove_condition.new.table in
     let ps = k.invs.items in
     let p = tree_at u c.in-Proved.proof in
-    let parts = λ (l : List (ℕ × ℕ)). condition_parts c.args.policy.now c.args.passed.cut.code (id_trees t l) in
-    let answer = subst (IsPartsAnswer u 0 (parts c.deref.result.now)) c.in-Proved.is c.in-Ok.ensures.exact in
-    let given = subst (λ l. condition_proof by_all_means (parts l) ≡ Some p) c.deref.ensures.value answer in
+    let parts = λ (l : List (ℕ × ℕ)). condition_parts c.args.policy.now k.bound c.args.passed.cut.code (id_trees t l) in
+    let answer = subst (IsPartsAnswer u (is_some k.bound) 0 (parts c.deref.result.now)) c.in-Proved.is c.in-Ok.ensures.exact in
+    let given = subst (λ l. condition_proof (is_some k.bound) (parts l) ≡ Some p) c.deref.ensures.value answer in
     let same = same_invs (contents_of k) (id_trees u c.deref-in-Proved.result.now) p (ap (id_trees u) c.deref-in-Proved.ensures.value ∙ sym (trees-same t u ps c.in-Ok.ensures.extends c.requires.held.known.0)) in
-    let none = (c.class_laws.ensures.exact (parts ps) 0).1 (p, given) in
+    let none = (c.class_laws.ensures.exact (is_some k.bound) (parts ps) 0).1 (p, given) in
     subst (λ m. IsMadeAnswer m c.written.result) (sym (proof-made (contents_of k) (parts ps) p none given)) (subst (λ d. IsMadeAnswer (encoded_unless (excess d p) d) c.written.result) same c.written.ensures)

@@ -15,7 +15,7 @@ returns-in_ok-moved-in-Right-clause-exact c = λ Γ a A g qa qf.
     let out = c.args.context.now.outside in
     let k = access_of c.args.asked.now.access in
     let h = tree_at c.args.table.now c.args.proof in
-    let is = ap (λ (Z : Form). by_hyp without_access out Γ k a Z h) at.is ∙ hyp-right without_access out Γ k a c.in-Right.given at.address h in
+    let is = ap (λ (Z : Form). by_hyp (without_access c.args.asked.now.counted) out Γ k a Z h) at.is ∙ hyp-right (without_access c.args.asked.now.counted) out Γ k a c.in-Right.given at.address h in
     subst (λ (z : Option Tree). Stands c.by_right.new.table z c.in_ok-moved-in-Right.moved) (sym is) (c.in_ok-moved-in-Right.ensures.exact at.address a at.address_is qa)
 
 pub returns-in_ok-moved-in-Right-clause-after : goal.returns-in_ok-moved-in-Right-clause-after

@@ -14,5 +14,5 @@ invariant-loop-i l = record {
   extends : Extends l.fn.table l.table;
   after : IsAfter l.table l.search l.fn.context l.context;
   none : (Γ : Hyps) (a : Exp) → AreHyps l.fn.table l.fn.context.hyps Γ → tree_at l.fn.table l.asked.address ≡ exp_encoding a →
-      by_hyps without_access l.fn.context.outside Γ (access_of l.asked.access) a Γ ≡ by_hyps without_access l.fn.context.outside Γ (access_of l.asked.access) a (drop l.i Γ);
+      by_hyps (without_access l.asked.counted) l.fn.context.outside Γ (access_of l.asked.access) a Γ ≡ by_hyps (without_access l.asked.counted) l.fn.context.outside Γ (access_of l.asked.access) a (drop l.i Γ);
 }

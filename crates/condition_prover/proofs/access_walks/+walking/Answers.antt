@@ -46,12 +46,12 @@ walk_both-returns-in_ok-further-in-Some-2-clause-exact g c = λ Γ w P A B m qa 
     let grant = c.args.grant.now in
     let k = access_of asked.access in
     let one = c.in_ok-found.ensures in
-    let f : Exp → Option Opened = opened_at class.without_access grant.quantified n.outside Γ w P in
+    let f : Exp → Option Opened = opened_at (class.without_access asked.counted) grant.quantified n.outside Γ w P in
     let none : first_opened k f A ≡ None = if_found-at t1 (first_opened k f A) c.in_ok-found.field-0 None c.in-None.is (one.exact Γ w P A m qa) in
     let later = meant-after t t1 c.walk.new.search n d asked grant Γ w P c.requires.context c.requires.asked c.requires.grant one.extends one.after m in
     let kb : IsKnown t c.args.b = omega (arith, c.requires.below.1, c.requires.form) in
     let right = c.in_ok-found-in-None.ensures.exact Γ w P B later (one.extends.same c.args.b kb ∙ qb) in
-    let same : IfFound u (first_opened k f B) c.in_ok-found-in-None.field-0 = subst (λ (z : ℕ). IfFound u (first_opened k (opened_at class.without_access grant.quantified z Γ w P) B) c.in_ok-found-in-None.field-0) one.after.outside right in
+    let same : IfFound u (first_opened k f B) c.in_ok-found-in-None.field-0 = subst (λ (z : ℕ). IfFound u (first_opened k (opened_at (class.without_access asked.counted) grant.quantified z Γ w P) B) c.in_ok-found-in-None.field-0) one.after.outside right in
     let found = if_found-at u (first_opened k f B) c.in_ok-found-in-None.field-0 (Some c.in-Some-2.found) c.in-Some-2.is same in
     first-right u (first_opened k f A) (first_opened k f B) c.in_ok-further-in-Some-2.further none (c.in_ok-further-in-Some-2.ensures.exact u (first_opened k f B) found)
 
@@ -66,12 +66,12 @@ walk_both-returns-in-None-2-clause-exact g c = λ Γ w P A B m qa qb.
     let grant = c.args.grant.now in
     let k = access_of asked.access in
     let one = c.in_ok-found.ensures in
-    let f : Exp → Option Opened = opened_at class.without_access grant.quantified n.outside Γ w P in
+    let f : Exp → Option Opened = opened_at (class.without_access asked.counted) grant.quantified n.outside Γ w P in
     let none : first_opened k f A ≡ None = if_found-at t1 (first_opened k f A) c.in_ok-found.field-0 None c.in-None.is (one.exact Γ w P A m qa) in
     let later = meant-after t t1 c.walk.new.search n d asked grant Γ w P c.requires.context c.requires.asked c.requires.grant one.extends one.after m in
     let kb : IsKnown t c.args.b = omega (arith, c.requires.below.1, c.requires.form) in
     let right = c.in_ok-found-in-None.ensures.exact Γ w P B later (one.extends.same c.args.b kb ∙ qb) in
-    let same : IfFound u (first_opened k f B) c.in_ok-found-in-None.field-0 = subst (λ (z : ℕ). IfFound u (first_opened k (opened_at class.without_access grant.quantified z Γ w P) B) c.in_ok-found-in-None.field-0) one.after.outside right in
+    let same : IfFound u (first_opened k f B) c.in_ok-found-in-None.field-0 = subst (λ (z : ℕ). IfFound u (first_opened k (opened_at (class.without_access asked.counted) grant.quantified z Γ w P) B) c.in_ok-found-in-None.field-0) one.after.outside right in
     let no_right : first_opened k f B ≡ None = if_found-at u (first_opened k f B) c.in_ok-found-in-None.field-0 None c.in-None-2.is same in
     first-right u (first_opened k f A) (first_opened k f B) None none (ap (from_side class.Right) no_right)
 

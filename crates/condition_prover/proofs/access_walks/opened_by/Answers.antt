@@ -22,4 +22,4 @@ returns-clause-exact c = λ Γ w P x g qa qp qx.
     let same : same_address n.outside x w ≡ true = sym (c.in_ok-same_address.ensures.exact x w qx qa) ∙ c.if-not-branch.false in
     let z = e.same c.args.address c.requires.address ∙ qx in
     let made = c.in_ok-opening.ensures.exact Γ P x x (hyps-after c.args.table.now c.same_address.new.table n.hyps Γ c.requires.context.hyps e g) (e.same c.args.premise c.requires.premise ∙ qp) z z in
-    subst (λ (b : Bool). IfOpened c.opened.new.table (cond b (option_map (opening_of x x) (without_access n.outside Γ P)) None) c.in_ok-opening.opening) (sym same) made
+    subst (λ (b : Bool). IfOpened c.opened.new.table (cond b (option_map (opening_of x x) (without_access c.args.counted n.outside Γ P)) None) c.in_ok-opening.opening) (sym same) made

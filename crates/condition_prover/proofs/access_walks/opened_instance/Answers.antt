@@ -30,4 +30,4 @@ returns-in_ok-opening-in-Some-clause-exact c = λ Γ w P x g qa qp qx.
     let y = option_some u o c.in-Some.put there in
     let made =
     c.in_ok-opening-in-Some.ensures.exact Γ w P x y.0 (hyps-after t u n.hyps Γ c.requires.context.hyps e g) (e.same c.args.a c.requires.a ∙ qa) (e.same c.args.premise c.requires.premise ∙ qp) (e.same c.args.address c.requires.address ∙ qx) y.2.is in
-    subst (λ (z : Option Exp). IfOpened c.opened_with.new.table (bind z (opened_with without_access n.outside Γ w P x)) c.in_ok-opening-in-Some.opening) (sym y.1) made
+    subst (λ (z : Option Exp). IfOpened c.opened_with.new.table (bind z (opened_with (without_access c.args.counted) n.outside Γ w P x)) c.in_ok-opening-in-Some.opening) (sym y.1) made

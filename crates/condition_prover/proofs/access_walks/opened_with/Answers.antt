@@ -42,4 +42,4 @@ returns-clause-exact c = λ Γ w P x y g qa qp qx qy.
     let wanted : tree_at t3 c.in_ok-wanted.wanted ≡ form_encoding R = c.in_ok-wanted.ensures.put.is P y (x2.same c.args.premise c.requires.premise ∙ qp) (x2.same c.args.put c.requires.put ∙ qy) in
     let later : tree_at t3 c.in_ok-there.there ≡ exp_encoding z = (twice e2 e3).same c.in_ok-there.there known ∙ there in
     let made = c.in_ok-opening.ensures.exact Γ R z y (hyps-after t t3 n.hyps Γ c.requires.context.hyps x3 g) wanted later (x3.same c.args.put c.requires.put ∙ qy) in
-    subst (λ (b : Bool). IfOpened c.opened.new.table (cond b (option_map (opening_of z y) (without_access n.outside Γ R)) None) c.in_ok-opening.opening) (sym same) made
+    subst (λ (b : Bool). IfOpened c.opened.new.table (cond b (option_map (opening_of z y) (without_access c.args.counted n.outside Γ R)) None) c.in_ok-opening.opening) (sym same) made

@@ -14,8 +14,8 @@ returns-in_ok-proof-in-None-clause-exact c = λ Γ A g q.
     let u = c.proof_by_access.new.table in
     let n = c.args.context.now in
     let one = c.in_ok-proof.ensures in
-    let none : by_words_alone n.outside Γ A ≡ None = stands_at t1 (by_words_alone n.outside Γ A) c.in_ok-proof.field-0 None c.in-None.is (one.exact Γ A g q) in
+    let none : by_words_alone c.args.counted n.outside Γ A ≡ None = stands_at t1 (by_words_alone c.args.counted n.outside Γ A) c.in_ok-proof.field-0 None c.in-None.is (one.exact Γ A g q) in
     let h = hyps_then t t1 c.proof_by_words.new.search n c.proof_by_words.new.context Γ c.requires.context one.extends one.after g in
     let made = c.in_ok-proof-in-None.ensures.exact Γ A h (one.extends.same c.args.goal c.requires.goal ∙ q) in
-    let same = subst (λ (z : ℕ). Stands u (by_access without_access z Γ A) c.in_ok-proof-in-None.proof) one.after.outside made in
-    subst (λ (z : Option Tree). Stands u (first_of z (by_access without_access n.outside Γ A)) c.in_ok-proof-in-None.proof) (sym none) same
+    let same = subst (λ (z : ℕ). Stands u (by_access (without_access c.args.counted) z Γ A) c.in_ok-proof-in-None.proof) one.after.outside made in
+    subst (λ (z : Option Tree). Stands u (first_of z (by_access (without_access c.args.counted) n.outside Γ A)) c.in_ok-proof-in-None.proof) (sym none) same

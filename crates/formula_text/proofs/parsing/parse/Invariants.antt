@@ -8,7 +8,7 @@ use Rattle.formula_text.proofs.parsing.parse.Given as goal
 abbrev pub invariant-loop-placed : goal.invariant-loop-placed
 invariant-loop-placed l = record {
   near : l.at ≤ length l.text;
-  rest : parsed_tokens l.profile (length l.text) (tokens_at paren_class l.at (drop l.at l.text)) (expected_view l.expected, frames_view l.frames.items) ≡ parsed_form l.profile l.text;
+  rest : parsed_tokens l.profile l.left (length l.text) (tokens_at paren_class l.at (drop l.at l.text)) (expected_view l.expected, frames_view l.frames.items) ≡ parsed_form l.profile l.left l.text;
 }
 
 abbrev pub decreases-loop-placed : goal.decreases-loop-placed

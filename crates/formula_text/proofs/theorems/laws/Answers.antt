@@ -6,9 +6,9 @@ use Rattle.formula_text.proofs.theorems.laws.Goals as goal
 
 pub returns : goal.returns
 returns c = record {
-  parsed = λ p text f. (spelled_parsed p text f, parsed_spelled p text f);
-  closed = λ p text f h. spelled_closed p text f h;
-  uses = λ p text f h. spelled_uses p text f h;
-  fault = λ p text at flaw e. fault_is p text at flaw e;
-  printed = λ p f h u few. print_spells p f h u few;
+  parsed = λ p left text f. (spelled_parsed p left text f, parsed_spelled p left text f);
+  closed = λ p left text f h. spelled_closed p left text f h;
+  uses = λ p left text f h. spelled_uses p left text f h;
+  fault = λ p left text at flaw e. fault_is p left text at flaw e;
+  printed = λ p left f h u few. print_spells p left f h u few;
 }

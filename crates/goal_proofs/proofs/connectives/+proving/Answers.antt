@@ -1,6 +1,6 @@
-use Rattle.std.proofs.Common.{◌≡◌, ℕ, ◌<◌, Option, Some, None, [], ◌∷◌, sym, ◌∙◌, ap, subst, arith}
+use Rattle.std.proofs.Common.{◌≡◌, ℕ, ◌<◌, Option, None, [], ◌∷◌, sym, ◌∙◌, ap, subst, arith}
 use Rattle.term_table.specs.Tree.{shift}
-use Rattle.term_table.specs.Table.{TableView, tree_at}
+use Rattle.term_table.specs.Table.{tree_at}
 use Rattle.term_table.specs.Measures.{height_of}
 use Rattle.lf_signature.specs.Nodes.{IsIdOf}
 use Rattle.prover_class.specs.Hypotheses.{find_hyp}
@@ -12,7 +12,7 @@ use Rattle.goal_proofs.proofs.AnswerRows.{made_proof, made_after}
 use Rattle.hyp_proofs.proofs.AlignmentRows.{stands_at}
 use Rattle.goal_proofs.proofs.Kept.{search-more, context-more}
 use Rattle.goal_proofs.proofs.WordRows.{after_now, with_memo}
-use Rattle.goal_proofs.proofs.Connecting.{by_all, by_all_memories, both_some, either_right, implication_is, over_is, hypothesis_is, falsity_is, shape_is, height-shift, not_there}
+use Rattle.goal_proofs.proofs.Connecting.{by_all, by_all_memories, by_leaf, falsity-left, relation-left, right-left, both_some, either_right, implication_is, over_is, hypothesis_is, falsity_is, shape_is, height-shift, not_there}
 use Rattle.goal_proofs.proofs.connectives.+proving.Goals as goal
 
 pub goal_proof-keep_answer-requires-clause-proof :
@@ -36,6 +36,37 @@ proof_by_shape-returns-in-AllMem-clause-exact g t c =
     let a = c.args in
     let n = c.proof_for_all-in-AllMem in
     by_all_memories (prover_of (g.L.Leaf.by a.leaf.now)) a.table.now n.new.table a.context.now.hyps a.context.now.outside a.goal c.in-AllMem.b n.result c.in-AllMem.ensures.is n.ensures.exact
+
+pub proof_by_shape-returns-in-False-clause-exact :
+    goal.proof_by_shape-returns-in-False-clause-exact
+proof_by_shape-returns-in-False-clause-exact g t c =
+    let a = c.args in
+    let k = a.context.now in
+    let p = prover_of (g.L.Leaf.by a.leaf.now) in
+    by_leaf p a.table.now c.leaf_proof.new.table k.hyps k.outside a.goal c.leaf_proof.result
+    (λ A q. falsity-left p k.outside A (c.in-False.ensures.is A q)) c.leaf_proof.ensures.exact
+
+pub proof_by_shape-returns-in-Relation-clause-exact :
+    goal.proof_by_shape-returns-in-Relation-clause-exact
+proof_by_shape-returns-in-Relation-clause-exact g t c =
+    let a = c.args in
+    let k = a.context.now in
+    let n = c.leaf_proof-in-Relation in
+    let p = prover_of (g.L.Leaf.by a.leaf.now) in
+    by_leaf p a.table.now n.new.table k.hyps k.outside a.goal n.result
+    (λ A q. let i = c.in-Relation.ensures.is A q in
+    relation-left p k.outside A c.in-Relation.field-0 i.left i.right i.is) n.ensures.exact
+
+pub proof_by_shape-returns-in-Right-clause-exact :
+    goal.proof_by_shape-returns-in-Right-clause-exact
+proof_by_shape-returns-in-Right-clause-exact g t c =
+    let a = c.args in
+    let k = a.context.now in
+    let n = c.leaf_proof-in-Right in
+    let p = prover_of (g.L.Leaf.by a.leaf.now) in
+    by_leaf p a.table.now n.new.table k.hyps k.outside a.goal n.result
+    (λ A q. let i = c.in-Right.ensures.is A q in
+    right-left p k.outside A c.in-Right.field-0 i.address i.is) n.ensures.exact
 
 pub proof_for_all-returns-clause-exact : goal.proof_for_all-returns-clause-exact
 proof_for_all-returns-clause-exact g t c =

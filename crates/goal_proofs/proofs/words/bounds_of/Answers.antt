@@ -2,8 +2,8 @@ use Rattle.std.proofs.Common.{List, sym, ◌∙◌, subst}
 use Rattle.formula_ids.specs.Hypotheses.{AreHyps}
 use Rattle.formula_ids.specs.declared.hypotheses.Hypothesis.{Hypothesis}
 use Rattle.formula_ids.proofs.HypRows.{hyps-after}
-use Rattle.bound_proofs.proofs.UpperRows.{bound-more}
-use Rattle.goal_proofs.proofs.WordRows.{after_search}
+use Rattle.bound_proofs.proofs.BoundRows.{bound-more}
+use Rattle.goal_proofs.proofs.WordRows.{after_twice}
 use Rattle.goal_proofs.proofs.words.bounds_of.Goals as goal
 
 pub returns-clause-exact : goal.returns-clause-exact
@@ -16,4 +16,5 @@ returns-clause-exact c = λ Γ x y g qa qb.
 
 pub returns-clause-after : goal.returns-clause-after
 returns-clause-after c =
-    after_search c.upper.new.table c.lower.new.table c.upper.new.search c.lower.new.search c.args.context.now c.upper.new.context c.in_ok-upper.ensures.after c.in_ok-lower.ensures.extends c.in_ok-lower.ensures.search
+    after_twice c.upper.new.table c.lower.new.table c.upper.new.search c.lower.new.search c.args.context.now
+    c.upper.new.context c.lower.new.context c.in_ok-upper.ensures.after c.in_ok-lower.ensures.after

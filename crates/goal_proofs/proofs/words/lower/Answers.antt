@@ -1,5 +1,16 @@
-use Rattle.goal_proofs.proofs.WordRows.{on_ok, with_memo}
+use Rattle.std.proofs.Common.{List, refl, subst}
+use Rattle.formula_ids.specs.declared.hypotheses.Hypothesis.{Hypothesis}
+use Rattle.bound_proofs.specs.KeptBounds.{AreBounds}
+use Rattle.goal_proofs.proofs.WordRows.{if_ok_by, with_memo, with_bounds}
 use Rattle.goal_proofs.proofs.words.lower.Goals as goal
 
-pub returns-clause-search : goal.returns-clause-search
-returns-clause-search c = on_ok c.lower_bound.result (with_memo c.args.table.now c.lower_bound.new.table c.args.search.now c.lower_bound.new.memo c.requires.search c.lower_bound.ensures.extends c.lower_bound.ensures.memo)
+pub returns-clause-after : goal.returns-clause-after
+returns-clause-after c =
+    let n = c.lower_bound in
+    let t = c.args.table.now in
+    if_ok_by n.result (λ (k : AreBounds n.new.table c.as_slice-hyps.result.now n.new.kept). record {
+      search = with_memo t n.new.table c.args.search.now n.new.memo c.requires.search n.ensures.extends n.ensures.memo;
+      context = with_bounds t n.new.table c.args.context.now n.new.kept c.requires.context n.ensures.extends (subst (λ (l : List Hypothesis). AreBounds n.new.table l n.new.kept) c.as_slice-hyps.ensures k);
+      hyps = refl;
+      outside = refl;
+    }) n.ensures.kept

@@ -31,7 +31,7 @@ returns-in-Some-2-clause-exact c = λ Γ x y g qa qb.
     let b = stands t (exp_encoding y) c.args.b c.requires.b qb in
     let none = stands_at c.by_aligned.new.table (by_aligned Γ A) c.in_ok-proof.field-0 None c.in-None.is (c.in_ok-proof.ensures.exact Γ x y g qa qb) in
     let some = stands_at c.by_normal.new.table (by_normal out Γ A) c.in_ok-proof-in-None.field-0 (Some c.in-Some-2.proof) c.in-Some-2.is (c.in_ok-proof-in-None.ensures.exact Γ x y (more a e1).is (more b e1).is) in
-    (some.0, ap (λ (z : Option Tree). first_of z (first_of (by_normal out Γ A) (by_bounds Γ A))) none ∙ ap (λ (z : Option Tree). first_of z (by_bounds Γ A)) some.1)
+    (some.0, ap (λ (z : Option Tree). first_of z (first_of (by_normal out Γ A) (by_bounds c.args.counted Γ A))) none ∙ ap (λ (z : Option Tree). first_of z (by_bounds c.args.counted Γ A)) some.1)
 
 pub returns-in-Some-2-clause-after : goal.returns-in-Some-2-clause-after
 returns-in-Some-2-clause-after c =
@@ -54,5 +54,5 @@ returns-in_ok-rest-in-None-2-clause-exact c = λ Γ x y g qa qb.
     let second = stands_at u (by_normal n.outside Γ A) c.in_ok-proof-in-None.field-0 None c.in-None-2.is (c.in_ok-proof-in-None.ensures.exact Γ x y (more a e1).is (more b e1).is) in
     let h = hyps-after t u n.hyps Γ c.requires.context.hyps x2 g in
     let rest = c.in_ok-rest-in-None-2.ensures.exact Γ x y h (more a x2).is (more b x2).is in
-    let same : by_words_alone n.outside Γ A ≡ by_bounds Γ A = ap (λ (z : Option Tree). first_of z (first_of (by_normal n.outside Γ A) (by_bounds Γ A))) first ∙ ap (λ (z : Option Tree). first_of z (by_bounds Γ A)) second in
+    let same : by_words_alone c.args.counted n.outside Γ A ≡ by_bounds c.args.counted Γ A = ap (λ (z : Option Tree). first_of z (first_of (by_normal n.outside Γ A) (by_bounds c.args.counted Γ A))) first ∙ ap (λ (z : Option Tree). first_of z (by_bounds c.args.counted Γ A)) second in
     subst (λ (z : Option Tree). Stands c.by_bounds.new.table z c.in_ok-rest-in-None-2.rest) (sym same) rest

@@ -1,6 +1,6 @@
 use Rattle.std.proofs.Common.{List, refl, subst}
 use Rattle.formula_ids.specs.declared.hypotheses.Hypothesis.{Hypothesis}
-use Rattle.bound_proofs.specs.KeptBounds.{AreUppers}
+use Rattle.bound_proofs.specs.KeptBounds.{AreBounds}
 use Rattle.goal_proofs.proofs.WordRows.{if_ok_by, with_memo, with_bounds}
 use Rattle.goal_proofs.proofs.words.upper.Goals as goal
 
@@ -8,9 +8,9 @@ pub returns-clause-after : goal.returns-clause-after
 returns-clause-after c =
     let n = c.upper_bound in
     let t = c.args.table.now in
-    if_ok_by n.result (λ (k : AreUppers n.new.table c.as_slice-hyps.result.now n.new.kept). record {
+    if_ok_by n.result (λ (k : AreBounds n.new.table c.as_slice-hyps.result.now n.new.kept). record {
       search = with_memo t n.new.table c.args.search.now n.new.memo c.requires.search n.ensures.extends n.ensures.memo;
-      context = with_bounds t n.new.table c.args.context.now n.new.kept c.requires.context n.ensures.extends (subst (λ (l : List Hypothesis). AreUppers n.new.table l n.new.kept) c.as_slice-hyps.ensures k);
+      context = with_bounds t n.new.table c.args.context.now n.new.kept c.requires.context n.ensures.extends (subst (λ (l : List Hypothesis). AreBounds n.new.table l n.new.kept) c.as_slice-hyps.ensures k);
       hyps = refl;
       outside = refl;
     }) n.ensures.kept

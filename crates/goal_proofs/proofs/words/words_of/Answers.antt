@@ -1,6 +1,6 @@
 use Rattle.std.proofs.Common.{List, refl, subst}
 use Rattle.formula_ids.specs.declared.hypotheses.Hypothesis.{Hypothesis}
-use Rattle.bound_proofs.specs.KeptBounds.{AreUppers}
+use Rattle.bound_proofs.specs.KeptBounds.{AreBounds}
 use Rattle.goal_proofs.proofs.WordRows.{if_ok_by, itself, with_memo, with_bounds}
 use Rattle.goal_proofs.proofs.words.words_of.Goals as goal
 
@@ -8,9 +8,9 @@ pub returns-clause-after : goal.returns-clause-after
 returns-clause-after c =
     let n = c.bound_words in
     let t = c.args.table.now in
-    if_ok_by n.result (λ (k : AreUppers t c.as_slice-hyps.result.now n.new.kept). record {
+    if_ok_by n.result (λ (k : AreBounds t c.as_slice-hyps.result.now n.new.kept). record {
       search = with_memo t t c.args.search.now n.new.memo c.requires.search (itself t) n.ensures.memo;
-      context = with_bounds t t c.args.context.now n.new.kept c.requires.context (itself t) (subst (λ (l : List Hypothesis). AreUppers t l n.new.kept) c.as_slice-hyps.ensures k);
+      context = with_bounds t t c.args.context.now n.new.kept c.requires.context (itself t) (subst (λ (l : List Hypothesis). AreBounds t l n.new.kept) c.as_slice-hyps.ensures k);
       hyps = refl;
       outside = refl;
     }) n.ensures.kept

@@ -1,6 +1,6 @@
-use Rattle.std.proofs.Common.{◌≡◌, ℕ, zero, suc, List, [], ◌∷◌, map, get_or, Bool, true, false, cond, nat_lt, ◌-◌, refl, sym, subst}
+use Rattle.std.proofs.Common.{◌≡◌, ℕ, zero, suc, List, [], ◌∷◌, map, get_or, Bool, true, false, cond, nat_lt, eqb, ◌-◌, refl, sym, subst}
 use Rattle.term_table.specs.Tree.{Tree, shift, fits}
-use Rattle.term_table.specs.Table.{TableView, tree_at}
+use Rattle.term_table.specs.Table.{TableView, IsKnown, AllKnown, tree_at}
 use Rattle.lf_signature.specs.Terms.{lit}
 use Rattle.lf_bench.proofs.formulas.put_word.Goals as goal
 
@@ -8,13 +8,23 @@ abbrev copies : ℕ → ℕ → List ℕ
 copies zero w = []
 copies (suc n) w = w ∷ copies n w
 
+known-copies : (t : TableView) (w : ℕ) → IsKnown t w → (n : ℕ) → AllKnown t (copies n w)
+known-copies t w h zero = tt
+known-copies t w h (suc n) = (h, known-copies t w h n)
+
 room-copies : (t : TableView) (w k : ℕ) → fits (shift k 0 (tree_at t w)) ≡ true → (n j : ℕ) → fits (shift k 0 (get_or (map (λ id. tree_at t id) (copies n w)) j (lit 0))) ≡ true
 room-copies t w k h zero j = refl
 room-copies t w k h (suc n) zero = h
 room-copies t w k h (suc n) (suc j) = room-copies t w k h n j
 
-pub put-requires-clause-room : goal.put-requires-clause-room
-put-requires-clause-room c = record { each = λ n. go n (nat_lt n 31) }
+pub put-requires-clause-ready : goal.put-requires-clause-ready
+put-requires-clause-ready c = record {
+  regs = known-copies t c.args.word c.requires.word.known 31;
+  memory = c.requires.word.known;
+  left = c.requires.word.known;
+  many = refl;
+  room = record { each = λ n. go n (nat_lt n 31) (eqb n 31) };
+}
   where
     t : TableView
     t = c.args.table.now
@@ -22,6 +32,7 @@ put-requires-clause-room c = record { each = λ n. go n (nat_lt n 31) }
     word : fits (shift 2147483648 0 (tree_at t c.args.word)) ≡ true
     word = subst (λ (z : Tree). fits (shift 2147483648 0 z) ≡ true) (sym c.requires.word.is) refl
 
-    go : (n : ℕ) (b : Bool) → fits (shift 2147483648 0 (cond b (get_or (map (λ id. tree_at t id) (copies 31 c.args.word)) (30 - n) (lit 0)) (tree_at t c.args.word))) ≡ true
-    go n true = room-copies t c.args.word 2147483648 word 31 (30 - n)
-    go n false = word
+    go : (n : ℕ) (b d : Bool) → fits (shift 2147483648 0 (cond b (get_or (map (λ id. tree_at t id) (copies 31 c.args.word)) (30 - n) (lit 0)) (cond d (tree_at t c.args.word) (tree_at t c.args.word)))) ≡ true
+    go n true d = room-copies t c.args.word 2147483648 word 31 (30 - n)
+    go n false true = word
+    go n false false = word

@@ -14,13 +14,13 @@ pub index_labels-requires : goal.index_labels-requires
 index_labels-requires c =
     record {
       short = subst AreLabelIndices (sym c.deref.ensures.value)
-          (labels_short c.args.profile c.args.source.now c.requires.spelled);
+          (labels_short c.args.profile c.args.left c.args.source.now c.requires.spelled);
     }
 
 pub resolve_all-requires-clause-short : goal.resolve_all-requires-clause-short
 resolve_all-requires-clause-short c =
     subst (λ l. length l ≤ MAX_INSNS) (sym c.deref-2.ensures.value)
-    (insns_few c.args.profile c.args.source.now c.requires.spelled)
+    (insns_few c.args.profile c.args.left c.args.source.now c.requires.spelled)
 
 pub returns-in_err-code : goal.returns-in_err-code
 returns-in_err-code c =
@@ -40,12 +40,12 @@ returns-in_err-code c =
 pub check-requires-clause-some : goal.check-requires-clause-some
 check-requires-clause-some c =
     subst (λ l. 0 < length l) (sym c.deref-3.ensures.value)
-    (insns_some c.args.profile c.args.source.now c.requires.spelled)
+    (insns_some c.args.profile c.args.left c.args.source.now c.requires.spelled)
 
 pub check-requires-clause-short : goal.check-requires-clause-short
 check-requires-clause-short c =
     subst (λ l. length l ≤ MAX_INSNS) (sym c.deref-3.ensures.value)
-    (insns_few c.args.profile c.args.source.now c.requires.spelled)
+    (insns_few c.args.profile c.args.left c.args.source.now c.requires.spelled)
 
 pub returns-in_err-check : goal.returns-in_err-check
 returns-in_err-check c =
@@ -80,7 +80,7 @@ bytes_of-requires c =
     ≡ Ok code = sym (λ i. as_code c.args.profile (insn_views (said i)) (Ok (same i)))
     ∙ c.in_ok-check.ensures ∙ ap Ok same in
     subst (AllByRecursion (IsEncodable c.args.profile)) (sym c.deref-5.ensures.value)
-    (insns_encodable c.args.profile s c.requires.spelled code resolved checked)
+    (insns_encodable c.args.profile c.args.left s c.requires.spelled code resolved checked)
 
 pub returns : goal.returns
 returns c =

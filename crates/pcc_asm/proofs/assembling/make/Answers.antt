@@ -1,4 +1,4 @@
-use Rattle.std.proofs.Common.{◌≡◌, ℕ, Vec, Global, Ok, Err, sym, subst}
+use Rattle.std.proofs.Common.{◌≡◌, ℕ, Bool, is_some, Vec, Global, Ok, Err, sym, subst}
 use Rattle.std.specs.List.{AllByRecursion}
 use Rattle.word_ops.specs.declared.Profile.{Profile}
 use Rattle.formula_tree.specs.Formulas.{Form}
@@ -12,8 +12,10 @@ use Rattle.pcc_asm.proofs.assembling.make.Goals as goal
 
 pub code_of-requires : goal.code_of-requires
 code_of-requires c = record {
-  spelled = subst (λ (q : Profile). IsSpelled q (source_view c.args.source.now))
-      (sym c.profile_of.ensures.exact) c.requires.spelled;
+  spelled = subst (λ (l : Bool). IsSpelled c.profile_of.result l (source_view c.args.source.now))
+      (sym c.is_some-left.ensures)
+      (subst (λ (q : Profile). IsSpelled q (is_some c.args.bound) (source_view c.args.source.now))
+      (sym c.profile_of.ensures.exact) c.requires.spelled);
 }
 
 pub returns-in_err-code : goal.returns-in_err-code
@@ -25,14 +27,18 @@ returns-in_err-code c =
     let here = subst (λ (q : Profile). IsStepAnswer view (bytes_or_flaw (assembled_code q s))
     (Err e))
     c.profile_of.ensures.exact c.in_err-code.ensures.exact in
-    carries (IsAsmAnswer v c.args.policy.now s) e (err_answer v c.args.policy.now s view e here)
+    carries (IsAsmAnswer v c.args.bound c.args.policy.now s) e
+    (err_answer v c.args.bound c.args.policy.now s view e here)
     c.from_residual.result c.from_residual.ensures.1
 
 pub encode_invs-requires : goal.encode_invs-requires
 encode_invs-requires c =
-    subst (λ l. AllByRecursion (λ (p : ℕ × Form). IsEncodableForm p.1) (inv_views l))
-    (sym c.deref.ensures.value)
-    (invs_closed (profile_of c.args.version) c.args.source.now c.requires.spelled)
+    subst (λ (b : Bool). AllByRecursion (λ (p : ℕ × Form). IsEncodableForm b p.1)
+    (inv_views c.deref.result.now)) (sym c.is_some-left.ensures)
+    (subst (λ l. AllByRecursion (λ (p : ℕ × Form). IsEncodableForm (is_some c.args.bound) p.1)
+    (inv_views l)) (sym c.deref.ensures.value)
+    (invs_closed (profile_of c.args.version) (is_some c.args.bound) c.args.source.now
+    c.requires.spelled))
 
 pub invariant_of-result : goal.invariant_of-result
 invariant_of-result c =
@@ -42,7 +48,8 @@ invariant_of-result c =
     let bytes = c.in_ok-code.code.items in
     let read = subst (λ (q : Profile). bytes_or_flaw (assembled_code q s) ≡ Ok bytes)
     c.profile_of.ensures.exact c.in_ok-code.ensures.exact in
-    is_held c.args.version s c.in_ok-head.head bytes t ids c.requires.spelled read
+    is_held c.args.version c.args.bound s c.in_ok-head.head bytes t ids c.requires.version
+    c.in_ok-head.ensures.lawful c.requires.bound c.requires.spelled read
     (encoded_source c.args.source.now t ids c.deref.result.now c.deref.ensures.value
     c.in_ok-invs.ensures)
 
@@ -54,7 +61,7 @@ returns c =
     let bytes = c.in_ok-code.code.items in
     let read = subst (λ (q : Profile). bytes_or_flaw (assembled_code q s) ≡ Ok bytes)
     c.profile_of.ensures.exact c.in_ok-code.ensures.exact in
-    ok_answer c.args.version c.args.policy.now s c.in_ok-head.head bytes t ids read
-    c.in_ok-head.ensures
+    ok_answer c.args.version c.args.bound c.args.policy.now s c.in_ok-head.head bytes t ids read
+    c.in_ok-head.ensures.exact
     (encoded_source c.args.source.now t ids c.deref.result.now c.deref.ensures.value
     c.in_ok-invs.ensures)

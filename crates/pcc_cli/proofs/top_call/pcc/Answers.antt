@@ -5,7 +5,7 @@ use Rattle.pcc_cli.specs.Texts.{texts}
 use Rattle.pcc_cli.specs.Tasks.{task_of}
 use Rattle.pcc_cli.proofs.CompileLemmas.{programs-compile}
 use Rattle.pcc_cli.proofs.DecisionLemmas.{runs_of_decision}
-use Rattle.pcc_cli.proofs.HeadlineLemmas.{means, runs_safely, stays_in_parts}
+use Rattle.pcc_cli.proofs.HeadlineLemmas.{means, runs_safely, stays_in_parts, bounded_returns}
 use Rattle.pcc_cli.proofs.top_call.pcc.Goals as goal
 
 pub returns : goal.returns
@@ -28,4 +28,7 @@ returns g c =
       sound = c.laws.ensures.safe;
       safe = runs_safely c.laws.ensures.safe c.laws-2.ensures.state c.laws-2.ensures.meets c.isolation_laws.ensures.changes c.isolation_laws.ensures.depends;
       apart = stays_in_parts c.laws.ensures.safe c.isolation_laws.ensures.changes c.isolation_laws.ensures.depends (c.part_laws.ensures.apart 65536 65552) c.part_laws.ensures.spans;
+      returns =
+          bounded_returns c.laws.ensures.returns c.laws-2.ensures.state
+          c.laws-2.ensures.meets;
     }

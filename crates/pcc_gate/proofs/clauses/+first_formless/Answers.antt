@@ -25,12 +25,13 @@ returns-clause-exact t c =
     let split = drop_more invs c.args.from d (omega arith) in
     let later = trees-same o u (drop n invs) grown (trees-drop o invs n c.requires.known) in
     let s = c.args.signature in
-    let is : has_form s (tree_at o pair.1) ≡ true = sym c.in_ok-has_form.ensures.exact
+    let most = c.args.bound in
+    let is : has_form s most (tree_at o pair.1) ≡ true = sym c.in_ok-has_form.ensures.exact
     ∙ c.if-not-branch.false in
-    let next : formless s c.args.from (id_trees o (drop c.args.from invs))
-    ≡ formless s n (id_trees u (drop n invs)) =
-    ap (λ z. formless s c.args.from (id_trees o z)) split
-    ∙ ap (λ b. cond b (formless s (suc c.args.from) (id_trees o (drop n invs))) (Some c.args.from))
+    let next : formless s most c.args.from (id_trees o (drop c.args.from invs))
+    ≡ formless s most n (id_trees u (drop n invs)) =
+    ap (λ z. formless s most c.args.from (id_trees o z)) split
+    ∙ ap (λ b. cond b (formless s most (suc c.args.from) (id_trees o (drop n invs))) (Some c.args.from))
     is
-    ∙ (λ i. formless s (one i) (later i)) in
+    ∙ (λ i. formless s most (one i) (later i)) in
     subst (λ z. IfOk c.first_formless.result (λ found. found ≡ z)) (sym next) c.first_formless.ensures.exact

@@ -24,7 +24,7 @@ returns-in_err-proof c =
     let e = c.in_err-proof.field-0.0 in
     let k = p.container in
     let found = subst (λ (z : WordSignature). IsProofFound z k.table k.proof (Err e))
-    c.head_signature-signature.ensures.exact c.in_err-proof.ensures in
+    c.signature_of-signature.ensures.exact c.in_err-proof.ensures in
     carries (IsGateAnswer c.args.policy.now c.args.bytes.now) e
     (gate-refused c.args.policy.now c.args.bytes.now (contents_of k) p.cut.code p.cut.marks
     c.requires.passes e found) c.from_residual.result c.from_residual.ensures.1
@@ -36,21 +36,21 @@ proved-requires-clause-invs c =
 
 pub proof_in-requires-clause-places : goal.proof_in-requires-clause-places
 proof_in-requires-clause-places c =
-    c.requires.held.places ∙ ap places_of (sym c.head_signature-signature.ensures.exact)
+    c.requires.held.places ∙ ap places_of (sym c.signature_of-signature.ensures.exact)
 
 pub proved-requires-clause-forms : goal.proved-requires-clause-forms
 proved-requires-clause-forms c =
     let k = c.args.passed.container in
-    let s = c.head_signature-signature.result in
-    let here = subst (λ (z : WordSignature). AreForms z (id_trees k.table k.invs.items))
-    (sym c.head_signature-signature.ensures.exact) c.requires.passes.forms in
-    subst (λ l. AreForms s (id_trees k.table l)) (sym c.deref.ensures.value) here
+    let s = c.signature_of-signature.result in
+    let here = subst (λ (z : WordSignature). AreForms z k.bound (id_trees k.table k.invs.items))
+    (sym c.signature_of-signature.ensures.exact) c.requires.passes.forms in
+    subst (λ l. AreForms s k.bound (id_trees k.table l)) (sym c.deref.ensures.value) here
 
 pub proved-requires-clause-kept : goal.proved-requires-clause-kept
 proved-requires-clause-kept c =
     subst (λ (z : WordSignature). AreKept (declared z) c.args.passed.container.table
     c.args.kept.now)
-    (sym c.head_signature-signature.ensures.exact) c.requires.kept
+    (sym c.signature_of-signature.ensures.exact) c.requires.kept
 
 pub proved-requires-clause-marks : goal.proved-requires-clause-marks
 proved-requires-clause-marks c =
@@ -66,10 +66,10 @@ returns-in_err-proved c =
     let found = c.in_ok-proof.ensures in
     let t = p.container.table in
     let tree = tree_at t c.in_ok-proof.proof in
-    let is = c.head_signature-signature.ensures.exact in
-    let s = c.head_signature-signature.result in
+    let is = c.signature_of-signature.ensures.exact in
+    let s = c.signature_of-signature.result in
     let said = λ (z : WordSignature) (l : List (ℕ × ℕ)).
-    IsProofAnswer z c.args.policy.now p.cut.code (id_trees t l) tree (Err e) in
+    IsProofAnswer z c.args.policy.now p.container.bound p.cut.code (id_trees t l) tree (Err e) in
     let answer = subst (λ z. said z p.container.invs.items) is
     (subst (λ l. said s l) c.deref.ensures.value c.in_err-proved.ensures.answer) in
     let light = subst (λ (z : WordSignature). weight_of (places_of z) tree ≤ MAX_WEIGHT) is
@@ -86,17 +86,17 @@ invariant_of-result c =
     let u = c.proved.new.table in
     let found = c.in_ok-proof.ensures in
     let tree = tree_at t c.in_ok-proof.proof in
-    let is = c.head_signature-signature.ensures.exact in
-    let s = c.head_signature-signature.result in
+    let is = c.signature_of-signature.ensures.exact in
+    let s = c.signature_of-signature.result in
     let said = λ (z : WordSignature) (l : List (ℕ × ℕ)).
-    proves z tree (vc_of c.args.policy.now p.cut.code (id_trees t l)) ≡ true in
+    proves z tree (vc_of c.args.policy.now p.container.bound p.cut.code (id_trees t l)) ≡ true in
     let h = subst (λ z. said z p.container.invs.items) is
     (subst (λ l. said s l) c.deref.ensures.value c.in_ok-proved.ensures.answer) in
     let light = subst (λ (z : WordSignature). weight_of (places_of z) tree ≤ MAX_WEIGHT) is
     found.2 in
     let a = gate-accepts c.args.policy.now c.args.bytes.now (contents_of p.container) p.cut.code
     p.cut.marks c.requires.passes tree (ap (option_map (tree_at t)) found.0) light h in
-    subst (λ k. IsProved k p.cut u p.container.invs.items) (sym c.in_ok-policy.ensures.exact)
+    subst (λ k. IsProved k p.container.bound p.cut u p.container.invs.items) (sym c.in_ok-policy.ensures.exact)
     (proved-by (all-sound c.truth_laws.ensures.sound) c.args.policy.now c.laws.ensures
     c.args.bytes.now (contents_of p.container) p.cut t u p.container.invs.items
     c.in_ok-proved.ensures.extends c.requires.held.known.0 refl a)
@@ -108,10 +108,10 @@ returns c =
     let u = c.proved.new.table in
     let found = c.in_ok-proof.ensures in
     let tree = tree_at t c.in_ok-proof.proof in
-    let is = c.head_signature-signature.ensures.exact in
-    let s = c.head_signature-signature.result in
+    let is = c.signature_of-signature.ensures.exact in
+    let s = c.signature_of-signature.result in
     let said = λ (z : WordSignature) (l : List (ℕ × ℕ)).
-    proves z tree (vc_of c.args.policy.now p.cut.code (id_trees t l)) ≡ true in
+    proves z tree (vc_of c.args.policy.now p.container.bound p.cut.code (id_trees t l)) ≡ true in
     let h = subst (λ z. said z p.container.invs.items) is
     (subst (λ l. said s l) c.deref.ensures.value c.in_ok-proved.ensures.answer) in
     let light = subst (λ (z : WordSignature). weight_of (places_of z) tree ≤ MAX_WEIGHT) is
@@ -120,6 +120,7 @@ returns c =
     record {
       contents = contents_of p.container;
       policy_is = c.in_ok-policy.ensures.exact;
+      bound_is = refl;
       invs_are = trees-same t u p.container.invs.items c.in_ok-proved.ensures.extends c.requires.held.known.0;
       accepts =
           gate-accepts c.args.policy.now c.args.bytes.now (contents_of p.container) p.cut.code

@@ -9,17 +9,17 @@ pub first_formless-requires-clause-known : goal.first_formless-requires-clause-k
 first_formless-requires-clause-known c =
     let o = c.args.table.now in
     let v = c.intern.new.self in
-    let grown : Extends o v = grown-twice o c.machine_types.new.table v c.in_ok-context.ensures.extends c.in_ok-form.ensures.extends in
+    let grown : Extends o v = grown-twice o c.context_types.new.table v c.in_ok-context.ensures.extends c.in_ok-form.ensures.extends in
     known-more o v c.args.invs.now grown c.requires.known
 
 pub first_formless-requires-clause-context : goal.first_formless-requires-clause-context
 first_formless-requires-clause-context c =
-    rw c.deref.ensures.value (ids-more c.machine_types.new.table c.intern.new.self c.in_ok-context.context.items c.in_ok-form.ensures.extends c.in_ok-context.ensures.known)
+    rw c.deref.ensures.value (ids-more c.context_types.new.table c.intern.new.self c.in_ok-context.context.items c.in_ok-form.ensures.extends c.in_ok-context.ensures.known)
 
 pub first_formless-requires-clause-types : goal.first_formless-requires-clause-types
 first_formless-requires-clause-types c =
     ap (ctx_of c.intern.new.self) c.deref.ensures.value
-    ∙ ctx-more c.machine_types.new.table c.intern.new.self c.in_ok-context.context.items c.in_ok-form.ensures.extends c.in_ok-context.ensures.known ∙ c.in_ok-context.ensures.types
+    ∙ ctx-more c.context_types.new.table c.intern.new.self c.in_ok-context.context.items c.in_ok-form.ensures.extends c.in_ok-context.ensures.known ∙ c.in_ok-context.ensures.types
 
 pub first_formless-requires-clause-kept : goal.first_formless-requires-clause-kept
 first_formless-requires-clause-kept c = c.requires.kept _
@@ -29,10 +29,11 @@ returns-in-Some-clause-answer c =
     let o = c.args.table.now in
     let v = c.intern.new.self in
     let invs = c.args.invs.now in
-    let grown : Extends o v = grown-twice o c.machine_types.new.table v c.in_ok-context.ensures.extends c.in_ok-form.ensures.extends in
+    let grown : Extends o v = grown-twice o c.context_types.new.table v c.in_ok-context.ensures.extends c.in_ok-form.ensures.extends in
     let s = c.args.signature in
-    let found : formless s 0 (id_trees o invs) ≡ Some c.in-Some.inv =
-    ap (formless s 0) (trees-same o v invs grown c.requires.known) ∙ sym c.in_ok-inv.ensures.exact
+    let most = c.args.bound in
+    let found : formless s most 0 (id_trees o invs) ≡ Some c.in-Some.inv =
+    ap (formless s most 0) (trees-same o v invs grown c.requires.known) ∙ sym c.in_ok-inv.ensures.exact
     ∙ c.in-Some.is in
     λ next. ap (λ x. refused_by refusal.InvNotForm x next) found
 
@@ -41,6 +42,6 @@ returns-clause-answer c =
     let o = c.args.table.now in
     let v = c.intern.new.self in
     let invs = c.args.invs.now in
-    let grown : Extends o v = grown-twice o c.machine_types.new.table v c.in_ok-context.ensures.extends c.in_ok-form.ensures.extends in
-    ap (formless c.args.signature 0) (trees-same o v invs grown c.requires.known)
+    let grown : Extends o v = grown-twice o c.context_types.new.table v c.in_ok-context.ensures.extends c.in_ok-form.ensures.extends in
+    ap (formless c.args.signature c.args.bound 0) (trees-same o v invs grown c.requires.known)
     ∙ sym c.in_ok-inv.ensures.exact ∙ c.in-None.is

@@ -5,7 +5,7 @@ use Rattle.alpha_cfg.specs.Flow.{IsCode}
 use Rattle.term_table.specs.Table.{Extends, id_trees}
 use Rattle.proof_container.specs.Contents.{Contents}
 use Rattle.proof_container.specs.Views.{contents_of}
-use Rattle.pcc_gate.specs.Versions.{head_profile, head_signature}
+use Rattle.proof_container.specs.Versions.{profile_of, signature_of}
 use Rattle.pcc_gate.specs.Inside.Stages.{Refuses, with_roots, IsShaped}
 use Rattle.pcc_gate.specs.Inside.Passed.{IsRestAnswer}
 use Rattle.pcc_gate.specs.First.{first_code, first_shape}
@@ -26,12 +26,12 @@ returns-in_err-insns-clause-answer c =
     let e = c.in_err-insns.field-0.0 in
     let bytes = c.args.container.code.now in
     let here = subst (λ (p : Profile). Refuses (first_code k (decoded_code p bytes)) e)
-    c.head_profile-profile.ensures.exact (c.in_err-insns.ensures k) in
+    c.profile_of-profile.ensures.exact (c.in_err-insns.ensures k) in
     carries (IsRestAnswer k) e here c.from_residual.result c.from_residual.ensures.1
 
 -- what is kept serves any signature
 pub shaped-requires-clause-kept : goal.shaped-requires-clause-kept
-shaped-requires-clause-kept c = c.requires.kept c.head_signature-signature.result
+shaped-requires-clause-kept c = c.requires.kept c.signature_of-signature.result
 
 pub shaped-requires-clause-rising : goal.shaped-requires-clause-rising
 shaped-requires-clause-rising c =
@@ -59,13 +59,13 @@ returns-in_err-cut-clause-answer c =
     let insns = c.in_ok-insns.insns in
     let e = c.in_err-cut.field-0.0 in
     let bytes = c.args.container.code.now in
-    let s = c.head_signature-signature.result in
+    let s = c.signature_of-signature.result in
     let first = λ (l : List (ℕ × ℕ)) (z : WordSignature).
-    Refuses (first_shape z (with_roots t l c.args.container.proof) insns) e in
-    let here = subst (first c.args.container.invs.items) c.head_signature-signature.ensures.exact
+    Refuses (first_shape z (with_roots t c.args.container.bound l c.args.container.proof) insns) e in
+    let here = subst (first c.args.container.invs.items) c.signature_of-signature.ensures.exact
     (subst (λ l. first l s) c.deref.ensures.value c.in_err-cut.ensures.answer) in
     let read = subst (λ (p : Profile). decoded_code p bytes ≡ Ok insns)
-    c.head_profile-profile.ensures.exact
+    c.profile_of-profile.ensures.exact
     c.in_ok-insns.ensures.0 in
     carries (IsRestAnswer k) e (code-refuses k insns read e here) c.from_residual-in_err-cut.result
     c.from_residual-in_err-cut.ensures.1
@@ -76,25 +76,28 @@ returns-clause-answer c =
     let u = c.shaped.new.table in
     let ps : List (ℕ × ℕ) = c.args.container.invs.items in
     let proof = c.args.container.proof in
+    let bound = c.args.container.bound in
     let insns = c.in_ok-insns.insns in
     let cut = c.in_ok-cut.cut in
     let grown : Extends t u = c.in_ok-cut.ensures.extends in
     let known = c.requires.held.known in
-    let s = c.head_signature-signature.result in
-    let given = λ (l : List (ℕ × ℕ)) (z : WordSignature). IsShaped z (with_roots t l proof) insns
-    cut in
-    let shaped = subst (given ps) c.head_signature-signature.ensures.exact
+    let s = c.signature_of-signature.result in
+    let given = λ (l : List (ℕ × ℕ)) (z : WordSignature). IsShaped z (with_roots t bound l proof)
+    insns cut in
+    let shaped = subst (given ps) c.signature_of-signature.ensures.exact
     (subst (λ l. given l s) c.deref.ensures.value c.in_ok-cut.ensures.answer) in
     let code : cut.code ≡ insns = shaped.made.code_is in
     let bytes = c.args.container.code.now in
     let encoded = subst (λ (p : Profile). EncodesCode p bytes insns)
-    c.head_profile-profile.ensures.exact
+    c.profile_of-profile.ensures.exact
     c.in_ok-insns.ensures.1 in
-    let sig = head_signature c.args.container.head in
-    let mine = subst (λ x. IsShaped sig (with_roots t ps proof) x cut) (sym code) shaped in
+    let sig = signature_of c.args.container.version in
+    let mine = subst (λ x. IsShaped sig (with_roots t bound ps proof) x cut) (sym code) shaped in
     record {
       contents = λ i. record {
+        version = c.args.container.version;
         head = c.args.container.head;
+        bound = bound;
         code = bytes;
         invs = sym (trees-same t u ps grown known.0) i;
         proof = sym (option-same t u proof grown known.1) i;
@@ -104,7 +107,7 @@ returns-clause-answer c =
         places = grown.places ∙ c.requires.held.places;
       };
       encoded =
-          subst (λ x. EncodesCode (head_profile c.args.container.head) bytes x) (sym code) encoded;
+          subst (λ x. EncodesCode (profile_of c.args.container.version) bytes x) (sym code) encoded;
       is = subst (λ x. IsCode x) (sym code) c.in_ok-insns.ensures.2;
       shaped = record { low = mine.low; forms = mine.forms; made = mine.made; short = mine.short };
     }
@@ -112,4 +115,4 @@ returns-clause-answer c =
 pub returns-clause-kept : goal.returns-clause-kept
 returns-clause-kept c =
     subst (λ (z : WordSignature). AreKept (declared z) c.shaped.new.table c.shaped.new.kept)
-    c.head_signature-signature.ensures.exact c.in_ok-cut.ensures.kept
+    c.signature_of-signature.ensures.exact c.in_ok-cut.ensures.kept

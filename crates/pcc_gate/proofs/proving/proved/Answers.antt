@@ -1,4 +1,4 @@
-use Rattle.std.proofs.Common.{◌≡◌, [], refl, sym, subst}
+use Rattle.std.proofs.Common.{[], refl, sym, subst}
 use Rattle.term_table.specs.Table.{tree_at, id_trees}
 use Rattle.hereditary_subst.specs.Simples.{IsResult}
 use Rattle.lf_signature.specs.Constants.{declared}
@@ -24,14 +24,15 @@ is_condition_with-requires-clause-forms c =
     let invs = c.args.invs.now in
     let same = low-same o c.proved_formula_with.new.table invs c.requires.invs
     c.in_ok-formula.ensures.extends in
-    subst (AreForms Sigma3) same (forms-wider c.args.signature (id_trees o invs) c.requires.forms)
+    subst (AreForms Sigma3 c.args.bound) same
+    (forms-wider c.args.signature c.args.bound (id_trees o invs) c.requires.forms)
 
 pub returns-in_default-clause-answer : goal.returns-in_default-clause-answer
 returns-in_default-clause-answer c =
     let o = c.args.table.now in
     let u = c.proved_formula_with.new.table in
     let proof = tree_at o c.args.proof in
-    let vc = vc_of c.args.policy.now c.args.cut.now.code (id_trees o c.args.invs.now) in
+    let vc = vc_of c.args.policy.now c.args.bound c.args.cut.now.code (id_trees o c.args.invs.now) in
     let none = subst (λ z. IsResult u (λ g. Checks (declared c.args.signature) [] proof (pf g)) z)
     c.in_default.is c.in_ok-formula.ensures.exact in
     (proves-false c.args.signature proof vc (none vc), refl)
@@ -41,18 +42,19 @@ returns-then-not-equal-clause-answer c =
     let o = c.args.table.now in
     let u = c.proved_formula_with.new.table in
     let policy = c.args.policy.now in
+    let most = c.args.bound in
     let code = c.args.cut.now.code in
     let proof = tree_at o c.args.proof in
     let invs = id_trees o c.args.invs.now in
-    let vc = vc_of policy code invs in
+    let vc = vc_of policy most code invs in
     let found = tree_at u c.in-Some.formula in
     let has = subst (λ z. IsResult u (λ g. Checks (declared c.args.signature) [] proof (pf g)) z)
     c.in-Some.is c.in_ok-formula.ensures.exact in
     let same = low-same o u c.args.invs.now c.requires.invs c.in_ok-formula.ensures.extends in
-    let is : EncodesCondition policy code (id_trees u c.args.invs.now) vc = subst (λ l. EncodesCondition policy code l vc) same
-    (vc_of-encodes c.args.signature policy code invs c.requires.forms) in
+    let is : EncodesCondition policy most code (id_trees u c.args.invs.now) vc = subst (λ l. EncodesCondition policy most code l vc) same
+    (vc_of-encodes c.args.signature policy most code invs c.requires.forms) in
     let other : Checks (declared c.args.signature) [] proof (pf vc) → ⊥ =
-    λ k. not-both _ c.if-not-equal.true (c.in-Ok.ensures.exact.1.1 (subst (λ z. EncodesCondition policy code (id_trees u c.args.invs.now) z)
+    λ k. not-both _ c.if-not-equal.true (c.in-Ok.ensures.exact.1.1 (subst (λ z. EncodesCondition policy most code (id_trees u c.args.invs.now) z)
     (one-formula (declared c.args.signature) proof vc found k has.1) is)) in
     (proves-false c.args.signature proof vc other, refl)
 
@@ -61,6 +63,7 @@ returns-clause-answer c =
     let o = c.args.table.now in
     let u = c.proved_formula_with.new.table in
     let policy = c.args.policy.now in
+    let most = c.args.bound in
     let code = c.args.cut.now.code in
     let proof = tree_at o c.args.proof in
     let invs = id_trees o c.args.invs.now in
@@ -68,6 +71,6 @@ returns-clause-answer c =
     let has = subst (λ z. IsResult u (λ g. Checks (declared c.args.signature) [] proof (pf g)) z)
     c.in-Some.is c.in_ok-formula.ensures.exact in
     let same = low-same o u c.args.invs.now c.requires.invs c.in_ok-formula.ensures.extends in
-    let is : EncodesCondition policy code invs found = subst (λ l. EncodesCondition policy code l found) (sym same)
+    let is : EncodesCondition policy most code invs found = subst (λ l. EncodesCondition policy most code l found) (sym same)
     (c.in-Ok.ensures.exact.1.0 c.if-not-equal.false) in
-    judged-true c.args.signature policy code invs proof found c.requires.forms is has.1
+    judged-true c.args.signature policy most code invs proof found c.requires.forms is has.1

@@ -1,4 +1,4 @@
-use Rattle.pcc_gate.proofs.Safe.{accepted-safe, all-sound}
+use Rattle.pcc_gate.proofs.Safe.{accepted-safe, accepted-returns, all-sound}
 use Rattle.pcc_gate.proofs.FirstFront.{passed-none, none-passed, passed-one, before-is, passes-cut, cut-passes}
 use Rattle.pcc_gate.proofs.Witness.{loop_is_accepted}
 use Rattle.pcc_gate.proofs.First.{accepted-none, none-accepted, refusal-is}
@@ -15,6 +15,9 @@ returns-clause-one c policy bytes k d code other marks flags fits p q = passed-o
 
 pub returns-clause-safe : goal.returns-clause-safe
 returns-clause-safe c = accepted-safe (all-sound c.truth_laws.ensures.sound)
+
+pub returns-clause-returns : goal.returns-clause-returns
+returns-clause-returns c = accepted-returns (all-sound c.truth_laws.ensures.sound)
 
 pub returns-clause-refusals : goal.returns-clause-refusals
 returns-clause-refusals c policy bytes r fits = refusal-is policy bytes r fits

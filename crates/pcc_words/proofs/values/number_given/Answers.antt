@@ -1,8 +1,8 @@
-use Rattle.pcc_words.proofs.Reading.{some_number, no_number}
+use Rattle.std.proofs.Common.{ap, unwrap_or}
 use Rattle.pcc_words.proofs.values.number_given.Goals as goal
 
 pub returns-in-Some : goal.returns-in-Some
-returns-in-Some c = some_number c.args.matches.now c.args.id.now c.in-Some.number c.in-Some.ensures.none (λ t e. (c.in-Some.ensures.value t e).0)
+returns-in-Some c = ap (λ o. unwrap_or o 0) c.in-Some.ensures
 
 pub returns-in-None : goal.returns-in-None
-returns-in-None c = no_number c.args.matches.now c.args.id.now (λ t e. (c.in-None.ensures.value t e).1.0)
+returns-in-None c = ap (λ o. unwrap_or o 0) c.in-None.ensures

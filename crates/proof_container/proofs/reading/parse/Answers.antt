@@ -1,11 +1,12 @@
-use Rattle.std.proofs.Common.{rules, ◌≡◌, ◌+◌, ◌*◌, ◌/◌, ℕ, List, length, Ok, sym, ◌∙◌, subst, arith}
+use Rattle.std.proofs.Common.{rules, refl, ◌≡◌, ◌+◌, ◌*◌, ◌/◌, ℕ, List, length, Ok, sym, ◌∙◌, subst, arith}
 use Rattle.std.specs.Option.{option_map}
 use Rattle.std.proofs.lemmas.List.{length-map}
 use Rattle.term_table.specs.Tree.{Tree}
 use Rattle.term_table.specs.Table.{TableView, tree_at, id_trees}
 use Rattle.proof_container.specs.Contents.{Contents}
-use Rattle.proof_container.specs.Decoding.{decoded_head, decoded_entries, decoded_invs, decoded_proof, decoded_end}
-use Rattle.proof_container.proofs.Counted.{read_there}
+use Rattle.proof_container.specs.Inside.Fronts.{front_of}
+use Rattle.proof_container.specs.Decoding.{Front, decoded_head, decoded_entries, decoded_invs, decoded_proof, decoded_end}
+use Rattle.proof_container.proofs.Counted.{with_front, read_there}
 use Rattle.proof_container.proofs.Whole.{parts_parsed, parsed_order}
 use Rattle.proof_container.proofs.reading.parse.Goals as goal
 
@@ -14,15 +15,15 @@ returns-clause-canonical c =
     let bytes = c.args.bytes.now in
     let table : TableView = c.entries.new.table in
     let trees = table.trees in
-    let head = c.in_ok-start.start.head in
-    let code = c.in_ok-start.start.code.now in
+    let front : Front = front_of c.in_ok-start.start c.start_of.new.fields in
+    let code = front.code in
     let words = length code / 4 in
     let at = c.place-at.result in
     let place : c.start_of.new.fields.read ≡ at = sym c.place-at.ensures in
     let next = c.entries.new.fields.read in
     let invs : List (ℕ × Tree) = id_trees table c.in_ok-invs.invs.items in
     let proof = option_map (tree_at table) c.in_ok-proof.proof in
-    let made : Contents = record { head = head; code = code; invs = invs; proof = proof } in
+    let made : Contents = with_front front invs proof in
     -- each part was read of the same bytes
     let at_start : c.new-fields.result.bytes.now ≡ bytes = c.new-fields.ensures.bytes in
     let at_entries : c.start_of.new.fields.bytes.now ≡ bytes =
@@ -34,24 +35,25 @@ returns-clause-canonical c =
     let count : length invs ≡ length c.in_ok-invs.invs.items = length-map c.in_ok-invs.invs.items _ in
     let proof_place : c.invs.new.fields.read ≡ next + 1 + 2 * length invs = omega (arith, count, c.in_ok-invs.ensures.moves.read) in
     let end_place : c.proof.new.fields.read ≡ next + 2 + 2 * length invs = omega (arith, proof_place, c.in_ok-proof.ensures.moves.read) in
-    let head_is : decoded_head bytes ≡ Ok (head, code, at) =
-    subst (λ (i : ℕ). decoded_head bytes ≡ Ok (head, code, i)) place
-    (subst (λ (b : List ℕ). decoded_head b ≡ Ok (head, code, c.start_of.new.fields.read))
-    at_start c.in_ok-start.ensures.read) in
-    let entries_are : decoded_entries bytes at ≡ Ok (trees, next) =
-    read_there decoded_entries _ bytes _ at (trees, next) at_entries place
+    let head_is : decoded_head bytes ≡ Ok front =
+    subst (λ (b : List ℕ). decoded_head b ≡ Ok front) at_start c.in_ok-start.ensures.read in
+    let entries_are : decoded_entries bytes front.next ≡ Ok (trees, next) =
+    read_there decoded_entries _ bytes _ front.next (trees, next) at_entries refl
     c.in_ok-entries.ensures.read in
     let invs_are = subst (λ (b : List ℕ). decoded_invs b next trees words ≡ Ok invs) at_invs c.in_ok-invs.ensures.read in
     let proof_is = subst (λ (i : ℕ). decoded_proof bytes i trees ≡ Ok proof) proof_place
     (subst (λ (b : List ℕ). decoded_proof b c.invs.new.fields.read trees ≡ Ok proof) at_proof c.in_ok-proof.ensures.read) in
-    let end_is = subst (λ (i : ℕ). decoded_end bytes i at trees made ≡ Ok made) end_place
+    let end_there = subst (λ (i : ℕ). decoded_end bytes i at trees made ≡ Ok made) end_place
     (subst (λ (b : List ℕ). decoded_end b c.proof.new.fields.read at trees made ≡ Ok made) at_end
     c.in_ok-end.ensures) in
+    let end_is =
+    subst (λ (k : ℕ). decoded_end bytes (next + 2 + 2 * length invs) k trees made ≡ Ok made)
+    (sym place) end_there in
     let parsed =
-    parts_parsed bytes head code at trees next invs proof made
+    parts_parsed bytes front trees next invs proof made
     (λ i. omega (arith, c.type_inv.bytes i)) head_is entries_are invs_are proof_is end_is in
     record {
       known = (c.in_ok-invs.ensures.known, c.in_ok-proof.ensures.known);
-      trees = parsed_order bytes at trees made parsed;
+      trees = parsed_order bytes front.next trees made parsed;
       places = search rules;
     }

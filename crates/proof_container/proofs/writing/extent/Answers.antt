@@ -5,18 +5,19 @@ use Rattle.term_table.specs.Tree.{Tree}
 use Rattle.term_table.specs.Table.{tree_at}
 use Rattle.proof_container.specs.Contents.{Contents, roots}
 use Rattle.proof_container.specs.Postorder.{entries}
-use Rattle.proof_container.specs.Encoding.{policy_bytes, encoding_of}
+use Rattle.proof_container.specs.Encoding.{policy_bytes, bound_fields, encoding_of}
 use Rattle.proof_container.specs.Decoding.{entry_size}
 use Rattle.proof_container.specs.Views.{view_contents}
 use Rattle.proof_container.proofs.Written.{length-encoding_of}
 use Rattle.proof_container.proofs.writing.extent.Goals as goal
 
 -- sums and a product that stop at the top
-capped : (policy sizes invs code f1 f2 f3 f4 bytes total : ℕ) → f1 ≡ min sizes (2 ^ 64 - 1)
-    → f2 ≡ min (f1 + (6 + policy)) (2 ^ 64 - 1) → f3 ≡ min (f2 + 2 * invs) (2 ^ 64 - 1)
+capped : (policy bound sizes invs code f1 f2 f3 f4 bytes total : ℕ) → f1 ≡ min sizes (2 ^ 64 - 1)
+    → f2 ≡ min (f1 + (6 + policy + bound)) (2 ^ 64 - 1) → f3 ≡ min (f2 + 2 * invs) (2 ^ 64 - 1)
     → f4 ≡ min (f3 * 4) (2 ^ 64 - 1) → bytes ≡ min (f4 + code) (2 ^ 64 - 1)
-    → total ≡ 4 * policy + 4 * (6 + sizes + 2 * invs) + code → bytes ≡ min total (2 ^ 64 - 1)
-capped policy sizes invs code f1 f2 f3 f4 bytes total a b c d e f = omega arith
+    → total ≡ 4 * policy + 4 * bound + 4 * (6 + sizes + 2 * invs) + code
+    → bytes ≡ min total (2 ^ 64 - 1)
+capped policy bound sizes invs code f1 f2 f3 f4 bytes total a b c d e f = omega arith
 
 pub returns-clause-bytes : goal.returns-clause-bytes
 returns-clause-bytes c =
@@ -30,11 +31,13 @@ returns-clause-bytes c =
     let invs : length held.invs ≡ length v.invs.now = length-map {B = ℕ × Tree} v.invs.now (λ inv. (inv.0, tree_at v.table.now inv.1)) in
     let policy : 4 * c.policy_len.result ≡ length (policy_bytes v.head) =
     c.policy_len.ensures.value in
+    let bound : c.bound_len.result ≡ length (bound_fields v.bound) = c.bound_len.ensures.value in
     let fields : ℕ = 6 + sizes + 2 * length v.invs.now in
     let total : length (encoding_of held)
-    ≡ 4 * c.policy_len.result + 4 * fields + length v.code.now =
-    omega (arith, length-encoding_of held, invs, policy) in
-    capped c.policy_len.result sizes (length v.invs.now) (length v.code.now) c.entries_len.result
+    ≡ 4 * c.policy_len.result + 4 * c.bound_len.result + 4 * fields + length v.code.now =
+    omega (arith, length-encoding_of held, invs, policy, bound) in
+    capped c.policy_len.result c.bound_len.result sizes (length v.invs.now)
+    (length v.code.now) c.entries_len.result
     c.saturating_add.result c.saturating_add-fields.result c.saturating_mul.result
     c.saturating_add-bytes.result (length (encoding_of held))
     len c.saturating_add.ensures c.saturating_add-fields.ensures c.saturating_mul.ensures c.saturating_add-bytes.ensures total

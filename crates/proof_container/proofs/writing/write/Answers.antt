@@ -16,7 +16,7 @@ encoded c =
     let held : Contents = view_contents v in
     let es = left_trees v.table.now c.in_ok-walk.walk in
     let none : c.new-out.result.items ≡ [] = c.new-out.ensures.items in
-    let front : List ℕ = head_bytes held.head (length held.code / 4) in
+    let front : List ℕ = head_bytes held (length held.code / 4) in
     let head : c.put_head.new.out.items ≡ front =
     c.in_ok-put_head.ensures ∙ ap (λ (z : List ℕ). z ++ front) none in
     let code : c.extend_from_slice.new.self.items ≡ front ++ held.code =
@@ -25,7 +25,7 @@ encoded c =
     c.in_ok-put_tail.ensures ∙ ap (λ (z : List ℕ). z ++ field_bytes (tail_fields es held)) code in
     record {
       contents =
-          view_holds v c.requires c.limits.ensures.head c.limits.ensures.code c.laws.ensures.small;
+          view_holds v c.requires c.limits.ensures c.laws.ensures.small;
       encoded = is_spelling held es c.put_tail.new.out.items c.in_ok-walk.ensures.left out;
     }
 

@@ -1,9 +1,8 @@
-use Rattle.prover_class.specs.Access.{by_all_means}
 use Rattle.prover_class.proofs.Laws.{sound, exact}
 use Rattle.prover_class.proofs.theorems.class_laws.Goals as goal
 
 pub returns : goal.returns
 returns c = record {
   sound = sound;
-  exact = exact by_all_means;
+  exact = exact;
 }

@@ -1,5 +1,6 @@
 use Rattle.lf_encode.proofs.KeptRows.{ready-more, kept-ready}
 use Rattle.vcgen.proofs.Lacking.{uses-more}
+use Rattle.vcgen.specs.Inside.Symbols.{ids_of}
 use Rattle.vcgen.proofs.comparisons.is_put_by.Goals as goal
 
 pub returns-clause-kept : goal.returns-clause-kept
@@ -12,7 +13,7 @@ returns-clause-kept c =
     let grown = c.is_put_with.ensures.extends in
     record {
       puts = c.is_put_with.ensures.kept;
-      ready = ready-more o u earlier.regs earlier.memory held.ready grown;
-      before = kept-ready kept.before o u earlier.regs earlier.memory held.before held.ready grown;
+      ready = ready-more o u (ids_of earlier) held.ready grown;
+      before = kept-ready kept.before o u (ids_of earlier) held.before held.ready grown;
       uses = uses-more kept.uses o u held.uses grown;
     }

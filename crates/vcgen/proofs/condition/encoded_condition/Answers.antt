@@ -61,4 +61,4 @@ returns-clause-id c =
     c.in_ok-post.ensures.exact.is
     ∙ (λ i. encoding_in (c.machine_context-context.ensures i) (c.post.ensures.exact i)) in
     let invs = invs-same o u c.args.invs.now (low-here o c.args.invs.now c.requires.invs) grown in
-    subst (λ z. IfOk c.condition_of.result (IsIdOf c.condition_of.new.table z)) (λ i. condition_term c.args.code.now (invs i) (pre i) (post i)) c.condition_of.ensures.id
+    subst (λ z. IfOk c.condition_of.result (IsIdOf c.condition_of.new.table z)) (λ i. condition_term c.args.bound c.args.code.now (invs i) (pre i) (post i)) c.condition_of.ensures.id

@@ -20,14 +20,15 @@ pub returns-clause-exact : goal.returns-clause-exact
 returns-clause-exact c =
     let policy = c.args.policy.now in
     let code = c.args.cut.now.code in
+    let bound = c.args.bound in
     let invs = id_trees c.args.table.now c.args.invs.now in
-    let has : EncodesCondition policy code invs _ = (encoding-exists policy code invs c.requires.forms).1 in
-    let term : condition_term code invs (form_encoding (subst_form policy.pre machine_names))
+    let has : EncodesCondition policy bound code invs _ = (encoding-exists policy bound code invs c.requires.forms).1 in
+    let term : condition_term bound code invs (form_encoding (subst_form policy.pre machine_names))
     (form_encoding (subst_form policy.post machine_names))
-    ≡ form_encoding (condition (annotated policy code has.formulas)) =
-    condition_term-is code invs has.formulas policy.pre policy.post has.encoded
+    ≡ form_encoding (condition (annotated policy bound code has.formulas)) =
+    condition_term-is bound code invs has.formulas policy.pre policy.post has.encoded
     c.laws.ensures.asked.over c.laws.ensures.promised.over in
     let made = c.in_ok-encoded_condition.ensures.id.is
-    ∙ (λ i. condition_term (c.code.ensures.value i) invs (encoding-machine policy.pre i)
+    ∙ (λ i. condition_term bound (c.code.ensures.value i) invs (encoding-machine policy.pre i)
     (encoding-machine policy.post i)) ∙ term in
     (omega arith, c.in_ok-encoded_condition.ensures.id.known, record { formulas = has.formulas; encoded = has.encoded; is = sym made })

@@ -6,10 +6,11 @@ use Rattle.lf_encode.proofs.KeptRows.{ready-more}
 use Rattle.lf_signature.specs.Terms.{sel}
 use Rattle.vcgen.specs.Inside.WalkTree.{address_term}
 use Rattle.vcgen.proofs.Walking.{reg-after}
+use Rattle.vcgen.specs.Inside.Symbols.{ids_of}
 use Rattle.vcgen.proofs.effects.load.Goals as goal
 
 pub loaded-requires-clause-ready : goal.loaded-requires-clause-ready
-loaded-requires-clause-ready c = ready-more c.args.table.now c.address.new.table c.args.symbols.now.regs c.args.symbols.now.memory c.requires.ready c.in_ok-address.ensures.extends
+loaded-requires-clause-ready c = ready-more c.args.table.now c.address.new.table (ids_of c.args.symbols.now) c.requires.ready c.in_ok-address.ensures.extends
 
 pub with_reg-requires-clause-ready : goal.with_reg-requires-clause-ready
 with_reg-requires-clause-ready c =
@@ -17,7 +18,7 @@ with_reg-requires-clause-ready c =
     let u = c.address.new.table in
     let v = c.loaded.new.table in
     let grown = grows_more t v c.app1.new.table (grows_more t u v c.in_ok-address.ensures.extends c.in_ok-word.ensures.extends) c.in_ok-allowed.ensures.extends in
-    ready-more t c.app1.new.table c.args.symbols.now.regs c.args.symbols.now.memory c.requires.ready grown
+    ready-more t c.app1.new.table (ids_of c.args.symbols.now) c.requires.ready grown
 
 pub returns-clause-after : goal.returns-clause-after
 returns-clause-after c =
@@ -25,7 +26,7 @@ returns-clause-after c =
     let u = c.address.new.table in
     let v = c.loaded.new.table in
     let w = c.app1.new.table in
-    let terms = machine_terms_at t c.args.symbols.now.regs c.args.symbols.now.memory in
+    let terms = machine_terms_at t (ids_of c.args.symbols.now) in
     let grown : Extends t w = grows_more t v w (grows_more t u v c.in_ok-address.ensures.extends c.in_ok-word.ensures.extends) c.in_ok-allowed.ensures.extends in
     let memory : tree_at u c.args.symbols.now.memory ≡ terms.memory = c.in_ok-address.ensures.extends.same c.args.symbols.now.memory c.requires.ready.memory in
     let address : tree_at u c.in_ok-address.address ≡ address_term terms c.args.rb c.args.disp = search rules in

@@ -1,16 +1,10 @@
-use Rattle.std.proofs.Common.{◌≡◌, subst}
+use Rattle.std.proofs.Common.{None, sym}
 use Rattle.term_table.specs.Table.{tree_at}
-use Rattle.hereditary_subst.specs.Simples.{IsResult}
-use Rattle.lf_signature.specs.Terms.{allm_term}
-use Rattle.vcgen.proofs.Sides.{closed-none, closed-sides}
+use Rattle.vcgen.proofs.Sides.{closed-by}
 use Rattle.vcgen.proofs.goals.closed_sides.Goals as goal
 
 pub returns-in-None : goal.returns-in-None
-returns-in-None c = closed-none c.args.table.now (tree_at c.args.table.now c.args.id) c.body.result c.body.ensures c.in-None.is
+returns-in-None c = closed-by c.args.bound c.args.table.now (tree_at c.args.table.now c.args.id) None c.machine_sides.result (sym c.in-None.is) c.machine_sides.ensures
 
 pub returns-in-Some : goal.returns-in-Some
-returns-in-Some c =
-    let t = c.args.table.now in
-    let tree = tree_at t c.args.id in
-    let h = subst (λ z. IsResult t (λ b. tree ≡ allm_term b) z) c.in-Some.is c.body.ensures in
-    closed-sides t tree (tree_at t c.in-Some.words) c.sides_under_words.result h.1 c.sides_under_words.ensures
+returns-in-Some c = closed-by c.args.bound c.args.table.now (tree_at c.args.table.now c.args.id) _ c.counted_sides.result (sym c.in-Some.is) c.counted_sides.ensures

@@ -22,23 +22,24 @@ pub returns-clause-exact : goal.returns-clause-exact
 returns-clause-exact c =
     let policy = c.args.policy.now in
     let code = c.args.cut.now.code in
+    let bound = c.args.bound in
     let invs = id_trees c.args.table.now c.args.invs.now in
     let formula = tree_at c.args.table.now c.args.formula in
-    let has : EncodesCondition policy code invs _ = (encoding-exists policy code invs c.requires.forms).1 in
-    let whole = form_encoding (condition (annotated policy code has.formulas)) in
-    let term : condition_term code invs (form_encoding (subst_form policy.pre machine_names))
+    let has : EncodesCondition policy bound code invs _ = (encoding-exists policy bound code invs c.requires.forms).1 in
+    let whole = form_encoding (condition (annotated policy bound code has.formulas)) in
+    let term : condition_term bound code invs (form_encoding (subst_form policy.pre machine_names))
     (form_encoding (subst_form policy.post machine_names)) ≡ whole =
-    condition_term-is code invs has.formulas policy.pre policy.post has.encoded
+    condition_term-is bound code invs has.formulas policy.pre policy.post has.encoded
     c.laws.ensures.asked.over c.laws.ensures.promised.over in
     let made =
-    (λ i. condition_term (c.code.ensures.value i) invs (encoding-machine policy.pre i)
+    (λ i. condition_term bound (c.code.ensures.value i) invs (encoding-machine policy.pre i)
     (encoding-machine policy.post i)) ∙ term in
     let exact = one-answer c.in_ok-equal.equal formula formula _ whole refl made c.in_ok-equal.ensures.exact in
-    let one : EncodesCondition policy code invs whole = record { formulas = has.formulas; encoded = has.encoded; is = refl } in (
+    let one : EncodesCondition policy bound code invs whole = record { formulas = has.formulas; encoded = has.encoded; is = refl } in (
       omega arith,
       (
         λ b. record { formulas = has.formulas; encoded = has.encoded; is = sym (exact.0 b) },
         λ e. exact.1
-            (encoding-unique policy code invs formula whole e one),
+            (encoding-unique policy bound code invs formula whole e one),
       ),
     )

@@ -63,4 +63,4 @@ returns-clause-exact c =
     (λ i. encoding_in (c.machine_context-context.ensures i) (c.post.ensures.exact i)) in
     let invs = invs-same o u c.args.invs.now (low-here o c.args.invs.now c.requires.invs) grown in
     answer-of c.is_condition_of.result (tree_at u c.args.goal) (tree_at o c.args.goal) _ _ (grown.same c.args.goal c.requires.goal)
-    (λ i. condition_term c.args.code.now (invs i) (pre i) (post i)) c.is_condition_of.ensures.exact
+    (λ i. condition_term c.args.bound c.args.code.now (invs i) (pre i) (post i)) c.is_condition_of.ensures.exact

@@ -1,10 +1,9 @@
-use Rattle.std.proofs.Common.{◌≡◌, length, refl, subst}
+use Rattle.std.proofs.Common.{length, subst}
 use Rattle.term_table.specs.Table.{tree_at, id_trees}
-use Rattle.lf_encode.specs.PutTree.{machine_terms_at}
-use Rattle.lf_encode.proofs.Comparisons.{apart-first, ok-by-second, answer-of}
+use Rattle.lf_encode.proofs.Comparisons.{apart-first, ok-by-second}
 use Rattle.lf_signature.specs.Terms.{imp_term}
 use Rattle.vcgen.specs.Inside.Goals.{AreSides}
-use Rattle.vcgen.specs.Inside.WalkTree.{start_terms, walked, closed_term}
+use Rattle.vcgen.specs.Inside.WalkTree.{entry_terms, walked, closed_term}
 use Rattle.vcgen.proofs.Sides.{closed-one}
 use Rattle.vcgen.proofs.recognizing.is_entry.Goals as goal
 
@@ -12,23 +11,16 @@ pub returns-then-not-same-clause-exact : goal.returns-then-not-same-clause-exact
 returns-then-not-same-clause-exact c =
     let o = c.args.table.now in
     let p = c.args.program.now in
-    let walk = walked p.code.now (id_trees o p.invs.now) (tree_at o p.post) (length p.code.now) 0 start_terms in
-    let h = subst (λ z. AreSides (λ a b. closed_term (imp_term a b)) o (tree_at o c.args.goal) z) c.in-Some.is c.closed_sides.ensures in
-    apart-first (λ a b. closed_term (imp_term a b)) closed-one (tree_at o c.args.goal) (tree_at o c.in-Some.parts.first) (tree_at o c.in-Some.parts.second)
-    (tree_at o c.args.pre) walk h.2
-    c.same.result c.same.ensures c.if-not-same.true
+    let walk = walked p.bound p.code.now (id_trees o p.invs.now) (tree_at o p.post) (length p.code.now) 0 (entry_terms p.bound) in
+    let h = subst (λ z. AreSides (λ a b. closed_term p.bound (imp_term a b)) o (tree_at o c.args.goal) z) c.in-Some.is c.closed_sides.ensures in
+    apart-first (λ a b. closed_term p.bound (imp_term a b)) (closed-one p.bound) (tree_at o c.args.goal) (tree_at o c.in-Some.parts.first) (tree_at o c.in-Some.parts.second)
+    (tree_at o c.args.pre) walk h.2 c.same.result c.same.ensures c.if-not-same.true
 
 pub returns-clause-exact : goal.returns-clause-exact
 returns-clause-exact c =
     let o = c.args.table.now in
     let p = c.args.program.now in
-    let terms = machine_terms_at o c.args.start.now.regs c.args.start.now.memory in
-    let walk = walked p.code.now (id_trees o p.invs.now) (tree_at o p.post) in
-    let h = subst (λ z. AreSides (λ a b. closed_term (imp_term a b)) o (tree_at o c.args.goal) z) c.in-Some.is c.closed_sides.ensures in
-    let same : walk c.count-count.result 0 terms ≡ walk (length p.code.now) 0 start_terms = λ i. walk (c.count-count.ensures.value i) 0 (c.requires.start i)
-    in
-    ok-by-second (λ a b. closed_term (imp_term a b)) closed-one (tree_at o c.args.goal) (tree_at o c.in-Some.parts.first) (tree_at o c.in-Some.parts.second)
-    (tree_at o c.args.pre)
-    (walk (length p.code.now) 0 start_terms) h.2 c.same.result c.is_walk.result c.same.ensures c.if-not-same.false
-    (answer-of c.is_walk.result (tree_at o c.in-Some.parts.second) (tree_at o c.in-Some.parts.second) (walk c.count-count.result 0 terms)
-    (walk (length p.code.now) 0 start_terms) refl same c.is_walk.ensures.exact)
+    let walk = walked p.bound p.code.now (id_trees o p.invs.now) (tree_at o p.post) (length p.code.now) 0 (entry_terms p.bound) in
+    let h = subst (λ z. AreSides (λ a b. closed_term p.bound (imp_term a b)) o (tree_at o c.args.goal) z) c.in-Some.is c.closed_sides.ensures in
+    ok-by-second (λ a b. closed_term p.bound (imp_term a b)) (closed-one p.bound) (tree_at o c.args.goal) (tree_at o c.in-Some.parts.first) (tree_at o c.in-Some.parts.second)
+    (tree_at o c.args.pre) walk h.2 c.same.result c.is_walk_entry.result c.same.ensures c.if-not-same.false c.is_walk_entry.ensures.exact

@@ -1,4 +1,4 @@
-use Rattle.vcgen.proofs.Encodings.{forms-wider, encoding-exists, encoding-unique, encoded-annotates, policy-safe}
+use Rattle.vcgen.proofs.Encodings.{forms-wider, encoding-exists, encoding-unique, encoded-annotates, policy-safe, policy-returns}
 use Rattle.vcgen.proofs.theorems.encoding_laws.Goals as goal
 
 pub returns : goal.returns
@@ -8,4 +8,5 @@ returns c = record {
   unique = encoding-unique;
   annotates = encoded-annotates;
   safe = policy-safe;
+  returns = policy-returns;
 }

@@ -30,3 +30,31 @@ returns-clause-twice c = refl
 pub returns-clause-computing : goal.returns-clause-computing
 unfolding machine_names unchanged
 returns-clause-computing c = refl
+
+pub returns-clause-bounded_ret : goal.returns-clause-bounded_ret
+unfolding machine_names unchanged
+returns-clause-bounded_ret c = refl
+
+pub returns-clause-bounded_store : goal.returns-clause-bounded_store
+unfolding machine_names unchanged
+returns-clause-bounded_store c = refl
+
+pub returns-clause-bounded_branch : goal.returns-clause-bounded_branch
+unfolding machine_names unchanged
+returns-clause-bounded_branch c = refl
+
+pub returns-clause-bounded_loop : goal.returns-clause-bounded_loop
+unfolding machine_names unchanged
+returns-clause-bounded_loop c = refl
+
+pub returns-clause-bounded_entry : goal.returns-clause-bounded_entry
+unfolding machine_names unchanged
+returns-clause-bounded_entry c = refl
+
+pub returns-clause-bounded_zero : goal.returns-clause-bounded_zero
+unfolding machine_names unchanged
+returns-clause-bounded_zero c = refl
+
+pub returns-clause-bounded_access : goal.returns-clause-bounded_access
+unfolding machine_names unchanged
+returns-clause-bounded_access c = refl

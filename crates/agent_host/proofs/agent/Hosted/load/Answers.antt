@@ -1,4 +1,4 @@
-use Rattle.std.proofs.Common.{◌≡◌, ◌+◌, ◌-◌, ◌/◌, true, List, ℕ, Option, Some, length, refl, sym}
+use Rattle.std.proofs.Common.{◌≡◌, ◌-◌, ◌/◌, true, List, ℕ, Option, Some, length, refl}
 use Rattle.std.proofs.Common.{◌∙◌, ap, subst, arith}
 use Rattle.std.specs.Vec.{with_items}
 use Rattle.std.proofs.lemmas.List.{with_items_is}
@@ -8,6 +8,7 @@ use Rattle.reference_machine.specs.Setups.{start_view}
 use Rattle.reference_machine.specs.Starts.{StartView}
 use Rattle.reference_machine.proofs.Starting.{length-arena_words}
 use Rattle.packet_store.specs.PolicyStarts.{start_from}
+use Rattle.vcgen.specs.Safety.{all_steps}
 use Rattle.part_runs.specs.Parts.{rights_of}
 use Rattle.agent_host.specs.Agents.{HostedView, agent_at}
 use Rattle.agent_host.specs.Hosts.{LoadsAt}
@@ -38,7 +39,7 @@ invariant_of-self c =
       aligned = c.self.invariant.aligned;
       low = c.self.invariant.low;
       within = λ _. begun.fits.holds.within;
-      rights = λ _. (rights_of setup, begun.fits);
+      rights = λ _. (all_steps m.accepted.bound, rights_of setup, begun.fits);
     }
 
 pub returns : goal.returns

@@ -1,4 +1,4 @@
-use Rattle.std.proofs.Common.{◌≡◌, true, ℕ, List, length, refl, sym, ◌∙◌, ap, subst, arith}
+use Rattle.std.proofs.Common.{◌≡◌, ℕ, List, length, refl, sym, ◌∙◌, ap, subst, arith}
 use Rattle.std.specs.Vec.{with_items}
 use Rattle.std.proofs.lemmas.List.{with_items_is}
 use Rattle.alpha_words.specs.declared.insn.Insn.{Insn}
@@ -8,10 +8,10 @@ use Rattle.host_steps.specs.Operations.{AreOperations}
 use Rattle.host_steps.specs.RunEnds.{outcome_of}
 use Rattle.host_steps.specs.Stepping.{arena_state, EndsUnblocked}
 use Rattle.agent_host.specs.declared.phase.Phase.TheVariants as phases
-use Rattle.agent_host.specs.Agents.{HostedView, SomeRightsFit}
+use Rattle.agent_host.specs.Agents.{HostedView}
 use Rattle.agent_host.specs.Turns.{RunsTo}
 use Rattle.agent_host.specs.Inside.Fields.{hosted_view}
-use Rattle.agent_host.proofs.Running.{runs-unblocked, ran-under, still-fits}
+use Rattle.agent_host.proofs.Running.{runs-unblocked, ran-under, run-returns, still-fits}
 use Rattle.agent_host.proofs.agent.Hosted.run.Goals as goal
 
 pub run_steps-ended-requires-clause-unblocked : goal.run_steps-ended-requires-clause-unblocked
@@ -109,6 +109,8 @@ returns c =
       ready = ready;
       under = ran-under m law.forms law.annotates law.valid c.args.budget code same ran.result new
           refl run;
+      returns = run-returns m law.forms law.annotates law.valid c.args.budget code same ran.result
+          new refl run (c.self.invariant.rights ready);
       kept = ap (λ p. record new { phase = p }) c.after-self-inside.ensures;
     } in
     subst (λ (v : HostedView). RunsTo c.args.budget ran.result v new) c.self.view_is runs

@@ -7,6 +7,7 @@ use Rattle.reference_machine.specs.Setups.{start_view}
 use Rattle.reference_machine.specs.Starts.{StartView}
 use Rattle.reference_machine.proofs.Starting.{length-arena_words, placed_words-past}
 use Rattle.packet_store.specs.PolicyStarts.{start_of}
+use Rattle.vcgen.specs.Safety.{all_steps}
 use Rattle.safe_host.specs.Hosts.{HostView, host_at, start_rights}
 use Rattle.safe_host.specs.Runs.{Loads}
 use Rattle.safe_host.specs.Inside.Fields.{host_view}
@@ -36,7 +37,12 @@ invariant_of-self c =
       within = λ _. begun.fits.holds.within;
       end_within = c.reach-self-inside.ensures.within;
       past_end = subst (λ (l : List ℕ). IsZeroFrom end l) (sym placed) (placed_words-past place setup.bytes end behind);
-      rights = λ _. (start_rights setup, begun.fits, c.reach-self-inside.ensures.spans);
+      rights = λ _. (
+        all_steps a.bound,
+        start_rights setup,
+        begun.fits,
+        c.reach-self-inside.ensures.spans,
+      );
     }
 
 pub returns : goal.returns

@@ -1,0 +1,27 @@
+use Rattle.std.proofs.Common.{[], ◌∷◌, IfOk, subst}
+use Rattle.word_ops.specs.declared.Op.TheVariants.{Sub}
+use Rattle.lf_signature.specs.Nodes.{IsIdOf}
+use Rattle.formula_terms.specs.Encoding.{exp_encoding}
+use Rattle.bound_proofs.specs.BoundIds.{IsBoundOf}
+use Rattle.bound_proofs.specs.Candidates.{folded_at}
+use Rattle.bound_proofs.specs.declared.bounds.Side.TheVariants.{Lower}
+use Rattle.formula_ids.proofs.Standing.{own, stands, more, twice, ruled}
+use Rattle.bound_proofs.proofs.parts.by_difference.Goals as goal
+
+pub returns-clause-is : goal.returns-clause-is
+returns-clause-is c = λ z x qe qa.
+    let t = c.args.table.now in
+    let e2 = c.in_ok-value.ensures.extends in
+    let e3 = c.in_ok-taken.ensures.extends in
+    let x3 = twice (twice c.in_ok-held.ensures.extends e2) e3 in
+    let a = stands t (exp_encoding x) c.args.a c.requires.a qa in
+    let e = stands t (exp_encoding z) c.args.e c.requires.e qe in
+    let v = own t c.args.v.proof c.requires.v in
+    let p =
+    ruled (λ u. IsIdOf c.rule_term.new.table u c.in_ok-proof.proof) 104
+    (λ i. (more a x3).is i ∷ (more c.in_ok-value.ensures.known e3).is i
+    ∷ c.in_ok-taken.ensures.known.is i ∷ (more v x3).is i
+    ∷ (more c.in_ok-held.ensures.id (twice e2 e3)).is i ∷ []) c.in_ok-proof.ensures.id in
+    subst (λ u. IfOk c.folded.result
+    (IsBoundOf c.folded.new.table (folded_at Lower z Sub c.args.v.value c.args.w u))) p.is
+    (c.folded.ensures.is z (more e (twice x3 c.in_ok-proof.ensures.extends)).is)

@@ -1,0 +1,6 @@
+pub mod Lemmas
+pub mod WrittenOut
+pub mod Checking
+pub mod Orderly
+pub mod Tables
+pub mod Laws

@@ -1,0 +1,45 @@
+//! What holds of lemmas, with nothing to run.
+
+ghost use Rattle.std.specs.Prelude.{◌≡◌, ◌↔◌, ℕ, true, Option, List, [], length, take};
+ghost use Rattle.term_table.specs.Tree.{Tree, Const, fits};
+ghost use Rattle.term_table.specs.Table.{IsSmall};
+ghost use Rattle.lf_signature.specs.Terms.{form};
+ghost use Rattle.lf_signature.specs.Typing.{Checks};
+ghost use Rattle.lf_signature.specs.Constants.{declared};
+ghost use Rattle.lf_signature.specs.declared.WordSignature.{WordSignature};
+ghost use Rattle.lf_lemmas.specs.Lemmas.{formulas_of, proofs_of, with_lemmas, AreFormulas};
+ghost use Rattle.lf_lemmas.specs.WrittenOut.{cites_below, inlined, written_out};
+ghost use Rattle.lf_lemmas.specs.Checking.{LemmasCheck, AllProve, CiteBackwards, CiteNone, AllFit};
+ghost use Rattle.lf_lemmas.specs.Checking.{ChecksWithLemmas, ChecksWrittenOut};
+ghost use Rattle.lf_lemmas.specs.Orderly.{AdmitsLemmas};
+
+/// Over a signature that lemmas can be added to, the proofs of lemmas whose formulas are ones and a
+/// proof of the formula `G` check with the lemmas exactly where they do written out
+/// (`written_out`). Writing out changes no formula, and where lemmas cite those before them alone,
+/// none is left (`same_formulas`, `none_left`, `nothing_left`). Each signature of word arithmetic
+/// is such a signature (`words`), and the trees of a table fit (`fit`).
+///
+/// For a caller that goes by the number: what checks with the lemmas below `j` is what checks with
+/// all and cites those alone (`part`); so the proofs of all lemmas check, each with those before
+/// it, exactly where they check over the one signature with all and cite backwards (`at_once`).
+pub fn laws()
+    ensures written_out { (sig : Const → Option Tree) (lemmas : List (Tree × Tree)) (t G : Tree) →
+        AdmitsLemmas sig → AreFormulas sig (formulas_of lemmas) → AllFit lemmas →
+        Checks sig [] G form →
+        ChecksWithLemmas sig lemmas t G ↔ ChecksWrittenOut sig lemmas t G }
+    ensures same_formulas { (lemmas : List (Tree × Tree)) →
+        formulas_of (written_out lemmas) ≡ formulas_of lemmas }
+    ensures none_left { (lemmas : List (Tree × Tree)) → CiteBackwards lemmas →
+        CiteNone (written_out lemmas) }
+    ensures nothing_left { (lemmas : List (Tree × Tree)) (t : Tree) → CiteBackwards lemmas →
+        cites_below (length lemmas) t ≡ true →
+        cites_below 0 (inlined (proofs_of (written_out lemmas)) t) ≡ true }
+    ensures words { (s : WordSignature) → AdmitsLemmas (declared s) }
+    ensures fit { (t : Tree) → IsSmall t → fits t ≡ true }
+    ensures part { (sig : Const → Option Tree) (forms : List Tree) (j : ℕ) (ctx : List Tree)
+        (t a : Tree) → Checks (with_lemmas sig (take j forms)) ctx t a
+        ↔ (Checks (with_lemmas sig forms) ctx t a × (cites_below j t ≡ true)) }
+    ensures at_once { (sig : Const → Option Tree) (lemmas : List (Tree × Tree)) →
+        LemmasCheck sig lemmas
+        ↔ (AllProve (with_lemmas sig (formulas_of lemmas)) lemmas × CiteBackwards lemmas) }
+{}
