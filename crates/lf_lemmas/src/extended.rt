@@ -26,6 +26,7 @@ fn lemma_formula(lemmas: &[(Id, Id)], number: u32) -> Option<Id>
 /// last, and all else what `sig` gives. It wants a table that has the lemmas' trees, and that each
 /// formula checks at the type of formulas in the empty context (`HoldsLemmas`); of the proofs it
 /// says nothing. For the lemmas before a number take that many from the front.
+#[derive(Drop)]
 pub struct WithLemmas<'a, S> {
     /// The signature of the formulas, which has no lemmas.
     pub sig: &'a S,

@@ -39,6 +39,18 @@
 //! - `proves_after u G t F`: whether it does, with what is kept of whether u proves G;
 //! - `proved t F`: whether F is the formula that t proves, which is found without F.
 //!
+//! Of lemmas over the second signature (`lemmas.txt`), which are pairs of a formula and its proof,
+//! parted by `/`:
+//!
+//! - `formless F p / ..`, `proofless F p / ..` and `late F p / ..`: the number of the first whose
+//!   formula is none, whose proof doesn't check over the signature without lemmas, or whose proof
+//!   cites itself or a later one;
+//! - `unproved F p / ..`: the number of the first whose proof doesn't check with those before it, and
+//!   none where a formula is none;
+//! - `proves_with F p / .. |- t G`: whether t proves G with these lemmas, and each lemma its own
+//!   formula with those before it;
+//! - `declared_with F p / .. |- c`: the type that the signature with these lemmas gives a constant.
+//!
 //! Of the encodings of formulas (`encodings.txt`), over no variables but in the last two:
 //!
 //! - `form t`: whether t encodes a formula; `formula_height t`: how high that is;
@@ -62,6 +74,7 @@ mod encodings;
 mod formulas;
 mod functions;
 mod judgements;
+mod lemmas;
 mod rules;
 mod terms;
 mod truths;
@@ -69,6 +82,7 @@ mod truths;
 use encodings::about_encodings;
 use formulas::about_formulas;
 use judgements::about_judgements;
+use lemmas::about_lemmas;
 use rules::about_rules;
 use std::alloc::Global;
 use std::io;
@@ -107,6 +121,9 @@ impl Questions for LfQuestions {
         if let Some(answer) = about_truths(alloc, table, names, question, cursor)? {
             return Ok(answer);
         }
+        if let Some(answer) = about_lemmas(alloc, table, names, question, cursor)? {
+            return Ok(answer);
+        }
         if let Some(answer) = about_encodings(table, names, question, cursor)? {
             return Ok(answer);
         }
@@ -129,6 +146,7 @@ fn main(rt: HostRuntime) -> io::Result<()> {
     run_file(&rt, "checks.txt")?;
     run_file(&rt, "rules.txt")?;
     run_file(&rt, "truths.txt")?;
+    run_file(&rt, "lemmas.txt")?;
     run_file(&rt, "encodings.txt")?;
     run_file(&rt, "formulas.txt")
 }

@@ -1,10 +1,10 @@
 -- Which formula a proof proves: the one of the type of proofs that it synthesises.
-use Rattle.std.proofs.Common.{◌≡◌, ℕ, Option, Some, None, IfSome, List, [], sym, ◌∙◌, subst}
+use Rattle.std.proofs.Common.{◌≡◌, ℕ, Option, Some, None, IfSome, Result, Ok, Err, IfOk, [], sym, subst}
 use Rattle.term_table.specs.Tree.{Tree, Const}
-use Rattle.term_table.specs.Table.{TableView, IsKnown, tree_at}
+use Rattle.term_table.specs.Table.{TableView, tree_at}
 use Rattle.hereditary_subst.specs.Simples.{IsResult}
 use Rattle.lf_signature.specs.Terms.{pf}
-use Rattle.lf_signature.specs.Typing.{Checks, lam_checks, atom_checks, Synth}
+use Rattle.lf_signature.specs.Typing.{Checks, atom_checks, Synth}
 use Rattle.lf_signature.specs.Laws.Decided.{synth_unique}
 use Rattle.formula_tree.specs.Formulas.{Form}
 use Rattle.formula_tree.specs.Truth.{IsValid}
@@ -38,3 +38,11 @@ module _ (sig : Const → Option Tree) where
       (λ id. (F : Form) → EncodesClosed F (tree_at u id) → IsValid F)
   formulas-valid sound u p None h = tt
   formulas-valid sound u p (Some id) h = λ F e. sound F p e.over (subst (λ z. Checks sig [] p (pf z)) (sym e.is) h.1)
+
+  -- so of an answer
+  pub formulas-ok : {E : Type 0} → IsSoundSignature sig → (u : TableView) (p : Tree)
+      (r : Result (Option ℕ) E) → IfOk r (IsResult u (λ g. Checks sig [] p (pf g)))
+      → IfOk r
+      (λ o. IfSome o (λ id. (F : Form) → EncodesClosed F (tree_at u id) → IsValid F))
+  formulas-ok sound u p (Ok o) h = formulas-valid sound u p o h
+  formulas-ok sound u p (Err e) h = tt

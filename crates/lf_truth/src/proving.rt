@@ -15,7 +15,7 @@ ghost use Rattle.lf_signature.specs.Laws.Within.{declared_known};
 use crate::theorems::truth_laws;
 use lf_check::{Exhausted, Kept, MOST_RESULTS, check_term_with, synth_with};
 use lf_signature::numbers::PF;
-use lf_signature::{Known, WordSignature, pf};
+use lf_signature::{Known, Signature, WordSignature, pf};
 use std::alloc::AllocError;
 use term_table::{Id, Node, Table};
 
@@ -96,13 +96,44 @@ fn formula_of(table: &Table, proofs: Id) -> Option<Id>
     }
 }
 
+/// The formula that the term `proof` proves over `sig`, which may be any signature: None exactly
+/// where it checks at the type of the proofs of no formula. It is found before any formula is
+/// known, and costs what the check of the proof costs. Whether what is proved is true is another
+/// question, which hangs on the signature (`proved_formula_with`).
+///
+/// `kept` has what earlier calls on the table over the signature kept.
+///
+/// Errors: want of memory, and `Exhausted::Results` past the limit of `kept`; each id keeps its
+/// tree.
+pub fn proved_with<S: Signature>(
+    table: &mut Table,
+    kept: &mut Kept,
+    sig: &S,
+    proof: Id,
+) -> Result<Option<Id>, Exhausted>
+    requires holds { S.holds sig.now table.old }
+    requires proof { IsKnown table.old proof }
+    requires kept { AreKept (S.declares sig.now table.old) table.old kept.old }
+    ensures exact { let sig = S.declares sig.now table.old in
+        let proves = Checks sig [] (tree_at table.old proof) in
+        IfOk result (IsResult table.new (λ g. proves (pf g))) }
+    ensures extends { Extends table.old table.new }
+    ensures kept { AreKept (S.declares sig.now table.new) table.new kept.new }
+{
+    match synth_with(table, kept, sig, &[], proof)? {
+        None => Ok(None),
+        Some(proofs) => Ok(formula_of(table, proofs)),
+    }
+}
+
 /// The formula that the term `proof` proves over `sig`: None exactly where it checks at the type of
 /// the proofs of no formula. Where the formula encodes a closed one, that is true in every
 /// structure. It is found before any formula is known, and costs what the check of the proof costs.
 ///
 /// `kept` has what earlier calls on the table over the signature kept.
 ///
-/// Errors: want of memory, and `Exhausted::Results` past the limit of `kept`; each id keeps its tree.
+/// Errors: want of memory, and `Exhausted::Results` past the limit of `kept`; each id keeps its
+/// tree.
 pub fn proved_formula_with<S: Truthful>(
     table: &mut Table,
     kept: &mut Kept,
@@ -121,8 +152,5 @@ pub fn proved_formula_with<S: Truthful>(
     ensures kept { AreKept (S.Signature.declares sig.now table.new) table.new kept.new }
 {
     truth_laws();
-    match synth_with(table, kept, sig, &[], proof)? {
-        None => Ok(None),
-        Some(proofs) => Ok(formula_of(table, proofs)),
-    }
+    proved_with(table, kept, sig, proof)
 }

@@ -1,31 +1,13 @@
-use Rattle.std.proofs.Common.{◌≡◌, [], IfSome, Option, Some, None, subst}
 use Rattle.term_table.specs.Table.{tree_at}
-use Rattle.hereditary_subst.specs.Simples.{IsResult}
-use Rattle.lf_signature.specs.Terms.{pf}
-use Rattle.lf_signature.specs.Typing.{Checks, Synth}
-use Rattle.lf_truth.proofs.Proved.{formula-none, formula-is, formulas-valid}
+use Rattle.lf_truth.proofs.Proved.{formulas-ok}
 use Rattle.lf_truth.proofs.proving.proved_formula_with.Goals as goal
 
-pub returns-in-None-clause-exact : goal.returns-in-None-clause-exact
-returns-in-None-clause-exact g c =
-    let sig = g.S.Signature.declares c.args.sig.now c.args.table.now in
-    let u = c.synth_with.new.table in
-    let p = tree_at c.args.table.now c.args.proof in
-    formula-none sig p (subst (λ z. IsResult u (Synth sig [] p) z) c.in-None.is c.in_ok-synth_with.ensures.derived)
-
-pub returns-in-Some-clause-exact : goal.returns-in-Some-clause-exact
-returns-in-Some-clause-exact g c =
-    let sig = g.S.Signature.declares c.args.sig.now c.args.table.now in
-    let u = c.synth_with.new.table in
-    let p = tree_at c.args.table.now c.args.proof in
-    let has = subst (λ z. IsResult u (Synth sig [] p) z) c.in-Some.is c.in_ok-synth_with.ensures.derived in
-    formula-is sig u p c.in-Some.proofs c.formula_of.result has.1 c.formula_of.ensures
-
-pub returns-in-Some-clause-valid : goal.returns-in-Some-clause-valid
-returns-in-Some-clause-valid g c =
-    let sig = g.S.Signature.declares c.args.sig.now c.args.table.now in
-    let u = c.synth_with.new.table in
-    let p = tree_at c.args.table.now c.args.proof in
-    let has = subst (λ z. IsResult u (Synth sig [] p) z) c.in-Some.is c.in_ok-synth_with.ensures.derived in
-    let sound = c.truth_laws.ensures.sound sig (g.met.S.Signature.well_formed c.args.sig.now c.args.table.now c.requires.holds) (g.met.S.Truthful.given c.args.sig.now c.args.table.now c.requires.holds) in
-    formulas-valid sig sound u p c.formula_of.result (formula-is sig u p c.in-Some.proofs c.formula_of.result has.1 c.formula_of.ensures)
+pub returns-clause-valid : goal.returns-clause-valid
+returns-clause-valid g c =
+    let t = c.args.table.now in
+    let sig = g.S.Signature.declares c.args.sig.now t in
+    let sound = c.truth_laws.ensures.sound sig
+    (g.met.S.Signature.well_formed c.args.sig.now t c.requires.holds)
+    (g.met.S.Truthful.given c.args.sig.now t c.requires.holds) in
+    formulas-ok sig sound c.proved_with.new.table (tree_at t c.args.proof) c.proved_with.result
+    c.proved_with.ensures.exact
