@@ -5,7 +5,7 @@ docs/FORMATS.md.
 """
 import struct
 
-VAR, CONST, LIT, CALC, FACT, DENY, APP, LAM = range(8)
+VAR, CONST, LIT, CALC, FACT, DENY, APP, LAM, LEMMA = range(9)
 (ADD, SUB, BAND, BIS, SLL, SRL, CMPEQ, CMPLT, CMPLE, CMPULT, CMPULE, SEL, UPD, TT, FF, EQ, ULT, ULE, SLT, SLE, RD, WR,
  AND, OR, IMP, ALL, ALLM) = range(27)
 (TT_I, FF_E, AND_I, AND_L, AND_R, OR_L, OR_R, OR_E, IMP_I, IMP_E, EM, ALL_I, ALL_E, ALLM_I, ALLM_E, EQ_REFL,
@@ -101,15 +101,18 @@ def entry_fields(node, numbers):
     kind = node[0]
     if kind in (APP, LAM):
         return [kind] + [numbers[p] for p in node[1:]]
-    if kind in (VAR, CONST):
+    if kind in (VAR, CONST, LEMMA):
         return [kind, node[1]]
     words = node[1:] if kind == LIT else node[2:]
     return [kind] + ([] if kind == LIT else [node[1]]) + [half for w in words for half in (w & 0xFFFFFFFF, w >> 32)]
 
 
-def container(terms, policy, code, invariants=(), proof=None):
-    """The bytes of a container: invariants are pairs of an index and a term."""
-    roots = [t for _, t in invariants] + ([] if proof is None else [proof])
+def container(terms, policy, code, invariants=(), proof=None, lemmas=None):
+    """The bytes of a container of version 1: invariants are pairs of an index and a term.
+
+    With lemmas, pairs of a formula and a proof, it has their field too, as version 4 does.
+    """
+    roots = [t for _, t in invariants] + [t for lemma in lemmas or () for t in lemma] + ([] if proof is None else [proof])
     order, numbers = postorder(terms, roots)
     fields = [0x41434350, 1, policy, len(code), *code, len(order)]
     for t in order:
@@ -117,6 +120,9 @@ def container(terms, policy, code, invariants=(), proof=None):
     fields.append(len(invariants))
     for index, t in invariants:
         fields += [index, numbers[t]]
+    if lemmas is not None:
+        fields.append(len(lemmas))
+        fields += [numbers[t] for lemma in lemmas for t in lemma]
     fields.append(0 if proof is None else 1 + numbers[proof])
     return struct.pack("<%dI" % len(fields), *fields)
 
@@ -136,6 +142,11 @@ def in_version_2(first, digest):
 def in_version_3(first, digest, bound):
     """The same in version 3: behind the digest stands the bound of its steps."""
     return first[:4] + struct.pack("<I", 3) + digest + struct.pack("<I", bound) + first[12:]
+
+
+def in_version_4(first, digest):
+    """The same in version 4, of one that was made with lemmas."""
+    return first[:4] + struct.pack("<I", 4) + digest + first[12:]
 
 
 # ---- a proof of the condition of `ret` under the policy tag, with room for any proof of `tt`

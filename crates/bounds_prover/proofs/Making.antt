@@ -1,12 +1,10 @@
 -- The container that is made: what it holds, and that it is accepted.
-use Rattle.std.proofs.Common.{◌≡◌, ℕ, ◌<◌, ◌≤◌, ◌^◌, Bool, true, false, cond, is_some, ◌==◌, List, [], ◌∷◌, ◌++◌, map, length, Option, Some, None, Ok, Err, refl, sym, ◌∙◌, ap, subst, arith}
+use Rattle.std.proofs.Common.{◌≡◌, ℕ, ◌<◌, ◌≤◌, Bool, true, false, cond, is_some, ◌==◌, List, [], ◌∷◌, ◌++◌, map, length, Option, Some, None, Ok, Err, refl, sym, ◌∙◌, ap, subst, arith}
 use Rattle.std.proofs.lemmas.Bool.{ne_eqb}
 use Rattle.std.proofs.lemmas.List.Elements.{All-nil, All-cons, All-head, All-tail}
 use Rattle.alpha_words.specs.declared.insn.Insn.{Insn}
 use Rattle.alpha_cfg.proofs.Readings.{decoded_code-ok, AreOfProfile-EncodesCode}
-use Rattle.formula_tree.specs.Formulas.{Form, FAnd}
-use Rattle.formula_tree.specs.Scope.{IsOver}
-use Rattle.formula_tree.specs.Sizes.{form_height}
+use Rattle.formula_tree.specs.Formulas.{Form}
 use Rattle.policy_set.specs.Views.{PolicyView, IsPolicy}
 use Rattle.term_table.specs.Tree.{Tree}
 use Rattle.term_table.specs.Table.{IsSmall}
@@ -14,26 +12,27 @@ use Rattle.term_table.specs.Measures.{height_of}
 use Rattle.lf_signature.specs.Constants.{size_of, declared}
 use Rattle.lf_signature.specs.Terms.{pf}
 use Rattle.lf_signature.specs.Typing.{Checks}
+use Rattle.lf_signature.specs.Laws.Restricted.{checks_more}
+use Rattle.lf_lemmas.specs.Lemmas.{formulas_of, with_lemmas}
+use Rattle.lf_lemmas.specs.Laws.Lawful.{lemmas_keep}
 use Rattle.formula_terms.specs.Encoding.{form_encoding}
-use Rattle.proof_container.specs.Contents.{Contents, one_or_none, roots}
+use Rattle.proof_container.specs.Contents.{Contents, one_or_none, lemma_roots, roots}
 use Rattle.proof_container.specs.Postorder.{entries}
 use Rattle.term_table.specs.Bytes.{IsBytes}
 use Rattle.proof_container.specs.Encoding.{IsEntryTerm, AreTerms, IsContents, encoding_of}
 use Rattle.proof_container.specs.declared.limits.TheConstants.{MAX_ENTRIES}
 use Rattle.proof_container.specs.Decoding.{decoded_container}
 use Rattle.proof_container.proofs.Whole.{container_again}
-use Rattle.vcgen.specs.Conditions.{AnnotatedCode, entry_part, inv_part, inv_parts, condition}
-use Rattle.vcgen.specs.Encoded.{annotated, AreForms, EncodesCondition}
+use Rattle.vcgen.specs.Encoded.{AreForms}
 use Rattle.vcgen.specs.declared.condition.TheConstants.{MAX_HEIGHT}
-use Rattle.vcgen.proofs.Scopes.{condition-closed}
-use Rattle.vcgen.proofs.Encodings.{encoded-annotates}
 use Rattle.pcc_gate.specs.Passing.{AreLow, Passes}
 use Rattle.pcc_gate.specs.Accepted.{Accepts, IsAccepted}
-use Rattle.pcc_gate.specs.First.{formulas, vc_of, front_refusal}
+use Rattle.pcc_gate.specs.First.{vc_of, lemma_refusal}
+use Rattle.pcc_gate.specs.Answers.{HasGoodLemmas}
 use Rattle.pcc_gate.specs.declared.refusal.Refusal.{Refusal}
-use Rattle.pcc_gate.proofs.First.{formulas-encoded, vc_of-encodes, condition-one}
-use Rattle.pcc_gate.proofs.FirstFront.{none-passed}
-use Rattle.pcc_gate.proofs.Safe.{formulas-over, bound-fits}
+use Rattle.pcc_gate.proofs.First.{vc_of-encodes}
+use Rattle.pcc_gate.proofs.Lemmas.{none-good}
+use Rattle.pcc_gate.proofs.Safe.{bound-fits}
 use Rattle.prover_class.specs.Parts.{conjoined, condition_proof, first_not_easy}
 use Rattle.bounds_prover.specs.declared.fault.ProveFault.{ProveFault}
 use Rattle.bounds_prover.specs.declared.fault.ProveFault.TheVariants.{Refused, NotEasy}
@@ -58,21 +57,48 @@ use Rattle.pcc_gate.specs.ForPolicy.{IsFor}
 
 -- ---- contents with another proof
 
-terms_with : (ts more : List Tree) (p : Tree) → AreTerms (ts ++ more) → IsEntryTerm p → IsSmall p → AreTerms (ts ++ p ∷ [])
-terms_with [] more p h t s = (t, s, tt)
-terms_with (t ∷ ts) more p h i s = (h.0, h.1, terms_with ts more p h.2 i s)
+-- others behind the same terms
+terms_behind : (v : ℕ) (ts more other : List Tree) → AreTerms v (ts ++ more)
+    → (AreTerms v more → AreTerms v other) → AreTerms v (ts ++ other)
+terms_behind v [] more other h f = f h
+terms_behind v (t ∷ ts) more other h f = (h.0, h.1, terms_behind v ts more other h.2 f)
 
 abbrev IsLow : Tree → Type 0
 IsLow t = height_of t ≤ MAX_HEIGHT
 
-low_with : (ts more : List Tree) (p : Tree) → AreLow (ts ++ more) → height_of p ≤ MAX_HEIGHT → AreLow (ts ++ p ∷ [])
-low_with [] more p h l = All-cons IsLow p [] l (All-nil IsLow)
-low_with (t ∷ ts) more p h l = All-cons IsLow t (ts ++ p ∷ []) (All-head IsLow t (ts ++ more) h) (low_with ts more p (All-tail IsLow t (ts ++ more) h) l)
+low_behind : (ts more other : List Tree) → AreLow (ts ++ more) → (AreLow more → AreLow other)
+    → AreLow (ts ++ other)
+low_behind [] more other h f = f h
+low_behind (t ∷ ts) more other h f =
+    All-cons IsLow t (ts ++ other) (All-head IsLow t (ts ++ more) h)
+    (low_behind ts more other (All-tail IsLow t (ts ++ more) h) f)
 
--- the same invariants, in a table that grew
-pub same_invs : (c : Contents) (l : List (ℕ × Tree)) (p : Tree) → l ≡ c.invs
-    → record c { invs = l; proof = Some p } ≡ with_proof c p
-same_invs c l p e = λ i. record c { invs = e i; proof = Some p }
+-- the roots with another proof
+module _ (c : Contents) (p : Tree) where
+  abbrev invs : List Tree
+  invs = map (λ p. p.1) c.invs
+
+  abbrev old : List Tree
+  old = one_or_none c.proof
+
+  terms_with : AreTerms c.version (roots c) → IsEntryTerm c.version p → IsSmall p
+      → AreTerms c.version (roots (with_proof c p))
+  terms_with h t s =
+      let lemmas : List Tree = lemma_roots c.lemmas in
+      terms_behind c.version invs (lemmas ++ old) (lemmas ++ p ∷ []) h
+      (λ g. terms_behind c.version lemmas old (p ∷ []) g (λ _. (t, s, tt)))
+
+  low_with : AreLow (roots c) → height_of p ≤ MAX_HEIGHT → AreLow (roots (with_proof c p))
+  low_with h l =
+      let lemmas : List Tree = lemma_roots c.lemmas in
+      low_behind invs (lemmas ++ old) (lemmas ++ p ∷ []) h
+      (λ g. low_behind lemmas old (p ∷ []) g (λ _. All-cons IsLow p [] l (All-nil IsLow)))
+
+-- the same invariants and lemmas, in a table that grew
+pub same_roots : (c : Contents) (l : List (ℕ × Tree)) (m : List (Tree × Tree)) (p : Tree)
+    → l ≡ c.invs → m ≡ c.lemmas
+    → record c { invs = l; lemmas = m; proof = Some p } ≡ with_proof c p
+same_roots c l m p e f = λ i. record c { invs = e i; lemmas = f i; proof = Some p }
 
 -- ---- the proof of a condition that passed
 
@@ -147,18 +173,25 @@ module _ (sound : IsSoundClass) (policy : PolicyView) (kept : IsPolicy policy) (
           whole = h.whole;
           some = h.some;
           short = h.short;
-          terms =
-              terms_with (map (λ p. p.1) c.invs) (one_or_none c.proof) p h.terms
-              (checks-entry sig checks) small;
+          terms = terms_with c p h.terms (checks-entry sig c.version checks) small;
           entries = few;
           invs = h.invs;
           rising = h.rising;
+          lemmas = h.lemmas;
         }
 
-  made-accepts : (p : Tree) → condition_proof (is_some c.bound) Parts ≡ Some p
+  -- it is one with the lemmas too, of which it cites none
+  with-lemmas : {p F : Tree} → Checks (declared sig) [] p F
+      → Checks (with_lemmas (declared sig) (formulas_of c.lemmas)) [] p F
+  with-lemmas h =
+      let forms : List Tree = formulas_of c.lemmas in
+      checks_more (declared sig) (with_lemmas (declared sig) forms)
+      (lemmas_keep (declared sig) (λ n. refl) forms passes.lemma_forms) h
+
+  made-accepts : HasGoodLemmas c → (p : Tree) → condition_proof (is_some c.bound) Parts ≡ Some p
       → IsSmallEnough (with_proof c p) p
       → Accepts policy (encoding_of (with_proof c p)) (with_proof c p) code marks
-  made-accepts p given s =
+  made-accepts good p given s =
       let proved = checks p given s.height in
       record {
         passes = record {
@@ -167,8 +200,9 @@ module _ (sound : IsSoundClass) (policy : PolicyView) (kept : IsPolicy policy) (
           named = passes.named;
           encoded = passes.encoded;
           code = passes.code;
-          heights = low_with (map (λ p. p.1) c.invs) (one_or_none c.proof) p passes.heights s.height;
+          heights = low_with c p passes.heights s.height;
           forms = passes.forms;
+          lemma_forms = passes.lemma_forms;
           annotated = passes.annotated;
           cut = passes.cut;
           unfolded = passes.unfolded;
@@ -177,10 +211,12 @@ module _ (sound : IsSoundClass) (policy : PolicyView) (kept : IsPolicy policy) (
         vc = vc_of policy c.bound code c.invs;
         given = refl;
         weight = s.weight;
+        lemmas = good.proved;
         condition = vc_of-encodes sig policy c.bound code c.invs passes.forms;
         proved =
-            subst (λ F. Checks (declared sig) [] p (pf (form_encoding F)))
-            (sym (condition-parts policy c.bound code c.invs)) proved;
+            with-lemmas
+            (subst (λ F. Checks (declared sig) [] p (pf (form_encoding F)))
+            (sym (condition-parts policy c.bound code c.invs)) proved);
       }
 
 -- ---- what is made of parts
@@ -218,9 +254,9 @@ module _ (c : Contents) (parts : List Form) where
 
 -- ---- what is made of bytes
 
--- where no clause before the proof fails, it is made of their contents
+-- where none of the clauses tried fails, it is made of their contents
 pub contents-made : (policy : PolicyView) (bytes : List ℕ) (c : Contents) (code : List Insn)
-    (marks : List Bool) → Passes policy bytes c code marks → front_refusal policy bytes ≡ None →
+    (marks : List Bool) → Passes policy bytes c code marks → lemma_refusal policy bytes ≡ None →
     proved_container policy bytes ≡ proved_contents c (condition_parts policy c.bound code c.invs)
 unfolding proved_container
 contents-made policy bytes c code marks passes none =
@@ -229,16 +265,16 @@ contents-made policy bytes c code marks passes none =
     (sym (decoded_code-ok (profile_of c.version) c.code code passes.encoded passes.code))
 
 -- else it is refused
-pub refused-made : (policy : PolicyView) (bytes : List ℕ) (r : Refusal) → front_refusal policy bytes
+pub refused-made : (policy : PolicyView) (bytes : List ℕ) (r : Refusal) → lemma_refusal policy bytes
     ≡ Some r → proved_container policy bytes ≡ Err (Refused r)
 unfolding proved_container
 refused-made policy bytes r e = ap (λ o. made_unless o (proved_read policy (decoded_container bytes))) e
 
 -- where something is made, none fails
 none-refused : (policy : PolicyView) (bytes out : List ℕ) → proved_container policy bytes ≡ Ok out
-    → front_refusal policy bytes ≡ None
+    → lemma_refusal policy bytes ≡ None
 unfolding proved_container
-none-refused policy bytes out e = go (front_refusal policy bytes) e
+none-refused policy bytes out e = go (lemma_refusal policy bytes) e
   where
     go : (o : Option Refusal) → made_unless o (proved_read policy (decoded_container bytes)) ≡ Ok out → o ≡ None
     go None e = refl
@@ -248,7 +284,7 @@ pub made-accepted : IsSoundClass → (policy : PolicyView) (bytes out : List ℕ
     → IsBytes bytes → proved_container policy bytes ≡ Ok out → IsAccepted policy out
 made-accepted sound policy bytes out kept fits e =
     let none = none-refused policy bytes out e in
-    let h = none-passed policy bytes fits none in
+    let h = none-good policy bytes fits none in
     let parts = condition_parts policy h.contents.bound h.code h.contents.invs in
     let m = made-is h.contents parts out (sym (contents-made policy bytes h.contents h.code h.marks h.passes none) ∙ e) in
     let c = with_proof h.contents m.proof in
@@ -257,6 +293,7 @@ made-accepted sound policy bytes out kept fits e =
       code = h.code;
       marks = h.marks;
       accepts = subst (λ b. Accepts policy b c h.code h.marks) (sym m.out_is)
-          (made-accepts sound policy kept bytes h.contents h.code h.marks h.passes m.proof m.given
+          (made-accepts sound policy kept bytes h.contents h.code h.marks h.passes h.good m.proof
+          m.given
           (small-enough c m.proof m.small));
     }

@@ -1,18 +1,22 @@
 -- Measures past their limits, one after another.
-use Rattle.std.proofs.Common.{◌≡◌, ℕ, ◌<◌, ◌≤◌, ◌^◌, ◌-◌, min, Bool, true, false, cond, ltb, ltb-false, lt-ltb, le-ltb, length, Option, Some, None, refl, sym, ◌∙◌, ap, arith}
+use Rattle.std.proofs.Common.{◌≡◌, ℕ, ◌+◌, ◌<◌, ◌≤◌, ◌^◌, ◌-◌, min, Bool, true, false, cond, ltb, ltb-false, lt-ltb, le-ltb, List, length, Option, Some, None, refl, sym, ◌∙◌, ap, arith}
 use Rattle.term_table.specs.Tree.{Tree}
-use Rattle.term_table.specs.Measures.{height_of, capped}
+use Rattle.term_table.specs.Measures.{height_of, weight_of, capped}
+use Rattle.lf_signature.specs.Constants.{places_of}
+use Rattle.lf_signature.specs.declared.WordSignature.{WordSignature}
 use Rattle.proof_container.specs.Contents.{Contents, roots}
 use Rattle.proof_container.specs.Postorder.{entries}
+use Rattle.proof_container.specs.Versions.{signature_of}
 use Rattle.proof_container.specs.Encoding.{encoding_of}
 use Rattle.proof_container.specs.declared.limits.TheConstants.{MAX_BYTES, MAX_ENTRIES}
 use Rattle.vcgen.specs.declared.condition.TheConstants.{MAX_HEIGHT}
 use Rattle.pcc_gate.specs.declared.limits.TheConstants.{MAX_WEIGHT}
+use Rattle.pcc_gate.specs.Weights.{lemmas_weight}
 use Rattle.bounds_prover.specs.declared.fault.Measure.{Measure}
 use Rattle.bounds_prover.specs.declared.fault.Measure.TheVariants.{Weight, Height, Entries, Bytes}
 use Rattle.bounds_prover.specs.declared.fault.ProveFault.{ProveFault}
 use Rattle.bounds_prover.specs.declared.fault.ProveFault.TheVariants.{TooBig}
-use Rattle.bounds_prover.specs.Proving.{within, proof_weight, excess}
+use Rattle.bounds_prover.specs.Proving.{within, whole_weight, excess}
 
 -- a number within its limit lets the next be tried
 pub passes : (m : Measure) (limit n shown : ℕ) (next : Option ProveFault) → n ≤ limit → within m limit n shown next ≡ next
@@ -30,11 +34,25 @@ no_excess m limit n shown next e = (ltb-false limit n (by_test (ltb limit n) e).
     by_test true e = absurd cc
     by_test false e = (refl, e)
 
+-- ---- the weight
+
+-- the weight of the lemmas' proofs and of one more, each as it is shown, come to both as shown
+pub weight-shown : (c : Contents) (p : Tree) (s : WordSignature) (places : List ℕ) (x y z : ℕ)
+    → s ≡ signature_of c.version → places ≡ places_of (signature_of c.version)
+    → x ≡ capped (lemmas_weight s c.lemmas) → y ≡ capped (weight_of places p)
+    → z ≡ min (x + y) (2 ^ 32 - 1) → z ≡ capped (whole_weight c p)
+weight-shown c p s places x y z same parameters lemmas own both =
+    let of : ℕ = lemmas_weight (signature_of c.version) c.lemmas in
+    let one : ℕ = weight_of (places_of (signature_of c.version)) p in
+    let a : x ≡ capped of = lemmas ∙ ap (λ s. capped (lemmas_weight s c.lemmas)) same in
+    let b : y ≡ capped one = own ∙ ap (λ l. capped (weight_of l p)) parameters in
+    omega (arith, a, b, both)
+
 -- ---- all four
 
 -- nothing is past its limit
 pub record IsSmallEnough (c : Contents) (p : Tree) : Type 0 where
-  pub weight : proof_weight c p ≤ MAX_WEIGHT
+  pub weight : whole_weight c p ≤ MAX_WEIGHT
   pub height : height_of p ≤ MAX_HEIGHT
   pub entries : length (entries (roots c)) ≤ MAX_ENTRIES
   pub bytes : length (encoding_of c) ≤ MAX_BYTES
@@ -55,7 +73,7 @@ module _ (c : Contents) (p : Tree) where
   pub small-enough : excess c p ≡ None → IsSmallEnough c p
   unfolding excess
   small-enough e =
-      let w = no_excess Weight MAX_WEIGHT (proof_weight c p) (capped (proof_weight c p)) by_height
+      let w = no_excess Weight MAX_WEIGHT (whole_weight c p) (capped (whole_weight c p)) by_height
       e in
       let h = no_excess Height MAX_HEIGHT (height_of p) (capped (height_of p)) by_entries w.1 in
       let n = no_excess Entries MAX_ENTRIES (length (entries (roots c))) (length (entries (roots c))) by_bytes h.1 in
@@ -63,19 +81,19 @@ module _ (c : Contents) (p : Tree) where
       record { weight = w.0; height = h.0; entries = n.0; bytes = b.0 }
 
   -- the same by the numbers as they are shown
-  module _ (x : ℕ) (weight : x ≡ capped (proof_weight c p)) where
+  module _ (x : ℕ) (weight : x ≡ capped (whole_weight c p)) where
     pub too_heavy : MAX_WEIGHT < x → Some (TooBig Weight x) ≡ excess c p
     unfolding excess
     too_heavy h =
         ap (λ n. Some (TooBig Weight n)) weight
-        ∙ sym (exceeds Weight MAX_WEIGHT (proof_weight c p) (capped (proof_weight c p)) by_height
+        ∙ sym (exceeds Weight MAX_WEIGHT (whole_weight c p) (capped (whole_weight c p)) by_height
         (omega (arith, h, weight)))
 
     module _ (light : x ≤ MAX_WEIGHT) (y : ℕ) (height : y ≡ capped (height_of p)) where
       at_height : excess c p ≡ by_height
       unfolding excess
       at_height =
-          passes Weight MAX_WEIGHT (proof_weight c p) (capped (proof_weight c p)) by_height
+          passes Weight MAX_WEIGHT (whole_weight c p) (capped (whole_weight c p)) by_height
           (omega (arith, light, weight))
 
       pub too_high : MAX_HEIGHT < y → Some (TooBig Height y) ≡ excess c p

@@ -96,24 +96,25 @@ module _ (s : WordSignature) where
     synth-small (app_synth h c e) r =
         (synth-small h (omega (arith, r)), checks-small c (omega (arith, r)))
 
-  -- a constant that has a type is no lemma
-  const-entry : (k : Const) (a : Tree) → declared s k ≡ Some a → IsEntryTerm (Con k)
-  const-entry (Num n) a e = tt
-  const-entry (Lit w) a e = tt
-  const-entry (Calc o x y) a e = tt
-  const-entry (Fact r x y) a e = tt
-  const-entry (Deny r x y) a e = tt
-  const-entry (Lemma n) a e = cc
+  module _ (v : ℕ) where
+    -- a constant that has a type is no lemma, so each version has an entry for it
+    const-entry : (k : Const) (a : Tree) → declared s k ≡ Some a → IsEntryTerm v (Con k)
+    const-entry (Num n) a e = tt
+    const-entry (Lit w) a e = tt
+    const-entry (Calc o x y) a e = tt
+    const-entry (Fact r x y) a e = tt
+    const-entry (Deny r x y) a e = tt
+    const-entry (Lemma n) a e = cc
 
-  mutual
-    pub checks-entry : {ctx : List Tree} {t a : Tree} →
-        Checks (declared s) ctx t a → IsEntryTerm t
-    checks-entry (lam_checks h) = checks-entry h
-    checks-entry (atom_checks h q) = (synth-entry h).1
+    mutual
+      pub checks-entry : {ctx : List Tree} {t a : Tree} →
+          Checks (declared s) ctx t a → IsEntryTerm v t
+      checks-entry (lam_checks h) = checks-entry h
+      checks-entry (atom_checks h q) = (synth-entry h).1
 
-    synth-entry : {ctx : List Tree} {t a : Tree} →
-        Synth (declared s) ctx t a → IsAtomic t × IsEntryTerm t
-    synth-entry (var_synth e f) = (tt, tt)
-    synth-entry (con_synth {c = c} {a = a} e) = (tt, const-entry c a e)
-    synth-entry (app_synth h c e) =
-        (tt, ((synth-entry h).1, (synth-entry h).0, checks-entry c))
+      synth-entry : {ctx : List Tree} {t a : Tree} →
+          Synth (declared s) ctx t a → IsAtomic t × IsEntryTerm v t
+      synth-entry (var_synth e f) = (tt, tt)
+      synth-entry (con_synth {c = c} {a = a} e) = (tt, const-entry c a e)
+      synth-entry (app_synth h c e) =
+          (tt, ((synth-entry h).1, (synth-entry h).0, checks-entry c))

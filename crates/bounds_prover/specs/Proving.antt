@@ -1,12 +1,11 @@
 -- The container that `prove` makes of bytes, or why it makes none.
-use Rattle.std.specs.Prelude.{◌≡◌, ℕ, ◌^◌, ◌-◌, List, ◌∷◌, map, length, min, nat_lt, if◌then◌else◌, Option, is_some, Some, None, Result, Ok, Err, Vec}
+use Rattle.std.specs.Prelude.{◌≡◌, ℕ, ◌^◌, ◌-◌, List, length, min, nat_lt, if◌then◌else◌, Option, is_some, Some, None, Result, Ok, Err, Vec}
 use Rattle.std.specs.Global.{Global}
 use Rattle.alpha_words.specs.declared.insn.Insn.{Insn}
 use Rattle.alpha_cfg.specs.declared.fault.CodeFlaw.{CodeFlaw}
 use Rattle.alpha_cfg.specs.CodeDecoding.{decoded_code}
 use Rattle.term_table.specs.Tree.{Tree}
-use Rattle.term_table.specs.Measures.{height_of, weight_of, capped}
-use Rattle.lf_signature.specs.Constants.{places_of}
+use Rattle.term_table.specs.Measures.{height_of, capped}
 use Rattle.formula_tree.specs.Formulas.{Form}
 use Rattle.policy_set.specs.Views.{PolicyView}
 use Rattle.proof_container.specs.Contents.{Contents, roots}
@@ -15,7 +14,8 @@ use Rattle.proof_container.specs.Encoding.{encoding_of}
 use Rattle.proof_container.specs.Decoding.{Fault, decoded_container}
 use Rattle.proof_container.specs.declared.limits.TheConstants.{MAX_BYTES, MAX_ENTRIES}
 use Rattle.vcgen.specs.declared.condition.TheConstants.{MAX_HEIGHT}
-use Rattle.pcc_gate.specs.First.{front_refusal}
+use Rattle.pcc_gate.specs.First.{lemma_refusal}
+use Rattle.pcc_gate.specs.Weights.{proof_weight}
 use Rattle.pcc_gate.specs.declared.limits.TheConstants.{MAX_WEIGHT}
 use Rattle.pcc_gate.specs.declared.refusal.Refusal.{Refusal}
 use Rattle.pcc_gate.specs.declared.refusal.Refusal.TheVariants as refusal
@@ -37,14 +37,15 @@ with_proof c p = record c { proof = Some p }
 abbrev pub within : Measure → ℕ → ℕ → ℕ → Option ProveFault → Option ProveFault
 within measure limit n shown next = if nat_lt limit n then Some (TooBig measure shown) else next
 
--- what the proof weighs in the contents, by the parameters of the version's signature
-abbrev pub proof_weight : Contents → Tree → ℕ
-proof_weight c p = weight_of (places_of (signature_of c.version)) p
+-- what the proof weighs with the proofs of the contents' lemmas, by the parameters of the version's
+-- signature
+abbrev pub whole_weight : Contents → Tree → ℕ
+whole_weight c p = proof_weight (signature_of c.version) c.lemmas p
 
 -- the first measure of the proof, or of the contents that have it, that is past its limit
 unfoldable pub excess : Contents → Tree → Option ProveFault
 excess c p =
-    within Weight MAX_WEIGHT (proof_weight c p) (capped (proof_weight c p))
+    within Weight MAX_WEIGHT (whole_weight c p) (capped (whole_weight c p))
     (within Height MAX_HEIGHT (height_of p) (capped (height_of p))
     (within Entries MAX_ENTRIES (length (entries (roots c))) (length (entries (roots c)))
     (within Bytes MAX_BYTES (length (encoding_of c)) (min (length (encoding_of c)) (2 ^ 64 - 1)) None)))
@@ -84,10 +85,12 @@ abbrev pub made_unless : Option Refusal → Result (List ℕ) ProveFault → Res
 made_unless None made = made
 made_unless (Some r) made = Err (Refused r)
 
--- The bytes of the container with a proof in place of its own, where clauses 1 to 8 hold, each part of the condition is easy, and
--- the class's proof is within the limits; else the first of these that fails.
+-- The bytes of the container with a proof in place of its own, where the clauses before the proof
+-- hold and, of the lemmas alone, 10 and 14, each part of the condition is easy, and the class's
+-- proof, which cites no lemma, is within the limits; else the first of these that fails.
 unfoldable pub proved_container : PolicyView → List ℕ → Result (List ℕ) ProveFault
-proved_container policy bytes = made_unless (front_refusal policy bytes) (proved_read policy (decoded_container bytes))
+proved_container policy bytes =
+    made_unless (lemma_refusal policy bytes) (proved_read policy (decoded_container bytes))
 
 -- ---- answers
 

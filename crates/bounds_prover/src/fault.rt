@@ -9,7 +9,7 @@ use thiserror::Error;
 /// What of a proof, or of the container that has it, has a limit; in this order they are tried.
 #[derive(Clone, Copy, Debug, PartialEq, Eq)]
 pub enum Measure {
-    /// The proof's weight.
+    /// The proof's weight with that of the lemmas' proofs.
     Weight,
     /// The proof's height.
     Height,
@@ -40,7 +40,7 @@ impl Measure {
 /// Why a container gets no proof.
 #[derive(Clone, Copy, Debug, PartialEq, Eq, Error)]
 pub enum ProveFault {
-    /// A clause before the proof fails: the first.
+    /// A clause before the proof fails, or, of the lemmas alone, 10 or 14: the first.
     #[error("refused: {0}")]
     Refused(Refusal),
     /// The first part of the condition that isn't easy: 0 is the entry's, k + 1 that of invariant k.

@@ -4,6 +4,7 @@ ghost use Rattle.std.specs.Prelude.{◌≡◌, ◌≤◌, map, length, IfOk};
 ghost use Rattle.term_table.specs.Table.{IsKnown, tree_at};
 ghost use Rattle.term_table.specs.Measures.{height_of};
 ghost use Rattle.lf_signature.specs.Constants.{places_of};
+ghost use Rattle.lf_lemmas.specs.Tables.{LemmasKnown};
 ghost use Rattle.proof_container.specs.Contents.{roots};
 ghost use Rattle.proof_container.specs.Postorder.{entries};
 ghost use Rattle.proof_container.specs.Encoding.{IsContents};
@@ -13,7 +14,7 @@ ghost use Rattle.vcgen.specs.declared.condition.TheConstants.{MAX_HEIGHT};
 ghost use Rattle.proof_container.specs.Versions.{signature_of};
 ghost use Rattle.pcc_gate.specs.Passing.{Passes};
 ghost use Rattle.pcc_gate.specs.Accepted.{IsAccepted};
-ghost use Rattle.pcc_gate.specs.Answers.{IsHeld};
+ghost use Rattle.pcc_gate.specs.Answers.{IsHeld, HasGoodLemmas};
 ghost use Rattle.condition_prover.specs.Conditions.{condition_parts};
 ghost use Rattle.bounds_prover.specs.Proving.{excess, encoded_unless};
 ghost use Rattle.bounds_prover.specs.Proving.{proved_contents, IsMadeAnswer, IsProveAnswer};
@@ -22,9 +23,9 @@ use crate::fault::{Measure, ProveFault};
 use crate::theorems::prove_laws;
 use condition_prover::{ConditionProof, prove_condition};
 use hereditary_subst::Exhausted;
-use pcc_gate::{GateFault, MAX_WEIGHT, Passed, front};
+use pcc_gate::{GateFault, MAX_WEIGHT, Passed, front_with_lemmas, lemmas_weight};
 use policy_set::Policy;
-use proof_container::{MAX_BYTES, MAX_ENTRIES, View, extent, write};
+use proof_container::{MAX_BYTES, MAX_ENTRIES, View, extent, signature_of, write};
 use prover_class::class_laws;
 use std::alloc::{AllocError, Global};
 use term_table::Id;
@@ -33,12 +34,14 @@ use vcgen::MAX_HEIGHT;
 /// The first measure of the proof, or of the contents that the view shows, that is past its limit.
 fn excess(alloc: Global, view: &View<'_>, proof: Id) -> Result<Option<ProveFault>, AllocError>
     requires roots { AreKnown view.now.table.now view.now.invs.now view.now.proof }
+    requires lemmas { LemmasKnown view.now.table.now view.now.lemmas.now }
     requires proof { IsKnown view.now.table.now proof }
     requires places { view.now.table.now.places ≡ places_of (signature_of view.now.version) }
     ensures { let p = tree_at view.now.table.now proof in
         IfOk result (λ o. o ≡ excess (view_contents view.now) p) }
 {
-    let weight = view.table.weight(proof);
+    let of_lemmas = lemmas_weight(view.table, signature_of(view.version), view.lemmas);
+    let weight = of_lemmas.saturating_add(view.table.weight(proof));
     if weight > MAX_WEIGHT {
         return Ok(Some(ProveFault::TooBig(Measure::Weight, u64::from(weight))));
     }
@@ -59,6 +62,7 @@ fn excess(alloc: Global, view: &View<'_>, proof: Id) -> Result<Option<ProveFault
 /// The encoding of what the view shows, where nothing is past its limit.
 fn written(alloc: Global, view: &View<'_>, proof: Id) -> Result<Vec<u8>, ProveFault>
     requires roots { AreKnown view.now.table.now view.now.invs.now view.now.proof }
+    requires lemmas { LemmasKnown view.now.table.now view.now.lemmas.now }
     requires proof { IsKnown view.now.table.now proof }
     requires places { view.now.table.now.places ≡ places_of (signature_of view.now.version) }
     requires contents { height_of (tree_at view.now.table.now proof) ≤ MAX_HEIGHT
@@ -77,7 +81,7 @@ fn written(alloc: Global, view: &View<'_>, proof: Id) -> Result<Vec<u8>, ProveFa
     }
 }
 
-/// What passed the clauses before the proof, with a proof.
+/// What passed the clauses before the proof and those of its lemmas, with a proof.
 fn proved(
     alloc: Global,
     policy: &Policy,
@@ -86,6 +90,7 @@ fn proved(
 ) -> Result<Vec<u8>, ProveFault>
     requires passes { let contents = contents_of passed.container in
         Passes policy.now bytes.now contents passed.cut.code passed.cut.marks }
+    requires lemmas { HasGoodLemmas (contents_of passed.container) }
     requires held { IsHeld passed.container }
     ensures { let c = contents_of passed.entry.container in
         let parts = condition_parts policy.now c.bound passed.entry.cut.code c.invs in
@@ -102,6 +107,7 @@ fn proved(
     let code = container.code;
     let mut table = container.table;
     let invs = container.invs;
+    let lemmas = container.lemmas;
     let found = match prove_condition(&mut table, policy, &cut, &invs, bound) {
         Ok(found) => found,
         Err(Exhausted::Memory) => return Err(ProveFault::Memory),
@@ -117,6 +123,7 @@ fn proved(
                 code,
                 table: &table,
                 invs: &invs,
+                lemmas: &lemmas,
                 proof: Some(proof),
             };
             written(alloc, &view, proof)
@@ -128,7 +135,7 @@ fn proved(
 fn made(alloc: Global, policy: &Policy, bytes: &[u8]) -> Result<Vec<u8>, ProveFault>
     ensures { IsProveAnswer policy.now bytes.now result }
 {
-    match front(alloc, policy, bytes) {
+    match front_with_lemmas(alloc, policy, bytes) {
         Err(GateFault::Refused(refusal)) => Err(ProveFault::Refused(refusal)),
         Err(GateFault::Memory) => Err(ProveFault::Memory),
         Err(GateFault::Results) => Err(ProveFault::Results),
@@ -138,15 +145,17 @@ fn made(alloc: Global, policy: &Policy, bytes: &[u8]) -> Result<Vec<u8>, ProveFa
 
 /// Encodes the container in `bytes` with a proof of its verification condition under `policy` in
 /// place of its own proof, where the class of easy conditions gives one (`prover_class`), in the
-/// version and with the bound that it has. What is answered is accepted by the gate.
+/// version, with the bound and the lemmas that it has, of which the proof cites none. What is
+/// answered is accepted by the gate.
 ///
-/// Errors, in their order: `Refused` names the first clause before the proof that fails
-/// (`pcc_gate::front`); `NotEasy` the first part of the condition that has no proof in the class: 0 is
-/// the entry's, k + 1 that of invariant k; `TooBig` the first measure that is past its limit: the
-/// proof's weight (`pcc_gate::MAX_WEIGHT`) and height (`vcgen::MAX_HEIGHT`), the container's entries
-/// and bytes (`proof_container::MAX_ENTRIES`, `MAX_BYTES`), with its number. `Memory` and `Results` say
-/// nothing of `bytes`: there was no memory, or the results that the search keeps and the terms that it
-/// makes were more than `condition_prover::MOST_SEARCHED`.
+/// Errors, in their order: `Refused` names the first clause that fails of those before the proof
+/// and, of the lemmas alone, of 10 and 14 (`pcc_gate::front_with_lemmas`); `NotEasy` the first part
+/// of the condition that has no proof in the class: 0 is the entry's, k + 1 that of invariant k;
+/// `TooBig` the first measure that is past its limit: the proof's weight with the lemmas' proofs
+/// (`pcc_gate::MAX_WEIGHT`) and its height (`vcgen::MAX_HEIGHT`), the container's entries and bytes
+/// (`proof_container::MAX_ENTRIES`, `MAX_BYTES`), with its number. `Memory` and `Results` say
+/// nothing of `bytes`: there was no memory, or the results that the search keeps and the terms that
+/// it makes were more than `condition_prover::MOST_SEARCHED`.
 pub fn prove(alloc: Global, policy: &Policy, bytes: &[u8]) -> Result<Vec<u8>, ProveFault>
     ensures exact { IsProveAnswer policy.now bytes.now result }
     ensures accepted { IfOk result (λ out. IsAccepted policy.now out.items) }

@@ -12,10 +12,12 @@ use Rattle.policy_set.specs.Names.{policy_number}
 use Rattle.term_table.specs.Bytes.{IsBytes}
 use Rattle.term_table.specs.Tree.{Tree}
 use Rattle.term_table.specs.Table.{TableView, IsKnown, tree_at, id_trees}
+use Rattle.lf_lemmas.specs.Tables.{LemmasKnown}
 use Rattle.proof_container.specs.declared.container.Head.TheVariants.{Number}
 use Rattle.proof_container.specs.Contents.{roots}
 use Rattle.proof_container.specs.Encoding.{AreTerms, IsContents, encoding_of}
 use Rattle.proof_container.specs.Views.{AllTerms, IsWritable, view_contents}
+use Rattle.proof_container.proofs.LemmaIds.{of_ids}
 use Rattle.proof_container.specs.declared.container.View.{View}
 use Rattle.prover_class.specs.Parts.{condition_proof}
 use Rattle.pcc_asm.specs.Words.{code_bytes}
@@ -35,9 +37,9 @@ pub code-bytes : (program : List Bpf) → ((code : List Insn) → IsBytes (code_
     → IsCode (bpf_code program) → AreOfProfile One (bpf_code program) → AreCodeBytes program (code_bytes (bpf_code program))
 code-bytes program bytes encode is first = record { bytes = bytes (bpf_code program); encode = encode (bpf_code program) is first }
 
-terms-all : (ts : List Tree) → AreTerms ts → AllTerms ts
-terms-all [] h = tt
-terms-all (t ∷ ts) h = (h.0, terms-all ts h.2)
+terms-all : (v : ℕ) (ts : List Tree) → AreTerms v ts → AllTerms v ts
+terms-all v [] h = tt
+terms-all v (t ∷ ts) h = (h.0, terms-all v ts h.2)
 
 -- contents that are the program's, part by part
 pub contents-are : (program : List Bpf) (policy : ℕ) (shown : List ℕ) (t : TableView)
@@ -49,6 +51,7 @@ pub contents-are : (program : List Bpf) (policy : ℕ) (shown : List ℕ) (t : T
       bound = None;
       code = shown;
       invs = id_trees t ids;
+      lemmas = [];
       proof = None;
     } ≡ bare_contents program
 contents-are program policy shown t ids number same are = let trees = are.trees in λ j. record {
@@ -57,13 +60,14 @@ contents-are program policy shown t ids number same are = let trees = are.trees 
   bound = None;
   code = same j;
   invs = trees j;
+  lemmas = [];
   proof = None;
 }
 
 -- a view that shows a program's contents can be written
 pub view-writable : (program : List Bpf) (v : View) → IsContents (bare_contents program) → view_contents v ≡ bare_contents program
-    → v.proof ≡ None → AreInvIds v.table.now program v.invs.now → IsWritable v
-view-writable program v contents shown none ids =
+    → v.lemmas.now ≡ [] → v.proof ≡ None → AreInvIds v.table.now program v.invs.now → IsWritable v
+view-writable program v contents shown lemmas none ids =
     let is : IsContents (view_contents v) = subst IsContents (sym shown) contents in
     let few = is.invs in
     let n = length-map {B = ℕ × Tree} v.invs.now (λ (p : ℕ × ℕ). (p.0, tree_at v.table.now p.1)) in
@@ -72,13 +76,15 @@ view-writable program v contents shown none ids =
       head = is.head;
       bound = is.bound;
       known = (ids.known, subst (λ o. IfSome o (IsKnown v.table.now)) (sym none) tt);
-      terms = terms-all (roots (view_contents v)) is.terms;
+      known_lemmas = subst (LemmasKnown v.table.now) (sym lemmas) tt;
+      terms = terms-all v.version (roots (view_contents v)) is.terms;
       whole = is.whole;
       some = is.some;
       short = is.short;
       entries = is.entries;
       invs = omega (arith, few, n);
       rising = is.rising;
+      lemmas = of_ids v.table.now v.version v.lemmas.now is.lemmas;
     }
 
 -- ---- with a proof

@@ -39,6 +39,7 @@ fn bare(alloc: Global, policy: &Policy, program: &[Bpf]) -> Result<Vec<u8>, Allo
         code: &code,
         table: &table,
         invs: &invs,
+        lemmas: &[],
         proof: None,
     };
     let bytes = write(alloc, &view)?;

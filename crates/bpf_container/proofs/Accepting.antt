@@ -13,6 +13,9 @@ use Rattle.term_table.specs.Measures.{height_of}
 use Rattle.lf_signature.specs.Constants.{declared}
 use Rattle.lf_signature.specs.Terms.{pf}
 use Rattle.lf_signature.specs.Typing.{Checks}
+use Rattle.lf_signature.specs.Laws.Restricted.{checks_more}
+use Rattle.lf_lemmas.specs.Lemmas.{with_lemmas}
+use Rattle.lf_lemmas.specs.Laws.Lawful.{lemmas_keep}
 use Rattle.packet_store.specs.Results.{packet_result}
 use Rattle.proof_container.specs.Contents.{Contents}
 use Rattle.proof_container.specs.Encoding.{encoding_of}
@@ -114,7 +117,7 @@ module _ (sound : IsSoundClass) (program : List Bpf) (code : List ℕ) (is : IsP
       let low = easy.low in
       record {
         terms = (
-          checks-entry Sigma1 proof-checks,
+          checks-entry Sigma1 1 proof-checks,
           checks-small Sigma1 proof-checks
               (omega (arith, low)),
           tt,
@@ -138,20 +141,32 @@ module _ (sound : IsSoundClass) (program : List Bpf) (code : List ℕ) (is : IsP
       ∙ ap (λ invs. condition (annotated (built_in Filter) None (bpf_code program) invs))
       (sym (formulas-again (bpf_invariants program) (all-invariants program)))
 
+  -- over a signature with no lemmas it checks as well
+  with-none : {F : Tree} → Checks (declared Sigma1) [] p F
+      → Checks (with_lemmas (declared Sigma1) []) [] p F
+  with-none h =
+      checks_more (declared Sigma1) (with_lemmas (declared Sigma1) [])
+      (lemmas_keep (declared Sigma1) (λ n. refl) [] (λ n F e. cc)) h
+
   made-accepts : Accepts (built_in Filter) made (with_proof (bpf_contents program code) p)
       (bpf_code program) (bpf_flags program)
   made-accepts =
       let easy : IsClassProof program p = class-proof program p is given in
+      let light = easy.light in
       record {
         passes = made-passes;
         proof = p;
         vc = vc_of (built_in Filter) None (bpf_code program) (invariant_terms program);
         given = refl;
-        weight = easy.light;
+        weight = omega (arith, light);
+        lemmas = λ n l e. cc;
         condition =
             vc_of-encodes Sigma1 (built_in Filter) None (bpf_code program) (invariant_terms program)
             (are-forms (bpf_invariants program) (all-invariants program));
-        proved = subst (λ F. Checks (declared Sigma1) [] p (pf (form_encoding F))) parts-are-condition proof-checks;
+        proved =
+            with-none
+            (subst (λ F. Checks (declared Sigma1) [] p (pf (form_encoding F))) parts-are-condition
+            proof-checks);
       }
 
   pub made-accepted : IsAccepted (built_in Filter) made

@@ -1,5 +1,5 @@
 -- Each invariant of a program is one of two closed formulas; what holds of both terms holds of all.
-use Rattle.std.proofs.Common.{◌≡◌, ℕ, suc, ◌+◌, ◌≤◌, ◌^◌, true, List, [], ◌∷◌, length, map, Option, Some, None, refl, sym, ap, ◌∙◌, subst, arith}
+use Rattle.std.proofs.Common.{◌≡◌, ℕ, suc, ◌+◌, ◌≤◌, ◌^◌, true, List, [], ◌∷◌, length, map, Option, Some, None, refl, sym, ap, ◌∙◌, arith}
 use Rattle.std.specs.Prelude.{nat_le}
 use Rattle.std.specs.List.{AllByRecursion}
 use Rattle.std.proofs.lemmas.Bool.{leb-true}
@@ -179,12 +179,12 @@ pub are-low : (invs : List (ℕ × Form)) → AreInvariants invs → AllByRecurs
 are-low [] h = tt
 are-low (q ∷ invs) h = (h.0.low, are-low invs h.1)
 
-pub are-terms : (invs : List (ℕ × Form)) → AreInvariants invs → AreTerms (terms_of invs)
+pub are-terms : (invs : List (ℕ × Form)) → AreInvariants invs → AreTerms 1 (terms_of invs)
 are-terms [] h = tt
 are-terms (q ∷ invs) h =
     let low = h.0.low in
     let few = machine-few in (
-      checks-entry Sigma1 h.0.checks,
+      checks-entry Sigma1 1 h.0.checks,
       checks-small Sigma1 h.0.checks (omega (arith, low, few)),
       are-terms invs h.1,
     )

@@ -1,5 +1,5 @@
 -- What `prove` makes of a program's container.
-use Rattle.std.proofs.Common.{◌≡◌, ℕ, ◌≤◌, ◌^◌, ◌-◌, min, cond, le-ltb, List, ◌∷◌, length, map, Option, Some, None, Ok, sym, ap, ◌∙◌, subst, arith, false}
+use Rattle.std.proofs.Common.{◌≡◌, ℕ, ◌≤◌, ◌^◌, ◌-◌, min, cond, le-ltb, List, ◌∷◌, length, map, Option, Some, None, Ok, refl, sym, ap, ◌∙◌, subst, arith, false}
 use Rattle.std.proofs.lemmas.Option.{same_Some}
 use Rattle.alpha_cfg.proofs.Readings.{decoded_code-ok}
 use Rattle.policy_set.specs.declared.kind.PolicyKind.TheVariants.{Filter}
@@ -15,16 +15,17 @@ use Rattle.vcgen.specs.Conditions.{entry_part, inv_part}
 use Rattle.vcgen.specs.Encoded.{annotated}
 use Rattle.vcgen.specs.declared.condition.TheConstants.{MAX_HEIGHT}
 use Rattle.prover_class.specs.Parts.{condition_proof}
-use Rattle.pcc_gate.specs.First.{front_refusal}
+use Rattle.pcc_gate.specs.First.{lemma_refusal}
+use Rattle.pcc_gate.specs.Answers.{HasGoodLemmas}
 use Rattle.pcc_gate.specs.Passing.{Passes}
 use Rattle.pcc_gate.specs.declared.limits.TheConstants.{MAX_WEIGHT}
-use Rattle.pcc_gate.proofs.FirstFront.{passed-none}
+use Rattle.pcc_gate.proofs.Lemmas.{good-none}
 use Rattle.bounds_prover.specs.declared.fault.Measure.{Measure}
 use Rattle.bounds_prover.specs.declared.fault.Measure.TheVariants.{Weight, Height, Entries, Bytes}
 use Rattle.bounds_prover.specs.declared.fault.ProveFault.{ProveFault}
 use Rattle.bounds_prover.specs.declared.fault.ProveFault.TheVariants.{TooBig}
 use Rattle.condition_prover.specs.Conditions.{condition_parts}
-use Rattle.bounds_prover.specs.Proving.{with_proof, within, proof_weight, excess, encoded_unless, with_parts_proof, proved_contents, proved_code, proved_read, made_unless, proved_container}
+use Rattle.bounds_prover.specs.Proving.{with_proof, within, whole_weight, excess, encoded_unless, with_parts_proof, proved_contents, proved_code, proved_read, made_unless, proved_container}
 use Rattle.bpf_words.specs.declared.insn.Bpf.{Bpf}
 use Rattle.bpf_words.specs.Programs.{IsProgram}
 use Rattle.bpf_code.specs.Blocks.{bpf_code}
@@ -45,11 +46,11 @@ use Rattle.word_ops.specs.declared.Profile.TheVariants.{One}
 goes-on : (m : Measure) (limit n shown : ℕ) (next : Option ProveFault) → n ≤ limit → within m limit n shown next ≡ next
 goes-on m limit n shown next h = ap (λ b. cond b (Some (TooBig m shown)) next) (le-ltb limit n h)
 
-nothing-past : (c : Contents) (p : Tree) → proof_weight c p ≤ MAX_WEIGHT → height_of p ≤ MAX_HEIGHT
+nothing-past : (c : Contents) (p : Tree) → whole_weight c p ≤ MAX_WEIGHT → height_of p ≤ MAX_HEIGHT
     → length (entries (roots c)) ≤ MAX_ENTRIES → length (encoding_of c) ≤ MAX_BYTES → excess c p ≡ None
 unfolding excess
 nothing-past c p light low few short =
-    goes-on Weight MAX_WEIGHT (proof_weight c p) (capped (proof_weight c p)) _ light
+    goes-on Weight MAX_WEIGHT (whole_weight c p) (capped (whole_weight c p)) _ light
     ∙ goes-on Height MAX_HEIGHT (height_of p) (capped (height_of p)) _ low
     ∙ goes-on Entries MAX_ENTRIES (length (entries (roots c))) (length (entries (roots c))) _ few
     ∙ goes-on Bytes MAX_BYTES (length (encoding_of c)) (min (length (encoding_of c)) (2 ^ 64 - 1)) None short
@@ -72,6 +73,10 @@ class-proof program p is given =
 
 -- ---- what is made
 
+-- there are no lemmas
+no-lemmas-good : (program : List Bpf) (code : List ℕ) → HasGoodLemmas (bpf_contents program code)
+no-lemmas-good program code = record { weight = omega arith; proved = λ n l e. cc }
+
 module _ (program : List Bpf) (code : List ℕ) (is : IsProgram program) (holds : AreCodeBytes program code) where
   parts-are : condition_parts (built_in Filter) None (bpf_code program) (invariant_terms program)
       ≡ bpf_parts program
@@ -82,7 +87,7 @@ module _ (program : List Bpf) (code : List ℕ) (is : IsProgram program) (holds 
       (inv_part (annotated (built_in Filter) None (bpf_code program) invs)) invs)
       (formulas-again (bpf_invariants program) (all-invariants program))
 
-  -- no clause before the proof fails, so it is made of the contents
+  -- none of the clauses tried fails, so it is made of the contents
   contents-made : proved_container (built_in Filter) (encoding_of (bpf_contents program code))
       ≡ proved_contents (bpf_contents program code) (bpf_parts program)
   unfolding proved_container
@@ -91,14 +96,9 @@ module _ (program : List Bpf) (code : List ℕ) (is : IsProgram program) (holds 
       let bytes : List ℕ = encoding_of c in
       let passes : Passes (built_in Filter) bytes c (bpf_code program) (bpf_flags program) =
       plain-passes program code is holds in
-      let none : front_refusal (built_in Filter) bytes ≡ None =
-      passed-none (built_in Filter) bytes
-      (record {
-        contents = c;
-        code = bpf_code program;
-        marks = bpf_flags program;
-        passes = passes;
-      }) in
+      let none : lemma_refusal (built_in Filter) bytes ≡ None =
+      good-none (built_in Filter) bytes c (bpf_code program) (bpf_flags program) passes
+      (no-lemmas-good program code) in
       (λ i. made_unless (none i)
       (proved_read (built_in Filter) (container_again bytes c passes.container i)))
       ∙ ap (proved_code (built_in Filter) c)
@@ -118,14 +118,16 @@ module _ (program : List Bpf) (code : List ℕ) (is : IsProgram program) (holds 
         let size = holds.encode.whole in
         let invs = invs-long program is in
         let few = is.few in
-        bytes-few (with_proof (bpf_contents program code) p) head-is entries-few
+        bytes-few (with_proof (bpf_contents program code) p) head-is refl entries-few
         (omega (arith, invs, few)) (omega (arith, size, long, few))
 
     within-limits : excess (with_proof (bpf_contents program code) p) p ≡ None
     within-limits =
         let easy : IsClassProof program p = class-proof program p is given in
+        let light = easy.light in
         let few = entries-few in
-        nothing-past (with_proof (bpf_contents program code) p) p easy.light easy.low (omega (arith, few)) bytes-short
+        nothing-past (with_proof (bpf_contents program code) p) p (omega (arith, light)) easy.low
+        (omega (arith, few)) bytes-short
 
     proof-put : proved_contents (bpf_contents program code) (bpf_parts program)
         ≡ encoded_unless (excess (with_proof (bpf_contents program code) p) p) (with_proof (bpf_contents program code) p)

@@ -32,7 +32,7 @@ use Rattle.bpf_container.proofs.Sizes.{terms-few, bytes-few}
 
 -- ---- roots
 
-terms-and : (ts more : List Tree) → AreTerms ts → AreTerms more → AreTerms (ts ++ more)
+terms-and : (ts more : List Tree) → AreTerms 1 ts → AreTerms 1 more → AreTerms 1 (ts ++ more)
 terms-and [] more h g = g
 terms-and (t ∷ ts) more h g = (h.0, h.1, terms-and ts more h.2 g)
 
@@ -67,6 +67,7 @@ contents_with program code proof = record {
   bound = None;
   code = code;
   invs = inv_encodings (bpf_invariants program);
+  lemmas = [];
   proof = proof;
 }
 
@@ -76,7 +77,7 @@ head-is = (refl, omega arith)
 
 -- what is asked of the proof, if there is one
 pub record IsFit (program : List Bpf) (code : List ℕ) (proof : Option Tree) : Type 0 where
-  pub terms : AreTerms (one_or_none proof)
+  pub terms : AreTerms 1 (one_or_none proof)
   pub low : AreLow (one_or_none proof)
   pub few : length (entries (roots (contents_with program code proof))) ≤ 150000
 
@@ -104,6 +105,7 @@ module _ (program : List Bpf) (code : List ℕ) (is : IsProgram program) (holds 
         invs = omega (arith, invs, few);
         rising = subst (λ n. AreRising 0 n (inv_encodings (bpf_invariants program))) words
             (blocks-rising (20 * length program) 0 0 program (omega arith) (omega arith));
+        lemmas = tt;
       }
 
   pub contents-pass : Passes (built_in Filter) (encoding_of (contents_with program code proof))
@@ -115,7 +117,8 @@ module _ (program : List Bpf) (code : List ℕ) (is : IsProgram program) (holds 
       let few = is.few in
       record {
         size =
-            bytes-few (contents_with program code proof) head-is fit.few (omega (arith, invs, few))
+            bytes-few (contents_with program code proof) head-is refl fit.few
+            (omega (arith, invs, few))
             (omega (arith, size, long, few));
         container = record { contents = contents-hold; encoded = refl };
         named = (Filter, refl, refl);
@@ -123,6 +126,7 @@ module _ (program : List Bpf) (code : List ℕ) (is : IsProgram program) (holds 
         code = code-is program is;
         heights = low-and (terms_of (bpf_invariants program)) (one_or_none proof) (are-low (bpf_invariants program) (all-invariants program)) fit.low;
         forms = are-forms (bpf_invariants program) (all-invariants program);
+        lemma_forms = λ n F e. cc;
         annotated = subst (λ l. AreFlags l (length (bpf_code program)) (bpf_flags program))
             (sym (places-again (bpf_invariants program))) (program-flags program is);
         cut = program-cut program is;

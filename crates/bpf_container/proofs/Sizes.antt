@@ -18,7 +18,7 @@ use Rattle.proof_container.proofs.Written.{length-encoding_of}
 use Rattle.proof_container.proofs.FieldLaws.{length-field_bytes}
 use Rattle.proof_container.specs.declared.container.Head.{Head}
 use Rattle.proof_container.specs.declared.container.Head.TheVariants.{Number, Digest}
-use Rattle.proof_container.specs.Versions.{IsHead}
+use Rattle.proof_container.specs.Versions.{IsHead, lemmas_size}
 use Rattle.entry_limits.specs.Parts.{HoldsParts, subtrees, node_count}
 use Rattle.entry_limits.proofs.Bounded.{entries-few}
 use Rattle.entry_limits.proofs.Subtrees.{subtrees-hold, root-listed, length-subtrees, holds-both}
@@ -96,15 +96,17 @@ bound-few : (bound : Option ℕ) → length (bound_fields bound) ≤ 1
 bound-few None = omega arith
 bound-few (Some n) = omega arith
 
-pub bytes-few : (c : Contents) → IsHead c.version c.head → length (entries (roots c)) ≤ 150000
+pub bytes-few : (c : Contents) → IsHead c.version c.head
+    → lemmas_size c.version (length c.lemmas) ≡ 0 → length (entries (roots c)) ≤ 150000
     → length c.invs ≤ 100 → length c.code ≤ 4096 → length (encoding_of c) ≤ MAX_BYTES
-bytes-few c head few invs code =
+bytes-few c head lemmas few invs code =
     omega (
       arith,
       length-encoding_of c,
       head-few c.version c.head head,
       bound-few c.bound,
       all-fields-few (entries (roots c)),
+      lemmas,
       few,
       invs,
       code,

@@ -1,5 +1,5 @@
 -- What the container of a program holds before it has a proof.
-use Rattle.std.specs.Prelude.{ℕ, List, map, None}
+use Rattle.std.specs.Prelude.{ℕ, List, [], map, None}
 use Rattle.alpha_cfg.specs.CodeBytes.{EncodesCode}
 use Rattle.policy_set.specs.declared.kind.PolicyKind.TheVariants.{Filter}
 use Rattle.policy_set.specs.Views.{built_in}
@@ -31,5 +31,6 @@ bpf_contents program code = record {
   bound = None;
   code = code;
   invs = invariant_terms program;
+  lemmas = [];
   proof = None;
 }

@@ -53,6 +53,22 @@ const EACH_KIND: [&[u32]; 17] = [
     &[13],
 ];
 
+/// What stands before the entries of the loop in version 4, its digest being the fields 1 to 8.
+const FOURTH_OF_LOOP: [u32; 12] = [PCCA, 4, 1, 2, 3, 4, 5, 6, 7, 8, 1, LOOP];
+
+/// The loop with two lemmas: one of the formula 13 and the proof 20, and one of the formula 14
+/// whose proof cites the first. The proof cites the second.
+const CITING: [&[u32]; 8] = [
+    &FOURTH_OF_LOOP,
+    &[5, 1, 13, 1, 20, 1, 14],
+    &[8, 0],
+    &[8, 1],
+    &[1, 0, 0],
+    &[2, 0, 1],
+    &[2, 3],
+    &[5],
+];
+
 /// The node of the id of this index.
 fn node(table: &Table, index: usize) -> Made<Node> {
     let index = index as u64;
@@ -183,6 +199,78 @@ fn each_kind_is_read(rt: HostRuntime) -> Result<(), Fail> {
     let bytes = bytes_of(rt.alloc(), &EACH_KIND)?;
     assert!(rt; is_each_read(rt.alloc(), &bytes)?);
     assert!(rt; comes_back(rt.alloc(), &bytes, 13)?);
+    Ok(())
+}
+
+/// Whether these are two lemmas, of the terms of these indices.
+fn are_lemmas(lemmas: &[(Id, Id)], indices: [usize; 4]) -> bool {
+    match lemmas {
+        [first, second] => {
+            let one = (first.0.index(), first.1.index());
+            let other = (second.0.index(), second.1.index());
+            one == (indices[0], indices[1]) && other == (indices[2], indices[3])
+        }
+        _ => false,
+    }
+}
+
+/// Whether the container has what `CITING` says, and its view shows the same lemmas and proof.
+fn is_citing(container: &Container<'_>) -> Made<bool> {
+    let is_later = container.version == 4 && container.bound.is_none();
+    let has_lemmas = are_lemmas(container.lemmas.as_slice(), [0, 1, 2, 3]);
+    let cites_first = node(&container.table, 3)? == Node::Lemma(0);
+    let cites_second = node(&container.table, 4)? == Node::Lemma(1);
+    let is_proof = container.proof.map(Id::index) == Some(4);
+    let view = container.view();
+    let is_shown = view.version == 4 && are_lemmas(view.lemmas, [0, 1, 2, 3]);
+    let shows_proof = view.proof.map(Id::index) == Some(4);
+    Ok(is_later && has_lemmas && cites_first && cites_second && is_proof && is_shown && shows_proof)
+}
+
+/// Whether the bytes are read as the container whose proof cites a lemma.
+fn is_citing_read(alloc: Global, bytes: &[u8]) -> Made<bool> {
+    match read(alloc, bytes) {
+        Err(_) => Err("a fault"),
+        Ok(container) => is_citing(&container),
+    }
+}
+
+#[test]
+fn lemmas_are_read(rt: HostRuntime) -> Result<(), Fail> {
+    let bytes = bytes_of(rt.alloc(), &CITING)?;
+    assert!(rt; is_citing_read(rt.alloc(), &bytes)?);
+    assert!(rt; comes_back(rt.alloc(), &bytes, 5)?);
+    Ok(())
+}
+
+/// So many lemmas, each of two entries of its own.
+fn lemmas_of(alloc: Global, count: u32) -> Result<Vec<u8>, AllocError> {
+    let mut bytes = bytes_of(alloc, &[&FOURTH_OF_LOOP, &[512]])?;
+    for k in 0..512u32 {
+        put(&mut bytes, &[1, k])?;
+    }
+    put(&mut bytes, &[0, count])?;
+    for k in 0..256u32 {
+        put(&mut bytes, &[2 * k, 2 * k + 1])?;
+    }
+    put(&mut bytes, &[0])?;
+    Ok(bytes)
+}
+
+/// Whether a fault in the count of lemmas is found, behind 512 entries of two fields each.
+fn is_miscounted(alloc: Global, bytes: &[u8]) -> bool {
+    match read(alloc, bytes) {
+        Err(fault) => fault == Malformed::At(4_152, Flaw::Count),
+        Ok(_) => false,
+    }
+}
+
+#[test]
+fn the_most_lemmas(rt: HostRuntime) -> Result<(), Fail> {
+    let most = lemmas_of(rt.alloc(), 256)?;
+    assert!(rt; comes_back(rt.alloc(), &most, 512)?);
+    let more = lemmas_of(rt.alloc(), 257)?;
+    assert!(rt; is_miscounted(rt.alloc(), &more));
     Ok(())
 }
 

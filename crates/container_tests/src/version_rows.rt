@@ -26,12 +26,16 @@ const SHORT: &str = "PCCA 2 #0102030405060708090a0b0c0d0e0f101112131415161718191
 const BOUNDED: &str = "PCCA 3 #0102030405060708090a0b0c0d0e0f101112131415161718191a1b1c1d1e1f20 \
                        258 2 #000030a4 #0180fa6b 0 0 0";
 
+/// The same of version 4 with two lemmas and a proof that cites the second, of 124 bytes.
+const CITING: &str = "PCCA 4 #0102030405060708090a0b0c0d0e0f101112131415161718191a1b1c1d1e1f20 \
+                      2 #000030a4 #0180fa6b 5 1 13 1 20 1 14 8 0 8 1 0 2 0 1 2 3 5";
+
 /// Versions and counts of code words.
 const HEADS: [(&str, &str); 14] = [
     ("PCCA 1 7 1 #ffffffc3 0 0 0", "0 terms, weight 0"),
     ("PCCA 0 7 1 #ffffffc3 0 0 0", "4 Version"),
     ("PCCA 3 7 1 #ffffffc3 0 0 0", "32 Cut"),
-    ("PCCA 4 7 1 #ffffffc3 0 0 0", "4 Version"),
+    ("PCCA 4 7 1 #ffffffc3 0 0 0", "32 Cut"),
     ("PCCA 5 7 1 #ffffffc3 0 0 0", "4 Version"),
     ("PCCA 4294967295", "4 Version"),
     ("PCCA 1 7 0", "12 Count"),
@@ -74,34 +78,116 @@ const BOUNDS: [(&str, &str); 14] = [
     ("PCCA 2 1 2 3 4 5 6 7 8 1 1 #ffffffc3 0 0 0", "48 Count"),
 ];
 
-/// Faults behind the code, which stand 28 bytes further back in version 2, and 32 in version 3.
-const BEHIND: [(&str, &str); 18] = [
+/// Faults behind the code, which stand 28 bytes further back in versions 2 and 4, and 32 in version
+/// 3.
+const BEHIND: [(&str, &str); 24] = [
     ("PCCA 1 7 1 9 262145", "20 Count"),
     ("PCCA 2 1 2 3 4 5 6 7 8 1 9 262145", "48 Count"),
     ("PCCA 3 1 2 3 4 5 6 7 8 5 1 9 262145", "52 Count"),
+    ("PCCA 4 1 2 3 4 5 6 7 8 1 9 262145", "48 Count"),
     ("PCCA 1 7 1 9 2 1 13 8", "32 EntryKind"),
     ("PCCA 2 1 2 3 4 5 6 7 8 1 9 2 1 13 8", "60 EntryKind"),
     ("PCCA 3 1 2 3 4 5 6 7 8 5 1 9 2 1 13 8", "64 EntryKind"),
+    ("PCCA 4 1 2 3 4 5 6 7 8 1 9 2 1 13 9", "60 EntryKind"),
     ("PCCA 1 7 1 9 2 1 13 1 13", "32 DoubleEntry"),
     ("PCCA 2 1 2 3 4 5 6 7 8 1 9 2 1 13 1 13", "60 DoubleEntry"),
     ("PCCA 3 1 2 3 4 5 6 7 8 5 1 9 2 1 13 1 13", "64 DoubleEntry"),
+    ("PCCA 4 1 2 3 4 5 6 7 8 1 9 2 1 13 1 13", "60 DoubleEntry"),
     ("PCCA 1 7 1 9 2 1 13 1 14 1 0 1 0", "24 Order"),
     ("PCCA 2 1 2 3 4 5 6 7 8 1 9 2 1 13 1 14 1 0 1 0", "52 Order"),
     (
         "PCCA 3 1 2 3 4 5 6 7 8 5 1 9 2 1 13 1 14 1 0 1 0",
         "56 Order",
     ),
+    (
+        "PCCA 4 1 2 3 4 5 6 7 8 1 9 2 1 13 1 14 1 0 1 0 0",
+        "52 Order",
+    ),
     ("PCCA 1 7 1 9 1 1 13 1 1 0 0", "36 InvOrder"),
     ("PCCA 2 1 2 3 4 5 6 7 8 1 9 1 1 13 1 1 0 0", "64 InvOrder"),
     ("PCCA 3 1 2 3 4 5 6 7 8 5 1 9 1 1 13 1 1 0 0", "68 InvOrder"),
+    ("PCCA 4 1 2 3 4 5 6 7 8 1 9 1 1 13 1 1 0 0 0", "64 InvOrder"),
     ("PCCA 1 7 1 9 0 0 0 #00", "32 Trailing"),
     ("PCCA 2 1 2 3 4 5 6 7 8 1 9 0 0 0 #00", "60 Trailing"),
     ("PCCA 3 1 2 3 4 5 6 7 8 5 1 9 0 0 0 #00", "64 Trailing"),
+    ("PCCA 4 1 2 3 4 5 6 7 8 1 9 0 0 0 0 #00", "64 Trailing"),
+];
+
+/// Lemmas of version 4: their count stands behind the invariants, with a formula and a proof for
+/// each, and each stands in the walk before the next one and the proof. An entry that cites one has
+/// kind 8.
+const LEMMAS: [(&str, &str); 24] = [
+    ("PCCA 4 1 2 3 4 5 6 7 8 1 9 0 0 0 0", "0 terms, weight 0"),
+    ("PCCA 4 1 2 3 4 5 6 7 8 1 9 0 0 0", "60 Cut"),
+    (
+        "PCCA 4 1 2 3 4 5 6 7 8 1 9 2 1 13 1 20 0 1 0 1 0",
+        "2 terms, weight 0",
+    ),
+    (
+        "PCCA 4 1 2 3 4 5 6 7 8 1 9 3 1 13 1 20 8 0 1 0 0 1 0 1 3",
+        "3 terms, weight 1",
+    ),
+    (
+        "PCCA 4 1 2 3 4 5 6 7 8 1 9 3 1 13 1 20 8 0 0 1 0 1 3",
+        "3 terms, weight 1",
+    ),
+    (
+        "PCCA 4 1 2 3 4 5 6 7 8 1 9 4 1 13 1 20 1 14 8 0 0 2 0 1 2 3 4",
+        "4 terms, weight 1",
+    ),
+    (
+        "PCCA 4 1 2 3 4 5 6 7 8 1 9 1 1 13 0 1 0 0 1",
+        "1 terms, weight 1",
+    ),
+    (
+        "PCCA 4 1 2 3 4 5 6 7 8 1 9 1 8 4294967295 0 0 1",
+        "1 terms, weight 1",
+    ),
+    ("PCCA 4 1 2 3 4 5 6 7 8 1 9 1 8", "56 Cut"),
+    ("PCCA 4 1 2 3 4 5 6 7 8 1 9 2 8 0 8 0", "60 DoubleEntry"),
+    ("PCCA 4 1 2 3 4 5 6 7 8 1 9 2 8 0 8 1 0 0 2", "52 Order"),
+    ("PCCA 4 1 2 3 4 5 6 7 8 1 9 0 0 256", "60 Cut"),
+    ("PCCA 4 1 2 3 4 5 6 7 8 1 9 0 0 257", "56 Count"),
+    ("PCCA 4 1 2 3 4 5 6 7 8 1 9 0 0 4294967295", "56 Count"),
+    ("PCCA 4 1 2 3 4 5 6 7 8 1 9 0 0 1 0 0 0", "60 ForwardRef"),
+    (
+        "PCCA 4 1 2 3 4 5 6 7 8 1 9 1 1 13 0 1 1 0 0",
+        "68 ForwardRef",
+    ),
+    (
+        "PCCA 4 1 2 3 4 5 6 7 8 1 9 1 1 13 0 1 0 1 0",
+        "72 ForwardRef",
+    ),
+    ("PCCA 4 1 2 3 4 5 6 7 8 1 9 1 1 13 0 1 0", "72 Cut"),
+    (
+        "PCCA 4 1 2 3 4 5 6 7 8 1 9 3 8 0 1 13 1 20 0 1 1 2 1",
+        "52 Order",
+    ),
+    (
+        "PCCA 4 1 2 3 4 5 6 7 8 1 9 2 1 20 1 13 0 1 1 0 0",
+        "52 Order",
+    ),
+    (
+        "PCCA 4 1 2 3 4 5 6 7 8 1 9 4 1 14 1 21 1 13 1 20 0 2 2 3 0 1 0",
+        "52 Order",
+    ),
+    (
+        "PCCA 4 1 2 3 4 5 6 7 8 1 9 2 1 20 1 13 1 0 1 1 0 1 0",
+        "52 Order",
+    ),
+    (
+        "PCCA 2 1 2 3 4 5 6 7 8 1 9 3 1 13 1 20 8 0 0 1 0 1 3",
+        "68 EntryKind",
+    ),
+    (
+        "PCCA 2 1 2 3 4 5 6 7 8 1 9 2 1 13 1 20 0 1 0 1 0",
+        "76 Trailing",
+    ),
 ];
 
 /// The proof is a constant of this number at applications of weight 2: a parameter counts 1, and no
-/// constant above 87 has any in version 1, nor one above 103 in version 2.
-const WEIGHTS: [(&str, &str); 14] = [
+/// constant above 87 has any in version 1, nor one above 103 in versions 2 and 4, nor a lemma.
+const WEIGHTS: [(&str, &str); 17] = [
     (
         "PCCA 1 7 1 9 5 1 96 1 0 2 5 0 6 1 2 6 0 3 0 5",
         "5 terms, weight 3",
@@ -149,6 +235,18 @@ const WEIGHTS: [(&str, &str); 14] = [
     (
         "PCCA 3 1 2 3 4 5 6 7 8 5 1 9 6 1 103 1 0 2 5 0 6 1 2 6 0 3 6 4 3 0 6",
         "6 terms, weight 3",
+    ),
+    (
+        "PCCA 4 1 2 3 4 5 6 7 8 1 9 5 1 104 1 0 2 5 0 6 1 2 6 0 3 0 0 5",
+        "5 terms, weight 3",
+    ),
+    (
+        "PCCA 4 1 2 3 4 5 6 7 8 1 9 6 1 103 1 0 2 5 0 6 1 2 6 0 3 6 4 3 0 0 6",
+        "6 terms, weight 3",
+    ),
+    (
+        "PCCA 4 1 2 3 4 5 6 7 8 1 9 5 8 0 1 0 2 5 0 6 1 2 6 0 3 0 0 5",
+        "5 terms, weight 3",
     ),
     (
         "PCCA 1 7 1 9 5 1 42 1 0 2 5 0 6 1 2 6 0 3 0 5",
@@ -289,6 +387,14 @@ fn rows_of_each_version(rt: HostRuntime) -> Result<(), Fail> {
 }
 
 #[test]
+fn rows_of_lemmas(rt: HostRuntime) -> Result<(), Fail> {
+    for row in LEMMAS {
+        assert!(rt; comes_out(rt.alloc(), row)?, "{}", row.0);
+    }
+    Ok(())
+}
+
+#[test]
 fn rows_of_weights(rt: HostRuntime) -> Result<(), Fail> {
     for row in WEIGHTS {
         assert!(rt; comes_out(rt.alloc(), row)?, "{}", row.0);
@@ -347,5 +453,16 @@ fn each_cut_of_version_3(rt: HostRuntime) -> Result<(), Fail> {
         assert!(rt; is_cut(rt.alloc(), &bytes, n), "{n}");
     }
     assert!(rt; has_front(rt.alloc(), &bytes, 3, Some(258)));
+    Ok(())
+}
+
+#[test]
+fn each_cut_of_version_4(rt: HostRuntime) -> Result<(), Fail> {
+    let bytes = bytes_of_row(rt.alloc(), CITING)?;
+    assert!(rt; bytes.len() == 124);
+    for n in 0..124 {
+        assert!(rt; is_cut(rt.alloc(), &bytes, n), "{n}");
+    }
+    assert!(rt; has_front(rt.alloc(), &bytes, 4, None));
     Ok(())
 }

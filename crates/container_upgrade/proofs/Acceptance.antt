@@ -1,15 +1,17 @@
 -- What an accepted container is upgraded to is accepted.
-use Rattle.std.proofs.Common.{◌≡◌, ℕ, ◌≤◌, Bool, List, [], ◌∷◌, Option, Some, None, IfSome, sym, ap, ◌∙◌, subst, arith}
+use Rattle.std.proofs.Common.{◌≡◌, ℕ, ◌+◌, ◌≤◌, Bool, List, [], ◌∷◌, Option, Some, None, IfSome, refl, sym, ap, ◌∙◌, subst, arith}
 use Rattle.word_ops.specs.declared.Profile.TheVariants.{One, Two}
 use Rattle.alpha_words.specs.declared.insn.Insn.{Insn}
 use Rattle.alpha_cfg.specs.CodeBytes.{EncodesCode}
-use Rattle.term_table.specs.Tree.{Tree}
+use Rattle.term_table.specs.Tree.{Tree, Const, Num, Lit, Calc, Fact, Deny, Lemma}
 use Rattle.term_table.specs.Measures.{weight_of}
 use Rattle.lf_signature.specs.declared.WordSignature.{WordSignature}
 use Rattle.lf_signature.specs.declared.WordSignature.TheVariants.{Sigma1, Sigma2}
 use Rattle.lf_signature.specs.Constants.{places_of, size_of, op_count_of, declared}
 use Rattle.lf_signature.specs.Terms.{form, pf}
 use Rattle.lf_signature.specs.Typing.{Checks}
+use Rattle.lf_lemmas.specs.Lemmas.{formulas_of, with_lemmas, AreFormulas}
+use Rattle.lf_lemmas.specs.Checking.{LemmasCheck}
 use Rattle.lf_encode.specs.Contexts.{machine_context, sort_types}
 use Rattle.policy_set.specs.declared.kind.PolicyKind.{PolicyKind}
 use Rattle.policy_set.specs.Policies.{pre_of, post_of}
@@ -23,13 +25,14 @@ use Rattle.proof_container.specs.Encoding.{EncodesContents}
 use Rattle.vcgen.specs.Encoded.{AreForms, EncodesCondition}
 use Rattle.pcc_gate.specs.Accepted.{Accepts}
 use Rattle.pcc_gate.specs.ForPolicy.{IsFor}
-use Rattle.pcc_gate.specs.Passing.{Passes}
+use Rattle.pcc_gate.specs.Passing.{AreLow, Passes}
+use Rattle.pcc_gate.specs.Weights.{lemmas_weight, proof_weight}
 use Rattle.pcc_gate.specs.declared.limits.TheConstants.{MAX_WEIGHT}
 use Rattle.container_upgrade.specs.Laws.{UpgradedAccepted}
 use Rattle.container_upgrade.specs.Upgrading.{kind_numbered, with_digest}
 use Rattle.container_upgrade.specs.Upgrades.{IsUpgrade}
 use Rattle.container_upgrade.proofs.Exactly.{numbered-kind}
-use Rattle.container_upgrade.proofs.Renamed.{first-version, first-unbounded}
+use Rattle.container_upgrade.proofs.Renamed.{first-version, first-unbounded, first-lemmas, renamed-roots}
 
 -- the bytes of code in the first profile are those of the same code in the second
 abbrev pub CodeLater : Type 0
@@ -90,6 +93,26 @@ forms-longer longer (p ∷ ps) h = (
   forms-longer longer ps h.1,
 )
 
+-- ---- no lemmas
+
+-- a signature with no lemmas added gives each constant what it gave
+none-added : (s : WordSignature) → with_lemmas (declared s) [] ≡ declared s
+none-added s = λ i c. each c i
+  where
+    each : (c : Const) → with_lemmas (declared s) [] c ≡ declared s c
+    each (Num n) = refl
+    each (Lit w) = refl
+    each (Calc o a b) = refl
+    each (Fact p a b) = refl
+    each (Deny p a b) = refl
+    each (Lemma n) = refl
+
+no-formulas : (s : WordSignature) → AreFormulas (declared s) (formulas_of [])
+no-formulas s n F e = cc
+
+none-check : (s : WordSignature) → LemmasCheck (declared s) []
+none-check s n l e = cc
+
 -- ---- the clauses
 
 module _
@@ -111,6 +134,9 @@ module _
   unbounded : u.contents.bound ≡ None
   unbounded = first-unbounded u.contents (kind_number u.kind) u.old.contents u.number
 
+  none : u.contents.lemmas ≡ []
+  none = first-lemmas u.contents (kind_number u.kind) u.old.contents u.number
+
   forms-upgraded : AreForms (signature_of u.contents.version) u.contents.bound u.contents.invs
       → AreForms Sigma2 None u.contents.invs
   forms-upgraded forms =
@@ -131,21 +157,48 @@ module _
             later u.contents.code code
             (subst (λ (v : ℕ). EncodesCode (profile_of v) u.contents.code code) first p.encoded);
         code = p.code;
-        heights = p.heights;
+        heights =
+            subst (λ (ts : List Tree). AreLow ts)
+            (renamed-roots (built_in u.kind) u.contents none) p.heights;
         forms = forms-upgraded p.forms;
+        lemma_forms = no-formulas Sigma2;
         annotated = p.annotated;
         cut = p.cut;
         unfolded = p.unfolded;
       }
 
+  -- with no lemmas a proof checks over the first signature alone
+  proved-first : (proof vc : Tree)
+      → Checks (with_lemmas (declared (signature_of u.contents.version))
+      (formulas_of u.contents.lemmas)) [] proof (pf vc) → Checks (declared Sigma1) [] proof (pf vc)
+  proved-first proof vc h =
+      subst (λ (sig : Const → Option Tree). Checks sig [] proof (pf vc)) (none-added Sigma1)
+      (subst
+      (λ (l : List (Tree × Tree)).
+      Checks (with_lemmas (declared Sigma1) (formulas_of l)) [] proof (pf vc))
+      none
+      (subst
+      (λ (v : ℕ). Checks (with_lemmas (declared (signature_of v)) (formulas_of u.contents.lemmas))
+      [] proof (pf vc))
+      first h))
+
+  -- and its weight is all that weighs
+  light-first : (proof : Tree)
+      → proof_weight (signature_of u.contents.version) u.contents.lemmas proof ≤ MAX_WEIGHT
+      → proof_weight Sigma1 [] proof ≤ MAX_WEIGHT
+  light-first proof h =
+      subst (λ (l : List (Tree × Tree)). proof_weight Sigma1 l proof ≤ MAX_WEIGHT) none
+      (subst (λ (v : ℕ). proof_weight (signature_of v) u.contents.lemmas proof ≤ MAX_WEIGHT)
+      first h)
+
   accepts-upgraded : Accepts policy bytes u.contents code marks
       → Accepts policy out renamed code marks
   accepts-upgraded a =
       let proved : Checks (declared Sigma1) [] a.proof (pf a.vc) =
-      subst (λ (v : ℕ). Checks (declared (signature_of v)) [] a.proof (pf a.vc)) first a.proved in
-      let light = subst
-      (λ (v : ℕ). weight_of (places_of (signature_of v)) a.proof ≤ MAX_WEIGHT)
-      first a.weight in
+      proved-first a.proof a.vc a.proved in
+      let later : Checks (declared Sigma2) [] a.proof (pf a.vc) =
+      longer Sigma1 Sigma2 [] a.proof (pf a.vc) (omega arith) (omega arith) proved in
+      let light : proof_weight Sigma1 [] a.proof ≤ MAX_WEIGHT = light-first a.proof a.weight in
       let same : weight_of (places_of Sigma2) a.proof ≡ weight_of (places_of Sigma1) a.proof =
       weighs Sigma1 Sigma2 [] a.proof (pf a.vc) (omega arith) proved in
       record {
@@ -153,11 +206,14 @@ module _
         proof = a.proof;
         vc = a.vc;
         given = a.given;
-        weight = subst (λ n. n ≤ MAX_WEIGHT) (sym same) light;
+        weight = subst (λ n. lemmas_weight Sigma1 [] + n ≤ MAX_WEIGHT) (sym same) light;
+        lemmas = none-check Sigma2;
         condition =
             subst (λ (b : Option ℕ). EncodesCondition policy b code u.contents.invs a.vc)
             unbounded a.condition;
-        proved = longer Sigma1 Sigma2 [] a.proof (pf a.vc) (omega arith) (omega arith) proved;
+        proved =
+            subst (λ (sig : Const → Option Tree). Checks sig [] a.proof (pf a.vc))
+            (sym (none-added Sigma2)) later;
       }
 
 pub upgraded-accepted : CodeLater → ChecksLonger → WeighsAlike → OneContent → UpgradedAccepted

@@ -52,6 +52,21 @@ kind-numbered n kind e = by (n == 1) refl (n == 2) refl (n == 3) refl e
     by false one false second true third is = eqb-true n 3 third ∙ ap number_or_none is
     by false one false second false third is = absurd (true≢false (sym (ap is_some is)))
 
+-- the number that was found is the head's
+pub head-numbered : (h : Head) (n : ℕ) → number_in h ≡ Ok n → h ≡ Number n
+head-numbered (Number m) n e = let same : m ≡ n = cc in ap Number same
+head-numbered (Digest d) n e = cc
+
+-- ---- the stages, each having passed
+
+pub upgraded-as : (bytes out : List ℕ) (c : Contents) (n size : ℕ) (kind : PolicyKind)
+    → contents_in bytes ≡ Ok c → number_in c.head ≡ Ok n
+    → kind_found n (kind_numbered n) ≡ Ok kind → size_within (length bytes + GROWTH) ≡ Ok size
+    → out ≡ encoding_of (with_digest (built_in kind) c) → upgraded_container bytes ≡ Ok out
+unfolding upgraded_container
+upgraded-as bytes out c n size kind read number found fits is =
+    rw (read, number, found, fits) (ap Ok (sym is))
+
 -- ---- the stages, from their end
 
 module _ (bytes out : List ℕ) (c : Contents) (old : EncodesContents bytes c) where
@@ -75,7 +90,7 @@ module _ (bytes out : List ℕ) (c : Contents) (old : EncodesContents bytes c) w
         old = old;
         number = number;
         new = record {
-          contents = renamed-holds (built_in kind) c old.contents;
+          contents = renamed-holds (built_in kind) c (kind_number kind) old.contents number;
           encoded = sym is;
         };
         size = omega (arith, grown, before, after);

@@ -1,4 +1,3 @@
-pub mod Digests
 pub mod Renamed
 pub mod Exactly
 pub mod Acceptance

@@ -1,7 +1,7 @@
 -- Containers of version 1 as containers of version 2: the digest of the policy stands in place of
 -- its number, and all else stays. The tests stand in their order, and the first that fails is the
 -- answer.
-use Rattle.std.specs.Prelude.{◌≡◌, ℕ, ◌+◌, ◌==◌, nat_lt, if◌then◌else◌, List, length, Option, Some, None, Result, Ok, Err}
+use Rattle.std.specs.Prelude.{◌≡◌, ℕ, ◌+◌, ◌==◌, nat_lt, if◌then◌else◌, List, [], length, Option, Some, None, Result, Ok, Err}
 use Rattle.term_table.specs.Steps.{◌>>=◌}
 use Rattle.policy_set.specs.declared.kind.PolicyKind.{PolicyKind}
 use Rattle.policy_set.specs.declared.kind.PolicyKind.TheVariants.{Filter, Tag, Table}
@@ -35,6 +35,7 @@ with_digest policy c = record {
   bound = None;
   code = c.code;
   invs = c.invs;
+  lemmas = [];
   proof = c.proof;
 }
 

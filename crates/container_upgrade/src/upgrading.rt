@@ -2,11 +2,12 @@
 
 ghost use Rattle.std.specs.Prelude.{◌≡◌, ◌≤◌, length, IfOk, OnOk};
 ghost use Rattle.policy_set.specs.Views.{built_in};
+ghost use Rattle.policy_set.specs.Digest.{digest_of};
+ghost use Rattle.proof_container.specs.declared.container.Head.TheVariants.{Digest};
 ghost use Rattle.proof_container.specs.declared.container.View.{View};
 ghost use Rattle.proof_container.specs.declared.limits.TheConstants.{MAX_BYTES};
-ghost use Rattle.proof_container.specs.Encoding.{encoding_of};
 ghost use Rattle.proof_container.specs.Views.{contents_of, IsWritable, Shows};
-ghost use Rattle.container_upgrade.specs.Upgrading.{kind_numbered, with_digest, contents_in};
+ghost use Rattle.container_upgrade.specs.Upgrading.{kind_numbered, contents_in};
 ghost use Rattle.container_upgrade.specs.Upgrading.{number_in, kind_found, size_within};
 ghost use Rattle.container_upgrade.specs.Upgrading.{upgraded_container, IsUpgraded};
 
@@ -75,30 +76,14 @@ fn size_within(size: u64) -> Result<u64, UpgradeFault>
     Ok(size)
 }
 
-/// The container of the same code, invariants and proof that names the policy by its digest, as
-/// bytes. Fails only for want of memory.
-fn rewritten(
-    alloc: Global,
-    container: &Container<'_>,
-    kind: PolicyKind,
-) -> Result<Vec<u8>, AllocError>
-    requires { (v : View) → Shows container.now v → IsWritable v }
-    ensures { IfOk result (λ out. out.items
-        ≡ encoding_of (with_digest (built_in kind) (contents_of container.now))) }
+/// What names the built-in policy of the kind in a container of version 2. Fails only for want of
+/// memory.
+fn head_of(alloc: Global, kind: PolicyKind) -> Result<Head, AllocError>
+    ensures { IfOk result (λ h. h ≡ Digest (digest_of (built_in kind))) }
 {
     let policy = Policy::of(alloc, kind)?;
-    let named = digest(alloc, &policy)?;
-    let shown = container.view();
-    let view = View {
-        version: 2,
-        head: Head::Digest(named),
-        bound: None,
-        code: shown.code,
-        table: shown.table,
-        invs: shown.invs,
-        proof: shown.proof,
-    };
-    write(alloc, &view)
+    let made = digest(alloc, &policy)?;
+    Ok(Head::Digest(made))
 }
 
 /// The container of version 2, as bytes, with the code, the invariants and the proof of the
@@ -116,5 +101,17 @@ pub fn upgraded(alloc: Global, bytes: &[u8]) -> Result<Vec<u8>, UpgradeFault>
     let number = number_in(container.head)?;
     let kind = kind_found(number)?;
     size_within(bytes.len() as u64 + u64::from(GROWTH))?;
-    Ok(rewritten(alloc, &container, kind)?)
+    let head = head_of(alloc, kind)?;
+    let shown = container.view();
+    let view = View {
+        version: 2,
+        head,
+        bound: None,
+        code: shown.code,
+        table: shown.table,
+        invs: shown.invs,
+        lemmas: &[],
+        proof: shown.proof,
+    };
+    Ok(write(alloc, &view)?)
 }

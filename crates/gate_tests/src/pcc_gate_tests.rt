@@ -1,18 +1,20 @@
-//! Refusals in words, and the bound of what is accepted. Which clause refuses a container is in rows of
+//! Refusals in words, the bound of what is accepted, and lemmas before there is a proof. Which clause refuses a container is in rows of
 //! `check` and `prove` (command_rows: `check.rows`, `gate.rows`).
 
 use alpha_cfg::CodeFlaw;
 use bounds_prover::prove;
-use pcc_gate::{Accepted, GateFault, MAX_WEIGHT, Refusal, gate, laws};
+use pcc_gate::{
+    Accepted, GateFault, MAX_WEIGHT, Refusal, front_with_lemmas, gate, laws, lemmas_weight,
+};
 use policy_set::{Policy, PolicyKind, digest};
-use proof_container::{Flaw, Head};
+use proof_container::{Flaw, Head, signature_of};
 use std::alloc::{AllocError, Global};
 use std::test::Fail;
 use test_inputs::containers::{RETURN, bytes_of, put};
 use test_inputs::terms::{Made, made};
 
 /// One refusal by each clause, and its words.
-const IN_WORDS: [(Refusal, &str); 11] = [
+const IN_WORDS: [(Refusal, &str); 13] = [
     (Refusal::TooLong(4_194_305), "4194305 bytes are too many"),
     (
         Refusal::Malformed(16, Flaw::Cut),
@@ -28,6 +30,7 @@ const IN_WORDS: [(Refusal, &str); 11] = [
     ),
     (Refusal::Height(4_097), "a term is 4097 high"),
     (Refusal::InvNotForm(0), "invariant 0 is no formula"),
+    (Refusal::LemmaNotForm(2), "the formula of lemma 2 is none"),
     (
         Refusal::Uncut(1),
         "index 1 is on a cycle without an annotated index",
@@ -37,6 +40,10 @@ const IN_WORDS: [(Refusal, &str); 11] = [
     (
         Refusal::ProofWeight(MAX_WEIGHT + 1),
         "the proof weighs 1048577",
+    ),
+    (
+        Refusal::LemmaNotProof(3),
+        "the proof of lemma 3 isn't one of its formula",
     ),
     (
         Refusal::NotProof,
@@ -129,5 +136,68 @@ fn is_told(alloc: Global) -> Made<bool> {
 #[test]
 fn a_proof_has_its_bound(rt: HostRuntime) -> Result<(), Fail> {
     assert!(rt; is_told(rt.alloc())?);
+    Ok(())
+}
+
+/// The magic, and the version of a container with lemmas.
+const WITH_LEMMAS: [u32; 2] = [0x4143_4350, 4];
+
+/// What stands behind the code: truth and its proof as entries, no invariants, these as a lemma, and
+/// no proof.
+const GOOD_LEMMA: [u32; 10] = [2, 1, 13, 1, 27, 0, 1, 0, 1, 0];
+
+/// The same with truth as its own proof.
+const BAD_LEMMA: [u32; 8] = [1, 1, 13, 0, 1, 0, 0, 0];
+
+/// `ret` for the policy, with what stands behind the code.
+fn lemma_return(alloc: Global, policy: &Policy, behind: &[u32]) -> Result<Vec<u8>, AllocError> {
+    let named = digest(alloc, policy)?;
+    let mut bytes = bytes_of(alloc, &[&WITH_LEMMAS])?;
+    bytes.extend_from_slice(&named)?;
+    put(&mut bytes, &[1, RETURN])?;
+    put(&mut bytes, behind)?;
+    Ok(bytes)
+}
+
+/// What the proofs of the lemmas in the bytes weigh together, or why they aren't passed on.
+fn weight_in(alloc: Global, policy: &Policy, bytes: &[u8]) -> Result<u32, GateFault> {
+    let passed = front_with_lemmas(alloc, policy, bytes)?;
+    let container = passed.container;
+    let signature = signature_of(container.version);
+    Ok(lemmas_weight(&container.table, signature, &container.lemmas))
+}
+
+/// What the lemmas of `ret` weigh under the policy tag, or why they aren't passed on.
+fn lemmas_of(alloc: Global, behind: &[u32]) -> Made<Result<u32, GateFault>> {
+    let policy = made(Policy::of(alloc, PolicyKind::Tag))?;
+    let bytes = made(lemma_return(alloc, &policy, behind))?;
+    Ok(weight_in(alloc, &policy, &bytes))
+}
+
+#[test]
+fn lemmas_before_the_proof(rt: HostRuntime) -> Result<(), Fail> {
+    let bad = GateFault::Refused(Refusal::LemmaNotProof(0));
+    assert!(rt; lemmas_of(rt.alloc(), &GOOD_LEMMA)? == Ok(1));
+    assert!(rt; lemmas_of(rt.alloc(), &BAD_LEMMA)? == Err(bad));
+    Ok(())
+}
+
+/// Whether `ret` with the lemma is accepted under the policy, once it has a proof.
+fn is_accepted_with_lemma(alloc: Global, policy: &Policy) -> Made<bool> {
+    let bytes = made(lemma_return(alloc, policy, &GOOD_LEMMA))?;
+    let proved = made(prove(alloc, policy, &bytes))?;
+    let accepted = made(gate(alloc, policy, &proved))?;
+    Ok(accepted.bound().is_none())
+}
+
+/// The same under the policy tag.
+fn accepts_with_lemma(alloc: Global) -> Made<bool> {
+    let policy = made(Policy::of(alloc, PolicyKind::Tag))?;
+    is_accepted_with_lemma(alloc, &policy)
+}
+
+#[test]
+fn accepted_with_a_lemma(rt: HostRuntime) -> Result<(), Fail> {
+    assert!(rt; accepts_with_lemma(rt.alloc())?);
     Ok(())
 }

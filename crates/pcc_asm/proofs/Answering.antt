@@ -143,10 +143,17 @@ err_answer v bound policy s view F.Memory h = tt
 err_answer v bound policy s view (F.At flaw) h =
     ap (with_code v bound policy s.invs) (flaw_by (assembled_code (profile_of v) s) flaw h)
 
--- contents without a proof
+-- contents without lemmas and proof
 abbrev contents_with : ℕ → Head → Option ℕ → List ℕ → List (ℕ × Tree) → Contents
-contents_with v head bound bytes invs =
-    record { version = v; head = head; bound = bound; code = bytes; invs = invs; proof = None }
+contents_with v head bound bytes invs = record {
+  version = v;
+  head = head;
+  bound = bound;
+  code = bytes;
+  invs = invs;
+  lemmas = [];
+  proof = None;
+}
 
 contents_same : (v : ℕ) (head : Head) (bound : Option ℕ) (bytes : List ℕ) (a b : List (ℕ × Tree))
     → a ≡ b → contents_with v head bound bytes a ≡ contents_with v head bound bytes b
@@ -182,7 +189,8 @@ is_held v bound s head bytes t ids built named fits h e k =
       head = named;
       bound = fits;
       known = k.known;
-      terms = subst (λ l. AllTerms (map (λ p. p.1) l ++ [])) (sym k.trees) (all_terms s.invs);
+      terms =
+          subst (λ l. AllTerms v (map (λ p. p.1) l ++ [])) (sym k.trees) (all_terms v s.invs);
       whole = omega (arith, size);
       some = omega (arith, size, sound.count, h.1.sound.some);
       short = omega (arith, size, sound.count, h.1.sound.insns);
@@ -214,6 +222,7 @@ plain_assembles v bound policy s insns h k = record {
   head_is = refl;
   bound_is = refl;
   invs = refl;
+  no_lemmas = refl;
   no_proof = refl;
 }
 

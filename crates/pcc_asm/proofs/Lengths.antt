@@ -14,7 +14,7 @@ use Rattle.lf_encode.specs.Contexts.{machine_context, encoding_in}
 use Rattle.lf_encode.specs.Naming.{named_exp, named_mem, named_form}
 use Rattle.proof_container.specs.Contents.{Contents, roots}
 use Rattle.proof_container.specs.Postorder.{is_emitted, emitted_with, emitted_with_all, entries}
-use Rattle.proof_container.specs.Encoding.{field_bytes, entry_fields, inv_fields, proof_field, magic, policy_bytes, bound_fields, head_bytes, tail_fields, encoding_of}
+use Rattle.proof_container.specs.Encoding.{field_bytes, entry_fields, inv_fields, lemmas_fields, proof_field, magic, policy_bytes, bound_fields, head_bytes, tail_fields, encoding_of}
 use Rattle.proof_container.specs.declared.container.Head.{Head}
 use Rattle.proof_container.specs.declared.container.Head.TheVariants.{Number, Digest}
 use Rattle.proof_container.specs.Versions.{profile_of}
@@ -175,14 +175,27 @@ invs_short es (v ∷ invs) = let h = invs_short es invs in omega (arith, h)
 
 -- ---- the whole
 
-tail_length : (es : List Tree) (c : Contents) → length (tail_fields es c) ≡ 3 + (length (flat_map (entry_fields es) es) + length (flat_map (inv_fields es) c.invs))
+tail_length : (es : List Tree) (c : Contents) → length (tail_fields es c)
+    ≡ 3 + (length (flat_map (entry_fields es) es) + length (flat_map (inv_fields es) c.invs)
+    + length (lemmas_fields c.version es c.lemmas))
 tail_length es c =
     let es_fields = flat_map (entry_fields es) es in
     let inv_part = flat_map (inv_fields es) c.invs in
+    let lemma_part = lemmas_fields c.version es c.lemmas in
     let last = proof_field es c.proof ∷ [] in
-    let a = length-append (length es ∷ es_fields) ((length c.invs ∷ inv_part) ++ last) in
-    let b = length-append (length c.invs ∷ inv_part) last in
-    omega (arith, a, b)
+    let a = length-append (length es ∷ es_fields)
+    ((length c.invs ∷ inv_part) ++ (lemma_part ++ last)) in
+    let b = length-append (length c.invs ∷ inv_part) (lemma_part ++ last) in
+    let d = length-append lemma_part last in
+    omega (arith, a, b, d)
+
+-- no lemmas have at most one field, their count
+no_lemmas_length : (v : ℕ) (es : List Tree) → length (lemmas_fields v es []) ≤ 1
+no_lemmas_length v es = go (v == 4)
+  where
+    go : (b : Bool) → length {A = ℕ} (cond b (0 ∷ []) []) ≤ 1
+    go true = omega arith
+    go false = omega arith
 
 -- a bound has one field
 bound_length : (bound : Option ℕ) → length (bound_fields bound) ≤ 1
@@ -245,6 +258,7 @@ within_limits v bound policy s insns h k =
     let all = encoding_length c in
     let head = head_length v policy in
     let more = bound_length bound in
+    let lemmas = no_lemmas_length v es in
     let code = bytes_length insns in
     record {
       low = all_low (profile_of v) (is_some bound) s.invs texts;
@@ -258,6 +272,7 @@ within_limits v bound policy s insns h k =
         all,
         head,
         more,
+        lemmas,
         code,
         k.count,
         h.1.sound.insns,

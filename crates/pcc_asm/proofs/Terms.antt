@@ -19,34 +19,39 @@ use Rattle.pcc_asm.specs.Inside.Views.{inv_views, IsEncodableForm, AreEncoded}
 -- ---- terms
 
 mutual
-  exp_term : (a : Exp) → IsEntryTerm (exp_encoding a)
-  exp_term (EReg r) = tt
-  exp_term ELeft = tt
-  exp_term (EVar n) = tt
-  exp_term (ELit w) = tt
-  exp_term (EOp o a b) = ((tt, tt, exp_term a), tt, exp_term b)
-  exp_term (ESel m a) = ((tt, tt, mem_term m), tt, exp_term a)
+  exp_term : (v : ℕ) (a : Exp) → IsEntryTerm v (exp_encoding a)
+  exp_term v (EReg r) = tt
+  exp_term v ELeft = tt
+  exp_term v (EVar n) = tt
+  exp_term v (ELit w) = tt
+  exp_term v (EOp o a b) = ((tt, tt, exp_term v a), tt, exp_term v b)
+  exp_term v (ESel m a) = ((tt, tt, mem_term v m), tt, exp_term v a)
 
-  mem_term : (m : MemExp) → IsEntryTerm (mem_encoding m)
-  mem_term MMem = tt
-  mem_term (MVar n) = tt
-  mem_term (MUpd m a v) = (((tt, tt, mem_term m), tt, exp_term a), tt, exp_term v)
+  mem_term : (v : ℕ) (m : MemExp) → IsEntryTerm v (mem_encoding m)
+  mem_term v MMem = tt
+  mem_term v (MVar n) = tt
+  mem_term v (MUpd m a w) = (((tt, tt, mem_term v m), tt, exp_term v a), tt, exp_term v w)
 
-form_term : (F : Form) → IsEntryTerm (form_encoding F)
-form_term FTrue = tt
-form_term FFalse = tt
-form_term (FRel p a b) = ((tt, tt, exp_term a), tt, exp_term b)
-form_term (FRd a) = (tt, tt, exp_term a)
-form_term (FWr a) = (tt, tt, exp_term a)
-form_term (FAnd A B) = ((tt, tt, form_term A), tt, form_term B)
-form_term (FOr A B) = ((tt, tt, form_term A), tt, form_term B)
-form_term (FImp A B) = ((tt, tt, form_term A), tt, form_term B)
-form_term (FAll A) = (tt, tt, form_term A)
-form_term (FAllm A) = (tt, tt, form_term A)
+form_term : (v : ℕ) (F : Form) → IsEntryTerm v (form_encoding F)
+form_term v FTrue = tt
+form_term v FFalse = tt
+form_term v (FRel p a b) = ((tt, tt, exp_term v a), tt, exp_term v b)
+form_term v (FRd a) = (tt, tt, exp_term v a)
+form_term v (FWr a) = (tt, tt, exp_term v a)
+form_term v (FAnd A B) = ((tt, tt, form_term v A), tt, form_term v B)
+form_term v (FOr A B) = ((tt, tt, form_term v A), tt, form_term v B)
+form_term v (FImp A B) = ((tt, tt, form_term v A), tt, form_term v B)
+form_term v (FAll A) = (tt, tt, form_term v A)
+form_term v (FAllm A) = (tt, tt, form_term v A)
 
-pub all_terms : (invs : List (ℕ × Form)) → AllTerms (map (λ p. p.1) (inv_encodings invs) ++ [])
-all_terms [] = tt
-all_terms (v ∷ invs) = (form_term (subst_form v.1 (names_in machine_context)), all_terms invs)
+-- in every version, since an encoding cites no lemma
+pub all_terms : (v : ℕ) (invs : List (ℕ × Form))
+    → AllTerms v (map (λ p. p.1) (inv_encodings invs) ++ [])
+all_terms v [] = tt
+all_terms v (inv ∷ invs) = (
+  form_term v (subst_form inv.1 (names_in machine_context)),
+  all_terms v invs,
+)
 
 -- ---- places
 

@@ -64,7 +64,7 @@ abbrev pub head_for : ℕ → PolicyView → Head
 head_for v policy = if v == 1 then Number (policy_number policy) else Digest (digest_of policy)
 
 -- The contents are those of the source for the policy in the version, with the bound: words that
--- encode its instructions, the encodings of its invariants, and no proof.
+-- encode its instructions, the encodings of its invariants, no lemmas and no proof.
 pub record Assembles (v : ℕ) (bound : Option ℕ) (policy : PolicyView) (s : Source)
     (c : Contents) : Type 0 where
   pub insns : List Insn
@@ -74,6 +74,7 @@ pub record Assembles (v : ℕ) (bound : Option ℕ) (policy : PolicyView) (s : S
   pub head_is : c.head ≡ head_for v policy
   pub bound_is : c.bound ≡ bound
   pub invs : c.invs ≡ inv_encodings s.invs
+  pub no_lemmas : c.lemmas ≡ []
   pub no_proof : c.proof ≡ None
 
 -- ---- the tests in their order
@@ -140,6 +141,7 @@ plain_contents v bound policy invs insns = record {
   bound = bound;
   code = code_bytes insns;
   invs = inv_encodings invs;
+  lemmas = [];
   proof = None;
 }
 

@@ -49,6 +49,7 @@ impl Assembled {
             code: &self.code,
             table: &self.table,
             invs: &self.invs,
+            lemmas: &[],
             proof: None,
         }
     }

@@ -84,7 +84,7 @@ fn make(
     })
 }
 
-/// Assembles `source` for `policy` in `version` of containers, 1 to 3: labels become displacements,
+/// Assembles `source` for `policy` in `version` of containers, 1 to 4: labels become displacements,
 /// and each invariant becomes the term that encodes it over m and r0 to r30, in version 3 over the
 /// steps that are left too. The profile is the version's, and `bound` the most steps that the code
 /// is to make.

@@ -9,6 +9,8 @@ use Rattle.pcc_gate.specs.declared.refusal.Refusal.{Refusal}
 use Rattle.pcc_gate.specs.Accepted.{IsAccepted}
 use Rattle.pcc_gate.specs.First.{first_refusal}
 use Rattle.pcc_gate.specs.Laws.{AcceptedFirst}
+use Rattle.pcc_gate.specs.WrittenOut.{IsAcceptedWrittenOut}
+use Rattle.pcc_gate.proofs.WrittenOut.{accepted-written, written-accepted}
 use Rattle.pcc_lines.specs.Fixed.{accepted_line, container_too_long_line}
 use Rattle.pcc_exit.specs.Exits.{Exit, Change}
 use Rattle.pcc_exit.specs.Requests.{no_memory_exit}
@@ -198,15 +200,44 @@ module _ (accepted_first : AcceptedFirst) (under : PolicyView) where
   judged_by-silent None = refl
   judged_by-silent (Some refusal) = refl
 
+  -- what is accepted is so with every lemma written out
+  written : (b : List ℕ) → IsAccepted under b → IsAcceptedWrittenOut under b
+  written b a = record {
+    contents = a.contents;
+    code = a.code;
+    marks = a.marks;
+    accepts = accepted-written under b a.contents a.code a.marks a.accepts;
+  }
+
+  unwritten : (b : List ℕ) → IsAcceptedWrittenOut under b → IsAccepted under b
+  unwritten b w = record {
+    contents = w.contents;
+    code = w.code;
+    marks = w.marks;
+    accepts = written-accepted under b w.contents w.code w.marks w.accepts;
+  }
+
   pub verdict : (b : List ℕ) → IsBytes b → (r : Option Refusal) → first_refusal under b ≡ r
       → IsVerdict under b (end_at (judged_by r))
   verdict b held None is =
       let a : IsAccepted under b = (accepted_first under b held).1 is in
-      record { accepted = (λ e. a, λ a. refl); refused = λ r some. let none : None ≡ Some r = sym is ∙ some in absurd (cc); judged = inl a }
+      record {
+        accepted = (λ e. a, λ a. refl);
+        written_out = (λ e. written b a, λ w. refl);
+        refused = λ r some. let none : None ≡ Some r = sym is ∙ some in absurd (cc);
+        judged = inl a;
+      }
   verdict b held (Some r) is = record {
     accepted = (
       λ e. let wrong : 1 ≡ 0 = ap (λ (x : Exit). x.status) e in absurd (omega arith),
       λ a. let none : Some r ≡ None = sym is ∙ (accepted_first under b held).0 a in absurd (cc),
+    );
+    written_out = (
+      λ e. let wrong : 1 ≡ 0 = ap (λ (x : Exit). x.status) e in absurd (omega arith),
+      λ w.
+          let a : IsAccepted under b = unwritten b w in
+          let none : Some r ≡ None = sym is ∙ (accepted_first under b held).0 a in
+          absurd (cc),
     );
     refused = λ other some. ap (λ (x : Option Refusal). end_at (judged_by x)) (sym is ∙ some);
     judged = inr (r, is);

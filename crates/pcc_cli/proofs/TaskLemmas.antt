@@ -130,10 +130,12 @@ refusal-first (refusal.OtherPolicy head) = refl
 refusal-first (refusal.BadCode flaw) = refl
 refusal-first (refusal.Height h) = refl
 refusal-first (refusal.InvNotForm k) = refl
+refusal-first (refusal.LemmaNotForm k) = refl
 refusal-first (refusal.Uncut i) = refl
 refusal-first (refusal.UnfoldLimit n) = refl
 refusal-first refusal.NoProof = refl
 refusal-first (refusal.ProofWeight n) = refl
+refusal-first (refusal.LemmaNotProof k) = refl
 refusal-first refusal.NotProof = refl
 
 packet_fault-first : (fault : PacketFault) → get_or (packet_fault_line fault) 0 0 ≡ 112

@@ -26,6 +26,7 @@ use Rattle.term_table.specs.Bytes.{IsBytes}
 use Rattle.vcgen.specs.Safety.{IsGoodEnd, IsReturn}
 use Rattle.pcc_gate.specs.declared.refusal.Refusal.{Refusal}
 use Rattle.pcc_gate.specs.Accepted.{IsAccepted}
+use Rattle.pcc_gate.specs.WrittenOut.{IsAcceptedWrittenOut}
 use Rattle.pcc_gate.specs.First.{first_refusal}
 use Rattle.bpf_words.specs.declared.insn.TheConstants.{LOADABLE}
 use Rattle.bpf_words.specs.declared.insn.Bpf.{Bpf}
@@ -70,10 +71,12 @@ use Rattle.pcc_cli.specs.declared.stages.TheConstants.{MAX_FILE, MAX_POLICY_FILE
 
 -- ---- the verdict on what was read
 
--- The bytes are accepted under the policy exactly where this is the exit of what is accepted; else it is the line of the first
--- clause that fails.
+-- The bytes are accepted under the policy exactly where this is the exit of what is accepted, and that
+-- is so exactly where they are with every lemma written out; else it is the line of the first clause
+-- that fails.
 pub record IsVerdict (policy : PolicyView) (bytes : List ℕ) (exit : Exit) : Type 0 where
   pub accepted : (exit ≡ done_exit accepted_line) ↔ IsAccepted policy bytes
+  pub written_out : (exit ≡ done_exit accepted_line) ↔ IsAcceptedWrittenOut policy bytes
   pub refused : (r : Refusal) → first_refusal policy bytes ≡ Some r → exit ≡ refused (refusal_line r)
   pub judged : IsAccepted policy bytes ⊎ ((r : Refusal) × (first_refusal policy bytes ≡ Some r))
 

@@ -1,13 +1,15 @@
--- The eleven clauses hold, or a refusal is the first: the tests find which.
-use Rattle.std.proofs.Common.{◌≡◌, ℕ, ◌⊎◌, inl, inr, ◌↔◌, Bool, true, false, cond, List, [], ◌∷◌, length, Option, Some, None, refl, sym, ◌∙◌, ap, subst, All}
+-- The thirteen clauses hold, or a refusal is the first: the tests find which.
+use Rattle.std.proofs.Common.{◌≡◌, ℕ, ◌≤◌, ◌⊎◌, inl, inr, ◌↔◌, Bool, true, false, cond, List, [], ◌∷◌, length, Option, Some, None, refl, sym, ◌∙◌, ap, subst, All}
 use Rattle.std.proofs.lemmas.Bool.{cases_Bool, cases_lt, cond-true, cond-false, false≢true}
 use Rattle.std.proofs.lemmas.Option.{same_Some, none-some}
 use Rattle.alpha_words.specs.declared.insn.Insn.{Insn}
 use Rattle.policy_set.specs.Views.{PolicyView}
-use Rattle.term_table.specs.Tree.{Tree}
-use Rattle.term_table.specs.Measures.{weight_of, capped}
-use Rattle.lf_signature.specs.Constants.{places_of, declared}
+use Rattle.term_table.specs.Tree.{Tree, Const}
+use Rattle.term_table.specs.Measures.{capped}
+use Rattle.lf_signature.specs.Constants.{declared}
 use Rattle.lf_signature.specs.Terms.{pf}
+use Rattle.lf_lemmas.specs.Lemmas.{formulas_of, with_lemmas}
+use Rattle.lf_lemmas.specs.Checking.{LemmasCheck}
 use Rattle.lf_signature.specs.Typing.{Checks}
 use Rattle.lf_signature.specs.Laws.Decided.{checks_is, checks_follows}
 use Rattle.formula_tree.specs.Formulas.{Form}
@@ -27,9 +29,10 @@ use Rattle.pcc_gate.specs.declared.refusal.Refusal.{Refusal}
 use Rattle.pcc_gate.specs.declared.refusal.Refusal.TheVariants as refusal
 use Rattle.pcc_gate.specs.Passing.{Passes}
 use Rattle.pcc_gate.specs.Accepted.{Accepts, IsAccepted}
-use Rattle.pcc_gate.specs.First.{formula_of, formulas, vc_of, proves, first_front, first_proof, first_after, first_refusal}
-use Rattle.pcc_gate.specs.Refusals.{HasProof, HasLightProof, IsPastWeight, IsNoProof, IsFirstRefusal}
-use Rattle.pcc_gate.proofs.Searches.{past, within}
+use Rattle.pcc_gate.specs.First.{formula_of, formulas, vc_of, proves, lemma_unproved, refused_by, first_front, first_lemmas, first_proof, first_after, first_refusal}
+use Rattle.pcc_gate.specs.Refusals.{HasProof, HasLightProof, HasProvedLemmas, IsFirstUnproved, IsPastWeight, IsNoProof, IsFirstRefusal}
+use Rattle.pcc_gate.specs.Weights.{proof_weight}
+use Rattle.pcc_gate.proofs.Searches.{past, within, not-true, proved_none, first_no_proof, proofs_decided}
 use Rattle.pcc_gate.proofs.FirstFront.{told, after_all, front_finds, front_decided}
 use Rattle.lf_signature.specs.declared.WordSignature.{WordSignature}
 use Rattle.lf_signature.specs.declared.WordSignature.TheVariants.{Sigma1}
@@ -94,37 +97,67 @@ condition-one s policy bound code ps vc h e =
     encoding-unique policy bound code ps vc (vc_of policy bound code ps) e
     (vc_of-encodes s policy bound code ps h)
 
+-- the signature with all lemmas
+abbrev pub extended : WordSignature → List (Tree × Tree) → Const → Option Tree
+extended s lemmas = with_lemmas (declared s) (formulas_of lemmas)
+
 -- whether it proves it, by an answer to words
-pub proves-true : (s : WordSignature) (proof vc : Tree) → Checks (declared s) [] proof (pf vc)
-    → proves s proof vc ≡ true
-proves-true s proof vc h = checks_is (declared s) h
+pub proves-true : (s : WordSignature) (lemmas : List (Tree × Tree)) (proof vc : Tree)
+    → Checks (extended s lemmas) [] proof (pf vc) → proves s lemmas proof vc ≡ true
+proves-true s lemmas proof vc h = checks_is (extended s lemmas) h
 
-pub proves-false : (s : WordSignature) (proof vc : Tree)
-    → (Checks (declared s) [] proof (pf vc) → ⊥)
-    → proves s proof vc ≡ false
-proves-false s proof vc h =
-    not-true (proves s proof vc) (λ e. h (checks_follows (declared s) proof [] (pf vc) e))
-  where
-    not-true : (b : Bool) → (b ≡ true → ⊥) → b ≡ false
-    not-true true n = absurd (n refl)
-    not-true false n = refl
+pub proves-follows : (s : WordSignature) (lemmas : List (Tree × Tree)) (proof vc : Tree)
+    → proves s lemmas proof vc ≡ true → Checks (extended s lemmas) [] proof (pf vc)
+proves-follows s lemmas proof vc e = checks_follows (extended s lemmas) proof [] (pf vc) e
 
-module _ (s : WordSignature) (policy : PolicyView) (bound : Option ℕ) (code : List Insn)
-    (ps : List (ℕ × Tree)) (proof vc : Tree) (h : AreForms s bound ps)
+pub proves-false : (s : WordSignature) (lemmas : List (Tree × Tree)) (proof vc : Tree)
+    → (Checks (extended s lemmas) [] proof (pf vc) → ⊥) → proves s lemmas proof vc ≡ false
+proves-false s lemmas proof vc h =
+    not-true (proves s lemmas proof vc) (λ e. h (proves-follows s lemmas proof vc e))
+
+module _ (s : WordSignature) (lemmas : List (Tree × Tree)) (policy : PolicyView) (bound : Option ℕ)
+    (code : List Insn) (ps : List (ℕ × Tree)) (proof vc : Tree) (h : AreForms s bound ps)
     (e : EncodesCondition policy bound code ps vc) where
-  pub judged-true : Checks (declared s) [] proof (pf vc)
-      → proves s proof (vc_of policy bound code ps) ≡ true
+  pub judged-true : Checks (extended s lemmas) [] proof (pf vc)
+      → proves s lemmas proof (vc_of policy bound code ps) ≡ true
   judged-true k =
-      subst (λ x. proves s proof x ≡ true) (condition-one s policy bound code ps vc h e)
-      (proves-true s proof vc k)
+      subst (λ x. proves s lemmas proof x ≡ true) (condition-one s policy bound code ps vc h e)
+      (proves-true s lemmas proof vc k)
 
-  pub judged-false : (Checks (declared s) [] proof (pf vc) → ⊥)
-      → proves s proof (vc_of policy bound code ps) ≡ false
+  pub judged-false : (Checks (extended s lemmas) [] proof (pf vc) → ⊥)
+      → proves s lemmas proof (vc_of policy bound code ps) ≡ false
   judged-false k =
-      subst (λ x. proves s proof x ≡ false) (condition-one s policy bound code ps vc h e)
-      (proves-false s proof vc k)
+      subst (λ x. proves s lemmas proof x ≡ false) (condition-one s policy bound code ps vc h e)
+      (proves-false s lemmas proof vc k)
 
--- ---- clauses 9 to 11
+-- ---- clauses 10 and 14
+
+module _ (s : WordSignature) (lemmas : List (Tree × Tree)) (weight : ℕ) (next : Option Refusal) where
+  -- what comes of proofs that aren't too heavy
+  abbrev tried : Option Refusal
+  tried = refused_by refusal.LemmaNotProof (lemma_unproved s lemmas) next
+
+  pub past_weight : (n : ℕ) → IsPastWeight weight n
+      → first_lemmas s lemmas weight next ≡ Some (refusal.ProofWeight n)
+  past_weight n p =
+      past MAX_WEIGHT weight (told (refusal.ProofWeight (capped weight))) tried p.heavy
+      ∙ ap (λ k. told (refusal.ProofWeight k)) (sym p.is)
+
+  within_weight : weight ≤ MAX_WEIGHT → first_lemmas s lemmas weight next ≡ tried
+  within_weight h = within MAX_WEIGHT weight (told (refusal.ProofWeight (capped weight))) tried h
+
+  pub lemma_refused : weight ≤ MAX_WEIGHT → (k : ℕ) → IsFirstUnproved s lemmas k
+      → first_lemmas s lemmas weight next ≡ Some (refusal.LemmaNotProof k)
+  lemma_refused h k f =
+      within_weight h
+      ∙ ap (λ o. refused_by refusal.LemmaNotProof o next) (first_no_proof s lemmas k f)
+
+  pub lemmas_pass : weight ≤ MAX_WEIGHT → LemmasCheck (declared s) lemmas
+      → first_lemmas s lemmas weight next ≡ next
+  lemmas_pass h l =
+      within_weight h ∙ ap (λ o. refused_by refusal.LemmaNotProof o next) (proved_none s lemmas l)
+
+-- ---- clauses 9, 10, 14 and 11
 
 module _ (policy : PolicyView) (bytes : List ℕ) (c : Contents) (code : List Insn)
     (flags : List Bool) (proof : Tree) where
@@ -132,37 +165,47 @@ module _ (policy : PolicyView) (bytes : List ℕ) (c : Contents) (code : List In
   sig = signature_of c.version
 
   abbrev weight : ℕ
-  weight = weight_of (places_of sig) proof
+  weight = proof_weight sig c.lemmas proof
 
-  -- what comes of a proof that isn't too heavy
+  abbrev vc : Tree
+  vc = vc_of policy c.bound code c.invs
+
+  -- what comes of a proof where those of lemmas are ones
   abbrev judged : Option Refusal
-  judged = cond (proves sig proof (vc_of policy c.bound code c.invs)) None (told refusal.NotProof)
+  judged = cond (proves sig c.lemmas proof vc) None (told refusal.NotProof)
 
-  -- such a proof is tried
-  light_tried : HasLightProof policy bytes c code flags proof →
-      first_front policy bytes (first_after policy) ≡ judged
-  light_tried h =
-      let vc : Tree = vc_of policy c.bound code c.invs in
-      after_all policy bytes (first_after policy) c code flags h.before.passes
-      ∙ ap (first_proof sig vc) h.before.given
-      ∙ within MAX_WEIGHT weight (told (refusal.ProofWeight (capped weight))) judged h.weight
-
-  heavy_found : (n : ℕ) → HasProof policy bytes c code flags proof → IsPastWeight sig proof n →
-      first_front policy bytes (first_after policy) ≡ Some (refusal.ProofWeight n)
-  heavy_found n h p =
-      let vc : Tree = vc_of policy c.bound code c.invs in
+  -- a proof that there is is weighed
+  proof_weighed : HasProof policy bytes c code flags proof →
+      first_front policy bytes (first_after policy) ≡ first_lemmas sig c.lemmas weight judged
+  proof_weighed h =
       after_all policy bytes (first_after policy) c code flags h.passes
-      ∙ ap (first_proof sig vc) h.given
-      ∙ past MAX_WEIGHT weight (told (refusal.ProofWeight (capped weight))) judged p.heavy
-      ∙ ap (λ k. told (refusal.ProofWeight k)) (sym p.is)
+      ∙ ap (first_proof sig c.lemmas vc) h.given
 
-  unproved_found : HasLightProof policy bytes c code flags proof
-      → IsNoProof sig policy c.bound code c.invs proof →
+  heavy_found : (n : ℕ) → HasProof policy bytes c code flags proof → IsPastWeight weight n →
+      first_front policy bytes (first_after policy) ≡ Some (refusal.ProofWeight n)
+  heavy_found n h p = proof_weighed h ∙ past_weight sig c.lemmas weight judged n p
+
+  lemma_found : (k : ℕ) → HasLightProof policy bytes c code flags proof
+      → IsFirstUnproved sig c.lemmas k →
+      first_front policy bytes (first_after policy) ≡ Some (refusal.LemmaNotProof k)
+  lemma_found k h f =
+      proof_weighed h.before ∙ lemma_refused sig c.lemmas weight judged h.weight k f
+
+  -- a proof that isn't too heavy is tried where those of lemmas are ones
+  proof_tried : HasProvedLemmas policy bytes c code flags proof →
+      first_front policy bytes (first_after policy) ≡ judged
+  proof_tried h =
+      proof_weighed h.before.before
+      ∙ lemmas_pass sig c.lemmas weight judged h.before.weight h.lemmas
+
+  unproved_found : HasProvedLemmas policy bytes c code flags proof
+      → IsNoProof sig c.lemmas policy c.bound code c.invs proof →
       first_front policy bytes (first_after policy) ≡ Some refusal.NotProof
   unproved_found h p =
-      light_tried h
-      ∙ cond-false (proves sig proof (vc_of policy c.bound code c.invs)) None (told refusal.NotProof)
-      (judged-false sig policy c.bound code c.invs proof p.vc h.before.passes.forms p.condition p.unproved)
+      proof_tried h
+      ∙ cond-false (proves sig c.lemmas proof vc) None (told refusal.NotProof)
+      (judged-false sig c.lemmas policy c.bound code c.invs proof p.vc
+      h.before.before.passes.forms p.condition p.unproved)
 
 whole_finds : (policy : PolicyView) (bytes : List ℕ) (r : Refusal) → IsFirstRefusal policy bytes r
     → first_front policy bytes (first_after policy) ≡ Some r
@@ -178,14 +221,19 @@ whole_finds policy bytes (refusal.Height x) h =
     front_finds policy bytes (first_after policy) (refusal.Height x) h tt
 whole_finds policy bytes (refusal.InvNotForm k) h =
     front_finds policy bytes (first_after policy) (refusal.InvNotForm k) h tt
+whole_finds policy bytes (refusal.LemmaNotForm k) h =
+    front_finds policy bytes (first_after policy) (refusal.LemmaNotForm k) h tt
 whole_finds policy bytes (refusal.Uncut i) h =
     front_finds policy bytes (first_after policy) (refusal.Uncut i) h tt
 whole_finds policy bytes (refusal.UnfoldLimit n) h =
     front_finds policy bytes (first_after policy) (refusal.UnfoldLimit n) h tt
 whole_finds policy bytes refusal.NoProof h =
     after_all policy bytes (first_after policy) h.0 h.1 h.2 h.3
-    ∙ ap (first_proof (signature_of h.0.version) (vc_of policy h.0.bound h.1 h.0.invs)) h.4
+    ∙ ap (first_proof (signature_of h.0.version) h.0.lemmas (vc_of policy h.0.bound h.1 h.0.invs))
+    h.4
 whole_finds policy bytes (refusal.ProofWeight n) h = heavy_found policy bytes h.0 h.1 h.2 h.3 n h.4 h.5
+whole_finds policy bytes (refusal.LemmaNotProof k) h =
+    lemma_found policy bytes h.0 h.1 h.2 h.3 k h.4 h.5
 whole_finds policy bytes refusal.NotProof h = unproved_found policy bytes h.0 h.1 h.2 h.3 h.4 h.5
 
 -- ---- they hold, or one is the first that fails
@@ -195,31 +243,31 @@ Outcome policy bytes = IsAccepted policy bytes ⊎ ((r : Refusal) × IsFirstRefu
 
 module _ (policy : PolicyView) (bytes : List ℕ) where
   module _ (c : Contents) (code : List Insn) (flags : List Bool) where
-    from_eleventh : (proof : Tree) → HasLightProof policy bytes c code flags proof
+    from_eleventh : (proof : Tree) → HasProvedLemmas policy bytes c code flags proof
         → Outcome policy bytes
     from_eleventh proof h =
         let s : WordSignature = signature_of c.version in
         let vc : Tree = vc_of policy c.bound code c.invs in
-        let given : HasProof policy bytes c code flags proof = h.before in
+        let light : HasLightProof policy bytes c code flags proof = h.before in
+        let given : HasProof policy bytes c code flags proof = light.before in
         let encodes : EncodesCondition policy c.bound code c.invs vc =
         vc_of-encodes s policy c.bound code c.invs given.passes.forms in
-        elim (cases_Bool (proves s proof vc)) [
+        elim (cases_Bool (proves s c.lemmas proof vc)) [
           | inl right ↦
-              let proved : Checks (declared s) [] proof (pf vc) =
-              checks_follows (declared s) proof [] (pf vc) right in
               let accepts : Accepts policy bytes c code flags = record {
                 passes = given.passes;
                 proof = proof;
                 vc = vc;
                 given = given.given;
-                weight = h.weight;
+                weight = light.weight;
+                lemmas = h.lemmas;
                 condition = encodes;
-                proved = proved;
+                proved = proves-follows s c.lemmas proof vc right;
               } in
               inl (record { contents = c; code = code; marks = flags; accepts = accepts })
           | inr wrong ↦
-              let unproved : Checks (declared s) [] proof (pf vc) → ⊥ =
-              λ k. false≢true (sym wrong ∙ proves-true s proof vc k) in
+              let unproved : Checks (extended s c.lemmas) [] proof (pf vc) → ⊥ =
+              λ k. false≢true (sym wrong ∙ proves-true s c.lemmas proof vc k) in
               inr (
                 refusal.NotProof,
                 (
@@ -233,12 +281,20 @@ module _ (policy : PolicyView) (bytes : List ℕ) where
               )
         ]
 
+    from_fourteenth : (proof : Tree) → HasLightProof policy bytes c code flags proof
+        → Outcome policy bytes
+    from_fourteenth proof h =
+        elim (proofs_decided (signature_of c.version) c.lemmas) [
+          | inl l ↦ from_eleventh proof (record { before = h; lemmas = l })
+          | inr f ↦ inr (refusal.LemmaNotProof f.0, (c, code, flags, proof, h, f.1))
+        ]
+
     from_ninth : Passes policy bytes c code flags → (given : Option Tree) → c.proof ≡ given
         → Outcome policy bytes
     from_ninth p None e = inr (refusal.NoProof, (c, code, flags, p, e))
     from_ninth p (Some proof) e =
         let h : HasProof policy bytes c code flags proof = record { passes = p; given = e } in
-        let w : ℕ = weight_of (places_of (signature_of c.version)) proof in
+        let w : ℕ = proof_weight (signature_of c.version) c.lemmas proof in
         elim (cases_lt MAX_WEIGHT w) [
           | inl heavy ↦ inr (
             refusal.ProofWeight (capped w),
@@ -251,7 +307,7 @@ module _ (policy : PolicyView) (bytes : List ℕ) where
               record { heavy = heavy; is = refl },
             ),
           )
-          | inr light ↦ from_eleventh proof (record { before = h; weight = light })
+          | inr light ↦ from_fourteenth proof (record { before = h; weight = light })
         ]
 
   whole_decided : IsBytes bytes → Outcome policy bytes
@@ -261,7 +317,7 @@ module _ (policy : PolicyView) (bytes : List ℕ) where
         | inr k ↦ inr (k.why, k.first)
       ]
 
--- ---- the eleven clauses
+-- ---- the thirteen clauses
 
 pub accepted-none : (policy : PolicyView) (bytes : List ℕ) → IsAccepted policy bytes
     → first_refusal policy bytes ≡ None
@@ -272,10 +328,13 @@ accepted-none policy bytes h =
     let s : WordSignature = signature_of c.version in
     let given : HasProof policy bytes c h.code h.marks a.proof =
     record { passes = a.passes; given = a.given } in
-    let b : Bool = proves s a.proof (vc_of policy c.bound h.code c.invs) in
+    let proved : HasProvedLemmas policy bytes c h.code h.marks a.proof =
+    record { before = record { before = given; weight = a.weight }; lemmas = a.lemmas } in
+    let b : Bool = proves s c.lemmas a.proof (vc_of policy c.bound h.code c.invs) in
     let right : b ≡ true =
-    judged-true s policy c.bound h.code c.invs a.proof a.vc a.passes.forms a.condition a.proved in
-    light_tried policy bytes c h.code h.marks a.proof (record { before = given; weight = a.weight })
+    judged-true s c.lemmas policy c.bound h.code c.invs a.proof a.vc a.passes.forms a.condition
+    a.proved in
+    proof_tried policy bytes c h.code h.marks a.proof proved
     ∙ cond-true b None (told refusal.NotProof) right
 
 refusal-some : (policy : PolicyView) (bytes : List ℕ) (r : Refusal) → IsFirstRefusal policy bytes r

@@ -1,4 +1,4 @@
--- Clauses 1 to 8 hold, or the refusal by one of them is the first: the tests find which.
+-- Clauses 1 to 8 and 13 hold, or the refusal by one of them is the first: the tests find which.
 use Rattle.std.proofs.Common.{◌≡◌, ℕ, zero, suc, ◌+◌, ◌/◌, ◌<◌, ◌≤◌, ◌⊎◌, inl, inr, ◌↔◌, Bool, List, [], ◌∷◌, map, length, get_or}
 use Rattle.std.proofs.Common.{slice_index, Option, Some, None, Result, Ok, Err, refl, sym, ◌∙◌, ap, subst, arith}
 use Rattle.std.proofs.lemmas.Bool.{cases_Bool, cases_lt, cond-true, cond-false}
@@ -28,14 +28,14 @@ use Rattle.vcgen.specs.declared.condition.TheConstants.{MAX_UNFOLDED}
 use Rattle.pcc_gate.specs.declared.refusal.Refusal.{Refusal}
 use Rattle.pcc_gate.specs.declared.refusal.Refusal.TheVariants as refusal
 use Rattle.pcc_gate.specs.Passing.{Passes}
-use Rattle.pcc_gate.specs.First.{marks_of, formless, refused_by, first_long, first_shape, first_code, first_read, first_front, front_refusal}
-use Rattle.pcc_gate.specs.Refusals.{HasContents, IsForPolicy, HasCode, HasLowRoots, HasForms, HasFlags, HasCut, IsFirstRefusal, IsBeforeProof}
+use Rattle.pcc_gate.specs.First.{marks_of, formless, lemma_formless, refused_by, first_long, first_shape, first_code, first_read, first_front, front_refusal}
+use Rattle.pcc_gate.specs.Refusals.{HasContents, IsForPolicy, HasCode, HasLowRoots, HasForms, HasLemmaForms, HasFlags, HasCut, IsFirstRefusal, IsBeforeProof}
 use Rattle.pcc_gate.specs.Laws.{HasPassed}
 use Rattle.pcc_gate.proofs.CodeBytes.{code_decided, code-one}
-use Rattle.pcc_gate.proofs.Searches.{past, within, low_none, first_high, low_decided, forms_none, first_no_form, forms_decided}
+use Rattle.pcc_gate.proofs.Searches.{past, within, low_none, first_high, low_decided, forms_none, first_no_form, forms_decided, formulas_none, first_no_formula, formulas_decided}
 use Rattle.word_ops.specs.declared.Profile.{Profile}
 
--- ---- clauses 1 to 8 by the clauses up to each
+-- ---- clauses 1 to 8 and 13 by the clauses up to each
 
 module _ (policy : PolicyView) (bytes : List ℕ) (c : Contents) (code : List Insn)
     (flags : List Bool) where
@@ -45,19 +45,23 @@ module _ (policy : PolicyView) (bytes : List ℕ) (c : Contents) (code : List In
       { held = record { size = p.size; container = p.container }; named = p.named } in
       let fourth : HasCode policy bytes c code = record { before = third; encoded = p.encoded; code = p.code } in
       let sixth : HasForms policy bytes c code = record { before = record { before = fourth; heights = p.heights }; forms = p.forms } in
-      record { before = record { before = sixth; annotated = p.annotated }; cut = p.cut }
+      let formulas : HasLemmaForms policy bytes c code =
+      record { before = sixth; lemma_forms = p.lemma_forms } in
+      record { before = record { before = formulas; annotated = p.annotated }; cut = p.cut }
 
   pub cut-passes : HasCut policy bytes c code flags → unfolded_of code flags ≤ MAX_UNFOLDED → Passes policy bytes c code flags
   cut-passes h short =
-      let fourth : HasCode policy bytes c code = h.before.before.before.before in
+      let sixth : HasForms policy bytes c code = h.before.before.before in
+      let fourth : HasCode policy bytes c code = sixth.before.before in
       record {
         size = fourth.before.held.size;
         container = fourth.before.held.container;
         named = fourth.before.named;
         encoded = fourth.encoded;
         code = fourth.code;
-        heights = h.before.before.before.heights;
-        forms = h.before.before.forms;
+        heights = sixth.before.heights;
+        forms = sixth.forms;
+        lemma_forms = h.before.before.lemma_forms;
         annotated = h.before.annotated;
         cut = h.cut;
         unfolded = short;
@@ -93,14 +97,19 @@ annotated_flags p c code s encoded =
 abbrev pub told : Refusal → Option Refusal
 told r = Some r
 
--- what comes after clause 6, and after clause 5
+-- what comes after clause 13, after clause 6, and after clause 5
 abbrev from_cut : List Insn → List Bool → Option Refusal → Option Refusal
 from_cut code flags next = refused_by refusal.Uncut (uncut_of code flags) (first_long code flags next)
+
+abbrev from_formulas : Contents → List Insn → Option Refusal → Option Refusal
+from_formulas c code next =
+    refused_by refusal.LemmaNotForm (lemma_formless (signature_of c.version) c.lemmas)
+    (from_cut code (marks_of c code) next)
 
 abbrev from_forms : Contents → List Insn → Option Refusal → Option Refusal
 from_forms c code next =
     refused_by refusal.InvNotForm (formless (signature_of c.version) c.bound 0 c.invs)
-    (from_cut code (marks_of c code) next)
+    (from_formulas c code next)
 
 module _ (policy : PolicyView) (bytes : List ℕ) (next : Contents → List Insn → Option Refusal) where
   after_size : length bytes ≤ MAX_BYTES → first_front policy bytes next ≡ first_read policy (decoded_container bytes) next
@@ -129,20 +138,28 @@ module _ (policy : PolicyView) (bytes : List ℕ) (next : Contents → List Insn
         let rest : Option Refusal = from_forms c code (next c code) in
         after_code h.before ∙ ap (λ o. refused_by (λ n. refusal.Height (capped n)) o rest) (low_none (roots c) h.heights)
 
-    after_forms : HasForms policy bytes c code → first_front policy bytes next ≡ from_cut code (marks_of c code) (next c code)
+    after_forms : HasForms policy bytes c code →
+        first_front policy bytes next ≡ from_formulas c code (next c code)
     after_forms h =
-        let rest : Option Refusal = from_cut code (marks_of c code) (next c code) in
+        let rest : Option Refusal = from_formulas c code (next c code) in
         after_roots h.before ∙ ap (λ o. refused_by refusal.InvNotForm o rest)
         (forms_none (signature_of c.version) c.bound c.invs 0 h.forms)
+
+    after_formulas : HasLemmaForms policy bytes c code →
+        first_front policy bytes next ≡ from_cut code (marks_of c code) (next c code)
+    after_formulas h =
+        let rest : Option Refusal = from_cut code (marks_of c code) (next c code) in
+        after_forms h.before ∙ ap (λ o. refused_by refusal.LemmaNotForm o rest)
+        (formulas_none (signature_of c.version) c.lemmas h.lemma_forms)
 
     after_flags : (flags : List Bool) → HasFlags policy bytes c code flags → first_front policy bytes next ≡ from_cut code flags (next c code)
     after_flags flags h =
         let same : flags ≡ marks_of c code = flags_only (map (λ p. p.0) c.invs) (length code) flags h.annotated in
-        after_forms h.before ∙ ap (λ m. from_cut code m (next c code)) (sym same)
+        after_formulas h.before ∙ ap (λ m. from_cut code m (next c code)) (sym same)
 
     after_cut : (flags : List Bool) → HasCut policy bytes c code flags → first_front policy bytes next ≡ first_long code flags (next c code)
     after_cut flags h =
-        let cut : uncut_of code flags ≡ None = cut_none code flags h.before.before.before.before.code h.cut in
+        let cut : uncut_of code flags ≡ None = cut_none code flags h.before.before.before.before.before.code h.cut in
         after_flags flags h.before ∙ ap (λ o. refused_by refusal.Uncut o (first_long code flags (next c code))) cut
 
     pub after_all : (flags : List Bool) → Passes policy bytes c code flags → first_front policy bytes next ≡ next c code
@@ -178,11 +195,16 @@ module _ (policy : PolicyView) (bytes : List ℕ) (next : Contents → List Insn
       ∙ ap (λ k. told (refusal.Height k)) (sym h.3.is)
   front_finds (refusal.InvNotForm k) h b =
       let c : Contents = h.0 in
-      let rest : Option Refusal = from_cut h.1 (marks_of c h.1) (next c h.1) in
+      let rest : Option Refusal = from_formulas c h.1 (next c h.1) in
       after_roots c h.1 h.2 ∙ ap (λ o. refused_by refusal.InvNotForm o rest)
       (first_no_form (signature_of c.version) c.bound c.invs k h.3)
+  front_finds (refusal.LemmaNotForm k) h b =
+      let c : Contents = h.0 in
+      let rest : Option Refusal = from_cut h.1 (marks_of c h.1) (next c h.1) in
+      after_forms c h.1 h.2 ∙ ap (λ o. refused_by refusal.LemmaNotForm o rest)
+      (first_no_formula (signature_of c.version) c.lemmas k h.3)
   front_finds (refusal.Uncut i) h b =
-      let found : uncut_of h.1 h.2 ≡ Some i = uncut_is h.1 h.2 i h.3.before.before.before.code h.4 in
+      let found : uncut_of h.1 h.2 ≡ Some i = uncut_is h.1 h.2 i h.3.before.before.before.before.code h.4 in
       after_flags h.0 h.1 h.2 h.3 ∙ ap (λ o. refused_by refusal.Uncut o (first_long h.1 h.2 (next h.0 h.1))) found
   front_finds (refusal.UnfoldLimit n) h b =
       let u : ℕ = unfolded_of h.1 h.2 in
@@ -190,11 +212,12 @@ module _ (policy : PolicyView) (bytes : List ℕ) (next : Contents → List Insn
       ∙ ap (λ k. told (refusal.UnfoldLimit k)) (sym h.4.is)
   front_finds refusal.NoProof h b = absurd b
   front_finds (refusal.ProofWeight n) h b = absurd b
+  front_finds (refusal.LemmaNotProof k) h b = absurd b
   front_finds refusal.NotProof h b = absurd b
 
 -- ---- they hold, or one is the first that fails
 
--- the first clause that fails is one of 1 to 8
+-- the first clause that fails is one of 1 to 8 and 13
 pub record IsRefusedBefore (policy : PolicyView) (bytes : List ℕ) : Type 0 where
   pub why : Refusal
   pub first : IsFirstRefusal policy bytes why
@@ -214,23 +237,36 @@ module _ (policy : PolicyView) (bytes : List ℕ) where
         ]
 
     from_seventh : (flags : List Bool) → HasFlags policy bytes c code flags → (o : Option ℕ) → uncut_of code flags ≡ o → Outcome policy bytes
-    from_seventh flags h None e = from_eighth flags (record { before = h; cut = uncut_none code flags h.before.before.before.code e })
+    from_seventh flags h None e = from_eighth flags (record { before = h; cut = uncut_none code flags h.before.before.before.before.code e })
     from_seventh flags h (Some i) e =
-        inr (record { why = refusal.Uncut i; first = (c, code, flags, h, uncut_some code flags i h.before.before.before.code e); before = tt })
+        inr (record { why = refusal.Uncut i; first = (c, code, flags, h, uncut_some code flags i h.before.before.before.before.code e); before = tt })
 
-    flagged : HasForms policy bytes c code → HasFlags policy bytes c code (marks_of c code)
+    flagged : HasLemmaForms policy bytes c code → HasFlags policy bytes c code (marks_of c code)
     flagged h =
-        let fourth : HasCode policy bytes c code = h.before.before in
+        let fourth : HasCode policy bytes c code = h.before.before.before in
         record {
           before = h;
           annotated = annotated_flags (profile_of c.version) c code
               fourth.before.held.container.contents fourth.encoded;
         }
 
+    from_thirteenth : HasForms policy bytes c code → Outcome policy bytes
+    from_thirteenth h =
+        let marks : List Bool = marks_of c code in
+        elim (formulas_decided (signature_of c.version) c.lemmas) [
+          | inl forms ↦ from_seventh marks (flagged (record { before = h; lemma_forms = forms }))
+              (uncut_of code marks) refl
+          | inr f ↦ inr (record {
+            why = refusal.LemmaNotForm f.0;
+            first = (c, code, h, f.1);
+            before = tt;
+          })
+        ]
+
     from_sixth : HasLowRoots policy bytes c code → Outcome policy bytes
     from_sixth h =
         elim (forms_decided (signature_of c.version) c.bound c.invs) [
-          | inl forms ↦ from_seventh (marks_of c code) (flagged (record { before = h; forms = forms })) (uncut_of code (marks_of c code)) refl
+          | inl forms ↦ from_thirteenth (record { before = h; forms = forms })
           | inr f ↦ inr (record { why = refusal.InvNotForm f.0; first = (c, code, h, f.1); before = tt })
         ]
 
@@ -272,7 +308,7 @@ module _ (policy : PolicyView) (bytes : List ℕ) where
         | inr size ↦ from_second fits size (decoded_container bytes) refl
       ]
 
--- ---- clauses 1 to 8
+-- ---- clauses 1 to 8 and 13
 
 pub passed-none : (policy : PolicyView) (bytes : List ℕ) → HasPassed policy bytes
     → front_refusal policy bytes ≡ None

@@ -1,10 +1,18 @@
 -- What stays as a table grows.
-use Rattle.std.proofs.Common.{◌≡◌, ℕ, zero, suc, ◌≤◌, List, [], ◌∷◌, drop, Option, Some, None, IfSome, Result, Ok, Err, IfOk, replicate, slice_set, refl, sym, ◌∙◌, ap, subst, arith}
+use Rattle.std.proofs.Common.{◌≡◌, ℕ, zero, suc, ◌≤◌, List, [], ◌∷◌, length, drop, Option, Some, None, IfSome, Result, Ok, Err, IfOk, replicate, slice_set, refl, sym, ◌∙◌, ap, subst, arith}
+use Rattle.std.proofs.lemmas.List.{length-map}
 use Rattle.std.specs.List.{AllByRecursion}
 use Rattle.std.specs.Option.{option_map}
 use Rattle.term_table.specs.Tree.{Tree, Fam}
 use Rattle.term_table.specs.Table.{TableView, IsKnown, AllKnown, tree_at, put_last, ctx_of, Extends, id_trees}
 use Rattle.lf_signature.specs.Nodes.{IsIdOf}
+use Rattle.lf_signature.specs.Constants.{declared}
+use Rattle.lf_signature.specs.declared.WordSignature.{WordSignature}
+use Rattle.lf_lemmas.specs.Lemmas.{formulas_of, AreFormulas}
+use Rattle.lf_lemmas.specs.Tables.{lemmas_in, LemmasKnown, HoldsLemmas}
+use Rattle.lf_lemmas.specs.Laws.Lawful.{lemmas_hold}
+use Rattle.proof_container.specs.Versions.{AreLemmasOf}
+use Rattle.proof_container.specs.declared.limits.TheConstants.{MAX_LEMMAS}
 use Rattle.lf_encode.specs.Contexts.{machine_context, left_context, sort_types}
 use Rattle.term_table.specs.Measures.{height_of}
 use Rattle.vcgen.specs.Answers.{AreLowInvs}
@@ -95,3 +103,26 @@ low-more t u (p ∷ ids) h e = (known-id t u p.1 e h.0, subst (λ z. height_of z
 pub low-same : (t u : TableView) (ids : List (ℕ × ℕ)) → AreLowInvs t ids → Extends t u → id_trees t ids ≡ id_trees u ids
 low-same t u [] h e = refl
 low-same t u (p ∷ ids) h e = λ i. (p.0, sym (e.same p.1 h.0) i) ∷ low-same t u ids h.2 e i
+
+-- the lemmas that a table has for a signature, a later one has
+pub lemmas-held : (s : WordSignature) (t u : TableView) (ids : List (ℕ × ℕ)) → LemmasKnown t ids →
+    AreFormulas (declared s) (formulas_of (lemmas_in t ids)) → Extends t u →
+    HoldsLemmas (declared s) u ids
+lemmas-held s t u ids known formulas grown =
+    lemmas_hold (declared s) (declared s) ids t u refl grown
+    (record { known = known; free = λ n. refl; formulas = formulas })
+
+-- a version's lemmas aren't many
+pub few-lemmas : (v : ℕ) (t : TableView) (ids : List (ℕ × ℕ)) → AreLemmasOf v (lemmas_in t ids) →
+    length ids ≤ MAX_LEMMAS
+few-lemmas v t [] h = omega arith
+few-lemmas v t (p ∷ ids) h =
+    let same : length (lemmas_in t ids) ≡ length ids =
+    length-map ids (λ q. (tree_at t q.0, tree_at t q.1)) in
+    omega (arith, same, h.1)
+
+-- what is said of three things is said of the same ones under other names
+pub renamed : {A B C : Type 0} (P : A → B → C → Type 0) {a d : A} {b e : B} {c f : C} → a ≡ d →
+    b ≡ e → c ≡ f → P a b c → P d e f
+renamed P {a = a} {d = d} {b = b} {e = e} {c = c} {f = f} p q r h =
+    subst (λ x. P x e f) p (subst (λ y. P a y f) q (subst (λ z. P a b z) r h))

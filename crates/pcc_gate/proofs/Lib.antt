@@ -1,10 +1,15 @@
 pub mod ForPolicy
+pub mod WrittenOut
 pub mod Safe
 pub mod CodeBytes
 pub mod Searches
 pub mod FirstFront
 pub mod First
+pub mod Lemmas
+mod Ready
+pub mod Digests
 mod Witness
+mod LemmaWitness
 pub mod Kept
 pub mod Refusing
 pub mod Stages

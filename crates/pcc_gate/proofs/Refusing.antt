@@ -1,5 +1,5 @@
 -- A stage's refusal is the first of the stages together, where those before it pass.
-use Rattle.std.proofs.Common.{◌≡◌, ℕ, Bool, true, false, List, [], ◌∷◌, map, length, Option, Some, None, Result, Ok, Err, IsErrAnd, refl, sym, ◌∙◌, ap, subst}
+use Rattle.std.proofs.Common.{◌≡◌, ℕ, List, [], ◌∷◌, map, length, Option, Some, None, Result, Ok, Err, IsErrAnd, refl, sym, ◌∙◌, ap, subst}
 use Rattle.std.specs.Option.{option_map}
 use Rattle.alpha_words.specs.declared.insn.Insn.{Insn}
 use Rattle.alpha_cfg.specs.Deciding.{flags_of, uncut_of}
@@ -12,9 +12,10 @@ use Rattle.pcc_gate.specs.declared.fault.GateFault.{GateFault}
 use Rattle.pcc_gate.specs.declared.fault.GateFault.TheVariants as fault
 use Rattle.pcc_gate.specs.declared.refusal.Refusal.{Refusal}
 use Rattle.pcc_gate.specs.declared.refusal.Refusal.TheVariants as refusal
-use Rattle.pcc_gate.specs.First.{marks_of, too_high, formless, refused_by, first_long, first_shape}
+use Rattle.pcc_gate.specs.First.{marks_of, too_high, formless, lemma_formless, refused_by, first_long, first_shape}
 use Rattle.lf_signature.specs.declared.WordSignature.{WordSignature}
-use Rattle.pcc_gate.specs.Inside.Stages.{Refuses, IsMade, first_uncut, first_no_form}
+pub use Rattle.pcc_gate.proofs.Searches.{not-both}
+use Rattle.pcc_gate.specs.Inside.Stages.{Refuses, IsMade, first_uncut, first_no_form, first_no_formula}
 
 pub refuses-into : {N M : Type 0} (first : N → Option Refusal) (inner : M → Option Refusal) (into : N → M) → ((next : N) → first next ≡ inner (into next)) → (e : GateFault) → Refuses inner e → Refuses first e
 refuses-into first inner into same (fault.Refused r) h = λ next. same next ∙ h (into next)
@@ -39,46 +40,63 @@ module _ (s : WordSignature) (c : Contents) (code : List Insn) where
       → Refuses (first_shape s c code) (fault.Refused (refusal.Height h))
   shape-height h e = λ next. height-some (too_high (roots c)) h _ e
 
-  shape-uncut : too_high (roots c) ≡ None → formless s c.bound 0 c.invs ≡ None → (next : Option Refusal)
-      → first_shape s c code next ≡ first_uncut code (map (λ p. p.0) c.invs)
-      (first_long code (marks_of c code) next)
-  shape-uncut low forms next =
-      let last : Option Refusal = first_uncut code (map (λ p. p.0) c.invs) (first_long code (marks_of c code) next) in
-      λ i. refused_by (λ h. refusal.Height (capped h)) (low i) (refused_by refusal.InvNotForm (forms i) last)
+  -- what comes after clause 13
+  abbrev from_uncut : Option Refusal → Option Refusal
+  from_uncut next = first_uncut code (map (λ p. p.0) c.invs) (first_long code (marks_of c code) next)
 
   shape-form : too_high (roots c) ≡ None → (next : Option Refusal)
-      → first_shape s c code next ≡ first_no_form s c.bound c.invs
-      (first_uncut code (map (λ p. p.0) c.invs) (first_long code (marks_of c code) next))
+      → first_shape s c code next
+      ≡ first_no_form s c.bound c.invs (first_no_formula s c.lemmas (from_uncut next))
   shape-form low next =
-      let last : Option Refusal = first_uncut code (map (λ p. p.0) c.invs) (first_long code (marks_of c code) next) in
-      λ i. refused_by (λ h. refusal.Height (capped h)) (low i)
-      (refused_by refusal.InvNotForm (formless s c.bound 0 c.invs) last)
+      ap (λ o. refused_by (λ h. refusal.Height (capped h)) o
+      (first_no_form s c.bound c.invs (first_no_formula s c.lemmas (from_uncut next)))) low
 
   pub forms-refuse : too_high (roots c) ≡ None → (e : GateFault)
       → Refuses (first_no_form s c.bound c.invs) e → Refuses (first_shape s c code) e
   forms-refuse low e h =
       refuses-into (first_shape s c code) (first_no_form s c.bound c.invs)
-      (λ next. first_uncut code (map (λ p. p.0) c.invs) (first_long code (marks_of c code) next))
-      (shape-form low) e h
+      (λ next. first_no_formula s c.lemmas (from_uncut next)) (shape-form low) e h
 
-  pub uncut-refuses : too_high (roots c) ≡ None → formless s c.bound 0 c.invs ≡ None → (e : GateFault)
-      → Refuses (first_uncut code (map (λ p. p.0) c.invs)) e → Refuses (first_shape s c code) e
-  uncut-refuses low forms e h =
-      refuses-into (first_shape s c code) (first_uncut code (map (λ p. p.0) c.invs))
-      (first_long code (marks_of c code)) (shape-uncut low forms) e h
+  -- clauses 5 and 6 pass
+  module _ (low : too_high (roots c) ≡ None) (forms : formless s c.bound 0 c.invs ≡ None) where
+    shape-formula : (next : Option Refusal)
+        → first_shape s c code next ≡ first_no_formula s c.lemmas (from_uncut next)
+    shape-formula next =
+        shape-form low next
+        ∙ ap (λ o. refused_by refusal.InvNotForm o (first_no_formula s c.lemmas (from_uncut next)))
+        forms
 
-  -- clauses 5 to 7 pass
-  pub shape-long : too_high (roots c) ≡ None → formless s c.bound 0 c.invs ≡ None
-      → uncut_of code (marks_of c code) ≡ None → (next : Option Refusal)
-      → first_shape s c code next ≡ first_long code (marks_of c code) next
-  shape-long low forms uncut next = shape-uncut low forms next ∙ ap (λ o. refused_by refusal.Uncut o (first_long code (marks_of c code) next)) uncut
+    pub formulas-refuse : (e : GateFault) → Refuses (first_no_formula s c.lemmas) e
+        → Refuses (first_shape s c code) e
+    formulas-refuse e h =
+        refuses-into (first_shape s c code) (first_no_formula s c.lemmas) from_uncut shape-formula e
+        h
 
-  pub long-refuses : too_high (roots c) ≡ None → formless s c.bound 0 c.invs ≡ None
-      → uncut_of code (marks_of c code) ≡ None → (e : GateFault)
-      → Refuses (first_long code (marks_of c code)) e → Refuses (first_shape s c code) e
-  long-refuses low forms uncut e h =
-      refuses-into (first_shape s c code) (first_long code (marks_of c code)) (λ next. next)
-      (shape-long low forms uncut) e h
+    -- and 13
+    module _ (formulas : lemma_formless s c.lemmas ≡ None) where
+      shape-uncut : (next : Option Refusal) → first_shape s c code next ≡ from_uncut next
+      shape-uncut next =
+          shape-formula next
+          ∙ ap (λ o. refused_by refusal.LemmaNotForm o (from_uncut next)) formulas
+
+      pub uncut-refuses : (e : GateFault)
+          → Refuses (first_uncut code (map (λ p. p.0) c.invs)) e → Refuses (first_shape s c code) e
+      uncut-refuses e h =
+          refuses-into (first_shape s c code) (first_uncut code (map (λ p. p.0) c.invs))
+          (first_long code (marks_of c code)) shape-uncut e h
+
+      -- and 7
+      pub shape-long : uncut_of code (marks_of c code) ≡ None → (next : Option Refusal)
+          → first_shape s c code next ≡ first_long code (marks_of c code) next
+      shape-long uncut next =
+          shape-uncut next
+          ∙ ap (λ o. refused_by refusal.Uncut o (first_long code (marks_of c code) next)) uncut
+
+      pub long-refuses : uncut_of code (marks_of c code) ≡ None → (e : GateFault)
+          → Refuses (first_long code (marks_of c code)) e → Refuses (first_shape s c code) e
+      long-refuses uncut e h =
+          refuses-into (first_shape s c code) (first_long code (marks_of c code)) (λ next. next)
+          (shape-long uncut) e h
 
 -- the indices of invariants are those of their trees
 pub keys : (t : TableView) (ps : List (ℕ × ℕ)) → map (λ (p : ℕ × Tree). p.0) (id_trees t ps) ≡ map (λ (p : ℕ × ℕ). p.0) ps
@@ -93,6 +111,3 @@ pub made-short : (c : Contents) (code : List Insn) (cut : CutView) (annotated : 
 made-short c code cut annotated same m e h =
     let marks : cut.marks ≡ marks_of c code = m.marks_are ∙ ap (λ l. flags_of l (length code)) same in
     subst (λ k. Refuses (first_long k (marks_of c code)) e) m.code_is (subst (λ f. Refuses (first_long cut.code f) e) marks h)
-
-pub not-both : (b : Bool) → b ≡ false → b ≡ true → ⊥
-not-both b f t = absurd (cc)

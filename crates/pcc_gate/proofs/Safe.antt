@@ -9,6 +9,8 @@ use Rattle.policy_set.specs.Views.{PolicyView, IsPolicy}
 use Rattle.term_table.specs.Tree.{Tree, Const}
 use Rattle.lf_signature.specs.Constants.{declared}
 use Rattle.lf_signature.specs.Terms.{pf}
+use Rattle.lf_lemmas.specs.Lemmas.{proofs_of}
+use Rattle.lf_lemmas.specs.WrittenOut.{inlined, written_out}
 use Rattle.lf_signature.specs.Typing.{Checks}
 use Rattle.lf_signature.specs.Order.{IsSignature}
 use Rattle.lf_signature.specs.Laws.WellFormed.{declared_formed}
@@ -25,6 +27,8 @@ use Rattle.vcgen.proofs.Scopes.{condition-closed}
 use Rattle.vcgen.proofs.Encodings.{encoded-annotates, encoding-unique, policy-safe, policy-returns}
 use Rattle.pcc_gate.specs.Accepted.{Accepts}
 use Rattle.pcc_gate.specs.Safe.{ReturnsInBound}
+use Rattle.pcc_gate.specs.WrittenOut.{AcceptsWrittenOut}
+use Rattle.pcc_gate.proofs.WrittenOut.{accepted-written}
 use Rattle.lf_signature.specs.declared.WordSignature.{WordSignature}
 
 -- the formulas of invariants are over m and r0 to r30, and the steps that are left where they are
@@ -60,17 +64,20 @@ module _ (sound : AreSound) (policy : PolicyView) (bytes : List ℕ) (contents :
   fits : IsBound contents.bound
   fits = bound-fits contents.version contents.bound a.passes.container.contents.bound
 
-  -- the condition of any formulas that the invariants encode is true in every structure
+  -- The condition of any formulas that the invariants encode is true in every structure: the proof
+  -- with every lemma written out proves it.
   pub accepted-valid : (fs : List (ℕ × Form)) → AreEncodings contents.bound contents.invs fs
       → IsValid (condition (annotated policy contents.bound code fs))
   accepted-valid fs enc =
       let p = a.passes in
       let most = contents.bound in
       let f : Form = condition (annotated policy most code fs) in
+      let out : AcceptsWrittenOut policy bytes contents code marks =
+      accepted-written policy bytes contents code marks a in
       let mine : EncodesCondition policy most code contents.invs (form_encoding f) =
       record { formulas = fs; encoded = enc; is = refl } in
-      let same : a.vc ≡ form_encoding f =
-      encoding-unique policy most code contents.invs a.vc (form_encoding f) a.condition mine in
+      let same : out.vc ≡ form_encoding f =
+      encoding-unique policy most code contents.invs out.vc (form_encoding f) out.condition mine in
       let is : IsAnnotated (annotated policy most code fs) =
       encoded-annotates policy most code contents.invs fs marks kept fits enc p.code p.annotated
       p.cut in
@@ -78,7 +85,8 @@ module _ (sound : AreSound) (policy : PolicyView) (bytes : List ℕ) (contents :
       condition-closed (annotated policy most code fs) is
       (formulas-over most contents.invs fs enc) in
       let s : WordSignature = signature_of contents.version in
-      sound s f a.proof over (subst (λ t. Checks (declared s) [] a.proof (pf t)) same a.proved)
+      let proof : Tree = inlined (proofs_of (written_out contents.lemmas)) out.proof in
+      sound s f proof over (subst (λ t. Checks (declared s) [] proof (pf t)) same out.written.last)
 
   pub accepted-safe : IsSafe code policy.pre policy.post
   accepted-safe =

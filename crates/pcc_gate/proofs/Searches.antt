@@ -1,22 +1,40 @@
--- The first root that is too high, and the first invariant that is no formula: the searches find them, and else there is none.
-use Rattle.std.proofs.Common.{◌≡◌, ℕ, suc, ◌+◌, ◌<◌, ◌≤◌, ◌⊎◌, inl, inr, Bool, true, false, cond, ltb, le-ltb, lt-ltb, List, [], ◌∷◌, ◌++◌, length}
-use Rattle.std.proofs.Common.{Option, Some, None, refl, sym, ◌∙◌, ap, arith}
+-- The first root that is too high, the first invariant that is no formula, and the first lemma whose
+-- formula is none or whose proof proves it not: the searches find them, and else there is none.
+use Rattle.std.proofs.Common.{◌≡◌, ℕ, zero, suc, ◌+◌, ◌<◌, ◌≤◌, ◌⊎◌, inl, inr, Bool, true, false, cond, ltb, le-ltb, lt-ltb, List, [], ◌∷◌, ◌++◌, length, take}
+use Rattle.std.proofs.Common.{Option, Some, None, refl, sym, ◌∙◌, ap, subst, arith}
 use Rattle.std.proofs.lemmas.Bool.{cases_Bool, cases_lt, cond-true, cond-false, false≢true}
 use Rattle.std.proofs.lemmas.Option.{none-some}
 use Rattle.std.proofs.lemmas.List.Elements.{All-nil, All-cons, All-head, All-tail}
-use Rattle.term_table.specs.Tree.{Tree}
+use Rattle.term_table.specs.Tree.{Tree, at}
 use Rattle.term_table.specs.Measures.{height_of, capped}
+use Rattle.term_table.proofs.Options.{some_injective}
 use Rattle.lf_signature.specs.Constants.{declared}
-use Rattle.lf_signature.specs.Terms.{form}
+use Rattle.lf_signature.specs.Terms.{form, pf}
 use Rattle.lf_signature.specs.Typing.{Checks}
 use Rattle.lf_signature.specs.Laws.Decided.{checks_is, checks_follows}
+use Rattle.lf_lemmas.specs.Lemmas.{formulas_of, with_lemmas, AreFormulas}
+use Rattle.lf_lemmas.specs.Checking.{LemmasCheck}
+use Rattle.lemma_check.specs.First.{first_failing, passes, proves_before}
+use Rattle.lemma_check.specs.declared.searches.Asked.TheVariants.{Formula}
+use Rattle.lemma_check.proofs.Failing.{none_is, all_formulas, formula_passes}
+use Rattle.lemma_check.proofs.Backwards.{all_before, before_passes}
 use Rattle.lf_encode.specs.Contexts.{sort_types}
 use Rattle.vcgen.specs.declared.condition.TheConstants.{MAX_HEIGHT}
 use Rattle.vcgen.specs.Encoded.{context_of, AreForms}
 use Rattle.pcc_gate.specs.Passing.{AreLow}
-use Rattle.pcc_gate.specs.First.{has_form, too_high, formless}
-use Rattle.pcc_gate.specs.Refusals.{IsFirstHeight, IsFirstNoForm}
+use Rattle.pcc_gate.specs.First.{has_form, too_high, formless, lemma_formless, lemma_unproved}
+use Rattle.pcc_gate.specs.Refusals.{IsFirstHeight, IsFirstNoForm, IsFirstNoFormula, IsFirstUnproved}
 use Rattle.lf_signature.specs.declared.WordSignature.{WordSignature}
+
+-- ---- a test
+
+-- what can't be passed fails
+pub not-true : (b : Bool) → (b ≡ true → ⊥) → b ≡ false
+not-true true h = absurd (h refl)
+not-true false h = refl
+
+pub not-both : (b : Bool) → b ≡ false → b ≡ true → ⊥
+not-both b f t = false≢true (sym f ∙ t)
 
 -- ---- a limit
 
@@ -82,10 +100,9 @@ module _ (s : WordSignature) (bound : Option ℕ) where
 
   -- what isn't derived fails the test
   not_form : (t : Tree) → (IsForm t → ⊥) → has_form s bound t ≡ false
-  not_form t wrong = go (has_form s bound t) refl where
-    go : (b : Bool) → has_form s bound t ≡ b → has_form s bound t ≡ false
-    go true e = absurd (wrong (checks_follows (declared s) t (sort_types (context_of bound)) form e))
-    go false e = e
+  not_form t wrong =
+      not-true (has_form s bound t)
+      (λ e. wrong (checks_follows (declared s) t (sort_types (context_of bound)) form e))
 
   pub forms_none : (ps : List (ℕ × Tree)) (k : ℕ) → AreForms s bound ps → formless s bound k ps ≡ None
   forms_none [] k h = refl
@@ -151,3 +168,224 @@ module _ (s : WordSignature) (bound : Option ℕ) where
         (sym e ∙ ap (formless s bound k) f.1.split
         ∙ no_form_found f.1.front f.1.inv f.1.rest k f.1.forms f.1.no_form))
   ]
+
+-- ---- lemmas
+
+module _ (test : ℕ → Tree × Tree → Bool) where
+  -- a lemma that fails is found where those before it pass
+  failing_found : (front : List (Tree × Tree)) (l : Tree × Tree) (rest : List (Tree × Tree)) (k : ℕ)
+      → first_failing test k front ≡ None → test (k + length front) l ≡ false →
+      first_failing test k (front ++ l ∷ rest) ≡ Some (k + length front)
+  failing_found [] l rest k none wrong =
+      let e : k ≡ k + 0 = omega arith in
+      cond-false (test k l) (first_failing test (suc k) rest) (Some k)
+      (ap (λ n. test n l) e ∙ wrong)
+      ∙ ap Some e
+  failing_found (q ∷ qs) l rest k none wrong =
+      let e : suc k + length qs ≡ k + suc (length qs) = omega arith in
+      go (test k q) none
+      (λ h. failing_found qs l rest (suc k) h (ap (λ n. test n l) e ∙ wrong) ∙ ap Some e)
+    where
+      go : (b : Bool) → cond b (first_failing test (suc k) qs) (Some k) ≡ None →
+          (first_failing test (suc k) qs ≡ None →
+          first_failing test (suc k) (qs ++ l ∷ rest) ≡ Some (k + suc (length qs))) →
+          cond b (first_failing test (suc k) (qs ++ l ∷ rest)) (Some k)
+          ≡ Some (k + suc (length qs))
+      go true h more = more h
+      go false h more = absurd (none-some k (sym h))
+
+  -- the lemma of this number fails, and those before it pass, the first being told k
+  record IsSplit (k : ℕ) (lemmas : List (Tree × Tree)) (n : ℕ) : Type 0 where
+    front : List (Tree × Tree)
+    lemma : Tree × Tree
+    rest : List (Tree × Tree)
+    split : lemmas ≡ front ++ lemma ∷ rest
+    none : first_failing test k front ≡ None
+    fails : test n lemma ≡ false
+    is : n ≡ k + length front
+
+  split_next : (k : ℕ) (l : Tree × Tree) (lemmas : List (Tree × Tree)) (n : ℕ) →
+      test k l ≡ true → IsSplit (suc k) lemmas n → IsSplit k (l ∷ lemmas) n
+  split_next k l lemmas n right f =
+      let far : suc k + length f.front ≡ k + suc (length f.front) = omega arith in
+      record {
+        front = l ∷ f.front;
+        lemma = f.lemma;
+        rest = f.rest;
+        split = ap (λ z. l ∷ z) f.split;
+        none = cond-true (test k l) (first_failing test (suc k) f.front) (Some k) right ∙ f.none;
+        fails = f.fails;
+        is = f.is ∙ far;
+      }
+
+  failing_split : (k : ℕ) (lemmas : List (Tree × Tree)) (n : ℕ) →
+      first_failing test k lemmas ≡ Some n → IsSplit k lemmas n
+  failing_split k [] n e = absurd (none-some n e)
+  failing_split k (l ∷ lemmas) n e =
+      go (test k l) refl e (λ h. failing_split (suc k) lemmas n h)
+    where
+      go : (b : Bool) → test k l ≡ b →
+          cond b (first_failing test (suc k) lemmas) (Some k) ≡ Some n →
+          (first_failing test (suc k) lemmas ≡ Some n → IsSplit (suc k) lemmas n) →
+          IsSplit k (l ∷ lemmas) n
+      go true q h more = split_next k l lemmas n q (more h)
+      go false q h more =
+          let same : k ≡ n = some_injective h in
+          let start : k ≡ k + 0 = omega arith in
+          record {
+            front = [];
+            lemma = l;
+            rest = lemmas;
+            split = refl;
+            none = refl;
+            fails = ap (λ i. test i l) (sym same) ∙ q;
+            is = sym same ∙ start;
+          }
+
+-- the formulas before a lemma of the front, and those before the one behind the front
+formulas_before : (front rest : List (Tree × Tree)) (n : ℕ) (l : Tree × Tree) →
+    at front n ≡ Some l → take n (formulas_of (front ++ rest)) ≡ take n (formulas_of front)
+formulas_before [] rest n l e = absurd (none-some l e)
+formulas_before (p ∷ ps) rest zero l e = refl
+formulas_before (p ∷ ps) rest (suc n) l e = ap (λ z. p.0 ∷ z) (formulas_before ps rest n l e)
+
+formulas_front : (front rest : List (Tree × Tree)) →
+    take (length front) (formulas_of (front ++ rest)) ≡ formulas_of front
+formulas_front [] rest = refl
+formulas_front (p ∷ ps) rest = ap (λ z. p.0 ∷ z) (formulas_front ps rest)
+
+module _ (s : WordSignature) where
+  -- whether the lemma's formula is one
+  abbrev formula_test : ℕ → Tree × Tree → Bool
+  formula_test n l = passes (declared s) Formula l
+
+  pub formulas_none : (lemmas : List (Tree × Tree)) →
+      AreFormulas (declared s) (formulas_of lemmas) → lemma_formless s lemmas ≡ None
+  formulas_none lemmas h = (all_formulas (declared s) lemmas).1 h
+
+  pub none_formulas : (lemmas : List (Tree × Tree)) → lemma_formless s lemmas ≡ None →
+      AreFormulas (declared s) (formulas_of lemmas)
+  none_formulas lemmas e = (all_formulas (declared s) lemmas).0 e
+
+  pub first_no_formula : (lemmas : List (Tree × Tree)) (k : ℕ) → IsFirstNoFormula s lemmas k →
+      lemma_formless s lemmas ≡ Some k
+  first_no_formula lemmas k f =
+      let e : 0 + length f.front ≡ k = omega (arith, f.is) in
+      let wrong : passes (declared s) Formula f.lemma ≡ false =
+      not-true (passes (declared s) Formula f.lemma)
+      (λ q. f.no_form ((formula_passes (declared s) f.lemma).0 q)) in
+      ap (lemma_formless s) f.split
+      ∙ failing_found formula_test f.front f.lemma f.rest 0 (formulas_none f.front f.forms) wrong
+      ∙ ap Some e
+
+  formless_split : (lemmas : List (Tree × Tree)) (k : ℕ) → IsSplit formula_test 0 lemmas k →
+      IsFirstNoFormula s lemmas k
+  formless_split lemmas k f = record {
+    front = f.front;
+    lemma = f.lemma;
+    rest = f.rest;
+    split = f.split;
+    forms = none_formulas f.front f.none;
+    no_form = λ h. not-both (passes (declared s) Formula f.lemma) f.fails
+        ((formula_passes (declared s) f.lemma).1 h);
+    is = let e = f.is in omega (arith, e);
+  }
+
+  pub formulas_decided : (lemmas : List (Tree × Tree)) →
+      AreFormulas (declared s) (formulas_of lemmas) ⊎ ((k : ℕ) × IsFirstNoFormula s lemmas k)
+  formulas_decided lemmas = go (lemma_formless s lemmas) refl where
+    go : (o : Option ℕ) → lemma_formless s lemmas ≡ o →
+        AreFormulas (declared s) (formulas_of lemmas) ⊎ ((k : ℕ) × IsFirstNoFormula s lemmas k)
+    go None e = inl (none_formulas lemmas e)
+    go (Some k) e = inr (k, formless_split lemmas k (failing_split formula_test 0 lemmas k e))
+
+  -- whether the proof of a lemma of these proves its formula with those before it
+  abbrev proof_test : List (Tree × Tree) → ℕ → Tree × Tree → Bool
+  proof_test lemmas = proves_before (declared s) (formulas_of lemmas)
+
+  pub proved_none : (lemmas : List (Tree × Tree)) → LemmasCheck (declared s) lemmas →
+      lemma_unproved s lemmas ≡ None
+  proved_none lemmas h = (all_before (declared s) lemmas).1 h
+
+  pub none_proved : (lemmas : List (Tree × Tree)) → lemma_unproved s lemmas ≡ None →
+      LemmasCheck (declared s) lemmas
+  none_proved lemmas e = (all_before (declared s) lemmas).0 e
+
+  -- a front of lemmas is checked among all as by itself
+  front_none : (front rest : List (Tree × Tree)) → LemmasCheck (declared s) front →
+      first_failing (proof_test (front ++ rest)) 0 front ≡ None
+  front_none front rest h =
+      (none_is (proof_test (front ++ rest)) front).1
+      (λ n l e.
+      (before_passes (declared s) (formulas_of (front ++ rest)) n l).1
+      (subst (λ z. Checks (with_lemmas (declared s) z) [] l.1 (pf l.0))
+      (sym (formulas_before front rest n l e)) (h n l e)))
+
+  front_checks : (front rest : List (Tree × Tree)) →
+      first_failing (proof_test (front ++ rest)) 0 front ≡ None → LemmasCheck (declared s) front
+  front_checks front rest e n l q =
+      subst (λ z. Checks (with_lemmas (declared s) z) [] l.1 (pf l.0))
+      (formulas_before front rest n l q)
+      ((before_passes (declared s) (formulas_of (front ++ rest)) n l).0
+      ((none_is (proof_test (front ++ rest)) front).0 e n l q))
+
+  -- so is the lemma behind it
+  next_checks : (front rest : List (Tree × Tree)) (l : Tree × Tree) →
+      (proof_test (front ++ rest) (length front) l ≡ true) →
+      Checks (with_lemmas (declared s) (formulas_of front)) [] l.1 (pf l.0)
+  next_checks front rest l e =
+      subst (λ z. Checks (with_lemmas (declared s) z) [] l.1 (pf l.0)) (formulas_front front rest)
+      ((before_passes (declared s) (formulas_of (front ++ rest)) (length front) l).0 e)
+
+  next_passes : (front rest : List (Tree × Tree)) (l : Tree × Tree) →
+      Checks (with_lemmas (declared s) (formulas_of front)) [] l.1 (pf l.0) →
+      proof_test (front ++ rest) (length front) l ≡ true
+  next_passes front rest l h =
+      (before_passes (declared s) (formulas_of (front ++ rest)) (length front) l).1
+      (subst (λ z. Checks (with_lemmas (declared s) z) [] l.1 (pf l.0))
+      (sym (formulas_front front rest)) h)
+
+  pub first_no_proof : (lemmas : List (Tree × Tree)) (k : ℕ) → IsFirstUnproved s lemmas k →
+      lemma_unproved s lemmas ≡ Some k
+  first_no_proof lemmas k f =
+      let all : List (Tree × Tree) = f.lemma ∷ f.rest in
+      let z : 0 + length f.front ≡ length f.front = omega arith in
+      let e : 0 + length f.front ≡ k = omega (arith, f.is) in
+      let test : ℕ → Tree × Tree → Bool = proof_test (f.front ++ all) in
+      let wrong : test (length f.front) f.lemma ≡ false =
+      not-true (test (length f.front) f.lemma)
+      (λ q. f.unproved (next_checks f.front all f.lemma q)) in
+      ap (lemma_unproved s) f.split
+      ∙ failing_found test f.front f.lemma f.rest 0 (front_none f.front all f.proved)
+      (ap (λ n. test n f.lemma) z ∙ wrong)
+      ∙ ap Some e
+
+  unproved_split : (lemmas : List (Tree × Tree)) (k : ℕ) →
+      IsSplit (proof_test lemmas) 0 lemmas k → IsFirstUnproved s lemmas k
+  unproved_split lemmas k f =
+      let all : List (Tree × Tree) = f.lemma ∷ f.rest in
+      let far : k ≡ length f.front = let e = f.is in omega (arith, e) in
+      let none : first_failing (proof_test (f.front ++ all)) 0 f.front ≡ None =
+      subst (λ z. first_failing (proof_test z) 0 f.front ≡ None) f.split f.none in
+      let fails : proof_test (f.front ++ all) (length f.front) f.lemma ≡ false =
+      subst (λ n. proof_test (f.front ++ all) n f.lemma ≡ false) far
+      (subst (λ z. proof_test z k f.lemma ≡ false) f.split f.fails) in
+      record {
+        front = f.front;
+        lemma = f.lemma;
+        rest = f.rest;
+        split = f.split;
+        proved = front_checks f.front all none;
+        unproved = λ h. not-both (proof_test (f.front ++ all) (length f.front) f.lemma) fails
+            (next_passes f.front all f.lemma h);
+        is = far;
+      }
+
+  pub proofs_decided : (lemmas : List (Tree × Tree)) →
+      LemmasCheck (declared s) lemmas ⊎ ((k : ℕ) × IsFirstUnproved s lemmas k)
+  proofs_decided lemmas = go (lemma_unproved s lemmas) refl where
+    go : (o : Option ℕ) → lemma_unproved s lemmas ≡ o →
+        LemmasCheck (declared s) lemmas ⊎ ((k : ℕ) × IsFirstUnproved s lemmas k)
+    go None e = inl (none_proved lemmas e)
+    go (Some k) e =
+        inr (k, unproved_split lemmas k (failing_split (proof_test lemmas) 0 lemmas k e))

@@ -1,9 +1,10 @@
 -- What passes the stages passes the clauses.
-use Rattle.std.proofs.Common.{◌≡◌, ◌≤◌, ℕ, ◌++◌, ◌∷◌, Bool, true, List, [], map, length, cond, Option, Some, None, Result, Ok, Err, IfOk, refl, sym, ◌∙◌, ap, subst}
+use Rattle.std.proofs.Common.{◌≡◌, ◌≤◌, ℕ, ◌++◌, ◌∷◌, Bool, true, List, [], map, length, cond, Option, Some, None, option_map, Result, Ok, Err, IfOk, refl, sym, ◌∙◌, ap, subst}
 use Rattle.alpha_words.specs.declared.insn.Insn.{Insn}
 use Rattle.alpha_cfg.specs.CodeDecoding.{decoded_code}
 use Rattle.alpha_cfg.specs.Cuts.{CutView, AreFlags}
 use Rattle.std.proofs.lemmas.List.Elements.{All-head, All-tail}
+use Rattle.std.proofs.lemmas.Option.{none-some}
 use Rattle.std.specs.List.{AllByRecursion}
 use Rattle.term_table.specs.Table.{TableView, IsKnown, Extends, tree_at, id_trees}
 use Rattle.vcgen.specs.Encoded.{AreForms, AreEncodings}
@@ -11,29 +12,39 @@ use Rattle.pcc_gate.proofs.Kept.{known-more, trees-same}
 use Rattle.pcc_gate.proofs.Safe.{AreSound, bound-fits, accepted-safe, accepted-returns, accepted-valid}
 use Rattle.vcgen.specs.Answers.{AreLowInvs}
 use Rattle.term_table.specs.Tree.{Tree}
-use Rattle.term_table.specs.Measures.{height_of, weight_of, capped}
-use Rattle.lf_signature.specs.Constants.{places_of, declared}
+use Rattle.term_table.specs.Measures.{height_of, capped}
+use Rattle.lf_signature.specs.Constants.{declared}
+use Rattle.lf_lemmas.specs.Lemmas.{formulas_of, with_lemmas, AreFormulas}
+use Rattle.lf_lemmas.specs.Tables.{lemmas_in, LemmasKnown}
+use Rattle.lf_lemmas.specs.Laws.Lawful.{lemmas_stay}
 use Rattle.lf_signature.specs.Terms.{pf}
 use Rattle.lf_signature.specs.Laws.Decided.{checks_follows}
 use Rattle.vcgen.specs.declared.condition.TheConstants.{MAX_HEIGHT}
 use Rattle.pcc_gate.specs.declared.limits.TheConstants.{MAX_WEIGHT}
-use Rattle.pcc_gate.specs.Accepted.{Accepts}
-use Rattle.pcc_gate.specs.Inside.Acceptance.{IsProofAnswer, IsProved}
-use Rattle.pcc_gate.proofs.First.{vc_of-encodes}
+use Rattle.pcc_gate.specs.Accepted.{Accepts, IsAccepted}
+use Rattle.pcc_gate.specs.WrittenOut.{IsWrittenOutAnswer}
+use Rattle.pcc_gate.specs.Weights.{lemmas_weight, proof_weight}
+use Rattle.pcc_gate.specs.Inside.Acceptance.{IsProofFound, IsLemmaWeight, AreLemmasProved, IsProofAnswer, IsProved}
+use Rattle.pcc_gate.proofs.First.{vc_of-encodes, accepted-none}
+use Rattle.pcc_gate.proofs.WrittenOut.{accepted-written, written-accepted}
 use Rattle.policy_set.specs.Views.{PolicyView, IsPolicy}
 use Rattle.proof_container.specs.Contents.{Contents, roots}
 use Rattle.proof_container.specs.Views.{contents_of}
+use Rattle.proof_container.specs.declared.container.Container.{Container}
 use Rattle.pcc_gate.specs.declared.fault.GateFault.{GateFault}
 use Rattle.pcc_gate.specs.declared.passing.Passed.{Passed}
 use Rattle.pcc_gate.specs.declared.refusal.Refusal.{Refusal}
 use Rattle.pcc_gate.specs.declared.refusal.Refusal.TheVariants as refusal
-use Rattle.pcc_gate.specs.First.{vc_of, proves, first_proof, first_after, first_code, first_shape, first_front, front_refusal, first_refusal}
+use Rattle.pcc_gate.specs.First.{vc_of, lemma_unproved, proves, refused_by, first_lemmas, first_proof, first_after, first_of_lemmas, first_code, first_shape, first_front, front_refusal, lemma_refusal, first_refusal}
 use Rattle.pcc_gate.specs.declared.fault.GateFault.TheVariants as fault
-use Rattle.pcc_gate.specs.Answers.{IsHeld, IsFrontAnswer, IsGateAnswer}
+use Rattle.hereditary_subst.specs.declared.exhausted.Exhausted.{Exhausted}
+use Rattle.hereditary_subst.specs.declared.exhausted.Exhausted.TheVariants as exhausted
+use Rattle.pcc_gate.specs.Shortages.{gate_shortage_of}
+use Rattle.pcc_gate.specs.Answers.{IsHeld, IsFrontAnswer, HasGoodLemmas, IsLemmaFrontAnswer, IsGateAnswer}
 use Rattle.pcc_gate.specs.Passing.{AreLow, Passes}
 use Rattle.pcc_gate.specs.Inside.Stages.{Refuses, RefusesBytes, IsRead}
 use Rattle.pcc_gate.specs.Inside.Passed.{IsRest, IsRestAnswer, IsPassedAnswer}
-use Rattle.pcc_gate.proofs.Searches.{within, none_low, none_forms}
+use Rattle.pcc_gate.proofs.Searches.{within, none_low, none_forms, none_formulas, none_proved}
 use Rattle.pcc_gate.proofs.FirstFront.{front-none, after_policy, after_all}
 use Rattle.pcc_gate.proofs.Refusing.{refuses-into}
 use Rattle.lf_signature.specs.declared.WordSignature.{WordSignature}
@@ -60,6 +71,7 @@ module _ (policy : PolicyView) (bytes : List ℕ) where
     code = k.is;
     heights = none_low (roots c) k.shaped.low;
     forms = none_forms (signature_of c.version) c.bound c.invs 0 k.shaped.forms;
+    lemma_forms = none_formulas (signature_of c.version) c.lemmas k.shaped.lemma_forms;
     annotated = k.shaped.made.flags;
     cut = k.shaped.made.cuts;
     unfolded = k.shaped.short;
@@ -81,6 +93,12 @@ code-refuses c code h e k =
     (first_shape (signature_of c.version) c code) (λ next. next code)
     (λ next. ap (λ r. first_code c r next) h) e k
 
+-- what ran out says nothing
+pub shortage-refuses : {N : Type 0} (first : N → Option Refusal) (what : Exhausted) →
+    Refuses first (gate_shortage_of what)
+shortage-refuses first exhausted.Memory = tt
+shortage-refuses first exhausted.Results = tt
+
 -- the container that passed
 pub front-held : (policy : PolicyView) (bytes : List ℕ) (a : Result Passed GateFault)
     → IsPassedAnswer policy bytes a → IfOk a (λ p. IsHeld p.container)
@@ -98,14 +116,14 @@ front-answer policy bytes (Err fault.Results) k = k
 
 module _ (policy : PolicyView) (bytes : List ℕ) (c : Contents) (code : List Insn)
     (marks : List Bool) (p : Passes policy bytes c code marks) where
-  -- what passes clauses 1 to 8 goes on
+  -- what passes the clauses before the proof goes on
   front-next : (next : Contents → List Insn → Option Refusal) → first_front policy bytes next ≡ next c code
   front-next next = after_all policy bytes next c code marks p
 
   abbrev sig : WordSignature
   sig = signature_of c.version
 
-  pub gate-refused : (e : GateFault) → Refuses (λ vc. first_proof sig vc c.proof) e
+  pub gate-refused : (e : GateFault) → Refuses (λ vc. first_proof sig c.lemmas vc c.proof) e
       → IsGateAnswer policy bytes (Err e)
   unfolding first_refusal
   gate-refused (fault.Refused r) h = front-next (first_after policy) ∙ h (vc_of policy c.bound code c.invs)
@@ -113,43 +131,210 @@ module _ (policy : PolicyView) (bytes : List ℕ) (c : Contents) (code : List In
   gate-refused fault.Results h = p.size
 
   module _ (proof : Tree) (given : c.proof ≡ Some proof)
-      (weight : weight_of (places_of sig) proof ≤ MAX_WEIGHT) where
+      (weight : proof_weight sig c.lemmas proof ≤ MAX_WEIGHT) where
     abbrev judged : Tree → Option Refusal
-    judged vc = cond (proves sig proof vc) None (Some refusal.NotProof)
+    judged vc = cond (proves sig c.lemmas proof vc) None (Some refusal.NotProof)
 
-    light : (vc : Tree) → first_proof sig vc c.proof ≡ judged vc
+    -- what comes behind clause 10
+    abbrev behind : Tree → Option Refusal
+    behind vc = refused_by refusal.LemmaNotProof (lemma_unproved sig c.lemmas) (judged vc)
+
+    light : (vc : Tree) → first_proof sig c.lemmas vc c.proof ≡ behind vc
     light vc =
-        let w : ℕ = weight_of (places_of sig) proof in
-        ap (first_proof sig vc) given
-        ∙ within MAX_WEIGHT w (Some (refusal.ProofWeight (capped w))) (judged vc) weight
+        let w : ℕ = proof_weight sig c.lemmas proof in
+        ap (first_proof sig c.lemmas vc) given
+        ∙ within MAX_WEIGHT w (Some (refusal.ProofWeight (capped w))) (behind vc) weight
 
-    pub gate-judged : (e : GateFault) → IsProofAnswer sig policy c.bound code c.invs proof (Err e)
-        → IsGateAnswer policy bytes (Err e)
+    pub gate-unproved : (e : GateFault) →
+        Refuses (refused_by refusal.LemmaNotProof (lemma_unproved sig c.lemmas)) e →
+        IsGateAnswer policy bytes (Err e)
     unfolding first_refusal
-    gate-judged (fault.Refused r) h =
-        front-next (first_after policy) ∙ light (vc_of policy c.bound code c.invs)
-        ∙ ap (λ b. cond b None (Some refusal.NotProof)) h.0 ∙ ap Some (sym h.1)
-    gate-judged fault.Memory h = p.size
-    gate-judged fault.Results h = p.size
+    gate-unproved (fault.Refused r) h =
+        let vc : Tree = vc_of policy c.bound code c.invs in
+        front-next (first_after policy) ∙ light vc ∙ h (judged vc)
+    gate-unproved fault.Memory h = p.size
+    gate-unproved fault.Results h = p.size
 
-    pub gate-none : proves sig proof (vc_of policy c.bound code c.invs) ≡ true
-        → first_refusal policy bytes ≡ None
-    unfolding first_refusal
-    gate-none h =
-        front-next (first_after policy) ∙ light (vc_of policy c.bound code c.invs)
-        ∙ ap (λ b. cond b None (Some refusal.NotProof)) h
+    module _ (lemmas : lemma_unproved sig c.lemmas ≡ None) where
+      -- what comes behind clause 14
+      last : (vc : Tree) → first_proof sig c.lemmas vc c.proof ≡ judged vc
+      last vc = light vc ∙ ap (λ o. refused_by refusal.LemmaNotProof o (judged vc)) lemmas
 
-    pub gate-accepts : proves sig proof (vc_of policy c.bound code c.invs) ≡ true
-        → Accepts policy bytes c code marks
-    gate-accepts h = record {
-      passes = p;
-      proof = proof;
-      vc = vc_of policy c.bound code c.invs;
-      given = given;
-      weight = weight;
-      condition = vc_of-encodes sig policy c.bound code c.invs p.forms;
-      proved = checks_follows (declared sig) proof [] (pf (vc_of policy c.bound code c.invs)) h;
-    }
+      pub gate-judged : (e : GateFault) →
+          IsProofAnswer sig c.lemmas policy c.bound code c.invs proof (Err e) →
+          IsGateAnswer policy bytes (Err e)
+      unfolding first_refusal
+      gate-judged (fault.Refused r) h =
+          front-next (first_after policy) ∙ last (vc_of policy c.bound code c.invs)
+          ∙ ap (λ b. cond b None (Some refusal.NotProof)) h.0 ∙ ap Some (sym h.1)
+      gate-judged fault.Memory h = p.size
+      gate-judged fault.Results h = p.size
+
+      pub gate-none : proves sig c.lemmas proof (vc_of policy c.bound code c.invs) ≡ true →
+          first_refusal policy bytes ≡ None
+      unfolding first_refusal
+      gate-none h =
+          front-next (first_after policy) ∙ last (vc_of policy c.bound code c.invs)
+          ∙ ap (λ b. cond b None (Some refusal.NotProof)) h
+
+      pub gate-accepts : proves sig c.lemmas proof (vc_of policy c.bound code c.invs) ≡ true →
+          Accepts policy bytes c code marks
+      gate-accepts h =
+          let vc : Tree = vc_of policy c.bound code c.invs in
+          record {
+            passes = p;
+            proof = proof;
+            vc = vc;
+            given = given;
+            weight = weight;
+            lemmas = none_proved sig c.lemmas lemmas;
+            condition = vc_of-encodes sig policy c.bound code c.invs p.forms;
+            proved =
+                checks_follows (with_lemmas (declared sig) (formulas_of c.lemmas)) proof [] (pf vc) h;
+          }
+
+  -- the lemmas alone
+  pub lemmas-refused : (e : GateFault) →
+      Refuses (first_lemmas sig c.lemmas (lemmas_weight sig c.lemmas)) e →
+      IsLemmaFrontAnswer policy bytes (Err e)
+  unfolding lemma_refusal
+  lemmas-refused (fault.Refused r) h = front-next first_of_lemmas ∙ h None
+  lemmas-refused fault.Memory h = p.size
+  lemmas-refused fault.Results h = p.size
+
+  module _ (weight : lemmas_weight sig c.lemmas ≤ MAX_WEIGHT) where
+    lemmas-light : (next : Option Refusal) →
+        first_lemmas sig c.lemmas (lemmas_weight sig c.lemmas) next
+        ≡ refused_by refusal.LemmaNotProof (lemma_unproved sig c.lemmas) next
+    lemmas-light next =
+        let w : ℕ = lemmas_weight sig c.lemmas in
+        within MAX_WEIGHT w (Some (refusal.ProofWeight (capped w)))
+        (refused_by refusal.LemmaNotProof (lemma_unproved sig c.lemmas) next) weight
+
+    pub lemmas-unproved : (e : GateFault) →
+        Refuses (refused_by refusal.LemmaNotProof (lemma_unproved sig c.lemmas)) e →
+        IsLemmaFrontAnswer policy bytes (Err e)
+    unfolding lemma_refusal
+    lemmas-unproved (fault.Refused r) h = front-next first_of_lemmas ∙ lemmas-light None ∙ h None
+    lemmas-unproved fault.Memory h = p.size
+    lemmas-unproved fault.Results h = p.size
+
+    pub lemmas-good : lemma_unproved sig c.lemmas ≡ None →
+        Passes policy bytes c code marks × HasGoodLemmas c × (lemma_refusal policy bytes ≡ None)
+    unfolding lemma_refusal
+    lemmas-good h = (
+      p,
+      record { weight = weight; proved = none_proved sig c.lemmas h },
+      front-next first_of_lemmas ∙ lemmas-light None
+          ∙ ap (λ o. refused_by refusal.LemmaNotProof o None) h,
+    )
+
+-- ---- a container, its signature and its lemmas under names of their own
+
+module _ (k : Container) (s : WordSignature) (is : s ≡ signature_of k.version) (ls : List (ℕ × ℕ))
+    (are : ls ≡ k.lemmas.items) where
+  named : (P : WordSignature → List (ℕ × ℕ) → Type 0) → P s ls →
+      P (signature_of k.version) k.lemmas.items
+  named P h = subst (λ z. P z k.lemmas.items) is (subst (λ l. P s l) are h)
+
+  module _ (policy : PolicyView) (bytes : List ℕ) (code : List Insn) (marks : List Bool)
+      (p : Passes policy bytes (contents_of k) code marks) where
+    -- its formulas are ones over the signature
+    pub judge-formulas : AreFormulas (declared s) (formulas_of (lemmas_in k.table ls))
+    judge-formulas =
+        subst (λ z. AreFormulas (declared z) (formulas_of (lemmas_in k.table ls))) (sym is)
+        (subst
+        (λ l. AreFormulas (declared (signature_of k.version)) (formulas_of (lemmas_in k.table l)))
+        (sym are) p.lemma_forms)
+
+    pub judge-unfound : (e : GateFault) → IsProofFound s k.table ls k.proof (Err e) →
+        IsGateAnswer policy bytes (Err e)
+    judge-unfound e h =
+        gate-refused policy bytes (contents_of k) code marks p e
+        (named (λ z l. IsProofFound z k.table l k.proof (Err e)) h)
+
+    -- the lemmas alone
+    pub alone-heavy : (e : GateFault) → IsLemmaWeight s (lemmas_in k.table ls) (Err e) →
+        IsLemmaFrontAnswer policy bytes (Err e)
+    alone-heavy e h =
+        lemmas-refused policy bytes (contents_of k) code marks p e
+        (named (λ z l. IsLemmaWeight z (lemmas_in k.table l) (Err e)) h)
+
+    module _ (light : lemmas_weight s (lemmas_in k.table ls) ≤ MAX_WEIGHT) where
+      alone : lemmas_weight (signature_of k.version) (lemmas_in k.table k.lemmas.items) ≤ MAX_WEIGHT
+      alone = named (λ z l. lemmas_weight z (lemmas_in k.table l) ≤ MAX_WEIGHT) light
+
+      pub alone-unproved : (e : GateFault) → AreLemmasProved s (lemmas_in k.table ls) (Err e) →
+          IsLemmaFrontAnswer policy bytes (Err e)
+      alone-unproved e h =
+          lemmas-unproved policy bytes (contents_of k) code marks p alone e
+          (named (λ z l. AreLemmasProved z (lemmas_in k.table l) (Err e)) h)
+
+      pub alone-good : lemma_unproved s (lemmas_in k.table ls) ≡ None →
+          Passes policy bytes (contents_of k) code marks × HasGoodLemmas (contents_of k)
+          × (lemma_refusal policy bytes ≡ None)
+      alone-good h =
+          lemmas-good policy bytes (contents_of k) code marks p alone
+          (named (λ z l. lemma_unproved z (lemmas_in k.table l) ≡ None) h)
+
+    module _ (id : ℕ) (found : IsProofFound s k.table ls k.proof (Ok id)) where
+      abbrev tree : Tree
+      tree = tree_at k.table id
+
+      given : (contents_of k).proof ≡ Some tree
+      given = ap (option_map (tree_at k.table)) found.0
+
+      low : proof_weight (signature_of k.version) (lemmas_in k.table k.lemmas.items) tree
+          ≤ MAX_WEIGHT
+      low = named (λ z l. proof_weight z (lemmas_in k.table l) tree ≤ MAX_WEIGHT) found.2
+
+      pub judge-unproved : (e : GateFault) → AreLemmasProved s (lemmas_in k.table ls) (Err e) →
+          IsGateAnswer policy bytes (Err e)
+      judge-unproved e h =
+          gate-unproved policy bytes (contents_of k) code marks p tree given low e
+          (named (λ z l. AreLemmasProved z (lemmas_in k.table l) (Err e)) h)
+
+      module _ (lemmas : lemma_unproved s (lemmas_in k.table ls) ≡ None) where
+        none : lemma_unproved (signature_of k.version) (lemmas_in k.table k.lemmas.items) ≡ None
+        none = named (λ z l. lemma_unproved z (lemmas_in k.table l) ≡ None) lemmas
+
+        abbrev vc : Tree
+        vc = vc_of policy k.bound code (id_trees k.table k.invs.items)
+
+        pub judge-refused : (e : GateFault) →
+            IsProofAnswer s (lemmas_in k.table ls) policy k.bound code
+            (id_trees k.table k.invs.items) tree (Err e) → IsGateAnswer policy bytes (Err e)
+        judge-refused e h =
+            gate-judged policy bytes (contents_of k) code marks p tree given low none e
+            (named
+            (λ z l. IsProofAnswer z (lemmas_in k.table l) policy k.bound code
+            (id_trees k.table k.invs.items) tree (Err e))
+            h)
+
+        pub judge-none : proves s (lemmas_in k.table ls) tree vc ≡ true →
+            first_refusal policy bytes ≡ None
+        judge-none h =
+            gate-none policy bytes (contents_of k) code marks p tree given low none
+            (named (λ z l. proves z (lemmas_in k.table l) tree vc ≡ true) h)
+
+        pub judge-accepts : proves s (lemmas_in k.table ls) tree vc ≡ true →
+            Accepts policy bytes (contents_of k) code marks
+        judge-accepts h =
+            gate-accepts policy bytes (contents_of k) code marks p tree given low none
+            (named (λ z l. proves z (lemmas_in k.table l) tree vc ≡ true) h)
+
+-- what is said of the trees of a later table is said of the earlier one's
+pub answer-earlier : (s : WordSignature) (policy : PolicyView) (bound : Option ℕ) (code : List Insn)
+    (t u : TableView) (ls ps : List (ℕ × ℕ)) (id : ℕ) (r : Result Unit GateFault) → Extends t u →
+    LemmasKnown t ls → AllByRecursion (λ (inv : ℕ × ℕ). IsKnown t inv.1) ps → IsKnown t id →
+    IsProofAnswer s (lemmas_in u ls) policy bound code (id_trees u ps) (tree_at u id) r →
+    IsProofAnswer s (lemmas_in t ls) policy bound code (id_trees t ps) (tree_at t id) r
+answer-earlier s policy bound code t u ls ps id r x known invs one h =
+    let said : List (Tree × Tree) → List (ℕ × Tree) → Tree → Type 0 =
+    λ l i p. IsProofAnswer s l policy bound code i p r in
+    subst (λ l. said l (id_trees t ps) (tree_at t id)) (lemmas_stay ls t u known x)
+    (subst (λ i. said (lemmas_in u ls) i (tree_at t id)) (sym (trees-same t u ps x invs))
+    (subst (λ p. said (lemmas_in u ls) (id_trees u ps) p) (x.same id one) h))
 
 -- what is refused by clauses 1 to 8 is refused by the gate
 pub front-refused : (policy : PolicyView) (bytes : List ℕ) (e : GateFault)
@@ -158,6 +343,14 @@ unfolding first_refusal
 front-refused policy bytes (fault.Refused r) h = h (first_after policy)
 front-refused policy bytes fault.Memory h = h
 front-refused policy bytes fault.Results h = h
+
+-- and also where the lemmas alone are asked of besides
+pub lemma-front-refused : (policy : PolicyView) (bytes : List ℕ) (e : GateFault) →
+    RefusesBytes policy bytes e → IsLemmaFrontAnswer policy bytes (Err e)
+unfolding lemma_refusal
+lemma-front-refused policy bytes (fault.Refused r) h = h first_of_lemmas
+lemma-front-refused policy bytes fault.Memory h = h
+lemma-front-refused policy bytes fault.Results h = h
 
 -- the invariants' terms are low
 pub low-invs : (t : TableView) (ps : List (ℕ × ℕ)) (more : List Tree) → AllByRecursion (λ (inv : ℕ × ℕ). IsKnown t inv.1) ps → AreLow (map (λ p. p.1) (id_trees t ps) ++ more) → AreLowInvs t ps
@@ -197,3 +390,23 @@ gate-returns sound policy kept bytes (Err e) h = tt
 gate-returns sound policy kept bytes (Ok a) h =
     subst (λ b. ReturnsInBound policy b a.code) (sym h.bound_is)
     (accepted-returns sound policy bytes h.contents a.code a.marks kept h.accepts)
+
+-- what the gate accepts is accepted with every lemma written out, and what it refuses isn't
+pub gate-written : (policy : PolicyView) (bytes : List ℕ) (r : Result AcceptedView GateFault) →
+    IsGateAnswer policy bytes r → IsWrittenOutAnswer policy bytes r
+gate-written policy bytes (Ok a) h = record {
+  contents = h.contents;
+  code = a.code;
+  marks = a.marks;
+  accepts = accepted-written policy bytes h.contents a.code a.marks h.accepts;
+}
+gate-written policy bytes (Err (fault.Refused r)) h = λ w.
+    let a : IsAccepted policy bytes = record {
+      contents = w.contents;
+      code = w.code;
+      marks = w.marks;
+      accepts = written-accepted policy bytes w.contents w.code w.marks w.accepts;
+    } in
+    none-some r (sym (accepted-none policy bytes a) ∙ h)
+gate-written policy bytes (Err fault.Memory) h = tt
+gate-written policy bytes (Err fault.Results) h = tt

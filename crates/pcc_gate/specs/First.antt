@@ -1,5 +1,5 @@
--- The first of the eleven clauses that fails, with the values that its line has. The tests stand in their order; `laws` joins
--- them to the clauses, and each refusal to what it means.
+-- The first clause that fails, with the values that its line has. The tests stand in their order;
+-- `laws` joins them to the clauses, and each refusal to what it means.
 use Rattle.std.specs.Prelude.{ℕ, suc, Bool, List, [], ◌∷◌, map, length, nat_lt, if◌then◌else◌, Option, Some, None, Result, Ok, Err}
 use Rattle.alpha_words.specs.declared.insn.Insn.{Insn}
 use Rattle.alpha_cfg.specs.CodeDecoding.{decoded_code}
@@ -9,10 +9,13 @@ use Rattle.alpha_cfg.specs.declared.fault.CodeFlaw.{CodeFlaw}
 use Rattle.formula_tree.specs.Formulas.{Form}
 use Rattle.policy_set.specs.Views.{PolicyView}
 use Rattle.term_table.specs.Tree.{Tree}
-use Rattle.term_table.specs.Measures.{height_of, weight_of, capped}
-use Rattle.lf_signature.specs.Constants.{places_of, declared}
+use Rattle.term_table.specs.Measures.{height_of, capped}
+use Rattle.lf_signature.specs.Constants.{declared}
 use Rattle.lf_signature.specs.Terms.{form, pf}
 use Rattle.lf_signature.specs.Decide.{checks_of}
+use Rattle.lf_lemmas.specs.Lemmas.{formulas_of, with_lemmas}
+use Rattle.lemma_check.specs.First.{first_failing, passes, proves_before}
+use Rattle.lemma_check.specs.declared.searches.Asked.TheVariants.{Formula}
 use Rattle.lf_encode.specs.Encoding.{form_encoding}
 use Rattle.lf_encode.specs.Contexts.{sort_types}
 use Rattle.lf_encode.specs.Naming.{unnamed_form}
@@ -29,6 +32,7 @@ use Rattle.pcc_gate.specs.declared.refusal.Refusal.TheVariants as refusal
 use Rattle.lf_signature.specs.declared.WordSignature.{WordSignature}
 use Rattle.proof_container.specs.Versions.{profile_of, signature_of}
 use Rattle.pcc_gate.specs.ForPolicy.{is_for}
+use Rattle.pcc_gate.specs.Weights.{lemmas_weight, proof_weight}
 
 -- ---- the questions
 
@@ -49,9 +53,10 @@ abbrev pub vc_of : PolicyView → Option ℕ → List Insn → List (ℕ × Tree
 vc_of policy bound code invs =
     form_encoding (condition (annotated policy bound code (formulas invs)))
 
--- whether a term is a proof of it over the signature
-abbrev pub proves : WordSignature → Tree → Tree → Bool
-proves s proof vc = checks_of (declared s) proof [] (pf vc)
+-- whether a term is a proof of it over the signature with all lemmas
+abbrev pub proves : WordSignature → List (Tree × Tree) → Tree → Tree → Bool
+proves s lemmas proof vc =
+    checks_of (with_lemmas (declared s) (formulas_of lemmas)) proof [] (pf vc)
 
 -- the flags of the annotated indices
 abbrev pub marks_of : Contents → List Insn → List Bool
@@ -67,6 +72,15 @@ abbrev pub formless : WordSignature → Option ℕ → ℕ → List (ℕ × Tree
 formless s bound k [] = None
 formless s bound k (p ∷ ps) = if has_form s bound p.1 then formless s bound (suc k) ps else Some k
 
+-- the first lemma whose formula is none, in the empty context over the signature
+abbrev pub lemma_formless : WordSignature → List (Tree × Tree) → Option ℕ
+lemma_formless s lemmas = first_failing (λ n. passes (declared s) Formula) 0 lemmas
+
+-- the first lemma whose proof doesn't prove its formula with the lemmas before it
+abbrev pub lemma_unproved : WordSignature → List (Tree × Tree) → Option ℕ
+lemma_unproved s lemmas =
+    first_failing (proves_before (declared s) (formulas_of lemmas)) 0 lemmas
+
 -- ---- the clauses
 
 -- the refusal of a value that was found, else what comes after
@@ -78,13 +92,14 @@ refused_by refused None next = next
 abbrev pub first_long : List Insn → List Bool → Option Refusal → Option Refusal
 first_long code marks next = if nat_lt MAX_UNFOLDED (unfolded_of code marks) then Some (refusal.UnfoldLimit (capped (unfolded_of code marks))) else next
 
--- clauses 5 to 8 over the signature, and what comes after
+-- clauses 5, 6, 13, 7 and 8 over the signature, and what comes after
 abbrev pub first_shape : WordSignature → Contents → List Insn → Option Refusal → Option Refusal
 first_shape s c code next =
     refused_by (λ h. refusal.Height (capped h)) (too_high (roots c))
     (refused_by refusal.InvNotForm (formless s c.bound 0 c.invs)
+    (refused_by refusal.LemmaNotForm (lemma_formless s c.lemmas)
     (refused_by refusal.Uncut (uncut_of code (marks_of c code))
-    (first_long code (marks_of c code) next)))
+    (first_long code (marks_of c code) next))))
 
 -- clauses 4 to 8, and what comes after, by the code
 abbrev pub first_code : Contents → Result (List Insn) CodeFlaw → (List Insn → Option Refusal) → Option Refusal
@@ -108,24 +123,38 @@ first_front policy bytes next =
     then Some (refusal.TooLong (length bytes))
     else first_read policy (decoded_container bytes) next
 
--- clauses 9 to 11 over the signature
-abbrev pub first_proof : WordSignature → Tree → Option Tree → Option Refusal
-first_proof s vc None = Some refusal.NoProof
-first_proof s vc (Some proof) =
-    if nat_lt MAX_WEIGHT (weight_of (places_of s) proof)
-    then Some (refusal.ProofWeight (capped (weight_of (places_of s) proof))) else
-    if proves s proof vc then None else
-    Some refusal.NotProof
+-- clause 10 of what proofs weigh together, clause 14 over the signature, and what comes after
+abbrev pub first_lemmas : WordSignature → List (Tree × Tree) → ℕ → Option Refusal → Option Refusal
+first_lemmas s lemmas weight next =
+    if nat_lt MAX_WEIGHT weight
+    then Some (refusal.ProofWeight (capped weight))
+    else refused_by refusal.LemmaNotProof (lemma_unproved s lemmas) next
+
+-- clauses 9, 10, 14 and 11 over the signature
+abbrev pub first_proof : WordSignature → List (Tree × Tree) → Tree → Option Tree → Option Refusal
+first_proof s lemmas vc None = Some refusal.NoProof
+first_proof s lemmas vc (Some proof) =
+    first_lemmas s lemmas (proof_weight s lemmas proof)
+    (if proves s lemmas proof vc then None else Some refusal.NotProof)
 
 -- the same of contents and their code
 abbrev pub first_after : PolicyView → Contents → List Insn → Option Refusal
 first_after policy c code =
-    first_proof (signature_of c.version) (vc_of policy c.bound code c.invs) c.proof
+    first_proof (signature_of c.version) c.lemmas (vc_of policy c.bound code c.invs) c.proof
 
--- the first of clauses 1 to 8 that fails
+-- of contents, clauses 10 and 14 of the lemmas alone
+abbrev pub first_of_lemmas : Contents → List Insn → Option Refusal
+first_of_lemmas c code =
+    let s = signature_of c.version in first_lemmas s c.lemmas (lemmas_weight s c.lemmas) None
+
+-- the first of the clauses before the proof that fails
 unfoldable pub front_refusal : PolicyView → List ℕ → Option Refusal
 front_refusal policy bytes = first_front policy bytes (λ c code. None)
 
--- the first of the eleven clauses that fails
+-- the first of these that fails, or, of the lemmas alone, of clauses 10 and 14
+unfoldable pub lemma_refusal : PolicyView → List ℕ → Option Refusal
+lemma_refusal policy bytes = first_front policy bytes first_of_lemmas
+
+-- the first clause that fails
 unfoldable pub first_refusal : PolicyView → List ℕ → Option Refusal
 first_refusal policy bytes = first_front policy bytes (first_after policy)

@@ -9,8 +9,8 @@ use Rattle.vcgen.specs.declared.condition.TheConstants.{MAX_UNFOLDED}
 use Rattle.pcc_gate.specs.declared.refusal.Refusal.{Refusal}
 use Rattle.pcc_gate.specs.Passing.{Passes}
 use Rattle.pcc_gate.specs.Accepted.{IsAccepted}
-use Rattle.pcc_gate.specs.First.{front_refusal, first_refusal}
-use Rattle.pcc_gate.specs.Refusals.{HasCut, IsFirstRefusal, IsBeforeProof}
+use Rattle.pcc_gate.specs.First.{front_refusal, lemma_refusal, first_refusal}
+use Rattle.pcc_gate.specs.Refusals.{HasCut, IsFirstRefusal, IsBeforeProof, IsLemmaRefusal}
 
 -- bytes are accepted exactly where no clause is the first that fails
 abbrev pub AcceptedFirst : Type 0
@@ -18,14 +18,14 @@ AcceptedFirst =
     (policy : PolicyView) (bytes : List ℕ) → IsBytes bytes
     → IsAccepted policy bytes ↔ (first_refusal policy bytes ≡ None)
 
--- clauses 1 to 8 hold exactly where none of them is the first that fails
+-- the clauses before the proof hold exactly where none of them is the first that fails
 pub record HasPassed (policy : PolicyView) (bytes : List ℕ) : Type 0 where
   pub contents : Contents
   pub code : List Insn
   pub marks : List Bool
   pub passes : Passes policy bytes contents code marks
 
--- the same of clauses 1 to 8
+-- the same of the clauses before the proof
 abbrev pub PassedFirst : Type 0
 PassedFirst =
     (policy : PolicyView) (bytes : List ℕ) → IsBytes bytes
@@ -38,7 +38,7 @@ PassedOne =
     (marks flags : List Bool) → IsBytes bytes → Passes policy bytes c code marks
     → Passes policy bytes d other flags → (c ≡ d) × (code ≡ other) × (marks ≡ flags)
 
--- clauses 1 to 8 are those up to 7, and the last of them
+-- the clauses before the proof are those up to 7, and 8
 abbrev pub PassedUpTo : Type 0
 PassedUpTo =
     (policy : PolicyView) (bytes : List ℕ) (c : Contents) (code : List Insn) (marks : List Bool) →
@@ -49,7 +49,14 @@ abbrev pub RefusedFirst : Type 0
 RefusedFirst = (policy : PolicyView) (bytes : List ℕ) (r : Refusal) → IsBytes bytes →
     (first_refusal policy bytes ≡ Some r) ↔ IsFirstRefusal policy bytes r
 
--- a refusal is the first of clauses 1 to 8 exactly where the relation says so, and it is by one of them
+-- a refusal is the first of the clauses before the proof exactly where the relation says so, and it
+-- is by one of them
 abbrev pub RefusedBefore : Type 0
 RefusedBefore = (policy : PolicyView) (bytes : List ℕ) (r : Refusal) → IsBytes bytes →
     (front_refusal policy bytes ≡ Some r) ↔ (IsFirstRefusal policy bytes r × IsBeforeProof r)
+
+-- a refusal is the first of these, and of 10 and 14 of the lemmas alone, exactly where the relation
+-- says so
+abbrev pub RefusedLemmas : Type 0
+RefusedLemmas = (policy : PolicyView) (bytes : List ℕ) (r : Refusal) → IsBytes bytes →
+    (lemma_refusal policy bytes ≡ Some r) ↔ IsLemmaRefusal policy bytes r

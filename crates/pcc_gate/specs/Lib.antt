@@ -1,6 +1,8 @@
 pub mod ForPolicy
 pub mod Passing
+pub mod Weights
 pub mod Accepted
+pub mod WrittenOut
 pub mod First
 pub mod Refusals
 pub mod Safe

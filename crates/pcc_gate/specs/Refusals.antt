@@ -1,5 +1,6 @@
--- What each refusal means: the clauses before it hold, its own fails, and its value is what that clause says of the bytes. The
--- relations are those of the layers below, and nothing of the tests that find the refusal.
+-- What each refusal means: the clauses before it hold, its own fails, and its value is what that
+-- clause says of the bytes. The relations are those of the layers below, and nothing of the tests
+-- that find the refusal.
 use Rattle.std.specs.Prelude.{◌≡◌, ℕ, ◌<◌, ◌≤◌, Bool, List, [], ◌∷◌, ◌++◌, map, length, Option, None, Some, Err}
 use Rattle.alpha_words.specs.declared.insn.Insn.{Insn}
 use Rattle.alpha_cfg.specs.Flow.{IsCode}
@@ -7,10 +8,12 @@ use Rattle.alpha_cfg.specs.CodeBytes.{EncodesCode, IsFlaw}
 use Rattle.alpha_cfg.specs.Cuts.{AreFlags, IsCut, IsUncut, unfolded_of}
 use Rattle.policy_set.specs.Views.{PolicyView}
 use Rattle.term_table.specs.Tree.{Tree}
-use Rattle.term_table.specs.Measures.{height_of, weight_of, capped}
-use Rattle.lf_signature.specs.Constants.{places_of, declared}
+use Rattle.term_table.specs.Measures.{height_of, capped}
+use Rattle.lf_signature.specs.Constants.{declared}
 use Rattle.lf_signature.specs.Terms.{form, pf}
 use Rattle.lf_signature.specs.Typing.{Checks}
+use Rattle.lf_lemmas.specs.Lemmas.{formulas_of, with_lemmas, AreFormulas}
+use Rattle.lf_lemmas.specs.Checking.{LemmasCheck}
 use Rattle.lf_encode.specs.Contexts.{sort_types}
 use Rattle.proof_container.specs.Contents.{Contents, roots}
 use Rattle.proof_container.specs.Encoding.{EncodesContents}
@@ -23,6 +26,7 @@ use Rattle.pcc_gate.specs.declared.limits.TheConstants.{MAX_WEIGHT}
 use Rattle.pcc_gate.specs.declared.refusal.Refusal.{Refusal}
 use Rattle.pcc_gate.specs.declared.refusal.Refusal.TheVariants as refusal
 use Rattle.pcc_gate.specs.Passing.{AreLow, Passes}
+use Rattle.pcc_gate.specs.Weights.{lemmas_weight, proof_weight}
 use Rattle.lf_signature.specs.declared.WordSignature.{WordSignature}
 use Rattle.proof_container.specs.Versions.{profile_of, signature_of}
 use Rattle.pcc_gate.specs.ForPolicy.{IsFor}
@@ -52,36 +56,49 @@ pub record HasLowRoots (policy : PolicyView) (bytes : List ℕ) (contents : Cont
   pub before : HasCode policy bytes contents insns
   pub heights : AreLow (roots contents)
 
--- clauses 1 to 6: each invariant is a formula over m and r0 to r30, and the steps that are left where
--- they are bounded, in the signature of the version
+-- clauses 1 to 6: each invariant is a formula over m and r0 to r30, and the steps that are left
+-- where they are bounded, in the signature of the version
 pub record HasForms (policy : PolicyView) (bytes : List ℕ) (contents : Contents)
     (insns : List Insn) : Type 0 where
   pub before : HasLowRoots policy bytes contents insns
   pub forms : AreForms (signature_of contents.version) contents.bound contents.invs
 
--- clauses 1 to 6, and the flags of the annotated indices
+-- clauses 1 to 6 and 13: each lemma's formula is one over no variables, in the same signature
+pub record HasLemmaForms (policy : PolicyView) (bytes : List ℕ) (contents : Contents)
+    (insns : List Insn) : Type 0 where
+  pub before : HasForms policy bytes contents insns
+  pub lemma_forms :
+      AreFormulas (declared (signature_of contents.version)) (formulas_of contents.lemmas)
+
+-- clauses 1 to 6 and 13, and the flags of the annotated indices
 pub record HasFlags (policy : PolicyView) (bytes : List ℕ) (contents : Contents) (insns : List Insn)
     (flags : List Bool) : Type 0 where
-  pub before : HasForms policy bytes contents insns
+  pub before : HasLemmaForms policy bytes contents insns
   pub annotated : AreFlags (map (λ p. p.0) contents.invs) (length insns) flags
 
--- clauses 1 to 7: the annotated indices cut the code
+-- those up to 7: the annotated indices cut the code
 pub record HasCut (policy : PolicyView) (bytes : List ℕ) (contents : Contents) (insns : List Insn)
     (flags : List Bool) : Type 0 where
   pub before : HasFlags policy bytes contents insns flags
   pub cut : IsCut insns flags
 
--- clauses 1 to 9: they pass, and there is a proof
+-- those up to 9: the clauses before the proof pass, and there is a proof
 pub record HasProof (policy : PolicyView) (bytes : List ℕ) (contents : Contents) (insns : List Insn)
     (flags : List Bool) (proof : Tree) : Type 0 where
   pub passes : Passes policy bytes contents insns flags
   pub given : contents.proof ≡ Some proof
 
--- clauses 1 to 10: the proof isn't too heavy
+-- those up to 10: with the proofs of lemmas it isn't too heavy
 pub record HasLightProof (policy : PolicyView) (bytes : List ℕ) (contents : Contents)
     (insns : List Insn) (flags : List Bool) (proof : Tree) : Type 0 where
   pub before : HasProof policy bytes contents insns flags proof
-  pub weight : weight_of (places_of (signature_of contents.version)) proof ≤ MAX_WEIGHT
+  pub weight : proof_weight (signature_of contents.version) contents.lemmas proof ≤ MAX_WEIGHT
+
+-- those up to 14: each lemma's proof proves its formula with the lemmas before it
+pub record HasProvedLemmas (policy : PolicyView) (bytes : List ℕ) (contents : Contents)
+    (insns : List Insn) (flags : List Bool) (proof : Tree) : Type 0 where
+  pub before : HasLightProof policy bytes contents insns flags proof
+  pub lemmas : LemmasCheck (declared (signature_of contents.version)) contents.lemmas
 
 -- ---- what is wrong
 
@@ -113,22 +130,46 @@ pub record IsFirstNoForm (s : WordSignature) (bound : Option ℕ) (invs : List (
   pub no_form : Checks (declared s) (sort_types (context_of bound)) inv.1 form → ⊥
   pub is : place ≡ length front
 
+-- the first lemma whose formula is none over no variables, in the signature, has this place
+pub record IsFirstNoFormula (s : WordSignature) (lemmas : List (Tree × Tree)) (place : ℕ)
+    : Type 0 where
+  pub front : List (Tree × Tree)
+  pub lemma : Tree × Tree
+  pub rest : List (Tree × Tree)
+  pub split : lemmas ≡ front ++ lemma ∷ rest
+  pub forms : AreFormulas (declared s) (formulas_of front)
+  pub no_form : Checks (declared s) [] lemma.0 form → ⊥
+  pub is : place ≡ length front
+
+-- the first lemma whose proof doesn't prove its formula with the lemmas before it, over the
+-- signature, has this place
+pub record IsFirstUnproved (s : WordSignature) (lemmas : List (Tree × Tree)) (place : ℕ)
+    : Type 0 where
+  pub front : List (Tree × Tree)
+  pub lemma : Tree × Tree
+  pub rest : List (Tree × Tree)
+  pub split : lemmas ≡ front ++ lemma ∷ rest
+  pub proved : LemmasCheck (declared s) front
+  pub unproved :
+      Checks (with_lemmas (declared s) (formulas_of front)) [] lemma.1 (pf lemma.0) → ⊥
+  pub is : place ≡ length front
+
 -- the unfolded length is past its limit
 pub record IsPastUnfolded (insns : List Insn) (flags : List Bool) (unfolded : ℕ) : Type 0 where
   pub long : MAX_UNFOLDED < unfolded_of insns flags
   pub is : unfolded ≡ capped (unfolded_of insns flags)
 
--- by the parameters of the signature the proof is heavier than the limit
-pub record IsPastWeight (s : WordSignature) (proof : Tree) (weight : ℕ) : Type 0 where
-  pub heavy : MAX_WEIGHT < weight_of (places_of s) proof
-  pub is : weight ≡ capped (weight_of (places_of s) proof)
+-- what proofs weigh together is past the limit, and is shown as this
+pub record IsPastWeight (weight shown : ℕ) : Type 0 where
+  pub heavy : MAX_WEIGHT < weight
+  pub is : shown ≡ capped weight
 
--- over the signature the term isn't a proof of the verification condition
-pub record IsNoProof (s : WordSignature) (policy : PolicyView) (bound : Option ℕ)
-    (insns : List Insn) (invs : List (ℕ × Tree)) (proof : Tree) : Type 0 where
+-- over the signature with all lemmas the term isn't a proof of the verification condition
+pub record IsNoProof (s : WordSignature) (lemmas : List (Tree × Tree)) (policy : PolicyView)
+    (bound : Option ℕ) (insns : List Insn) (invs : List (ℕ × Tree)) (proof : Tree) : Type 0 where
   pub vc : Tree
   pub condition : EncodesCondition policy bound insns invs vc
-  pub unproved : Checks (declared s) [] proof (pf vc) → ⊥
+  pub unproved : Checks (with_lemmas (declared s) (formulas_of lemmas)) [] proof (pf vc) → ⊥
 
 -- ---- the refusals
 
@@ -144,6 +185,9 @@ IsFirstRefusal policy bytes (refusal.Height h) = (c : Contents) × (code : List 
 IsFirstRefusal policy bytes (refusal.InvNotForm k) =
     (c : Contents) × (code : List Insn) × HasLowRoots policy bytes c code
     × IsFirstNoForm (signature_of c.version) c.bound c.invs k
+IsFirstRefusal policy bytes (refusal.LemmaNotForm k) =
+    (c : Contents) × (code : List Insn) × HasForms policy bytes c code
+    × IsFirstNoFormula (signature_of c.version) c.lemmas k
 IsFirstRefusal policy bytes (refusal.Uncut i) =
     (c : Contents) × (code : List Insn) × (flags : List Bool) × HasFlags policy bytes c code flags × IsUncut code flags i
 IsFirstRefusal policy bytes (refusal.UnfoldLimit n) =
@@ -152,13 +196,18 @@ IsFirstRefusal policy bytes refusal.NoProof =
     (c : Contents) × (code : List Insn) × (flags : List Bool) × Passes policy bytes c code flags × (c.proof ≡ None)
 IsFirstRefusal policy bytes (refusal.ProofWeight n) =
     (c : Contents) × (code : List Insn) × (flags : List Bool) × (proof : Tree) ×
-    HasProof policy bytes c code flags proof × IsPastWeight (signature_of c.version) proof n
-IsFirstRefusal policy bytes refusal.NotProof =
+    HasProof policy bytes c code flags proof
+    × IsPastWeight (proof_weight (signature_of c.version) c.lemmas proof) n
+IsFirstRefusal policy bytes (refusal.LemmaNotProof k) =
     (c : Contents) × (code : List Insn) × (flags : List Bool) × (proof : Tree) ×
     HasLightProof policy bytes c code flags proof
-    × IsNoProof (signature_of c.version) policy c.bound code c.invs proof
+    × IsFirstUnproved (signature_of c.version) c.lemmas k
+IsFirstRefusal policy bytes refusal.NotProof =
+    (c : Contents) × (code : List Insn) × (flags : List Bool) × (proof : Tree) ×
+    HasProvedLemmas policy bytes c code flags proof
+    × IsNoProof (signature_of c.version) c.lemmas policy c.bound code c.invs proof
 
--- a refusal by one of clauses 1 to 8
+-- a refusal by a clause before the proof
 abbrev pub IsBeforeProof : Refusal → Type 0
 IsBeforeProof (refusal.TooLong n) = Unit {0}
 IsBeforeProof (refusal.Malformed at flaw) = Unit {0}
@@ -166,8 +215,22 @@ IsBeforeProof (refusal.OtherPolicy h) = Unit {0}
 IsBeforeProof (refusal.BadCode flaw) = Unit {0}
 IsBeforeProof (refusal.Height h) = Unit {0}
 IsBeforeProof (refusal.InvNotForm k) = Unit {0}
+IsBeforeProof (refusal.LemmaNotForm k) = Unit {0}
 IsBeforeProof (refusal.Uncut i) = Unit {0}
 IsBeforeProof (refusal.UnfoldLimit n) = Unit {0}
 IsBeforeProof refusal.NoProof = ⊥
 IsBeforeProof (refusal.ProofWeight n) = ⊥
+IsBeforeProof (refusal.LemmaNotProof k) = ⊥
 IsBeforeProof refusal.NotProof = ⊥
+
+-- The refusal is that of the first clause that fails among those before the proof, and, of the
+-- lemmas alone, 10 and 14.
+abbrev pub IsLemmaRefusal : PolicyView → List ℕ → Refusal → Type 0
+IsLemmaRefusal policy bytes (refusal.ProofWeight n) =
+    (c : Contents) × (code : List Insn) × (flags : List Bool) × Passes policy bytes c code flags
+    × IsPastWeight (lemmas_weight (signature_of c.version) c.lemmas) n
+IsLemmaRefusal policy bytes (refusal.LemmaNotProof k) =
+    (c : Contents) × (code : List Insn) × (flags : List Bool) × Passes policy bytes c code flags
+    × (lemmas_weight (signature_of c.version) c.lemmas ≤ MAX_WEIGHT)
+    × IsFirstUnproved (signature_of c.version) c.lemmas k
+IsLemmaRefusal policy bytes r = IsFirstRefusal policy bytes r × IsBeforeProof r

@@ -15,8 +15,8 @@ AcceptedSafe =
     (marks : List Bool) → IsPolicy policy → Accepts policy bytes contents code marks
     → IsSafe code policy.pre policy.post
 
--- Where steps are bounded, from each state at index 0 that satisfies the precondition, under whatever
--- rights, a run of the code with a budget of at least the bound returns.
+-- Where steps are bounded, from each state at index 0 that satisfies the precondition, under
+-- whatever rights, a run of the code with a budget of at least the bound returns.
 abbrev pub ReturnsInBound : PolicyView → Option ℕ → List Insn → Type 0
 ReturnsInBound policy bound code =
     (most : ℕ) → bound ≡ Some most → ReturnsWithin most code policy.pre

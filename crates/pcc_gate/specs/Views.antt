@@ -9,8 +9,8 @@ use Rattle.vcgen.specs.Conditions.{condition}
 use Rattle.vcgen.specs.Safety.{IsAnnotated}
 use Rattle.vcgen.specs.Encoded.{annotated, AreEncodings}
 
--- accepted code: its policy, the most steps that it makes, where they are bounded, the code with its
--- flags, and its invariants as ids of the table
+-- accepted code: its policy, the most steps that it makes, where they are bounded, the code with
+-- its flags, and its invariants as ids of the table
 pub record AcceptedView : Type 0 where
   pub policy : PolicyView
   pub bound : Option ℕ

@@ -1,10 +1,13 @@
--- That acceptance isn't empty: a container whose code loads, stores and loops is accepted.
-use Rattle.std.specs.Prelude.{ℕ, Bool, List, [], ◌∷◌, pos, negsuc}
+-- That acceptance isn't empty: containers whose code loads, stores and loops are accepted, one
+-- without lemmas and one with.
+use Rattle.std.specs.Prelude.{◌≡◌, ℕ, false, Bool, List, [], ◌∷◌, Some, pos, negsuc}
 use Rattle.alpha_words.specs.declared.insn.Cond.TheVariants.{Zero}
 use Rattle.alpha_words.specs.declared.insn.Insn.{Insn}
 use Rattle.alpha_words.specs.declared.insn.Insn.TheVariants.{Ldq, Stq, Branch, Br, Ret}
 use Rattle.policy_set.specs.declared.kind.PolicyKind.TheVariants.{Tag}
 use Rattle.policy_set.specs.Views.{built_in}
+use Rattle.term_table.specs.Tree.{Tree}
+use Rattle.lf_lemmas.specs.WrittenOut.{cites_below}
 use Rattle.proof_container.specs.Contents.{Contents}
 use Rattle.pcc_gate.specs.Accepted.{Accepts}
 
@@ -18,4 +21,16 @@ pub record LoopIsAccepted : Type 0 where
   pub bytes : List ℕ
   pub contents : Contents
   pub marks : List Bool
+  pub accepts : Accepts (built_in Tag) bytes contents loop_code marks
+
+-- some bytes hold it with one lemma, which the proof cites, and are accepted under `tag`
+pub record LemmaIsAccepted : Type 0 where
+  pub bytes : List ℕ
+  pub contents : Contents
+  pub marks : List Bool
+  pub lemma : Tree × Tree
+  pub proof : Tree
+  pub lemmas : contents.lemmas ≡ lemma ∷ []
+  pub given : contents.proof ≡ Some proof
+  pub cites : cites_below 0 proof ≡ false
   pub accepts : Accepts (built_in Tag) bytes contents loop_code marks

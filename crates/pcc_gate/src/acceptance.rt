@@ -14,8 +14,8 @@ use policy_set::Policy;
 use std::marker::Model;
 use term_table::{Id, Table};
 
-/// Code that was accepted under a policy. Contracts see the policy, the bound of its steps, the code
-/// with its flags, and the invariants as ids of the table.
+/// Code that was accepted under a policy. Contracts see the policy, the bound of its steps, the
+/// code with its flags, and the invariants as ids of the table.
 #[derive(Drop)]
 pub struct Accepted {
     pub(crate) policy: Policy,
@@ -88,10 +88,10 @@ impl Accepted {
         &self.invs
     }
 
-    /// What acceptance promises, with nothing to run: the code is safe for the policy, and where its
-    /// steps are bounded, it returns within the bound; the invariants encode formulas, which annotate
-    /// the code; and the verification condition of the policy, the bound, the code and these formulas
-    /// is true in every structure.
+    /// What acceptance promises, with nothing to run: the code is safe for the policy, and where
+    /// its steps are bounded, it returns within the bound; the invariants encode formulas, which
+    /// annotate the code; and the verification condition of the policy, the bound, the code and
+    /// these formulas is true in every structure.
     pub fn laws(&self)
         ensures safe { IsSafe self.now.code self.now.policy.pre self.now.policy.post }
         ensures returns { ReturnsInBound self.now.policy self.now.bound self.now.code }

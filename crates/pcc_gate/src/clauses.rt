@@ -1,6 +1,6 @@
 //! The clauses before the proof, a function for each.
 
-ghost use Rattle.std.specs.Prelude.{◌≡◌, ◌≤◌, ◌+◌, ◌<◌, ◌*◌, ◌%◌, [], ◌∷◌, length, drop, map, All, IfOk};
+ghost use Rattle.std.specs.Prelude.{◌≡◌, ◌≤◌, ◌+◌, ◌<◌, ◌*◌, ◌%◌, [], ◌∷◌, length, drop, map, All, IfOk, IfSome, OnOk};
 ghost use Rattle.std.specs.Prelude.{replicate, slice_set};
 ghost use Rattle.std.specs.List.Sorted.{IsStrictlyIncreasing};
 ghost use Rattle.std.specs.List.{AllByRecursion};
@@ -13,17 +13,20 @@ ghost use Rattle.lf_signature.specs.Constants.{declared};
 ghost use Rattle.term_table.specs.Tree.{Fam};
 ghost use Rattle.lf_check.specs.Kept.{AreKept};
 ghost use Rattle.lf_encode.specs.Contexts.{sort_types};
+ghost use Rattle.lf_lemmas.specs.Tables.{lemmas_in, LemmasKnown};
 ghost use Rattle.proof_container.specs.Views.{AreKnown};
-ghost use Rattle.proof_container.specs.declared.limits.TheConstants.{MAX_INVS};
+ghost use Rattle.proof_container.specs.declared.limits.TheConstants.{MAX_INVS, MAX_LEMMAS};
 ghost use Rattle.vcgen.specs.Encoded.{context_of};
 ghost use Rattle.pcc_gate.specs.First.{too_high, has_form, formless};
-ghost use Rattle.pcc_gate.specs.Inside.Stages.{IsContainerAnswer, IsCodeRead, measured_trees};
+ghost use Rattle.pcc_gate.specs.Inside.Stages.{IsContainerAnswer, IsCodeRead, AreLemmasFormed};
+ghost use Rattle.pcc_gate.specs.Inside.Stages.{later_trees, measured_trees};
 ghost use Rattle.pcc_gate.specs.Inside.Stages.{IsCutMade, IsLengthAnswer};
 
 use crate::fault::GateFault;
 use crate::for_policy::is_for;
 use crate::refusal::Refusal;
 use alpha_cfg::{Code, CodeFault, Cut, CutFault};
+use lemma_check::{Asked, first_failing};
 use lf_check::{Exhausted, Kept, check_term_with};
 use lf_signature::numbers::{EXP, MEM};
 use lf_signature::{WordSignature, typing_laws};
@@ -88,28 +91,52 @@ fn height_past(table: &Table, id: Id) -> Option<u32>
     }
 }
 
+/// Clause 5 behind the invariants: the height of the first term of a lemma, or of the proof, that
+/// is too high.
+fn later_too_high(table: &Table, lemmas: &[(Id, Id)], proof: Option<Id>) -> Option<u32>
+    requires lemmas { LemmasKnown table.now lemmas.now }
+    requires proof { IfSome proof (IsKnown table.now) }
+    ensures { result ≡ option_map capped (too_high (later_trees table.now lemmas.now proof)) }
+{
+    match lemmas {
+        [] => match proof {
+            None => None,
+            Some(id) => height_past(table, id),
+        },
+        [first, rest @ ..] => {
+            let (formula, own) = *first;
+            if let Some(height) = height_past(table, formula) {
+                return Some(height);
+            }
+            if let Some(height) = height_past(table, own) {
+                return Some(height);
+            }
+            later_too_high(table, rest, proof)
+        }
+    }
+}
+
 /// Clause 5: the height of the first root, from this place of the invariants on, that is too high.
 pub(crate) fn first_too_high(
     table: &Table,
     invs: &[(u32, Id)],
+    lemmas: &[(Id, Id)],
     proof: Option<Id>,
     from: usize,
 ) -> Option<u32>
     requires known { AreKnown table.now invs.now proof }
+    requires lemmas { LemmasKnown table.now lemmas.now }
     requires from { from ≤ length invs.now }
     ensures { let rest = drop from invs.now in
-        result ≡ option_map capped (too_high (measured_trees table.now rest proof)) }
+        result ≡ option_map capped (too_high (measured_trees table.now rest lemmas.now proof)) }
 {
     if from == invs.len() {
-        return match proof {
-            None => None,
-            Some(id) => height_past(table, id),
-        };
+        return later_too_high(table, lemmas, proof);
     }
     let (_, inv) = invs[from];
     match height_past(table, inv) {
         Some(height) => Some(height),
-        None => first_too_high(table, invs, proof, from + 1),
+        None => first_too_high(table, invs, lemmas, proof, from + 1),
     }
 }
 
@@ -207,6 +234,26 @@ pub(crate) fn first_formless(
         return Ok(Some(from as u32));
     }
     first_formless(table, kept, signature, bound, context, form, invs, from + 1)
+}
+
+/// Clause 13: each lemma's formula is one over no variables in the signature.
+pub(crate) fn lemmas_formed(
+    kept: &mut Kept,
+    table: &mut Table,
+    signature: WordSignature,
+    lemmas: &[(Id, Id)],
+) -> Result<(), GateFault>
+    requires known { LemmasKnown table.old lemmas.now }
+    requires few { length lemmas.now ≤ MAX_LEMMAS }
+    requires kept { AreKept (declared signature) table.old kept.old }
+    ensures answer { AreLemmasFormed signature (lemmas_in table.old lemmas.now) result }
+    ensures extends { Extends table.old table.new }
+    ensures kept { OnOk result (AreKept (declared signature) table.new kept.new) }
+{
+    match first_failing(table, kept, &signature, Asked::Formula, lemmas)? {
+        Some(lemma) => Err(GateFault::Refused(Refusal::LemmaNotForm(lemma))),
+        None => Ok(()),
+    }
 }
 
 /// The annotated indices.

@@ -13,7 +13,8 @@ pub enum GateFault {
     /// The bytes are refused.
     #[error("refused: {0}")]
     Refused(Refusal),
-    /// There was no memory for the tests; that says nothing of the bytes but that they aren't too many.
+    /// There was no memory for the tests; that says nothing of the bytes but that they aren't too
+    /// many.
     #[error("out of memory")]
     Memory,
     /// More results would have been kept than the limit allows; that says nothing else either.

@@ -8,18 +8,19 @@ ghost use Rattle.pcc_gate.specs.Answers.{IsHeld, IsGateAnswer};
 ghost use Rattle.pcc_gate.specs.Passing.{Passes};
 ghost use Rattle.proof_container.specs.Versions.{signature_of};
 ghost use Rattle.pcc_gate.specs.Safe.{ReturnsInBound};
+ghost use Rattle.pcc_gate.specs.WrittenOut.{IsWrittenOutAnswer};
 
 use crate::acceptance::Accepted;
 use crate::fault::GateFault;
 use crate::passing::{Passed, pass};
-use crate::proving::{proof_in, proved};
+use crate::proving::{lemmas_proved, proof_in, proved};
 use lf_check::{Kept, MOST_RESULTS};
 use lf_truth::truth_laws;
 use policy_set::Policy;
 use proof_container::signature_of;
 use std::alloc::Global;
 
-/// Clauses 9 to 11 of what passed those before.
+/// Clauses 9, 10, 14 and 11 of what passed those before.
 fn judge(
     alloc: Global,
     kept: &mut Kept,
@@ -43,10 +44,13 @@ fn judge(
     let cut = passed.cut;
     let mut table = container.table;
     let invs = container.invs;
+    let held = container.lemmas;
+    let lemmas = held.as_slice();
     let found = container.proof;
-    let proof = proof_in(&table, signature, found)?;
+    let proof = proof_in(&table, signature, lemmas, found)?;
+    lemmas_proved(alloc, &mut table, kept, signature, lemmas)?;
     proved(
-        &mut table, kept, signature, policy, bound, &cut, &invs, proof,
+        &mut table, kept, signature, lemmas, policy, bound, &cut, &invs, proof,
     )?;
     let policy = policy.copy(alloc)?;
     Ok(Accepted {
@@ -58,18 +62,20 @@ fn judge(
     })
 }
 
-/// What `bytes` hold, where they are accepted under `policy`: all eleven clauses hold, the last of
-/// which is that the proof proves the verification condition of the policy, the bound, the code and
-/// the invariants. Where the container has a bound, from every state at index 0 that meets the
-/// precondition, under whatever rights, a run of the code with a budget of at least the bound
-/// returns.
+/// What `bytes` hold, where they are accepted under `policy`: all clauses hold, the last of which
+/// is that the proof, with the lemmas that the container has, proves the verification condition of
+/// the policy, the bound, the code and the invariants. That is so exactly where it is with every
+/// lemma written out (`specs/WrittenOut`). Where the container has a bound, from every state at
+/// index 0 that meets the precondition, under whatever rights, a run of the code with a budget of
+/// at least the bound returns.
 ///
 /// Errors: `Refused` names the first clause that fails (`specs/First`), exactly where one does;
 /// `Memory` says nothing of `bytes`. The clauses are tried in their order. One memory of at most
-/// `MOST_RESULTS` results and judgements serves the invariants, the condition and the proof; past
-/// that the answer is `Memory`.
+/// `MOST_RESULTS` results and judgements serves the invariants, the lemmas, the condition and the
+/// proof; past that the answer is `Results`.
 pub fn gate(alloc: Global, policy: &Policy, bytes: &[u8]) -> Result<Accepted, GateFault>
     ensures exact { IsGateAnswer policy.now bytes.now result }
+    ensures written_out { IsWrittenOutAnswer policy.now bytes.now result }
     ensures returns { IfOk result (λ a. ReturnsInBound policy.now a.bound a.code) }
 {
     truth_laws();

@@ -6,19 +6,23 @@ ghost use Rattle.std.specs.List.Sorted.{IsStrictlyIncreasing};
 ghost use Rattle.term_table.specs.Table.{TableView, IsKnown, Extends, id_trees};
 ghost use Rattle.lf_signature.specs.Constants.{declared};
 ghost use Rattle.lf_check.specs.Kept.{AreKept};
+ghost use Rattle.lf_lemmas.specs.Tables.{LemmasKnown};
 ghost use Rattle.proof_container.specs.Views.{AreKnown, contents_of};
 ghost use Rattle.proof_container.specs.Encoding.{IsContents};
-ghost use Rattle.proof_container.specs.declared.limits.TheConstants.{MAX_INVS};
-ghost use Rattle.pcc_gate.specs.Answers.{IsHeld, IsFrontAnswer};
+ghost use Rattle.proof_container.specs.declared.limits.TheConstants.{MAX_INVS, MAX_LEMMAS};
+ghost use Rattle.pcc_gate.specs.Answers.{IsHeld, IsFrontAnswer, IsLemmaFrontAnswer};
+ghost use Rattle.pcc_gate.specs.Passing.{Passes};
 ghost use Rattle.pcc_gate.specs.Inside.Stages.{with_roots, AreFormed, IsShapeAnswer};
 ghost use Rattle.pcc_gate.specs.Inside.Passed.{IsRestAnswer, IsPassedAnswer};
 ghost use Rattle.lf_signature.specs.declared.WordSignature.{WordSignature};
 ghost use Rattle.proof_container.specs.Versions.{signature_of};
 
 use crate::clauses::{
-    code_in, container_for, context_types, cut_at, first_formless, first_too_high, short,
+    code_in, container_for, context_types, cut_at, first_formless, first_too_high, lemmas_formed,
+    short,
 };
 use crate::fault::GateFault;
+use crate::proving::{lemmas_light, lemmas_proved};
 use crate::refusal::Refusal;
 use alpha_cfg::{Code, Cut};
 use lf_check::{Kept, MOST_RESULTS};
@@ -62,7 +66,7 @@ fn formed(
     }
 }
 
-/// Clauses 5 to 8 in the signature: the code with its annotated indices.
+/// Clauses 5, 6, 13, 7 and 8 in the signature: the code with its annotated indices.
 fn shaped(
     alloc: Global,
     kept: &mut Kept,
@@ -71,28 +75,32 @@ fn shaped(
     bound: Option<u32>,
     code: Code,
     invs: &[(u32, Id)],
+    lemmas: &[(Id, Id)],
     proof: Option<Id>,
 ) -> Result<Cut, GateFault>
     requires known { AreKnown table.old invs.now proof }
+    requires lemmas { LemmasKnown table.old lemmas.now }
     requires few { length invs.now ≤ MAX_INVS }
+    requires few_lemmas { length lemmas.now ≤ MAX_LEMMAS }
     requires rising { IsStrictlyIncreasing (map (λ p. p.0) invs.now) }
     requires below { All (λ k. k < length code) (map (λ p. p.0) invs.now) }
     requires kept { (t : TableView) → AreKept (declared signature) t kept.old }
-    ensures answer { let roots = with_roots table.old bound invs.now proof in
+    ensures answer { let roots = with_roots table.old bound invs.now lemmas.now proof in
         IsShapeAnswer signature roots code result }
     ensures extends { Extends table.old table.new }
     ensures kept { OnOk result (AreKept (declared signature) table.new kept.new) }
 {
-    if let Some(height) = first_too_high(table, invs, proof, 0) {
+    if let Some(height) = first_too_high(table, invs, lemmas, proof, 0) {
         return Err(GateFault::Refused(Refusal::Height(height)));
     }
     formed(alloc, kept, table, signature, bound, invs)?;
+    lemmas_formed(kept, table, signature, lemmas)?;
     let cut = cut_at(alloc, code, invs)?;
     short(&cut)?;
     Ok(cut)
 }
 
-/// Clauses 4 to 8 of a container.
+/// Clauses 4 to 8 and 13 of a container.
 fn rest<'b>(
     alloc: Global,
     kept: &mut Kept,
@@ -118,12 +126,13 @@ fn rest<'b>(
         held.bound,
         insns,
         &held.invs,
+        &held.lemmas,
         held.proof,
     )?;
     Ok(Passed { container, cut })
 }
 
-/// Clauses 1 to 8, with what is kept of the judgements.
+/// The clauses before the proof, with what is kept of the judgements.
 pub(crate) fn pass<'b>(
     alloc: Global,
     kept: &mut Kept,
@@ -142,17 +151,69 @@ pub(crate) fn pass<'b>(
 }
 
 /// The container in `bytes`, and its code with its annotated indices, where the clauses before the
-/// proof hold: the bytes are a container for `policy`, its code bytes are code, no term is too high,
-/// each invariant is a formula, which names the steps that are left only where these are bounded,
-/// the annotated indices cut the code, and its unfolded length is within the limit. The container's terms are its table's, whose weights go by the rules' parameters.
+/// proof hold: the bytes are a container for `policy`, its code bytes are code, no term is too
+/// high, each invariant is a formula, which names the steps that are left only where these are
+/// bounded, each lemma's formula is one over no variables, the annotated indices cut the code, and
+/// its unfolded length is within the limit. The container's terms are its table's, whose weights go
+/// by the rules' parameters.
 ///
 /// Errors: `Refused` names the first of these clauses that fails (`specs/First`), exactly where one
 /// does; `Memory` says nothing of `bytes`. One memory of at most `MOST_RESULTS` results and
-/// judgements serves all invariants; past that the answer is `Memory`.
+/// judgements serves all invariants and the lemmas' formulas; past that the answer is `Results`.
 pub fn front<'b>(alloc: Global, policy: &Policy, bytes: &'b [u8]) -> Result<Passed<'b>, GateFault>
     ensures exact { IsFrontAnswer policy.now bytes.now result }
     ensures held { IfOk result (λ p. IsHeld p.container) }
 {
     let mut kept = Kept::new(alloc, MOST_RESULTS);
     pass(alloc, &mut kept, policy, bytes)
+}
+
+/// Clauses 10 and 14 of the lemmas alone, of what passed the clauses before the proof.
+fn good_lemmas<'b>(
+    alloc: Global,
+    kept: &mut Kept,
+    policy: &Policy,
+    bytes: &[u8],
+    passed: Passed<'b>,
+) -> Result<Passed<'b>, GateFault>
+    requires passes { let contents = contents_of passed.container in
+        Passes policy.now bytes.now contents passed.cut.code passed.cut.marks }
+    requires held { IsHeld passed.container }
+    requires kept { let s = signature_of passed.container.version in
+        AreKept (declared s) passed.container.table kept.old }
+    ensures answer { IsLemmaFrontAnswer policy.now bytes.now result }
+    ensures held { IfOk result (λ p. IsHeld p.container) }
+{
+    let _ = policy; // only the clauses speak of it
+    let _ = bytes; // and of these
+    let Passed { container, cut } = passed;
+    let mut container = container;
+    let version = container.version;
+    let signature = signature_of(version);
+    let held = &mut container;
+    lemmas_light(&held.table, signature, &held.lemmas)?;
+    lemmas_proved(alloc, &mut held.table, kept, signature, &held.lemmas)?;
+    Ok(Passed { container, cut })
+}
+
+/// The container in `bytes`, and its code with its annotated indices, where the clauses before the
+/// proof hold (`front`), and besides, of its lemmas alone, clauses 10 and 14: their proofs aren't
+/// too heavy together, and each proves its formula with the lemmas before it. So a proof that takes
+/// the place of its own is all that may fail.
+///
+/// Errors: `Refused` names the first of these that fails, exactly where one does; `Memory` and
+/// `Results` as with `front`.
+pub fn front_with_lemmas<'b>(
+    alloc: Global,
+    policy: &Policy,
+    bytes: &'b [u8],
+) -> Result<Passed<'b>, GateFault>
+    ensures exact { IsLemmaFrontAnswer policy.now bytes.now result }
+    ensures held { IfOk result (λ p. IsHeld p.container) }
+{
+    let mut kept = Kept::new(alloc, MOST_RESULTS);
+    match pass(alloc, &mut kept, policy, bytes) {
+        Err(fault) => Err(fault),
+        Ok(passed) => good_lemmas(alloc, &mut kept, policy, bytes, passed),
+    }
 }

@@ -1,41 +1,73 @@
-//! The clauses of the proof.
+//! The clauses of the proof and of the proofs of lemmas.
 
-ghost use Rattle.std.specs.Prelude.{◌≡◌, ◌≤◌, IfSome, length, map};
+ghost use Rattle.std.specs.Prelude.{◌≡◌, ◌≤◌, [], IfOk, IfSome, OnOk, length, map};
 ghost use Rattle.alpha_cfg.specs.Cuts.{AreFlags, unfolded_of};
 ghost use Rattle.term_table.specs.Table.{IsKnown, Extends, tree_at, id_trees};
+ghost use Rattle.hereditary_subst.specs.Simples.{IsResult};
 ghost use Rattle.lf_signature.specs.Constants.{places_of, declared};
+ghost use Rattle.lf_signature.specs.Terms.{pf};
+ghost use Rattle.lf_signature.specs.Typing.{Checks};
 ghost use Rattle.lf_check.specs.Kept.{AreKept};
+ghost use Rattle.lf_lemmas.specs.Lemmas.{formulas_of, with_lemmas};
+ghost use Rattle.lf_lemmas.specs.Tables.{lemmas_in, LemmasKnown, HoldsLemmas};
+ghost use Rattle.proof_container.specs.declared.limits.TheConstants.{MAX_LEMMAS};
+ghost use Rattle.term_table.specs.Measures.{capped};
+ghost use Rattle.pcc_gate.specs.Weights.{lemmas_weight};
 ghost use Rattle.vcgen.specs.Answers.{AreLowInvs};
 ghost use Rattle.vcgen.specs.Encoded.{AreForms};
 ghost use Rattle.vcgen.specs.declared.condition.TheConstants.{MAX_UNFOLDED};
 ghost use Rattle.pcc_gate.specs.Inside.Acceptance.{IsProofFound, IsProofAnswer};
+ghost use Rattle.pcc_gate.specs.Inside.Acceptance.{IsLemmaWeight, AreLemmasProved};
 
 use crate::fault::GateFault;
 use crate::limits::MAX_WEIGHT;
 use crate::refusal::Refusal;
 use alpha_cfg::Cut;
-use lf_check::Kept;
+use lemma_check::first_unproved;
+use lf_check::{Exhausted, Kept};
+use lf_lemmas::WithLemmas;
 use lf_signature::WordSignature;
-use lf_truth::proved_formula_with;
+use lf_truth::proved_with;
 use policy_set::Policy;
+use std::alloc::Global;
 use term_table::{Id, Table};
 use vcgen::{VcFault, is_condition_with};
 
-/// Clauses 9 and 10: the proof, which isn't too heavy by the parameters of the signature.
+/// What the proofs of lemmas weigh together, by the parameters of the signature. Past 4,294,967,295
+/// it answers that.
+pub fn lemmas_weight(table: &Table, signature: WordSignature, lemmas: &[(Id, Id)]) -> u32
+    requires known { LemmasKnown table.now lemmas.now }
+    requires places { table.now.places ≡ places_of signature }
+    ensures { result ≡ capped (lemmas_weight signature (lemmas_in table.now lemmas.now)) }
+{
+    match lemmas {
+        [] => 0,
+        [first, rest @ ..] => {
+            let (_, proof) = *first;
+            let own = table.weight(proof);
+            own.saturating_add(lemmas_weight(table, signature, rest))
+        }
+    }
+}
+
+/// Clauses 9 and 10: the proof, which with the proofs of lemmas isn't too heavy by the parameters
+/// of the signature.
 pub(crate) fn proof_in(
     table: &Table,
     signature: WordSignature,
+    lemmas: &[(Id, Id)],
     proof: Option<Id>,
 ) -> Result<Id, GateFault>
     requires known { IfSome proof (IsKnown table.now) }
+    requires lemmas { LemmasKnown table.now lemmas.now }
     requires places { table.now.places ≡ places_of signature }
-    ensures { IsProofFound signature table.now proof result }
+    ensures { IsProofFound signature table.now lemmas.now proof result }
 {
-    let _ = signature; // only the clauses speak of it
     match proof {
         None => Err(GateFault::Refused(Refusal::NoProof)),
         Some(id) => {
-            let weight = table.weight(id);
+            let of_lemmas = lemmas_weight(table, signature, lemmas);
+            let weight = of_lemmas.saturating_add(table.weight(id));
             if weight > MAX_WEIGHT {
                 return Err(GateFault::Refused(Refusal::ProofWeight(weight)));
             }
@@ -44,13 +76,81 @@ pub(crate) fn proof_in(
     }
 }
 
-/// Clause 11: over the signature the proof proves the verification condition with that bound. What it proves is
-/// found first and the condition compared with that, so no condition is written out that a proof is
-/// too small for.
+/// Clause 10 of the proofs of lemmas alone.
+pub(crate) fn lemmas_light(
+    table: &Table,
+    signature: WordSignature,
+    lemmas: &[(Id, Id)],
+) -> Result<(), GateFault>
+    requires known { LemmasKnown table.now lemmas.now }
+    requires places { table.now.places ≡ places_of signature }
+    ensures { IsLemmaWeight signature (lemmas_in table.now lemmas.now) result }
+{
+    let weight = lemmas_weight(table, signature, lemmas);
+    if weight > MAX_WEIGHT {
+        return Err(GateFault::Refused(Refusal::ProofWeight(weight)));
+    }
+    Ok(())
+}
+
+/// Clause 14: over the signature each lemma's proof proves its formula with the lemmas before it.
+pub(crate) fn lemmas_proved(
+    alloc: Global,
+    table: &mut Table,
+    kept: &mut Kept,
+    signature: WordSignature,
+    lemmas: &[(Id, Id)],
+) -> Result<(), GateFault>
+    requires holds { HoldsLemmas (declared signature) table.old lemmas.now }
+    requires few { length lemmas.now ≤ MAX_LEMMAS }
+    requires kept { AreKept (declared signature) table.old kept.old }
+    ensures answer { AreLemmasProved signature (lemmas_in table.old lemmas.now) result }
+    ensures extends { Extends table.old table.new }
+    ensures kept { let sig = declared signature in
+        let forms = formulas_of (lemmas_in table.new lemmas.now) in
+        OnOk result (AreKept (with_lemmas sig forms) table.new kept.new) }
+{
+    match first_unproved(alloc, table, kept, &signature, lemmas)? {
+        Some(lemma) => Err(GateFault::Refused(Refusal::LemmaNotProof(lemma))),
+        None => Ok(()),
+    }
+}
+
+/// The formula that the proof proves over the signature with the lemmas: None where it proves none.
+fn formula_proved(
+    table: &mut Table,
+    kept: &mut Kept,
+    signature: WordSignature,
+    lemmas: &[(Id, Id)],
+    proof: Id,
+) -> Result<Option<Id>, Exhausted>
+    requires proof { IsKnown table.old proof }
+    requires holds { HoldsLemmas (declared signature) table.old lemmas.now }
+    requires kept { let forms = formulas_of (lemmas_in table.old lemmas.now) in
+        AreKept (with_lemmas (declared signature) forms) table.old kept.old }
+    ensures exact { let forms = formulas_of (lemmas_in table.old lemmas.now) in
+        let proof = tree_at table.old proof in
+        let sig = with_lemmas (declared signature) forms in
+        IfOk result (IsResult table.new (λ g. Checks sig [] proof (pf g))) }
+    ensures extends { Extends table.old table.new }
+    ensures kept { let forms = formulas_of (lemmas_in table.new lemmas.now) in
+        AreKept (with_lemmas (declared signature) forms) table.new kept.new }
+{
+    let extended = WithLemmas {
+        sig: &signature,
+        lemmas,
+    };
+    proved_with(table, kept, &extended, proof)
+}
+
+/// Clause 11: over the signature with all lemmas the proof proves the verification condition with
+/// that bound. What it proves is found first and the condition compared with that, so no condition
+/// is written out that a proof is too small for.
 pub(crate) fn proved(
     table: &mut Table,
     kept: &mut Kept,
     signature: WordSignature,
+    lemmas: &[(Id, Id)],
     policy: &Policy,
     bound: Option<u32>,
     cut: &Cut,
@@ -62,13 +162,16 @@ pub(crate) fn proved(
     requires marks { AreFlags (map (λ p. p.0) invs.now) (length cut.now.code) cut.now.marks }
     requires short { unfolded_of cut.now.code cut.now.marks ≤ MAX_UNFOLDED }
     requires proof { IsKnown table.old proof }
-    requires kept { AreKept (declared signature) table.old kept.old }
-    ensures answer { let invs = id_trees table.old invs.now in let code = cut.now.code in
+    requires holds { HoldsLemmas (declared signature) table.old lemmas.now }
+    requires kept { let forms = formulas_of (lemmas_in table.old lemmas.now) in
+        AreKept (with_lemmas (declared signature) forms) table.old kept.old }
+    ensures answer { let lemmas = lemmas_in table.old lemmas.now in
+        let invs = id_trees table.old invs.now in let code = cut.now.code in
         let proof = tree_at table.old proof in
-        IsProofAnswer signature policy.now bound code invs proof result }
+        IsProofAnswer signature lemmas policy.now bound code invs proof result }
     ensures extends { Extends table.old table.new }
 {
-    let Some(formula) = proved_formula_with(table, kept, &signature, proof)? else {
+    let Some(formula) = formula_proved(table, kept, signature, lemmas, proof)? else {
         return Err(GateFault::Refused(Refusal::NotProof));
     };
     let memo = &mut kept.memo;

@@ -26,6 +26,9 @@ pub enum Refusal {
     /// that are left where these are bounded.
     #[error("invariant {0} is no formula")]
     InvNotForm(u32),
+    /// The least lemma, counted from 0, whose formula is none over no variables.
+    #[error("the formula of lemma {0} is none")]
+    LemmaNotForm(u32),
     /// The least index on a cycle that has no annotated index.
     #[error("index {0} is on a cycle without an annotated index")]
     Uncut(u32),
@@ -35,9 +38,13 @@ pub enum Refusal {
     /// There is no proof.
     #[error("there is no proof")]
     NoProof,
-    /// The weight of the proof, which is past `MAX_WEIGHT`.
+    /// The weight of the proof and of the proofs of lemmas together, which is past `MAX_WEIGHT`.
     #[error("the proof weighs {0}")]
     ProofWeight(u32),
+    /// The least lemma, counted from 0, whose proof doesn't prove its formula with the lemmas
+    /// before it.
+    #[error("the proof of lemma {0} isn't one of its formula")]
+    LemmaNotProof(u32),
     /// The proof doesn't prove the verification condition.
     #[error("the proof isn't one of the verification condition")]
     NotProof,

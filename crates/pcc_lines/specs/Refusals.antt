@@ -39,10 +39,12 @@ refusal_text (refusal.OtherPolicy head) = codes "refused 3 OtherPolicy " ++ head
 refusal_text (refusal.BadCode flaw) = codes "refused 4 BadCode " ++ code_flaw_text flaw
 refusal_text (refusal.Height h) = codes "refused 5 Height " ++ decimal h
 refusal_text (refusal.InvNotForm k) = codes "refused 6 InvNotForm " ++ decimal k
+refusal_text (refusal.LemmaNotForm k) = codes "refused 13 LemmaNotForm " ++ decimal k
 refusal_text (refusal.Uncut i) = codes "refused 7 Uncut " ++ decimal i
 refusal_text (refusal.UnfoldLimit n) = codes "refused 8 UnfoldLimit " ++ decimal n
 refusal_text refusal.NoProof = codes "refused 9 NoProof"
 refusal_text (refusal.ProofWeight n) = codes "refused 10 ProofWeight " ++ decimal n
+refusal_text (refusal.LemmaNotProof k) = codes "refused 14 LemmaNotProof " ++ decimal k
 refusal_text refusal.NotProof = codes "refused 11 NotProof"
 
 -- the line of a refusal

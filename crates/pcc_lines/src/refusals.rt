@@ -113,10 +113,12 @@ pub fn push_refusal(line: &mut Line, refusal: Refusal)
         }
         Refusal::Height(height) => push_numbered(line, "refused 5 Height ", height),
         Refusal::InvNotForm(k) => push_numbered(line, "refused 6 InvNotForm ", k),
+        Refusal::LemmaNotForm(k) => push_numbered(line, "refused 13 LemmaNotForm ", k),
         Refusal::Uncut(index) => push_numbered(line, "refused 7 Uncut ", index),
         Refusal::UnfoldLimit(n) => push_numbered(line, "refused 8 UnfoldLimit ", n),
         Refusal::NoProof => push_text(line, "refused 9 NoProof"),
         Refusal::ProofWeight(n) => push_numbered(line, "refused 10 ProofWeight ", n),
+        Refusal::LemmaNotProof(k) => push_numbered(line, "refused 14 LemmaNotProof ", k),
         Refusal::NotProof => push_text(line, "refused 11 NotProof"),
     }
 }

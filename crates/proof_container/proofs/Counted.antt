@@ -1,21 +1,23 @@
--- The start and the end of a container, and its entries and invariants with their counts.
+-- The start and the end of a container, and its entries, invariants and lemmas with their counts.
 use Rattle.term_table.specs.Steps.{◌>>=◌}
 use Rattle.std.proofs.Common.{◌≡◌, ◌≢◌, ℕ, suc, ◌+◌, ◌*◌, ◌/◌, ◌<◌, ◌≤◌, false, ltb, eqb, List, [], ◌∷◌, ◌++◌, length, drop, Option, Some, None, Result, Ok, refl, sym, ap, subst, ◌∙◌, append_assoc, length-append, inl, inr, arith}
 use Rattle.std.specs.List.{flat_map}
 use Rattle.std.proofs.lemmas.Bool.{ltb-false, le-ltb, ne_eqb, cases_eq}
 use Rattle.term_table.specs.Tree.{Tree}
+use Rattle.term_table.specs.Table.{AreDifferent}
 use Rattle.proof_container.specs.declared.container.Head.{Head}
 use Rattle.proof_container.specs.declared.container.Head.TheVariants.{Number, Digest}
 use Rattle.proof_container.specs.declared.fault.Flaw.TheVariants.{Magic, Version, Count}
-use Rattle.proof_container.specs.Versions.{policy_size, bound_size, code_field, IsVersion, IsHead, IsBoundOf}
-use Rattle.proof_container.specs.Contents.{Contents, roots}
-use Rattle.proof_container.specs.Postorder.{entries, ArePostorder}
+use Rattle.proof_container.specs.Versions.{policy_size, bound_size, code_field, IsVersion, IsHead, IsBoundOf, AreLemmasOf}
+use Rattle.proof_container.specs.Contents.{Contents, lemma_roots, roots}
+use Rattle.proof_container.specs.Postorder.{entries, ArePostorder, AreEmitted}
 use Rattle.term_table.specs.Bytes.{IsBytes}
-use Rattle.proof_container.specs.Encoding.{field_bytes, entry_fields, magic, policy_bytes, bound_fields, head_bytes, AreTerms}
-use Rattle.proof_container.specs.Decoding.{Fault, field_at, exact_at, between_at, raw_at, policy_at, bound_at, Front, decoded_head, entries_at, decoded_entries, invs_at, decoded_invs, first_misplaced, unless_misplaced, decoded_end}
+use Rattle.proof_container.specs.Encoding.{field_bytes, entry_fields, lemma_fields, lemmas_fields, magic, policy_bytes, bound_fields, head_bytes, AreTerms}
+use Rattle.proof_container.specs.Decoding.{Fault, field_at, exact_at, between_at, raw_at, policy_at, bound_at, Front, decoded_head, entries_at, decoded_entries, invs_at, decoded_invs, lemmas_at, decoded_lemmas, first_misplaced, unless_misplaced, decoded_end}
 use Rattle.proof_container.proofs.Walks.{ArePostorder-different, misplaced_none}
 use Rattle.proof_container.proofs.FieldLaws.{bind_ok, guard_ok, done, ok_is, field_takes, exact_takes, exact_again, between_takes, between_again, field_there, Stands, Stands-there, Stands-again, Stands-append, Stands-split, AreFields, AreFields-append, length-field_bytes, IsPiece, piece_then, fields_piece, behind_piece, IsRaw, raw_takes, raw_again}
-use Rattle.proof_container.proofs.Sections.{entries_take, entries_again, AreInvs, invs_take, invs_again}
+use Rattle.proof_container.proofs.Sections.{entries_take, entries_again, AreInvs, invs_take, invs_again, lemmas_take, lemmas_again}
+use Rattle.proof_container.proofs.LemmaIds.{few_lemmas, lemmas_of_four, no_lemmas}
 
 -- ---- what names the policy, and the bound
 
@@ -156,13 +158,14 @@ length-bound version (Some n) bounded = ap bound_size (sym bounded.0)
 -- ---- what stands before the entries
 
 -- the contents with this front
-abbrev pub with_front : Front → List (ℕ × Tree) → Option Tree → Contents
-with_front f invs proof = record {
+abbrev pub with_front : Front → List (ℕ × Tree) → List (Tree × Tree) → Option Tree → Contents
+with_front f invs lemmas proof = record {
   version = f.version;
   head = f.head;
   bound = f.bound;
   code = f.code;
   invs = invs;
+  lemmas = lemmas;
   proof = proof;
 }
 
@@ -186,7 +189,7 @@ pub record IsStart (bytes : List ℕ) (f : Front) : Type 0 where
   pub some : 0 < length f.code
   pub short : length f.code ≤ 4 * 1024
   pub stands : IsPiece bytes 0
-      (head_bytes (with_front f [] None) (length f.code / 4) ++ f.code) f.next
+      (head_bytes (with_front f [] [] None) (length f.code / 4) ++ f.code) f.next
 
 -- the fields before the policy, the policy, the bound, and how many words of code follow
 head_stands : (bytes : List ℕ) (c : Contents) (words i : ℕ) → IsBytes bytes
@@ -215,14 +218,14 @@ pub start_takes : (bytes : List ℕ) (f : Front) → IsBytes bytes → decoded_h
 unfolding decoded_head
 start_takes bytes f fits e =
     let a = bind_ok (exact_at bytes 0 magic Magic) _ f e in
-    let b = bind_ok (between_at bytes 1 1 3 Version) _ f a.2 in
+    let b = bind_ok (between_at bytes 1 1 4 Version) _ f a.2 in
     let c = bind_ok (policy_at bytes b.0) _ f b.2 in
     let n = bind_ok (bound_at bytes b.0) _ f c.2 in
     let third : ℕ = 2 + policy_size b.0 in
     let fourth : ℕ = third + bound_size b.0 in
     let d = bind_ok (between_at bytes fourth 1 1024 Count) _ f n.2 in
     let r = bind_ok (raw_at bytes (code_field b.0) d.0) _ f d.2 in
-    let version = between_takes bytes 1 1 3 b.0 Version b.1 in
+    let version = between_takes bytes 1 1 4 b.0 Version b.1 in
     let policy : IsNamed bytes b.0 c.0 = policy_takes bytes b.0 c.0 fits c.1 in
     let bound : IsBounded bytes b.0 n.0 = bound_takes bytes b.0 n.0 n.1 in
     let words = between_takes bytes fourth 1 1024 d.0 Count d.1 in
@@ -236,7 +239,7 @@ start_takes bytes f fits e =
       code = r.0;
       next = code_field b.0 + d.0;
     } in
-    let held : Contents = with_front read [] None in
+    let held : Contents = with_front read [] [] None in
     let size : ℕ = length (bound_fields n.0) in
     let counted : field_at bytes (third + size) ≡ Ok d.0 =
     field_there bytes fourth (third + size) d.0 (omega (arith, bound.long)) words.0 in
@@ -269,14 +272,14 @@ read_there f b bytes j i x same place e =
 
 -- the parts before the entries, one after the other
 pub start_read : (bytes : List ℕ) (first words : ℕ) (f : Front)
-    → exact_at bytes 0 magic Magic ≡ Ok first → between_at bytes 1 1 3 Version ≡ Ok f.version
+    → exact_at bytes 0 magic Magic ≡ Ok first → between_at bytes 1 1 4 Version ≡ Ok f.version
     → policy_at bytes f.version ≡ Ok f.head → bound_at bytes f.version ≡ Ok f.bound
     → between_at bytes (2 + policy_size f.version + bound_size f.version) 1 1024 Count ≡ Ok words
     → raw_at bytes (code_field f.version) words ≡ Ok f.code
     → f.next ≡ code_field f.version + words → decoded_head bytes ≡ Ok f
 unfolding decoded_head
 start_read bytes first words f a b c d n e place =
-    let at : ℕ → Front = front_with (with_front f [] None) in
+    let at : ℕ → Front = front_with (with_front f [] [] None) in
     let read : decoded_head bytes ≡ Ok (at (code_field f.version + words)) =
     rw (a, b, c, d, n, e) refl in
     read ∙ ap (λ (k : ℕ). done (at k)) (sym place)
@@ -333,8 +336,8 @@ start_again bytes c words rest known named bounded long some short e =
     subst (λ (k : ℕ). drop (4 * k) bytes ≡ c.code ++ rest) (omega (arith, size)) both.2 in
     let magic_is : exact_at bytes 0 magic Magic ≡ Ok magic =
     exact_again bytes 0 magic Magic first.0 in
-    let version_is : between_at bytes 1 1 3 Version ≡ Ok v =
-    between_again bytes 1 1 3 v Version first.1.0 known.0 known.1 in
+    let version_is : between_at bytes 1 1 4 Version ≡ Ok v =
+    between_again bytes 1 1 4 v Version first.1.0 known.0 known.1 in
     let policy_is : policy_at bytes v ≡ Ok c.head =
     policy_again bytes v c.head (counts ++ (c.code ++ rest)) named at_policy in
     let bound_is : bound_at bytes v ≡ Ok c.bound =
@@ -351,50 +354,50 @@ start_again bytes c words rest known named bounded long some short e =
       left = behind_piece bytes (code_field v) words c.code rest at_code long;
     }
 
--- ---- entries and invariants with their counts
+-- ---- entries, invariants and lemmas with their counts
 
--- the entries es are read from field i on, up to the field before next
-pub record AreEntries (bytes : List ℕ) (i : ℕ) (es : List Tree) (next : ℕ) : Type 0 where
+-- the entries es are read in this version from field i on, up to the field before next
+pub record AreEntries (v : ℕ) (bytes : List ℕ) (i : ℕ) (es : List Tree) (next : ℕ) : Type 0 where
   pub extends : ArePostorder [] es
-  pub terms : AreTerms es
+  pub terms : AreTerms v es
   pub few : length es ≤ 262144
   pub stands : Stands bytes i (length es ∷ flat_map (entry_fields es) es)
   pub behind : next ≡ i + length (length es ∷ flat_map (entry_fields es) es)
 
-pub entries_read_takes : (bytes : List ℕ) (i : ℕ) (es : List Tree) (next : ℕ) → IsBytes bytes
-    → decoded_entries bytes i ≡ Ok (es, next) → AreEntries bytes i es next
+pub entries_read_takes : (v : ℕ) (bytes : List ℕ) (i : ℕ) (es : List Tree) (next : ℕ) → IsBytes bytes
+    → decoded_entries v bytes i ≡ Ok (es, next) → AreEntries v bytes i es next
 unfolding decoded_entries
-entries_read_takes bytes i es next fits e =
+entries_read_takes v bytes i es next fits e =
     let a = bind_ok (between_at bytes i 0 262144 Count) _ (es, next) e in
     let n = between_takes bytes i 0 262144 a.0 Count a.1 in
-    let b = entries_take a.0 bytes (i + 1) [] (es, next) fits tt tt a.2 in
+    let b = entries_take v a.0 bytes (i + 1) [] (es, next) fits tt tt a.2 in
     let us : List Tree = b.0 in
     let is : us ≡ es = sym b.1.all in
     let count : field_at bytes i ≡ Ok (length us) = n.0 ∙ ap Ok (sym b.1.count) in
     let others : Stands bytes (suc i) (flat_map (entry_fields us) us) =
     Stands-there bytes (i + 1) (suc i) (flat_map (entry_fields us) us) (omega arith)
     b.1.stands in
-    let made : AreEntries bytes i us next = record {
+    let made : AreEntries v bytes i us next = record {
       extends = b.1.extends;
       terms = b.1.terms;
       few = omega (arith, n.2, b.1.count);
       stands = (count, others);
       behind = omega (arith, b.1.next);
     } in
-    subst (λ (x : List Tree). AreEntries bytes i x next) is made
+    subst (λ (x : List Tree). AreEntries v bytes i x next) is made
 
-pub entries_read_again : (bytes : List ℕ) (i : ℕ) (es : List Tree) (next : ℕ)
-    → AreEntries bytes i es next → decoded_entries bytes i ≡ Ok (es, next)
+pub entries_read_again : (v : ℕ) (bytes : List ℕ) (i : ℕ) (es : List Tree) (next : ℕ)
+    → AreEntries v bytes i es next → decoded_entries v bytes i ≡ Ok (es, next)
 unfolding decoded_entries
-entries_read_again bytes i es next p =
+entries_read_again v bytes i es next p =
     let count : between_at bytes i 0 262144 Count ≡ Ok (length es) =
     between_again bytes i 0 262144 (length es) Count p.stands.0 (omega arith) p.few in
     let there : Stands bytes (i + 1) (flat_map (entry_fields es) es) =
     Stands-there bytes (suc i) (i + 1) (flat_map (entry_fields es) es) (omega arith)
     p.stands.1 in
     let size : ℕ = length (flat_map (entry_fields es) es) in
-    let others : entries_at (length es) bytes (i + 1) [] ≡ Ok (es, i + 1 + size) =
-    entries_again es bytes (i + 1) [] p.extends p.terms there in
+    let others : entries_at v (length es) bytes (i + 1) [] ≡ Ok (es, i + 1 + size) =
+    entries_again v es bytes (i + 1) [] p.extends p.terms there in
     let behind : i + 1 + size ≡ next = omega (arith, p.behind) in
     rw (count, others, behind) refl
 
@@ -416,6 +419,92 @@ invs_read_again bytes i es words invs few e p =
     let next : suc i ≡ i + 1 = omega arith in
     let others : invs_at (length invs) bytes (i + 1) es words 0 [] ≡ Ok invs = invs_again invs bytes (i + 1) es words 0 [] (subst (λ (k : ℕ). AreInvs bytes k es words 0 invs) next p) in
     rw (count, others) refl
+
+-- the lemmas that were read in this version from field i on, where it has some
+pub record LemmasRead (v : ℕ) (bytes : List ℕ) (i : ℕ) (es : List Tree) (lemmas : List (Tree × Tree))
+    : Type 0 where
+  pub of_version : AreLemmasOf v lemmas
+  pub stands : Stands bytes i (lemmas_fields v es lemmas)
+  pub listed : AreEmitted es (lemma_roots lemmas)
+
+four_lemmas : (bytes : List ℕ) (i : ℕ) (es : List Tree) (lemmas : List (Tree × Tree))
+    → AreDifferent es → decoded_lemmas 4 bytes i es ≡ Ok lemmas → LemmasRead 4 bytes i es lemmas
+unfolding decoded_lemmas
+four_lemmas bytes i es lemmas different e =
+    let a = bind_ok (between_at bytes i 0 256 Count) _ lemmas e in
+    let n = between_takes bytes i 0 256 a.0 Count a.1 in
+    let b = lemmas_take a.0 bytes (i + 1) es [] lemmas different a.2 in
+    let there : Stands bytes (suc i) (flat_map (lemma_fields es) b.0) =
+    Stands-there bytes (i + 1) (suc i) (flat_map (lemma_fields es) b.0) (omega arith) b.3.stands in
+    let made : LemmasRead 4 bytes i es b.0 = record {
+      of_version = lemmas_of_four b.0 (omega (arith, n.2, b.2));
+      stands = (n.0 ∙ ap Ok (sym b.2), there);
+      listed = b.3.listed;
+    } in
+    subst (λ (x : List (Tree × Tree)). LemmasRead 4 bytes i es x) (sym b.1) made
+
+none_read : (v : ℕ) (bytes : List ℕ) (i : ℕ) (es : List Tree) (lemmas : List (Tree × Tree))
+    → v ≢ 4 → decoded_lemmas v bytes i es ≡ Ok lemmas → LemmasRead v bytes i es lemmas
+unfolding decoded_lemmas
+none_read v bytes i es lemmas other e =
+    let not_fourth : eqb v 4 ≡ false = ne_eqb v 4 other in
+    let none : List (Tree × Tree) = [] in
+    let read : decoded_lemmas v bytes i es ≡ done none = rw not_fourth refl in
+    let empty : lemmas_fields v es none ≡ [] = rw not_fourth refl in
+    let made : LemmasRead v bytes i es none = record {
+      of_version = tt;
+      stands = subst (λ (fs : List ℕ). Stands bytes i fs) (sym empty) tt;
+      listed = tt;
+    } in
+    subst (λ (x : List (Tree × Tree)). LemmasRead v bytes i es x) (ok_is none lemmas (sym read ∙ e))
+    made
+
+pub lemmas_read_takes : (v : ℕ) (bytes : List ℕ) (i : ℕ) (es : List Tree)
+    (lemmas : List (Tree × Tree)) → AreDifferent es → decoded_lemmas v bytes i es ≡ Ok lemmas
+    → LemmasRead v bytes i es lemmas
+lemmas_read_takes v bytes i es lemmas different e =
+    elim (cases_eq v 4) [
+      | inl fourth ↦
+          let there = subst (λ (u : ℕ). decoded_lemmas u bytes i es ≡ Ok lemmas) fourth e in
+          subst (λ (u : ℕ). LemmasRead u bytes i es lemmas) (sym fourth)
+          (four_lemmas bytes i es lemmas different there)
+      | inr other ↦ none_read v bytes i es lemmas other e
+    ]
+
+four_again : (bytes : List ℕ) (i : ℕ) (es : List Tree) (lemmas : List (Tree × Tree))
+    → LemmasRead 4 bytes i es lemmas → decoded_lemmas 4 bytes i es ≡ Ok lemmas
+unfolding decoded_lemmas
+four_again bytes i es lemmas p =
+    let count : between_at bytes i 0 256 Count ≡ Ok (length lemmas) =
+    between_again bytes i 0 256 (length lemmas) Count p.stands.0 (omega arith)
+    (few_lemmas 4 lemmas p.of_version) in
+    let there : Stands bytes (i + 1) (flat_map (lemma_fields es) lemmas) =
+    Stands-there bytes (suc i) (i + 1) (flat_map (lemma_fields es) lemmas) (omega arith)
+    p.stands.1 in
+    let others : lemmas_at (length lemmas) bytes (i + 1) es [] ≡ Ok lemmas =
+    lemmas_again lemmas bytes (i + 1) es [] (record { stands = there; listed = p.listed }) in
+    rw (count, others) refl
+
+none_again : (v : ℕ) (bytes : List ℕ) (i : ℕ) (es : List Tree) (lemmas : List (Tree × Tree))
+    → v ≢ 4 → LemmasRead v bytes i es lemmas → decoded_lemmas v bytes i es ≡ Ok lemmas
+unfolding decoded_lemmas
+none_again v bytes i es lemmas other p =
+    let not_fourth : eqb v 4 ≡ false = ne_eqb v 4 other in
+    let none : List (Tree × Tree) = [] in
+    let read : decoded_lemmas v bytes i es ≡ done none = rw not_fourth refl in
+    read ∙ ap done (sym (no_lemmas v lemmas other p.of_version))
+
+pub lemmas_read_again : (v : ℕ) (bytes : List ℕ) (i : ℕ) (es : List Tree)
+    (lemmas : List (Tree × Tree)) → LemmasRead v bytes i es lemmas
+    → decoded_lemmas v bytes i es ≡ Ok lemmas
+lemmas_read_again v bytes i es lemmas p =
+    elim (cases_eq v 4) [
+      | inl fourth ↦
+          let there = subst (λ (u : ℕ). LemmasRead u bytes i es lemmas) fourth p in
+          subst (λ (u : ℕ). decoded_lemmas u bytes i es ≡ Ok lemmas) (sym fourth)
+          (four_again bytes i es lemmas there)
+      | inr other ↦ none_again v bytes i es lemmas other p
+    ]
 
 -- ---- the end
 

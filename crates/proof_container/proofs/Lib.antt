@@ -14,5 +14,6 @@ pub mod Ordering
 pub mod Written
 pub mod Ready
 pub mod Same
+pub mod LemmaIds
 mod Rows
 pub mod Rewriting

@@ -17,7 +17,7 @@ use Rattle.proof_container.proofs.Counted.{read_there}
 pub record IsOpened (bytes : List ℕ) (first version : ℕ) (h : Head) (b : Option ℕ)
     (behind : Fields) : Type 0 where
   pub magic_is : exact_at bytes 0 magic Magic ≡ Ok first
-  pub version_is : between_at bytes 1 1 3 Version ≡ Ok version
+  pub version_is : between_at bytes 1 1 4 Version ≡ Ok version
   pub policy_is : policy_at bytes version ≡ Ok h
   pub bound_is : bound_at bytes version ≡ Ok b
   pub bytes_are : behind.bytes.now ≡ bytes
@@ -26,7 +26,7 @@ pub record IsOpened (bytes : List ℕ) (first version : ℕ) (h : Head) (b : Opt
 -- each was read of the same bytes, at its place
 pub opened : (f0 f1 f2 f3 f4 : Fields) (first version : ℕ) (h : Head) (b : Option ℕ) → f0.read ≡ 0
     → exact_at f0.bytes.now f0.read magic Magic ≡ Ok first → IsPast f0 f1 1
-    → between_at f1.bytes.now f1.read 1 3 Version ≡ Ok version → IsPast f1 f2 1
+    → between_at f1.bytes.now f1.read 1 4 Version ≡ Ok version → IsPast f1 f2 1
     → policy_at f2.bytes.now version ≡ Ok h → IsPast f2 f3 (policy_size version)
     → bound_at f3.bytes.now version ≡ Ok b → IsPast f3 f4 (bound_size version)
     → IsOpened f0.bytes.now first version h b f4
@@ -37,7 +37,7 @@ opened f0 f1 f2 f3 f4 first version h b start a p q r s t u v =
     record {
       magic_is = read_there (λ b i. exact_at b i magic Magic) bytes bytes f0.read 0 first refl start a;
       version_is =
-          read_there (λ b i. between_at b i 1 3 Version) f1.bytes.now bytes f1.read 1 version p.bytes
+          read_there (λ b i. between_at b i 1 4 Version) f1.bytes.now bytes f1.read 1 version p.bytes
           (omega (arith, start, p.read)) q;
       policy_is =
           read_there (λ b i. policy_at b version) f2.bytes.now bytes 2 2 h at_policy refl s;

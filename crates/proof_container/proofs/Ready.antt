@@ -3,15 +3,17 @@ use Rattle.std.proofs.Common.{◌≡◌, ℕ, ◌/◌, true, List, [], ◌∷◌
 use Rattle.std.specs.Option.{option_map}
 use Rattle.std.proofs.lemmas.List.{length-map}
 use Rattle.term_table.specs.Tree.{Tree, Var, Con, App, Lam, Fam, TApp, Pi}
-use Rattle.term_table.specs.Table.{TableView, tree_at, AreSmall, id_trees}
+use Rattle.term_table.specs.Table.{TableView, IsKnown, tree_at, AreSmall, id_trees}
+use Rattle.lf_lemmas.specs.Tables.{lemmas_in, LemmasKnown}
 use Rattle.proof_container.specs.declared.container.View.{View}
 use Rattle.proof_container.specs.declared.walk.Walk.{Walk}
-use Rattle.proof_container.specs.Contents.{Contents, one_or_none, roots}
+use Rattle.proof_container.specs.Contents.{Contents, one_or_none, lemma_roots, roots}
 use Rattle.proof_container.specs.Postorder.{is_emitted, HasPartsFirst, ArePostorder, AreEmitted, entries}
 use Rattle.term_table.specs.Bytes.{IsBytes}
 use Rattle.proof_container.specs.Encoding.{field_bytes, head_bytes, tail_fields, encoding_of, AreTerms, IsContents}
 use Rattle.proof_container.specs.Views.{AreKnown, AllTerms, IsWritable, view_contents}
 use Rattle.proof_container.specs.Inside.Walked.{IsLeft, IsReady, HaveParts, root_trees, left_trees}
+use Rattle.proof_container.proofs.LemmaIds.{in_ids}
 use Rattle.proof_container.proofs.Small.{AreEmitted-split}
 use Rattle.proof_container.proofs.Walks.{listed-left, entries_grow, entries_listed}
 
@@ -41,29 +43,55 @@ listed_proof : (t : TableView) (es : List Tree) (proof : Option ℕ) → AreEmit
 listed_proof t es None listed = tt
 listed_proof t es (Some id) listed = listed.0
 
-pub ready : (v : View) (w : Walk) → IsWritable v → IsLeft v.table.now (entries (root_trees v.table.now v.invs.now v.proof)) w → IsReady v w
+pub ready : (v : View) (w : Walk) → IsWritable v → IsLeft v.table.now (entries (root_trees v.table.now v.invs.now v.lemmas.now v.proof)) w → IsReady v w
 ready v w writable is =
     let t : TableView = v.table.now in
-    let rs : List Tree = root_trees t v.invs.now v.proof in
+    let rs : List Tree = root_trees t v.invs.now v.lemmas.now v.proof in
     let same : entries rs ≡ left_trees t w = sym is.left in
     let listed : AreEmitted (entries rs) rs = entries_listed rs in
-    let apart = AreEmitted-split (entries rs) (map (λ p. p.1) (id_trees t v.invs.now)) (one_or_none (option_map (tree_at t) v.proof)) listed in
+    let of_lemmas : List Tree = lemma_roots (lemmas_in t v.lemmas.now) in
+    let of_proof : List Tree = one_or_none (option_map (tree_at t) v.proof) in
+    let apart =
+    AreEmitted-split (entries rs) (map (λ p. p.1) (id_trees t v.invs.now)) (of_lemmas ++ of_proof)
+    listed in
+    let both = AreEmitted-split (entries rs) of_lemmas of_proof apart.1 in
     record {
       left = subst (λ (z : List Tree). IsLeft t z w) same is;
       parts = subst (λ (z : List Tree). HaveParts z z) same (have_parts [] (entries rs) (entries_grow rs));
       known = writable.known;
       invs = subst (λ (z : List Tree). AreEmitted z (map (λ inv. tree_at t inv.1) v.invs.now)) same (listed_invs t (entries rs) v.invs.now apart.0);
-      proof = subst (λ (z : List Tree). IfSome v.proof (λ id. is_emitted (tree_at t id) z ≡ true)) same (listed_proof t (entries rs) v.proof apart.1);
+      known_lemmas = writable.known_lemmas;
+      lemmas = subst (λ (z : List Tree). AreEmitted z of_lemmas) same both.0;
+      proof = subst (λ (z : List Tree). IfSome v.proof (λ id. is_emitted (tree_at t id) z ≡ true)) same (listed_proof t (entries rs) v.proof both.1);
       few = omega (arith, length-map w.left.items (tree_at t), ap length is.left, writable.entries);
       few_invs = writable.invs;
+      few_lemmas = writable.lemmas;
     }
 
 -- ---- what the view holds
 
-root_terms : (t : TableView) (invs : List (ℕ × ℕ)) (proof : Option ℕ) → AreKnown t invs proof → AreSmall t.trees → AllTerms (root_trees t invs proof) → AreTerms (root_trees t invs proof)
-root_terms t [] None known small terms = tt
-root_terms t [] (Some id) known small terms = (terms.0, small id known.1, tt)
-root_terms t (inv ∷ invs) proof known small terms = (terms.0, small inv.1 known.0.0, root_terms t invs proof (known.0.1, known.1) small terms.1)
+-- the trees of lemmas and a proof
+abbrev last_trees : TableView → List (ℕ × ℕ) → Option ℕ → List Tree
+last_trees t lemmas proof =
+    lemma_roots (lemmas_in t lemmas) ++ one_or_none (option_map (tree_at t) proof)
+
+last_terms : (v : ℕ) (t : TableView) (lemmas : List (ℕ × ℕ)) (proof : Option ℕ)
+    → LemmasKnown t lemmas → IfSome proof (IsKnown t) → AreSmall t.trees
+    → AllTerms v (last_trees t lemmas proof) → AreTerms v (last_trees t lemmas proof)
+last_terms v t [] None known has small terms = tt
+last_terms v t [] (Some id) known has small terms = (terms.0, small id has, tt)
+last_terms v t (l ∷ lemmas) proof known has small terms =
+    let others = last_terms v t lemmas proof known.2 has small terms.1.1 in
+    (terms.0, small l.0 known.0, (terms.1.0, small l.1 known.1, others))
+
+root_terms : (v : ℕ) (t : TableView) (invs lemmas : List (ℕ × ℕ)) (proof : Option ℕ)
+    → AreKnown t invs proof → LemmasKnown t lemmas → AreSmall t.trees
+    → AllTerms v (root_trees t invs lemmas proof) → AreTerms v (root_trees t invs lemmas proof)
+root_terms v t [] lemmas proof known has small terms =
+    last_terms v t lemmas proof has known.1 small terms
+root_terms v t (inv ∷ invs) lemmas proof known has small terms =
+    let others = root_terms v t invs lemmas proof (known.0.1, known.1) has small terms.1 in
+    (terms.0, small inv.1 known.0.0, others)
 
 pub view_holds : (v : View) → IsWritable v → IsBytes v.code.now → AreSmall v.table.now.trees
     → IsContents (view_contents v)
@@ -75,10 +103,13 @@ view_holds v writable bytes small = record {
   whole = writable.whole;
   some = writable.some;
   short = writable.short;
-  terms = root_terms v.table.now v.invs.now v.proof writable.known small writable.terms;
+  terms =
+      root_terms v.version v.table.now v.invs.now v.lemmas.now v.proof writable.known
+      writable.known_lemmas small writable.terms;
   entries = writable.entries;
   invs = omega (arith, writable.invs, length-map {B = ℕ × Tree} v.invs.now (λ inv. (inv.0, tree_at v.table.now inv.1)));
   rising = writable.rising;
+  lemmas = in_ids v.table.now v.version v.lemmas.now writable.lemmas;
 }
 
 pub is_spelling : (c : Contents) (es : List Tree) (out : List ℕ) → es ≡ entries (roots c)

@@ -8,14 +8,15 @@ use Rattle.proof_container.specs.declared.container.View.{View}
 use Rattle.proof_container.specs.Contents.{roots}
 use Rattle.proof_container.specs.Encoding.{AreTerms, IsContents, EncodesContents}
 use Rattle.proof_container.specs.Views.{AllTerms, AreKnown, IsCanonical, IsWritable, Shows, contents_of, view_contents}
+use Rattle.proof_container.proofs.LemmaIds.{of_ids}
 
-AreTerms-all : (ts : List Tree) → AreTerms ts → AllTerms ts
-AreTerms-all [] h = tt
-AreTerms-all (t ∷ ts) h = (h.0, AreTerms-all ts h.2)
+AreTerms-all : (v : ℕ) (ts : List Tree) → AreTerms v ts → AllTerms v ts
+AreTerms-all v [] h = tt
+AreTerms-all v (t ∷ ts) h = (h.0, AreTerms-all v ts h.2)
 
 -- a view of it shows what it holds
 shown : (c : Container) (v : View) → Shows c v → view_contents v ≡ contents_of c
-shown c v s = rw (s.version, s.head, s.bound, s.code, s.table, s.invs, s.proof) refl
+shown c v s = rw (s.version, s.head, s.bound, s.code, s.table, s.invs, s.lemmas, s.proof) refl
 
 pub rewritable : (bytes : List ℕ) (c : Container) (v : View) → EncodesContents bytes (contents_of c) → IsCanonical c → Shows c v → IsWritable v
 rewritable bytes c v p q s =
@@ -28,11 +29,13 @@ rewritable bytes c v p q s =
       head = h.head;
       bound = h.bound;
       known = known;
-      terms = AreTerms-all (roots (view_contents v)) h.terms;
+      known_lemmas = rw (s.table, s.lemmas) q.known_lemmas;
+      terms = AreTerms-all v.version (roots (view_contents v)) h.terms;
       whole = h.whole;
       some = h.some;
       short = h.short;
       entries = h.entries;
       invs = few;
       rising = h.rising;
+      lemmas = of_ids v.table.now v.version v.lemmas.now h.lemmas;
     }

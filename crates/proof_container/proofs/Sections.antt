@@ -1,15 +1,16 @@
--- The entries, the invariants and the proof of a container: each is read as its fields say.
-use Rattle.std.proofs.Common.{◌≡◌, ◌≢◌, ℕ, zero, suc, ◌+◌, ◌*◌, ◌-◌, ◌<◌, ◌≤◌, true, false, cond, ◌||◌, ltb, eqb, List, [], ◌∷◌, ◌++◌, length, map, Option, Some, None, Result, Ok, Err, refl, sym, ap, subst, ◌∙◌, append_assoc, append-nil, add-zero, add-one, length-append, inl, inr, arith}
+-- The entries, the invariants, the lemmas and the proof of a container: each is read as its fields say.
+use Rattle.std.proofs.Common.{◌≡◌, ◌≢◌, ℕ, zero, suc, ◌+◌, ◌*◌, ◌-◌, ◌<◌, ◌≤◌, Bool, true, false, cond, ◌||◌, ltb, eqb, List, [], ◌∷◌, ◌++◌, length, map, Option, Some, None, Result, Ok, Err, refl, sym, ap, subst, ◌∙◌, append_assoc, append-nil, add-zero, add-one, length-append, inl, inr, arith}
 use Rattle.std.specs.List.{flat_map}
 use Rattle.std.proofs.lemmas.Bool.{ltb-false, le-ltb, eqb-true, eqb-false, ne_eqb}
 use Rattle.term_table.specs.Tree.{Tree}
 use Rattle.term_table.specs.Table.{tree_in, AreDifferent}
 use Rattle.proof_container.specs.declared.fault.Flaw.TheVariants.{ForwardRef, InvOrder}
-use Rattle.proof_container.specs.Contents.{one_or_none}
+use Rattle.proof_container.specs.Contents.{one_or_none, lemma_roots}
 use Rattle.proof_container.specs.Postorder.{is_emitted, HasPartsFirst, ArePostorder, AreEmitted}
 use Rattle.term_table.specs.Bytes.{IsBytes}
-use Rattle.proof_container.specs.Encoding.{entry_number, entry_fields, inv_fields, proof_field, AreTerms, AreRising}
-use Rattle.proof_container.specs.Decoding.{Fault, field_at, part_at, entry_at, entry_size, entries_at, inv_at, invs_at, decoded_proof}
+use Rattle.proof_container.specs.Encoding.{entry_number, entry_fields, inv_fields, lemma_fields, lemmas_fields, proof_field, AreTerms, AreRising}
+use Rattle.proof_container.specs.Decoding.{Fault, field_at, part_at, entry_at, entry_size, entries_at, inv_at, invs_at, lemmas_at, decoded_proof}
+use Rattle.proof_container.specs.Versions.{lemmas_size}
 use Rattle.proof_container.proofs.Walks.{ArePostorder-append, ArePostorder-different, number_is, number-at, listed-at}
 use Rattle.proof_container.proofs.FieldLaws.{bind_ok, guard_ok, either_ok, neither, ok_is, Stands, Stands-append, Stands-split, field_there}
 use Rattle.proof_container.proofs.EntryLaws.{part_takes, part_again, IsEntry, entry_takes, entry_again, entry_fields-append, entry_size_is}
@@ -21,17 +22,17 @@ abbrev pub later_fields : List Tree → List Tree → List ℕ
 later_fields ts us = flat_map (entry_fields (ts ++ us)) us
 
 -- the entries us behind ts are read from field i on: all trees, and the next field
-pub record AreRead (bytes : List ℕ) (i n : ℕ) (ts us : List Tree) (r : List Tree × ℕ) : Type 0 where
+pub record AreRead (v : ℕ) (bytes : List ℕ) (i n : ℕ) (ts us : List Tree) (r : List Tree × ℕ) : Type 0 where
   pub all : r.0 ≡ ts ++ us
   pub count : length us ≡ n
   pub extends : ArePostorder ts us
-  pub terms : AreTerms us
+  pub terms : AreTerms v us
   pub stands : Stands bytes i (later_fields ts us)
   pub next : r.1 ≡ i + length (later_fields ts us)
 
-pub AreTerms-append : (ts us : List Tree) → AreTerms ts → AreTerms us → AreTerms (ts ++ us)
-AreTerms-append [] us p q = q
-AreTerms-append (t ∷ ts) us p q = (p.0, p.1, AreTerms-append ts us p.2 q)
+pub AreTerms-append : (v : ℕ) (ts us : List Tree) → AreTerms v ts → AreTerms v us → AreTerms v (ts ++ us)
+AreTerms-append v [] us p q = q
+AreTerms-append v (t ∷ ts) us p q = (p.0, p.1, AreTerms-append v ts us p.2 q)
 
 -- behind an entry, the fields of the others are the same
 pub later_fields-cons : (ts us : List Tree) (t : Tree) → HasPartsFirst ts t → later_fields ts (t ∷ us) ≡ entry_fields ts t ++ later_fields (ts ++ t ∷ []) us
@@ -47,8 +48,8 @@ length-later_fields ts us t parts =
     ∙ ap (λ (n : ℕ). n + length (later_fields (ts ++ t ∷ []) us)) (sym (entry_size_is ts t))
 
 -- an entry, and the others behind it
-pub AreRead-cons : (bytes : List ℕ) (i n : ℕ) (ts us : List Tree) (t : Tree) (r : List Tree × ℕ) → IsEntry bytes i ts t → is_emitted t ts ≡ false → AreRead bytes (i + entry_size t) n (ts ++ t ∷ []) us r → AreRead bytes i (suc n) ts (t ∷ us) r
-AreRead-cons bytes i n ts us t r here new others =
+pub AreRead-cons : (v : ℕ) (bytes : List ℕ) (i n : ℕ) (ts us : List Tree) (t : Tree) (r : List Tree × ℕ) → IsEntry v bytes i ts t → is_emitted t ts ≡ false → AreRead v bytes (i + entry_size t) n (ts ++ t ∷ []) us r → AreRead v bytes i (suc n) ts (t ∷ us) r
+AreRead-cons v bytes i n ts us t r here new others =
     let behind : i + entry_size t ≡ i + length (entry_fields ts t) = ap (λ (k : ℕ). i + k) (entry_size_is ts t) in
     let both : Stands bytes i (entry_fields ts t ++ later_fields (ts ++ t ∷ []) us) = Stands-append bytes i (i + entry_size t) (entry_fields ts t) (later_fields (ts ++ t ∷ []) us) behind here.stands others.stands in
     record {
@@ -60,32 +61,32 @@ AreRead-cons bytes i n ts us t r here new others =
       next = omega (arith, others.next, length-later_fields ts us t here.parts);
     }
 
-pub entries_take : (n : ℕ) (bytes : List ℕ) (i : ℕ) (ts : List Tree) (r : List Tree × ℕ) → IsBytes bytes → ArePostorder [] ts → AreTerms ts → entries_at n bytes i ts ≡ Ok r → (us : List Tree) × AreRead bytes i n ts us r
+pub entries_take : (v n : ℕ) (bytes : List ℕ) (i : ℕ) (ts : List Tree) (r : List Tree × ℕ) → IsBytes bytes → ArePostorder [] ts → AreTerms v ts → entries_at v n bytes i ts ≡ Ok r → (us : List Tree) × AreRead v bytes i n ts us r
 unfolding entries_at
-entries_take zero bytes i ts r fits grown terms e =
-    ([], subst (λ (x : List Tree × ℕ). AreRead bytes i 0 ts [] x) (ok_is (ts, i) r e) (record { all = sym (append-nil ts); count = refl; extends = tt; terms = tt; stands = tt; next = sym (add-zero i) }))
-entries_take (suc n) bytes i ts r fits grown terms e =
-    let a = bind_ok (entry_at bytes i ts) _ r e in
+entries_take v zero bytes i ts r fits grown terms e =
+    ([], subst (λ (x : List Tree × ℕ). AreRead v bytes i 0 ts [] x) (ok_is (ts, i) r e) (record { all = sym (append-nil ts); count = refl; extends = tt; terms = tt; stands = tt; next = sym (add-zero i) }))
+entries_take v (suc n) bytes i ts r fits grown terms e =
+    let a = bind_ok (entry_at v bytes i ts) _ r e in
     let t = a.0 in
     let g = guard_ok (is_emitted t ts) _ _ r a.2 in
-    let here : IsEntry bytes i ts t = entry_takes bytes i ts fits (ArePostorder-different ts grown) terms t a.1 in
+    let here : IsEntry v bytes i ts t = entry_takes v bytes i ts fits (ArePostorder-different ts grown) terms t a.1 in
     let grown_on : ArePostorder [] (ts ++ t ∷ []) = ArePostorder-append [] ts (t ∷ []) grown (here.parts, g.0, tt) in
-    let terms_on : AreTerms (ts ++ t ∷ []) = AreTerms-append ts (t ∷ []) terms (here.term, here.small, tt) in
-    let others = entries_take n bytes (i + entry_size t) (ts ++ t ∷ []) r fits grown_on terms_on g.1 in
-    (t ∷ others.0, AreRead-cons bytes i n ts others.0 t r here g.0 others.1)
+    let terms_on : AreTerms v (ts ++ t ∷ []) = AreTerms-append v ts (t ∷ []) terms (here.term, here.small, tt) in
+    let others = entries_take v n bytes (i + entry_size t) (ts ++ t ∷ []) r fits grown_on terms_on g.1 in
+    (t ∷ others.0, AreRead-cons v bytes i n ts others.0 t r here g.0 others.1)
 
-pub entries_again : (us : List Tree) (bytes : List ℕ) (i : ℕ) (ts : List Tree) → ArePostorder ts us → AreTerms us → Stands bytes i (later_fields ts us) → entries_at (length us) bytes i ts ≡ Ok (ts ++ us, i + length (later_fields ts us))
+pub entries_again : (v : ℕ) (us : List Tree) (bytes : List ℕ) (i : ℕ) (ts : List Tree) → ArePostorder ts us → AreTerms v us → Stands bytes i (later_fields ts us) → entries_at v (length us) bytes i ts ≡ Ok (ts ++ us, i + length (later_fields ts us))
 unfolding entries_at
-entries_again [] bytes i ts extends terms p = rw (append-nil ts, add-zero i) refl
-entries_again (t ∷ us) bytes i ts extends terms p =
+entries_again v [] bytes i ts extends terms p = rw (append-nil ts, add-zero i) refl
+entries_again v (t ∷ us) bytes i ts extends terms p =
     let behind : i + entry_size t ≡ i + length (entry_fields ts t) = ap (λ (k : ℕ). i + k) (entry_size_is ts t) in
     let apart : Stands bytes i (entry_fields ts t ++ later_fields (ts ++ t ∷ []) us) = subst (λ (fs : List ℕ). Stands bytes i fs) (later_fields-cons ts us t extends.0) p in
     let both = Stands-split bytes i (i + entry_size t) (entry_fields ts t) (later_fields (ts ++ t ∷ []) us) behind apart in
-    let here : entry_at bytes i ts ≡ Ok t = entry_again bytes i ts t terms.0 extends.0 both.0 in
-    let others : entries_at (length us) bytes (i + entry_size t) (ts ++ t ∷ []) ≡ Ok ((ts ++ t ∷ []) ++ us, i + entry_size t + length (later_fields (ts ++ t ∷ []) us)) = entries_again us bytes (i + entry_size t) (ts ++ t ∷ []) extends.2 terms.2 both.1 in
+    let here : entry_at v bytes i ts ≡ Ok t = entry_again v bytes i ts t terms.0 extends.0 both.0 in
+    let others : entries_at v (length us) bytes (i + entry_size t) (ts ++ t ∷ []) ≡ Ok ((ts ++ t ∷ []) ++ us, i + entry_size t + length (later_fields (ts ++ t ∷ []) us)) = entries_again v us bytes (i + entry_size t) (ts ++ t ∷ []) extends.2 terms.2 both.1 in
     let next : i + entry_size t + length (later_fields (ts ++ t ∷ []) us) ≡ i + length (later_fields ts (t ∷ us)) = omega (arith, length-later_fields ts us t extends.0) in
-    let first : entries_at (suc (length us)) bytes i ts ≡ entries_at (length us) bytes (i + entry_size t) (ts ++ t ∷ []) = rw (here, extends.1) refl in
-    let same : entries_at (length us) bytes (i + entry_size t) (ts ++ t ∷ []) ≡ Ok (ts ++ t ∷ us, i + length (later_fields ts (t ∷ us))) = rw (others, next, append_assoc ts (t ∷ []) us) refl in
+    let first : entries_at v (suc (length us)) bytes i ts ≡ entries_at v (length us) bytes (i + entry_size t) (ts ++ t ∷ []) = rw (here, extends.1) refl in
+    let same : entries_at v (length us) bytes (i + entry_size t) (ts ++ t ∷ []) ≡ Ok (ts ++ t ∷ us, i + length (later_fields ts (t ∷ us))) = rw (others, next, append_assoc ts (t ∷ []) us) refl in
     first ∙ same
 
 -- ---- invariants
@@ -169,6 +170,79 @@ invs_again (inv ∷ invs) bytes i es words low before p =
 pub length-invs : (es : List Tree) (invs : List (ℕ × Tree)) → length (flat_map (inv_fields es) invs) ≡ 2 * length invs
 length-invs es [] = refl
 length-invs es (inv ∷ invs) = omega (arith, length-invs es invs)
+
+-- ---- lemmas
+
+-- lemmas that stand from field i on
+pub record AreLemmas (bytes : List ℕ) (i : ℕ) (es : List Tree) (lemmas : List (Tree × Tree))
+    : Type 0 where
+  pub stands : Stands bytes i (flat_map (lemma_fields es) lemmas)
+  pub listed : AreEmitted es (lemma_roots lemmas)
+
+pub lemmas_take : (n : ℕ) (bytes : List ℕ) (i : ℕ) (es : List Tree)
+    (before all : List (Tree × Tree)) → AreDifferent es → lemmas_at n bytes i es before ≡ Ok all
+    → (lemmas : List (Tree × Tree)) × (all ≡ before ++ lemmas) × (length lemmas ≡ n)
+    × AreLemmas bytes i es lemmas
+unfolding lemmas_at
+lemmas_take zero bytes i es before all different e =
+    ([], sym (ok_is before all e) ∙ sym (append-nil before), refl, record { stands = tt; listed = tt })
+lemmas_take (suc n) bytes i es before all different e =
+    let a = bind_ok (part_at bytes i es) _ all e in
+    let b = bind_ok (part_at bytes (i + 1) es) _ all a.2 in
+    let one : Tree × Tree = (a.0, b.0) in
+    let formula = part_takes bytes i es a.0 different a.1 in
+    let proof = part_takes bytes (i + 1) es b.0 different b.1 in
+    let second : field_at bytes (suc i) ≡ Ok (entry_number es b.0) =
+    field_there bytes (i + 1) (suc i) (entry_number es b.0) (omega arith) proof.0 in
+    let others = lemmas_take n bytes (i + 2) es (before ++ one ∷ []) all different b.2 in
+    let stands : Stands bytes i (lemma_fields es one ++ flat_map (lemma_fields es) others.0) =
+    Stands-append bytes i (i + 2) (lemma_fields es one) (flat_map (lemma_fields es) others.0)
+    (omega arith) (formula.0, (second, tt)) others.3.stands in (
+      one ∷ others.0,
+      others.1 ∙ append_assoc before (one ∷ []) others.0,
+      ap suc others.2,
+      record { stands = stands; listed = (formula.1, (proof.1, others.3.listed)) },
+    )
+
+pub lemmas_again : (lemmas : List (Tree × Tree)) (bytes : List ℕ) (i : ℕ) (es : List Tree)
+    (before : List (Tree × Tree)) → AreLemmas bytes i es lemmas
+    → lemmas_at (length lemmas) bytes i es before ≡ Ok (before ++ lemmas)
+unfolding lemmas_at
+lemmas_again [] bytes i es before p = rw (append-nil before) refl
+lemmas_again (l ∷ lemmas) bytes i es before p =
+    let n : ℕ = length lemmas in
+    let both =
+    Stands-split bytes i (i + 2) (lemma_fields es l) (flat_map (lemma_fields es) lemmas) (omega arith)
+    p.stands in
+    let formula : part_at bytes i es ≡ Ok l.0 = part_again bytes i es l.0 p.listed.0 both.0.0 in
+    let proof : part_at bytes (i + 1) es ≡ Ok l.1 =
+    part_again bytes (i + 1) es l.1 p.listed.1.0
+    (field_there bytes (suc i) (i + 1) (entry_number es l.1) (omega arith) both.0.1.0) in
+    let others =
+    lemmas_again lemmas bytes (i + 2) es (before ++ l ∷ [])
+    (record { stands = both.1; listed = p.listed.1.1 }) in
+    let first : lemmas_at (suc n) bytes i es before ≡ lemmas_at n bytes (i + 2) es (before ++ l ∷ []) =
+    rw (formula, proof) refl in
+    let same : lemmas_at n bytes (i + 2) es (before ++ l ∷ []) ≡ Ok (before ++ l ∷ lemmas) =
+    rw (others, append_assoc before (l ∷ []) lemmas) refl in
+    first ∙ same
+
+pub length-pairs : (es : List Tree) (lemmas : List (Tree × Tree))
+    → length (flat_map (lemma_fields es) lemmas) ≡ 2 * length lemmas
+length-pairs es [] = refl
+length-pairs es (l ∷ lemmas) = omega (arith, length-pairs es lemmas)
+
+-- with their count, where the version has some
+pub length-lemmas : (v : ℕ) (es : List Tree) (lemmas : List (Tree × Tree))
+    → length (lemmas_fields v es lemmas) ≡ lemmas_size v (length lemmas)
+length-lemmas v es lemmas = go (eqb v 4)
+  where
+    all : List ℕ
+    all = length lemmas ∷ flat_map (lemma_fields es) lemmas
+
+    go : (b : Bool) → length (cond b all []) ≡ cond b (1 + 2 * length lemmas) 0
+    go true = omega (arith, length-pairs es lemmas)
+    go false = refl
 
 -- ---- the proof
 

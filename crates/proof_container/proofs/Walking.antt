@@ -1,6 +1,8 @@
 -- Taking the steps of a walk over a table's ids.
 use Rattle.std.proofs.Common.{◌≡◌, ℕ, suc, ◌+◌, ◌*◌, ◌<◌, Bool, true, false, cond, ◌||◌, ◌⊎◌, inl, inr, is_some, Option, Some, None, List, [], ◌∷◌, ◌++◌, map, reverse, length, get_or, set, replicate, refl, sym, ◌∙◌, ap, subst, arith, option_map, length-set, get_or-set_same, get_or-set_other}
-use Rattle.std.specs.List.{AllByRecursion}
+use Rattle.std.specs.Prelude.{IfSome}
+use Rattle.std.specs.List.{AllByRecursion, flat_map}
+use Rattle.std.proofs.lemmas.Grind.{flat_map-append}
 use Rattle.std.proofs.lemmas.List.{map-append, length-map, length-replicate, get_or-replicate, reverse-append}
 use Rattle.term_table.specs.Tree.{Tree, Var, Con, App, Lam, Fam, TApp, Pi}
 use Rattle.term_table.specs.Equality.{tree_eq}
@@ -9,14 +11,15 @@ use Rattle.term_table.specs.declared.Node.{Node}
 use Rattle.term_table.specs.declared.Node.TheVariants as N
 use Rattle.term_table.proofs.Options.{some_injective}
 use Rattle.term_table.proofs.Equality.{tree_eq_refl}
+use Rattle.lf_lemmas.specs.Tables.{lemmas_in, LemmasKnown}
 use Rattle.proof_container.specs.declared.walk.Walk.{Walk}
 use Rattle.proof_container.specs.declared.walk.Step.{Step}
 use Rattle.proof_container.specs.declared.walk.Step.TheVariants.{Enter, Leave}
-use Rattle.proof_container.specs.Contents.{one_or_none}
+use Rattle.proof_container.specs.Contents.{one_or_none, lemma_roots}
 use Rattle.proof_container.specs.Postorder.{is_emitted, unless_emitted, emitted_with, emitted_with_all, entries}
 use Rattle.proof_container.specs.Encoding.{entry_number}
 use Rattle.proof_container.specs.Views.{AreKnown}
-use Rattle.proof_container.specs.Inside.Walked.{IsLeft, AreMarks, mark, root_trees, part_steps, proof_steps, first_steps, taken, all_taken, IsStep, AreSteps, left_trees, IsUnderWay, nodes, steps_cost}
+use Rattle.proof_container.specs.Inside.Walked.{IsLeft, AreMarks, mark, root_trees, part_steps, proof_steps, lemma_steps, first_steps, taken, all_taken, IsStep, AreSteps, left_trees, IsUnderWay, nodes, steps_cost}
 use Rattle.proof_container.proofs.Walks.{listed-last, listed-push, number_is, number-append, emitted_with-listed, emitted_with-app, emitted_with-tapp, emitted_with-pi, emitted_with-lam}
 
 -- ---- lists of steps
@@ -235,6 +238,18 @@ leave_new t goal w v steps id d h s a b u = record {
 
 -- ---- the beginning and the end
 
+-- the steps of one lemma
+abbrev pub pair_steps : ℕ × ℕ → List Step
+pair_steps l = Enter l.1 ∷ Enter l.0 ∷ []
+
+-- the steps of lemmas, as a loop from the last one on gives them
+pub steps_back : (lemmas : List (ℕ × ℕ)) → flat_map pair_steps (reverse lemmas) ≡ lemma_steps lemmas
+steps_back [] = refl
+steps_back (l ∷ lemmas) =
+    ap (flat_map pair_steps) (reverse-append (l ∷ []) lemmas)
+    ∙ flat_map-append pair_steps (reverse lemmas) (l ∷ [])
+    ∙ ap (λ (steps : List Step). steps ++ pair_steps l) (steps_back lemmas)
+
 emitted_with_all-append : (rs ss ts : List Tree) → emitted_with_all (rs ++ ss) ts ≡ emitted_with_all ss (emitted_with_all rs ts)
 emitted_with_all-append [] ss ts = refl
 emitted_with_all-append (r ∷ rs) ss ts = emitted_with_all-append rs ss (emitted_with r ts)
@@ -254,37 +269,73 @@ proof_taken : (t : TableView) (proof : Option ℕ) (ts : List Tree) → all_take
 proof_taken t None ts = refl
 proof_taken t (Some id) ts = refl
 
-first_taken : (t : TableView) (invs : List (ℕ × ℕ)) (proof : Option ℕ) (ts : List Tree) → all_taken t (first_steps invs proof) ts ≡ emitted_with_all (root_trees t invs proof) ts
-first_taken t invs proof ts =
-    let rs = map (λ p. p.1) (id_trees t invs) in
-    all_taken-append t (proof_steps proof) (map enter_inv (reverse invs)) ts
-    ∙ ap (all_taken t (proof_steps proof)) (invs_taken t invs ts)
-    ∙ proof_taken t proof (emitted_with_all rs ts)
-    ∙ sym (emitted_with_all-append rs (one_or_none (option_map (tree_at t) proof)) ts)
+lemmas_taken : (t : TableView) (lemmas : List (ℕ × ℕ)) (ts : List Tree)
+    → all_taken t (lemma_steps lemmas) ts ≡ emitted_with_all (lemma_roots (lemmas_in t lemmas)) ts
+lemmas_taken t [] ts = refl
+lemmas_taken t (l ∷ lemmas) ts =
+    all_taken-append t (lemma_steps lemmas) (Enter l.1 ∷ Enter l.0 ∷ []) ts
+    ∙ lemmas_taken t lemmas (emitted_with (tree_at t l.1) (emitted_with (tree_at t l.0) ts))
+
+first_taken : (t : TableView) (invs lemmas : List (ℕ × ℕ)) (proof : Option ℕ) (ts : List Tree)
+    → all_taken t (first_steps invs lemmas proof) ts
+    ≡ emitted_with_all (root_trees t invs lemmas proof) ts
+first_taken t invs lemmas proof ts =
+    let rs : List Tree = map (λ p. p.1) (id_trees t invs) in
+    let ls : List Tree = lemma_roots (lemmas_in t lemmas) in
+    let last : List Tree = one_or_none (option_map (tree_at t) proof) in
+    let us : List Tree = emitted_with_all rs ts in
+    let of_invs : List Step = map enter_inv (reverse invs) in
+    let behind : all_taken t (lemma_steps lemmas ++ of_invs) ts ≡ emitted_with_all ls us =
+    all_taken-append t (lemma_steps lemmas) of_invs ts
+    ∙ ap (all_taken t (lemma_steps lemmas)) (invs_taken t invs ts)
+    ∙ lemmas_taken t lemmas us in
+    all_taken-append t (proof_steps proof) (lemma_steps lemmas ++ of_invs) ts
+    ∙ ap (all_taken t (proof_steps proof)) behind
+    ∙ proof_taken t proof (emitted_with_all ls us)
+    ∙ sym (emitted_with_all-append ls last us)
+    ∙ sym (emitted_with_all-append rs (ls ++ last) ts)
 
 invs_known : (t : TableView) (invs : List (ℕ × ℕ)) → AllByRecursion (λ inv. IsKnown t inv.1) invs → AreSteps t (map enter_inv (reverse invs))
 invs_known t [] h = tt
 invs_known t (inv ∷ invs) h =
     subst (λ z. AreSteps t z) (sym (enter_back inv invs)) (AreSteps-append t (map enter_inv (reverse invs)) (Enter inv.1 ∷ []) (invs_known t invs h.1) (h.0, tt))
 
-first_known : (t : TableView) (invs : List (ℕ × ℕ)) (proof : Option ℕ) → AreKnown t invs proof → AreSteps t (first_steps invs proof)
-first_known t invs None h = invs_known t invs h.0
-first_known t invs (Some id) h = (h.1, invs_known t invs h.0)
+lemmas_known : (t : TableView) (lemmas : List (ℕ × ℕ)) → LemmasKnown t lemmas
+    → AreSteps t (lemma_steps lemmas)
+lemmas_known t [] h = tt
+lemmas_known t (l ∷ lemmas) h =
+    AreSteps-append t (lemma_steps lemmas) (Enter l.1 ∷ Enter l.0 ∷ []) (lemmas_known t lemmas h.2)
+    (h.1, (h.0, tt))
+
+proof_known : (t : TableView) (proof : Option ℕ) → IfSome proof (IsKnown t)
+    → AreSteps t (proof_steps proof)
+proof_known t None h = tt
+proof_known t (Some id) h = (h, tt)
+
+first_known : (t : TableView) (invs lemmas : List (ℕ × ℕ)) (proof : Option ℕ)
+    → AreKnown t invs proof → LemmasKnown t lemmas → AreSteps t (first_steps invs lemmas proof)
+first_known t invs lemmas proof h k =
+    let of_invs : List Step = map enter_inv (reverse invs) in
+    let behind : AreSteps t (lemma_steps lemmas ++ of_invs) =
+    AreSteps-append t (lemma_steps lemmas) of_invs (lemmas_known t lemmas k)
+    (invs_known t invs h.0) in
+    AreSteps-append t (proof_steps proof) (lemma_steps lemmas ++ of_invs) (proof_known t proof h.1)
+    behind
 
 no_marks : (t : TableView) → AreMarks t [] (replicate (length t.trees) None)
 no_marks t = record { count = length-replicate (length t.trees) None; at = λ id h. get_or-replicate (length t.trees) id None None h }
 
-pub begins : (t : TableView) (invs : List (ℕ × ℕ)) (proof : Option ℕ) (w : Walk) (steps : List Step) → AreKnown t invs proof → w.left.items ≡ [] → w.numbers.items ≡ replicate (length t.trees) None → steps ≡ first_steps invs proof →
-    IsUnderWay t (entries (root_trees t invs proof)) w steps
+pub begins : (t : TableView) (invs lemmas : List (ℕ × ℕ)) (proof : Option ℕ) (w : Walk) (steps : List Step) → AreKnown t invs proof → LemmasKnown t lemmas → w.left.items ≡ [] → w.numbers.items ≡ replicate (length t.trees) None → steps ≡ first_steps invs lemmas proof →
+    IsUnderWay t (entries (root_trees t invs lemmas proof)) w steps
 unfolding entries
-begins t invs proof w steps h a b e = record {
+begins t invs lemmas proof w steps h k a b e = record {
   left = record {
     known = subst (λ z. AllKnown t z) (sym a) tt;
     left = refl;
     marks = subst (λ z. AreMarks t z w.numbers.items) (sym none) (subst (λ z. AreMarks t [] z) (sym b) (no_marks t));
   };
-  known = subst (λ z. AreSteps t z) (sym e) (first_known t invs proof h);
-  leads = ap (all_taken t steps) none ∙ ap (λ z. all_taken t z []) e ∙ first_taken t invs proof [];
+  known = subst (λ z. AreSteps t z) (sym e) (first_known t invs lemmas proof h k);
+  leads = ap (all_taken t steps) none ∙ ap (λ z. all_taken t z []) e ∙ first_taken t invs lemmas proof [];
 }
   where
     none : left_trees t w ≡ []

@@ -265,33 +265,33 @@ entries_listed rs = walk_listed rs []
 
 -- terms made of terms
 
-terms_push : (ts : List Tree) (t : Tree) → AreTerms ts → IsEntryTerm t → IsSmall t → AreTerms (ts ++ t ∷ [])
-terms_push [] t h a b = (a, b, tt)
-terms_push (u ∷ ts) t h a b = (h.0, h.1, terms_push ts t h.2 a b)
+terms_push : (v : ℕ) (ts : List Tree) (t : Tree) → AreTerms v ts → IsEntryTerm v t → IsSmall t → AreTerms v (ts ++ t ∷ [])
+terms_push v [] t h a b = (a, b, tt)
+terms_push v (u ∷ ts) t h a b = (h.0, h.1, terms_push v ts t h.2 a b)
 
-terms_once : (t : Tree) (ts us : List Tree) → AreTerms ts → AreTerms us → IsEntryTerm t → IsSmall t → AreTerms (unless_emitted t ts us)
-terms_once t ts us h k a b = go (is_emitted t ts)
+terms_once : (v : ℕ) (t : Tree) (ts us : List Tree) → AreTerms v ts → AreTerms v us → IsEntryTerm v t → IsSmall t → AreTerms v (unless_emitted t ts us)
+terms_once v t ts us h k a b = go (is_emitted t ts)
   where
-    go : (c : Bool) → AreTerms (cond c ts (us ++ t ∷ []))
+    go : (c : Bool) → AreTerms v (cond c ts (us ++ t ∷ []))
     go true = h
-    go false = terms_push us t k a b
+    go false = terms_push v us t k a b
 
-terms_visit : (t : Tree) (ts : List Tree) → IsEntryTerm t → IsSmall t → AreTerms ts → AreTerms (emitted_with t ts)
-terms_visit (Var n) ts a b h = terms_once (Var n) ts ts h h a b
-terms_visit (Con c) ts a b h = terms_once (Con c) ts ts h h a b
-terms_visit (App f x) ts a b h = terms_once (App f x) ts (emitted_with x (emitted_with f ts)) h (terms_visit x (emitted_with f ts) a.2 b.1 (terms_visit f ts a.0 b.0 h)) a b
-terms_visit (Lam x) ts a b h = terms_once (Lam x) ts (emitted_with x ts) h (terms_visit x ts a b h) a b
-terms_visit (Fam x) ts a b h = absurd a
-terms_visit (TApp p x) ts a b h = absurd a
-terms_visit (Pi x y) ts a b h = absurd a
+terms_visit : (v : ℕ) (t : Tree) (ts : List Tree) → IsEntryTerm v t → IsSmall t → AreTerms v ts → AreTerms v (emitted_with t ts)
+terms_visit v (Var n) ts a b h = terms_once v (Var n) ts ts h h a b
+terms_visit v (Con c) ts a b h = terms_once v (Con c) ts ts h h a b
+terms_visit v (App f x) ts a b h = terms_once v (App f x) ts (emitted_with x (emitted_with f ts)) h (terms_visit v x (emitted_with f ts) a.2 b.1 (terms_visit v f ts a.0 b.0 h)) a b
+terms_visit v (Lam x) ts a b h = terms_once v (Lam x) ts (emitted_with x ts) h (terms_visit v x ts a b h) a b
+terms_visit v (Fam x) ts a b h = absurd a
+terms_visit v (TApp p x) ts a b h = absurd a
+terms_visit v (Pi x y) ts a b h = absurd a
 
-terms_walk : (rs ts : List Tree) → AreTerms rs → AreTerms ts → AreTerms (emitted_with_all rs ts)
-terms_walk [] ts r h = h
-terms_walk (t ∷ rs) ts r h = terms_walk rs (emitted_with t ts) r.2 (terms_visit t ts r.0 r.1 h)
+terms_walk : (v : ℕ) (rs ts : List Tree) → AreTerms v rs → AreTerms v ts → AreTerms v (emitted_with_all rs ts)
+terms_walk v [] ts r h = h
+terms_walk v (t ∷ rs) ts r h = terms_walk v rs (emitted_with t ts) r.2 (terms_visit v t ts r.0 r.1 h)
 
-pub entries_terms : (rs : List Tree) → AreTerms rs → AreTerms (entries rs)
+pub entries_terms : (v : ℕ) (rs : List Tree) → AreTerms v rs → AreTerms v (entries rs)
 unfolding entries
-entries_terms rs r = terms_walk rs [] r tt
+entries_terms v rs r = terms_walk v rs [] r tt
 
 -- ---- a list that has the walk's trees in its order
 

@@ -9,14 +9,15 @@ use Rattle.std.proofs.lemmas.List.Concat.{flat_map-cons}
 use Rattle.std.proofs.lemmas.List.Sums.{sum_by-cons}
 use Rattle.term_table.specs.Tree.{Tree, Var}
 use Rattle.term_table.specs.Table.{TableView, tree_at}
+use Rattle.proof_container.specs.Versions.{lemmas_size}
 use Rattle.proof_container.specs.Contents.{Contents, roots}
 use Rattle.proof_container.specs.Postorder.{is_emitted, HasPartsFirst, AreEmitted, entries}
-use Rattle.proof_container.specs.Encoding.{field_bytes, entry_fields, inv_fields, proof_field, magic, policy_bytes, bound_fields, head_bytes, tail_fields, encoding_of}
+use Rattle.proof_container.specs.Encoding.{field_bytes, entry_fields, inv_fields, lemmas_fields, proof_field, magic, policy_bytes, bound_fields, head_bytes, tail_fields, encoding_of}
 use Rattle.proof_container.specs.Decoding.{entry_size}
 use Rattle.proof_container.specs.Inside.Walked.{HaveParts}
 use Rattle.proof_container.proofs.FieldLaws.{length-field_bytes}
 use Rattle.proof_container.proofs.EntryLaws.{entry_size_is}
-use Rattle.proof_container.proofs.Sections.{length-invs}
+use Rattle.proof_container.proofs.Sections.{length-invs, length-lemmas}
 
 -- the pieces of the first i elements, and of the next
 pub written_more : {X : Type 0} (f : X → List ℕ) (xs : List X) (i : ℕ) (d : X) (out : List ℕ) → i < length xs →
@@ -74,18 +75,22 @@ length-head c words =
 
 pub length-encoding_of : (c : Contents) → length (encoding_of c)
     ≡ length (policy_bytes c.head) + 4 * length (bound_fields c.bound)
-    + 4 * (6 + sum_by entry_size (entries (roots c)) + 2 * length c.invs) + length c.code
+    + 4 * (6 + sum_by entry_size (entries (roots c)) + 2 * length c.invs + lemmas_size c.version (length c.lemmas))
+    + length c.code
 unfolding encoding_of
 length-encoding_of c =
     let es : List Tree = entries (roots c) in
     let front : List ℕ = head_bytes c (length c.code / 4) in
     let first : List ℕ = length es ∷ flat_map (entry_fields es) es in
     let invs : List ℕ = length c.invs ∷ flat_map (inv_fields es) c.invs in
+    let lemmas : List ℕ = lemmas_fields c.version es c.lemmas in
     let last : List ℕ = proof_field es c.proof ∷ [] in
     let behind : List ℕ = field_bytes (tail_fields es c) in
-    let tail : length (tail_fields es c) ≡ length first + length (invs ++ last) =
-    length-append first (invs ++ last) in
-    let rest : length (invs ++ last) ≡ length invs + 1 = length-append invs last in
+    let tail : length (tail_fields es c) ≡ length first + length (invs ++ (lemmas ++ last)) =
+    length-append first (invs ++ (lemmas ++ last)) in
+    let rest : length (invs ++ (lemmas ++ last)) ≡ length invs + length (lemmas ++ last) =
+    length-append invs (lemmas ++ last) in
+    let end : length (lemmas ++ last) ≡ length lemmas + 1 = length-append lemmas last in
     let code : length (c.code ++ behind) ≡ length c.code + length behind =
     length-append c.code behind in
     let all : length (front ++ (c.code ++ behind)) ≡ length front + length (c.code ++ behind) =
@@ -96,6 +101,8 @@ length-encoding_of c =
       code,
       tail,
       rest,
+      end,
+      length-lemmas c.version es c.lemmas,
       length-head c (length c.code / 4),
       length-field_bytes (tail_fields es c),
       length-entries es es,

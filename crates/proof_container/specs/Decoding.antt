@@ -1,6 +1,6 @@
 -- Reading bytes as a container, front to back. Each field is tested as soon as it is read, and the first fault is the answer.
 use Rattle.term_table.specs.Steps.{◌>>=◌}
-use Rattle.std.specs.Prelude.{ℕ, zero, suc, ◌+◌, ◌*◌, ◌/◌, ◌-◌, Bool, true, false, ◌||◌, ◌==◌, nat_lt, if◌then◌else◌, List, [], ◌∷◌, ◌++◌, length, take, drop, slice_range, sum_by, Option, Some, None, Result, Ok, Err}
+use Rattle.std.specs.Prelude.{ℕ, zero, suc, ◌+◌, ◌*◌, ◌/◌, ◌-◌, Bool, true, false, ◌||◌, ◌==◌, nat_lt, ◌&&◌, if◌then◌else◌, List, [], ◌∷◌, ◌++◌, length, take, drop, slice_range, sum_by, Option, Some, None, Result, Ok, Err}
 use Rattle.std.specs.Option.{option_map}
 use Rattle.std.specs.Int.{w32, from_le_bytes}
 use Rattle.term_table.specs.Tree.{Tree, Var, Con, App, Lam, Num, Lit, Calc, Fact, Deny, Lemma}
@@ -10,10 +10,10 @@ use Rattle.proof_container.specs.declared.container.Head.{Head}
 use Rattle.proof_container.specs.declared.container.Head.TheVariants.{Number, Digest}
 use Rattle.proof_container.specs.declared.fault.Flaw.{Flaw}
 use Rattle.proof_container.specs.declared.fault.Flaw.TheVariants.{Cut, Magic, Version, Count, EntryKind, ForwardRef, DoubleEntry, Order, LambdaHead, InvOrder, Trailing}
-use Rattle.proof_container.specs.Versions.{policy_size, bound_size, code_field}
+use Rattle.proof_container.specs.Versions.{policy_size, bound_size, code_field, lemmas_size}
 use Rattle.proof_container.specs.Contents.{Contents, roots}
 use Rattle.proof_container.specs.Postorder.{is_emitted, entries}
-use Rattle.proof_container.specs.declared.limits.TheConstants.{MAX_VERSION, MAX_BOUND, MAX_WORDS, MAX_ENTRIES, MAX_INVS}
+use Rattle.proof_container.specs.declared.limits.TheConstants.{MAX_VERSION, MAX_BOUND, MAX_WORDS, MAX_ENTRIES, MAX_INVS, MAX_LEMMAS}
 use Rattle.proof_container.specs.Encoding.{magic}
 
 -- an offset, and what is wrong there
@@ -120,9 +120,9 @@ triple_at bytes i = do
   b ← word_at bytes (i + 3)
   Ok (n, a, b)
 
--- the entry of this kind whose kind is field i
-unfoldable pub kind_at : List ℕ → ℕ → List Tree → ℕ → Result Tree Fault
-kind_at bytes i ts kind =
+-- the entry of this kind whose kind is field i; a lemma is one in version 4 alone
+unfoldable pub kind_at : ℕ → List ℕ → ℕ → List Tree → ℕ → Result Tree Fault
+kind_at v bytes i ts kind =
     if kind == 0 then field_at bytes (i + 1) >>= (λ n. Ok (Var n)) else
     if kind == 1 then field_at bytes (i + 1) >>= (λ n. Ok (Con (Num n))) else
     if kind == 2 then word_at bytes (i + 1) >>= (λ w. Ok (Con (Lit w))) else
@@ -131,37 +131,40 @@ kind_at bytes i ts kind =
     if kind == 5 then triple_at bytes (i + 1) >>= (λ t. Ok (Con (Deny t.0 t.1 t.2))) else
     if kind == 6 then application_at bytes (i + 1) ts else
     if kind == 7 then part_at bytes (i + 1) ts >>= (λ b. Ok (Lam b)) else
+    if kind == 8 && v == 4 then field_at bytes (i + 1) >>= (λ n. Ok (Con (Lemma n))) else
     Err (4 * i, EntryKind)
 
 -- the entry whose kind is field i
-abbrev pub entry_at : List ℕ → ℕ → List Tree → Result Tree Fault
-entry_at bytes i ts = field_at bytes i >>= λ kind. kind_at bytes i ts kind
+abbrev pub entry_at : ℕ → List ℕ → ℕ → List Tree → Result Tree Fault
+entry_at v bytes i ts = field_at bytes i >>= λ kind. kind_at v bytes i ts kind
 
 -- how many fields an entry has
 abbrev pub entry_size : Tree → ℕ
 entry_size (Var n) = 2
 entry_size (Con (Num n)) = 2
 entry_size (Con (Lit w)) = 3
-entry_size (Con (Lemma n)) = 0
+entry_size (Con (Lemma n)) = 2
 entry_size (Con c) = 6
 entry_size (App f a) = 3
 entry_size (Lam b) = 2
 entry_size t = 0
 
 -- n more entries from field i on: all trees, and the next field
-unfoldable pub entries_at : ℕ → List ℕ → ℕ → List Tree → Result (List Tree × ℕ) Fault
-entries_at zero bytes i ts = Ok (ts, i)
-entries_at (suc n) bytes i ts = do
-  t ← entry_at bytes i ts
-  if is_emitted t ts then Err (4 * i, DoubleEntry) else entries_at n bytes (i + entry_size t) (ts ++ t ∷ [])
+unfoldable pub entries_at : ℕ → ℕ → List ℕ → ℕ → List Tree → Result (List Tree × ℕ) Fault
+entries_at v zero bytes i ts = Ok (ts, i)
+entries_at v (suc n) bytes i ts = do
+  t ← entry_at v bytes i ts
+  if is_emitted t ts
+      then Err (4 * i, DoubleEntry)
+      else entries_at v n bytes (i + entry_size t) (ts ++ t ∷ [])
 
 -- the entries, whose count is field i: all trees, and the next field
-unfoldable pub decoded_entries : List ℕ → ℕ → Result (List Tree × ℕ) Fault
-decoded_entries bytes i = do
+unfoldable pub decoded_entries : ℕ → List ℕ → ℕ → Result (List Tree × ℕ) Fault
+decoded_entries v bytes i = do
   count ← between_at bytes i 0 MAX_ENTRIES Count
-  entries_at count bytes (i + 1) []
+  entries_at v count bytes (i + 1) []
 
--- ---- invariants and proof, the entries' trees being es
+-- ---- invariants, lemmas and proof, the entries' trees being es
 
 -- an invariant, whose index is at least low
 abbrev pub inv_at : List ℕ → ℕ → List Tree → ℕ → ℕ → Result (ℕ × Tree) Fault
@@ -183,6 +186,22 @@ unfoldable pub decoded_invs : List ℕ → ℕ → List Tree → ℕ → Result 
 decoded_invs bytes i es words = do
   count ← between_at bytes i 0 MAX_INVS Count
   invs_at count bytes (i + 1) es words 0 []
+
+-- n more lemmas from field i on, behind these
+unfoldable pub lemmas_at : ℕ → List ℕ → ℕ → List Tree → List (Tree × Tree)
+    → Result (List (Tree × Tree)) Fault
+lemmas_at zero bytes i es lemmas = Ok lemmas
+lemmas_at (suc n) bytes i es lemmas = do
+  formula ← part_at bytes i es
+  proof ← part_at bytes (i + 1) es
+  lemmas_at n bytes (i + 2) es (lemmas ++ (formula, proof) ∷ [])
+
+-- the lemmas, where the version has some: field i is their count
+unfoldable pub decoded_lemmas : ℕ → List ℕ → ℕ → List Tree → Result (List (Tree × Tree)) Fault
+decoded_lemmas v bytes i es =
+    if v == 4
+    then between_at bytes i 0 MAX_LEMMAS Count >>= (λ count. lemmas_at count bytes (i + 1) es [])
+    else Ok []
 
 -- field i: 0 for none, or 1 and the number of an entry
 unfoldable pub decoded_proof : List ℕ → ℕ → List Tree → Result (Option Tree) Fault
@@ -215,18 +234,26 @@ decoded_end bytes last i es c =
     then Err (4 * last, Trailing)
     else unless_misplaced i es c (first_misplaced es (entries (roots c)))
 
+-- the field that names the proof, where the count of invariants is field i: behind so many
+-- invariants, and so many lemmas of the version
+abbrev pub proof_place : ℕ → ℕ → ℕ → ℕ → ℕ
+proof_place v i invs lemmas = i + 1 + 2 * invs + lemmas_size v lemmas
+
 -- the contents of the container that the bytes are, or the first fault
 unfoldable pub decoded_container : List ℕ → Result Contents Fault
 decoded_container bytes = do
   front ← decoded_head bytes
-  es ← decoded_entries bytes front.next
+  es ← decoded_entries front.version bytes front.next
   invs ← decoded_invs bytes es.1 es.0 (length front.code / 4)
-  proof ← decoded_proof bytes (es.1 + 1 + 2 * length invs) es.0
-  decoded_end bytes (es.1 + 2 + 2 * length invs) front.next es.0 (record {
-    version = front.version;
-    head = front.head;
-    bound = front.bound;
-    code = front.code;
-    invs = invs;
-    proof = proof;
-  })
+  lemmas ← decoded_lemmas front.version bytes (es.1 + 1 + 2 * length invs) es.0
+  proof ← decoded_proof bytes (proof_place front.version es.1 (length invs) (length lemmas)) es.0
+  decoded_end bytes (proof_place front.version es.1 (length invs) (length lemmas) + 1)
+      front.next es.0 (record {
+        version = front.version;
+        head = front.head;
+        bound = front.bound;
+        code = front.code;
+        invs = invs;
+        lemmas = lemmas;
+        proof = proof;
+      })

@@ -1,7 +1,7 @@
--- What the versions of containers differ in: what names the policy, whether steps are bounded, and so
--- where the code begins; which profile the code is of, and which signature the terms are over, by
--- whose parameters proofs weigh.
-use Rattle.std.specs.Prelude.{◌≡◌, ◌≢◌, ℕ, ◌+◌, ◌<◌, ◌≤◌, ◌^◌, ◌==◌, if◌then◌else◌, length, Option, Some, None}
+-- What the versions of containers differ in: what names the policy, whether steps are bounded, and
+-- so where the code begins; whether there are lemmas; which profile the code is of, and which
+-- signature the terms are over, by whose parameters proofs weigh.
+use Rattle.std.specs.Prelude.{◌≡◌, ◌≢◌, ℕ, ◌+◌, ◌*◌, ◌<◌, ◌≤◌, ◌^◌, ◌==◌, if◌then◌else◌, List, [], ◌∷◌, length, Option, Some, None}
 use Rattle.word_ops.specs.declared.Profile.{Profile}
 use Rattle.word_ops.specs.declared.Profile.TheVariants.{One, Two}
 use Rattle.term_table.specs.Bytes.{IsBytes}
@@ -9,7 +9,7 @@ use Rattle.lf_signature.specs.declared.WordSignature.{WordSignature}
 use Rattle.lf_signature.specs.declared.WordSignature.TheVariants.{Sigma1, Sigma2, Sigma3}
 use Rattle.proof_container.specs.declared.container.Head.{Head}
 use Rattle.proof_container.specs.declared.container.Head.TheVariants.{Number, Digest}
-use Rattle.proof_container.specs.declared.limits.TheConstants.{MAX_VERSION, MAX_BOUND}
+use Rattle.proof_container.specs.declared.limits.TheConstants.{MAX_VERSION, MAX_BOUND, MAX_LEMMAS}
 
 -- the versions that are built
 abbrev pub IsVersion : ℕ → Type 0
@@ -38,6 +38,15 @@ IsHead v (Digest d) = (v ≢ 1) × (length d ≡ 32) × IsBytes d
 abbrev pub IsBoundOf : ℕ → Option ℕ → Type 0
 IsBoundOf v None = v ≢ 3
 IsBoundOf v (Some n) = (v ≡ 3) × (1 ≤ n) × (n ≤ MAX_BOUND)
+
+-- how many fields the lemmas have: in version 4 their count, and two for each
+abbrev pub lemmas_size : ℕ → ℕ → ℕ
+lemmas_size v count = if v == 4 then 1 + 2 * count else 0
+
+-- version 4 has lemmas, at most 256, and no other has any
+abbrev pub AreLemmasOf : {A : Type 0} → ℕ → List A → Type 0
+AreLemmasOf v [] = Unit {0}
+AreLemmasOf v (l ∷ lemmas) = (v ≡ 4) × (length (l ∷ lemmas) ≤ MAX_LEMMAS)
 
 -- the profile that the code is of
 abbrev pub profile_of : ℕ → Profile

@@ -11,7 +11,8 @@ use Rattle.proof_container.specs.declared.fault.Malformed.{Malformed}
 use Rattle.proof_container.specs.declared.fault.Malformed.TheVariants as malformed
 use Rattle.proof_container.specs.declared.limits.TheConstants.{MAX_WORDS, MAX_ENTRIES, MAX_INVS}
 use Rattle.lf_signature.specs.Constants.{places_of}
-use Rattle.proof_container.specs.Versions.{IsVersion, IsHead, IsBoundOf, signature_of}
+use Rattle.lf_lemmas.specs.Tables.{lemmas_in, LemmasKnown}
+use Rattle.proof_container.specs.Versions.{IsVersion, IsHead, IsBoundOf, AreLemmasOf, signature_of}
 use Rattle.proof_container.specs.Contents.{Contents, roots}
 use Rattle.proof_container.specs.Postorder.{entries}
 use Rattle.proof_container.specs.Encoding.{AreRising, IsEntryTerm, EncodesContents}
@@ -25,6 +26,7 @@ contents_of c = record {
   bound = c.bound;
   code = c.code.now;
   invs = id_trees c.table c.invs.items;
+  lemmas = lemmas_in c.table c.lemmas.items;
   proof = option_map (tree_at c.table) c.proof;
 }
 
@@ -36,10 +38,11 @@ view_contents v = record {
   bound = v.bound;
   code = v.code.now;
   invs = id_trees v.table.now v.invs.now;
+  lemmas = lemmas_in v.table.now v.lemmas.now;
   proof = option_map (tree_at v.table.now) v.proof;
 }
 
--- the roots are ids of the table
+-- invariants and proof are ids of the table
 abbrev pub AreKnown : TableView → List (ℕ × ℕ) → Option ℕ → Type 0
 AreKnown t invs proof = AllByRecursion (λ inv. IsKnown t inv.1) invs × IfSome proof (IsKnown t)
 
@@ -51,6 +54,7 @@ pub record Shows (c : Container) (v : View) : Type 0 where
   pub code : v.code.now ≡ c.code.now
   pub table : v.table.now ≡ c.table
   pub invs : v.invs.now ≡ c.invs.items
+  pub lemmas : v.lemmas.now ≡ c.lemmas.items
   pub proof : v.proof ≡ c.proof
 
 -- no contents have these bytes as their encoding
@@ -72,29 +76,33 @@ Decodes view read (Err e) = IsFault read e
 -- by the parameters of the version's signature
 pub record IsCanonical (c : Container) : Type 0 where
   pub known : AreKnown c.table c.invs.items c.proof
+  pub known_lemmas : LemmasKnown c.table c.lemmas.items
   pub trees : c.table.trees ≡ entries (roots (contents_of c))
   pub places : c.table.places ≡ places_of (signature_of c.version)
 
--- each of these trees is a term that cites no lemma
-abbrev pub AllTerms : List Tree → Type 0
-AllTerms [] = Unit {0}
-AllTerms (t ∷ ts) = IsEntryTerm t × AllTerms ts
+-- each of these trees is a term that may stand in a container of the version
+abbrev pub AllTerms : ℕ → List Tree → Type 0
+AllTerms v [] = Unit {0}
+AllTerms v (t ∷ ts) = IsEntryTerm v t × AllTerms v ts
 
--- a view that can be written: its version is one that is built, what names the policy and the bound
--- are that version's, its roots are terms of its table that cite no lemma, its code is whole words,
--- its counts are within the limits, and its indices rise below the count of words
+-- a view that can be written: its version is one that is built, what names the policy, the bound
+-- and the lemmas are that version's, its roots are terms of its table, which cite lemmas in version
+-- 4 alone, its code is whole words, its counts are within the limits, and its indices rise below the
+-- count of words
 pub record IsWritable (v : View) : Type 0 where
   pub version : IsVersion v.version
   pub head : IsHead v.version v.head
   pub bound : IsBoundOf v.version v.bound
   pub known : AreKnown v.table.now v.invs.now v.proof
-  pub terms : AllTerms (roots (view_contents v))
+  pub known_lemmas : LemmasKnown v.table.now v.lemmas.now
+  pub terms : AllTerms v.version (roots (view_contents v))
   pub whole : 4 * (length v.code.now / 4) ≡ length v.code.now
   pub some : 0 < length v.code.now
   pub short : length v.code.now ≤ 4 * MAX_WORDS
   pub entries : length (entries (roots (view_contents v))) ≤ MAX_ENTRIES
   pub invs : length v.invs.now ≤ MAX_INVS
   pub rising : AreRising 0 (length v.code.now / 4) (view_contents v).invs
+  pub lemmas : AreLemmasOf v.version v.lemmas.now
 
 -- the containers are the same, wherever their code lies
 pub record AreSame (c d : Container) : Type 0 where
@@ -104,4 +112,5 @@ pub record AreSame (c d : Container) : Type 0 where
   pub code : c.code.now ≡ d.code.now
   pub table : c.table ≡ d.table
   pub invs : c.invs.items ≡ d.invs.items
+  pub lemmas : c.lemmas.items ≡ d.lemmas.items
   pub proof : c.proof ≡ d.proof

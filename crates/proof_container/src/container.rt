@@ -13,8 +13,8 @@ pub enum Head {
     Digest([u8; 32]),
 }
 
-/// Code with its invariants and, where it has one, its proof. The code lies in the bytes that were
-/// read.
+/// Code with its invariants, its lemmas and, where it has one, its proof. The code lies in the
+/// bytes that were read.
 #[derive(Drop)]
 pub struct Container<'b> {
     /// The version, from 1 to `MAX_VERSION`.
@@ -25,10 +25,12 @@ pub struct Container<'b> {
     pub bound: Option<u32>,
     /// The words of the code, of four bytes each.
     pub code: &'b [u8],
-    /// The terms of the invariants and of the proof.
+    /// The terms of the invariants, of the lemmas and of the proof.
     pub table: Table,
     /// The annotated indices, each with its invariant.
     pub invs: Vec<(u32, Id)>,
+    /// The lemmas, each a formula and its proof: at most `MAX_LEMMAS`, and none but in version 4.
+    pub lemmas: Vec<(Id, Id)>,
     /// The term of the proof, where there is one.
     pub proof: Option<Id>,
 }
@@ -44,10 +46,12 @@ pub struct View<'v> {
     pub bound: Option<u32>,
     /// The words of the code, of four bytes each.
     pub code: &'v [u8],
-    /// The terms of the invariants and of the proof.
+    /// The terms of the invariants, of the lemmas and of the proof.
     pub table: &'v Table,
     /// The annotated indices, each with its invariant.
     pub invs: &'v [(u32, Id)],
+    /// The lemmas, each a formula and its proof: at most `MAX_LEMMAS`, and none but in version 4.
+    pub lemmas: &'v [(Id, Id)],
     /// The term of the proof, where there is one.
     pub proof: Option<Id>,
 }
@@ -64,6 +68,7 @@ impl Container<'_> {
             code: self.code,
             table: &self.table,
             invs: &self.invs,
+            lemmas: &self.lemmas,
             proof: self.proof,
         }
     }

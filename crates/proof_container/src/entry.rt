@@ -59,11 +59,11 @@ fn application(fields: &mut Fields<'_>, table: &Table) -> Result<Node, Malformed
     Ok(Node::App(f, a))
 }
 
-/// The next entry.
+/// The next entry. In version 4 alone it may be a lemma.
 #[tactic(auto, unfolding(crate::specs::Decoding::kind_at))]
-fn entry(fields: &mut Fields<'_>, table: &Table) -> Result<Node, Malformed>
+fn entry(fields: &mut Fields<'_>, table: &Table, version: u32) -> Result<Node, Malformed>
     ensures read { Decodes (node_tree table.now)
-        (entry_at fields.old.bytes.now fields.old.read table.now.trees) result }
+        (entry_at version fields.old.bytes.now fields.old.read table.now.trees) result }
     ensures moves { IfOk result (λ n.
         IsPast fields.old fields.new (entry_size (node_tree table.now n))) }
     ensures parts { IfOk result (λ n. PartsKnown table.now n) }
@@ -88,6 +88,7 @@ fn entry(fields: &mut Fields<'_>, table: &Table) -> Result<Node, Malformed>
         }
         6 => application(fields, table),
         7 => Ok(Node::Lam(part(fields, table)?)),
+        8 if version == 4 => Ok(Node::Lemma(fields.field()?)),
         _ => Err(Malformed::At(offset, Flaw::EntryKind)),
     }
 }
@@ -99,10 +100,10 @@ pub fn size(table: &Table, node: &Node) -> usize
 {
     let _ = table; // only the clause reads it: the node is one of this table
     match node {
-        Node::Var(_) | Node::Const(_) | Node::Lam(_) => 2,
+        Node::Var(_) | Node::Const(_) | Node::Lemma(_) | Node::Lam(_) => 2,
         Node::Lit(_) | Node::App(_, _) => 3,
         Node::Calc(_, _, _) | Node::Fact(_, _, _) | Node::Deny(_, _, _) => 6,
-        Node::Lemma(_) | Node::Fam(_) | Node::TApp(_, _) | Node::Pi(_, _) => 0,
+        Node::Fam(_) | Node::TApp(_, _) | Node::Pi(_, _) => 0,
     }
 }
 
@@ -119,17 +120,22 @@ fn is_double(table: &mut Table, node: Node) -> Result<bool, AllocError>
     Ok((id.index() as u64) < known)
 }
 
-/// The next `count` entries come to the table.
-fn entries_from(fields: &mut Fields<'_>, count: u32, table: &mut Table) -> Result<(), Malformed>
+/// The next `count` entries of a container of the version come to the table.
+fn entries_from(
+    fields: &mut Fields<'_>,
+    version: u32,
+    count: u32,
+    table: &mut Table,
+) -> Result<(), Malformed>
     ensures read { Decodes (λ _. (table.new.trees, fields.new.read))
-        (entries_at count fields.old.bytes.now fields.old.read table.old.trees) result }
+        (entries_at version count fields.old.bytes.now fields.old.read table.old.trees) result }
     ensures bytes { OnOk result (fields.new.bytes.now ≡ fields.old.bytes.now) }
     ensures places { OnOk result (table.new.places ≡ table.old.places) }
     ensures few { OnOk result (length table.new.trees ≤ length table.old.trees + count) }
 {
     for _ in 0..count {
         let offset = fields.offset();
-        let node = entry(fields, table)?;
+        let node = entry(fields, table, version)?;
         if is_double(table, node)? {
             return Err(Malformed::At(offset, Flaw::DoubleEntry));
         }
@@ -137,16 +143,16 @@ fn entries_from(fields: &mut Fields<'_>, count: u32, table: &mut Table) -> Resul
     Ok(())
 }
 
-/// The entries, whose count is the next field, come to the table.
+/// The entries of a container of the version, whose count is the next field, come to the table.
 #[tactic(auto, unfolding(crate::specs::Decoding::decoded_entries))]
-pub fn entries(fields: &mut Fields<'_>, table: &mut Table) -> Result<(), Malformed>
+pub fn entries(fields: &mut Fields<'_>, version: u32, table: &mut Table) -> Result<(), Malformed>
     requires empty { table.old.trees ≡ [] }
     ensures read { Decodes (λ _. (table.new.trees, fields.new.read))
-        (decoded_entries fields.old.bytes.now fields.old.read) result }
+        (decoded_entries version fields.old.bytes.now fields.old.read) result }
     ensures bytes { OnOk result (fields.new.bytes.now ≡ fields.old.bytes.now) }
     ensures places { OnOk result (table.new.places ≡ table.old.places) }
     ensures few { OnOk result (length table.new.trees ≤ MAX_ENTRIES) }
 {
     let count = fields.between(0, MAX_ENTRIES, Flaw::Count)?;
-    entries_from(fields, count, table)
+    entries_from(fields, version, count, table)
 }

@@ -15,13 +15,13 @@ pub enum Flaw {
     /// The first four bytes aren't `PCCA`.
     #[error("the magic is wrong")]
     Magic,
-    /// The version is none of 1 to 3.
+    /// The version is none of 1 to 4.
     #[error("the version is unknown")]
     Version,
     /// A count or the bound of steps is past its limits, or there is no code.
     #[error("a count is past its limits")]
     Count,
-    /// The kind of the entry is above 7.
+    /// The kind of the entry is above 7, or above 8 in version 4.
     #[error("the entry is of no kind")]
     EntryKind,
     /// The entry that is named doesn't come before the one that names it, or isn't there.

@@ -1,4 +1,4 @@
-//! Containers: code with its invariants and its proof, as bytes.
+//! Containers: code with its invariants, lemmas and its proof, as bytes.
 //!
 //! The layers above use that `read` gives the contents that the bytes encode, or else the first
 //! fault with its offset; that `write` gives the one encoding of its view's contents; and how long
@@ -21,7 +21,7 @@ mod writing;
 
 pub use container::{Container, Head, View};
 pub use fault::{Flaw, MAX_KIND, Malformed};
-pub use limits::{MAX_BOUND, MAX_BYTES, MAX_ENTRIES, MAX_INVS, MAX_VERSION, MAX_WORDS};
+pub use limits::{MAX_BOUND, MAX_BYTES, MAX_ENTRIES, MAX_INVS, MAX_LEMMAS, MAX_VERSION, MAX_WORDS};
 pub use reading::read;
 pub use theorems::laws;
 pub use versions::{profile_of, signature_of};

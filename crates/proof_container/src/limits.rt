@@ -1,7 +1,7 @@
 //! The limits of a container.
 
 /// The greatest version.
-pub const MAX_VERSION: u32 = 3;
+pub const MAX_VERSION: u32 = 4;
 
 /// The greatest bound of steps.
 pub const MAX_BOUND: u32 = 1_000_000_000;
@@ -14,6 +14,9 @@ pub const MAX_ENTRIES: u32 = 262_144;
 
 /// The most invariants that a container may have.
 pub const MAX_INVS: u32 = 256;
+
+/// The most lemmas that a container may have.
+pub const MAX_LEMMAS: u32 = 256;
 
 /// The most bytes of a file that are read as a container.
 pub const MAX_BYTES: u32 = 4_194_304;

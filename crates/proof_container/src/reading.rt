@@ -5,14 +5,17 @@ ghost use Rattle.std.specs.Prelude.{IfOk, IfErr, IfSome, IsTrue, OnOk};
 ghost use Rattle.std.specs.List.{AllByRecursion};
 ghost use Rattle.std.specs.Option.{option_map};
 ghost use Rattle.term_table.specs.Table.{IsKnown, AllKnown, tree_at, id_trees};
-ghost use Rattle.proof_container.specs.Versions.{policy_size, bound_size};
+ghost use Rattle.lf_lemmas.specs.Tables.{lemmas_in, LemmasKnown};
+ghost use Rattle.proof_container.specs.Versions.{policy_size, bound_size, lemmas_size};
 ghost use Rattle.proof_container.specs.Encoding.{EncodesContents};
 ghost use Rattle.proof_container.specs.Decoding.{policy_at, bound_at, decoded_head};
 ghost use Rattle.proof_container.specs.Decoding.{inv_at, invs_at, decoded_invs, decoded_proof};
+ghost use Rattle.proof_container.specs.Decoding.{lemmas_at, decoded_lemmas};
 ghost use Rattle.proof_container.specs.Decoding.{first_misplaced, entry_offset, decoded_end};
 ghost use Rattle.proof_container.specs.Decoding.{decoded_container};
 ghost use Rattle.proof_container.specs.declared.limits.TheConstants.{MAX_WORDS};
 ghost use Rattle.proof_container.specs.declared.limits.TheConstants.{MAX_ENTRIES, MAX_INVS};
+ghost use Rattle.proof_container.specs.declared.limits.TheConstants.{MAX_LEMMAS};
 ghost use Rattle.proof_container.specs.Inside.Cursor.{IsPast};
 ghost use Rattle.proof_container.specs.Inside.Fronts.{front_of};
 ghost use Rattle.proof_container.specs.Inside.Walked.{IsPlaced};
@@ -23,7 +26,7 @@ use crate::container::{Container, Head};
 use crate::entry::{entries, part, size};
 use crate::fault::{Flaw, Malformed};
 use crate::fields::{Fields, MAGIC};
-use crate::limits::{MAX_BOUND, MAX_INVS, MAX_VERSION, MAX_WORDS};
+use crate::limits::{MAX_BOUND, MAX_INVS, MAX_LEMMAS, MAX_VERSION, MAX_WORDS};
 use crate::versions::signature_of;
 use crate::walk::walk_from;
 use std::alloc::Global;
@@ -158,6 +161,50 @@ fn invs(
     invs_from(alloc, fields, count, table, words)
 }
 
+/// The next `count` lemmas.
+fn lemmas_from(
+    alloc: Global,
+    fields: &mut Fields<'_>,
+    count: u32,
+    table: &Table,
+) -> Result<Vec<(Id, Id)>, Malformed>
+    requires few { count ≤ MAX_LEMMAS }
+    ensures read { Decodes (λ v. lemmas_in table.now v.items)
+        (lemmas_at count fields.old.bytes.now fields.old.read table.now.trees []) result }
+    ensures moves { IfOk result (λ v. IsPast fields.old fields.new (2 * length v.items)) }
+    ensures known { IfOk result (λ v. LemmasKnown table.now v.items) }
+    ensures few { IfOk result (λ v. length v.items ≤ MAX_LEMMAS) }
+{
+    let mut lemmas = Vec::new(alloc);
+    for _ in 0..count {
+        let formula = part(fields, table)?;
+        let proof = part(fields, table)?;
+        lemmas.push((formula, proof))?;
+    }
+    Ok(lemmas)
+}
+
+/// The lemmas, if this version has some: the next field is their count.
+#[tactic(auto, unfolding(crate::specs::Decoding::decoded_lemmas))]
+fn lemmas(
+    alloc: Global,
+    fields: &mut Fields<'_>,
+    version: u32,
+    table: &Table,
+) -> Result<Vec<(Id, Id)>, Malformed>
+    ensures read { Decodes (λ v. lemmas_in table.now v.items)
+        (decoded_lemmas version fields.old.bytes.now fields.old.read table.now.trees) result }
+    ensures moves { IfOk result
+        (λ v. IsPast fields.old fields.new (lemmas_size version (length v.items))) }
+    ensures known { IfOk result (λ v. LemmasKnown table.now v.items) }
+{
+    if version != 4 {
+        return Ok(Vec::new(alloc));
+    }
+    let count = fields.between(0, MAX_LEMMAS, Flaw::Count)?;
+    lemmas_from(alloc, fields, count, table)
+}
+
 /// The proof that the next field names, if it names one.
 #[tactic(auto, unfolding(crate::specs::Decoding::decoded_proof))]
 fn proof(fields: &mut Fields<'_>, table: &Table) -> Result<Option<Id>, Malformed>
@@ -227,6 +274,7 @@ fn end(
     requires few { length container.now.table.trees ≤ MAX_ENTRIES }
     requires near { at < 2 ^ 32 }
     requires known { AreKnown container.now.table container.now.invs.items container.now.proof }
+    requires lemmas { LemmasKnown container.now.table container.now.lemmas.items }
     ensures { let contents = contents_of container.now in
         let trees = container.now.table.trees in
         Decodes (λ _. contents)
@@ -236,7 +284,13 @@ fn end(
         return Err(Malformed::At(fields.offset(), Flaw::Trailing));
     }
     let table = &container.table;
-    let walk = walk_from(alloc, table, &container.invs, container.proof)?;
+    let walk = walk_from(
+        alloc,
+        table,
+        &container.invs,
+        &container.lemmas,
+        container.proof,
+    )?;
     match misplaced(table, &walk.left) {
         Some(e) => Err(Malformed::At(offset_of(table, at, e), Flaw::Order)),
         None => Ok(()),
@@ -255,8 +309,9 @@ fn parse(alloc: Global, bytes: &[u8]) -> Result<Container<'_>, Malformed>
     let at = fields.place();
     let signature = signature_of(start.version);
     let mut table = Table::new(alloc, signature.places());
-    entries(&mut fields, &mut table)?;
+    entries(&mut fields, start.version, &mut table)?;
     let invs = invs(alloc, &mut fields, &table, words)?;
+    let lemmas = lemmas(alloc, &mut fields, start.version, &table)?;
     let proof = proof(&mut fields, &table)?;
     let container = Container {
         version: start.version,
@@ -265,6 +320,7 @@ fn parse(alloc: Global, bytes: &[u8]) -> Result<Container<'_>, Malformed>
         code: start.code,
         table,
         invs,
+        lemmas,
         proof,
     };
     end(alloc, &fields, at, &container)?;

@@ -3,10 +3,12 @@
 ghost use Rattle.std.specs.Prelude.{◌≡◌, ◌<◌, ◌++◌, ◌∷◌, [], List, length, get_or, IfOk, OnOk};
 ghost use Rattle.term_table.specs.Tree.{Tree};
 ghost use Rattle.term_table.specs.Table.{IsKnown};
+ghost use Rattle.lf_lemmas.specs.Tables.{LemmasKnown};
 ghost use Rattle.proof_container.specs.Postorder.{entries};
 ghost use Rattle.proof_container.specs.Views.{AreKnown};
 ghost use Rattle.proof_container.specs.Inside.Walked.{IsLeft, IsUnderWay, IsStep, root_trees};
-ghost use Rattle.proof_container.specs.Inside.Walked.{first_steps, part_steps, steps_cost};
+ghost use Rattle.proof_container.specs.Inside.Walked.{lemma_steps, first_steps, part_steps};
+ghost use Rattle.proof_container.specs.Inside.Walked.{steps_cost};
 
 use std::alloc::{AllocError, Global};
 use term_table::{Id, Node, Table};
@@ -37,18 +39,32 @@ enum Step {
     Leave(Id),
 }
 
+/// Puts the steps that enter lemmas on top, the first lemma's topmost, and in each its formula's.
+fn enter_lemmas(steps: &mut Vec<Step>, lemmas: &[(Id, Id)]) -> Result<(), AllocError>
+    ensures { OnOk result (steps.new.items ≡ steps.old.items ++ lemma_steps lemmas.now) }
+{
+    for lemma in lemmas.iter().rev() {
+        let (formula, proof) = *lemma;
+        steps.push(Step::Enter(proof))?;
+        steps.push(Step::Enter(formula))?;
+    }
+    Ok(())
+}
+
 /// The steps that enter the roots, the first root's on top.
 fn first_steps(
     alloc: Global,
     invs: &[(u32, Id)],
+    lemmas: &[(Id, Id)],
     proof: Option<Id>,
 ) -> Result<Vec<Step>, AllocError>
-    ensures { IfOk result (λ steps. steps.items ≡ first_steps invs.now proof) }
+    ensures { IfOk result (λ steps. steps.items ≡ first_steps invs.now lemmas.now proof) }
 {
     let mut steps = Vec::new(alloc);
     if let Some(id) = proof {
         steps.push(Step::Enter(id))?;
     }
+    enter_lemmas(&mut steps, lemmas)?;
     for inv in invs.iter().rev() {
         steps.push(Step::Enter(inv.1))?;
     }
@@ -129,22 +145,24 @@ fn take_step(
     }
 }
 
-/// The walk from the invariants in order and then the proof.
+/// The walk from the invariants in order, then each lemma's formula and proof, and then the proof.
 pub fn walk_from(
     alloc: Global,
     table: &Table,
     invs: &[(u32, Id)],
+    lemmas: &[(Id, Id)],
     proof: Option<Id>,
 ) -> Result<Walk, AllocError>
-    requires { AreKnown table.now invs.now proof }
-    ensures { let left = entries (root_trees table.now invs.now proof) in
+    requires known { AreKnown table.now invs.now proof }
+    requires lemmas { LemmasKnown table.now lemmas.now }
+    ensures { let left = entries (root_trees table.now invs.now lemmas.now proof) in
         IfOk result (λ w. IsLeft table.now left w) }
 {
     let mut walk = Walk {
         left: Vec::new(alloc),
         numbers: vec![in alloc; None; table.count() as usize]?,
     };
-    let mut steps = first_steps(alloc, invs, proof)?;
+    let mut steps = first_steps(alloc, invs, lemmas, proof)?;
     while let Some(step) = steps.pop() {
         take_step(table, &mut walk, &mut steps, step)?;
     }

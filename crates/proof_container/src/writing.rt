@@ -6,10 +6,13 @@ ghost use Rattle.std.specs.Prelude.{IfOk, IfSome, OnOk};
 ghost use Rattle.std.specs.List.{flat_map};
 ghost use Rattle.std.specs.Option.{option_map};
 ghost use Rattle.term_table.specs.Table.{IsKnown, AllKnown, tree_at, id_trees};
-ghost use Rattle.proof_container.specs.Contents.{roots};
+ghost use Rattle.lf_lemmas.specs.Tables.{lemmas_in, LemmasKnown};
+ghost use Rattle.proof_container.specs.Versions.{AreLemmasOf, lemmas_size};
+ghost use Rattle.proof_container.specs.Contents.{lemma_roots, roots};
 ghost use Rattle.proof_container.specs.Postorder.{entries, is_emitted, HasPartsFirst, AreEmitted};
 ghost use Rattle.proof_container.specs.Encoding.{field_bytes, entry_number, entry_fields};
-ghost use Rattle.proof_container.specs.Encoding.{inv_fields, proof_field, tail_fields};
+ghost use Rattle.proof_container.specs.Encoding.{inv_fields, lemma_fields, lemmas_fields};
+ghost use Rattle.proof_container.specs.Encoding.{proof_field, tail_fields};
 ghost use Rattle.proof_container.specs.Encoding.{policy_bytes, bound_fields, head_bytes};
 ghost use Rattle.proof_container.specs.Encoding.{encoding_of, EncodesContents};
 ghost use Rattle.proof_container.specs.declared.limits.TheConstants.{MAX_ENTRIES};
@@ -89,7 +92,8 @@ fn put_entry(out: &mut Vec<u8>, table: &Table, walk: &Walk, id: Id) -> Result<()
             put(out, &[6, f, a])
         }
         Node::Lam(b) => put(out, &[7, number(table, walk, b)]),
-        Node::Lemma(_) | Node::Fam(_) | Node::TApp(_, _) | Node::Pi(_, _) => Ok(()),
+        Node::Lemma(n) => put(out, &[8, n]),
+        Node::Fam(_) | Node::TApp(_, _) | Node::Pi(_, _) => Ok(()),
     }
 }
 
@@ -131,6 +135,56 @@ fn put_invs(
     Ok(())
 }
 
+/// Adds lemmas, each the numbers of its formula and its proof.
+fn put_pairs(
+    out: &mut Vec<u8>,
+    table: &Table,
+    walk: &Walk,
+    lemmas: &[(Id, Id)],
+) -> Result<(), AllocError>
+    requires left { IsLeft table.now (left_trees table.now walk.now) walk.now }
+    requires known { LemmasKnown table.now lemmas.now }
+    requires listed { AreEmitted (left_trees table.now walk.now)
+        (lemma_roots (lemmas_in table.now lemmas.now)) }
+    requires few { length walk.now.left.items ≤ MAX_ENTRIES }
+    ensures { let es = left_trees table.now walk.now in
+        OnOk result (out.new.items ≡ out.old.items ++
+        field_bytes (flat_map (lemma_fields es) (lemmas_in table.now lemmas.now))) }
+{
+    for lemma in lemmas {
+        let (formula, proof) = *lemma;
+        let formula = number(table, walk, formula);
+        let proof = number(table, walk, proof);
+        put(out, &[formula, proof])?;
+    }
+    Ok(())
+}
+
+/// Adds the lemmas behind their count, where the version has some.
+fn put_lemmas(
+    out: &mut Vec<u8>,
+    table: &Table,
+    walk: &Walk,
+    version: u32,
+    lemmas: &[(Id, Id)],
+) -> Result<(), AllocError>
+    requires left { IsLeft table.now (left_trees table.now walk.now) walk.now }
+    requires known { LemmasKnown table.now lemmas.now }
+    requires listed { AreEmitted (left_trees table.now walk.now)
+        (lemma_roots (lemmas_in table.now lemmas.now)) }
+    requires few { length walk.now.left.items ≤ MAX_ENTRIES }
+    requires few_lemmas { AreLemmasOf version lemmas.now }
+    ensures { let es = left_trees table.now walk.now in
+        OnOk result (out.new.items ≡ out.old.items ++
+        field_bytes (lemmas_fields version es (lemmas_in table.now lemmas.now))) }
+{
+    if version != 4 {
+        return Ok(());
+    }
+    put(out, &[lemmas.len() as u32])?;
+    put_pairs(out, table, walk, lemmas)
+}
+
 /// The field that names the proof.
 fn proof_number(table: &Table, walk: &Walk, proof: Option<Id>) -> u32
     requires left { IsLeft table.now (left_trees table.now walk.now) walk.now }
@@ -158,6 +212,7 @@ fn put_tail(out: &mut Vec<u8>, view: &View<'_>, walk: &Walk) -> Result<(), Alloc
     put_entries(out, view.table, walk)?;
     put(out, &[view.invs.len() as u32])?;
     put_invs(out, view.table, walk, view.invs)?;
+    put_lemmas(out, view.table, walk, view.version, view.lemmas)?;
     put(out, &[proof_number(view.table, walk, view.proof)])
 }
 
@@ -199,9 +254,10 @@ fn put_head(out: &mut Vec<u8>, view: &View<'_>, words: u32) -> Result<(), AllocE
     put_counts(out, view.bound, words)
 }
 
-/// Encodes the contents of `view`: the entries stand in the order of the walk from the invariants
-/// and then the proof, whatever other terms the table has. The roots are terms that cite no lemma,
-/// since there is no kind of entry for one.
+/// Encodes the contents of `view`: the entries stand in the order of the walk from the invariants,
+/// then each lemma's formula and proof, and then the proof, whatever other terms the table has. But
+/// in version 4 there are no lemmas, and the roots are terms that cite none, since there is no kind
+/// of entry for one.
 ///
 /// Errors: want of memory alone.
 pub fn write(alloc: Global, view: &View<'_>) -> Result<Vec<u8>, AllocError>
@@ -213,7 +269,7 @@ pub fn write(alloc: Global, view: &View<'_>) -> Result<Vec<u8>, AllocError>
     view.table.laws();
     let code = view.code;
     limits(code);
-    let walk = walk_from(alloc, view.table, view.invs, view.proof)?;
+    let walk = walk_from(alloc, view.table, view.invs, view.lemmas, view.proof)?;
     let mut out = Vec::new(alloc);
     put_head(&mut out, view, (code.len() / 4) as u32)?;
     out.extend_from_slice(code)?;
@@ -255,21 +311,33 @@ fn bound_len(bound: Option<u32>) -> u64
     }
 }
 
+/// How many fields the lemmas have, with their count, in this version.
+fn lemmas_len(version: u32, lemmas: &[(Id, Id)]) -> u64
+    ensures { result ≡ min (lemmas_size version (length lemmas.now)) (2 ^ 64 - 1) }
+{
+    if version != 4 {
+        return 0;
+    }
+    (lemmas.len() as u64).saturating_mul(2).saturating_add(1)
+}
+
 /// Measures the container of `view`: how many entries it has, and how many bytes; past
 /// 18,446,744,073,709,551,615 bytes it answers that.
 ///
 /// Errors: want of memory alone.
 pub fn extent(alloc: Global, view: &View<'_>) -> Result<(u64, u64), AllocError>
-    requires { AreKnown view.now.table.now view.now.invs.now view.now.proof }
+    requires known { AreKnown view.now.table.now view.now.invs.now view.now.proof }
+    requires lemmas { LemmasKnown view.now.table.now view.now.lemmas.now }
     ensures entries { IfOk result (λ e. e.0 ≡ length (entries (roots (view_contents view.now)))) }
     ensures bytes { let size = length (encoding_of (view_contents view.now)) in
         IfOk result (λ e. e.1 ≡ min size (2 ^ 64 - 1)) }
 {
-    let walk = walk_from(alloc, view.table, view.invs, view.proof)?;
+    let walk = walk_from(alloc, view.table, view.invs, view.lemmas, view.proof)?;
     let count = view.invs.len() as u64;
     let fields = entries_len(view.table, &walk)
         .saturating_add(6 + policy_len(view.head) + bound_len(view.bound))
-        .saturating_add(2 * count);
+        .saturating_add(2 * count)
+        .saturating_add(lemmas_len(view.version, view.lemmas));
     let bytes = fields
         .saturating_mul(4)
         .saturating_add(view.code.len() as u64);

@@ -1,5 +1,5 @@
 -- What makes accepted code safe and its condition true.
-use Rattle.std.specs.Prelude.{◌≡◌, ℕ, ◌≤◌, true, false, List, map, length, Option, Some, Result, Ok, Err}
+use Rattle.std.specs.Prelude.{◌≡◌, ℕ, ◌≤◌, true, false, List, map, length, Option, None, Some, Result, Ok, Err}
 use Rattle.std.specs.Option.{option_map}
 use Rattle.alpha_words.specs.declared.insn.Insn.{Insn}
 use Rattle.std.specs.List.{AllByRecursion}
@@ -9,8 +9,7 @@ use Rattle.formula_tree.specs.Formulas.{Form}
 use Rattle.formula_tree.specs.Truth.{IsValid}
 use Rattle.policy_set.specs.Views.{PolicyView, IsPolicy}
 use Rattle.term_table.specs.Tree.{Tree}
-use Rattle.term_table.specs.Measures.{weight_of}
-use Rattle.lf_signature.specs.Constants.{places_of}
+use Rattle.lf_lemmas.specs.Tables.{lemmas_in}
 use Rattle.lf_signature.specs.declared.WordSignature.{WordSignature}
 use Rattle.lf_signature.specs.declared.WordSignature.TheVariants.{Sigma3}
 use Rattle.term_table.specs.Table.{TableView, IsKnown, tree_at, id_trees}
@@ -22,7 +21,8 @@ use Rattle.pcc_gate.specs.declared.fault.GateFault.{GateFault}
 use Rattle.pcc_gate.specs.declared.fault.GateFault.TheVariants as fault
 use Rattle.pcc_gate.specs.declared.limits.TheConstants.{MAX_WEIGHT}
 use Rattle.pcc_gate.specs.declared.refusal.Refusal.TheVariants as refusal
-use Rattle.pcc_gate.specs.First.{vc_of, proves, first_proof}
+use Rattle.pcc_gate.specs.First.{vc_of, lemma_unproved, proves, first_lemmas, first_proof, refused_by}
+use Rattle.pcc_gate.specs.Weights.{lemmas_weight, proof_weight}
 use Rattle.pcc_gate.specs.Inside.Stages.{Refuses}
 
 -- the code is safe for the policy, and returns within the bound, its invariants are forms, and the
@@ -41,18 +41,33 @@ pub record IsProved (policy : PolicyView) (bound : Option ℕ) (cut : CutView) (
   pub valid : (formulas : List (ℕ × Form)) → AreEncodings bound (id_trees table invs) formulas
       → IsValid (condition (annotated policy bound cut.code formulas))
 
--- the proof isn't too heavy, by the parameters of the signature, and is the one that there is
-abbrev pub IsProofFound : WordSignature → TableView → Option ℕ → Result ℕ GateFault → Type 0
-IsProofFound s t proof (Ok id) =
-    (proof ≡ Some id) × IsKnown t id × (weight_of (places_of s) (tree_at t id) ≤ MAX_WEIGHT)
-IsProofFound s t proof (Err e) = Refuses (λ vc. first_proof s vc (option_map (tree_at t) proof)) e
+-- with the lemmas the proof isn't too heavy, by the parameters of the signature, and is the one
+-- that there is
+abbrev pub IsProofFound : WordSignature → TableView → List (ℕ × ℕ) → Option ℕ → Result ℕ GateFault
+    → Type 0
+IsProofFound s t lemmas proof (Ok id) =
+    (proof ≡ Some id) × IsKnown t id
+    × (proof_weight s (lemmas_in t lemmas) (tree_at t id) ≤ MAX_WEIGHT)
+IsProofFound s t lemmas proof (Err e) =
+    Refuses (λ vc. first_proof s (lemmas_in t lemmas) vc (option_map (tree_at t) proof)) e
 
--- clause 11 over the signature, with the bound, the proof's term being given
-abbrev pub IsProofAnswer : WordSignature → PolicyView → Option ℕ → List Insn → List (ℕ × Tree)
-    → Tree → Result Unit GateFault → Type 0
-IsProofAnswer s policy bound code invs proof (Ok _) =
-    proves s proof (vc_of policy bound code invs) ≡ true
-IsProofAnswer s policy bound code invs proof (Err (fault.Refused r)) =
-    (proves s proof (vc_of policy bound code invs) ≡ false) × (r ≡ refusal.NotProof)
-IsProofAnswer s policy bound code invs proof (Err fault.Memory) = Unit {0}
-IsProofAnswer s policy bound code invs proof (Err fault.Results) = Unit {0}
+-- the first refusal by clause 10 of lemmas alone
+abbrev pub IsLemmaWeight : WordSignature → List (Tree × Tree) → Result Unit GateFault → Type 0
+IsLemmaWeight s lemmas (Ok _) = lemmas_weight s lemmas ≤ MAX_WEIGHT
+IsLemmaWeight s lemmas (Err e) = Refuses (first_lemmas s lemmas (lemmas_weight s lemmas)) e
+
+-- clause 14 over the signature
+abbrev pub AreLemmasProved : WordSignature → List (Tree × Tree) → Result Unit GateFault → Type 0
+AreLemmasProved s lemmas (Ok _) = lemma_unproved s lemmas ≡ None
+AreLemmasProved s lemmas (Err e) =
+    Refuses (refused_by refusal.LemmaNotProof (lemma_unproved s lemmas)) e
+
+-- clause 11 over the signature with the lemmas, with the bound, the proof's term being given
+abbrev pub IsProofAnswer : WordSignature → List (Tree × Tree) → PolicyView → Option ℕ → List Insn
+    → List (ℕ × Tree) → Tree → Result Unit GateFault → Type 0
+IsProofAnswer s lemmas policy bound code invs proof (Ok _) =
+    proves s lemmas proof (vc_of policy bound code invs) ≡ true
+IsProofAnswer s lemmas policy bound code invs proof (Err (fault.Refused r)) =
+    (proves s lemmas proof (vc_of policy bound code invs) ≡ false) × (r ≡ refusal.NotProof)
+IsProofAnswer s lemmas policy bound code invs proof (Err fault.Memory) = Unit {0}
+IsProofAnswer s lemmas policy bound code invs proof (Err fault.Results) = Unit {0}

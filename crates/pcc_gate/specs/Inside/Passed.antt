@@ -14,7 +14,7 @@ use Rattle.pcc_gate.specs.Answers.{IsHeld}
 use Rattle.pcc_gate.specs.Inside.Stages.{Refuses, RefusesBytes, IsShaped}
 use Rattle.proof_container.specs.Versions.{profile_of, signature_of}
 
--- what passed clauses 4 to 8 of the contents
+-- what passed clauses 4 to 8 and 13 of the contents
 pub record IsRest (c : Contents) (p : Passed) : Type 0 where
   pub contents : contents_of p.container ≡ c
   pub held : IsHeld p.container

@@ -10,7 +10,8 @@ use Rattle.alpha_cfg.specs.Deciding.{flags_of, uncut_of}
 use Rattle.policy_set.specs.Views.{PolicyView}
 use Rattle.term_table.specs.Tree.{Tree}
 use Rattle.term_table.specs.Table.{TableView, tree_at, id_trees}
-use Rattle.proof_container.specs.Contents.{Contents, roots, one_or_none}
+use Rattle.lf_lemmas.specs.Tables.{lemmas_in}
+use Rattle.proof_container.specs.Contents.{Contents, roots, lemma_roots, one_or_none}
 use Rattle.proof_container.specs.Encoding.{EncodesContents}
 use Rattle.proof_container.specs.Views.{contents_of}
 use Rattle.proof_container.specs.declared.container.Container.{Container}
@@ -21,17 +22,24 @@ use Rattle.pcc_gate.specs.declared.refusal.Refusal.{Refusal}
 use Rattle.pcc_gate.specs.declared.refusal.Refusal.TheVariants as refusal
 use Rattle.vcgen.specs.declared.condition.TheConstants.{MAX_UNFOLDED}
 use Rattle.pcc_gate.specs.Answers.{IsHeld}
-use Rattle.pcc_gate.specs.First.{too_high, formless, first_code, first_front, first_long, first_shape, refused_by}
+use Rattle.pcc_gate.specs.First.{too_high, formless, lemma_formless, first_code, first_front, first_long, first_shape, refused_by}
 use Rattle.word_ops.specs.declared.Profile.{Profile}
 use Rattle.lf_signature.specs.declared.WordSignature.{WordSignature}
 use Rattle.proof_container.specs.declared.container.Head.TheVariants.{Number}
 use Rattle.pcc_gate.specs.ForPolicy.{IsFor}
 
--- the trees of the roots, by their ids
-abbrev pub measured_trees : TableView → List (ℕ × ℕ) → Option ℕ → List Tree
-measured_trees t invs proof = map (λ p. p.1) (id_trees t invs) ++ one_or_none (option_map (tree_at t) proof)
+-- the trees of the roots behind the invariants, by their ids
+abbrev pub later_trees : TableView → List (ℕ × ℕ) → Option ℕ → List Tree
+later_trees t lemmas proof =
+    lemma_roots (lemmas_in t lemmas) ++ one_or_none (option_map (tree_at t) proof)
 
--- a refusal is the first whatever comes after the stage, for which next stands; what ran out says nothing
+-- the trees of the roots, by their ids
+abbrev pub measured_trees : TableView → List (ℕ × ℕ) → List (ℕ × ℕ) → Option ℕ → List Tree
+measured_trees t invs lemmas proof =
+    map (λ p. p.1) (id_trees t invs) ++ later_trees t lemmas proof
+
+-- a refusal is the first whatever comes after the stage, for which next stands; what ran out says
+-- nothing
 abbrev pub Refuses : {N : Type 0} → (N → Option Refusal) → GateFault → Type 0
 Refuses {N} first (fault.Refused r) = (next : N) → first next ≡ Option.Some r
 Refuses first fault.Memory = Unit {0}
@@ -83,13 +91,14 @@ IsLengthAnswer code marks (Ok _) = unfolded_of code marks ≤ MAX_UNFOLDED
 IsLengthAnswer code marks (Err e) = Refuses (first_long code marks) e
 
 -- contents of which the bound and the roots alone are of interest, these by their ids
-abbrev pub with_roots : TableView → Option ℕ → List (ℕ × ℕ) → Option ℕ → Contents
-with_roots t bound invs proof = record {
+abbrev pub with_roots : TableView → Option ℕ → List (ℕ × ℕ) → List (ℕ × ℕ) → Option ℕ → Contents
+with_roots t bound invs lemmas proof = record {
   version = 1;
   head = Number 0;
   bound = bound;
   code = [];
   invs = id_trees t invs;
+  lemmas = lemmas_in t lemmas;
   proof = option_map (tree_at t) proof;
 }
 
@@ -103,15 +112,25 @@ abbrev pub AreFormed : WordSignature → Option ℕ → List (ℕ × Tree) → R
 AreFormed s bound invs (Ok _) = formless s bound 0 invs ≡ None
 AreFormed s bound invs (Err e) = Refuses (first_no_form s bound invs) e
 
--- cut code of contents that pass clauses 5 to 8 over the signature
+-- the first refusal by clause 13 over the signature, and what comes after
+abbrev pub first_no_formula : WordSignature → List (Tree × Tree) → Option Refusal → Option Refusal
+first_no_formula s lemmas next = refused_by refusal.LemmaNotForm (lemma_formless s lemmas) next
+
+-- clause 13
+abbrev pub AreLemmasFormed : WordSignature → List (Tree × Tree) → Result Unit GateFault → Type 0
+AreLemmasFormed s lemmas (Ok _) = lemma_formless s lemmas ≡ None
+AreLemmasFormed s lemmas (Err e) = Refuses (first_no_formula s lemmas) e
+
+-- cut code of contents that pass clauses 5, 6, 13, 7 and 8 over the signature
 pub record IsShaped (s : WordSignature) (c : Contents) (code : List Insn) (cut : CutView)
     : Type 0 where
   pub low : too_high (roots c) ≡ None
   pub forms : formless s c.bound 0 c.invs ≡ None
+  pub lemma_forms : lemma_formless s c.lemmas ≡ None
   pub made : IsMade code (map (λ p. p.0) c.invs) cut
   pub short : unfolded_of code cut.marks ≤ MAX_UNFOLDED
 
--- clauses 5 to 8
+-- clauses 5, 6, 13, 7 and 8
 abbrev pub IsShapeAnswer : WordSignature → Contents → List Insn → Result CutView GateFault → Type 0
 IsShapeAnswer s c code (Ok cut) = IsShaped s c code cut
 IsShapeAnswer s c code (Err e) = Refuses (first_shape s c code) e

@@ -10,14 +10,19 @@ use Rattle.proof_container.specs.declared.walk.Walk.{Walk}
 use Rattle.proof_container.specs.declared.walk.Step.{Step}
 use Rattle.proof_container.specs.declared.walk.Step.TheVariants.{Enter, Leave}
 use Rattle.proof_container.specs.declared.limits.TheConstants.{MAX_ENTRIES, MAX_INVS}
-use Rattle.proof_container.specs.Contents.{one_or_none}
+use Rattle.lf_lemmas.specs.Tables.{lemmas_in, LemmasKnown}
+use Rattle.proof_container.specs.Versions.{AreLemmasOf}
+use Rattle.proof_container.specs.Contents.{one_or_none, lemma_roots}
 use Rattle.proof_container.specs.Postorder.{is_emitted, unless_emitted, emitted_with, HasPartsFirst, AreEmitted}
 use Rattle.proof_container.specs.Encoding.{entry_number}
 use Rattle.proof_container.specs.Views.{AreKnown}
 
--- the trees of the roots: the invariants in order, then the proof
-abbrev pub root_trees : TableView → List (ℕ × ℕ) → Option ℕ → List Tree
-root_trees t invs proof = map (λ p. p.1) (id_trees t invs) ++ one_or_none (option_map (tree_at t) proof)
+-- the trees of the roots: the invariants in order, then each lemma's formula and proof, then the
+-- proof
+abbrev pub root_trees : TableView → List (ℕ × ℕ) → List (ℕ × ℕ) → Option ℕ → List Tree
+root_trees t invs lemmas proof =
+    map (λ p. p.1) (id_trees t invs)
+    ++ (lemma_roots (lemmas_in t lemmas) ++ one_or_none (option_map (tree_at t) proof))
 
 -- the number of a tree among those that were left, if it was left
 abbrev pub mark : List Tree → Tree → Option ℕ
@@ -52,10 +57,14 @@ pub record IsReady (v : View) (w : Walk) : Type 0 where
   pub left : IsLeft v.table.now (left_trees v.table.now w) w
   pub parts : HaveParts (left_trees v.table.now w) (left_trees v.table.now w)
   pub known : AreKnown v.table.now v.invs.now v.proof
+  pub known_lemmas : LemmasKnown v.table.now v.lemmas.now
   pub invs : AreEmitted (left_trees v.table.now w) (map (λ inv. tree_at v.table.now inv.1) v.invs.now)
+  pub lemmas : AreEmitted (left_trees v.table.now w)
+      (lemma_roots (lemmas_in v.table.now v.lemmas.now))
   pub proof : IfSome v.proof (λ id. is_emitted (tree_at v.table.now id) (left_trees v.table.now w) ≡ true)
   pub few : length w.left.items ≤ MAX_ENTRIES
   pub few_invs : length v.invs.now ≤ MAX_INVS
+  pub few_lemmas : AreLemmasOf v.version v.lemmas.now
 
 -- ---- the steps that a walk has yet to take, the last of the list first
 
@@ -79,9 +88,15 @@ abbrev pub proof_steps : Option ℕ → List Step
 proof_steps None = []
 proof_steps (Some id) = Enter id ∷ []
 
+-- the steps of lemmas, the last lemma's first and in each the proof's before the formula's
+abbrev pub lemma_steps : List (ℕ × ℕ) → List Step
+lemma_steps [] = []
+lemma_steps (l ∷ lemmas) = lemma_steps lemmas ++ Enter l.1 ∷ Enter l.0 ∷ []
+
 -- the steps of the roots
-abbrev pub first_steps : List (ℕ × ℕ) → Option ℕ → List Step
-first_steps invs proof = proof_steps proof ++ map (λ inv. Enter inv.1) (reverse invs)
+abbrev pub first_steps : List (ℕ × ℕ) → List (ℕ × ℕ) → Option ℕ → List Step
+first_steps invs lemmas proof =
+    proof_steps proof ++ (lemma_steps lemmas ++ map (λ inv. Enter inv.1) (reverse invs))
 
 -- the trees that are left once the step is taken, where those of ts were left before
 abbrev pub taken : TableView → Step → List Tree → List Tree

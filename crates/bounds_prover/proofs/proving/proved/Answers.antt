@@ -12,13 +12,15 @@ use Rattle.vcgen.specs.Encoded.{AreForms}
 use Rattle.vcgen.proofs.Encodings.{forms-wider}
 use Rattle.lf_signature.specs.declared.WordSignature.TheVariants.{Sigma3}
 use Rattle.proof_container.specs.Versions.{signature_of}
+use Rattle.lf_lemmas.specs.Tables.{lemmas_in, LemmasKnown}
+use Rattle.lf_lemmas.specs.Laws.Lawful.{lemmas_stay, lemmas_known}
 use Rattle.pcc_gate.proofs.Kept.{known-more, trees-same}
 use Rattle.pcc_gate.proofs.Refusing.{keys}
 use Rattle.pcc_gate.proofs.Stages.{low-invs}
 use Rattle.prover_class.specs.Parts.{condition_proof, first_not_easy}
 use Rattle.condition_prover.specs.Conditions.{condition_parts, IsKnownAnswer, IsPartsAnswer}
 use Rattle.bounds_prover.specs.Proving.{excess, encoded_unless, IsMadeAnswer}
-use Rattle.bounds_prover.proofs.Making.{same_invs, made-contents, not_easy-made, proof-made}
+use Rattle.bounds_prover.proofs.Making.{same_roots, made-contents, not_easy-made, proof-made}
 use Rattle.bounds_prover.proofs.proving.proved.Goals as goal
 
 pub prove_condition-requires-clause-invs : goal.prove_condition-requires-clause-invs
@@ -54,6 +56,13 @@ written-requires-clause-roots c =
     let invs = known-more k.table u k.invs.items c.in-Ok.ensures.extends c.requires.held.known.0 in
     (subst (λ l. AllByRecursion (λ (inv : ℕ × ℕ). IsKnown u inv.1) l) (sym c.deref-in-Proved.ensures.value) invs, subst (IsKnownAnswer u) c.in-Proved.is c.in-Ok.ensures.known)
 
+pub written-requires-clause-lemmas : goal.written-requires-clause-lemmas
+written-requires-clause-lemmas c =
+    let k = c.args.passed.container in
+    let u = c.prove_condition.new.table in
+    subst (LemmasKnown u) (sym c.deref-in-Proved-2.ensures.value)
+    (lemmas_known k.lemmas.items k.table u c.requires.held.lemmas c.in-Ok.ensures.extends)
+
 pub written-requires-clause-contents : goal.written-requires-clause-contents
 written-requires-clause-contents c = λ low few.
     let k = c.args.passed.container in
@@ -65,7 +74,12 @@ written-requires-clause-contents c = λ low few.
     let parts = λ (l : List (ℕ × ℕ)). condition_parts c.args.policy.now k.bound cut.code (id_trees t l) in
     let answer = subst (IsPartsAnswer u (is_some k.bound) 0 (parts c.deref.result.now)) c.in-Proved.is c.in-Ok.ensures.exact in
     let given = subst (λ l. condition_proof (is_some k.bound) (parts l) ≡ Some p) c.deref.ensures.value answer in
-    let same = same_invs (contents_of k) (id_trees u c.deref-in-Proved.result.now) p (ap (id_trees u) c.deref-in-Proved.ensures.value ∙ sym (trees-same t u ps c.in-Ok.ensures.extends c.requires.held.known.0)) in
+    let invs = ap (id_trees u) c.deref-in-Proved.ensures.value
+    ∙ sym (trees-same t u ps c.in-Ok.ensures.extends c.requires.held.known.0) in
+    let lemmas = ap (lemmas_in u) c.deref-in-Proved-2.ensures.value
+    ∙ lemmas_stay k.lemmas.items t u c.requires.held.lemmas c.in-Ok.ensures.extends in
+    let same = same_roots (contents_of k) (id_trees u c.deref-in-Proved.result.now)
+    (lemmas_in u c.deref-in-Proved-2.result.now) p invs lemmas in
     subst IsContents (sym same)
     (made-contents c.class_laws.ensures.sound c.args.policy.now c.laws.ensures c.args.bytes.now
     (contents_of k) cut.code cut.marks c.requires.passes p given low
@@ -81,6 +95,11 @@ returns c =
     let parts = λ (l : List (ℕ × ℕ)). condition_parts c.args.policy.now k.bound c.args.passed.cut.code (id_trees t l) in
     let answer = subst (IsPartsAnswer u (is_some k.bound) 0 (parts c.deref.result.now)) c.in-Proved.is c.in-Ok.ensures.exact in
     let given = subst (λ l. condition_proof (is_some k.bound) (parts l) ≡ Some p) c.deref.ensures.value answer in
-    let same = same_invs (contents_of k) (id_trees u c.deref-in-Proved.result.now) p (ap (id_trees u) c.deref-in-Proved.ensures.value ∙ sym (trees-same t u ps c.in-Ok.ensures.extends c.requires.held.known.0)) in
+    let invs = ap (id_trees u) c.deref-in-Proved.ensures.value
+    ∙ sym (trees-same t u ps c.in-Ok.ensures.extends c.requires.held.known.0) in
+    let lemmas = ap (lemmas_in u) c.deref-in-Proved-2.ensures.value
+    ∙ lemmas_stay k.lemmas.items t u c.requires.held.lemmas c.in-Ok.ensures.extends in
+    let same = same_roots (contents_of k) (id_trees u c.deref-in-Proved.result.now)
+    (lemmas_in u c.deref-in-Proved-2.result.now) p invs lemmas in
     let none = (c.class_laws.ensures.exact (is_some k.bound) (parts ps) 0).1 (p, given) in
     subst (λ m. IsMadeAnswer m c.written.result) (sym (proof-made (contents_of k) (parts ps) p none given)) (subst (λ d. IsMadeAnswer (encoded_unless (excess d p) d) c.written.result) same c.written.ensures)

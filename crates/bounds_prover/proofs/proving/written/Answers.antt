@@ -12,4 +12,4 @@ write-requires c =
     let p = tree_at v.table.now c.args.proof in
     let none : excess (view_contents v) p ≡ None = sym c.in-Ok-None.ensures ∙ c.in-Ok-None.field-0-is in
     let small = small-enough (view_contents v) p none in
-    can_write v c.requires.roots (c.requires.contents small.height small.entries)
+    can_write v c.requires.roots c.requires.lemmas (c.requires.contents small.height small.entries)

@@ -26,7 +26,9 @@ write-requires c =
     let policy = c.number.ensures.exact ∙ ap policy_number c.requires.policy in
     let holds = code-bytes program c.laws-2.ensures.bytes (c.laws-2.ensures.encode One) (c.code_laws.ensures.code program c.requires.program) (c.code_laws.ensures.profile program c.requires.program) in
     view-writable program _ (c.laws.ensures.contents program _ c.requires.program holds)
-    (contents-are program c.number.result c.deref-2.result.now c.encode_invs.new.table c.deref-3.result.now policy written ids) refl ids
+    (contents-are program c.number.result c.deref-2.result.now c.encode_invs.new.table
+    c.deref-3.result.now policy written ids)
+    refl refl ids
 
 pub returns : goal.returns
 returns c =

@@ -3,6 +3,7 @@ use Rattle.std.specs.List.Sorted.{IsStrictlyIncreasing}
 use Rattle.alpha_cfg.specs.CodeBytes.{EncodesCode}
 use Rattle.alpha_cfg.specs.Flow.{IsCode}
 use Rattle.term_table.specs.Table.{Extends, id_trees}
+use Rattle.lf_lemmas.specs.Laws.Lawful.{lemmas_stay, lemmas_known}
 use Rattle.proof_container.specs.Contents.{Contents}
 use Rattle.proof_container.specs.Views.{contents_of}
 use Rattle.proof_container.specs.Versions.{profile_of, signature_of}
@@ -10,7 +11,7 @@ use Rattle.pcc_gate.specs.Inside.Stages.{Refuses, with_roots, IsShaped}
 use Rattle.pcc_gate.specs.Inside.Passed.{IsRestAnswer}
 use Rattle.pcc_gate.specs.First.{first_code, first_shape}
 use Rattle.pcc_gate.proofs.FirstFront.{key_below, key_rises}
-use Rattle.pcc_gate.proofs.Kept.{known-more, option-more, trees-same, option-same}
+use Rattle.pcc_gate.proofs.Kept.{known-more, option-more, trees-same, option-same, renamed}
 use Rattle.pcc_gate.proofs.Refusing.{carries, keys}
 use Rattle.pcc_gate.proofs.Stages.{code-refuses}
 use Rattle.pcc_gate.proofs.passing.rest.Goals as goal
@@ -59,11 +60,10 @@ returns-in_err-cut-clause-answer c =
     let insns = c.in_ok-insns.insns in
     let e = c.in_err-cut.field-0.0 in
     let bytes = c.args.container.code.now in
-    let s = c.signature_of-signature.result in
-    let first = λ (l : List (ℕ × ℕ)) (z : WordSignature).
-    Refuses (first_shape z (with_roots t c.args.container.bound l c.args.container.proof) insns) e in
-    let here = subst (first c.args.container.invs.items) c.signature_of-signature.ensures.exact
-    (subst (λ l. first l s) c.deref.ensures.value c.in_err-cut.ensures.answer) in
+    let first = λ (z : WordSignature) (l m : List (ℕ × ℕ)).
+    Refuses (first_shape z (with_roots t c.args.container.bound l m c.args.container.proof) insns) e in
+    let here = renamed first c.signature_of-signature.ensures.exact c.deref.ensures.value
+    c.deref-2.ensures.value c.in_err-cut.ensures.answer in
     let read = subst (λ (p : Profile). decoded_code p bytes ≡ Ok insns)
     c.profile_of-profile.ensures.exact
     c.in_ok-insns.ensures.0 in
@@ -75,24 +75,25 @@ returns-clause-answer c =
     let t = c.args.container.table in
     let u = c.shaped.new.table in
     let ps : List (ℕ × ℕ) = c.args.container.invs.items in
+    let ls : List (ℕ × ℕ) = c.args.container.lemmas.items in
     let proof = c.args.container.proof in
     let bound = c.args.container.bound in
     let insns = c.in_ok-insns.insns in
     let cut = c.in_ok-cut.cut in
     let grown : Extends t u = c.in_ok-cut.ensures.extends in
-    let known = c.requires.held.known in
-    let s = c.signature_of-signature.result in
-    let given = λ (l : List (ℕ × ℕ)) (z : WordSignature). IsShaped z (with_roots t bound l proof)
+    let held = c.requires.held in
+    let known = held.known in
+    let given = λ (z : WordSignature) (l m : List (ℕ × ℕ)). IsShaped z (with_roots t bound l m proof)
     insns cut in
-    let shaped = subst (given ps) c.signature_of-signature.ensures.exact
-    (subst (λ l. given l s) c.deref.ensures.value c.in_ok-cut.ensures.answer) in
+    let shaped = renamed given c.signature_of-signature.ensures.exact c.deref.ensures.value
+    c.deref-2.ensures.value c.in_ok-cut.ensures.answer in
     let code : cut.code ≡ insns = shaped.made.code_is in
     let bytes = c.args.container.code.now in
     let encoded = subst (λ (p : Profile). EncodesCode p bytes insns)
     c.profile_of-profile.ensures.exact
     c.in_ok-insns.ensures.1 in
     let sig = signature_of c.args.container.version in
-    let mine = subst (λ x. IsShaped sig (with_roots t bound ps proof) x cut) (sym code) shaped in
+    let mine = subst (λ x. IsShaped sig (with_roots t bound ps ls proof) x cut) (sym code) shaped in
     record {
       contents = λ i. record {
         version = c.args.container.version;
@@ -100,16 +101,24 @@ returns-clause-answer c =
         bound = bound;
         code = bytes;
         invs = sym (trees-same t u ps grown known.0) i;
+        lemmas = lemmas_stay ls t u held.lemmas grown i;
         proof = sym (option-same t u proof grown known.1) i;
       };
       held = record {
         known = (known-more t u ps grown known.0, option-more t u proof grown known.1);
-        places = grown.places ∙ c.requires.held.places;
+        lemmas = lemmas_known ls t u held.lemmas grown;
+        places = grown.places ∙ held.places;
       };
       encoded =
           subst (λ x. EncodesCode (profile_of c.args.container.version) bytes x) (sym code) encoded;
       is = subst (λ x. IsCode x) (sym code) c.in_ok-insns.ensures.2;
-      shaped = record { low = mine.low; forms = mine.forms; made = mine.made; short = mine.short };
+      shaped = record {
+        low = mine.low;
+        forms = mine.forms;
+        lemma_forms = mine.lemma_forms;
+        made = mine.made;
+        short = mine.short;
+      };
     }
 
 pub returns-clause-kept : goal.returns-clause-kept

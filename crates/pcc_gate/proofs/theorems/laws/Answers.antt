@@ -1,7 +1,10 @@
 use Rattle.pcc_gate.proofs.Safe.{accepted-safe, accepted-returns, all-sound}
 use Rattle.pcc_gate.proofs.FirstFront.{passed-none, none-passed, passed-one, before-is, passes-cut, cut-passes}
 use Rattle.pcc_gate.proofs.Witness.{loop_is_accepted}
+use Rattle.pcc_gate.proofs.LemmaWitness.{lemma_is_accepted}
 use Rattle.pcc_gate.proofs.First.{accepted-none, none-accepted, refusal-is}
+use Rattle.pcc_gate.proofs.Lemmas.{lemma-is}
+use Rattle.pcc_gate.proofs.WrittenOut.{accepted-written, written-accepted}
 use Rattle.pcc_gate.proofs.theorems.laws.Goals as goal
 
 pub returns-clause-accepted : goal.returns-clause-accepted
@@ -25,9 +28,21 @@ returns-clause-refusals c policy bytes r fits = refusal-is policy bytes r fits
 pub returns-clause-before : goal.returns-clause-before
 returns-clause-before c policy bytes r fits = before-is policy bytes r fits
 
+pub returns-clause-lemmas : goal.returns-clause-lemmas
+returns-clause-lemmas c policy bytes r fits = lemma-is policy bytes r fits
+
+pub returns-clause-written_out : goal.returns-clause-written_out
+returns-clause-written_out c policy bytes k code marks = (
+  accepted-written policy bytes k code marks,
+  written-accepted policy bytes k code marks,
+)
+
 pub returns-clause-up_to : goal.returns-clause-up_to
 returns-clause-up_to c policy bytes k code marks =
     (λ p. (passes-cut policy bytes k code marks p, p.unfolded), λ h. cut-passes policy bytes k code marks h.0 h.1)
 
 pub returns-clause-some : goal.returns-clause-some
 returns-clause-some c = loop_is_accepted
+
+pub returns-clause-with_lemma : goal.returns-clause-with_lemma
+returns-clause-with_lemma c = lemma_is_accepted

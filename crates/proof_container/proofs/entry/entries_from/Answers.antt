@@ -9,13 +9,13 @@ pub returns-in_err-node-clause-read : goal.returns-in_err-node-clause-read
 returns-in_err-node-clause-read c =
     let p = err_from_is_err_and c.from_residual.result c.from_residual.ensures.1 in
     let l = c.loop in
-    rw (p.1, p.2) (entries_fault c.args.count l.counter l.fields.bytes.now l.fields.read l.table.trees _ l.invariant.read c.in_err-node.field-0.0 c.loop-test.true c.in_err-node.ensures.read)
+    rw (p.1, p.2) (entries_fault c.args.version c.args.count l.counter l.fields.bytes.now l.fields.read l.table.trees _ l.invariant.read c.in_err-node.field-0.0 c.loop-test.true c.in_err-node.ensures.read)
 
 pub returns-then-branch-clause-read : goal.returns-then-branch-clause-read
 returns-then-branch-clause-read c =
     let l = c.loop in
     let listed : is_emitted (node_tree l.table c.in_ok-node.node) l.table.trees ≡ true = sym c.in_ok-is_double.ensures.listed ∙ c.if-branch.true in
-    let fault = entries_double c.args.count l.counter l.fields.bytes.now l.fields.read l.table.trees _ l.invariant.read (node_tree l.table c.in_ok-node.node) c.loop-test.true c.in_ok-node.ensures.read listed in
+    let fault = entries_double c.args.version c.args.count l.counter l.fields.bytes.now l.fields.read l.table.trees _ l.invariant.read (node_tree l.table c.in_ok-node.node) c.loop-test.true c.in_ok-node.ensures.read listed in
     rw c.offset-offset.ensures fault
 
 pub loop-preserved : goal.loop-preserved
@@ -26,7 +26,7 @@ loop-preserved c =
     let added : c.is_double.new.table ≡ with_tree l.table tree = c.in_ok-is_double.ensures.added c.if-branch.false in
     let trees : c.is_double.new.table.trees ≡ l.table.trees ++ tree ∷ [] = ap (λ (t : TableView). t.trees) added in
     let past = c.in_ok-node.ensures.moves in
-    let on = entries_go_on c.args.count l.counter l.fields.bytes.now l.fields.read l.table.trees _ l.invariant.read tree c.loop-test.true c.in_ok-node.ensures.read new in
+    let on = entries_go_on c.args.version c.args.count l.counter l.fields.bytes.now l.fields.read l.table.trees _ l.invariant.read tree c.loop-test.true c.in_ok-node.ensures.read new in
     record {
       bytes = past.bytes ∙ l.invariant.bytes;
       read = rw (trees, past.read, past.bytes) on;
@@ -37,4 +37,4 @@ loop-preserved c =
 pub returns-clause-read : goal.returns-clause-read
 returns-clause-read c =
     let l = c.loop in
-    entries_done c.args.count l.counter l.fields.bytes.now l.fields.read l.table.trees _ l.invariant.read c.loop-test.false
+    entries_done c.args.version c.args.count l.counter l.fields.bytes.now l.fields.read l.table.trees _ l.invariant.read c.loop-test.false
