@@ -1,0 +1,47 @@
+//! What holds of the definitions, with nothing to run.
+
+ghost use Rattle.std.specs.Prelude.{◌≡◌, ◌↔◌, ℕ, Bool, List, Option, is_some, Ok};
+ghost use Rattle.word_ops.specs.declared.Profile.{Profile};
+ghost use Rattle.alpha_words.specs.declared.insn.Insn.{Insn};
+ghost use Rattle.formula_tree.specs.Formulas.{Form};
+ghost use Rattle.alpha_cfg.specs.CodeBytes.{EncodesCode};
+ghost use Rattle.term_table.specs.Bytes.{IsBytes};
+ghost use Rattle.policy_set.specs.Views.{PolicyView};
+ghost use Rattle.asm_text.specs.Sources.{Source, SpellsSource};
+ghost use Rattle.proof_container.specs.Versions.{profile_of};
+ghost use Rattle.proof_container.specs.Contents.{Contents};
+ghost use Rattle.pcc_asm.specs.Assembling.{plain_contents, assembled_code, assembled_contents};
+ghost use Rattle.pcc_asm.specs.Words.{code_bytes};
+ghost use Rattle.source_text.specs.Listing.{code_text, code_source};
+ghost use Rattle.source_text.specs.Laws.{IsSpellableCode};
+ghost use Rattle.reassembly.specs.Containers.{HoldsCode, HasWrittenReturns, without_proofs};
+
+/// The text of code of a profile with its invariants spells one source. That source is assembled
+/// into the same code, and for a policy and a version, with a bound or without, into what a
+/// container with that code and those invariants holds; so, of a container that holds them, into
+/// what it holds but for its lemmas and its proof. Bytes that encode the code, each return with the
+/// hint that is written, are what such a container holds for it.
+pub fn laws()
+    ensures source { (p : Profile) (left : Bool) (code : List Insn) (invs : List (ℕ × Form))
+        (s : Source) → IsSpellableCode p left code invs
+        → SpellsSource p left (code_text code invs) s ↔ (s ≡ code_source code invs) }
+    ensures code { (p : Profile) (left : Bool) (code : List Insn) (invs : List (ℕ × Form))
+        → IsSpellableCode p left code invs
+        → assembled_code p (code_source code invs) ≡ Ok code }
+    ensures contents { (v : ℕ) (bound : Option ℕ) (policy : PolicyView) (code : List Insn)
+        (invs : List (ℕ × Form)) → IsSpellableCode (profile_of v) (is_some bound) code invs
+        → assembled_contents v bound policy (code_source code invs)
+        ≡ Ok (plain_contents v bound policy invs code) }
+    ensures container { (policy : PolicyView) (code : List Insn) (invs : List (ℕ × Form))
+        (c : Contents) → IsSpellableCode (profile_of c.version) (is_some c.bound) code invs
+        → HoldsCode policy code invs c
+        → assembled_contents c.version c.bound policy (code_source code invs)
+        ≡ Ok (without_proofs c) }
+    ensures words { (p : Profile) (bytes : List ℕ) (code : List Insn) → IsBytes bytes
+        → EncodesCode p bytes code → HasWrittenReturns bytes code → bytes ≡ code_bytes code }
+{
+    asm_text::laws();
+    insn_text::laws();
+    source_text::laws();
+    pcc_asm::laws();
+}

@@ -1,0 +1,6 @@
+pub mod Characters
+pub mod Forms
+pub mod Spelling
+pub mod Gathering
+pub mod Places
+pub mod Sourced

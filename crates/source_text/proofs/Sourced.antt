@@ -1,0 +1,123 @@
+-- The text of code with its invariants spells the source of its lines.
+use Rattle.std.proofs.Common.{◌≡◌, ℕ, ◌+◌, ◌^◌, ◌<◌, ◌≤◌, Bool, true, List, [], ◌∷◌, length, map, slice_get, Some, refl, sym, ap, ◌∙◌, subst, arith}
+use Rattle.std.specs.List.{AllByRecursion}
+use Rattle.std.proofs.lemmas.List.{length-map}
+use Rattle.std.proofs.lemmas.Option.{slice_get_within}
+use Rattle.word_ops.specs.declared.Profile.{Profile}
+use Rattle.word_ops.specs.Operators.{has_op}
+use Rattle.formula_tree.specs.Formulas.{Form}
+use Rattle.formula_tree.specs.Operators.{Uses}
+use Rattle.formula_tree.specs.Scope.{IsWithin}
+use Rattle.formula_tree.specs.Sizes.{binders}
+use Rattle.formula_text.specs.Grammar.{Spells}
+use Rattle.formula_text.specs.Printing.{form_text}
+use Rattle.alpha_words.specs.declared.insn.Insn.{Insn}
+use Rattle.alpha_words.specs.Encoding.{has_insn}
+use Rattle.alpha_cfg.specs.Flow.{IsCode}
+use Rattle.text_tokens.specs.Tokens.{Token, Consists}
+use Rattle.asm_text.specs.declared.marks.Punct.{Punct}
+use Rattle.asm_text.specs.Marks.{source_class}
+use Rattle.asm_text.specs.Labels.{is_label}
+use Rattle.asm_text.specs.Insns.{SpellsInsn}
+use Rattle.asm_text.specs.Statements.{before_comment, are_printable}
+use Rattle.asm_text.specs.Sources.{IsSource, SpellsSource, AreDistinct, HaveInsns}
+use Rattle.insn_text.specs.Printing.{label_text, insn_text, source_insn, IsSpellable}
+use Rattle.source_text.specs.Listing.{InvOf, InsnAt, line_text, code_lines, code_text, code_contents, code_source}
+use Rattle.source_text.specs.Targets.{is_target}
+use Rattle.source_text.specs.Laws.{IsInvOf, IsSpellableCode, source_insns_from, labels_where}
+use Rattle.source_text.proofs.Forms.{form_clean, binders_short}
+use Rattle.source_text.proofs.Spelling.{IsSpelled, label_spelled, inv_spelled, insn_spelled, lines_spelled, lines_are}
+use Rattle.source_text.proofs.Gathering.{lines_all, insns_are, insns_count, labels_are, HaveOneLabel, labels_distinct, invs_are}
+
+-- ---- what was collected
+
+pub insns_of : (code : List Insn) (invs : List (ℕ × Form))
+    → map (λ x. x.1) (code_source code invs).insns ≡ source_insns_from 0 code
+insns_of code invs = insns_are (is_target code) 0 code invs 1
+
+pub labels_of : (code : List Insn) (invs : List (ℕ × Form))
+    → (code_source code invs).labels ≡ labels_where (is_target code) 0 code
+labels_of code invs = labels_are (is_target code) 0 code invs
+
+pub invs_of : (code : List Insn) (invs : List (ℕ × Form)) → HaveInsns 0 (length code) invs
+    → (code_source code invs).invs ≡ invs
+invs_of code invs h = invs_are (is_target code) 0 (length code) code invs (omega arith) h
+
+count_of : (code : List Insn) (invs : List (ℕ × Form))
+    → length (code_source code invs).insns ≡ length code
+count_of code invs =
+    sym (length-map (code_source code invs).insns (λ x. x.1)) ∙ ap length (insns_of code invs)
+    ∙ insns_count 0 code
+
+is_source : HaveOneLabel → (code : List Insn) (invs : List (ℕ × Form)) → IsCode code
+    → length invs ≤ 256 → HaveInsns 0 (length code) invs → IsSource (code_source code invs)
+is_source one code invs h few belong =
+    let n = count_of code invs in
+    let vs = invs_of code invs belong in
+    record {
+      some = omega (arith, n, h.nonempty);
+      insns = omega (arith, n, h.short);
+      invs = subst (λ l. length l ≤ 256) (sym vs) few;
+      labels = subst AreDistinct (sym (labels_of code invs))
+          (labels_distinct one (is_target code) 0 code (omega (arith, h.short)));
+      belong = subst (λ k. HaveInsns 0 k (code_source code invs).invs) (sym n)
+          (subst (λ l. HaveInsns 0 (length code) l) (sym vs) belong);
+    }
+
+-- ---- what is spelled
+
+module _ (profile : Profile) (left : Bool) where
+  -- a formula that can stand in an invariant is spelled by its text
+  abbrev pub FormsSpelled : Type 0
+  FormsSpelled = (F : Form) → IsWithin left 32 F [] → Uses (λ o. has_op profile o ≡ true) F
+      → binders F < 2 ^ 64 → Spells profile left (form_text 0 F) F
+
+  form_spelled : FormsSpelled → (F : Form) → IsInvOf profile left F
+      → IsSpelled profile left (InvOf F)
+  form_spelled spells F h =
+      let few : binders F < 2 ^ 64 = omega (arith, binders_short 0 F, h.short) in
+      inv_spelled profile left F (form_clean left 0 F [] (omega arith) h.within) h.short
+      (spells F h.within h.uses few)
+
+  forms_spelled : FormsSpelled → (vs : List (ℕ × Form))
+      → AllByRecursion (λ v. IsInvOf profile left v.1) vs
+      → AllByRecursion (λ v. IsSpelled profile left (InvOf v.1)) vs
+  forms_spelled spells [] h = tt
+  forms_spelled spells (v ∷ vs) h = (form_spelled spells v.1 h.0, forms_spelled spells vs h.1)
+
+  pub source_spelled : FormsSpelled
+      → ((i : ℕ) (insn : Insn) → has_insn profile insn ≡ true → IsSpellable i insn
+      → (ts : List (Token Punct)) × Consists source_class
+      (insn_text i insn) ts × SpellsInsn profile (source_insn i insn) ts)
+      → ((i : ℕ) (insn : Insn) → IsSpellable i insn → are_printable (insn_text i insn) ≡ true)
+      → ((i : ℕ) (insn : Insn) → IsSpellable i insn
+      → before_comment (insn_text i insn) ≡ insn_text i insn)
+      → ((i : ℕ) (insn : Insn) → IsSpellable i insn → length (insn_text i insn) ≤ 21)
+      → ((i : ℕ) → i < 2 ^ 64 → is_label (label_text i) ≡ true) → HaveOneLabel
+      → ((code : List Insn) (i : ℕ) (insn : Insn) → IsCode code → slice_get code i ≡ Some insn
+      → IsSpellable i insn)
+      → (code : List Insn) (invs : List (ℕ × Form)) → IsSpellableCode profile left code invs
+      → SpellsSource profile left (code_text code invs) (code_source code invs)
+  source_spelled forms spells printable comment short label one of_code code invs h =
+      let few : length code ≤ 1024 = h.is_code.short in
+      let each : (k : ℕ) (insn : Insn) → slice_get code k ≡ Some insn
+      → IsSpelled profile left (InsnAt (0 + k) insn) =
+      λ k insn e.
+      let can = of_code code k insn h.is_code e in
+      let z : k ≡ 0 + k = omega arith in
+      subst (λ n. IsSpelled profile left (InsnAt n insn)) z
+      (insn_spelled profile left k insn (omega (arith, slice_get_within code k insn e))
+      (printable k insn can) (comment k insn can) (short k insn can)
+      (spells k insn (h.of_profile k insn e) can)) in
+      let all : AllByRecursion (IsSpelled profile left) (code_lines code invs) =
+      lines_all (IsSpelled profile left) (is_target code) 0 code invs
+      (λ j l. label_spelled profile left j (omega arith) (label j (omega arith)))
+      (forms_spelled forms invs h.forms) each in
+      record {
+        lines = map line_text (code_lines code invs);
+        contents = code_contents code invs;
+        are_lines = lines_are profile left (code_lines code invs) all;
+        spelled = lines_spelled profile left (code_lines code invs) all;
+        collected = refl;
+        sound = is_source one code invs h.is_code h.few h.belong;
+      }

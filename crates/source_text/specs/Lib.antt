@@ -1,0 +1,4 @@
+pub mod Listing
+pub mod Views
+pub mod Laws
+pub mod Targets

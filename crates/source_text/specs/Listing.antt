@@ -1,0 +1,85 @@
+-- Code with its invariants as the text of a source: for each index in order a line with its label,
+-- where a branch goes there, a line with its invariant, where it has one, and a line with its
+-- instruction.
+use Rattle.std.specs.Prelude.{ℕ, ◌+◌, Bool, true, false, ◌==◌, if◌then◌else◌, List, [], ◌∷◌, ◌++◌, codes, decimal, map, Option, Some, None}
+use Rattle.formula_tree.specs.Formulas.{Form}
+use Rattle.formula_text.specs.Printing.{form_text}
+use Rattle.alpha_words.specs.declared.insn.Insn.{Insn}
+use Rattle.asm_text.specs.Statements.{NoStatement, AnInsn, AnInv, Content}
+use Rattle.asm_text.specs.Sources.{Source, source_of}
+use Rattle.insn_text.specs.Printing.{label_text, source_insn, insn_text}
+use Rattle.source_text.specs.Targets.{is_target}
+
+-- ---- a line
+
+-- the label of an index, an invariant of the next instruction, or the instruction at an index
+pub data Line : Type 0 where
+  LabelOf : ℕ → Line
+  InvOf : Form → Line
+  InsnAt : ℕ → Insn → Line
+
+-- its text: `L3:`, `   .inv (ult 0 r1)` or `        addq r1,r2,r3 # 7`, whose comment is the index
+abbrev pub line_text : Line → List ℕ
+line_text (LabelOf i) = label_text i ++ codes ":"
+line_text (InvOf F) = codes "   .inv " ++ form_text 0 F
+line_text (InsnAt i insn) = codes "        " ++ (insn_text i insn ++ (codes " # " ++ decimal i))
+
+-- what it says
+abbrev pub line_content : Line → Content
+line_content (LabelOf i) = record { label = Some (label_text i); statement = NoStatement }
+line_content (InvOf F) = record { label = None; statement = AnInv F }
+line_content (InsnAt i insn) = record { label = None; statement = AnInsn (source_insn i insn) }
+
+-- ---- the lines of code
+
+-- with the line of the index's label, where a branch goes there
+abbrev pub with_label : ℕ → Bool → List Line → List Line
+with_label i true rest = LabelOf i ∷ rest
+with_label i false rest = rest
+
+-- with the line of the index's invariant, where it has one
+abbrev pub with_inv : Option Form → List Line → List Line
+with_inv None rest = rest
+with_inv (Some F) rest = InvOf F ∷ rest
+
+-- the index's invariant: invariants stand in order, so it's the first of those that are left, or
+-- there is none
+abbrev pub next_inv : ℕ → List (ℕ × Form) → Option Form
+next_inv i [] = None
+next_inv i (v ∷ vs) = if v.0 == i then Some v.1 else None
+
+-- the invariants that are left behind the index
+abbrev pub invs_behind : ℕ → List (ℕ × Form) → List (ℕ × Form)
+invs_behind i [] = []
+invs_behind i (v ∷ vs) = if v.0 == i then vs else v ∷ vs
+
+-- the lines of the instructions from index i on, with the invariants that are left; the test says
+-- which indices branches go to
+abbrev pub lines_from : (ℕ → Bool) → ℕ → List Insn → List (ℕ × Form) → List Line
+lines_from goes i [] vs = []
+lines_from goes i (insn ∷ rest) vs =
+    with_label i (goes i)
+    (with_inv (next_inv i vs) (InsnAt i insn ∷ lines_from goes (i + 1) rest (invs_behind i vs)))
+
+-- the lines of code with its invariants, each of which has the index of its instruction
+abbrev pub code_lines : List Insn → List (ℕ × Form) → List Line
+code_lines code invs = lines_from (is_target code) 0 code invs
+
+-- ---- what they come to
+
+-- the text of lines, each with an LF
+abbrev pub lines_text : List Line → List ℕ
+lines_text [] = []
+lines_text (l ∷ ls) = line_text l ++ (10 ∷ lines_text ls)
+
+-- the text of code with its invariants
+abbrev pub code_text : List Insn → List (ℕ × Form) → List ℕ
+code_text code invs = lines_text (code_lines code invs)
+
+-- what its lines say
+abbrev pub code_contents : List Insn → List (ℕ × Form) → List Content
+code_contents code invs = map line_content (code_lines code invs)
+
+-- the source that they come to
+abbrev pub code_source : List Insn → List (ℕ × Form) → Source
+code_source code invs = source_of (code_contents code invs)

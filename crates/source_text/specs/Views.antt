@@ -1,0 +1,9 @@
+-- Invariants as they stand in memory, without the places of their boxes.
+use Rattle.std.specs.Prelude.{ℕ, List, map}
+use Rattle.formula_tree.specs.Formulas.{Form}
+use Rattle.formula_tree.specs.Views.{form_view}
+use Rattle.formula_tree.specs.declared.form.Form as form
+
+-- invariants, each with the index of its instruction
+abbrev pub invs_view : List (ℕ × form.Form) → List (ℕ × Form)
+invs_view invs = map (λ v. (v.0, form_view v.1)) invs

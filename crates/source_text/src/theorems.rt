@@ -1,0 +1,29 @@
+//! What holds of the definitions, with nothing to run.
+
+ghost use Rattle.std.specs.Prelude.{◌≡◌, ℕ, Bool, List, length, map};
+ghost use Rattle.word_ops.specs.declared.Profile.{Profile};
+ghost use Rattle.formula_tree.specs.Formulas.{Form};
+ghost use Rattle.alpha_words.specs.declared.insn.Insn.{Insn};
+ghost use Rattle.asm_text.specs.Sources.{HaveInsns, SpellsSource};
+ghost use Rattle.source_text.specs.Targets.{is_target};
+ghost use Rattle.source_text.specs.Listing.{code_text, code_source};
+ghost use Rattle.source_text.specs.Laws.{IsSpellableCode, source_insns_from, labels_where};
+
+/// For each profile, and whether invariants may name the steps that are left or not: the text of
+/// code of the profile with its invariants spells the source of its lines. The instructions of that
+/// source are the code's, in order, its labels those of the indices that branches go to, and its
+/// invariants the given ones.
+pub fn laws()
+    ensures spells { (p : Profile) (left : Bool) (code : List Insn) (invs : List (ℕ × Form))
+        → IsSpellableCode p left code invs
+        → SpellsSource p left (code_text code invs) (code_source code invs) }
+    ensures insns { (code : List Insn) (invs : List (ℕ × Form))
+        → map (λ x. x.1) (code_source code invs).insns ≡ source_insns_from 0 code }
+    ensures labels { (code : List Insn) (invs : List (ℕ × Form))
+        → (code_source code invs).labels ≡ labels_where (is_target code) 0 code }
+    ensures invs { (code : List Insn) (invs : List (ℕ × Form)) → HaveInsns 0 (length code) invs
+        → (code_source code invs).invs ≡ invs }
+{
+    formula_text::laws();
+    insn_text::laws();
+}
