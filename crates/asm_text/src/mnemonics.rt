@@ -52,7 +52,8 @@ static MNEMONICS: [Mnemonic; 16] = [
     Mnemonic::Branch(Cond::Positive),
 ];
 
-fn branch_mnemonic(cond: Cond) -> &'static str
+/// The mnemonic of the branch that is taken on the condition.
+pub fn branch_mnemonic(cond: Cond) -> &'static str
     ensures { result.now ≡ branch_mnemonic cond }
 {
     match cond {

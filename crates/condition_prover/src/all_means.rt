@@ -70,8 +70,12 @@ fn by_all_means(
     }
 }
 
-/// The proof of the goal by connectives and by all means.
-pub(crate) fn proof_by_all_means(
+/// The proof of `goal` under the hypotheses of `context` by connectives and by all means; none where
+/// they give none. `counted` says whether steps are counted.
+///
+/// Errors: want of memory alone, which more results than `search` may keep are too; each id keeps its
+/// tree.
+pub fn proof_by_all_means(
     table: &mut Table,
     search: &mut Search,
     context: &mut Context,

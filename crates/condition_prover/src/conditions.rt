@@ -56,8 +56,12 @@ fn is_word(bound: Option<u32>)
     }
 }
 
-/// The encoding of the verification condition, its unfolded length being within its limit.
-fn condition_in(
+/// The encoding of the verification condition as the conjunction of its parts, its unfolded length
+/// being within its limit. The arguments are those of `prove_condition`.
+///
+/// Errors: want of memory, and `Results` where more results of substitution would be kept than
+/// `vcgen` allows; each id keeps its tree.
+pub fn condition_in(
     table: &mut Table,
     policy: &Policy,
     cut: &Cut,

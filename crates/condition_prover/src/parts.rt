@@ -53,7 +53,7 @@ fn first_and_rest(table: &Table, condition: Id) -> Option<Conjunction>
 
 /// How many binders count as outside of a part: that of the steps that are left does, where no steps
 /// are counted and it isn't the part's own.
-fn outside_part(counted: bool) -> u32
+pub fn outside_part(counted: bool) -> u32
     ensures { result ≡ outside_part counted }
 {
     if counted { 0 } else { 1 }

@@ -13,7 +13,7 @@ use Rattle.formula_ids.proofs.HypRows.{known_hyps-more, hyps-before, hyps-after}
 use Rattle.goal_proofs.specs.Provers.{whole_proof, prover_of, IsProofBy}
 use Rattle.goal_proofs.specs.Answers.{IsFoundProof, AreAnswers}
 use Rattle.goal_proofs.specs.Search.{IsContext, IsAfter}
-use Rattle.goal_proofs.specs.Inside.Connectives.{IsUnderBinder, IsUnderHypothesis}
+use Rattle.goal_proofs.specs.Contexts.{IsUnderBinder, IsUnderHypothesis}
 use Rattle.goal_proofs.specs.declared.answers.Means.{Means}
 use Rattle.goal_proofs.specs.declared.search.Search.{Search}
 use Rattle.goal_proofs.specs.declared.search.Context.{Context}

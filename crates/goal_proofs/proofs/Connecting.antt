@@ -21,7 +21,8 @@ use Rattle.formula_ids.proofs.HypRows.{hyps-after}
 use Rattle.goal_proofs.specs.Provers.{whole_proof, IsProofBy}
 use Rattle.goal_proofs.specs.Answers.{IsAbsurdity}
 use Rattle.goal_proofs.specs.Search.{IsAfter}
-use Rattle.goal_proofs.specs.Inside.Connectives.{shape_proof, join_tree, over_tree, IsJoinProof, IsOverProof, IsUnderBinder, IsUnderHypothesis}
+use Rattle.goal_proofs.specs.Inside.Connectives.{shape_proof, join_tree, over_tree, IsJoinProof, IsOverProof}
+use Rattle.goal_proofs.specs.Contexts.{IsUnderBinder, IsUnderHypothesis}
 use Rattle.goal_proofs.specs.declared.search.Search.{Search}
 use Rattle.goal_proofs.specs.declared.search.Context.{Context}
 use Rattle.goal_proofs.proofs.Rounds.{by_found, by_absurdity, by_round}

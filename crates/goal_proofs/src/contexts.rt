@@ -3,7 +3,7 @@
 ghost use Rattle.std.specs.Prelude.{◌≡◌, IfOk, OnOk};
 ghost use Rattle.term_table.specs.Table.{IsKnown, Extends};
 ghost use Rattle.goal_proofs.specs.Search.{IsSearch, IsContext};
-ghost use Rattle.goal_proofs.specs.Inside.Connectives.{IsUnderBinder, IsUnderHypothesis};
+ghost use Rattle.goal_proofs.specs.Contexts.{IsUnderBinder, IsUnderHypothesis};
 
 use crate::search::{Context, Search};
 use formula_ids::raised;
@@ -14,7 +14,7 @@ use term_table::{Id, Node, Table};
 /// The context under the binder of a quantifier. Fails where the binders outside would be 2^32, and
 /// where memory does.
 #[tactic(auto, using(crate::proofs::Kept::rows))]
-pub(crate) fn under_binder(
+pub fn under_binder(
     table: &mut Table,
     search: &mut Search,
     context: &Context,
@@ -37,7 +37,7 @@ pub(crate) fn under_binder(
 /// The context under the hypothesis `a`, which the proof's variable 0 is there. Fails as
 /// `under_binder` does.
 #[tactic(auto, using(crate::proofs::Kept::rows))]
-pub(crate) fn under_hypothesis(
+pub fn under_hypothesis(
     table: &mut Table,
     search: &mut Search,
     context: &Context,

@@ -18,6 +18,7 @@ mod words;
 
 pub use answers::{Answers, Goal, Means};
 pub use connectives::{goal_proof, proof_without_access};
+pub use contexts::{under_binder, under_hypothesis};
 pub use leaf::Leaf;
 pub use search::{Context, Search};
 pub use theorems::round_laws;

@@ -11,6 +11,7 @@ ghost use Rattle.insn_text.specs.Printing.{memory_text, operate_text, branch_tex
 ghost use Rattle.insn_text.specs.Printing.{with_operands, insn_text};
 
 use alpha_words::{Cond, Insn, Reg, Rhs};
+use asm_text::branch_mnemonic;
 use itoa::Buffer;
 use std::alloc::AllocError;
 use word_ops::op_mnemonic;
@@ -115,21 +116,6 @@ fn push_operate(
     push_rhs(out, rhs)?;
     out.push(b',')?;
     push_register(out, rc)
-}
-
-fn branch_mnemonic(cond: Cond) -> &'static str
-    ensures { result.now ≡ branch_mnemonic cond }
-{
-    match cond {
-        Cond::LowClear => "blbc",
-        Cond::Zero => "beq",
-        Cond::Negative => "blt",
-        Cond::NotPositive => "ble",
-        Cond::LowSet => "blbs",
-        Cond::NotZero => "bne",
-        Cond::NotNegative => "bge",
-        Cond::Positive => "bgt",
-    }
 }
 
 /// A conditional branch at the index.

@@ -1,7 +1,7 @@
 -- How far the lemmas in trees go, and which proofs cite backwards.
 use Rattle.std.proofs.Common.{◌≡◌, ℕ, zero, suc, ◌<◌, Bool, true, false, cond, ◌&&◌, not, nat_lt, max, Some, List, [], ◌∷◌, length, map, take, get_or, refl, sym, ◌∙◌, ap, subst, arith}
 use Rattle.std.proofs.lemmas.Bool.{ltb-true, ltb-false, lt-ltb, le-ltb}
-use Rattle.std.proofs.lemmas.List.{get_or-take, length-map}
+use Rattle.std.proofs.lemmas.List.{get_or-take}
 use Rattle.term_table.specs.Tree.{Tree, Var, Con, App, Lam, Fam, TApp, Pi, Lemma}
 use Rattle.term_table.specs.Table.{TableView, tree_in, tree_at, node_tree_in, PartsBelow}
 use Rattle.term_table.specs.declared.Node.{Node}
@@ -96,9 +96,3 @@ late_is t (p ∷ ids) k =
     ∙ ap (cond (nat_lt k (cited (tree_at t p.1))) (Some k)) (late_is t ids (suc k))
     ∙ sym (not_cond (nat_lt k (cited (tree_at t p.1))) rest (Some k))
     ∙ ap (λ b. cond b rest (Some k)) (sym (cites_is k (tree_at t p.1)))
-
--- every tree's number is known
-pub lemmas_bounded : (trees : List Tree) (ids : List (ℕ × ℕ)) → LemmasBelow (length trees) ids →
-    LemmasBelow (length (map cited trees)) ids
-lemmas_bounded trees ids h =
-    subst (λ n. LemmasBelow n ids) (sym (length-map trees cited)) h

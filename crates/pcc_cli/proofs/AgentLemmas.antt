@@ -14,17 +14,18 @@ use Rattle.pcc_lines.specs.Agents.{agent_line, short_line}
 use Rattle.pcc_exit.specs.Exits.{Exit}
 use Rattle.pcc_exit.specs.Stages.{Stage, stops, gives, reads, ◌>>=◌, went_on}
 use Rattle.pcc_exit.specs.Runs.{AreOctets}
-use Rattle.pcc_cli.specs.Texts.{texts}
-use Rattle.pcc_cli.specs.Stages.Common.{refused}
+use Rattle.pcc_stages.specs.Texts.{texts}
+use Rattle.pcc_stages.specs.Stages.Common.{refused}
+use Rattle.pcc_stages.specs.Stops.{refused_text, end_of}
+use Rattle.pcc_stages.specs.Answers.{StopsAs, GivesPure, IsCleanFor, Gives}
+use Rattle.pcc_stages.specs.declared.refused_line.RefusedLine.{RefusedLine}
+use Rattle.pcc_stages.specs.declared.refused_line.RefusedLine.TheVariants as refused_line
+use Rattle.pcc_stages.specs.declared.stops.Stop.{Stop}
+use Rattle.pcc_stages.specs.declared.stops.Stop.TheVariants as stop
+use Rattle.pcc_stages.proofs.StageLemmas.{read_gives}
 use Rattle.pcc_cli.specs.Stages.Hosting.{told_of, for_agent, unless_short}
-use Rattle.pcc_cli.specs.Inside.Decisions.{refused_text, end_of}
-use Rattle.pcc_cli.specs.Inside.Gives.{IsOfGate, StopsAs, GivesPure, IsCleanFor, Gives}
+use Rattle.pcc_cli.specs.Inside.Shows.{IsOfGate}
 use Rattle.pcc_cli.specs.Inside.Standing.{HasStart}
-use Rattle.pcc_cli.specs.declared.refused_line.RefusedLine.{RefusedLine}
-use Rattle.pcc_cli.specs.declared.refused_line.RefusedLine.TheVariants as refused_line
-use Rattle.pcc_cli.specs.declared.stop.Stop.{Stop}
-use Rattle.pcc_cli.specs.declared.stop.Stop.TheVariants as stop
-use Rattle.pcc_cli.proofs.StageLemmas.{read_gives}
 
 -- a stage behind another
 pub for-bind : {A B : Type 0} (a : ℕ) (s : Stage A) (next : A → Stage B) → for_agent a (s >>= next) ≡ (for_agent a s >>= λ x. for_agent a (next x))

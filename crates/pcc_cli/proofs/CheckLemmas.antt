@@ -13,10 +13,10 @@ use Rattle.pcc_exit.specs.Exits.{Exit}
 use Rattle.pcc_exit.specs.Requests.{missing_exit, read_fault_exit, no_memory_exit}
 use Rattle.pcc_exit.specs.Stages.{Stage, stops, gives, reads, ◌>>=◌, went_on, Follows}
 use Rattle.pcc_exit.specs.Runs.{Effect, Happens, written_exit}
-use Rattle.pcc_cli.specs.declared.stages.TheConstants.{MAX_FILE, MAX_POLICY_FILE}
-use Rattle.pcc_cli.specs.Texts.{texts}
-use Rattle.pcc_cli.specs.Stages.Common.{refused}
-use Rattle.pcc_cli.specs.Stages.Policies.{no_policy_spelled, policy_spelled, policy_in}
+use Rattle.pcc_stages.specs.declared.files.TheConstants.{MAX_FILE, MAX_POLICY_FILE}
+use Rattle.pcc_stages.specs.Texts.{texts}
+use Rattle.pcc_stages.specs.Stages.Common.{refused}
+use Rattle.pcc_stages.specs.Stages.Policies.{no_policy_spelled, policy_spelled, policy_in}
 use Rattle.pcc_cli.specs.Headline.{IsNoPolicy, ChecksFrom, without_policy, with_policy}
 use Rattle.pcc_cli.proofs.EndLemmas.{Ended, change_at, checks, end_at, first_read, judged_by, judged_by-ended, judged_by-silent, read_once, stopped_there, went_on-silent}
 

@@ -19,8 +19,8 @@ use Rattle.pcc_exit.specs.Exits.{Exit}
 use Rattle.pcc_exit.specs.Stages.{Stage, stops, gives, reads, ◌>>=◌, went_on}
 use Rattle.pcc_exit.specs.Runs.{AreOctets}
 use Rattle.pcc_exit.proofs.RunLemmas.{is_stop, exit_at}
-use Rattle.pcc_cli.specs.Texts.{texts}
-use Rattle.pcc_cli.specs.Stages.Common.{refused}
+use Rattle.pcc_stages.specs.Texts.{texts}
+use Rattle.pcc_stages.specs.Stages.Common.{refused}
 use Rattle.pcc_cli.specs.Stages.Proving.{container_proved}
 use Rattle.pcc_cli.specs.Stages.Compiling.{program_found, program_in, compiled_as, compiled_in}
 use Rattle.pcc_cli.specs.Headline.{ComesToValues, CompilesTo, IsToldOf}

@@ -17,9 +17,9 @@ use Rattle.pcc_exit.specs.Requests.{no_memory_exit}
 use Rattle.pcc_exit.specs.Stages.{Stage, stops, gives, reads, ◌>>=◌, went_on, Asks, Follows}
 use Rattle.pcc_exit.specs.Runs.{Effect, AreOctets, Happens, Comes, stopped, printed, wrote, done_exit, written_exit}
 use Rattle.pcc_exit.proofs.RunLemmas.{is_stop, is_read}
-use Rattle.pcc_cli.specs.declared.stages.TheConstants.{MAX_FILE}
-use Rattle.pcc_cli.specs.Texts.{texts}
-use Rattle.pcc_cli.specs.Stages.Common.{refused, printing}
+use Rattle.pcc_stages.specs.declared.files.TheConstants.{MAX_FILE}
+use Rattle.pcc_stages.specs.Texts.{texts}
+use Rattle.pcc_stages.specs.Stages.Common.{refused, printing}
 use Rattle.pcc_cli.specs.Stages.Judging.{unless_refused}
 use Rattle.pcc_cli.specs.Headline.{IsVerdict, IsJudged, Checks}
 

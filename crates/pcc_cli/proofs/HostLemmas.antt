@@ -30,17 +30,17 @@ use Rattle.pcc_exit.specs.Requests.{missing_exit, read_fault_exit, no_memory_exi
 use Rattle.pcc_exit.specs.Stages.{Stage, stops, gives, reads, ◌>>=◌, went_on, Follows}
 use Rattle.pcc_exit.specs.Runs.{Effect, Happens, written_exit}
 use Rattle.pcc_exit.proofs.RunLemmas.{is_read}
-use Rattle.pcc_cli.specs.declared.stages.TheConstants.{MAX_FILE}
-use Rattle.pcc_cli.specs.Texts.{texts}
-use Rattle.pcc_cli.specs.Stages.Common.{refused, policy_found, printing}
-use Rattle.pcc_cli.specs.Stages.Containers.{code_in}
+use Rattle.pcc_stages.specs.declared.files.TheConstants.{MAX_FILE}
+use Rattle.pcc_stages.specs.Texts.{texts}
+use Rattle.pcc_stages.specs.Stages.Common.{refused, policy_found, printing}
+use Rattle.pcc_stages.specs.Stages.Containers.{code_in}
+use Rattle.pcc_stages.specs.Stages.Packets.{packets_found, packets_of}
+use Rattle.pcc_stages.proofs.StageLemmas.{bind-assoc, went_on-bind}
 use Rattle.pcc_cli.specs.Stages.Judging.{unless_refused, accepted_in, accepted_code_in, accepted_code_of}
-use Rattle.pcc_cli.specs.Stages.Packets.{packets_found, packets_of}
 use Rattle.pcc_cli.specs.Stages.Hosting.{script_found, script_in, Member, unless_short, first_packet, packet_of, load_of, told_of, for_agent, agents_from}
 use Rattle.pcc_cli.specs.Commands.Host.{turn_lines}
 use Rattle.pcc_cli.specs.Headline.{agent_exit, unless_short_of, first_packet_of, packet_given, member_with, LoadsMember, no_policy, no_container, has_container, LoadsMembers, all, ended, ended_later, loaded, IsFaultTold, Hosts, no_script, not_loaded, took_turns}
 use Rattle.pcc_cli.proofs.RunLemmas.{accepted_code_of_bytes}
-use Rattle.pcc_cli.proofs.StageLemmas.{bind-assoc, went_on-bind}
 use Rattle.pcc_cli.proofs.EndLemmas.{no_read, HasRead, first_read, Ended, end_at, change_at, given_bytes, verdict}
 
 -- ---- a packet file

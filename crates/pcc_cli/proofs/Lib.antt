@@ -1,4 +1,3 @@
-pub mod StageLemmas
 pub mod DecisionLemmas
 pub mod TaskLemmas
 pub mod CountLemmas

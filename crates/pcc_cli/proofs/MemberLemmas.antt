@@ -12,16 +12,16 @@ use Rattle.agent_script.specs.declared.script.Load.{Load}
 use Rattle.agent_script.specs.Statements.{LoadView}
 use Rattle.agent_script.specs.Scripts.{load_view}
 use Rattle.pcc_exit.specs.Stages.{Stage, gives, ◌>>=◌}
+use Rattle.pcc_stages.specs.declared.stops.Stop.{Stop}
+use Rattle.pcc_stages.specs.declared.stops.Stop.TheVariants as stop
+use Rattle.pcc_stages.specs.Stages.Common.{policy_named}
+use Rattle.pcc_stages.specs.Answers.{Gives}
+use Rattle.pcc_stages.proofs.StageLemmas.{bind-assoc, bind-gives, lifted, stops_first, gives_then}
 use Rattle.pcc_cli.specs.declared.commands.host.Admitted.{Admitted}
-use Rattle.pcc_cli.specs.declared.stop.Stop.{Stop}
-use Rattle.pcc_cli.specs.declared.stop.Stop.TheVariants as stop
-use Rattle.pcc_cli.specs.Stages.Common.{policy_named}
 use Rattle.pcc_cli.specs.Stages.Judging.{accepted_code_of}
 use Rattle.pcc_cli.specs.Stages.Hosting.{Member, packet_of, load_of, for_agent, agents_from}
-use Rattle.pcc_cli.specs.Inside.Gives.{Gives}
 use Rattle.pcc_cli.specs.Inside.Standing.{HasStart}
 use Rattle.pcc_cli.specs.Inside.Turning.{AreReadyFrom, member_view, members_view}
-use Rattle.pcc_cli.proofs.StageLemmas.{bind-assoc, bind-gives, lifted, stops_first, gives_then}
 use Rattle.pcc_cli.proofs.AgentLemmas.{for-bind}
 
 -- ---- one load

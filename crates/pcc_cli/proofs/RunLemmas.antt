@@ -6,8 +6,6 @@ use Rattle.alpha_cfg.proofs.Readings.{decoded_code-ok}
 use Rattle.policy_set.specs.Views.{PolicyView}
 use Rattle.proof_container.proofs.Whole.{container_again}
 use Rattle.alpha_words.specs.declared.insn.Insn.{Insn}
-use Rattle.alpha_cfg.specs.declared.fault.CodeFlaw.{CodeFlaw}
-use Rattle.word_ops.specs.declared.Profile.{Profile}
 use Rattle.proof_container.specs.Contents.{Contents}
 use Rattle.pcc_gate.specs.Passing.{Passes}
 use Rattle.proof_container.specs.Versions.{profile_of}
@@ -16,26 +14,13 @@ use Rattle.pcc_gate.specs.First.{first_refusal}
 use Rattle.pcc_gate.specs.Answers.{IsAcceptedBy}
 use Rattle.pcc_gate.specs.Views.{AcceptedView}
 use Rattle.pcc_exit.specs.Stages.{gives, ◌>>=◌}
-use Rattle.pcc_cli.specs.Stages.Containers.{container_in, code_found, code_in}
+use Rattle.pcc_stages.specs.Stages.Containers.{container_in, code_found, code_in}
+use Rattle.pcc_stages.specs.Answers.{GivesPure}
+use Rattle.pcc_stages.specs.declared.stops.Stop.{Stop}
+use Rattle.pcc_stages.proofs.StageLemmas.{pure_stops}
 use Rattle.pcc_cli.specs.Stages.Judging.{unless_refused, accepted_in, accepted_code_in, Shown, shown_in}
-use Rattle.pcc_cli.specs.Inside.Gives.{GivesPure}
 use Rattle.pcc_cli.specs.Inside.Shows.{shown_by}
 use Rattle.term_table.specs.Tree.{Tree}
-use Rattle.pcc_cli.specs.declared.stop.Stop.{Stop}
-use Rattle.pcc_cli.proofs.StageLemmas.{pure_stops}
-
--- the code of a container that was found, read in a profile that is its version's
-pub code-read : (policy : PolicyView) (bytes : List ℕ) (contents : Contents) (profile : Profile)
-    (r : Result (List Insn) CodeFlaw) → container_in policy bytes ≡ gives contents
-    → profile ≡ profile_of contents.version → r ≡ decoded_code profile contents.code
-    → code_in policy bytes ≡ code_found r
-unfolding code_in
-code-read policy bytes contents profile r found same read =
-    ap
-    (λ c. c >>= λ container. code_found
-    (decoded_code (profile_of container.version) container.code)) found
-    ∙ ap (λ (p : Profile). code_found (decoded_code p contents.code)) (sym same)
-    ∙ ap code_found (sym read)
 
 module _ (policy : PolicyView) (bytes : List ℕ) (contents : Contents) (code : List Insn)
     (marks : List Bool) (passes : Passes policy bytes contents code marks) where

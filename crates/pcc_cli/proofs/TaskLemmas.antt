@@ -70,14 +70,16 @@ use Rattle.pcc_exit.specs.Requests.{Standing, command, no_memory_exit}
 use Rattle.pcc_exit.specs.Stages.{Stage, stops, gives, reads, ◌>>=◌}
 use Rattle.pcc_exit.specs.Runs.{Effect, IsStop, IsSuited}
 use Rattle.pcc_exit.proofs.RunLemmas.{is_read}
-use Rattle.pcc_cli.specs.Texts.{texts}
-use Rattle.pcc_cli.specs.declared.stages.TheConstants.{MAX_FILE, MAX_POLICY_FILE, MAX_PROGRAM_FILE}
-use Rattle.pcc_cli.specs.Stages.Policies.{policy_spelled, policy_in, policy_from}
+use Rattle.pcc_stages.specs.Texts.{texts}
+use Rattle.pcc_stages.specs.declared.files.TheConstants.{MAX_FILE, MAX_POLICY_FILE}
+use Rattle.pcc_stages.specs.Stages.Policies.{policy_spelled, policy_in, policy_from}
+use Rattle.pcc_stages.specs.Stages.Common.{refused, policy_found, printing}
+use Rattle.pcc_stages.specs.Stages.Containers.{container_for, container_in, code_found, code_in, code_of}
+use Rattle.pcc_stages.specs.Stages.Packets.{packets_found, packets_in, packets_of}
+use Rattle.pcc_cli.specs.declared.stages.TheConstants.{MAX_PROGRAM_FILE}
 use Rattle.pcc_cli.specs.Stages.Upgrading.{container_upgraded, upgraded_in, upgraded_of}
-use Rattle.pcc_cli.specs.Stages.Common.{refused, policy_found, printing, writing}
-use Rattle.pcc_cli.specs.Stages.Containers.{container_for, container_in, code_found, code_in, code_of}
+use Rattle.pcc_cli.specs.Stages.Writing.{writing}
 use Rattle.pcc_cli.specs.Stages.Judging.{unless_refused, accepted_in, accepted_code_in, Shown, shown_in, accepted_of, accepted_code_of}
-use Rattle.pcc_cli.specs.Stages.Packets.{packets_found, packets_in, packets_of}
 use Rattle.pcc_cli.specs.Stages.Assembling.{source_found, source_in, container_made, assembled_as, assembled_in, assembled_of}
 use Rattle.pcc_cli.specs.Stages.Proving.{container_proved, proved_in, proved_of}
 use Rattle.pcc_cli.specs.Stages.Compiling.{program_found, program_in, compiled_as, compiled_in, compiled_of}

@@ -59,15 +59,16 @@ use Rattle.pcc_exit.specs.Runs.{done_exit, written_exit, Prints, NoneFailed}
 use Rattle.asm_text.specs.declared.limits.TheConstants.{MAX_SOURCE}
 use Rattle.bounds_prover.specs.Proving.{proved_container}
 use Rattle.pcc_exit.specs.Stages.{Stage, stops, gives, went_on}
-use Rattle.pcc_cli.specs.Texts.{texts}
+use Rattle.pcc_stages.specs.Texts.{texts}
+use Rattle.pcc_stages.specs.Stages.Common.{refused}
+use Rattle.pcc_stages.specs.Stages.Policies.{no_policy_spelled}
+use Rattle.pcc_stages.specs.declared.files.TheConstants.{MAX_FILE, MAX_POLICY_FILE}
 use Rattle.pcc_cli.specs.Stages.Assembling.{assembled_in}
-use Rattle.pcc_cli.specs.Stages.Common.{refused}
 use Rattle.pcc_cli.specs.Stages.Hosting.{Member, told_of}
-use Rattle.pcc_cli.specs.Stages.Policies.{no_policy_spelled}
 use Rattle.pcc_cli.specs.Stages.Proving.{proved_in}
 use Rattle.pcc_cli.specs.Stages.Upgrading.{upgraded_in}
 use Rattle.pcc_cli.specs.Commands.Host.{turn_lines}
-use Rattle.pcc_cli.specs.declared.stages.TheConstants.{MAX_FILE, MAX_POLICY_FILE, MAX_PROGRAM_FILE}
+use Rattle.pcc_cli.specs.declared.stages.TheConstants.{MAX_PROGRAM_FILE}
 
 -- ---- the verdict on what was read
 

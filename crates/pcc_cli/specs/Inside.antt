@@ -1,5 +1,5 @@
 pub mod Decisions
-pub mod Gives
+pub mod Writes
 pub mod Shows
 pub mod Behind
 pub mod Turning

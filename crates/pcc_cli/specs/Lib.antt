@@ -1,4 +1,3 @@
-pub mod Texts
 pub mod Stages
 pub mod Commands
 pub mod Tasks

@@ -1,8 +1,5 @@
-pub mod Common
-pub mod Policies
-pub mod Containers
+pub mod Writing
 pub mod Judging
-pub mod Packets
 pub mod Assembling
 pub mod Proving
 pub mod Upgrading

@@ -6,7 +6,7 @@ use Rattle.pcc_words.specs.Invocations.{named, from_file, Invocation, asm, prove
 use Rattle.pcc_exit.specs.Requests.{Request, Standing, no_command, unknown_policy, command, usage_exit}
 use Rattle.pcc_exit.specs.Stages.{Stage, stops}
 use Rattle.pcc_exit.specs.Runs.{Effect, Task, request_of_task}
-use Rattle.pcc_cli.specs.Texts.{texts}
+use Rattle.pcc_stages.specs.Texts.{texts}
 use Rattle.pcc_cli.specs.Commands.Assemble.{asm_command}
 use Rattle.pcc_cli.specs.Commands.Check.{check_command}
 use Rattle.pcc_cli.specs.Commands.Prove.{prove_command}

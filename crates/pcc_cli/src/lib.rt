@@ -7,12 +7,9 @@
 //! pcc_exit.
 #![tactic(auto)]
 
-mod agent_stop;
 mod commands;
-mod refused_line;
 mod report;
 mod stages;
-mod stop;
 mod top_call;
 mod turning;
 mod turns;

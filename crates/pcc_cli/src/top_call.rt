@@ -5,23 +5,24 @@ ghost use Rattle.file_port.specs.Events.{Event};
 ghost use Rattle.file_port.specs.Files.{FilesState};
 ghost use Rattle.file_port.specs.Sink.{SinkState};
 ghost use Rattle.pcc_words.specs.Invocations.{command_of};
-ghost use Rattle.pcc_exit.specs.Runs.{Runs, Prints, status_after};
+ghost use Rattle.pcc_exit.specs.Runs.{Runs, Prints};
 ghost use Rattle.pcc_exit.specs.Ends.{Ends};
 ghost use Rattle.pcc_exit.specs.Accounts.{Accounts};
-ghost use Rattle.pcc_cli.specs.Texts.{texts};
+ghost use Rattle.pcc_stages.specs.Texts.{texts};
+ghost use Rattle.pcc_stages.specs.Decisions.{Decides, exit_of};
 ghost use Rattle.pcc_cli.specs.Tasks.{task_of, request_of};
 ghost use Rattle.pcc_gate.specs.Safe.{AcceptedSafe};
 ghost use Rattle.pcc_cli.specs.Headline.{MeansIfCommand, AcceptedRunsSafely, AgentsStayInParts};
 ghost use Rattle.pcc_cli.specs.Headline.{BoundedReturns};
-ghost use Rattle.pcc_cli.specs.Inside.Decisions.{Decides, exit_of};
+ghost use Rattle.pcc_cli.specs.Inside.Decisions.{report_exit};
 
 use crate::commands::{
     asm_command, bpf_command, check_command, demo_command, host_command, prove_command,
     ref_command, run_command, upgrade_command,
 };
 use crate::report::Report;
-use crate::stop::Stop;
-use file_port::{Files, Put, Sink};
+use file_port::{Files, Sink};
+use pcc_stages::{Stop, status_after};
 use pcc_words::{Command, read_arguments};
 use std::alloc::Global;
 
@@ -31,7 +32,7 @@ fn decide<'a, F: Files>(
     words: &'a [String],
     files: &mut F,
 ) -> Result<Report, Stop<'a>>
-    ensures { Decides (task_of (map string_bytes words.entry.now)).stage
+    ensures { Decides report_exit (task_of (map string_bytes words.entry.now)).stage
         (F.log files.old) (F.log files.new) (F.state files.old) (F.state files.new) result }
 {
     match read_arguments(alloc, words) {
@@ -49,23 +50,14 @@ fn decide<'a, F: Files>(
     }
 }
 
-/// The status of a run, after its puts: a failed put has the last word.
-fn status_of(status: u8, put: Put) -> u8
-    ensures { result ≡ status_after status put }
-{
-    match put {
-        Put::Done => status,
-        Put::Failed => 4,
-    }
-}
-
 /// Prints what the run came to, and answers with its status.
 fn print<S: Sink>(decision: Result<Report, Stop<'_>>, out: &mut S) -> u8
-    ensures { Prints (exit_of decision.entry) (S.state out.old) (S.state out.new) result }
+    ensures { Prints (exit_of report_exit decision.entry)
+        (S.state out.old) (S.state out.new) result }
 {
     match decision {
-        Ok(report) => status_of(0, report.print(out)),
-        Err(stop) => status_of(stop.status(), stop.print(out)),
+        Ok(report) => status_after(0, report.print(out)),
+        Err(stop) => status_after(stop.status(), stop.print(out)),
     }
 }
 

@@ -2,7 +2,8 @@
 //!
 //! The layer above calls one function a line. Each has one clause: the line, or a part of it where
 //! a put fails, is put. A line is made in a fixed buffer and put as one piece; a line with a name
-//! is three pieces. No call takes memory. A file of `src/` has its definitions in the file of
+//! is three pieces. No call takes memory. What a line is made of (`Line`, `push_text`, `push_decimal`,
+//! `push_hex`) serves lines of other crates too. A file of `src/` has its definitions in the file of
 //! `specs/` with the same name: lines that are always the same (`Fixed`), lines with a name
 //! (`Named`), faults of packet files (`PacketFaults`), why there is no proof (`Proving`), refusals
 //! (`Refusals`), result lines (`Results`), what is said of a source (`Sources`), faults
@@ -37,11 +38,12 @@ pub use fixed::{
     print_packets_too_long, print_policy_too_long, print_script_too_long, print_source_too_long,
     print_unknown_policy, print_usage,
 };
+pub use line::{DIGITS, LINE, Line, push_decimal, push_hex, push_text};
 pub use named::{print_missing, print_read_fault, print_write_fault};
 pub use packet_faults::print_packet_fault;
 pub use policies::{MAX_FORM_KIND, print_policy_form, print_policy_length, print_policy_lines};
 pub use proving::{MAX_MEASURE, print_not_easy, print_too_big};
 pub use refusals::print_refusal;
-pub use results::print_results;
+pub use results::{print_result, print_results};
 pub use scripts::{MAX_SCRIPT_KIND, print_script_fault};
 pub use sources::{MAX_SOURCE_KIND, print_source_fault, print_written};

@@ -90,7 +90,7 @@ fn push_result(line: &mut Line, kind: Option<PolicyKind>, end: PacketResult)
 
 /// Prints what the packet of a number came to, as one piece.
 #[tactic(auto, unfolding(crate::specs::Results::result_line))]
-fn print_result<S: Sink>(
+pub fn print_result<S: Sink>(
     kind: Option<PolicyKind>,
     number: u64,
     end: PacketResult,

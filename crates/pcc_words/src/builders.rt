@@ -16,7 +16,7 @@ use clap::{Arg, ArgAction, Command, value_parser};
 use std::alloc::{AllocError, Global};
 
 /// An argument that has to be there.
-fn positional<'a>(alloc: Global, id: &'a str) -> Arg<'a>
+pub fn positional<'a>(alloc: Global, id: &'a str) -> Arg<'a>
     ensures rule { rule_of result ≡ positional_rule id.entry.now }
     ensures local { result.global ≡ false }
 {
@@ -24,7 +24,7 @@ fn positional<'a>(alloc: Global, id: &'a str) -> Arg<'a>
 }
 
 /// `--steps N`.
-fn steps<'a>(alloc: Global) -> Arg<'a>
+pub fn steps<'a>(alloc: Global) -> Arg<'a>
     ensures rule { rule_of result ≡ steps_rule }
     ensures local { result.global ≡ false }
 {
@@ -35,7 +35,7 @@ fn steps<'a>(alloc: Global) -> Arg<'a>
 }
 
 /// `--v2`
-fn version_flag<'a>(alloc: Global) -> Arg<'a>
+pub fn version_flag<'a>(alloc: Global) -> Arg<'a>
     ensures rule { rule_of result ≡ version_rule }
     ensures local { result.global ≡ false }
 {
@@ -43,7 +43,7 @@ fn version_flag<'a>(alloc: Global) -> Arg<'a>
 }
 
 /// `--bound N`
-fn bound<'a>(alloc: Global) -> Arg<'a>
+pub fn bound<'a>(alloc: Global) -> Arg<'a>
     ensures rule { rule_of result ≡ bound_rule }
     ensures local { result.global ≡ false }
 {
@@ -70,7 +70,7 @@ fn policy_command<'a>(alloc: Global, name: &'a str) -> Result<Command<'a>, Alloc
 }
 
 /// `NAME POLICY FILE`
-fn file_command<'a>(alloc: Global, name: &'a str) -> Result<Command<'a>, AllocError>
+pub fn file_command<'a>(alloc: Global, name: &'a str) -> Result<Command<'a>, AllocError>
     ensures app { IfOk result (λ c. app_of c ≡ file_app name.entry.now) }
     ensures local { IfOk result (λ c. (fields_of c).has_globals ≡ false) }
 {
@@ -134,7 +134,7 @@ fn paths_command<'a>(alloc: Global, name: &'a str) -> Result<Command<'a>, AllocE
 }
 
 /// `NAME POLICY FILE PACKETS`
-fn packets_command<'a>(alloc: Global, name: &'a str) -> Result<Command<'a>, AllocError>
+pub fn packets_command<'a>(alloc: Global, name: &'a str) -> Result<Command<'a>, AllocError>
     ensures app { IfOk result (λ c. app_of c ≡ packets_app name.entry.now) }
     ensures local { IfOk result (λ c. (fields_of c).has_globals ≡ false) }
 {

@@ -4,7 +4,8 @@
 //! answered is the one that the arguments are by `command_of`, of `specs/Invocations`. There the
 //! arguments of a command are given by clap's own definitions at the literal command line. An
 //! `Invocation` is a command with its values, without where they lie in memory; `invocation_of`
-//! and `IsInRange` stand in `specs/Commands`.
+//! and `IsInRange` stand in `specs/Commands`. Arguments that the program that shows has too are
+//! made by the same builders and read by the same functions.
 #![tactic(auto)]
 
 mod builders;
@@ -18,12 +19,16 @@ ghost use Rattle.pcc_words.specs.Invocations.{command_of};
 ghost use Rattle.pcc_words.specs.Commands.{invocation_of, IsInRange};
 
 use builders::pcc_command;
+pub use builders::{bound, file_command, packets_command, positional, steps, version_flag};
 use clap::error::ErrorKind;
 pub use commands::{AsmArgs, CheckArgs, Command, CopyArgs, PathArgs, PolicyWord, RunArgs};
 pub use limits::{MAX_BOUND, MAX_DEMO, MAX_STEPS};
 use std::alloc::{AllocError, Global};
 pub use theorems::{worked_commands, worked_faults};
 use values::command_found;
+pub use values::{
+    bound_in_range, number_given, optional_number, policy_told, text_given, version_given,
+};
 
 /// The command that the arguments `words` are, if they are one. The program's name is not among
 /// them. A call for help is no command.

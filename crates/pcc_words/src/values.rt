@@ -14,7 +14,7 @@ use crate::limits::{MAX_BOUND, MAX_DEMO, MAX_STEPS};
 use clap::ArgMatches;
 
 /// The number of an optional argument, if it has one.
-fn optional_number(matches: &ArgMatches<'_>, id: &str) -> Option<u64>
+pub fn optional_number(matches: &ArgMatches<'_>, id: &str) -> Option<u64>
     ensures { result ≡ optional_number id.now (rows_of (found_of matches.now)) }
 {
     // by cases, since what clap says of an answer is by cases too
@@ -25,7 +25,7 @@ fn optional_number(matches: &ArgMatches<'_>, id: &str) -> Option<u64>
 }
 
 /// The number of an optional argument, or 0 where it has none.
-fn number_given(matches: &ArgMatches<'_>, id: &str) -> u64
+pub fn number_given(matches: &ArgMatches<'_>, id: &str) -> u64
     ensures { result ≡ number_at id.now (rows_of (found_of matches.now)) }
 {
     match optional_number(matches, id) {
@@ -35,7 +35,7 @@ fn number_given(matches: &ArgMatches<'_>, id: &str) -> u64
 }
 
 /// The text of a required argument.
-fn text_given<'a>(matches: &ArgMatches<'a>, id: &str) -> &'a str
+pub fn text_given<'a>(matches: &ArgMatches<'a>, id: &str) -> &'a str
     ensures { result.now ≡ value_of id.now (rows_of (found_of matches.now)) }
 {
     match matches.get_str(id) {
@@ -52,7 +52,7 @@ fn is_given(matches: &ArgMatches<'_>, id: &str) -> bool
 }
 
 /// The bound, where there is none or it is in its range.
-fn bound_in_range(bound: Option<u64>) -> Option<Option<u32>>
+pub fn bound_in_range(bound: Option<u64>) -> Option<Option<u32>>
     ensures exact { result ≡ (if is_bound bound then Some bound else None) }
     ensures in_range { IfSome result (λ b. is_bound b ≡ true) }
 {
@@ -69,7 +69,7 @@ fn bound_in_range(bound: Option<u64>) -> Option<Option<u32>>
 }
 
 /// The version of the container that `asm` makes.
-fn version_given(matches: &ArgMatches<'_>, bound: Option<u32>) -> u32
+pub fn version_given(matches: &ArgMatches<'_>, bound: Option<u32>) -> u32
     ensures { result ≡ version_at bound (rows_of (found_of matches.now)) }
 {
     match bound {
@@ -126,7 +126,7 @@ fn behind_at(word: &str) -> Option<&str>
 }
 
 /// The word as a policy.
-fn policy_told(word: &str) -> PolicyWord<'_>
+pub fn policy_told(word: &str) -> PolicyWord<'_>
     ensures { word_view result ≡ policy_word word.now }
 {
     match behind_at(word) {

@@ -12,7 +12,8 @@ use Rattle.proof_container.specs.Postorder.{is_emitted, HasPartsFirst, ArePostor
 use Rattle.term_table.specs.Bytes.{IsBytes}
 use Rattle.proof_container.specs.Encoding.{field_bytes, head_bytes, tail_fields, encoding_of, AreTerms, IsContents}
 use Rattle.proof_container.specs.Views.{AreKnown, AllTerms, IsWritable, view_contents}
-use Rattle.proof_container.specs.Inside.Walked.{IsLeft, IsReady, HaveParts, root_trees, left_trees}
+use Rattle.proof_container.specs.Inside.Walked.{IsReady, HaveParts, left_trees}
+use Rattle.proof_container.specs.Walks.{IsLeft, root_trees}
 use Rattle.proof_container.proofs.LemmaIds.{in_ids}
 use Rattle.proof_container.proofs.Small.{AreEmitted-split}
 use Rattle.proof_container.proofs.Walks.{listed-left, entries_grow, entries_listed}

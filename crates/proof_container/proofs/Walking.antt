@@ -19,7 +19,8 @@ use Rattle.proof_container.specs.Contents.{one_or_none, lemma_roots}
 use Rattle.proof_container.specs.Postorder.{is_emitted, unless_emitted, emitted_with, emitted_with_all, entries}
 use Rattle.proof_container.specs.Encoding.{entry_number}
 use Rattle.proof_container.specs.Views.{AreKnown}
-use Rattle.proof_container.specs.Inside.Walked.{IsLeft, AreMarks, mark, root_trees, part_steps, proof_steps, lemma_steps, first_steps, taken, all_taken, IsStep, AreSteps, left_trees, IsUnderWay, nodes, steps_cost}
+use Rattle.proof_container.specs.Inside.Walked.{part_steps, proof_steps, lemma_steps, first_steps, taken, all_taken, IsStep, AreSteps, left_trees, IsUnderWay, nodes, steps_cost}
+use Rattle.proof_container.specs.Walks.{IsLeft, AreMarks, mark, root_trees}
 use Rattle.proof_container.proofs.Walks.{listed-last, listed-push, number_is, number-append, emitted_with-listed, emitted_with-app, emitted_with-tapp, emitted_with-pi, emitted_with-lam}
 
 -- ---- lists of steps

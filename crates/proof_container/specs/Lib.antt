@@ -5,6 +5,7 @@ pub mod Versions
 pub mod Contents
 pub mod Postorder
 pub mod Encoding
+pub mod Walks
 pub mod Decoding
 pub mod Views
 pub mod Inside

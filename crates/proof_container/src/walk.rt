@@ -6,7 +6,8 @@ ghost use Rattle.term_table.specs.Table.{IsKnown};
 ghost use Rattle.lf_lemmas.specs.Tables.{LemmasKnown};
 ghost use Rattle.proof_container.specs.Postorder.{entries};
 ghost use Rattle.proof_container.specs.Views.{AreKnown};
-ghost use Rattle.proof_container.specs.Inside.Walked.{IsLeft, IsUnderWay, IsStep, root_trees};
+ghost use Rattle.proof_container.specs.Inside.Walked.{IsUnderWay, IsStep};
+ghost use Rattle.proof_container.specs.Walks.{IsLeft, root_trees};
 ghost use Rattle.proof_container.specs.Inside.Walked.{lemma_steps, first_steps, part_steps};
 ghost use Rattle.proof_container.specs.Inside.Walked.{steps_cost};
 
@@ -145,7 +146,8 @@ fn take_step(
     }
 }
 
-/// The walk from the invariants in order, then each lemma's formula and proof, and then the proof.
+/// The walk from the invariants in order, then each lemma's formula and proof, and then the proof,
+/// which leaves each tree once, behind its parts. Fails only for want of memory.
 pub fn walk_from(
     alloc: Global,
     table: &Table,

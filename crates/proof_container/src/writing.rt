@@ -17,7 +17,8 @@ ghost use Rattle.proof_container.specs.Encoding.{policy_bytes, bound_fields, hea
 ghost use Rattle.proof_container.specs.Encoding.{encoding_of, EncodesContents};
 ghost use Rattle.proof_container.specs.declared.limits.TheConstants.{MAX_ENTRIES};
 ghost use Rattle.proof_container.specs.Decoding.{entry_size, decoded_container};
-ghost use Rattle.proof_container.specs.Inside.Walked.{IsLeft, IsReady, HaveParts, left_trees};
+ghost use Rattle.proof_container.specs.Inside.Walked.{IsReady, HaveParts, left_trees};
+ghost use Rattle.proof_container.specs.Walks.{IsLeft};
 ghost use Rattle.proof_container.specs.Views.{AreKnown, IsWritable, view_contents};
 
 use crate::container::{Head, View};

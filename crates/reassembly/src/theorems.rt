@@ -12,19 +12,21 @@ ghost use Rattle.proof_container.specs.Versions.{profile_of};
 ghost use Rattle.proof_container.specs.Contents.{Contents};
 ghost use Rattle.pcc_asm.specs.Assembling.{plain_contents, assembled_code, assembled_contents};
 ghost use Rattle.pcc_asm.specs.Words.{code_bytes};
-ghost use Rattle.source_text.specs.Listing.{code_text, code_source};
-ghost use Rattle.source_text.specs.Laws.{IsSpellableCode};
+ghost use Rattle.source_text.specs.Listing.{ExtrasView, code_text, code_source};
+ghost use Rattle.source_text.specs.Laws.{IsSpellableCode, AreSpellableExtras};
 ghost use Rattle.reassembly.specs.Containers.{HoldsCode, HasWrittenReturns, without_proofs};
 
-/// The text of code of a profile with its invariants spells one source. That source is assembled
-/// into the same code, and for a policy and a version, with a bound or without, into what a
-/// container with that code and those invariants holds; so, of a container that holds them, into
-/// what it holds but for its lemmas and its proof. Bytes that encode the code, each return with the
-/// hint that is written, are what such a container holds for it.
+/// The text of code of a profile with its invariants spells one source, whatever comments, hints
+/// and notes are printed beside them. That source is assembled into the same code, and for a policy
+/// and a version, with a bound or without, into what a container with that code and those
+/// invariants holds; so, of a container that holds them, into what it holds but for its lemmas and
+/// its proof. Bytes that encode the code, each return with the hint that is written, are what such
+/// a container holds for it.
 pub fn laws()
     ensures source { (p : Profile) (left : Bool) (code : List Insn) (invs : List (ℕ × Form))
-        (s : Source) → IsSpellableCode p left code invs
-        → SpellsSource p left (code_text code invs) s ↔ (s ≡ code_source code invs) }
+        (extras : ExtrasView) (s : Source) → IsSpellableCode p left code invs
+        → AreSpellableExtras extras
+        → SpellsSource p left (code_text extras code invs) s ↔ (s ≡ code_source code invs) }
     ensures code { (p : Profile) (left : Bool) (code : List Insn) (invs : List (ℕ × Form))
         → IsSpellableCode p left code invs
         → assembled_code p (code_source code invs) ≡ Ok code }

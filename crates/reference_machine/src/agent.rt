@@ -95,7 +95,7 @@ impl Agent {
 
     /// A register's word.
     #[inline(always)]
-    fn reg(&self, reg: Reg) -> u64
+    pub fn reg(&self, reg: Reg) -> u64
         ensures { result ≡ read_reg self.now.state.regs reg }
     {
         read_reg(&self.regs, reg)
@@ -111,7 +111,7 @@ impl Agent {
 
     /// The sum of a register and a displacement.
     #[inline(always)]
-    fn address(&self, rb: Reg, disp: i16) -> u64
+    pub fn address(&self, rb: Reg, disp: i16) -> u64
         ensures { result ≡ machine.address_of self.now.state.regs rb disp }
     {
         address_of(&self.regs, rb, disp)

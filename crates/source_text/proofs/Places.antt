@@ -1,5 +1,6 @@
 -- What is printed so far, with the lines that are left.
-use Rattle.std.proofs.Common.{◌≡◌, ℕ, ◌+◌, ◌<◌, Bool, true, false, List, ◌∷◌, ◌++◌, length, drop, get_or, Some, None, sym, ap, ◌∙◌}
+use Rattle.std.proofs.Common.{◌≡◌, ℕ, ◌+◌, ◌<◌, Bool, true, false, List, [], ◌∷◌, ◌++◌, length, drop, get_or, Some}
+use Rattle.std.proofs.Common.{None, refl, sym, ap, ◌∙◌, append_assoc}
 use Rattle.std.specs.Prelude.{◌==◌}
 use Rattle.std.proofs.lemmas.Bool.{cond-true, cond-false, eq-eqb, ne_eqb}
 use Rattle.std.proofs.lemmas.List.{drop_more, drop-map}
@@ -7,7 +8,7 @@ use Rattle.formula_tree.specs.Formulas.{Form}
 use Rattle.formula_tree.specs.Views.{form_view}
 use Rattle.formula_tree.specs.declared.form.Form as form
 use Rattle.alpha_words.specs.declared.insn.Insn.{Insn}
-use Rattle.source_text.specs.Listing.{Line, InsnAt, with_label, with_inv, next_inv, invs_behind, lines_from, lines_text}
+use Rattle.source_text.specs.Listing.{Line, ExtrasView, insn_line, with_label, with_inv, next_inv, invs_behind, lines_from, line_text, lines_text}
 use Rattle.source_text.specs.Views.{invs_view}
 
 -- an element that was read stands first of those that are left
@@ -43,25 +44,32 @@ one_inv i v vs ws e h =
     )
 
 -- the lines of an index are printed one after the other
-pub next_lines : (goes : ℕ → Bool) (code : List Insn) (vs ws : List (ℕ × Form)) (i : ℕ)
+pub next_lines : (goes : ℕ → Bool) (x : ExtrasView) (code : List Insn) (vs ws : List (ℕ × Form)) (i : ℕ)
     (insn : Insn) (t : Bool) (out first second third whole : List ℕ) → i < length code
     → insn ≡ get_or code i insn → t ≡ goes i
     → ws ≡ invs_behind i vs
     → ((rest : List Line) → first ++ lines_text rest ≡ out ++ lines_text (with_label i t rest))
     → ((rest : List Line)
     → second ++ lines_text rest ≡ first ++ lines_text (with_inv (next_inv i vs) rest))
-    → ((rest : List Line) → third ++ lines_text rest ≡ second ++ lines_text (InsnAt i insn ∷ rest))
-    → out ++ lines_text (lines_from goes i (drop i code) vs) ≡ whole
-    → third ++ lines_text (lines_from goes (i + 1) (drop (i + 1) code) ws) ≡ whole
-next_lines goes code vs ws i insn t out first second third whole h is flag behind label inv last
+    → ((rest : List Line) → third ++ lines_text rest ≡ second ++ lines_text (insn_line x i insn ∷ rest))
+    → out ++ lines_text (lines_from goes x i (drop i code) vs) ≡ whole
+    → third ++ lines_text (lines_from goes x (i + 1) (drop (i + 1) code) ws) ≡ whole
+next_lines goes x code vs ws i insn t out first second third whole h is flag behind label inv last
     all =
-    let rest : List Line = lines_from goes (i + 1) (drop (i + 1) code) ws in
-    last rest ∙ inv (InsnAt i insn ∷ rest) ∙ label (with_inv (next_inv i vs) (InsnAt i insn ∷ rest))
-    ∙ ap (λ b. out ++ lines_text (with_label i b (with_inv (next_inv i vs) (InsnAt i insn ∷ rest))))
+    let rest : List Line = lines_from goes x (i + 1) (drop (i + 1) code) ws in
+    last rest ∙ inv (insn_line x i insn ∷ rest) ∙ label (with_inv (next_inv i vs) (insn_line x i insn ∷ rest))
+    ∙ ap (λ b. out ++ lines_text (with_label i b (with_inv (next_inv i vs) (insn_line x i insn ∷ rest))))
     flag
     ∙ ap (λ l. out ++ lines_text
     (with_label i (goes i)
-    (with_inv (next_inv i vs) (InsnAt i insn ∷ lines_from goes (i + 1) (drop (i + 1) code) l))))
+    (with_inv (next_inv i vs) (insn_line x i insn ∷ lines_from goes x (i + 1) (drop (i + 1) code) l))))
     behind
-    ∙ ap (λ l. out ++ lines_text (lines_from goes i l vs)) (sym (read_first code i insn h is))
+    ∙ ap (λ l. out ++ lines_text (lines_from goes x i l vs)) (sym (read_first code i insn h is))
     ∙ all
+
+-- the text of lines before others
+pub lines_text-append : (xs ys : List Line) → lines_text (xs ++ ys) ≡ lines_text xs ++ lines_text ys
+lines_text-append [] ys = refl
+lines_text-append (l ∷ ls) ys =
+    ap (λ t. line_text l ++ (10 ∷ t)) (lines_text-append ls ys)
+    ∙ sym (append_assoc (line_text l) (10 ∷ lines_text ls) (lines_text ys))

@@ -1,6 +1,7 @@
 -- Each line spells what it says.
-use Rattle.std.proofs.Common.{◌≡◌, ℕ, ◌^◌, ◌<◌, ◌≤◌, Bool, true, false, List, [], ◌∷◌, ◌++◌, length, map, refl, sym, ap, subst, append_assoc, arith, length-append}
-use Rattle.std.specs.Prelude.{codes, decimal}
+use Rattle.std.proofs.Common.{◌≡◌, ℕ, ◌^◌, ◌<◌, ◌≤◌, Bool, true, false, List, [], ◌∷◌, ◌++◌, length, map, refl, sym, ap}
+use Rattle.std.proofs.Common.{subst, append_assoc, arith, length-append}
+use Rattle.std.specs.Prelude.{codes}
 use Rattle.std.specs.List.{AllByRecursion}
 use Rattle.word_ops.specs.declared.Profile.{Profile}
 use Rattle.formula_tree.specs.Formulas.{Form}
@@ -14,12 +15,14 @@ use Rattle.formula_text.specs.Printing.{form_text}
 use Rattle.asm_text.specs.declared.marks.Punct.{Punct}
 use Rattle.asm_text.specs.Marks.{source_class}
 use Rattle.asm_text.specs.Labels.{is_label}
-use Rattle.asm_text.specs.Insns.{SpellsInsn}
-use Rattle.asm_text.specs.Statements.{NoStatement, AnInsn, AnInv, before_comment, are_printable, SpellsStatement, SpellsBody, SpellsLine}
+use Rattle.asm_text.specs.Statements.{NoStatement, AnInsn, AnInv, before_comment, SpellsStatement, SpellsBody, SpellsLine}
 use Rattle.asm_text.specs.Sources.{AreSpelled}
-use Rattle.insn_text.specs.Printing.{label_text, source_insn, insn_text}
-use Rattle.source_text.specs.Listing.{Line, LabelOf, InvOf, InsnAt, line_text, line_content, lines_text}
-use Rattle.source_text.proofs.Characters.{are_clean, clean-append, decimal_clean, decimal_short, clean_printable, printable-append, clean_whole, before-append, printable_line, printable_no_cr}
+use Rattle.insn_text.specs.Printing.{label_text, source_insn}
+use Rattle.source_text.specs.Listing.{Line, LabelOf, InvOf, InsnAt, Note, hinted_text, line_text, line_content, lines_text}
+use Rattle.source_text.specs.Laws.{IsComment}
+use Rattle.source_text.proofs.Returns.{IsInsnText}
+use Rattle.source_text.proofs.Characters.{are_clean, clean-append, decimal_clean, decimal_short, clean_printable}
+use Rattle.source_text.proofs.Characters.{printable-append, clean_whole, before-append, printable_line, printable_no_cr}
 
 blank_class : source_class 32 ≡ C.Blank
 unfolding source_class
@@ -101,14 +104,6 @@ module _ (profile : Profile) (left : Bool) where
 
   -- ---- instructions
 
-  abbrev comment_of : ℕ → List ℕ
-  comment_of i = codes " # " ++ decimal i
-
-  comment_printable : (i : ℕ) → i < 2 ^ 64 → are_printable (comment_of i) ≡ true
-  comment_printable i h =
-      printable-append (codes " # ") (decimal i) refl
-      (clean_printable (decimal i) (decimal_clean i h))
-
   eight_blanks : (w : List ℕ) (ts : List (Token Punct)) → Consists source_class w ts
       → Consists source_class (codes "        " ++ w) ts
   eight_blanks w ts d =
@@ -116,33 +111,44 @@ module _ (profile : Profile) (left : Bool) where
       (blank blank_class (blank blank_class
       (blank blank_class (blank blank_class (blank blank_class (blank blank_class d)))))))
 
-  -- what stands before the comment
-  insn_body : (i : ℕ) (insn : Insn) → before_comment (insn_text i insn) ≡ insn_text i insn
-      → before_comment (line_text (InsnAt i insn)) ≡ codes "        " ++
-      (insn_text i insn ++ (32 ∷ []))
-  insn_body i insn e =
-      ap (λ l. codes "        " ++ l) (before-append (insn_text i insn) (comment_of i) e)
-
-  pub insn_spelled : (i : ℕ) (insn : Insn) → i < 2 ^ 64 → are_printable (insn_text i insn) ≡ true
-      → before_comment (insn_text i insn) ≡ insn_text i insn → length (insn_text i insn) ≤ 21
-      → ((ts : List (Token Punct)) × Consists source_class
-      (insn_text i insn) ts × SpellsInsn profile (source_insn i insn) ts)
-      → IsSpelled (InsnAt i insn)
-  insn_spelled i insn h p e l s =
-      let text = insn_text i insn in
-      let digits : length (decimal i) ≤ 20 = decimal_short i h in
-      let behind : are_printable (text ++ comment_of i) ≡ true =
-      printable-append text (comment_of i) p (comment_printable i h) in
-      let count : length (text ++ comment_of i) ≤ 48 =
-      omega (arith, length-append text (comment_of i), length-append (codes " # ") (decimal i))
-      in
+  pub insn_spelled : (i : ℕ) (insn : Insn) (hint : ℕ) (comment : List ℕ)
+      → IsInsnText profile (source_insn i insn) (hinted_text i insn hint) → IsComment comment
+      → IsSpelled (InsnAt i insn hint comment)
+  insn_spelled i insn hint comment t c =
+      let text = hinted_text i insn hint in
+      let behind = codes " # " ++ comment in
+      let body : before_comment (line_text (InsnAt i insn hint comment))
+      ≡ codes "        " ++ (text ++ (32 ∷ [])) =
+      ap (λ l. codes "        " ++ l) (before-append text behind t.whole) in
+      let count : length (text ++ behind) ≤ 555 =
+      omega (
+        arith,
+        t.short,
+        c.short,
+        length-append text behind,
+        length-append (codes " # ") comment,
+      ) in
       record {
-        short = omega (arith, count, length-append (codes "        ") (text ++ comment_of i));
-        printable = printable-append (codes "        ") (text ++ comment_of i) refl behind;
-        body = subst (λ b. SpellsStatement profile left (AnInsn (source_insn i insn)) b)
-            (sym (insn_body i insn e))
-            (s.0, eight_blanks (text ++ (32 ∷ [])) s.0 (blank_behind text s.0 s.1), s.2);
+        short = omega (arith, count, length-append (codes "        ") (text ++ behind));
+        printable = printable-append (codes "        ") (text ++ behind) refl
+            (printable-append text behind t.printable
+            (printable-append (codes " # ") comment refl c.printable));
+        body = subst (λ b. SpellsStatement profile left (AnInsn (source_insn i insn)) b) (sym body) (
+          t.tokens,
+          eight_blanks (text ++ (32 ∷ [])) t.tokens
+              (blank_behind text t.tokens t.consists),
+          t.spelled,
+        );
       }
+
+  -- ---- notes
+
+  pub note_spelled : (note : List ℕ) → IsComment note → IsSpelled (Note note)
+  note_spelled note c = record {
+    short = omega (arith, c.short, length-append (codes "# ") note);
+    printable = printable-append (codes "# ") note refl c.printable;
+    body = nothing;
+  }
 
   -- ---- all lines
 

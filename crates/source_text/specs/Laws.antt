@@ -1,4 +1,5 @@
--- Which code with invariants is printed as a source, and which source that is.
+-- Which code with invariants is printed as a source, with which comments, hints and notes, and which
+-- source that is.
 use Rattle.std.specs.Prelude.{◌≡◌, ℕ, ◌+◌, ◌≤◌, Bool, true, if◌then◌else◌, List, [], ◌∷◌, length}
 use Rattle.std.specs.List.{AllByRecursion}
 use Rattle.word_ops.specs.declared.Profile.{Profile}
@@ -11,9 +12,11 @@ use Rattle.alpha_words.specs.declared.insn.Insn.{Insn}
 use Rattle.alpha_cfg.specs.Flow.{IsCode, AreOfProfile}
 use Rattle.asm_text.specs.declared.limits.TheConstants.{MAX_INVS}
 use Rattle.asm_text.specs.Insns.{SourceInsn}
+use Rattle.asm_text.specs.Statements.{are_printable}
 use Rattle.asm_text.specs.Sources.{HaveInsns}
 use Rattle.insn_text.specs.Printing.{label_text, source_insn}
-use Rattle.source_text.specs.declared.limits.TheConstants.{MAX_FORM_TEXT}
+use Rattle.source_text.specs.declared.limits.TheConstants.{MAX_FORM_TEXT, MAX_COMMENT, MAX_HINT}
+use Rattle.source_text.specs.Listing.{ExtrasView}
 
 -- The formula can stand in an invariant of the profile: its variables are bound, its registers are
 -- below 32, its operators are the profile's, it names the steps that are left only where the flag
@@ -31,6 +34,17 @@ pub record IsSpellableCode (profile : Profile) (left : Bool) (code : List Insn)
   pub few : length invs ≤ MAX_INVS
   pub belong : HaveInsns 0 (length code) invs
   pub forms : AllByRecursion (λ v. IsInvOf profile left v.1) invs
+
+-- the text can stand behind `#`: its bytes are printable, and there aren't too many
+pub record IsComment (text : List ℕ) : Type 0 where
+  pub printable : are_printable text ≡ true
+  pub short : length text ≤ MAX_COMMENT
+
+-- comments and notes can stand behind `#`, and hints in returns
+pub record AreSpellableExtras (extras : ExtrasView) : Type 0 where
+  pub comments : AllByRecursion IsComment extras.comments
+  pub hints : AllByRecursion (λ h. h ≤ MAX_HINT) extras.hints
+  pub notes : AllByRecursion IsComment extras.notes
 
 -- the instructions from index i on as those of a source
 abbrev pub source_insns_from : ℕ → List Insn → List SourceInsn

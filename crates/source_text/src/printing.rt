@@ -1,14 +1,17 @@
-//! Printing code with its invariants.
+//! Printing code with its invariants, comments and notes.
 
-ghost use Rattle.std.specs.Prelude.{◌≡◌, ◌≤◌, ◌^◌, ◌++◌, ◌∷◌, ℕ, List, length, drop, OnOk, IfOk};
+ghost use Rattle.std.specs.Prelude.{◌≡◌, ◌≤◌, ◌^◌, ◌++◌, ◌∷◌, ℕ, List, length, drop, map};
+ghost use Rattle.std.specs.Prelude.{codes, decimal, OnOk, IfOk};
 ghost use Rattle.formula_tree.specs.Views.{form_view};
 ghost use Rattle.alpha_words.specs.Lawful.{target_of};
 ghost use Rattle.alpha_cfg.specs.declared.code.TheConstants.{MAX_WORDS};
 ghost use Rattle.alpha_cfg.specs.Flow.{InsideOf, IsInside};
-ghost use Rattle.source_text.specs.Listing.{Line, InvOf, InsnAt, with_label, with_inv, next_inv};
-ghost use Rattle.source_text.specs.Listing.{invs_behind, lines_text, code_text};
-ghost use Rattle.source_text.specs.Views.{invs_view};
+ghost use Rattle.source_text.specs.Listing.{Line, InvOf, Note, with_label, with_inv, next_inv};
+ghost use Rattle.source_text.specs.Listing.{invs_behind, hinted_text, hint_at, comment_at};
+ghost use Rattle.source_text.specs.Listing.{insn_line, insn_lines, lines_text, code_text};
+ghost use Rattle.source_text.specs.Views.{invs_view, extras_view};
 
+use crate::limits::USUAL_HINT;
 use crate::targets::targets;
 use alpha_words::Insn;
 use formula_text::print_form;
@@ -16,6 +19,18 @@ use formula_tree::Form;
 use insn_text::{push_insn, push_label};
 use itoa::Buffer;
 use std::alloc::{AllocError, Global};
+
+/// What is printed beside code with its invariants.
+#[derive(Drop)]
+pub struct Extras<'a> {
+    /// The comments of the instructions, in order; those that are left have an empty one.
+    pub comments: &'a [Vec<u8>],
+    /// The hints of the instructions, in order, of which only those of returns are printed; those
+    /// that are left have `USUAL_HINT`.
+    pub hints: &'a [u32],
+    /// What stands behind the code, each note on a line of its own.
+    pub notes: &'a [Vec<u8>],
+}
 
 /// Prints the line of the index's label, where a branch goes there.
 fn push_label_line(out: &mut Vec<u8>, index: u32, is_target: bool) -> Result<(), AllocError>
@@ -70,38 +85,82 @@ fn push_inv_of(
     Ok(next + 1)
 }
 
-/// Prints the line of the instruction at an index.
-fn push_insn_line(out: &mut Vec<u8>, index: u32, insn: Insn) -> Result<(), AllocError>
-    requires { InsideOf (2 ^ 32) (target_of index insn) }
-    ensures { OnOk result ((rest : List Line) → out.new.items ++ lines_text rest
-        ≡ out.old.items ++ lines_text (InsnAt index insn ∷ rest)) }
+/// The hint of the instruction at an index.
+fn hint_at(extras: &Extras, index: u32) -> u32
+    ensures { result ≡ hint_at (extras_view extras.now) index }
+{
+    match extras.hints.get(index as usize) {
+        Some(hint) => *hint,
+        None => USUAL_HINT,
+    }
+}
+
+/// Prints the comment of the instruction at an index.
+fn push_comment(out: &mut Vec<u8>, extras: &Extras, index: u32) -> Result<(), AllocError>
+    ensures { OnOk result (out.new.items
+        ≡ out.old.items ++ comment_at (extras_view extras.now) index) }
+{
+    match extras.comments.get(index as usize) {
+        Some(comment) => out.extend_from_slice(comment),
+        None => Ok(()),
+    }
+}
+
+/// Prints a return with its hint.
+fn push_return(out: &mut Vec<u8>, hint: u32) -> Result<(), AllocError>
+    ensures { OnOk result (out.new.items
+        ≡ out.old.items ++ (codes "ret $31,($26)," ++ decimal hint)) }
 {
     let mut buffer = Buffer::new();
+    out.extend_from_slice(b"ret $31,($26),")?;
+    out.extend_from_slice(buffer.format(hint).as_bytes())?;
+    Ok(())
+}
+
+/// Prints the instruction at an index: a return has its hint, where that isn't the usual one.
+fn push_hinted(out: &mut Vec<u8>, index: u32, insn: Insn, hint: u32) -> Result<(), AllocError>
+    requires { InsideOf (2 ^ 32) (target_of index insn) }
+    ensures { OnOk result (out.new.items ≡ out.old.items ++ hinted_text index insn hint) }
+{
+    if hint == USUAL_HINT {
+        return push_insn(out, index, insn);
+    }
+    match insn {
+        Insn::Ret => push_return(out, hint),
+        _ => push_insn(out, index, insn),
+    }
+}
+
+/// Prints the line of the instruction at an index.
+fn push_insn_line(
+    out: &mut Vec<u8>,
+    extras: &Extras,
+    index: u32,
+    insn: Insn,
+) -> Result<(), AllocError>
+    requires { InsideOf (2 ^ 32) (target_of index insn) }
+    ensures { OnOk result ((rest : List Line) → out.new.items ++ lines_text rest
+        ≡ out.old.items ++ lines_text (insn_line (extras_view extras.now) index insn ∷ rest)) }
+{
     out.extend_from_slice(b"        ")?;
-    push_insn(out, index, insn)?;
+    push_hinted(out, index, insn, hint_at(extras, index))?;
     out.extend_from_slice(b" # ")?;
-    out.extend_from_slice(buffer.format(index).as_bytes())?;
+    push_comment(out, extras, index)?;
     out.push(b'\n')?;
     Ok(())
 }
 
-/// The text of code with its invariants, each of which has the index of its instruction: a line for
-/// each instruction, with its index as a comment, before it a line for its invariant, and before
-/// that a line for its label, `L` and its index, where a branch goes there. Fails only for want of
-/// memory.
-///
-/// The text spells a source with the same instructions and invariants, where these are the
-/// profile's and stand in order, and no invariant's text is longer than `MAX_FORM_TEXT` (`laws`).
-///
-/// Asks that there are at most `MAX_WORDS` instructions, and that branches stay inside, as in code.
-pub fn print_source(
+/// The lines of the instructions, with their labels and invariants.
+fn print_insns(
     alloc: Global,
     insns: &[Insn],
     invs: &[(u32, Form)],
+    extras: &Extras,
 ) -> Result<Vec<u8>, AllocError>
     requires short { length insns.now ≤ MAX_WORDS }
     requires inside { (i : ℕ) → IsInside insns.now i }
-    ensures exact { IfOk result (λ v. v.items ≡ code_text insns.now (invs_view invs.now)) }
+    ensures { IfOk result (λ v. v.items
+        ≡ lines_text (insn_lines (extras_view extras.now) insns.now (invs_view invs.now))) }
 {
     let flags = targets(alloc, insns)?;
     let mut out = Vec::new(alloc);
@@ -109,7 +168,55 @@ pub fn print_source(
     for i in 0..insns.len() {
         push_label_line(&mut out, i as u32, flags[i])?;
         next = push_inv_of(alloc, &mut out, invs, next, i as u32)?;
-        push_insn_line(&mut out, i as u32, insns[i])?;
+        push_insn_line(&mut out, extras, i as u32, insns[i])?;
     }
+    Ok(out)
+}
+
+/// Prints the line of a note.
+fn push_note(out: &mut Vec<u8>, note: &[u8]) -> Result<(), AllocError>
+    ensures { OnOk result ((rest : List Line) → out.new.items ++ lines_text rest
+        ≡ out.old.items ++ lines_text (Note note.now ∷ rest)) }
+{
+    out.extend_from_slice(b"# ")?;
+    out.extend_from_slice(note)?;
+    out.push(b'\n')?;
+    Ok(())
+}
+
+/// Prints the lines of the notes.
+fn push_notes(out: &mut Vec<u8>, notes: &[Vec<u8>]) -> Result<(), AllocError>
+    ensures { OnOk result (out.new.items
+        ≡ out.old.items ++ lines_text (map Note (map (λ v. v.items) notes.now))) }
+{
+    for note in notes {
+        push_note(out, note)?;
+    }
+    Ok(())
+}
+
+/// The text of code with its invariants, each of which has the index of its instruction: a line for
+/// each instruction with its comment, before it a line for its invariant, and before that a line
+/// for its label, `L` and its index, where a branch goes there; behind them a line for each note.
+/// Fails only for want of memory.
+///
+/// The text spells a source with the same instructions and invariants, where these are the
+/// profile's and stand in order, no invariant's text is longer than `MAX_FORM_TEXT`, comments and
+/// notes are printable and at most `MAX_COMMENT` long, and no hint is above `MAX_HINT` (`laws`).
+///
+/// Asks that there are at most `MAX_WORDS` instructions, and that branches stay inside, as in code.
+pub fn print_source(
+    alloc: Global,
+    insns: &[Insn],
+    invs: &[(u32, Form)],
+    extras: &Extras,
+) -> Result<Vec<u8>, AllocError>
+    requires short { length insns.now ≤ MAX_WORDS }
+    requires inside { (i : ℕ) → IsInside insns.now i }
+    ensures exact { IfOk result (λ v. v.items
+        ≡ code_text (extras_view extras.now) insns.now (invs_view invs.now)) }
+{
+    let mut out = print_insns(alloc, insns, invs, extras)?;
+    push_notes(&mut out, extras.notes)?;
     Ok(out)
 }

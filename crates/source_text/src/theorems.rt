@@ -6,17 +6,19 @@ ghost use Rattle.formula_tree.specs.Formulas.{Form};
 ghost use Rattle.alpha_words.specs.declared.insn.Insn.{Insn};
 ghost use Rattle.asm_text.specs.Sources.{HaveInsns, SpellsSource};
 ghost use Rattle.source_text.specs.Targets.{is_target};
-ghost use Rattle.source_text.specs.Listing.{code_text, code_source};
-ghost use Rattle.source_text.specs.Laws.{IsSpellableCode, source_insns_from, labels_where};
+ghost use Rattle.source_text.specs.Listing.{ExtrasView, code_text, code_source};
+ghost use Rattle.source_text.specs.Laws.{IsSpellableCode, AreSpellableExtras};
+ghost use Rattle.source_text.specs.Laws.{source_insns_from, labels_where};
 
 /// For each profile, and whether invariants may name the steps that are left or not: the text of
-/// code of the profile with its invariants spells the source of its lines. The instructions of that
-/// source are the code's, in order, its labels those of the indices that branches go to, and its
-/// invariants the given ones.
+/// code of the profile with its invariants spells the source of its lines, the same with whatever
+/// comments, hints and notes are printed beside them. The instructions of that source are the
+/// code's, in order, its labels those of the indices that branches go to, and its invariants the
+/// given ones.
 pub fn laws()
     ensures spells { (p : Profile) (left : Bool) (code : List Insn) (invs : List (ℕ × Form))
-        → IsSpellableCode p left code invs
-        → SpellsSource p left (code_text code invs) (code_source code invs) }
+        (extras : ExtrasView) → IsSpellableCode p left code invs → AreSpellableExtras extras
+        → SpellsSource p left (code_text extras code invs) (code_source code invs) }
     ensures insns { (code : List Insn) (invs : List (ℕ × Form))
         → map (λ x. x.1) (code_source code invs).insns ≡ source_insns_from 0 code }
     ensures labels { (code : List Insn) (invs : List (ℕ × Form))

@@ -1,10 +1,10 @@
-//! Code printed as a source, and read back. Its words are put together by hand from the formats of
-//! the Handbook.
+//! Code printed as a source, with comments, a hint and a note, and read back. Its words are put
+//! together by hand from the formats of the Handbook.
 
 use alpha_cfg::Code;
 use asm_text::{MAX_SOURCE, read_source};
 use formula_tree::{Exp, Form};
-use source_text::{laws, print_source};
+use source_text::{Extras, laws, print_source};
 use std::alloc::{AllocError, Global};
 use std::test::Fail;
 use word_ops::{Profile, Rel};
@@ -15,18 +15,22 @@ static CODE: [u8; 24] = [
     0xfc, 0xff, 0xff, 0xc3, 0x01, 0x80, 0xfa, 0x6b,
 ];
 
-/// Its text with the invariants.
+/// Its text with the invariants, a comment for each instruction, a hint and a note.
 static TEXT: &str = "        bis r31,r31,r0 # 0
 L1:
    .inv (ult r0 8)
-        beq r16,L5 # 1
+        beq r16,L5 # 1: no more
         addq r0,1,r0 # 2
         subq r16,1,r16 # 3
         br L1 # 4
 L5:
    .inv (eq r16 0)
-        ret # 5
+        ret $31,($26),7 # 5
+# version 1
 ";
+
+/// The hints of its words, of which only the last is a return's.
+static HINTS: [u32; 6] = [0, 5, 0, 0, 1, 7];
 
 /// What holds at indices 1 and 5.
 fn invariants(alloc: Global) -> Result<Vec<(u32, Form)>, AllocError> {
@@ -36,10 +40,34 @@ fn invariants(alloc: Global) -> Result<Vec<(u32, Form)>, AllocError> {
     Ok(invs)
 }
 
+/// The comments of its instructions.
+static COMMENTS: [&str; 6] = ["0", "1: no more", "2", "3", "4", "5"];
+
+/// The note behind it.
+static NOTES: [&str; 1] = ["version 1"];
+
+/// Texts as vectors of bytes.
+fn bytes_of(alloc: Global, texts: &[&str]) -> Result<Vec<Vec<u8>>, AllocError> {
+    let mut all = Vec::new(alloc);
+    for text in texts {
+        let mut bytes = Vec::new(alloc);
+        bytes.extend_from_slice(text.as_bytes())?;
+        all.push(bytes)?;
+    }
+    Ok(all)
+}
+
 /// The text of the code with these invariants.
 fn listing(alloc: Global, invs: &[(u32, Form)]) -> Result<Vec<u8>, AllocError> {
+    let comments = bytes_of(alloc, &COMMENTS)?;
+    let notes = bytes_of(alloc, &NOTES)?;
+    let extras = Extras {
+        comments: &comments,
+        hints: &HINTS,
+        notes: &notes,
+    };
     match Code::of(alloc, &CODE, Profile::One) {
-        Ok(code) => print_source(alloc, code.insns(), invs),
+        Ok(code) => print_source(alloc, code.insns(), invs, &extras),
         Err(_) => Ok(Vec::new(alloc)),
     }
 }

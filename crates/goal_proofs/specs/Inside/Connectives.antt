@@ -1,18 +1,16 @@
 -- Proofs of connectives and quantifiers, on ids.
 use Rattle.std.specs.Prelude.{◌≡◌, ℕ, suc, Option, List, [], ◌∷◌}
 use Rattle.std.specs.Option.{option_map}
-use Rattle.term_table.specs.Tree.{Tree, Var, Lam}
+use Rattle.term_table.specs.Tree.{Tree, Lam}
 use Rattle.term_table.specs.Table.{TableView, tree_at, Stands}
-use Rattle.formula_tree.specs.Formulas.{Form, shift_form}
+use Rattle.formula_tree.specs.Formulas.{Form}
 use Rattle.formula_terms.specs.Encoding.{form_encoding}
 use Rattle.formula_ids.specs.declared.hypotheses.Hypothesis.{Hypothesis}
 use Rattle.formula_ids.specs.Hypotheses.{AreHyps}
 use Rattle.formula_terms.specs.ProofTerms.{AForm, AAll, rule_proof}
-use Rattle.prover_class.specs.Hypotheses.{Hyps, raised_hyps, split_hyps, with_new}
+use Rattle.prover_class.specs.Hypotheses.{Hyps, raised_hyps}
 use Rattle.prover_class.specs.Goals.{Prover, by_shape}
 use Rattle.goal_proofs.specs.Provers.{whole_proof}
-use Rattle.goal_proofs.specs.Search.{IsContext}
-use Rattle.goal_proofs.specs.declared.search.Context.{Context}
 
 -- by the goal's shape, its parts again by whole searches
 abbrev pub shape_proof : Prover → Prover
@@ -35,15 +33,3 @@ IsJoinProof leaf t u hyps outside connective a b o =
 abbrev pub IsOverProof : Prover → TableView → TableView → List Hypothesis → ℕ → ℕ → ℕ → Option ℕ → Type 0
 IsOverProof leaf t u hyps outside rule b o =
     (Γ : Hyps) (B : Form) → AreHyps t hyps Γ → tree_at t b ≡ form_encoding B → Stands u (option_map (over_tree rule B) (whole_proof leaf (suc outside) (raised_hyps Γ) B)) o
-
--- the context under one more binder
-pub record IsUnderBinder (t u : TableView) (hyps : List Hypothesis) (outside : ℕ) (under : Context) : Type 0 where
-  pub context : IsContext u under
-  pub outside_is : under.outside ≡ suc outside
-  pub is : (Γ : Hyps) → AreHyps t hyps Γ → AreHyps u under.hyps (raised_hyps Γ)
-
--- the context under a hypothesis, whatever formula its id stands for
-pub record IsUnderHypothesis (t u : TableView) (hyps : List Hypothesis) (outside a : ℕ) (under : Context) : Type 0 where
-  pub context : IsContext u under
-  pub outside_is : under.outside ≡ suc outside
-  pub is : (Γ : Hyps) (A : Form) → AreHyps t hyps Γ → tree_at t a ≡ form_encoding A → AreHyps u under.hyps (with_new (raised_hyps Γ) (split_hyps (shift_form 1 0 A) (Var 0)))

@@ -2,7 +2,7 @@
 use Rattle.std.specs.Prelude.{ℕ, List}
 use Rattle.pcc_exit.specs.Stages.{Stage, ◌>>=◌}
 use Rattle.pcc_exit.specs.Runs.{Effect}
-use Rattle.pcc_cli.specs.Stages.Common.{writing}
+use Rattle.pcc_cli.specs.Stages.Writing.{writing}
 use Rattle.pcc_cli.specs.Stages.Compiling.{compiled_of}
 
 -- the program with all that may be wrong with it, and then the write

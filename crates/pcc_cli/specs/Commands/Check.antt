@@ -4,8 +4,8 @@ use Rattle.pcc_words.specs.Invocations.{PolicyWord}
 use Rattle.pcc_lines.specs.Fixed.{accepted_line}
 use Rattle.pcc_exit.specs.Stages.{Stage, ◌>>=◌}
 use Rattle.pcc_exit.specs.Runs.{Effect}
-use Rattle.pcc_cli.specs.Stages.Common.{printing}
-use Rattle.pcc_cli.specs.Stages.Policies.{policy_told}
+use Rattle.pcc_stages.specs.Stages.Common.{printing}
+use Rattle.pcc_stages.specs.Stages.Policies.{policy_told}
 use Rattle.pcc_cli.specs.Stages.Judging.{accepted_of}
 
 -- the policy, with all that may be wrong with its file where the word tells one, and the container

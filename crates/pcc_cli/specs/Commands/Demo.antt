@@ -14,11 +14,11 @@ use Rattle.demo_input.specs.Packets.{demo_packet}
 use Rattle.demo_input.specs.declared.packets.TheConstants.{PACKETS}
 use Rattle.pcc_lines.specs.Demo.{demo_lines}
 use Rattle.pcc_lines.specs.declared.demo.DemoSummary.{DemoSummary}
+use Rattle.pcc_stages.specs.Stages.Common.{policy_named, printing}
 use Rattle.pcc_cli.specs.declared.commands.demo.TheConstants.{DEMO_STEPS}
 use Rattle.pcc_cli.specs.declared.commands.demo.Counts.{Counts}
 use Rattle.pcc_exit.specs.Stages.{Stage, gives, ◌>>=◌}
 use Rattle.pcc_exit.specs.Runs.{Effect}
-use Rattle.pcc_cli.specs.Stages.Common.{policy_named, printing}
 use Rattle.pcc_cli.specs.Stages.Assembling.{assembled_in}
 use Rattle.pcc_cli.specs.Stages.Judging.{Shown, shown_in}
 use Rattle.pcc_cli.specs.Stages.Proving.{proved_in}

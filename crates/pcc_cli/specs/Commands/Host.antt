@@ -11,7 +11,7 @@ use Rattle.turn_laws.specs.Turns.{may_go_on, budget_of}
 use Rattle.pcc_lines.specs.Agents.{turn_line}
 use Rattle.pcc_exit.specs.Stages.{Stage, ◌>>=◌}
 use Rattle.pcc_exit.specs.Runs.{Effect}
-use Rattle.pcc_cli.specs.Stages.Common.{printing}
+use Rattle.pcc_stages.specs.Stages.Common.{printing}
 use Rattle.pcc_cli.specs.Stages.Hosting.{Member, script_of, agents_from}
 
 -- the run of agent a alone from a start in its part, of at most so many steps, by the machine that tests every access

@@ -4,9 +4,9 @@ use Rattle.packet_store.specs.Results.{packet_result}
 use Rattle.pcc_lines.specs.Results.{result_lines}
 use Rattle.pcc_exit.specs.Stages.{Stage, ◌>>=◌}
 use Rattle.pcc_exit.specs.Runs.{Effect}
-use Rattle.pcc_cli.specs.Stages.Common.{policy_named, printing}
+use Rattle.pcc_stages.specs.Stages.Common.{policy_named, printing}
+use Rattle.pcc_stages.specs.Stages.Packets.{packets_of}
 use Rattle.pcc_cli.specs.Stages.Judging.{accepted_code_of}
-use Rattle.pcc_cli.specs.Stages.Packets.{packets_of}
 
 -- the policy, the container with all that may be wrong with it, the packet file and its faults, and then what the machine that
 -- tests every access makes of the packets in order

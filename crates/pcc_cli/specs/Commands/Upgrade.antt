@@ -2,7 +2,7 @@
 use Rattle.std.specs.Prelude.{ℕ, List}
 use Rattle.pcc_exit.specs.Stages.{Stage, ◌>>=◌}
 use Rattle.pcc_exit.specs.Runs.{Effect}
-use Rattle.pcc_cli.specs.Stages.Common.{writing}
+use Rattle.pcc_cli.specs.Stages.Writing.{writing}
 use Rattle.pcc_cli.specs.Stages.Upgrading.{upgraded_of}
 
 -- the container with all that may keep it from being upgraded, and then the write

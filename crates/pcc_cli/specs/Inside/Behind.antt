@@ -7,9 +7,9 @@ use Rattle.pcc_lines.specs.Fixed.{accepted_line}
 use Rattle.pcc_lines.specs.Results.{result_lines}
 use Rattle.pcc_exit.specs.Stages.{Stage, ◌>>=◌}
 use Rattle.pcc_exit.specs.Runs.{Effect}
-use Rattle.pcc_cli.specs.Stages.Common.{printing}
+use Rattle.pcc_stages.specs.Stages.Common.{printing}
+use Rattle.pcc_stages.specs.Stages.Packets.{packets_of}
 use Rattle.pcc_cli.specs.Stages.Judging.{accepted_of, accepted_code_of}
-use Rattle.pcc_cli.specs.Stages.Packets.{packets_of}
 
 -- the packet file and its faults, and what comes of code on the packets in order
 abbrev pub results_on : List ℕ → ℕ → PolicyView → List Insn → Stage Effect

@@ -15,7 +15,7 @@ use Rattle.pcc_asm.specs.Assembling.{assembled_contents}
 use Rattle.pcc_lines.specs.Fixed.{source_too_long_line}
 use Rattle.pcc_lines.specs.Sources.{source_fault_line}
 use Rattle.pcc_exit.specs.Stages.{Stage, stops, gives, reads, ◌>>=◌}
-use Rattle.pcc_cli.specs.Stages.Common.{refused}
+use Rattle.pcc_stages.specs.Stages.Common.{refused}
 
 -- what was read as a source
 abbrev pub source_found : Result Source (ℕ × LineFlaw) → Stage Source

@@ -15,9 +15,9 @@ use Rattle.pcc_lines.specs.Fixed.{script_too_long_line}
 use Rattle.pcc_lines.specs.Scripts.{script_fault_line}
 use Rattle.pcc_exit.specs.Exits.{Exit}
 use Rattle.pcc_exit.specs.Stages.{Stage, stops, gives, reads, ◌>>=◌}
-use Rattle.pcc_cli.specs.Stages.Common.{refused, policy_named}
+use Rattle.pcc_stages.specs.Stages.Common.{refused, policy_named}
+use Rattle.pcc_stages.specs.Stages.Packets.{packets_of}
 use Rattle.pcc_cli.specs.Stages.Judging.{accepted_code_of}
-use Rattle.pcc_cli.specs.Stages.Packets.{packets_of}
 
 -- ---- the script
 

@@ -6,8 +6,8 @@ use Rattle.pcc_lines.specs.Refusals.{refusal_line}
 use Rattle.pcc_gate.specs.declared.refusal.Refusal.{Refusal}
 use Rattle.pcc_gate.specs.First.{first_refusal}
 use Rattle.pcc_exit.specs.Stages.{Stage, stops, gives, ◌>>=◌}
-use Rattle.pcc_cli.specs.Stages.Common.{refused}
-use Rattle.pcc_cli.specs.Stages.Containers.{container_in, code_in, container_bytes_of}
+use Rattle.pcc_stages.specs.Stages.Common.{refused}
+use Rattle.pcc_stages.specs.Stages.Containers.{container_in, code_in, container_bytes_of}
 
 -- a container that isn't refused
 abbrev pub unless_refused : Option Refusal → Stage (Unit {0})

@@ -10,8 +10,8 @@ use Rattle.bounds_prover.specs.Proving.{proved_container}
 use Rattle.pcc_exit.specs.Exits.{Exit}
 use Rattle.pcc_exit.specs.Requests.{no_memory_exit}
 use Rattle.pcc_exit.specs.Stages.{Stage, stops, gives, ◌>>=◌}
-use Rattle.pcc_cli.specs.Stages.Common.{refused}
-use Rattle.pcc_cli.specs.Stages.Containers.{container_bytes_of}
+use Rattle.pcc_stages.specs.Stages.Common.{refused}
+use Rattle.pcc_stages.specs.Stages.Containers.{container_bytes_of}
 
 -- the prover makes no container, and why
 abbrev pub no_container : ProveFault → Exit

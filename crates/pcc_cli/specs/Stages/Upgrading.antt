@@ -13,8 +13,8 @@ use Rattle.pcc_gate.specs.declared.refusal.Refusal.TheVariants as refusal
 use Rattle.pcc_exit.specs.Exits.{Exit}
 use Rattle.pcc_exit.specs.Requests.{no_memory_exit}
 use Rattle.pcc_exit.specs.Stages.{Stage, stops, gives, ◌>>=◌}
-use Rattle.pcc_cli.specs.Stages.Common.{refused}
-use Rattle.pcc_cli.specs.Stages.Containers.{container_bytes_of}
+use Rattle.pcc_stages.specs.Stages.Common.{refused}
+use Rattle.pcc_stages.specs.Stages.Containers.{container_bytes_of}
 
 -- nothing is upgraded, and why
 abbrev pub not_upgraded : UpgradeFault → Exit

@@ -1,13 +1,14 @@
 //! `asm POLICY IN OUT [--v2] [--bound N]`: assembles a source into a container without a proof.
 
 ghost use Rattle.pcc_words.specs.Commands.{asm_of, IsVersionOf};
+ghost use Rattle.pcc_stages.specs.Decisions.{Decides};
 ghost use Rattle.pcc_cli.specs.Tasks.{stage_of};
-ghost use Rattle.pcc_cli.specs.Inside.Decisions.{Decides};
+ghost use Rattle.pcc_cli.specs.Inside.Decisions.{report_exit};
 
 use crate::report::Report;
-use crate::stages::{assembled_of, policy_named, write_to};
-use crate::stop::Stop;
+use crate::stages::{assembled_of, write_to};
 use file_port::Files;
+use pcc_stages::{Stop, policy_named};
 use pcc_words::AsmArgs;
 use std::alloc::Global;
 
@@ -19,7 +20,7 @@ pub fn asm_command<'a, F: Files>(
     files: &mut F,
 ) -> Result<Report, Stop<'a>>
     requires { IsVersionOf args.bound args.version }
-    ensures { Decides (stage_of (asm_of args.entry))
+    ensures { Decides report_exit (stage_of (asm_of args.entry))
         (F.log files.old) (F.log files.new) (F.state files.old) (F.state files.new) result }
 {
     let policy = policy_named(alloc, args.policy)?;

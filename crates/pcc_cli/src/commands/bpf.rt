@@ -1,13 +1,14 @@
 //! `bpf IN OUT`: compiles a program of classic BPF to a container that is accepted under `filter`.
 
 ghost use Rattle.pcc_words.specs.Invocations.{bpf};
+ghost use Rattle.pcc_stages.specs.Decisions.{Decides};
 ghost use Rattle.pcc_cli.specs.Tasks.{stage_of};
-ghost use Rattle.pcc_cli.specs.Inside.Decisions.{Decides};
+ghost use Rattle.pcc_cli.specs.Inside.Decisions.{report_exit};
 
 use crate::report::Report;
 use crate::stages::{compiled_of, write_to};
-use crate::stop::Stop;
 use file_port::Files;
+use pcc_stages::Stop;
 use pcc_words::PathArgs;
 use std::alloc::Global;
 
@@ -19,7 +20,7 @@ pub fn bpf_command<'a, F: Files>(
     files: &mut F,
 ) -> Result<Report, Stop<'a>>
     ensures { let a = args.entry in
-        Decides (stage_of (bpf a.input.now a.output.now))
+        Decides report_exit (stage_of (bpf a.input.now a.output.now))
         (F.log files.old) (F.log files.new) (F.state files.old) (F.state files.new) result }
 {
     let container = compiled_of(alloc, args.input, files)?;

@@ -2,15 +2,16 @@
 
 ghost use Rattle.pcc_words.specs.Commands.{word_view};
 ghost use Rattle.pcc_words.specs.Invocations.{check};
+ghost use Rattle.pcc_stages.specs.Decisions.{Decides};
+ghost use Rattle.pcc_stages.specs.Answers.{Gives};
 ghost use Rattle.pcc_cli.specs.Tasks.{stage_of};
 ghost use Rattle.pcc_cli.specs.Inside.Behind.{check_under};
-ghost use Rattle.pcc_cli.specs.Inside.Decisions.{Decides, effect_of};
-ghost use Rattle.pcc_cli.specs.Inside.Gives.{Gives};
+ghost use Rattle.pcc_cli.specs.Inside.Decisions.{report_exit, effect_of};
 
 use crate::report::Report;
-use crate::stages::{accepted_of, policy_told};
-use crate::stop::Stop;
+use crate::stages::accepted_of;
 use file_port::Files;
+use pcc_stages::{Stop, policy_told};
 use pcc_words::CheckArgs;
 use policy_set::Policy;
 use std::alloc::Global;
@@ -36,7 +37,7 @@ pub fn check_command<'a, F: Files>(
     files: &mut F,
 ) -> Result<Report, Stop<'a>>
     ensures { let a = args.entry in
-        Decides (stage_of (check (word_view a.policy) a.file.now))
+        Decides report_exit (stage_of (check (word_view a.policy) a.file.now))
         (F.log files.old) (F.log files.new) (F.state files.old) (F.state files.new) result }
 {
     let policy = policy_told(alloc, args.policy, files)?;

@@ -7,20 +7,21 @@ ghost use Rattle.pcc_words.specs.Invocations.{demo};
 ghost use Rattle.demo_input.specs.declared.sources.TheConstants.{MAX_DEMO};
 ghost use Rattle.demo_input.specs.declared.packets.TheConstants.{PACKETS};
 ghost use Rattle.safe_host.specs.Runs.{outcome_of};
+ghost use Rattle.pcc_stages.specs.Answers.{GivesPure};
+ghost use Rattle.pcc_stages.specs.Decisions.{Decides};
 ghost use Rattle.pcc_cli.specs.Commands.Demo.{ones_of, count_from, packet_counts, summary_of};
 ghost use Rattle.pcc_cli.specs.Commands.Demo.{demo_container, demo_told, demo_effect};
 ghost use Rattle.pcc_cli.specs.Tasks.{stage_of};
-ghost use Rattle.pcc_cli.specs.Inside.Gives.{GivesPure};
-ghost use Rattle.pcc_cli.specs.Inside.Decisions.{Decides, effect_of};
+ghost use Rattle.pcc_cli.specs.Inside.Decisions.{report_exit, effect_of};
 ghost use Rattle.pcc_cli.specs.Inside.Shows.{shown_by};
 
 use crate::report::Report;
-use crate::stages::{accepted_in, assembled_in, policy_named, proved_in};
-use crate::stop::Stop;
+use crate::stages::{accepted_in, assembled_in, proved_in};
 use demo_input::{PACKETS, demo_packet, demo_source};
 use file_port::Files;
 use pcc_gate::Accepted;
 use pcc_lines::DemoSummary;
+use pcc_stages::{Stop, policy_named};
 use policy_set::Policy;
 use safe_host::{Ended, Host};
 use std::alloc::{AllocError, Global};
@@ -152,7 +153,7 @@ fn report<'a>(alloc: Global, policy: &Policy, n: u32) -> Result<Report, Stop<'a>
 /// Makes the source, proves it, judges it and runs it; all memory is taken before the first line.
 pub fn demo_command<'a, F: Files>(alloc: Global, n: u64, files: &mut F) -> Result<Report, Stop<'a>>
     requires { n ≤ MAX_DEMO }
-    ensures { Decides (stage_of (demo n))
+    ensures { Decides report_exit (stage_of (demo n))
         (F.log files.old) (F.log files.new) (F.state files.old) (F.state files.new) result }
 {
     let _ = files; // only the clause speaks of them

@@ -9,28 +9,29 @@ ghost use Rattle.agent_script.specs.Scripts.{load_view};
 ghost use Rattle.pcc_lines.specs.Agents.{agent_line};
 ghost use Rattle.pcc_exit.specs.Stages.{reads, gives};
 ghost use Rattle.pcc_words.specs.Invocations.{host};
-ghost use Rattle.pcc_cli.specs.Stages.Common.{refused, policy_named};
+ghost use Rattle.pcc_stages.specs.Stages.Common.{refused, policy_named};
+ghost use Rattle.pcc_stages.specs.declared.stops.Stop.TheVariants as stops;
+ghost use Rattle.pcc_stages.specs.Decisions.{Decides};
+ghost use Rattle.pcc_stages.specs.Stops.{agent_text, refused_text, end_of};
+ghost use Rattle.pcc_stages.specs.Answers.{Gives, GivesPure};
 ghost use Rattle.pcc_cli.specs.Stages.Hosting as hosting;
 ghost use Rattle.pcc_cli.specs.Stages.Judging as judging;
 ghost use Rattle.pcc_cli.specs.Commands.Host.{turn_lines};
 ghost use Rattle.pcc_cli.specs.Tasks.{stage_of};
-ghost use Rattle.pcc_cli.specs.declared.stop.Stop.TheVariants as stops;
-ghost use Rattle.pcc_cli.specs.Inside.Decisions.{Decides, agent_text, refused_text, end_of};
-ghost use Rattle.pcc_cli.specs.Inside.Gives.{Gives, GivesPure, IsOfGate};
+ghost use Rattle.pcc_cli.specs.Inside.Decisions.{report_exit};
+ghost use Rattle.pcc_cli.specs.Inside.Shows.{IsOfGate};
 ghost use Rattle.pcc_cli.specs.Inside.Standing.{HasStart, AreTurnsOf};
 ghost use Rattle.pcc_cli.specs.Inside.Turning.{AreReadyFrom, job_lines, member_view, members_view};
 
-use crate::agent_stop::AgentStop;
-use crate::refused_line::RefusedLine;
 use crate::report::Report;
-use crate::stages::{MAX_FILE, accepted_in, octets, script_of};
-use crate::stop::Stop;
+use crate::stages::{accepted_in, script_of};
 use crate::turns::TurnJob;
 use agent_host::{AgentHost, part_base};
 use agent_script::{Load, Script, Turn};
 use file_port::{Files, Got};
 use packet_store::{PacketFile, start_at};
 use pcc_gate::Accepted;
+use pcc_stages::{AgentStop, MAX_FILE, RefusedLine, Stop, octets};
 use policy_set::{Policy, by_name};
 use std::alloc::{AllocError, Global};
 
@@ -278,7 +279,7 @@ pub fn host_command<'a, F: Files>(
     script: &'a str,
     files: &mut F,
 ) -> Result<Report, Stop<'a>>
-    ensures { Decides (stage_of (host script.entry.now))
+    ensures { Decides report_exit (stage_of (host script.entry.now))
         (F.log files.old) (F.log files.new) (F.state files.old) (F.state files.new) result }
 {
     let said = script_of(alloc, script, files)?;

@@ -1,13 +1,14 @@
 //! `prove POLICY IN OUT`: makes of a container one with a proof.
 
 ghost use Rattle.pcc_words.specs.Invocations.{prove};
+ghost use Rattle.pcc_stages.specs.Decisions.{Decides};
 ghost use Rattle.pcc_cli.specs.Tasks.{stage_of};
-ghost use Rattle.pcc_cli.specs.Inside.Decisions.{Decides};
+ghost use Rattle.pcc_cli.specs.Inside.Decisions.{report_exit};
 
 use crate::report::Report;
-use crate::stages::{policy_named, proved_of, write_to};
-use crate::stop::Stop;
+use crate::stages::{proved_of, write_to};
 use file_port::Files;
+use pcc_stages::{Stop, policy_named};
 use pcc_words::CopyArgs;
 use std::alloc::Global;
 
@@ -19,7 +20,7 @@ pub fn prove_command<'a, F: Files>(
     files: &mut F,
 ) -> Result<Report, Stop<'a>>
     ensures { let a = args.entry in
-        Decides (stage_of (prove a.policy.now a.input.now a.output.now))
+        Decides report_exit (stage_of (prove a.policy.now a.input.now a.output.now))
         (F.log files.old) (F.log files.new) (F.state files.old) (F.state files.new) result }
 {
     let policy = policy_named(alloc, args.policy)?;

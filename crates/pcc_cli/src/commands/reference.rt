@@ -2,14 +2,14 @@
 //! that tests every access.
 
 ghost use Rattle.pcc_words.specs.Invocations.{ref};
+ghost use Rattle.pcc_stages.specs.Decisions.{Decides};
 ghost use Rattle.pcc_cli.specs.Tasks.{stage_of};
-ghost use Rattle.pcc_cli.specs.Inside.Decisions.{Decides};
+ghost use Rattle.pcc_cli.specs.Inside.Decisions.{report_exit};
 
 use crate::report::{Job, Report};
-use crate::stages::{code_of, packets_of, policy_named};
-use crate::stop::Stop;
 use file_port::Files;
 use packet_store::TestingRunner;
+use pcc_stages::{Stop, code_of, packets_of, policy_named};
 use pcc_words::RunArgs;
 use std::alloc::Global;
 
@@ -20,7 +20,7 @@ pub fn ref_command<'a, F: Files>(
     files: &mut F,
 ) -> Result<Report, Stop<'a>>
     ensures { let a = args.entry in
-        Decides (stage_of (ref a.policy.now a.file.now a.packets.now a.steps))
+        Decides report_exit (stage_of (ref a.policy.now a.file.now a.packets.now a.steps))
         (F.log files.old) (F.log files.new) (F.state files.old) (F.state files.new) result }
 {
     let policy = policy_named(alloc, args.policy)?;

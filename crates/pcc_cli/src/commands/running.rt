@@ -5,16 +5,17 @@ ghost use Rattle.std.specs.Prelude.{◌≡◌, Some, IfSome};
 ghost use Rattle.packet_store.specs.Results.{packet_result};
 ghost use Rattle.safe_host.specs.Runners.{host_results};
 ghost use Rattle.pcc_words.specs.Invocations.{run};
+ghost use Rattle.pcc_stages.specs.Decisions.{Decides};
+ghost use Rattle.pcc_stages.specs.Answers.{Gives};
 ghost use Rattle.pcc_cli.specs.Tasks.{stage_of};
 ghost use Rattle.pcc_cli.specs.Inside.Behind.{results_on, run_under};
-ghost use Rattle.pcc_cli.specs.Inside.Decisions.{Decides, effect_of};
-ghost use Rattle.pcc_cli.specs.Inside.Gives.{Gives};
+ghost use Rattle.pcc_cli.specs.Inside.Decisions.{report_exit, effect_of};
 
 use crate::report::{Job, Report};
-use crate::stages::{accepted_of, packets_of, policy_named};
-use crate::stop::Stop;
+use crate::stages::accepted_of;
 use file_port::Files;
 use pcc_gate::Accepted;
+use pcc_stages::{Stop, packets_of, policy_named};
 use pcc_words::RunArgs;
 use policy_set::Policy;
 use safe_host::{Host, HostRunner};
@@ -76,7 +77,7 @@ pub fn run_command<'a, F: Files>(
     files: &mut F,
 ) -> Result<Report, Stop<'a>>
     ensures { let a = args.entry in
-        Decides (stage_of (run a.policy.now a.file.now a.packets.now a.steps))
+        Decides report_exit (stage_of (run a.policy.now a.file.now a.packets.now a.steps))
         (F.log files.old) (F.log files.new) (F.state files.old) (F.state files.new) result }
 {
     let policy = policy_named(alloc, args.policy)?;

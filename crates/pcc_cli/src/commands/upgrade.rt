@@ -1,13 +1,14 @@
 //! `upgrade IN OUT`: makes of a container of version 1 one of version 2.
 
 ghost use Rattle.pcc_words.specs.Invocations.{upgrade};
+ghost use Rattle.pcc_stages.specs.Decisions.{Decides};
 ghost use Rattle.pcc_cli.specs.Tasks.{stage_of};
-ghost use Rattle.pcc_cli.specs.Inside.Decisions.{Decides};
+ghost use Rattle.pcc_cli.specs.Inside.Decisions.{report_exit};
 
 use crate::report::Report;
 use crate::stages::{upgraded_of, write_to};
-use crate::stop::Stop;
 use file_port::Files;
+use pcc_stages::Stop;
 use pcc_words::PathArgs;
 use std::alloc::Global;
 
@@ -19,7 +20,7 @@ pub fn upgrade_command<'a, F: Files>(
     files: &mut F,
 ) -> Result<Report, Stop<'a>>
     ensures { let a = args.entry in
-        Decides (stage_of (upgrade a.input.now a.output.now))
+        Decides report_exit (stage_of (upgrade a.input.now a.output.now))
         (F.log files.old) (F.log files.new) (F.state files.old) (F.state files.new) result }
 {
     let container = upgraded_of(alloc, args.input, files)?;

@@ -1,8 +1,7 @@
 -- What a walk over a table's ids keeps: words of the private functions.
-use Rattle.std.specs.Prelude.{◌≡◌, ℕ, ◌+◌, ◌*◌, ◌<◌, ◌≤◌, true, IfSome, if◌then◌else◌, List, [], ◌∷◌, ◌++◌, map, reverse, length, get_or, Option, Some, None}
-use Rattle.std.specs.Option.{option_map}
+use Rattle.std.specs.Prelude.{◌≡◌, ℕ, ◌+◌, ◌*◌, ◌<◌, ◌≤◌, true, IfSome, List, [], ◌∷◌, ◌++◌, map, reverse, length, get_or, Option, Some, None}
 use Rattle.term_table.specs.Tree.{Tree, Var, Con, App, Lam, Fam, TApp, Pi}
-use Rattle.term_table.specs.Table.{TableView, AllKnown, IsKnown, tree_at, id_trees}
+use Rattle.term_table.specs.Table.{TableView, IsKnown, tree_at}
 use Rattle.term_table.specs.declared.Node.{Node}
 use Rattle.term_table.specs.declared.Node.TheVariants as N
 use Rattle.proof_container.specs.declared.container.View.{View}
@@ -12,32 +11,10 @@ use Rattle.proof_container.specs.declared.walk.Step.TheVariants.{Enter, Leave}
 use Rattle.proof_container.specs.declared.limits.TheConstants.{MAX_ENTRIES, MAX_INVS}
 use Rattle.lf_lemmas.specs.Tables.{lemmas_in, LemmasKnown}
 use Rattle.proof_container.specs.Versions.{AreLemmasOf}
-use Rattle.proof_container.specs.Contents.{one_or_none, lemma_roots}
+use Rattle.proof_container.specs.Contents.{lemma_roots}
+use Rattle.proof_container.specs.Walks.{IsLeft}
 use Rattle.proof_container.specs.Postorder.{is_emitted, unless_emitted, emitted_with, HasPartsFirst, AreEmitted}
-use Rattle.proof_container.specs.Encoding.{entry_number}
 use Rattle.proof_container.specs.Views.{AreKnown}
-
--- the trees of the roots: the invariants in order, then each lemma's formula and proof, then the
--- proof
-abbrev pub root_trees : TableView → List (ℕ × ℕ) → List (ℕ × ℕ) → Option ℕ → List Tree
-root_trees t invs lemmas proof =
-    map (λ p. p.1) (id_trees t invs)
-    ++ (lemma_roots (lemmas_in t lemmas) ++ one_or_none (option_map (tree_at t) proof))
-
--- the number of a tree among those that were left, if it was left
-abbrev pub mark : List Tree → Tree → Option ℕ
-mark ts t = if is_emitted t ts then Some (entry_number ts t) else None
-
--- each id of the table has its tree's mark
-pub record AreMarks (t : TableView) (ts : List Tree) (marks : List (Option ℕ)) : Type 0 where
-  pub count : length marks ≡ length t.trees
-  pub at : (id : ℕ) → id < length t.trees → get_or marks id None ≡ mark ts (tree_at t id)
-
--- the ids were left, whose trees these are
-pub record IsLeft (t : TableView) (ts : List Tree) (w : Walk) : Type 0 where
-  pub known : AllKnown t w.left.items
-  pub left : map (tree_at t) w.left.items ≡ ts
-  pub marks : AreMarks t ts w.numbers.items
 
 -- the walk left the id e as the e-th
 abbrev pub IsPlaced : List ℕ → ℕ → Type 0

@@ -1,9 +1,9 @@
 use Rattle.std.proofs.Common.{ℕ, List, Vec, Global, subst}
 use Rattle.pcc_gate.specs.Views.{AcceptedView}
-use Rattle.pcc_cli.specs.Stages.Containers.{container_bytes_of}
+use Rattle.pcc_stages.specs.Stages.Containers.{container_bytes_of}
+use Rattle.pcc_stages.specs.Answers.{GivesPure}
+use Rattle.pcc_stages.proofs.StageLemmas.{lifted, stops_first, gives_then}
 use Rattle.pcc_cli.specs.Stages.Judging.{accepted_in, accepted_of, accepted_code_in, accepted_code_of}
-use Rattle.pcc_cli.specs.Inside.Gives.{GivesPure}
-use Rattle.pcc_cli.proofs.StageLemmas.{lifted, stops_first, gives_then}
 use Rattle.pcc_cli.proofs.stages.accepted_of.Goals as goal
 
 pub returns-in_err-bytes-clause-exact : goal.returns-in_err-bytes-clause-exact

@@ -1,7 +1,7 @@
 use Rattle.std.proofs.Common.{ℕ, Vec, Global}
 use Rattle.asm_text.specs.Views.{source_view}
+use Rattle.pcc_stages.proofs.StageLemmas.{pure_stops, pure_gives}
 use Rattle.pcc_cli.specs.Stages.Assembling.{source_in, assembled_as, assembled_in}
-use Rattle.pcc_cli.proofs.StageLemmas.{pure_stops, pure_gives}
 use Rattle.pcc_cli.proofs.stages.assembled_in.Goals as goal
 
 pub returns-in-Err : goal.returns-in-Err

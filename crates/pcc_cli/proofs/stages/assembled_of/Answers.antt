@@ -1,7 +1,7 @@
 use Rattle.std.proofs.Common.{ℕ, List, Vec, Global, subst}
+use Rattle.pcc_stages.specs.Answers.{GivesPure}
+use Rattle.pcc_stages.proofs.StageLemmas.{lifted, stops_first, gives_then}
 use Rattle.pcc_cli.specs.Stages.Assembling.{source_text_of, assembled_in, assembled_of}
-use Rattle.pcc_cli.specs.Inside.Gives.{GivesPure}
-use Rattle.pcc_cli.proofs.StageLemmas.{lifted, stops_first, gives_then}
 use Rattle.pcc_cli.proofs.stages.assembled_of.Goals as goal
 
 pub returns-in_err-text : goal.returns-in_err-text

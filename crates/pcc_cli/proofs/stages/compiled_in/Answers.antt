@@ -1,8 +1,8 @@
 use Rattle.std.proofs.Common.{ℕ, List, Vec, Global, subst}
 use Rattle.bpf_words.specs.declared.insn.Bpf.{Bpf}
+use Rattle.pcc_stages.specs.Answers.{GivesPure}
+use Rattle.pcc_stages.proofs.StageLemmas.{pure_stops, pure_gives}
 use Rattle.pcc_cli.specs.Stages.Compiling.{program_in, compiled_as, compiled_in}
-use Rattle.pcc_cli.specs.Inside.Gives.{GivesPure}
-use Rattle.pcc_cli.proofs.StageLemmas.{pure_stops, pure_gives}
 use Rattle.pcc_cli.proofs.stages.compiled_in.Goals as goal
 
 pub returns-in-Err : goal.returns-in-Err

@@ -1,7 +1,7 @@
 use Rattle.std.proofs.Common.{ℕ, List, Vec, Global, subst}
+use Rattle.pcc_stages.specs.Answers.{GivesPure}
+use Rattle.pcc_stages.proofs.StageLemmas.{lifted, stops_first, gives_then}
 use Rattle.pcc_cli.specs.Stages.Compiling.{program_bytes_of, compiled_in, compiled_of}
-use Rattle.pcc_cli.specs.Inside.Gives.{GivesPure}
-use Rattle.pcc_cli.proofs.StageLemmas.{lifted, stops_first, gives_then}
 use Rattle.pcc_cli.proofs.stages.compiled_of.Goals as goal
 
 pub returns-in_err-bytes : goal.returns-in_err-bytes

@@ -1,8 +1,8 @@
 use Rattle.std.proofs.Common.{ℕ, List, Vec, Global, subst}
-use Rattle.pcc_cli.specs.Stages.Containers.{container_bytes_of}
+use Rattle.pcc_stages.specs.Stages.Containers.{container_bytes_of}
+use Rattle.pcc_stages.specs.Answers.{GivesPure}
+use Rattle.pcc_stages.proofs.StageLemmas.{lifted, stops_first, gives_then}
 use Rattle.pcc_cli.specs.Stages.Proving.{proved_in, proved_of}
-use Rattle.pcc_cli.specs.Inside.Gives.{GivesPure}
-use Rattle.pcc_cli.proofs.StageLemmas.{lifted, stops_first, gives_then}
 use Rattle.pcc_cli.proofs.stages.proved_of.Goals as goal
 
 pub returns-in_err-bytes : goal.returns-in_err-bytes

@@ -1,10 +1,11 @@
 use Rattle.std.proofs.Common.{map, string_bytes}
 use Rattle.pcc_words.specs.Invocations.{command_of}
 use Rattle.pcc_exit.specs.Runs.{Runs}
-use Rattle.pcc_cli.specs.Texts.{texts}
+use Rattle.pcc_stages.specs.Texts.{texts}
+use Rattle.pcc_stages.proofs.DecisionLemmas.{runs_of_decision}
 use Rattle.pcc_cli.specs.Tasks.{task_of}
+use Rattle.pcc_cli.specs.Inside.Decisions.{report_exit}
 use Rattle.pcc_cli.proofs.CompileLemmas.{programs-compile}
-use Rattle.pcc_cli.proofs.DecisionLemmas.{runs_of_decision}
 use Rattle.pcc_cli.proofs.HeadlineLemmas.{means, runs_safely, stays_in_parts, bounded_returns}
 use Rattle.pcc_cli.proofs.top_call.pcc.Goals as goal
 
@@ -13,7 +14,8 @@ returns g c =
     let words = map string_bytes c.args.words.items in
     let runs : Runs texts (task_of words).stage (g.F.Files.log c.args.files.now) (g.F.Files.log c.decide-decision.new.files) (g.F.Files.state c.args.files.now) (g.F.Files.state c.decide-decision.new.files)
     (g.S.Sink.state c.args.out.now) (g.S.Sink.state c.print.new.out) c.print.result =
-    rw (← c.as_slice.ensures.value) (runs_of_decision _ _ _ _ _ _ _ c.print.result c.decide-decision.result c.decide-decision.ensures c.print.ensures) in
+    rw (← c.as_slice.ensures.value)
+    (runs_of_decision _ _ _ c.print.result report_exit _ _ _ _ c.decide-decision.result c.decide-decision.ensures c.print.ensures) in
     record {
       runs = runs;
       means =

@@ -1,6 +1,7 @@
 use Rattle.std.proofs.Common.{◌≡◌, ◌++◌, ◌∷◌, [], length, replicate, None, rules, subst}
 use Rattle.proof_container.specs.Postorder.{entries}
-use Rattle.proof_container.specs.Inside.Walked.{IsUnderWay, root_trees}
+use Rattle.proof_container.specs.Inside.Walked.{IsUnderWay}
+use Rattle.proof_container.specs.Walks.{root_trees}
 use Rattle.proof_container.proofs.Walking.{begins, last_known}
 use Rattle.proof_container.proofs.walk.walk_from.Goals as goal
 

@@ -1,5 +1,6 @@
 use Rattle.proof_container.specs.Postorder.{entries}
-use Rattle.proof_container.specs.Inside.Walked.{IsUnderWay, root_trees, steps_cost}
+use Rattle.proof_container.specs.Inside.Walked.{IsUnderWay, steps_cost}
+use Rattle.proof_container.specs.Walks.{root_trees}
 use Rattle.proof_container.proofs.walk.walk_from.Given as goal
 
 abbrev pub invariant-loop-step : goal.invariant-loop-step

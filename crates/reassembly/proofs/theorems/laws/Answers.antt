@@ -6,8 +6,8 @@ use Rattle.alpha_words.specs.declared.insn.Insn.{Insn}
 use Rattle.policy_set.specs.Views.{PolicyView}
 use Rattle.proof_container.specs.Versions.{profile_of}
 use Rattle.pcc_asm.specs.Assembling.{plain_contents, assembled_code, assembled_contents}
-use Rattle.source_text.specs.Listing.{code_text, code_source}
-use Rattle.source_text.specs.Laws.{IsSpellableCode}
+use Rattle.source_text.specs.Listing.{no_extras, code_text, code_source}
+use Rattle.source_text.specs.Laws.{IsSpellableCode, AreSpellableExtras}
 use Rattle.reassembly.proofs.Assembled.{code_is, contents_are, plain_without, one_source}
 use Rattle.reassembly.proofs.Words.{words_are}
 use Rattle.reassembly.proofs.theorems.laws.Goals as goal
@@ -18,12 +18,14 @@ returns c =
     let label = c.laws-2.ensures in
     let print = c.laws-3.ensures in
     let assemble = c.laws-4.ensures in
+    let none : AreSpellableExtras no_extras = record { comments = tt; hints = tt; notes = tt } in
     let back : (p : Profile) (left : Bool) (code : List Insn) (invs : List (ℕ × Form))
     → IsSpellableCode p left code invs → assembled_code p (code_source code invs) ≡ Ok code =
     λ p left code invs h.
     let s = code_source code invs in
-    code_is label.one_label p left code (code_text code invs) s
-    (assemble.assembled p left s code) (print.spells p left code invs h) h.is_code h.of_profile
+    code_is label.one_label p left code (code_text no_extras code invs) s
+    (assemble.assembled p left s code) (print.spells p left code invs no_extras h none)
+    h.is_code h.of_profile
     (record { insns = print.insns code invs; labels = print.labels code invs }) in
     let held : (v : ℕ) (bound : Option ℕ) (policy : PolicyView) (code : List Insn)
     (invs : List (ℕ × Form)) → IsSpellableCode (profile_of v) (is_some bound) code invs
@@ -34,9 +36,9 @@ returns c =
     (print.invs code invs h.belong) (back (profile_of v) (is_some bound) code invs h) in
     record {
       source =
-          λ p left code invs s h.
-          one_source p left (code_text code invs) (code_source code invs)
-          (parse.sources p left (code_text code invs)) (print.spells p left code invs h) s;
+          λ p left code invs x s h g.
+          one_source p left (code_text x code invs) (code_source code invs)
+          (parse.sources p left (code_text x code invs)) (print.spells p left code invs x h g) s;
       code = back;
       contents = held;
       container =

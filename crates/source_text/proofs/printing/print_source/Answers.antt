@@ -1,23 +1,16 @@
-use Rattle.std.proofs.Common.{◌<◌, false, length, drop, ◌∙◌, arith}
-use Rattle.std.proofs.lemmas.List.{get_or_read}
-use Rattle.source_text.specs.Targets.{is_target}
-use Rattle.source_text.specs.Listing.{code_text}
-use Rattle.source_text.specs.Views.{invs_view}
-use Rattle.source_text.proofs.Places.{next_lines}
+use Rattle.std.proofs.Common.{◌++◌, map, sym, ap, ◌∙◌}
+use Rattle.source_text.specs.Listing.{Note, insn_lines, lines_text}
+use Rattle.source_text.specs.Views.{invs_view, extras_view}
+use Rattle.source_text.proofs.Places.{lines_text-append}
 use Rattle.source_text.proofs.printing.print_source.Goals as goal
 
-pub loop-i-preserved : goal.loop-i-preserved
-loop-i-preserved c =
+pub returns : goal.returns
+returns c =
+    let x = extras_view c.args.extras.now in
     let code = c.args.insns.now in
     let views = invs_view c.args.invs.now in
-    let flags = c.in_ok-flags.flags.items in
-    let within : c.loop-i.i < length flags = omega (arith, c.in_ok-flags.ensures.length) in (
-      c.in_ok-next.ensures.within,
-      next_lines (is_target code) code
-          (drop c.loop-i.next views) _ c.loop-i.i c.index-insns-i.result c.index.result.now
-          c.loop-i.out.items _ _ _ (code_text code views) c.loop-i-test.true c.index-insns-i.is
-          (get_or_read flags c.loop-i.i _ within c.index.ensures false
-          ∙ c.in_ok-flags.ensures.exact c.loop-i.i)
-          c.in_ok-next.ensures.behind c.in_ok-push_label_line.ensures c.in_ok-next.ensures.text
-          c.in_ok-push_insn_line.ensures c.loop-i.invariant.1,
-    )
+    record {
+      exact = c.in_ok-push_notes.ensures
+          ∙ ap (λ l. l ++ lines_text (map Note x.notes)) c.in_ok-out.ensures
+          ∙ sym (lines_text-append (insn_lines x code views) (map Note x.notes));
+    }

@@ -1,15 +1,24 @@
+use Rattle.std.proofs.Common.{arith}
 use Rattle.source_text.proofs.Sourced.{insns_of, labels_of, invs_of, source_spelled}
 use Rattle.source_text.proofs.theorems.laws.Goals as goal
 
 pub returns : goal.returns
-returns c = record {
-  spells = λ p left code invs h. source_spelled p left
-      (λ F w u b. c.laws.ensures.printed p left F w u b)
-      (λ i insn e g. c.laws-2.ensures.spells p i insn e g)
-      c.laws-2.ensures.printable c.laws-2.ensures.comment c.laws-2.ensures.short
-      c.laws-2.ensures.label c.laws-2.ensures.one_label c.laws-2.ensures.code
-      code invs h;
-  insns = insns_of;
-  labels = labels_of;
-  invs = invs_of;
-}
+returns c =
+    let insn = c.laws-2.ensures in
+    record {
+      spells = λ p left code invs x h g. source_spelled p left
+          (λ F w u b. c.laws.ensures.printed p left F w u b)
+          (λ i y e can. let s = insn.spells p i y e can in
+          record {
+            tokens = s.0;
+            consists = s.1;
+            spelled = s.2;
+            printable = insn.printable i y can;
+            whole = insn.comment i y can;
+            short = omega (arith, insn.short i y can);
+          })
+          insn.label insn.one_label insn.code code invs x h g;
+      insns = insns_of;
+      labels = labels_of;
+      invs = invs_of;
+    }

@@ -1,12 +1,14 @@
 use Rattle.std.proofs.Common.{ℕ, List, Vec, Global, subst}
 use Rattle.pcc_exit.specs.Stages.{◌>>=◌}
-use Rattle.pcc_cli.specs.Stages.Common.{policy_named, writing}
+use Rattle.pcc_stages.specs.Stages.Common.{policy_named}
+use Rattle.pcc_stages.proofs.StageLemmas.{stops_first}
+use Rattle.pcc_stages.proofs.DecisionLemmas.{no_policy, under_policy}
+use Rattle.pcc_cli.specs.Stages.Writing.{writing}
 use Rattle.pcc_cli.specs.Stages.Assembling.{assembled_of}
 use Rattle.pcc_cli.specs.Commands.Assemble.{asm_command}
 use Rattle.pcc_cli.specs.Inside.Decisions.{effect_of}
-use Rattle.pcc_cli.specs.Inside.Gives.{Wrote}
-use Rattle.pcc_cli.proofs.StageLemmas.{stops_first}
-use Rattle.pcc_cli.proofs.DecisionLemmas.{no_policy, under_policy, decides_report, decides_copy}
+use Rattle.pcc_cli.specs.Inside.Writes.{Wrote}
+use Rattle.pcc_cli.proofs.DecisionLemmas.{decides_report, decides_copy}
 use Rattle.pcc_cli.proofs.commands.assemble.asm_command.Goals as goal
 
 pub returns-in_err-policy : goal.returns-in_err-policy

@@ -1,11 +1,11 @@
 use Rattle.policy_set.specs.Views.{PolicyView}
 use Rattle.pcc_exit.specs.Stages.{◌>>=◌}
 use Rattle.pcc_words.specs.Commands.{word_view}
-use Rattle.pcc_cli.specs.Stages.Policies.{policy_told}
+use Rattle.pcc_stages.specs.Stages.Policies.{policy_told}
+use Rattle.pcc_stages.proofs.StageLemmas.{stops_first, gives_then}
 use Rattle.pcc_cli.specs.Commands.Check.{check_command}
 use Rattle.pcc_cli.specs.Inside.Behind.{check_under}
 use Rattle.pcc_cli.specs.Inside.Decisions.{effect_of}
-use Rattle.pcc_cli.proofs.StageLemmas.{stops_first, gives_then}
 use Rattle.pcc_cli.proofs.DecisionLemmas.{decides_report}
 use Rattle.pcc_cli.proofs.commands.check.check_command.Goals as goal
 

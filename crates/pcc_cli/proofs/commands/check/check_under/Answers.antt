@@ -1,11 +1,11 @@
 use Rattle.std.proofs.Common.{Ok, refl}
 use Rattle.pcc_gate.specs.Views.{AcceptedView}
 use Rattle.pcc_lines.specs.Fixed.{accepted_line}
-use Rattle.pcc_cli.specs.Stages.Common.{printing}
+use Rattle.pcc_stages.specs.Stages.Common.{printing}
+use Rattle.pcc_stages.proofs.StageLemmas.{lifted, stops_first, gives_then}
 use Rattle.pcc_cli.specs.Stages.Judging.{accepted_of}
 use Rattle.pcc_cli.specs.Inside.Decisions.{effect_of}
 use Rattle.pcc_cli.specs.declared.report.Report.TheVariants.{Accepted}
-use Rattle.pcc_cli.proofs.StageLemmas.{lifted, stops_first, gives_then}
 use Rattle.pcc_cli.proofs.commands.check.check_under.Goals as goal
 
 pub returns-in_err-accepted_of : goal.returns-in_err-accepted_of

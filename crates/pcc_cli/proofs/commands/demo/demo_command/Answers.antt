@@ -1,8 +1,9 @@
-use Rattle.pcc_cli.specs.Stages.Common.{policy_named}
+use Rattle.pcc_stages.specs.Stages.Common.{policy_named}
+use Rattle.pcc_stages.proofs.StageLemmas.{lifted}
+use Rattle.pcc_stages.proofs.DecisionLemmas.{no_policy, under_policy}
 use Rattle.pcc_cli.specs.Commands.Demo.{demo_effect, demo_policy, demo_command}
 use Rattle.pcc_cli.specs.Inside.Decisions.{effect_of}
-use Rattle.pcc_cli.proofs.StageLemmas.{lifted}
-use Rattle.pcc_cli.proofs.DecisionLemmas.{no_policy, under_policy, decides_report}
+use Rattle.pcc_cli.proofs.DecisionLemmas.{decides_report}
 use Rattle.pcc_cli.proofs.commands.demo.demo_command.Goals as goal
 
 pub returns-in_err-policy : goal.returns-in_err-policy

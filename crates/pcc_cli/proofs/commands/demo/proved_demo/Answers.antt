@@ -1,12 +1,12 @@
 use Rattle.std.proofs.Common.{◌≡◌, ℕ, List, None, Vec, Global, ◌∙◌, subst}
 use Rattle.demo_input.specs.Sources.{demo_source}
 use Rattle.pcc_exit.specs.Stages.{gives}
+use Rattle.pcc_stages.specs.Stops.{end_of}
+use Rattle.pcc_stages.specs.Answers.{StopsAs, GivesPure}
+use Rattle.pcc_stages.proofs.StageLemmas.{pure_stops, pure_gives}
 use Rattle.pcc_cli.specs.Stages.Assembling.{assembled_in}
 use Rattle.pcc_cli.specs.Stages.Proving.{proved_in}
 use Rattle.pcc_cli.specs.Commands.Demo.{demo_container}
-use Rattle.pcc_cli.specs.Inside.Decisions.{end_of}
-use Rattle.pcc_cli.specs.Inside.Gives.{StopsAs, GivesPure}
-use Rattle.pcc_cli.proofs.StageLemmas.{pure_stops, pure_gives}
 use Rattle.pcc_cli.proofs.commands.demo.proved_demo.Goals as goal
 
 pub returns-in-Err : goal.returns-in-Err

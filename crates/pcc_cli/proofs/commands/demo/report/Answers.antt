@@ -1,9 +1,9 @@
 use Rattle.std.proofs.Common.{ap}
 use Rattle.pcc_lines.specs.Demo.{demo_lines}
 use Rattle.pcc_exit.specs.Stages.{◌>>=◌}
-use Rattle.pcc_cli.specs.Stages.Common.{printing}
+use Rattle.pcc_stages.specs.Stages.Common.{printing}
+use Rattle.pcc_stages.proofs.StageLemmas.{pure_stops}
 use Rattle.pcc_cli.specs.Commands.Demo.{demo_told, demo_effect}
-use Rattle.pcc_cli.proofs.StageLemmas.{pure_stops}
 use Rattle.pcc_cli.proofs.commands.demo.report.Goals as goal
 
 pub returns-in-Ok : goal.returns-in-Ok

@@ -2,12 +2,12 @@ use Rattle.std.proofs.Common.{◌≡◌, ℕ, List, Err, ◌∙◌, ap, sym, sub
 use Rattle.policy_set.specs.Views.{PolicyView}
 use Rattle.pcc_lines.specs.declared.demo.DemoSummary.{DemoSummary}
 use Rattle.pcc_exit.specs.Stages.{gives, ◌>>=◌}
+use Rattle.pcc_stages.specs.Stops.{end_of}
+use Rattle.pcc_stages.specs.Answers.{StopsAs}
+use Rattle.pcc_stages.proofs.StageLemmas.{pure_stops, pure_gives}
 use Rattle.pcc_cli.specs.Stages.Judging.{shown_in}
 use Rattle.pcc_cli.specs.Commands.Demo.{demo_container, demo_told, summary_of}
-use Rattle.pcc_cli.specs.Inside.Decisions.{end_of}
-use Rattle.pcc_cli.specs.Inside.Gives.{StopsAs}
 use Rattle.pcc_cli.specs.Inside.Shows.{shown_by}
-use Rattle.pcc_cli.proofs.StageLemmas.{pure_stops, pure_gives}
 use Rattle.pcc_cli.proofs.commands.demo.told.Goals as goal
 
 pub returns-in-Err : goal.returns-in-Err

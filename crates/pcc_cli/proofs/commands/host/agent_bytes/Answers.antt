@@ -2,11 +2,11 @@ use Rattle.std.proofs.Common.{ℕ, List, Ok, Err, Vec, Global, refl, subst, stri
 use Rattle.file_port.specs.Events.{whole, missing, too_long, failed, no_memory}
 use Rattle.pcc_lines.specs.Agents.{agent_line}
 use Rattle.pcc_exit.specs.Stages.{gives}
-use Rattle.pcc_cli.specs.declared.stages.TheConstants.{MAX_FILE}
-use Rattle.pcc_cli.specs.declared.refused_line.RefusedLine.TheVariants.{OfAgent}
-use Rattle.pcc_cli.specs.declared.stop.Stop.TheVariants.{Refused, MissingOfScript, ReadFaultOfScript, Memory}
-use Rattle.pcc_cli.specs.Stages.Common.{refused}
-use Rattle.pcc_cli.specs.Inside.Decisions.{agent_text}
+use Rattle.pcc_stages.specs.declared.files.TheConstants.{MAX_FILE}
+use Rattle.pcc_stages.specs.declared.refused_line.RefusedLine.TheVariants.{OfAgent}
+use Rattle.pcc_stages.specs.declared.stops.Stop.TheVariants.{Refused, MissingOfScript, ReadFaultOfScript, Memory}
+use Rattle.pcc_stages.specs.Stages.Common.{refused}
+use Rattle.pcc_stages.specs.Stops.{agent_text}
 use Rattle.pcc_cli.proofs.AgentLemmas.{read_named}
 use Rattle.pcc_cli.proofs.commands.host.agent_bytes.Goals as goal
 

@@ -3,12 +3,12 @@ use Rattle.pcc_gate.specs.Views.{AcceptedView}
 use Rattle.pcc_lines.specs.Agents.{agent_line}
 use Rattle.pcc_lines.specs.Fixed.{container_too_long_line}
 use Rattle.pcc_exit.specs.Stages.{Stage, reads, gives}
-use Rattle.pcc_cli.specs.declared.stages.TheConstants.{MAX_FILE}
-use Rattle.pcc_cli.specs.Stages.Common.{refused}
+use Rattle.pcc_stages.specs.declared.files.TheConstants.{MAX_FILE}
+use Rattle.pcc_stages.specs.Stages.Common.{refused}
+use Rattle.pcc_stages.specs.Answers.{GivesPure}
+use Rattle.pcc_stages.proofs.StageLemmas.{lifted, stops_first, gives_then}
 use Rattle.pcc_cli.specs.Stages.Judging.{accepted_code_in, accepted_code_of}
 use Rattle.pcc_cli.specs.Stages.Hosting.{for_agent}
-use Rattle.pcc_cli.specs.Inside.Gives.{GivesPure}
-use Rattle.pcc_cli.proofs.StageLemmas.{lifted, stops_first, gives_then}
 use Rattle.pcc_cli.proofs.AgentLemmas.{told-gives, told-stops}
 use Rattle.pcc_cli.proofs.commands.host.agent_code.Goals as goal
 

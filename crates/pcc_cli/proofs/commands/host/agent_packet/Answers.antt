@@ -4,15 +4,15 @@ use Rattle.packet_store.specs.PacketDecoding.{decoded_packets}
 use Rattle.pcc_lines.specs.Agents.{agent_line}
 use Rattle.pcc_lines.specs.Fixed.{packets_too_long_line}
 use Rattle.pcc_exit.specs.Stages.{Stage, reads, gives, ◌>>=◌}
-use Rattle.pcc_cli.specs.declared.agent_stop.AgentStop.TheVariants.{BadPackets}
-use Rattle.pcc_cli.specs.declared.stages.TheConstants.{MAX_FILE}
-use Rattle.pcc_cli.specs.declared.refused_line.RefusedLine.TheVariants.{OfAgent}
-use Rattle.pcc_cli.specs.declared.stop.Stop.TheVariants.{Refused}
-use Rattle.pcc_cli.specs.Stages.Common.{refused}
-use Rattle.pcc_cli.specs.Stages.Packets.{packets_found, packets_in, packets_of}
+use Rattle.pcc_stages.specs.declared.agent_stop.AgentStop.TheVariants.{BadPackets}
+use Rattle.pcc_stages.specs.declared.files.TheConstants.{MAX_FILE}
+use Rattle.pcc_stages.specs.declared.refused_line.RefusedLine.TheVariants.{OfAgent}
+use Rattle.pcc_stages.specs.declared.stops.Stop.TheVariants.{Refused}
+use Rattle.pcc_stages.specs.Stages.Common.{refused}
+use Rattle.pcc_stages.specs.Stages.Packets.{packets_found, packets_in, packets_of}
+use Rattle.pcc_stages.specs.Answers.{GivesPure}
+use Rattle.pcc_stages.proofs.StageLemmas.{lifted, stops_first, gives_then}
 use Rattle.pcc_cli.specs.Stages.Hosting.{for_agent, first_packet, packet_of}
-use Rattle.pcc_cli.specs.Inside.Gives.{GivesPure}
-use Rattle.pcc_cli.proofs.StageLemmas.{lifted, stops_first, gives_then}
 use Rattle.pcc_cli.proofs.commands.host.agent_packet.Goals as goal
 
 -- the bytes of the agent's packet file

@@ -1,7 +1,7 @@
 use Rattle.std.proofs.Common.{◌≡◌, ℕ, List, [], ◌∷◌, Vec, Global, sym, ◌∙◌, ap, subst}
 use Rattle.packet_store.specs.Packets.{AreShort}
+use Rattle.pcc_stages.specs.Answers.{GivesPure}
 use Rattle.pcc_cli.specs.Stages.Hosting.{for_agent, first_packet}
-use Rattle.pcc_cli.specs.Inside.Gives.{GivesPure}
 use Rattle.pcc_cli.proofs.commands.host.first_packet.Goals as goal
 
 pub whole_packet-requires : goal.whole_packet-requires

@@ -3,15 +3,15 @@ use Rattle.std.proofs.lemmas.List.{length-map}
 use Rattle.agent_script.specs.Scripts.{ScriptView, load_view, script_view}
 use Rattle.pcc_exit.specs.Stages.{Stage, ◌>>=◌}
 use Rattle.pcc_exit.specs.Runs.{Effect}
+use Rattle.pcc_stages.specs.declared.stops.Stop.TheVariants.{Memory}
+use Rattle.pcc_stages.specs.Stages.Common.{printing}
+use Rattle.pcc_stages.proofs.StageLemmas.{lifted, stops_first, gives_then}
 use Rattle.pcc_cli.specs.declared.report.Report.{Report}
 use Rattle.pcc_cli.specs.declared.report.Report.TheVariants.{Turns}
-use Rattle.pcc_cli.specs.declared.stop.Stop.TheVariants.{Memory}
-use Rattle.pcc_cli.specs.Stages.Common.{printing}
 use Rattle.pcc_cli.specs.Stages.Hosting.{Member, script_of, agents_from}
 use Rattle.pcc_cli.specs.Commands.Host.{turn_lines, host_command}
 use Rattle.pcc_cli.specs.Inside.Decisions.{effect_of}
 use Rattle.pcc_cli.specs.Inside.Turning.{members_view}
-use Rattle.pcc_cli.proofs.StageLemmas.{lifted, stops_first, gives_then}
 use Rattle.pcc_cli.proofs.DecisionLemmas.{decides_report}
 use Rattle.pcc_cli.proofs.commands.host.host_command.Goals as goal
 

@@ -6,15 +6,15 @@ use Rattle.pcc_gate.specs.Views.{AcceptedView}
 use Rattle.agent_script.specs.Statements.{LoadView}
 use Rattle.agent_script.specs.Scripts.{load_view}
 use Rattle.pcc_exit.specs.Stages.{Stage, gives, ◌>>=◌}
+use Rattle.pcc_stages.specs.declared.stops.Stop.{Stop}
+use Rattle.pcc_stages.specs.Stages.Common.{policy_named}
+use Rattle.pcc_stages.specs.Answers.{Gives}
+use Rattle.pcc_stages.proofs.StageLemmas.{lifted, pure_stops_first, stops_first, gives_then}
 use Rattle.pcc_cli.specs.declared.commands.host.Admitted.{Admitted}
-use Rattle.pcc_cli.specs.declared.stop.Stop.{Stop}
-use Rattle.pcc_cli.specs.Stages.Common.{policy_named}
 use Rattle.pcc_cli.specs.Stages.Judging.{accepted_code_of}
 use Rattle.pcc_cli.specs.Stages.Hosting.{Member, packet_of, load_of, for_agent}
-use Rattle.pcc_cli.specs.Inside.Gives.{Gives}
 use Rattle.pcc_cli.specs.Inside.Standing.{HasStart}
 use Rattle.pcc_cli.specs.Inside.Turning.{member_view}
-use Rattle.pcc_cli.proofs.StageLemmas.{lifted, pure_stops_first, stops_first, gives_then}
 use Rattle.pcc_cli.proofs.MemberLemmas.{member_of, behind_code, behind_policy, load_stages}
 use Rattle.pcc_cli.proofs.commands.host.member_of.Goals as goal
 

@@ -7,16 +7,17 @@ use Rattle.packet_store.specs.declared.results.PacketResult.{PacketResult}
 use Rattle.pcc_lines.specs.Results.{result_lines}
 use Rattle.pcc_exit.specs.Stages.{Stage, ◌>>=◌}
 use Rattle.pcc_exit.specs.Runs.{Effect}
-use Rattle.pcc_cli.specs.declared.stop.Stop.TheVariants.{Memory}
+use Rattle.pcc_stages.specs.declared.stops.Stop.TheVariants.{Memory}
+use Rattle.pcc_stages.specs.Stages.Common.{policy_named, printing}
+use Rattle.pcc_stages.specs.Stages.Containers.{code_of}
+use Rattle.pcc_stages.specs.Stages.Packets.{packets_of}
+use Rattle.pcc_stages.proofs.StageLemmas.{lifted, stops_first, gives_then}
+use Rattle.pcc_stages.proofs.DecisionLemmas.{no_policy, under_policy}
 use Rattle.pcc_cli.specs.declared.report.Report.{Report}
 use Rattle.pcc_cli.specs.declared.report.Report.TheVariants.{Results}
-use Rattle.pcc_cli.specs.Stages.Common.{policy_named, printing}
-use Rattle.pcc_cli.specs.Stages.Containers.{code_of}
-use Rattle.pcc_cli.specs.Stages.Packets.{packets_of}
 use Rattle.pcc_cli.specs.Commands.Reference.{ref_command}
 use Rattle.pcc_cli.specs.Inside.Decisions.{effect_of}
-use Rattle.pcc_cli.proofs.StageLemmas.{lifted, stops_first, gives_then}
-use Rattle.pcc_cli.proofs.DecisionLemmas.{no_policy, under_policy, decides_report}
+use Rattle.pcc_cli.proofs.DecisionLemmas.{decides_report}
 use Rattle.pcc_cli.proofs.commands.reference.ref_command.Goals as goal
 
 module _ (file packets : List ℕ) (steps : ℕ) where

@@ -4,13 +4,13 @@ use Rattle.policy_set.specs.Views.{PolicyView}
 use Rattle.packet_store.specs.Results.{packet_result}
 use Rattle.packet_store.specs.declared.results.PacketResult.{PacketResult}
 use Rattle.pcc_lines.specs.Results.{result_lines}
-use Rattle.pcc_cli.specs.declared.stop.Stop.TheVariants.{Memory}
+use Rattle.pcc_stages.specs.declared.stops.Stop.TheVariants.{Memory}
+use Rattle.pcc_stages.specs.Stages.Common.{printing}
+use Rattle.pcc_stages.specs.Stages.Packets.{packets_of}
+use Rattle.pcc_stages.proofs.StageLemmas.{lifted, stops_first, gives_then}
 use Rattle.pcc_cli.specs.declared.report.Report.{Report}
 use Rattle.pcc_cli.specs.declared.report.Report.TheVariants.{Hosted}
-use Rattle.pcc_cli.specs.Stages.Common.{printing}
-use Rattle.pcc_cli.specs.Stages.Packets.{packets_of}
 use Rattle.pcc_cli.specs.Inside.Decisions.{effect_of}
-use Rattle.pcc_cli.proofs.StageLemmas.{lifted, stops_first, gives_then}
 use Rattle.pcc_cli.proofs.commands.running.results_of.Goals as goal
 
 pub returns-in_err-packets : goal.returns-in_err-packets

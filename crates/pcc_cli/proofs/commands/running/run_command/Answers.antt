@@ -1,7 +1,8 @@
-use Rattle.pcc_cli.specs.Stages.Common.{policy_named}
+use Rattle.pcc_stages.specs.Stages.Common.{policy_named}
+use Rattle.pcc_stages.proofs.DecisionLemmas.{no_policy, under_policy}
 use Rattle.pcc_cli.specs.Commands.Running.{run_command}
 use Rattle.pcc_cli.specs.Inside.Behind.{run_under}
-use Rattle.pcc_cli.proofs.DecisionLemmas.{no_policy, under_policy, decides_report}
+use Rattle.pcc_cli.proofs.DecisionLemmas.{decides_report}
 use Rattle.pcc_cli.proofs.commands.running.run_command.Goals as goal
 
 pub returns-in_err-policy : goal.returns-in_err-policy

@@ -4,13 +4,13 @@ use Rattle.file_port.specs.Events.{Event}
 use Rattle.file_port.specs.Files.{FilesState}
 use Rattle.pcc_gate.specs.Views.{AcceptedView}
 use Rattle.policy_set.specs.Views.{PolicyView}
+use Rattle.pcc_stages.specs.declared.stops.Stop.{Stop}
+use Rattle.pcc_stages.specs.Answers.{Gives}
+use Rattle.pcc_stages.proofs.StageLemmas.{stops_first, gives_then}
 use Rattle.pcc_cli.specs.declared.report.Report.{Report}
-use Rattle.pcc_cli.specs.declared.stop.Stop.{Stop}
 use Rattle.pcc_cli.specs.Stages.Judging.{accepted_code_of}
 use Rattle.pcc_cli.specs.Inside.Behind.{results_on}
 use Rattle.pcc_cli.specs.Inside.Decisions.{effect_of}
-use Rattle.pcc_cli.specs.Inside.Gives.{Gives}
-use Rattle.pcc_cli.proofs.StageLemmas.{stops_first, gives_then}
 use Rattle.pcc_cli.proofs.commands.running.run_under.Goals as goal
 
 pub returns-in_err-accepted : goal.returns-in_err-accepted

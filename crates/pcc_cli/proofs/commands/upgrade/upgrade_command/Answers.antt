@@ -1,11 +1,11 @@
 use Rattle.std.proofs.Common.{ℕ, List, Vec, Global, subst}
 use Rattle.pcc_exit.specs.Stages.{◌>>=◌}
-use Rattle.pcc_cli.specs.Stages.Common.{writing}
+use Rattle.pcc_stages.proofs.StageLemmas.{stops_first}
+use Rattle.pcc_cli.specs.Stages.Writing.{writing}
 use Rattle.pcc_cli.specs.Stages.Upgrading.{upgraded_of}
 use Rattle.pcc_cli.specs.Commands.Upgrade.{upgrade_command}
 use Rattle.pcc_cli.specs.Inside.Decisions.{effect_of}
-use Rattle.pcc_cli.specs.Inside.Gives.{Wrote}
-use Rattle.pcc_cli.proofs.StageLemmas.{stops_first}
+use Rattle.pcc_cli.specs.Inside.Writes.{Wrote}
 use Rattle.pcc_cli.proofs.DecisionLemmas.{decides_report, decides_copy}
 use Rattle.pcc_cli.proofs.commands.upgrade.upgrade_command.Goals as goal
 

@@ -1,0 +1,72 @@
+//! What comments say of words of code.
+
+ghost use Rattle.std.specs.Prelude.{◌≡◌, ◌+◌, ◌*◌, ◌≤◌, ◌<◌, ◌++◌, length, map, IfOk, OnOk};
+ghost use Rattle.alpha_cfg.specs.CodeBytes.{code_word_at};
+ghost use Rattle.container_listing.specs.Words.{indices_of, word_text, word_comment, hint_at};
+
+use crate::push::{push_hex, push_number};
+use std::alloc::{AllocError, Global};
+
+/// The word at an index of the code's bytes.
+pub fn word_at(code: &[u8], i: usize) -> u32
+    requires { 4 * i + 4 ≤ length code.now }
+    ensures { result ≡ code_word_at code.now i }
+{
+    let at = 4 * i;
+    u32::from_le_bytes([code[at], code[at + 1], code[at + 2], code[at + 3]])
+}
+
+/// Appends the index of a word and the word.
+pub fn push_word(alloc: Global, out: &mut Vec<u8>, code: &[u8], i: usize) -> Result<(), AllocError>
+    requires { 4 * i + 4 ≤ length code.now }
+    ensures { OnOk result (out.new.items ≡ out.old.items ++ word_text code.now i) }
+{
+    push_number(out, i as u64)?;
+    out.push(b' ')?;
+    push_hex(alloc, out, &word_at(code, i).to_be_bytes())
+}
+
+/// The comment of the instruction at an index.
+fn comment(alloc: Global, code: &[u8], lines: &[u32], i: usize) -> Result<Vec<u8>, AllocError>
+    requires { 4 * i + 4 ≤ length code.now }
+    ensures { IfOk result (λ v. v.items ≡ word_comment code.now lines.now i) }
+{
+    let mut out = Vec::new(alloc);
+    push_word(alloc, &mut out, code, i)?;
+    if let Some(line) = lines.get(i) {
+        out.extend_from_slice(b" line ")?;
+        push_number(&mut out, u64::from(*line))?;
+    }
+    Ok(out)
+}
+
+/// The comments of all instructions, in order.
+pub fn comments(alloc: Global, code: &[u8], lines: &[u32]) -> Result<Vec<Vec<u8>>, AllocError>
+    ensures { IfOk result (λ v. map (λ c. c.items) v.items
+        ≡ map (word_comment code.now lines.now) (indices_of code.now)) }
+{
+    let mut comments = Vec::new(alloc);
+    for i in 0..code.len() / 4 {
+        comments.push(comment(alloc, code, lines, i)?)?;
+    }
+    Ok(comments)
+}
+
+/// The hint of the word at an index, if that is a return.
+fn hint_at(code: &[u8], i: usize) -> u32
+    requires { 4 * i + 4 ≤ length code.now }
+    ensures { result ≡ hint_at code.now i }
+{
+    word_at(code, i) & 0x3fff
+}
+
+/// The hints of all words, in order.
+pub fn hints(alloc: Global, code: &[u8]) -> Result<Vec<u32>, AllocError>
+    ensures { IfOk result (λ v. v.items ≡ map (hint_at code.now) (indices_of code.now)) }
+{
+    let mut hints = Vec::new(alloc);
+    for i in 0..code.len() / 4 {
+        hints.push(hint_at(code, i))?;
+    }
+    Ok(hints)
+}

@@ -1,0 +1,2 @@
+-- Words of the private functions.
+pub mod NodeSizes

@@ -1,0 +1,4 @@
+pub mod Entries
+pub mod Sizes
+pub mod Short
+pub mod Inside

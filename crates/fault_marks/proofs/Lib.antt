@@ -1,0 +1,9 @@
+pub mod Backwards
+pub mod Places
+pub mod SameTokens
+pub mod Rows
+pub mod Assembled
+pub mod FaultLines
+pub mod SourceSaid
+pub mod WrongFound
+pub mod Marked

@@ -1,0 +1,3 @@
+pub mod Views
+pub mod Tokens
+pub mod Rows

@@ -1,0 +1,8 @@
+pub mod Marking
+pub mod FormReports
+pub mod SourceLines
+pub mod WrongOperands
+pub mod Spans
+pub mod SourceReports
+pub mod Laws
+pub mod Inside

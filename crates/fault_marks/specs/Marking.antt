@@ -1,0 +1,34 @@
+-- How a line of a text is shown, with a mark under the place that is wrong.
+use Rattle.std.specs.Prelude.{ℕ, ◌==◌, if◌then◌else◌, List, [], ◌∷◌, ◌++◌, map, take, drop, Option, Some, None}
+use Rattle.asm_text.specs.Statements.{is_printable}
+
+-- a place in a line, and how many bytes from there on the mark repeats
+abbrev pub Span : Type 0
+Span = ℕ × ℕ
+
+-- a byte as it is shown: a tab and printable ASCII as they are, any other byte as `?`
+abbrev pub shown_byte : ℕ → ℕ
+shown_byte b = if is_printable b then b else 63
+
+-- what stands under a byte before the mark: a tab under a tab, and else a blank
+abbrev pub margin_byte : ℕ → ℕ
+margin_byte b = if b == 9 then 9 else 32
+
+-- bytes that are repeated behind the mark: a blank and the bytes, or nothing where there are none
+abbrev pub repeated : List ℕ → List ℕ
+repeated [] = []
+repeated (b ∷ bs) = 32 ∷ map shown_byte (b ∷ bs)
+
+-- the mark under a place of the line, behind a margin as wide as the bytes before that place
+abbrev pub mark_line : List ℕ → Span → List ℕ
+mark_line line span =
+    map margin_byte (take span.0 line) ++ (94 ∷ (repeated (take span.1 (drop span.0 line)) ++ (10 ∷ [])))
+
+-- the mark, where there is one
+abbrev pub mark_lines : List ℕ → Option Span → List ℕ
+mark_lines line None = []
+mark_lines line (Some span) = mark_line line span
+
+-- a line as it is shown, and the mark under it, where there is one
+abbrev pub marked_line : List ℕ → Option Span → List ℕ
+marked_line line span = map shown_byte line ++ (10 ∷ mark_lines line span)

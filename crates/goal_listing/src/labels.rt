@@ -1,0 +1,128 @@
+//! What stands before formulas in lines, and the last line.
+//!
+//! Errors: want of memory alone.
+
+ghost use Rattle.std.specs.Prelude.{◌≡◌, ◌++◌, OnOk, decimal};
+ghost use Rattle.goal_listing.specs.Lines.{numbered, part_title, part_head, why_text, mark_text};
+ghost use Rattle.goal_listing.specs.Lines.{taken_text, goal_label, known_label, last_line};
+
+use goal_tree::Why;
+use itoa::Buffer;
+use std::alloc::AllocError;
+
+fn push_number(out: &mut Vec<u8>, n: u64) -> Result<(), AllocError>
+    ensures { OnOk result (out.new.items ≡ out.old.items ++ decimal n) }
+{
+    let mut buffer = Buffer::new();
+    out.extend_from_slice(buffer.format(n).as_bytes())
+}
+
+/// A word and the number behind it.
+fn push_numbered(out: &mut Vec<u8>, word: &str, n: u64) -> Result<(), AllocError>
+    ensures { OnOk result (out.new.items ≡ out.old.items ++ numbered word.now n) }
+{
+    out.extend_from_slice(word.as_bytes())?;
+    push_number(out, n)
+}
+
+/// The first line of the part of a number, without its end.
+fn push_title(out: &mut Vec<u8>, number: usize, at: u32) -> Result<(), AllocError>
+    ensures { OnOk result (out.new.items ≡ out.old.items ++ part_title number at) }
+{
+    if number == 0 {
+        return out.extend_from_slice(b"part 0, from the start");
+    }
+    push_numbered(out, "part ", number as u64)?;
+    push_numbered(out, ", from index ", u64::from(at))?;
+    Ok(())
+}
+
+/// That line, and the next up to its formula.
+pub(crate) fn push_head(out: &mut Vec<u8>, number: usize, at: u32) -> Result<(), AllocError>
+    ensures { OnOk result (out.new.items ≡ out.old.items ++ part_head number at) }
+{
+    push_title(out, number, at)?;
+    out.push(b'\n')?;
+    out.extend_from_slice(b"known 0: ")
+}
+
+/// Why a goal is asked.
+fn push_why(out: &mut Vec<u8>, why: Why) -> Result<(), AllocError>
+    ensures { OnOk result (out.new.items ≡ out.old.items ++ why_text why) }
+{
+    match why {
+        Why::Load => out.extend_from_slice(b" load"),
+        Why::Store => out.extend_from_slice(b" store"),
+        Why::Step => out.extend_from_slice(b" step"),
+        Why::Return => out.extend_from_slice(b" return"),
+        Why::Reach(index) => push_numbered(out, " index ", u64::from(index)),
+        Why::Leave => out.extend_from_slice(b" nowhere"),
+    }
+}
+
+/// Whether a goal is easy.
+fn push_mark(out: &mut Vec<u8>, easy: bool) -> Result<(), AllocError>
+    ensures { OnOk result (out.new.items ≡ out.old.items ++ mark_text easy) }
+{
+    if easy {
+        out.extend_from_slice(b", easy: ")
+    } else {
+        out.extend_from_slice(b", not easy: ")
+    }
+}
+
+/// Whether a branch is taken.
+fn push_taken(out: &mut Vec<u8>, taken: bool) -> Result<(), AllocError>
+    ensures { OnOk result (out.new.items ≡ out.old.items ++ taken_text taken) }
+{
+    if taken {
+        out.extend_from_slice(b" taken: ")
+    } else {
+        out.extend_from_slice(b" not taken: ")
+    }
+}
+
+/// The line of a goal up to its formula.
+pub(crate) fn push_goal_label(
+    out: &mut Vec<u8>,
+    at: u32,
+    why: Why,
+    depth: u32,
+    easy: bool,
+) -> Result<(), AllocError>
+    ensures { OnOk result (out.new.items ≡ out.old.items ++ goal_label at why depth easy) }
+{
+    push_numbered(out, "goal ", u64::from(at))?;
+    push_why(out, why)?;
+    push_numbered(out, ", known 0 to ", u64::from(depth))?;
+    push_mark(out, easy)?;
+    Ok(())
+}
+
+/// The line of what is known behind a branch, up to its formula.
+pub(crate) fn push_known_label(
+    out: &mut Vec<u8>,
+    number: u64,
+    at: u32,
+    taken: bool,
+) -> Result<(), AllocError>
+    ensures { OnOk result (out.new.items ≡ out.old.items ++ known_label number at taken) }
+{
+    push_numbered(out, "known ", number)?;
+    push_numbered(out, ", ", u64::from(at))?;
+    push_taken(out, taken)
+}
+
+/// The last line.
+pub(crate) fn push_last(out: &mut Vec<u8>, hard: Option<usize>) -> Result<(), AllocError>
+    ensures { OnOk result (out.new.items ≡ out.old.items ++ last_line hard) }
+{
+    match hard {
+        None => out.extend_from_slice(b"every goal is easy\n"),
+        Some(number) => {
+            push_numbered(out, "not easy ", number as u64)?;
+            out.push(b'\n')?;
+            Ok(())
+        }
+    }
+}

@@ -1,0 +1,3 @@
+mod Wholes
+mod Pushing
+mod Descending

@@ -1,0 +1,5 @@
+pub mod Appending
+pub mod Asked
+pub mod Marks
+pub mod Outlines
+pub mod Shown

@@ -1,0 +1,4 @@
+pub mod Goals
+pub mod Rows
+pub mod Laws
+pub mod Inside

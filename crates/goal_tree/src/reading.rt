@@ -1,0 +1,94 @@
+//! Formulas taken apart by their form alone. Of an id without the parts each answers the id itself.
+
+ghost use Rattle.std.specs.Prelude.{◌≡◌};
+ghost use Rattle.term_table.specs.Table.{IsKnown, tree_at};
+ghost use Rattle.goal_tree.specs.Inside.Reading.{right_of, left_of, under_binder, body_of, under};
+
+use term_table::{Id, Node, Table};
+
+/// The second side of a connective, or what a quantifier is applied to.
+pub(crate) fn right(table: &Table, id: Id) -> Id
+    requires { IsKnown table.now id }
+    ensures is { tree_at table.now result ≡ right_of (tree_at table.now id) }
+    ensures known { IsKnown table.now result }
+{
+    match table.node(id) {
+        Node::App(_, last) => last,
+        Node::Var(_) => id,
+        Node::Const(_) => id,
+        Node::Lit(_) => id,
+        Node::Calc(_, _, _) => id,
+        Node::Fact(_, _, _) => id,
+        Node::Deny(_, _, _) => id,
+        Node::Lemma(_) => id,
+        Node::Lam(_) => id,
+        Node::Fam(_) => id,
+        Node::TApp(_, _) => id,
+        Node::Pi(_, _) => id,
+    }
+}
+
+/// The first side of a connective.
+pub(crate) fn left(table: &Table, id: Id) -> Id
+    requires { IsKnown table.now id }
+    ensures is { tree_at table.now result ≡ left_of (tree_at table.now id) }
+    ensures known { IsKnown table.now result }
+{
+    match table.node(id) {
+        Node::App(front, _) => right(table, front),
+        Node::Var(_) => id,
+        Node::Const(_) => id,
+        Node::Lit(_) => id,
+        Node::Calc(_, _, _) => id,
+        Node::Fact(_, _, _) => id,
+        Node::Deny(_, _, _) => id,
+        Node::Lemma(_) => id,
+        Node::Lam(_) => id,
+        Node::Fam(_) => id,
+        Node::TApp(_, _) => id,
+        Node::Pi(_, _) => id,
+    }
+}
+
+/// What stands under the binder.
+fn under_binder(table: &Table, id: Id) -> Id
+    requires { IsKnown table.now id }
+    ensures is { tree_at table.now result ≡ under_binder (tree_at table.now id) }
+    ensures known { IsKnown table.now result }
+{
+    match table.node(id) {
+        Node::Lam(body) => body,
+        Node::App(_, _) => id,
+        Node::Var(_) => id,
+        Node::Const(_) => id,
+        Node::Lit(_) => id,
+        Node::Calc(_, _, _) => id,
+        Node::Fact(_, _, _) => id,
+        Node::Deny(_, _, _) => id,
+        Node::Lemma(_) => id,
+        Node::Fam(_) => id,
+        Node::TApp(_, _) => id,
+        Node::Pi(_, _) => id,
+    }
+}
+
+/// What a quantifier stands over.
+fn body(table: &Table, id: Id) -> Id
+    requires { IsKnown table.now id }
+    ensures is { tree_at table.now result ≡ body_of (tree_at table.now id) }
+    ensures known { IsKnown table.now result }
+{
+    under_binder(table, right(table, id))
+}
+
+/// What so many quantifiers stand over.
+pub(crate) fn under(table: &Table, count: u32, id: Id) -> Id
+    requires { IsKnown table.now id }
+    ensures is { tree_at table.now result ≡ under count (tree_at table.now id) }
+    ensures known { IsKnown table.now result }
+{
+    if count == 0 {
+        return id;
+    }
+    under(table, count - 1, body(table, id))
+}

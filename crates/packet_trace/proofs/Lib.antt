@@ -1,0 +1,4 @@
+pub mod ChangeLemmas
+pub mod TextLemmas
+pub mod RunLemmas
+pub mod PacketLemmas

@@ -1,0 +1,16 @@
+-- The one register that a step may change.
+use Rattle.std.specs.Prelude.{ℕ, ◌==◌, if◌then◌else◌, List, []}
+use Rattle.alpha_cfg.specs.Actions.{Action}
+use Rattle.alpha_cfg.specs.Actions as actions
+use Rattle.packet_trace.specs.Changes.{word_text}
+
+-- the register that an action writes; register 31, where it writes none
+abbrev pub register_written : Action → ℕ
+register_written (actions.Compute to word) = to
+register_written (actions.Load to base disp) = to
+register_written (actions.LoadAround to base disp) = to
+register_written action = 31
+
+-- a register's new word, where it isn't the one before
+abbrev pub word_change : ℕ → ℕ → ℕ → List ℕ
+word_change r before after = if before == after then [] else word_text r after

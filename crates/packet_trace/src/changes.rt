@@ -1,0 +1,40 @@
+//! The register that a step changes.
+
+ghost use Rattle.std.specs.Prelude.{◌≡◌, ◌+◌, ◌≤◌, ◌++◌};
+ghost use Rattle.arrayvec.specs.ArrayVec.{array_vec_len};
+ghost use Rattle.alpha_cfg.specs.Actions.{action_of};
+ghost use Rattle.packet_trace.specs.Inside.Written.{register_written, word_change};
+
+use alpha_words::{Insn, Reg};
+use pcc_lines::{LINE, Line, push_decimal, push_hex, push_text};
+
+/// The most bytes that are said of a register that changes.
+pub const CHANGE: usize = 39;
+
+/// The register that an instruction writes; register 31, which never changes, where it writes none.
+pub fn register_written(insn: &Insn) -> Reg
+    ensures { result ≡ register_written (action_of insn.now) }
+{
+    match *insn {
+        Insn::Lda { ra, .. } => ra,
+        Insn::Ldq { ra, .. } => ra,
+        Insn::Ldah { ra, .. } => ra,
+        Insn::LdqU { ra, .. } => ra,
+        Insn::Oper { rc, .. } => rc,
+        Insn::Stq { .. } | Insn::Branch { .. } | Insn::Br { .. } | Insn::Ret => Reg::new(31),
+    }
+}
+
+/// Adds a register and its word, where that isn't the one before.
+pub fn push_change(line: &mut Line, reg: Reg, before: u64, after: u64)
+    requires { array_vec_len line.old + CHANGE ≤ LINE }
+    ensures items { line.new.items ≡ line.old.items ++ word_change reg before after }
+    ensures len { array_vec_len line.new ≤ array_vec_len line.old + CHANGE }
+{
+    if before != after {
+        push_text(line, " r");
+        push_decimal(line, u64::from(reg.number()));
+        push_text(line, "=");
+        push_hex(line, 16, after);
+    }
+}

@@ -1,0 +1,5 @@
+pub mod Texts
+pub mod Stages
+pub mod Stops
+pub mod Answers
+pub mod Decisions

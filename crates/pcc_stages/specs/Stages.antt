@@ -1,0 +1,4 @@
+pub mod Common
+pub mod Policies
+pub mod Containers
+pub mod Packets
