@@ -262,7 +262,7 @@ no-agents : (script : ScriptView) (loads : List LoadView) → length loads ≡ 0
 no-agents script [] e = refl
 no-agents script (one ∷ loads) e = absurd (omega (arith, e))
 
-some-agents : (script : ScriptView) (loads : List LoadView) → 0 < length loads
+pub some-agents : (script : ScriptView) (loads : List LoadView) → 0 < length loads
     → with_agents script loads ≡ Ok script
 some-agents script [] e = absurd (omega (arith, e))
 some-agents script (one ∷ loads) e = refl

@@ -12,13 +12,13 @@ use Rattle.agent_script.specs.Inside.Words.{HasNoEnd, HasNoBlank, IsBlank}
 -- ---- lines
 
 -- no LF in front
-no_end_front : (b : ℕ) (bs : List ℕ) → (b == 10) ≡ false
+pub no_end_front : (b : ℕ) (bs : List ℕ) → (b == 10) ≡ false
     → script_lines (b ∷ bs) ≡ before_first b (script_lines bs)
 no_end_front b bs h =
     ap (λ (t : Bool). cond t ([] ∷ script_lines bs) (before_first b (script_lines bs))) h
 
 -- a text without an end is one line
-one_line : (text : List ℕ) → HasNoEnd text → 0 < length text → script_lines text ≡ text ∷ []
+pub one_line : (text : List ℕ) → HasNoEnd text → 0 < length text → script_lines text ≡ text ∷ []
 one_line [] h s = absurd (omega (arith, s))
 one_line (b ∷ []) h s = no_end_front b [] h.0
 one_line (b ∷ c ∷ bs) h s = no_end_front b (c ∷ bs) h.0
@@ -49,14 +49,14 @@ no_lines_in (b ∷ bs) e = let none : length (b ∷ bs) ≡ 0 = eqb-true (length
 -- ---- words
 
 -- no blank in front
-no_blank_front : (b : ℕ) (bs : List ℕ) → parts_words b ≡ false
+pub no_blank_front : (b : ℕ) (bs : List ℕ) → parts_words b ≡ false
     → line_words (b ∷ bs) ≡ before_first b (line_words bs)
 no_blank_front b bs h =
     ap (λ (t : Bool). cond t (cond (begins_parted bs) (line_words bs) ([] ∷ line_words bs))
     (before_first b (line_words bs))) h
 
 -- a blank in front, and whether one goes on behind it
-blank_front : (b : ℕ) (bs : List ℕ) (goes : Bool) → parts_words b ≡ true → begins_parted bs ≡ goes
+pub blank_front : (b : ℕ) (bs : List ℕ) (goes : Bool) → parts_words b ≡ true → begins_parted bs ≡ goes
     → line_words (b ∷ bs) ≡ cond goes (line_words bs) ([] ∷ line_words bs)
 blank_front b bs goes h e =
     ap (λ (t : Bool). cond t (cond (begins_parted bs) (line_words bs) ([] ∷ line_words bs))
@@ -64,7 +64,7 @@ blank_front b bs goes h e =
     ∙ ap (λ (t : Bool). cond t (line_words bs) ([] ∷ line_words bs)) e
 
 -- a text without a blank is one word
-bare_word : (word : List ℕ) → HasNoBlank word → line_words word ≡ word ∷ []
+pub bare_word : (word : List ℕ) → HasNoBlank word → line_words word ≡ word ∷ []
 bare_word [] h = refl
 bare_word (b ∷ bs) h = no_blank_front b bs h.0 ∙ ap (before_first b) (bare_word bs h.1)
 

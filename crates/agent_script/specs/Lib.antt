@@ -1,5 +1,6 @@
 pub mod Lines
 pub mod Statements
 pub mod Scripts
+pub mod Texts
 pub mod Names
 pub mod Inside

@@ -9,7 +9,7 @@ use file_port::{MemFiles, MemSink};
 use pcc_cli::pcc;
 use std::alloc::Global;
 use std::{env, fs};
-use test_rows::{Program, Scene, hex_bytes, run_rows};
+use test_rows::{Program, Scene, take_data};
 
 /// The program whose rows these are.
 struct Pcc;
@@ -26,26 +26,13 @@ impl Program for Pcc {
     }
 }
 
-/// Runs the rows of a file, or gives its bytes to those of later ones.
-fn take_file(rt: &HostRuntime, scene: &mut Scene, name: &str) -> Result<()> {
-    let text = fs::read_to_string(rt, name)?;
-    if name.ends_with(".rows") {
-        run_rows(&Pcc, scene, name, text.as_str())?;
-        return Ok(());
-    }
-    match hex_bytes(rt.alloc(), text.as_str())? {
-        Some(bytes) => scene.give(name, bytes)?,
-        None => scene.differs(0, "a data file that is no hexadecimal text")?,
-    }
-    Ok(())
-}
-
 /// Runs the rows of the files that the arguments name, and prints those that differ and their
 /// count.
 fn main(rt: HostRuntime) -> Result<()> {
     let mut scene = Scene::new(rt.alloc());
     for name in env::args(&rt)?.skip(1) {
-        take_file(&rt, &mut scene, name.as_str())?;
+        let text = fs::read_to_string(&rt, name.as_str())?;
+        take_data(&Pcc, &mut scene, name.as_str(), text.as_str())?;
     }
     let report = scene.report()?;
     println!(rt; "{report}")?;

@@ -22,8 +22,8 @@ use Rattle.proof_container.specs.Postorder.{entries}
 use Rattle.proof_container.specs.Encoding.{IsContents}
 use Rattle.source_text.specs.Laws.{IsComment, AreSpellableExtras}
 use Rattle.source_text.proofs.Characters.{printable-append, clean_printable, decimal_clean, decimal_short}
-use Rattle.container_listing.specs.Words.{word_text, line_part, word_comment, hint_at}
-use Rattle.container_listing.specs.Notes.{policy_text, version_note, bound_notes, counts_note, measures_text, proof_note, lemma_notes, notes_of}
+use Rattle.container_listing.specs.Words.{indexed_word, line_part, word_comment, word_hint}
+use Rattle.container_listing.specs.Notes.{named_policy, version_note, bound_notes, counts_note, measures_text, proof_note, lemma_notes, notes_of}
 use Rattle.container_listing.specs.Sources.{extras_of}
 use Rattle.container_listing.specs.Laws.{AreLineNumbers}
 
@@ -113,7 +113,7 @@ word_is code lines i h numbers =
     let word = joined 20 9 (decimal i) (32 ∷ hex) (number i h)
     (joined 1 8 blank hex (said 1 blank refl refl) (word_hex (code_word_at code i))) in
     comment 55 _ (omega arith)
-    (joined 29 26 (word_text code i) (line_part (slice_get lines i)) word
+    (joined 29 26 (indexed_word code i) (line_part (slice_get lines i)) word
     (line (slice_get lines i) (numbers i)))
 
 -- ---- lists
@@ -131,7 +131,7 @@ both P (x ∷ xs) ys h g = (h.0, both P xs ys h.1 g)
 
 -- ---- notes
 
-policy : (v : ℕ) (head : Head) → IsHead v head → IsPart 71 (policy_text head)
+policy : (v : ℕ) (head : Head) → IsHead v head → IsPart 71 (named_policy head)
 policy v (Number n) h =
     let small : n < 2 ^ 32 = h.1 in
     let text = joined 14 20 (codes "policy number ") (decimal n)
@@ -191,7 +191,7 @@ version c h =
     comment 101 _ (omega arith)
     (joined 8 93 (codes "version ") _ (said 8 (codes "version ") refl refl)
     (joined 20 73 (decimal c.version) _ (number c.version (omega arith))
-    (joined 2 71 (codes ", ") (policy_text c.head) (said 2 (codes ", ") refl refl)
+    (joined 2 71 (codes ", ") (named_policy c.head) (said 2 (codes ", ") refl refl)
     (policy c.version c.head h.head))))
 
 counts : (c : Contents) → IsContents c → IsComment (counts_note c)
@@ -226,6 +226,6 @@ spellable_extras c lines h numbers =
     let words : length c.code / 4 ≤ 1024 = omega (arith, h.short) in record {
       comments = each IsComment (word_comment c.code lines) 0 (length c.code / 4)
           (λ i lt. word_is c.code lines i (omega arith) numbers);
-      hints = each (λ n. n ≤ 16383) (hint_at c.code) 0 (length c.code / 4) (λ i lt. omega arith);
+      hints = each (λ n. n ≤ 16383) (word_hint c.code) 0 (length c.code / 4) (λ i lt. omega arith);
       notes = notes c h;
     }

@@ -44,7 +44,7 @@ use Rattle.pcc_gate.proofs.CodeBytes.{code_decided}
 use Rattle.source_text.specs.Laws.{IsInvOf, IsSpellableCode}
 use Rattle.source_text.specs.Listing.{code_text}
 use Rattle.container_listing.specs.declared.stop.NoSource.{NoSource}
-use Rattle.container_listing.specs.Sources.{extras_of, unless, if_code, code_of, if_low, is_short, if_forms, if_short, source_listing}
+use Rattle.container_listing.specs.Sources.{extras_of, unless, if_code, listed_code, if_low, is_short, if_forms, if_short, source_listing}
 use Rattle.container_listing.proofs.Shorts.{none-bound}
 use Rattle.container_listing.proofs.Stages.{are-forms}
 
@@ -72,7 +72,7 @@ not-false false e = absurd cc
 pub record IsShown (c : Contents) (lines text : List ℕ) : Type 0 where
   pub code : List Insn
   pub read : decoded_code (profile_of c.version) c.code ≡ Ok code
-  pub code_is : code_of c ≡ Ok code
+  pub code_is : listed_code c ≡ Ok code
   pub forms : AreForms (signature_of c.version) c.bound c.invs
   pub short : list_all is_short (formulas c.invs) ≡ true
   pub text_is : code_text (extras_of c lines) code (formulas c.invs) ≡ text
@@ -81,7 +81,7 @@ pub shown : (c : Contents) (lines text : List ℕ) → source_listing c lines �
     → IsShown c lines text
 shown c lines text e =
     let s = signature_of c.version in
-    let one = first-ok (code_of c) _ text e in
+    let one = first-ok (listed_code c) _ text e in
     let two = first-ok (if_low (roots c)) _ text one.2 in
     let three = first-ok (if_forms s c.bound c.invs) _ text two.2 in
     let four = first-ok (if_short (formulas c.invs)) _ text three.2 in

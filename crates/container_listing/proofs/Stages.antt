@@ -18,9 +18,9 @@ use Rattle.container_listing.specs.declared.stop.Stop.{Stop}
 use Rattle.container_listing.specs.declared.stop.Stop.TheVariants as stop
 use Rattle.container_listing.specs.declared.stop.ListFault.{ListFault}
 use Rattle.container_listing.specs.declared.stop.ListFault.TheVariants as fault
-use Rattle.container_listing.specs.Sources.{extras_of, unless, code_of, if_low, if_forms, if_short, if_whole, source_listing}
+use Rattle.container_listing.specs.Sources.{extras_of, unless, listed_code, if_low, if_forms, if_short, if_whole, source_listing}
 use Rattle.container_listing.specs.Plain.{plain_text}
-use Rattle.container_listing.specs.Listing.{source_or_comments, listing_text, contents_in, comments_in, listing_of}
+use Rattle.container_listing.specs.Listing.{source_or_comments, listing_text, contents_read, comments_in, listing_of}
 use Rattle.container_listing.specs.Answers.{IsTold, IsReason, Finds}
 
 -- ---- a source
@@ -40,7 +40,7 @@ abbrev pub rest_of : Contents → List ℕ → List Insn → Result (List ℕ) N
 rest_of c lines code =
     if_short (formulas c.invs) >>= λ invs. if_whole (code_text (extras_of c lines) code invs)
 
-pub source-rest : (c : Contents) (lines : List ℕ) (code : List Insn) → code_of c ≡ Ok code
+pub source-rest : (c : Contents) (lines : List ℕ) (code : List Insn) → listed_code c ≡ Ok code
     → if_low (roots c) ≡ Ok tt → if_forms (signature_of c.version) c.bound c.invs ≡ Ok tt
     → source_listing c lines ≡ rest_of c lines code
 source-rest c lines code is low forms =
@@ -65,7 +65,7 @@ carried view said e h (Err y) k = subst (λ z. IsReason said z) (sym k) h
 
 -- ---- a listing
 
-pub told-fault : (bytes lines : List ℕ) (e : ListFault) → IsTold (contents_in bytes) e
+pub told-fault : (bytes lines : List ℕ) (e : ListFault) → IsTold (contents_read bytes) e
     → IsTold (listing_of bytes lines) e
 unfolding listing_of
 told-fault bytes lines (fault.TooLong length) h = ap (λ r. r >>= λ c. Ok (listing_text c lines)) h
@@ -75,14 +75,14 @@ told-fault bytes lines fault.Memory h = tt
 told-fault bytes lines fault.Results h = tt
 
 pub told-source : (bytes lines : List ℕ) (c : Contents) (text : List ℕ)
-    → contents_in bytes ≡ Ok c → source_listing c lines ≡ Ok text
+    → contents_read bytes ≡ Ok c → source_listing c lines ≡ Ok text
     → listing_of bytes lines ≡ Ok text
 unfolding listing_of
 told-source bytes lines c text read is =
     ap (λ r. r >>= λ d. Ok (listing_text d lines)) read ∙ ap (λ s. Ok (source_or_comments c s)) is
 
 pub told-comments : (bytes lines : List ℕ) (c : Contents) (why : NoSource)
-    → contents_in bytes ≡ Ok c → source_listing c lines ≡ Err why
+    → contents_read bytes ≡ Ok c → source_listing c lines ≡ Err why
     → listing_of bytes lines ≡ comments_in bytes why
 unfolding listing_of
 told-comments bytes lines c why read is =

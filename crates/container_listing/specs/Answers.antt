@@ -14,9 +14,9 @@ IsTold told fault.Memory = Unit {0}
 IsTold told fault.Results = Unit {0}
 
 -- an answer, seen by view, is what is told
-abbrev pub Tells : {X Y : Type 0} → (X → Y) → Result Y ListFault → Result X ListFault → Type 0
-Tells view told (Ok x) = told ≡ Ok (view x)
-Tells view told (Err e) = IsTold told e
+abbrev pub Reports : {X Y : Type 0} → (X → Y) → Result Y ListFault → Result X ListFault → Type 0
+Reports view told (Ok x) = told ≡ Ok (view x)
+Reports view told (Err e) = IsTold told e
 
 -- the reason is the first
 abbrev pub IsReason : {Y : Type 0} → Result Y NoSource → Stop → Type 0

@@ -7,7 +7,7 @@ use Rattle.proof_container.specs.Versions.{profile_of}
 use Rattle.proof_container.specs.Contents.{Contents}
 use Rattle.pcc_asm.specs.Assembling.{head_for, assembled_code, assembled_contents}
 use Rattle.reassembly.specs.Containers.{HasWrittenReturns, without_proofs}
-use Rattle.container_listing.specs.Sources.{code_of}
+use Rattle.container_listing.specs.Sources.{listed_code}
 use Rattle.container_listing.specs.Listing.{listing_text}
 
 -- numbers of lines, which fit 32 bits
@@ -24,7 +24,7 @@ pub record IsListedSource (c : Contents) (lines text : List ℕ) : Type 0 where
   pub spells :
       (s : Source) → SpellsSource (profile_of c.version) (is_some c.bound) text s ↔ (s ≡ source)
   pub code : List Insn
-  pub code_is : code_of c ≡ Ok code
+  pub code_is : listed_code c ≡ Ok code
   pub assembled : assembled_code (profile_of c.version) source ≡ Ok code
   pub contents_are :
       (policy : PolicyView) → c.head ≡ head_for c.version policy → HasWrittenReturns c.code code

@@ -26,19 +26,19 @@ if_read (Ok c) = Ok c
 if_read (Err fault) = Err (Malformed fault.0 fault.1)
 
 -- what bytes hold, where they aren't too many for a container
-abbrev pub contents_in : List ℕ → Result Contents ListFault
-contents_in bytes =
+abbrev pub contents_read : List ℕ → Result Contents ListFault
+contents_read bytes =
     if nat_lt MAX_BYTES (length bytes) then Err (TooLong (length bytes))
     else if_read (decoded_container bytes)
 
 -- the container in the bytes in comments
 abbrev pub comments_in : List ℕ → NoSource → Result (List ℕ) ListFault
 comments_in bytes why = do
-  c ← contents_in bytes
+  c ← contents_read bytes
   Ok (plain_text c why)
 
 -- the listing of the container in the bytes
 unfoldable pub listing_of : List ℕ → List ℕ → Result (List ℕ) ListFault
 listing_of bytes lines = do
-  c ← contents_in bytes
+  c ← contents_read bytes
   Ok (listing_text c lines)

@@ -12,13 +12,13 @@ use Rattle.proof_container.specs.Contents.{Contents, roots}
 use Rattle.proof_container.specs.Postorder.{entries}
 
 -- what names the policy: its number, or its digest as 64 hexadecimal digits
-abbrev pub policy_text : Head → List ℕ
-policy_text (Number n) = codes "policy number " ++ decimal n
-policy_text (Digest digest) = codes "policy " ++ encode_lower digest
+abbrev pub named_policy : Head → List ℕ
+named_policy (Number n) = codes "policy number " ++ decimal n
+named_policy (Digest digest) = codes "policy " ++ encode_lower digest
 
 -- the version, and what names the policy
 abbrev pub version_note : Contents → List ℕ
-version_note c = codes "version " ++ (decimal c.version ++ (codes ", " ++ policy_text c.head))
+version_note c = codes "version " ++ (decimal c.version ++ (codes ", " ++ named_policy c.head))
 
 -- how many steps the code makes at most, where they are bounded
 abbrev pub bound_notes : Option ℕ → List (List ℕ)

@@ -18,7 +18,7 @@ use Rattle.insn_text.specs.Printing.{insn_text}
 use Rattle.entry_text.specs.Entries.{entry_name, entry_line}
 use Rattle.container_listing.specs.declared.stop.NoSource.{NoSource}
 use Rattle.container_listing.specs.declared.stop.NoSource.TheVariants.{NotCode, TooHigh, NotForm, LongInv, LongText}
-use Rattle.container_listing.specs.Words.{indices_of, word_text}
+use Rattle.container_listing.specs.Words.{indices_of, indexed_word}
 use Rattle.container_listing.specs.Notes.{notes_of}
 
 -- ---- words
@@ -31,12 +31,12 @@ insn_or_flaw i (Err bad) = bad_word_name bad
 
 -- a word with its index, and the instruction or what is wrong with it
 abbrev pub word_line : Profile → List ℕ → ℕ → List ℕ
-word_line p code i = word_text code i ++ (32 ∷ insn_or_flaw i (decoded p (code_word_at code i)))
+word_line p code i = indexed_word code i ++ (32 ∷ insn_or_flaw i (decoded p (code_word_at code i)))
 
 -- the invariant of an index
-abbrev pub inv_at : ℕ → List (ℕ × Tree) → Option Tree
-inv_at i [] = None
-inv_at i (inv ∷ invs) = if inv.0 == i then Some inv.1 else inv_at i invs
+abbrev pub index_inv : ℕ → List (ℕ × Tree) → Option Tree
+index_inv i [] = None
+index_inv i (inv ∷ invs) = if inv.0 == i then Some inv.1 else index_inv i invs
 
 -- an invariant by the name of its entry, if there is one
 abbrev pub inv_lines : List Tree → Option Tree → List (List ℕ)
@@ -46,7 +46,7 @@ inv_lines es (Some t) = (codes "   .inv " ++ entry_name (entry_number es t)) ∷
 -- an index: its invariant, if it has one, and its word
 abbrev pub index_lines : Contents → ℕ → List (List ℕ)
 index_lines c i =
-    inv_lines (entries (roots c)) (inv_at i c.invs)
+    inv_lines (entries (roots c)) (index_inv i c.invs)
     ++ word_line (profile_of c.version) c.code i ∷ []
 
 -- ---- entries
@@ -63,19 +63,19 @@ entry_lines es count = map (entry_line es) (range_with_len 0 count)
 -- ---- all
 
 -- why the contents are no source
-abbrev pub why_text : NoSource → List ℕ
-why_text NotCode = codes "this is no source: the words are no code"
-why_text TooHigh = codes "this is no source: a term is too high"
-why_text NotForm = codes "this is no source: an invariant is no formula"
-why_text LongInv = codes "this is no source: an invariant is too long"
-why_text LongText = codes "this is no source: the text is too long"
+abbrev pub no_source_text : NoSource → List ℕ
+no_source_text NotCode = codes "this is no source: the words are no code"
+no_source_text TooHigh = codes "this is no source: a term is too high"
+no_source_text NotForm = codes "this is no source: an invariant is no formula"
+no_source_text LongInv = codes "this is no source: an invariant is too long"
+no_source_text LongText = codes "this is no source: the text is too long"
 
 -- the indices, the entries that invariants are made of, the notes, and why they are no source
 abbrev pub plain_lines : Contents → NoSource → List (List ℕ)
 plain_lines c why =
     let es = entries (roots c) in
     flat_map (index_lines c) (indices_of c.code)
-    ++ (entry_lines es (inv_entries es c.invs) ++ (notes_of c ++ why_text why ∷ []))
+    ++ (entry_lines es (inv_entries es c.invs) ++ (notes_of c ++ no_source_text why ∷ []))
 
 -- a line that is a comment
 abbrev pub comment_line : List ℕ → List ℕ

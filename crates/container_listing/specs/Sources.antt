@@ -17,14 +17,14 @@ use Rattle.source_text.specs.declared.limits.TheConstants.{MAX_FORM_TEXT}
 use Rattle.source_text.specs.Listing.{ExtrasView, code_text}
 use Rattle.container_listing.specs.declared.stop.NoSource.{NoSource}
 use Rattle.container_listing.specs.declared.stop.NoSource.TheVariants.{NotCode, TooHigh, NotForm, LongInv, LongText}
-use Rattle.container_listing.specs.Words.{indices_of, word_comment, hint_at}
+use Rattle.container_listing.specs.Words.{indices_of, word_comment, word_hint}
 use Rattle.container_listing.specs.Notes.{notes_of}
 
 -- what is printed beside code and invariants: a comment and a hint for each word, and the notes
 abbrev pub extras_with : List ℕ → List ℕ → List (List ℕ) → ExtrasView
 extras_with code lines notes = record {
   comments = map (word_comment code lines) (indices_of code);
-  hints = map (hint_at code) (indices_of code);
+  hints = map (word_hint code) (indices_of code);
   notes = notes;
 }
 
@@ -42,8 +42,8 @@ if_code (Ok code) = Ok code
 if_code (Err flaw) = Err NotCode
 
 -- the code, in the profile of the version
-abbrev pub code_of : Contents → Result (List Insn) NoSource
-code_of c = if_code (decoded_code (profile_of c.version) c.code)
+abbrev pub listed_code : Contents → Result (List Insn) NoSource
+listed_code c = if_code (decoded_code (profile_of c.version) c.code)
 
 -- no tree is too high
 abbrev pub if_low : List Tree → Result Unit NoSource
@@ -68,7 +68,7 @@ if_whole text = unless (nat_lt MAX_SOURCE (length text)) LongText text
 -- the contents as a source, whose comments name these lines of another
 abbrev pub source_listing : Contents → List ℕ → Result (List ℕ) NoSource
 source_listing c lines = do
-  code ← code_of c
+  code ← listed_code c
   _ ← if_low (roots c)
   _ ← if_forms (signature_of c.version) c.bound c.invs
   invs ← if_short (formulas c.invs)

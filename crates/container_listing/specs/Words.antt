@@ -10,8 +10,8 @@ abbrev pub indices_of : List ℕ → List ℕ
 indices_of code = range_with_len 0 (length code / 4)
 
 -- the index of a word, and the word as eight hexadecimal digits
-abbrev pub word_text : List ℕ → ℕ → List ℕ
-word_text code i = decimal i ++ (32 ∷ encode_lower (to_be_bytes w32 (code_word_at code i)))
+abbrev pub indexed_word : List ℕ → ℕ → List ℕ
+indexed_word code i = decimal i ++ (32 ∷ encode_lower (to_be_bytes w32 (code_word_at code i)))
 
 -- the number of a line of another source, where there is one
 abbrev pub line_part : Option ℕ → List ℕ
@@ -21,8 +21,8 @@ line_part (Some n) = codes " line " ++ decimal n
 -- the comment of the instruction at an index: `7 44220401 line 12`, the index, the word, and the
 -- i-th of the lines, where there are so many
 abbrev pub word_comment : List ℕ → List ℕ → ℕ → List ℕ
-word_comment code lines i = word_text code i ++ line_part (slice_get lines i)
+word_comment code lines i = indexed_word code i ++ line_part (slice_get lines i)
 
 -- the hint of the word at an index, if that is a return: its 14 lowest bits
-abbrev pub hint_at : List ℕ → ℕ → ℕ
-hint_at code i = code_word_at code i % 2 ^ 14
+abbrev pub word_hint : List ℕ → ℕ → ℕ
+word_hint code i = code_word_at code i % 2 ^ 14

@@ -1,34 +1,29 @@
 //! What makes a container a source.
 
-ghost use Rattle.std.specs.Prelude.{◌≡◌, ◌≤◌, ◌+◌, ◌<◌, [], ◌∷◌, length, drop, map, nat_lt};
-ghost use Rattle.std.specs.Prelude.{is_some, IfOk, IfSome};
-ghost use Rattle.std.specs.Prelude.{replicate, slice_set};
+ghost use Rattle.std.specs.Prelude.{◌≡◌, ◌≤◌, ◌<◌, [], length, map, nat_lt};
+ghost use Rattle.std.specs.Prelude.{is_some, IfSome};
 ghost use Rattle.std.specs.List.{AllByRecursion};
 ghost use Rattle.std.specs.Option.{option_map};
-ghost use Rattle.term_table.specs.Table.{TableView, IsKnown, AllKnown, tree_at, ctx_of, Extends};
+ghost use Rattle.term_table.specs.Table.{IsKnown, tree_at, Extends};
 ghost use Rattle.term_table.specs.Table.{id_trees};
 ghost use Rattle.term_table.specs.Tree.{Fam};
 ghost use Rattle.term_table.specs.Measures.{height_of};
-ghost use Rattle.lf_signature.specs.Nodes.{IsIdOf};
-ghost use Rattle.lf_signature.specs.Constants.{declared};
-ghost use Rattle.lf_check.specs.Kept.{AreKept};
 ghost use Rattle.lf_lemmas.specs.Tables.{lemmas_in, LemmasKnown};
-ghost use Rattle.lf_encode.specs.Contexts.{sort_types};
-ghost use Rattle.vcgen.specs.Encoded.{context_of, AreForms};
 ghost use Rattle.vcgen.specs.declared.condition.TheConstants.{MAX_HEIGHT};
 ghost use Rattle.proof_container.specs.Contents.{roots, lemma_roots, one_or_none};
 ghost use Rattle.proof_container.specs.Encoding.{IsContents};
 ghost use Rattle.proof_container.specs.Views.{IsCanonical, contents_of};
 ghost use Rattle.proof_container.specs.declared.limits.TheConstants.{MAX_INVS};
-ghost use Rattle.pcc_gate.specs.First.{too_high, has_form, formless};
-ghost use Rattle.container_listing.specs.Sources.{code_of, if_low, if_forms};
+ghost use Rattle.pcc_gate.specs.First.{too_high};
+ghost use Rattle.container_listing.specs.Sources.{listed_code, if_low, if_forms};
 ghost use Rattle.container_listing.specs.Answers.{Finds};
 
 use crate::stop::{NoSource, Stop};
 use alpha_cfg::{Code, CodeFault};
-use lf_check::{Exhausted, Kept, MOST_RESULTS, check_term_with};
-use lf_signature::numbers::{EXP, FORM, MEM};
-use lf_signature::{WordSignature, typing_laws};
+use lf_check::{Kept, MOST_RESULTS};
+use lf_signature::WordSignature;
+use lf_signature::numbers::FORM;
+use pcc_gate::{context_types, first_formless};
 use proof_container::{Container, profile_of};
 use std::alloc::{AllocError, Global};
 use term_table::{Id, Node, Table};
@@ -37,7 +32,7 @@ use vcgen::MAX_HEIGHT;
 /// The code of the container, in the profile of its version.
 pub fn code_in(alloc: Global, container: &Container<'_>) -> Result<Code, Stop>
     requires contents { IsContents (contents_of container.now) }
-    ensures { Finds (λ code. code) (code_of (contents_of container.now)) result }
+    ensures { Finds (λ code. code) (listed_code (contents_of container.now)) result }
 {
     match Code::of(alloc, container.code, profile_of(container.version)) {
         Ok(code) => Ok(code),
@@ -118,102 +113,6 @@ pub fn low(container: &Container<'_>) -> Result<(), Stop>
         return Err(Stop::Not(NoSource::TooHigh));
     }
     Ok(())
-}
-
-/// The types of m and r0 to r30.
-fn machine_types(alloc: Global, word: Id, memory: Id) -> Result<Vec<Id>, AllocError>
-    ensures { IfOk result (λ ids. ids.items ≡ slice_set (replicate 32 word) 0 memory) }
-{
-    let mut types = vec![in alloc; word; 32]?;
-    types[0] = memory;
-    Ok(types)
-}
-
-/// The types of the steps that are left, m and r0 to r30.
-fn left_types(alloc: Global, word: Id, memory: Id) -> Result<Vec<Id>, AllocError>
-    ensures { IfOk result (λ ids. ids.items ≡ slice_set (replicate 33 word) 1 memory) }
-{
-    let mut types = vec![in alloc; word; 33]?;
-    types[1] = memory;
-    Ok(types)
-}
-
-/// The types of what invariants of code with that bound are over.
-fn context_types(
-    alloc: Global,
-    table: &mut Table,
-    bound: Option<u32>,
-) -> Result<Vec<Id>, AllocError>
-    ensures known { IfOk result (λ ids. AllKnown table.new ids.items) }
-    ensures types { IfOk result
-        (λ ids. ctx_of table.new ids.items ≡ sort_types (context_of bound)) }
-    ensures extends { Extends table.old table.new }
-{
-    let word = table.intern(Node::Fam(EXP))?;
-    let memory = table.intern(Node::Fam(MEM))?;
-    match bound {
-        None => machine_types(alloc, word, memory),
-        Some(_) => left_types(alloc, word, memory),
-    }
-}
-
-/// Whether the term has type form over the signature in the context of code with that bound, whose
-/// types are `context`.
-fn has_form(
-    table: &mut Table,
-    kept: &mut Kept,
-    signature: WordSignature,
-    bound: Option<u32>,
-    context: &[Id],
-    form: Id,
-    id: Id,
-) -> Result<bool, Exhausted>
-    requires id { IsKnown table.old id }
-    requires form { IsIdOf table.old (Fam 2) form }
-    requires context { AllKnown table.old context.now }
-    requires types { ctx_of table.old context.now ≡ sort_types (context_of bound) }
-    requires kept { AreKept (declared signature) table.old kept.old }
-    ensures exact { IfOk result (λ b. b ≡ has_form signature bound (tree_at table.old id)) }
-    ensures extends { Extends table.old table.new }
-    ensures kept { AreKept (declared signature) table.new kept.new }
-{
-    let _ = bound; // only the clauses speak of it
-    typing_laws();
-    check_term_with(table, kept, &signature, context, id, form)
-}
-
-/// The first invariant, from this place on, that is no formula over the context of code with that
-/// bound in the signature.
-fn first_formless(
-    table: &mut Table,
-    kept: &mut Kept,
-    signature: WordSignature,
-    bound: Option<u32>,
-    context: &[Id],
-    form: Id,
-    invs: &[(u32, Id)],
-    from: usize,
-) -> Result<Option<u32>, Exhausted>
-    requires known { AllByRecursion (λ inv. IsKnown table.old inv.1) invs.now }
-    requires few { length invs.now ≤ MAX_INVS }
-    requires from { from ≤ length invs.now }
-    requires form { IsIdOf table.old (Fam 2) form }
-    requires context { AllKnown table.old context.now }
-    requires types { ctx_of table.old context.now ≡ sort_types (context_of bound) }
-    requires kept { AreKept (declared signature) table.old kept.old }
-    ensures exact { let rest = id_trees table.old (drop from invs.now) in
-        IfOk result (λ found. found ≡ formless signature bound from rest) }
-    ensures extends { Extends table.old table.new }
-    ensures kept { AreKept (declared signature) table.new kept.new }
-{
-    if from == invs.len() {
-        return Ok(None);
-    }
-    let (_, inv) = invs[from];
-    if !has_form(table, kept, signature, bound, context, form, inv)? {
-        return Ok(Some(from as u32));
-    }
-    first_formless(table, kept, signature, bound, context, form, invs, from + 1)
 }
 
 /// That each invariant is a formula over the context of code with that bound in the signature. One

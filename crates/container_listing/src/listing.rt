@@ -7,8 +7,8 @@ ghost use Rattle.proof_container.specs.Views.{IsCanonical, contents_of};
 ghost use Rattle.source_text.specs.Listing.{code_text};
 ghost use Rattle.source_text.specs.Views.{invs_view};
 ghost use Rattle.container_listing.specs.Sources.{extras_with, if_whole, source_listing};
-ghost use Rattle.container_listing.specs.Listing.{contents_in, comments_in, listing_of};
-ghost use Rattle.container_listing.specs.Answers.{Tells, Finds};
+ghost use Rattle.container_listing.specs.Listing.{contents_read, comments_in, listing_of};
+ghost use Rattle.container_listing.specs.Answers.{Reports, Finds};
 
 use crate::forms::short_forms;
 use crate::judging::{code_in, formed, low};
@@ -26,7 +26,7 @@ use std::alloc::Global;
 
 /// The container in the bytes.
 fn container_in(alloc: Global, bytes: &[u8]) -> Result<Container<'_>, ListFault>
-    ensures exact { Tells contents_of (contents_in bytes.now) result }
+    ensures exact { Reports contents_of (contents_read bytes.now) result }
     ensures contents { IfOk result (λ c. IsContents (contents_of c)) }
     ensures canonical { IfOk result (λ c. IsCanonical c) }
 {
@@ -95,7 +95,7 @@ fn source_of(alloc: Global, container: Container<'_>, lines: &[u32]) -> Result<V
 
 /// The container in the bytes in comments, and why it is no source.
 fn comments_of(alloc: Global, bytes: &[u8], why: NoSource) -> Result<Vec<u8>, ListFault>
-    ensures { Tells (λ v. v.items) (comments_in bytes.now why) result }
+    ensures { Reports (λ v. v.items) (comments_in bytes.now why) result }
 {
     match container_in(alloc, bytes) {
         Err(fault) => Err(fault),
@@ -115,7 +115,7 @@ fn comments_of(alloc: Global, bytes: &[u8], why: NoSource) -> Result<Vec<u8>, Li
 /// Errors: `TooLong` and `Malformed` exactly where `bytes` are no container; `Memory`, and
 /// `Results` past `lf_check::MOST_RESULTS` judgements of the invariants, say nothing of them.
 pub fn list(alloc: Global, bytes: &[u8], lines: &[u32]) -> Result<Vec<u8>, ListFault>
-    ensures exact { Tells (λ v. v.items) (listing_of bytes.now lines.now) result }
+    ensures exact { Reports (λ v. v.items) (listing_of bytes.now lines.now) result }
 {
     match container_in(alloc, bytes) {
         Err(fault) => Err(fault),

@@ -13,7 +13,7 @@ ghost use Rattle.proof_container.specs.Views.{IsCanonical, contents_of};
 ghost use Rattle.proof_container.specs.declared.limits.TheConstants.{MAX_WORDS};
 ghost use Rattle.entry_text.specs.Entries.{entry_name, entry_line};
 ghost use Rattle.container_listing.specs.Words.{indices_of};
-ghost use Rattle.container_listing.specs.Plain.{insn_or_flaw, word_line, inv_at, inv_lines};
+ghost use Rattle.container_listing.specs.Plain.{insn_or_flaw, word_line, index_inv, inv_lines};
 ghost use Rattle.container_listing.specs.Plain.{index_lines, inv_entries, entry_lines};
 ghost use Rattle.container_listing.specs.Plain.{comment_line, plain_text};
 
@@ -92,11 +92,11 @@ fn push_word_line(
 }
 
 /// The invariant of an index, if it has one.
-fn inv_at(table: &Table, invs: &[(u32, Id)], index: u32) -> Option<Id>
+fn index_inv(table: &Table, invs: &[(u32, Id)], index: u32) -> Option<Id>
     requires { AllByRecursion (λ inv. IsKnown table.now inv.1) invs.now }
     ensures known { IfSome result (IsKnown table.now) }
     ensures exact { option_map (tree_at table.now) result
-        ≡ inv_at index (id_trees table.now invs.now) }
+        ≡ index_inv index (id_trees table.now invs.now) }
 {
     match invs {
         [] => None,
@@ -105,7 +105,7 @@ fn inv_at(table: &Table, invs: &[(u32, Id)], index: u32) -> Option<Id>
             if at == index {
                 return Some(id);
             }
-            inv_at(table, rest, index)
+            index_inv(table, rest, index)
         }
     }
 }
@@ -144,10 +144,10 @@ fn push_inv_of(
     index: u32,
 ) -> Result<(), AllocError>
     requires { AllByRecursion (λ inv. IsKnown table.now inv.1) invs.now }
-    ensures { let lines = inv_lines table.now.trees (inv_at index (id_trees table.now invs.now)) in
+    ensures { let lines = inv_lines table.now.trees (index_inv index (id_trees table.now invs.now)) in
         OnOk result (out.new.items ≡ out.old.items ++ flat_map comment_line lines) }
 {
-    match inv_at(table, invs, index) {
+    match index_inv(table, invs, index) {
         None => Ok(()),
         Some(id) => push_inv_line(out, table, id),
     }

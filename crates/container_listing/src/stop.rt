@@ -1,7 +1,7 @@
 //! Why a container isn't listed, and why it is no source.
 
 ghost use Rattle.std.specs.Prelude.{◌≡◌};
-ghost use Rattle.container_listing.specs.Plain.{why_text};
+ghost use Rattle.container_listing.specs.Plain.{no_source_text};
 
 use lf_check::Exhausted;
 use proof_container::Flaw;
@@ -53,7 +53,7 @@ pub enum NoSource {
 impl NoSource {
     /// The reason, as the last line of a listing has it.
     pub fn text(self) -> &'static str
-        ensures { result.now ≡ why_text self }
+        ensures { result.now ≡ no_source_text self }
     {
         match self {
             NoSource::NotCode => "this is no source: the words are no code",

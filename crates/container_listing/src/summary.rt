@@ -7,7 +7,7 @@ ghost use Rattle.term_table.specs.Table.{IsKnown, tree_at};
 ghost use Rattle.lf_signature.specs.Constants.{places_of};
 ghost use Rattle.lf_lemmas.specs.Tables.{lemmas_in, LemmasKnown};
 ghost use Rattle.proof_container.specs.Views.{IsCanonical, contents_of};
-ghost use Rattle.container_listing.specs.Notes.{policy_text, version_note, bound_notes};
+ghost use Rattle.container_listing.specs.Notes.{named_policy, version_note, bound_notes};
 ghost use Rattle.container_listing.specs.Notes.{counts_note, measures_text, proof_note};
 ghost use Rattle.container_listing.specs.Notes.{lemma_note, lemma_notes, notes_of};
 
@@ -19,7 +19,7 @@ use term_table::{Id, Table};
 
 /// Appends what names the policy.
 fn push_policy(alloc: Global, out: &mut Vec<u8>, head: Head) -> Result<(), AllocError>
-    ensures { OnOk result (out.new.items ≡ out.old.items ++ policy_text head) }
+    ensures { OnOk result (out.new.items ≡ out.old.items ++ named_policy head) }
 {
     match head {
         Head::Number(n) => {

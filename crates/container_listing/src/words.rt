@@ -2,7 +2,7 @@
 
 ghost use Rattle.std.specs.Prelude.{◌≡◌, ◌+◌, ◌*◌, ◌≤◌, ◌<◌, ◌++◌, length, map, IfOk, OnOk};
 ghost use Rattle.alpha_cfg.specs.CodeBytes.{code_word_at};
-ghost use Rattle.container_listing.specs.Words.{indices_of, word_text, word_comment, hint_at};
+ghost use Rattle.container_listing.specs.Words.{indices_of, indexed_word, word_comment, word_hint};
 
 use crate::push::{push_hex, push_number};
 use std::alloc::{AllocError, Global};
@@ -19,7 +19,7 @@ pub fn word_at(code: &[u8], i: usize) -> u32
 /// Appends the index of a word and the word.
 pub fn push_word(alloc: Global, out: &mut Vec<u8>, code: &[u8], i: usize) -> Result<(), AllocError>
     requires { 4 * i + 4 ≤ length code.now }
-    ensures { OnOk result (out.new.items ≡ out.old.items ++ word_text code.now i) }
+    ensures { OnOk result (out.new.items ≡ out.old.items ++ indexed_word code.now i) }
 {
     push_number(out, i as u64)?;
     out.push(b' ')?;
@@ -53,20 +53,20 @@ pub fn comments(alloc: Global, code: &[u8], lines: &[u32]) -> Result<Vec<Vec<u8>
 }
 
 /// The hint of the word at an index, if that is a return.
-fn hint_at(code: &[u8], i: usize) -> u32
+fn word_hint(code: &[u8], i: usize) -> u32
     requires { 4 * i + 4 ≤ length code.now }
-    ensures { result ≡ hint_at code.now i }
+    ensures { result ≡ word_hint code.now i }
 {
     word_at(code, i) & 0x3fff
 }
 
 /// The hints of all words, in order.
 pub fn hints(alloc: Global, code: &[u8]) -> Result<Vec<u32>, AllocError>
-    ensures { IfOk result (λ v. v.items ≡ map (hint_at code.now) (indices_of code.now)) }
+    ensures { IfOk result (λ v. v.items ≡ map (word_hint code.now) (indices_of code.now)) }
 {
     let mut hints = Vec::new(alloc);
     for i in 0..code.len() / 4 {
-        hints.push(hint_at(code, i))?;
+        hints.push(word_hint(code, i))?;
     }
     Ok(hints)
 }

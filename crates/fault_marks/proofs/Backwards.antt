@@ -1,19 +1,9 @@
 -- Lines from their end.
-use Rattle.std.proofs.Common.{◌≡◌, ℕ, suc, ◌+◌, ◌-◌, ◌≤◌, ◌<◌, cond, List, [], ◌∷◌, ◌++◌, length, take, drop, reverse, get_or, Some, sym, ap, ◌∙◌, subst, arith}
-use Rattle.std.proofs.Common.{eqb}
-use Rattle.std.proofs.lemmas.List.{reverse-append, drop-take, drop-drop, take_rest, length-take-le}
-use Rattle.std.proofs.Math.Seq.{take-suc, take-add}
+use Rattle.std.proofs.Common.{◌≡◌, ℕ, ◌+◌, ◌-◌, ◌≤◌, List, [], ◌++◌, length, take, drop, reverse, Some, sym, ap, ◌∙◌, subst, arith}
+use Rattle.std.proofs.lemmas.List.{drop-take, drop-drop, take_rest, length-take-le}
+use Rattle.std.proofs.Math.Seq.{take-add}
 use Rattle.fault_marks.specs.FormReports.{before_lf, last_line, first_line, line_around, column_of}
 use Rattle.fault_marks.specs.Marking.{marked_line}
-
--- the last byte of a front, seen first
-pub one_back : (text : List ℕ) (n s : ℕ) → n ≡ suc s → n ≤ length text →
-    before_lf (reverse (take n text)) ≡ cond (eqb (get_or text s 0) 10) 0 (suc (before_lf (reverse (take s text))))
-one_back text n s e h =
-    let here : s < length text = omega arith in
-    ap (λ k. before_lf (reverse (take k text))) e
-    ∙ ap (λ l. before_lf (reverse l)) (take-suc text s 0 here)
-    ∙ ap before_lf (reverse-append (take s text) (get_or text s 0 ∷ []))
 
 -- a range of a text is the end of what stands before a place in it and the front of what stands behind
 pub parted : (text : List ℕ) (a p e : ℕ) → a ≤ p → p ≤ e →

@@ -1,6 +1,12 @@
 pub mod Growing
-pub mod Rows
+pub mod Adding
+pub mod Copying
+pub mod ShownTexts
+pub mod FormTerms
+pub mod HintLines
+pub mod RowLines
 pub mod PartLists
 pub mod Nodes
-pub mod Texts
+pub mod LabelTexts
 pub mod Encoded
+pub mod Answering

@@ -1,5 +1,5 @@
 -- The parts of a condition, one after another.
-use Rattle.std.proofs.Common.{◌≡◌, ℕ, suc, Bool, cond, List, [], ◌∷◌, ◌++◌, map, Option, Some, None, is_some, refl, sym, ◌∙◌, ap, append_assoc}
+use Rattle.std.proofs.Common.{◌≡◌, ℕ, suc, Bool, cond, List, [], ◌∷◌, map, Option, Some, None, is_some, refl, sym, ◌∙◌, ap, subst}
 use Rattle.std.proofs.lemmas.List.{append-nil}
 use Rattle.alpha_words.specs.declared.insn.Insn.{Insn}
 use Rattle.formula_tree.specs.Formulas.{Form}
@@ -16,10 +16,12 @@ use Rattle.goal_tree.specs.Goals.{Part, entry_goals, inv_goals}
 use Rattle.goal_tree.specs.Rows.{PartView, part_view, shown_part, shown_parts, IsCodeOf}
 use Rattle.goal_tree.specs.Laws.{IsEntryPart, AreInvParts}
 use Rattle.goal_marks.specs.Marks.{part_form, part_marks, first_unmarked}
-use Rattle.goal_listing.specs.Formulas.{shown}
+use Rattle.goal_listing.specs.declared.lines.ShownLine.{ShownLine}
 use Rattle.goal_listing.specs.Laws.{NamesFirst}
 use Rattle.goal_listing.specs.Listing.{view_of, view_lines, parts_lines, first_hard, goal_parts}
+use Rattle.goal_listing.specs.Inside.Shown.{line_view, AreAdded}
 use Rattle.goal_listing.specs.Inside.Printed.{IsPartPrinted, ArePartsPrinted}
+use Rattle.goal_listing.proofs.Adding.{added-more}
 
 -- ---- lists of parts
 
@@ -35,28 +37,30 @@ abbrev is_none : List PartView → Bool
 is_none [] = Bool.true
 is_none (p ∷ ps) = Bool.false
 
-pub parts-none : (bound : Option ℕ) (k : ℕ) (t : TableView) (old : List ℕ) →
-    ArePartsPrinted bound k t [] old old None
-parts-none bound k t old [] e = (sym (append-nil old), refl)
+pub parts-none : (bound : Option ℕ) (k : ℕ) (t : TableView) (old : List ShownLine)
+    → ArePartsPrinted bound k t t [] old old None
+parts-none bound k t old [] e = (sym (append-nil (map (line_view t) old)), refl)
 parts-none bound k t old (p ∷ ps) e =
     let wrong : Bool.true ≡ Bool.false = ap is_none e in absurd cc
 
-pub parts-some : (bound : Option ℕ) (k n : ℕ) (t u : TableView) (first : PartRows) (rest : List PartRows)
-    (old mid new : List ℕ) (easy : Bool) (later : Option ℕ) → n ≡ suc k
-    → IsPartPrinted bound k t first old mid easy
-    → ArePartsPrinted bound n u rest mid new later
+pub parts-some : (bound : Option ℕ) (k n : ℕ) (t u v : TableView) (first : PartRows) (rest : List PartRows)
+    (old mid new : List ShownLine) (easy : Bool) (later : Option ℕ) → n ≡ suc k
+    → IsPartPrinted bound k t u first old mid easy
+    → ArePartsPrinted bound n u v rest mid new later
     → map (part_view u) rest ≡ map (part_view t) rest
-    → ArePartsPrinted bound k t (first ∷ rest) old new (cond easy later (Some k))
-parts-some bound k n t u first rest old mid new easy later one here others same [] e =
+    → ArePartsPrinted bound k t v (first ∷ rest) old new (cond easy later (Some k))
+parts-some bound k n t u v first rest old mid new easy later one here others same [] e =
     let wrong : Bool.false ≡ Bool.true = ap is_none e in absurd cc
-parts-some bound k n t u first rest old mid new easy later one here others same (p ∷ ps) e =
+parts-some bound k n t u v first rest old mid new easy later one here others same (p ∷ ps) e =
     let d = part_view t first in
     let is : part_view t first ≡ view_of bound p = ap (first_view d) e in
     let are : map (part_view u) rest ≡ map (view_of bound) ps = same ∙ ap later_views e in
     let one_part = here p is in
     let more = others ps are in
-    let lines = view_lines (shown bound) k (view_of bound p) (part_marks (is_some bound) p) in (
-      more.0 ∙ (λ i. one_part.0 i ++ parts_lines bound (one i) ps) ∙ append_assoc old lines (parts_lines bound (suc k) ps),
+    let lines = view_lines (is_some bound) k (view_of bound p) (part_marks (is_some bound) p) in
+    let behind : AreAdded bound u v mid (parts_lines bound (suc k) ps) new =
+    subst (λ m. AreAdded bound u v mid (parts_lines bound m ps) new) one more.0 in (
+      added-more bound t u v old lines mid (parts_lines bound (suc k) ps) new one_part.0 behind,
       λ i. cond (one_part.1 i) ((more.1 ∙ ap (λ m. first_hard bound m ps) one) i) (Some k),
     )
 

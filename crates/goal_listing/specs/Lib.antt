@@ -1,5 +1,7 @@
 pub mod Formulas
 pub mod Lines
+pub mod Hints
+pub mod Texts
 pub mod Listing
 pub mod Answers
 pub mod Laws

@@ -1,22 +1,37 @@
 -- The lines of the listing of goals. The text is this project's own.
 use Rattle.std.specs.Prelude.{ℕ, ◌==◌, Bool, true, false, if◌then◌else◌, List, [], ◌∷◌, ◌++◌, codes, decimal, Option, Some, None}
+use Rattle.term_table.specs.Tree.{Tree}
 use Rattle.goal_tree.specs.declared.rows.Why.{Why}
 use Rattle.goal_tree.specs.declared.rows.Why.TheVariants as why
+
+-- A line of the listing: what stands before its formula, and the formula as a term over the
+-- machine's variables, where it has one.
+pub record Line : Type 0 where
+  pub label : List ℕ
+  pub term : Option Tree
+
+-- a line of words alone
+abbrev pub words : List ℕ → Line
+words label = record { label = label; term = None }
+
+-- a line that ends with a formula
+abbrev pub before : List ℕ → Tree → Line
+before label t = record { label = label; term = Some t }
 
 -- a word and the number behind it
 abbrev pub numbered : List ℕ → ℕ → List ℕ
 numbered word n = word ++ decimal n
 
--- the first line of the part of a number, which begins at an index
+-- the title of the part of a number, which begins at an index
 abbrev pub part_title : ℕ → ℕ → List ℕ
 part_title k at =
     if k == 0
     then codes "part 0, from the start"
     else numbered (codes "part ") k ++ numbered (codes ", from index ") at
 
--- that line, and the next up to its formula
-abbrev pub part_head : ℕ → ℕ → List ℕ
-part_head k at = part_title k at ++ (10 ∷ codes "known 0: ")
+-- the line of what is known there, up to its formula
+abbrev pub start_label : List ℕ
+start_label = codes "known 0: "
 
 -- why a goal is asked
 abbrev pub why_text : Why → List ℕ
@@ -37,8 +52,8 @@ abbrev pub taken_text : Bool → List ℕ
 taken_text true = codes " taken: "
 taken_text false = codes " not taken: "
 
--- the line of a goal up to its formula: its index, why it is asked, what is known there, and whether
--- it is easy
+-- the line of a goal up to its formula: its index, why it is asked, what is known there, and
+-- whether it is easy
 abbrev pub goal_label : ℕ → Why → ℕ → Bool → List ℕ
 goal_label i w d easy =
     numbered (codes "goal ") i

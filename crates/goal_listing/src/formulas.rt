@@ -2,12 +2,12 @@
 //!
 //! Errors: want of memory alone; each id keeps its tree.
 
-ghost use Rattle.std.specs.Prelude.{◌≡◌, ◌≤◌, ◌++◌, ◌∷◌, [], IfOk, OnOk, IfSome, nat_le, Some};
+ghost use Rattle.std.specs.Prelude.{◌≡◌, ◌≤◌, IfOk, IfSome, nat_le};
 ghost use Rattle.std.specs.Option.{option_map};
 ghost use Rattle.term_table.specs.Table.{IsKnown, PartsKnown, tree_at, Extends};
 ghost use Rattle.formula_tree.specs.Views.{form_view};
 ghost use Rattle.entry_text.specs.Sizes.{node_count};
-ghost use Rattle.goal_listing.specs.Formulas.{formula_in, text_within, short_text, shown};
+ghost use Rattle.goal_listing.specs.Formulas.{formula_in, text_within, short_text};
 ghost use Rattle.goal_listing.specs.Inside.Nodes.{rest_of, rest_behind, rest_of_node};
 
 use crate::limits::MAX_SHOWN;
@@ -107,7 +107,11 @@ fn text_within(alloc: Global, formula: Option<Form>) -> Result<Option<Vec<u8>>, 
 /// The text of the formula that the term encodes, where the term has at most `MAX_SHOWN` nodes and
 /// the text at most so many bytes.
 #[tactic(auto, unfolding(crate::specs::Formulas::short_text))]
-fn short_text(table: &mut Table, bound: Option<u32>, id: Id) -> Result<Option<Vec<u8>>, AllocError>
+pub(crate) fn short_text(
+    table: &mut Table,
+    bound: Option<u32>,
+    id: Id,
+) -> Result<Option<Vec<u8>>, AllocError>
     requires { IsKnown table.old id }
     ensures exact { IfOk result
         (λ o. option_map (λ v. v.items) o ≡ short_text bound (tree_at table.old id)) }
@@ -118,40 +122,4 @@ fn short_text(table: &mut Table, bound: Option<u32>, id: Id) -> Result<Option<Ve
     }
     let formula = formula_in(table, bound, id)?;
     text_within(table.allocator(), formula)
-}
-
-/// Appends the formula as it is shown.
-#[tactic(auto, unfolding(crate::specs::Formulas::shown))]
-fn push_formula(
-    table: &mut Table,
-    bound: Option<u32>,
-    out: &mut Vec<u8>,
-    id: Id,
-) -> Result<(), AllocError>
-    requires { IsKnown table.old id }
-    ensures exact { OnOk result (out.new.items
-        ≡ out.old.items ++ shown bound (tree_at table.old id)) }
-    ensures extends { Extends table.old table.new }
-{
-    match short_text(table, bound, id)? {
-        Some(text) => out.extend_from_slice(text.as_slice()),
-        None => out.extend_from_slice(b"too long"),
-    }
-}
-
-/// Appends the formula and the line's end.
-pub(crate) fn end_line(
-    table: &mut Table,
-    bound: Option<u32>,
-    out: &mut Vec<u8>,
-    id: Id,
-) -> Result<(), AllocError>
-    requires { IsKnown table.old id }
-    ensures exact { OnOk result (out.new.items
-        ≡ out.old.items ++ (shown bound (tree_at table.old id) ++ (10 ∷ []))) }
-    ensures extends { Extends table.old table.new }
-{
-    push_formula(table, bound, out, id)?;
-    out.push(b'\n')?;
-    Ok(())
 }

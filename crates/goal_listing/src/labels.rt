@@ -2,15 +2,16 @@
 //!
 //! Errors: want of memory alone.
 
-ghost use Rattle.std.specs.Prelude.{◌≡◌, ◌++◌, OnOk, decimal};
-ghost use Rattle.goal_listing.specs.Lines.{numbered, part_title, part_head, why_text, mark_text};
+ghost use Rattle.std.specs.Prelude.{◌≡◌, ◌++◌, IfOk, OnOk, decimal};
+ghost use Rattle.goal_listing.specs.Lines.{numbered, part_title, why_text, mark_text};
+ghost use Rattle.goal_listing.specs.Hints.{bounds_label};
 ghost use Rattle.goal_listing.specs.Lines.{taken_text, goal_label, known_label, last_line};
 
 use goal_tree::Why;
 use itoa::Buffer;
-use std::alloc::AllocError;
+use std::alloc::{AllocError, Global};
 
-fn push_number(out: &mut Vec<u8>, n: u64) -> Result<(), AllocError>
+pub(crate) fn push_number(out: &mut Vec<u8>, n: u64) -> Result<(), AllocError>
     ensures { OnOk result (out.new.items ≡ out.old.items ++ decimal n) }
 {
     let mut buffer = Buffer::new();
@@ -25,7 +26,7 @@ fn push_numbered(out: &mut Vec<u8>, word: &str, n: u64) -> Result<(), AllocError
     push_number(out, n)
 }
 
-/// The first line of the part of a number, without its end.
+/// The title of the part of a number.
 fn push_title(out: &mut Vec<u8>, number: usize, at: u32) -> Result<(), AllocError>
     ensures { OnOk result (out.new.items ≡ out.old.items ++ part_title number at) }
 {
@@ -35,15 +36,6 @@ fn push_title(out: &mut Vec<u8>, number: usize, at: u32) -> Result<(), AllocErro
     push_numbered(out, "part ", number as u64)?;
     push_numbered(out, ", from index ", u64::from(at))?;
     Ok(())
-}
-
-/// That line, and the next up to its formula.
-pub(crate) fn push_head(out: &mut Vec<u8>, number: usize, at: u32) -> Result<(), AllocError>
-    ensures { OnOk result (out.new.items ≡ out.old.items ++ part_head number at) }
-{
-    push_title(out, number, at)?;
-    out.push(b'\n')?;
-    out.extend_from_slice(b"known 0: ")
 }
 
 /// Why a goal is asked.
@@ -83,7 +75,7 @@ fn push_taken(out: &mut Vec<u8>, taken: bool) -> Result<(), AllocError>
 }
 
 /// The line of a goal up to its formula.
-pub(crate) fn push_goal_label(
+fn push_goal_label(
     out: &mut Vec<u8>,
     at: u32,
     why: Why,
@@ -100,17 +92,69 @@ pub(crate) fn push_goal_label(
 }
 
 /// The line of what is known behind a branch, up to its formula.
-pub(crate) fn push_known_label(
-    out: &mut Vec<u8>,
-    number: u64,
-    at: u32,
-    taken: bool,
-) -> Result<(), AllocError>
+fn push_known_label(out: &mut Vec<u8>, number: u64, at: u32, taken: bool) -> Result<(), AllocError>
     ensures { OnOk result (out.new.items ≡ out.old.items ++ known_label number at taken) }
 {
     push_numbered(out, "known ", number)?;
     push_numbered(out, ", ", u64::from(at))?;
     push_taken(out, taken)
+}
+
+/// The title of the part of a number.
+pub(crate) fn title_label(alloc: Global, number: usize, at: u32) -> Result<Vec<u8>, AllocError>
+    ensures { IfOk result (λ v. v.items ≡ part_title number at) }
+{
+    let mut label = Vec::new(alloc);
+    push_title(&mut label, number, at)?;
+    Ok(label)
+}
+
+/// A text as a label.
+pub(crate) fn label_of(alloc: Global, text: &str) -> Result<Vec<u8>, AllocError>
+    ensures { IfOk result (λ v. v.items ≡ text.now) }
+{
+    let mut label = Vec::new(alloc);
+    label.extend_from_slice(text.as_bytes())?;
+    Ok(label)
+}
+
+/// What is known of both sides of a comparison.
+pub(crate) fn bounds_label(alloc: Global, upper: u64, lower: u64) -> Result<Vec<u8>, AllocError>
+    ensures { IfOk result (λ v. v.items ≡ bounds_label upper lower) }
+{
+    let mut label = Vec::new(alloc);
+    push_numbered(&mut label, "  the left side is at most ", upper)?;
+    push_numbered(&mut label, ", the right side at least ", lower)?;
+    Ok(label)
+}
+
+/// The line of a goal up to its formula.
+pub(crate) fn goal_label(
+    alloc: Global,
+    at: u32,
+    why: Why,
+    depth: u32,
+    easy: bool,
+) -> Result<Vec<u8>, AllocError>
+    ensures { IfOk result (λ v. v.items ≡ goal_label at why depth easy) }
+{
+    let mut label = Vec::new(alloc);
+    push_goal_label(&mut label, at, why, depth, easy)?;
+    Ok(label)
+}
+
+/// The line of what is known behind a branch, up to its formula.
+pub(crate) fn known_label(
+    alloc: Global,
+    number: u64,
+    at: u32,
+    taken: bool,
+) -> Result<Vec<u8>, AllocError>
+    ensures { IfOk result (λ v. v.items ≡ known_label number at taken) }
+{
+    let mut label = Vec::new(alloc);
+    push_known_label(&mut label, number, at, taken)?;
+    Ok(label)
 }
 
 /// The last line.

@@ -1,6 +1,6 @@
 //! The listing of the goals of a container's condition.
 
-ghost use Rattle.std.specs.Prelude.{◌≡◌, ◌≤◌, IfOk, All, List, map, length};
+ghost use Rattle.std.specs.Prelude.{◌≡◌, ◌≤◌, None, IfOk, All, List, map, length};
 ghost use Rattle.alpha_cfg.specs.Cuts.{AreFlags, unfolded_of};
 ghost use Rattle.term_table.specs.Table.{Extends, id_trees};
 ghost use Rattle.lf_signature.specs.declared.WordSignature.TheVariants.{Sigma3};
@@ -8,7 +8,7 @@ ghost use Rattle.proof_container.specs.Views.{contents_of};
 ghost use Rattle.vcgen.specs.Answers.{AreLowInvs};
 ghost use Rattle.vcgen.specs.Encoded.{AreForms, annotated};
 ghost use Rattle.vcgen.specs.declared.condition.TheConstants.{MAX_UNFOLDED};
-ghost use Rattle.pcc_gate.specs.First.{formulas};
+ghost use Rattle.pcc_gate.specs.First.{formulas, front_refusal};
 ghost use Rattle.pcc_gate.specs.Passing.{Passes};
 ghost use Rattle.pcc_gate.specs.Answers.{IsHeld};
 ghost use Rattle.goal_tree.specs.Rows.{part_view, HasKnownIds};
@@ -19,6 +19,7 @@ ghost use Rattle.goal_listing.specs.Answers.{IsGoalsAnswer};
 use crate::fault::GoalsFault;
 use crate::labels::push_last;
 use crate::parts::push_parts;
+use crate::texts::lines_text;
 use alpha_cfg::Cut;
 use condition_prover::{MOST_SEARCHED, condition_in};
 use goal_proofs::Search;
@@ -60,8 +61,9 @@ fn text_of(table: &mut Table, bound: Option<u32>, parts: &[PartRows]) -> Result<
         → IfOk result (λ v. v.items ≡ parts_text bound ps) }
 {
     let mut search = Search::new(table, MOST_SEARCHED);
-    let mut out = Vec::new(table.allocator());
-    let hard = push_parts(table, &mut search, bound, &mut out, parts, 0)?;
+    let mut lines = Vec::new(table.allocator());
+    let hard = push_parts(table, &mut search, bound, &mut lines, parts, 0)?;
+    let mut out = lines_text(table, lines.as_slice())?;
     push_last(&mut out, hard)?;
     Ok(out)
 }
@@ -84,18 +86,37 @@ fn listed(policy: &Policy, bytes: &[u8], passed: Passed<'_>) -> Result<Vec<u8>, 
     text_of(&mut table, bound, &parts)
 }
 
+/// The answer to bytes of which the clauses before the proof hold.
+fn answered(policy: &Policy, bytes: &[u8], passed: Passed<'_>) -> Result<Vec<u8>, GoalsFault>
+    requires passes { let contents = contents_of passed.container in
+        Passes policy.now bytes.now contents passed.cut.code passed.cut.marks }
+    requires first { front_refusal policy.now bytes.now ≡ None }
+    requires held { IsHeld passed.container }
+    ensures { IsGoalsAnswer policy.now bytes.now result }
+{
+    match listed(policy, bytes, passed) {
+        Ok(out) => Ok(out),
+        Err(Exhausted::Memory) => Err(GoalsFault::Memory),
+        Err(Exhausted::Results) => Err(GoalsFault::Results),
+    }
+}
+
 /// The goals of the verification condition of the container in `bytes` under `policy`, as text,
-/// where the gate's clauses before the proof hold (`pcc_gate::front`): for each part of the condition
-/// its number and the index where it begins, and for each goal the index that asks for it and why,
-/// what is known there, and whether the class of easy conditions proves it, by itself or as what it
-/// stands in. The last line names the first part with a goal that isn't easy, which is the one that
-/// `bounds_prover::prove` names. A formula whose term has more than `MAX_SHOWN` nodes, or whose text
-/// more bytes than that, is shown as too long; the time that it takes goes by the limit and not by
-/// the size of its tree.
+/// where the gate's clauses before the proof hold (`pcc_gate::front`): for each part of the
+/// condition its number and the index where it begins, and for each goal the index that asks for
+/// it and why, what is known there, and whether the class of easy conditions proves it, by itself
+/// or as what it stands in. The first goal of a part that isn't easy is followed by what is missing
+/// (`goal_hints::missing_of`). The last line names the first part with a goal that isn't easy,
+/// which is the one that `bounds_prover::prove` names.
 ///
-/// Errors: `Refused` names the first of those clauses that fails; `Memory` and `Results` say nothing
-/// of `bytes`: there was no memory, or the results that the search keeps and the terms that it makes
-/// were more than `condition_prover::MOST_SEARCHED`.
+/// A formula whose term has more than `MAX_SHOWN` nodes, or whose text more bytes than that, is
+/// shown by the name of its entry, as `e41`; behind the parts stand the entries that such formulas
+/// are made of, a line each and parts first, as `e41 = and e3 e40`. The time goes by the limit and
+/// by the entries, and not by the size of a tree.
+///
+/// Errors: `Refused` names the first of those clauses that fails; `Memory` and `Results` say
+/// nothing of `bytes`: there was no memory, or the results that the search keeps and the terms that
+/// it makes were more than `condition_prover::MOST_SEARCHED`.
 pub fn list_goals(alloc: Global, policy: &Policy, bytes: &[u8]) -> Result<Vec<u8>, GoalsFault>
     ensures exact { IsGoalsAnswer policy.now bytes.now result }
 {
@@ -103,10 +124,6 @@ pub fn list_goals(alloc: Global, policy: &Policy, bytes: &[u8]) -> Result<Vec<u8
         Err(GateFault::Refused(refusal)) => Err(GoalsFault::Refused(refusal)),
         Err(GateFault::Memory) => Err(GoalsFault::Memory),
         Err(GateFault::Results) => Err(GoalsFault::Results),
-        Ok(passed) => match listed(policy, bytes, passed) {
-            Ok(out) => Ok(out),
-            Err(Exhausted::Memory) => Err(GoalsFault::Memory),
-            Err(Exhausted::Results) => Err(GoalsFault::Results),
-        },
+        Ok(passed) => answered(policy, bytes, passed),
     }
 }

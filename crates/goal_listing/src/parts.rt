@@ -3,105 +3,25 @@
 //! Errors: want of memory, and `Results` where the search would keep more than it may; each id
 //! keeps its tree.
 
-ghost use Rattle.std.specs.Prelude.{◌≡◌, ◌≤◌, ◌++◌, IfOk, OnOk, All, map, drop, length};
-ghost use Rattle.std.specs.Prelude.{false, slice_index_or, if◌then◌else◌};
-ghost use Rattle.term_table.specs.Table.{IsKnown, tree_at, Extends};
+ghost use Rattle.std.specs.Prelude.{◌≡◌, ◌≤◌, IfOk, OnOk, All, drop, length, is_some};
+ghost use Rattle.std.specs.Prelude.{if◌then◌else◌};
+ghost use Rattle.term_table.specs.Table.{Extends};
 ghost use Rattle.goal_proofs.specs.Search.{IsSearch};
-ghost use Rattle.goal_tree.specs.Rows.{row_view, HasKnownId, part_view, HasKnownIds};
+ghost use Rattle.goal_tree.specs.Rows.{part_view, HasKnownIds};
 ghost use Rattle.goal_marks.specs.Marks.{all_true};
-ghost use Rattle.goal_listing.specs.Formulas.{shown};
-ghost use Rattle.goal_listing.specs.Listing.{row_line, goal_count, row_lines, view_lines};
+ghost use Rattle.goal_listing.specs.Listing.{view_lines};
+ghost use Rattle.goal_listing.specs.Inside.FormTerms.{IsFormTerm, AreFormRows};
+ghost use Rattle.goal_listing.specs.Inside.Shown.{AreKnownLines, AreAdded};
 ghost use Rattle.goal_listing.specs.Inside.Printed.{IsPartPrinted, ArePartsPrinted};
 
-use crate::formulas::end_line;
-use crate::labels::{push_goal_label, push_head, push_known_label};
+use crate::labels::{label_of, title_label};
+use crate::lines::{ShownLine, push_formula, push_words};
+use crate::rows::{mark_at, push_rows};
 use goal_marks::marks_of;
 use goal_proofs::Search;
-use goal_tree::{PartRows, Row};
+use goal_tree::PartRows;
 use hereditary_subst::Exhausted;
-use std::alloc::AllocError;
-use term_table::{Id, Table};
-
-/// The line of a row; two that are both asked have none.
-fn push_row(
-    table: &mut Table,
-    bound: Option<u32>,
-    out: &mut Vec<u8>,
-    row: Row,
-    easy: bool,
-) -> Result<(), AllocError>
-    requires { HasKnownId table.old row }
-    ensures exact { let line = row_line (shown bound) (row_view table.old row) easy in
-        OnOk result (out.new.items ≡ out.old.items ++ line) }
-    ensures extends { Extends table.old table.new }
-{
-    match row {
-        Row::Goal {
-            at,
-            why,
-            formula,
-            depth,
-        } => {
-            push_goal_label(out, at, why, depth, easy)?;
-            end_line(table, bound, out, formula)
-        }
-        Row::Both => Ok(()),
-        Row::Under {
-            at,
-            taken,
-            known,
-            depth,
-        } => {
-            push_known_label(out, u64::from(depth) + 1, at, taken)?;
-            end_line(table, bound, out, known)
-        }
-    }
-}
-
-/// How many goals a row is.
-fn goal_count(table: &Table, row: &Row) -> usize
-    ensures exact { result ≡ goal_count (row_view table.now row.now) }
-    ensures one { result ≤ 1 }
-{
-    let _ = table; // only the clause speaks of it
-    match row {
-        Row::Goal { .. } => 1,
-        Row::Both => 0,
-        Row::Under { .. } => 0,
-    }
-}
-
-/// The mark at a place, or false behind them.
-fn mark_at(marks: &[bool], place: usize) -> bool
-    ensures { result ≡ slice_index_or marks.now place false }
-{
-    place < marks.len() && marks[place]
-}
-
-/// The lines of rows, whose goals have these marks in order.
-fn push_rows(
-    table: &mut Table,
-    bound: Option<u32>,
-    out: &mut Vec<u8>,
-    rows: &[Row],
-    marks: &[bool],
-) -> Result<(), AllocError>
-    requires { All (HasKnownId table.old) rows.now }
-    ensures exact { let views = map (row_view table.old) rows.now in
-        let lines = row_lines (shown bound) views marks.now in
-        OnOk result (out.new.items ≡ out.old.items ++ lines) }
-    ensures extends { Extends table.old table.new }
-{
-    let mut place: usize = 0;
-    for index in 0..rows.len() {
-        let row = rows[index];
-        let count = goal_count(table, &row);
-        let easy = mark_at(marks, place);
-        push_row(table, bound, out, row, easy)?;
-        place += count;
-    }
-    Ok(())
-}
+use term_table::Table;
 
 /// Whether all marks are true.
 fn all_true(marks: &[bool]) -> bool
@@ -117,23 +37,34 @@ fn all_true(marks: &[bool]) -> bool
 }
 
 /// The lines of a part, whose goals have these marks.
+#[tactic(auto, using(goal_proofs::proofs::Kept::rows))]
 fn push_view(
     table: &mut Table,
+    search: &mut Search,
     bound: Option<u32>,
-    out: &mut Vec<u8>,
+    lines: &mut Vec<ShownLine>,
     number: usize,
     part: &PartRows,
     marks: &[bool],
-) -> Result<(), AllocError>
-    requires { HasKnownIds table.old part.now }
+) -> Result<(), Exhausted>
+    requires lines { AreKnownLines table.old lines.old.items }
+    requires part { HasKnownIds table.old part.now }
+    requires search { IsSearch table.old search.old }
     ensures exact { let view = part_view table.old part.now in
-        let lines = view_lines (shown bound) number view marks.now in
-        OnOk result (out.new.items ≡ out.old.items ++ lines) }
+        let added = view_lines (is_some bound) number view marks.now in
+        IsFormTerm view.known → AreFormRows view.rows → OnOk result
+        (AreAdded bound table.old table.new lines.old.items added lines.new.items) }
+    ensures known { OnOk result (AreKnownLines table.new lines.new.items) }
     ensures extends { Extends table.old table.new }
+    ensures search { OnOk result (IsSearch table.new search.new) }
 {
-    push_head(out, number, part.at)?;
-    end_line(table, bound, out, part.known)?;
-    push_rows(table, bound, out, part.rows.as_slice(), marks)?;
+    let alloc = table.allocator();
+    let title = title_label(alloc, number, part.at)?;
+    push_words(table, lines, title)?;
+    let label = label_of(alloc, "known 0: ")?;
+    push_formula(table, bound, lines, label, part.known)?;
+    let rows = part.rows.as_slice();
+    push_rows(table, search, bound, lines, part.known, rows, marks)?;
     Ok(())
 }
 
@@ -142,19 +73,21 @@ fn push_part(
     table: &mut Table,
     search: &mut Search,
     bound: Option<u32>,
-    out: &mut Vec<u8>,
+    lines: &mut Vec<ShownLine>,
     number: usize,
     part: &PartRows,
 ) -> Result<bool, Exhausted>
+    requires lines { AreKnownLines table.old lines.old.items }
     requires part { HasKnownIds table.old part.now }
     requires search { IsSearch table.old search.old }
-    ensures exact { IfOk result (λ easy.
-        IsPartPrinted bound number table.old part.now out.old.items out.new.items easy) }
+    ensures exact { IfOk result (IsPartPrinted bound number table.old table.new
+        part.now lines.old.items lines.new.items) }
+    ensures known { OnOk result (AreKnownLines table.new lines.new.items) }
     ensures extends { Extends table.old table.new }
     ensures search { OnOk result (IsSearch table.new search.new) }
 {
     let marks = marks_of(table, search, bound.is_some(), part)?;
-    push_view(table, bound, out, number, part, marks.as_slice())?;
+    push_view(table, search, bound, lines, number, part, marks.as_slice())?;
     Ok(all_true(marks.as_slice()))
 }
 
@@ -171,22 +104,24 @@ pub(crate) fn push_parts(
     table: &mut Table,
     search: &mut Search,
     bound: Option<u32>,
-    out: &mut Vec<u8>,
+    lines: &mut Vec<ShownLine>,
     parts: &[PartRows],
     from: usize,
 ) -> Result<Option<usize>, Exhausted>
+    requires lines { AreKnownLines table.old lines.old.items }
     requires parts { All (HasKnownIds table.old) parts.now }
     requires from { from ≤ length parts.now }
     requires search { IsSearch table.old search.old }
-    ensures exact { let rest = drop from parts.now in IfOk result (λ hard.
-        ArePartsPrinted bound from table.old rest out.old.items out.new.items hard) }
+    ensures exact { let rest = drop from parts.now in IfOk result
+        (ArePartsPrinted bound from table.old table.new rest lines.old.items lines.new.items) }
+    ensures known { OnOk result (AreKnownLines table.new lines.new.items) }
     ensures extends { Extends table.old table.new }
 {
     if from == parts.len() {
         return Ok(None);
     }
     let part = &parts[from];
-    let easy = push_part(table, search, bound, out, from, part)?;
-    let later = push_parts(table, search, bound, out, parts, from + 1)?;
+    let easy = push_part(table, search, bound, lines, from, part)?;
+    let later = push_parts(table, search, bound, lines, parts, from + 1)?;
     Ok(first_of(easy, from, later))
 }

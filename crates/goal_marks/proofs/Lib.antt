@@ -1,3 +1,3 @@
-mod Wholes
+pub mod Wholes
 mod Pushing
 mod Descending

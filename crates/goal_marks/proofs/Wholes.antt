@@ -133,7 +133,7 @@ module _
     → whole_proof leaf out Γ A ≡ by_shape (whole_proof leaf) leaf out Γ A)
   where
     -- what has no proof has none by its shape
-    by_parts : (leaf : Prover) (out : ℕ) (Γ : Hyps) (A : Form)
+    pub by_parts : (leaf : Prover) (out : ℕ) (Γ : Hyps) (A : Form)
         → is_some (whole_proof leaf out Γ A) ≡ false
         → is_some (by_shape (whole_proof leaf) leaf out Γ A) ≡ false
     by_parts leaf out Γ A none = go (find_hyp Γ A) (absurdity Γ) refl refl
@@ -146,7 +146,7 @@ module _
             let wrong : true ≡ false = sym (ap is_some (absurdly leaf out Γ A p f a)) ∙ none in cc
         go None None f a = sym (ap is_some (shape leaf out Γ A f a)) ∙ none
 
-    both-hard : (counted : Bool) (out : ℕ) (Γ : Hyps) (A B : Form)
+    pub both-hard : (counted : Bool) (out : ℕ) (Γ : Hyps) (A B : Form)
         → is_easy counted out Γ (FAnd A B) ≡ false
         → is_easy counted out Γ A && is_easy counted out Γ B ≡ false
     unfolding is_easy

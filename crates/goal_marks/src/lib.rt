@@ -10,5 +10,5 @@
 mod marking;
 mod theorems;
 
-pub use marking::marks_of;
+pub use marking::{PART_BINDERS, marks_of};
 pub use theorems::mark_laws;

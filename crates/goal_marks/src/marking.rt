@@ -26,7 +26,7 @@ use term_table::{Id, Table};
 
 /// How many binders count as outside of what stands under a part's quantifiers: those of the memory and
 /// of registers 0 to 30, and that of the steps that are left, which counts where it isn't there too.
-const PART_BINDERS: u32 = 33;
+pub const PART_BINDERS: u32 = 33;
 
 /// Marks the goals that the rows begin with as easy, and answers the rows that are left.
 fn push_easy<'a>(rows: &'a [Row], marks: &mut Vec<bool>) -> Result<&'a [Row], AllocError>

@@ -26,7 +26,8 @@
 //!
 //! - `rule R A .. |- a .. / P / ..`: the goal of the sequent that R's function answers under the
 //!   hypotheses A .. at the parameters a .. and the sequents P .. of its premises, R being a rule's
-//!   constant; the answer is tested to be a sequent under these hypotheses;
+//!   constant, over the first signature, and `rule_in N R A .. |- a .. / P / ..`: the one that it
+//!   does over signature N; the answer is tested to be a sequent under these hypotheses;
 //! - `constant c`: the goal of the sequent that is answered for an evaluation, a fact or a denial;
 //! - `cmp_le1 N a b`: that of the last family's pair N, which is tested too; `by_rule S N a ..`: that
 //!   of rule N over signature S at parameters, without hypotheses and premises;

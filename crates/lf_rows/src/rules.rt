@@ -4,7 +4,6 @@ ghost use Rattle.std.specs.Prelude.{OnOk};
 ghost use Rattle.term_table.specs.Table.{Extends};
 ghost use Rattle.lf_sequents.specs.Sequents.{IsSequent};
 ghost use Rattle.lf_signature.specs.Constants.{declared};
-ghost use Rattle.lf_signature.specs.declared.WordSignature.TheVariants.{Sigma1};
 
 use crate::answers::constant_number;
 use crate::functions::{KitAnswer, by_number};
@@ -23,10 +22,10 @@ use test_inputs::names::Names;
 use test_inputs::rows::Answer;
 use test_inputs::term_text::{all_known, known, read_term, small_number};
 
-/// Tests that a sequent is one of the table.
-fn tested(alloc: Global, table: &mut Table, s: &Sequent) -> Read<()>
+/// Tests that a sequent is one of the table over a signature.
+fn tested(alloc: Global, table: &mut Table, sig: &WordSignature, s: &Sequent) -> Read<()>
     ensures extends { Extends table.old table.new }
-    ensures sequent { OnOk result (IsSequent (declared Sigma1) table.new s.now) }
+    ensures sequent { OnOk result (IsSequent (declared sig.now) table.new s.now) }
 {
     known(table, s.goal)?;
     let Ok(kind) = pf(table, s.goal) else {
@@ -34,7 +33,7 @@ fn tested(alloc: Global, table: &mut Table, s: &Sequent) -> Read<()>
     };
     known(table, s.term)?;
     all_known(table, s.hyps.as_slice())?;
-    match check_term(alloc, table, &Sigma1, s.hyps.as_slice(), s.term, kind) {
+    match check_term(alloc, table, sig, s.hyps.as_slice(), s.term, kind) {
         Ok(true) => Ok(()),
         Ok(false) => Err(RowFault::Unknown),
         Err(_) => Err(RowFault::Memory),
@@ -96,12 +95,18 @@ fn roomy(answer: KitAnswer) -> Read<Option<Sequent>> {
     }
 }
 
-/// The goal of an answer, which is tested to be a sequent under these hypotheses.
-fn goal_of(alloc: Global, table: &mut Table, hyps: &[Id], answer: Option<Sequent>) -> Read<Answer> {
+/// The goal of an answer, which is tested to be a sequent over a signature under these hypotheses.
+fn goal_of(
+    alloc: Global,
+    table: &mut Table,
+    sig: &WordSignature,
+    hyps: &[Id],
+    answer: Option<Sequent>,
+) -> Read<Answer> {
     let Some(found) = answer else {
         return Ok(Answer::Nothing);
     };
-    tested(alloc, table, &found)?;
+    tested(alloc, table, sig, &found)?;
     if found.hyps.as_slice() == hyps {
         Ok(Answer::Tree(found.goal))
     } else {
@@ -117,10 +122,12 @@ fn parameter(parameters: &[Id], place: usize, other: Id) -> Id {
     }
 }
 
-/// What the function of the rule of this number answers at parameters and premises.
+/// What the function of the rule of this number answers over a signature at parameters and
+/// premises.
 fn answered(
     alloc: Global,
     table: &mut Table,
+    sig: &WordSignature,
     hyps: &[Id],
     rule: u32,
     params: (Id, Id, Id, Id),
@@ -128,26 +135,29 @@ fn answered(
 ) -> Read<Option<Sequent>> {
     let (a, b, c, d) = params;
     let (p, q, r) = premises;
-    tested(alloc, table, p)?;
-    tested(alloc, table, q)?;
-    tested(alloc, table, r)?;
+    tested(alloc, table, sig, p)?;
+    tested(alloc, table, sig, q)?;
+    tested(alloc, table, sig, r)?;
     all_known(table, hyps)?;
     known(table, a)?;
     known(table, b)?;
     known(table, c)?;
     known(table, d)?;
     let mut kept = Kept::new(alloc, 1_000);
-    roomy(by_number(alloc, table, &mut kept, hyps, rule, a, b, c, d, p, q, r))
+    roomy(by_number(
+        alloc, table, sig, &mut kept, hyps, rule, a, b, c, d, p, q, r,
+    ))
 }
 
-/// The answer to `rule`, whose number is read.
+/// The goal that the function of the rule before which the cursor stands answers over a signature.
 fn ruled(
     alloc: Global,
     table: &mut Table,
     names: &Names,
     cursor: &mut Cursor<'_>,
-    rule: u32,
+    sig: &WordSignature,
 ) -> Read<Answer> {
+    let rule = constant_number(table, names, cursor)?;
     let hyps = context(alloc, table, names, cursor)?;
     let terms = parameters(alloc, table, names, cursor)?;
     let p = premise(alloc, table, names, cursor)?;
@@ -161,12 +171,13 @@ fn ruled(
     let answer = answered(
         alloc,
         table,
+        sig,
         hyps.as_slice(),
         rule,
         (a, b, c, d),
         (&p, &q, &r),
     )?;
-    goal_of(alloc, table, hyps.as_slice(), answer)
+    goal_of(alloc, table, sig, hyps.as_slice(), answer)
 }
 
 /// The sequent of a constant that proves something of two words.
@@ -189,7 +200,7 @@ fn constant_goal(
     let constant = read_term(table, names, cursor)?;
     let node = table.node(constant);
     let answer = constant_sequent(alloc, table, node)?;
-    goal_of(alloc, table, &[], answer)
+    goal_of(alloc, table, &Sigma1, &[], answer)
 }
 
 /// What the rule of a number concludes over a signature at parameters, without hypotheses and
@@ -226,7 +237,7 @@ fn paired(
     known(table, a)?;
     let mut kept = Kept::new(alloc, 1_000);
     let answer = roomy(cmp_le1(alloc, table, &Sigma1, &mut kept, &[], pair, a, b))?;
-    goal_of(alloc, table, &[], answer)
+    goal_of(alloc, table, &Sigma1, &[], answer)
 }
 
 /// The term of a rule's constant at terms.
@@ -251,8 +262,11 @@ pub(crate) fn about_rules(
     cursor: &mut Cursor<'_>,
 ) -> Read<Option<Answer>> {
     if question == b"rule".as_slice() {
-        let rule = constant_number(table, names, cursor)?;
-        return Ok(Some(ruled(alloc, table, names, cursor, rule)?));
+        return Ok(Some(ruled(alloc, table, names, cursor, &Sigma1)?));
+    }
+    if question == b"rule_in".as_slice() {
+        let signature = signature_of(cursor)?;
+        return Ok(Some(ruled(alloc, table, names, cursor, &signature)?));
     }
     if question == b"constant".as_slice() {
         return Ok(Some(constant_goal(alloc, table, names, cursor)?));

@@ -40,7 +40,7 @@ use Rattle.pcc_lines.specs.Refusals.{refusal_line}
 use Rattle.pcc_lines.specs.Results.{result_lines}
 use Rattle.pcc_lines.specs.Sources.{written_line}
 use Rattle.pcc_exit.specs.Exits.{Exit, Change}
-use Rattle.pcc_exit.specs.Requests.{missing_exit}
+use Rattle.pcc_exit.specs.Requests.{missing_exit, read_fault_exit, no_memory_exit}
 use Rattle.pcc_exit.specs.Stages.{Stage, stops, gives, reads, ◌>>=◌, went_on, Follows}
 use Rattle.pcc_exit.specs.Runs.{Effect, Happens, written_exit, EndsRun, decided, out_of_memory as ran_out, Runs}
 use Rattle.pcc_exit.proofs.RunLemmas.{is_stop, is_read}
@@ -75,7 +75,7 @@ use Rattle.word_ops.specs.Rights.{Rights}
 use Rattle.turn_laws.specs.Parts.{AreApart, LieIn, LieBetween, part_from}
 use Rattle.agent_host.specs.declared.host.TheConstants.{MAX_AGENTS}
 use Rattle.agent_host.specs.Agents.{base_of}
-use Rattle.pcc_cli.specs.Headline.{agent_part, StaysInPart, AgentsStayInParts, IsJudged, lines_exit, run_exit, RunsCode, not_accepted, accepted, Refs, no_code, ran, Makes, not_made, made, StopsWith, AssemblesTo, ProvesTo, UpgradesTo, CompilesTo, IsToldOf, Checks, UnderNamed, Does, Means, came, out_of_memory, MeansIfCommand, AcceptedRunsSafely, IsShortOrReturns, BoundedReturns}
+use Rattle.pcc_cli.specs.Headline.{agent_part, StaysInPart, AgentsStayInParts, IsJudged, lines_exit, run_exit, RunsCode, not_accepted, accepted, Refs, no_code, ran, Makes, not_made, made, Demonstrates, demonstrated, not_demonstrated, StopsWith, AssemblesTo, ProvesTo, UpgradesTo, CompilesTo, IsToldOf, Checks, UnderNamed, Does, Means, came, out_of_memory, MeansIfCommand, AcceptedRunsSafely, IsShortOrReturns, BoundedReturns}
 use Rattle.pcc_cli.proofs.RunLemmas.{code_given, accepted_code_of_bytes}
 use Rattle.pcc_cli.proofs.CheckLemmas.{ReadsPolicies, checks_from}
 use Rattle.pcc_cli.proofs.CompileLemmas.{ReadsPrograms, CompilesPrograms, compiles, told}
@@ -212,12 +212,14 @@ module _ (accepted_first : AcceptedFirst) (under : PolicyView) (file packets : L
           ≡ was_read file MAX_FILE given ∷ rest → went_on texts file
           (refused container_too_long_line) run_by given ≡ stops exit'
           → Follows texts rest (went_on texts file (refused container_too_long_line) run_by given)
-          e.later → IsJudged under file given exit' → RunsCode under file packets steps events exit
-      run_stopped given exit' rest is stop follows judged =
+          e.later → IsJudged under file given exit' → 0 < exit'.status
+          → RunsCode under file packets steps events exit
+      run_stopped given exit' rest is stop follows judged some =
           let there = stopped_there exit' rest e.later
           (was_read file MAX_FILE given) events e.asked exit is
           (went_on texts file (refused container_too_long_line) run_by given) stop follows e.does in
           not_accepted given there.0 (subst (IsJudged under file given) (sym there.1) judged)
+          (subst (λ (x : Exit). 0 < x.status) (sym there.1) some)
 
       run_judged : (b : List ℕ) (rest : List Event) (r : Option Refusal) → first_refusal under b ≡ r
           → IsBytes b → e.asked ≡ was_read file MAX_FILE (whole b) ∷ rest
@@ -225,7 +227,7 @@ module _ (accepted_first : AcceptedFirst) (under : PolicyView) (file packets : L
           → RunsCode under file packets steps events exit
       run_judged b rest (Some r) some held is follows =
           run_stopped (whole b) (refused (refusal_line r)) rest is (run_by-refused b r some) follows
-          (verdict accepted_first under b held (Some r) some)
+          (verdict accepted_first under b held (Some r) some) (omega arith)
       run_judged b rest None none held is follows =
           let a : IsAccepted under b = (accepted_first under b held).1 none in
           let there = packets_there under a.code steps packets rest e.later
@@ -257,10 +259,14 @@ module _ (accepted_first : AcceptedFirst) (under : PolicyView) (file packets : L
       run_given (whole b) rest is follows =
           run_judged b rest (first_refusal under b) refl (first_bytes b rest is) is follows
       run_given missing rest is follows = run_stopped missing
-          (missing_exit texts file) rest is refl follows refl
-      run_given too_long rest is follows = run_stopped too_long _ rest is refl follows refl
-      run_given failed rest is follows = run_stopped failed _ rest is refl follows refl
-      run_given no_memory rest is follows = run_stopped no_memory _ rest is refl follows refl
+          (missing_exit texts file) rest is refl follows refl (omega arith)
+      run_given too_long rest is follows =
+          run_stopped too_long (refused container_too_long_line) rest is refl follows refl
+          (omega arith)
+      run_given failed rest is follows =
+          run_stopped failed (read_fault_exit texts file) rest is refl follows refl (omega arith)
+      run_given no_memory rest is follows =
+          run_stopped no_memory no_memory_exit rest is refl follows refl (omega arith)
 
       runs_code : RunsCode under file packets steps events exit
       runs_code =
@@ -303,11 +309,19 @@ module _ (under : PolicyView) (file packets : List ℕ) (steps : ℕ) where
       cc
 
   module _ (events : List Event) (exit : Exit) (e : Ended (reads file MAX_FILE (refused container_too_long_line) ref_by) events exit) where
-    ref_stopped : (given : Given) (exit' : Exit) (rest : List Event) → e.asked ≡ was_read file MAX_FILE given ∷ rest → went_on texts file (refused container_too_long_line) ref_by given ≡ stops exit'
+    ref_stopped : (given : Given) (exit' : Exit) (rest : List Event)
+        → e.asked ≡ was_read file MAX_FILE given ∷ rest
+        → StopsWith file (refused container_too_long_line) (code_in under) given exit'
+        → went_on texts file (refused container_too_long_line) ref_by given ≡ stops exit'
         → Follows texts rest (went_on texts file (refused container_too_long_line) ref_by given)
         e.later → Refs under file packets steps events exit
-    ref_stopped given exit' rest is stop follows =
-        no_code given (stopped_there exit' rest e.later (was_read file MAX_FILE given) events e.asked exit is (went_on texts file (refused container_too_long_line) ref_by given) stop follows e.does).0
+    ref_stopped given exit' rest is why stop follows =
+        let there = stopped_there exit' rest e.later
+        (was_read file MAX_FILE given) events e.asked exit is
+        (went_on texts file (refused container_too_long_line) ref_by given) stop follows e.does in
+        no_code given there.0
+        (subst (StopsWith file (refused container_too_long_line) (code_in under) given)
+        (sym there.1) why)
 
     ref_code : (b : List ℕ) (rest : List Event)
         → ((code : List Insn) × (code_in under b ≡ gives code))
@@ -318,17 +332,18 @@ module _ (under : PolicyView) (file packets : List ℕ) (steps : ℕ) where
         let there = packets_there under code steps packets rest e.later
         (was_read file MAX_FILE (whole b)) events e.asked exit is (ref_by b)
         (ref_by-code b code found) follows e.ended e.does in
-        ran b code there.0 there.1 there.2 (same_code b code found)
-    ref_code b rest (inr (exit', stop)) is follows = ref_stopped (whole b) exit' rest is (ref_by-stop b exit' stop) follows
+        ran b code there.0 there.1 found there.2 (same_code b code found)
+    ref_code b rest (inr (exit', stop)) is follows =
+        ref_stopped (whole b) exit' rest is stop (ref_by-stop b exit' stop) follows
 
     ref_given : (given : Given) (rest : List Event) → e.asked ≡ was_read file MAX_FILE given ∷ rest → Follows texts rest (went_on texts file (refused container_too_long_line) ref_by given) e.later
         → Refs under file packets steps events exit
     ref_given (whole b) rest is follows =
         ref_code b rest (shape (code_in under b) (code_in-ends under b)) is follows
-    ref_given missing rest is follows = ref_stopped missing _ rest is refl follows
-    ref_given too_long rest is follows = ref_stopped too_long _ rest is refl follows
-    ref_given failed rest is follows = ref_stopped failed _ rest is refl follows
-    ref_given no_memory rest is follows = ref_stopped no_memory _ rest is refl follows
+    ref_given missing rest is follows = ref_stopped missing _ rest is refl refl follows
+    ref_given too_long rest is follows = ref_stopped too_long _ rest is refl refl follows
+    ref_given failed rest is follows = ref_stopped failed _ rest is refl refl follows
+    ref_given no_memory rest is follows = ref_stopped no_memory _ rest is refl refl follows
 
     refs : Refs under file packets steps events exit
     refs =
@@ -427,17 +442,35 @@ demo-silent (gives x) line = refl
 demo-silent (reads name max more on) line = refl
 
 -- a command that asks for nothing
-asks_nothing : (s : Stage Effect) → is_read s ≡ false → change_at s ≡ None → (events : List Event) (exit : Exit) → Ended s events exit → events ≡ []
+asks_nothing : (s : Stage Effect) → is_read s ≡ false → change_at s ≡ None
+    → (events : List Event) (exit : Exit) → Ended s events exit
+    → (events ≡ []) × (exit ≡ end_at s)
 asks_nothing s none silent events exit e = by e.does
   where
     last : (e.asked ≡ []) × (e.later ≡ s)
     last = no_read s none e.asked e.later e.follows
 
     by : ((events ≡ e.asked) × (exit ≡ end_at e.later) × (change_at e.later ≡ None))
-        ⊎ ((text : List ℕ) × (to : List ℕ) × (bytes : List ℕ) × (answer : Put) × (e.later ≡ gives (record { text = text; change = Some (to, bytes) }))
-        × (events ≡ e.asked ++ was_written to bytes answer ∷ []) × (exit ≡ written_exit texts to text answer)) → events ≡ []
-    by (inl d) = d.0 ∙ last.0
-    by (inr d) = let none : None ≡ Some (d.1, d.2) = sym silent ∙ ap change_at (sym last.1 ∙ d.4) in absurd (true≢false (sym (ap is_some none)))
+        ⊎ ((text : List ℕ) × (to : List ℕ) × (bytes : List ℕ) × (answer : Put)
+        × (e.later ≡ gives (record { text = text; change = Some (to, bytes) }))
+        × (events ≡ e.asked ++ was_written to bytes answer ∷ [])
+        × (exit ≡ written_exit texts to text answer))
+        → (events ≡ []) × (exit ≡ end_at s)
+    by (inl d) = (d.0 ∙ last.0, d.1 ∙ ap end_at last.1)
+    by (inr d) =
+        let none : None ≡ Some (d.1, d.2) = sym silent ∙ ap change_at (sym last.1 ∙ d.4) in
+        absurd (true≢false (sym (ap is_some none)))
+
+-- `demo`, by the stage that it is
+demo_by : (n : ℕ) (events : List Event) (exit : Exit) (s : Stage Effect) → demo_command n ≡ s
+    → is_read s ≡ false → change_at s ≡ None → (events ≡ []) × (exit ≡ end_at s)
+    → Demonstrates n events exit
+demo_by n events exit (stops exit') is none silent ends =
+    not_demonstrated ends.0 (is ∙ ap stops (sym ends.1))
+demo_by n events exit (gives effect) is none silent ends =
+    let shows : Change → Stage Effect = λ c. gives (record { text = effect.text; change = c }) in
+    demonstrated effect.text ends.0 (is ∙ ap shows silent) ends.1
+demo_by n events exit (reads name max more on) is none silent ends = absurd (true≢false none)
 
 -- ---- upgrade
 
@@ -468,12 +501,17 @@ upgraded_of_stage laws b out held e = upgraded_is laws b out held (upgraded_cont
 -- ---- by what the arguments are
 
 -- `demo`, whose policy was looked up
-demo_asks : (n : ℕ) (events : List Event) (exit : Exit) (p : Option PolicyView)
-    → Ended (policy_found p >>= λ under. demo_effect under n) events exit → events ≡ []
+demo_shows : (n : ℕ) (events : List Event) (exit : Exit) (p : Option PolicyView)
+    → demo_command n ≡ (policy_found p >>= λ under. demo_effect under n)
+    → Ended (policy_found p >>= λ under. demo_effect under n) events exit
+    → Demonstrates n events exit
 unfolding demo_effect
-demo_asks n events exit None e = (ended_at_once (refused unknown_policy_line) events exit e).0
-demo_asks n events exit (Some under) e =
-    asks_nothing (demo_effect under n) (demo_ends under n) (demo-silent _ _) events exit e
+demo_shows n events exit None is e =
+    not_demonstrated (ended_at_once (refused unknown_policy_line) events exit e).0
+    (is ∙ ap stops (sym (ended_at_once (refused unknown_policy_line) events exit e).1))
+demo_shows n events exit (Some under) is e =
+    demo_by n events exit (demo_effect under n) is (demo_ends under n) (demo-silent _ _)
+    (asks_nothing (demo_effect under n) (demo_ends under n) (demo-silent _ _) events exit e)
 
 -- a command whose policy was looked up
 under_named : (Did : PolicyView → Type 0) (next : PolicyView → Stage Effect) (events : List Event)
@@ -538,7 +576,8 @@ module _
       (ref_by under file packets steps)) events exit
       (λ under kept e. refs under file packets steps events exit e) (policy_of policy)
       (policy_of-is policy) e
-  does (demo n) events exit f g happened e = demo_asks n events exit (policy_of demo_policy) e
+  does (demo n) events exit f g happened e =
+      demo_shows n events exit (policy_of demo_policy) refl e
   does (upgrade input output) events exit f g happened e =
       makes input output MAX_FILE (refused container_too_long_line) upgraded_in upgraded_in-ends
       UpgradesTo (StopsWith input (refused container_too_long_line) upgraded_in) events exit
@@ -558,7 +597,7 @@ module _
       by : EndsRun texts (stage_of invocation) r.events s t status → Means invocation e e' s t status
       by (decided exit comes prints) =
           came r.events exit r.logged (does invocation r.events exit f g r.happened (ended_of (stage_of invocation) r.events exit comes)) prints
-      by (ran_out later follows clean same status_is) = out_of_memory r.events r.logged clean same status_is
+      by (ran_out later follows clean same status_is) = out_of_memory r.events later r.logged follows clean same status_is
   means None e e' f g s t status r = r.logged ∙ ap (λ es. e ++ es) (by r.ends) ∙ append-nil e
     where
       by : EndsRun texts (task_of_command None).stage r.events s t status → r.events ≡ []

@@ -55,19 +55,22 @@ use Rattle.pcc_lines.specs.Results.{result_lines}
 use Rattle.pcc_lines.specs.Sources.{written_line}
 use Rattle.pcc_exit.specs.Exits.{Exit}
 use Rattle.pcc_exit.specs.Requests.{missing_exit, read_fault_exit, no_memory_exit}
-use Rattle.pcc_exit.specs.Runs.{done_exit, written_exit, Prints, NoneFailed}
+use Rattle.pcc_exit.specs.Runs.{Effect, done_exit, written_exit, Prints, NoneFailed}
 use Rattle.asm_text.specs.declared.limits.TheConstants.{MAX_SOURCE}
 use Rattle.bounds_prover.specs.Proving.{proved_container}
-use Rattle.pcc_exit.specs.Stages.{Stage, stops, gives, went_on}
+use Rattle.pcc_exit.specs.Stages.{Stage, stops, gives, went_on, Follows}
 use Rattle.pcc_stages.specs.Texts.{texts}
-use Rattle.pcc_stages.specs.Stages.Common.{refused}
+use Rattle.pcc_stages.specs.Stages.Common.{refused, printing}
+use Rattle.pcc_stages.specs.Stages.Containers.{code_in}
 use Rattle.pcc_stages.specs.Stages.Policies.{no_policy_spelled}
 use Rattle.pcc_stages.specs.declared.files.TheConstants.{MAX_FILE, MAX_POLICY_FILE}
 use Rattle.pcc_cli.specs.Stages.Assembling.{assembled_in}
 use Rattle.pcc_cli.specs.Stages.Hosting.{Member, told_of}
 use Rattle.pcc_cli.specs.Stages.Proving.{proved_in}
 use Rattle.pcc_cli.specs.Stages.Upgrading.{upgraded_in}
+use Rattle.pcc_cli.specs.Commands.Demo.{demo_command}
 use Rattle.pcc_cli.specs.Commands.Host.{turn_lines}
+use Rattle.pcc_cli.specs.Tasks.{stage_of}
 use Rattle.pcc_cli.specs.declared.stages.TheConstants.{MAX_PROGRAM_FILE}
 
 -- ---- the verdict on what was read
@@ -132,24 +135,36 @@ pub data ChecksFrom (name file : List ℕ) (events : List Event) (exit : Exit) :
       → events ≡ was_read name MAX_POLICY_FILE (whole text) ∷ was_read file MAX_FILE given ∷ []
       → IsJudged policy file given exit → ChecksFrom name file events exit
 
--- `run`: one read, of FILE, which is not accepted, and what `check` prints of it; or it is accepted, PACKETS is read behind it, and
--- the lines are those of the machine that tests every access, of the code that was accepted.
+-- what is told of what a read gave, where a stage goes on with the bytes: it stops with this exit, or there are none
+abbrev pub StopsWith : {A : Type 0} → List ℕ → Exit → (List ℕ → Stage A) → Given → Exit → Type 0
+StopsWith name too_long_exit stage given exit = went_on texts name too_long_exit stage given ≡ stops exit
+
+-- `run`: one read, of FILE, which is not accepted, and what `check` prints of it, which isn't done; or it is accepted, PACKETS is read
+-- behind it, and the lines are those of the machine that tests every access, of the code that was accepted.
 pub data RunsCode (policy : PolicyView) (file packets : List ℕ) (steps : ℕ) (events : List Event)
     (exit : Exit) : Type 0 where
-  not_accepted : (given : Given) → events ≡ was_read file MAX_FILE given ∷ [] → IsJudged policy file given exit
+  not_accepted : (given : Given) → events ≡ was_read file MAX_FILE given ∷ [] → IsJudged policy file given exit → 0 < exit.status
       → RunsCode policy file packets steps events exit
   accepted : (bytes : List ℕ) (a : IsAccepted policy bytes) (given : Given)
       → events ≡ was_read file MAX_FILE (whole bytes) ∷ was_read packets MAX_FILE given ∷ [] → exit ≡ run_exit policy a.code steps packets given
       → RunsCode policy file packets steps events exit
 
--- `ref`: one read, of FILE, and a refusal; or PACKETS is read behind it, and the lines are those of the machine that tests every
--- access, which of accepted bytes are the lines of `run`.
+-- `ref`: one read, of FILE, and the exit that tells why there is no code for the policy in what it gave; or PACKETS is read behind it,
+-- and the lines are those of the machine that tests every access, of the code in the bytes, which of accepted ones is what was accepted.
 pub data Refs (policy : PolicyView) (file packets : List ℕ) (steps : ℕ) (events : List Event)
     (exit : Exit) : Type 0 where
-  no_code : (given : Given) → events ≡ was_read file MAX_FILE given ∷ [] → Refs policy file packets steps events exit
+  no_code : (given : Given) → events ≡ was_read file MAX_FILE given ∷ []
+      → StopsWith file (refused container_too_long_line) (code_in policy) given exit → Refs policy file packets steps events exit
   ran : (bytes : List ℕ) (code : List Insn) (given : Given)
-      → events ≡ was_read file MAX_FILE (whole bytes) ∷ was_read packets MAX_FILE given ∷ [] → exit ≡ run_exit policy code steps packets given
-      → ((a : IsAccepted policy bytes) → code ≡ a.code) → Refs policy file packets steps events exit
+      → events ≡ was_read file MAX_FILE (whole bytes) ∷ was_read packets MAX_FILE given ∷ [] → code_in policy bytes ≡ gives code
+      → exit ≡ run_exit policy code steps packets given → ((a : IsAccepted policy bytes) → code ≡ a.code)
+      → Refs policy file packets steps events exit
+
+-- `demo`: no file is read or written, and the lines are those of its runs, or the one at which its definition stops.
+pub data Demonstrates (n : ℕ) (events : List Event) (exit : Exit) : Type 0 where
+  demonstrated : (text : List ℕ) → events ≡ [] → demo_command n ≡ printing text → exit ≡ done_exit text
+      → Demonstrates n events exit
+  not_demonstrated : events ≡ [] → demo_command n ≡ stops exit → Demonstrates n events exit
 
 -- A command that makes a file of another: one read, of IN, and the exit that tells why nothing is made of what it gave; or then one
 -- write to OUT, of what is made of the bytes.
@@ -157,10 +172,6 @@ pub data Makes (input output : List ℕ) (max : ℕ) (IsMade : List ℕ → List
   not_made : (given : Given) → events ≡ was_read input max given ∷ [] → IsTold given exit → Makes input output max IsMade IsTold events exit
   made : (bytes out : List ℕ) (answer : Put) → events ≡ was_read input max (whole bytes) ∷ was_written output out answer ∷ []
       → IsMade bytes out → exit ≡ written_exit texts output (written_line (length out)) answer → Makes input output max IsMade IsTold events exit
-
--- what is told of what the read of IN gave, where a stage goes on with the bytes: it stops with this exit, or there are none
-abbrev pub StopsWith : List ℕ → Exit → (List ℕ → Stage (List ℕ)) → Given → Exit → Type 0
-StopsWith input too_long_exit stage given exit = went_on texts input too_long_exit stage given ≡ stops exit
 
 -- `asm` makes of a source the container of the version and the bound that it is assembled into
 abbrev pub AssemblesTo : ℕ → Option ℕ → PolicyView → List ℕ → List ℕ → Type 0
@@ -306,7 +317,7 @@ Does (run policy file packets steps) events exit =
     events exit
 Does (ref policy file packets steps) events exit =
     UnderNamed (policy_of policy) (λ under. Refs under file packets steps events exit) events exit
-Does (demo n) events exit = events ≡ []
+Does (demo n) events exit = Demonstrates n events exit
 Does (upgrade input output) events exit =
     Makes input output MAX_FILE UpgradesTo
     (StopsWith input (refused container_too_long_line) upgraded_in) events exit
@@ -315,11 +326,12 @@ Does (bpf input output) events exit =
     Makes input output MAX_PROGRAM_FILE CompilesTo (IsToldOf input) events exit
 
 -- A run of a command asked files for these events, behind a log e, and put what the exit says on the output s; or memory ran out
--- after some reads, and nothing was put.
+-- after some of the reads that the command asks for, of which none failed, and nothing was put.
 pub data Means (invocation : Invocation) (e e' : List Event) (s t : SinkState) (status : ℕ) : Type 0 where
   came : (events : List Event) (exit : Exit) → e' ≡ e ++ events → Does invocation events exit
       → Prints exit s t status → Means invocation e e' s t status
-  out_of_memory : (events : List Event) → e' ≡ e ++ events → NoneFailed events → t ≡ s → status ≡ 5 → Means invocation e e' s t status
+  out_of_memory : (events : List Event) (later : Stage Effect) → e' ≡ e ++ events → Follows texts events (stage_of invocation) later
+      → NoneFailed events → t ≡ s → status ≡ 5 → Means invocation e e' s t status
 
 -- what a run meant, if the arguments are a command
 abbrev pub MeansIfCommand : Option Invocation → List Event → List Event → SinkState → SinkState → ℕ → Type 0

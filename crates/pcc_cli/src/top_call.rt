@@ -87,17 +87,26 @@ fn print<S: Sink>(decision: Result<Report, Stop<'_>>, out: &mut S) -> u8
 /// the same holds: so none changes or learns anything of another's. By `returns`, where accepted
 /// bytes bound their steps, no packet of `run` is out of steps with at least as many for each, and
 /// an agent of a host returns within them.
+///
+/// By `ends`, where the contents of the files are known, a run ends with the answer over them, or as
+/// a failed call or want of memory brings; where they aren't, less is known. By `accounts`, its
+/// status and the counts of faults say what `Accounts` lists, so that each status has its cause.
 pub fn pcc<F: Files, S: Sink>(alloc: Global, words: Vec<String>, files: &mut F, out: &mut S) -> u8
     ensures runs { Runs texts (task_of (map string_bytes words.items)).stage
         (F.log files.old) (F.log files.new) (F.state files.old) (F.state files.new)
         (S.state out.old) (S.state out.new) result }
     ensures means { MeansIfCommand (command_of (map string_bytes words.items))
         (F.log files.old) (F.log files.new) (S.state out.old) (S.state out.new) result }
+    ensures ends { Ends (request_of (map string_bytes words.items))
+        (F.state files.old) (F.state files.new) (S.state out.old) (S.state out.new) result }
+    ensures accounts { Accounts (request_of (map string_bytes words.items))
+        (F.state files.old) (F.state files.new) (S.state out.old) (S.state out.new) result }
     ensures sound { AcceptedSafe }
     ensures safe { AcceptedRunsSafely }
     ensures apart { AgentsStayInParts }
     ensures returns { BoundedReturns }
 {
+    laws();
     pcc_gate::laws();
     packet_store::laws();
     bounds_prover::prove_laws();
@@ -111,9 +120,9 @@ pub fn pcc<F: Files, S: Sink>(alloc: Global, words: Vec<String>, files: &mut F, 
     print(decision, out)
 }
 
-/// Where the contents of the files are known, a run ends with the answer over them, or as a failed
-/// call or want of memory brings; where they aren't, less is known (`Ends`); and its status and the
-/// counts of faults say what `Accounts` lists. Both follow from what `pcc` says of a run.
+/// Of whatever runs as a command asks for, `pcc` or another: where the contents of the files are
+/// known, it ends with the answer over them, or as a failed call or want of memory brings; where they
+/// aren't, less is known (`Ends`); and its status and the counts of faults say what `Accounts` lists.
 pub fn laws()
     ensures ends { (args : List (List ℕ)) (e e' : List Event) (f g : FilesState) (s t : SinkState)
         (status : ℕ) → Runs texts (task_of args).stage e e' f g s t status

@@ -158,8 +158,9 @@ fn left_types(alloc: Global, word: Id, memory: Id) -> Result<Vec<Id>, AllocError
     Ok(types)
 }
 
-/// The types of what invariants of code with that bound are over.
-pub(crate) fn context_types(
+/// The types of what invariants of code with that bound are over: the steps that are left, where
+/// there is a bound, then m and r0 to r30. An error where memory is refused.
+pub fn context_types(
     alloc: Global,
     table: &mut Table,
     bound: Option<u32>,
@@ -203,8 +204,9 @@ fn has_form(
 }
 
 /// Clause 6: the first invariant, from this place on, that is no formula over the context of code
-/// with that bound in the signature.
-pub(crate) fn first_formless(
+/// with that bound in the signature; `context` is what `context_types` gives. An error where memory
+/// is refused, or no further result can be kept.
+pub fn first_formless(
     table: &mut Table,
     kept: &mut Kept,
     signature: WordSignature,

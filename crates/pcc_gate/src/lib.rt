@@ -24,6 +24,7 @@ mod refusal;
 mod theorems;
 
 pub use acceptance::Accepted;
+pub use clauses::{context_types, first_formless};
 pub use fault::GateFault;
 pub use for_policy::is_for;
 pub use judging::gate;

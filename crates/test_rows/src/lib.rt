@@ -20,8 +20,8 @@ mod scene;
 mod shapes;
 mod tally;
 
-pub use lines::run_rows;
-pub use numbers::{hex_bytes, number};
+pub use lines::take_data;
+pub use numbers::number;
 pub use program::Program;
 pub use scene::Scene;
 pub use tally::Tally;

@@ -3,6 +3,7 @@
 use crate::codes::{begin_insn, begin_word};
 use crate::details::take_detail;
 use crate::goals::{begin_goal, run_goal};
+use crate::numbers::hex_bytes;
 use crate::pieces::piece;
 use crate::program::Program;
 use crate::row::Row;
@@ -58,7 +59,7 @@ fn aim_at(scene: &mut Scene, target: Target, text: &str) -> Result<bool, AllocEr
 fn begin(scene: &mut Scene, line: u32, key: &str, text: &str) -> Result<bool, AllocError> {
     match key {
         "file" => aim_at(scene, Target::File, text),
-        "pcc" => {
+        "pcc" | "pcc_view" => {
             scene.begin(line, text)?;
             Ok(true)
         }
@@ -93,7 +94,7 @@ fn take<P: Program>(
     text: &str,
 ) -> Result<bool, AllocError> {
     match key {
-        "file" | "pcc" | "goal" | "word" | "insn" | "clear" => {
+        "file" | "pcc" | "pcc_view" | "goal" | "word" | "insn" | "clear" => {
             end_row(program, scene)?;
             begin(scene, line, key, text)
         }
@@ -127,7 +128,7 @@ fn take_line<P: Program>(
 }
 
 /// Runs the rows of a file of this name and text. How they came out is told by the scene.
-pub fn run_rows<P: Program>(
+fn run_rows<P: Program>(
     program: &P,
     scene: &mut Scene,
     name: &str,
@@ -140,4 +141,22 @@ pub fn run_rows<P: Program>(
         take_line(program, scene, number, line)?;
     }
     end_row(program, scene)
+}
+
+/// Takes a file of data of this name and text: rows, which it runs, where the name ends in `.rows`,
+/// else hexadecimal text, whose bytes stand as a file of that name before every row behind it. How
+/// the rows came out is told by the scene.
+pub fn take_data<P: Program>(
+    program: &P,
+    scene: &mut Scene,
+    name: &str,
+    text: &str,
+) -> Result<(), AllocError> {
+    if name.ends_with(".rows") {
+        return run_rows(program, scene, name, text);
+    }
+    match hex_bytes(scene.alloc, text)? {
+        Some(bytes) => scene.give(name, bytes),
+        None => scene.differs(0, "a data file that is no hexadecimal text"),
+    }
 }

@@ -1,25 +1,28 @@
--- What printing parts answers.
-use Rattle.std.specs.Prelude.{◌≡◌, ℕ, Bool, List, ◌++◌, map, Option, is_some}
+-- What listing parts answers.
+use Rattle.std.specs.Prelude.{◌≡◌, ℕ, Bool, List, map, Option, is_some}
 use Rattle.term_table.specs.Table.{TableView}
 use Rattle.goal_tree.specs.declared.rows.PartRows.{PartRows}
 use Rattle.goal_tree.specs.Goals.{Part}
 use Rattle.goal_tree.specs.Rows.{part_view}
 use Rattle.goal_marks.specs.Marks.{part_marks, all_true}
-use Rattle.goal_listing.specs.Formulas.{shown}
+use Rattle.goal_listing.specs.declared.lines.ShownLine.{ShownLine}
 use Rattle.goal_listing.specs.Listing.{view_lines, view_of, parts_lines, first_hard}
+use Rattle.goal_listing.specs.Inside.Shown.{AreAdded}
 
 -- the lines of whatever part it shows were added, as the part of number k, and it says whether each
 -- goal is easy
-abbrev pub IsPartPrinted : Option ℕ → ℕ → TableView → PartRows → List ℕ → List ℕ → Bool → Type 0
-IsPartPrinted bound k t part old new easy =
+abbrev pub IsPartPrinted : Option ℕ → ℕ → TableView → TableView → PartRows → List ShownLine
+    → List ShownLine → Bool → Type 0
+IsPartPrinted bound k t u part old new easy =
     (p : Part) → part_view t part ≡ view_of bound p
-    → (new ≡ old ++ view_lines (shown bound) k (view_of bound p) (part_marks (is_some bound) p))
+    → AreAdded bound t u old
+    (view_lines (is_some bound) k (view_of bound p) (part_marks (is_some bound) p)) new
     × (easy ≡ all_true (part_marks (is_some bound) p))
 
 -- the lines of whatever parts they show were added, from number k on, and it names the first that
 -- has a goal that isn't easy
-abbrev pub ArePartsPrinted : Option ℕ → ℕ → TableView → List PartRows → List ℕ → List ℕ
-    → Option ℕ → Type 0
-ArePartsPrinted bound k t parts old new found =
+abbrev pub ArePartsPrinted : Option ℕ → ℕ → TableView → TableView → List PartRows
+    → List ShownLine → List ShownLine → Option ℕ → Type 0
+ArePartsPrinted bound k t u parts old new found =
     (ps : List Part) → map (part_view t) parts ≡ map (view_of bound) ps
-    → (new ≡ old ++ parts_lines bound k ps) × (found ≡ first_hard bound k ps)
+    → AreAdded bound t u old (parts_lines bound k ps) new × (found ≡ first_hard bound k ps)

@@ -3,7 +3,7 @@ use Rattle.proof_container.specs.Views.{contents_of}
 use Rattle.container_listing.specs.declared.stop.Stop.{Stop}
 use Rattle.container_listing.specs.declared.stop.ListFault.{ListFault}
 use Rattle.container_listing.specs.Sources.{source_listing}
-use Rattle.container_listing.specs.Answers.{Tells, IsReason}
+use Rattle.container_listing.specs.Answers.{Reports, IsReason}
 use Rattle.container_listing.proofs.Stages.{told-fault, told-source, told-comments}
 use Rattle.container_listing.proofs.listing.list.Goals as goal
 
@@ -26,6 +26,6 @@ returns-in-Err-Not c =
     c.in-Err-Not.field-0-is c.in-Err-Not.ensures in
     let told = told-comments c.args.bytes.now c.args.lines.now k why c.in-Ok.ensures.exact reason in
     record {
-      exact = subst (λ (t : Result (List ℕ) ListFault). Tells (λ v. v.items) t c.comments_of.result)
+      exact = subst (λ (t : Result (List ℕ) ListFault). Reports (λ v. v.items) t c.comments_of.result)
           (sym told) c.comments_of.ensures;
     }

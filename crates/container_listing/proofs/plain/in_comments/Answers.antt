@@ -4,7 +4,7 @@ use Rattle.term_table.specs.Table.{id_trees}
 use Rattle.proof_container.specs.Views.{contents_of}
 use Rattle.container_listing.specs.Words.{indices_of}
 use Rattle.container_listing.specs.Notes.{notes_of}
-use Rattle.container_listing.specs.Plain.{comment_line, index_lines, inv_entries, entry_lines, why_text}
+use Rattle.container_listing.specs.Plain.{comment_line, index_lines, inv_entries, entry_lines, no_source_text}
 use Rattle.container_listing.proofs.Lines.{four_groups}
 use Rattle.container_listing.proofs.plain.in_comments.Goals as goal
 
@@ -16,13 +16,13 @@ returns c =
     let count = c.inv_entries-count.ensures.exact ∙ ap named c.deref.ensures.value in
     let notes : map (λ v. v.items) c.deref-2.result.now ≡ notes_of (contents_of k) =
     ap (map (λ v. v.items)) c.deref-2.ensures.value ∙ c.in_ok-notes.ensures in
-    let why : c.as_bytes.result.now ≡ why_text c.args.why = c.as_bytes.ensures.value ∙ c.text.ensures in
+    let why : c.as_bytes.result.now ≡ no_source_text c.args.why = c.as_bytes.ensures.value ∙ c.text.ensures in
     let behind = c.push_comments.new.out.items in
     let text : ℕ → List (List ℕ) → List ℕ =
     λ n others. flat_map comment_line
-    (indices ++ (entry_lines k.table.trees n ++ (others ++ why_text c.args.why ∷ []))) in
+    (indices ++ (entry_lines k.table.trees n ++ (others ++ no_source_text c.args.why ∷ []))) in
     four_groups indices (entry_lines k.table.trees c.inv_entries-count.result)
-    (map (λ v. v.items) c.deref-2.result.now) (why_text c.args.why) _ _ _ _
+    (map (λ v. v.items) c.deref-2.result.now) (no_source_text c.args.why) _ _ _ _
     (c.in_ok-push_indices.ensures
     ∙ ap (λ l. l ++ flat_map comment_line indices) c.new-out.ensures.items)
     c.in_ok-push_entries.ensures c.in_ok-push_comments.ensures
@@ -31,4 +31,4 @@ returns c =
     ∙ (λ j. flat_map comment_line
     (indices ++ (entry_lines (c.requires.canonical.trees j)
     (inv_entries (c.requires.canonical.trees j) (id_trees k.table k.invs.items))
-    ++ (notes_of (contents_of k) ++ why_text c.args.why ∷ []))))
+    ++ (notes_of (contents_of k) ++ no_source_text c.args.why ∷ []))))

@@ -2,7 +2,7 @@ use Rattle.std.proofs.Common.{◌++◌, ◌∷◌, [], ℕ, List, ◌∙◌}
 use Rattle.std.specs.List.{flat_map}
 use Rattle.term_table.specs.Tree.{Tree}
 use Rattle.term_table.specs.Table.{id_trees}
-use Rattle.container_listing.specs.Plain.{comment_line, inv_at, inv_lines, word_line}
+use Rattle.container_listing.specs.Plain.{comment_line, index_inv, inv_lines, word_line}
 use Rattle.container_listing.proofs.Lines.{pushed-more}
 use Rattle.container_listing.proofs.plain.push_index.Goals as goal
 
@@ -11,7 +11,7 @@ returns c =
     let k = c.args.container.now in
     let old = c.args.out.now.items in
     let lines : List Tree → List (ℕ × ℕ) → List (List ℕ) =
-    λ ts l. inv_lines ts (inv_at c.args.i (id_trees k.table l)) in
+    λ ts l. inv_lines ts (index_inv c.args.i (id_trees k.table l)) in
     pushed-more comment_line (lines k.table.trees c.deref.result.now)
     (word_line c.profile_of-profile.result k.code.now c.args.i) old _ _
     c.in_ok-push_word_line.ensures c.in_ok-push_inv_of.ensures

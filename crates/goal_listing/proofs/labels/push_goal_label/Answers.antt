@@ -1,7 +1,7 @@
 use Rattle.std.proofs.Common.{◌++◌, ◌∙◌, ap}
 use Rattle.std.specs.Prelude.{codes}
 use Rattle.goal_listing.specs.Lines.{numbered, why_text, mark_text}
-use Rattle.goal_listing.proofs.Texts.{four}
+use Rattle.goal_listing.proofs.LabelTexts.{four}
 use Rattle.goal_listing.proofs.labels.push_goal_label.Goals as goal
 
 pub returns : goal.returns

@@ -1,4 +1,4 @@
-use Rattle.goal_listing.proofs.Texts.{title-later}
+use Rattle.goal_listing.proofs.LabelTexts.{title-later}
 use Rattle.goal_listing.proofs.labels.push_title.Goals as goal
 
 pub returns : goal.returns

@@ -5,7 +5,6 @@ use Rattle.lf_signature.specs.Typing.{Checks}
 use Rattle.lf_signature.specs.Constants.{declared}
 use Rattle.lf_sequents.proofs.Fitting.{sequent-more}
 use Rattle.lf_rows.proofs.rules.tested.Goals as goal
-use Rattle.lf_signature.specs.declared.WordSignature.TheVariants.{Sigma1}
 
 pub returns-in-Ok-true-clause-sequent : goal.returns-in-Ok-true-clause-sequent
 returns-in-Ok-true-clause-sequent c =
@@ -16,9 +15,9 @@ returns-in-Ok-true-clause-sequent c =
     let goal : IsKnown t₀ s.goal = c.in_ok-known.ensures in
     let yes : IsTrue c.in-Ok-true.field-0 = search rules in
     let kind : tree_at t₁ c.in-Ok.kind ≡ pf (tree_at t₁ s.goal) = c.in-Ok.ensures.id.is ∙ ap pf (sym (x.same s.goal goal)) in
-    let proves : Checks (declared Sigma1) (ctx_of t₁ s.hyps.items) (tree_at t₁ s.term) (pf (tree_at t₁ s.goal)) =
-    subst (λ (z : Type 0). z) (λ i. Checks (declared Sigma1) (ctx_of t₁ (c.as_slice-2.ensures.value i)) (tree_at t₁ s.term) (kind i)) (c.in-Ok-true.ensures.answer.0 yes) in
-    sequent-more (declared Sigma1) t₁ c.check_term.new.table s (record {
+    let proves : Checks (declared c.args.sig.now) (ctx_of t₁ s.hyps.items) (tree_at t₁ s.term) (pf (tree_at t₁ s.goal)) =
+    subst (λ (z : Type 0). z) (λ i. Checks (declared c.args.sig.now) (ctx_of t₁ (c.as_slice-2.ensures.value i)) (tree_at t₁ s.term) (kind i)) (c.in-Ok-true.ensures.answer.0 yes) in
+    sequent-more (declared c.args.sig.now) t₁ c.check_term.new.table s (record {
       placed = record {
         hyps = subst (λ z. AllKnown t₁ z) c.as_slice.ensures.value c.in_ok-all_known.ensures;
         goal = omega (arith, goal, x.longer);

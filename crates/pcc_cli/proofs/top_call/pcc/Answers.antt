@@ -19,18 +19,20 @@ returns g c =
     record {
       runs = runs;
       means =
-          means c.laws.ensures.accepted c.prove_laws.ensures.accepted c.laws-3.ensures.program
-          (programs-compile c.laws-4.ensures.plain)
+          means c.laws-2.ensures.accepted c.prove_laws.ensures.accepted c.laws-4.ensures.program
+          (programs-compile c.laws-5.ensures.plain)
           (record {
-            spelled = λ bytes policy. (c.laws-5.ensures.spelled bytes policy).1;
-            kept = c.laws-5.ensures.kept;
+            spelled = λ bytes policy. (c.laws-6.ensures.spelled bytes policy).1;
+            kept = c.laws-6.ensures.kept;
           })
-          (record { exactly = c.laws-6.ensures.exactly; accepted = c.laws-6.ensures.accepted })
+          (record { exactly = c.laws-7.ensures.exactly; accepted = c.laws-7.ensures.accepted })
           (command_of words) _ _ _ _ _ _ c.print.result runs;
-      sound = c.laws.ensures.safe;
-      safe = runs_safely c.laws.ensures.safe c.laws-2.ensures.state c.laws-2.ensures.meets c.isolation_laws.ensures.changes c.isolation_laws.ensures.depends;
-      apart = stays_in_parts c.laws.ensures.safe c.isolation_laws.ensures.changes c.isolation_laws.ensures.depends (c.part_laws.ensures.apart 65536 65552) c.part_laws.ensures.spans;
+      ends = c.laws.ensures.ends words _ _ _ _ _ _ c.print.result runs;
+      accounts = c.laws.ensures.accounts words _ _ _ _ _ _ c.print.result runs;
+      sound = c.laws-2.ensures.safe;
+      safe = runs_safely c.laws-2.ensures.safe c.laws-3.ensures.state c.laws-3.ensures.meets c.isolation_laws.ensures.changes c.isolation_laws.ensures.depends;
+      apart = stays_in_parts c.laws-2.ensures.safe c.isolation_laws.ensures.changes c.isolation_laws.ensures.depends (c.part_laws.ensures.apart 65536 65552) c.part_laws.ensures.spans;
       returns =
-          bounded_returns c.laws.ensures.returns c.laws-2.ensures.state
-          c.laws-2.ensures.meets;
+          bounded_returns c.laws-2.ensures.returns c.laws-3.ensures.state
+          c.laws-3.ensures.meets;
     }

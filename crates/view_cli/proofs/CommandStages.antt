@@ -1,0 +1,48 @@
+-- How commands go on behind each of their stages.
+use Rattle.std.specs.Prelude.{ℕ, List, slice_get, Option}
+use Rattle.alpha_words.specs.declared.insn.Insn.{Insn}
+use Rattle.policy_set.specs.Views.{PolicyView}
+use Rattle.proof_container.specs.Contents.{Contents}
+use Rattle.proof_container.specs.Decoding.{decoded_container}
+use Rattle.container_listing.specs.Listing.{listing_text}
+use Rattle.goal_listing.specs.Listing.{goals_of_bytes}
+use Rattle.pcc_exit.specs.Exits.{Exit}
+use Rattle.pcc_exit.specs.Runs.{done_exit}
+use Rattle.pcc_exit.specs.Stages.{Stage, gives, ◌>>=◌}
+use Rattle.pcc_stages.specs.Stages.Containers.{container_bytes_of, code_of}
+use Rattle.pcc_stages.specs.Stages.Packets.{packets_of}
+use Rattle.view_cli.specs.Commands.Goals.{goals_found}
+use Rattle.view_cli.specs.Commands.List.{container_found, source_lines_of}
+use Rattle.view_cli.specs.Commands.Packet.{packet_exit}
+
+-- `list`, behind the lines
+abbrev pub listing_stage : Contents → List ℕ → Stage Exit
+listing_stage c lines = gives (done_exit (listing_text c lines))
+
+-- behind the container
+abbrev pub lines_stage : Option (List ℕ) → Contents → Stage Exit
+lines_stage from c = source_lines_of c.version c.bound from >>= listing_stage c
+
+-- behind its bytes
+abbrev pub bytes_stage : Option (List ℕ) → List ℕ → Stage Exit
+bytes_stage from bytes = container_found (decoded_container bytes) >>= lines_stage from
+
+-- `goals`, behind the container's bytes
+abbrev pub goals_stage : PolicyView → List ℕ → Stage Exit
+goals_stage under bytes = goals_found (goals_of_bytes under bytes)
+
+-- behind the policy
+abbrev pub goals_under : List ℕ → PolicyView → Stage Exit
+goals_under file under = container_bytes_of file >>= goals_stage under
+
+-- `packet`, behind the packets
+abbrev pub last_stage : PolicyView → List Insn → ℕ → ℕ → List (List ℕ) → Stage Exit
+last_stage under code steps k all = gives (packet_exit under code steps k (slice_get all k))
+
+-- behind the code
+abbrev pub code_stage : PolicyView → List ℕ → ℕ → ℕ → List Insn → Stage Exit
+code_stage under packets steps k code = packets_of packets >>= last_stage under code steps k
+
+-- behind the policy
+abbrev pub policy_stage : List ℕ → List ℕ → ℕ → ℕ → PolicyView → Stage Exit
+policy_stage file packets steps k under = code_of under file >>= code_stage under packets steps k

@@ -1,0 +1,128 @@
+-- What commands are proved by.
+use Rattle.std.specs.Prelude.{Bool, is_ok, if◌then◌else◌}
+use Rattle.std.proofs.lemmas.Bool.{le-ltb}
+use Rattle.std.proofs.Common.{◌≡◌, ◌≢◌, true≢false, ℕ, zero, suc, ◌-◌, ◌≤◌, List, [], ◌∷◌, length, map, Option, Some, None, Result, Ok, Err, slice_get, refl, sym, ap, ◌∙◌, subst, arith}
+use Rattle.asm_text.specs.declared.fault.LineFlaw.{LineFlaw}
+use Rattle.asm_text.specs.declared.insns.SrcInsn.{SrcInsn}
+use Rattle.asm_text.specs.declared.sources.Source as source
+use Rattle.asm_text.specs.Insns.{SourceInsn}
+use Rattle.asm_text.specs.Sources.{Source}
+use Rattle.asm_text.specs.Views.{source_insn_view, source_view}
+use Rattle.packet_store.specs.Packets.{AreShort}
+use Rattle.packet_store.specs.declared.reader.TheConstants.{MAX_PACKET}
+use Rattle.proof_container.specs.Contents.{Contents}
+use Rattle.proof_container.specs.Decoding.{Fault, decoded_container}
+use Rattle.proof_container.specs.Versions.{IsVersion, IsBoundOf}
+use Rattle.proof_container.specs.declared.limits.TheConstants.{MAX_BYTES}
+use Rattle.term_table.specs.Steps.{◌>>=◌}
+use Rattle.container_listing.specs.declared.stop.ListFault.{ListFault}
+use Rattle.container_listing.specs.declared.stop.ListFault.TheVariants.{TooLong}
+use Rattle.container_listing.specs.Listing.{listing_text, if_read, listing_of}
+use Rattle.pcc_words.specs.Commands.{IsVersionOf}
+use Rattle.pcc_exit.specs.Stages.{gives}
+use Rattle.view_cli.specs.Commands.List.{lines_found}
+
+-- ---- packets
+
+-- the packets that are left are short, and that many ahead of them stands the packet of the number
+pub record Ahead (packets : List (List ℕ)) (number : ℕ) (left : List (List ℕ)) (ahead : ℕ) : Type 0 where
+  pub short : AreShort left
+  pub same : slice_get left ahead ≡ slice_get packets number
+
+-- where none is ahead of it, it is the first
+pub at_front : (packets : List (List ℕ)) (number : ℕ) (left : List (List ℕ)) (ahead : ℕ)
+    (packet : List ℕ) (rest : List (List ℕ)) → Ahead packets number left ahead
+    → left ≡ packet ∷ rest → ahead ≡ 0 → Some packet ≡ slice_get packets number
+at_front packets number left ahead packet rest h is none =
+    sym (ap (λ (n : ℕ). slice_get (packet ∷ rest) n) none)
+    ∙ sym (ap (λ (l : List (List ℕ)). slice_get l ahead) is) ∙ h.same
+
+-- the first is short
+pub short_front : (packets : List (List ℕ)) (number : ℕ) (left : List (List ℕ)) (ahead : ℕ)
+    (packet : List ℕ) (rest : List (List ℕ)) → Ahead packets number left ahead
+    → left ≡ packet ∷ rest → length packet ≤ MAX_PACKET
+short_front packets number left ahead packet rest h is = (subst (λ l. AreShort l) is h.short).0
+
+-- where no packet is left there is none of the number
+pub none_left : (packets : List (List ℕ)) (number : ℕ) (left : List (List ℕ)) (ahead : ℕ)
+    → Ahead packets number left ahead → left ≡ [] → None ≡ slice_get packets number
+none_left packets number left ahead h is =
+    sym (ap (λ (l : List (List ℕ)). slice_get l ahead) is) ∙ h.same
+
+-- where packets are left, so is it behind the first
+pub one_less : (packets : List (List ℕ)) (number : ℕ) (left : List (List ℕ)) (ahead : ℕ)
+    (packet : List ℕ) (rest : List (List ℕ)) → Ahead packets number left ahead
+    → left ≡ packet ∷ rest → ahead ≢ 0 → Ahead packets number rest (ahead - 1)
+one_less packets number left zero packet rest h is some = absurd (some refl)
+one_less packets number left (suc n) packet rest h is some =
+    let less : suc n - 1 ≡ n = omega arith in
+    record {
+      short = (subst (λ l. AreShort l) is h.short).1;
+      same =
+          ap (λ (m : ℕ). slice_get rest m) less
+          ∙ ap (λ (l : List (List ℕ)). slice_get l (suc n)) (sym is) ∙ h.same;
+    }
+
+-- ---- versions and bounds
+
+-- the version that a source is for is one that is built
+pub built-version : (bound : Option ℕ) (version : ℕ) → IsVersionOf bound version → IsVersion version
+built-version None version h = (h.0, omega (arith, h.1))
+built-version (Some n) version h = let is = h.0 in (omega (arith, is), omega (arith, is))
+
+-- and its bound is one that the version may have
+pub bound-in-range : (bound : Option ℕ) (version : ℕ) → IsVersionOf bound version
+    → IsBoundOf version bound
+bound-in-range None version h = λ is. omega (arith, h.1, is)
+bound-in-range (Some n) version h = h
+
+-- ---- listings
+
+-- the listing of what was read
+pub listing-read : (bytes lines : List ℕ) (c : Contents) → length bytes ≤ MAX_BYTES
+    → decoded_container bytes ≡ Ok c → listing_of bytes lines ≡ Ok (listing_text c lines)
+unfolding listing_of
+listing-read bytes lines c short is =
+    ap
+    (λ (b : Bool). (if b then Err (TooLong (length bytes)) else if_read (decoded_container bytes))
+    >>= λ x. Ok (listing_text x lines)) (le-ltb MAX_BYTES (length bytes) short)
+    ∙ ap (λ (r : Result Contents Fault). if_read r >>= λ x. Ok (listing_text x lines)) is
+
+-- ---- lines
+
+-- instructions without addresses have the numbers of the same lines
+same-lines : (insns : List (ℕ × SrcInsn))
+    → map (λ (i : ℕ × SourceInsn). i.0)
+    (map (λ (p : ℕ × SrcInsn). (p.0, source_insn_view p.1)) insns)
+    ≡ map (λ (i : ℕ × SrcInsn). i.0) insns
+same-lines [] = refl
+same-lines (x ∷ xs) = ap (λ (r : List ℕ). x.0 ∷ r) (same-lines xs)
+
+-- the lines of the instructions of what was read as a source
+pub lines-read : (parsed : Result Source (ℕ × LineFlaw)) (s : source.Source) (lines : List ℕ)
+    → parsed ≡ Ok (source_view s) → lines ≡ map (λ (i : ℕ × SrcInsn). i.0) s.insns.items
+    → lines_found parsed ≡ gives lines
+unfolding source_view
+lines-read parsed s lines is same =
+    ap (λ (r : Result Source (ℕ × LineFlaw)). lines_found r) is
+    ∙ ap (λ (l : List ℕ). gives l) (same-lines s.insns.items ∙ sym same)
+
+-- a listing, if there is one
+text_in : Result (List ℕ) ListFault → List ℕ
+text_in (Ok text) = text
+text_in (Err fault) = []
+
+-- the listing that is told is that of what was read
+pub told-text : (bytes lines : List ℕ) (c : Contents) (text : List ℕ) → length bytes ≤ MAX_BYTES
+    → decoded_container bytes ≡ Ok c → listing_of bytes lines ≡ Ok text
+    → listing_text c lines ≡ text
+unfolding text_in
+told-text bytes lines c text short is told =
+    ap text_in (sym (listing-read bytes lines c short is) ∙ told)
+
+-- no fault is told of what was read
+pub told-no-fault : {A : Type 0} (bytes lines : List ℕ) (c : Contents) (fault : ListFault)
+    → length bytes ≤ MAX_BYTES → decoded_container bytes ≡ Ok c
+    → listing_of bytes lines ≡ Err fault → A
+told-no-fault bytes lines c fault short is told =
+    absurd (true≢false (ap is_ok (sym (listing-read bytes lines c short is) ∙ told)))

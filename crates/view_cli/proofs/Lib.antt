@@ -1,0 +1,7 @@
+mod Lemmas
+mod LineNumbers
+mod Always
+mod PureStages
+mod CommandStages
+mod Suited
+mod Shown

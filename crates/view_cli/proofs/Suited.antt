@@ -1,0 +1,261 @@
+-- What the arguments ask for is suited: commands stop with refusals that go with what they are, and
+-- read the files that they name.
+use Rattle.std.proofs.Common.{◌≡◌, ◌≢◌, ℕ, Bool, true, false, List, [], ◌∷◌, length, get_or, slice_get, if◌then◌else◌, nat_lt, Option, Some, None, is_some, Result, Ok, Err, Contains, refl, sym, ap, ◌∙◌, subst, arith, inl, inr}
+use Rattle.alpha_words.specs.declared.insn.Insn.{Insn}
+use Rattle.word_ops.specs.declared.Profile.{Profile}
+use Rattle.word_ops.specs.declared.Profile.TheVariants.{Two}
+use Rattle.formula_tree.specs.Formulas.{Form}
+use Rattle.formula_text.specs.Parsing.{FaultAt, parsed_form}
+use Rattle.asm_text.specs.declared.fault.LineFlaw.{LineFlaw}
+use Rattle.asm_text.specs.declared.limits.TheConstants.{MAX_SOURCE}
+use Rattle.asm_text.specs.Sources.{Source}
+use Rattle.asm_text.specs.SourceParsing.{parsed_source}
+use Rattle.pcc_asm.specs.declared.fault.AsmFlaw.{AsmFlaw}
+use Rattle.pcc_asm.specs.Assembling.{assembled_code}
+use Rattle.policy_set.specs.Names.{policy_of}
+use Rattle.policy_set.specs.Views.{PolicyView}
+use Rattle.proof_container.specs.Contents.{Contents}
+use Rattle.proof_container.specs.Decoding.{decoded_container}
+use Rattle.proof_container.specs.Versions.{profile_of}
+use Rattle.pcc_gate.specs.declared.refusal.Refusal.{Refusal}
+use Rattle.goal_listing.specs.Listing.{goals_of_bytes}
+use Rattle.fault_marks.specs.FormReports.{without_lf, form_fault_line, form_fault_text, report_of_form, formula_report}
+use Rattle.fault_marks.specs.SourceReports.{source_fault_line, report_of_code, report_of_source, source_report}
+use Rattle.pcc_words.specs.Invocations.{named, from_file}
+use Rattle.pcc_lines.specs.Fixed.{container_too_long_line, packets_too_long_line, policy_too_long_line, source_too_long_line, unknown_policy_line}
+use Rattle.pcc_lines.specs.Refusals.{refusal_line}
+use Rattle.pcc_exit.specs.Exits.{Exit}
+use Rattle.pcc_exit.specs.Requests.{command, no_memory_exit}
+use Rattle.pcc_exit.specs.Stages.{Stage, stops, gives, reads, ◌>>=◌}
+use Rattle.pcc_exit.specs.Runs.{Effect, IsStop, IsSuited}
+use Rattle.pcc_stages.specs.declared.files.TheConstants.{MAX_FILE, MAX_POLICY_FILE}
+use Rattle.pcc_stages.specs.Stages.Common.{refused, policy_found, ending}
+use Rattle.pcc_stages.specs.Stages.Containers.{code_in, code_of}
+use Rattle.pcc_stages.specs.Stages.Packets.{packets_in, packets_of}
+use Rattle.pcc_stages.specs.Stages.Policies.{policy_in, policy_from}
+use Rattle.view_words.specs.Invocations.{ViewInvocation}
+use Rattle.view_words.specs.Invocations as views
+use Rattle.view_cli.specs.Texts.{view_texts, formula_too_long_line, absent_packet_line}
+use Rattle.view_cli.specs.declared.limits.TheConstants.{MAX_FORMULA}
+use Rattle.view_cli.specs.Commands.Faults.{told_exit, formula_command, source_command}
+use Rattle.view_cli.specs.Commands.Goals.{goals_found, goals_command}
+use Rattle.view_cli.specs.Commands.List.{container_found, lines_in, source_lines_of, list_command}
+use Rattle.view_cli.specs.Commands.Packet.{packet_exit, packet_command}
+use Rattle.view_cli.specs.Tasks.{standing_if_found, view_task}
+use Rattle.view_cli.proofs.CommandStages.{listing_stage, lines_stage, goals_stage, goals_under, last_stage, code_stage, policy_stage}
+use Rattle.view_cli.proofs.PureStages.{BeginsBefore, EndsAs, gave, refused_by, had_no_memory, refusal_begins, contents_end, lines_in_end, code_end, packets_in_end, policy_in_end}
+
+-- a line that begins with another letter isn't that of an unknown policy
+other_line : (line : List ℕ) → BeginsBefore line → line ≢ unknown_policy_line
+other_line line less is =
+    let first : get_or line 0 0 ≡ 117 = ap (λ (x : List ℕ). get_or x 0 0) is in
+    absurd (omega (arith, less, first))
+
+-- a refusal with such a line goes with a command
+stop_line : (line : List ℕ) → BeginsBefore line → IsStop view_texts command (refused line)
+stop_line line less = record {
+  suits = (
+    λ two. absurd (omega arith),
+    λ is. other_line line less (ap (λ (x : Exit). x.text) is),
+  );
+  some = omega arith;
+  in_range = omega arith;
+}
+
+module _ (names : List (List ℕ)) where
+  -- what is left of a command
+  abbrev Fits : Stage Effect → Type 0
+  Fits s = IsSuited view_texts command (Some names) s
+
+  -- behind a stage that reads no file
+  goes_on : {A : Type 0} (on : Stage A → Stage Effect) → ((exit : Exit) → on (stops exit) ≡ stops exit)
+      → (s : Stage A) → EndsAs s → ((x : A) → Fits (on (gives x))) → Fits (on s)
+  goes_on {A = A} on stuck s (gave x is) each = subst (λ (y : Stage A). Fits (on y)) (sym is) (each x)
+  goes_on on stuck s (refused_by line less is) each =
+      subst Fits (sym (ap on is ∙ stuck (refused line))) (inl (stop_line line less))
+  goes_on on stuck s (had_no_memory is) each =
+      subst Fits (sym (ap on is ∙ stuck no_memory_exit)) (inr refl)
+
+  -- behind the read of a file of the command's
+  reads_on : (name : List ℕ) (max : ℕ) (line : List ℕ) (on : List ℕ → Stage Effect)
+      → Contains names name → BeginsBefore line → ((b : List ℕ) → Fits (on b))
+      → Fits (reads name max (refused line) on)
+  reads_on name max line on listed less each = (refl, listed, stop_line line less, each)
+
+  -- ---- `formula` and `source`
+
+  form_fits : (text : List ℕ) (r : Result Form FaultAt) → Fits (ending (told_exit (report_of_form text r)))
+  unfolding form_fault_line
+  form_fits text (Ok F) = refl
+  form_fits text (Err fault) =
+      let first : get_or (form_fault_text text fault) 0 0 ≡ 102 = refl in
+      inl (stop_line (form_fault_text text fault) (omega (arith, first)))
+
+  short_form_fits : (text : List ℕ) (long : Bool)
+      → Fits
+      (ending
+      (if long then refused formula_too_long_line else told_exit (formula_report text)))
+  unfolding formula_report formula_too_long_line
+  short_form_fits text true =
+      let first : get_or formula_too_long_line 0 0 ≡ 102 = refl in
+      inl (stop_line formula_too_long_line (omega (arith, first)))
+  short_form_fits text false = form_fits (without_lf text) (parsed_form Two true (without_lf text))
+
+  code_fits : (text : List ℕ) (s : Source) (r : Result (List Insn) AsmFlaw)
+      → Fits (ending (told_exit (report_of_code text s r)))
+  unfolding source_fault_line
+  code_fits text s (Ok code) = refl
+  code_fits text s (Err flaw) = inl (stop_line _ (omega arith))
+
+  source_fits : (p : Profile) (left : Bool) (text : List ℕ) (r : Result Source (ℕ × LineFlaw))
+      → Fits (ending (told_exit (report_of_source p left text r)))
+  unfolding source_fault_line
+  source_fits p left text (Ok s) = code_fits text s (assembled_code p s)
+  source_fits p left text (Err fault) = inl (stop_line _ (omega arith))
+
+  -- ---- `packet`
+
+  packet_fits : (under : PolicyView) (code : List Insn) (steps k : ℕ) (o : Option (List ℕ))
+      → Fits (ending (packet_exit under code steps k o))
+  unfolding absent_packet_line
+  packet_fits under code steps k None =
+      let first : get_or (absent_packet_line k) 0 0 ≡ 110 = refl in
+      inl (stop_line (absent_packet_line k) (omega (arith, first)))
+  packet_fits under code steps k (Some packet) = refl
+
+-- ---- commands that begin with a policy
+
+-- behind a policy by its name
+found_fits : (names : List (List ℕ)) (next : PolicyView → Stage Exit) (o : Option PolicyView)
+    → ((under : PolicyView) → Fits names (next under >>= ending))
+    → IsSuited view_texts (standing_if_found o) (Some names) ((policy_found o >>= next) >>= ending)
+found_fits names next None each =
+    inl (record { suits = refl; some = omega arith; in_range = omega arith })
+found_fits names next (Some under) each = each under
+
+-- behind one from a file
+told_fits : (names : List (List ℕ)) (next : PolicyView → Stage Exit) (name : List ℕ)
+    → Contains names name → ((under : PolicyView) → Fits names (next under >>= ending))
+    → Fits names ((policy_from name >>= next) >>= ending)
+unfolding policy_from
+told_fits names next name listed each =
+    reads_on names name MAX_POLICY_FILE policy_too_long_line
+    (λ b. (policy_in b >>= next) >>= ending) listed (omega arith)
+    (λ b. goes_on names (λ (y : Stage PolicyView). (y >>= next) >>= ending) (λ exit. refl)
+    (policy_in b) (policy_in_end b) each)
+
+goals_found_fits : (names : List (List ℕ)) (r : Result (List ℕ) Refusal)
+    → Fits names (goals_found r >>= ending)
+goals_found_fits names (Ok text) = refl
+goals_found_fits names (Err r) = inl (stop_line (refusal_line r) (refusal_begins r))
+
+goals_fits : (names : List (List ℕ)) (file : List ℕ) → Contains names file → (under : PolicyView)
+    → Fits names (goals_under file under >>= ending)
+goals_fits names file listed under =
+    reads_on names file MAX_FILE container_too_long_line (λ b. goals_stage under b >>= ending) listed
+    (omega arith) (λ b. goals_found_fits names (goals_of_bytes under b))
+
+traced_fits : (names : List (List ℕ)) (file packets : List ℕ) (k steps : ℕ) → Contains names file
+    → Contains names packets → (under : PolicyView)
+    → Fits names (policy_stage file packets steps k under >>= ending)
+unfolding code_of packets_of
+traced_fits names file packets k steps first second under =
+    reads_on names file MAX_FILE container_too_long_line
+    (λ b. (code_in under b >>= code_stage under packets steps k) >>= ending) first (omega arith) (λ b.
+    goes_on names (λ (y : Stage (List Insn)). (y >>= code_stage under packets steps k) >>= ending)
+    (λ exit. refl) (code_in under b) (code_end under b) (λ code.
+    reads_on names packets MAX_FILE packets_too_long_line
+    (λ b. (packets_in b >>= last_stage under code steps k) >>= ending) second (omega arith) (λ b.
+    goes_on names (λ (y : Stage (List (List ℕ))). (y >>= last_stage under code steps k) >>= ending)
+    (λ exit. refl) (packets_in b) (packets_in_end b) (λ all.
+    packet_fits names under code steps k (slice_get all k)))))
+
+-- ---- all commands
+
+lines_fit : (names : List (List ℕ)) (c : Contents) (from : List ℕ) → Contains names from
+    → Fits names ((source_lines_of c.version c.bound (Some from) >>= listing_stage c) >>= ending)
+unfolding source_lines_of
+lines_fit names c from listed =
+    reads_on names from MAX_SOURCE source_too_long_line
+    (λ b. (lines_in c.version c.bound b >>= listing_stage c) >>= ending) listed (omega arith) (λ b.
+    goes_on names (λ (y : Stage (List ℕ)). (y >>= listing_stage c) >>= ending) (λ exit. refl)
+    (lines_in c.version c.bound b) (lines_in_end c.version c.bound b) (λ lines. refl))
+
+plain_fits : (names : List (List ℕ)) (c : Contents)
+    → Fits names ((source_lines_of c.version c.bound None >>= listing_stage c) >>= ending)
+unfolding source_lines_of
+plain_fits names c = refl
+
+list_fits : (names : List (List ℕ)) (file : List ℕ) (from : Option (List ℕ)) → Contains names file
+    → ((c : Contents) → Fits names (lines_stage from c >>= ending))
+    → Fits names (list_command file from >>= ending)
+unfolding list_command
+list_fits names file from listed each =
+    reads_on names file MAX_FILE container_too_long_line
+    (λ b. (container_found (decoded_container b) >>= lines_stage from) >>= ending) listed (omega arith)
+    (λ b. goes_on names (λ (y : Stage Contents). (y >>= lines_stage from) >>= ending) (λ exit. refl)
+    (container_found (decoded_container b)) (contents_end (decoded_container b)) each)
+
+-- the only name, the first, the second, the third
+only : (a : List ℕ) → Contains (a ∷ []) a
+only a = (0, omega arith, refl)
+
+first_of_two : (a b : List ℕ) → Contains (a ∷ b ∷ []) a
+first_of_two a b = (0, omega arith, refl)
+
+second_of_two : (a b : List ℕ) → Contains (a ∷ b ∷ []) b
+second_of_two a b = (1, omega arith, refl)
+
+first_of_three : (a b c : List ℕ) → Contains (a ∷ b ∷ c ∷ []) a
+first_of_three a b c = (0, omega arith, refl)
+
+second_of_three : (a b c : List ℕ) → Contains (a ∷ b ∷ c ∷ []) b
+second_of_three a b c = (1, omega arith, refl)
+
+third_of_three : (a b c : List ℕ) → Contains (a ∷ b ∷ c ∷ []) c
+third_of_three a b c = (2, omega arith, refl)
+
+-- what the arguments ask for is suited
+pub suited : (o : Option ViewInvocation)
+    → let task = view_task o in IsSuited view_texts task.standing task.names task.stage
+unfolding goals_command packet_command formula_command source_command source_report
+suited None = inl (record { suits = refl; some = omega arith; in_range = omega arith })
+suited (Some (views.list file None)) =
+    let names : List (List ℕ) = file ∷ [] in
+    list_fits names file None (only file) (λ c. plain_fits names c)
+suited (Some (views.list file (Some from))) =
+    let names : List (List ℕ) = file ∷ from ∷ [] in
+    list_fits names file (Some from) (first_of_two file from)
+    (λ c. lines_fit names c from (second_of_two file from))
+suited (Some (views.goals (named name) file)) =
+    let names : List (List ℕ) = file ∷ [] in
+    found_fits names (goals_under file) (policy_of name) (goals_fits names file (only file))
+suited (Some (views.goals (from_file name) file)) =
+    let names : List (List ℕ) = name ∷ file ∷ [] in
+    told_fits names (goals_under file) name (first_of_two name file)
+    (goals_fits names file (second_of_two name file))
+suited (Some (views.packet (named name) file packets k steps)) =
+    let names : List (List ℕ) = file ∷ packets ∷ [] in
+    found_fits names (policy_stage file packets steps k) (policy_of name)
+    (traced_fits names file packets k steps (first_of_two file packets)
+    (second_of_two file packets))
+suited (Some (views.packet (from_file name) file packets k steps)) =
+    let names : List (List ℕ) = name ∷ file ∷ packets ∷ [] in
+    told_fits names (policy_stage file packets steps k) name (first_of_three name file packets)
+    (traced_fits names file packets k steps (second_of_three name file packets)
+    (third_of_three name file packets))
+suited (Some (views.formula file)) =
+    let names : List (List ℕ) = file ∷ [] in
+    reads_on names file MAX_SOURCE source_too_long_line
+    (λ b. ending
+    (if nat_lt MAX_FORMULA (length b) then refused formula_too_long_line
+    else told_exit (formula_report b)))
+    (only file) (omega arith) (λ b. short_form_fits names b (nat_lt MAX_FORMULA (length b)))
+suited (Some (views.source file version bound)) =
+    let names : List (List ℕ) = file ∷ [] in
+    reads_on names file MAX_SOURCE source_too_long_line
+    (λ b. ending (told_exit (source_report version bound b))) (only file) (omega arith)
+    (λ b. source_fits names (profile_of version) (is_some bound) b
+    (parsed_source (profile_of version) (is_some bound) b))
+suited (Some views.help) = refl
+suited (Some views.version) = refl

@@ -1,0 +1,4 @@
+pub mod List
+pub mod Goals
+pub mod Packet
+pub mod Faults

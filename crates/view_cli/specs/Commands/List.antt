@@ -1,0 +1,48 @@
+-- `list FILE [SOURCE]`
+use Rattle.std.specs.Prelude.{ℕ, List, [], map, is_some, Option, Some, None, Result, Ok, Err}
+use Rattle.asm_text.specs.declared.fault.LineFlaw.{LineFlaw}
+use Rattle.asm_text.specs.Names.{line_flaw_name}
+use Rattle.asm_text.specs.Sources.{Source}
+use Rattle.asm_text.specs.SourceParsing.{parsed_source}
+use Rattle.proof_container.specs.Contents.{Contents}
+use Rattle.proof_container.specs.Decoding.{Fault, decoded_container}
+use Rattle.proof_container.specs.Versions.{profile_of}
+use Rattle.container_listing.specs.Listing.{listing_text}
+use Rattle.pcc_gate.specs.declared.refusal.Refusal.TheVariants as refusal
+use Rattle.pcc_lines.specs.Refusals.{refusal_line}
+use Rattle.pcc_lines.specs.Sources.{source_fault_line}
+use Rattle.pcc_exit.specs.Exits.{Exit}
+use Rattle.pcc_exit.specs.Runs.{done_exit}
+use Rattle.pcc_exit.specs.Stages.{Stage, stops, gives, ◌>>=◌}
+use Rattle.pcc_stages.specs.Stages.Common.{refused}
+use Rattle.pcc_stages.specs.Stages.Containers.{container_bytes_of}
+use Rattle.view_cli.specs.Commands.Faults.{text_of}
+
+-- what was read as a container
+abbrev pub container_found : Result Contents Fault → Stage Contents
+container_found (Ok c) = gives c
+container_found (Err fault) = stops (refused (refusal_line (refusal.Malformed fault.0 fault.1)))
+
+-- the lines of the instructions of what was read as a source
+abbrev pub lines_found : Result Source (ℕ × LineFlaw) → Stage (List ℕ)
+lines_found (Ok source) = gives (map (λ insn. insn.0) source.insns)
+lines_found (Err fault) = stops (refused (source_fault_line fault.0 (line_flaw_name fault.1)))
+
+-- the lines of the instructions of the source that the text spells, for a container of this version
+-- and with this bound
+unfoldable pub lines_in : ℕ → Option ℕ → List ℕ → Stage (List ℕ)
+lines_in version bound text =
+    lines_found (parsed_source (profile_of version) (is_some bound) text)
+
+-- the same of the file of the name, if there is one
+unfoldable pub source_lines_of : ℕ → Option ℕ → Option (List ℕ) → Stage (List ℕ)
+source_lines_of version bound None = gives []
+source_lines_of version bound (Some name) = text_of name >>= lines_in version bound
+
+-- the container, the source and what is wrong with it, and the listing
+unfoldable pub list_command : List ℕ → Option (List ℕ) → Stage Exit
+list_command file source = do
+  bytes ← container_bytes_of file
+  c ← container_found (decoded_container bytes)
+  lines ← source_lines_of c.version c.bound source
+  gives (done_exit (listing_text c lines))

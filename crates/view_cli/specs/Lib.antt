@@ -1,0 +1,5 @@
+pub mod Texts
+pub mod Commands
+pub mod Tasks
+pub mod Reports
+pub mod Headline

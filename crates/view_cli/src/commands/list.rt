@@ -1,0 +1,134 @@
+//! `list FILE [SOURCE]`: shows a container as a source.
+
+ghost use Rattle.std.specs.Prelude.{◌≡◌, ◌≤◌, length, map, option_map, Ok, IfOk};
+ghost use Rattle.asm_text.specs.declared.limits.TheConstants.{MAX_SOURCE};
+ghost use Rattle.proof_container.specs.Contents.{Contents};
+ghost use Rattle.proof_container.specs.Decoding.{decoded_container};
+ghost use Rattle.proof_container.specs.Views.{contents_of};
+ghost use Rattle.container_listing.specs.Listing.{listing_text};
+ghost use Rattle.pcc_exit.specs.Runs.{done_exit};
+ghost use Rattle.pcc_exit.specs.Stages.{gives};
+ghost use Rattle.pcc_stages.specs.Answers.{Gives, GivesPure};
+ghost use Rattle.pcc_stages.specs.declared.files.TheConstants.{MAX_FILE};
+ghost use Rattle.view_cli.specs.Commands.List.{container_found, lines_in, source_lines_of};
+ghost use Rattle.view_cli.specs.Commands.List.{list_command};
+ghost use Rattle.view_cli.specs.Reports.{exit_of_report};
+
+use crate::commands::faults::text_of;
+use crate::report::Report;
+use asm_text::{LineFault, SrcInsn, read_source};
+use container_listing::{ListFault, list};
+use file_port::Files;
+use pcc_gate::Refusal;
+use pcc_stages::{MAX_FILE, RefusedLine, Stop, bytes_of};
+use proof_container::{Container, Malformed, profile_of, read};
+use std::alloc::{AllocError, Global};
+use view_words::ListArgs;
+
+/// The container that the bytes are.
+fn container_in<'a, 'b>(alloc: Global, bytes: &'b [u8]) -> Result<Container<'b>, Stop<'a>>
+    ensures exact { GivesPure contents_of
+        (container_found (decoded_container bytes.entry.now)) result }
+    ensures read { IfOk result (λ c. decoded_container bytes.entry.now ≡ Ok (contents_of c)) }
+{
+    match read(alloc, bytes) {
+        Ok(container) => Ok(container),
+        Err(Malformed::At(offset, flaw)) => Err(Stop::Refused(RefusedLine::Container(
+            Refusal::Malformed(offset, flaw),
+        ))),
+        Err(Malformed::Memory) => Err(Stop::Memory),
+    }
+}
+
+/// The numbers of the lines of instructions.
+fn line_numbers(alloc: Global, insns: &[(u32, SrcInsn)]) -> Result<Vec<u32>, AllocError>
+    ensures { IfOk result (λ lines. lines.items ≡ map (λ insn. insn.0) insns.now) }
+{
+    let mut lines = Vec::new(alloc);
+    for (line, _) in insns {
+        lines.push(*line)?;
+    }
+    Ok(lines)
+}
+
+/// The lines of the instructions of the source that the text spells, for a container of this
+/// version and with this bound.
+#[tactic(auto, unfolding(crate::specs::Commands::List::lines_in))]
+fn lines_in<'a>(
+    alloc: Global,
+    version: u32,
+    bound: Option<u32>,
+    text: &[u8],
+) -> Result<Vec<u32>, Stop<'a>>
+    requires { length text.now ≤ MAX_SOURCE }
+    ensures { GivesPure (λ lines. lines.items) (lines_in version bound text.now) result }
+{
+    match read_source(alloc, text, profile_of(version), bound.is_some()) {
+        Ok(source) => match line_numbers(alloc, &source.insns) {
+            Ok(lines) => Ok(lines),
+            Err(_) => Err(Stop::Memory),
+        },
+        Err(LineFault::At(line, flaw)) => Err(Stop::Refused(RefusedLine::BadLine(line, flaw))),
+        Err(LineFault::Memory) => Err(Stop::Memory),
+    }
+}
+
+/// The same of the file of the name, if there is one.
+#[tactic(auto, unfolding(crate::specs::Commands::List::source_lines_of))]
+fn lines_of<'a, F: Files>(
+    alloc: Global,
+    version: u32,
+    bound: Option<u32>,
+    name: Option<&'a str>,
+    files: &mut F,
+) -> Result<Vec<u32>, Stop<'a>>
+    ensures { Gives (λ lines. lines.items)
+        (source_lines_of version bound (option_map (λ n. n.now) name.entry))
+        (F.log files.old) (F.log files.new) (F.state files.old) (F.state files.new) result }
+{
+    let Some(name) = name else {
+        return Ok(Vec::new(alloc));
+    };
+    let text = text_of(alloc, name, files)?;
+    lines_in(alloc, version, bound, &text)
+}
+
+/// The listing of the container that the bytes are.
+fn listed<'a>(alloc: Global, bytes: &[u8], lines: &[u32]) -> Result<Report, Stop<'a>>
+    requires { length bytes.now ≤ MAX_FILE }
+    ensures { (c : Contents) → decoded_container bytes.now ≡ Ok c
+        → GivesPure exit_of_report (gives (done_exit (listing_text c lines.now))) result }
+{
+    match list(alloc, bytes, lines) {
+        Ok(text) => Ok(Report::Text(text)),
+        Err(ListFault::TooLong(_)) => Err(Stop::Refused(RefusedLine::ContainerTooLong)),
+        Err(ListFault::Malformed(offset, flaw)) => Err(Stop::Refused(RefusedLine::Container(
+            Refusal::Malformed(offset, flaw),
+        ))),
+        Err(ListFault::Memory | ListFault::Results) => Err(Stop::Memory),
+    }
+}
+
+/// Reads the container, and the source where it is given, and lists the container.
+pub fn list_command<'a, F: Files>(
+    alloc: Global,
+    args: ListArgs<'a>,
+    files: &mut F,
+) -> Result<Report, Stop<'a>>
+    ensures { let a = args.entry in
+        Gives exit_of_report (list_command a.file.now (option_map (λ n. n.now) a.source))
+        (F.log files.old) (F.log files.new) (F.state files.old) (F.state files.new) result }
+{
+    let bytes = bytes_of(
+        alloc,
+        args.file,
+        MAX_FILE,
+        RefusedLine::ContainerTooLong,
+        files,
+    )?;
+    let container = container_in(alloc, &bytes)?;
+    let (version, bound) = (container.version, container.bound);
+    drop(container);
+    let lines = lines_of(alloc, version, bound, args.source, files)?;
+    listed(alloc, &bytes, &lines)
+}

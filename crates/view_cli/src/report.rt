@@ -1,0 +1,61 @@
+//! What a command prints.
+
+ghost use Rattle.std.specs.Prelude.{◌≡◌};
+ghost use Rattle.file_port.specs.Sink.{Puts};
+ghost use Rattle.view_cli.specs.Reports.{exit_of_report};
+
+use crate::texts::{
+    print_formula_too_long, print_help, print_no_packet, print_usage, print_version,
+};
+use crate::trace_job::TraceJob;
+use file_port::{Put, Sink};
+
+/// What a command prints, and with which status.
+#[derive(Drop)]
+pub enum Report {
+    /// The arguments are no command.
+    Usage,
+    /// How the program is called.
+    Help,
+    /// The program's version.
+    Version,
+    /// What was asked for.
+    Text(Vec<u8>),
+    /// What is wrong with a text.
+    Fault(Vec<u8>),
+    /// A formula's text is too long.
+    FormulaTooLong,
+    /// There is no packet of this number.
+    NoPacket(u64),
+    /// The run on a packet.
+    Traced(TraceJob),
+}
+
+impl Report {
+    /// The status of the run, where all is put.
+    pub fn status(&self) -> u8
+        ensures { result ≡ (exit_of_report self.now).status }
+    {
+        match self {
+            Report::Usage => 2,
+            Report::Help | Report::Version | Report::Text(_) | Report::Traced(_) => 0,
+            Report::Fault(_) | Report::FormulaTooLong | Report::NoPacket(_) => 1,
+        }
+    }
+
+    /// Prints it; stops at the first put that fails.
+    pub fn print<S: Sink>(self, out: &mut S) -> Put
+        ensures { Puts (exit_of_report self).text (S.state out.old) (S.state out.new) result }
+    {
+        match self {
+            Report::Usage => print_usage(out),
+            Report::Help => print_help(out),
+            Report::Version => print_version(out),
+            Report::Text(text) => out.put(&text),
+            Report::Fault(text) => out.put(&text),
+            Report::FormulaTooLong => print_formula_too_long(out),
+            Report::NoPacket(number) => print_no_packet(number, out),
+            Report::Traced(job) => job.print(out),
+        }
+    }
+}

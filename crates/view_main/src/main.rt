@@ -1,0 +1,30 @@
+//! The program `pcc_view`: makes the real files and output, and calls `pcc_view` over them.
+#![tactic(auto)]
+
+use file_port::{DiskFiles, StdSink};
+use std::io::ErrorKind;
+use std::process::ExitCode;
+use std::{env, io};
+use view_cli::pcc_view;
+
+/// The arguments after the program's name. It is an error where one is no text, or for want of
+/// memory.
+fn words_of(rt: &HostRuntime) -> io::Result<Vec<String>> {
+    let words: Vec<String> = env::args(rt)?.skip(1).collect(rt.alloc())?;
+    Ok(words)
+}
+
+/// Calls `pcc_view` with the real arguments, files and output, and ends with its status.
+fn main(rt: HostRuntime) -> ExitCode {
+    let words = match words_of(&rt) {
+        Ok(words) => words,
+        Err(error) => match error.kind() {
+            ErrorKind::OutOfMemory => return ExitCode::from(5),
+            // An argument is no text, so the arguments are no command.
+            _ => Vec::new(rt.alloc()),
+        },
+    };
+    let mut files = DiskFiles::new(&rt);
+    let mut out = StdSink::new(rt.stdout());
+    ExitCode::from(pcc_view(rt.alloc(), words, &mut files, &mut out))
+}
