@@ -3,8 +3,9 @@
 # and check on examples and at limits; packets and steps a second of ref and run, beside the same filters
 # as native loops (bench/native.c, where there is a C compiler), and beside libpcap, tcpdump and
 # qemu-alpha where they are installed; a loop of six instructions on one packet of 64 bytes, for which
-# loading counts nothing, beside qemu-alpha's translator, its -singlestep and libpcap's interpreter. What
-# is missing is told.
+# loading counts nothing, beside qemu-alpha's translator, its -singlestep and libpcap's interpreter; last
+# how the cost of check, prove, bpf and host grows where what they read doubles (bench/growth.py). What is
+# missing is told.
 #
 # PCC is the program that is measured; without it ./pcc builds the proved one and takes that. CC is the
 # C compiler, cc without it; an empty CC leaves the native rows out. A line that isn't the one expected
@@ -13,15 +14,13 @@ set -eu
 top=$(cd "$(dirname "${BASH_SOURCE[0]}")/.." && pwd)
 work=$(mktemp -d)
 trap 'rm -rf "$work"' EXIT
-if [ -z "${PCC-}" ]; then
-  "$top/pcc" check tag "$top/examples/tag/container" > /dev/null
-  PCC=$top/crates/pcc_main/out/pcc_main
-fi
+. "$top/bench/program.sh"
 cd "$top"
 python3 - "$top/bench" "$PCC" "$work" "${CC-cc}" <<'PY'
 import os, shutil, statistics, struct, subprocess, sys, time
 sys.path.insert(0, sys.argv[1])
 from terms import *
+import growth
 
 bench, binary, work, compiler = sys.argv[1:]
 failed = False
@@ -73,16 +72,14 @@ line("pcc without words", "%.2f" % (start_clock * 1e3), "ms", ratio(start_clock,
 
 # ---- asm, prove, check
 
-head("asm, prove and check, of the clock (start-up is in it)")
+head("asm, prove and check, of the clock (start-up is in it), and processor time")
 for name, policy in [("ip", "filter"), ("port", "filter"), ("checksum", "filter"), ("sort", "table")]:
     source, plain, proved = "examples/%s/source.s" % name, work + "/plain", work + "/proved"
-    times = []
     for words, wanted in [(("asm", policy, source, plain), None), (("prove", policy, plain, proved), None), (("check", policy, proved), "accepted")]:
-        clock = median([binary, *words], wanted)[1]
-        times.append(clock)
+        used, clock, _ = median([binary, *words], wanted)
         size = {"asm": plain, "prove": proved}.get(words[0])
         line("%s %s" % (words[0], name), "%.2f" % (clock * 1e3), "ms", ratio(clock, start_clock, "start-up"),
-             "%d bytes" % os.path.getsize(size) if size else "")
+             "%.2f ms of processor time" % (used * 1e3) + (", %d bytes" % os.path.getsize(size) if size else ""))
 
 NOP, LOAD, STORE = 0x47FF041F, 0xA4320000, 0xB4320000
 insns = "\n".join(["addq $%d,%d,$%d" % (k % 8, k % 256, (k + 1) % 8) for k in range(1023)] + ["ret"]) + "\n"
@@ -298,5 +295,10 @@ if emulator is not None:
     beside({"run": counted["checksum"] / checksum_seconds / 1e6},
            [("qemu-alpha -singlestep", emulated(["-singlestep"], code, large[0], (1000, 4000), steps)),
             ("qemu-alpha", emulated([], code, large[0], (10000, 20000), steps))])
+
+# ---- growth
+
+head("where what is read doubles: processor time without start-up, the least of nine, beside the row before")
+failed = not growth.rows(binary, work, once, line) or failed
 sys.exit(1 if failed else 0)
 PY

@@ -1,12 +1,13 @@
 #!/usr/bin/env bash
 # Times `pcc asm` on sources at its limits, median of five: the line that is printed, processor time and
 # peak memory; and GNU as for Alpha on the same 1,024 instructions, where it is installed.
+# PCC: see bench/program.sh.
 set -eu
 top=$(cd "$(dirname "${BASH_SOURCE[0]}")/.." && pwd)
 work=$(mktemp -d)
 trap 'rm -rf "$work"' EXIT
-"$top/pcc" asm filter "$top/examples/sum/source.s" "$work/out" > /dev/null || true
-python3 - "$top/bench" "$top/crates/pcc_main/out/pcc_main" "$work" <<'PY'
+. "$top/bench/program.sh"
+python3 - "$top/bench" "$PCC" "$work" <<'PY'
 import shutil, statistics, sys
 sys.path.insert(0, sys.argv[1])
 from runs import run

@@ -16,10 +16,7 @@ set -eu
 top=$(cd "$(dirname "${BASH_SOURCE[0]}")/.." && pwd)
 work=$(mktemp -d)
 trap 'rm -rf "$work"' EXIT
-if [ -z "${PCC-}" ]; then
-  "$top/pcc" check tag "$top/examples/tag/container" > /dev/null
-  PCC=$top/crates/pcc_main/out/pcc_main
-fi
+. "$top/bench/program.sh"
 cd "$top"
 python3 - "$top" "$PCC" "$work" "${CC-cc}" <<'PY'
 import importlib.machinery, importlib.util, os, shutil, statistics, struct, subprocess, sys

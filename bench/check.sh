@@ -2,12 +2,13 @@
 # Times `pcc check` on containers at its limits, accepted and refused, median of five (the worst files
 # known once each), some of them in both versions: the line that is printed, processor time and peak
 # memory. A line that isn't the one expected ends the run with status 1.
+# PCC: see bench/program.sh.
 set -eu
 top=$(cd "$(dirname "${BASH_SOURCE[0]}")/.." && pwd)
 work=$(mktemp -d)
 trap 'rm -rf "$work"' EXIT
-"$top/pcc" check tag "$top/examples/tag/container" > /dev/null
-python3 - "$top/bench" "$top/crates/pcc_main/out/pcc_main" "$work" <<'PY'
+. "$top/bench/program.sh"
+python3 - "$top/bench" "$PCC" "$work" <<'PY'
 import hashlib, statistics, sys
 sys.path.insert(0, sys.argv[1])
 from runs import run

@@ -3,6 +3,7 @@
 # each entry the next one's part; a balanced tree; and a chain over 104,000 entries of an operator at
 # two words, which rise, are drawn at random, or have equal hashes under the toolchain's hasher, whose
 # seed is fixed. Median of five; processor time and peak memory.
+# PCC: see bench/program.sh.
 set -eu
 top=$(cd "$(dirname "${BASH_SOURCE[0]}")/.." && pwd)
 work=$(mktemp -d)
@@ -65,8 +66,9 @@ for name, pairs in [("rising", rising), ("random", drawn), ("equal hashes", equa
 with open(sys.argv[1] + "/packets", "wb") as out:
     out.write(struct.pack("<I", 64) + bytes(64))
 PY
-"$top/pcc" ref filter "$work/chain" "$work/packets"
-python3 - "$top/bench" "$top/crates/pcc_main/out/pcc_main" "$work" <<'PY'
+. "$top/bench/program.sh"
+"$PCC" ref filter "$work/chain" "$work/packets"
+python3 - "$top/bench" "$PCC" "$work" <<'PY'
 import statistics, sys
 sys.path.insert(0, sys.argv[1])
 from runs import run

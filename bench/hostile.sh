@@ -24,4 +24,5 @@ set -eu
 top=$(cd "$(dirname "${BASH_SOURCE[0]}")/.." && pwd)
 work=$(mktemp -d)
 trap 'rm -rf "$work"' EXIT
-python3 "$top/bench/hostile.py" "${PCC:-$top/crates/pcc_main/out/pcc_main}" "$work" "$@"
+. "$top/bench/program.sh"
+python3 "$top/bench/hostile.py" "$PCC" "$work" "$@"

@@ -1,7 +1,9 @@
 #!/usr/bin/env bash
 # Times `pcc ref` over the longest packet file of 64-byte packets, beside `cat` of the same file.
+# PCC: see bench/program.sh.
 set -eu
 top=$(cd "$(dirname "${BASH_SOURCE[0]}")/.." && pwd)
+. "$top/bench/program.sh"
 work=$(mktemp -d)
 trap 'rm -rf "$work"' EXIT
 python3 - "$work/packets" <<'PY'
@@ -9,9 +11,9 @@ import struct, sys
 with open(sys.argv[1], "wb") as out:
     out.write((struct.pack("<I", 64) + bytes(64)) * 61680)
 PY
-"$top/pcc" ref filter "$top/examples/first/container" "$work/packets" > "$work/lines"
+"$PCC" ref filter "$top/examples/first/container" "$work/packets" > "$work/lines"
 printf 'packets %s, bytes %s, lines %s\n' 61680 "$(wc -c < "$work/packets")" "$(wc -l < "$work/lines")"
 echo 'cat:'
 time cat "$work/packets" > /dev/null
 echo 'pcc ref:'
-time "$top/pcc" ref filter "$top/examples/first/container" "$work/packets" > /dev/null
+time "$PCC" ref filter "$top/examples/first/container" "$work/packets" > /dev/null

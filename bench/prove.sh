@@ -3,12 +3,13 @@
 # peak memory. A line or a digest that isn't the one expected, also of `check` of what is written, ends
 # the run with status 1. The lines and digests of `prove` are an independent implementation's. Then files
 # that ask for very much: a goal that is shared stands under 2^12 contexts, each with many hypotheses.
+# PCC: see bench/program.sh.
 set -eu
 top=$(cd "$(dirname "${BASH_SOURCE[0]}")/.." && pwd)
 work=$(mktemp -d)
 trap 'rm -rf "$work"' EXIT
-"$top/pcc" check tag "$top/examples/tag/container" > /dev/null
-python3 - "$top/bench" "$top/crates/pcc_main/out/pcc_main" "$work" <<'PY'
+. "$top/bench/program.sh"
+python3 - "$top/bench" "$PCC" "$work" <<'PY'
 import hashlib, os, statistics, sys
 sys.path.insert(0, sys.argv[1])
 from runs import run

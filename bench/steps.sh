@@ -1,10 +1,11 @@
 #!/usr/bin/env bash
 # Times `pcc ref` and `pcc run` of a proved endless loop on one packet, with 1 step and with 200,000,000:
 # processor time, median of five each, and how much longer or shorter `run` takes.
+# PCC: see bench/program.sh.
 set -eu
 top=$(cd "$(dirname "${BASH_SOURCE[0]}")/.." && pwd)
-"$top/pcc" check filter "$top/examples/endless/container" > /dev/null
-python3 - "$top/crates/pcc_main/out/pcc_main" "$top/examples" <<'PY'
+. "$top/bench/program.sh"
+python3 - "$PCC" "$top/examples" <<'PY'
 import os, statistics, subprocess, sys
 
 binary, examples = sys.argv[1:]

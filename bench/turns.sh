@@ -8,10 +8,7 @@ set -eu
 top=$(cd "$(dirname "${BASH_SOURCE[0]}")/.." && pwd)
 work=$(mktemp -d)
 trap 'rm -rf "$work"' EXIT
-if [ -z "${PCC-}" ]; then
-  "$top/pcc" check filter "$top/examples/endless/container" > /dev/null
-  PCC=$top/crates/pcc_main/out/pcc_main
-fi
+. "$top/bench/program.sh"
 python3 - "$PCC" "$top/examples" "$work" <<'PY'
 import os, subprocess, sys
 
