@@ -7,15 +7,9 @@ use Rattle.formula_ids.specs.Operands.{IsLiteral}
 use Rattle.prover_class.specs.Hypotheses.{Hyps}
 use Rattle.prover_class.specs.Bounds.{WordBound, least_bound, greatest_bound, own_bounds, op_bounds, part_lowers, uppers, lowers, upper_bound, lower_bound}
 use Rattle.bound_proofs.specs.declared.bounds.Side.TheVariants.{Upper, Lower}
-use Rattle.bound_proofs.specs.declared.parts.How.{How}
-use Rattle.bound_proofs.specs.Candidates.{limit, by_parts, ceiling_of, ceiling_bounds}
+use Rattle.bound_proofs.specs.Candidates.{limit, ceiling_of, ceiling_bounds}
 use Rattle.bound_proofs.specs.declared.choices.Choice.{Choice}
 use Rattle.bound_proofs.specs.Choices.{IsChoice}
-
--- what is no word has no bound of its own
-pub own_none : (x : Exp) → ((w : ℕ) → x ≡ ELit w → ⊥) → own_bounds x ≡ []
-own_none (ELit w) n = absurd (n w refl)
-own_none x n = refl
 
 -- what is no operator has no parts
 abbrev pub IsNoOp : Exp → Type 0
@@ -46,10 +40,6 @@ lower_alone Γ (EOp o a b) n =
     ap (λ l. greatest_bound (lowers (EOp o a b) Γ) (greatest_bound l (limit Lower (EOp o a b))))
     (no_lowers o a b (lower_bound true Γ a) n)
 lower_alone Γ x n = refl
-
-pub no_parts : (Γ : Hyps) (x : Exp) (c : How) → IsNoOp x → limit Upper x ≡ by_parts Γ x c
-no_parts Γ (EOp o a b) c n = absurd (n o a b refl)
-no_parts Γ x c n = refl
 
 -- a shift by what is no word has none
 pub right_none : (a b : Exp) (v w : WordBound) → IsLiteral b None → op_bounds Srl a b v w ≡ []

@@ -8,9 +8,8 @@ use Rattle.bpf_words.specs.declared.insn.Bpf.{Bpf}
 use Rattle.bpf_words.specs.declared.insn.BpfOp.{BpfOp}
 use Rattle.bpf_words.specs.Programs.{bpf_op}
 use Rattle.bpf_words.proofs.Soundness.{drop-at}
-use Rattle.bpf_code.specs.Blocks.{byte_code, quad_reg, bytes_code, load_code, straight_code, end_code, end_place, filled, block_code, block_of, blocks_from, bpf_code}
+use Rattle.bpf_code.specs.Blocks.{byte_code, quad_reg, bytes_code, load_code, filled, block_code, block_of, blocks_from, bpf_code}
 use Rattle.bpf_code.proofs.Places.{length-block_of}
-use Rattle.bpf_code.proofs.Simulation.{block_code-short}
 
 -- one byte more of a load
 pub load-step : (start items new one : List Insn) (k n q : ℕ) → new ≡ items ++ one → items ≡ start ++ bytes_code k n
@@ -43,23 +42,6 @@ filled-is (suc n) [] le =
 filled-is (suc n) (x ∷ l) le =
     let less : n - length l ≡ suc n - suc (length l) = omega arith in
     ap (λ r. x ∷ r) (filled-is n l (omega (arith, le)) ∙ ap (λ m. l ++ replicate m Ret) less)
-
--- a block, by what is added to the code before it
-pub block-added : (old straight ended new : List Insn) (i : ℕ) (b : Bpf) (op : BpfOp) → length old ≡ 20 * i → straight ≡ old ++ straight_code op b.k
-    → ended ≡ straight ++ end_code (length straight) i b op → new ≡ ended ++ replicate (20 * (i + 1) - length ended) Ret
-    → new ≡ old ++ filled 20 (block_code i b op)
-block-added old straight ended new i b op place straight-is ended-is new-is =
-    let n = length-append old (straight_code op b.k) in
-    let at : length straight ≡ end_place i op b.k = ap length straight-is ∙ omega (arith, n, place) in
-    let whole : ended ≡ old ++ block_code i b op =
-    ended-is ∙ ap (λ m. straight ++ end_code m i b op) at ∙ ap (λ l. l ++ end_code (end_place i op b.k) i b op) straight-is
-    ∙ append_assoc old (straight_code op b.k) (end_code (end_place i op b.k) i b op) in
-    let m = length-append old (block_code i b op) in
-    let e = ap length whole in
-    let left : 20 * (i + 1) - length ended ≡ 20 - length (block_code i b op) = omega (arith, m, e, place) in
-    new-is ∙ ap (λ m. ended ++ replicate m Ret) left ∙ ap (λ l. l ++ replicate (20 - length (block_code i b op)) Ret) whole
-    ∙ append_assoc old (block_code i b op) (replicate (20 - length (block_code i b op)) Ret)
-    ∙ ap (λ l. old ++ l) (sym (filled-is 20 (block_code i b op) (block_code-short i b op)))
 
 -- one block more
 pub blocks-step : (program : List Bpf) (old new : List Insn) (i : ℕ) (b : Bpf) → slice_get program i ≡ Some b → new ≡ old ++ block_of i b (bpf_op b.code)

@@ -1,7 +1,6 @@
 -- The ids of the invariants, block by block.
-use Rattle.std.proofs.Common.{◌≡◌, ℕ, suc, ◌+◌, ◌*◌, ◌≤◌, List, [], ◌∷◌, ◌++◌, length, drop, slice_get, Option, Some, refl, sym, ap, ◌∙◌, subst, arith, append_assoc, append-nil}
+use Rattle.std.proofs.Common.{◌≡◌, ℕ, suc, ◌+◌, ◌*◌, List, [], ◌∷◌, ◌++◌, drop, slice_get, Option, Some, refl, sym, ap, ◌∙◌, subst, arith, append_assoc}
 use Rattle.std.specs.List.{AllByRecursion}
-use Rattle.std.proofs.Math.ListN.{drop_of_length-le}
 use Rattle.std.proofs.lemmas.List.{map-append}
 use Rattle.term_table.specs.Table.{TableView, IsKnown, tree_at, id_trees}
 use Rattle.lf_signature.specs.Nodes.{IsIdOf}
@@ -12,16 +11,13 @@ use Rattle.bpf_words.specs.Programs.{bpf_op}
 use Rattle.bpf_words.proofs.Soundness.{drop-at}
 use Rattle.bpf_code.specs.Blocks.{end_place}
 use Rattle.bpf_vc.specs.Invariants.{packet_invariant, end_invariant, invariants_of, invariants_from}
-use Rattle.bpf_compile.specs.Inside.Ids.{terms_of, AreFirstIds, AreInvIds}
+use Rattle.bpf_compile.specs.Inside.Ids.{terms_of, AreFirstIds}
 
 known-both : (t : TableView) (ids more : List (ℕ × ℕ))
     → AllByRecursion (λ (inv : ℕ × ℕ). IsKnown t inv.1) ids → AllByRecursion (λ (inv : ℕ × ℕ). IsKnown t inv.1) more
     → AllByRecursion (λ (inv : ℕ × ℕ). IsKnown t inv.1) (ids ++ more)
 known-both t [] more h g = g
 known-both t (p ∷ ids) more h g = (h.0, known-both t ids more h.1 g)
-
-pub no-ids : (t : TableView) (program : List Bpf) (ids : List (ℕ × ℕ)) → ids ≡ [] → AreFirstIds t program 0 ids
-no-ids t program ids e = subst (λ l. AreFirstIds t program 0 l) (sym e) (record { known = tt; trees = refl })
 
 -- the ids of a block, by its two
 pub more-ids : (t : TableView) (program : List Bpf) (i start at packet last : ℕ) (b : Bpf) (op : BpfOp) (ids mid all : List (ℕ × ℕ))
@@ -46,12 +42,6 @@ more-ids t program i start at packet last b op ids mid all found known first end
           ∙ append_assoc (id_trees t ids) (id_trees t two) (terms_of rest)
           ∙ ap (λ l. id_trees t ids ++ (l ++ terms_of rest)) block ∙ ap (λ l. id_trees t ids ++ l) from ∙ before.trees;
     }
-
-pub all-ids : (t : TableView) (program : List Bpf) (i : ℕ) (ids : List (ℕ × ℕ)) → length program ≤ i → AreFirstIds t program i ids → AreInvIds t program ids
-all-ids t program i ids le first = record {
-  known = first.known;
-  trees = sym (append-nil (id_trees t ids)) ∙ ap (λ l. id_trees t ids ++ terms_of (invariants_from i l)) (sym (drop_of_length-le program le)) ∙ first.trees;
-}
 
 -- the same op, by the instruction that is looked up
 pub op-is : (b c : Bpf) (o : Option BpfOp) (op : BpfOp) → b ≡ c → o ≡ bpf_op b.code → o ≡ Some op → bpf_op c.code ≡ Some op

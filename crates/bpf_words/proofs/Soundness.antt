@@ -24,11 +24,6 @@ pub flaw_from-next : (count i : ℕ) (insns : List Bpf) (insn : Bpf) → i < len
 flaw_from-next count i insns insn lt at none =
     ap (flaw_from count i) (drop-at insns i insn at) ∙ ap (λ o. else_flaw o (flaw_from count (i + 1) (drop (i + 1) insns))) none
 
-pub flaw_from-here : (count i : ℕ) (insns : List Bpf) (insn : Bpf) (flaw : BpfFlaw) → i < length insns → slice_get insns i ≡ Some insn
-    → insn_flaw count i insn ≡ Some flaw → flaw_from count i (drop i insns) ≡ Some flaw
-flaw_from-here count i insns insn flaw lt at some =
-    ap (flaw_from count i) (drop-at insns i insn at) ∙ ap (λ o. else_flaw o (flaw_from count (i + 1) (drop (i + 1) insns))) some
-
 -- an answer that isn't some is none
 pub none-is : (o : Option BpfFlaw) → is_some o ≡ false → o ≡ None
 none-is None e = refl

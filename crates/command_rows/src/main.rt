@@ -1,7 +1,8 @@
-//! Runs rows of `pcc` over files and output in memory.
+//! Runs rows of `pcc` and of `pcc_view` over files and output in memory.
 //!
 //! The arguments name files of the folder that it runs in: one that ends in `.rows` is run, and any
 //! other is hexadecimal text, whose bytes stand as a file of that name before every row behind it.
+//! Rows in files whose names begin with `view-` are of `pcc_view`, the others of `pcc`.
 #![tactic(auto)]
 
 use anyhow::Result;
@@ -10,11 +11,27 @@ use pcc_cli::pcc;
 use std::alloc::Global;
 use std::{env, fs};
 use test_rows::{Program, Scene, take_data};
+use view_cli::pcc_view;
 
-/// The program whose rows these are.
-struct Pcc;
+/// The program whose rows a file has.
+#[derive(Clone, Copy)]
+enum Command {
+    Pcc,
+    View,
+}
 
-impl Program for Pcc {
+impl Command {
+    /// The program whose rows the file of this name has.
+    fn of_file(name: &str) -> Command {
+        if name.starts_with("view-") {
+            Command::View
+        } else {
+            Command::Pcc
+        }
+    }
+}
+
+impl Program for Command {
     fn call(
         &self,
         alloc: Global,
@@ -22,7 +39,10 @@ impl Program for Pcc {
         files: &mut MemFiles,
         out: &mut MemSink,
     ) -> u8 {
-        pcc(alloc, words, files, out)
+        match self {
+            Command::Pcc => pcc(alloc, words, files, out),
+            Command::View => pcc_view(alloc, words, files, out),
+        }
     }
 }
 
@@ -32,7 +52,8 @@ fn main(rt: HostRuntime) -> Result<()> {
     let mut scene = Scene::new(rt.alloc());
     for name in env::args(&rt)?.skip(1) {
         let text = fs::read_to_string(&rt, name.as_str())?;
-        take_data(&Pcc, &mut scene, name.as_str(), text.as_str())?;
+        let command = Command::of_file(name.as_str());
+        take_data(&command, &mut scene, name.as_str(), text.as_str())?;
     }
     let report = scene.report()?;
     println!(rt; "{report}")?;

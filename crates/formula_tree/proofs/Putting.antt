@@ -1,5 +1,6 @@
 -- What stands for the registers and m, as the binders grow in number.
-use Rattle.std.proofs.Common.{◌≡◌, ℕ, zero, suc, ◌+◌, ◌<◌, ◌≤◌, ◌^◌, min, max, List, [], ◌∷◌, map, length, get_or, refl, sym, ◌∙◌, ap, arith, subst}
+use Rattle.std.proofs.Common.{◌≡◌, ℕ, zero, suc, ◌+◌, ◌<◌, ◌≤◌, ◌^◌, min, max, List, [], ◌∷◌, map, length, take, get_or, refl, sym, ◌∙◌, ap, arith, subst}
+use Rattle.std.proofs.lemmas.List.{length-map, length-take, get_or-take, get_or_past}
 use Rattle.std.proofs.Math.Nat.{min-eq_left, min-le_left, le-max_left, le-max_right}
 use Rattle.formula_tree.specs.Formulas.{Exp, EReg, ELeft, EVar, ELit, EOp, ESel, MemExp, MMem, MVar, MUpd, shift_exp, shift_mem}
 use Rattle.formula_tree.specs.Substitution.{Substitution, shift_substitution}
@@ -7,16 +8,31 @@ use Rattle.formula_tree.specs.Sizes.{HasRoomExp, HasRoomMem, HaveRoom, HasRoomSu
 use Rattle.formula_tree.specs.declared.exp.Exp as rust
 use Rattle.formula_tree.specs.Views.{exp_view}
 
--- what is put for a register that the list has, and for one past its end
-pub reg_some : (regs : List rust.Exp) (r d : ℕ) (e : rust.Exp) → r < length regs → e ≡ get_or regs r e → get_or (map (shift_exp d 0) (map exp_view regs)) r (ELit 0) ≡ shift_exp d 0 (exp_view e)
+-- what is put for a register that the list has
+reg_some : (es : List rust.Exp) (r d : ℕ) (e : rust.Exp) → r < length es → e ≡ get_or es r e → get_or (map (shift_exp d 0) (map exp_view es)) r (ELit 0) ≡ shift_exp d 0 (exp_view e)
 reg_some [] r d e lt h = absurd (omega (arith, lt))
-reg_some (x ∷ regs) zero d e lt h = ap (λ y. shift_exp d 0 (exp_view y)) (sym h)
-reg_some (x ∷ regs) (suc r) d e lt h = reg_some regs r d e (omega (arith, lt)) h
+reg_some (x ∷ es) zero d e lt h = ap (λ y. shift_exp d 0 (exp_view y)) (sym h)
+reg_some (x ∷ es) (suc r) d e lt h = reg_some es r d e (omega (arith, lt)) h
 
-pub reg_room : (regs : List rust.Exp) (r d : ℕ) (e : rust.Exp) → r < length regs → e ≡ get_or regs r e → HaveRoom d 0 (map exp_view regs) → HasRoomExp d 0 (exp_view e)
+reg_room : (es : List rust.Exp) (r d : ℕ) (e : rust.Exp) → r < length es → e ≡ get_or es r e → HaveRoom d 0 (map exp_view es) → HasRoomExp d 0 (exp_view e)
 reg_room [] r d e lt h o = absurd (omega (arith, lt))
-reg_room (x ∷ regs) zero d e lt h o = subst (λ y. HasRoomExp d 0 (exp_view y)) (sym h) o.0
-reg_room (x ∷ regs) (suc r) d e lt h o = reg_room regs r d e (omega (arith, lt)) h o.1
+reg_room (x ∷ es) zero d e lt h o = subst (λ y. HasRoomExp d 0 (exp_view y)) (sym h) o.0
+reg_room (x ∷ es) (suc r) d e lt h o = reg_room es r d e (omega (arith, lt)) h o.1
+
+-- the same where the registers are the first 31
+first_has : (es : List rust.Exp) (r : ℕ) → r < 31 → r < length es → r < length (take 31 es)
+first_has es r small lt = rw (length-take 31 es) (omega (arith, small, lt))
+
+pub put_some : (es : List rust.Exp) (r d : ℕ) (e : rust.Exp) → r < 31 → r < length es → e ≡ get_or es r e → get_or (map (shift_exp d 0) (map exp_view (take 31 es))) r (ELit 0) ≡ shift_exp d 0 (exp_view e)
+put_some es r d e small lt h = reg_some (take 31 es) r d e (first_has es r small lt) (h ∙ sym (get_or-take 31 es r e small))
+
+pub put_none : (es : List rust.Exp) (r d : ℕ) → min 31 (length es) ≤ r → get_or (map (shift_exp d 0) (map exp_view (take 31 es))) r (ELit 0) ≡ ELit 0
+put_none es r d le =
+    let count : length (map (shift_exp d 0) (map exp_view (take 31 es))) ≡ min 31 (length es) = length-map (map exp_view (take 31 es)) (shift_exp d 0) ∙ length-map (take 31 es) exp_view ∙ length-take 31 es in
+    get_or_past (map (shift_exp d 0) (map exp_view (take 31 es))) r (ELit 0) (rw count le)
+
+pub put_room : (es : List rust.Exp) (r d : ℕ) (e : rust.Exp) → r < 31 → r < length es → e ≡ get_or es r e → HaveRoom d 0 (map exp_view (take 31 es)) → HasRoomExp d 0 (exp_view e)
+put_room es r d e small lt h o = reg_room (take 31 es) r d e (first_has es r small lt) (h ∙ sym (get_or-take 31 es r e small)) o
 
 -- room under more binders is room under fewer
 mutual
@@ -38,7 +54,7 @@ rooms-fewer [] k d o h = tt
 rooms-fewer (e ∷ l) k d o h = (room_exp-fewer e k d o.0 h, rooms-fewer l k d o.1 h)
 
 pub room_fewer : (s : Substitution) (k d : ℕ) → HasRoomSubstitution k s → d ≤ k → HasRoomSubstitution d s
-room_fewer s k d o h = record { regs = rooms-fewer s.regs k d o.regs h; memory = room_mem-fewer s.memory k d o.memory h }
+room_fewer s k d o h = record { regs = rooms-fewer s.regs k d o.regs h; memory = room_mem-fewer s.memory k d o.memory h; left = room_exp-fewer s.left k d o.left h }
 
 -- one binder more, where the count of binders stops at 2 ^ 32 - 1
 step : (d e n : ℕ) → e ≡ min (d + 1) 4294967295 → suc d + n < 2 ^ 32 → 1 + (d + n) ≡ e + n
@@ -62,10 +78,8 @@ regs-next : (l : List Exp) (d e : ℕ) → e ≡ min (d + 1) 4294967295 → Have
 regs-next [] d e q o = refl
 regs-next (x ∷ l) d e q o = λ i. shift_exp-next x d e q o.0 i ∷ regs-next l d e q o.1 i
 
-pub change_next : (s : Substitution) (d e : ℕ) → e ≡ min (d + 1) 4294967295 → s.left ≡ ELeft → HasRoomSubstitution (suc d) s → shift_substitution 1 (shift_substitution d s) ≡ shift_substitution e s
-change_next s d e q left o =
-    let same : shift_exp 1 0 (shift_exp d 0 s.left) ≡ shift_exp e 0 s.left = rw left refl in
-    λ i. record { regs = regs-next s.regs d e q o.regs i; memory = shift_mem-next s.memory d e q o.memory i; left = same i }
+pub change_next : (s : Substitution) (d e : ℕ) → e ≡ min (d + 1) 4294967295 → HasRoomSubstitution (suc d) s → shift_substitution 1 (shift_substitution d s) ≡ shift_substitution e s
+change_next s d e q o = λ i. record { regs = regs-next s.regs d e q o.regs i; memory = shift_mem-next s.memory d e q o.memory i; left = shift_exp-next s.left d e q o.left i }
 
 -- room for a formula's binders is room for those of its parts
 pub room_part : (s : Substitution) (d b : ℕ) → HasRoomSubstitution (d + b) s → HasRoomSubstitution d s
@@ -81,8 +95,8 @@ pub room_body : (s : Substitution) (d e b : ℕ) → e ≡ min (d + 1) 429496729
 room_body s d e b q o = let h : e ≤ d + 1 = subst (λ x. x ≤ d + 1) (sym q) (min-le_left (d + 1) 4294967295) in room_fewer s (d + suc b) (e + b) o (omega (arith, h))
 
 -- what is put under one binder more
-pub change_body : (s : Substitution) (d e b : ℕ) → e ≡ min (d + 1) 4294967295 → s.left ≡ ELeft → HasRoomSubstitution (d + suc b) s → shift_substitution e s ≡ shift_substitution 1 (shift_substitution d s)
-change_body s d e b q left o = sym (change_next s d e q left (room_fewer s (d + suc b) (suc d) o (omega arith)))
+pub change_body : (s : Substitution) (d e b : ℕ) → e ≡ min (d + 1) 4294967295 → HasRoomSubstitution (d + suc b) s → shift_substitution e s ≡ shift_substitution 1 (shift_substitution d s)
+change_body s d e b q o = sym (change_next s d e q (room_fewer s (d + suc b) (suc d) o (omega arith)))
 
 -- under no binder
 mutual

@@ -78,7 +78,8 @@ abbrev pub HaveRoom : ℕ → ℕ → List Exp → Type 0
 HaveRoom k c [] = Unit {0}
 HaveRoom k c (e ∷ l) = HasRoomExp k c e × HaveRoom k c l
 
--- no variable of what is put for registers and m reaches 2 ^ 32 under k binders
+-- no variable of what is put for registers, m and the steps that are left reaches 2 ^ 32 under k binders
 pub record HasRoomSubstitution (k : ℕ) (s : Substitution) : Type 0 where
   pub regs : HaveRoom k 0 s.regs
   pub memory : HasRoomMem k 0 s.memory
+  pub left : HasRoomExp k 0 s.left

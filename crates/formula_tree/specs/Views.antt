@@ -1,5 +1,5 @@
 -- Formulas as they stand in memory, without the places of their boxes.
-use Rattle.std.specs.Prelude.{List, map}
+use Rattle.std.specs.Prelude.{List, map, take, slice_index_or}
 use Rattle.formula_tree.specs.declared.exp.Exp as exp
 use Rattle.formula_tree.specs.declared.exp.Exp.TheVariants as E
 use Rattle.formula_tree.specs.declared.exp.MemExp as mem
@@ -36,6 +36,7 @@ form_view (F.Imp' p a q b) = FImp (form_view a) (form_view b)
 form_view (F.All' p a) = FAll (form_view a)
 form_view (F.Allm' p a) = FAllm (form_view a)
 
--- these expressions for the registers, and this memory for m; the steps that are left stay
+-- The first 31 expressions for r0 to r30, the one behind them for the steps that are left, which stay
+-- where there is none, and this memory for m.
 abbrev pub substitution_of : List exp.Exp → mem.MemExp → Substitution
-substitution_of regs m = record { regs = map exp_view regs; memory = mem_exp_view m; left = ELeft }
+substitution_of es m = record { regs = map exp_view (take 31 es); memory = mem_exp_view m; left = slice_index_or (map exp_view es) 31 ELeft }

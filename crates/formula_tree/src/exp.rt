@@ -109,9 +109,9 @@ impl Exp {
         }
     }
 
-    /// The expression with `regs` for r0 to r30 and `memory` for m, which stand outside `depth`
-    /// binders; register 31 becomes 0, and the steps that are left stay. Fails only for want of
-    /// memory.
+    /// The expression with `regs` for r0 to r30 and, where it has one more, for the steps that are
+    /// left, and `memory` for m, which stand outside `depth` binders; register 31 becomes 0. Fails
+    /// only for want of memory.
     #[cycle(subst)]
     pub(crate) fn subst_at(
         &self,
@@ -125,11 +125,15 @@ impl Exp {
             (shift_substitution depth (substitution_of regs.now memory.now))) }
     {
         match self {
+            Exp::Reg(number) if *number > 30 => Ok(Exp::Lit(0)),
             Exp::Reg(number) => match regs.get(usize::from(*number)) {
                 Some(put) => put.shift_at(alloc, depth, 0),
                 None => Ok(Exp::Lit(0)),
             },
-            Exp::Left => Ok(Exp::Left),
+            Exp::Left => match regs.get(31) {
+                Some(steps) => steps.shift_at(alloc, depth, 0),
+                None => Ok(Exp::Left),
+            },
             Exp::Var(number) => Ok(Exp::Var(*number)),
             Exp::Lit(word) => Ok(Exp::Lit(*word)),
             Exp::Oper(op, a, b) => {
@@ -204,7 +208,7 @@ impl MemExp {
         }
     }
 
-    /// The memory with `regs` for r0 to r30 and `memory` for m, as that of an expression.
+    /// The memory with `regs` and `memory` put, as in an expression.
     #[cycle(subst)]
     pub(crate) fn subst_at(
         &self,

@@ -1,6 +1,6 @@
 //! Formulas.
 
-ghost use Rattle.std.specs.Prelude.{◌≡◌, IfOk, ◌+◌, length};
+ghost use Rattle.std.specs.Prelude.{◌≡◌, ◌⊎◌, IfOk, ◌+◌, length};
 ghost use Rattle.formula_tree.specs.Formulas.{FAnd, FOr, FImp, FAll, FAllm, shift_form};
 ghost use Rattle.formula_tree.specs.Sizes.{form_height, binders, HasRoom, HasRoomSubstitution};
 ghost use Rattle.term_table.specs.Measures.{capped};
@@ -132,8 +132,8 @@ impl Form {
         self.shift_at(alloc, by, u64::from(from))
     }
 
-    /// The formula with `regs` for r0 to r30 and `memory` for m, which stand outside `depth`
-    /// binders. Fails only for want of memory.
+    /// The formula with `regs` for r0 to r30 and, where it has one more, for the steps that are
+    /// left, and `memory` for m, which stand outside `depth` binders. Fails only for want of memory.
     #[tactic(auto, using(crate::proofs::Putting::room_part))]
     fn subst_at(
         &self,
@@ -179,15 +179,17 @@ impl Form {
         }
     }
 
-    /// The formula with `regs` for r0 to r30, in this order, and `memory` for m, all at once;
-    /// register 31 becomes 0, and no variable is captured. Fails only for want of memory.
+    /// The formula with `regs` for r0 to r30, in this order, and `memory` for m, all at once. Of 32
+    /// expressions the last is put for the steps that are left; of 31 none is, and they stay.
+    /// Register 31 becomes 0 in any case, and no variable is captured. Fails only for want of
+    /// memory.
     pub fn subst_regs(
         &self,
         alloc: Global,
         regs: &[Exp],
         memory: &MemExp,
     ) -> Result<Form, AllocError>
-        requires count { length regs.now ≡ 31 }
+        requires count { (length regs.now ≡ 31) ⊎ (length regs.now ≡ 32) }
         requires room { HasRoomSubstitution (binders (form_view self.now))
             (substitution_of regs.now memory.now) }
         ensures exact { IfOk result (λ f. form_view f ≡ subst_form (form_view self.now)

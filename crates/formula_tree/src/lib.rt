@@ -5,8 +5,7 @@
 //! (`specs/Formulas`), simultaneous substitution (`specs/Substitution`), substitution for one
 //! variable (`specs/Variables`), the formulas over a context (`specs/Scope`) and truth
 //! (`specs/Truth`). The layers use that `subst_regs` is that substitution, and what `laws` says of
-//! truth. `specs/Views` leads from the trees in memory to the plain data, which beside them has the
-//! steps that are left: no tree in memory and no context has these yet. Source: Necula, POPL 1997.
+//! truth. `specs/Views` leads from the trees in memory to the plain data. Source: Necula, POPL 1997.
 #![tactic(auto)]
 
 mod exp;

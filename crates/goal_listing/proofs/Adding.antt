@@ -1,14 +1,12 @@
 -- Lines that are added while the table grows.
-use Rattle.std.proofs.Common.{◌≡◌, ℕ, ◌<◌, List, [], ◌∷◌, ◌++◌, map, Option, Some, None, get_or, length, zero, suc, refl, sym, ◌∙◌, ap, append_assoc, arith}
-use Rattle.std.specs.Prelude.{IfSome, unwrap_or}
+use Rattle.std.proofs.Common.{◌≡◌, ℕ, List, [], ◌∷◌, ◌++◌, map, Option, Some, None, refl, sym, ◌∙◌, ap, append_assoc, arith}
+use Rattle.std.specs.Prelude.{IfSome}
 use Rattle.std.specs.Option.{option_map}
 use Rattle.std.proofs.lemmas.List.{append-nil, map-append}
-use Rattle.term_table.specs.Tree.{Tree}
 use Rattle.term_table.specs.Table.{TableView, IsKnown, tree_at, Extends}
 use Rattle.goal_listing.specs.declared.lines.ShownLine.{ShownLine}
-use Rattle.goal_listing.specs.Formulas.{unless_short}
 use Rattle.goal_listing.specs.Lines.{Line}
-use Rattle.goal_listing.specs.Inside.Shown.{ShownView, shown_line, line_view, HasKnownLong, AreKnownLines, AreAdded}
+use Rattle.goal_listing.specs.Inside.Shown.{shown_line, line_view, HasKnownLong, AreKnownLines, AreAdded}
 use Rattle.goal_listing.proofs.Growing.{id-known}
 
 -- ---- what is kept stays as the table grows
@@ -46,12 +44,6 @@ pub pushed-known : (t : TableView) (ls : List ShownLine) (l : ShownLine) → Are
 pushed-known t [] l h k = (k, tt)
 pushed-known t (x ∷ ls) l h k = (h.0, pushed-known t ls l h.1 k)
 
-pub known-at : (t : TableView) (ls : List ShownLine) (i : ℕ) (d : ShownLine) → AreKnownLines t ls
-    → i < length ls → HasKnownLong t (get_or ls i d)
-known-at t [] i d h lt = absurd (omega (arith, lt))
-known-at t (l ∷ ls) zero d h lt = h.0
-known-at t (l ∷ ls) (suc i) d h lt = known-at t ls i d h.1 (omega (arith, lt))
-
 module _ (bound : Option ℕ) where
   pub added-one : (t u : TableView) → Extends t u → (old : List ShownLine) → AreKnownLines t old
       → (x : ShownLine) (line : Line) (new : List ShownLine) → line_view u x ≡ shown_line bound line
@@ -73,27 +65,3 @@ module _ (bound : Option ℕ) where
       f ∙ ap (λ l. l ++ map (shown_line bound) later) e
       ∙ append_assoc (map (line_view t) old) (map (shown_line bound) first) (map (shown_line bound) later)
       ∙ ap (λ l. map (line_view t) old ++ l) (sym (map-append (shown_line bound) first later))
-
--- ---- what is kept of a line
-
--- words alone
-pub words-kept : (label : List ℕ) → ◌≡◌ {A = ShownView} (record { text = label; long = None })
-    (record { text = label ++ []; long = None })
-words-kept label = let same = sym (append-nil label) in λ k. record { text = same k; long = None }
-
--- a formula with a short text
-pub short-kept : (label text new : List ℕ) (t : Tree) (o : Option (List ℕ)) → Some text ≡ o
-    → new ≡ label ++ text → ◌≡◌ {A = ShownView} (record { text = new; long = None })
-    (record { text = label ++ unwrap_or o []; long = unless_short o t })
-short-kept label text new t o e is =
-    let whole = is ∙ ap (λ x. label ++ unwrap_or x []) e in
-    let none = ap (λ x. unless_short x t) e in λ k. record { text = whole k; long = none k }
-
--- another
-pub long-kept : (label : List ℕ) (s t : Tree) (o : Option (List ℕ)) → None ≡ o → s ≡ t
-    → ◌≡◌ {A = ShownView} (record { text = label; long = Some s })
-    (record { text = label ++ unwrap_or o []; long = unless_short o t })
-long-kept label s t o e same =
-    let whole = sym (append-nil label) ∙ ap (λ x. label ++ unwrap_or x []) e in
-    let some = ap Some same ∙ ap (λ x. unless_short x t) e in
-    λ k. record { text = whole k; long = some k }

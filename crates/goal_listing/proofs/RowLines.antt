@@ -1,12 +1,11 @@
 -- One row more is listed.
-use Rattle.std.proofs.Common.{◌≡◌, ℕ, zero, suc, ◌+◌, ◌<◌, ◌≤◌, length, ◌&&◌, Bool, true, false, not, is_some, Option, List, [], ◌∷◌, ◌++◌, map, take, drop, get_or, sym, ◌∙◌, ap, append_assoc, arith}
+use Rattle.std.proofs.Common.{◌≡◌, ℕ, zero, suc, ◌+◌, ◌<◌, length, ◌&&◌, Bool, false, not, is_some, Option, List, [], ◌∷◌, ◌++◌, map, take, drop, get_or, sym, ◌∙◌, ap, append_assoc, arith}
 use Rattle.std.specs.Prelude.{slice_index_or}
-use Rattle.std.proofs.lemmas.List.{drop-drop, get_or-drop, drop_more, drop_all, map-append, take-map}
+use Rattle.std.proofs.lemmas.List.{drop-drop, get_or-drop, map-append, take-map}
 use Rattle.term_table.specs.Tree.{Tree}
 use Rattle.term_table.specs.Table.{TableView, IsKnown, AllKnown, tree_at}
 use Rattle.goal_tree.specs.declared.rows.Row.{Row}
 use Rattle.goal_tree.specs.Rows.{RowView, GoalRow, BothRow, UnderRow, row_view}
-use Rattle.goal_marks.specs.Marks.{all_true}
 use Rattle.goal_listing.specs.declared.lines.ShownLine.{ShownLine}
 use Rattle.goal_listing.specs.Lines.{Line}
 use Rattle.goal_listing.specs.Listing.{row_line, goal_count, is_hard, row_hint, known_after, row_lines}
@@ -85,14 +84,3 @@ pub first-known : (t : TableView) (ids : List ℕ) (n : ℕ) → AllKnown t ids 
 first-known t ids zero h = tt
 first-known t [] (suc n) h = tt
 first-known t (x ∷ ids) (suc n) h = (h.0, first-known t ids n h.1)
-
--- ---- whether all marks are true
-
--- at the next mark
-pub true-step : (marks : List Bool) (i : ℕ) → i < length marks
-    → all_true (drop i marks) ≡ (slice_index_or marks i false && all_true (drop (i + 1) marks))
-true-step marks i h = ap all_true (drop_more marks i false h)
-
--- behind them
-pub true-end : (marks : List Bool) (i : ℕ) → length marks ≤ i → all_true (drop i marks) ≡ true
-true-end marks i h = ap all_true (drop_all i marks h)

@@ -1,12 +1,12 @@
 -- The text of lines, as they are kept and as they are listed.
 use Rattle.std.proofs.Common.{◌≡◌, ℕ, zero, suc, ◌+◌, ◌<◌, true, List, [], ◌∷◌, ◌++◌, map, take, get_or, length, Option, Some, None, refl, sym, ◌∙◌, ap, subst, append_assoc, arith}
 use Rattle.std.specs.Prelude.{IfSome, unwrap_or}
-use Rattle.std.specs.List.{AllByRecursion, flat_map}
+use Rattle.std.specs.List.{flat_map}
 use Rattle.std.specs.Option.{option_map, option_to_list}
 use Rattle.std.proofs.lemmas.List.{append-nil, map-append, take_more}
 use Rattle.std.proofs.lemmas.Grind.{flat_map-append}
 use Rattle.term_table.specs.Tree.{Tree}
-use Rattle.term_table.specs.Table.{TableView, IsKnown, tree_at, id_trees}
+use Rattle.term_table.specs.Table.{TableView, tree_at, id_trees}
 use Rattle.proof_container.specs.Postorder.{is_emitted, AreEmitted, ArePostorder, entries}
 use Rattle.proof_container.specs.Walks.{IsLeft, root_trees}
 use Rattle.proof_container.specs.declared.walk.Walk.{Walk}
@@ -40,19 +40,6 @@ pub pushed-one : {X : Type 0} (f : X → List ℕ) (xs : List X) (x : X) (old mi
 pushed-one f xs x old mid new pushed before =
     pushed ∙ ap (λ l. l ++ f x) before ∙ append_assoc old (flat_map f xs) (f x)
     ∙ ap (λ l. old ++ l) (sym (flat_map-one f xs x))
-
--- ---- ids
-
--- one id more
-pub id-pushed : (t : TableView) (ids : List (ℕ × ℕ)) (n id : ℕ) → map (λ p. p.1) (id_trees t (ids ++ (n, id) ∷ []))
-    ≡ map (λ p. p.1) (id_trees t ids) ++ tree_at t id ∷ []
-id-pushed t [] n id = refl
-id-pushed t (p ∷ ids) n id = ap (λ l. tree_at t p.1 ∷ l) (id-pushed t ids n id)
-
-pub ids-pushed : (t : TableView) (ids : List (ℕ × ℕ)) (n id : ℕ) → AllByRecursion (λ p. IsKnown t p.1) ids
-    → IsKnown t id → AllByRecursion (λ p. IsKnown t p.1) (ids ++ (n, id) ∷ [])
-ids-pushed t [] n id h k = (k, tt)
-ids-pushed t (p ∷ ids) n id h k = (h.0, ids-pushed t ids n id h.1 k)
 
 -- ---- lines
 

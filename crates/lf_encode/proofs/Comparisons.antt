@@ -1,8 +1,8 @@
 -- What a comparison of two trees answers, by the comparison of their parts.
-use Rattle.std.proofs.Common.{◌≡◌, ◌↔◌, Bool, true, false, IsTrue, Result, IfOk, sym, ◌∙◌, ap, subst}
+use Rattle.std.proofs.Common.{◌≡◌, ◌↔◌, Bool, true, false, IsTrue, Result, IfOk, sym, ◌∙◌, subst}
 use Rattle.std.proofs.lemmas.Bool.{false≢true}
 use Rattle.std.proofs.lemmas.Result.{IfOk-weaker}
-use Rattle.term_table.specs.Tree.{Tree, App, Lam}
+use Rattle.term_table.specs.Tree.{Tree, App}
 
 -- a tree is made in this way of one first part and one second part
 pub record IsOneToOne (make : Tree → Tree → Tree) : Type 0 where
@@ -39,12 +39,3 @@ app-second a b p q e = cc
 
 pub app-one : IsOneToOne App
 app-one = record { first = app-first; second = app-second }
-
-lam-same : (a p : Tree) → Lam a ≡ Lam p → a ≡ p
-lam-same a p e = cc
-
-lam-answer : (b : Bool) (a p : Tree) → IsTrue b ↔ (a ≡ p) → IsTrue b ↔ (Lam a ≡ Lam p)
-lam-answer b a p h = (λ x. ap Lam (h.0 x), λ e. h.1 (lam-same a p e))
-
-pub ok-lam : {E : Type 0} (r : Result Bool E) (a p : Tree) → IfOk r (λ b. IsTrue b ↔ (a ≡ p)) → IfOk r (λ b. IsTrue b ↔ (Lam a ≡ Lam p))
-ok-lam r a p h = IfOk-weaker r (λ b. IsTrue b ↔ (a ≡ p)) (λ b. IsTrue b ↔ (Lam a ≡ Lam p)) (λ b. lam-answer b a p) h

@@ -384,9 +384,6 @@ assembled_in-ends version bound policy text =
     no_reads (assembled_in version bound policy text)
     (assembled_in-fits (Some []) version bound policy text)
 
-pub policy_in-ends : (bytes : List ℕ) → is_read (policy_in bytes) ≡ false
-policy_in-ends bytes = no_reads (policy_in bytes) (policy_in-fits (Some []) bytes)
-
 pub upgraded_in-ends : (bytes : List ℕ) → is_read (upgraded_in bytes) ≡ false
 upgraded_in-ends bytes = no_reads (upgraded_in bytes) (upgraded_in-fits (Some []) bytes)
 

@@ -1,5 +1,5 @@
 -- The test of a policy's number is the relation.
-use Rattle.std.proofs.Common.{◌≡◌, ◌↔◌, ℕ, Bool, true, false, Option, Some, None, refl, sym, ◌∙◌, ap, eq-eqb, eqb-true}
+use Rattle.std.proofs.Common.{◌≡◌, ◌↔◌, ℕ, true, false, Option, Some, None, refl, ◌∙◌, ap, eq-eqb, eqb-true}
 use Rattle.std.proofs.lemmas.Bool.{false≢true}
 use Rattle.policy_set.specs.declared.kind.PolicyKind.{PolicyKind}
 use Rattle.policy_set.specs.Names.{kind_number, is_kind_number, IsNumberOf, is_number_of}
@@ -15,18 +15,6 @@ by-kind policy n (Some kind) e h = (kind, e, eqb-true n (kind_number kind) h)
 
 pub number-is : (policy : PolicyView) (n : ℕ) → is_number_of policy n ≡ true → IsNumberOf policy n
 number-is policy n h = by-kind policy n policy.kind refl h
-
-pub number-not : (policy : PolicyView) (n : ℕ) → is_number_of policy n ≡ false → IsNumberOf policy n
-    → ⊥
-number-not policy n e h = false≢true (sym e ∙ number-true policy n h)
-
-pub number-false : (policy : PolicyView) (n : ℕ) → (IsNumberOf policy n → ⊥) → is_number_of policy n
-    ≡ false
-number-false policy n other = by (is_number_of policy n) refl
-  where
-    by : (b : Bool) → is_number_of policy n ≡ b → b ≡ false
-    by true e = absurd (other (number-is policy n e))
-    by false e = refl
 
 pub number-exactly : (policy : PolicyView) (n : ℕ)
     → (is_number_of policy n ≡ true) ↔ IsNumberOf policy n

@@ -27,6 +27,18 @@ fn with_r1(alloc: Global, form: &Form, put: Exp) -> Result<Form, AllocError>
     form.subst_regs(alloc, &regs, &MemExp::Mem)
 }
 
+/// The formula with the expression for the steps that are left, and each register for itself.
+fn with_left(alloc: Global, form: &Form, put: Exp) -> Result<Form, AllocError>
+    requires { HasRoomExp (binders (form_view form.now)) 0 (exp_view put) }
+{
+    let mut regs = Vec::new(alloc);
+    for r in 0..31 {
+        regs.push(Exp::Reg(r))?;
+    }
+    regs.push(put)?;
+    form.subst_regs(alloc, &regs, &MemExp::Mem)
+}
+
 /// `(add r1 1)`
 fn sum(alloc: Global) -> Result<Exp, AllocError>
     ensures { IfOk result (λ e. exp_view e ≡ EOp Add (EReg 1) (ELit 1)) }
@@ -63,6 +75,46 @@ fn nothing_is_captured(rt: HostRuntime) -> Result<(), Fail> {
     let alloc = rt.alloc();
     assert!(rt; becomes(alloc, sum(alloc)?, sum(alloc)?)?);
     assert!(rt; becomes(alloc, Exp::Var(0), Exp::Var(1))?);
+    Ok(())
+}
+
+/// Whether the expression `put` for the steps that are left makes `(all i (eq want i))` of
+/// `(all i (eq of i))`.
+fn becomes_with_left(alloc: Global, of: Exp, put: Exp, want: Exp) -> Result<bool, AllocError>
+    requires { HasRoomExp 1 0 (exp_view put) }
+{
+    let form = equals_each(alloc, of)?;
+    let form = with_left(alloc, &form, put)?;
+    Ok(form == equals_each(alloc, want)?)
+}
+
+/// A sum of r1 and the variable of a quantifier outside, for the steps that are left.
+#[test]
+fn left_is_put(rt: HostRuntime) -> Result<(), Fail> {
+    let alloc = rt.alloc();
+    assert!(rt; becomes_with_left(alloc, Exp::Left, sum(alloc)?, sum(alloc)?)?);
+    assert!(rt; becomes_with_left(alloc, Exp::Left, Exp::Var(0), Exp::Var(1))?);
+    Ok(())
+}
+
+/// What is put for the steps that are left is put for no register.
+#[test]
+fn register_31_stays_zero(rt: HostRuntime) -> Result<(), Fail> {
+    let alloc = rt.alloc();
+    assert!(rt; becomes_with_left(alloc, Exp::Reg(30), Exp::Lit(5), Exp::Reg(30))?);
+    assert!(rt; becomes_with_left(alloc, Exp::Reg(31), Exp::Lit(5), Exp::Lit(0))?);
+    Ok(())
+}
+
+/// Whether 31 expressions leave `(all i (eq left i))` as it is.
+fn keeps_left(alloc: Global) -> Result<bool, AllocError> {
+    let form = equals_each(alloc, Exp::Left)?;
+    Ok(with_r1(alloc, &form, Exp::Lit(5))? == form)
+}
+
+#[test]
+fn left_stays(rt: HostRuntime) -> Result<(), Fail> {
+    assert!(rt; keeps_left(rt.alloc())?);
     Ok(())
 }
 

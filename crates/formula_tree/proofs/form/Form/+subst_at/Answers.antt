@@ -1,4 +1,4 @@
-use Rattle.std.proofs.Common.{rules, arith, ◌≡◌, ◌<◌, ◌+◌, min, max, suc, refl}
+use Rattle.std.proofs.Common.{rules, arith, ◌≡◌, ◌<◌, ◌+◌, min, max, suc}
 use Rattle.formula_tree.specs.Formulas.{FAnd, FOr, FImp, FAll, FAllm}
 use Rattle.formula_tree.specs.Sizes.{binders, HasRoomSubstitution}
 use Rattle.formula_tree.specs.Views.{form_view, substitution_of}
@@ -83,7 +83,7 @@ returns-in_ok-subst_at-in-All t c =
     let is : form_view c.args.self.now ≡ FAll (form_view c.deref-in-All.result.now) = search rules in
     let room : HasRoomSubstitution (c.args.depth + suc (binders (form_view c.deref-in-All.result.now))) (substitution_of c.args.regs.now c.args.memory.now) = rw is at c.requires.room in
     let next : c.saturating_add-inner.result ≡ min (c.args.depth + 1) 4294967295 = search rules in
-    let put = change_body (substitution_of c.args.regs.now c.args.memory.now) c.args.depth c.saturating_add-inner.result (binders (form_view c.deref-in-All.result.now)) next refl room in
+    let put = change_body (substitution_of c.args.regs.now c.args.memory.now) c.args.depth c.saturating_add-inner.result (binders (form_view c.deref-in-All.result.now)) next room in
     record { exact = rw is (rw (← put) (search rules)) }
 
 pub returns-in_ok-subst_at-in-Allm : goal.returns-in_ok-subst_at-in-Allm
@@ -91,5 +91,5 @@ returns-in_ok-subst_at-in-Allm t c =
     let is : form_view c.args.self.now ≡ FAllm (form_view c.deref-in-Allm.result.now) = search rules in
     let room : HasRoomSubstitution (c.args.depth + suc (binders (form_view c.deref-in-Allm.result.now))) (substitution_of c.args.regs.now c.args.memory.now) = rw is at c.requires.room in
     let next : c.saturating_add-inner-in-Allm.result ≡ min (c.args.depth + 1) 4294967295 = search rules in
-    let put = change_body (substitution_of c.args.regs.now c.args.memory.now) c.args.depth c.saturating_add-inner-in-Allm.result (binders (form_view c.deref-in-Allm.result.now)) next refl room in
+    let put = change_body (substitution_of c.args.regs.now c.args.memory.now) c.args.depth c.saturating_add-inner-in-Allm.result (binders (form_view c.deref-in-Allm.result.now)) next room in
     record { exact = rw is (rw (← put) (search rules)) }

@@ -1,0 +1,155 @@
+//! Rows of tables: code words and runs, policies, and programs of classic BPF.
+//!
+//! Each file of `data` is a table. A line of it that is empty or begins with `#` has no row. The
+//! fields of the others are parted by tabs, but those of `rows.txt`.
+//!
+//! `words.tsv`, on code words of both profiles: a code word, a text of the assembler (or nothing),
+//! and the verdicts of the second and of the first profile. The rows of a line are how the word is
+//! read by both; and of a text what a source of it is in both: the instruction that the word is, or
+//! the refusal, and a mnemonic that the first profile hasn't. Words and texts are those of an
+//! assembler, the verdicts an independent implementation's.
+//!
+//! `runs.tsv`, on what code of the second profile does: a policy, the words of code, a packet, what
+//! the packet comes to and in how many steps. The rows are that it does, and that with a step less
+//! it is out of steps. What packets come to is another machine's.
+//!
+//! `files.tsv`, on policies from files: a file, in which `\n` is LF, `\r` is CR and `\N;` is N
+//! blanks, and what comes of reading it: `Lines N`, `Length L`, `Form L POSITION KIND`, or `policy`
+//! with its text and its digest. `built_in.tsv`: the name of a built-in policy, its text and its
+//! digest. The digests are what `sha256sum` prints of the texts.
+//!
+//! `rows.txt`, on programs of classic BPF: a question, `=` and the answer that is wanted. Bytes are
+//! written in hexadecimal, in groups parted by blanks, and `N*GROUP` is a group N times. The
+//! questions are
+//!
+//! - `read BYTES`: `program N`, N being how many instructions are read, or the kind of what is wrong
+//!   with its number;
+//! - `insn I BYTES`: the fields of the instruction at an index, code, jt, jf and k;
+//! - `value BYTES / PACKET`: the value of the program on the packet;
+//! - `code BYTES`: how many words its code has; `block I BYTES`: the words of a block, each as what
+//!   it does, what it reads and what it writes.
+//!
+//! `programs.tsv`, on programs of classic BPF with packets and their values by libpcap: a number,
+//! where the program is from, its bytes, the packets, the values and what it is for. Each packet is
+//! a row.
+#![tactic(auto)]
+
+mod blocks;
+mod bytes;
+mod policies;
+mod programs;
+mod questions;
+mod row;
+mod runs;
+mod words;
+
+use anyhow::Result;
+use policies::{built_in_line, file_line};
+use programs::program_line;
+use questions::question_line;
+use row::Row;
+use runs::run_line;
+use std::alloc::{AllocError, Global};
+use std::fs;
+use words::word_line;
+
+/// A table of rows.
+#[derive(Clone, Copy)]
+enum Table {
+    Words,
+    Runs,
+    Files,
+    BuiltIn,
+    Questions,
+    Programs,
+}
+
+/// Every table.
+const TABLES: [Table; 6] = [
+    Table::Words,
+    Table::Runs,
+    Table::Files,
+    Table::BuiltIn,
+    Table::Questions,
+    Table::Programs,
+];
+
+impl Table {
+    /// The name of its file.
+    fn name(self) -> &'static str {
+        match self {
+            Table::Words => "words.tsv",
+            Table::Runs => "runs.tsv",
+            Table::Files => "files.tsv",
+            Table::BuiltIn => "built_in.tsv",
+            Table::Questions => "rows.txt",
+            Table::Programs => "programs.tsv",
+        }
+    }
+
+    /// The rows of a line of it.
+    fn line_rows(self, alloc: Global, line: &str) -> Result<Vec<Row>, AllocError> {
+        match self {
+            Table::Words => word_line(alloc, line),
+            Table::Runs => run_line(alloc, line),
+            Table::Files => file_line(alloc, line),
+            Table::BuiltIn => built_in_line(alloc, line),
+            Table::Questions => question_line(alloc, line),
+            Table::Programs => program_line(alloc, line),
+        }
+    }
+}
+
+/// How many rows there were, and how many of them differ.
+#[derive(Drop)]
+struct Counts {
+    rows: u64,
+    differ: u64,
+}
+
+impl Counts {
+    /// Counts one row more.
+    fn count(&mut self, differs: bool) {
+        self.rows = self.rows.saturating_add(1);
+        if differs {
+            self.differ = self.differ.saturating_add(1);
+        }
+    }
+}
+
+/// Counts a row, and prints it with its line and the answer that was got, where that isn't the
+/// wanted one.
+fn report(rt: &HostRuntime, counts: &mut Counts, line: &str, got: &str, want: &str) -> Result<()> {
+    let differs = got != want;
+    counts.count(differs);
+    if differs {
+        println!(rt; "{line}: {got} in place of {want}")?;
+    }
+    Ok(())
+}
+
+/// Asks the rows of each line of a table.
+fn ask(rt: &HostRuntime, counts: &mut Counts, table: Table) -> Result<()> {
+    let text = fs::read_to_string(rt, table.name())?;
+    for line in text.lines() {
+        if line.is_empty() || line.starts_with('#') {
+            continue;
+        }
+        for (got, want) in table.line_rows(rt.alloc(), line)? {
+            report(rt, counts, line, got.as_str(), want.as_str())?;
+        }
+    }
+    Ok(())
+}
+
+/// Asks the rows of every table, prints those that differ, and their count.
+fn main(rt: HostRuntime) -> Result<()> {
+    let mut counts = Counts { rows: 0, differ: 0 };
+    for table in TABLES {
+        ask(&rt, &mut counts, table)?;
+    }
+    let rows = counts.rows;
+    let differ = counts.differ;
+    println!(rt; "{rows} rows, {differ} differ")?;
+    Ok(())
+}
