@@ -1,39 +1,81 @@
 #!/usr/bin/env bash
-# Times substitution in formulas and the making of verification conditions: 5 put for each of the
-# machine's variables in chains that share and in a balanced tree of 49,215 to 336,170
-# entries, and conditions of straight code and of branches that double the unfolded length (median of
-# five; processor time and peak memory, making included, and of making alone).
+# Prints a table of conditions that double: of code that sets eight registers to 5 before an invariant over
+# them, a chain or a balanced tree; and of straight code, and of branches that double the unfolded length,
+# without invariants. Processor time without start-up, median of five, each against the row before where that
+# takes 1 ms, and peak memory of `prove`.
+#
+# Each container has a proof of `tt`, which is another formula. So `check` prints `refused 11 NotProof`, and
+# its time is that of reading, and of what is asked before the proof. `prove` of the same makes the condition
+# besides, words put into the invariant, and ends at the first goal, which isn't easy: `not easy 0`.
+#
+# PCC: see bench/program.sh. A line that isn't the one expected ends the run with status 1.
 set -eu
 top=$(cd "$(dirname "${BASH_SOURCE[0]}")/.." && pwd)
-binary=$top/crates/lf_bench/out/lf_bench
-[ -x "$binary" ] || (cd "$top/crates/lf_bench" && rt run) >&2
 work=$(mktemp -d)
 trap 'rm -rf "$work"' EXIT
-python3 - "$top/bench" "$binary" "$work" <<'PY'
-import statistics, sys
+. "$top/bench/program.sh"
+python3 - "$top/bench" "$PCC" "$work" <<'PY'
+import sys
 sys.path.insert(0, sys.argv[1])
-from runs import run
+from hostile import CHANGED, balanced, beq
+from runs import start_up, timed
+from terms import *
 
 binary, work = sys.argv[2:]
+path, failed = work + "/container", False
+NOP, DOUBLED = 0x47FF041F, 0x40210401
+LEAST = 1e-3  # seconds, against which less says nothing
 
-def median(words, times=5):
-    runs = [run([binary, *words], work) for _ in range(times)]
-    assert all(r.status == 0 for r in runs), runs
-    return runs[0].line, statistics.median(r.seconds for r in runs), statistics.median(r.megabytes for r in runs)
+def leaf(t, k):
+    """That one of the registers and a number, added, are the number."""
+    return t.con(EQ, t.con(ADD, t.var(30 - CHANGED[k % 8]), t.lit(k)), t.lit(k))
 
-rows = [
-    ("put-chains", [(3000, 12000), (3000, 26000), (3000, 53000)]),
-    ("put-tree", [(13, 0), (14, 0), (15, 0)]),
-    ("vc-straight", [(255, 0), (511, 0), (1022, 0)]),
-    ("vc-branches", [(11, 0), (12, 0), (13, 0)]),
+def linked(t, whole, numbers):
+    for k in numbers:
+        whole = t.con(AND, leaf(t, k), whole)
+    return whole
+
+def chains(t, count):
+    """So many chains of 1,000 links, all over one of 3,000."""
+    whole = shared = linked(t, leaf(t, 0), range(1, 3000))
+    for k in range(3, 3 + count):
+        whole = t.con(AND, linked(t, shared, range(1000 * k, 1000 * k + 1000)), whole)
+    return whole
+
+def annotated(t, formula):
+    """Code that sets registers to 5, and then has this invariant."""
+    code = [0x08 << 26 | register << 21 | 31 << 16 | 5 for register in CHANGED]
+    return container(t, FILTER, code + [RETURN], [(len(code), formula)], t.con(TT_I))
+
+def plain(t, code):
+    return container(t, FILTER, code + [RETURN], (), t.con(TT_I))
+
+FAMILIES = [
+    ("{:,} chains of 1,000 links over one of 3,000", [8, 19, 40], lambda t, n: annotated(t, chains(t, n))),
+    ("a balanced tree of {:,} formulas", [10900, 21800, 43600],
+     lambda t, n: annotated(t, balanced(t, lambda k: leaf(t, k), 0, n))),
+    ("{:,} instructions in a row", [256, 512, 1023], lambda t, n: plain(t, [DOUBLED] * (n - 1))),
+    ("{:,} branches that double the unfolded length", [11, 12, 13], lambda t, n: plain(t, [beq(1, 1), NOP] * n)),
 ]
-for family, sizes in rows:
+
+print("| what | entries | bytes | `check` | times | `prove` | times | memory |")
+print("|---|---|---|---|---|---|---|---|")
+start = start_up(binary, work)
+for what, sizes, made in FAMILIES:
     before = None
     for size in sizes:
-        line, seconds, megabytes = median([family, *size])
-        _, made, _ = median([family, *size, "build"]) if family.startswith("put") else ("", 0, 0)
-        ratio = "" if before is None else "  x %.2f" % ((seconds - made) / before)
-        before = seconds - made
-        print("%s %d %d: %s  %.3f s (making %.3f s)  %.0f MB%s"
-              % (family, *size, line, seconds, made, megabytes, ratio))
+        data = made(Terms(), size)
+        with open(path, "wb") as out:
+            out.write(data)
+        checked, _, note = timed([binary, "check", "filter", path], work, start, "refused 11 NotProof")
+        proved, megabytes, other = timed([binary, "prove", "filter", path, work + "/out"], work, start, "not easy 0")
+        failed = failed or note + other != ""
+        cells = []
+        for k, seconds in enumerate((checked, proved)):
+            told = before and before[k] >= LEAST
+            cells += ["%.1f ms" % (seconds * 1e3), "%.2f" % (seconds / before[k]) if told else ""]
+        text = "| %s | {:,} | {:,} | %s | %.0f MB |%s" % (what.format(size), " | ".join(cells), megabytes, note + other)
+        print(text.format(entries_of(data), len(data)), flush=True)
+        before = checked, proved
+sys.exit(1 if failed else 0)
 PY

@@ -1,5 +1,5 @@
 """A run of a program, with its processor time and its peak memory: what the scripts of bench/ share."""
-import collections, os, shutil, subprocess, sys
+import collections, os, shutil, statistics, subprocess, sys
 
 Run = collections.namedtuple("Run", "line status seconds megabytes")
 
@@ -28,3 +28,18 @@ def run(words, folder):
         seconds, kilobytes = lines.read().split()[-2:]
     own = used.ru_utime + used.ru_stime if seconds == "-" else float(seconds)
     return Run(text, process.returncode, own, int(kilobytes) / 1024)
+
+
+def start_up(binary, folder):
+    """Seconds of processor time of the program without words, the least of nine."""
+    return min(run([binary], folder).seconds for _ in range(9))
+
+
+def timed(words, folder, start, wanted):
+    """Five runs of the words: the median of seconds, without so many for start-up, the median of megabytes,
+    and a note where the line, or the status where there is none, isn't the one wanted."""
+    runs = [run(words, folder) for _ in range(5)]
+    others = {r.line or "status %d" % r.status for r in runs} - {wanted}
+    note = "".join(" %s EXPECTED %s" % (line, wanted) for line in sorted(others))
+    seconds = statistics.median(r.seconds for r in runs) - start
+    return max(seconds, 1e-5), statistics.median(r.megabytes for r in runs), note

@@ -1,41 +1,88 @@
 #!/usr/bin/env bash
-# Times the checker on proofs that share: four families at some 32,000, 64,000, 128,000 and 256,000
-# entries (median of five; processor time and peak memory of making and checking, and of making
-# alone), and the worst files known, which end in want of memory (once each).
+# Prints a table of proofs that share, each twice as long as the one before, up to some 256,000 entries:
+# processor time of `pcc check` without start-up and peak memory, median of five, and the time against
+# the row before.
+#   chains     the sums of a word with others are themselves, conjoined one by one; the formula of all links
+#              so far stands in the proof of the next
+#   layers     conjunctions, each of two neighbours in the layer before, which is a hypothesis; so what would
+#              double with each layer is written once
+#   contexts   a word of 40 parts is itself under hypotheses that all differ
+#   instances  a predicate of 20 parts holds of one word after another, by `all_e` and `eq_sub`
+# Under `tag` the code `ret` has a condition that ends with `tt`; its proof goes by way of theirs.
+#
+# PCC: see bench/program.sh. A container that isn't accepted ends the run with status 1.
 set -eu
 top=$(cd "$(dirname "${BASH_SOURCE[0]}")/.." && pwd)
-binary=$top/crates/lf_bench/out/lf_bench
-[ -x "$binary" ] || (cd "$top/crates/lf_bench" && rt run) >&2
 work=$(mktemp -d)
 trap 'rm -rf "$work"' EXIT
-python3 - "$top/bench" "$binary" "$work" <<'PY'
-import statistics, sys
+. "$top/bench/program.sh"
+python3 - "$top/bench" "$PCC" "$work" <<'PY'
+import sys
 sys.path.insert(0, sys.argv[1])
-from runs import run
+from runs import start_up, timed
+from terms import *
 
 binary, work = sys.argv[2:]
+path, failed = work + "/container", False
 
-def median(words, times=5):
-    runs = [run([binary, *words], work) for _ in range(times)]
-    assert all(r.status == 0 for r in runs), runs
-    return runs[0].line, statistics.median(r.seconds for r in runs), statistics.median(r.megabytes for r in runs)
+def chain(t, links, first):
+    """So many links, each that the nearest word but one and another number, added, are themselves."""
+    whole = reflexive(t, t.var(1))
+    for k in range(links):
+        whole = both_of(t, reflexive(t, t.con(ADD, t.var(1), t.lit(first + k))), whole)
+    return whole
 
-families = {
-    "chains": (1450, [2, 4, 8, 16]),
-    "layers": (500, [9, 20, 41, 83]),
-    "contexts": (40, [2280, 4560, 9130, 18270]),
-    "instances": (20, [2450, 4900, 9800, 19600]),
-}
-for family, (shared, sizes) in families.items():
+def chains(t, links, count):
+    whole = chain(t, links, 0)
+    for k in range(1, count):
+        whole = both_of(t, chain(t, links, k << 20), whole)
+    return whole
+
+def taken_apart(t, formula, proof, levels):
+    """The 2^levels parts of a balanced conjunction, each proved by the proof of all."""
+    if levels == 0:
+        return [(formula, proof)]
+    one, other = t.nodes[t.nodes[formula][1]][2], t.nodes[formula][2]
+    return (taken_apart(t, one, t.con(AND_L, one, other, proof), levels - 1)
+            + taken_apart(t, other, t.con(AND_R, one, other, proof), levels - 1))
+
+def layers(t, levels, count):
+    """A proof of `tt` by way of so many layers of 2^levels conjunctions over as many facts, each layer
+    under the one before as a hypothesis."""
+    proved = [conjunction(t, [reflexive(t, t.lit(k)) for k in range(1 << levels)])]
+    for _ in range(count):
+        below = taken_apart(t, proved[-1][0], t.var(0), levels)
+        neighbours = zip(below, below[1:] + below[:1])
+        proved.append(conjunction(t, [both_of(t, one, other) for one, other in neighbours]))
+    tt, truth = t.con(TT), t.con(TT_I)
+    for formula, proof in reversed(proved):
+        truth = t.con(IMP_E, formula, tt, t.con(IMP_I, formula, tt, t.lam(truth)), proof)
+    return truth
+
+FAMILIES = [
+    ("chains of 1,000 links", [2, 4, 8, 16], lambda t, uses: under_equality(t, chains(t, 1000, uses))),
+    ("layers of 128 that share their neighbours", [16, 32, 64, 128], lambda t, uses: layers(t, 7, uses)),
+    ("a word of 40 parts under hypotheses that differ", [1800, 3600, 7200, 14400],
+     lambda t, uses: under_equality(t, contexts(t, 40, uses))),
+    ("instances of one predicate, by `all_e` and `eq_sub`", [2450, 4900, 9800, 19600],
+     lambda t, uses: under_equality(t, instances(t, 20, uses))),
+]
+
+print("| family | uses | entries | bytes | processor time | memory | times |")
+print("|---|---|---|---|---|---|---|")
+start = start_up(binary, work)
+for family, sizes, made in FAMILIES:
     before = None
     for uses in sizes:
-        line, seconds, megabytes = median([family, shared, uses])
-        _, made, _ = median([family, shared, uses, "build"])
-        ratio = "" if before is None else "  x %.2f" % ((seconds - made) / before)
-        before = seconds - made
-        print("%s %d %d: %s  %.2f s (making %.2f s)  %.0f MB%s"
-              % (family, shared, uses, line, seconds, made, megabytes, ratio))
-for words in [("contexts", 3000, 17000), ("instances", 3000, 8000)]:
-    line, seconds, megabytes = median(words, 1)
-    print("%s %d %d: %s  %.2f s  %.0f MB" % (*words, line, seconds, megabytes))
+        t = Terms()
+        data = returning_container(t, made(t, uses))
+        with open(path, "wb") as out:
+            out.write(data)
+        seconds, megabytes, note = timed([binary, "check", "tag", path], work, start, "accepted")
+        failed = failed or note != ""
+        name, times = ("", "%.2f" % (seconds / before)) if before else (family, "")
+        text = "| %s | {:,} | {:,} | {:,} | %.2f s | %.0f MB | %s |%s" % (name, seconds, megabytes, times, note)
+        print(text.format(uses, entries_of(data), len(data)), flush=True)
+        before = seconds
+sys.exit(1 if failed else 0)
 PY

@@ -127,6 +127,11 @@ def container(terms, policy, code, invariants=(), proof=None, lemmas=None):
     return struct.pack("<%dI" % len(fields), *fields)
 
 
+def entries_of(first):
+    """How many entries a container of version 1 has."""
+    return struct.unpack_from("<I", first, 16 + 4 * struct.unpack_from("<I", first, 12)[0])[0]
+
+
 DIGESTS = {
     "filter": bytes.fromhex("776f42a48720f4e2ffa048057c9c305639cfb455b869f440f94acbd6633c9fd6"),
     "tag": bytes.fromhex("3b028340152631c224d07049125343e99e3f6be3cf4d2f0931e14aeef88ab835"),
