@@ -1,6 +1,6 @@
 -- A run changes no address that may not be stored to.
 use Rattle.std.proofs.Common.{◌≡◌, ℕ, zero, suc, ◌+◌, Bool, true, false, List, slice_get, Option, Some, None, if◌then◌else◌, refl, sym, ◌∙◌, ap, true≢false}
-use Rattle.word_ops.specs.Memory.{Memory, read, write}
+use Rattle.word_ops.specs.Memory.{read, write}
 use Rattle.word_ops.specs.Rights.{Rights, allowed}
 use Rattle.word_ops.specs.Registers.{read_reg, write_reg}
 use Rattle.word_ops.proofs.Memories.{read-write_other}
@@ -14,7 +14,7 @@ use Rattle.alpha_cfg.specs.declared.outcome.Step.{Step}
 use Rattle.alpha_cfg.specs.declared.outcome.Step.TheVariants as steps
 use Rattle.alpha_cfg.specs.declared.outcome.Outcome.{Outcome}
 use Rattle.alpha_cfg.specs.Machine.{State, address_of, passes, access_outcome, state_at, action_outcome, step_at, step_of, ends_with, run_of, aligned}
-use Rattle.alpha_cfg.proofs.States.{insn_outcome-rights, run_of-rights}
+use Rattle.alpha_cfg.proofs.States.{insn_outcome-rights}
 use Rattle.alpha_cfg.specs.Isolation.{ChangesWritable}
 
 module _ (q : ℕ) where

@@ -1,5 +1,5 @@
 -- A run depends on registers and on what may be loaded.
-use Rattle.std.proofs.Common.{◌≡◌, ◌≢◌, ℕ, zero, suc, ◌+◌, Bool, true, false, List, slice_get, slice_index, Option, Some, None, if◌then◌else◌, refl, sym, ◌∙◌, ap, subst, inl, inr}
+use Rattle.std.proofs.Common.{◌≡◌, ℕ, zero, suc, ◌+◌, Bool, true, false, List, slice_get, Option, Some, None, if◌then◌else◌, refl, sym, ◌∙◌, ap, subst, inl, inr}
 use Rattle.std.proofs.lemmas.Bool.{cases_eq}
 use Rattle.word_ops.specs.Memory.{Memory, read, write}
 use Rattle.word_ops.specs.Rights.{Rights, allowed}
@@ -9,11 +9,9 @@ use Rattle.alpha_words.specs.declared.insn.Insn.{Insn}
 use Rattle.alpha_cfg.specs.Actions.{Action, action_of}
 use Rattle.alpha_cfg.specs.Actions as actions
 use Rattle.alpha_cfg.specs.Flow.{jump_of}
-use Rattle.alpha_cfg.specs.declared.outcome.Kind.{Kind}
 use Rattle.alpha_cfg.specs.declared.outcome.Kind.TheVariants.{Load, Store}
 use Rattle.alpha_cfg.specs.declared.outcome.Step.{Step}
 use Rattle.alpha_cfg.specs.declared.outcome.Step.TheVariants as steps
-use Rattle.alpha_cfg.specs.declared.outcome.Outcome.{Outcome}
 use Rattle.alpha_cfg.specs.Machine.{State, address_of, passes, access_outcome, state_at, action_outcome, step_at, step_of, ends_with, run_of, aligned}
 use Rattle.alpha_cfg.specs.Isolation.{LooksAlike, DependsOnReadable}
 

@@ -5,17 +5,22 @@ use Rattle.std.specs.Int.{cast_unsigned, w64}
 use Rattle.word_ops.proofs.Bounds.{word_of-below}
 use Rattle.word_ops.proofs.Memories.{IsMemory-write, read-below}
 use Rattle.word_ops.proofs.RegisterWords.{read_reg-below, AreRegs-write_reg}
-use Rattle.word_ops.specs.Words.{word_of}
 use Rattle.word_ops.specs.Memory.{read, write}
 use Rattle.word_ops.specs.Rights.{allowed}
 use Rattle.word_ops.specs.Registers.{read_reg, write_reg, AreRegs}
 use Rattle.alpha_words.specs.declared.insn.Rhs.{Rhs}
 use Rattle.alpha_words.specs.declared.insn.Rhs.TheVariants.{Reg, Lit}
 use Rattle.alpha_words.specs.declared.insn.Insn.{Insn}
-use Rattle.alpha_words.specs.declared.insn.Insn.TheVariants.{Lda, Ldq, Ldah, LdqU, Stq, Oper, Branch, Br, Ret}
-use Rattle.alpha_words.specs.Encoding.{IsRhs, HasBits}
+use Rattle.alpha_words.specs.declared.insn.Format.{Format}
+use Rattle.alpha_words.specs.declared.insn.Format.TheVariants as F
+use Rattle.alpha_words.specs.declared.memory.MemoryOp.{MemoryOp}
+use Rattle.alpha_words.specs.declared.memory.MemoryOp.TheVariants.{Lda, Ldah, Ldq, LdqU, Stq}
+use Rattle.alpha_words.specs.MemoryOps.{memory_kind}
+use Rattle.alpha_words.specs.Formats.{format_of}
+use Rattle.alpha_words.specs.Encoding.{IsRhs, HasBits, EncodesFormat}
+use Rattle.alpha_words.proofs.Words.{first_register-below}
 use Rattle.alpha_words.specs.Lawful.{target_of}
-use Rattle.alpha_cfg.specs.Actions.{Computed, Sum, Applied, Always, When, Action, action_of, HasOperands, next_after}
+use Rattle.alpha_cfg.specs.Actions.{Computed, Sum, Applied, Always, When, Action, memory_action, format_action, action_of, HasOperands, next_after}
 use Rattle.alpha_cfg.specs.Actions as actions
 use Rattle.alpha_cfg.specs.Flow.{IsCode, IsInsn, jump_of, next_of}
 use Rattle.alpha_cfg.proofs.FreeWalks.{landing_within, next_within}
@@ -51,17 +56,23 @@ far (negsuc n) h =
     let low : n * 65536 + 65535 < 2 ^ 31 = omega (arith, h) in
     subst (λ k. HasBits 31 (neg_ℤ (pos k))) (sym shown) low
 
--- an instruction that a word encodes has operands in their ranges
+-- what a word encodes has operands in their ranges
+memory-operands : (op : MemoryOp) (ra rb : ℕ) (disp : ℤ) → ra < 32 → rb < 32 → HasBits 15 disp → HasOperands (memory_action op ra rb disp)
+memory-operands Lda ra rb disp a b d = (b, wider disp d)
+memory-operands Ldah ra rb disp a b d = (b, far disp d)
+memory-operands LdqU ra rb disp a b d = (b, wider disp d)
+memory-operands Ldq ra rb disp a b d = (b, wider disp d)
+memory-operands Stq ra rb disp a b d = (b, wider disp d, a)
+
+format-operands : (w : ℕ) (f : Format) → EncodesFormat w f → HasOperands (format_action f)
+format-operands w (F.Memory op ra rb disp) h = memory-operands op ra rb disp (first_register-below (memory_kind op) ra h.0) h.1 h.2
+format-operands w (F.Operate op ra rhs rc) h = (h.0, h.1)
+format-operands w (F.Branch cond ra disp) h = h.0
+format-operands w (F.Br disp) h = tt
+format-operands w F.Ret h = tt
+
 pub action_of-operands : (insn : Insn) → IsInsn insn → HasOperands (action_of insn)
-action_of-operands (Lda ra rb disp) byte = (byte.1.1, wider disp byte.1.2)
-action_of-operands (Ldq ra rb disp) byte = (byte.1.2, wider disp byte.1.3)
-action_of-operands (Ldah ra rb disp) byte = (byte.1.1, far disp byte.1.2)
-action_of-operands (LdqU ra rb disp) byte = (byte.1.2, wider disp byte.1.3)
-action_of-operands (Stq ra rb disp) byte = (byte.1.1, wider disp byte.1.2, byte.1.0)
-action_of-operands (Oper op ra rhs rc) byte = (byte.1.0, byte.1.1)
-action_of-operands (Branch cond ra disp) byte = byte.1.0
-action_of-operands (Br disp) byte = tt
-action_of-operands Ret byte = tt
+action_of-operands insn h = format-operands h.0 (format_of insn) h.1
 
 word_computed-below : (regs : List ℕ) (to : ℕ) (word : Computed) → AreRegs regs → HasOperands (actions.Compute to word) → word_computed regs word < 2 ^ 64
 word_computed-below regs to (Sum base disp) h is = address_of-below regs base disp

@@ -6,7 +6,11 @@ use Rattle.word_ops.specs.declared.Op.{Op}
 use Rattle.alpha_words.specs.declared.insn.Rhs.{Rhs}
 use Rattle.alpha_words.specs.declared.insn.Cond.{Cond}
 use Rattle.alpha_words.specs.declared.insn.Insn.{Insn}
-use Rattle.alpha_words.specs.declared.insn.Insn.TheVariants.{Lda, Ldq, Ldah, LdqU, Stq, Oper, Branch, Br, Ret}
+use Rattle.alpha_words.specs.declared.insn.Format.{Format}
+use Rattle.alpha_words.specs.declared.insn.Format.TheVariants as F
+use Rattle.alpha_words.specs.declared.memory.MemoryOp.{MemoryOp}
+use Rattle.alpha_words.specs.declared.memory.MemoryOp.TheVariants.{Lda, Ldah, Ldq, LdqU, Stq}
+use Rattle.alpha_words.specs.Formats.{format_of}
 use Rattle.alpha_words.specs.Encoding.{IsRhs, HasBits}
 
 -- a word that is computed: the sum of a register and a displacement in bytes, or what an operator gives of a register and a second operand
@@ -29,17 +33,25 @@ pub data Action : Type 0 where
   Branching : Test → Action
   Return : Action
 
+-- what an instruction of the memory format does with these registers and this displacement
+abbrev pub memory_action : MemoryOp → ℕ → ℕ → ℤ → Action
+memory_action Lda ra rb disp = Compute ra (Sum rb disp)
+memory_action Ldah ra rb disp = Compute ra (Sum rb (disp *ℤ pos 65536))
+memory_action LdqU ra rb disp = LoadAround ra rb disp
+memory_action Ldq ra rb disp = Load ra rb disp
+memory_action Stq ra rb disp = Store ra rb disp
+
+-- the same of each format
+abbrev pub format_action : Format → Action
+format_action (F.Memory op ra rb disp) = memory_action op ra rb disp
+format_action (F.Operate op ra rhs rc) = Compute rc (Applied op ra rhs)
+format_action (F.Branch cond ra disp) = Branching (When cond ra)
+format_action (F.Br disp) = Branching Always
+format_action F.Ret = Return
+
 -- what the instruction does; where a branch leads is said in Flow (`jump_of`)
 abbrev pub action_of : Insn → Action
-action_of (Lda ra rb disp) = Compute ra (Sum rb disp)
-action_of (Ldq ra rb disp) = Load ra rb disp
-action_of (Ldah ra rb disp) = Compute ra (Sum rb (disp *ℤ pos 65536))
-action_of (LdqU ra rb disp) = LoadAround ra rb disp
-action_of (Stq ra rb disp) = Store ra rb disp
-action_of (Oper op ra rhs rc) = Compute rc (Applied op ra rhs)
-action_of (Branch cond ra disp) = Branching (When cond ra)
-action_of (Br disp) = Branching Always
-action_of Ret = Return
+action_of insn = format_action (format_of insn)
 
 -- registers, literals of eight bits, and displacements of 32 bits
 abbrev pub HasOperands : Action → Type 0

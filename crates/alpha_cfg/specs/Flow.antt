@@ -1,5 +1,5 @@
 -- Where an instruction leads, and what code is. Alpha Architecture Handbook, "Control Instructions".
-use Rattle.std.specs.Prelude.{◌≡◌, ℕ, ◌+◌, ◌-◌, ◌<◌, ◌≤◌, List, length, slice_get, Option, Some, None, ℤ, pos, negsuc, true}
+use Rattle.std.specs.Prelude.{◌≡◌, ℕ, ◌-◌, ◌<◌, ◌≤◌, List, length, slice_get, Option, Some, None, ℤ, pos, negsuc, true}
 use Rattle.alpha_words.specs.declared.insn.Insn.{Insn}
 use Rattle.alpha_words.specs.Encoding.{EncodesAny, has_insn}
 use Rattle.alpha_words.specs.Lawful.{target_of}

@@ -1,24 +1,31 @@
 -- What a word reads as is what it encodes.
-use Rattle.std.proofs.Common.{◌≡◌, ◌≢◌, ℕ, ◌+◌, ◌*◌, ◌/◌, ◌%◌, ◌^◌, ◌<◌, true, false, cond, not, leb, ltb, eqb, ◌&&◌, arith, refl, ◌∙◌, sym, ap, subst, Bool, if◌then◌else◌, Option, Some, None, Result, Ok, Err, IfOk, IfSome, ◌↔◌, List, [], ◌∷◌, find}
+use Rattle.std.proofs.Common.{◌≡◌, ◌≢◌, ℕ, ◌+◌, ◌*◌, ◌/◌, ◌%◌, ◌^◌, ◌<◌, true, false, cond, not, leb, ltb, eqb, ◌&&◌, arith, refl, ◌∙◌, sym, ap, subst, Bool, if◌then◌else◌, Option, Some, None, Result, Ok, Err, IfOk, IfSome, ◌↔◌, List, [], ◌∷◌, find, ℤ}
 use Rattle.std.proofs.lemmas.Bool.{cond_both, ltb-true, eqb-true, eqb-false, ne_eqb, and_parts, not_from_false, not-true}
 use Rattle.std.proofs.lemmas.Bool.Decides.{nat_tests}
 use Rattle.word_ops.specs.declared.Op.{Op}
-use Rattle.word_ops.specs.declared.Op.TheVariants.{Add, Sub, Band, Bis, Sll, Srl, Cmpeq, Cmplt, Cmple, Cmpult, Cmpule, Xor, Bic, S4add, S8add, Sra, Extb, Extw, Extl}
 use Rattle.word_ops.specs.declared.Profile.{Profile}
 use Rattle.alpha_words.specs.declared.insn.Rhs.{Rhs}
 use Rattle.alpha_words.specs.declared.insn.Rhs.TheVariants.{Reg, Lit}
 use Rattle.alpha_words.specs.declared.insn.Cond.{Cond}
 use Rattle.alpha_words.specs.declared.insn.Cond.TheVariants.{LowClear, Zero, Negative, NotPositive, LowSet, NotZero, NotNegative, Positive}
 use Rattle.alpha_words.specs.declared.insn.Insn.{Insn}
-use Rattle.alpha_words.specs.declared.insn.Insn.TheVariants.{Lda, Ldq, Ldah, LdqU, Stq, Oper, Branch, Br, Ret}
+use Rattle.alpha_words.specs.declared.insn.Insn.TheVariants.{Oper, Branch, Br, Ret}
+use Rattle.alpha_words.specs.declared.insn.Format.{Format}
+use Rattle.alpha_words.specs.declared.insn.Format.TheVariants as F
+use Rattle.alpha_words.specs.declared.memory.MemoryOp.{MemoryOp}
+use Rattle.alpha_words.specs.declared.memory.MemoryKind.{MemoryKind}
+use Rattle.alpha_words.specs.declared.memory.MemoryKind.TheVariants.{Address, Load, Store}
 use Rattle.alpha_words.specs.declared.fault.BadWord.{BadWord}
-use Rattle.alpha_words.specs.declared.fault.BadWord.TheVariants.{Opcode, Function, KeptRegister, LoadToZero}
+use Rattle.alpha_words.specs.declared.fault.BadWord.TheVariants.{Opcode, Function, KeptRegister, LoadToZero, BadReturn, BadLink}
 use Rattle.word_ops.specs.Operators.{op_opcode, op_function, op_of_code, has_op, of_profile}
-use Rattle.word_ops.proofs.EachOp.{each_op, op_of_code-op_code, op_code_is}
+use Rattle.word_ops.proofs.EachOp.{each_op, each_op_same, op_of_code-op_code, op_code_is}
+use Rattle.alpha_words.proofs.EachMemoryOp.{each_memory_op_same, memory_op_at-memory_opcode, memory_opcode_is, format_of-memory_insn, insn_of-format_of}
 use Rattle.alpha_words.specs.Opcodes.{conditions, cond_opcode_of, cond_at}
-use Rattle.alpha_words.specs.Lawful.{fault_of, any_fault, missing_fault, kept_fault, HasFormat}
-use Rattle.alpha_words.specs.Encoding.{is_kept, bits_of, HasBits, rhs_bits, IsRhs, operate_word, HasFields, is_two, has_insn, EncodesAny, Encodes}
-use Rattle.alpha_words.specs.Decoding.{signed_of, reg_at, unless_kept, rhs_at, has_reserved, decoded_operate, decoded_branch, is_return, decoded}
+use Rattle.alpha_words.specs.MemoryOps.{memory_opcode, memory_kind, has_memory_op, memory_op_at, memory_op_of}
+use Rattle.alpha_words.specs.Formats.{format_of, memory_insn, insn_of}
+use Rattle.alpha_words.specs.Lawful.{fault_of, any_fault, missing_fault, missing_format, format_fault, register_fault, kept_fault, FitsFormat, HasFormat}
+use Rattle.alpha_words.specs.Encoding.{is_kept, bits_of, HasBits, rhs_bits, IsRhs, memory_word, operate_word, HasFormatFields, HasFields, IsFirstRegister, EncodesFormat, has_format, has_insn, EncodesAny, Encodes}
+use Rattle.alpha_words.specs.Decoding.{signed_of, reg_at, unless_kept, unless_refused, decoded_memory, rhs_at, has_reserved, decoded_operate, decoded_branch, is_return, decoded_other, decoded_by, decoded}
 use Rattle.alpha_words.proofs.Fields.{HasBits-signed_of, bits_of-signed_of, signed_of-bits_of, bits_of-below}
 
 -- what reads, encodes
@@ -75,20 +82,23 @@ found_cond o (c ∷ cs) = cond_both (eqb (cond_opcode_of c) o) _ _ (IsCond o) (�
 cond_sound : (o : ℕ) → IsCond o (cond_at o)
 cond_sound o = found_cond o conditions
 
-lda_sound : (p : Profile) (w : ℕ) → w / 2 ^ 26 ≡ 8 → Sound p w (unless_kept (reg_at w 21) (Lda (reg_at w 21) (reg_at w 16) (signed_of 15 (w % 2 ^ 16))))
-lda_sound p w o = writing_sound p w (reg_at w 21) _ refl (λ k. ((omega arith, written (reg_at w 21) k), omega arith, short_has w, omega (arith, short_bits w)))
+-- an instruction of the memory format, by what it does with its first register
+kind_sound : (p : Profile) (w r : ℕ) (i : Insn) (k : MemoryKind) → r < 32 → has_insn p i ≡ true → (IsFirstRegister k r → EncodesAny w i) → Sound p w (unless_refused k r i)
+kind_sound p w r i Address lt l h = writing_sound p w r i l (λ k. h (lt, written r k))
+kind_sound p w r i Load lt l h =
+    cond_both (eqb r 31) _ _ (Sound p w) (λ _. tt)
+    (λ n. let other : r ≢ 31 = eqb-false r 31 n in writing_sound p w r i l (λ k. h ((lt, written r k), omega (arith, lt, other))))
+kind_sound p w r i Store lt l h = (l, h lt)
 
-ldq_sound : (p : Profile) (w : ℕ) → w / 2 ^ 26 ≡ 0x29 → reg_at w 21 ≢ 31 → Sound p w (unless_kept (reg_at w 21) (Ldq (reg_at w 21) (reg_at w 16) (signed_of 15 (w % 2 ^ 16))))
-ldq_sound p w o n = writing_sound p w (reg_at w 21) _ refl (λ k. ((omega arith, written (reg_at w 21) k), omega arith, omega arith, short_has w, omega (arith, short_bits w)))
-
-ldah_sound : (p : Profile) (w : ℕ) → w / 2 ^ 26 ≡ 9 → is_two p ≡ true → Sound p w (unless_kept (reg_at w 21) (Ldah (reg_at w 21) (reg_at w 16) (signed_of 15 (w % 2 ^ 16))))
-ldah_sound p w o t = writing_sound p w (reg_at w 21) _ t (λ k. ((omega arith, written (reg_at w 21) k), omega arith, short_has w, omega (arith, short_bits w)))
-
-ldq_u_sound : (p : Profile) (w : ℕ) → w / 2 ^ 26 ≡ 11 → is_two p ≡ true → reg_at w 21 ≢ 31 → Sound p w (unless_kept (reg_at w 21) (LdqU (reg_at w 21) (reg_at w 16) (signed_of 15 (w % 2 ^ 16))))
-ldq_u_sound p w o t n = writing_sound p w (reg_at w 21) _ t (λ k. ((omega arith, written (reg_at w 21) k), omega arith, omega arith, short_has w, omega (arith, short_bits w)))
-
-stq_sound : (w : ℕ) → w / 2 ^ 26 ≡ 0x2D → EncodesAny w (Stq (reg_at w 21) (reg_at w 16) (signed_of 15 (w % 2 ^ 16)))
-stq_sound w o = (omega arith, omega arith, short_has w, omega (arith, short_bits w))
+memory_sound : (p : Profile) (w : ℕ) (op : MemoryOp) → w / 2 ^ 26 ≡ memory_opcode op → has_memory_op p op ≡ true → Sound p w (decoded_memory w op)
+memory_sound p w op o has =
+    let ra = reg_at w 21 in
+    let rb = reg_at w 16 in
+    let disp = signed_of 15 (w % 2 ^ 16) in
+    let format = sym (format_of-memory_insn op ra rb disp) in
+    let whole : w ≡ memory_word (memory_opcode op) ra rb disp = omega (arith, short_bits w, o) in
+    kind_sound p w ra (memory_insn op ra rb disp) (memory_kind op) (omega arith) (subst (λ f. has_format p f ≡ true) format has)
+    (λ r. subst (EncodesFormat w) format (r, omega arith, short_has w, whole))
 
 unreserved : (w : ℕ) → eqb (w / 2 ^ 12 % 2) 1 ≡ false → has_reserved w ≡ false → w / 2 ^ 13 % 8 ≡ 0
 unreserved w e h = grind (arith, nat_tests)
@@ -128,19 +138,29 @@ ret_sound w o r =
 br_sound : (w : ℕ) → w / 2 ^ 26 ≡ 0x30 → reg_at w 21 ≡ 31 → EncodesAny w (Br (signed_of 20 (w % 2 ^ 21)))
 br_sound w o r = (long_has w, omega (arith, long_bits w))
 
-reading_sound : (p : Profile) (w : ℕ) → Sound p w (decoded p w)
-reading_sound p w =
+other_sound : (p : Profile) (w : ℕ) → Sound p w (decoded_other p w)
+other_sound p w =
     let P : Result Insn BadWord → Type 0 = Sound p w in
     let o : ℕ = w / 2 ^ 26 in
-    pick P o 8 _ _ (lda_sound p w)
-    (pick P o 41 _ _ (λ e. cond_both (eqb (reg_at w 21) 31) _ _ P (λ _. tt) (λ n. ldq_sound p w e (eqb-false (reg_at w 21) 31 n)))
-    (pick P o 9 _ _ (λ e. cond_both (is_two p) _ _ P (ldah_sound p w e) (λ _. tt))
-    (pick P o 11 _ _ (λ e. cond_both (is_two p) _ _ P (λ t. cond_both (eqb (reg_at w 21) 31) _ _ P (λ _. tt) (λ n. ldq_u_sound p w e t (eqb-false (reg_at w 21) 31 n))) (λ _. tt))
-    (pick P o 45 _ _ (λ e. (refl, stq_sound w e))
-    (cond_both (leb 16 o && leb o 18) _ _ P (λ _. oper_sound p w)
+    cond_both (leb 16 o && leb o 18) _ _ P (λ _. oper_sound p w)
     (λ _. pick P o 26 _ _ (λ e. cond_both (is_return w) _ _ P (λ r. (refl, ret_sound w e r)) (λ _. tt))
     (pick P o 48 _ _ (λ e. pick P (reg_at w 21) 31 _ _ (λ r. (refl, br_sound w e r)) tt)
-    (branch_sound p w))))))))
+    (branch_sound p w)))
+
+-- what is found of the memory format has the opcode, and the profile has it
+abbrev IsMemoryOp : Profile → ℕ → Option MemoryOp → Type 0
+IsMemoryOp p o r = IfSome r (λ op. (has_memory_op p op ≡ true) × (o ≡ memory_opcode op))
+
+memory_kept : (p : Profile) (o : ℕ) (r : Option MemoryOp) → memory_op_at o ≡ r → IsMemoryOp p o (memory_op_of p r)
+memory_kept p o None e = tt
+memory_kept p o (Some op) e = cond_both (has_memory_op p op) _ _ (IsMemoryOp p o) (λ h. (h, sym (memory_opcode_is o op e))) (λ _. tt)
+
+by_sound : (p : Profile) (w : ℕ) (r : Option MemoryOp) → IsMemoryOp p (w / 2 ^ 26) r → Sound p w (decoded_by p w r)
+by_sound p w None h = other_sound p w
+by_sound p w (Some op) h = memory_sound p w op h.1 h.0
+
+reading_sound : (p : Profile) (w : ℕ) → Sound p w (decoded p w)
+reading_sound p w = by_sound p w _ (memory_kept p (w / 2 ^ 26) (memory_op_at (w / 2 ^ 26)) refl)
 
 -- what encodes, reads
 unkept : (r : ℕ) → not (is_kept r) ≡ true → is_kept r ≡ false
@@ -149,36 +169,32 @@ unkept r e = not-true (is_kept r) e
 function_below : (op : Op) → op_function op < 128
 function_below op = ltb-true (op_function op) 128 (each_op (λ o. ltb (op_function o) 128) refl op)
 
+-- a word that isn't of the memory format, by its opcode
+abbrev other_at : Profile → ℕ → ℕ → Result Insn BadWord
+other_at p w o =
+    if leb 0x10 o && leb o 0x12 then decoded_operate w (of_profile p (op_of_code o (w / 2 ^ 5 % 128))) else
+    if eqb o 0x1A then (if is_return w then Ok Ret else Err BadReturn) else
+    if eqb o 0x30 then (if eqb (reg_at w 21) 31 then Ok (Br (signed_of 20 (w % 2 ^ 21))) else Err BadLink) else
+    decoded_branch w (cond_at o)
+
+-- a word whose opcode is none of the memory format
+reading_other : (p : Profile) (w o : ℕ) (r : Result Insn BadWord) → w / 2 ^ 26 ≡ o → memory_op_at o ≡ None → other_at p w o ≡ r → decoded p w ≡ r
+reading_other p w o r e none at = ap (λ q. decoded_by p w (memory_op_of p q)) (ap memory_op_at e ∙ none) ∙ ap (other_at p w) e ∙ at
+
 reading_oper : (p : Profile) (w : ℕ) (op : Op) → w / 2 ^ 26 ≡ op_opcode op → decoded p w ≡ decoded_operate w (of_profile p (op_of_code (op_opcode op) (w / 2 ^ 5 % 128)))
-reading_oper p w Add e = rw e refl
-reading_oper p w Sub e = rw e refl
-reading_oper p w Band e = rw e refl
-reading_oper p w Bis e = rw e refl
-reading_oper p w Sll e = rw e refl
-reading_oper p w Srl e = rw e refl
-reading_oper p w Cmpeq e = rw e refl
-reading_oper p w Cmplt e = rw e refl
-reading_oper p w Cmple e = rw e refl
-reading_oper p w Cmpult e = rw e refl
-reading_oper p w Cmpule e = rw e refl
-reading_oper p w Xor e = rw e refl
-reading_oper p w Bic e = rw e refl
-reading_oper p w S4add e = rw e refl
-reading_oper p w S8add e = rw e refl
-reading_oper p w Sra e = rw e refl
-reading_oper p w Extb e = rw e refl
-reading_oper p w Extw e = rw e refl
-reading_oper p w Extl e = rw e refl
+reading_oper p w op e =
+    reading_other p w (op_opcode op) _ e (each_op_same (λ o. memory_op_at (op_opcode o)) (λ o. None) refl op)
+    (each_op_same (λ o. other_at p w (op_opcode o)) (λ o. decoded_operate w (of_profile p (op_of_code (op_opcode o) (w / 2 ^ 5 % 128)))) refl op)
 
 reading_branch : (p : Profile) (w : ℕ) (c : Cond) → w / 2 ^ 26 ≡ cond_opcode_of c → decoded p w ≡ Ok (Branch c (reg_at w 21) (signed_of 20 (w % 2 ^ 21)))
-reading_branch p w LowClear e = rw e refl
-reading_branch p w Zero e = rw e refl
-reading_branch p w Negative e = rw e refl
-reading_branch p w NotPositive e = rw e refl
-reading_branch p w LowSet e = rw e refl
-reading_branch p w NotZero e = rw e refl
-reading_branch p w NotNegative e = rw e refl
-reading_branch p w Positive e = rw e refl
+reading_branch p w LowClear e = reading_other p w 0x38 _ e refl refl
+reading_branch p w Zero e = reading_other p w 0x39 _ e refl refl
+reading_branch p w Negative e = reading_other p w 0x3A _ e refl refl
+reading_branch p w NotPositive e = reading_other p w 0x3B _ e refl refl
+reading_branch p w LowSet e = reading_other p w 0x3C _ e refl refl
+reading_branch p w NotZero e = reading_other p w 0x3D _ e refl refl
+reading_branch p w NotNegative e = reading_other p w 0x3E _ e refl refl
+reading_branch p w Positive e = reading_other p w 0x3F _ e refl refl
 
 -- the second operand of a word of the operate format
 rhs_complete : (w o ra f rc : ℕ) (rhs : Rhs) → w ≡ o * 2 ^ 26 + ra * 2 ^ 21 + rhs_bits rhs + f * 2 ^ 5 + rc → ra < 32 → f < 128 → rc < 32 → IsRhs rhs → (has_reserved w ≡ false) × (rhs_at w ≡ rhs)
@@ -211,59 +227,42 @@ unless_kept-judged r i = elim (is_kept r) as (λ b. cond b (Err KeptRegister) (O
 loading-judged : (r : ℕ) (i : Insn) → cond (eqb r 31) (Err LoadToZero) (unless_kept r i) ≡ judged i (cond (eqb r 31) (Some LoadToZero) (kept_fault r))
 loading-judged r i = elim (eqb r 31) as (λ b. cond b (Err LoadToZero) (unless_kept r i) ≡ judged i (cond b (Some LoadToZero) (kept_fault r))) [ true ↦ refl | false ↦ unless_kept-judged r i ]
 
--- an instruction that a profile may lack
-two-judged : (b : Bool) (r : Result Insn BadWord) (i : Insn) (f : Option BadWord) (bad : BadWord) → r ≡ judged i f → cond b r (Err bad) ≡ judged i (cond b f (Some bad))
-two-judged true r i f bad e = e
-two-judged false r i f bad e = refl
-
 oper-judged : (b : Bool) (w : ℕ) (op : Op) (ra : ℕ) (rhs : Rhs) (rc : ℕ) → has_reserved w ≡ false → rhs_at w ≡ rhs → reg_at w 21 ≡ ra → reg_at w 0 ≡ rc →
     decoded_operate w (had b op) ≡ judged (Oper op ra rhs rc) (cond b (kept_fault rc) (Some Function))
 oper-judged true w op ra rhs rc z r a c = rw (z, r, a, c) (unless_kept-judged rc (Oper op ra rhs rc))
 oper-judged false w op ra rhs rc z r a c = refl
 
--- a word with the fields of an instruction reads as it, or as why the profile refuses it
-reading_fields : (p : Profile) (w : ℕ) (i : Insn) → HasFields w i → decoded p w ≡ judged i (fault_of p i)
-reading_fields p w (Lda ra rb disp) h =
+-- the same of the memory format
+register-judged : (k : MemoryKind) (r : ℕ) (i : Insn) → unless_refused k r i ≡ judged i (register_fault k r)
+register-judged Address r i = unless_kept-judged r i
+register-judged Load r i = loading-judged r i
+register-judged Store r i = refl
+
+-- an opcode of the memory format is no other's
+no_other : (p : Profile) (w : ℕ) (op : MemoryOp) → w / 2 ^ 26 ≡ memory_opcode op → decoded_other p w ≡ Err Opcode
+no_other p w op e = ap (other_at p w) e ∙ each_memory_op_same (λ o. other_at p w (memory_opcode o)) (λ o. Err Opcode) refl op
+
+memory-judged : (b : Bool) (p : Profile) (w : ℕ) (op : MemoryOp) (ra rb : ℕ) (disp : ℤ) → w / 2 ^ 26 ≡ memory_opcode op → reg_at w 21 ≡ ra → reg_at w 16 ≡ rb → signed_of 15 (w % 2 ^ 16) ≡ disp →
+    decoded_by p w (if b then Some op else None) ≡ judged (memory_insn op ra rb disp) (cond b (register_fault (memory_kind op) ra) (Some Opcode))
+memory-judged true p w op ra rb disp o a c d = rw (a, c, d) (register-judged (memory_kind op) ra (memory_insn op ra rb disp))
+memory-judged false p w op ra rb disp o a c d = no_other p w op o
+
+-- why a profile refuses what has a format, if it does
+abbrev refusal : Profile → Format → Option BadWord
+refusal p f = cond (has_format p f) (format_fault f) (Some (missing_format f))
+
+-- a word with the fields of a format reads as its instruction, or as why the profile refuses it
+reading_format : (p : Profile) (w : ℕ) (f : Format) → HasFormatFields w f → decoded p w ≡ judged (insn_of f) (refusal p f)
+reading_format p w (F.Memory op ra rb disp) h =
     let below : bits_of 15 disp < 2 ^ 16 = bits_of-below 15 disp h.2 in
-    let o : w / 2 ^ 26 ≡ 8 = omega (arith, h.3) in
-    let a : w / 2 ^ 21 % 32 ≡ ra = omega (arith, h.3) in
-    let b : w / 2 ^ 16 % 32 ≡ rb = omega (arith, h.3) in
-    let d : w % 2 ^ 16 ≡ bits_of 15 disp = omega (arith, h.3) in
+    let o : w / 2 ^ 26 ≡ memory_opcode op = omega (arith, below, h.3) in
+    let a : w / 2 ^ 21 % 32 ≡ ra = omega (arith, below, h.3) in
+    let b : w / 2 ^ 16 % 32 ≡ rb = omega (arith, below, h.3) in
+    let d : w % 2 ^ 16 ≡ bits_of 15 disp = omega (arith, below, h.3) in
     let n : signed_of 15 (bits_of 15 disp) ≡ disp = signed_of-bits_of 15 disp h.2 in
-    rw (o, a, b, d, n) (unless_kept-judged ra (Lda ra rb disp))
-reading_fields p w (Ldq ra rb disp) h =
-    let below : bits_of 15 disp < 2 ^ 16 = bits_of-below 15 disp h.2 in
-    let o : w / 2 ^ 26 ≡ 0x29 = omega (arith, h.3) in
-    let a : w / 2 ^ 21 % 32 ≡ ra = omega (arith, h.3) in
-    let b : w / 2 ^ 16 % 32 ≡ rb = omega (arith, h.3) in
-    let d : w % 2 ^ 16 ≡ bits_of 15 disp = omega (arith, h.3) in
-    let n : signed_of 15 (bits_of 15 disp) ≡ disp = signed_of-bits_of 15 disp h.2 in
-    rw (o, a, b, d, n) (loading-judged ra (Ldq ra rb disp))
-reading_fields p w (Ldah ra rb disp) h =
-    let below : bits_of 15 disp < 2 ^ 16 = bits_of-below 15 disp h.2 in
-    let o : w / 2 ^ 26 ≡ 9 = omega (arith, h.3) in
-    let a : w / 2 ^ 21 % 32 ≡ ra = omega (arith, h.3) in
-    let b : w / 2 ^ 16 % 32 ≡ rb = omega (arith, h.3) in
-    let d : w % 2 ^ 16 ≡ bits_of 15 disp = omega (arith, h.3) in
-    let n : signed_of 15 (bits_of 15 disp) ≡ disp = signed_of-bits_of 15 disp h.2 in
-    rw (o, a, b, d, n) (two-judged (is_two p) (unless_kept ra (Ldah ra rb disp)) (Ldah ra rb disp) (kept_fault ra) Opcode (unless_kept-judged ra (Ldah ra rb disp)))
-reading_fields p w (LdqU ra rb disp) h =
-    let below : bits_of 15 disp < 2 ^ 16 = bits_of-below 15 disp h.2 in
-    let o : w / 2 ^ 26 ≡ 0x0B = omega (arith, h.3) in
-    let a : w / 2 ^ 21 % 32 ≡ ra = omega (arith, h.3) in
-    let b : w / 2 ^ 16 % 32 ≡ rb = omega (arith, h.3) in
-    let d : w % 2 ^ 16 ≡ bits_of 15 disp = omega (arith, h.3) in
-    let n : signed_of 15 (bits_of 15 disp) ≡ disp = signed_of-bits_of 15 disp h.2 in
-    rw (o, a, b, d, n) (two-judged (is_two p) (cond (eqb ra 31) (Err LoadToZero) (unless_kept ra (LdqU ra rb disp))) (LdqU ra rb disp) (cond (eqb ra 31) (Some LoadToZero) (kept_fault ra)) Opcode (loading-judged ra (LdqU ra rb disp)))
-reading_fields p w (Stq ra rb disp) h =
-    let below : bits_of 15 disp < 2 ^ 16 = bits_of-below 15 disp h.2 in
-    let o : w / 2 ^ 26 ≡ 0x2D = omega (arith, h.3) in
-    let a : w / 2 ^ 21 % 32 ≡ ra = omega (arith, h.3) in
-    let b : w / 2 ^ 16 % 32 ≡ rb = omega (arith, h.3) in
-    let d : w % 2 ^ 16 ≡ bits_of 15 disp = omega (arith, h.3) in
-    let n : signed_of 15 (bits_of 15 disp) ≡ disp = signed_of-bits_of 15 disp h.2 in
-    rw (o, a, b, d, n) refl
-reading_fields p w (Oper op ra rhs rc) h =
+    let found : memory_op_at (w / 2 ^ 26) ≡ Some op = ap memory_op_at o ∙ memory_op_at-memory_opcode op in
+    ap (λ r. decoded_by p w (memory_op_of p r)) found ∙ memory-judged (has_memory_op p op) p w op ra rb disp o a b (ap (signed_of 15) d ∙ n)
+reading_format p w (F.Operate op ra rhs rc) h =
     let fb = function_below op in
     let rb = rhs_below rhs h.1 in
     let m = rhs_whole rhs in
@@ -274,41 +273,48 @@ reading_fields p w (Oper op ra rhs rc) h =
     let c : w / 2 ^ 0 % 32 ≡ rc = omega (arith, m.1) in
     let r = rhs_complete w (op_opcode op) ra (op_function op) rc rhs e h.0 fb h.2 h.1 in
     reading_oper p w op o ∙ rw (f, operator_complete p op) (oper-judged (has_op p op) w op ra rhs rc r.0 r.1 a c)
-reading_fields p w (Branch c ra disp) h =
+reading_format p w (F.Branch c ra disp) h =
     let below : bits_of 20 disp < 2 ^ 21 = bits_of-below 20 disp h.1 in
     let o : w / 2 ^ 26 ≡ cond_opcode_of c = omega (arith, h.2) in
     let a : w / 2 ^ 21 % 32 ≡ ra = omega (arith, h.2) in
     let d : w % 2 ^ 21 ≡ bits_of 20 disp = omega (arith, h.2) in
     let n : signed_of 20 (bits_of 20 disp) ≡ disp = signed_of-bits_of 20 disp h.1 in
     reading_branch p w c o ∙ rw (a, d, n) refl
-reading_fields p w (Br disp) h =
+reading_format p w (F.Br disp) h =
     let below : bits_of 20 disp < 2 ^ 21 = bits_of-below 20 disp h.0 in
     let o : w / 2 ^ 26 ≡ 0x30 = omega (arith, h.1) in
     let a : w / 2 ^ 21 % 32 ≡ 31 = omega (arith, h.1) in
     let d : w % 2 ^ 21 ≡ bits_of 20 disp = omega (arith, h.1) in
     let n : signed_of 20 (bits_of 20 disp) ≡ disp = signed_of-bits_of 20 disp h.0 in
-    rw (o, a, d, n) refl
-reading_fields p w Ret h =
+    reading_other p w 0x30 _ o refl (rw (a, d, n) refl)
+reading_format p w F.Ret h =
     let o : w / 2 ^ 26 ≡ 0x1A = omega (arith, h.2) in
     let a : w / 2 ^ 21 % 32 ≡ 31 = omega (arith, h.2) in
     let b : w / 2 ^ 16 % 32 ≡ 26 = omega (arith, h.2) in
     let j : w / 2 ^ 14 % 4 ≡ 2 = omega (arith, h.2) in
-    rw (o, a, b, j) refl
+    reading_other p w 0x1A _ o refl (rw (a, b, j) refl)
+
+reading_fields : (p : Profile) (w : ℕ) (i : Insn) → HasFields w i → decoded p w ≡ judged i (fault_of p i)
+reading_fields p w i h = reading_format p w (format_of i) h ∙ ap (λ j. judged j (fault_of p i)) (insn_of-format_of i)
 
 kept_fault-none : (r : ℕ) → not (is_kept r) ≡ true → kept_fault r ≡ None
 kept_fault-none r h = rw (unkept r h) refl
 
+register_fault-none : (k : MemoryKind) (r : ℕ) → IsFirstRegister k r → register_fault k r ≡ None
+register_fault-none Address r h = kept_fault-none r h.1
+register_fault-none Load r h = rw (ne_eqb r 31 (omega (arith, h.1))) (kept_fault-none r h.0.1)
+register_fault-none Store r h = refl
+
 -- what a word encodes, the profile has
+format-Encodes : (w : ℕ) (f : Format) → EncodesFormat w f → (format_fault f ≡ None) × FitsFormat f
+format-Encodes w (F.Memory op ra rb disp) h = (register_fault-none (memory_kind op) ra h.0, tt)
+format-Encodes w (F.Operate op ra rhs rc) h = (kept_fault-none rc h.2.1, tt)
+format-Encodes w (F.Branch cond ra disp) h = (refl, h.1)
+format-Encodes w (F.Br disp) h = (refl, h.0)
+format-Encodes w F.Ret h = (refl, tt)
+
 any-Encodes : (w : ℕ) (i : Insn) → EncodesAny w i → (any_fault i ≡ None) × HasFormat i
-any-Encodes w (Lda ra rb disp) h = (kept_fault-none ra h.0.1, tt)
-any-Encodes w (Ldq ra rb disp) h = (rw (ne_eqb ra 31 (omega (arith, h.1))) (kept_fault-none ra h.0.1), tt)
-any-Encodes w (Ldah ra rb disp) h = (kept_fault-none ra h.0.1, tt)
-any-Encodes w (LdqU ra rb disp) h = (rw (ne_eqb ra 31 (omega (arith, h.1))) (kept_fault-none ra h.0.1), tt)
-any-Encodes w (Stq ra rb disp) h = (refl, tt)
-any-Encodes w (Oper op ra rhs rc) h = (kept_fault-none rc h.2.1, tt)
-any-Encodes w (Branch cond ra disp) h = (refl, h.1)
-any-Encodes w (Br disp) h = (refl, h.0)
-any-Encodes w Ret h = (refl, tt)
+any-Encodes w i h = format-Encodes w (format_of i) h
 
 pub Lawful-Encodes : (p : Profile) (w : ℕ) (i : Insn) → Encodes p w i → (fault_of p i ≡ None) × HasFormat i
 Lawful-Encodes p w i h = let a = any-Encodes w i h.1 in (ap (λ b. cond b (any_fault i) (Some (missing_fault i))) h.0 ∙ a.0, a.1)
@@ -321,17 +327,22 @@ has-unrefused p i h = go (has_insn p i) h
     go true e = (refl, e)
     go false e = cc
 
+-- a first register is one
+pub first_register-below : (k : MemoryKind) (r : ℕ) → IsFirstRegister k r → r < 32
+first_register-below Address r h = h.0
+first_register-below Load r h = h.0.0
+first_register-below Store r h = h
+
 -- what a word encodes has its fields
-HasFields-Encodes : (w : ℕ) (i : Insn) → EncodesAny w i → HasFields w i
-HasFields-Encodes w (Lda ra rb disp) h = (h.0.0, h.1, h.2, h.3)
-HasFields-Encodes w (Ldq ra rb disp) h = (h.0.0, h.2, h.3, h.4)
-HasFields-Encodes w (Ldah ra rb disp) h = (h.0.0, h.1, h.2, h.3)
-HasFields-Encodes w (LdqU ra rb disp) h = (h.0.0, h.2, h.3, h.4)
-HasFields-Encodes w (Stq ra rb disp) h = h
-HasFields-Encodes w (Oper op ra rhs rc) h = (h.0, h.1, h.2.0, h.3)
-HasFields-Encodes w (Branch cond ra disp) h = h
-HasFields-Encodes w (Br disp) h = h
-HasFields-Encodes w Ret h = h
+pub fields-Encodes : (w : ℕ) (f : Format) → EncodesFormat w f → HasFormatFields w f
+fields-Encodes w (F.Memory op ra rb disp) h = (first_register-below (memory_kind op) ra h.0, h.1, h.2, h.3)
+fields-Encodes w (F.Operate op ra rhs rc) h = (h.0, h.1, h.2.0, h.3)
+fields-Encodes w (F.Branch cond ra disp) h = h
+fields-Encodes w (F.Br disp) h = h
+fields-Encodes w F.Ret h = h
+
+pub HasFields-Encodes : (w : ℕ) (i : Insn) → EncodesAny w i → HasFields w i
+HasFields-Encodes w i h = fields-Encodes w (format_of i) h
 
 reading_complete : (p : Profile) (w : ℕ) (i : Insn) → Encodes p w i → decoded p w ≡ Ok i
 reading_complete p w i h = let lawful : fault_of p i ≡ None = (Lawful-Encodes p w i h).0 in reading_fields p w i (HasFields-Encodes w i h.1) ∙ rw lawful refl

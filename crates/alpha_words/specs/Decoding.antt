@@ -6,12 +6,17 @@ use Rattle.alpha_words.specs.declared.insn.Rhs.{Rhs}
 use Rattle.alpha_words.specs.declared.insn.Rhs.TheVariants.{Reg, Lit}
 use Rattle.alpha_words.specs.declared.insn.Cond.{Cond}
 use Rattle.alpha_words.specs.declared.insn.Insn.{Insn}
-use Rattle.alpha_words.specs.declared.insn.Insn.TheVariants.{Lda, Ldq, Ldah, LdqU, Stq, Oper, Branch, Br, Ret}
+use Rattle.alpha_words.specs.declared.insn.Insn.TheVariants.{Oper, Branch, Br, Ret}
 use Rattle.alpha_words.specs.declared.fault.BadWord.{BadWord}
 use Rattle.alpha_words.specs.declared.fault.BadWord.TheVariants.{Opcode, Function, Reserved, KeptRegister, LoadToZero, BadReturn, BadLink}
 use Rattle.word_ops.specs.Operators.{op_of_code, of_profile}
 use Rattle.alpha_words.specs.Opcodes.{cond_at}
-use Rattle.alpha_words.specs.Encoding.{is_two, is_kept}
+use Rattle.alpha_words.specs.declared.memory.MemoryOp.{MemoryOp}
+use Rattle.alpha_words.specs.declared.memory.MemoryKind.{MemoryKind}
+use Rattle.alpha_words.specs.declared.memory.MemoryKind.TheVariants.{Address, Load, Store}
+use Rattle.alpha_words.specs.MemoryOps.{memory_kind, memory_op_at, memory_op_of}
+use Rattle.alpha_words.specs.Formats.{memory_insn}
+use Rattle.alpha_words.specs.Encoding.{is_kept}
 
 -- the number whose k + 1 bits of two's complement are n
 abbrev pub signed_of : ℕ → ℕ → ℤ
@@ -28,6 +33,17 @@ unless_kept r i = if is_kept r then Err KeptRegister else Ok i
 -- a load, which is refused to register 31
 abbrev pub loaded : ℕ → Insn → Result Insn BadWord
 loaded r i = if r == 31 then Err LoadToZero else unless_kept r i
+
+-- an instruction of the memory format, by what it does with its first register
+abbrev pub unless_refused : MemoryKind → ℕ → Insn → Result Insn BadWord
+unless_refused Address r i = unless_kept r i
+unless_refused Load r i = loaded r i
+unless_refused Store r i = Ok i
+
+-- a memory word, given its instruction
+abbrev pub decoded_memory : ℕ → MemoryOp → Result Insn BadWord
+decoded_memory w op =
+    unless_refused (memory_kind op) (reg_at w 21) (memory_insn op (reg_at w 21) (reg_at w 16) (signed_of 15 (w % 2 ^ 16)))
 
 -- the second operand: bit 12 tells a literal from a register
 abbrev pub rhs_at : ℕ → Rhs
@@ -51,19 +67,20 @@ decoded_branch w (Some cond) = Ok (Branch cond (reg_at w 21) (signed_of 20 (w % 
 abbrev pub is_return : ℕ → Bool
 is_return w = (reg_at w 21 == 31) && (reg_at w 16 == 26) && (w / 2 ^ 14 % 4 == 2)
 
--- What the word reads as, or the first test that it fails.
-abbrev pub decoded : Profile → ℕ → Result Insn BadWord
-decoded p w =
+-- a word that isn't of the memory format
+abbrev pub decoded_other : Profile → ℕ → Result Insn BadWord
+decoded_other p w =
     let opcode = w / 2 ^ 26 in
-    let ra = reg_at w 21 in
-    let rb = reg_at w 16 in
-    let disp = signed_of 15 (w % 2 ^ 16) in
-    if opcode == 0x08 then unless_kept ra (Lda ra rb disp) else
-    if opcode == 0x29 then loaded ra (Ldq ra rb disp) else
-    if opcode == 0x09 then (if is_two p then unless_kept ra (Ldah ra rb disp) else Err Opcode) else
-    if opcode == 0x0B then (if is_two p then loaded ra (LdqU ra rb disp) else Err Opcode) else
-    if opcode == 0x2D then Ok (Stq ra rb disp) else
     if nat_le 0x10 opcode && nat_le opcode 0x12 then decoded_operate w (of_profile p (op_of_code opcode (w / 2 ^ 5 % 128))) else
     if opcode == 0x1A then (if is_return w then Ok Ret else Err BadReturn) else
-    if opcode == 0x30 then (if ra == 31 then Ok (Br (signed_of 20 (w % 2 ^ 21))) else Err BadLink) else
+    if opcode == 0x30 then (if reg_at w 21 == 31 then Ok (Br (signed_of 20 (w % 2 ^ 21))) else Err BadLink) else
     decoded_branch w (cond_at opcode)
+
+-- a word, given its instruction of the memory format where the profile has one
+abbrev pub decoded_by : Profile → ℕ → Option MemoryOp → Result Insn BadWord
+decoded_by p w (Some op) = decoded_memory w op
+decoded_by p w None = decoded_other p w
+
+-- What the word reads as, or the first test that it fails.
+abbrev pub decoded : Profile → ℕ → Result Insn BadWord
+decoded p w = decoded_by p w (memory_op_of p (memory_op_at (w / 2 ^ 26)))

@@ -9,7 +9,8 @@ ghost use Rattle.alpha_words.specs.Decoding as decoding;
 ghost use Rattle.alpha_words.specs.Encoding as encoding;
 
 use crate::fault::BadWord;
-use crate::insn::{Insn, Rhs};
+use crate::insn::{Insn, Rhs, memory_insn};
+use crate::memory::{MemoryKind, MemoryOp, memory_kind, memory_op_at, memory_op_of};
 use crate::opcodes::cond_at;
 use crate::reg::Reg;
 use word_ops::{Profile, of_profile, op_of_code};
@@ -60,6 +61,19 @@ fn loading(written: Reg, insn: Insn) -> Result<Insn, BadWord>
         Err(BadWord::LoadToZero)
     } else {
         writing(written, insn)
+    }
+}
+
+/// A word of the memory format.
+fn memory(op: MemoryOp, word: u32) -> Result<Insn, BadWord>
+    ensures { result ≡ decoding.decoded_memory word op }
+{
+    let ra = reg_at(word, 21);
+    let insn = memory_insn(op, ra, reg_at(word, 16), short_displacement(word));
+    match memory_kind(op) {
+        MemoryKind::Address => writing(ra, insn),
+        MemoryKind::Load => loading(ra, insn),
+        MemoryKind::Store => Ok(insn),
     }
 }
 
@@ -126,34 +140,15 @@ fn branch(word: u32) -> Result<Insn, BadWord>
     }
 }
 
-/// Whether the profile is the second.
-pub fn is_two(profile: Profile) -> bool
-    ensures { result ≡ encoding.is_two profile }
+/// A word that isn't of the memory format.
+fn other(profile: Profile, word: u32) -> Result<Insn, BadWord>
+    ensures { result ≡ decoding.decoded_other profile word }
 {
-    match profile {
-        Profile::One => false,
-        Profile::Two => true,
-    }
-}
-
-/// What the word reads as, or the first test that it fails.
-fn read(profile: Profile, word: u32) -> Result<Insn, BadWord>
-    ensures { result ≡ decoding.decoded profile word }
-{
-    let ra = reg_at(word, 21);
-    let rb = reg_at(word, 16);
-    let disp = short_displacement(word);
     match word >> 26 {
-        0x08 => writing(ra, Insn::Lda { ra, rb, disp }),
-        0x29 => loading(ra, Insn::Ldq { ra, rb, disp }),
-        0x09 if is_two(profile) => writing(ra, Insn::Ldah { ra, rb, disp }),
-        0x0b if is_two(profile) => loading(ra, Insn::LdqU { ra, rb, disp }),
-        0x09 | 0x0b => Err(BadWord::Opcode),
-        0x2d => Ok(Insn::Stq { ra, rb, disp }),
         0x10..=0x12 => operate(profile, word),
         0x1a if is_return(word) => Ok(Insn::Ret),
         0x1a => Err(BadWord::BadReturn),
-        0x30 if ra.number() == 31 => Ok(Insn::Br {
+        0x30 if reg_at(word, 21).number() == 31 => Ok(Insn::Br {
             disp: long_displacement(word),
         }),
         0x30 => Err(BadWord::BadLink),
@@ -161,12 +156,22 @@ fn read(profile: Profile, word: u32) -> Result<Insn, BadWord>
     }
 }
 
+/// What the word reads as, or the first test that it fails.
+fn read(profile: Profile, word: u32) -> Result<Insn, BadWord>
+    ensures { result ≡ decoding.decoded profile word }
+{
+    match memory_op_of(profile, memory_op_at(word >> 26)) {
+        Some(op) => memory(op, word),
+        None => other(profile, word),
+    }
+}
+
 /// The instruction that a word encodes, or the first test that the word fails.
 ///
 /// The tests come in this order: an opcode that the profile hasn't; for operate words a function
-/// that it hasn't, the reserved bits, a kept register; for `lda` and `ldah` a kept register; for
-/// `ldq` and `ldq_u` a load into register 31, then a kept register; for the jump opcode a form other
-/// than the return's; for `br` a register.
+/// that it hasn't, the reserved bits, a kept register; for an address a kept register; for a load
+/// register 31, then a kept register; for the jump opcode a form other than the return's; for `br` a
+/// register.
 pub fn decode(word: u32, profile: Profile) -> Result<Insn, BadWord>
     ensures decodes { (i : Insn) → (result ≡ Ok i) ↔ encoding.Encodes profile word i }
     ensures exact { result ≡ decoding.decoded profile word }

@@ -4,11 +4,12 @@ ghost use Rattle.std.specs.Prelude.{◌≡◌, ◌+◌, ◌*◌, ◌^◌, ◌≤
 ghost use Rattle.alpha_words.specs.Encoding as encoding;
 ghost use Rattle.alpha_words.specs.Decoding.{decoded};
 ghost use Rattle.alpha_words.specs.Lawful.{fault_of, any_fault, missing_fault, kept_fault};
+ghost use Rattle.alpha_words.specs.Lawful.{register_fault};
 ghost use Rattle.alpha_words.specs.Lawful.{HasFormat, target_of};
 
-use crate::decoding::is_two;
 use crate::fault::BadWord;
-use crate::insn::{Insn, Rhs};
+use crate::insn::{Format, Insn, Rhs};
+use crate::memory::{MemoryKind, has_memory_op, memory_kind, memory_opcode};
 use crate::opcodes::cond_opcode_of;
 use crate::reg::Reg;
 use word_ops::{Op, Profile, has_op, op_code};
@@ -17,15 +18,10 @@ use word_ops::{Op, Profile, has_op, op_code};
 fn has_insn(insn: &Insn, profile: Profile) -> bool
     ensures { result ≡ encoding.has_insn profile insn.now }
 {
-    match insn {
-        Insn::Oper { op, .. } => has_op(profile, *op),
-        Insn::Ldah { .. } | Insn::LdqU { .. } => is_two(profile),
-        Insn::Lda { .. }
-        | Insn::Ldq { .. }
-        | Insn::Stq { .. }
-        | Insn::Branch { .. }
-        | Insn::Br { .. }
-        | Insn::Ret => true,
+    match insn.format() {
+        Format::Memory { op, .. } => has_memory_op(profile, op),
+        Format::Operate { op, .. } => has_op(profile, op),
+        Format::Branch { .. } | Format::Br { .. } | Format::Ret => true,
     }
 }
 
@@ -33,9 +29,22 @@ fn has_insn(insn: &Insn, profile: Profile) -> bool
 fn missing_fault(insn: &Insn) -> BadWord
     ensures { result ≡ missing_fault insn.now }
 {
-    match insn {
-        Insn::Oper { .. } => BadWord::Function,
+    match insn.format() {
+        Format::Operate { .. } => BadWord::Function,
         _ => BadWord::Opcode,
+    }
+}
+
+/// What each profile refuses of the first register of the memory format.
+fn lawful_register(kind: MemoryKind, reg: Reg) -> Result<(), BadWord>
+    ensures { MatchResult result
+        (λ _. register_fault kind reg ≡ None) (λ e. register_fault kind reg ≡ Some e) }
+{
+    match kind {
+        MemoryKind::Address => unkept(reg),
+        MemoryKind::Load if reg.number() == 31 => Err(BadWord::LoadToZero),
+        MemoryKind::Load => unkept(reg),
+        MemoryKind::Store => Ok(()),
     }
 }
 
@@ -43,17 +52,10 @@ fn missing_fault(insn: &Insn) -> BadWord
 fn any_lawful(insn: Insn) -> Result<(), BadWord>
     ensures { MatchResult result (λ _. any_fault insn ≡ None) (λ e. any_fault insn ≡ Some e) }
 {
-    match insn {
-        Insn::Lda { ra, .. } | Insn::Ldah { ra, .. } => unkept(ra),
-        Insn::Ldq { ra, .. } | Insn::LdqU { ra, .. } => {
-            if ra.number() == 31 {
-                Err(BadWord::LoadToZero)
-            } else {
-                unkept(ra)
-            }
-        }
-        Insn::Oper { rc, .. } => unkept(rc),
-        Insn::Stq { .. } | Insn::Branch { .. } | Insn::Br { .. } | Insn::Ret => Ok(()),
+    match insn.format() {
+        Format::Memory { op, ra, .. } => lawful_register(memory_kind(op), ra),
+        Format::Operate { rc, .. } => unkept(rc),
+        Format::Branch { .. } | Format::Br { .. } | Format::Ret => Ok(()),
     }
 }
 
@@ -86,9 +88,9 @@ fn unkept(reg: Reg) -> Result<(), BadWord>
 pub fn target(index: u32, insn: Insn) -> Option<i64>
     ensures { result ≡ target_of index insn }
 {
-    match insn {
-        Insn::Branch { disp, .. } => Some(i64::from(index) + 1 + i64::from(disp)),
-        Insn::Br { disp } => Some(i64::from(index) + 1 + i64::from(disp)),
+    match insn.format() {
+        Format::Branch { disp, .. } => Some(i64::from(index) + 1 + i64::from(disp)),
+        Format::Br { disp } => Some(i64::from(index) + 1 + i64::from(disp)),
         _ => None,
     }
 }
@@ -138,16 +140,12 @@ fn write(insn: Insn) -> u32
     ensures encodes { encoding.EncodesAny result insn }
     ensures hint { insn ≡ Insn.Ret → result ≡ 0x6BFA8001 }
 {
-    match insn {
-        Insn::Lda { ra, rb, disp } => memory(0x08, ra, rb, disp),
-        Insn::Ldq { ra, rb, disp } => memory(0x29, ra, rb, disp),
-        Insn::Ldah { ra, rb, disp } => memory(0x09, ra, rb, disp),
-        Insn::LdqU { ra, rb, disp } => memory(0x0b, ra, rb, disp),
-        Insn::Stq { ra, rb, disp } => memory(0x2d, ra, rb, disp),
-        Insn::Oper { op, ra, rhs, rc } => operate(op, ra, rhs, rc),
-        Insn::Branch { cond, ra, disp } => branch(cond_opcode_of(cond), ra.number(), disp),
-        Insn::Br { disp } => branch(0x30, 31, disp),
-        Insn::Ret => 0x6bfa_8001,
+    match insn.format() {
+        Format::Memory { op, ra, rb, disp } => memory(memory_opcode(op), ra, rb, disp),
+        Format::Operate { op, ra, rhs, rc } => operate(op, ra, rhs, rc),
+        Format::Branch { cond, ra, disp } => branch(cond_opcode_of(cond), ra.number(), disp),
+        Format::Br { disp } => branch(0x30, 31, disp),
+        Format::Ret => 0x6bfa_8001,
     }
 }
 

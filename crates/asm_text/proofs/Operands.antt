@@ -1,15 +1,20 @@
 -- Tokens spell an instruction exactly where they are parsed as it.
 use Rattle.std.proofs.Common.{◌≡◌, ◌⊎◌, ⊎_elim, inl, inr, ℕ, zero, suc, ◌<◌, ◌≤◌, Bool, true, false, cond, List, [], ◌∷◌, Option, Some, None, Result, Ok, Err, refl, sym, ap, ◌∙◌, subst, arith, ltb, leb}
-use Rattle.std.specs.Prelude.{◌==◌, ◌&&◌, not, is_some, codes, slice_get, ℤ, pos, if◌then◌else◌}
-use Rattle.std.specs.Option.{option_map}
+use Rattle.std.specs.Prelude.{◌==◌, ◌&&◌, not, is_some, codes, slice_get, ℤ, pos, if◌then◌else◌, find}
+use Rattle.std.specs.Option.{option_map, option_or}
 use Rattle.std.specs.Str.{bytes_eq}
 use Rattle.std.proofs.lemmas.Bool.{false≢true, not-true, and_parts, cond-true, cond-false, eqb-true, eq-eqb, leb-true, le-leb, ltb-true, lt-ltb, false_from_ne_true}
 use Rattle.word_ops.specs.declared.Op.{Op}
 use Rattle.word_ops.specs.Operators.{op_mnemonic, op_of_mnemonic, has_op, of_profile}
-use Rattle.word_ops.proofs.EachOp.{op_of_mnemonic-op_mnemonic, op_mnemonic_is}
+use Rattle.word_ops.proofs.EachOp.{op_of_mnemonic-op_mnemonic, op_mnemonic_is, find-passes}
+use Rattle.alpha_words.specs.MemoryOps.{memory_mnemonic, memory_op_named, has_memory_op, memory_op_of}
+use Rattle.alpha_words.specs.Formats.{format_of, memory_insn, insn_of}
+use Rattle.alpha_words.specs.declared.memory.MemoryOp.{MemoryOp}
+use Rattle.alpha_words.proofs.EachMemoryOp.{each_memory_op_same, memory_op_named-memory_mnemonic, memory_mnemonic_is, format_of-memory_insn, insn_of-format_of}
 use Rattle.alpha_words.specs.declared.insn.Cond.{Cond}
 use Rattle.alpha_words.specs.declared.insn.Cond.TheVariants as J
-use Rattle.alpha_words.specs.declared.insn.Insn.{Insn}
+use Rattle.alpha_words.specs.declared.insn.Format.{Format}
+use Rattle.alpha_words.specs.declared.insn.Format.TheVariants as F
 use Rattle.alpha_words.specs.declared.insn.Insn.TheVariants as I
 use Rattle.alpha_words.specs.declared.insn.Rhs.{Rhs}
 use Rattle.alpha_words.specs.declared.insn.Rhs.TheVariants as R
@@ -27,11 +32,11 @@ use Rattle.asm_text.specs.declared.mnemonics.Mnemonic.TheVariants as N
 use Rattle.asm_text.specs.Marks.{same_mark}
 use Rattle.asm_text.specs.Labels.{is_label}
 use Rattle.asm_text.specs.Integers.{Integer, IsInteger, lexeme_integer, is_integer, integer_value}
-use Rattle.asm_text.specs.Mnemonics.{branch_mnemonic, mnemonic_text, mnemonics, mnemonic_in, mnemonic_or, mnemonic_of, mnemonics_of, has_mnemonic}
-use Rattle.asm_text.specs.Insns.{SourceInsn, Plain, BranchTo, BrTo, IsDisplacement, IsCount, SpellsMemory, SpellsRhs, SpellsOperate, SpellsBranch, SpellsBr, SpellsReturn, IsNop, Begins, SpellsInsn}
+use Rattle.asm_text.specs.Mnemonics.{branch_mnemonic, mnemonic_text, mnemonics, other_mnemonic, mnemonic_of, has_mnemonic}
+use Rattle.asm_text.specs.Insns.{SourceInsn, Plain, BranchTo, BrTo, IsDisplacement, IsCount, SpellsMemory, SpellsRhs, SpellsOperate}
+use Rattle.asm_text.specs.Insns.{SpellsBranch, SpellsBr, SpellsReturn, IsNop, Begins, SpellsFormat, SpellsInsn}
 use Rattle.asm_text.specs.InsnParsing.{next_lexeme, behind, at_end, displacement_at, memory_form, operate_form, last_label, branch_form, label_form, integer_or_flaw, return_form, some_register, register_at, fixed_register, is_displacement, in_displacement, displacement_of, in_count, count_of, memory_operands, parsed_memory, rhs_by, parsed_operate, parsed_branch, br_by, parsed_br, parsed_return, nop, parsed_operands, by_mnemonic, parsed_insn}
 use Rattle.word_ops.specs.declared.Profile.{Profile}
-use Rattle.word_ops.specs.declared.Profile.TheVariants.{One, Two}
 use Rattle.std.specs.List.{list_all}
 
 -- ---- steps
@@ -456,82 +461,90 @@ return_of ts h = ⊎_elim (λ e. ap parsed_return e) (λ g. return_long ts g.0 g
 
 -- ---- mnemonics
 
-plain_found : (profile : Profile) (m : Mnemonic) → mnemonic_of One (mnemonic_text m) ≡ Some m → mnemonic_of Two (mnemonic_text m) ≡ Some m → mnemonic_of profile (mnemonic_text m) ≡ Some m
-plain_found One m a b = a
-plain_found Two m a b = b
+-- what a lexeme is that is no operator's mnemonic
+abbrev unless_operator : Profile → List ℕ → Option Mnemonic
+unless_operator profile w = option_or (option_map N.Memory (memory_op_of profile (memory_op_named w))) (other_mnemonic w)
 
 had_operator : (profile : Profile) (o : Op) → has_op profile o ≡ true → mnemonic_of profile (op_mnemonic o) ≡ Some (N.Oper o)
 unfolding mnemonic_of
 had_operator profile o has =
-    let others = mnemonic_in (mnemonics_of profile) (op_mnemonic o) in
-    ap (λ p. mnemonic_or (of_profile profile p) others) (op_of_mnemonic-op_mnemonic o)
-    ∙ ap (λ p. mnemonic_or p others) (cond-true (has_op profile o) (Some o) None has)
+    ap (λ p. option_or (option_map N.Oper (of_profile profile p)) (unless_operator profile (op_mnemonic o))) (op_of_mnemonic-op_mnemonic o)
+    ∙ ap (λ p. option_or (option_map N.Oper p) (unless_operator profile (op_mnemonic o))) (cond-true (has_op profile o) (Some o) None has)
+
+-- no mnemonic of the memory format is an operator's
+no_operator : (o : MemoryOp) → op_of_mnemonic (memory_mnemonic o) ≡ None
+unfolding op_of_mnemonic
+no_operator = each_memory_op_same (λ o. op_of_mnemonic (memory_mnemonic o)) (λ o. None) refl
+
+had_memory : (profile : Profile) (o : MemoryOp) → has_memory_op profile o ≡ true → mnemonic_of profile (memory_mnemonic o) ≡ Some (N.Memory o)
+unfolding mnemonic_of
+had_memory profile o has =
+    let others = other_mnemonic (memory_mnemonic o) in
+    ap (λ p. option_or (option_map N.Oper (of_profile profile p)) (unless_operator profile (memory_mnemonic o))) (no_operator o)
+    ∙ ap (λ p. option_or (option_map N.Memory (memory_op_of profile p)) others) (memory_op_named-memory_mnemonic o)
+    ∙ ap (λ p. option_or (option_map N.Memory p) others) (cond-true (has_memory_op profile o) (Some o) None has)
 
 pub mnemonic_found : (profile : Profile) (m : Mnemonic) → has_mnemonic profile m ≡ true → mnemonic_of profile (mnemonic_text m) ≡ Some m
-unfolding mnemonic_of mnemonics op_of_mnemonic
-mnemonic_found profile N.Lda has = plain_found profile N.Lda refl refl
-mnemonic_found profile N.Ldq has = plain_found profile N.Ldq refl refl
-mnemonic_found One N.Ldah has = cc
-mnemonic_found Two N.Ldah has = refl
-mnemonic_found One N.LdqU has = cc
-mnemonic_found Two N.LdqU has = refl
-mnemonic_found profile N.Stq has = plain_found profile N.Stq refl refl
+unfolding mnemonic_of other_mnemonic op_of_mnemonic memory_op_named
+mnemonic_found profile (N.Memory o) has = had_memory profile o has
 mnemonic_found profile (N.Oper o) has = had_operator profile o has
-mnemonic_found profile (N.Branch J.LowClear) has = plain_found profile (N.Branch J.LowClear) refl refl
-mnemonic_found profile (N.Branch J.Zero) has = plain_found profile (N.Branch J.Zero) refl refl
-mnemonic_found profile (N.Branch J.Negative) has = plain_found profile (N.Branch J.Negative) refl refl
-mnemonic_found profile (N.Branch J.NotPositive) has = plain_found profile (N.Branch J.NotPositive) refl refl
-mnemonic_found profile (N.Branch J.LowSet) has = plain_found profile (N.Branch J.LowSet) refl refl
-mnemonic_found profile (N.Branch J.NotZero) has = plain_found profile (N.Branch J.NotZero) refl refl
-mnemonic_found profile (N.Branch J.NotNegative) has = plain_found profile (N.Branch J.NotNegative) refl refl
-mnemonic_found profile (N.Branch J.Positive) has = plain_found profile (N.Branch J.Positive) refl refl
-mnemonic_found profile N.Br has = plain_found profile N.Br refl refl
-mnemonic_found profile N.Ret has = plain_found profile N.Ret refl refl
-mnemonic_found profile N.Nop has = plain_found profile N.Nop refl refl
+mnemonic_found profile (N.Branch J.LowClear) has = refl
+mnemonic_found profile (N.Branch J.Zero) has = refl
+mnemonic_found profile (N.Branch J.Negative) has = refl
+mnemonic_found profile (N.Branch J.NotPositive) has = refl
+mnemonic_found profile (N.Branch J.LowSet) has = refl
+mnemonic_found profile (N.Branch J.NotZero) has = refl
+mnemonic_found profile (N.Branch J.NotNegative) has = refl
+mnemonic_found profile (N.Branch J.Positive) has = refl
+mnemonic_found profile N.Br has = refl
+mnemonic_found profile N.Ret has = refl
+mnemonic_found profile N.Nop has = refl
 
-mnemonic_by : (m k : Mnemonic) (ms : List Mnemonic) (w : List ℕ) (t : Bool) → bytes_eq w (mnemonic_text k) ≡ t → cond t (Some k) (mnemonic_in ms w) ≡ Some m → (mnemonic_in ms w ≡ Some m → w ≡ mnemonic_text m) → w ≡ mnemonic_text m
-mnemonic_by m k ms w true e f g = same_bytes w (mnemonic_text k) e ∙ ap mnemonic_text (some_same _ _ f)
-mnemonic_by m k ms w false e f g = g f
-
-mnemonic_in_is : (ms : List Mnemonic) (w : List ℕ) (m : Mnemonic) → mnemonic_in ms w ≡ Some m → w ≡ mnemonic_text m
-mnemonic_in_is [] w m e = cc
-mnemonic_in_is (k ∷ ms) w m e = mnemonic_by m k ms w (bytes_eq w (mnemonic_text k)) refl e (λ f. mnemonic_in_is ms w m f)
-
--- the listed mnemonics that are found are the profile's
-listed_had : (profile : Profile) (ms : List Mnemonic) (w : List ℕ) (m : Mnemonic) → list_all (has_mnemonic profile) ms ≡ true → mnemonic_in ms w ≡ Some m → has_mnemonic profile m ≡ true
-listed_had profile [] w m all e = cc
-listed_had profile (k ∷ ms) w m all e = listed_by (bytes_eq w (mnemonic_text k)) e (λ f. listed_had profile ms w m parts.1 f)
+-- what a search finds passes each test that the whole list passes
+found_had : (test has : Mnemonic → Bool) (ms : List Mnemonic) (m : Mnemonic) → list_all has ms ≡ true → find test ms ≡ Some m → has m ≡ true
+found_had test has [] m all e = cc
+found_had test has (k ∷ ms) m all e = found_by (test k) e (λ f. found_had test has ms m parts.1 f)
   where
-    parts : (has_mnemonic profile k ≡ true) × (list_all (has_mnemonic profile) ms ≡ true)
-    parts = and_parts (has_mnemonic profile k) (list_all (has_mnemonic profile) ms) all
+    parts : (has k ≡ true) × (list_all has ms ≡ true)
+    parts = and_parts (has k) (list_all has ms) all
 
-    listed_by : (b : Bool) → cond b (Some k) (mnemonic_in ms w) ≡ Some m → (mnemonic_in ms w ≡ Some m → has_mnemonic profile m ≡ true) → has_mnemonic profile m ≡ true
-    listed_by true f rest = ap (has_mnemonic profile) (sym (some_same k m f)) ∙ parts.0
-    listed_by false f rest = rest f
-
-mnemonics_had : (profile : Profile) → list_all (has_mnemonic profile) (mnemonics_of profile) ≡ true
-unfolding mnemonics
-mnemonics_had One = refl
-mnemonics_had Two = refl
+    found_by : (b : Bool) → cond b (Some k) (find test ms) ≡ Some m → (find test ms ≡ Some m → has m ≡ true) → has m ≡ true
+    found_by true f rest = ap has (sym (some_same k m f)) ∙ parts.0
+    found_by false f rest = rest f
 
 -- what a lexeme is as a mnemonic of a profile: its text, and the profile's
 pub record IsMnemonic (profile : Profile) (w : List ℕ) (m : Mnemonic) : Type 0 where
   pub text : w ≡ mnemonic_text m
   pub had : has_mnemonic profile m ≡ true
 
-plain_is : (profile : Profile) (w : List ℕ) (m : Mnemonic) → mnemonic_in (mnemonics_of profile) w ≡ Some m → IsMnemonic profile w m
-plain_is profile w m e = record { text = mnemonic_in_is (mnemonics_of profile) w m e; had = listed_had profile (mnemonics_of profile) w m (mnemonics_had profile) e }
+other_is : (profile : Profile) (w : List ℕ) (m : Mnemonic) → other_mnemonic w ≡ Some m → IsMnemonic profile w m
+unfolding other_mnemonic
+other_is profile w m e = record {
+  text = same_bytes w (mnemonic_text m) (find-passes (λ k. bytes_eq w (mnemonic_text k)) mnemonics m e);
+  had = found_had (λ k. bytes_eq w (mnemonic_text k)) (has_mnemonic profile) mnemonics m refl e;
+}
 
-operator_had : (profile : Profile) (w : List ℕ) (m : Mnemonic) (p : Op) (b : Bool) → op_of_mnemonic w ≡ Some p → has_op profile p ≡ b →
-    mnemonic_or (if b then Some p else None) (mnemonic_in (mnemonics_of profile) w) ≡ Some m → IsMnemonic profile w m
-operator_had profile w m p true e had f =
-    let same : N.Oper p ≡ m = some_same (N.Oper p) m f in
-    record { text = op_mnemonic_is w p e ∙ ap mnemonic_text same; had = ap (has_mnemonic profile) (sym same) ∙ had }
-operator_had profile w m p false e had f = plain_is profile w m f
+-- what a table has for the lexeme is it, where the profile has that
+tabled : {A : Type 0} (profile : Profile) (w : List ℕ) (m : Mnemonic) (make : A → Mnemonic) (x : A) (rest : Option Mnemonic) (b : Bool) →
+    w ≡ mnemonic_text (make x) → has_mnemonic profile (make x) ≡ b → option_or (option_map make (if b then Some x else None)) rest ≡ Some m →
+    (rest ≡ Some m → IsMnemonic profile w m) → IsMnemonic profile w m
+tabled profile w m make x rest true t h e on =
+    let same : make x ≡ m = some_same (make x) m e in
+    record { text = t ∙ ap mnemonic_text same; had = ap (has_mnemonic profile) (sym same) ∙ h }
+tabled profile w m make x rest false t h e on = on e
 
-operator_by : (profile : Profile) (w : List ℕ) (m : Mnemonic) (o : Option Op) → op_of_mnemonic w ≡ o → mnemonic_or (of_profile profile o) (mnemonic_in (mnemonics_of profile) w) ≡ Some m → IsMnemonic profile w m
-operator_by profile w m (Some p) e f = operator_had profile w m p (has_op profile p) e refl f
-operator_by profile w m None e f = plain_is profile w m f
+memory_by : (profile : Profile) (w : List ℕ) (m : Mnemonic) (o : Option MemoryOp) → memory_op_named w ≡ o →
+    option_or (option_map N.Memory (memory_op_of profile o)) (other_mnemonic w) ≡ Some m → IsMnemonic profile w m
+memory_by profile w m None e f = other_is profile w m f
+memory_by profile w m (Some o) e f =
+    tabled profile w m N.Memory o (other_mnemonic w) (has_memory_op profile o) (memory_mnemonic_is w o e) refl f (λ g. other_is profile w m g)
+
+operator_by : (profile : Profile) (w : List ℕ) (m : Mnemonic) (o : Option Op) → op_of_mnemonic w ≡ o →
+    option_or (option_map N.Oper (of_profile profile o)) (unless_operator profile w) ≡ Some m → IsMnemonic profile w m
+operator_by profile w m None e f = memory_by profile w m (memory_op_named w) refl f
+operator_by profile w m (Some o) e f =
+    tabled profile w m N.Oper o (unless_operator profile w) (has_op profile o) (op_mnemonic_is w o e) refl f
+    (λ g. memory_by profile w m (memory_op_named w) refl g)
 
 pub mnemonic_is : (profile : Profile) (w : List ℕ) (m : Mnemonic) → mnemonic_of profile w ≡ Some m → IsMnemonic profile w m
 unfolding mnemonic_of
@@ -539,17 +552,26 @@ mnemonic_is profile w m e = operator_by profile w m (op_of_mnemonic w) refl e
 
 -- ---- instructions
 
-insn_ok : (profile : Profile) (m : Mnemonic) (ts : List (Token Punct)) (i : SourceInsn) → has_mnemonic profile m ≡ true → parsed_operands m ts ≡ Ok i → SpellsInsn profile i (Lexeme (mnemonic_text m) ∷ ts)
-insn_ok profile N.Lda ts i has e = let a = bind_ok (memory_operands ts) _ i e in subst (λ j. SpellsInsn profile j (Lexeme (codes "lda") ∷ ts)) (same_Ok _ _ a.2) (ts, operands_ok ts a.0 a.1, refl)
-insn_ok profile N.Ldq ts i has e = let a = bind_ok (memory_operands ts) _ i e in subst (λ j. SpellsInsn profile j (Lexeme (codes "ldq") ∷ ts)) (same_Ok _ _ a.2) (ts, operands_ok ts a.0 a.1, refl)
-insn_ok profile N.Ldah ts i has e = let a = bind_ok (memory_operands ts) _ i e in subst (λ j. SpellsInsn profile j (Lexeme (codes "ldah") ∷ ts)) (same_Ok _ _ a.2) (has, (ts, operands_ok ts a.0 a.1, refl))
-insn_ok profile N.LdqU ts i has e = let a = bind_ok (memory_operands ts) _ i e in subst (λ j. SpellsInsn profile j (Lexeme (codes "ldq_u") ∷ ts)) (same_Ok _ _ a.2) (has, (ts, operands_ok ts a.0 a.1, refl))
-insn_ok profile N.Stq ts i has e = let a = bind_ok (memory_operands ts) _ i e in subst (λ j. SpellsInsn profile j (Lexeme (codes "stq") ∷ ts)) (same_Ok _ _ a.2) (ts, operands_ok ts a.0 a.1, refl)
-insn_ok profile (N.Oper op) ts i has e = let f = operate_ok op ts i e in subst (λ j. SpellsInsn profile j (Lexeme (op_mnemonic op) ∷ ts)) (sym f.4) (inl (has, (ts, f.3, refl)))
-insn_ok profile (N.Branch j) ts i has e = let f = branch_ok j ts i e in subst (λ k. SpellsInsn profile k (Lexeme (branch_mnemonic j) ∷ ts)) (sym f.3) (ts, f.2, refl)
+memory_ok : (profile : Profile) (op : MemoryOp) (ts : List (Token Punct)) (i : SourceInsn) → has_memory_op profile op ≡ true → parsed_memory op ts ≡ Ok i →
+    SpellsInsn profile i (Lexeme (memory_mnemonic op) ∷ ts)
+memory_ok profile op ts i has e =
+    let a = bind_ok (memory_operands ts) _ i e in
+    subst (λ j. SpellsInsn profile j (Lexeme (memory_mnemonic op) ∷ ts)) (same_Ok _ _ a.2)
+    (subst (λ f. SpellsFormat profile f (Lexeme (memory_mnemonic op) ∷ ts)) (sym (format_of-memory_insn op a.0.0 a.0.2 a.0.1))
+    (has, (ts, operands_ok ts a.0 a.1, refl)))
+
+insn_ok : (profile : Profile) (m : Mnemonic) (ts : List (Token Punct)) (i : SourceInsn) → has_mnemonic profile m ≡ true → parsed_operands m ts ≡ Ok i →
+    SpellsInsn profile i (Lexeme (mnemonic_text m) ∷ ts)
+insn_ok profile (N.Memory op) ts i has e = memory_ok profile op ts i has e
+insn_ok profile (N.Oper op) ts i has e =
+    let f = operate_ok op ts i e in subst (λ j. SpellsInsn profile j (Lexeme (op_mnemonic op) ∷ ts)) (sym f.4) (inl (has, (ts, f.3, refl)))
+insn_ok profile (N.Branch j) ts i has e =
+    let f = branch_ok j ts i e in subst (λ k. SpellsInsn profile k (Lexeme (branch_mnemonic j) ∷ ts)) (sym f.3) (ts, f.2, refl)
 insn_ok profile N.Br ts i has e = let f = br_ok ts i e in subst (λ j. SpellsInsn profile j (Lexeme (codes "br") ∷ ts)) (sym f.2) (ts, f.1, refl)
 insn_ok profile N.Ret ts i has e = let f = return_ok ts i e in subst (λ j. SpellsInsn profile j (Lexeme (codes "ret") ∷ ts)) (sym f.1) (ts, f.0, refl)
-insn_ok profile N.Nop ts i has e = let f = end_ok nop i ts e in subst (λ j. SpellsInsn profile j (Lexeme (codes "nop") ∷ ts)) f.1 (inr ((refl, refl, refl, refl), ap (λ l. Lexeme (codes "nop") ∷ l) f.0))
+insn_ok profile N.Nop ts i has e =
+    let f = end_ok nop i ts e in
+    subst (λ j. SpellsInsn profile j (Lexeme (codes "nop") ∷ ts)) f.1 (inr ((refl, refl, refl, refl), ap (λ l. Lexeme (codes "nop") ∷ l) f.0))
 
 by_ok : (profile : Profile) (w : List ℕ) (ts : List (Token Punct)) (i : SourceInsn) (o : Option Mnemonic) → mnemonic_of profile w ≡ o → by_mnemonic o ts ≡ Ok i → SpellsInsn profile i (Lexeme w ∷ ts)
 by_ok profile w ts i None e h = cc
@@ -571,21 +593,23 @@ begun profile m P ts i has h f = ap (parsed_insn profile) h.2 ∙ ap (λ o. by_m
 nop_same : (op : Op) (ra : ℕ) (rhs : Rhs) (rc : ℕ) → IsNop op ra rhs rc → nop ≡ Plain (I.Oper op ra rhs rc)
 nop_same op ra rhs rc h = let a = h.0 in let b = h.1 in let c = h.2 in let d = h.3 in cc
 
-memory_of : (make : ℕ → ℕ → ℤ → Insn) (us : List (Token Punct)) (ra rb : ℕ) (disp : ℤ) → SpellsMemory ra rb disp us → parsed_memory make us ≡ Ok (Plain (make ra rb disp))
-memory_of make us ra rb disp h = ap (λ r. r >>= λ m. Ok (Plain (make m.0 m.2 m.1))) (operands_of us ra rb disp h)
+memory_of : (op : MemoryOp) (us : List (Token Punct)) (ra rb : ℕ) (disp : ℤ) → SpellsMemory ra rb disp us →
+    parsed_memory op us ≡ Ok (Plain (memory_insn op ra rb disp))
+memory_of op us ra rb disp h = ap (λ r. r >>= λ m. Ok (Plain (memory_insn op m.0 m.2 m.1))) (operands_of us ra rb disp h)
 
-pub spelled_parsed : (profile : Profile) (ts : List (Token Punct)) (i : SourceInsn) → SpellsInsn profile i ts → parsed_insn profile ts ≡ Ok i
-spelled_parsed profile ts (Plain (I.Lda ra rb disp)) h = begun profile N.Lda (SpellsMemory ra rb disp) ts _ refl h (λ us g. memory_of I.Lda us ra rb disp g)
-spelled_parsed profile ts (Plain (I.Ldq ra rb disp)) h = begun profile N.Ldq (SpellsMemory ra rb disp) ts _ refl h (λ us g. memory_of I.Ldq us ra rb disp g)
-spelled_parsed profile ts (Plain (I.Ldah ra rb disp)) h = begun profile N.Ldah (SpellsMemory ra rb disp) ts _ h.0 h.1 (λ us g. memory_of I.Ldah us ra rb disp g)
-spelled_parsed profile ts (Plain (I.LdqU ra rb disp)) h = begun profile N.LdqU (SpellsMemory ra rb disp) ts _ h.0 h.1 (λ us g. memory_of I.LdqU us ra rb disp g)
-spelled_parsed profile ts (Plain (I.Stq ra rb disp)) h = begun profile N.Stq (SpellsMemory ra rb disp) ts _ refl h (λ us g. memory_of I.Stq us ra rb disp g)
-spelled_parsed profile ts (Plain (I.Oper op ra rhs rc)) h =
+format_parsed : (profile : Profile) (ts : List (Token Punct)) (f : Format) → SpellsFormat profile f ts → parsed_insn profile ts ≡ Ok (Plain (insn_of f))
+format_parsed profile ts (F.Memory op ra rb disp) h =
+    begun profile (N.Memory op) (SpellsMemory ra rb disp) ts _ h.0 h.1 (λ us g. memory_of op us ra rb disp g)
+format_parsed profile ts (F.Operate op ra rhs rc) h =
     ⊎_elim
     (λ p. begun profile (N.Oper op) (SpellsOperate ra rhs rc) ts _ p.0 p.1 (λ us g. operate_of op us ra rc rhs g))
     (λ p. begun profile N.Nop (λ us. us ≡ []) ts _ refl ([], refl, p.1) (λ us g. ap (at_end nop) g ∙ ap Ok (nop_same op ra rhs rc p.0))) h
-spelled_parsed profile ts (Plain (I.Branch j ra disp)) h = absurd h
-spelled_parsed profile ts (Plain (I.Br disp)) h = absurd h
-spelled_parsed profile ts (Plain I.Ret) h = begun profile N.Ret SpellsReturn ts _ refl h (λ us g. return_of us g)
+format_parsed profile ts (F.Branch j ra disp) h = absurd h
+format_parsed profile ts (F.Br disp) h = absurd h
+format_parsed profile ts F.Ret h = begun profile N.Ret SpellsReturn ts _ refl h (λ us g. return_of us g)
+
+pub spelled_parsed : (profile : Profile) (ts : List (Token Punct)) (i : SourceInsn) → SpellsInsn profile i ts → parsed_insn profile ts ≡ Ok i
+spelled_parsed profile ts (Plain i) h =
+    subst (λ j. parsed_insn profile ts ≡ Ok (Plain j)) (insn_of-format_of i) (format_parsed profile ts (format_of i) h)
 spelled_parsed profile ts (BranchTo j ra l) h = begun profile (N.Branch j) (SpellsBranch ra l) ts _ refl h (λ us g. branch_of j us ra l g)
 spelled_parsed profile ts (BrTo l) h = begun profile N.Br (SpellsBr l) ts _ refl h (λ us g. br_of l us g)

@@ -2,6 +2,7 @@
 use Rattle.std.proofs.Common.{◌≡◌, ◌⊎◌, ⊎_elim, inl, inr, ℕ, ◌<◌, Bool, true, false, cond, List, [], ◌∷◌, Option, Some, None, Result, Ok, Err, refl, sym, ap, ◌∙◌, subst, arith}
 use Rattle.std.specs.Prelude.{◌==◌, is_some, nat_le, nat_lt, ℤ, pos}
 use Rattle.word_ops.specs.declared.Op.{Op}
+use Rattle.alpha_words.specs.Formats.{memory_insn}
 use Rattle.alpha_words.specs.declared.insn.Cond.{Cond}
 use Rattle.alpha_words.specs.declared.insn.Insn.TheVariants as I
 use Rattle.alpha_words.specs.declared.insn.Rhs.TheVariants as R
@@ -439,11 +440,7 @@ nop_refuses (t ∷ ts) = refuses_all (λ os. HasOperandForm N.Nop os (t ∷ ts))
 -- ---- all mnemonics
 
 pub operands_refuse : (m : Mnemonic) (ts : List (Token Punct)) → Refuses (λ os. HasOperandForm m os ts) (parsed_operands m ts)
-operands_refuse N.Lda ts = wrapped (λ os. HasMemoryForm os ts) (memory_operands ts) (λ m. Plain (I.Lda m.0 m.2 m.1)) (memory_refuses ts)
-operands_refuse N.Ldq ts = wrapped (λ os. HasMemoryForm os ts) (memory_operands ts) (λ m. Plain (I.Ldq m.0 m.2 m.1)) (memory_refuses ts)
-operands_refuse N.Ldah ts = wrapped (λ os. HasMemoryForm os ts) (memory_operands ts) (λ m. Plain (I.Ldah m.0 m.2 m.1)) (memory_refuses ts)
-operands_refuse N.LdqU ts = wrapped (λ os. HasMemoryForm os ts) (memory_operands ts) (λ m. Plain (I.LdqU m.0 m.2 m.1)) (memory_refuses ts)
-operands_refuse N.Stq ts = wrapped (λ os. HasMemoryForm os ts) (memory_operands ts) (λ m. Plain (I.Stq m.0 m.2 m.1)) (memory_refuses ts)
+operands_refuse (N.Memory op) ts = wrapped (λ os. HasMemoryForm os ts) (memory_operands ts) (λ m. Plain (memory_insn op m.0 m.2 m.1)) (memory_refuses ts)
 operands_refuse (N.Oper op) ts = operate_refuses op ts
 operands_refuse (N.Branch j) ts = branch_refuses j ts
 operands_refuse N.Br ts = br_refuses ts

@@ -17,19 +17,21 @@ use Rattle.asm_text.specs.declared.fault.LineFlaw.{LineFlaw}
 use Rattle.asm_text.specs.declared.limits.TheConstants.{MAX_LINE}
 use Rattle.asm_text.specs.declared.marks.Punct.{Punct}
 use Rattle.asm_text.specs.declared.marks.Punct.TheVariants as M
-use Rattle.alpha_words.specs.declared.insn.Insn.TheVariants as I
+use Rattle.alpha_words.specs.declared.insn.Format.{Format}
+use Rattle.alpha_words.specs.declared.insn.Format.TheVariants as format
+use Rattle.alpha_words.specs.Formats.{format_of}
+use Rattle.alpha_words.specs.MemoryOps.{memory_mnemonic, memory_op_named}
 use Rattle.asm_text.specs.Marks.{source_class, AreBlanks, same_mark}
 use Rattle.asm_text.specs.Labels.{is_label}
 use Rattle.word_ops.specs.Operators.{op_mnemonic, op_of_mnemonic}
-use Rattle.asm_text.specs.Mnemonics.{branch_mnemonic, mnemonic_of, mnemonics}
-use Rattle.asm_text.specs.Insns.{SourceInsn, Plain, BranchTo, BrTo, SpellsMemory, SpellsInsn}
+use Rattle.asm_text.specs.Mnemonics.{branch_mnemonic, mnemonic_of, other_mnemonic}
+use Rattle.asm_text.specs.Insns.{SourceInsn, Plain, BranchTo, BrTo, SpellsMemory, SpellsFormat, SpellsInsn}
 use Rattle.asm_text.specs.InsnParsing.{by_mnemonic, parsed_insn}
 use Rattle.asm_text.specs.Statements.{Statement, NoStatement, AnInsn, AnInv, Content, HasInv, SpellsStatement, HasLabel, SpellsBody, before_comment, are_printable, SpellsLine}
 use Rattle.asm_text.specs.SourceParsing.{colon_by, label_by, label_split, label_of, behind_label, inv_or_flaw, insn_statement, statement_by, parsed_statement, Progress, take_label, take_statement, take_body, take_line}
 use Rattle.asm_text.proofs.Operands.{bind_ok, bind_of, same_Ok, marks_same, parsed_spelled, spelled_parsed}
 use Rattle.asm_text.proofs.Splitting.{label_lexeme, colon_is, colon_class, inv_lexeme, Begins, front_is, front_of, none_at_front, no_front, first_token, tokens_behind}
 use Rattle.word_ops.specs.declared.Profile.{Profile}
-use Rattle.word_ops.specs.declared.Profile.TheVariants.{One, Two}
 
 some_same : {A : Type 0} (x y : A) → Some x ≡ Some y → x ≡ y
 some_same x y e = cc
@@ -127,23 +129,22 @@ IsPlain ts = (w : List ℕ) × (us : List (Token Punct)) × (ts ≡ Lexeme w ∷
 no_colon_memory : (ra rb : ℕ) (disp : ℤ) (us : List (Token Punct)) → SpellsMemory ra rb disp us → colon_next us ≡ false
 no_colon_memory ra rb disp us h = ⊎_elim (λ p. ap colon_next p.0) (λ p. ap colon_next p.5) h.4
 
+format_plain : (profile : Profile) (f : Format) (ts : List (Token Punct)) → SpellsFormat profile f ts → IsPlain ts
+format_plain profile (format.Memory op ra rb disp) ts h = (memory_mnemonic op, h.1.0, h.1.2, no_colon_memory ra rb disp h.1.0 h.1.1)
+format_plain profile (format.Operate op ra rhs rc) ts h =
+    ⊎_elim (λ p. (op_mnemonic op, p.1.0, p.1.2, ap colon_next p.1.1.6)) (λ p. (codes "nop", [], p.1, refl)) h
+format_plain profile (format.Branch j ra disp) ts h = absurd h
+format_plain profile (format.Br disp) ts h = absurd h
+format_plain profile format.Ret ts h = (codes "ret", h.0, h.2, ⊎_elim (λ e. ap colon_next e) (λ g. ap colon_next g.9) h.1)
+
 insn_plain : (profile : Profile) (i : SourceInsn) (ts : List (Token Punct)) → SpellsInsn profile i ts → IsPlain ts
-insn_plain profile (Plain (I.Lda ra rb disp)) ts h = (codes "lda", h.0, h.2, no_colon_memory ra rb disp h.0 h.1)
-insn_plain profile (Plain (I.Ldq ra rb disp)) ts h = (codes "ldq", h.0, h.2, no_colon_memory ra rb disp h.0 h.1)
-insn_plain profile (Plain (I.Stq ra rb disp)) ts h = (codes "stq", h.0, h.2, no_colon_memory ra rb disp h.0 h.1)
-insn_plain profile (Plain (I.Ldah ra rb disp)) ts h = (codes "ldah", h.1.0, h.1.2, no_colon_memory ra rb disp h.1.0 h.1.1)
-insn_plain profile (Plain (I.LdqU ra rb disp)) ts h = (codes "ldq_u", h.1.0, h.1.2, no_colon_memory ra rb disp h.1.0 h.1.1)
-insn_plain profile (Plain (I.Oper op ra rhs rc)) ts h = ⊎_elim (λ p. (op_mnemonic op, p.1.0, p.1.2, ap colon_next p.1.1.6)) (λ p. (codes "nop", [], p.1, refl)) h
-insn_plain profile (Plain (I.Branch j ra disp)) ts h = absurd h
-insn_plain profile (Plain (I.Br disp)) ts h = absurd h
-insn_plain profile (Plain I.Ret) ts h = (codes "ret", h.0, h.2, ⊎_elim (λ e. ap colon_next e) (λ g. ap colon_next g.9) h.1)
+insn_plain profile (Plain i) ts h = format_plain profile (format_of i) ts h
 insn_plain profile (BranchTo j ra l) ts h = (branch_mnemonic j, h.0, h.2, ap colon_next h.1.3)
 insn_plain profile (BrTo l) ts h = (codes "br", h.0, h.2, ⊎_elim (λ e. ap colon_next e) (λ g. ap colon_next g.2) h.1.1)
 
 pub no_inv_mnemonic : (profile : Profile) → mnemonic_of profile (codes ".inv") ≡ None
-unfolding mnemonic_of mnemonics op_of_mnemonic
-no_inv_mnemonic One = refl
-no_inv_mnemonic Two = refl
+unfolding mnemonic_of op_of_mnemonic memory_op_named other_mnemonic
+no_inv_mnemonic profile = refl
 
 inv_no_insn : (profile : Profile) (us : List (Token Punct)) (i : SourceInsn) → parsed_insn profile (Lexeme (codes ".inv") ∷ us) ≡ Ok i → ⊥
 unfolding parsed_insn

@@ -3,11 +3,12 @@ use Rattle.std.specs.Prelude.{ℕ, Bool, ◌==◌, nat_le, nat_lt, if◌then◌e
 use Rattle.word_ops.specs.declared.Op.{Op}
 use Rattle.word_ops.specs.declared.Op.TheVariants as O
 use Rattle.word_ops.specs.declared.Profile.{Profile}
+use Rattle.alpha_words.specs.declared.memory.MemoryOp.{MemoryOp}
 use Rattle.alpha_words.specs.declared.insn.Cond.{Cond}
-use Rattle.alpha_words.specs.declared.insn.Insn.{Insn}
 use Rattle.alpha_words.specs.declared.insn.Insn.TheVariants as I
 use Rattle.alpha_words.specs.declared.insn.Rhs.{Rhs}
 use Rattle.alpha_words.specs.declared.insn.Rhs.TheVariants as R
+use Rattle.alpha_words.specs.Formats.{memory_insn}
 use Rattle.text_tokens.specs.Tokens.{Token, Mark, Lexeme}
 use Rattle.text_tokens.specs.Registers.{register_of}
 use Rattle.term_table.specs.Steps.{◌>>=◌}
@@ -153,8 +154,8 @@ memory_operands ts = do
   Ok (ra, disp, rb)
 
 -- a memory instruction
-abbrev pub parsed_memory : (ℕ → ℕ → ℤ → Insn) → List (Token Punct) → Result SourceInsn LineFlaw
-parsed_memory make ts = memory_operands ts >>= λ m. Ok (Plain (make m.0 m.2 m.1))
+abbrev pub parsed_memory : MemoryOp → List (Token Punct) → Result SourceInsn LineFlaw
+parsed_memory op ts = memory_operands ts >>= λ m. Ok (Plain (memory_insn op m.0 m.2 m.1))
 
 -- a number where the lexeme is an integer, else a register
 abbrev pub rhs_by : List ℕ → Option Integer → Result Rhs LineFlaw
@@ -206,11 +207,7 @@ nop = Plain (I.Oper O.Bis 31 (R.Reg 31) 31)
 
 -- the tokens behind a mnemonic
 abbrev pub parsed_operands : Mnemonic → List (Token Punct) → Result SourceInsn LineFlaw
-parsed_operands N.Lda ts = parsed_memory I.Lda ts
-parsed_operands N.Ldq ts = parsed_memory I.Ldq ts
-parsed_operands N.Ldah ts = parsed_memory I.Ldah ts
-parsed_operands N.LdqU ts = parsed_memory I.LdqU ts
-parsed_operands N.Stq ts = parsed_memory I.Stq ts
+parsed_operands (N.Memory op) ts = parsed_memory op ts
 parsed_operands (N.Oper op) ts = parsed_operate op ts
 parsed_operands (N.Branch j) ts = parsed_branch j ts
 parsed_operands N.Br ts = parsed_br ts

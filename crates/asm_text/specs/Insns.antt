@@ -4,7 +4,8 @@ use Rattle.word_ops.specs.declared.Op.{Op}
 use Rattle.word_ops.specs.declared.Op.TheVariants as O
 use Rattle.alpha_words.specs.declared.insn.Cond.{Cond}
 use Rattle.alpha_words.specs.declared.insn.Insn.{Insn}
-use Rattle.alpha_words.specs.declared.insn.Insn.TheVariants as I
+use Rattle.alpha_words.specs.declared.insn.Format.{Format}
+use Rattle.alpha_words.specs.declared.insn.Format.TheVariants as F
 use Rattle.alpha_words.specs.declared.insn.Rhs.{Rhs}
 use Rattle.alpha_words.specs.declared.insn.Rhs.TheVariants as R
 use Rattle.text_tokens.specs.Tokens.{Token, Mark, Lexeme}
@@ -15,7 +16,8 @@ use Rattle.asm_text.specs.Labels.{is_label}
 use Rattle.asm_text.specs.Integers.{Integer, IsInteger, integer_value}
 use Rattle.word_ops.specs.declared.Profile.{Profile}
 use Rattle.word_ops.specs.Operators.{op_mnemonic, has_op}
-use Rattle.alpha_words.specs.Encoding.{is_two}
+use Rattle.alpha_words.specs.MemoryOps.{memory_mnemonic, has_memory_op}
+use Rattle.alpha_words.specs.Formats.{format_of}
 use Rattle.asm_text.specs.Mnemonics.{branch_mnemonic}
 
 -- an instruction of a source; a branch goes to a label
@@ -72,17 +74,18 @@ IsNop op ra rhs rc = (op ≡ O.Bis) × (ra ≡ 31) × (rhs ≡ R.Reg 31) × (rc 
 abbrev pub Begins : List ℕ → (List (Token Punct) → Type 0) → List (Token Punct) → Type 0
 Begins name P ts = (us : List (Token Punct)) × P us × (ts ≡ Lexeme name ∷ us)
 
+-- The tokens spell what has this format, and the profile has it. No tokens spell a branch by its displacement, since sources go by
+-- labels.
+abbrev pub SpellsFormat : Profile → Format → List (Token Punct) → Type 0
+SpellsFormat profile (F.Memory op ra rb disp) ts = (has_memory_op profile op ≡ true) × Begins (memory_mnemonic op) (SpellsMemory ra rb disp) ts
+SpellsFormat profile (F.Operate op ra rhs rc) ts =
+    ((has_op profile op ≡ true) × Begins (op_mnemonic op) (SpellsOperate ra rhs rc) ts) ⊎ (IsNop op ra rhs rc × (ts ≡ Lexeme (codes "nop") ∷ []))
+SpellsFormat profile (F.Branch j ra disp) ts = ⊥
+SpellsFormat profile (F.Br disp) ts = ⊥
+SpellsFormat profile F.Ret ts = Begins (codes "ret") SpellsReturn ts
+
 -- the tokens spell the instruction, which the profile has
 abbrev pub SpellsInsn : Profile → SourceInsn → List (Token Punct) → Type 0
-SpellsInsn profile (Plain (I.Lda ra rb disp)) ts = Begins (codes "lda") (SpellsMemory ra rb disp) ts
-SpellsInsn profile (Plain (I.Ldq ra rb disp)) ts = Begins (codes "ldq") (SpellsMemory ra rb disp) ts
-SpellsInsn profile (Plain (I.Ldah ra rb disp)) ts = (is_two profile ≡ true) × Begins (codes "ldah") (SpellsMemory ra rb disp) ts
-SpellsInsn profile (Plain (I.LdqU ra rb disp)) ts = (is_two profile ≡ true) × Begins (codes "ldq_u") (SpellsMemory ra rb disp) ts
-SpellsInsn profile (Plain (I.Stq ra rb disp)) ts = Begins (codes "stq") (SpellsMemory ra rb disp) ts
-SpellsInsn profile (Plain (I.Oper op ra rhs rc)) ts =
-    ((has_op profile op ≡ true) × Begins (op_mnemonic op) (SpellsOperate ra rhs rc) ts) ⊎ (IsNop op ra rhs rc × (ts ≡ Lexeme (codes "nop") ∷ []))
-SpellsInsn profile (Plain (I.Branch j ra disp)) ts = ⊥
-SpellsInsn profile (Plain (I.Br disp)) ts = ⊥
-SpellsInsn profile (Plain I.Ret) ts = Begins (codes "ret") SpellsReturn ts
+SpellsInsn profile (Plain i) ts = SpellsFormat profile (format_of i) ts
 SpellsInsn profile (BranchTo j ra l) ts = Begins (branch_mnemonic j) (SpellsBranch ra l) ts
 SpellsInsn profile (BrTo l) ts = Begins (codes "br") (SpellsBr l) ts

@@ -54,11 +54,7 @@ HasReturnForm os ts =
 
 -- the tokens have the form of the mnemonic's operands, which are these
 abbrev pub HasOperandForm : Mnemonic → List Operand → List (Token Punct) → Type 0
-HasOperandForm N.Lda os ts = HasMemoryForm os ts
-HasOperandForm N.Ldq os ts = HasMemoryForm os ts
-HasOperandForm N.Ldah os ts = HasMemoryForm os ts
-HasOperandForm N.LdqU os ts = HasMemoryForm os ts
-HasOperandForm N.Stq os ts = HasMemoryForm os ts
+HasOperandForm (N.Memory op) os ts = HasMemoryForm os ts
 HasOperandForm (N.Oper op) os ts = HasOperateForm os ts
 HasOperandForm (N.Branch j) os ts = HasBranchForm os ts
 HasOperandForm N.Br os ts = HasBrForm os ts

@@ -7,7 +7,6 @@ ghost use Rattle.asm_text.specs.Marks.{source_class};
 ghost use Rattle.asm_text.specs.InsnParsing.{next_lexeme, behind, at_end, displacement_at};
 ghost use Rattle.asm_text.specs.InsnParsing.{memory_form, operate_form, last_label};
 ghost use Rattle.asm_text.specs.InsnParsing.{branch_form, label_form, return_form};
-ghost use Rattle.alpha_words.specs.declared.insn.Insn.TheVariants.{Lda, Ldq, Ldah, LdqU, Stq};
 ghost use Rattle.asm_text.specs.InsnParsing.{memory_operands, parsed_memory, parsed_operate};
 ghost use Rattle.asm_text.specs.InsnParsing.{parsed_branch, br_by, parsed_br, parsed_return};
 ghost use Rattle.asm_text.specs.Insns.{BrTo};
@@ -21,7 +20,7 @@ use crate::labels::{Label, is_label};
 use crate::marks::{Punct, front, is_mark};
 use crate::mnemonics::{Mnemonic, mnemonic_named};
 use crate::registers::{fixed_register, register_at};
-use alpha_words::{Cond, Insn, Reg, Rhs};
+use alpha_words::{Cond, Insn, MemoryOp, Reg, Rhs, memory_insn};
 use std::alloc::{AllocError, Global};
 use text_tokens::Token;
 use word_ops::{Op, Profile};
@@ -137,6 +136,14 @@ fn memory_operands(text: &[u8]) -> Result<MemoryOperands, LineFlaw>
     let disp = displacement(disp)?;
     let rb = register_at(rb)?;
     Ok(MemoryOperands { ra, disp, rb })
+}
+
+/// A memory instruction, from the text behind its mnemonic.
+fn memory(op: MemoryOp, text: &[u8]) -> Result<SrcInsn, LineFlaw>
+    ensures { Yields source_insn_view (parsed_memory op (tokens_of source_class text.now)) result }
+{
+    let MemoryOperands { ra, disp, rb } = memory_operands(text)?;
+    Ok(SrcInsn::Plain(memory_insn(op, ra, rb, disp)))
 }
 
 /// The lexemes of `ra,rb,rc`.
@@ -288,59 +295,13 @@ fn nop(text: &[u8]) -> Result<SrcInsn, LineFlaw>
     }
 }
 
-/// `lda`, from the text behind its mnemonic.
-fn lda(text: &[u8]) -> Result<SrcInsn, LineFlaw>
-    ensures { Yields source_insn_view (parsed_memory Lda (tokens_of source_class text.now)) result }
-{
-    let MemoryOperands { ra, disp, rb } = memory_operands(text)?;
-    Ok(SrcInsn::Plain(Insn::Lda { ra, rb, disp }))
-}
-
-/// `ldq`, from the text behind its mnemonic.
-fn ldq(text: &[u8]) -> Result<SrcInsn, LineFlaw>
-    ensures { Yields source_insn_view (parsed_memory Ldq (tokens_of source_class text.now)) result }
-{
-    let MemoryOperands { ra, disp, rb } = memory_operands(text)?;
-    Ok(SrcInsn::Plain(Insn::Ldq { ra, rb, disp }))
-}
-
-/// `ldah`, from the text behind its mnemonic.
-fn ldah(text: &[u8]) -> Result<SrcInsn, LineFlaw>
-    ensures { Yields source_insn_view
-        (parsed_memory Ldah (tokens_of source_class text.now)) result }
-{
-    let MemoryOperands { ra, disp, rb } = memory_operands(text)?;
-    Ok(SrcInsn::Plain(Insn::Ldah { ra, rb, disp }))
-}
-
-/// `ldq_u`, from the text behind its mnemonic.
-fn ldq_u(text: &[u8]) -> Result<SrcInsn, LineFlaw>
-    ensures { Yields source_insn_view
-        (parsed_memory LdqU (tokens_of source_class text.now)) result }
-{
-    let MemoryOperands { ra, disp, rb } = memory_operands(text)?;
-    Ok(SrcInsn::Plain(Insn::LdqU { ra, rb, disp }))
-}
-
-/// `stq`, from the text behind its mnemonic.
-fn stq(text: &[u8]) -> Result<SrcInsn, LineFlaw>
-    ensures { Yields source_insn_view (parsed_memory Stq (tokens_of source_class text.now)) result }
-{
-    let MemoryOperands { ra, disp, rb } = memory_operands(text)?;
-    Ok(SrcInsn::Plain(Insn::Stq { ra, rb, disp }))
-}
-
 /// The instruction of a mnemonic, from the text behind it.
 fn operands(alloc: Global, mnemonic: Mnemonic, text: &[u8]) -> Result<SrcInsn, Refused>
     ensures { YieldsOrMemory source_insn_view
         (parsed_operands mnemonic (tokens_of source_class text.now)) result }
 {
     match mnemonic {
-        Mnemonic::Lda => Ok(lda(text)?),
-        Mnemonic::Ldq => Ok(ldq(text)?),
-        Mnemonic::Ldah => Ok(ldah(text)?),
-        Mnemonic::LdqU => Ok(ldq_u(text)?),
-        Mnemonic::Stq => Ok(stq(text)?),
+        Mnemonic::Memory(op) => Ok(memory(op, text)?),
         Mnemonic::Oper(op) => Ok(operate(op, text)?),
         Mnemonic::Branch(cond) => branch(alloc, cond, text),
         Mnemonic::Br => br(alloc, text),

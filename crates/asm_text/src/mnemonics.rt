@@ -1,25 +1,18 @@
 //! Mnemonics.
 
 ghost use Rattle.std.specs.Prelude.{◌≡◌};
+ghost use Rattle.std.specs.Str.{bytes_eq};
 ghost use Rattle.asm_text.specs.Mnemonics.{branch_mnemonic, mnemonic_text};
-ghost use Rattle.asm_text.specs.Mnemonics.{mnemonics_of, mnemonic_in, mnemonic_of};
+ghost use Rattle.asm_text.specs.Mnemonics.{other_mnemonic, mnemonic_of};
 
-use alpha_words::Cond;
+use alpha_words::{Cond, MemoryOp, memory_mnemonic, memory_op_named, memory_op_of};
 use word_ops::{Op, Profile, of_profile, op_mnemonic, op_of_mnemonic};
 
 /// What the first lexeme of an instruction names.
 #[derive(Clone, Copy, Debug, PartialEq, Eq)]
 pub enum Mnemonic {
-    /// `lda`.
-    Lda,
-    /// `ldq`.
-    Ldq,
-    /// `ldah`.
-    Ldah,
-    /// `ldq_u`.
-    LdqU,
-    /// `stq`.
-    Stq,
+    /// An instruction of the memory format.
+    Memory(MemoryOp),
     /// An operator.
     Oper(Op),
     /// A conditional branch.
@@ -32,15 +25,10 @@ pub enum Mnemonic {
     Nop,
 }
 
-/// The mnemonics that are no operators': those of profile 2 alone, and then the others by opcode.
-static MNEMONICS: [Mnemonic; 16] = [
-    Mnemonic::Ldah,
-    Mnemonic::LdqU,
-    Mnemonic::Lda,
+/// The mnemonics that stand in no table of other crates, by opcode.
+const MNEMONICS: [Mnemonic; 11] = [
     Mnemonic::Nop,
     Mnemonic::Ret,
-    Mnemonic::Ldq,
-    Mnemonic::Stq,
     Mnemonic::Br,
     Mnemonic::Branch(Cond::LowClear),
     Mnemonic::Branch(Cond::Zero),
@@ -72,11 +60,7 @@ fn mnemonic_text(mnemonic: Mnemonic) -> &'static str
     ensures { result.now ≡ mnemonic_text mnemonic }
 {
     match mnemonic {
-        Mnemonic::Lda => "lda",
-        Mnemonic::Ldq => "ldq",
-        Mnemonic::Ldah => "ldah",
-        Mnemonic::LdqU => "ldq_u",
-        Mnemonic::Stq => "stq",
+        Mnemonic::Memory(op) => memory_mnemonic(op),
         Mnemonic::Oper(op) => op_mnemonic(op),
         Mnemonic::Branch(cond) => branch_mnemonic(cond),
         Mnemonic::Br => "br",
@@ -85,36 +69,34 @@ fn mnemonic_text(mnemonic: Mnemonic) -> &'static str
     }
 }
 
-/// The first of these mnemonics that the lexeme is.
-fn mnemonic_in(mnemonics: &[Mnemonic], lexeme: &[u8]) -> Option<Mnemonic>
-    ensures { result ≡ mnemonic_in mnemonics.now lexeme.now }
+/// Whether the mnemonic is this lexeme.
+fn is_mnemonic(mnemonic: Mnemonic, lexeme: &[u8]) -> bool
+    ensures { result ≡ bytes_eq lexeme.now (mnemonic_text mnemonic) }
 {
-    for i in 0..mnemonics.len() {
-        if lexeme == mnemonic_text(mnemonics[i]).as_bytes() {
-            return Some(mnemonics[i]);
-        }
-    }
-    None
+    lexeme == mnemonic_text(mnemonic).as_bytes()
 }
 
-/// The mnemonics of a profile that are no operators'.
-#[tactic(auto, unfolding(crate::specs::Mnemonics::mnemonics))]
-fn mnemonics_of(profile: Profile) -> &'static [Mnemonic]
-    ensures { result.now ≡ mnemonics_of profile }
+/// The one that the lexeme is of the mnemonics that stand in no table.
+#[tactic(auto, unfolding(crate::specs::Mnemonics::other_mnemonic))]
+fn other_mnemonic(lexeme: &[u8]) -> Option<Mnemonic>
+    ensures { result ≡ other_mnemonic lexeme.now }
 {
-    match profile {
-        Profile::One => &MNEMONICS[2..],
-        Profile::Two => &MNEMONICS,
-    }
+    MNEMONICS
+        .iter()
+        .copied()
+        .find(|mnemonic| is_mnemonic(*mnemonic, lexeme))
 }
 
-/// The profile's mnemonic that the lexeme is.
+/// Answers the profile's mnemonic that the lexeme is: None where it is none.
 #[tactic(auto, unfolding(crate::specs::Mnemonics::mnemonic_of))]
 pub fn mnemonic_named(lexeme: &[u8], profile: Profile) -> Option<Mnemonic>
     ensures { result ≡ mnemonic_of profile lexeme.now }
 {
     match of_profile(profile, op_of_mnemonic(lexeme)) {
         Some(op) => Some(Mnemonic::Oper(op)),
-        None => mnemonic_in(mnemonics_of(profile), lexeme),
+        None => match memory_op_of(profile, memory_op_named(lexeme)) {
+            Some(op) => Some(Mnemonic::Memory(op)),
+            None => other_mnemonic(lexeme),
+        },
     }
 }

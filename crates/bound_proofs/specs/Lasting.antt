@@ -14,6 +14,7 @@ made-more : (t u : TableView) (w : WordBound) (o : Option ℕ) → IfSome o (IsK
 made-more t u w None k e h = tt
 made-more t u w (Some p) k e h = e.same p k ∙ h
 
+-- a row that is one of a bound stays it as the table grows
 pub row-lasts : (t u : TableView) (l : List Hypothesis) (s : Subject) (r : Row) → AreKnownHyps t l → Extends t u → IsBoundRow t l s r → IsBoundRow u l s r
 row-lasts t u l s r k e h = record {
   of = omega (arith, h.of, e.longer);

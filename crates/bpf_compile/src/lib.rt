@@ -10,8 +10,6 @@
 
 mod compiling;
 mod invariants;
-#[cfg(test)]
-mod tests;
 mod words;
 
 pub use compiling::compile;

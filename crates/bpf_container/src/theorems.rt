@@ -49,7 +49,8 @@ pub fn laws()
         × IsCompiled program out }
     ensures plain { (program : List Bpf) → IsProgram program
         → (out : List ℕ) × (proved_container (built_in Filter) (encoding_of
-        (plain_contents 1 None (built_in Filter) (bpf_invariants program) (bpf_code program))) ≡ Ok out)
+        (plain_contents 1 None (built_in Filter) (bpf_invariants program)
+        (bpf_code program))) ≡ Ok out)
         × IsCompiled program out }
 {
     class_laws();

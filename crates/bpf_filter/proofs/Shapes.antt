@@ -63,7 +63,7 @@ by_register op has ra rb rc from other to = plain-oper op has ra (Reg rb) rc fro
 
 load_quad : (ra quad : ℕ) → ra < 31 → IsWritableRegister ra → quad < 8 → IsPlain (Ldq ra 16 (pos (8 * quad)))
 load_quad ra quad low to inside = record {
-  insn = (memory_word 0x29 ra 16 (pos (8 * quad)), (refl, (to, low, omega arith, omega (arith, inside), refl)));
+  insn = (memory_word 0x29 ra 16 (pos (8 * quad)), (refl, ((to, low), omega arith, omega (arith, inside), refl)));
   stays = λ i. refl;
 }
 

@@ -48,7 +48,7 @@ by-register op ra rb rc first second low = (tt, (operate_word op ra (Reg rb) rc,
 quad-plain : (r d : ℕ) → r < 8 → d < 8 → IsPlain (Ldq r 16 (pos (8 * d)))
 quad-plain r d low near =
     let small : 8 * d < 2 ^ 15 = omega (arith, near) in
-    (tt, (memory_word 0x29 r 16 (pos (8 * d)), (writable r low, omega (arith, low), omega arith, small, refl)))
+    (tt, (memory_word 0x29 r 16 (pos (8 * d)), ((writable r low, omega (arith, low)), omega arith, small, refl)))
 
 pub branch-insn : (d : ℕ) → d < 2 ^ 20 → IsInsn (Branch NotZero 6 (pos d))
 branch-insn d small = (branch_word (cond_opcode_of NotZero) 6 (pos d), (omega arith, small, refl))

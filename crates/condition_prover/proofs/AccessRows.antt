@@ -44,10 +44,11 @@ use Rattle.goal_proofs.proofs.Kept.{search-more}
 -- ---- what is kept
 
 -- with another memo and other results of substitutions
-pub with_puts : (t u : TableView) (s : Search) (m : Memo) (p : Kept Put ℕ) → IsSearch t s → Extends t u → IsMemo u m → ArePuts u p → IsSearch u (record { memo = m; forms = s.forms; puts = p; occurrences = s.occurrences; counted = s.counted })
+pub with_puts : (t u : TableView) (s : Search) (m : Memo) (p : Kept Put ℕ) → IsSearch t s → Extends t u → IsMemo u m → ArePuts u p
+    → IsSearch u (record { memo = m; plain = s.plain; forms = s.forms; puts = p; occurrences = s.occurrences; counted = s.counted })
 with_puts t u s m p h x k l =
     let g = search-more s t u h x in
-    record { memo = k; forms = g.forms; puts = l; occurrences = g.occurrences }
+    record { memo = k; plain = g.plain; forms = g.forms; puts = l; occurrences = g.occurrences }
 
 -- hypotheses after a call
 pub hyps_then : (t u : TableView) (s : Search) (a b : Context) (Γ : Hyps) → IsContext t a → Extends t u → IsAfter u s a b → AreHyps t a.hyps Γ → AreHyps u b.hyps Γ

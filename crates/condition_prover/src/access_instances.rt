@@ -17,7 +17,7 @@ ghost use Rattle.condition_prover.specs.Inside.AccessIds.{IfIndexed};
 
 use crate::access_moves::exp_with;
 use formula_ids::{ExpNode, exp_node, literal, operands};
-use goal_proofs::{Search, normal};
+use goal_proofs::{Search, normal_exp};
 use hereditary_subst::Exhausted;
 use std::alloc::AllocError;
 use sum_proofs::{eighth, occurs, rest_of, summand_count};
@@ -126,11 +126,11 @@ fn rest_at(
 {
     let zero = table.intern(Node::Lit(0))?;
     let start = exp_with(table, search, base, zero)?;
-    let of_a = normal(table, search, outside, a)?;
-    let of_base = normal(table, search, outside, start)?;
-    let pairs = summand_count(table, of_a.now).saturating_mul(summand_count(table, of_base.now));
+    let of_a = normal_exp(table, search, outside, a)?;
+    let of_base = normal_exp(table, search, outside, start)?;
+    let pairs = summand_count(table, of_a).saturating_mul(summand_count(table, of_base));
     search.spend_steps(pairs)?;
-    let rest = rest_of(table, of_a.now, of_base.now)?;
+    let rest = rest_of(table, of_a, of_base)?;
     Ok(rest)
 }
 

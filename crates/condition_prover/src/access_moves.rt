@@ -15,7 +15,7 @@ ghost use Rattle.goal_proofs.specs.Search.{IsSearch};
 ghost use Rattle.condition_prover.specs.Inside.AccessIds.{access_of};
 
 use formula_ids::{Access, moved, put_word, put_word_exp, right};
-use goal_proofs::{Search, normal};
+use goal_proofs::{Search, normal, normal_exp};
 use hereditary_subst::Exhausted;
 use std::alloc::AllocError;
 use sum_proofs::equal_proof;
@@ -86,9 +86,9 @@ pub(crate) fn same_address(
     ensures extends { Extends table.old table.new }
     ensures search { OnOk result (IsSearch table.new search.new) }
 {
-    let first = normal(table, search, outside, z)?;
-    let second = normal(table, search, outside, a)?;
-    Ok(table.same(first.now, second.now))
+    let first = normal_exp(table, search, outside, z)?;
+    let second = normal_exp(table, search, outside, a)?;
+    Ok(table.same(first, second))
 }
 
 /// The right to the access at variable 0.

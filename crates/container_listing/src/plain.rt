@@ -144,7 +144,8 @@ fn push_inv_of(
     index: u32,
 ) -> Result<(), AllocError>
     requires { AllByRecursion (λ inv. IsKnown table.now inv.1) invs.now }
-    ensures { let lines = inv_lines table.now.trees (index_inv index (id_trees table.now invs.now)) in
+    ensures { let lines =
+        inv_lines table.now.trees (index_inv index (id_trees table.now invs.now)) in
         OnOk result (out.new.items ≡ out.old.items ++ flat_map comment_line lines) }
 {
     match index_inv(table, invs, index) {

@@ -167,7 +167,8 @@ fn push_pair(out: &mut Vec<u8>, table: &Table, first: Id, second: Id) -> Result<
 fn push_one(out: &mut Vec<u8>, table: &Table, constant: u32, a: Id) -> Result<(), AllocError>
     requires { IsKnown table.now a }
     ensures { let part = part_in table.now.trees (tree_at table.now a) in
-        OnOk result (out.new.items ≡ out.old.items ++ with_blanks (constant_name constant) (part ∷ [])) }
+        OnOk result
+        (out.new.items ≡ out.old.items ++ with_blanks (constant_name constant) (part ∷ [])) }
 {
     push_constant(out, constant)?;
     push_next(out, table, a)

@@ -1,7 +1,6 @@
 pub mod Backwards
 pub mod Places
 pub mod SameTokens
-pub mod Rows
 pub mod Assembled
 pub mod FaultLines
 pub mod SourceSaid

@@ -180,11 +180,7 @@ return_finds ts os flaw h f =
 -- where the operands of a mnemonic have their form, and one is wrong, one is found
 pub operand_finds : (m : Mnemonic) (ts : List (Token Punct)) (os : List Operand) (flaw : LineFlaw) → HasOperandForm m os ts → FirstWrong os flaw →
     Finds (form_of (Some m)) ts
-operand_finds N.Lda ts os flaw h f = memory_finds ts os flaw h f
-operand_finds N.Ldq ts os flaw h f = memory_finds ts os flaw h f
-operand_finds N.Ldah ts os flaw h f = memory_finds ts os flaw h f
-operand_finds N.LdqU ts os flaw h f = memory_finds ts os flaw h f
-operand_finds N.Stq ts os flaw h f = memory_finds ts os flaw h f
+operand_finds (N.Memory o) ts os flaw h f = memory_finds ts os flaw h f
 operand_finds (N.Oper o) ts os flaw h f = operate_finds ts os flaw h f
 operand_finds (N.Branch j) ts os flaw h f = branch_finds ts os flaw h f
 operand_finds N.Br ts os flaw h f = br_finds ts os flaw h f

@@ -20,11 +20,7 @@ use Rattle.fault_marks.specs.SourceLines.{PlacedLexeme, lexemes_of}
 
 -- the form of the operands behind a mnemonic
 abbrev pub form_of : Option Mnemonic → OperandForm
-form_of (Some N.Lda) = O.Memory
-form_of (Some N.Ldq) = O.Memory
-form_of (Some N.Ldah) = O.Memory
-form_of (Some N.LdqU) = O.Memory
-form_of (Some N.Stq) = O.Memory
+form_of (Some (N.Memory o)) = O.Memory
 form_of (Some (N.Oper o)) = O.Operate
 form_of (Some (N.Branch j)) = O.Branch
 form_of (Some N.Br) = O.Br

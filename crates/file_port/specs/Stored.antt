@@ -25,6 +25,7 @@ from_parts p =
     (cond (p.0 == 3) (was_read p.1.1.0 p.1.0 failed) (cond (p.0 == 4) (was_read p.1.1.0 p.1.0 no_memory) (cond (p.0 == 5) (was_written p.1.1.0 p.1.1.1 put.Done)
     (cond (p.0 == 6) (was_written p.1.1.0 p.1.1.1 put.Failed) (cond (p.0 == 7) (was_put p.1.1.0 put.Done) (was_put p.1.1.0 put.Failed))))))))
 
+-- an event is told by its parts
 pub from_parts-to_parts : (e : Event) → from_parts (to_parts e) ≡ e
 from_parts-to_parts (was_read name max (whole b)) = refl
 from_parts-to_parts (was_read name max missing) = refl
@@ -36,5 +37,6 @@ from_parts-to_parts (was_written name b put.Failed) = refl
 from_parts-to_parts (was_put piece put.Done) = refl
 from_parts-to_parts (was_put piece put.Failed) = refl
 
+-- events as a ghost state stores them, by their parts
 abbrev pub events_code : Coded (List Event)
 events_code = coded_list (code_by Parts (coded× coded_ℕ (coded× coded_ℕ (coded× (coded_list coded_ℕ) (coded_list coded_ℕ)))) to_parts from_parts from_parts-to_parts)

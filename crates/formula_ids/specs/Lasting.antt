@@ -16,6 +16,7 @@ exp_put-now t u v id x arg r i a tu uv p = record {
       uv.same r p.known ∙ p.is e o (sym early ∙ q) (sym put ∙ w);
 }
 
+-- the same of a memory
 pub mem_put-now : (t u v : TableView) (id x arg r : ℕ) → IsKnown t id → IsKnown t arg → Extends t u → Extends u v → IsMemPut t u id x arg r → IsMemPut v v id x arg r
 mem_put-now t u v id x arg r i a tu uv p = record {
   known = omega (arith, p.known, uv.longer);
@@ -25,6 +26,7 @@ mem_put-now t u v id x arg r i a tu uv p = record {
       uv.same r p.known ∙ p.is e o (sym early ∙ q) (sym put ∙ w);
 }
 
+-- the same of a formula
 pub form_put-now : (t u v : TableView) (id x arg r : ℕ) → IsKnown t id → IsKnown t arg → Extends t u → Extends u v → IsFormPut t u id x arg r → IsFormPut v v id x arg r
 form_put-now t u v id x arg r i a tu uv p = record {
   known = omega (arith, p.known, uv.longer);
@@ -37,6 +39,7 @@ form_put-now t u v id x arg r i a tu uv p = record {
 extends_refl : (t : TableView) → Extends t t
 extends_refl t = record { longer = omega arith; same = λ id h. refl; places = refl }
 
+-- what putting gave stays right as the table grows
 pub put-lasts : (t u : TableView) (q : Put) (r : ℕ) → Extends t u → IsPutAt t q r → IsPutAt u q r
 put-lasts t u (Q.Exp id x arg) r e h = (omega (arith, h.0, e.longer), omega (arith, h.1, e.longer), exp_put-now t t u id x arg r h.0 h.1 (extends_refl t) e h.2)
 put-lasts t u (Q.Mem id x arg) r e h = (omega (arith, h.0, e.longer), omega (arith, h.1, e.longer), mem_put-now t t u id x arg r h.0 h.1 (extends_refl t) e h.2)

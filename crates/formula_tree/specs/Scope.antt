@@ -45,13 +45,15 @@ IsWithin left r (FImp A B) G = IsWithin left r A G × IsWithin left r B G
 IsWithin left r (FAll A) G = IsWithin left r A (OfWord ∷ G)
 IsWithin left r (FAllm A) G = IsWithin left r A (OfMem ∷ G)
 
--- an expression, a memory and a formula that don't name the steps that are left
+-- an expression that doesn't name the steps that are left
 abbrev pub IsOverExp : ℕ → Exp → List VarSort → Type 0
 IsOverExp r e G = IsWithinExp false r e G
 
+-- the same of a memory
 abbrev pub IsOverMem : ℕ → MemExp → List VarSort → Type 0
 IsOverMem r m G = IsWithinMem false r m G
 
+-- the same of a formula
 abbrev pub IsOver : ℕ → Form → List VarSort → Type 0
 IsOver r F G = IsWithin false r F G
 

@@ -1,13 +1,16 @@
-//! Tests of conditions, the gate, the host and the prover, by public calls.
+//! Tests of terms, conditions, the gate and the host, by public calls that no row makes: faults in
+//! words, laws, tables beside a plain program, limits, and what is accepted.
 //!
-//! They stand in a crate of their own, since the gate proves all of a crate once more with its tests.
+//! They stand in one crate at the top, since the gate builds all below a crate once more for its tests.
 #![tactic(auto)]
 
 #[cfg(test)]
-mod bounds_prover_tests;
+mod accepted;
 #[cfg(test)]
-mod pcc_gate_tests;
+mod answers;
 #[cfg(test)]
-mod safe_host_tests;
+mod conditions;
 #[cfg(test)]
-mod vcgen_tests;
+mod faults;
+#[cfg(test)]
+mod terms;

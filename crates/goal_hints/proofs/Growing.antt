@@ -23,9 +23,9 @@ reached-more kept t u h x =
 -- with another memo and other results of substitutions
 pub with_puts : (t u : TableView) (s : Search) (m : Memo) (p : Kept Put ℕ) → IsSearch t s
     → Extends t u → IsMemo u m → ArePuts u p
-    → IsSearch u (record { memo = m; forms = s.forms; puts = p; occurrences = s.occurrences; counted = s.counted })
+    → IsSearch u (record { memo = m; plain = s.plain; forms = s.forms; puts = p; occurrences = s.occurrences; counted = s.counted })
 with_puts t u s m p h x k l =
     let g = search-more s t u h x in
-    record { memo = k; forms = g.forms; puts = l; occurrences = g.occurrences }
+    record { memo = k; plain = g.plain; forms = g.forms; puts = l; occurrences = g.occurrences }
 
 pub ruleset rows = (search-more, context-more, memo-more, reached-more)

@@ -16,7 +16,7 @@ ghost use Rattle.goal_hints.specs.Inside.Nearness.{is_like};
 
 use formula_ids::{literal, put_word_exp};
 use goal_marks::PART_BINDERS;
-use goal_proofs::{Search, normal};
+use goal_proofs::{Search, normal_exp};
 use hereditary_subst::Exhausted;
 use sum_proofs::{rest_of, summand_count};
 use term_table::{Id, Node, Table};
@@ -34,11 +34,11 @@ fn sum_rest(table: &mut Table, search: &mut Search, a: Id, z: Id) -> Result<Opti
     ensures extends { Extends table.old table.new }
     ensures search { OnOk result (IsSearch table.new search.new) }
 {
-    let of_a = normal(table, search, PART_BINDERS, a)?;
-    let of_z = normal(table, search, PART_BINDERS, z)?;
-    let pairs = summand_count(table, of_a.now).saturating_mul(summand_count(table, of_z.now));
+    let of_a = normal_exp(table, search, PART_BINDERS, a)?;
+    let of_z = normal_exp(table, search, PART_BINDERS, z)?;
+    let pairs = summand_count(table, of_a).saturating_mul(summand_count(table, of_z));
     search.spend_steps(pairs)?;
-    let rest = rest_of(table, of_a.now, of_z.now)?;
+    let rest = rest_of(table, of_a, of_z)?;
     Ok(rest)
 }
 

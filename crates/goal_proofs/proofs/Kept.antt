@@ -12,6 +12,7 @@ use Rattle.sum_proofs.specs.declared.occurrences.Occurring.{Occurring}
 use Rattle.sum_proofs.specs.Lasting.{occurrence-lasts}
 use Rattle.formula_ids.specs.declared.kept.Kept.{Kept}
 use Rattle.formula_ids.proofs.KeptRows.{right-more}
+use Rattle.normal_forms.proofs.Growing.{plain-more}
 use Rattle.sum_proofs.proofs.Rounds.{forms-more}
 use Rattle.bound_proofs.proofs.BoundRows.{bounds-more}
 use Rattle.formula_ids.proofs.HypRows.{known_hyps-more, hyps-before}
@@ -28,6 +29,7 @@ occurrences-more kept t u h x = right-more IsOccurrence t u (λ q b i. occurrenc
 pub search-more : (s : Search) (t u : TableView) → IsSearch t s → Extends t u → IsSearch u s
 search-more s t u h x = record {
   memo = memo-more s.memo t u h.memo x;
+  plain = plain-more s.plain t u h.plain x;
   forms = forms-more s.forms t u h.forms x;
   puts = puts-more s.puts t u h.puts x;
   occurrences = occurrences-more s.occurrences t u h.occurrences x;

@@ -1,12 +1,14 @@
 -- What is kept of a search, call after call.
-use Rattle.std.proofs.Common.{Result, Ok, Err, IfOk, OnOk, refl, ◌∙◌, arith}
+use Rattle.std.proofs.Common.{ℕ, Result, Ok, Err, IfOk, OnOk, refl, ◌∙◌, arith}
 use Rattle.term_table.specs.Table.{TableView, Extends}
 use Rattle.hereditary_subst.specs.Kept.{IsMemo}
 use Rattle.hereditary_subst.specs.declared.kept.Memo.{Memo}
 use Rattle.formula_ids.specs.declared.kept.Kept.{Kept}
-use Rattle.sum_proofs.specs.declared.normal_forms.Place.{Place}
-use Rattle.sum_proofs.specs.declared.normal_forms.Rewritten.{Rewritten}
+use Rattle.normal_forms.specs.declared.plain_forms.ExpAt.{ExpAt}
+use Rattle.sum_proofs.specs.declared.equations.Place.{Place}
+use Rattle.sum_proofs.specs.declared.equations.Rewritten.{Rewritten}
 use Rattle.bound_proofs.specs.declared.kept_bounds.KeptBounds.{KeptBounds}
+use Rattle.normal_forms.specs.PlainForms.{ArePlainForms}
 use Rattle.sum_proofs.specs.NormalForms.{AreNormalForms}
 use Rattle.bound_proofs.specs.KeptBounds.{AreBounds}
 use Rattle.hereditary_subst.proofs.Rows.{memo-more}
@@ -45,15 +47,23 @@ if_ok_by (Ok a) f p = f p
 if_ok_by (Err e) f p = tt
 
 -- with another memo, other normal forms, other bounds
-pub with_memo : (t u : TableView) (s : Search) (m : Memo) → IsSearch t s → Extends t u → IsMemo u m → IsSearch u (record { memo = m; forms = s.forms; puts = s.puts; occurrences = s.occurrences; counted = s.counted })
+pub with_memo : (t u : TableView) (s : Search) (m : Memo) → IsSearch t s → Extends t u → IsMemo u m
+    → IsSearch u (record { memo = m; plain = s.plain; forms = s.forms; puts = s.puts; occurrences = s.occurrences; counted = s.counted })
 with_memo t u s m h x k =
     let g = search-more s t u h x in
-    record { memo = k; forms = g.forms; puts = g.puts; occurrences = g.occurrences }
+    record { memo = k; plain = g.plain; forms = g.forms; puts = g.puts; occurrences = g.occurrences }
 
-pub with_forms : (t u : TableView) (s : Search) (m : Memo) (f : Kept Place Rewritten) → IsSearch t s → Extends t u → IsMemo u m → AreNormalForms u f → IsSearch u (record { memo = m; forms = f; puts = s.puts; occurrences = s.occurrences; counted = s.counted })
+pub with_plain : (t u : TableView) (s : Search) (m : Memo) (f : Kept ExpAt ℕ) → IsSearch t s → Extends t u → IsMemo u m → ArePlainForms u f
+    → IsSearch u (record { memo = m; plain = f; forms = s.forms; puts = s.puts; occurrences = s.occurrences; counted = s.counted })
+with_plain t u s m f h x k l =
+    let g = search-more s t u h x in
+    record { memo = k; plain = l; forms = g.forms; puts = g.puts; occurrences = g.occurrences }
+
+pub with_forms : (t u : TableView) (s : Search) (m : Memo) (f : Kept Place Rewritten) → IsSearch t s → Extends t u → IsMemo u m → AreNormalForms u f
+    → IsSearch u (record { memo = m; plain = s.plain; forms = f; puts = s.puts; occurrences = s.occurrences; counted = s.counted })
 with_forms t u s m f h x k l =
     let g = search-more s t u h x in
-    record { memo = k; forms = l; puts = g.puts; occurrences = g.occurrences }
+    record { memo = k; plain = g.plain; forms = l; puts = g.puts; occurrences = g.occurrences }
 
 pub with_bounds : (t u : TableView) (c : Context) (b : KeptBounds) → IsContext t c → Extends t u → AreBounds u c.hyps b → IsContext u (record { outside = c.outside; hyps = c.hyps; bounds = b; absurd = c.absurd; answers = c.answers })
 with_bounds t u c b h x k =

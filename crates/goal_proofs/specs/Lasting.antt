@@ -15,6 +15,7 @@ use Rattle.goal_proofs.specs.declared.answers.Goal.{Goal}
 pub proof-now : (p : Prover) (t u v : TableView) (l : List Hypothesis) (outside goal : ℕ) (o : Option ℕ) → AreKnownHyps t l → IsKnown t goal → Extends t v → Extends u v → IsProofBy p t u l outside goal o → IsProofBy p v v l outside goal o
 proof-now p t u v l outside goal o k g x y h = λ Γ A a q. stands-more u v (p outside Γ A) o (h Γ A (hyps-before t v l Γ k x a) (sym (x.same goal g) ∙ q)) y
 
+-- what was found of a goal stays right as the table grows
 pub found-more : (t u : TableView) (l : List Hypothesis) (outside : ℕ) (means : Means) (goal : ℕ) (o : Option ℕ) → AreKnownHyps t l → Extends t u → IsFoundProof t l outside means goal o → IsFoundProof u l outside means goal o
 found-more t u l outside means goal o k x h = record {
   of = omega (arith, h.of, x.longer);

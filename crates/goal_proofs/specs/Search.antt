@@ -5,6 +5,7 @@ use Rattle.hereditary_subst.specs.Kept.{IsMemo}
 use Rattle.formula_ids.specs.Hypotheses.{AreKnownHyps}
 use Rattle.formula_ids.specs.PutRows.{ArePuts}
 use Rattle.bound_proofs.specs.KeptBounds.{AreBounds}
+use Rattle.normal_forms.specs.PlainForms.{ArePlainForms}
 use Rattle.sum_proofs.specs.NormalForms.{AreNormalForms}
 use Rattle.sum_proofs.specs.Occurrences.{AreOccurrences}
 use Rattle.goal_proofs.specs.Answers.{AreAnswers, IsAbsurdity}
@@ -14,6 +15,7 @@ use Rattle.goal_proofs.specs.declared.search.Context.{Context}
 -- what is kept of all contexts is right of the table
 pub record IsSearch (t : TableView) (s : Search) : Type 0 where
   pub memo : IsMemo t s.memo
+  pub plain : ArePlainForms t s.plain
   pub forms : AreNormalForms t s.forms
   pub puts : ArePuts t s.puts
   pub occurrences : AreOccurrences t s.occurrences

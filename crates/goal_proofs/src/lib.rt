@@ -22,4 +22,4 @@ pub use contexts::{under_binder, under_hypothesis};
 pub use leaf::Leaf;
 pub use search::{Context, Search};
 pub use theorems::round_laws;
-pub use words::{normal, proof_by_words};
+pub use words::{normal, normal_exp, proof_by_words};

@@ -12,6 +12,7 @@ use bound_proofs::KeptBounds;
 use formula_ids::Puts;
 use hereditary_subst::{Exhausted, Memo};
 use hyp_proofs::{Hypotheses, absurdity};
+use normal_forms::PlainForms;
 use sum_proofs::{NormalForms, Occurrences};
 use term_table::{Id, Table};
 
@@ -25,6 +26,8 @@ const STEPS_A_TERM: u64 = 48;
 pub struct Search {
     /// Results of shifts, and the limit.
     pub memo: Memo,
+    // normal forms alone, and those that were asked for with their proofs
+    pub(crate) plain: PlainForms,
     pub(crate) forms: NormalForms,
     /// What words put into formulas give.
     pub puts: Puts,
@@ -45,6 +48,7 @@ impl Search {
         let alloc = table.allocator();
         Search {
             memo: Memo::new(alloc, most),
+            plain: PlainForms::new(alloc),
             forms: NormalForms::new(alloc),
             puts: Puts::new(alloc),
             occurrences: Occurrences::new(alloc),

@@ -27,6 +27,7 @@ use hereditary_subst::Exhausted;
 use hyp_proofs::{Alignments, alignment_proof, find_hyp};
 use lf_rules::numbers::{LE_LT, LT_LE, ULE_TRANS, ULT_ULE};
 use lf_rules::rule_term;
+use normal_forms::{is_by_forms, plain_form};
 use std::alloc::AllocError;
 use sum_proofs::{Rewritten, normal_form, proof_by_forms};
 use term_table::{Id, Node, Table};
@@ -349,7 +350,8 @@ fn by_bounds(
     }
 }
 
-/// The normal form of `e`, where `outside` binders stand outside; it is kept in `search`.
+/// The normal form of `e` with the proof that they are equal, where `outside` binders stand outside; it
+/// is kept in `search`.
 ///
 /// Errors: want of memory alone, which more results than `search` may keep are too; each id keeps its
 /// tree.
@@ -372,9 +374,33 @@ pub fn normal(
     normal_form(table, &mut search.memo, &mut search.forms, outside, e)
 }
 
-/// The proof of the relation by the normal forms of its two expressions.
+/// The normal form of `e` alone, where `outside` binders stand outside; it is kept in `search`.
+///
+/// Errors: want of memory alone, which more results than `search` may keep are too; each id keeps its
+/// tree.
+#[tactic(auto, using(crate::proofs::Kept::rows))]
+pub fn normal_exp(
+    table: &mut Table,
+    search: &mut Search,
+    outside: u32,
+    e: Id,
+) -> Result<Id, Exhausted>
+    requires e { IsKnown table.old e }
+    requires search { IsSearch table.old search.old }
+    ensures known { IfOk result (IsKnown table.new) }
+    ensures exact { (x : Exp) → tree_at table.old e ≡ exp_encoding x
+        → IfOk result (λ f. tree_at table.new f ≡ exp_encoding (normal_form outside x).now) }
+    ensures extends { Extends table.old table.new }
+    ensures search { OnOk result (IsSearch table.new search.new) }
+{
+    search.spend_terms(table)?;
+    plain_form(table, &mut search.memo, &mut search.plain, outside, e)
+}
+
+/// The proof of the relation by the normal forms of its two expressions, which are found with the
+/// proofs of their equations.
 #[tactic(auto, using(crate::proofs::WordRows::rows))]
-fn by_normal(
+fn proof_by_normal(
     table: &mut Table,
     search: &mut Search,
     outside: u32,
@@ -395,6 +421,35 @@ fn by_normal(
     let p = normal(table, search, outside, a)?;
     let q = normal(table, search, outside, b)?;
     proof_by_forms(table, &mut search.memo, rel, a, b, p, q)
+}
+
+/// The same proof, which is made where the normal forms alone say that there is one.
+#[tactic(auto, using(crate::proofs::WordRows::rows))]
+fn by_normal(
+    table: &mut Table,
+    search: &mut Search,
+    outside: u32,
+    rel: Rel,
+    a: Id,
+    b: Id,
+) -> Result<Option<Id>, Exhausted>
+    requires a { IsKnown table.old a }
+    requires b { IsKnown table.old b }
+    requires search { IsSearch table.old search.old }
+    ensures known { IfOk result (λ o. IfSome o (IsKnown table.new)) }
+    ensures exact { (Γ : Hyps) (x y : Exp) → tree_at table.old a ≡ exp_encoding x
+        → tree_at table.old b ≡ exp_encoding y
+        → IfOk result (Stands table.new (by_normal outside Γ (FRel rel x y))) }
+    ensures extends { Extends table.old table.new }
+    ensures search { OnOk result (IsSearch table.new search.new) }
+{
+    let p = normal_exp(table, search, outside, a)?;
+    let q = normal_exp(table, search, outside, b)?;
+    if !is_by_forms(table, rel, p, q) {
+        return Ok(None);
+    }
+    let proof = proof_by_normal(table, search, outside, rel, a, b)?;
+    Ok(proof)
 }
 
 /// The expression that the relation says to be a multiple of 8: `(eq (band e 7) 0)`.

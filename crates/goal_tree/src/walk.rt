@@ -18,7 +18,7 @@ ghost use Rattle.goal_tree.specs.Inside.Appended.{IsAppended};
 use crate::reading::{left, right};
 use crate::rows::{Row, Why};
 use alpha_cfg::Cut;
-use alpha_words::Insn;
+use alpha_words::{Format, MemoryKind, memory_kind};
 use std::alloc::AllocError;
 use term_table::{Id, Table};
 
@@ -209,23 +209,22 @@ fn walk_insn(
 {
     let code = program.cut.code();
     let insn = code.insn(index);
-    let next = index + 1;
-    match insn {
-        Insn::Lda { .. } => walk(program, out, fuel, index, next, depth, id),
-        Insn::Ldah { .. } => walk(program, out, fuel, index, next, depth, id),
-        Insn::Oper { .. } => walk(program, out, fuel, index, next, depth, id),
-        Insn::Ldq { .. } => walk_behind(program, out, fuel, index, Why::Load, depth, id),
-        Insn::LdqU { .. } => walk_behind(program, out, fuel, index, Why::Load, depth, id),
-        Insn::Stq { .. } => walk_behind(program, out, fuel, index, Why::Store, depth, id),
-        Insn::Branch { .. } => {
+    match insn.format() {
+        Format::Memory { op, .. } => match memory_kind(op) {
+            MemoryKind::Address => walk(program, out, fuel, index, index + 1, depth, id),
+            MemoryKind::Load => walk_behind(program, out, fuel, index, Why::Load, depth, id),
+            MemoryKind::Store => walk_behind(program, out, fuel, index, Why::Store, depth, id),
+        },
+        Format::Operate { .. } => walk(program, out, fuel, index, index + 1, depth, id),
+        Format::Branch { .. } => {
             let to = code.jump(index, &insn);
             walk_both(program, out, fuel, index, to, depth, id)
         }
-        Insn::Br { .. } => {
+        Format::Br { .. } => {
             let to = code.jump(index, &insn);
             walk(program, out, fuel, index, to, depth, id)
         }
-        Insn::Ret => push_goal(program.table, out, index, Why::Return, depth, id),
+        Format::Ret => push_goal(program.table, out, index, Why::Return, depth, id),
     }
 }
 

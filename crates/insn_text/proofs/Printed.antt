@@ -1,5 +1,5 @@
 -- What is printed of an instruction spells it.
-use Rattle.std.proofs.Common.{◌≡◌, ℕ, suc, ◌+◌, ◌^◌, ◌<◌, ◌≤◌, true, List, [], ◌∷◌, length, slice_get, Option, Some, None, inl, inr, refl, arith}
+use Rattle.std.proofs.Common.{◌≡◌, ℕ, suc, ◌+◌, ◌^◌, ◌<◌, ◌≤◌, true, List, [], ◌∷◌, length, slice_get, Option, Some, None, inl, inr, refl, sym, subst, arith}
 use Rattle.std.specs.Prelude.{codes, ℤ, pos, negsuc, ◌+ℤ◌}
 use Rattle.std.specs.Fmt.{signed_decimal}
 use Rattle.std.proofs.lemmas.Fmt.{decimal_injective}
@@ -10,17 +10,26 @@ use Rattle.word_ops.specs.Operators.{op_mnemonic, has_op}
 use Rattle.alpha_words.specs.declared.insn.Cond.{Cond}
 use Rattle.alpha_words.specs.declared.insn.Insn.{Insn}
 use Rattle.alpha_words.specs.declared.insn.Insn.TheVariants as I
+use Rattle.alpha_words.specs.declared.insn.Format.{Format}
+use Rattle.alpha_words.specs.declared.insn.Format.TheVariants as F
 use Rattle.alpha_words.specs.declared.insn.Rhs.{Rhs}
-use Rattle.alpha_words.specs.Encoding.{HasBits, IsRhs, HasFields, EncodesAny, has_insn}
-use Rattle.alpha_words.specs.Lawful.{target_of}
+use Rattle.alpha_words.specs.declared.memory.MemoryOp.{MemoryOp}
+use Rattle.alpha_words.specs.MemoryOps.{memory_mnemonic, has_memory_op}
+use Rattle.alpha_words.specs.Formats.{format_of, memory_insn, insn_of}
+use Rattle.alpha_words.specs.Encoding.{HasBits, IsRhs, HasFormatFields, has_format, has_insn}
+use Rattle.alpha_words.specs.Lawful.{format_target, target_of}
+use Rattle.alpha_words.proofs.EachMemoryOp.{each_memory_op_same, format_of-memory_insn, insn_of-format_of}
+use Rattle.alpha_words.proofs.Words.{HasFields-Encodes}
 use Rattle.alpha_cfg.specs.Flow.{InsideOf, index_of, jump_of, IsCode}
 use Rattle.text_tokens.specs.Tokens.{Token, Lexeme}
 use Rattle.asm_text.specs.declared.marks.Punct.{Punct}
 use Rattle.asm_text.specs.Labels.{is_label}
 use Rattle.asm_text.specs.Mnemonics.{branch_mnemonic}
-use Rattle.asm_text.specs.Insns.{SpellsMemory, SpellsOperate, Begins, SpellsInsn}
-use Rattle.insn_text.specs.Printing.{label_text, register_text, rhs_text, target_text, memory_text, operate_text, with_operands, insn_text, source_insn, IsSpellable}
-use Rattle.insn_text.proofs.Words.{IsWord, register_word, register_named, displacement_word, displacement_shown, rhs_word, rhs_spelled, label_word, label_is, op_word, branch_word, lda_word, ldq_word, ldah_word, ldq_u_word, stq_word, br_word, ret_word}
+use Rattle.asm_text.specs.Insns.{SourceInsn, Plain, SpellsMemory, SpellsOperate, SpellsFormat, SpellsInsn}
+use Rattle.insn_text.specs.Printing.{label_text, register_text, rhs_text, target_text, memory_text, operate_text}
+use Rattle.insn_text.specs.Printing.{with_operands, format_text, insn_text, source_insn, IsSpellable}
+use Rattle.insn_text.proofs.Words.{IsWord, register_word, register_named, displacement_word, displacement_shown, rhs_word, rhs_spelled}
+use Rattle.insn_text.proofs.Words.{label_word, label_is, op_word, memory_op_word, branch_word, br_word, ret_word}
 use Rattle.insn_text.proofs.Reading.{Reads, word_alone, before_parens, with_comma, with_blank, longer}
 
 -- ---- operands
@@ -71,18 +80,23 @@ begun k n name operands ts l w h =
     let all = with_blank w h in
     longer (k + suc n) 21 (with_operands name operands) (Lexeme name ∷ ts) (omega (arith, l)) all
 
--- a mnemonic of at most five bytes before the operands of an access
-access_printed : (name : List ℕ) (ra rb : ℕ) (disp : ℤ) → IsWord 5 name
-    → (ra < 32) × (rb < 32) × HasBits 15 disp
-    → Printed 21 (Begins name (SpellsMemory ra rb disp))
-    (with_operands name (memory_text ra rb disp))
-access_printed name ra rb disp w h =
-    let m = memory_printed ra rb disp h.0 h.1 h.2 in
-    (_, begun 5 15 name _ _ (omega arith) w m.1, (m.0, m.2, refl))
-
 -- tokens that the instruction's text consists of, and that spell it
 abbrev IsPrinted : Profile → ℕ → Insn → Type 0
 IsPrinted p i insn = Printed 21 (SpellsInsn p (source_insn i insn)) (insn_text i insn)
+
+-- one of the memory format
+access_printed : (p : Profile) (i : ℕ) (op : MemoryOp) (ra rb : ℕ) (disp : ℤ) → has_memory_op p op ≡ true
+    → (ra < 32) × (rb < 32) × HasBits 15 disp → IsPrinted p i (memory_insn op ra rb disp)
+access_printed p i op ra rb disp has f =
+    let insn = memory_insn op ra rb disp in
+    let m = memory_printed ra rb disp f.0 f.1 f.2 in
+    let all = begun 5 15 (memory_mnemonic op) _ _ (omega arith) (memory_op_word op) m.1 in
+    let shown : Printed 21 (SpellsInsn p (Plain insn)) (insn_text i insn) =
+    subst (λ (k : Format). Printed 21 (SpellsFormat p k) (format_text (jump_of i insn) k))
+    (sym (format_of-memory_insn op ra rb disp)) (_, all, (has, (m.0, m.2, refl))) in
+    let plain : source_insn i insn ≡ Plain insn =
+    each_memory_op_same (λ o. source_insn i (memory_insn o ra rb disp)) (λ o. Plain (memory_insn o ra rb disp)) refl op in
+    subst (λ (s : SourceInsn). Printed 21 (SpellsInsn p s) (insn_text i insn)) (sym plain) shown
 
 oper_printed : (p : Profile) (i : ℕ) (op : Op) (ra : ℕ) (rhs : Rhs) (rc : ℕ)
     → has_op p op ≡ true → ra < 32 → IsRhs rhs → rc < 32 → IsPrinted p i (I.Oper op ra rhs rc)
@@ -115,40 +129,27 @@ ret_printed p i =
     (_, longer 3 21 (codes "ret") _ (omega arith) all, ([], inl refl, refl))
 
 -- what has the fields of a word
-fields_printed : (p : Profile) (i w : ℕ) (insn : Insn) → has_insn p insn ≡ true
-    → HasFields w insn → InsideOf (2 ^ 32) (target_of i insn) → IsPrinted p i insn
-fields_printed p i w (I.Lda ra rb disp) has f t =
-    access_printed (codes "lda") ra rb disp lda_word (f.0, f.1, f.2)
-fields_printed p i w (I.Ldq ra rb disp) has f t =
-    access_printed (codes "ldq") ra rb disp ldq_word (f.0, f.1, f.2)
-fields_printed p i w (I.Ldah ra rb disp) has f t =
-    let m = access_printed (codes "ldah") ra rb disp ldah_word (f.0, f.1, f.2) in
-    (m.0, m.1, (has, m.2))
-fields_printed p i w (I.LdqU ra rb disp) has f t =
-    let m = access_printed (codes "ldq_u") ra rb disp ldq_u_word (f.0, f.1, f.2) in
-    (m.0, m.1, (has, m.2))
-fields_printed p i w (I.Stq ra rb disp) has f t =
-    access_printed (codes "stq") ra rb disp stq_word (f.0, f.1, f.2)
-fields_printed p i w (I.Oper op ra rhs rc) has f t =
-    oper_printed p i op ra rhs rc has f.0 f.1 f.2
-fields_printed p i w (I.Branch cond ra disp) has f t = branch_printed p i cond ra disp f.0 t
-fields_printed p i w (I.Br disp) has f t = br_printed p i disp t
-fields_printed p i w I.Ret has f t = ret_printed p i
+format_printed : (p : Profile) (i w : ℕ) (f : Format) → has_format p f ≡ true → HasFormatFields w f
+    → InsideOf (2 ^ 32) (format_target i f) → IsPrinted p i (insn_of f)
+format_printed p i w (F.Memory op ra rb disp) has h t = access_printed p i op ra rb disp has (h.0, h.1, h.2)
+format_printed p i w (F.Operate op ra rhs rc) has h t = oper_printed p i op ra rhs rc has h.0 h.1 h.2
+format_printed p i w (F.Branch cond ra disp) has h t = branch_printed p i cond ra disp h.0 t
+format_printed p i w (F.Br disp) has h t = br_printed p i disp t
+format_printed p i w F.Ret has h t = ret_printed p i
 
 pub insn_printed : (p : Profile) (i : ℕ) (insn : Insn) → has_insn p insn ≡ true → IsSpellable i insn
     → IsPrinted p i insn
-insn_printed p i insn has h = fields_printed p i h.word insn has h.fields h.target
+insn_printed p i insn has h =
+    subst (IsPrinted p i) (insn_of-format_of insn) (format_printed p i h.word (format_of insn) has h.fields h.target)
 
--- the second profile has all instructions
-has_all : (insn : Insn) → has_insn Two insn ≡ true
-has_all (I.Oper op ra rhs rc) = refl
-has_all (I.Ldah ra rb disp) = refl
-has_all (I.LdqU ra rb disp) = refl
+-- the second profile has all
+has_all : (f : Format) → has_format Two f ≡ true
+has_all (F.Operate op ra rhs rc) = refl
 has_all _ = refl
 
 pub insn_reads : (i : ℕ) (insn : Insn) → IsSpellable i insn
     → (ts : List (Token Punct)) × Reads 21 (insn_text i insn) ts
-insn_reads i insn h = let r = insn_printed Two i insn (has_all insn) h in (r.0, r.1)
+insn_reads i insn h = let r = insn_printed Two i insn (has_all (format_of insn)) h in (r.0, r.1)
 
 -- ---- labels
 
@@ -159,17 +160,6 @@ pub one_label : (i j : ℕ) → i < 2 ^ 64 → j < 2 ^ 64 → label_text i ≡ l
 one_label i j a b e = decimal_injective i j a b (tail_same 76 76 _ _ e)
 
 -- ---- code
-
-fields_of : (w : ℕ) (insn : Insn) → EncodesAny w insn → HasFields w insn
-fields_of w (I.Lda ra rb disp) h = (h.0.0, h.1, h.2, h.3)
-fields_of w (I.Ldq ra rb disp) h = (h.0.0, h.2, h.3, h.4)
-fields_of w (I.Ldah ra rb disp) h = (h.0.0, h.1, h.2, h.3)
-fields_of w (I.LdqU ra rb disp) h = (h.0.0, h.2, h.3, h.4)
-fields_of w (I.Stq ra rb disp) h = h
-fields_of w (I.Oper op ra rhs rc) h = (h.0, h.1, h.2.0, h.3)
-fields_of w (I.Branch cond ra disp) h = h
-fields_of w (I.Br disp) h = h
-fields_of w I.Ret h = h
 
 inside_more : (m n : ℕ) (o : Option ℤ) → m ≤ n → InsideOf m o → InsideOf n o
 inside_more m n None l h = tt
@@ -184,6 +174,6 @@ code_spellable code i insn h e =
     let few : length code ≤ 2 ^ 32 = omega (arith, h.short) in
     record {
       word = w.0;
-      fields = fields_of w.0 insn w.1;
+      fields = HasFields-Encodes w.0 insn w.1;
       target = inside_more (length code) (2 ^ 32) (target_of i insn) few inside;
     }

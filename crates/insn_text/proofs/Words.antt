@@ -15,7 +15,10 @@ use Rattle.alpha_words.specs.declared.insn.Cond.{Cond}
 use Rattle.alpha_words.specs.declared.insn.Cond.TheVariants as J
 use Rattle.alpha_words.specs.declared.insn.Rhs.{Rhs}
 use Rattle.alpha_words.specs.declared.insn.Rhs.TheVariants as R
+use Rattle.alpha_words.specs.declared.memory.MemoryOp.{MemoryOp}
+use Rattle.alpha_words.specs.MemoryOps.{memory_mnemonic}
 use Rattle.alpha_words.specs.Encoding.{HasBits, IsRhs}
+use Rattle.alpha_words.proofs.EachMemoryOp.{each_memory_op}
 use Rattle.text_tokens.specs.declared.tokens.Class.{Class}
 use Rattle.text_tokens.specs.declared.tokens.Class.TheVariants as C
 use Rattle.text_tokens.specs.Tokens.{is_ordinary, IsLexeme}
@@ -239,25 +242,9 @@ branch_test J.Positive = refl
 pub branch_word : (cond : Cond) → IsWord 4 (branch_mnemonic cond)
 branch_word cond = word_by_test 4 (branch_mnemonic cond) (branch_test cond)
 
-pub lda_word : IsWord 5 (codes "lda")
+pub memory_op_word : (op : MemoryOp) → IsWord 5 (memory_mnemonic op)
 unfolding source_class
-lda_word = word_by_test 5 (codes "lda") refl
-
-pub ldq_word : IsWord 5 (codes "ldq")
-unfolding source_class
-ldq_word = word_by_test 5 (codes "ldq") refl
-
-pub ldah_word : IsWord 5 (codes "ldah")
-unfolding source_class
-ldah_word = word_by_test 5 (codes "ldah") refl
-
-pub ldq_u_word : IsWord 5 (codes "ldq_u")
-unfolding source_class
-ldq_u_word = word_by_test 5 (codes "ldq_u") refl
-
-pub stq_word : IsWord 5 (codes "stq")
-unfolding source_class
-stq_word = word_by_test 5 (codes "stq") refl
+memory_op_word op = word_by_test 5 (memory_mnemonic op) (each_memory_op (λ o. is_word 5 (memory_mnemonic o)) refl op)
 
 pub br_word : IsWord 2 (codes "br")
 unfolding source_class

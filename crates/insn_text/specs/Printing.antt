@@ -7,8 +7,12 @@ use Rattle.std.specs.Fmt.{signed_decimal}
 use Rattle.word_ops.specs.Operators.{op_mnemonic}
 use Rattle.alpha_words.specs.declared.insn.Insn.{Insn}
 use Rattle.alpha_words.specs.declared.insn.Insn.TheVariants as I
+use Rattle.alpha_words.specs.declared.insn.Format.{Format}
+use Rattle.alpha_words.specs.declared.insn.Format.TheVariants.{Memory, Operate, Branch, Br, Ret}
 use Rattle.alpha_words.specs.declared.insn.Rhs.{Rhs}
 use Rattle.alpha_words.specs.declared.insn.Rhs.TheVariants as R
+use Rattle.alpha_words.specs.MemoryOps.{memory_mnemonic}
+use Rattle.alpha_words.specs.Formats.{format_of}
 use Rattle.alpha_words.specs.Encoding.{HasFields}
 use Rattle.alpha_words.specs.Lawful.{target_of}
 use Rattle.alpha_cfg.specs.Flow.{jump_of, InsideOf}
@@ -55,18 +59,17 @@ branch_text ra target = register_text ra ++ (44 ∷ target_text target)
 abbrev pub with_operands : List ℕ → List ℕ → List ℕ
 with_operands mnemonic operands = mnemonic ++ (32 ∷ operands)
 
+-- what has a format, given the index where it branches to
+abbrev pub format_text : Option ℕ → Format → List ℕ
+format_text target (Memory op ra rb disp) = with_operands (memory_mnemonic op) (memory_text ra rb disp)
+format_text target (Operate op ra rhs rc) = with_operands (op_mnemonic op) (operate_text ra rhs rc)
+format_text target (Branch cond ra disp) = with_operands (branch_mnemonic cond) (branch_text ra target)
+format_text target (Br disp) = with_operands (codes "br") (target_text target)
+format_text target Ret = codes "ret"
+
 -- the instruction at an index
 abbrev pub insn_text : ℕ → Insn → List ℕ
-insn_text i (I.Lda ra rb disp) = with_operands (codes "lda") (memory_text ra rb disp)
-insn_text i (I.Ldq ra rb disp) = with_operands (codes "ldq") (memory_text ra rb disp)
-insn_text i (I.Ldah ra rb disp) = with_operands (codes "ldah") (memory_text ra rb disp)
-insn_text i (I.LdqU ra rb disp) = with_operands (codes "ldq_u") (memory_text ra rb disp)
-insn_text i (I.Stq ra rb disp) = with_operands (codes "stq") (memory_text ra rb disp)
-insn_text i (I.Oper op ra rhs rc) = with_operands (op_mnemonic op) (operate_text ra rhs rc)
-insn_text i (I.Branch cond ra disp) =
-    with_operands (branch_mnemonic cond) (branch_text ra (jump_of i (I.Branch cond ra disp)))
-insn_text i (I.Br disp) = with_operands (codes "br") (target_text (jump_of i (I.Br disp)))
-insn_text i I.Ret = codes "ret"
+insn_text i insn = format_text (jump_of i insn) (format_of insn)
 
 -- ---- what is printed, as a source says it
 

@@ -10,7 +10,7 @@ ghost use Rattle.insn_text.specs.Printing.{label_text, register_text, rhs_text, 
 ghost use Rattle.insn_text.specs.Printing.{memory_text, operate_text, branch_text};
 ghost use Rattle.insn_text.specs.Printing.{with_operands, insn_text};
 
-use alpha_words::{Cond, Insn, Reg, Rhs};
+use alpha_words::{Cond, Format, Insn, Reg, Rhs, memory_mnemonic};
 use asm_text::branch_mnemonic;
 use itoa::Buffer;
 use std::alloc::AllocError;
@@ -152,15 +152,11 @@ pub fn push_insn(out: &mut Vec<u8>, index: u32, insn: Insn) -> Result<(), AllocE
     requires { InsideOf (2 ^ 32) (target_of index insn) }
     ensures { OnOk result (out.new.items ≡ out.old.items ++ insn_text index insn) }
 {
-    match insn {
-        Insn::Lda { ra, rb, disp } => push_memory(out, "lda", ra, rb, disp),
-        Insn::Ldq { ra, rb, disp } => push_memory(out, "ldq", ra, rb, disp),
-        Insn::Ldah { ra, rb, disp } => push_memory(out, "ldah", ra, rb, disp),
-        Insn::LdqU { ra, rb, disp } => push_memory(out, "ldq_u", ra, rb, disp),
-        Insn::Stq { ra, rb, disp } => push_memory(out, "stq", ra, rb, disp),
-        Insn::Oper { op, ra, rhs, rc } => push_operate(out, op_mnemonic(op), ra, rhs, rc),
-        Insn::Branch { cond, ra, disp } => push_branch(out, index, cond, ra, disp),
-        Insn::Br { disp } => push_br(out, index, disp),
-        Insn::Ret => out.extend_from_slice(b"ret"),
+    match insn.format() {
+        Format::Memory { op, ra, rb, disp } => push_memory(out, memory_mnemonic(op), ra, rb, disp),
+        Format::Operate { op, ra, rhs, rc } => push_operate(out, op_mnemonic(op), ra, rhs, rc),
+        Format::Branch { cond, ra, disp } => push_branch(out, index, cond, ra, disp),
+        Format::Br { disp } => push_br(out, index, disp),
+        Format::Ret => out.extend_from_slice(b"ret"),
     }
 }

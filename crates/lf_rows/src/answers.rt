@@ -1,12 +1,12 @@
-//! Answers that calls come to, of which one is want of memory.
+//! Answers that calls come to, of which one is want of memory, and numbers among the terms of a
+//! question.
+
+ghost use Rattle.term_table.specs.Table.{IsKnown};
 
 use std::alloc::AllocError;
 use term_table::{Id, Node, Table};
-use test_inputs::cursors::Cursor;
 use test_inputs::faults::{Read, RowFault};
-use test_inputs::names::Names;
 use test_inputs::rows::Answer;
-use test_inputs::term_text::read_term;
 
 /// The tree that a call makes.
 pub(crate) fn made<E: Drop>(answer: Result<Id, E>) -> Answer {
@@ -32,15 +32,33 @@ pub(crate) fn decided<E: Drop>(answer: Result<bool, E>) -> Answer {
     }
 }
 
-/// The number of the constant that the cursor stands before.
-pub(crate) fn constant_number(
-    table: &mut Table,
-    names: &Names,
-    cursor: &mut Cursor<'_>,
-) -> Read<u32> {
-    let constant = read_term(table, names, cursor)?;
-    match table.node(constant) {
+/// The number of the constant that a term is.
+pub(crate) fn constant_number(table: &Table, term: Id) -> Read<u32>
+    requires { IsKnown table.now term }
+{
+    match table.node(term) {
         Node::Const(number) => Ok(number),
         _ => Err(RowFault::Word),
+    }
+}
+
+/// The word that a term is.
+pub(crate) fn word(table: &Table, term: Id) -> Read<u64>
+    requires { IsKnown table.now term }
+{
+    match table.node(term) {
+        Node::Lit(word) => Ok(word),
+        _ => Err(RowFault::Number),
+    }
+}
+
+/// The number below 2^32 that a term is.
+pub(crate) fn small(table: &Table, term: Id) -> Read<u32>
+    requires { IsKnown table.now term }
+{
+    let number = word(table, term)?;
+    match u32::try_from(number) {
+        Ok(small) => Ok(small),
+        Err(_) => Err(RowFault::Number),
     }
 }

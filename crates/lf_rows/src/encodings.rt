@@ -13,18 +13,10 @@ use lf_encode::{MachineIds, PutMemo, form_of, is_form, is_put_with, put, quantif
 use lf_signature::{Sigma1, rel_number};
 use std::alloc::AllocError;
 use term_table::{Id, Node, Table};
-use test_inputs::cursors::Cursor;
 use test_inputs::faults::{Read, RowFault};
-use test_inputs::names::Names;
 use test_inputs::rows::Answer;
-use test_inputs::term_text::{known, read_term};
-use word_ops::{Op, Rel, op_number};
-
-/// The formula that the next term encodes, if it encodes one.
-fn read_form(table: &mut Table, names: &Names, cursor: &mut Cursor<'_>) -> Read<Option<Form>> {
-    let term = read_term(table, names, cursor)?;
-    Ok(form_of(table, &Sigma1, term, &[])?)
-}
+use test_inputs::term_text::known;
+use word_ops::op_number;
 
 /// The word that an expression is.
 fn word_of(exp: &Exp) -> Option<u64> {
@@ -34,63 +26,86 @@ fn word_of(exp: &Exp) -> Option<u64> {
     }
 }
 
+/// What a question asks of a formula.
+#[derive(Clone, Copy)]
+pub(crate) enum Asked {
+    Relation,
+    Operator,
+    Height,
+}
+
+/// What a formula shows, a relation or an operator by its number and two words.
+#[derive(Clone, Copy)]
+enum Part {
+    Relation(u32, u64, u64),
+    Operator(u32, u64, u64),
+    Height(u32),
+}
+
 /// The relation of two words that a formula is.
-fn relation_of(form: &Form) -> Option<(Rel, u64, u64)> {
+fn relation(form: &Form) -> Option<Part> {
     match form {
-        Form::Rel(rel, a, b) => Some((*rel, word_of(a)?, word_of(b)?)),
+        Form::Rel(rel, a, b) => Some(Part::Relation(rel_number(*rel), word_of(a)?, word_of(b)?)),
         _ => None,
     }
 }
 
 /// The operator at two words whose right to be loaded a formula is.
-fn operator_of(form: &Form) -> Option<(Op, u64, u64)> {
+fn operator(form: &Form) -> Option<Part> {
     match form {
-        Form::Rd(Exp::Oper(op, a, b)) => Some((*op, word_of(a)?, word_of(b)?)),
+        Form::Rd(Exp::Oper(op, a, b)) => {
+            Some(Part::Operator(op_number(*op), word_of(a)?, word_of(b)?))
+        }
         _ => None,
     }
 }
 
-/// The relation of two words that the next term encodes.
-fn relation(table: &mut Table, names: &Names, cursor: &mut Cursor<'_>) -> Read<Answer> {
-    let Some(form) = read_form(table, names, cursor)? else {
-        return Ok(Answer::Nothing);
-    };
-    let Some((rel, a, b)) = relation_of(&form) else {
-        return Ok(Answer::Nothing);
-    };
-    Ok(Answer::Tree(table.intern(Node::Fact(rel_number(rel), a, b))?))
-}
-
-/// The operator at two words whose right to be loaded the next term encodes.
-fn operator(table: &mut Table, names: &Names, cursor: &mut Cursor<'_>) -> Read<Answer> {
-    let Some(form) = read_form(table, names, cursor)? else {
-        return Ok(Answer::Nothing);
-    };
-    let Some((op, a, b)) = operator_of(&form) else {
-        return Ok(Answer::Nothing);
-    };
-    Ok(Answer::Tree(table.intern(Node::Calc(op_number(op), a, b))?))
-}
-
-/// The height of the formula that the next term encodes.
-fn formula_height(table: &mut Table, names: &Names, cursor: &mut Cursor<'_>) -> Read<Answer> {
-    match read_form(table, names, cursor)? {
-        Some(form) => Ok(Answer::Number(u64::from(form.height()))),
-        None => Ok(Answer::Nothing),
+/// What a formula shows of what is asked.
+fn part_of(form: &Form, asked: Asked) -> Option<Part> {
+    match asked {
+        Asked::Relation => relation(form),
+        Asked::Operator => operator(form),
+        Asked::Height => Some(Part::Height(form.height())),
     }
 }
 
-/// Whether the next term encodes a formula.
-fn encodes(table: &mut Table, names: &Names, cursor: &mut Cursor<'_>) -> Read<Answer> {
-    let term = read_term(table, names, cursor)?;
-    Ok(Answer::holds(is_form(table, &Sigma1, term, &[])?))
+/// What the formula that a term encodes shows of what is asked.
+fn formula_part(table: &mut Table, term: Id, asked: Asked) -> Read<Option<Part>>
+    requires { IsKnown table.old term }
+{
+    match form_of(table, &Sigma1, term, &[])? {
+        Some(form) => Ok(part_of(&form, asked)),
+        None => Ok(None),
+    }
 }
 
-/// The quantifier of a constant over the next term.
-fn bound(table: &mut Table, names: &Names, cursor: &mut Cursor<'_>) -> Read<Answer> {
-    let number = constant_number(table, names, cursor)?;
-    let body = read_term(table, names, cursor)?;
-    Ok(Answer::Tree(quantified(table, number, body)?))
+/// What is asked of the formula that a term encodes: a relation is answered as a fact, an operator as
+/// an evaluation.
+pub(crate) fn about_formula(table: &mut Table, term: Id, asked: Asked) -> Read<Answer>
+    requires { IsKnown table.old term }
+{
+    match formula_part(table, term, asked)? {
+        None => Ok(Answer::Nothing),
+        Some(Part::Height(height)) => Ok(Answer::Number(u64::from(height))),
+        Some(Part::Relation(rel, a, b)) => Ok(made(table.intern(Node::Fact(rel, a, b)))),
+        Some(Part::Operator(op, a, b)) => Ok(made(table.intern(Node::Calc(op, a, b)))),
+    }
+}
+
+/// Whether a term encodes a formula.
+pub(crate) fn encodes(table: &mut Table, term: Id) -> Answer
+    requires { IsKnown table.old term }
+{
+    decided(is_form(table, &Sigma1, term, &[]))
+}
+
+/// The quantifier of a constant over a term.
+pub(crate) fn bound(table: &mut Table, constant: Id, body: Id) -> Read<Answer>
+    requires constant { IsKnown table.old constant }
+    requires body { IsKnown table.old body }
+{
+    let number = constant_number(table, constant)?;
+    Ok(made(quantified(table, number, body)))
 }
 
 /// Tests that a tree is one of the table, and less than 1,000 high.
@@ -120,9 +135,8 @@ fn put_word(table: &mut Table, id: Id, word: Id) -> Result<Id, AllocError>
     put(table, id, &ids)
 }
 
-/// The next term with 5 for each of the machine's variables.
-fn put_five(table: &mut Table, names: &Names, cursor: &mut Cursor<'_>) -> Read<Answer> {
-    let id = read_term(table, names, cursor)?;
+/// A term with 5 for each of the machine's variables.
+pub(crate) fn put_five(table: &mut Table, id: Id) -> Read<Answer> {
     let five = table.intern(Node::Lit(5))?;
     low(table, id)?;
     Ok(made(put_word(table, id, five)))
@@ -145,43 +159,10 @@ fn is_put_word(table: &mut Table, id: Id, word: Id, goal: Id) -> Result<bool, Ex
     is_put_with(table, &mut shifts, &mut kept, id, &ids, goal)
 }
 
-/// Whether the second of the next terms is the first with 5 for each of the machine's variables.
-fn is_five_put(table: &mut Table, names: &Names, cursor: &mut Cursor<'_>) -> Read<Answer> {
-    let id = read_term(table, names, cursor)?;
-    let goal = read_term(table, names, cursor)?;
+/// Whether the second term is the first with 5 for each of the machine's variables.
+pub(crate) fn is_five_put(table: &mut Table, id: Id, goal: Id) -> Read<Answer> {
     let five = table.intern(Node::Lit(5))?;
     low(table, id)?;
     known(table, goal)?;
     Ok(decided(is_put_word(table, id, five, goal)))
-}
-
-/// The answer to a question on encodings, if it is one.
-pub(crate) fn about_encodings(
-    table: &mut Table,
-    names: &Names,
-    question: &[u8],
-    cursor: &mut Cursor<'_>,
-) -> Read<Option<Answer>> {
-    if question == b"form".as_slice() {
-        return Ok(Some(encodes(table, names, cursor)?));
-    }
-    if question == b"relation".as_slice() {
-        return Ok(Some(relation(table, names, cursor)?));
-    }
-    if question == b"operator".as_slice() {
-        return Ok(Some(operator(table, names, cursor)?));
-    }
-    if question == b"formula_height".as_slice() {
-        return Ok(Some(formula_height(table, names, cursor)?));
-    }
-    if question == b"quantified".as_slice() {
-        return Ok(Some(bound(table, names, cursor)?));
-    }
-    if question == b"put_five".as_slice() {
-        return Ok(Some(put_five(table, names, cursor)?));
-    }
-    if question == b"is_five_put".as_slice() {
-        return Ok(Some(is_five_put(table, names, cursor)?));
-    }
-    Ok(None)
 }

@@ -1,5 +1,7 @@
 //! Questions on what checks at which type.
 
+ghost use Rattle.term_table.specs.Table.{IsKnown};
+
 use crate::answers::{decided, found};
 use lf_check::{Kept, check_term, check_term_with, check_type, check_type_with, synth, synth_with};
 use lf_signature::{Sigma1, Signature};
@@ -9,92 +11,90 @@ use test_inputs::cursors::Cursor;
 use test_inputs::faults::{Read, RowFault};
 use test_inputs::names::Names;
 use test_inputs::rows::Answer;
-use test_inputs::term_text::{all_known, known, read_term, read_type, small_number};
+use test_inputs::term_text::{all_known, known, read_tree, read_trees, small_number};
 
 /// The types before the next `|-`.
-pub(crate) fn context(
-    alloc: Global,
-    table: &mut Table,
-    names: &Names,
-    cursor: &mut Cursor<'_>,
-) -> Read<Vec<Id>> {
-    let mut types = Vec::new(alloc);
-    for _ in 0..u64::MAX {
-        if cursor.passes(b"|-") {
-            break;
-        }
-        let ty = read_type(table, names, cursor)?;
-        if types.push(ty).is_err() {
-            return Err(RowFault::Memory);
-        }
+pub(crate) fn context(table: &mut Table, names: &Names, cursor: &mut Cursor<'_>) -> Read<Vec<Id>> {
+    let types = read_trees(table, names, cursor)?;
+    if cursor.passes(b"|-") {
+        Ok(types)
+    } else {
+        Err(RowFault::Word)
     }
-    Ok(types)
 }
 
 /// A term, `:` and a type.
 fn term_and_type(table: &mut Table, names: &Names, cursor: &mut Cursor<'_>) -> Read<(Id, Id)> {
-    let term = read_term(table, names, cursor)?;
+    let term = read_tree(table, names, cursor)?;
     if !cursor.passes(b":") {
         return Err(RowFault::Word);
     }
-    let ty = read_type(table, names, cursor)?;
+    let ty = read_tree(table, names, cursor)?;
     Ok((term, ty))
 }
 
 /// Whether a term checks at a type in a context.
-fn checks(
-    alloc: Global,
-    table: &mut Table,
-    names: &Names,
-    cursor: &mut Cursor<'_>,
-) -> Read<Answer> {
-    let types = context(alloc, table, names, cursor)?;
-    let (term, ty) = term_and_type(table, names, cursor)?;
+fn checked(table: &mut Table, types: &[Id], claim: (Id, Id)) -> Read<Answer> {
+    let (term, ty) = claim;
     known(table, term)?;
     known(table, ty)?;
-    all_known(table, types.as_slice())?;
-    Ok(decided(check_term(alloc, table, &Sigma1, types.as_slice(), term, ty)))
+    all_known(table, types)?;
+    let alloc = table.allocator();
+    Ok(decided(check_term(alloc, table, &Sigma1, types, term, ty)))
+}
+
+/// Whether the term that the cursor stands before checks at the type behind it, in the context in
+/// front of it.
+pub(crate) fn checks(table: &mut Table, names: &Names, cursor: &mut Cursor<'_>) -> Read<Answer> {
+    let types = context(table, names, cursor)?;
+    let claim = term_and_type(table, names, cursor)?;
+    checked(table, types.as_slice(), claim)
 }
 
 /// What a term synthesises in a context.
-fn synthesised(
-    alloc: Global,
+fn synthesised(table: &mut Table, types: &[Id], term: Id) -> Read<Answer> {
+    known(table, term)?;
+    all_known(table, types)?;
+    let alloc = table.allocator();
+    Ok(found(synth(alloc, table, &Sigma1, types, term)))
+}
+
+/// What the term behind a context synthesises in it.
+pub(crate) fn synthesises(
     table: &mut Table,
     names: &Names,
     cursor: &mut Cursor<'_>,
 ) -> Read<Answer> {
-    let types = context(alloc, table, names, cursor)?;
-    let term = read_term(table, names, cursor)?;
-    all_known(table, types.as_slice())?;
-    Ok(found(synth(alloc, table, &Sigma1, types.as_slice(), term)))
+    let types = context(table, names, cursor)?;
+    let term = read_tree(table, names, cursor)?;
+    synthesised(table, types.as_slice(), term)
 }
 
 /// Whether a type is one in a context.
-fn formed_in(
-    alloc: Global,
-    table: &mut Table,
-    names: &Names,
-    cursor: &mut Cursor<'_>,
-) -> Read<Answer> {
-    let types = context(alloc, table, names, cursor)?;
-    let ty = read_type(table, names, cursor)?;
-    all_known(table, types.as_slice())?;
-    Ok(decided(check_type(alloc, table, &Sigma1, types.as_slice(), ty)))
+fn formed_in(table: &mut Table, types: &[Id], ty: Id) -> Read<Answer> {
+    known(table, ty)?;
+    all_known(table, types)?;
+    let alloc = table.allocator();
+    Ok(decided(check_type(alloc, table, &Sigma1, types, ty)))
+}
+
+/// Whether the type behind a context is one in it.
+pub(crate) fn is_type(table: &mut Table, names: &Names, cursor: &mut Cursor<'_>) -> Read<Answer> {
+    let types = context(table, names, cursor)?;
+    let ty = read_tree(table, names, cursor)?;
+    formed_in(table, types.as_slice(), ty)
 }
 
 /// Whether the type that the signature gives a constant is one.
-fn formed(
-    alloc: Global,
-    table: &mut Table,
-    names: &Names,
-    cursor: &mut Cursor<'_>,
-) -> Read<Answer> {
-    let constant = read_term(table, names, cursor)?;
+pub(crate) fn formed(table: &mut Table, constant: Id) -> Answer
+    requires { IsKnown table.old constant }
+{
     let node = table.node(constant);
+    let alloc = table.allocator();
     match Sigma1.type_of(table, node) {
-        Err(_) => Ok(Answer::Memory),
-        Ok(None) => Ok(Answer::Nothing),
-        Ok(Some(ty)) => Ok(decided(check_type(alloc, table, &Sigma1, &[], ty))),
+        Err(_) => Answer::Memory,
+        Ok(None) => Answer::Nothing,
+        Ok(Some(ty)) => decided(check_type(alloc, table, &Sigma1, &[], ty)),
     }
 }
 
@@ -128,41 +128,17 @@ fn judged(
     }
 }
 
-/// The answer to the question with a limit that the cursor stands before.
-fn limited(
-    alloc: Global,
-    table: &mut Table,
-    names: &Names,
-    cursor: &mut Cursor<'_>,
-) -> Read<Answer> {
-    let limit = small_number(cursor)? as usize;
-    let types = context(alloc, table, names, cursor)?;
+/// Whether the type behind a limit, a context and a term is one, and the term synthesises it and
+/// checks at it.
+pub(crate) fn judges(table: &mut Table, names: &Names, cursor: &mut Cursor<'_>) -> Read<Answer> {
+    let limit = small_number(cursor)?;
+    let types = context(table, names, cursor)?;
     let claim = term_and_type(table, names, cursor)?;
-    judged(alloc, table, limit, types.as_slice(), claim)
-}
-
-/// The answer to a question on judgements, if it is one.
-pub(crate) fn about_judgements(
-    alloc: Global,
-    table: &mut Table,
-    names: &Names,
-    question: &[u8],
-    cursor: &mut Cursor<'_>,
-) -> Read<Option<Answer>> {
-    if question == b"check".as_slice() {
-        return Ok(Some(checks(alloc, table, names, cursor)?));
-    }
-    if question == b"judged".as_slice() {
-        return Ok(Some(limited(alloc, table, names, cursor)?));
-    }
-    if question == b"synth".as_slice() {
-        return Ok(Some(synthesised(alloc, table, names, cursor)?));
-    }
-    if question == b"type".as_slice() {
-        return Ok(Some(formed_in(alloc, table, names, cursor)?));
-    }
-    if question == b"formed".as_slice() {
-        return Ok(Some(formed(alloc, table, names, cursor)?));
-    }
-    Ok(None)
+    judged(
+        table.allocator(),
+        table,
+        limit as usize,
+        types.as_slice(),
+        claim,
+    )
 }

@@ -17,16 +17,18 @@ use test_inputs::cursors::Cursor;
 use test_inputs::faults::{Read, RowFault};
 use test_inputs::names::Names;
 use test_inputs::rows::Answer;
-use test_inputs::term_text::{known, read_term};
+use test_inputs::term_text::{known, read_tree};
+
+/// A term and the one behind it.
+fn read_pair(table: &mut Table, names: &Names, cursor: &mut Cursor<'_>) -> Read<(Id, Id)> {
+    let first = read_tree(table, names, cursor)?;
+    let second = read_tree(table, names, cursor)?;
+    Ok((first, second))
+}
 
 /// The lemmas before the next `|-` or `=`.
-fn read_lemmas(
-    alloc: Global,
-    table: &mut Table,
-    names: &Names,
-    cursor: &mut Cursor<'_>,
-) -> Read<Vec<(Id, Id)>> {
-    let mut lemmas = Vec::new(alloc);
+fn read_lemmas(table: &mut Table, names: &Names, cursor: &mut Cursor<'_>) -> Read<Vec<(Id, Id)>> {
+    let mut lemmas = Vec::new(table.allocator());
     for _ in 0..u64::MAX {
         if cursor.meets(b"=") || cursor.passes(b"|-") {
             break;
@@ -34,9 +36,8 @@ fn read_lemmas(
         if !lemmas.is_empty() && !cursor.passes(b"/") {
             return Err(RowFault::Word);
         }
-        let formula = read_term(table, names, cursor)?;
-        let proof = read_term(table, names, cursor)?;
-        if lemmas.push((formula, proof)).is_err() {
+        let lemma = read_pair(table, names, cursor)?;
+        if lemmas.push(lemma).is_err() {
             return Err(RowFault::Memory);
         }
     }
@@ -78,24 +79,20 @@ fn numbered<E: Drop>(answer: Result<Option<u32>, E>) -> Answer {
 }
 
 /// The first lemma of which it isn't so over the signature without lemmas.
-fn failing(
-    alloc: Global,
-    table: &mut Table,
-    names: &Names,
-    asked: Asked,
-    cursor: &mut Cursor<'_>,
-) -> Read<Answer> {
-    let lemmas = read_lemmas(alloc, table, names, cursor)?;
-    lemmas_known(table, lemmas.as_slice())?;
-    let mut kept = Kept::new(alloc, MOST_RESULTS);
-    Ok(numbered(first_failing(table, &mut kept, &Sigma2, asked, lemmas.as_slice())))
+fn failing(table: &mut Table, asked: Asked, lemmas: &[(Id, Id)]) -> Answer
+    requires known { LemmasKnown table.old lemmas.now }
+    requires few { length lemmas.now < 2 ^ 32 }
+{
+    let mut kept = Kept::new(table.allocator(), MOST_RESULTS);
+    numbered(first_failing(table, &mut kept, &Sigma2, asked, lemmas))
 }
 
 /// The first lemma whose proof cites itself or a later one.
-fn late(alloc: Global, table: &mut Table, names: &Names, cursor: &mut Cursor<'_>) -> Read<Answer> {
-    let lemmas = read_lemmas(alloc, table, names, cursor)?;
-    lemmas_known(table, lemmas.as_slice())?;
-    Ok(numbered(first_late(alloc, table, lemmas.as_slice())))
+fn late(table: &Table, lemmas: &[(Id, Id)]) -> Answer
+    requires known { LemmasKnown table.now lemmas.now }
+    requires few { length lemmas.now < 2 ^ 32 }
+{
+    numbered(first_late(table.allocator(), table, lemmas))
 }
 
 /// Whether each formula is one over the signature: then the table holds the lemmas.
@@ -157,82 +154,91 @@ fn unproved(alloc: Global, table: &mut Table, lemmas: &[(Id, Id)]) -> Result<Opt
     first_unproved(alloc, table, &mut kept, &Sigma2, lemmas)
 }
 
-/// That number, of the lemmas that follow.
-fn unproved_among(
-    alloc: Global,
-    table: &mut Table,
-    names: &Names,
-    cursor: &mut Cursor<'_>,
-) -> Read<Answer> {
-    let lemmas = read_lemmas(alloc, table, names, cursor)?;
-    lemmas_known(table, lemmas.as_slice())?;
-    Ok(numbered(unproved(alloc, table, lemmas.as_slice())))
-}
-
 /// Whether the term behind lemmas proves the formula behind it with them.
 fn proves_with(
-    alloc: Global,
     table: &mut Table,
     names: &Names,
     cursor: &mut Cursor<'_>,
+    lemmas: &[(Id, Id)],
 ) -> Read<Answer> {
-    let lemmas = read_lemmas(alloc, table, names, cursor)?;
-    let proof = read_term(table, names, cursor)?;
-    let goal = read_term(table, names, cursor)?;
-    lemmas_known(table, lemmas.as_slice())?;
+    let (proof, goal) = read_pair(table, names, cursor)?;
+    lemmas_known(table, lemmas)?;
     known(table, proof)?;
-    Ok(decided(prove(alloc, table, lemmas.as_slice(), proof, goal)))
+    known(table, goal)?;
+    Ok(decided(prove(table.allocator(), table, lemmas, proof, goal)))
 }
 
-/// The type that the signature with lemmas gives the constant behind them, and none where a formula
-/// of theirs is none.
-fn declared_with(
-    alloc: Global,
-    table: &mut Table,
-    names: &Names,
-    cursor: &mut Cursor<'_>,
-) -> Read<Answer> {
-    let lemmas = read_lemmas(alloc, table, names, cursor)?;
-    let constant = read_term(table, names, cursor)?;
-    lemmas_known(table, lemmas.as_slice())?;
+/// The type that the signature with lemmas gives a constant, and none where a formula of theirs is
+/// none.
+fn type_with(table: &mut Table, lemmas: &[(Id, Id)], constant: Id) -> Answer
+    requires known { LemmasKnown table.old lemmas.now }
+    requires few { length lemmas.now < 2 ^ 32 }
+    requires constant { IsKnown table.old constant }
+{
+    let alloc = table.allocator();
     let node = table.node(constant);
-    match hold(alloc, table, lemmas.as_slice()) {
-        Err(_) => return Ok(Answer::Memory),
-        Ok(false) => return Ok(Answer::Nothing),
+    match hold(alloc, table, lemmas) {
+        Err(_) => return Answer::Memory,
+        Ok(false) => return Answer::Nothing,
         Ok(true) => {}
     }
     let extended = WithLemmas {
         sig: &Sigma2,
-        lemmas: lemmas.as_slice(),
+        lemmas,
     };
-    Ok(found(extended.type_of(table, node)))
+    found(extended.type_of(table, node))
 }
 
-/// The answer to a question on lemmas, if it is one.
-pub(crate) fn about_lemmas(
-    alloc: Global,
+/// The type that the signature with lemmas gives the constant behind them.
+fn declared_with(
+    table: &mut Table,
+    names: &Names,
+    cursor: &mut Cursor<'_>,
+    lemmas: &[(Id, Id)],
+) -> Read<Answer> {
+    let constant = read_tree(table, names, cursor)?;
+    lemmas_known(table, lemmas)?;
+    Ok(type_with(table, lemmas, constant))
+}
+
+/// The first of known lemmas of which it isn't as the question says.
+fn first_of(table: &mut Table, question: &[u8], lemmas: &[(Id, Id)]) -> Answer
+    requires known { LemmasKnown table.old lemmas.now }
+    requires few { length lemmas.now < 2 ^ 32 }
+{
+    match question {
+        b"formless" => failing(table, Asked::Formula, lemmas),
+        b"proofless" => failing(table, Asked::Proof, lemmas),
+        b"late" => late(table, lemmas),
+        _ => numbered(unproved(table.allocator(), table, lemmas)),
+    }
+}
+
+/// The answer to a question on lemmas that were read, with what stands behind them.
+fn about_read(
     table: &mut Table,
     names: &Names,
     question: &[u8],
     cursor: &mut Cursor<'_>,
-) -> Read<Option<Answer>> {
-    if question == b"formless".as_slice() {
-        return Ok(Some(failing(alloc, table, names, Asked::Formula, cursor)?));
+    lemmas: &[(Id, Id)],
+) -> Read<Answer> {
+    match question {
+        b"proves_with" => proves_with(table, names, cursor, lemmas),
+        b"declared_with" => declared_with(table, names, cursor, lemmas),
+        _ => {
+            lemmas_known(table, lemmas)?;
+            Ok(first_of(table, question, lemmas))
+        }
     }
-    if question == b"proofless".as_slice() {
-        return Ok(Some(failing(alloc, table, names, Asked::Proof, cursor)?));
-    }
-    if question == b"late".as_slice() {
-        return Ok(Some(late(alloc, table, names, cursor)?));
-    }
-    if question == b"unproved".as_slice() {
-        return Ok(Some(unproved_among(alloc, table, names, cursor)?));
-    }
-    if question == b"proves_with".as_slice() {
-        return Ok(Some(proves_with(alloc, table, names, cursor)?));
-    }
-    if question == b"declared_with".as_slice() {
-        return Ok(Some(declared_with(alloc, table, names, cursor)?));
-    }
-    Ok(None)
+}
+
+/// The answer to a question on the lemmas that the cursor stands before.
+pub(crate) fn about_lemmas(
+    table: &mut Table,
+    names: &Names,
+    question: &[u8],
+    cursor: &mut Cursor<'_>,
+) -> Read<Answer> {
+    let lemmas = read_lemmas(table, names, cursor)?;
+    about_read(table, names, question, cursor, lemmas.as_slice())
 }

@@ -1,6 +1,8 @@
-//! Rows on LF: terms, the checker, rules, what proves a formula, ids of formulas.
+//! Rows on LF and on the prover: terms, the checker, rules, what proves a formula, ids of formulas, what
+//! the prover finds.
 //!
-//! The rows stand in `data` (docs/PROOFS.md, "Terms as text"), a file a layer, and ask any question.
+//! The rows stand in `data` (docs/PROOFS.md, "Terms as text"), a file a layer, and ask any question. What
+//! stands behind a question's word are trees, of which a number is a literal.
 //!
 //! Of terms, the signature and substitution (`terms.txt`):
 //!
@@ -68,78 +70,94 @@
 //! - `put F e` and `put_exp e e`: an expression for variable 0, in a formula or an expression;
 //!   `raised t`: under one binder more;
 //! - `reflexive a`, `moved F a b p q` and `swapped a b p`: the proofs that steps of equations make.
+//!
+//! Of what the prover finds (`prover.txt`), a hypothesis F being split as the prover splits it, with
+//! variable 0 as its proof:
+//!
+//! - `split F`: how many hypotheses it is split into; `split_raised N F`: how many there are under one
+//!   binder more, where at most N results are kept;
+//! - `found F G`: whether G is one of them there; `refuted F`: whether they refute each other there;
+//! - `first G F p ..`: the proof of the first hypothesis F with the formula G, of those with their
+//!   proofs p behind it; `aligned e`: what proves without hypotheses that e is a multiple of 8;
+//! - `upper F e` and `lower F e`: the word that is a bound of e where variable 1 proves F;
+//!   `counted_lower F e`: the same where steps are counted;
+//! - `normal N e`: the normal form under N binders, that of the steps that are left among them;
+//!   `rewritten N e`: the same as the search keeps it; `plain N e`: found with no proof;
+//! - `rest a b`, `eighth e`, `occurs e`: what is left of a without b, the eighth of e, and whether
+//!   variable 0 stands in e;
+//! - `words F G`, `connectives F G`, `access F G`: what proves G by words, by connectives and words, or
+//!   as an access, under the hypothesis F; `counted_connectives F G`: where steps are counted.
 #![tactic(auto)]
 
 mod answers;
 mod encodings;
+mod expressions;
 mod formulas;
 mod functions;
+mod goals;
+mod hypotheses;
 mod judgements;
 mod lemmas;
+mod questions;
 mod rules;
 mod terms;
 mod truths;
 
-use encodings::about_encodings;
-use formulas::about_formulas;
-use judgements::about_judgements;
+use judgements::{checks, is_type, judges, synthesises};
 use lemmas::about_lemmas;
-use rules::about_rules;
-use std::alloc::Global;
+use questions::about_trees;
+use rules::{goal_in, goal_in_first};
 use std::io;
 use term_table::Table;
-use terms::about_terms;
 use test_inputs::cursors::Cursor;
-use test_inputs::faults::{Read, RowFault};
+use test_inputs::faults::Read;
 use test_inputs::names::Names;
 use test_inputs::rows::{Answer, Questions, run};
-use truths::about_truths;
+use test_inputs::term_text::read_trees;
 
-/// The questions of all layers.
-#[derive(Drop)]
-struct LfQuestions {
-    alloc: Global,
+/// The questions of all layers and of the prover.
+struct LayerQuestions;
+
+/// The answer to a question on the trees that the cursor stands before.
+fn about_read(
+    table: &mut Table,
+    names: &Names,
+    question: &[u8],
+    cursor: &mut Cursor<'_>,
+) -> Read<Answer> {
+    let trees = read_trees(table, names, cursor)?;
+    about_trees(table, question, trees.as_slice())
 }
 
-impl Questions for LfQuestions {
+impl Questions for LayerQuestions {
     fn answer(
-        &mut self,
         table: &mut Table,
         names: &Names,
         question: &[u8],
         cursor: &mut Cursor<'_>,
     ) -> Read<Answer> {
-        let alloc = self.alloc;
-        if let Some(answer) = about_terms(alloc, table, names, question, cursor)? {
-            return Ok(answer);
+        match question {
+            b"check" => checks(table, names, cursor),
+            b"judged" => judges(table, names, cursor),
+            b"synth" => synthesises(table, names, cursor),
+            b"type" => is_type(table, names, cursor),
+            b"rule" => goal_in_first(table, names, cursor),
+            b"rule_in" => goal_in(table, names, cursor),
+            b"formless"
+            | b"proofless"
+            | b"late"
+            | b"unproved"
+            | b"proves_with"
+            | b"declared_with" => { about_lemmas(table, names, question, cursor) }
+            _ => about_read(table, names, question, cursor),
         }
-        if let Some(answer) = about_judgements(alloc, table, names, question, cursor)? {
-            return Ok(answer);
-        }
-        if let Some(answer) = about_rules(alloc, table, names, question, cursor)? {
-            return Ok(answer);
-        }
-        if let Some(answer) = about_truths(alloc, table, names, question, cursor)? {
-            return Ok(answer);
-        }
-        if let Some(answer) = about_lemmas(alloc, table, names, question, cursor)? {
-            return Ok(answer);
-        }
-        if let Some(answer) = about_encodings(table, names, question, cursor)? {
-            return Ok(answer);
-        }
-        if let Some(answer) = about_formulas(alloc, table, names, question, cursor)? {
-            return Ok(answer);
-        }
-        Err(RowFault::Word)
     }
 }
 
 /// Prints the name of a file, and goes through its rows.
 fn run_file(rt: &HostRuntime, name: &str) -> io::Result<()> {
     println!(rt; "{name}")?;
-    let mut questions = LfQuestions { alloc: rt.alloc() };
-    run(rt, name, &mut questions)
+    run::<HostRuntime, LayerQuestions>(rt, name)
 }
 
 fn main(rt: HostRuntime) -> io::Result<()> {
@@ -149,5 +167,6 @@ fn main(rt: HostRuntime) -> io::Result<()> {
     run_file(&rt, "truths.txt")?;
     run_file(&rt, "lemmas.txt")?;
     run_file(&rt, "encodings.txt")?;
-    run_file(&rt, "formulas.txt")
+    run_file(&rt, "formulas.txt")?;
+    run_file(&rt, "prover.txt")
 }

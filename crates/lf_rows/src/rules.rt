@@ -1,11 +1,11 @@
 //! Questions on the functions of the rules.
 
-ghost use Rattle.std.specs.Prelude.{OnOk};
-ghost use Rattle.term_table.specs.Table.{Extends};
-ghost use Rattle.lf_sequents.specs.Sequents.{IsSequent};
+ghost use Rattle.std.specs.Prelude.{[], ◌∷◌, OnOk};
+ghost use Rattle.term_table.specs.Table.{Extends, IsKnown};
+ghost use Rattle.lf_sequents.specs.Sequents.{AreSequents, IsSequent};
 ghost use Rattle.lf_signature.specs.Constants.{declared};
 
-use crate::answers::constant_number;
+use crate::answers::{constant_number, small};
 use crate::functions::{KitAnswer, by_number};
 use crate::judgements::context;
 use crate::terms::signature_of;
@@ -20,7 +20,7 @@ use test_inputs::cursors::Cursor;
 use test_inputs::faults::{Read, RowFault};
 use test_inputs::names::Names;
 use test_inputs::rows::Answer;
-use test_inputs::term_text::{all_known, known, read_term, small_number};
+use test_inputs::term_text::{all_known, known, read_tree, read_trees, small_number};
 
 /// Tests that a sequent is one of the table over a signature.
 fn tested(alloc: Global, table: &mut Table, sig: &WordSignature, s: &Sequent) -> Read<()>
@@ -40,50 +40,25 @@ fn tested(alloc: Global, table: &mut Table, sig: &WordSignature, s: &Sequent) ->
     }
 }
 
-/// The terms before the next `/` or `=`.
-fn parameters(
-    alloc: Global,
-    table: &mut Table,
-    names: &Names,
-    cursor: &mut Cursor<'_>,
-) -> Read<Vec<Id>> {
-    let mut terms = Vec::new(alloc);
-    for _ in 0..u64::MAX {
-        if cursor.meets(b"/") || cursor.meets(b"=") {
-            break;
-        }
-        let term = read_term(table, names, cursor)?;
-        if terms.push(term).is_err() {
-            return Err(RowFault::Memory);
-        }
-    }
-    Ok(terms)
-}
-
 /// The sequent behind the next `/`; where there is none, truth without hypotheses.
-fn premise(
-    alloc: Global,
-    table: &mut Table,
-    names: &Names,
-    cursor: &mut Cursor<'_>,
-) -> Read<Sequent> {
+fn premise(table: &mut Table, names: &Names, cursor: &mut Cursor<'_>) -> Read<Sequent> {
     if !cursor.passes(b"/") {
-        return truth(alloc, table);
+        return truth(table);
     }
-    let hyps = context(alloc, table, names, cursor)?;
-    let term = read_term(table, names, cursor)?;
+    let hyps = context(table, names, cursor)?;
+    let term = read_tree(table, names, cursor)?;
     if !cursor.passes(b":") {
         return Err(RowFault::Word);
     }
-    let goal = read_term(table, names, cursor)?;
+    let goal = read_tree(table, names, cursor)?;
     Ok(Sequent { hyps, goal, term })
 }
 
 /// Truth without hypotheses, by its rule.
-fn truth(alloc: Global, table: &mut Table) -> Read<Sequent> {
+fn truth(table: &mut Table) -> Read<Sequent> {
     let goal = table.intern(Node::Const(13))?;
     let term = table.intern(Node::Const(27))?;
-    let hyps = Vec::new(alloc);
+    let hyps = Vec::new(table.allocator());
     Ok(Sequent { hyps, goal, term })
 }
 
@@ -122,22 +97,22 @@ fn parameter(parameters: &[Id], place: usize, other: Id) -> Id {
     }
 }
 
-/// What the function of the rule of this number answers over a signature at parameters and
-/// premises.
-fn answered(
+/// What the function of the rule of this number answers over a signature at parameters and at
+/// premises that were tested.
+fn ruled(
     alloc: Global,
     table: &mut Table,
     sig: &WordSignature,
     hyps: &[Id],
     rule: u32,
     params: (Id, Id, Id, Id),
-    premises: (&Sequent, &Sequent, &Sequent),
-) -> Read<Option<Sequent>> {
+    p: &Sequent,
+    q: &Sequent,
+    r: &Sequent,
+) -> Read<Option<Sequent>>
+    requires { AreSequents (declared sig.now) table.old (p.now ∷ q.now ∷ r.now ∷ []) }
+{
     let (a, b, c, d) = params;
-    let (p, q, r) = premises;
-    tested(alloc, table, sig, p)?;
-    tested(alloc, table, sig, q)?;
-    tested(alloc, table, sig, r)?;
     all_known(table, hyps)?;
     known(table, a)?;
     known(table, b)?;
@@ -149,35 +124,108 @@ fn answered(
     ))
 }
 
-/// The goal that the function of the rule before which the cursor stands answers over a signature.
-fn ruled(
+/// What the function of the rule of this number answers over a signature at parameters and
+/// premises.
+fn answered(
     alloc: Global,
+    table: &mut Table,
+    sig: &WordSignature,
+    hyps: &[Id],
+    rule: u32,
+    params: (Id, Id, Id, Id),
+    p: &Sequent,
+    q: &Sequent,
+    r: &Sequent,
+) -> Read<Option<Sequent>> {
+    tested(alloc, table, sig, p)?;
+    tested(alloc, table, sig, q)?;
+    tested(alloc, table, sig, r)?;
+    ruled(alloc, table, sig, hyps, rule, params, p, q, r)
+}
+
+/// The goal of what the rule's function answers at the premises behind the parameters.
+fn at_premises(
+    table: &mut Table,
+    names: &Names,
+    cursor: &mut Cursor<'_>,
+    sig: &WordSignature,
+    hyps: &[Id],
+    rule: u32,
+    params: (Id, Id, Id, Id),
+) -> Read<Answer> {
+    let alloc = table.allocator();
+    let p = premise(table, names, cursor)?;
+    let q = premise(table, names, cursor)?;
+    let r = premise(table, names, cursor)?;
+    let answer = answered(alloc, table, sig, hyps, rule, params, &p, &q, &r)?;
+    goal_of(alloc, table, sig, hyps, answer)
+}
+
+/// The parameters that terms are, the first one for each that is missing.
+fn parameters(table: &mut Table, terms: &[Id]) -> Read<(Id, Id, Id, Id)> {
+    let other = table.intern(Node::Const(27))?;
+    let a = parameter(terms, 0, other);
+    let b = parameter(terms, 1, a);
+    let c = parameter(terms, 2, a);
+    let d = parameter(terms, 3, a);
+    Ok((a, b, c, d))
+}
+
+/// The parameters before the next `/` or `=`.
+fn read_parameters(
+    table: &mut Table,
+    names: &Names,
+    cursor: &mut Cursor<'_>,
+) -> Read<(Id, Id, Id, Id)> {
+    let terms = read_trees(table, names, cursor)?;
+    parameters(table, terms.as_slice())
+}
+
+/// The goal that a rule's function answers over a signature under hypotheses, at the parameters and
+/// premises that the cursor stands before.
+fn under(
+    table: &mut Table,
+    names: &Names,
+    cursor: &mut Cursor<'_>,
+    sig: &WordSignature,
+    hyps: &[Id],
+    rule: u32,
+) -> Read<Answer> {
+    let params = read_parameters(table, names, cursor)?;
+    at_premises(table, names, cursor, sig, hyps, rule, params)
+}
+
+/// The number of the constant that the cursor stands before.
+fn read_constant(table: &mut Table, names: &Names, cursor: &mut Cursor<'_>) -> Read<u32> {
+    let constant = read_tree(table, names, cursor)?;
+    constant_number(table, constant)
+}
+
+/// The goal that the function of the rule before which the cursor stands answers over a signature.
+fn rule_goal(
     table: &mut Table,
     names: &Names,
     cursor: &mut Cursor<'_>,
     sig: &WordSignature,
 ) -> Read<Answer> {
-    let rule = constant_number(table, names, cursor)?;
-    let hyps = context(alloc, table, names, cursor)?;
-    let terms = parameters(alloc, table, names, cursor)?;
-    let p = premise(alloc, table, names, cursor)?;
-    let q = premise(alloc, table, names, cursor)?;
-    let r = premise(alloc, table, names, cursor)?;
-    let other = table.intern(Node::Const(27))?;
-    let a = parameter(terms.as_slice(), 0, other);
-    let b = parameter(terms.as_slice(), 1, a);
-    let c = parameter(terms.as_slice(), 2, a);
-    let d = parameter(terms.as_slice(), 3, a);
-    let answer = answered(
-        alloc,
-        table,
-        sig,
-        hyps.as_slice(),
-        rule,
-        (a, b, c, d),
-        (&p, &q, &r),
-    )?;
-    goal_of(alloc, table, sig, hyps.as_slice(), answer)
+    let rule = read_constant(table, names, cursor)?;
+    let hyps = context(table, names, cursor)?;
+    under(table, names, cursor, sig, hyps.as_slice(), rule)
+}
+
+/// That goal over the first signature.
+pub(crate) fn goal_in_first(
+    table: &mut Table,
+    names: &Names,
+    cursor: &mut Cursor<'_>,
+) -> Read<Answer> {
+    rule_goal(table, names, cursor, &Sigma1)
+}
+
+/// That goal over the signature of the number that stands before the rule.
+pub(crate) fn goal_in(table: &mut Table, names: &Names, cursor: &mut Cursor<'_>) -> Read<Answer> {
+    let signature = signature_of(small_number(cursor)?)?;
+    rule_goal(table, names, cursor, &signature)
 }
 
 /// The sequent of a constant that proves something of two words.
@@ -191,95 +239,68 @@ fn constant_sequent(alloc: Global, table: &mut Table, node: Node) -> Read<Option
 }
 
 /// The goal that is answered for a constant that proves something of two words.
-fn constant_goal(
-    alloc: Global,
-    table: &mut Table,
-    names: &Names,
-    cursor: &mut Cursor<'_>,
-) -> Read<Answer> {
-    let constant = read_term(table, names, cursor)?;
+pub(crate) fn constant_goal(table: &mut Table, constant: Id) -> Read<Answer>
+    requires { IsKnown table.old constant }
+{
+    let alloc = table.allocator();
     let node = table.node(constant);
     let answer = constant_sequent(alloc, table, node)?;
     goal_of(alloc, table, &Sigma1, &[], answer)
 }
 
-/// What the rule of a number concludes over a signature at parameters, without hypotheses and
-/// premises.
-fn bare_rule(
+/// What the rule of a number answers over a signature at parameters, without hypotheses and premises.
+fn bare_sequent(
     alloc: Global,
     table: &mut Table,
-    names: &Names,
-    cursor: &mut Cursor<'_>,
-    signature: &WordSignature,
-) -> Read<Answer> {
-    let number = small_number(cursor)?;
-    let terms = parameters(alloc, table, names, cursor)?;
-    let params = terms.as_slice();
+    sig: &WordSignature,
+    number: u32,
+    params: &[Id],
+) -> Read<Option<Sequent>> {
     all_known(table, params)?;
     let mut kept = Kept::new(alloc, 1_000);
-    let answer = roomy(by_rule(alloc, table, signature, &mut kept, &[], number, params, &[]))?;
-    match answer {
+    roomy(by_rule(alloc, table, sig, &mut kept, &[], number, params, &[]))
+}
+
+/// What the rule of a number concludes over the signature of a number before it, at the parameters
+/// behind it.
+pub(crate) fn bare_goal(table: &mut Table, signature: Id, number: Id, params: &[Id]) -> Read<Answer>
+    requires signature { IsKnown table.old signature }
+    requires number { IsKnown table.old number }
+{
+    let signature = signature_of(small(table, signature)?)?;
+    let number = small(table, number)?;
+    match bare_sequent(table.allocator(), table, &signature, number, params)? {
         Some(found) => Ok(Answer::Tree(found.goal)),
         None => Ok(Answer::Nothing),
     }
 }
 
-/// The answer of the last family of rules at a pair of this number and two terms.
-fn paired(
-    alloc: Global,
-    table: &mut Table,
-    names: &Names,
-    cursor: &mut Cursor<'_>,
-) -> Read<Answer> {
-    let pair = small_number(cursor)?;
-    let a = read_term(table, names, cursor)?;
-    let b = read_term(table, names, cursor)?;
-    known(table, a)?;
+/// What the last family of rules answers at a pair of this number and two terms.
+fn pair_sequent(alloc: Global, table: &mut Table, pair: u32, a: Id, b: Id) -> Read<Option<Sequent>>
+    requires a { IsKnown table.old a }
+    requires b { IsKnown table.old b }
+{
     let mut kept = Kept::new(alloc, 1_000);
-    let answer = roomy(cmp_le1(alloc, table, &Sigma1, &mut kept, &[], pair, a, b))?;
+    roomy(cmp_le1(alloc, table, &Sigma1, &mut kept, &[], pair, a, b))
+}
+
+/// The goal of the last family of rules at a pair of this number and two terms.
+pub(crate) fn pair_goal(table: &mut Table, pair: Id, a: Id, b: Id) -> Read<Answer>
+    requires pair { IsKnown table.old pair }
+    requires a { IsKnown table.old a }
+    requires b { IsKnown table.old b }
+{
+    let alloc = table.allocator();
+    let pair = small(table, pair)?;
+    let answer = pair_sequent(alloc, table, pair, a, b)?;
     goal_of(alloc, table, &Sigma1, &[], answer)
 }
 
 /// The term of a rule's constant at terms.
-fn applied(
-    alloc: Global,
-    table: &mut Table,
-    names: &Names,
-    cursor: &mut Cursor<'_>,
-) -> Read<Answer> {
-    let number = small_number(cursor)?;
-    let terms = parameters(alloc, table, names, cursor)?;
-    all_known(table, terms.as_slice())?;
-    Ok(Answer::Tree(rule_term(table, number, terms.as_slice())?))
-}
-
-/// The answer to a question on rules, if it is one.
-pub(crate) fn about_rules(
-    alloc: Global,
-    table: &mut Table,
-    names: &Names,
-    question: &[u8],
-    cursor: &mut Cursor<'_>,
-) -> Read<Option<Answer>> {
-    if question == b"rule".as_slice() {
-        return Ok(Some(ruled(alloc, table, names, cursor, &Sigma1)?));
-    }
-    if question == b"rule_in".as_slice() {
-        let signature = signature_of(cursor)?;
-        return Ok(Some(ruled(alloc, table, names, cursor, &signature)?));
-    }
-    if question == b"constant".as_slice() {
-        return Ok(Some(constant_goal(alloc, table, names, cursor)?));
-    }
-    if question == b"by_rule".as_slice() {
-        let signature = signature_of(cursor)?;
-        return Ok(Some(bare_rule(alloc, table, names, cursor, &signature)?));
-    }
-    if question == b"cmp_le1".as_slice() {
-        return Ok(Some(paired(alloc, table, names, cursor)?));
-    }
-    if question == b"rule_term".as_slice() {
-        return Ok(Some(applied(alloc, table, names, cursor)?));
-    }
-    Ok(None)
+pub(crate) fn applied(table: &mut Table, number: Id, terms: &[Id]) -> Read<Answer>
+    requires { IsKnown table.old number }
+{
+    let number = small(table, number)?;
+    all_known(table, terms)?;
+    Ok(Answer::Tree(rule_term(table, number, terms)?))
 }

@@ -1,15 +1,18 @@
 -- A step changes at most the register that its action writes.
 use Rattle.std.proofs.Common.{◌≡◌, ℕ, zero, suc, ◌+◌, ◌==◌, Bool, true, false, if◌then◌else◌, eq-eqb}
-use Rattle.std.proofs.Common.{List, [], ◌∷◌, slice_index, slice_set, Option, Some, None, refl, sym, ap, ◌∙◌, arith}
+use Rattle.std.proofs.Common.{List, [], ◌∷◌, slice_index, slice_set, Option, Some, None, refl, sym, ap, ◌∙◌, arith, ℤ}
 use Rattle.word_ops.specs.Registers.{read_reg, write_reg}
 use Rattle.word_ops.specs.Rights.{allowed}
-use Rattle.alpha_cfg.specs.Actions.{Action}
+use Rattle.alpha_words.specs.declared.memory.MemoryOp.{MemoryOp}
+use Rattle.alpha_words.specs.MemoryOps.{memory_kind}
+use Rattle.alpha_words.proofs.EachMemoryOp.{each_memory_op_same}
+use Rattle.alpha_cfg.specs.Actions.{Action, memory_action}
 use Rattle.alpha_cfg.specs.Actions as actions
 use Rattle.alpha_cfg.specs.Machine.{State, state_at, access_outcome, action_outcome, address_of, aligned, passes}
 use Rattle.alpha_cfg.specs.declared.outcome.Kind.{Kind}
 use Rattle.alpha_cfg.specs.declared.outcome.Kind.TheVariants.{Load, Store}
 use Rattle.packet_trace.specs.Changes.{change_text, word_text}
-use Rattle.packet_trace.specs.Inside.Written.{register_written, word_change}
+use Rattle.packet_trace.specs.Inside.Written.{register_written, memory_written, word_change}
 
 -- ---- lists of words
 
@@ -80,3 +83,10 @@ changed (actions.Store from base disp) jump s =
     let a = address_of s.regs base disp in accessed Store (allowed s.rights.writes a) a 31 s _ (kept 31 s.regs)
 changed (actions.Branching test) jump s = led 31 s (if passes s.regs test then jump else Some (s.index + 1))
 changed actions.Return jump s = kept 31 s.regs
+
+-- ---- instructions
+
+-- of the memory format
+pub memory-written : (op : MemoryOp) (ra rb : ℕ) (disp : ℤ) → register_written (memory_action op ra rb disp) ≡ memory_written (memory_kind op) ra
+memory-written op ra rb disp =
+    each_memory_op_same (λ o. register_written (memory_action o ra rb disp)) (λ o. memory_written (memory_kind o) ra) refl op

@@ -3,25 +3,32 @@
 ghost use Rattle.std.specs.Prelude.{◌≡◌, ◌+◌, ◌≤◌, ◌++◌};
 ghost use Rattle.arrayvec.specs.ArrayVec.{array_vec_len};
 ghost use Rattle.alpha_cfg.specs.Actions.{action_of};
-ghost use Rattle.packet_trace.specs.Inside.Written.{register_written, word_change};
+ghost use Rattle.packet_trace.specs.Inside.Written.{register_written, memory_written, word_change};
 
-use alpha_words::{Insn, Reg};
+use alpha_words::{Format, Insn, MemoryKind, Reg, memory_kind};
 use pcc_lines::{LINE, Line, push_decimal, push_hex, push_text};
 
 /// The most bytes that are said of a register that changes.
 pub const CHANGE: usize = 39;
 
+/// The register that an instruction of the memory format writes, by what it does with its first one.
+fn memory_written(kind: MemoryKind, ra: Reg) -> Reg
+    ensures { result ≡ memory_written kind ra }
+{
+    match kind {
+        MemoryKind::Address | MemoryKind::Load => ra,
+        MemoryKind::Store => Reg::new(31),
+    }
+}
+
 /// The register that an instruction writes; register 31, which never changes, where it writes none.
 pub fn register_written(insn: &Insn) -> Reg
     ensures { result ≡ register_written (action_of insn.now) }
 {
-    match *insn {
-        Insn::Lda { ra, .. } => ra,
-        Insn::Ldq { ra, .. } => ra,
-        Insn::Ldah { ra, .. } => ra,
-        Insn::LdqU { ra, .. } => ra,
-        Insn::Oper { rc, .. } => rc,
-        Insn::Stq { .. } | Insn::Branch { .. } | Insn::Br { .. } | Insn::Ret => Reg::new(31),
+    match insn.format() {
+        Format::Memory { op, ra, .. } => memory_written(memory_kind(op), ra),
+        Format::Operate { rc, .. } => rc,
+        Format::Branch { .. } | Format::Br { .. } | Format::Ret => Reg::new(31),
     }
 }
 

@@ -5,21 +5,23 @@ use Rattle.std.specs.List.{AllByRecursion}
 use Rattle.std.proofs.lemmas.Int.{ints}
 use Rattle.std.proofs.lemmas.Option.{same_Some}
 use Rattle.alpha_words.specs.declared.insn.Insn.{Insn}
-use Rattle.alpha_words.specs.declared.insn.Insn.TheVariants as I
-use Rattle.alpha_words.specs.Encoding.{HasBits, HasFields, Encodes}
-use Rattle.alpha_words.specs.Lawful.{HasFormat, target_of}
+use Rattle.alpha_words.specs.declared.insn.Format.{Format}
+use Rattle.alpha_words.specs.declared.insn.Format.TheVariants as F
+use Rattle.alpha_words.specs.Formats.{format_of}
+use Rattle.alpha_words.specs.Encoding.{HasBits, HasFormatFields, Encodes}
+use Rattle.alpha_words.specs.Lawful.{FitsFormat, format_target}
 use Rattle.alpha_words.proofs.Words.{Lawful-Encodes, Encodes-exactly}
 use Rattle.alpha_cfg.specs.Flow.{InsideOf, AreInsns, IsCode, AreOfProfile}
 use Rattle.asm_text.specs.Insns.{SourceInsn, Plain, BranchTo, BrTo}
 use Rattle.asm_text.specs.Sources.{Source, SpellsSource}
 use Rattle.pcc_asm.specs.declared.fault.AsmFlaw.{AsmFlaw}
-use Rattle.pcc_asm.specs.Words.{insn_word}
+use Rattle.pcc_asm.specs.Words.{format_word, insn_word}
 use Rattle.pcc_asm.specs.Assembling.{IsResolved, AreResolved, IsAssembled, resolved_insns, as_code, assembled_code}
 use Rattle.pcc_asm.specs.Views.{IsSpelled}
 use Rattle.pcc_asm.specs.Inside.Views.{IsEncodable}
 use Rattle.pcc_asm.proofs.Resolved.{all-resolved, resolved-all, resolved-length}
 use Rattle.pcc_asm.proofs.Shaped.{IsLawful, unlawful-none, none-unlawful, AreInside, outside-none, inside-all, all-inside, off-false, false-off, Passes, passes, good_code}
-use Rattle.pcc_asm.proofs.Ranges.{HasRange, SaysRange, bounded}
+use Rattle.pcc_asm.proofs.Ranges.{HasFormatRange, HasRange, SaysRange, bounded}
 use Rattle.word_ops.specs.declared.Profile.{Profile}
 
 -- ---- what some word encodes is lawful where the profile has it
@@ -53,9 +55,9 @@ has_bits : (n i : ℕ) (d : ℤ) → n ≤ 1024 → i < 1024 → InsideOf n (Som
 has_bits n i (pos m) a b h = let s = bounds_of n (pos (i + 1) +ℤ pos m) h in omega (arith, ints, s.0, s.1)
 has_bits n i (negsuc m) a b h = let s = bounds_of n (pos (i + 1) +ℤ negsuc m) h in omega (arith, ints, s.0, s.1)
 
-format_by : (n i : ℕ) (insn : Insn) → n ≤ 1024 → i < 1024 → InsideOf n (target_of i insn) → HasFormat insn
-format_by n i (I.Branch c ra disp) a b h = has_bits n i disp a b h
-format_by n i (I.Br disp) a b h = has_bits n i disp a b h
+format_by : (n i : ℕ) (f : Format) → n ≤ 1024 → i < 1024 → InsideOf n (format_target i f) → FitsFormat f
+format_by n i (F.Branch c ra disp) a b h = has_bits n i disp a b h
+format_by n i (F.Br disp) a b h = has_bits n i disp a b h
 format_by n i _ a b h = tt
 
 pub all_encodable : (prof : Profile) (n i : ℕ) (code : List Insn) → n ≤ 1024
@@ -63,26 +65,22 @@ pub all_encodable : (prof : Profile) (n i : ℕ) (code : List Insn) → n ≤ 10
     → AllByRecursion (IsEncodable prof) code
 all_encodable prof n i [] a b l h = tt
 all_encodable prof n i (x ∷ code) a b l h = (
-  (l.0, format_by n i x a (omega arith) h.0),
+  (l.0, format_by n i (format_of x) a (omega arith) h.0),
   all_encodable prof n (suc i) code a (omega arith)
       l.1 h.1,
 )
 
-has_fields : (insn : Insn) → HasRange insn → HasFormat insn → HasFields (insn_word insn) insn
-has_fields (I.Lda ra rb disp) r f = (r.0, r.1, r.2, refl)
-has_fields (I.Ldq ra rb disp) r f = (r.0, r.1, r.2, refl)
-has_fields (I.Ldah ra rb disp) r f = (r.0, r.1, r.2, refl)
-has_fields (I.LdqU ra rb disp) r f = (r.0, r.1, r.2, refl)
-has_fields (I.Stq ra rb disp) r f = (r.0, r.1, r.2, refl)
-has_fields (I.Oper op ra rhs rc) r f = (r.0, r.1, r.2, refl)
-has_fields (I.Branch c ra disp) r f = (r, f, refl)
-has_fields (I.Br disp) r f = (f, refl)
-has_fields I.Ret r f = (1, omega arith, refl)
+has_fields : (f : Format) → HasFormatRange f → FitsFormat f → HasFormatFields (format_word f) f
+has_fields (F.Memory op ra rb disp) r f = (r.0, r.1, r.2, refl)
+has_fields (F.Operate op ra rhs rc) r f = (r.0, r.1, r.2, refl)
+has_fields (F.Branch c ra disp) r f = (r, f, refl)
+has_fields (F.Br disp) r f = (f, refl)
+has_fields F.Ret r f = (1, omega arith, refl)
 
 pub encodes_word : (prof : Profile) (insn : Insn) → HasRange insn → IsEncodable prof insn
     → Encodes prof (insn_word insn) insn
 encodes_word prof insn r e =
-    (Encodes-exactly prof (insn_word insn) insn).1 (has_fields insn r e.1, e.0)
+    (Encodes-exactly prof (insn_word insn) insn).1 (has_fields (format_of insn) r e.1, e.0)
 
 resolved_range : (labels : List (List ℕ × ℕ)) (i : ℕ) (x : SourceInsn) (insn : Insn) → IsResolved labels i x insn → SaysRange x → HasRange insn
 resolved_range labels i (Plain p) insn h r = subst HasRange (sym h) r

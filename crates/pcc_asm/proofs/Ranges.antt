@@ -5,9 +5,11 @@ use Rattle.std.specs.List.{AllByRecursion}
 use Rattle.std.proofs.lemmas.Bool.{true≢false}
 use Rattle.std.proofs.lemmas.Option.{slice_get_within}
 use Rattle.alpha_words.specs.declared.insn.Insn.{Insn}
-use Rattle.alpha_words.specs.declared.insn.Insn.TheVariants as I
+use Rattle.alpha_words.specs.declared.insn.Format.{Format}
+use Rattle.alpha_words.specs.declared.insn.Format.TheVariants as F
 use Rattle.alpha_words.specs.declared.insn.Rhs.{Rhs}
 use Rattle.alpha_words.specs.declared.insn.Rhs.TheVariants as R
+use Rattle.alpha_words.specs.Formats.{format_of}
 use Rattle.alpha_words.specs.Encoding.{HasBits, IsRhs}
 use Rattle.formula_tree.specs.Formulas.{Form}
 use Rattle.text_tokens.specs.Tokens.{Token}
@@ -17,24 +19,24 @@ use Rattle.formula_text.specs.Grammar.{Spells}
 use Rattle.asm_text.specs.declared.limits.TheConstants.{MAX_INSNS, MAX_LINE}
 use Rattle.asm_text.specs.declared.marks.Punct.{Punct}
 use Rattle.asm_text.specs.Integers.{integer_value}
-use Rattle.asm_text.specs.Insns.{SourceInsn, Plain, BranchTo, BrTo, IsDisplacement, SpellsMemory, SpellsRhs, SpellsOperate, SpellsInsn}
+use Rattle.asm_text.specs.Insns.{SourceInsn, Plain, BranchTo, BrTo, IsDisplacement, SpellsMemory, SpellsRhs, SpellsOperate, SpellsFormat, SpellsInsn}
 use Rattle.asm_text.specs.Statements.{Statement, NoStatement, AnInsn, AnInv, Content, SpellsStatement, SpellsBody, before_comment, SpellsLine}
 use Rattle.asm_text.specs.Sources.{Source, AreSpelled, insn_count, add_insn, add_label, add_inv, insns_from, labels_from, invs_from, SpellsSource}
 use Rattle.word_ops.specs.declared.Profile.{Profile}
 
 -- ---- one instruction
 
--- the fields of an instruction fit; a branch's displacement isn't spelled
+-- what has a format has fields that fit; a branch's displacement isn't spelled
+abbrev pub HasFormatRange : Format → Type 0
+HasFormatRange (F.Memory op ra rb disp) = (ra < 32) × (rb < 32) × HasBits 15 disp
+HasFormatRange (F.Operate op ra rhs rc) = (ra < 32) × IsRhs rhs × (rc < 32)
+HasFormatRange (F.Branch c ra disp) = ra < 32
+HasFormatRange (F.Br disp) = Unit {0}
+HasFormatRange F.Ret = Unit {0}
+
+-- an instruction has fields that fit
 abbrev pub HasRange : Insn → Type 0
-HasRange (I.Lda ra rb disp) = (ra < 32) × (rb < 32) × HasBits 15 disp
-HasRange (I.Ldq ra rb disp) = (ra < 32) × (rb < 32) × HasBits 15 disp
-HasRange (I.Ldah ra rb disp) = (ra < 32) × (rb < 32) × HasBits 15 disp
-HasRange (I.LdqU ra rb disp) = (ra < 32) × (rb < 32) × HasBits 15 disp
-HasRange (I.Stq ra rb disp) = (ra < 32) × (rb < 32) × HasBits 15 disp
-HasRange (I.Oper op ra rhs rc) = (ra < 32) × IsRhs rhs × (rc < 32)
-HasRange (I.Branch c ra disp) = ra < 32
-HasRange (I.Br disp) = Unit {0}
-HasRange I.Ret = Unit {0}
+HasRange insn = HasFormatRange (format_of insn)
 
 -- the same of an instruction of a source
 abbrev pub SaysRange : SourceInsn → Type 0
@@ -68,18 +70,17 @@ operate_range ra rc rhs ts h = (register_below ra h.0 h.3, rhs_range rhs h.1 h.4
 nop_range : (ra rc : ℕ) (rhs : Rhs) → ra ≡ 31 → rhs ≡ R.Reg 31 → rc ≡ 31 → (ra < 32) × IsRhs rhs × (rc < 32)
 nop_range ra rc rhs e f g = let low : IsRhs (R.Reg 31) = omega arith in (omega (arith, e), subst IsRhs (sym f) low, omega (arith, g))
 
+format_range : (prof : Profile) (f : Format) (ts : List (Token Punct)) → SpellsFormat prof f ts → HasFormatRange f
+format_range prof (F.Memory op ra rb disp) ts h = memory_range ra rb disp h.1.0 h.1.1
+format_range prof (F.Operate op ra rhs rc) ts h =
+    ⊎_elim (λ p. operate_range ra rc rhs p.1.0 p.1.1) (λ p. nop_range ra rc rhs p.0.1 p.0.2 p.0.3) h
+format_range prof (F.Branch c ra disp) ts h = absurd h
+format_range prof (F.Br disp) ts h = absurd h
+format_range prof F.Ret ts h = tt
+
 insn_range : (prof : Profile) (i : SourceInsn) (ts : List (Token Punct)) → SpellsInsn prof i ts
     → SaysRange i
-insn_range prof (Plain (I.Lda ra rb disp)) ts h = memory_range ra rb disp h.0 h.1
-insn_range prof (Plain (I.Ldq ra rb disp)) ts h = memory_range ra rb disp h.0 h.1
-insn_range prof (Plain (I.Ldah ra rb disp)) ts h = memory_range ra rb disp h.1.0 h.1.1
-insn_range prof (Plain (I.LdqU ra rb disp)) ts h = memory_range ra rb disp h.1.0 h.1.1
-insn_range prof (Plain (I.Stq ra rb disp)) ts h = memory_range ra rb disp h.0 h.1
-insn_range prof (Plain (I.Oper op ra rhs rc)) ts h =
-    ⊎_elim (λ p. operate_range ra rc rhs p.1.0 p.1.1) (λ p. nop_range ra rc rhs p.0.1 p.0.2 p.0.3) h
-insn_range prof (Plain (I.Branch c ra disp)) ts h = absurd h
-insn_range prof (Plain (I.Br disp)) ts h = absurd h
-insn_range prof (Plain I.Ret) ts h = tt
+insn_range prof (Plain i) ts h = format_range prof (format_of i) ts h
 insn_range prof (BranchTo c ra l) ts h = register_below ra h.1.0 h.1.1
 insn_range prof (BrTo l) ts h = tt
 

@@ -9,7 +9,10 @@ use Rattle.std.proofs.lemmas.Option.{same_Some}
 use Rattle.std.proofs.lemmas.Nat.{from_le_bytes-to_le_bytes_4}
 use Rattle.word_ops.specs.declared.Op.{Op}
 use Rattle.alpha_words.specs.declared.insn.Insn.{Insn}
-use Rattle.alpha_words.specs.declared.insn.Insn.TheVariants as I
+use Rattle.alpha_words.specs.declared.insn.Insn.TheVariants.{Ret}
+use Rattle.alpha_words.specs.declared.insn.Format.{Format}
+use Rattle.alpha_words.specs.declared.insn.Format.TheVariants as F
+use Rattle.alpha_words.specs.declared.memory.MemoryOp.{MemoryOp}
 use Rattle.alpha_words.specs.declared.insn.Cond.{Cond}
 use Rattle.alpha_words.specs.declared.insn.Cond.TheVariants as K
 use Rattle.alpha_words.specs.declared.insn.Rhs.{Rhs}
@@ -17,28 +20,30 @@ use Rattle.alpha_words.specs.declared.insn.Rhs.TheVariants as R
 use Rattle.word_ops.specs.Operators.{op_opcode, op_function}
 use Rattle.word_ops.proofs.EachOp.{each_op}
 use Rattle.alpha_words.specs.Opcodes.{cond_opcode_of}
-use Rattle.alpha_words.specs.Encoding.{HasBits, rhs_bits, IsRhs, memory_word, branch_word, operate_word, Encodes, EncodesAny}
-use Rattle.alpha_words.specs.Lawful.{HasFormat}
+use Rattle.alpha_words.specs.MemoryOps.{memory_opcode}
+use Rattle.alpha_words.specs.Formats.{format_of, insn_of}
+use Rattle.alpha_words.specs.Encoding.{HasBits, rhs_bits, IsRhs, memory_word, branch_word, operate_word, Encodes, EncodesFormat, EncodesAny}
+use Rattle.alpha_words.specs.Lawful.{FitsFormat, HasFormat}
 use Rattle.alpha_words.proofs.Fields.{bits_of-below}
+use Rattle.alpha_words.proofs.EachMemoryOp.{each_memory_op, insn_of-format_of}
 use Rattle.alpha_cfg.specs.CodeBytes.{code_word_at, EncodesCode}
-use Rattle.pcc_asm.specs.Words.{insn_word, code_bytes}
+use Rattle.pcc_asm.specs.Words.{format_word, insn_word, code_bytes}
 use Rattle.pcc_asm.specs.Inside.Views.{IsEncodable}
-use Rattle.pcc_asm.proofs.Ranges.{HasRange}
+use Rattle.pcc_asm.proofs.Ranges.{HasFormatRange, HasRange}
 use Rattle.pcc_asm.proofs.Assembly.{encodes_word, at_index}
 use Rattle.word_ops.specs.declared.Profile.{Profile}
 
 -- ---- one word
 
-pub word_is : (w : ℕ) (insn : Insn) → EncodesAny w insn → (insn ≡ I.Ret → w ≡ 0x6BFA8001) → w ≡ insn_word insn
-word_is w (I.Lda ra rb disp) h e = h.3
-word_is w (I.Ldq ra rb disp) h e = h.4
-word_is w (I.Ldah ra rb disp) h e = h.3
-word_is w (I.LdqU ra rb disp) h e = h.4
-word_is w (I.Stq ra rb disp) h e = h.3
-word_is w (I.Oper op ra rhs rc) h e = h.3
-word_is w (I.Branch c ra disp) h e = h.2
-word_is w (I.Br disp) h e = h.1
-word_is w I.Ret h e = e refl
+format_word_is : (w : ℕ) (f : Format) → EncodesFormat w f → (f ≡ F.Ret → w ≡ 0x6BFA8001) → w ≡ format_word f
+format_word_is w (F.Memory op ra rb disp) h e = h.3
+format_word_is w (F.Operate op ra rhs rc) h e = h.3
+format_word_is w (F.Branch c ra disp) h e = h.2
+format_word_is w (F.Br disp) h e = h.1
+format_word_is w F.Ret h e = e refl
+
+pub word_is : (w : ℕ) (insn : Insn) → EncodesAny w insn → (insn ≡ Ret → w ≡ 0x6BFA8001) → w ≡ insn_word insn
+word_is w insn h e = format_word_is w (format_of insn) h (λ r. e (sym (insn_of-format_of insn) ∙ ap insn_of r))
 
 memory_small : (opcode ra rb : ℕ) (disp : ℤ) → opcode < 64 → ra < 32 → rb < 32 → HasBits 15 disp → memory_word opcode ra rb disp < 2 ^ 32
 memory_small opcode ra rb disp o a b d = let k = bits_of-below 15 disp d in omega (arith, o, a, b, k)
@@ -56,6 +61,9 @@ code_small o = (
   ltb-true (op_function o) 128 (each_op (λ p. ltb (op_function p) 128) refl o),
 )
 
+opcode_small : (op : MemoryOp) → memory_opcode op < 64
+opcode_small op = ltb-true (memory_opcode op) 64 (each_memory_op (λ o. ltb (memory_opcode o) 64) refl op)
+
 cond_small : (c : Cond) → cond_opcode_of c < 64
 cond_small K.LowClear = omega arith
 cond_small K.Zero = omega arith
@@ -69,16 +77,12 @@ cond_small K.Positive = omega arith
 operate_small : (op : Op) (ra rc : ℕ) (rhs : Rhs) → ra < 32 → IsRhs rhs → rc < 32 → operate_word op ra rhs rc < 2 ^ 32
 operate_small op ra rc rhs a r c = let k = code_small op in let b = rhs_small rhs r in omega (arith, k.0, k.1, a, b, c)
 
-word_small : (insn : Insn) → HasRange insn → HasFormat insn → insn_word insn < 2 ^ 32
-word_small (I.Lda ra rb disp) r f = memory_small 0x08 ra rb disp (omega arith) r.0 r.1 r.2
-word_small (I.Ldq ra rb disp) r f = memory_small 0x29 ra rb disp (omega arith) r.0 r.1 r.2
-word_small (I.Ldah ra rb disp) r f = memory_small 0x09 ra rb disp (omega arith) r.0 r.1 r.2
-word_small (I.LdqU ra rb disp) r f = memory_small 0x0B ra rb disp (omega arith) r.0 r.1 r.2
-word_small (I.Stq ra rb disp) r f = memory_small 0x2D ra rb disp (omega arith) r.0 r.1 r.2
-word_small (I.Oper op ra rhs rc) r f = operate_small op ra rc rhs r.0 r.1 r.2
-word_small (I.Branch c ra disp) r f = branch_small (cond_opcode_of c) ra disp (cond_small c) r f
-word_small (I.Br disp) r f = branch_small 0x30 31 disp (omega arith) (omega arith) f
-word_small I.Ret r f = omega arith
+word_small : (f : Format) → HasFormatRange f → FitsFormat f → format_word f < 2 ^ 32
+word_small (F.Memory op ra rb disp) r f = memory_small (memory_opcode op) ra rb disp (opcode_small op) r.0 r.1 r.2
+word_small (F.Operate op ra rhs rc) r f = operate_small op ra rc rhs r.0 r.1 r.2
+word_small (F.Branch c ra disp) r f = branch_small (cond_opcode_of c) ra disp (cond_small c) r f
+word_small (F.Br disp) r f = branch_small 0x30 31 disp (omega arith) (omega arith) f
+word_small F.Ret r f = omega arith
 
 -- ---- one after the other
 
@@ -133,7 +137,9 @@ pub word_at : (code : List Insn) (k : ℕ) (insn : Insn) → AllByRecursion HasR
 unfolding code_bytes
 word_at [] k insn r e s = cc
 word_at (x ∷ code) zero insn r e s =
-    first_word (to_le_bytes w32 (insn_word x)) (code_bytes code) (insn_word x) (word_length (insn_word x)) (from_le_bytes-to_le_bytes_4 (insn_word x) (word_small x r.0 e.0)) ∙ ap insn_word (same_Some x insn s)
+    let word = insn_word x in
+    let bytes = from_le_bytes-to_le_bytes_4 word (word_small (format_of x) r.0 e.0) in
+    first_word (to_le_bytes w32 word) (code_bytes code) word (word_length word) bytes ∙ ap insn_word (same_Some x insn s)
 word_at (x ∷ code) (suc k) insn r e s = later_word (to_le_bytes w32 (insn_word x)) (code_bytes code) k (word_length (insn_word x)) ∙ word_at code k insn r.1 e.1 s
 
 all_formats : (prof : Profile) (code : List Insn) → AllByRecursion (IsEncodable prof) code

@@ -78,13 +78,7 @@ fn goes_on(insn: Insn) -> bool
 {
     match insn {
         Insn::Br { .. } | Insn::Ret => false,
-        Insn::Lda { .. }
-        | Insn::Ldq { .. }
-        | Insn::Ldah { .. }
-        | Insn::LdqU { .. }
-        | Insn::Stq { .. }
-        | Insn::Oper { .. }
-        | Insn::Branch { .. } => true,
+        _ => true,
     }
 }
 

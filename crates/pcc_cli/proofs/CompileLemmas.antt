@@ -21,8 +21,8 @@ use Rattle.pcc_exit.specs.Runs.{AreOctets}
 use Rattle.pcc_exit.proofs.RunLemmas.{is_stop, exit_at}
 use Rattle.pcc_stages.specs.Texts.{texts}
 use Rattle.pcc_stages.specs.Stages.Common.{refused}
-use Rattle.pcc_cli.specs.Stages.Proving.{container_proved}
-use Rattle.pcc_cli.specs.Stages.Compiling.{program_found, program_in, compiled_as, compiled_in}
+use Rattle.pcc_commands.specs.Stages.Proving.{container_proved}
+use Rattle.pcc_commands.specs.Stages.Compiling.{program_found, program_in, compiled_as, compiled_in}
 use Rattle.pcc_cli.specs.Headline.{ComesToValues, CompilesTo, IsToldOf}
 
 -- what is read of bytes is a program, by the laws

@@ -20,7 +20,7 @@ use Rattle.pcc_exit.proofs.RunLemmas.{is_stop, is_read}
 use Rattle.pcc_stages.specs.declared.files.TheConstants.{MAX_FILE}
 use Rattle.pcc_stages.specs.Texts.{texts}
 use Rattle.pcc_stages.specs.Stages.Common.{refused, printing}
-use Rattle.pcc_cli.specs.Stages.Judging.{unless_refused}
+use Rattle.pcc_commands.specs.Stages.Judging.{unless_refused}
 use Rattle.pcc_cli.specs.Headline.{IsVerdict, IsJudged, Checks}
 
 -- ---- what follows a stage

@@ -50,24 +50,24 @@ use Rattle.pcc_stages.specs.Stages.Common.{refused, policy_found, printing}
 use Rattle.pcc_stages.specs.Stages.Containers.{code_in, code_of}
 use Rattle.pcc_stages.specs.Stages.Packets.{packets_found, packets_in, packets_of}
 use Rattle.pcc_stages.specs.Stages.Policies.{policy_from}
-use Rattle.pcc_cli.specs.declared.stages.TheConstants.{MAX_PROGRAM_FILE}
-use Rattle.pcc_cli.specs.Stages.Writing.{writing}
-use Rattle.pcc_cli.specs.Stages.Judging.{unless_refused, accepted_in, accepted_code_in, accepted_of, accepted_code_of}
-use Rattle.pcc_cli.specs.Stages.Assembling.{assembled_in, assembled_of}
-use Rattle.pcc_cli.specs.Stages.Proving.{container_proved, proved_in, proved_of}
-use Rattle.pcc_cli.specs.Stages.Upgrading.{container_upgraded, upgraded_in, upgraded_of}
-use Rattle.pcc_cli.specs.Stages.Compiling.{compiled_in, compiled_of}
-use Rattle.pcc_cli.specs.Commands.Assemble.{asm_command}
-use Rattle.pcc_cli.specs.Stages.Hosting.{script_of}
-use Rattle.pcc_cli.specs.Commands.Bpf.{bpf_command}
-use Rattle.pcc_cli.specs.Commands.Host.{host_command}
-use Rattle.pcc_cli.specs.Commands.Check.{check_command}
-use Rattle.pcc_cli.specs.Commands.Prove.{prove_command}
-use Rattle.pcc_cli.specs.Commands.Reference.{ref_command}
-use Rattle.pcc_cli.specs.Commands.Running.{run_command}
-use Rattle.pcc_cli.specs.Commands.Upgrade.{upgrade_command}
-use Rattle.pcc_cli.specs.Commands.Demo.{demo_effect, demo_policy, demo_command}
-use Rattle.pcc_cli.specs.Tasks.{stage_of, task_of_command}
+use Rattle.pcc_commands.specs.declared.stages.TheConstants.{MAX_PROGRAM_FILE}
+use Rattle.pcc_commands.specs.Stages.Writing.{writing}
+use Rattle.pcc_commands.specs.Stages.Judging.{unless_refused, accepted_in, accepted_code_in, accepted_of, accepted_code_of}
+use Rattle.pcc_commands.specs.Stages.Assembling.{assembled_in, assembled_of}
+use Rattle.pcc_commands.specs.Stages.Proving.{container_proved, proved_in, proved_of}
+use Rattle.pcc_commands.specs.Stages.Upgrading.{container_upgraded, upgraded_in, upgraded_of}
+use Rattle.pcc_commands.specs.Stages.Compiling.{compiled_in, compiled_of}
+use Rattle.pcc_commands.specs.Commands.Assemble.{asm_command}
+use Rattle.pcc_commands.specs.Stages.Hosting.{script_of}
+use Rattle.pcc_commands.specs.Commands.Bpf.{bpf_command}
+use Rattle.pcc_commands.specs.Commands.Host.{host_command}
+use Rattle.pcc_commands.specs.Commands.Check.{check_command}
+use Rattle.pcc_commands.specs.Commands.Prove.{prove_command}
+use Rattle.pcc_commands.specs.Commands.Reference.{ref_command}
+use Rattle.pcc_commands.specs.Commands.Running.{run_command}
+use Rattle.pcc_commands.specs.Commands.Upgrade.{upgrade_command}
+use Rattle.pcc_commands.specs.Commands.Demo.{demo_effect, demo_policy, demo_command}
+use Rattle.pcc_commands.specs.Tasks.{stage_of, task_of_command}
 use Rattle.packet_store.proofs.StartLemmas.{start_from-good, start_from-state}
 use Rattle.packet_store.proofs.Meeting.{start_from-meets}
 use Rattle.reference_machine.specs.Agents.{IsInArena, AreInArena}
@@ -76,7 +76,7 @@ use Rattle.turn_laws.specs.Parts.{AreApart, LieIn, LieBetween, part_from}
 use Rattle.agent_host.specs.declared.host.TheConstants.{MAX_AGENTS}
 use Rattle.agent_host.specs.Agents.{base_of}
 use Rattle.pcc_cli.specs.Headline.{agent_part, StaysInPart, AgentsStayInParts, IsJudged, lines_exit, run_exit, RunsCode, not_accepted, accepted, Refs, no_code, ran, Makes, not_made, made, Demonstrates, demonstrated, not_demonstrated, StopsWith, AssemblesTo, ProvesTo, UpgradesTo, CompilesTo, IsToldOf, Checks, UnderNamed, Does, Means, came, out_of_memory, MeansIfCommand, AcceptedRunsSafely, IsShortOrReturns, BoundedReturns}
-use Rattle.pcc_cli.proofs.RunLemmas.{code_given, accepted_code_of_bytes}
+use Rattle.pcc_commands.proofs.RunLemmas.{code_given, accepted_code_of_bytes}
 use Rattle.pcc_cli.proofs.CheckLemmas.{ReadsPolicies, checks_from}
 use Rattle.pcc_cli.proofs.CompileLemmas.{ReadsPrograms, CompilesPrograms, compiles, told}
 use Rattle.pcc_cli.proofs.TaskLemmas.{code_in-ends, assembled_in-ends, proved_in-ends, upgraded_in-ends, compiled_in-ends, demo_ends}

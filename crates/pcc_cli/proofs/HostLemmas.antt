@@ -36,11 +36,11 @@ use Rattle.pcc_stages.specs.Stages.Common.{refused, policy_found, printing}
 use Rattle.pcc_stages.specs.Stages.Containers.{code_in}
 use Rattle.pcc_stages.specs.Stages.Packets.{packets_found, packets_of}
 use Rattle.pcc_stages.proofs.StageLemmas.{bind-assoc, went_on-bind}
-use Rattle.pcc_cli.specs.Stages.Judging.{unless_refused, accepted_in, accepted_code_in, accepted_code_of}
-use Rattle.pcc_cli.specs.Stages.Hosting.{script_found, script_in, Member, unless_short, first_packet, packet_of, load_of, told_of, for_agent, agents_from}
-use Rattle.pcc_cli.specs.Commands.Host.{turn_lines}
+use Rattle.pcc_commands.specs.Stages.Judging.{unless_refused, accepted_in, accepted_code_in, accepted_code_of}
+use Rattle.pcc_commands.specs.Stages.Hosting.{script_found, script_in, Member, unless_short, first_packet, packet_of, load_of, told_of, for_agent, agents_from}
+use Rattle.pcc_commands.specs.Commands.Host.{turn_lines}
 use Rattle.pcc_cli.specs.Headline.{agent_exit, unless_short_of, first_packet_of, packet_given, member_with, LoadsMember, no_policy, no_container, has_container, LoadsMembers, all, ended, ended_later, loaded, IsFaultTold, Hosts, no_script, not_loaded, took_turns}
-use Rattle.pcc_cli.proofs.RunLemmas.{accepted_code_of_bytes}
+use Rattle.pcc_commands.proofs.RunLemmas.{accepted_code_of_bytes}
 use Rattle.pcc_cli.proofs.EndLemmas.{no_read, HasRead, first_read, Ended, end_at, change_at, given_bytes, verdict}
 
 -- ---- a packet file

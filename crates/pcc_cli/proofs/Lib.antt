@@ -1,13 +1,6 @@
-pub mod DecisionLemmas
 pub mod TaskLemmas
-pub mod CountLemmas
-pub mod RunLemmas
 pub mod CompileLemmas
 pub mod EndLemmas
 pub mod CheckLemmas
 pub mod HostLemmas
 pub mod HeadlineLemmas
-pub mod TurnLemmas
-pub mod AgentLemmas
-pub mod StandingLemmas
-pub mod MemberLemmas

@@ -76,37 +76,24 @@ use Rattle.pcc_stages.specs.Stages.Policies.{policy_spelled, policy_in, policy_f
 use Rattle.pcc_stages.specs.Stages.Common.{refused, policy_found, printing}
 use Rattle.pcc_stages.specs.Stages.Containers.{container_for, container_in, code_found, code_in, code_of}
 use Rattle.pcc_stages.specs.Stages.Packets.{packets_found, packets_in, packets_of}
-use Rattle.pcc_cli.specs.declared.stages.TheConstants.{MAX_PROGRAM_FILE}
-use Rattle.pcc_cli.specs.Stages.Upgrading.{container_upgraded, upgraded_in, upgraded_of}
-use Rattle.pcc_cli.specs.Stages.Writing.{writing}
-use Rattle.pcc_cli.specs.Stages.Judging.{unless_refused, accepted_in, accepted_code_in, Shown, shown_in, accepted_of, accepted_code_of}
-use Rattle.pcc_cli.specs.Stages.Assembling.{source_found, source_in, container_made, assembled_as, assembled_in, assembled_of}
-use Rattle.pcc_cli.specs.Stages.Proving.{container_proved, proved_in, proved_of}
-use Rattle.pcc_cli.specs.Stages.Compiling.{program_found, program_in, compiled_as, compiled_in, compiled_of}
-use Rattle.pcc_cli.specs.Stages.Hosting.{script_found, script_in, script_of, Member, unless_short, first_packet, packet_of, load_of, told_of, for_agent, agents_from}
-use Rattle.pcc_cli.specs.Commands.Host.{turn_lines, host_command}
-use Rattle.pcc_cli.specs.Commands.Assemble.{asm_command}
-use Rattle.pcc_cli.specs.Commands.Bpf.{bpf_command}
-use Rattle.pcc_cli.specs.Commands.Check.{check_command}
-use Rattle.pcc_cli.specs.Commands.Prove.{prove_command}
-use Rattle.pcc_cli.specs.Commands.Reference.{ref_command}
-use Rattle.pcc_cli.specs.Commands.Running.{run_command}
-use Rattle.pcc_cli.specs.Commands.Upgrade.{upgrade_command}
-use Rattle.pcc_cli.specs.Commands.Demo.{summary_of, demo_container, demo_told, demo_effect, demo_policy, demo_command}
-use Rattle.pcc_cli.specs.Tasks.{standing_on, task_of_command}
-
--- ---- versions and bounds
-
--- the version that `asm` makes is one that is built
-pub built-version : (bound : Option ℕ) (version : ℕ) → IsVersionOf bound version → IsVersion version
-built-version None version h = (h.0, omega (arith, h.1))
-built-version (Some n) version h = let is = h.0 in (omega (arith, is), omega (arith, is))
-
--- and its bound is one that the version may have
-pub bound-in-range : (bound : Option ℕ) (version : ℕ) → IsVersionOf bound version
-    → IsBoundOf version bound
-bound-in-range None version h = λ is. omega (arith, h.1, is)
-bound-in-range (Some n) version h = h
+use Rattle.pcc_commands.specs.declared.stages.TheConstants.{MAX_PROGRAM_FILE}
+use Rattle.pcc_commands.specs.Stages.Upgrading.{container_upgraded, upgraded_in, upgraded_of}
+use Rattle.pcc_commands.specs.Stages.Writing.{writing}
+use Rattle.pcc_commands.specs.Stages.Judging.{unless_refused, accepted_in, accepted_code_in, Shown, shown_in, accepted_of, accepted_code_of}
+use Rattle.pcc_commands.specs.Stages.Assembling.{source_found, source_in, container_made, assembled_as, assembled_in, assembled_of}
+use Rattle.pcc_commands.specs.Stages.Proving.{container_proved, proved_in, proved_of}
+use Rattle.pcc_commands.specs.Stages.Compiling.{program_found, program_in, compiled_as, compiled_in, compiled_of}
+use Rattle.pcc_commands.specs.Stages.Hosting.{script_found, script_in, script_of, Member, unless_short, first_packet, packet_of, load_of, told_of, for_agent, agents_from}
+use Rattle.pcc_commands.specs.Commands.Host.{turn_lines, host_command}
+use Rattle.pcc_commands.specs.Commands.Assemble.{asm_command}
+use Rattle.pcc_commands.specs.Commands.Bpf.{bpf_command}
+use Rattle.pcc_commands.specs.Commands.Check.{check_command}
+use Rattle.pcc_commands.specs.Commands.Prove.{prove_command}
+use Rattle.pcc_commands.specs.Commands.Reference.{ref_command}
+use Rattle.pcc_commands.specs.Commands.Running.{run_command}
+use Rattle.pcc_commands.specs.Commands.Upgrade.{upgrade_command}
+use Rattle.pcc_commands.specs.Commands.Demo.{summary_of, demo_container, demo_told, demo_effect, demo_policy, demo_command}
+use Rattle.pcc_commands.specs.Tasks.{standing_on, task_of_command}
 
 -- ---- lines
 

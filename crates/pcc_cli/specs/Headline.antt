@@ -64,14 +64,14 @@ use Rattle.pcc_stages.specs.Stages.Common.{refused, printing}
 use Rattle.pcc_stages.specs.Stages.Containers.{code_in}
 use Rattle.pcc_stages.specs.Stages.Policies.{no_policy_spelled}
 use Rattle.pcc_stages.specs.declared.files.TheConstants.{MAX_FILE, MAX_POLICY_FILE}
-use Rattle.pcc_cli.specs.Stages.Assembling.{assembled_in}
-use Rattle.pcc_cli.specs.Stages.Hosting.{Member, told_of}
-use Rattle.pcc_cli.specs.Stages.Proving.{proved_in}
-use Rattle.pcc_cli.specs.Stages.Upgrading.{upgraded_in}
-use Rattle.pcc_cli.specs.Commands.Demo.{demo_command}
-use Rattle.pcc_cli.specs.Commands.Host.{turn_lines}
-use Rattle.pcc_cli.specs.Tasks.{stage_of}
-use Rattle.pcc_cli.specs.declared.stages.TheConstants.{MAX_PROGRAM_FILE}
+use Rattle.pcc_commands.specs.Stages.Assembling.{assembled_in}
+use Rattle.pcc_commands.specs.Stages.Hosting.{Member, told_of}
+use Rattle.pcc_commands.specs.Stages.Proving.{proved_in}
+use Rattle.pcc_commands.specs.Stages.Upgrading.{upgraded_in}
+use Rattle.pcc_commands.specs.Commands.Demo.{demo_command}
+use Rattle.pcc_commands.specs.Commands.Host.{turn_lines}
+use Rattle.pcc_commands.specs.Tasks.{stage_of}
+use Rattle.pcc_commands.specs.declared.stages.TheConstants.{MAX_PROGRAM_FILE}
 
 -- ---- the verdict on what was read
 

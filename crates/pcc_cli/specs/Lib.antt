@@ -1,5 +1,1 @@
-pub mod Stages
-pub mod Commands
-pub mod Tasks
 pub mod Headline
-pub mod Inside

@@ -10,18 +10,17 @@ ghost use Rattle.pcc_exit.specs.Ends.{Ends};
 ghost use Rattle.pcc_exit.specs.Accounts.{Accounts};
 ghost use Rattle.pcc_stages.specs.Texts.{texts};
 ghost use Rattle.pcc_stages.specs.Decisions.{Decides, exit_of};
-ghost use Rattle.pcc_cli.specs.Tasks.{task_of, request_of};
+ghost use Rattle.pcc_commands.specs.Tasks.{task_of, request_of};
 ghost use Rattle.pcc_gate.specs.Safe.{AcceptedSafe};
 ghost use Rattle.pcc_cli.specs.Headline.{MeansIfCommand, AcceptedRunsSafely, AgentsStayInParts};
 ghost use Rattle.pcc_cli.specs.Headline.{BoundedReturns};
-ghost use Rattle.pcc_cli.specs.Inside.Decisions.{report_exit};
+ghost use Rattle.pcc_commands.specs.Reports.{report_exit};
 
-use crate::commands::{
-    asm_command, bpf_command, check_command, demo_command, host_command, prove_command,
+use file_port::{Files, Sink};
+use pcc_commands::{
+    Report, asm_command, bpf_command, check_command, demo_command, host_command, prove_command,
     ref_command, run_command, upgrade_command,
 };
-use crate::report::Report;
-use file_port::{Files, Sink};
 use pcc_stages::{Stop, status_after};
 use pcc_words::{Command, read_arguments};
 use std::alloc::Global;

@@ -7,6 +7,7 @@ use Rattle.file_port.specs.Events.{Given, whole, missing, too_long, failed, no_m
 use Rattle.pcc_exit.specs.Exits.{Exit}
 use Rattle.pcc_exit.specs.Requests.{Texts, missing_exit, read_fault_exit, no_memory_exit}
 
+-- What a command is made of: it ends, gives a value, or reads a file and goes on with what that has.
 pub data Stage (A : Type 0) : Type 0 where
   -- the command ends here
   stops : Exit → Stage A

@@ -23,6 +23,7 @@ use crate::fault::GateFault;
 use crate::limits::MAX_WEIGHT;
 use crate::refusal::Refusal;
 use alpha_cfg::Cut;
+use condition_match::is_condition_with;
 use lemma_check::first_unproved;
 use lf_check::{Exhausted, Kept};
 use lf_lemmas::WithLemmas;
@@ -31,7 +32,7 @@ use lf_truth::proved_with;
 use policy_set::Policy;
 use std::alloc::Global;
 use term_table::{Id, Table};
-use vcgen::{VcFault, is_condition_with};
+use vcgen::VcFault;
 
 /// What the proofs of lemmas weigh together, by the parameters of the signature. Past 4,294,967,295
 /// it answers that.

@@ -1,6 +1,5 @@
 pub mod Growing
-mod Equations
+mod Relations
 mod Rewrites
 pub mod Rounds
-mod Rules
 mod Summing

@@ -6,35 +6,19 @@ use Rattle.hereditary_subst.proofs.Rows.{grows_more}
 use Rattle.lf_signature.specs.Nodes.{IsIdOf}
 use Rattle.lf_signature.specs.Terms.{op_term}
 use Rattle.lf_rules.specs.Instance.{trees_of}
-use Rattle.lf_rules.proofs.Shifts.{spot-raise}
 use Rattle.word_ops.specs.declared.Op.{Op}
 use Rattle.word_ops.specs.declared.Op.TheVariants.{Add}
-use Rattle.formula_tree.specs.Formulas.{Exp, EReg, ELeft, EVar, ELit, EOp, ESel, MemExp, MMem, MVar, MUpd, shift_exp, shift_mem}
-use Rattle.formula_tree.specs.Variables.{PExp, exp_at, mem_at, subst_var_exp, subst_var_mem}
+use Rattle.formula_tree.specs.Formulas.{Exp, EOp}
 use Rattle.formula_terms.specs.Encoding.{exp_encoding}
 use Rattle.formula_terms.proofs.Encoded.{shift-exp_encoding}
 use Rattle.formula_terms.specs.ProofTerms.{up, word_rule, swap}
 use Rattle.prover_class.specs.NormalForms.{Rewriting, in_left, in_right, first_nonempty, turned}
+use Rattle.normal_forms.proofs.Parts.{subst-up_exp}
 use Rattle.sum_proofs.specs.declared.rewriting.Rewrite.{Rewrite}
 use Rattle.sum_proofs.specs.declared.rewriting.Rewrites.{Rewrites}
 use Rattle.sum_proofs.specs.declared.rewriting.Rewrites.TheVariants as R
 use Rattle.sum_proofs.specs.Inside.Rewrites.{IsKnownRewrite, IsRewrite, AreKnownRewrites, AreRewrites, whole_of, commuted_of, regrouped_of, ungrouped_of, left_of, right_of, has_rewrites}
 use Rattle.std.proofs.lemmas.Bool.{false≢true}
-
--- what is raised has nothing to put in
-mutual
-  pub subst-up_exp : (b x : Exp) (c : ℕ) → subst_var_exp (shift_exp 1 c b) c (PExp x) ≡ b
-  subst-up_exp (EReg r) x c = refl
-  subst-up_exp ELeft x c = refl
-  subst-up_exp (EVar n) x c = ap (exp_at (PExp x)) (spot-raise c n)
-  subst-up_exp (ELit v) x c = refl
-  subst-up_exp (EOp o a b) x c = λ i. EOp o (subst-up_exp a x c i) (subst-up_exp b x c i)
-  subst-up_exp (ESel m a) x c = λ i. ESel (subst-up_mem m x c i) (subst-up_exp a x c i)
-
-  subst-up_mem : (m : MemExp) (x : Exp) (c : ℕ) → subst_var_mem (shift_mem 1 c m) c (PExp x) ≡ m
-  subst-up_mem MMem x c = refl
-  subst-up_mem (MVar n) x c = ap (mem_at (PExp x)) (spot-raise c n)
-  subst-up_mem (MUpd m a v) x c = λ i. MUpd (subst-up_mem m x c i) (subst-up_exp a x c i) (subst-up_exp v x c i)
 
 pub rewrite-more : (t u : TableView) (step : Rewrite) (s : Rewriting) → IsKnownRewrite t step → Extends t u → IsRewrite t step s → IsRewrite u step s
 rewrite-more t u step s k e h = record {

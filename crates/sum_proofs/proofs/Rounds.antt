@@ -1,6 +1,5 @@
--- Rounds of rewriting, and what is kept of normal forms.
-use Rattle.std.proofs.Common.{◌≡◌, ℕ, suc, ◌+◌, ◌-◌, ◌<◌, ◌≤◌, Bool, true, false, cond, nat_lt, min, Option, Some, List, [], ◌∷◌, Result, IfOk, refl, sym, ◌∙◌, ap, subst, arith}
-use Rattle.std.proofs.lemmas.Bool.{le-ltb}
+-- Rounds of rewriting with proofs, and what is kept of normal forms.
+use Rattle.std.proofs.Common.{◌≡◌, ℕ, List, [], ◌∷◌, Result, IfOk, ◌∙◌, subst}
 use Rattle.term_table.specs.Table.{TableView, IsKnown, tree_at, Extends}
 use Rattle.word_ops.specs.declared.Rel.TheVariants.{Eq}
 use Rattle.lf_signature.specs.Nodes.{IsIdOf}
@@ -11,14 +10,15 @@ use Rattle.hereditary_subst.proofs.Rows.{grows_more}
 use Rattle.formula_ids.specs.declared.kept.Kept.{Kept}
 use Rattle.formula_ids.proofs.KeptRows.{right-more}
 use Rattle.formula_terms.specs.ProofTerms.{up, move}
-use Rattle.prover_class.specs.NormalForms.{Rewriting, after_steps, continue_with, redex, normalized, normal_form}
+use Rattle.prover_class.specs.NormalForms.{Rewriting, after_steps}
+use Rattle.normal_forms.specs.Inside.Rounds.{GoesOn}
 use Rattle.sum_proofs.specs.declared.rewriting.Rewrite.{Rewrite}
 use Rattle.sum_proofs.specs.declared.rewriting.Rewrites.{Rewrites}
 use Rattle.sum_proofs.specs.declared.rewriting.Rewrites.TheVariants as R
-use Rattle.sum_proofs.specs.declared.normal_forms.Place.{Place}
-use Rattle.sum_proofs.specs.declared.normal_forms.Rewritten.{Rewritten}
+use Rattle.sum_proofs.specs.declared.equations.Place.{Place}
+use Rattle.sum_proofs.specs.declared.equations.Rewritten.{Rewritten}
 use Rattle.sum_proofs.specs.Inside.Rewrites.{IsKnownRewrite, IsRewrite, AreKnownRewrites, AreRewrites}
-use Rattle.sum_proofs.specs.Inside.Rounds.{after_step, IsNext, LeadsTo}
+use Rattle.sum_proofs.specs.Inside.Rounds.{after_step, IsNext}
 use Rattle.sum_proofs.specs.NormalForms.{RewrittenExp, pair_of, IsKnownRewritten, IsRewritten, IsNormalForm, AreNormalForms}
 use Rattle.sum_proofs.specs.Lasting.{rewritten-more, form-lasts}
 use Rattle.sum_proofs.proofs.Rewrites.{rewrite-more}
@@ -64,45 +64,6 @@ three_after_is t u v w above steps a b c here one two result is ka k tu uv fa fb
     let ks = subst (AreKnownRewrites t) is k in
     three_after t u v w above a b c here one two result ka ks.1 ks.2 tu uv fa fb fc x l r q (subst (λ z. AreRewrites t z l) is h) g
 
--- one round more
-normalized-next : (out n : ℕ) (e : Exp) (r : RewrittenExp) → normalized out (suc n) e r ≡ continue_with (normalized out n e) e r (redex out r.now)
-unfolding normalized
-normalized-next out n e r = refl
-
-pub normalized-none : (out : ℕ) (e : Exp) (r : RewrittenExp) → normalized out 0 e r ≡ r
-unfolding normalized
-normalized-none out e r = refl
-
-continue_some : (again : RewrittenExp → RewrittenExp) (e : Exp) (r : RewrittenExp) (l : List Rewriting) (s : Rewriting) (m : List Rewriting) → l ≡ s ∷ m → continue_with again e r l ≡ again (after_steps e l r)
-continue_some again e r l s m q = ap (continue_with again e r) q ∙ ap (λ k. again (after_steps e k r)) (sym q)
-
-pub leads_next : (t u : TableView) (out rounds i : ℕ) (x : Exp) (goal : RewrittenExp) (here next : Rewritten) → i < rounds → LeadsTo t out (rounds - i) x goal here →
-    ((r : RewrittenExp) → IsRewritten t here r → IsNext u x (redex out r.now) r next) → LeadsTo u out (rounds - (i + 1)) x goal next
-leads_next t u out rounds i x goal here next less w go =
-    let n = go w.here w.stands in
-    let count : rounds - i ≡ suc (rounds - (i + 1)) = omega (arith, less) in
-    let led : normalized out (suc (rounds - (i + 1))) x w.here ≡ goal = subst (λ k. normalized out k x w.here ≡ goal) count w.leads in record {
-      here = after_steps x (redex out w.here.now) w.here;
-      stands = n.stands;
-      leads = sym (normalized-next out (rounds - (i + 1)) x w.here ∙ continue_some (normalized out (rounds - (i + 1)) x) x w.here (redex out w.here.now) n.first n.others n.some) ∙ led;
-    }
-
--- there is nothing more to rewrite
-pub leads_stop : (t u : TableView) (out rounds i : ℕ) (x : Exp) (goal : RewrittenExp) (here : Rewritten) → i < rounds → IsKnownRewritten t here → Extends t u → LeadsTo t out (rounds - i) x goal here →
-    ((r : RewrittenExp) → IsRewritten t here r → redex out r.now ≡ []) → IsRewritten u here goal
-leads_stop t u out rounds i x goal here less k e w go =
-    let count : rounds - i ≡ suc (rounds - (i + 1)) = omega (arith, less) in
-    let led : normalized out (suc (rounds - (i + 1))) x w.here ≡ goal = subst (λ k. normalized out k x w.here ≡ goal) count w.leads in
-    let same : w.here ≡ goal = sym (normalized-next out (rounds - (i + 1)) x w.here ∙ ap (continue_with (normalized out (rounds - (i + 1)) x) x w.here) (go w.here w.stands)) ∙ led in
-    subst (IsRewritten u here) same (rewritten-more t u here w.here k e w.stands)
-
--- the rounds are over
-pub leads_end : (t : TableView) (out rounds i : ℕ) (x : Exp) (goal : RewrittenExp) (here : Rewritten) → rounds ≤ i → LeadsTo t out (rounds - i) x goal here → IsRewritten t here goal
-leads_end t out rounds i x goal here over w =
-    let none : rounds - i ≡ 0 = omega (arith, over) in
-    let led : w.here ≡ goal = sym (normalized-none out x w.here) ∙ subst (λ k. normalized out k x w.here ≡ goal) none w.leads in
-    subst (IsRewritten t here) led w.stands
-
--- few leaves: the rounds
-pub few_leaves : (n m : ℕ) → m ≤ 64 → m ≡ min n 65 → nat_lt 64 n ≡ false
-few_leaves n m h q = le-ltb 64 n (omega (arith, h, q))
+-- a round that goes on
+pub next_goes : (t : TableView) (e : Exp) (l : List Rewriting) (here : RewrittenExp) (r : Rewritten) → IsNext t e l here r → GoesOn (IsRewritten t r) e l here
+next_goes t e l here r n = record { first = n.first; others = n.others; some = n.some; holds = n.stands }

@@ -4,8 +4,8 @@ use Rattle.term_table.specs.Table.{TableView, Extends}
 use Rattle.prover_class.specs.NormalForms.{normal_form}
 use Rattle.sum_proofs.specs.NormalForms.{RewrittenExp, IsKnownRewritten, IsRewritten, IsNormalForm}
 use Rattle.sum_proofs.specs.Occurrences.{IsOccurrence}
-use Rattle.sum_proofs.specs.declared.normal_forms.Place.{Place}
-use Rattle.sum_proofs.specs.declared.normal_forms.Rewritten.{Rewritten}
+use Rattle.sum_proofs.specs.declared.equations.Place.{Place}
+use Rattle.sum_proofs.specs.declared.equations.Rewritten.{Rewritten}
 use Rattle.sum_proofs.specs.declared.occurrences.Occurring.{Occurring}
 use Rattle.sum_proofs.specs.declared.occurrences.Occurring.TheVariants as Q
 

@@ -7,9 +7,9 @@ use Rattle.formula_ids.specs.Kept.{AreRight}
 use Rattle.formula_ids.specs.declared.kept.Kept.{Kept}
 use Rattle.prover_class.specs.NormalForms.{normal_form}
 use Rattle.prover_class.specs.NormalForms as class
-use Rattle.sum_proofs.specs.declared.normal_forms.Place.{Place}
-use Rattle.sum_proofs.specs.declared.normal_forms.Rewritten.{Rewritten}
-use Rattle.sum_proofs.specs.contracts.normal_forms.PlaceOrd.TheImpl as block
+use Rattle.sum_proofs.specs.declared.equations.Place.{Place}
+use Rattle.sum_proofs.specs.declared.equations.Rewritten.{Rewritten}
+use Rattle.sum_proofs.specs.contracts.equations.PlaceOrd.TheImpl as block
 
 -- an expression with a proof, as plain data
 abbrev pub RewrittenExp : Type 0

@@ -11,12 +11,13 @@ ghost use Rattle.formula_tree.specs.Formulas.{Exp, ELit};
 ghost use Rattle.formula_terms.specs.Encoding.{exp_encoding};
 ghost use Rattle.prover_class.specs.NormalForms.{equal_proof, words_proof, held_of_words, equal_forms};
 ghost use Rattle.prover_class.specs.Goals.{first_of};
-ghost use Rattle.sum_proofs.specs.Inside.Rounds.{word_in, second_moved, first_moved};
+ghost use Rattle.sum_proofs.specs.Inside.Rounds.{second_moved, first_moved};
 ghost use Rattle.sum_proofs.specs.NormalForms.{RewrittenExp, IsKnownRewritten, IsRewritten};
 
-use crate::normal_forms::Rewritten;
-use formula_ids::{ExpNode, exp_node, fact, moved, number, raised, relation, swapped};
+use crate::equations::Rewritten;
+use formula_ids::{fact, moved, number, raised, relation, swapped};
 use hereditary_subst::{Exhausted, Memo};
+use normal_forms::word_at;
 use term_table::{Id, Node, Table};
 use word_ops::{Rel, holds};
 
@@ -106,20 +107,6 @@ pub fn equal_proof(
     ensures memo { IsMemo table.new memo.new }
 {
     second_moved(table, memo, Rel::Eq, a, b, q, p.proof)
-}
-
-/// The word that the expression is.
-fn word_at(table: &Table, e: Id) -> Option<u64>
-    requires { IsKnown table.now e }
-    ensures { (x : Exp) → tree_at table.now e ≡ exp_encoding x → result ≡ word_in x }
-{
-    match exp_node(table, e) {
-        ExpNode::Word(w) => Some(w),
-        ExpNode::Apply(_, _, _) => None,
-        ExpNode::Var(_) => None,
-        ExpNode::Sel(_, _) => None,
-        ExpNode::Unbound => None,
-    }
 }
 
 /// The proof of the relation of `a` and `b`, whose normal forms are words of which it holds.

@@ -10,17 +10,20 @@ ghost use Rattle.word_ops.specs.declared.Op.TheVariants.{Add};
 ghost use Rattle.formula_tree.specs.Formulas.{Exp, ELit, EOp};
 ghost use Rattle.formula_terms.specs.Encoding.{exp_encoding};
 ghost use Rattle.formula_terms.specs.ProofTerms.{up, calc};
-ghost use Rattle.prover_class.specs.NormalForms.{Rewriting, summand_key, turned, rewrite_at, in_left, in_right, redex};
-ghost use Rattle.sum_proofs.specs.Inside.Rewrites.{IsKnownRewrite, IsRewrite, AreKnownRewrites, AreRewrites, IsSummand, IsKnownSummand, IsRule, IsKnownRule, applied_summand, rule_by_op, rule_at_word, rule_before, whole_of, negated_of, scaled_of, complemented_of, cancelled_of, operand_of, regrouped_of, commuted_of, ungrouped_of, left_of, right_of, has_rewrites};
+ghost use Rattle.prover_class.specs.NormalForms.{Rewriting, turned, rewrite_at, in_left, in_right, redex};
+ghost use Rattle.normal_forms.specs.Rules.{IsRule, IsKnownRule};
+ghost use Rattle.sum_proofs.specs.Inside.Rewrites.{IsKnownRewrite, IsRewrite, AreKnownRewrites, AreRewrites, whole_of, negated_of, scaled_of, complemented_of, cancelled_of, operand_of, regrouped_of, commuted_of, ungrouped_of, left_of, right_of, has_rewrites};
 
 use formula_ids::{ExpNode, calc, exp_node, oper, raised, swapped};
 use hereditary_subst::{Exhausted, Memo};
-use lf_rules::numbers::{
-    ADD_ASSOC, ADD_COMM, ADD_ZERO, BIC_DEF, BIS_ZERO, BIS_ZERO_L, S4_DEF, S8_DEF, SUB_NEG, XOR_SELF,
-};
+use lf_rules::numbers::{ADD_ASSOC, ADD_COMM, BIC_DEF, SUB_NEG, XOR_SELF};
 use lf_rules::rule_term;
+use normal_forms::{
+    Rule, cleared_bits, negated_sum, regrouped_sum, rule_at, scaled_sum, swapped_sum, value_of,
+    zero_word,
+};
 use term_table::{Id, Node, Table};
-use word_ops::{Op, apply};
+use word_ops::Op;
 
 /// One rewriting: `into` is the expression with variable 0 in the place of what is rewritten, where
 /// `from` becomes `to` by the proof; `after` is the whole expression then.
@@ -42,175 +45,6 @@ pub(crate) enum Rewrites {
     One(Rewrite),
     /// Three.
     Three(Rewrite, Rewrite, Rewrite),
-}
-
-/// An operand, as far as the choice of a rule needs it.
-#[derive(Clone, Copy)]
-enum Summand {
-    /// A word.
-    Word(u64),
-    /// A sum, by the ids of its parts.
-    Sum(Id, Id),
-    /// Neither.
-    Other,
-}
-
-/// The rule by which an operator at two operands is rewritten.
-#[derive(Clone, Copy)]
-enum Rule {
-    /// There is none.
-    Nothing,
-    /// The operands are these words: to what the operator gives of them.
-    Value(u64, u64),
-    /// The difference to the sum with what is negative.
-    Negated,
-    /// To the first operand, by the rule of this number.
-    First(u32),
-    /// To the second operand.
-    Second(u32),
-    /// The first operand is a sum of these: to the sum with their second inside.
-    Regrouped(Id, Id),
-    /// The second operand is a sum of these: to the sum that begins with their first.
-    Turned(Id, Id),
-    /// The operands change places.
-    Swapped,
-    /// To the sum of the first operand, shifted to the left by so many bits, and the second; by the
-    /// rule of this number.
-    Scaled(u32, u64),
-    /// Bits cleared: to the bitwise and with the complement.
-    Complemented,
-    /// The operands of an exclusive or are one: to 0.
-    Cancelled,
-}
-
-/// The order of summands, where `outside` binders stand outside, the steps' that are left among them.
-fn summand_key(table: &Table, outside: u32, e: Id) -> u32
-    requires { IsKnown table.now e }
-    ensures { (x : Exp) → tree_at table.now e ≡ exp_encoding x → result ≡ summand_key outside x }
-{
-    match table.node(e) {
-        Node::Var(n) => {
-            let inward = outside.saturating_sub(n);
-            if 3 <= inward && inward <= 33 {
-                inward - 3
-            } else {
-                31
-            }
-        }
-        Node::Calc(register, _, _) => register,
-        Node::Lit(_) => 32,
-        _ => 31,
-    }
-}
-
-/// What the operator at two operands is as an operand.
-fn applied_summand(op: Op, a: Id, b: Id) -> Summand
-    ensures { result ≡ applied_summand op a b }
-{
-    match op {
-        Op::Add => Summand::Sum(a, b),
-        _ => Summand::Other,
-    }
-}
-
-/// What the operand is.
-fn operand(table: &Table, e: Id) -> Summand
-    requires { IsKnown table.now e }
-    ensures known { IsKnownSummand table.now result }
-    ensures is { (x : Exp) → tree_at table.now e ≡ exp_encoding x → IsSummand table.now x result }
-{
-    match exp_node(table, e) {
-        ExpNode::Word(w) => Summand::Word(w),
-        ExpNode::Apply(op, a, b) => applied_summand(op, a, b),
-        ExpNode::Var(_) => Summand::Other,
-        ExpNode::Sel(_, _) => Summand::Other,
-        ExpNode::Unbound => Summand::Other,
-    }
-}
-
-/// The rule of an operator that others define, and of an exclusive or; `same` says that the
-/// operands are one.
-fn rule_by_op(op: Op, same: bool) -> Rule
-    ensures { result ≡ rule_by_op op same }
-{
-    match op {
-        Op::S4add => Rule::Scaled(S4_DEF, 2),
-        Op::S8add => Rule::Scaled(S8_DEF, 3),
-        Op::Bic => Rule::Complemented,
-        Op::Xor if same => Rule::Cancelled,
-        _ => Rule::Nothing,
-    }
-}
-
-/// The rule of an operator whose second operand is the word; `same` says that the operands are one.
-fn rule_at_word(op: Op, first: Summand, w: u64, comes: bool, same: bool) -> Rule
-    ensures { result ≡ rule_at_word op first w comes same }
-{
-    match first {
-        Summand::Word(v) => Rule::Value(v, w),
-        Summand::Sum(p, q) => match op {
-            Op::Sub => Rule::Negated,
-            Op::Add if w == 0 => Rule::First(ADD_ZERO),
-            Op::Add => Rule::Regrouped(p, q),
-            Op::Bis if w == 0 => Rule::First(BIS_ZERO),
-            _ => rule_by_op(op, same),
-        },
-        Summand::Other => match op {
-            Op::Sub => Rule::Negated,
-            Op::Add if w == 0 => Rule::First(ADD_ZERO),
-            Op::Add if comes => Rule::Swapped,
-            Op::Bis if w == 0 => Rule::First(BIS_ZERO),
-            _ => rule_by_op(op, same),
-        },
-    }
-}
-
-/// The rule of an operator whose second operand is no word. `turn` has the parts of the second, if
-/// it is a sum whose first part comes before the first operand; `same` says that the operands are
-/// one.
-fn rule_before(op: Op, first: Summand, turn: Option<(Id, Id)>, comes: bool, same: bool) -> Rule
-    ensures { result ≡ rule_before op first turn comes same }
-{
-    match op {
-        Op::Add => match first {
-            Summand::Sum(p, q) => Rule::Regrouped(p, q),
-            _ => match turn {
-                Some((p, q)) => Rule::Turned(p, q),
-                None if comes => Rule::Swapped,
-                None => Rule::Nothing,
-            },
-        },
-        Op::Bis => match first {
-            Summand::Word(0) => Rule::Second(BIS_ZERO_L),
-            _ => Rule::Nothing,
-        },
-        _ => rule_by_op(op, same),
-    }
-}
-
-/// The rule by which the operator at the operands is rewritten, `outside` binders standing outside.
-fn rule_at(table: &Table, outside: u32, op: Op, a: Id, b: Id) -> Rule
-    requires a { IsKnown table.now a }
-    requires b { IsKnown table.now b }
-    ensures known { IsKnownRule table.now result }
-    ensures is { (x y : Exp) → tree_at table.now a ≡ exp_encoding x
-        → tree_at table.now b ≡ exp_encoding y → IsRule table.now outside op x y result }
-{
-    let key = summand_key(table, outside, a);
-    let comes = summand_key(table, outside, b) < key;
-    let same = table.same(a, b);
-    let first = operand(table, a);
-    match operand(table, b) {
-        Summand::Word(w) => rule_at_word(op, first, w, comes, same),
-        Summand::Sum(p, q) => {
-            if summand_key(table, outside, p) < key {
-                rule_before(op, first, Some((p, q)), comes, same)
-            } else {
-                rule_before(op, first, None, comes, same)
-            }
-        }
-        Summand::Other => rule_before(op, first, None, comes, same),
-    }
 }
 
 /// The rewriting of the whole expression.
@@ -243,7 +77,7 @@ fn to_value(table: &mut Table, e: Id, op: Op, v: u64, w: u64) -> Result<Rewrite,
         IsRewrite table.new s (whole_of f (ELit (word_of op v w)) (calc op v w))) }
     ensures extends { Extends table.old table.new }
 {
-    let value = table.intern(Node::Lit(apply(op, v, w)))?;
+    let value = value_of(table, op, v, w)?;
     let proof = calc(table, op, v, w)?;
     whole(table, e, value, proof)
 }
@@ -259,9 +93,7 @@ fn to_sum(table: &mut Table, e: Id, a: Id, b: Id) -> Result<Rewrite, Exhausted>
         → IfOk result (λ s. IsRewrite table.new s (negated_of f x y)) }
     ensures extends { Extends table.old table.new }
 {
-    let zero = table.intern(Node::Lit(0))?;
-    let negative = oper(table, Op::Sub, zero, b)?;
-    let sum = oper(table, Op::Add, a, negative)?;
+    let sum = negated_sum(table, a, b)?;
     let proof = rule_term(table, SUB_NEG, &[a, b])?;
     whole(table, e, sum, proof)
 }
@@ -285,9 +117,7 @@ fn to_scaled(
         → IfOk result (λ s. IsRewrite table.new s (scaled_of number count f x y)) }
     ensures extends { Extends table.old table.new }
 {
-    let by = table.intern(Node::Lit(count))?;
-    let shifted = oper(table, Op::Sll, a, by)?;
-    let sum = oper(table, Op::Add, shifted, b)?;
+    let sum = scaled_sum(table, a, b, count)?;
     let proof = rule_term(table, number, &[a, b])?;
     whole(table, e, sum, proof)
 }
@@ -303,9 +133,7 @@ fn to_complement(table: &mut Table, e: Id, a: Id, b: Id) -> Result<Rewrite, Exha
         → IfOk result (λ s. IsRewrite table.new s (complemented_of f x y)) }
     ensures extends { Extends table.old table.new }
 {
-    let ones = table.intern(Node::Lit(u64::MAX))?;
-    let complement = oper(table, Op::Xor, b, ones)?;
-    let masked = oper(table, Op::Band, a, complement)?;
+    let masked = cleared_bits(table, a, b)?;
     let proof = rule_term(table, BIC_DEF, &[a, b])?;
     whole(table, e, masked, proof)
 }
@@ -320,7 +148,7 @@ fn to_zero(table: &mut Table, e: Id, a: Id) -> Result<Rewrite, Exhausted>
         → IfOk result (λ s. IsRewrite table.new s (cancelled_of f x)) }
     ensures extends { Extends table.old table.new }
 {
-    let zero = table.intern(Node::Lit(0))?;
+    let zero = zero_word(table)?;
     let proof = rule_term(table, XOR_SELF, &[a])?;
     whole(table, e, zero, proof)
 }
@@ -352,8 +180,7 @@ fn regrouped(table: &mut Table, e: Id, a: Id, b: Id, c: Id) -> Result<Rewrite, E
         → IfOk result (λ s. IsRewrite table.new s (regrouped_of f x y z)) }
     ensures extends { Extends table.old table.new }
 {
-    let inner = oper(table, Op::Add, b, c)?;
-    let sum = oper(table, Op::Add, a, inner)?;
+    let sum = regrouped_sum(table, a, b, c)?;
     let proof = rule_term(table, ADD_ASSOC, &[a, b, c])?;
     whole(table, e, sum, proof)
 }
@@ -369,7 +196,7 @@ fn commuted(table: &mut Table, e: Id, a: Id, b: Id) -> Result<Rewrite, Exhausted
         → IfOk result (λ s. IsRewrite table.new s (commuted_of f x y)) }
     ensures extends { Extends table.old table.new }
 {
-    let sum = oper(table, Op::Add, b, a)?;
+    let sum = swapped_sum(table, a, b)?;
     let proof = rule_term(table, ADD_COMM, &[a, b])?;
     whole(table, e, sum, proof)
 }

@@ -15,15 +15,28 @@ pub fn word_of(text: &str) -> Option<u32> {
     u32::from_str_radix(text, 16).ok()
 }
 
-/// The words' bytes, the lowest of each first; None where a text is no word. Fails only for want of
-/// memory.
+/// Bytes as text.
+pub fn text_of(alloc: Global, bytes: &[u8]) -> Result<String, AllocError> {
+    match str::from_utf8(bytes) {
+        Ok(text) => format!(in alloc; "{text}"),
+        Err(_) => format!(in alloc; "no text"),
+    }
+}
+
+/// The words' bytes, the lowest of each first; `N*WORD` is a word N times, and None stands where a
+/// text is no word. Fails only for want of memory.
 pub fn code_bytes(alloc: Global, words: &str) -> Result<Option<Vec<u8>>, AllocError> {
     let mut bytes = Vec::new(alloc);
     for text in words.split(' ') {
-        let Some(word) = word_of(text) else {
+        let Some((times, digits)) = group(text) else {
             return Ok(None);
         };
-        bytes.extend_from_slice(&word.to_le_bytes())?;
+        let Some(word) = word_of(digits) else {
+            return Ok(None);
+        };
+        for _ in 0..times {
+            bytes.extend_from_slice(&word.to_le_bytes())?;
+        }
     }
     Ok(Some(bytes))
 }
@@ -79,11 +92,11 @@ pub fn file_bytes(alloc: Global, text: &str) -> Result<Option<Vec<u8>>, AllocErr
     Ok(Some(bytes))
 }
 
-/// How often a group of digits stands, and the digits; None where that is no number.
+/// How often a group stands, and what stands in it; None where that is no number.
 fn group(word: &str) -> Option<(u32, &str)> {
     match word.split_once('*') {
         None => Some((1, word)),
-        Some((times, digits)) => Some((times.parse::<u32>().ok()?, digits)),
+        Some((times, group)) => Some((times.parse::<u32>().ok()?, group)),
     }
 }
 
@@ -99,6 +112,24 @@ pub fn hex_bytes(alloc: Global, text: &str) -> Result<Option<Vec<u8>>, AllocErro
         };
         for _ in 0..times {
             bytes.extend_from_slice(part.as_slice())?;
+        }
+    }
+    Ok(Some(bytes))
+}
+
+/// The bytes of a text in parts between `|`, each as a file's text spells it; `N*PART` is a part N
+/// times, and None stands where a part spells none.
+pub fn pieces(alloc: Global, text: &str) -> Result<Option<Vec<u8>>, AllocError> {
+    let mut bytes = Vec::new(alloc);
+    for part in text.split('|') {
+        let Some((times, spelled)) = group(part) else {
+            return Ok(None);
+        };
+        let Some(piece) = file_bytes(alloc, spelled)? else {
+            return Ok(None);
+        };
+        for _ in 0..times {
+            bytes.extend_from_slice(piece.as_slice())?;
         }
     }
     Ok(Some(bytes))

@@ -1,7 +1,7 @@
-//! Rows of tables: code words and runs, policies, and programs of classic BPF.
+//! Rows of tables: code words and runs, policies, programs of classic BPF, and containers.
 //!
 //! Each file of `data` is a table. A line of it that is empty or begins with `#` has no row. The
-//! fields of the others are parted by tabs, but those of `rows.txt`.
+//! fields of the others are parted by tabs, but those of `rows.txt` and `containers.txt`.
 //!
 //! `words.tsv`, on code words of both profiles: a code word, a text of the assembler (or nothing),
 //! and the verdicts of the second and of the first profile. The rows of a line are how the word is
@@ -15,8 +15,30 @@
 //!
 //! `files.tsv`, on policies from files: a file, in which `\n` is LF, `\r` is CR and `\N;` is N
 //! blanks, and what comes of reading it: `Lines N`, `Length L`, `Form L POSITION KIND`, or `policy`
-//! with its text and its digest. `built_in.tsv`: the name of a built-in policy, its text and its
-//! digest. The digests are what `sha256sum` prints of the texts.
+//! with its text and its digest. `built_in.tsv`: the name of a built-in policy, its text, its digest,
+//! and its number, the heights of its formulas, register 16 where a second agent starts, and the
+//! numbers that its containers may have; or a name and `no policy`. The digests are what `sha256sum`
+//! prints of the texts.
+//!
+//! `texts.txt`, on texts: a question, `=` and the answer that is wanted. A text has parts between
+//! `|`, `N*PART` is a part N times, and blanks and ends of lines are written as in `files.tsv`. How
+//! it is read, P, is `One` or `Two` for the profile, with `Left` behind it where the text may name
+//! the steps that are left. The questions are
+//!
+//! - `form P TEXT`: what is printed of the formula, which is read back, or `POSITION KIND`;
+//! - `tree P TEXT`: the formula as a tree; `high P TEXT`: the length of the text and the height of
+//!   the formula, which is copied, printed and read back;
+//! - `source P TEXT`: the invariants of a source with the indices where they stand, or `LINE KIND`;
+//! - `register LEXEME`, `number LEXEME`, `decimal LEXEME`: which one it is; `digit LEXEME`: whether it
+//!   begins with a digit.
+//!
+//! `codes.txt`, on code words, as a question likewise:
+//!
+//! - `insn P INDEX WORD`: what is printed of the word at an index, `outside` where it leads to no
+//!   index, or why the profile has no such word;
+//! - `cut INDICES / WORDS`: how many words code has that is cut at indices, and its unfolded length;
+//!   `marked I INDICES / WORDS`: whether it is marked at I. `N-M` are the indices from N to M, and
+//!   `N*WORD` is a word N times.
 //!
 //! `rows.txt`, on programs of classic BPF: a question, `=` and the answer that is wanted. Bytes are
 //! written in hexadecimal, in groups parted by blanks, and `N*GROUP` is a group N times. The
@@ -32,18 +54,38 @@
 //! `programs.tsv`, on programs of classic BPF with packets and their values by libpcap: a number,
 //! where the program is from, its bytes, the packets, the values and what it is for. Each packet is
 //! a row.
+//!
+//! `containers.txt`, on containers: a question, `=` and the answer that is wanted. The bytes are
+//! pieces parted by blanks: `PCCA`; `#` before bytes in hexadecimal; a group of fields parted by
+//! commas, each a number, the lowest byte first; `N*GROUP`, a group N times, where a field `A+B` is
+//! A the first time and B more each time; and `balanced*N`, the entries of the balanced tree over N
+//! literals, the words 2^32 * k + k. The questions are
+//!
+//! - `read PIECES`: the offset and the kind of the first fault; or `N terms, weight W`, N being how
+//!   many terms are read and W what the proof weighs, 0 where there is none, where the container
+//!   is written again as it was and its extent is that;
+//! - `fields PIECES`: its version, what names the policy, the bound, the code, the invariants, the
+//!   lemmas and the proof, the terms by their ids; `term N PIECES`: the term of id N;
+//! - `cuts PIECES`: how many bytes there are, each shorter part being cut at the field that isn't
+//!   whole.
 #![tactic(auto)]
 
 mod blocks;
 mod bytes;
+mod codes;
+mod containers;
+mod pieces;
 mod policies;
 mod programs;
 mod questions;
 mod row;
 mod runs;
+mod texts;
 mod words;
 
 use anyhow::Result;
+use codes::code_line;
+use containers::container_line;
 use policies::{built_in_line, file_line};
 use programs::program_line;
 use questions::question_line;
@@ -51,6 +93,7 @@ use row::Row;
 use runs::run_line;
 use std::alloc::{AllocError, Global};
 use std::fs;
+use texts::text_line;
 use words::word_line;
 
 /// A table of rows.
@@ -60,18 +103,24 @@ enum Table {
     Runs,
     Files,
     BuiltIn,
+    Texts,
+    Codes,
     Questions,
     Programs,
+    Containers,
 }
 
 /// Every table.
-const TABLES: [Table; 6] = [
+const TABLES: [Table; 9] = [
     Table::Words,
     Table::Runs,
     Table::Files,
     Table::BuiltIn,
+    Table::Texts,
+    Table::Codes,
     Table::Questions,
     Table::Programs,
+    Table::Containers,
 ];
 
 impl Table {
@@ -82,8 +131,11 @@ impl Table {
             Table::Runs => "runs.tsv",
             Table::Files => "files.tsv",
             Table::BuiltIn => "built_in.tsv",
+            Table::Texts => "texts.txt",
+            Table::Codes => "codes.txt",
             Table::Questions => "rows.txt",
             Table::Programs => "programs.tsv",
+            Table::Containers => "containers.txt",
         }
     }
 
@@ -94,8 +146,11 @@ impl Table {
             Table::Runs => run_line(alloc, line),
             Table::Files => file_line(alloc, line),
             Table::BuiltIn => built_in_line(alloc, line),
+            Table::Texts => text_line(alloc, line),
+            Table::Codes => code_line(alloc, line),
             Table::Questions => question_line(alloc, line),
             Table::Programs => program_line(alloc, line),
+            Table::Containers => container_line(alloc, line),
         }
     }
 }

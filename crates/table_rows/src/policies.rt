@@ -1,8 +1,9 @@
 //! Rows on policies from files, on policies' texts and on their digests.
 
-use crate::bytes::{field, file_bytes};
+use crate::bytes::{field, file_bytes, text_of};
 use crate::row::{Row, one_row};
 use formula_text::{TextFault, print_form};
+use packet_store::start_at;
 use policy_set::{Policy, PolicyFault, by_name, digest, read_policy};
 use std::alloc::{AllocError, Global};
 
@@ -17,14 +18,6 @@ fn fault_text(alloc: Global, fault: PolicyFault) -> Result<String, AllocError> {
         }
         PolicyFault::Form(_, TextFault::Memory) => format!(in alloc; "no memory"),
         PolicyFault::Memory => format!(in alloc; "no memory"),
-    }
-}
-
-/// Bytes as text.
-fn text_of(alloc: Global, bytes: &[u8]) -> Result<String, AllocError> {
-    match str::from_utf8(bytes) {
-        Ok(text) => format!(in alloc; "{text}"),
-        Err(_) => format!(in alloc; "no text"),
     }
 }
 
@@ -73,11 +66,43 @@ pub fn file_line(alloc: Global, line: &str) -> Result<Vec<Row>, AllocError> {
     }
 }
 
-/// The text and the digest of the built-in policy that a line names.
+/// Register 16 at the start of a policy on 64 zeros, in the arena of the second of several agents.
+fn second_start(policy: &Policy) -> u64 {
+    let packet = [0; 64];
+    match start_at(policy, &packet, 131_088) {
+        Some(start) => start.r16,
+        None => 0,
+    }
+}
+
+/// The number of a policy, how high its copy's formulas are, where a second agent starts, and which
+/// of some numbers a container for it may have.
+fn measures(alloc: Global, policy: &Policy) -> Result<String, AllocError> {
+    let copy = policy.copy(alloc)?;
+    let number = copy.number();
+    let pre = copy.pre().height();
+    let post = copy.post().height();
+    let start = second_start(policy);
+    let mut text = format!(in alloc; "{number} {pre} {post} starts {start} takes")?;
+    for number in [0, 1, 2, 3, u32::MAX] {
+        if copy.has_number(number) {
+            let taken = format!(in alloc; " {number}")?;
+            text.push_str(taken.as_str())?;
+        }
+    }
+    Ok(text)
+}
+
+/// The text, the digest and the measures of the built-in policy that a line names, or that it names
+/// none.
 pub fn built_in_line(alloc: Global, line: &str) -> Result<Vec<Row>, AllocError> {
-    let name = field(line, 0);
-    match by_name(alloc, name)? {
-        None => one_row(alloc, format!(in alloc; "no policy")?, name),
-        Some(policy) => text_and_digest(alloc, &policy, field(line, 1), field(line, 2)),
+    match by_name(alloc, field(line, 0))? {
+        None => one_row(alloc, format!(in alloc; "no policy")?, field(line, 1)),
+        Some(policy) => {
+            let mut rows = text_and_digest(alloc, &policy, field(line, 1), field(line, 2))?;
+            let want = field(line, 3);
+            rows.push((measures(alloc, &policy)?, format!(in alloc; "{want}")?))?;
+            Ok(rows)
+        }
     }
 }

@@ -29,13 +29,21 @@ fn result_text(
     }
 }
 
-/// The code that bytes are; None where they are none.
-fn code_of(alloc: Global, bytes: &[u8]) -> Option<Code> {
+/// The code of the second profile that bytes are; None where they are none.
+pub fn code_of(alloc: Global, bytes: &[u8]) -> Option<Code> {
     let count = bytes.len();
     if count == 0 || count % 4 != 0 || count > 4 * MAX_WORDS {
         return None;
     }
     Code::of(alloc, bytes, Profile::Two).ok()
+}
+
+/// Whether a run under a policy without a region has a sum.
+fn has_stray_sum(policy: Option<PolicyKind>, end: PacketResult) -> bool {
+    match (policy, end) {
+        (Some(PolicyKind::Filter), PacketResult::Ran(_, sum)) => sum != 0,
+        _ => false,
+    }
 }
 
 /// What a packet comes to in so many steps.
@@ -52,6 +60,9 @@ fn run_text(
     let kind = policy.kind();
     let mut runner = TestingRunner::new(alloc, policy, code, steps)?;
     let end = runner.run_packet(packet);
+    if has_stray_sum(kind, end) {
+        return format!(in alloc; "a sum of no region");
+    }
     result_text(alloc, kind, end)
 }
 

@@ -6,7 +6,7 @@ use crate::faults::{Read, RowFault};
 use text_tokens::{Class, Marks, Token, next_token};
 
 /// A bracket.
-#[derive(Clone, Copy, Debug, PartialEq, Eq)]
+#[derive(Clone, Copy)]
 pub enum Bracket {
     /// `(`.
     Open,
@@ -40,6 +40,14 @@ impl Marks for Bracket {
     }
 }
 
+/// Whether a word parts the trees of a row.
+fn is_mark(word: &[u8]) -> bool {
+    match word {
+        b"=" | b"/" | b":" | b"|-" => true,
+        _ => false,
+    }
+}
+
 /// What is left of a text that is read.
 #[derive(Drop)]
 pub struct Cursor<'t> {
@@ -64,40 +72,68 @@ impl<'t> Cursor<'t> {
         }
     }
 
-    /// The next token, which has to be a word.
-    pub fn word(&mut self) -> Read<&'t [u8]> {
-        match self.token()? {
-            Token::Lexeme(word) => Ok(word),
-            Token::Mark(_) => Err(RowFault::Bracket),
+    /// The next token, where it is a word.
+    fn next_word(&self) -> Option<&'t [u8]> {
+        match next_token::<Bracket>(self.rest, 0) {
+            None => None,
+            Some(placed) => match placed.token {
+                Token::Mark(_) => None,
+                Token::Lexeme(word) => Some(word),
+            },
         }
     }
 
-    /// Goes behind the next token where it is this word, and says whether it did.
-    pub fn passes(&mut self, word: &[u8]) -> bool {
+    /// Goes behind the next token.
+    fn skip(&mut self) {
         let rest = self.rest;
         match next_token::<Bracket>(rest, 0) {
-            None => false,
-            Some(placed) => match placed.token {
-                Token::Mark(_) => false,
-                Token::Lexeme(found) => {
-                    if found != word {
-                        return false;
-                    }
-                    self.rest = &rest[placed.next..];
-                    true
-                }
-            },
+            None => {}
+            Some(placed) => self.rest = &rest[placed.next..],
+        }
+    }
+
+    /// What is wrong where no word stands next.
+    fn no_word(&self) -> RowFault {
+        if self.ends() {
+            RowFault::Ends
+        } else {
+            RowFault::Bracket
+        }
+    }
+
+    /// The next token, which has to be a word.
+    pub fn word(&mut self) -> Read<&'t [u8]> {
+        match self.next_word() {
+            None => Err(self.no_word()),
+            Some(word) => {
+                self.skip();
+                Ok(word)
+            }
         }
     }
 
     /// Whether the next token is this word.
     pub fn meets(&self, word: &[u8]) -> bool {
-        match next_token::<Bracket>(self.rest, 0) {
+        match self.next_word() {
             None => false,
-            Some(placed) => match placed.token {
-                Token::Mark(_) => false,
-                Token::Lexeme(found) => found == word,
-            },
+            Some(found) => found == word,
+        }
+    }
+
+    /// Goes behind the next token where it is this word, and says whether it did.
+    pub fn passes(&mut self, word: &[u8]) -> bool {
+        let meets = self.meets(word);
+        if meets {
+            self.skip();
+        }
+        meets
+    }
+
+    /// Whether the next token is a word that parts trees of a row.
+    pub fn meets_mark(&self) -> bool {
+        match self.next_word() {
+            None => false,
+            Some(word) => is_mark(word),
         }
     }
 

@@ -3,7 +3,7 @@
 use std::alloc::AllocError;
 
 /// What is wrong with a row of text.
-#[derive(Clone, Copy, Debug, PartialEq, Eq)]
+#[derive(Clone, Copy)]
 pub enum RowFault {
     /// A call found no room.
     Memory,

@@ -35,20 +35,33 @@ impl Names {
         None
     }
 
-    /// Lets the name stand for the tree from now on.
-    pub fn define(&mut self, name: &[u8], tree: Id) -> Read<()> {
+    /// Lets the name stand for the tree where it stood for one, and says whether it did.
+    fn replace(&mut self, name: &[u8], tree: Id) -> bool {
         for row in self.rows.iter_mut() {
             if row.name.as_slice() == name {
                 row.tree = tree;
-                return Ok(());
+                return true;
             }
         }
+        false
+    }
+
+    /// Adds a name that isn't there.
+    fn add(&mut self, name: &[u8], tree: Id) -> Read<()> {
         let alloc = *self.rows.allocator();
-        let mut copy = Vec::new(alloc);
-        copy.extend_from_slice(name)?;
-        match self.rows.push(Named { name: copy, tree }) {
+        let name = Vec::from_slice(alloc, name)?;
+        match self.rows.push(Named { name, tree }) {
             Ok(()) => Ok(()),
             Err(_) => Err(RowFault::Memory),
+        }
+    }
+
+    /// Lets the name stand for the tree from now on.
+    pub fn define(&mut self, name: &[u8], tree: Id) -> Read<()> {
+        if self.replace(name, tree) {
+            Ok(())
+        } else {
+            self.add(name, tree)
         }
     }
 }

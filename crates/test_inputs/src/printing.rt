@@ -11,21 +11,26 @@ const DEEPEST: u32 = 24;
 
 /// Appends a word and a number.
 fn put_number(text: &mut String, word: &str, number: u64) -> Result<(), AllocError> {
-    text.push_str(word)?;
-    let number = format!(in *text.allocator(); "{number}")?;
-    text.push_str(number.as_str())
+    let part = format!(in *text.allocator(); "{word}{number}")?;
+    text.push_str(part.as_str())
 }
 
 /// Appends a keyword with three numbers, in parentheses.
 fn put_evaluated(
     text: &mut String,
     keyword: &str,
-    numbers: (u64, u64, u64),
+    op: u32,
+    a: u64,
+    b: u64,
 ) -> Result<(), AllocError> {
-    put_number(text, keyword, numbers.0)?;
-    put_number(text, " ", numbers.1)?;
-    put_number(text, " ", numbers.2)?;
-    text.push_str(")")
+    let part = format!(in *text.allocator(); "({keyword} {op} {a} {b})")?;
+    text.push_str(part.as_str())
+}
+
+/// Appends a keyword with a number, in parentheses.
+fn put_numbered(text: &mut String, keyword: &str, number: u32) -> Result<(), AllocError> {
+    let part = format!(in *text.allocator(); "({keyword} {number})")?;
+    text.push_str(part.as_str())
 }
 
 /// Appends a name of a list, or where it has none there the keyword and the number, in parentheses.
@@ -37,10 +42,7 @@ fn put_name(
 ) -> Result<(), AllocError> {
     match names.get(number as usize) {
         Some(name) => text.push_str(name),
-        None => {
-            put_number(text, keyword, u64::from(number))?;
-            text.push_str(")")
-        }
+        None => put_numbered(text, keyword, number),
     }
 }
 
@@ -48,16 +50,13 @@ fn put_name(
 fn put_leaf(text: &mut String, node: Node) -> Result<(), AllocError> {
     match node {
         Node::Var(n) => put_number(text, "#", u64::from(n)),
-        Node::Const(n) => put_name(text, &CONSTANTS, "(const ", n),
-        Node::Fam(n) => put_name(text, &FAMILIES, "(fam ", n),
+        Node::Const(n) => put_name(text, &CONSTANTS, "const", n),
+        Node::Fam(n) => put_name(text, &FAMILIES, "fam", n),
         Node::Lit(word) => put_number(text, "", word),
-        Node::Calc(o, a, b) => put_evaluated(text, "(calc ", (u64::from(o), a, b)),
-        Node::Fact(o, a, b) => put_evaluated(text, "(fact ", (u64::from(o), a, b)),
-        Node::Deny(o, a, b) => put_evaluated(text, "(deny ", (u64::from(o), a, b)),
-        Node::Lemma(n) => {
-            put_number(text, "(lemma ", u64::from(n))?;
-            text.push_str(")")
-        }
+        Node::Calc(o, a, b) => put_evaluated(text, "calc", o, a, b),
+        Node::Fact(o, a, b) => put_evaluated(text, "fact", o, a, b),
+        Node::Deny(o, a, b) => put_evaluated(text, "deny", o, a, b),
+        Node::Lemma(n) => put_numbered(text, "lemma", n),
         Node::App(_, _) | Node::Lam(_) | Node::TApp(_, _) | Node::Pi(_, _) => Ok(()),
     }
 }

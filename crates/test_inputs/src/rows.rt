@@ -12,7 +12,7 @@ use crate::cursors::Cursor;
 use crate::faults::{Read, RowFault};
 use crate::names::Names;
 use crate::printing::tree_text;
-use crate::term_text::{known, read_either, small_number};
+use crate::term_text::{read_tree, small_number};
 use std::alloc::{AllocError, Global};
 use std::rt::Files;
 use std::{fs, io};
@@ -50,7 +50,6 @@ impl Answer {
 pub trait Questions {
     /// The answer to the question that begins with this word, whose parts the cursor stands before.
     fn answer(
-        &mut self,
         table: &mut Table,
         names: &Names,
         question: &[u8],
@@ -128,7 +127,7 @@ fn is_wanted(
     if passes_word(cursor) {
         return Ok(false);
     }
-    let wanted = read_either(table, names, cursor)?;
+    let wanted = read_tree(table, names, cursor)?;
     match answer {
         Answer::Tree(tree) => Ok(tree.index() == wanted.index()),
         Answer::Number(number) => Ok(is_literal(table, wanted, *number)),
@@ -147,14 +146,25 @@ enum Outcome {
     Differs(Answer),
 }
 
+/// Gives the next tree this name.
+fn name_tree(
+    table: &mut Table,
+    names: &mut Names,
+    cursor: &mut Cursor<'_>,
+    name: &[u8],
+) -> Read<()> {
+    let tree = read_tree(table, names, cursor)?;
+    names.define(name, tree)
+}
+
 /// Gives the tree behind the next `:=` the name before it.
 fn assign(table: &mut Table, names: &mut Names, cursor: &mut Cursor<'_>) -> Read<()> {
     let name = cursor.word()?;
-    if !cursor.passes(b":=") {
-        return Err(RowFault::Word);
+    if cursor.passes(b":=") {
+        name_tree(table, names, cursor, name)
+    } else {
+        Err(RowFault::Word)
     }
-    let tree = read_either(table, names, cursor)?;
-    names.define(name, tree)
 }
 
 /// Gives the names of a text, one after the other.
@@ -178,45 +188,73 @@ fn repeat(table: &mut Table, names: &mut Names, cursor: &mut Cursor<'_>) -> Read
     Ok(Outcome::Named)
 }
 
-/// What the answer comes to that stands before the cursor.
+/// Gives the names of a row.
+fn named(table: &mut Table, names: &mut Names, row: &[u8]) -> Read<Outcome> {
+    assign_all(table, names, row)?;
+    Ok(Outcome::Named)
+}
+
+/// What an answer comes to.
+fn met(same: bool, answer: Answer) -> Outcome {
+    if same {
+        Outcome::Same
+    } else {
+        Outcome::Differs(answer)
+    }
+}
+
+/// What an answer comes to, the wanted one being the rest of the row.
+fn judged(
+    table: &mut Table,
+    names: &Names,
+    cursor: &mut Cursor<'_>,
+    answer: Answer,
+) -> Read<Outcome> {
+    let same = is_wanted(table, names, cursor, &answer)?;
+    if cursor.ends() {
+        Ok(met(same, answer))
+    } else {
+        Err(RowFault::Longer)
+    }
+}
+
+/// What an answer comes to, `=` and the wanted one being the rest of the row.
 fn compared(
     table: &mut Table,
     names: &Names,
     cursor: &mut Cursor<'_>,
     answer: Answer,
 ) -> Read<Outcome> {
-    if !cursor.passes(b"=") {
-        return Err(RowFault::Word);
-    }
-    let same = is_wanted(table, names, cursor, &answer)?;
-    if !cursor.ends() {
-        return Err(RowFault::Longer);
-    }
-    if same {
-        Ok(Outcome::Same)
+    if cursor.passes(b"=") {
+        judged(table, names, cursor, answer)
     } else {
-        Ok(Outcome::Differs(answer))
+        Err(RowFault::Word)
     }
 }
 
-/// What the row comes to.
-fn row_outcome<Q: Questions>(
-    questions: &mut Q,
+/// What a question and the answer behind it come to.
+fn asked<Q: Questions>(
     table: &mut Table,
-    names: &mut Names,
-    row: &[u8],
+    names: &Names,
+    question: &[u8],
+    cursor: &mut Cursor<'_>,
 ) -> Read<Outcome> {
+    let answer = Q::answer(table, names, question, cursor)?;
+    compared(table, names, cursor, answer)
+}
+
+/// What the row comes to.
+fn row_outcome<Q: Questions>(table: &mut Table, names: &mut Names, row: &[u8]) -> Read<Outcome> {
     let mut cursor = Cursor::new(row);
     let first = cursor.word()?;
     if first == b"repeat".as_slice() {
         return repeat(table, names, &mut cursor);
     }
     if cursor.passes(b":=") {
-        assign_all(table, names, row)?;
-        return Ok(Outcome::Named);
+        named(table, names, row)
+    } else {
+        asked::<Q>(table, names, first, &mut cursor)
     }
-    let answer = questions.answer(table, names, first, &mut cursor)?;
-    compared(table, names, &mut cursor, answer)
 }
 
 /// How many questions there were, and how many of them differ.
@@ -297,7 +335,6 @@ fn behind(text: &[u8], length: usize) -> &[u8] {
 fn go_through<R: AllocGlobal + Print, Q: Questions>(
     rt: &R,
     text: &[u8],
-    questions: &mut Q,
     counts: &mut Counts,
 ) -> io::Result<()> {
     let mut table = Table::new(rt.alloc(), Places::sigma1());
@@ -313,7 +350,7 @@ fn go_through<R: AllocGlobal + Print, Q: Questions>(
         if is_comment(row) {
             continue;
         }
-        match row_outcome(questions, &mut table, &mut names, row) {
+        match row_outcome::<Q>(&mut table, &mut names, row) {
             Ok(outcome) => report(rt, &table, counts, row, &outcome)?,
             Err(fault) => {
                 counts.count(true);
@@ -327,14 +364,10 @@ fn go_through<R: AllocGlobal + Print, Q: Questions>(
 /// Goes through the rows of a file, and prints each whose answer differs, with its number among the
 /// questions and the answer that was got, and each that is no row, with its fault; and at last how
 /// many questions there were and how many of them differ. The program answers the questions.
-pub fn run<R: AllocGlobal + Files + Print, Q: Questions>(
-    rt: &R,
-    path: &str,
-    questions: &mut Q,
-) -> io::Result<()> {
+pub fn run<R: AllocGlobal + Files + Print, Q: Questions>(rt: &R, path: &str) -> io::Result<()> {
     let text = fs::read(rt, path)?;
     let mut counts = Counts { rows: 0, differ: 0 };
-    go_through(rt, text.as_slice(), questions, &mut counts)?;
+    go_through::<R, Q>(rt, text.as_slice(), &mut counts)?;
     let rows = counts.rows;
     let differ = counts.differ;
     println!(rt; "{rows} rows, {differ} differ")

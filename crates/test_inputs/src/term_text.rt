@@ -11,6 +11,7 @@ ghost use Rattle.term_table.specs.Table.{AllKnown, Extends, IsKnown, tree_at};
 use crate::cursors::{Bracket, Cursor};
 use crate::faults::{Read, RowFault};
 use crate::names::Names;
+use std::alloc::AllocError;
 use term_table::{Id, Node, Table};
 use text_tokens::{Number, Token, begins_with_digit, read_number};
 
@@ -248,18 +249,25 @@ fn sorted(table: &Table, id: Id, wants_type: bool) -> Read<()>
     }
 }
 
+/// The tree of a node that was put into a table.
+fn interned(answer: Result<Id, AllocError>) -> Read<Id> {
+    match answer {
+        Ok(tree) => Ok(tree),
+        Err(_) => Err(RowFault::Memory),
+    }
+}
+
 /// A tree applied to a term: a term where it is one, else a type.
 fn applied(table: &mut Table, head: Id, argument: Id) -> Read<Id>
     ensures extends { Extends table.old table.new }
 {
     known(table, head)?;
     sorted(table, argument, false)?;
-    let node = if is_type(table, head) {
-        Node::TApp(head, argument)
+    if is_type(table, head) {
+        interned(table.intern(Node::TApp(head, argument)))
     } else {
-        Node::App(head, argument)
-    };
-    Ok(table.intern(node)?)
+        interned(table.intern(Node::App(head, argument)))
+    }
 }
 
 /// An abstraction over a term.
@@ -267,7 +275,7 @@ fn abstraction(table: &mut Table, body: Id) -> Read<Id>
     ensures extends { Extends table.old table.new }
 {
     sorted(table, body, false)?;
-    Ok(table.intern(Node::Lam(body))?)
+    interned(table.intern(Node::Lam(body)))
 }
 
 /// The product of two types.
@@ -276,7 +284,7 @@ fn product(table: &mut Table, from: Id, to: Id) -> Read<Id>
 {
     sorted(table, from, true)?;
     sorted(table, to, true)?;
-    Ok(table.intern(Node::Pi(from, to))?)
+    interned(table.intern(Node::Pi(from, to)))
 }
 
 /// Opens a frame.
@@ -287,20 +295,33 @@ fn open(frames: &mut Vec<Frame>, frame: Frame) -> Read<Option<Id>> {
     }
 }
 
+/// The tree that was made, which is whole.
+fn whole(made: Read<Id>) -> Read<Option<Id>> {
+    match made {
+        Ok(tree) => Ok(Some(tree)),
+        Err(fault) => Err(fault),
+    }
+}
+
+/// Applies the tree of a parenthesis to a whole tree in it.
+fn apply(table: &mut Table, frames: &mut Vec<Frame>, head: Id, tree: Id) -> Read<Option<Id>>
+    ensures extends { Extends table.old table.new }
+{
+    let head = applied(table, head, tree)?;
+    open(frames, Frame::Applied(head))
+}
+
 /// What a frame makes of a whole tree in it: a whole tree, or none where it stays open.
 fn within(table: &mut Table, frames: &mut Vec<Frame>, frame: Frame, tree: Id) -> Read<Option<Id>>
     ensures extends { Extends table.old table.new }
 {
     match frame {
         Frame::Head => open(frames, Frame::Applied(tree)),
-        Frame::Applied(head) => {
-            let head = applied(table, head, tree)?;
-            open(frames, Frame::Applied(head))
-        }
-        Frame::Body => Ok(Some(abstraction(table, tree)?)),
+        Frame::Applied(head) => apply(table, frames, head, tree),
+        Frame::Body => whole(abstraction(table, tree)),
         Frame::Domain => open(frames, Frame::Given(tree)),
         Frame::Given(_) => Err(RowFault::Bracket),
-        Frame::Range(from) => Ok(Some(product(table, from, tree)?)),
+        Frame::Range(from) => whole(product(table, from, tree)),
     }
 }
 
@@ -372,57 +393,99 @@ fn bracket(
     }
 }
 
-/// The leaf that a keyword begins, whose numbers stand behind it.
-fn numbered(cursor: &mut Cursor<'_>, keyword: &[u8]) -> Read<Option<Node>> {
-    if keyword == b"const".as_slice() {
-        return Ok(Some(Node::Const(named_number(cursor, &CONSTANTS)?)));
-    }
-    if keyword == b"fam".as_slice() {
-        return Ok(Some(Node::Fam(named_number(cursor, &FAMILIES)?)));
-    }
-    if keyword == b"lemma".as_slice() {
-        return Ok(Some(Node::Lemma(small_number(cursor)?)));
-    }
-    evaluated(cursor, keyword)
+/// The number of the constant of a name.
+fn constant_of(name: &[u8]) -> Option<u32> {
+    place_in(&CONSTANTS, name)
 }
 
-/// The evaluation, fact or denial that a keyword begins.
-fn evaluated(cursor: &mut Cursor<'_>, keyword: &[u8]) -> Read<Option<Node>> {
-    let calc = keyword == b"calc".as_slice();
-    let fact = keyword == b"fact".as_slice();
-    if !calc && !fact && keyword != b"deny".as_slice() {
-        return Ok(None);
-    }
-    let number = if calc {
-        named_number(cursor, &OPERATORS)?
-    } else {
-        named_number(cursor, &RELATIONS)?
-    };
+/// A constant by the name or number that stands next.
+fn constant(cursor: &mut Cursor<'_>) -> Read<Option<Node>> {
+    let number = named_number(cursor, &CONSTANTS)?;
+    Ok(Some(Node::Const(number)))
+}
+
+/// A family by the name or number that stands next.
+fn family(cursor: &mut Cursor<'_>) -> Read<Option<Node>> {
+    let number = named_number(cursor, &FAMILIES)?;
+    Ok(Some(Node::Fam(number)))
+}
+
+/// The lemma of the number that stands next.
+fn lemma(cursor: &mut Cursor<'_>) -> Read<Option<Node>> {
+    let number = small_number(cursor)?;
+    Ok(Some(Node::Lemma(number)))
+}
+
+/// The next word's place in a list of names, or the number that it is, and the two words behind it.
+fn of_two_words(cursor: &mut Cursor<'_>, names: &[&'static str]) -> Read<(u32, u64, u64)> {
+    let number = named_number(cursor, names)?;
     let a = word_number(cursor)?;
     let b = word_number(cursor)?;
-    if calc {
-        Ok(Some(Node::Calc(number, a, b)))
-    } else if fact {
-        Ok(Some(Node::Fact(number, a, b)))
-    } else {
-        Ok(Some(Node::Deny(number, a, b)))
+    Ok((number, a, b))
+}
+
+/// An evaluation: an operator and two words.
+fn evaluation(cursor: &mut Cursor<'_>) -> Read<Option<Node>> {
+    let (op, a, b) = of_two_words(cursor, &OPERATORS)?;
+    Ok(Some(Node::Calc(op, a, b)))
+}
+
+/// A fact: a relation and two words.
+fn fact(cursor: &mut Cursor<'_>) -> Read<Option<Node>> {
+    let (rel, a, b) = of_two_words(cursor, &RELATIONS)?;
+    Ok(Some(Node::Fact(rel, a, b)))
+}
+
+/// A denial: a relation and two words.
+fn denial(cursor: &mut Cursor<'_>) -> Read<Option<Node>> {
+    let (rel, a, b) = of_two_words(cursor, &RELATIONS)?;
+    Ok(Some(Node::Deny(rel, a, b)))
+}
+
+/// The leaf that a keyword begins, whose numbers stand behind it.
+fn numbered(cursor: &mut Cursor<'_>, keyword: &[u8]) -> Read<Option<Node>> {
+    match keyword {
+        b"const" => constant(cursor),
+        b"fam" => family(cursor),
+        b"lemma" => lemma(cursor),
+        b"calc" => evaluation(cursor),
+        b"fact" => fact(cursor),
+        b"deny" => denial(cursor),
+        _ => Ok(None),
+    }
+}
+
+/// The literal that a numeral is.
+fn literal(numeral: &[u8]) -> Read<Option<Node>> {
+    let word = word_of(numeral)?;
+    Ok(Some(Node::Lit(word)))
+}
+
+/// The variable of the number that a numeral is.
+fn variable(numeral: &[u8]) -> Read<Option<Node>> {
+    let number = small_of(numeral)?;
+    Ok(Some(Node::Var(number)))
+}
+
+/// The family or constant of a name.
+fn named(name: &[u8]) -> Option<Node> {
+    if let Some(family) = place_in(&FAMILIES, name) {
+        return Some(Node::Fam(family));
+    }
+    match constant_of(name) {
+        Some(constant) => Some(Node::Const(constant)),
+        None => None,
     }
 }
 
 /// The leaf that a word stands for by itself.
 fn leaf_of(word: &[u8]) -> Read<Option<Node>> {
     if begins_with_digit(word) {
-        return Ok(Some(Node::Lit(word_of(word)?)));
+        return literal(word);
     }
-    if let [b'#', numeral @ ..] = word {
-        return Ok(Some(Node::Var(small_of(numeral)?)));
-    }
-    if let Some(family) = place_in(&FAMILIES, word) {
-        return Ok(Some(Node::Fam(family)));
-    }
-    match place_in(&CONSTANTS, word) {
-        Some(constant) => Ok(Some(Node::Const(constant))),
-        None => Ok(None),
+    match word {
+        [b'#', numeral @ ..] => variable(numeral),
+        _ => Ok(named(word)),
     }
 }
 
@@ -432,7 +495,15 @@ fn leaf(table: &mut Table, node: Node) -> Read<Id>
 {
     match node {
         Node::App(_, _) | Node::Lam(_) | Node::TApp(_, _) | Node::Pi(_, _) => Err(RowFault::Sort),
-        _ => Ok(table.intern(node)?),
+        _ => interned(table.intern(node)),
+    }
+}
+
+/// The tree that rows have given a name.
+fn given(names: &Names, name: &[u8]) -> Read<Id> {
+    match names.find(name) {
+        Some(tree) => Ok(tree),
+        None => Err(RowFault::Word),
     }
 }
 
@@ -443,12 +514,9 @@ fn word_tree(table: &mut Table, names: &Names, cursor: &mut Cursor<'_>, word: &[
     if let Some(node) = leaf_of(word)? {
         return leaf(table, node);
     }
-    if let Some(node) = numbered(cursor, word)? {
-        return leaf(table, node);
-    }
-    match names.find(word) {
-        Some(tree) => Ok(tree),
-        None => Err(RowFault::Word),
+    match numbered(cursor, word)? {
+        Some(node) => leaf(table, node),
+        None => given(names, word),
     }
 }
 
@@ -471,7 +539,7 @@ fn step(
 }
 
 /// The tree that the cursor's next tokens are, behind which it stands then.
-fn read_tree(table: &mut Table, names: &Names, cursor: &mut Cursor<'_>) -> Read<Id>
+fn whole_tree(table: &mut Table, names: &Names, cursor: &mut Cursor<'_>) -> Read<Id>
     ensures extends { Extends table.old table.new }
 {
     let mut frames = Vec::new(table.allocator());
@@ -483,53 +551,31 @@ fn read_tree(table: &mut Table, names: &Names, cursor: &mut Cursor<'_>) -> Read<
     Err(RowFault::Memory)
 }
 
-/// The term or type, as is asked for, that the cursor's next tokens are.
-fn read_sorted(
-    table: &mut Table,
-    names: &Names,
-    cursor: &mut Cursor<'_>,
-    wants_type: bool,
-) -> Read<Id>
-    ensures known { IfOk result (IsKnown table.new) }
-    ensures sort { IfOk result
-        (λ id. wants_type ≡ not (is_term_shape (tree_at table.new id))) }
-    ensures extends { Extends table.old table.new }
-{
-    let tree = read_tree(table, names, cursor)?;
-    sorted(table, tree, wants_type)?;
-    Ok(tree)
-}
-
-/// The term that the cursor's next tokens are, behind which it stands then.
-///
-/// Errors: the fault of a text that is no term; the table keeps what it had.
-pub fn read_term(table: &mut Table, names: &Names, cursor: &mut Cursor<'_>) -> Read<Id>
-    ensures known { IfOk result (IsKnown table.new) }
-    ensures term { IfOk result (λ id. is_term_shape (tree_at table.new id) ≡ true) }
-    ensures extends { Extends table.old table.new }
-{
-    read_sorted(table, names, cursor, false)
-}
-
-/// The type that the cursor's next tokens are, behind which it stands then.
-///
-/// Errors: the fault of a text that is no type; the table keeps what it had.
-pub fn read_type(table: &mut Table, names: &Names, cursor: &mut Cursor<'_>) -> Read<Id>
-    ensures known { IfOk result (IsKnown table.new) }
-    ensures family { IfOk result (λ id. is_term_shape (tree_at table.new id) ≡ false) }
-    ensures extends { Extends table.old table.new }
-{
-    read_sorted(table, names, cursor, true)
-}
-
 /// The term or type that the cursor's next tokens are, behind which it stands then.
 ///
 /// Errors: the fault of a text that is neither; the table keeps what it had.
-pub fn read_either(table: &mut Table, names: &Names, cursor: &mut Cursor<'_>) -> Read<Id>
+pub fn read_tree(table: &mut Table, names: &Names, cursor: &mut Cursor<'_>) -> Read<Id>
     ensures known { IfOk result (IsKnown table.new) }
     ensures extends { Extends table.old table.new }
 {
-    let tree = read_tree(table, names, cursor)?;
+    let tree = whole_tree(table, names, cursor)?;
     known(table, tree)?;
     Ok(tree)
+}
+
+/// The terms and types before the next `=`, `/`, `:` or `|-`, before which the cursor stands then.
+///
+/// Errors: the fault of a text that is neither, or ends before.
+pub fn read_trees(table: &mut Table, names: &Names, cursor: &mut Cursor<'_>) -> Read<Vec<Id>> {
+    let mut trees = Vec::new(table.allocator());
+    for _ in 0..u64::MAX {
+        if cursor.meets_mark() {
+            break;
+        }
+        let tree = read_tree(table, names, cursor)?;
+        if trees.push(tree).is_err() {
+            return Err(RowFault::Memory);
+        }
+    }
+    Ok(trees)
 }

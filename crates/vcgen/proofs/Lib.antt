@@ -14,6 +14,4 @@ pub mod PolicyHeights
 pub mod MachineRegs
 pub mod Walking
 pub mod Parts
-pub mod Sides
-pub mod Lacking
 pub mod Used

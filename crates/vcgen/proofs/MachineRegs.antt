@@ -17,8 +17,9 @@ use Rattle.word_ops.specs.declared.Op.{Op}
 use Rattle.lf_encode.specs.PutTree.{MachineTerms, machine_terms_at, put_for, HasRoomUnder}
 use Rattle.lf_encode.specs.Kept.{AreMachineTerms}
 use Rattle.lf_encode.specs.declared.puts.MachineIds.{MachineIds}
-use Rattle.vcgen.specs.Inside.WalkTree.{reg_term, rhs_term, with_reg, inv_term, var_terms, start_terms}
-use Rattle.vcgen.specs.Inside.Symbols.{IsTermFor, inv_id}
+use Rattle.vcgen.specs.WalkTree.{reg_term, rhs_term, with_reg, inv_term, var_terms, start_terms}
+use Rattle.vcgen.specs.Symbols.{inv_id}
+use Rattle.vcgen.specs.Inside.Walks.{IsTermFor}
 
 -- ---- one element changed
 

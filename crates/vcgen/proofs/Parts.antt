@@ -6,7 +6,7 @@ use Rattle.alpha_cfg.specs.Cuts.{AreFlags}
 use Rattle.term_table.specs.Measures.{height_of}
 use Rattle.term_table.specs.Table.{TableView, IsKnown, tree_at, Extends}
 use Rattle.vcgen.specs.Answers.{AreLowInvs}
-use Rattle.vcgen.specs.Inside.Symbols.{AreInvs}
+use Rattle.vcgen.specs.Symbols.{AreInvs}
 
 -- ---- what the caller says of its invariants
 

@@ -31,7 +31,7 @@ use Rattle.lf_encode.proofs.PutTree.{put-encoding}
 use Rattle.vcgen.specs.Assignments.{for_reg, for_memory}
 use Rattle.vcgen.specs.Conditions.{AnnotatedCode, reg_exp, rhs_exp, address_exp, taken_if, passed_if, at_target, computed_exp, action_condition, insn_condition, one_step_less, condition_at, invariant_at, or_else, wp_within, wp, body, alls, close, entered, inv_parts, condition, aligned_exp}
 use Rattle.vcgen.specs.Encoded.{context_of, AreEncodings}
-use Rattle.vcgen.specs.Inside.WalkTree.{reg_term, rhs_term, address_term, tested_term, taken_term, passed_term, with_reg, with_memory, walked_to, computed_term, terms_effect, walked_on, walked_insn, with_left, one_less, walked_at, inv_term, ended, walked, walked_from, var_terms, start_terms, entry_terms, all_terms, machine_term, closed_term, part_terms, condition_term, aligned_term}
+use Rattle.vcgen.specs.WalkTree.{reg_term, rhs_term, address_term, tested_term, taken_term, passed_term, with_reg, with_memory, walked_to, computed_term, terms_effect, walked_on, walked_insn, with_left, one_less, walked_at, inv_term, ended, walked, walked_from, var_terms, start_terms, entry_terms, all_terms, machine_term, closed_term, part_terms, condition_term, aligned_term}
 use Rattle.vcgen.proofs.Substitutions.{subst-for_reg, subst-for_memory, subst-for_left, subst-other}
 
 -- ---- formulas in the context of code with a bound

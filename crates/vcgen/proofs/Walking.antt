@@ -16,11 +16,10 @@ use Rattle.lf_encode.specs.PutTree.{MachineTerms, machine_terms_at, put_tree}
 use Rattle.lf_encode.specs.Kept.{AreMachineTerms}
 use Rattle.lf_encode.proofs.KeptRows.{ready-more, ready-same, kept-ready}
 use Rattle.vcgen.specs.declared.symbols.Symbols.{Symbols}
-use Rattle.vcgen.specs.declared.comparisons.Comparisons.{Comparisons}
-use Rattle.vcgen.specs.Inside.WalkTree.{with_reg, with_memory, with_left, one_less, InsnEffect, Computed, Access, Split, Jump, Return, insn_effect, walked_on, walked, walked_at, ended}
-use Rattle.vcgen.proofs.Lacking.{uses-more}
+use Rattle.vcgen.specs.WalkTree.{with_reg, with_memory, with_left, one_less, InsnEffect, Computed, Access, Split, Jump, Return, insn_effect, walked_on, walked, walked_at, ended}
 use Rattle.vcgen.proofs.MachineRegs.{inv_term-is}
-use Rattle.vcgen.specs.Inside.Symbols.{ids_of, inv_id, AreInvs, IsProgram, IsWalking, AreComparisons, IsComparing, StandFor, IsEffect}
+use Rattle.vcgen.specs.Symbols.{ids_of, inv_id, AreInvs, IsProgram, StandFor, IsEffect}
+use Rattle.vcgen.specs.Inside.Walks.{IsWalking}
 use Rattle.vcgen.specs.declared.effects.Effect.TheVariants as E
 use Rattle.lf_signature.specs.Nodes.{IsIdOf}
 
@@ -43,24 +42,6 @@ walking-more t u insns ids at_end machine memo puts h e = record {
   ready = ready-more t u machine h.ready e;
   shifts = memo-more memo t u h.shifts e;
   kept = kept-ready puts t u machine h.kept h.ready e;
-}
-
-pub comparisons-more : (c : Comparisons) (t u : TableView) (machine : MachineIds) → AreComparisons t machine c → AreMachineTerms t machine → Extends t u →
-    AreComparisons u machine c
-comparisons-more c t u machine h r e = record {
-  puts = kept-ready c.puts t u machine h.puts r e;
-  ready = ready-more t u (ids_of c.earlier) h.ready e;
-  before = kept-ready c.before t u (ids_of c.earlier) h.before h.ready e;
-  uses = uses-more c.uses t u h.uses e;
-}
-
-pub comparing-more : (t u : TableView) (insns : List Insn) (ids : List (ℕ × ℕ)) (at_end : ℕ) (machine : MachineIds) (memo : Memo) (c : Comparisons) →
-    IsComparing t insns ids at_end machine memo c → Extends t u → IsComparing u insns ids at_end machine memo c
-comparing-more t u insns ids at_end machine memo c h e = record {
-  program = program-more t u insns ids at_end h.program e;
-  ready = ready-more t u machine h.ready e;
-  shifts = memo-more memo t u h.shifts e;
-  kept = comparisons-more c t u machine h.kept h.ready e;
 }
 
 -- ---- the terms stay

@@ -1,5 +1,5 @@
--- What `vc` and `is_condition_with` answer.
-use Rattle.std.specs.Prelude.{◌≡◌, ◌↔◌, ℕ, ◌<◌, ◌≤◌, List, [], ◌∷◌, Bool, IsTrue, Option, Result, Ok, Err}
+-- What `vc` answers.
+use Rattle.std.specs.Prelude.{◌≡◌, ℕ, ◌<◌, ◌≤◌, List, [], ◌∷◌, Option, Result, Ok, Err}
 use Rattle.alpha_cfg.specs.Cuts.{CutView, unfolded_of}
 use Rattle.alpha_cfg.specs.Graph.{as_u32}
 use Rattle.policy_set.specs.Views.{PolicyView}
@@ -30,11 +30,3 @@ IsVcAnswer policy bound cut invs t (Ok id) = (unfolded_of cut.code cut.marks ≤
 IsVcAnswer policy bound cut invs t (Err (UnfoldLimit n)) = (MAX_UNFOLDED < unfolded_of cut.code cut.marks) × (n ≡ as_u32 (unfolded_of cut.code cut.marks))
 IsVcAnswer policy bound cut invs t (Err Memory) = unfolded_of cut.code cut.marks ≤ MAX_UNFOLDED
 IsVcAnswer policy bound cut invs t (Err Results) = unfolded_of cut.code cut.marks ≤ MAX_UNFOLDED
-
--- Whether the formula is the condition's encoding where the unfolded length is within its limit, which is tested first; else that length.
-abbrev pub IsConditionAnswer : PolicyView → Option ℕ → CutView → List (ℕ × Tree) → Tree → Result Bool VcFault
-    → Type 0
-IsConditionAnswer policy bound cut invs formula (Ok b) = (unfolded_of cut.code cut.marks ≤ MAX_UNFOLDED) × (IsTrue b ↔ EncodesCondition policy bound cut.code invs formula)
-IsConditionAnswer policy bound cut invs formula (Err (UnfoldLimit n)) = (MAX_UNFOLDED < unfolded_of cut.code cut.marks) × (n ≡ as_u32 (unfolded_of cut.code cut.marks))
-IsConditionAnswer policy bound cut invs formula (Err Memory) = unfolded_of cut.code cut.marks ≤ MAX_UNFOLDED
-IsConditionAnswer policy bound cut invs formula (Err Results) = unfolded_of cut.code cut.marks ≤ MAX_UNFOLDED

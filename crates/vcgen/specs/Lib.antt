@@ -5,6 +5,8 @@ pub mod Conditions
 pub mod Variables
 pub mod Safety
 pub mod Encoded
+pub mod WalkTree
+pub mod Symbols
 pub mod Answers
 pub mod Laws
 pub mod Worked

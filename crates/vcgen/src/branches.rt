@@ -5,7 +5,7 @@ ghost use Rattle.term_table.specs.Table.{IsKnown, tree_at, Extends};
 ghost use Rattle.lf_signature.specs.Nodes.{IsIdOf};
 ghost use Rattle.lf_signature.specs.Terms.{lit, rel_term, not_term};
 ghost use Rattle.alpha_words.specs.declared.insn.Cond.TheVariants.{LowClear};
-ghost use Rattle.vcgen.specs.Inside.WalkTree.{tested_term, taken_term, passed_term};
+ghost use Rattle.vcgen.specs.WalkTree.{tested_term, taken_term, passed_term};
 
 use alpha_words::Cond;
 use lf_signature::numbers::{FF, IMP};

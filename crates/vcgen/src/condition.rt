@@ -11,10 +11,11 @@ ghost use Rattle.lf_encode.specs.Contexts.{machine_context, encoding_in};
 ghost use Rattle.lf_signature.specs.declared.WordSignature.TheVariants.{Sigma3};
 ghost use Rattle.vcgen.specs.Encoded.{AreForms};
 ghost use Rattle.vcgen.specs.Answers.{IsVcAnswer, AreLowInvs};
-ghost use Rattle.vcgen.specs.Inside.WalkTree.{start_terms, all_terms};
-ghost use Rattle.vcgen.specs.Inside.WalkTree.{machine_term, closed_term};
-ghost use Rattle.vcgen.specs.Inside.WalkTree.{part_terms, condition_term};
-ghost use Rattle.vcgen.specs.Inside.Symbols.{ids_of, IsProgram, Walks};
+ghost use Rattle.vcgen.specs.WalkTree.{start_terms, all_terms};
+ghost use Rattle.vcgen.specs.WalkTree.{machine_term, closed_term};
+ghost use Rattle.vcgen.specs.WalkTree.{part_terms, condition_term};
+ghost use Rattle.vcgen.specs.Symbols.{ids_of, IsProgram};
+ghost use Rattle.vcgen.specs.Inside.Walks.{Walks};
 
 use crate::fault::VcFault;
 use crate::symbols::Symbols;

@@ -8,10 +8,10 @@ ghost use Rattle.lf_encode.specs.Kept.{AreMachineTerms};
 ghost use Rattle.lf_signature.specs.Nodes.{IsIdOf};
 ghost use Rattle.lf_signature.specs.Terms.{lit, rd, wr, sel, upd, rel_term};
 ghost use Rattle.word_ops.specs.declared.Rel.TheVariants.{Ult};
-ghost use Rattle.vcgen.specs.Inside.WalkTree.{insn_effect, reg_term, address_term, aligned_term};
-ghost use Rattle.vcgen.specs.Inside.WalkTree.{with_reg, with_memory, one_less};
-ghost use Rattle.vcgen.specs.Inside.WalkTree.{tested_term, taken_term, passed_term};
-ghost use Rattle.vcgen.specs.Inside.Symbols.{ids_of, IsEffect, StandFor};
+ghost use Rattle.vcgen.specs.WalkTree.{insn_effect, reg_term, address_term, aligned_term};
+ghost use Rattle.vcgen.specs.WalkTree.{with_reg, with_memory, one_less};
+ghost use Rattle.vcgen.specs.WalkTree.{tested_term, taken_term, passed_term};
+ghost use Rattle.vcgen.specs.Symbols.{ids_of, IsEffect, StandFor};
 
 use crate::branches::{passed, taken, tested};
 use crate::symbols::Symbols;
@@ -22,16 +22,17 @@ use lf_signature::numbers::{RD, WR};
 use std::alloc::AllocError;
 use term_table::{Id, Table};
 
-/// What an instruction does to the terms.
+/// What an instruction does to the terms on a walk, and where the walk goes on.
 #[derive(Clone, Copy)]
-pub(crate) enum Effect {
-    /// The walk goes on with these.
+pub enum Effect {
+    /// The walk goes on at the next index, with these terms.
     Computed(Symbols),
     /// It does so behind an access, for which the formula has to hold.
     Access(Id, Symbols),
-    /// It goes on to an index where the first formula holds, else to the next where the second does.
+    /// It goes on to the index where the first formula holds, and to the next index where the second
+    /// does, with the terms that it had.
     Split(Id, Id, u32),
-    /// It goes on to an index.
+    /// It goes on to the index, with the terms that it had.
     Jump(u32),
     /// It ends.
     Return,
@@ -103,8 +104,9 @@ fn store(
     Ok((allowed, symbols.with_memory(table, memory)))
 }
 
-/// A step, where steps are counted: one has to be left, and after it there is one less.
-pub(crate) fn step(table: &mut Table, symbols: &Symbols) -> Result<(Id, Symbols), AllocError>
+/// What a step asks and does where steps are counted: the formula that one is left, and the terms
+/// after it, where there is one less. Fails only for want of memory; each id keeps its tree.
+pub fn counted_step(table: &mut Table, symbols: &Symbols) -> Result<(Id, Symbols), AllocError>
     requires ready { AreMachineTerms table.old (ids_of symbols.now) }
     ensures allowed { let terms = machine_terms_at table.old (ids_of symbols.now) in
         IfOk result (λ r. IsIdOf table.new (rel_term Ult (lit 0) terms.left) r.0) }
@@ -134,8 +136,9 @@ fn split(table: &mut Table, symbols: &Symbols, cond: Cond, ra: Reg) -> Result<(I
     Ok((taken, passed(table, cond, tested)?))
 }
 
-/// The effect of the instruction `insn` at `index` of the code.
-pub(crate) fn effect_at(
+/// The effect on the terms of the instruction `insn`, which stands at `index` of the code. Fails only
+/// for want of memory; each id keeps its tree.
+pub fn effect_at(
     table: &mut Table,
     code: &Code,
     index: u32,

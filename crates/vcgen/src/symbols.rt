@@ -6,16 +6,17 @@ ghost use Rattle.term_table.specs.Tree.{shift, fits};
 ghost use Rattle.term_table.specs.Table.{IsKnown, tree_at, Extends};
 ghost use Rattle.term_table.specs.Measures.{height_of};
 ghost use Rattle.hereditary_subst.specs.Kept.{IsMemo};
-ghost use Rattle.lf_encode.specs.PutTree.{machine_terms_at, put_for, put_tree};
+ghost use Rattle.lf_encode.specs.PutTree.{machine_terms_at, put_tree};
 ghost use Rattle.lf_encode.specs.Kept.{AreMachineTerms, IsPutMemo};
 ghost use Rattle.lf_signature.specs.Terms.{lit, sel, upd, op_term, rel_term};
 ghost use Rattle.lf_signature.specs.Nodes.{IsIdOf};
 ghost use Rattle.word_ops.specs.declared.Rel.TheVariants.{Ult};
-ghost use Rattle.vcgen.specs.Inside.WalkTree.{reg_term, rhs_term, address_term};
-ghost use Rattle.vcgen.specs.Inside.WalkTree.{aligned_term};
-ghost use Rattle.vcgen.specs.Inside.WalkTree.{with_reg, with_memory, with_left, one_less};
-ghost use Rattle.vcgen.specs.Inside.WalkTree.{start_terms};
-ghost use Rattle.vcgen.specs.Inside.Symbols.{ids_of, IsTermFor, StandFor};
+ghost use Rattle.vcgen.specs.WalkTree.{reg_term, rhs_term, address_term};
+ghost use Rattle.vcgen.specs.WalkTree.{aligned_term};
+ghost use Rattle.vcgen.specs.WalkTree.{with_reg, with_memory, with_left, one_less};
+ghost use Rattle.vcgen.specs.WalkTree.{start_terms};
+ghost use Rattle.vcgen.specs.Symbols.{ids_of, StandFor};
+ghost use Rattle.vcgen.specs.Inside.Walks.{IsTermFor};
 
 use alpha_words::{Reg, Rhs};
 use hereditary_subst::{Exhausted, Memo};
@@ -31,15 +32,19 @@ const HIGH_BITS: u64 = u64::MAX - 7;
 
 /// Terms for r0 to r30, for m and for the steps that are left, in the context left, m, r0 to r30.
 #[derive(Clone, Copy, PartialEq, Eq)]
-pub(crate) struct Symbols {
-    pub(crate) regs: [Id; 31],
-    pub(crate) memory: Id,
-    pub(crate) left: Id,
+pub struct Symbols {
+    /// The terms of r0 to r30, by the registers' numbers.
+    pub regs: [Id; 31],
+    /// The term of m.
+    pub memory: Id,
+    /// The term of the steps that are left.
+    pub left: Id,
 }
 
 impl Symbols {
-    /// Each register, m and the steps that are left for itself.
-    pub(crate) fn start(table: &mut Table) -> Result<Symbols, AllocError>
+    /// Each register, m and the steps that are left for itself. Fails only for want of memory; each id
+    /// keeps its tree.
+    pub fn start(table: &mut Table) -> Result<Symbols, AllocError>
         ensures ready { IfOk result (λ s. AreMachineTerms table.new (ids_of s)) }
         ensures terms { IfOk result (λ s. machine_terms_at table.new (ids_of s) ≡ start_terms) }
         ensures extends { Extends table.old table.new }
@@ -110,8 +115,9 @@ impl Symbols {
         }
     }
 
-    /// The terms where so many steps are left.
-    pub(crate) fn bounded(&self, table: &mut Table, bound: u32) -> Result<Symbols, AllocError>
+    /// These terms, with the number `bound` for the steps that are left. Fails only for want of
+    /// memory; each id keeps its tree.
+    pub fn bounded(&self, table: &mut Table, bound: u32) -> Result<Symbols, AllocError>
         requires { AreMachineTerms table.old (ids_of self.now) }
         ensures after { let terms = machine_terms_at table.old (ids_of self.now) in
             IfOk result (λ s. StandFor table.new s (with_left terms (lit bound))) }
@@ -169,21 +175,6 @@ impl Symbols {
             left: self.left,
         };
         put_with(table, shifts, kept, id, &ids)
-    }
-
-    /// The term for the variable `k` of the context left, m, r0 to r30.
-    pub(crate) fn term(&self, table: &Table, k: u32) -> Id
-        requires ready { AreMachineTerms table.now (ids_of self.now) }
-        requires low { k < 33 }
-        ensures known { IsKnown table.now result }
-        ensures is { let terms = machine_terms_at table.now (ids_of self.now) in
-            tree_at table.now result ≡ put_for terms k }
-    {
-        let _ = table; // only the clauses speak of it
-        if k < 31 {
-            return self.regs[(30 - k) as usize];
-        }
-        if k == 31 { self.memory } else { self.left }
     }
 
     /// The term of a register; register 31 is 0.

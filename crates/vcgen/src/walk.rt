@@ -11,11 +11,12 @@ ghost use Rattle.lf_signature.specs.Nodes.{IsIdOf};
 ghost use Rattle.lf_signature.specs.Terms.{lit, rel_term, and_term, imp_term};
 ghost use Rattle.lf_encode.specs.PutTree.{machine_terms_at};
 ghost use Rattle.lf_encode.specs.Kept.{AreMachineTerms};
-ghost use Rattle.vcgen.specs.Inside.WalkTree.{walked, walked_at, one_less};
-ghost use Rattle.vcgen.specs.Inside.WalkTree.{start_terms, entry_terms};
-ghost use Rattle.vcgen.specs.Inside.Symbols.{ids_of, inv_id, Walks};
+ghost use Rattle.vcgen.specs.WalkTree.{walked, walked_at, one_less};
+ghost use Rattle.vcgen.specs.WalkTree.{start_terms, entry_terms};
+ghost use Rattle.vcgen.specs.Symbols.{ids_of, inv_id};
+ghost use Rattle.vcgen.specs.Inside.Walks.{Walks};
 
-use crate::effects::{Effect, effect_at, step};
+use crate::effects::{Effect, counted_step, effect_at};
 use crate::symbols::Symbols;
 use alpha_cfg::Code;
 use hereditary_subst::{Exhausted, Memo};
@@ -27,16 +28,20 @@ use term_table::{Id, Node, Table};
 /// What a walk goes by: the code, its invariants by their indices, what has to hold at its end, and
 /// the bound on its steps.
 #[derive(Clone, Copy)]
-pub(crate) struct Program<'a> {
-    pub(crate) code: &'a Code,
-    pub(crate) invs: &'a [(u32, Id)],
-    pub(crate) post: Id,
+pub struct Program<'a> {
+    /// The code.
+    pub code: &'a Code,
+    /// Each annotated index with the term of its invariant.
+    pub invs: &'a [(u32, Id)],
+    /// The term of what has to hold at a return.
+    pub post: Id,
     /// The most steps that the code may make, where these are counted.
-    pub(crate) bound: Option<u32>,
+    pub bound: Option<u32>,
 }
 
-/// The invariant of an index, if it is annotated.
-pub(crate) fn invariant(invs: &[(u32, Id)], index: u32) -> Option<Id>
+/// The term of the invariant of an index, by the first of the pairs that has it: None where the
+/// index isn't annotated.
+pub fn invariant(invs: &[(u32, Id)], index: u32) -> Option<Id>
     ensures { result ≡ inv_id invs.now index }
 {
     invs.iter().find(|pair| pair.0 == index).map(|pair| pair.1)
@@ -270,7 +275,7 @@ fn walk_counted(
     ensures extends { Extends table.old table.new }
     ensures walking { Walks table.new program.now symbols.now shifts.new kept.new }
 {
-    let (here, after) = step(table, symbols)?;
+    let (here, after) = counted_step(table, symbols)?;
     let rest = walk_insn_with(table, shifts, kept, program, fuel, index, symbols, &after)?;
     Ok(app2(table, AND, here, rest)?)
 }

@@ -2,23 +2,24 @@
 use Rattle.std.proofs.Common.{◌≡◌, ℕ, true, List, Ok, refl}
 use Rattle.word_ops.specs.declared.Profile.TheVariants.{One, Two}
 use Rattle.alpha_words.specs.declared.insn.Insn.{Insn}
-use Rattle.alpha_words.specs.declared.insn.Insn.TheVariants.{Lda, Ldq, Ldah, LdqU, Stq, Oper, Branch, Br, Ret}
-use Rattle.alpha_words.specs.Encoding.{has_insn, Encodes}
+use Rattle.alpha_words.specs.declared.insn.Format.{Format}
+use Rattle.alpha_words.specs.declared.insn.Format.TheVariants as F
+use Rattle.alpha_words.specs.Formats.{format_of}
+use Rattle.alpha_words.specs.Encoding.{has_format, has_insn, Encodes}
 use Rattle.alpha_words.specs.Decoding.{decoded}
 use Rattle.alpha_words.proofs.Words.{decoded-Encodes}
 use Rattle.alpha_cfg.specs.CodeBytes.{EncodesCode}
 
 -- the second profile has each instruction
-has-all : (i : Insn) → has_insn Two i ≡ true
-has-all (Lda ra rb disp) = refl
-has-all (Ldq ra rb disp) = refl
-has-all (Ldah ra rb disp) = refl
-has-all (LdqU ra rb disp) = refl
-has-all (Stq ra rb disp) = refl
-has-all (Oper op ra rhs rc) = refl
-has-all (Branch cond ra disp) = refl
-has-all (Br disp) = refl
-has-all Ret = refl
+has-format : (f : Format) → has_format Two f ≡ true
+has-format (F.Memory op ra rb disp) = refl
+has-format (F.Operate op ra rhs rc) = refl
+has-format (F.Branch cond ra disp) = refl
+has-format (F.Br disp) = refl
+has-format F.Ret = refl
+
+pub has-all : (i : Insn) → has_insn Two i ≡ true
+has-all i = has-format (format_of i)
 
 pub encodes-later : (w : ℕ) (i : Insn) → Encodes One w i → Encodes Two w i
 encodes-later w i h = (has-all i, h.1)

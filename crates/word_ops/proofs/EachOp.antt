@@ -34,7 +34,7 @@ listed Extw = refl
 listed Extl = refl
 
 -- a test that each entry of a list passes
-list_all-get : {X : Type 0} (test : X → Bool) (xs : List X) (n : ℕ) (x : X) → list_all test xs ≡ true → slice_get xs n ≡ Some x → test x ≡ true
+pub list_all-get : {X : Type 0} (test : X → Bool) (xs : List X) (n : ℕ) (x : X) → list_all test xs ≡ true → slice_get xs n ≡ Some x → test x ≡ true
 list_all-get test [] n x h e = cc
 list_all-get test (y ∷ xs) zero x h e = ap test (sym (same_Some y x e)) ∙ (and_parts (test y) (list_all test xs) h).0
 list_all-get test (y ∷ xs) (suc n) x h e = list_all-get test xs n x (and_parts (test y) (list_all test xs) h).1 e

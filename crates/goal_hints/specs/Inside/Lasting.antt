@@ -4,6 +4,7 @@ use Rattle.term_table.specs.Table.{TableView, Extends}
 use Rattle.goal_hints.specs.Inside.Nearness.{IsReach}
 use Rattle.goal_hints.specs.declared.reached.Reach.{Reach}
 
+-- what was reached stays right as the table grows
 pub reach-lasts : (t u : TableView) (q : Reach) (b : Bool) → Extends t u → IsReach t q b
     → IsReach u q b
 reach-lasts t u q b x h = record {

@@ -35,6 +35,7 @@ line_view t l = record { text = l.text.items; long = option_map (tree_at t) l.lo
 abbrev pub HasKnownLong : TableView → ShownLine → Type 0
 HasKnownLong t l = IfSome l.long (IsKnown t)
 
+-- those of all lines are
 abbrev pub AreKnownLines : TableView → List ShownLine → Type 0
 AreKnownLines t lines = AllByRecursion (HasKnownLong t) lines
 

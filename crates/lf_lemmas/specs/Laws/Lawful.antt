@@ -20,6 +20,7 @@ lemmas_stay [] t u h e = refl
 lemmas_stay (p ∷ ids) t u h e =
     λ i. (e.same p.0 h.0 i, e.same p.1 h.1 i) ∷ lemmas_stay ids t u h.2 e i
 
+-- ids of lemmas stay the table's as it grows
 pub lemmas_known : (ids : List (ℕ × ℕ)) (t u : TableView) → LemmasKnown t ids → Extends t u →
     LemmasKnown u ids
 lemmas_known [] t u h e = tt

@@ -176,6 +176,7 @@ read_tree (TApp p b) = unsigned (FRel (rel_in p) (read_parts p).first (read_part
 read_tree (Pi a b) =
     let front = read_tree a in unsigned (two_parts front.sign front.behind (read_tree b).form)
 
+-- a formula is told by its tree
 pub form-back : (F : Form) → (read_tree (form_tree F)).form ≡ F
 form-back FTrue = refl
 form-back FFalse = refl

@@ -4,11 +4,11 @@ use Rattle.term_table.specs.Tree.{Tree}
 use Rattle.term_table.specs.Table.{TableView}
 use Rattle.word_ops.specs.declared.Rel.{Rel}
 use Rattle.word_ops.specs.declared.Rel.TheVariants.{Eq}
-use Rattle.formula_tree.specs.Formulas.{Exp, EReg, ELeft, EVar, ELit, EOp, ESel, FRel}
+use Rattle.formula_tree.specs.Formulas.{Exp, EVar, ELit, FRel}
 use Rattle.formula_tree.specs.Variables.{PExp, subst_var_exp}
 use Rattle.formula_terms.specs.ProofTerms.{up, move, swap, fact}
-use Rattle.prover_class.specs.NormalForms.{Rewriting, rewritten, after_steps, normalized}
-use Rattle.sum_proofs.specs.declared.normal_forms.Rewritten.{Rewritten}
+use Rattle.prover_class.specs.NormalForms.{Rewriting, rewritten, after_steps}
+use Rattle.sum_proofs.specs.declared.equations.Rewritten.{Rewritten}
 use Rattle.sum_proofs.specs.NormalForms.{RewrittenExp, IsRewritten}
 
 -- after one step
@@ -26,21 +26,6 @@ pub record IsNext (t : TableView) (e : Exp) (l : List Rewriting) (here : Rewritt
 abbrev pub IsRound : TableView → Exp → List Rewriting → RewrittenExp → Option Rewritten → Type 0
 IsRound t e l here None = l ≡ []
 IsRound t e l here (Some r) = IsNext t e l here r
-
--- with at most n rounds to go the ids lead to the goal
-pub record LeadsTo (t : TableView) (outside n : ℕ) (e : Exp) (goal : RewrittenExp) (r : Rewritten) : Type 0 where
-  pub here : RewrittenExp
-  pub stands : IsRewritten t r here
-  pub leads : normalized outside n e here ≡ goal
-
--- the word that the expression is
-abbrev pub word_in : Exp → Option ℕ
-word_in (ELit w) = Some w
-word_in (EReg r) = None
-word_in ELeft = None
-word_in (EVar n) = None
-word_in (EOp o a b) = None
-word_in (ESel m a) = None
 
 -- (r a b) by p of (r a c) and q of (eq b c)
 abbrev pub second_moved : Rel → Exp → Exp → RewrittenExp → Tree → Tree

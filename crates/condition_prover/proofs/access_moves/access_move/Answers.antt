@@ -10,4 +10,4 @@ returns-clause-search c =
     let s = c.normal-2.new.search in
     let m = c.equal_proof.new.memo in
     let made = with_memo c.normal-2.new.table c.equal_proof.new.table s m c.in_ok-q.ensures.search c.in_ok-equal.ensures.extends c.in_ok-equal.ensures.memo in
-    search-more (record { memo = m; forms = s.forms; puts = s.puts; occurrences = s.occurrences; counted = s.counted }) c.equal_proof.new.table c.moved.new.table made c.in_ok-moved.ensures.extends
+    search-more (record { memo = m; plain = s.plain; forms = s.forms; puts = s.puts; occurrences = s.occurrences; counted = s.counted }) c.equal_proof.new.table c.moved.new.table made c.in_ok-moved.ensures.extends

@@ -6,11 +6,9 @@ use Rattle.condition_prover.proofs.access_moves.same_address.Goals as goal
 
 pub returns-clause-exact : goal.returns-clause-exact
 returns-clause-exact c = λ x y qz qa.
-    let t = c.args.table.now in
-    let t1 = c.normal.new.table in
-    let u = c.normal-2.new.table in
+    let u = c.normal_exp-2.new.table in
     let one = c.in_ok-first.ensures in
     let two = c.in_ok-second.ensures in
-    let first = two.extends.same c.in_ok-first.first.now one.known.now ∙ (one.exact x qz).now in
-    let second = (two.exact y (one.extends.same c.args.a c.requires.a ∙ qa)).now in
-    same_trees c.same.result (tree_at u c.in_ok-first.first.now) (tree_at u c.in_ok-second.second.now) c.same.ensures ∙ (λ i. tree_eq (first i) (second i))
+    let first = two.extends.same c.in_ok-first.first one.known ∙ one.exact x qz in
+    let second = two.exact y (one.extends.same c.args.a c.requires.a ∙ qa) in
+    same_trees c.same.result (tree_at u c.in_ok-first.first) (tree_at u c.in_ok-second.second) c.same.ensures ∙ (λ i. tree_eq (first i) (second i))

@@ -2,7 +2,4 @@ use Rattle.std.proofs.Common.{[]}
 use Rattle.lf_rows.proofs.formulas.put.Goals as goal
 
 pub put_word-requires-clause-kept : goal.put_word-requires-clause-kept
-put_word-requires-clause-kept c = c.new-kept.ensures [] c.read_term-2.new.table
-
-pub put_word_exp-requires-clause-kept : goal.put_word_exp-requires-clause-kept
-put_word_exp-requires-clause-kept c = c.new-kept.ensures [] c.read_term-2.new.table
+put_word-requires-clause-kept c = c.new-kept.ensures [] c.args.table.now

@@ -1,6 +1,6 @@
 use Rattle.pcc_words.specs.Invocations.{command_of}
 use Rattle.pcc_stages.specs.Texts.{texts}
-use Rattle.pcc_cli.specs.Tasks.{task_of, request_of}
+use Rattle.pcc_commands.specs.Tasks.{task_of, request_of}
 use Rattle.pcc_cli.proofs.TaskLemmas.{suited}
 use Rattle.pcc_cli.proofs.top_call.laws.Goals as goal
 

@@ -3,8 +3,8 @@ use Rattle.pcc_words.specs.Invocations.{command_of}
 use Rattle.pcc_exit.specs.Runs.{Runs}
 use Rattle.pcc_stages.specs.Texts.{texts}
 use Rattle.pcc_stages.proofs.DecisionLemmas.{runs_of_decision}
-use Rattle.pcc_cli.specs.Tasks.{task_of}
-use Rattle.pcc_cli.specs.Inside.Decisions.{report_exit}
+use Rattle.pcc_commands.specs.Tasks.{task_of}
+use Rattle.pcc_commands.specs.Reports.{report_exit}
 use Rattle.pcc_cli.proofs.CompileLemmas.{programs-compile}
 use Rattle.pcc_cli.proofs.HeadlineLemmas.{means, runs_safely, stays_in_parts, bounded_returns}
 use Rattle.pcc_cli.proofs.top_call.pcc.Goals as goal

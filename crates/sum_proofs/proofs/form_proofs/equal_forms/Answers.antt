@@ -2,7 +2,7 @@ use Rattle.std.proofs.Common.{◌≡◌, Some, None, sym, ◌∙◌, ap, subst}
 use Rattle.term_table.specs.Table.{tree_at}
 use Rattle.formula_terms.specs.Encoding.{exp_encoding}
 use Rattle.prover_class.specs.NormalForms.{equal_forms}
-use Rattle.sum_proofs.proofs.Equations.{equal_yes, equal_no}
+use Rattle.sum_proofs.proofs.Relations.{equal_yes, equal_no}
 use Rattle.sum_proofs.proofs.form_proofs.equal_forms.Goals as goal
 
 pub returns-in_ok-proof-in-Eq-clause-exact : goal.returns-in_ok-proof-in-Eq-clause-exact

@@ -1,5 +1,5 @@
 use Rattle.std.proofs.Common.{ℕ, Ok}
-use Rattle.sum_proofs.proofs.Equations.{first_moved_is}
+use Rattle.sum_proofs.proofs.Relations.{first_moved_is}
 use Rattle.sum_proofs.proofs.form_proofs.first_moved.Goals as goal
 
 pub returns-clause-exact : goal.returns-clause-exact

@@ -1,5 +1,5 @@
 use Rattle.std.proofs.Common.{ℕ, Ok}
-use Rattle.sum_proofs.proofs.Equations.{second_moved_is}
+use Rattle.sum_proofs.proofs.Relations.{second_moved_is}
 use Rattle.sum_proofs.proofs.form_proofs.second_moved.Goals as goal
 
 pub returns-clause-exact : goal.returns-clause-exact

@@ -1,7 +1,8 @@
 use Rattle.std.proofs.Common.{IfOk, sym, ◌∙◌, ap, subst}
 use Rattle.formula_tree.specs.Formulas.{EOp}
 use Rattle.formula_terms.specs.Encoding.{exp_encoding}
-use Rattle.sum_proofs.specs.Inside.Rewrites.{IsRule, AreRewrites}
+use Rattle.normal_forms.specs.Rules.{IsRule}
+use Rattle.sum_proofs.specs.Inside.Rewrites.{AreRewrites}
 use Rattle.sum_proofs.proofs.Rewrites.{one_step}
 use Rattle.sum_proofs.proofs.rewriting.rewrites_by.Goals as goal
 

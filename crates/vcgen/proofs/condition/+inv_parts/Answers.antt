@@ -6,10 +6,10 @@ use Rattle.hereditary_subst.proofs.Rows.{grows_more}
 use Rattle.lf_encode.proofs.KeptRows.{ready-same}
 use Rattle.lf_signature.specs.Nodes.{IsIdOf}
 use Rattle.lf_signature.specs.Terms.{and_term, imp_term}
-use Rattle.vcgen.specs.Inside.WalkTree.{start_terms, walked, walked_at, closed_term, part_terms}
+use Rattle.vcgen.specs.WalkTree.{start_terms, walked, walked_at, closed_term, part_terms}
 use Rattle.vcgen.proofs.Walking.{walking-more, invs-same}
 use Rattle.vcgen.proofs.Parts.{inv-at, invs-drop}
-use Rattle.vcgen.specs.Inside.Symbols.{ids_of}
+use Rattle.vcgen.specs.Symbols.{ids_of}
 use Rattle.vcgen.proofs.condition.+inv_parts.Goals as goal
 
 pub part-requires-clause-from : goal.part-requires-clause-from

@@ -4,9 +4,9 @@ use Rattle.hereditary_subst.proofs.Rows.{grows_more, memo-more}
 use Rattle.lf_encode.proofs.KeptRows.{ready-same}
 use Rattle.lf_signature.specs.Nodes.{IsIdOf}
 use Rattle.lf_signature.specs.Terms.{and_term, imp_term}
-use Rattle.vcgen.specs.Inside.WalkTree.{entry_terms, walked, closed_term, part_terms}
+use Rattle.vcgen.specs.WalkTree.{entry_terms, walked, closed_term, part_terms}
 use Rattle.vcgen.proofs.Walking.{program-more, walking-more, invs-same, walk-same}
-use Rattle.vcgen.specs.Inside.Symbols.{ids_of}
+use Rattle.vcgen.specs.Symbols.{ids_of}
 use Rattle.vcgen.proofs.condition.condition_of.Goals as goal
 
 pub walk_entry-requires-clause-walking : goal.walk_entry-requires-clause-walking

@@ -5,7 +5,7 @@ use Rattle.term_table.specs.Table.{tree_at, Extends}
 use Rattle.hereditary_subst.proofs.Rows.{grows_more}
 use Rattle.lf_signature.specs.Nodes.{IsIdOf}
 use Rattle.lf_encode.specs.Contexts.{machine_context, encoding_in}
-use Rattle.vcgen.specs.Inside.WalkTree.{condition_term}
+use Rattle.vcgen.specs.WalkTree.{condition_term}
 use Rattle.vcgen.proofs.Walking.{invs-same}
 use Rattle.lf_encode.proofs.MachineContext.{in-context, in-machine, encoding-machine}
 use Rattle.vcgen.proofs.Parts.{low-here, low-invs}

@@ -5,7 +5,7 @@ use Rattle.lf_encode.specs.Contexts.{machine_names}
 use Rattle.vcgen.specs.Conditions.{condition}
 use Rattle.term_table.specs.Table.{id_trees}
 use Rattle.vcgen.specs.Encoded.{annotated, EncodesCondition}
-use Rattle.vcgen.specs.Inside.WalkTree.{condition_term}
+use Rattle.vcgen.specs.WalkTree.{condition_term}
 use Rattle.vcgen.proofs.WalkTrees.{condition_term-is}
 use Rattle.vcgen.proofs.Encodings.{encoding-exists}
 use Rattle.lf_encode.proofs.MachineContext.{encoding-machine}

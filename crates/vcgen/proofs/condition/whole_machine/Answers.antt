@@ -1,5 +1,5 @@
 use Rattle.std.proofs.Common.{rules}
-use Rattle.vcgen.specs.Inside.WalkTree.{machine_term}
+use Rattle.vcgen.specs.WalkTree.{machine_term}
 use Rattle.vcgen.proofs.condition.whole_machine.Goals as goal
 
 pub returns-clause-id : goal.returns-clause-id

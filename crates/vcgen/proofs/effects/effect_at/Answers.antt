@@ -6,8 +6,8 @@ use Rattle.term_table.specs.Table.{tree_at}
 use Rattle.lf_signature.specs.Terms.{op_term}
 use Rattle.lf_encode.specs.PutTree.{machine_terms_at}
 use Rattle.lf_encode.proofs.KeptRows.{ready-more}
-use Rattle.vcgen.specs.Inside.WalkTree.{insn_effect, reg_term, rhs_term, address_term}
-use Rattle.vcgen.specs.Inside.Symbols.{ids_of, IsEffect}
+use Rattle.vcgen.specs.WalkTree.{insn_effect, reg_term, rhs_term, address_term}
+use Rattle.vcgen.specs.Symbols.{ids_of, IsEffect}
 use Rattle.vcgen.specs.declared.effects.Effect.TheVariants as E
 use Rattle.vcgen.proofs.Walking.{reg-after}
 use Rattle.vcgen.proofs.effects.effect_at.Goals as goal

@@ -4,9 +4,9 @@ use Rattle.hereditary_subst.proofs.Rows.{grows_more}
 use Rattle.lf_encode.specs.PutTree.{machine_terms_at}
 use Rattle.lf_encode.proofs.KeptRows.{ready-more}
 use Rattle.lf_signature.specs.Terms.{sel}
-use Rattle.vcgen.specs.Inside.WalkTree.{address_term}
+use Rattle.vcgen.specs.WalkTree.{address_term}
 use Rattle.vcgen.proofs.Walking.{reg-after}
-use Rattle.vcgen.specs.Inside.Symbols.{ids_of}
+use Rattle.vcgen.specs.Symbols.{ids_of}
 use Rattle.vcgen.proofs.effects.load.Goals as goal
 
 pub loaded-requires-clause-ready : goal.loaded-requires-clause-ready

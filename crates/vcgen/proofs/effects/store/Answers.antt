@@ -4,9 +4,9 @@ use Rattle.hereditary_subst.proofs.Rows.{grows_more}
 use Rattle.lf_encode.specs.PutTree.{machine_terms_at}
 use Rattle.lf_encode.proofs.KeptRows.{ready-more, ready-same}
 use Rattle.lf_signature.specs.Terms.{upd}
-use Rattle.vcgen.specs.Inside.WalkTree.{address_term, reg_term}
+use Rattle.vcgen.specs.WalkTree.{address_term, reg_term}
 use Rattle.vcgen.proofs.Walking.{memory-after}
-use Rattle.vcgen.specs.Inside.Symbols.{ids_of}
+use Rattle.vcgen.specs.Symbols.{ids_of}
 use Rattle.vcgen.proofs.effects.store.Goals as goal
 
 pub stored-requires-clause-ready : goal.stored-requires-clause-ready

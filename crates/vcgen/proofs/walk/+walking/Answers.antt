@@ -6,8 +6,8 @@ use Rattle.word_ops.specs.declared.Rel.TheVariants.{Ult}
 use Rattle.lf_signature.specs.Terms.{lit, rel_term, and_term, imp_term}
 use Rattle.lf_encode.specs.PutTree.{machine_terms_at, put_tree}
 use Rattle.lf_encode.proofs.KeptRows.{ready-more, ready-same, kept-ready}
-use Rattle.vcgen.specs.Inside.WalkTree.{InsnEffect, Computed, Access, Split, Jump, Return, insn_effect, walked, walked_at, one_less}
-use Rattle.vcgen.specs.Inside.Symbols.{ids_of, IsEffect}
+use Rattle.vcgen.specs.WalkTree.{InsnEffect, Computed, Access, Split, Jump, Return, insn_effect, walked, walked_at, one_less}
+use Rattle.vcgen.specs.Symbols.{ids_of, IsEffect}
 use Rattle.vcgen.specs.declared.effects.Effect as rust
 use Rattle.vcgen.proofs.Walking.{program-more, walking-more, inv-known, walk-ended, walk-spent, walk-on, walk-same, at-computed, at-access, at-split, at-jump, at-return, walked_at-effect, walked_at-same, walked_at-uncounted, walked_at-counted}
 use Rattle.vcgen.proofs.walk.+walking.Goals as goal
@@ -314,7 +314,7 @@ walk_counted-returns-in_err-app2-clause-walking t c = walking-more _ _ _ _ _ _ _
 pub walk_counted-returns-clause-id : goal.walk_counted-returns-clause-id
 walk_counted-returns-clause-id t c =
     let o = c.args.table.now in
-    let u = c.step.new.table in
+    let u = c.counted_step.new.table in
     let v = c.walk_insn_with.new.table in
     let p = c.args.program.now in
     let terms = machine_terms_at o (ids_of c.args.symbols.now) in

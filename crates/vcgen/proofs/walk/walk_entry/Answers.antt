@@ -2,7 +2,7 @@ use Rattle.std.proofs.Common.{ℕ, Option, IfOk, Some, length, sym, ◌∙◌, a
 use Rattle.term_table.specs.Table.{tree_at, id_trees}
 use Rattle.lf_signature.specs.Nodes.{IsIdOf}
 use Rattle.lf_signature.specs.Terms.{lit}
-use Rattle.vcgen.specs.Inside.WalkTree.{entry_terms, with_left, walked}
+use Rattle.vcgen.specs.WalkTree.{entry_terms, with_left, walked}
 use Rattle.vcgen.proofs.Walking.{walking-more, walk-same}
 use Rattle.vcgen.proofs.walk.walk_entry.Goals as goal
 

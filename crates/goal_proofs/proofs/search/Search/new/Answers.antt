@@ -4,7 +4,8 @@ use Rattle.goal_proofs.proofs.search.Search.new.Goals as goal
 pub returns-clause-search : goal.returns-clause-search
 returns-clause-search c = λ t. record {
   memo = c.new.ensures.memo t;
-  forms = c.new-2.ensures [] t;
-  puts = c.new-3.ensures [] t;
-  occurrences = c.new-4.ensures [] t;
+  plain = c.new-2.ensures [] t;
+  forms = c.new-3.ensures [] t;
+  puts = c.new-4.ensures [] t;
+  occurrences = c.new-5.ensures [] t;
 }

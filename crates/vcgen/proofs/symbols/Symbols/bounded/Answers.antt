@@ -2,7 +2,7 @@ use Rattle.std.proofs.Common.{◌∙◌, ap}
 use Rattle.lf_signature.specs.Terms.{lit}
 use Rattle.lf_encode.proofs.KeptRows.{ready-more}
 use Rattle.vcgen.proofs.Walking.{left-after}
-use Rattle.vcgen.specs.Inside.Symbols.{ids_of}
+use Rattle.vcgen.specs.Symbols.{ids_of}
 use Rattle.vcgen.proofs.symbols.Symbols.bounded.Goals as goal
 
 pub with_left-requires-clause-ready : goal.with_left-requires-clause-ready

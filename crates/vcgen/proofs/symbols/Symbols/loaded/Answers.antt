@@ -1,7 +1,7 @@
 use Rattle.term_table.specs.Table.{tree_at}
 use Rattle.lf_signature.specs.Terms.{sel}
 use Rattle.vcgen.proofs.MachineRegs.{ok-term, room-app2, memory-room}
-use Rattle.vcgen.specs.Inside.Symbols.{ids_of}
+use Rattle.vcgen.specs.Symbols.{ids_of}
 use Rattle.vcgen.proofs.symbols.Symbols.loaded.Goals as goal
 
 pub returns-clause-id : goal.returns-clause-id

@@ -7,7 +7,7 @@ use Rattle.lf_encode.proofs.KeptRows.{ready-more}
 use Rattle.word_ops.specs.Operators.{op_constant}
 use Rattle.vcgen.proofs.MachineRegs.{HasRoom, room-app2, left-room}
 use Rattle.vcgen.proofs.Walking.{left-after}
-use Rattle.vcgen.specs.Inside.Symbols.{ids_of}
+use Rattle.vcgen.specs.Symbols.{ids_of}
 use Rattle.vcgen.proofs.symbols.Symbols.one_less.Goals as goal
 
 pub with_left-requires-clause-ready : goal.with_left-requires-clause-ready

@@ -1,6 +1,6 @@
 use Rattle.lf_encode.proofs.KeptRows.{ready-more}
 use Rattle.vcgen.proofs.MachineRegs.{operated-ok}
-use Rattle.vcgen.specs.Inside.Symbols.{ids_of}
+use Rattle.vcgen.specs.Symbols.{ids_of}
 use Rattle.vcgen.proofs.symbols.Symbols.operated.Goals as goal
 
 pub returns-clause-id : goal.returns-clause-id

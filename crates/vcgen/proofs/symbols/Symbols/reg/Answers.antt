@@ -1,7 +1,8 @@
 use Rattle.std.proofs.Common.{ℕ, subst, slice_index_or}
 use Rattle.lf_encode.specs.PutTree.{machine_terms_at}
-use Rattle.vcgen.specs.Inside.WalkTree.{reg_term}
-use Rattle.vcgen.specs.Inside.Symbols.{ids_of, IsTermFor}
+use Rattle.vcgen.specs.WalkTree.{reg_term}
+use Rattle.vcgen.specs.Symbols.{ids_of}
+use Rattle.vcgen.specs.Inside.Walks.{IsTermFor}
 use Rattle.vcgen.proofs.MachineRegs.{reg-stands}
 use Rattle.vcgen.proofs.symbols.Symbols.reg.Goals as goal
 

@@ -1,5 +1,5 @@
 use Rattle.vcgen.proofs.MachineRegs.{stored-ok}
-use Rattle.vcgen.specs.Inside.Symbols.{ids_of}
+use Rattle.vcgen.specs.Symbols.{ids_of}
 use Rattle.vcgen.proofs.symbols.Symbols.stored.Goals as goal
 
 pub returns-clause-id : goal.returns-clause-id

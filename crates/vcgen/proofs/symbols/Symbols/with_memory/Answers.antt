@@ -1,5 +1,5 @@
 use Rattle.vcgen.proofs.MachineRegs.{ready-memory}
-use Rattle.vcgen.specs.Inside.Symbols.{ids_of}
+use Rattle.vcgen.specs.Symbols.{ids_of}
 use Rattle.vcgen.proofs.symbols.Symbols.with_memory.Goals as goal
 
 pub returns-clause-ready : goal.returns-clause-ready

@@ -1,9 +1,9 @@
 use Rattle.std.proofs.Common.{◌≡◌, ℕ, subst, slice_set}
 use Rattle.term_table.specs.Table.{tree_at}
 use Rattle.lf_encode.specs.PutTree.{machine_terms_at}
-use Rattle.vcgen.specs.Inside.WalkTree.{with_reg}
+use Rattle.vcgen.specs.WalkTree.{with_reg}
 use Rattle.vcgen.proofs.MachineRegs.{terms-reg, ready-reg}
-use Rattle.vcgen.specs.Inside.Symbols.{ids_of}
+use Rattle.vcgen.specs.Symbols.{ids_of}
 use Rattle.vcgen.proofs.symbols.Symbols.with_reg.Goals as goal
 
 pub returns-clause-ready : goal.returns-clause-ready

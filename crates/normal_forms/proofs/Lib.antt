@@ -1,0 +1,5 @@
+pub mod Growing
+pub mod Parts
+pub mod Rounds
+mod Choosing
+mod Decided

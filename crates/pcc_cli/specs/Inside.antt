@@ -1,6 +1,0 @@
-pub mod Decisions
-pub mod Writes
-pub mod Shows
-pub mod Behind
-pub mod Turning
-pub mod Standing

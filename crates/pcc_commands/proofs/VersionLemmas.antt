@@ -1,0 +1,15 @@
+-- Versions that `asm` makes, and their bounds.
+use Rattle.std.proofs.Common.{ℕ, Option, Some, None, arith}
+use Rattle.proof_container.specs.Versions.{IsVersion, IsBoundOf}
+use Rattle.pcc_words.specs.Commands.{IsVersionOf}
+
+-- the version that `asm` makes is one that is built
+pub built-version : (bound : Option ℕ) (version : ℕ) → IsVersionOf bound version → IsVersion version
+built-version None version h = (h.0, omega (arith, h.1))
+built-version (Some n) version h = let is = h.0 in (omega (arith, is), omega (arith, is))
+
+-- and its bound is one that the version may have
+pub bound-in-range : (bound : Option ℕ) (version : ℕ) → IsVersionOf bound version
+    → IsBoundOf version bound
+bound-in-range None version h = λ is. omega (arith, h.1, is)
+bound-in-range (Some n) version h = h

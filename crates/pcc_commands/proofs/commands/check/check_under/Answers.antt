@@ -1,0 +1,19 @@
+use Rattle.std.proofs.Common.{Ok, refl}
+use Rattle.pcc_gate.specs.Views.{AcceptedView}
+use Rattle.pcc_lines.specs.Fixed.{accepted_line}
+use Rattle.pcc_stages.specs.Stages.Common.{printing}
+use Rattle.pcc_stages.proofs.StageLemmas.{lifted, stops_first, gives_then}
+use Rattle.pcc_commands.specs.Stages.Judging.{accepted_of}
+use Rattle.pcc_commands.specs.Reports.{effect_of}
+use Rattle.pcc_commands.specs.declared.report.Report.TheVariants.{Accepted}
+use Rattle.pcc_commands.proofs.commands.check.check_under.Goals as goal
+
+pub returns-in_err-accepted_of : goal.returns-in_err-accepted_of
+returns-in_err-accepted_of g c =
+    stops_first (λ accepted. printing accepted_line) (λ (a : AcceptedView). tt) effect_of (accepted_of c.args.policy.now c.args.name.now) _ _ _ _ c.in_err-accepted_of.field-0.0 c.from_residual.result
+    c.in_err-accepted_of.ensures.exact c.from_residual.ensures.1
+
+pub returns : goal.returns
+returns g c =
+    gives_then (λ accepted. printing accepted_line) (λ (a : AcceptedView). tt) effect_of (accepted_of c.args.policy.now c.args.name.now) _ _ _ _ _ _ _ (Ok Accepted) c.in_ok-accepted_of.ensures.exact
+    (lifted effect_of (printing accepted_line) _ _ (Ok Accepted) refl)

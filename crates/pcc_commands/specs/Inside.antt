@@ -1,0 +1,5 @@
+pub mod Writes
+pub mod Shows
+pub mod Behind
+pub mod Turning
+pub mod Standing
