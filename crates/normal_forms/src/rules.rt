@@ -6,7 +6,14 @@ ghost use Rattle.formula_tree.specs.Formulas.{Exp};
 ghost use Rattle.formula_terms.specs.Encoding.{exp_encoding};
 ghost use Rattle.prover_class.specs.NormalForms.{summand_key};
 ghost use Rattle.normal_forms.specs.Rules.{IsRule, IsKnownRule};
-ghost use Rattle.normal_forms.specs.Inside.Summands.{IsSummand, IsKnownSummand, applied_summand, rule_by_op, rule_at_word, rule_before};
+ghost use Rattle.normal_forms.specs.Inside.Summands.{
+  IsSummand,
+  IsKnownSummand,
+  applied_summand,
+  rule_by_op,
+  rule_at_word,
+  rule_before,
+};
 
 use formula_ids::{ExpNode, exp_node};
 use lf_rules::numbers::{ADD_ZERO, BIS_ZERO, BIS_ZERO_L, S4_DEF, S8_DEF};

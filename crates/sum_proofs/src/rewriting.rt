@@ -12,7 +12,24 @@ ghost use Rattle.formula_terms.specs.Encoding.{exp_encoding};
 ghost use Rattle.formula_terms.specs.ProofTerms.{up, calc};
 ghost use Rattle.prover_class.specs.NormalForms.{Rewriting, turned, rewrite_at, in_left, in_right, redex};
 ghost use Rattle.normal_forms.specs.Rules.{IsRule, IsKnownRule};
-ghost use Rattle.sum_proofs.specs.Inside.Rewrites.{IsKnownRewrite, IsRewrite, AreKnownRewrites, AreRewrites, whole_of, negated_of, scaled_of, complemented_of, cancelled_of, operand_of, regrouped_of, commuted_of, ungrouped_of, left_of, right_of, has_rewrites};
+ghost use Rattle.sum_proofs.specs.Inside.Rewrites.{
+  IsKnownRewrite,
+  IsRewrite,
+  AreKnownRewrites,
+  AreRewrites,
+  whole_of,
+  negated_of,
+  scaled_of,
+  complemented_of,
+  cancelled_of,
+  operand_of,
+  regrouped_of,
+  commuted_of,
+  ungrouped_of,
+  left_of,
+  right_of,
+  has_rewrites,
+};
 
 use formula_ids::{ExpNode, calc, exp_node, oper, raised, swapped};
 use hereditary_subst::{Exhausted, Memo};
