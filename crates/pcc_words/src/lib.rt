@@ -11,7 +11,6 @@
 mod builders;
 mod commands;
 mod limits;
-mod theorems;
 mod values;
 
 ghost use Rattle.std.specs.Prelude.{◌≡◌, IfOk, IfSome, map, option_map, string_bytes};
@@ -24,7 +23,6 @@ use clap::error::ErrorKind;
 pub use commands::{AsmArgs, CheckArgs, Command, CopyArgs, PathArgs, PolicyWord, RunArgs};
 pub use limits::{MAX_BOUND, MAX_DEMO, MAX_STEPS};
 use std::alloc::{AllocError, Global};
-pub use theorems::{worked_commands, worked_faults};
 use values::command_found;
 pub use values::{
     bound_in_range, number_given, optional_number, policy_told, text_given, version_given,

@@ -11,7 +11,6 @@
 mod builders;
 mod commands;
 mod limits;
-mod theorems;
 mod values;
 
 ghost use Rattle.std.specs.Prelude.{◌≡◌, IfOk, IfSome, map, option_map, string_bytes};
@@ -23,7 +22,6 @@ use clap::error::ErrorKind;
 pub use commands::{Command, GoalsArgs, ListArgs, PacketArgs, SourceArgs};
 pub use limits::MAX_PACKET_NUMBER;
 use std::alloc::{AllocError, Global};
-pub use theorems::{worked_faults, worked_views};
 use values::command_found;
 
 /// Whether the word is all that the arguments are.
