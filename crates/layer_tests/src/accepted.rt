@@ -120,11 +120,25 @@ fn is_right(host: &mut Host) -> bool {
         && is_unchanged(host)
 }
 
-/// Whether that holds of a host of what is accepted, which it gives back.
-fn is_hosted(alloc: Global, accepted: Accepted) -> Made<bool> {
-    let mut host = made(Host::new(alloc, accepted))?;
+/// The number of the policy under which it was accepted.
+fn policy_number(accepted: Accepted) -> u32 {
+    accepted.policy().number()
+}
+
+/// Whether that holds of the host, and what it gives back was accepted under the policy tag.
+fn gives_back(host: Host) -> bool {
+    let mut host = host;
     let right = is_right(&mut host);
-    Ok(right && host.into_accepted().policy().number() == 2)
+    let number = policy_number(host.into_accepted());
+    right && number == 2
+}
+
+/// Whether that holds of a host of what is accepted.
+fn is_hosted(alloc: Global, accepted: Accepted) -> Made<bool> {
+    match Host::new(alloc, accepted) {
+        Ok(host) => Ok(gives_back(host)),
+        Err(_) => Err("no memory"),
+    }
 }
 
 /// Whether what is accepted of a return shows the bound, and a host of it is right.
