@@ -1,9 +1,7 @@
 //! Words of blocks, as text.
 
-use crate::questions::fault_text;
 use alpha_words::{Insn, Rhs};
-use bpf_code::{BLOCK, bpf_code};
-use bpf_words::read_bpf;
+use bpf_code::BLOCK;
 use std::alloc::{AllocError, Global};
 
 /// The second operand.
@@ -41,37 +39,20 @@ fn word_text(alloc: Global, insn: Insn) -> Result<String, AllocError> {
     }
 }
 
+/// Appends a word, behind a semicolon where it isn't the first.
+fn push_word(alloc: Global, text: &mut String, insn: Insn) -> Result<(), AllocError> {
+    if !text.is_empty() {
+        text.push_str("; ")?;
+    }
+    let word = word_text(alloc, insn)?;
+    text.push_str(word.as_str())
+}
+
 /// The words of the block at an index, parted by semicolons.
-fn words_text(alloc: Global, code: &[Insn], index: usize) -> Result<String, AllocError> {
+pub fn words_text(alloc: Global, code: &[Insn], index: usize) -> Result<String, AllocError> {
     let mut text = String::new(alloc);
     for insn in code.iter().skip(index.saturating_mul(BLOCK)).take(BLOCK) {
-        if !text.is_empty() {
-            text.push_str("; ")?;
-        }
-        let word = word_text(alloc, *insn)?;
-        text.push_str(word.as_str())?;
+        push_word(alloc, &mut text, *insn)?;
     }
     Ok(text)
-}
-
-/// How many words the code of the program that bytes are has.
-pub fn count_text(alloc: Global, bytes: &[u8]) -> Result<String, AllocError> {
-    match read_bpf(alloc, bytes) {
-        Err(fault) => fault_text(alloc, fault),
-        Ok(program) => {
-            let count = bpf_code(alloc, &program)?.len();
-            format!(in alloc; "{count} words")
-        }
-    }
-}
-
-/// The words of the block at an index of the program that bytes are.
-pub fn block_text(alloc: Global, index: u32, bytes: &[u8]) -> Result<String, AllocError> {
-    match read_bpf(alloc, bytes) {
-        Err(fault) => fault_text(alloc, fault),
-        Ok(program) => {
-            let code = bpf_code(alloc, &program)?;
-            words_text(alloc, &code, index as usize)
-        }
-    }
 }

@@ -4,9 +4,22 @@ use std::alloc::{AllocError, Global};
 
 /// The field of a line behind so many tabs; no text where there are fewer.
 pub fn field(line: &str, place: usize) -> &str {
-    match line.split('\t').nth(place) {
-        Some(found) => found,
-        None => "",
+    line.split('\t').nth(place).unwrap_or("")
+}
+
+/// The question of a line: what stands before ` =`.
+pub fn question(line: &str) -> &str {
+    match line.split_once(" =") {
+        Some((question, _)) => question,
+        None => line,
+    }
+}
+
+/// The answer that a line wants: what stands behind ` =`.
+pub fn wanted(line: &str) -> &str {
+    match line.split_once(" =") {
+        Some((_, want)) => want.trim(),
+        None => "an answer behind =",
     }
 }
 
@@ -23,19 +36,41 @@ pub fn text_of(alloc: Global, bytes: &[u8]) -> Result<String, AllocError> {
     }
 }
 
-/// The words' bytes, the lowest of each first; `N*WORD` is a word N times, and None stands where a
-/// text is no word. Fails only for want of memory.
+/// How often a group stands, and what stands in it; None where that is no number.
+fn group(word: &str) -> Option<(u32, &str)> {
+    match word.split_once('*') {
+        None => Some((1, word)),
+        Some((times, group)) => Some((times.parse::<u32>().ok()?, group)),
+    }
+}
+
+/// Appends a part so many times.
+fn push_times(bytes: &mut Vec<u8>, times: u32, part: &[u8]) -> Result<(), AllocError> {
+    for _ in 0..times {
+        bytes.extend_from_slice(part)?;
+    }
+    Ok(())
+}
+
+/// Appends the bytes of a word, the lowest first; `N*WORD` is a word N times. It is false where the
+/// text is no word.
+fn push_word(bytes: &mut Vec<u8>, text: &str) -> Result<bool, AllocError> {
+    let Some((times, digits)) = group(text) else {
+        return Ok(false);
+    };
+    let Some(word) = word_of(digits) else {
+        return Ok(false);
+    };
+    push_times(bytes, times, &word.to_le_bytes())?;
+    Ok(true)
+}
+
+/// The words' bytes; None where a text is no word.
 pub fn code_bytes(alloc: Global, words: &str) -> Result<Option<Vec<u8>>, AllocError> {
     let mut bytes = Vec::new(alloc);
     for text in words.split(' ') {
-        let Some((times, digits)) = group(text) else {
+        if !push_word(&mut bytes, text)? {
             return Ok(None);
-        };
-        let Some(word) = word_of(digits) else {
-            return Ok(None);
-        };
-        for _ in 0..times {
-            bytes.extend_from_slice(&word.to_le_bytes())?;
         }
     }
     Ok(Some(bytes))
@@ -43,20 +78,15 @@ pub fn code_bytes(alloc: Global, words: &str) -> Result<Option<Vec<u8>>, AllocEr
 
 /// Appends what stands for a sign behind a backslash; false where that is none.
 fn push_sign(bytes: &mut Vec<u8>, sign: &str) -> Result<bool, AllocError> {
-    if sign == "n" {
-        bytes.push(b'\n')?;
-        return Ok(true);
-    }
-    if sign == "r" {
-        bytes.push(b'\r')?;
-        return Ok(true);
-    }
-    let Ok(blanks) = sign.parse::<u32>() else {
-        return Ok(false);
+    let (times, part) = match sign {
+        "n" => (1, b"\n"),
+        "r" => (1, b"\r"),
+        _ => match sign.parse::<u32>() {
+            Ok(blanks) => (blanks, b" "),
+            Err(_) => return Ok(false),
+        },
     };
-    for _ in 0..blanks {
-        bytes.push(b' ')?;
-    }
+    push_times(bytes, times, part)?;
     Ok(true)
 }
 
@@ -74,47 +104,72 @@ fn split_sign(text: &str) -> (&str, &str) {
     }
 }
 
+/// Appends a sign that stood behind a backslash, and the text behind it; false where it is none.
+fn push_behind(bytes: &mut Vec<u8>, part: &str) -> Result<bool, AllocError> {
+    let (sign, behind) = split_sign(part);
+    if !push_sign(bytes, sign)? {
+        return Ok(false);
+    }
+    bytes.extend_from_slice(behind.as_bytes())?;
+    Ok(true)
+}
+
+/// Appends the bytes of a file that a text spells, with a sign in front where the text does not
+/// begin the file; false where a backslash has no sign behind it.
+fn push_file(bytes: &mut Vec<u8>, text: &str) -> Result<bool, AllocError> {
+    for (place, part) in text.split('\\').enumerate() {
+        if place == 0 {
+            bytes.extend_from_slice(part.as_bytes())?;
+        } else if !push_behind(bytes, part)? {
+            return Ok(false);
+        }
+    }
+    Ok(true)
+}
+
 /// The bytes of a file that a text spells; None where a backslash has no sign behind it.
 pub fn file_bytes(alloc: Global, text: &str) -> Result<Option<Vec<u8>>, AllocError> {
     let mut bytes = Vec::new(alloc);
-    let Some((front, rest)) = text.split_once('\\') else {
-        bytes.extend_from_slice(text.as_bytes())?;
-        return Ok(Some(bytes));
-    };
-    bytes.extend_from_slice(front.as_bytes())?;
-    for part in rest.split('\\') {
-        let (sign, behind) = split_sign(part);
-        if !push_sign(&mut bytes, sign)? {
-            return Ok(None);
-        }
-        bytes.extend_from_slice(behind.as_bytes())?;
+    if !push_file(&mut bytes, text)? {
+        return Ok(None);
     }
     Ok(Some(bytes))
 }
 
-/// How often a group stands, and what stands in it; None where that is no number.
-fn group(word: &str) -> Option<(u32, &str)> {
-    match word.split_once('*') {
-        None => Some((1, word)),
-        Some((times, group)) => Some((times.parse::<u32>().ok()?, group)),
-    }
+/// Appends a group in hexadecimal, as often as it stands; false where it is none.
+fn push_hex(alloc: Global, bytes: &mut Vec<u8>, word: &str) -> Result<bool, AllocError> {
+    let Some((times, digits)) = group(word) else {
+        return Ok(false);
+    };
+    let Ok(part) = hex::decode(alloc, digits) else {
+        return Ok(false);
+    };
+    push_times(bytes, times, &part)?;
+    Ok(true)
 }
 
 /// The bytes of groups in hexadecimal, parted by blanks; `N*GROUP` is a group N times.
 pub fn hex_bytes(alloc: Global, text: &str) -> Result<Option<Vec<u8>>, AllocError> {
     let mut bytes = Vec::new(alloc);
     for word in text.split_whitespace() {
-        let Some((times, digits)) = group(word) else {
+        if !push_hex(alloc, &mut bytes, word)? {
             return Ok(None);
-        };
-        let Ok(part) = hex::decode(alloc, digits) else {
-            return Ok(None);
-        };
-        for _ in 0..times {
-            bytes.extend_from_slice(part.as_slice())?;
         }
     }
     Ok(Some(bytes))
+}
+
+/// Appends a part, as often as it stands; false where it spells none.
+fn push_piece(bytes: &mut Vec<u8>, part: &str) -> Result<bool, AllocError> {
+    let Some((times, spelled)) = group(part) else {
+        return Ok(false);
+    };
+    for _ in 0..times {
+        if !push_file(bytes, spelled)? {
+            return Ok(false);
+        }
+    }
+    Ok(true)
 }
 
 /// The bytes of a text in parts between `|`, each as a file's text spells it; `N*PART` is a part N
@@ -122,14 +177,8 @@ pub fn hex_bytes(alloc: Global, text: &str) -> Result<Option<Vec<u8>>, AllocErro
 pub fn pieces(alloc: Global, text: &str) -> Result<Option<Vec<u8>>, AllocError> {
     let mut bytes = Vec::new(alloc);
     for part in text.split('|') {
-        let Some((times, spelled)) = group(part) else {
+        if !push_piece(&mut bytes, part)? {
             return Ok(None);
-        };
-        let Some(piece) = file_bytes(alloc, spelled)? else {
-            return Ok(None);
-        };
-        for _ in 0..times {
-            bytes.extend_from_slice(piece.as_slice())?;
         }
     }
     Ok(Some(bytes))

@@ -5,9 +5,8 @@ ghost use Rattle.std.specs.List.Sorted.{IsStrictlyIncreasing};
 ghost use Rattle.alpha_cfg.specs.Flow.{InsideOf};
 ghost use Rattle.alpha_words.specs.Lawful.{target_of};
 
-use crate::bytes::{code_bytes, text_of, word_of};
-use crate::row::{Row, one_row};
-use crate::runs::code_of;
+use crate::bytes::{question, text_of, word_of};
+use crate::runs::code_in;
 use alpha_cfg::Cut;
 use alpha_words::{Insn, decode, target};
 use insn_text::push_insn;
@@ -24,6 +23,15 @@ fn leads_to_index(index: u32, insn: &Insn) -> bool
     }
 }
 
+/// What is printed of an instruction.
+fn insn_text(alloc: Global, index: u32, insn: Insn) -> Result<String, AllocError>
+    requires { InsideOf (2 ^ 32) (target_of index insn) }
+{
+    let mut out = Vec::new(alloc);
+    push_insn(&mut out, index, insn)?;
+    text_of(alloc, &out)
+}
+
 /// What is printed of the word at an index, or why it is no instruction.
 fn word_text(alloc: Global, index: u32, word: u32, profile: Profile) -> Result<String, AllocError> {
     match decode(word, profile) {
@@ -35,9 +43,7 @@ fn word_text(alloc: Global, index: u32, word: u32, profile: Profile) -> Result<S
             if !leads_to_index(index, &insn) {
                 return format!(in alloc; "outside");
             }
-            let mut out = Vec::new(alloc);
-            push_insn(&mut out, index, insn)?;
-            text_of(alloc, &out)
+            insn_text(alloc, index, insn)
         }
     }
 }
@@ -89,10 +95,7 @@ fn is_rising(marks: &[u32]) -> bool
 
 /// The code of words, cut at indices; None where it can't be cut there.
 fn cut_words(alloc: Global, words: &str, marks: &[u32]) -> Result<Option<Cut>, AllocError> {
-    let Some(bytes) = code_bytes(alloc, words)? else {
-        return Ok(None);
-    };
-    let Some(code) = code_of(alloc, bytes.as_slice()) else {
+    let Some(code) = code_in(alloc, words)? else {
         return Ok(None);
     };
     if !is_rising(marks) || !marks.iter().all(|mark| *mark < code.count()) {
@@ -101,18 +104,26 @@ fn cut_words(alloc: Global, words: &str, marks: &[u32]) -> Result<Option<Cut>, A
     Ok(code.cut(alloc, marks).ok())
 }
 
+/// The indices of a text; None where it has others.
+fn indices_of(alloc: Global, text: &str) -> Result<Option<Vec<u32>>, AllocError> {
+    let mut marks = Vec::new(alloc);
+    for part in text.split_whitespace() {
+        if !push_numbers(&mut marks, part)? {
+            return Ok(None);
+        }
+    }
+    Ok(Some(marks))
+}
+
 /// The code of a text: the indices where it is cut, `/` and its words.
 fn cut_of(alloc: Global, text: &str) -> Result<Option<Cut>, AllocError> {
     let Some((indices, words)) = text.split_once('/') else {
         return Ok(None);
     };
-    let mut marks = Vec::new(alloc);
-    for part in indices.split_whitespace() {
-        if !push_numbers(&mut marks, part)? {
-            return Ok(None);
-        }
+    match indices_of(alloc, indices)? {
+        None => Ok(None),
+        Some(marks) => cut_words(alloc, words.trim(), &marks),
     }
-    cut_words(alloc, words.trim(), &marks)
 }
 
 /// The answer to `cut`: how many instructions there are, and the unfolded length.
@@ -141,20 +152,12 @@ fn marked_answer(alloc: Global, text: &str) -> Result<String, AllocError> {
     }
 }
 
-/// The answer to the question that a text is.
-fn answer(alloc: Global, text: &str) -> Result<String, AllocError> {
-    match text.split_once(' ') {
+/// The answer to the question of a line.
+pub fn answer(alloc: Global, line: &str) -> Result<String, AllocError> {
+    match question(line).split_once(' ') {
         Some(("insn", rest)) => insn_answer(alloc, rest),
         Some(("cut", rest)) => cut_answer(alloc, rest),
         Some(("marked", rest)) => marked_answer(alloc, rest),
         _ => format!(in alloc; "no question"),
-    }
-}
-
-/// The answer to the question of a line, with the wanted one.
-pub fn code_line(alloc: Global, line: &str) -> Result<Vec<Row>, AllocError> {
-    match line.split_once(" =") {
-        Some((question, want)) => one_row(alloc, answer(alloc, question)?, want.trim()),
-        None => one_row(alloc, format!(in alloc; "no row")?, "a row"),
     }
 }

@@ -2,8 +2,8 @@
 
 ghost use Rattle.proof_container.specs.Views.{IsWritable};
 
+use crate::bytes::question;
 use crate::pieces::piece_bytes;
-use crate::row::{Row, one_row};
 use proof_container::{Malformed, View, extent, read, write};
 use std::alloc::{AllocError, Global};
 
@@ -37,20 +37,40 @@ fn weight(view: &View<'_>) -> u32 {
     }
 }
 
+/// Whether the container is written as these bytes.
+fn is_written_as(alloc: Global, view: &View<'_>, bytes: &[u8]) -> Result<bool, AllocError>
+    requires { IsWritable view.now }
+{
+    let written = write(alloc, view)?;
+    Ok(written.as_slice() == bytes)
+}
+
+/// Whether the extent of the container is its count of terms and so many bytes.
+fn has_extent(alloc: Global, view: &View<'_>, bytes: u64) -> Result<bool, AllocError>
+    requires { IsWritable view.now }
+{
+    let (terms, length) = extent(alloc, view)?;
+    Ok(terms == view.table.count() && length == bytes)
+}
+
+/// How many terms there are and what the proof weighs.
+fn counts_text(alloc: Global, view: &View<'_>) -> Result<String, AllocError> {
+    let terms = view.table.count();
+    let weight = weight(view);
+    format!(in alloc; "{terms} terms, weight {weight}")
+}
+
 /// How many terms there are and what the proof weighs, where the container is written as it was.
 fn size_text(alloc: Global, view: &View<'_>, bytes: &[u8]) -> Result<String, AllocError>
     requires { IsWritable view.now }
 {
-    let (terms, length) = extent(alloc, view)?;
-    let written = write(alloc, view)?;
-    if written.as_slice() != bytes {
+    if !is_written_as(alloc, view, bytes)? {
         return format!(in alloc; "written otherwise");
     }
-    if terms != view.table.count() || length != bytes.len() as u64 {
-        return format!(in alloc; "another extent");
+    match has_extent(alloc, view, bytes.len() as u64)? {
+        true => counts_text(alloc, view),
+        false => format!(in alloc; "another extent"),
     }
-    let weight = weight(view);
-    format!(in alloc; "{terms} terms, weight {weight}")
 }
 
 /// The fields of a container but for the terms.
@@ -103,21 +123,18 @@ fn container_text(alloc: Global, asked: Asked, bytes: &[u8]) -> Result<String, A
 }
 
 /// Whether the first `n` bytes are cut at the field that isn't whole.
-fn is_cut(alloc: Global, bytes: &[u8], n: usize) -> Result<bool, AllocError> {
-    let Some(front) = bytes.get(..n) else {
-        return Ok(false);
-    };
-    let place = 4 * (n / 4);
-    let got = container_text(alloc, Asked::Size, front)?;
-    let want = format!(in alloc; "{place} Cut")?;
-    Ok(got.as_str() == want.as_str())
+fn is_cut(alloc: Global, bytes: &[u8], n: usize) -> bool {
+    match read(alloc, bytes.get(..n).unwrap_or(bytes)) {
+        Err(Malformed::At(offset, flaw)) => offset as usize == 4 * (n / 4) && flaw.name() == "Cut",
+        _ => false,
+    }
 }
 
 /// How many bytes there are, where fewer of them are always cut at the field that isn't whole.
 fn cuts_text(alloc: Global, bytes: &[u8]) -> Result<String, AllocError> {
     let count = bytes.len();
     for n in 0..count {
-        if !is_cut(alloc, bytes, n)? {
+        if !is_cut(alloc, bytes, n) {
             return format!(in alloc; "otherwise at {n}");
         }
     }
@@ -149,9 +166,9 @@ fn question_of(text: &str) -> Option<(Question, &str)> {
     }
 }
 
-/// The answer to the question that a text is.
-fn answer(alloc: Global, text: &str) -> Result<String, AllocError> {
-    let Some((question, pieces)) = question_of(text) else {
+/// The answer to the question of a line.
+pub fn answer(alloc: Global, line: &str) -> Result<String, AllocError> {
+    let Some((question, pieces)) = question_of(question(line)) else {
         return format!(in alloc; "no question");
     };
     let Some(bytes) = piece_bytes(alloc, pieces)? else {
@@ -160,13 +177,5 @@ fn answer(alloc: Global, text: &str) -> Result<String, AllocError> {
     match question {
         Question::Read(asked) => container_text(alloc, asked, bytes.as_slice()),
         Question::Cuts => cuts_text(alloc, bytes.as_slice()),
-    }
-}
-
-/// The answer to the question of a line on containers, with the wanted one.
-pub fn container_line(alloc: Global, line: &str) -> Result<Vec<Row>, AllocError> {
-    match line.split_once('=') {
-        Some((question, want)) => one_row(alloc, answer(alloc, question)?, want.trim()),
-        None => one_row(alloc, format!(in alloc; "no row")?, "a row"),
     }
 }

@@ -78,23 +78,14 @@ mod pieces;
 mod policies;
 mod programs;
 mod questions;
-mod row;
 mod runs;
 mod texts;
 mod words;
 
 use anyhow::Result;
-use codes::code_line;
-use containers::container_line;
-use policies::{built_in_line, file_line};
-use programs::program_line;
-use questions::question_line;
-use row::Row;
-use runs::run_line;
+use bytes::{field, wanted};
 use std::alloc::{AllocError, Global};
 use std::fs;
-use texts::text_line;
-use words::word_line;
 
 /// A table of rows.
 #[derive(Clone, Copy)]
@@ -139,18 +130,42 @@ impl Table {
         }
     }
 
-    /// The rows of a line of it.
-    fn line_rows(self, alloc: Global, line: &str) -> Result<Vec<Row>, AllocError> {
+    /// How many rows a line of it has.
+    fn rows(self, line: &str) -> usize {
         match self {
-            Table::Words => word_line(alloc, line),
-            Table::Runs => run_line(alloc, line),
-            Table::Files => file_line(alloc, line),
-            Table::BuiltIn => built_in_line(alloc, line),
-            Table::Texts => text_line(alloc, line),
-            Table::Codes => code_line(alloc, line),
-            Table::Questions => question_line(alloc, line),
-            Table::Programs => program_line(alloc, line),
-            Table::Containers => container_line(alloc, line),
+            Table::Words => words::rows(line),
+            Table::Runs => 2,
+            Table::Files => policies::file_rows(line),
+            Table::BuiltIn => policies::built_in_rows(line),
+            Table::Programs => programs::rows(line),
+            Table::Texts | Table::Codes | Table::Questions | Table::Containers => 1,
+        }
+    }
+
+    /// The answer that a row of a line wants.
+    fn want(self, line: &str, row: usize) -> &str {
+        match self {
+            Table::Words => words::want(line, row),
+            Table::Runs => runs::want(line, row),
+            Table::Files => policies::file_want(line, row),
+            Table::BuiltIn => field(line, row.saturating_add(1)),
+            Table::Programs => programs::want(line, row),
+            Table::Texts | Table::Codes | Table::Questions | Table::Containers => wanted(line),
+        }
+    }
+
+    /// The answer to a row of a line.
+    fn answer(self, alloc: Global, line: &str, row: usize) -> Result<String, AllocError> {
+        match self {
+            Table::Words => words::answer(alloc, line, row),
+            Table::Runs => runs::answer(alloc, line, row),
+            Table::Files => policies::file_answer(alloc, line, row),
+            Table::BuiltIn => policies::built_in_answer(alloc, line, row),
+            Table::Texts => texts::answer(alloc, line),
+            Table::Codes => codes::answer(alloc, line),
+            Table::Questions => questions::answer(alloc, line),
+            Table::Programs => programs::answer(alloc, line, row),
+            Table::Containers => containers::answer(alloc, line),
         }
     }
 }
@@ -183,16 +198,34 @@ fn report(rt: &HostRuntime, counts: &mut Counts, line: &str, got: &str, want: &s
     Ok(())
 }
 
+/// Asks a row of a line.
+fn ask_row(
+    rt: &HostRuntime,
+    counts: &mut Counts,
+    table: Table,
+    line: &str,
+    row: usize,
+) -> Result<()> {
+    let got = table.answer(rt.alloc(), line, row)?;
+    report(rt, counts, line, got.as_str(), table.want(line, row))
+}
+
+/// Asks the rows of a line, where it has some.
+fn ask_line(rt: &HostRuntime, counts: &mut Counts, table: Table, line: &str) -> Result<()> {
+    if line.is_empty() || line.starts_with('#') {
+        return Ok(());
+    }
+    for row in 0..table.rows(line) {
+        ask_row(rt, counts, table, line, row)?;
+    }
+    Ok(())
+}
+
 /// Asks the rows of each line of a table.
 fn ask(rt: &HostRuntime, counts: &mut Counts, table: Table) -> Result<()> {
     let text = fs::read_to_string(rt, table.name())?;
     for line in text.lines() {
-        if line.is_empty() || line.starts_with('#') {
-            continue;
-        }
-        for (got, want) in table.line_rows(rt.alloc(), line)? {
-            report(rt, counts, line, got.as_str(), want.as_str())?;
-        }
+        ask_line(rt, counts, table, line)?;
     }
     Ok(())
 }

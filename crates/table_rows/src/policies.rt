@@ -1,8 +1,8 @@
 //! Rows on policies from files, on policies' texts and on their digests.
 
-use crate::bytes::{field, file_bytes, text_of};
-use crate::row::{Row, one_row};
+use crate::bytes::{field, file_bytes};
 use formula_text::{TextFault, print_form};
+use formula_tree::Form;
 use packet_store::start_at;
 use policy_set::{Policy, PolicyFault, by_name, digest, read_policy};
 use std::alloc::{AllocError, Global};
@@ -21,49 +21,30 @@ fn fault_text(alloc: Global, fault: PolicyFault) -> Result<String, AllocError> {
     }
 }
 
+/// Appends a formula as it is printed, with `\n` for LF.
+fn push_printed(text: &mut String, printed: &[u8]) -> Result<(), AllocError> {
+    text.push_str(str::from_utf8(printed).unwrap_or("no text"))?;
+    text.push_str("\\n")
+}
+
+/// Appends a formula with `\n` behind it.
+fn push_form(alloc: Global, text: &mut String, form: &Form) -> Result<(), AllocError> {
+    let printed = print_form(alloc, form)?;
+    push_printed(text, &printed)
+}
+
 /// Both formulas as they are printed, with `\n` for each LF.
 fn policy_text(alloc: Global, policy: &Policy) -> Result<String, AllocError> {
-    let pre = print_form(alloc, policy.pre())?;
-    let post = print_form(alloc, policy.post())?;
-    let first = text_of(alloc, pre.as_slice())?;
-    let second = text_of(alloc, post.as_slice())?;
-    format!(in alloc; "{first}\\n{second}\\n")
+    let mut text = String::new(alloc);
+    push_form(alloc, &mut text, policy.pre())?;
+    push_form(alloc, &mut text, policy.post())?;
+    Ok(text)
 }
 
 /// The digest in hexadecimal.
 fn digest_text(alloc: Global, policy: &Policy) -> Result<String, AllocError> {
     let bytes = digest(alloc, policy)?;
     hex::encode(alloc, bytes.as_slice())
-}
-
-/// The text and the digest of a policy, each with the one that is wanted.
-fn text_and_digest(
-    alloc: Global,
-    policy: &Policy,
-    text: &str,
-    digest: &str,
-) -> Result<Vec<Row>, AllocError> {
-    let mut rows = Vec::new(alloc);
-    rows.push((policy_text(alloc, policy)?, format!(in alloc; "{text}")?))?;
-    rows.push((digest_text(alloc, policy)?, format!(in alloc; "{digest}")?))?;
-    Ok(rows)
-}
-
-/// What reading a line's file comes to: the fault, or the text and the digest of the policy.
-pub fn file_line(alloc: Global, line: &str) -> Result<Vec<Row>, AllocError> {
-    let want = field(line, 1);
-    let Some(bytes) = file_bytes(alloc, field(line, 0))? else {
-        return one_row(alloc, format!(in alloc; "no file")?, want);
-    };
-    match read_policy(alloc, bytes.as_slice()) {
-        Err(fault) => one_row(alloc, fault_text(alloc, fault)?, want),
-        Ok(policy) => {
-            if want != "policy" {
-                return one_row(alloc, format!(in alloc; "policy")?, want);
-            }
-            text_and_digest(alloc, &policy, field(line, 2), field(line, 3))
-        }
-    }
 }
 
 /// Register 16 at the start of a policy on 64 zeros, in the arena of the second of several agents.
@@ -75,34 +56,89 @@ fn second_start(policy: &Policy) -> u64 {
     }
 }
 
-/// The number of a policy, how high its copy's formulas are, where a second agent starts, and which
-/// of some numbers a container for it may have.
-fn measures(alloc: Global, policy: &Policy) -> Result<String, AllocError> {
-    let copy = policy.copy(alloc)?;
-    let number = copy.number();
-    let pre = copy.pre().height();
-    let post = copy.post().height();
-    let start = second_start(policy);
-    let mut text = format!(in alloc; "{number} {pre} {post} starts {start} takes")?;
+/// Appends a number behind a blank.
+fn push_number(alloc: Global, text: &mut String, number: u32) -> Result<(), AllocError> {
+    let number = format!(in alloc; " {number}")?;
+    text.push_str(number.as_str())
+}
+
+/// Which of some numbers a container for the policy may have.
+fn taken(alloc: Global, policy: &Policy) -> Result<String, AllocError> {
+    let mut text = String::new(alloc);
     for number in [0, 1, 2, 3, u32::MAX] {
-        if copy.has_number(number) {
-            let taken = format!(in alloc; " {number}")?;
-            text.push_str(taken.as_str())?;
+        if policy.has_number(number) {
+            push_number(alloc, &mut text, number)?;
         }
     }
     Ok(text)
 }
 
-/// The text, the digest and the measures of the built-in policy that a line names, or that it names
-/// none.
-pub fn built_in_line(alloc: Global, line: &str) -> Result<Vec<Row>, AllocError> {
+/// The number of a policy, how high its formulas are, where a second agent starts, and which of some
+/// numbers a container for it may have.
+fn measures_of(alloc: Global, policy: &Policy) -> Result<String, AllocError> {
+    let number = policy.number();
+    let pre = policy.pre().height();
+    let post = policy.post().height();
+    let start = second_start(policy);
+    let taken = taken(alloc, policy)?;
+    format!(in alloc; "{number} {pre} {post} starts {start} takes{taken}")
+}
+
+/// The measures of a policy's copy.
+fn measures(alloc: Global, policy: &Policy) -> Result<String, AllocError> {
+    let copy = policy.copy(alloc)?;
+    measures_of(alloc, &copy)
+}
+
+/// The answer to a row on a policy: its text, its digest or its measures.
+fn policy_answer(alloc: Global, policy: &Policy, row: usize) -> Result<String, AllocError> {
+    match row {
+        0 => policy_text(alloc, policy),
+        1 => digest_text(alloc, policy),
+        _ => measures(alloc, policy),
+    }
+}
+
+/// The answer to a row on a file: why it is no policy, or the policy's text or digest.
+fn read_answer(alloc: Global, bytes: &[u8], row: usize) -> Result<String, AllocError> {
+    match read_policy(alloc, bytes) {
+        Err(fault) => fault_text(alloc, fault),
+        Ok(policy) => policy_answer(alloc, &policy, row),
+    }
+}
+
+/// How many rows a line on a file has: one on a fault, two on a policy.
+pub fn file_rows(line: &str) -> usize {
+    if field(line, 1) == "policy" { 2 } else { 1 }
+}
+
+/// The answer that a row of a line on a file wants.
+pub fn file_want(line: &str, row: usize) -> &str {
+    match (field(line, 1), row) {
+        ("policy", 0) => field(line, 2),
+        ("policy", _) => field(line, 3),
+        (fault, _) => fault,
+    }
+}
+
+/// The answer to a row of a line on a file.
+pub fn file_answer(alloc: Global, line: &str, row: usize) -> Result<String, AllocError> {
+    match file_bytes(alloc, field(line, 0))? {
+        None => format!(in alloc; "no file"),
+        Some(bytes) => read_answer(alloc, &bytes, row),
+    }
+}
+
+/// How many rows a line on a built-in policy has: three, or one where it names none.
+pub fn built_in_rows(line: &str) -> usize {
+    if field(line, 1) == "no policy" { 1 } else { 3 }
+}
+
+/// The answer to a row of a line on a built-in policy: its text, its digest or its measures, or that
+/// it names none.
+pub fn built_in_answer(alloc: Global, line: &str, row: usize) -> Result<String, AllocError> {
     match by_name(alloc, field(line, 0))? {
-        None => one_row(alloc, format!(in alloc; "no policy")?, field(line, 1)),
-        Some(policy) => {
-            let mut rows = text_and_digest(alloc, &policy, field(line, 1), field(line, 2))?;
-            let want = field(line, 3);
-            rows.push((measures(alloc, &policy)?, format!(in alloc; "{want}")?))?;
-            Ok(rows)
-        }
+        None => format!(in alloc; "no policy"),
+        Some(policy) => policy_answer(alloc, &policy, row),
     }
 }

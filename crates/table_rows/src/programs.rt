@@ -1,37 +1,24 @@
 //! Rows on the values of programs of classic BPF.
 
 use crate::bytes::{field, hex_bytes};
-use crate::questions::value_text;
-use crate::row::Row;
+use crate::questions::{no_question, packet_text};
 use std::alloc::{AllocError, Global};
 
-/// The value on a packet of the program that bytes are, and the wanted one.
-fn run_packet(alloc: Global, program: &[u8], packet: &str, want: &str) -> Result<Row, AllocError> {
-    let got = match hex_bytes(alloc, packet)? {
-        Some(packet) => value_text(alloc, program, packet.as_slice())?,
-        None => format!(in alloc; "no packet")?,
-    };
-    Ok((got, format!(in alloc; "{want}")?))
+/// How many rows a line has: one a packet.
+pub fn rows(line: &str) -> usize {
+    field(line, 3).split(',').count()
 }
 
-/// The values on packets, each with the wanted one; packets and values are parted by commas.
-fn run_packets(
-    alloc: Global,
-    program: &[u8],
-    packets: &str,
-    values: &str,
-) -> Result<Vec<Row>, AllocError> {
-    let mut answers = Vec::new(alloc);
-    for (packet, want) in packets.split(',').zip(values.split(',')) {
-        answers.push(run_packet(alloc, program, packet, want)?)?;
-    }
-    Ok(answers)
+/// The value of a packet that a line wants.
+pub fn want(line: &str, row: usize) -> &str {
+    field(line, 4).split(',').nth(row).unwrap_or("")
 }
 
-/// The values of the program of a line on its packets, each with the wanted one.
-pub fn program_line(alloc: Global, line: &str) -> Result<Vec<Row>, AllocError> {
+/// The value of the program of a line on one of its packets.
+pub fn answer(alloc: Global, line: &str, row: usize) -> Result<String, AllocError> {
+    let packet = field(line, 3).split(',').nth(row).unwrap_or("");
     match hex_bytes(alloc, field(line, 2))? {
-        Some(program) => run_packets(alloc, program.as_slice(), field(line, 3), field(line, 4)),
-        None => Ok(Vec::new(alloc)),
+        None => no_question(alloc),
+        Some(program) => packet_text(alloc, &program, packet),
     }
 }

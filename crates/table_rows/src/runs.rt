@@ -1,7 +1,6 @@
 //! Rows on the run of code on a packet.
 
 use crate::bytes::{code_bytes, field};
-use crate::row::Row;
 use alpha_cfg::{Code, Kind, MAX_WORDS};
 use packet_store::{MAX_PACKET, PacketResult, PacketRunner, TestingRunner};
 use policy_set::{Policy, PolicyKind, by_name};
@@ -30,7 +29,7 @@ fn result_text(
 }
 
 /// The code of the second profile that bytes are; None where they are none.
-pub fn code_of(alloc: Global, bytes: &[u8]) -> Option<Code> {
+fn code_of(alloc: Global, bytes: &[u8]) -> Option<Code> {
     let count = bytes.len();
     if count == 0 || count % 4 != 0 || count > 4 * MAX_WORDS {
         return None;
@@ -46,50 +45,83 @@ fn has_stray_sum(policy: Option<PolicyKind>, end: PacketResult) -> bool {
     }
 }
 
-/// What a packet comes to in so many steps.
-fn run_text(
+/// The code that words spell; None where they spell none.
+pub fn code_in(alloc: Global, words: &str) -> Result<Option<Code>, AllocError> {
+    match code_bytes(alloc, words)? {
+        None => Ok(None),
+        Some(bytes) => Ok(code_of(alloc, bytes.as_slice())),
+    }
+}
+
+/// What the bytes of a packet come to.
+fn bytes_text(
     alloc: Global,
-    policy: Policy,
-    code: Code,
+    runner: &mut TestingRunner,
+    policy: Option<PolicyKind>,
     packet: &[u8],
-    steps: u64,
 ) -> Result<String, AllocError> {
     if packet.len() > MAX_PACKET as usize {
         return format!(in alloc; "a long packet");
     }
-    let kind = policy.kind();
-    let mut runner = TestingRunner::new(alloc, policy, code, steps)?;
     let end = runner.run_packet(packet);
-    if has_stray_sum(kind, end) {
+    if has_stray_sum(policy, end) {
         return format!(in alloc; "a sum of no region");
     }
-    result_text(alloc, kind, end)
+    result_text(alloc, policy, end)
 }
 
-/// What the packet of a line comes to in so many steps, by the code of the line.
-fn line_text(alloc: Global, line: &str, steps: u64) -> Result<String, AllocError> {
-    let Some(policy) = by_name(alloc, field(line, 0))? else {
-        return format!(in alloc; "no policy");
-    };
-    let Some(bytes) = code_bytes(alloc, field(line, 1))? else {
-        return format!(in alloc; "no words");
-    };
-    let Some(code) = code_of(alloc, bytes.as_slice()) else {
-        return format!(in alloc; "no code");
-    };
-    let Ok(packet) = hex::decode(alloc, field(line, 2)) else {
-        return format!(in alloc; "no packet");
-    };
-    run_text(alloc, policy, code, packet.as_slice(), steps)
+/// What a packet in hexadecimal comes to.
+fn packet_text(
+    alloc: Global,
+    runner: &mut TestingRunner,
+    policy: Option<PolicyKind>,
+    packet: &str,
+) -> Result<String, AllocError> {
+    match hex::decode(alloc, packet) {
+        Ok(bytes) => bytes_text(alloc, runner, policy, bytes.as_slice()),
+        Err(_) => format!(in alloc; "no packet"),
+    }
 }
 
-/// What a line's packet comes to, in its steps and in one less, each with the wanted answer.
-pub fn run_line(alloc: Global, line: &str) -> Result<Vec<Row>, AllocError> {
-    let mut rows = Vec::new(alloc);
-    let want = field(line, 3);
+/// What a packet comes to by code under a policy, in so many steps.
+fn code_text(
+    alloc: Global,
+    policy: Policy,
+    code: Code,
+    packet: &str,
+    steps: u64,
+) -> Result<String, AllocError> {
+    let kind = policy.kind();
+    let mut runner = TestingRunner::new(alloc, policy, code, steps)?;
+    packet_text(alloc, &mut runner, kind, packet)
+}
+
+/// What the packet of a line comes to under a policy in so many steps, by the code of the line.
+fn policy_text(
+    alloc: Global,
+    policy: Policy,
+    line: &str,
+    steps: u64,
+) -> Result<String, AllocError> {
+    match code_in(alloc, field(line, 1))? {
+        None => format!(in alloc; "no code"),
+        Some(code) => code_text(alloc, policy, code, field(line, 2), steps),
+    }
+}
+
+/// The answer that a row of a line wants.
+pub fn want(line: &str, row: usize) -> &str {
+    match row {
+        0 => field(line, 3),
+        _ => "out of steps",
+    }
+}
+
+/// What a line's packet comes to: in its steps by the first row, in one less by the second.
+pub fn answer(alloc: Global, line: &str, row: usize) -> Result<String, AllocError> {
     let steps = field(line, 4).parse::<u64>().unwrap_or(0);
-    rows.push((line_text(alloc, line, steps)?, format!(in alloc; "{want}")?))?;
-    let less = line_text(alloc, line, steps.saturating_sub(1))?;
-    rows.push((less, format!(in alloc; "out of steps")?))?;
-    Ok(rows)
+    match by_name(alloc, field(line, 0))? {
+        None => format!(in alloc; "no policy"),
+        Some(policy) => policy_text(alloc, policy, line, steps.saturating_sub(row as u64)),
+    }
 }

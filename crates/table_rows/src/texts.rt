@@ -1,7 +1,6 @@
 //! Rows on lexemes, on texts of formulas, and on sources with invariants.
 
-use crate::bytes::{pieces, text_of};
-use crate::row::{Row, one_row};
+use crate::bytes::{pieces, question, text_of};
 use asm_text::{LineFault, MAX_SOURCE, Source, read_source};
 use formula_text::{TextFault, print_form, read_form};
 use formula_tree::Form;
@@ -39,17 +38,45 @@ fn fault_text(alloc: Global, fault: TextFault) -> Result<String, AllocError> {
     }
 }
 
-/// What is printed of a formula, where that is read as the same formula.
-fn printed(alloc: Global, form: &Form, reading: Reading) -> Result<String, AllocError> {
-    let text = print_form(alloc, form)?;
-    match read_form(alloc, &text, reading.profile, reading.left) {
-        Ok(again) if again == *form => text_of(alloc, &text),
-        _ => format!(in alloc; "another formula"),
+/// Whether a text is read as the formula.
+fn is_read_as(alloc: Global, text: &[u8], form: &Form, reading: Reading) -> bool {
+    match read_form(alloc, text, reading.profile, reading.left) {
+        Ok(again) => again == *form,
+        Err(_) => false,
     }
 }
 
-/// How long the text of a formula is and how high that is, where its copy is the same and what is
-/// printed of it is read back.
+/// What is printed of a formula, where that is read as the same formula.
+fn printed(alloc: Global, form: &Form, reading: Reading) -> Result<String, AllocError> {
+    let text = print_form(alloc, form)?;
+    if is_read_as(alloc, &text, form, reading) {
+        return text_of(alloc, &text);
+    }
+    format!(in alloc; "another formula")
+}
+
+/// Whether what is printed of a formula is read as the same formula.
+fn is_read_back(alloc: Global, form: &Form, reading: Reading) -> Result<bool, AllocError> {
+    let text = print_form(alloc, form)?;
+    Ok(is_read_as(alloc, &text, form, reading))
+}
+
+/// How long the text of a formula is and how high that is, where what is printed of it is read back.
+fn measures_of(
+    alloc: Global,
+    text: &[u8],
+    form: &Form,
+    reading: Reading,
+) -> Result<String, AllocError> {
+    if !is_read_back(alloc, form, reading)? {
+        return format!(in alloc; "another formula");
+    }
+    let length = text.len();
+    let height = form.height();
+    format!(in alloc; "{length} {height}")
+}
+
+/// The measures of a formula's copy, where that is the same.
 fn measures(
     alloc: Global,
     text: &[u8],
@@ -57,13 +84,10 @@ fn measures(
     reading: Reading,
 ) -> Result<String, AllocError> {
     let copy = form.copy(alloc)?;
-    let again = printed(alloc, &copy, reading)?;
-    let length = text.len();
-    let height = copy.height();
-    if copy != *form || again.as_str() == "another formula" {
+    if copy != *form {
         return format!(in alloc; "another formula");
     }
-    format!(in alloc; "{length} {height}")
+    measures_of(alloc, text, &copy, reading)
 }
 
 /// What is asked of the formula that a text spells, or why it spells none.
@@ -84,6 +108,19 @@ fn form_answer(
     }
 }
 
+/// An invariant behind the index of its instruction.
+fn inv_text(alloc: Global, index: u32, printed: &[u8]) -> Result<String, AllocError> {
+    let printed = str::from_utf8(printed).unwrap_or("no text");
+    format!(in alloc; "{index} {printed}")
+}
+
+/// Appends an invariant as text.
+fn push_inv(alloc: Global, text: &mut String, index: u32, form: &Form) -> Result<(), AllocError> {
+    let printed = print_form(alloc, form)?;
+    let inv = inv_text(alloc, index, &printed)?;
+    text.push_str(inv.as_str())
+}
+
 /// The invariants of a source, each behind the index of its instruction, parted by semicolons.
 fn invs_text(alloc: Global, source: &Source) -> Result<String, AllocError> {
     let mut text = String::new(alloc);
@@ -91,10 +128,7 @@ fn invs_text(alloc: Global, source: &Source) -> Result<String, AllocError> {
         if !text.is_empty() {
             text.push_str("; ")?;
         }
-        let printed = print_form(alloc, form)?;
-        let printed = text_of(alloc, &printed)?;
-        let inv = format!(in alloc; "{index} {printed}")?;
-        text.push_str(inv.as_str())?;
+        push_inv(alloc, &mut text, *index, form)?;
     }
     Ok(text)
 }
@@ -131,9 +165,9 @@ fn reading_answer(alloc: Global, question: &str, rest: &str) -> Result<String, A
     }
 }
 
-/// The answer to the question that a text is.
-fn answer(alloc: Global, text: &str) -> Result<String, AllocError> {
-    let Some((question, rest)) = text.split_once(' ') else {
+/// The answer to the question of a line.
+pub fn answer(alloc: Global, line: &str) -> Result<String, AllocError> {
+    let Some((question, rest)) = question(line).split_once(' ') else {
         return format!(in alloc; "no question");
     };
     let lexeme = rest.as_bytes();
@@ -155,13 +189,5 @@ fn answer(alloc: Global, text: &str) -> Result<String, AllocError> {
             format!(in alloc; "{begins}")
         }
         _ => reading_answer(alloc, question, rest),
-    }
-}
-
-/// The answer to the question of a line, with the wanted one.
-pub fn text_line(alloc: Global, line: &str) -> Result<Vec<Row>, AllocError> {
-    match line.split_once(" =") {
-        Some((question, want)) => one_row(alloc, answer(alloc, question)?, want.trim()),
-        None => one_row(alloc, format!(in alloc; "no row")?, "a row"),
     }
 }

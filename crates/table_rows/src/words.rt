@@ -1,7 +1,6 @@
 //! Rows on a code word and its text.
 
 use crate::bytes::{field, word_of};
-use crate::row::{Row, one_row};
 use alpha_words::{Insn, decode, lawful};
 use asm_text::{LineFault, MAX_SOURCE, Source, SrcInsn, read_source};
 use std::alloc::{AllocError, Global};
@@ -52,28 +51,46 @@ fn source_text(alloc: Global, text: &str, profile: Profile) -> Result<String, Al
     }
 }
 
-/// What a line's word and text come to, each with the wanted answer.
-pub fn word_line(alloc: Global, line: &str) -> Result<Vec<Row>, AllocError> {
-    let Some(word) = word_of(field(line, 0)) else {
-        return one_row(alloc, format!(in alloc; "no word")?, "a word");
-    };
-    let mut rows = Vec::new(alloc);
-    let second = field(line, 2);
-    let first = field(line, 3);
-    rows.push((
-        verdict(alloc, word, Profile::Two)?,
-        format!(in alloc; "{second}")?,
-    ))?;
-    rows.push((
-        verdict(alloc, word, Profile::One)?,
-        format!(in alloc; "{first}")?,
-    ))?;
-    let text = field(line, 1);
-    if !text.is_empty() {
-        let said = source_text(alloc, text, Profile::Two)?;
-        rows.push((said, read_text(alloc, word, Profile::Two)?))?;
-        let said = source_text(alloc, text, Profile::One)?;
-        rows.push((said, format!(in alloc; "Mnemonic")?))?;
+/// `the word`, where a source of the text says the instruction or the refusal that the word is under
+/// the second profile; else what it says.
+fn compared(alloc: Global, text: &str, word: u32) -> Result<String, AllocError> {
+    let said = source_text(alloc, text, Profile::Two)?;
+    let read = read_text(alloc, word, Profile::Two)?;
+    if said.as_str() == read.as_str() {
+        return format!(in alloc; "the word");
     }
-    Ok(rows)
+    Ok(said)
+}
+
+/// How many rows a line has: two on the word, and two on the text where there is one.
+pub fn rows(line: &str) -> usize {
+    if field(line, 1).is_empty() { 2 } else { 4 }
+}
+
+/// The answer that a row of a line wants.
+pub fn want(line: &str, row: usize) -> &str {
+    match row {
+        0 => field(line, 2),
+        1 => field(line, 3),
+        2 => "the word",
+        _ => "Mnemonic",
+    }
+}
+
+/// The answer to a row on a word and on the text of a line.
+fn answer_of(alloc: Global, word: u32, text: &str, row: usize) -> Result<String, AllocError> {
+    match row {
+        0 => verdict(alloc, word, Profile::Two),
+        1 => verdict(alloc, word, Profile::One),
+        2 => compared(alloc, text, word),
+        _ => source_text(alloc, text, Profile::One),
+    }
+}
+
+/// The answer to a row of a line.
+pub fn answer(alloc: Global, line: &str, row: usize) -> Result<String, AllocError> {
+    match word_of(field(line, 0)) {
+        None => format!(in alloc; "no word"),
+        Some(word) => answer_of(alloc, word, field(line, 1), row),
+    }
 }
