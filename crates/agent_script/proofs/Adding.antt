@@ -2,17 +2,16 @@
 use Rattle.std.proofs.Common.{◌≡◌, ℕ, suc, ◌+◌, ◌<◌, ◌≤◌, Bool, true, false, cond, ◌&&◌, List, []}
 use Rattle.std.proofs.Common.{◌∷◌, ◌++◌, length, map, Option, Some, None, Result, Ok, Err, refl}
 use Rattle.std.proofs.Common.{sym, ap, ◌∙◌, subst, arith}
-use Rattle.std.specs.Prelude.{nat_le, nat_lt, codes, string_bytes}
+use Rattle.std.specs.Prelude.{nat_le, nat_lt, codes}
 use Rattle.std.specs.List.{All}
 use Rattle.std.specs.Str.{bytes_eq}
-use Rattle.std.proofs.lemmas.Bool.{cond-true, cond-false, and_parts, lt-ltb, le-ltb, ltb-true}
+use Rattle.std.proofs.lemmas.Bool.{and_parts, lt-ltb, le-ltb, ltb-true}
 use Rattle.std.proofs.lemmas.Bool.{ltb-false, le-leb, lt-leb, leb-true, leb-false}
 use Rattle.std.proofs.lemmas.List.{length-map, length_push, map_push, nil_from_length}
 use Rattle.std.proofs.lemmas.List.Elements.{All-nil, All-push, All-same}
 use Rattle.turn_laws.specs.declared.turns.Turn.{Turn}
 use Rattle.agent_script.specs.declared.script.TheConstants.{MAX_LOADS, MAX_TURN}
 use Rattle.agent_script.specs.declared.script.Load.{Load}
-use Rattle.agent_script.specs.declared.script.Script.{Script}
 use Rattle.agent_script.specs.declared.fault.ScriptFlaw.{ScriptFlaw}
 use Rattle.agent_script.specs.declared.fault.ScriptFlaw.TheVariants as flaws
 use Rattle.agent_script.specs.declared.fault.ScriptFault.{ScriptFault}
@@ -23,7 +22,7 @@ use Rattle.agent_script.specs.Statements.{short_number, in_turn_range, turn_read
 use Rattle.agent_script.specs.Statements.{load_operands, turn_operands, statement_of}
 use Rattle.agent_script.specs.Scripts.{ScriptView, no_lines, load_added, turn_added, with_load}
 use Rattle.agent_script.specs.Scripts.{with_turn, with_statement, with_agents, behind_line}
-use Rattle.agent_script.specs.Scripts.{script_from, parsed_script, load_view, script_view, IsScript}
+use Rattle.agent_script.specs.Scripts.{script_from, parsed_script, load_view, IsScript}
 use Rattle.agent_script.specs.Scripts.{IsFault}
 use Rattle.agent_script.specs.Inside.Reading.{IsFaultOf}
 

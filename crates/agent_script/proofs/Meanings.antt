@@ -1,5 +1,5 @@
 -- What a text is read as is what it is: a script, or one whose first wrong line is this.
-use Rattle.std.proofs.Common.{◌≡◌, ℕ, suc, ◌+◌, ◌<◌, ◌≤◌, ◌⊎◌, inl, inr, Bool, true, false, cond}
+use Rattle.std.proofs.Common.{◌≡◌, ℕ, suc, ◌+◌, ◌<◌, ◌≤◌, Bool, true, false, cond}
 use Rattle.std.proofs.Common.{List, [], ◌∷◌, ◌++◌, length, map, Result, Ok, Err, refl, sym, ap}
 use Rattle.std.proofs.Common.{◌∙◌, subst, arith}
 use Rattle.std.specs.Prelude.{nat_le, nat_lt}
@@ -14,8 +14,8 @@ use Rattle.agent_script.specs.declared.fault.ScriptFlaw.{ScriptFlaw}
 use Rattle.agent_script.specs.declared.fault.ScriptFlaw.TheVariants as flaws
 use Rattle.agent_script.specs.Lines.{script_lines, line_words}
 use Rattle.agent_script.specs.Statements.{LoadView, ScriptLine, load, turn, statement_of}
-use Rattle.agent_script.specs.Scripts.{ScriptView, no_lines, load_added, turn_added, with_load}
-use Rattle.agent_script.specs.Scripts.{with_turn, with_statement, with_agents, behind_line}
+use Rattle.agent_script.specs.Scripts.{ScriptView, no_lines, load_added, turn_added}
+use Rattle.agent_script.specs.Scripts.{with_statement, with_agents, behind_line}
 use Rattle.agent_script.specs.Scripts.{script_from, parsed_script}
 use Rattle.agent_script.specs.Texts.{AreLines, LineSays, LinesSay, turn_line, AreRight, SpellsScript}
 use Rattle.agent_script.specs.Texts.{IsWrong, IsFirstWrong, HasFault, IsMeant}

@@ -6,19 +6,18 @@ use Rattle.std.specs.Prelude.{◌==◌, not, nat_le, nat_lt, codes, ok_or}
 use Rattle.std.specs.Char.{digit_value}
 use Rattle.std.specs.Str.{IsUtf8, bytes_eq, is_utf8}
 use Rattle.std.specs.Str.Parse.{AllDigits, digits_value}
-use Rattle.std.proofs.lemmas.Bool.{cond-true, cond-false, and_parts, and_from, and_left, and_right}
+use Rattle.std.proofs.lemmas.Bool.{cond-true, and_parts, and_from, and_left, and_right}
 use Rattle.std.proofs.lemmas.Bool.{false_from_ne_true, ltb-true, le-leb}
 use Rattle.std.proofs.lemmas.Str.{IsUtf8-from_is_utf8, is_utf8-from_IsUtf8}
 use Rattle.std.proofs.lemmas.Str.Parse.{IsNumeralModel, numerals_by_value, tells_digits}
 use Rattle.std.proofs.lemmas.Str.Parse.{digits_value_short}
 use Rattle.text_tokens.specs.Numbers.{are_digits, numeral}
-use Rattle.agent_script.specs.declared.script.TheConstants.{MAX_TURN}
 use Rattle.agent_script.specs.declared.statement.TheConstants.{MAX_DIGITS}
 use Rattle.agent_script.specs.declared.statement.Statement as code
 use Rattle.agent_script.specs.declared.fault.ScriptFlaw.{ScriptFlaw}
 use Rattle.agent_script.specs.declared.fault.ScriptFlaw.TheVariants as flaws
-use Rattle.agent_script.specs.Statements.{LoadView, load_named, ScriptLine, load, turn}
-use Rattle.agent_script.specs.Statements.{short_number, in_turn_range, turn_read, is_name}
+use Rattle.agent_script.specs.Statements.{load_named, ScriptLine, load, turn}
+use Rattle.agent_script.specs.Statements.{short_number, is_name}
 use Rattle.agent_script.specs.Statements.{load_operands, turn_operands, statement_of}
 use Rattle.agent_script.specs.Inside.Reading.{IsStatement, IsStatementRead}
 

@@ -80,11 +80,3 @@ insn_of-format_of (Oper op ra rhs rc) = refl
 insn_of-format_of (Branch cond ra disp) = refl
 insn_of-format_of (Br disp) = refl
 insn_of-format_of Ret = refl
-
--- the instruction of a format has it
-pub format_of-insn_of : (f : Format) → format_of (insn_of f) ≡ f
-format_of-insn_of (F.Memory op ra rb disp) = format_of-memory_insn op ra rb disp
-format_of-insn_of (F.Operate op ra rhs rc) = refl
-format_of-insn_of (F.Branch cond ra disp) = refl
-format_of-insn_of (F.Br disp) = refl
-format_of-insn_of F.Ret = refl

@@ -16,7 +16,7 @@ use Rattle.proof_container.specs.declared.limits.TheConstants.{MAX_ENTRIES}
 use Rattle.proof_container.specs.Versions.{IsVersion, IsHead, IsBoundOf, AreLemmasOf, lemmas_size}
 use Rattle.proof_container.specs.Contents.{Contents, one_or_none, lemma_roots, roots}
 use Rattle.proof_container.specs.Postorder.{entries}
-use Rattle.proof_container.specs.Encoding.{IsEntryTerm, AreTerms, IsContents, EncodesContents, field_bytes, policy_bytes, bound_fields, encoding_of}
+use Rattle.proof_container.specs.Encoding.{IsEntryTerm, AreTerms, IsContents, field_bytes, policy_bytes, bound_fields, encoding_of}
 use Rattle.proof_container.specs.Decoding.{entry_size}
 use Rattle.proof_container.specs.Views.{AllTerms, IsWritable, contents_of, view_contents, Shows}
 use Rattle.proof_container.proofs.FieldLaws.{length-field_bytes}

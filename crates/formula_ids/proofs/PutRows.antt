@@ -1,5 +1,5 @@
 -- Kept results of substitutions as the table grows, and a result by those of the parts.
-use Rattle.std.proofs.Common.{◌≡◌, ℕ, zero, suc, ◌+◌, ◌-◌, ◌<◌, Result, Ok, Err, IfOk, refl, sym, ◌∙◌, ap, subst, arith}
+use Rattle.std.proofs.Common.{◌≡◌, ℕ, zero, suc, ◌+◌, ◌-◌, ◌<◌, Result, Ok, Err, IfOk, refl, sym, ◌∙◌, ap, arith}
 use Rattle.term_table.specs.Tree.{Tree, Var, Con, Deny, Lam, spot, shift, Here, Other, Spot, later}
 use Rattle.term_table.specs.Table.{TableView, IsKnown, tree_at, Extends}
 use Rattle.lf_signature.specs.Nodes.{IsIdOf}
@@ -12,7 +12,7 @@ use Rattle.hereditary_subst.proofs.Rows.{memo-more}
 use Rattle.formula_ids.specs.declared.forms.Access.{Access}
 use Rattle.formula_ids.specs.declared.forms.Access.TheVariants.{Load, Store}
 use Rattle.formula_ids.specs.Nodes.{right_form, IsRight}
-use Rattle.formula_ids.specs.Puts.{IsExpPut, IsMemPut, IsFormPut}
+use Rattle.formula_ids.specs.Puts.{IsExpPut, IsFormPut}
 use Rattle.formula_ids.specs.PutRows.{IsPutAt, ArePuts, IsUnderPut}
 use Rattle.formula_ids.specs.Lasting.{put-lasts}
 use Rattle.formula_ids.specs.declared.puts.Put.{Put}

@@ -6,13 +6,13 @@ use Rattle.word_ops.specs.Operators.{op_of_constant, op_constant}
 use Rattle.lf_signature.specs.Numbers.{rel_constant}
 use Rattle.lf_signature.specs.Terms.{app2}
 use Rattle.std.proofs.Common.{◌≡◌, ℕ, zero, suc, Some, List, [], ◌∷◌, refl, ◌∙◌, ap, arith}
-use Rattle.term_table.specs.Tree.{Tree, Var, Con, App, Lam, Fam, Num, at, shift}
+use Rattle.term_table.specs.Tree.{Tree, Var, Con, App, Fam, Num, at, shift}
 use Rattle.term_table.specs.Tree as tree
 use Rattle.formula_tree.specs.Formulas.{Exp, EReg, ELeft, EVar, ELit, EOp, ESel, MemExp, MMem, MVar, MUpd, Form, FTrue, FFalse, FRel, FRd, FWr, FAnd, FOr, FImp, FAll, FAllm, shift_exp, shift_mem}
 use Rattle.formula_terms.specs.Encoding.{exp_encoding, mem_encoding, form_encoding}
 use Rattle.term_table.specs.Tree.{raise}
 use Rattle.formula_tree.specs.Scope.{VarSort, sort_at, OfWord, OfMem, OfProof}
-use Rattle.std.proofs.Common.{◌≢◌, ◌==◌, not, ◌<◌, ◌≤◌, sym}
+use Rattle.std.proofs.Common.{◌≢◌, ◌==◌, not, ◌≤◌, sym}
 use Rattle.std.proofs.lemmas.Bool.{eqb-false, not-true}
 use Rattle.lf_signature.specs.declared.numbers.TheConstants.{SEL}
 use Rattle.term_table.proofs.Options.{some_injective}

@@ -1,7 +1,7 @@
 -- The walk's calls, one in another: what a later table and a later context say, and formulas' parts.
 use Rattle.std.proofs.Common.{◌≡◌, ℕ, zero, suc, ◌+◌, Bool, true, false, List, [], ◌∷◌, ◌++◌, map, append_assoc, append-nil, Option, Some, None, is_some, refl, sym, ◌∙◌, ap, subst, arith}
 use Rattle.std.proofs.lemmas.List.{map-append}
-use Rattle.term_table.specs.Tree.{Tree, Var, shift}
+use Rattle.term_table.specs.Tree.{Tree, shift}
 use Rattle.term_table.specs.Table.{TableView, IsKnown, tree_at, Extends, Stands}
 use Rattle.lf_signature.specs.Nodes.{IsIdOf}
 use Rattle.formula_tree.specs.Formulas.{Form, FAnd, FImp, shift_form}
@@ -16,7 +16,7 @@ use Rattle.hyp_proofs.proofs.Raised.{shift-form_encoding}
 use Rattle.lf_encode.specs.Contexts.{machine_names, encoding_in}
 use Rattle.vcgen.specs.Conditions.{alls, close}
 use Rattle.vcgen.specs.Encoded.{context_of}
-use Rattle.prover_class.specs.Hypotheses.{Hyps, raised_hyps, split_hyps, with_new}
+use Rattle.prover_class.specs.Hypotheses.{Hyps}
 use Rattle.prover_class.specs.Access.{by_all_means}
 use Rattle.goal_proofs.specs.Provers.{whole_proof, IsProofBy}
 use Rattle.goal_proofs.specs.Search.{IsAfter}
@@ -28,9 +28,9 @@ use Rattle.goal_tree.specs.Rows.{RowView, GoalRow, BothRow, UnderRow, row_view, 
 use Rattle.goal_tree.specs.declared.rows.Row.{Row}
 use Rattle.goal_tree.specs.declared.rows.Row.TheVariants as R
 use Rattle.goal_tree.specs.declared.rows.PartRows.{PartRows}
-use Rattle.goal_marks.specs.Marks.{is_easy, count_of, assuming, marks, part_form, part_marks}
+use Rattle.goal_marks.specs.Marks.{is_easy, assuming, marks, part_form, part_marks}
 use Rattle.goal_marks.specs.Inside.Shapes.{Kind, Alone, Two, Given, kinds, kind_of}
-use Rattle.goal_marks.specs.Inside.Marking.{IsWriting, ArePushed, AreAllEasy, AreGoalsAt, AreMarked, ArePartsMarked, AreBothMarked, AreUnderMarked, unquantified, IsPartMarked}
+use Rattle.goal_marks.specs.Inside.Marking.{AreAllEasy, AreGoalsAt, AreMarked, ArePartsMarked, AreBothMarked, AreUnderMarked, unquantified, IsPartMarked}
 use Rattle.goal_marks.proofs.Wholes.{writes-names, writes-raised}
 use Rattle.goal_marks.proofs.Pushing.{marks-easy, marks-under}
 

@@ -9,7 +9,7 @@ use Rattle.goal_tree.specs.Goals.{Goals, Goal, Both, Under, asked}
 use Rattle.goal_tree.specs.declared.rows.Row.{Row}
 use Rattle.goal_marks.specs.Marks.{is_easy, count_of, all_or, assuming, marks}
 use Rattle.goal_marks.specs.Inside.Shapes.{Kind, Alone, Two, Given, kinds, kind_of}
-use Rattle.goal_marks.specs.Inside.Marking.{ArePushed, AreAllEasy, AreGoalsAt, AreBothMarked, AreUnderMarked, ArePartsMarked}
+use Rattle.goal_marks.specs.Inside.Marking.{AreAllEasy, AreBothMarked, AreUnderMarked, ArePartsMarked}
 
 -- what follows holds of Ok
 pub if_ok : {A E : Type 0} {P Q : A → Type 0} (r : Result A E) → ((a : A) → P a → Q a)

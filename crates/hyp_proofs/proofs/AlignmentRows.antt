@@ -1,5 +1,5 @@
 -- Kept alignments as the table grows, and an alignment by those of the parts.
-use Rattle.std.proofs.Common.{◌≡◌, ℕ, Option, Some, None, IfSome, Bool, true, false, cond, List, [], ◌∷◌, option_map, refl, sym, ◌∙◌, ap, subst, arith}
+use Rattle.std.proofs.Common.{◌≡◌, ℕ, Option, Some, None, IfSome, List, [], ◌∷◌, option_map, refl, sym, ◌∙◌, ap, subst, arith}
 use Rattle.term_table.specs.Tree.{Tree}
 use Rattle.term_table.specs.Subst.{bind}
 use Rattle.term_table.specs.Table.{TableView, IsKnown, Extends, Stands}

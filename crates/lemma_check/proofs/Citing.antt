@@ -1,5 +1,5 @@
 -- How far the lemmas in trees go, and which proofs cite backwards.
-use Rattle.std.proofs.Common.{◌≡◌, ℕ, zero, suc, ◌<◌, Bool, true, false, cond, ◌&&◌, not, nat_lt, max, Some, List, [], ◌∷◌, length, map, take, get_or, refl, sym, ◌∙◌, ap, subst, arith}
+use Rattle.std.proofs.Common.{◌≡◌, ℕ, zero, suc, ◌<◌, Bool, true, false, cond, ◌&&◌, not, nat_lt, max, Some, List, [], ◌∷◌, map, take, get_or, refl, sym, ◌∙◌, ap, arith}
 use Rattle.std.proofs.lemmas.Bool.{ltb-true, ltb-false, lt-ltb, le-ltb}
 use Rattle.std.proofs.lemmas.List.{get_or-take}
 use Rattle.term_table.specs.Tree.{Tree, Var, Con, App, Lam, Fam, TApp, Pi, Lemma}
@@ -7,7 +7,7 @@ use Rattle.term_table.specs.Table.{TableView, tree_in, tree_at, node_tree_in, Pa
 use Rattle.term_table.specs.declared.Node.{Node}
 use Rattle.term_table.specs.declared.Node.TheVariants as N
 use Rattle.lf_lemmas.specs.WrittenOut.{cites_below}
-use Rattle.lf_lemmas.specs.Tables.{lemmas_in, LemmasBelow}
+use Rattle.lf_lemmas.specs.Tables.{lemmas_in}
 use Rattle.lemma_check.specs.First.{first_failing, cites_before}
 use Rattle.lemma_check.specs.Inside.Bounds.{cited, node_cited, late_by}
 

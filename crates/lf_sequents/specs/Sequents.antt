@@ -1,5 +1,5 @@
 -- Sequents over a table.
-use Rattle.std.specs.Prelude.{ℕ, Option, List, [], ◌∷◌}
+use Rattle.std.specs.Prelude.{Option, List, [], ◌∷◌}
 use Rattle.term_table.specs.Tree.{Tree, Const}
 use Rattle.term_table.specs.Table.{TableView, IsKnown, AllKnown, tree_at, ctx_of}
 use Rattle.lf_signature.specs.Terms.{pf}

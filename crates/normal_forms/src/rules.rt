@@ -59,10 +59,12 @@ pub enum Rule {
     Cancelled,
 }
 
-/// The order of summands, where `outside` binders stand outside, the steps' that are left among them.
+/// The order of summands, where `outside` binders stand outside, the steps' that are left among
+/// them.
 fn summand_key(table: &Table, outside: u32, e: Id) -> u32
     requires { IsKnown table.now e }
-    ensures { (x : Exp) → tree_at table.now e ≡ exp_encoding x → result ≡ summand_key outside x }
+    ensures { (x : Exp) → tree_at table.now e ≡ exp_encoding x →
+        result ≡ summand_key outside x }
 {
     match table.node(e) {
         Node::Var(n) => {
@@ -93,7 +95,8 @@ fn applied_summand(op: Op, a: Id, b: Id) -> Summand
 fn operand(table: &Table, e: Id) -> Summand
     requires { IsKnown table.now e }
     ensures known { IsKnownSummand table.now result }
-    ensures is { (x : Exp) → tree_at table.now e ≡ exp_encoding x → IsSummand table.now x result }
+    ensures is { (x : Exp) → tree_at table.now e ≡ exp_encoding x →
+        IsSummand table.now x result }
 {
     match exp_node(table, e) {
         ExpNode::Word(w) => Summand::Word(w),
@@ -164,8 +167,8 @@ fn rule_before(op: Op, first: Summand, turn: Option<(Id, Id)>, comes: bool, same
     }
 }
 
-/// The rule by which the operator `op` at the operands `a` and `b` is rewritten, where `outside` binders
-/// stand outside, that of the steps that are left among them.
+/// The rule by which the operator `op` at the operands `a` and `b` is rewritten, where `outside`
+/// binders stand outside, that of the steps that are left among them.
 pub fn rule_at(table: &Table, outside: u32, op: Op, a: Id, b: Id) -> Rule
     requires a { IsKnown table.now a }
     requires b { IsKnown table.now b }

@@ -16,7 +16,7 @@ use Rattle.formula_text.specs.declared.fault.TextFault.TheVariants as text_fault
 use Rattle.formula_text.specs.Names.{text_flaw_name}
 use Rattle.proof_container.specs.Contents.{Contents}
 use Rattle.proof_container.specs.Decoding.{Fault, decoded_container}
-use Rattle.proof_container.specs.Versions.{profile_of, IsVersion, IsBoundOf}
+use Rattle.proof_container.specs.Versions.{profile_of}
 use Rattle.proof_container.specs.declared.container.Head.TheVariants.{Number}
 use Rattle.asm_text.specs.declared.fault.LineFlaw.{LineFlaw}
 use Rattle.asm_text.specs.declared.limits.TheConstants.{MAX_SOURCE}
@@ -44,7 +44,6 @@ use Rattle.pcc_gate.specs.ForPolicy.{is_for}
 use Rattle.container_upgrade.specs.declared.fault.UpgradeFault.{UpgradeFault}
 use Rattle.container_upgrade.specs.declared.fault.UpgradeFault.TheVariants as upgrade_fault
 use Rattle.container_upgrade.specs.Upgrading.{upgraded_container}
-use Rattle.pcc_words.specs.Commands.{IsVersionOf}
 use Rattle.pcc_words.specs.Invocations.{named, from_file, Invocation, asm, prove, check, run, ref, demo, upgrade, host, bpf}
 use Rattle.reference_machine.specs.Starts.{StartView}
 use Rattle.packet_store.specs.PolicyStarts.{start_from}

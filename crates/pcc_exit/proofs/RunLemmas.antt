@@ -3,16 +3,16 @@ use Rattle.std.proofs.Common.{◌≡◌, ◌≢◌, ℕ, ◌<◌, ◌≤◌, Lis
 use Rattle.std.proofs.lemmas.List.Elements.{Contains-append_right}
 use Rattle.std.proofs.lemmas.Option.{IfSome_then}
 use Rattle.std.specs.FinMap as map
-use Rattle.file_port.specs.Files.{FileMap, FilesState, ReadFails, ReadAnswers, Reads, WriteFails, Writes, with_file}
+use Rattle.file_port.specs.Files.{FileMap, FilesState, ReadFails, Reads, WriteFails, Writes, with_file}
 use Rattle.file_port.specs.Events.{Given, whole, missing, too_long, failed, no_memory, given_by, Event, was_read, was_written, was_put}
-use Rattle.file_port.specs.Sink.{SinkState, Puts, with_piece}
+use Rattle.file_port.specs.Sink.{SinkState, Puts}
 use Rattle.file_port.specs.declared.port.Put.{Put}
 use Rattle.file_port.specs.declared.port.Put.TheVariants as put
 use Rattle.file_port.proofs.PutLemmas.{with_piece-nil}
 use Rattle.pcc_exit.specs.Exits.{Exit, Change, Answer, changed}
-use Rattle.pcc_exit.specs.Requests.{Request, Standing, Suits, Texts, command, missing_exit, no_memory_exit, read_fault_exit, unknown_policy_exit}
+use Rattle.pcc_exit.specs.Requests.{Request, Standing, Suits, Texts, command, missing_exit, no_memory_exit, read_fault_exit}
 use Rattle.pcc_exit.specs.Stages.{Stage, stops, gives, reads, went_on, Asks, Follows, by_given, result_over, names_over}
-use Rattle.pcc_exit.specs.Runs.{Effect, Task, Happens, done_exit, written_exit, Comes, stopped, printed, wrote, status_after, Prints, EndsRun, decided, out_of_memory, Runs, NoneFailed, answer_of, request_of_task, IsStop, IsSuited}
+use Rattle.pcc_exit.specs.Runs.{Effect, Task, Happens, done_exit, written_exit, stopped, printed, wrote, status_after, Prints, EndsRun, decided, out_of_memory, Runs, NoneFailed, answer_of, request_of_task, IsSuited}
 use Rattle.pcc_exit.specs.Ends as ends
 use Rattle.pcc_exit.specs.Ends.{Ends, IsDecision, answered, not_read, not_written}
 

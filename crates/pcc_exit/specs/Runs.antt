@@ -1,7 +1,7 @@
 -- What a run did, whatever the files hold: its reads and its write, in their order, are what the command asks for, and what it
 -- prints, and its status, go by what the reads gave.
 use Rattle.std.specs.Prelude.{◌≡◌, ◌⊎◌, ℕ, ◌<◌, ◌≤◌, List, [], ◌∷◌, ◌++◌, slice_index, Contains, IfSome, Option, Some, None, Result, Ok, Err}
-use Rattle.file_port.specs.Files.{FileMap, FilesState, Reads, Writes}
+use Rattle.file_port.specs.Files.{FilesState, Reads, Writes}
 use Rattle.file_port.specs.Events.{Given, whole, missing, too_long, failed, no_memory, Event, was_read, was_written, was_put}
 use Rattle.file_port.specs.Sink.{SinkState, Puts}
 use Rattle.file_port.specs.declared.port.Put.{Put}

@@ -12,7 +12,7 @@ use Rattle.lf_signature.specs.Typing.{atom_checks, var_synth}
 use Rattle.lf_signature.specs.Rules.{SPar, SLit, SOp, FPar, SAnd, SRel, SImp, SFalse}
 use Rattle.lf_signature.specs.Constants.{the_rules}
 use Rattle.lf_rules.specs.Plain.{var_bound}
-use Rattle.lf_rules.proofs.Room.{fits_shift, var_bound_shift}
+use Rattle.lf_rules.proofs.Room.{var_bound_shift}
 use Rattle.lf_rules.proofs.Shifts.{shift-more}
 use Rattle.formula_tree.specs.Formulas.{Exp, ELit, EOp, Form, FFalse, FRel, FAnd, FImp, shift_form}
 use Rattle.formula_terms.specs.Encoding.{form_encoding}

@@ -20,7 +20,7 @@ use Rattle.sum_proofs.specs.declared.equations.Rewritten.{Rewritten}
 use Rattle.sum_proofs.specs.Inside.Rewrites.{IsKnownRewrite, IsRewrite, AreKnownRewrites, AreRewrites}
 use Rattle.sum_proofs.specs.Inside.Rounds.{after_step, IsNext}
 use Rattle.sum_proofs.specs.NormalForms.{RewrittenExp, pair_of, IsKnownRewritten, IsRewritten, IsNormalForm, AreNormalForms}
-use Rattle.sum_proofs.specs.Lasting.{rewritten-more, form-lasts}
+use Rattle.sum_proofs.specs.Lasting.{form-lasts}
 use Rattle.sum_proofs.proofs.Rewrites.{rewrite-more}
 
 pub forms-more : (kept : Kept Place Rewritten) (t u : TableView) → AreNormalForms t kept → Extends t u → AreNormalForms u kept

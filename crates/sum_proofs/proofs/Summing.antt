@@ -1,5 +1,5 @@
 -- Lists of expressions as ids: one more at the end, one taken away, and the sum of what is left.
-use Rattle.std.proofs.Common.{◌≡◌, ℕ, zero, suc, ◌+◌, ◌-◌, ◌<◌, ◌≤◌, Bool, true, false, ◌==◌, cond, Result, Ok, Err, IfOk, Option, Some, None, List, [], ◌∷◌, ◌++◌, length, get_or, take, drop, refl, sym, ◌∙◌, ap, subst, arith, option_map}
+use Rattle.std.proofs.Common.{◌≡◌, ℕ, zero, suc, ◌+◌, ◌-◌, ◌<◌, Bool, true, false, ◌==◌, cond, Result, IfOk, Option, Some, None, List, [], ◌∷◌, ◌++◌, length, get_or, refl, sym, ◌∙◌, ap, subst, arith, option_map}
 use Rattle.std.specs.List.{remove}
 use Rattle.std.proofs.lemmas.List.{append_assoc}
 use Rattle.word_ops.specs.declared.Op.{Op}
@@ -9,8 +9,6 @@ use Rattle.word_ops.proofs.EachOp.{each_op_same, op_of-op_number}
 use Rattle.std.proofs.lemmas.Bool.{cond-false, false_from_ne_true, eqb-true}
 use Rattle.std.proofs.lemmas.Option.{same_Some}
 use Rattle.word_ops.specs.Words.{word_of}
-use Rattle.term_table.specs.Tree.{Tree}
-use Rattle.term_table.specs.Subst.{bind}
 use Rattle.term_table.specs.Table.{TableView, IsKnown, AllKnown, AreDifferent, tree_at, Extends}
 use Rattle.term_table.specs.Equality.{tree_eq}
 use Rattle.term_table.proofs.Equality.{tree_eq-true, tree_eq_refl}
@@ -20,7 +18,7 @@ use Rattle.formula_tree.specs.Formulas.{Exp, EReg, ELeft, EVar, ELit, EOp, ESel}
 use Rattle.formula_terms.specs.Encoding.{exp_encoding}
 use Rattle.prover_class.specs.Hypotheses.{same_exp}
 use Rattle.prover_class.specs.Access.{summands, literal, without, all_without, sum_with, rest_of}
-use Rattle.sum_proofs.specs.Inside.Sums.{AreExps, IsSumOf, IsFirstPlace, IsWithout}
+use Rattle.sum_proofs.specs.Inside.Sums.{AreExps, IsSumOf, IsWithout}
 use Rattle.sum_proofs.specs.Sums.{IsExpOption}
 
 pub known-end : (t : TableView) (l : List ℕ) (a : ℕ) → AllKnown t l → IsKnown t a → AllKnown t (l ++ a ∷ [])

@@ -1,5 +1,5 @@
 -- What is kept stays right as the table grows.
-use Rattle.std.proofs.Common.{ℕ, Bool, sym, ◌∙◌, arith}
+use Rattle.std.proofs.Common.{Bool, sym, ◌∙◌, arith}
 use Rattle.term_table.specs.Table.{TableView, Extends}
 use Rattle.prover_class.specs.NormalForms.{normal_form}
 use Rattle.sum_proofs.specs.NormalForms.{RewrittenExp, IsKnownRewritten, IsRewritten, IsNormalForm}

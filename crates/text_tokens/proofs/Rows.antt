@@ -4,7 +4,7 @@ use Rattle.std.specs.Prelude.{◌&&◌}
 use Rattle.std.specs.Str.Parse.{digits_value}
 use Rattle.std.specs.Char.{digit_value}
 use Rattle.std.proofs.lemmas.List.{drop_more, drop_all, take_all}
-use Rattle.std.proofs.lemmas.Bool.{cond-true, lt-ltb, le-ltb, ltb-false}
+use Rattle.std.proofs.lemmas.Bool.{cond-true, lt-ltb, ltb-false}
 use Rattle.text_tokens.specs.declared.registers.Row.{Row}
 use Rattle.text_tokens.specs.Registers.{is_named, register_in}
 use Rattle.text_tokens.specs.Numbers.{are_digits, numeral}

@@ -1,6 +1,6 @@
 -- Lists of expressions as ids.
 use Rattle.std.specs.Prelude.{◌≡◌, ◌<◌, ◌≤◌, ℕ, Bool, true, false, List, [], ◌∷◌, ◌++◌, Option, Some, None, length, get_or}
-use Rattle.term_table.specs.Table.{TableView, IsKnown, tree_at}
+use Rattle.term_table.specs.Table.{TableView, tree_at}
 use Rattle.formula_tree.specs.Formulas.{Exp}
 use Rattle.formula_terms.specs.Encoding.{exp_encoding}
 use Rattle.prover_class.specs.Access.{summands, literal}

@@ -1,4 +1,4 @@
-use Rattle.std.proofs.Common.{◌≡◌, ◌<◌, ◌≤◌, List, length, Result, Ok, refl, sym, ap, ◌∙◌, arith}
+use Rattle.std.proofs.Common.{List, Result, Ok, refl, sym, ap, ◌∙◌, arith}
 use Rattle.turn_laws.specs.declared.turns.Turn.{Turn}
 use Rattle.agent_script.specs.declared.fault.ScriptFlaw.{ScriptFlaw}
 use Rattle.agent_script.specs.Scripts.{ScriptView, script_view}

@@ -1,4 +1,4 @@
-use Rattle.std.proofs.Common.{◌≡◌, ℕ, List, ◌∷◌, sym, ◌∙◌}
+use Rattle.std.proofs.Common.{◌≡◌, ◌∷◌, sym, ◌∙◌}
 use Rattle.std.specs.Prelude.{codes}
 use Rattle.agent_script.specs.Lines.{line_words}
 use Rattle.agent_script.specs.Statements.{load_operands, turn_operands, statement_of}

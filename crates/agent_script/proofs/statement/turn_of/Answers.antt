@@ -1,4 +1,4 @@
-use Rattle.std.proofs.Common.{Option, ℕ, Some, None, sym, ap, ◌∙◌}
+use Rattle.std.proofs.Common.{Option, ℕ, Some, sym, ap, ◌∙◌}
 use Rattle.agent_script.specs.Statements.{short_number, in_turn_range, turn_read}
 use Rattle.agent_script.proofs.statement.turn_of.Goals as goal
 

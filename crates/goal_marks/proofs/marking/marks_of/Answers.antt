@@ -1,4 +1,4 @@
-use Rattle.std.proofs.Common.{◌≡◌, Bool, List, [], subst}
+use Rattle.std.proofs.Common.{Bool, List, subst}
 use Rattle.goal_tree.specs.declared.rows.Row.{Row}
 use Rattle.goal_marks.specs.Inside.Marking.{IsPartMarked}
 use Rattle.goal_marks.proofs.Descending.{part-of}

@@ -1,5 +1,4 @@
 use Rattle.std.proofs.Common.{refl}
-use Rattle.term_table.specs.Table.{Extends}
 use Rattle.lf_signature.specs.Constants.{declared}
 use Rattle.lf_signature.specs.declared.WordSignature.TheVariants.{Sigma2}
 use Rattle.lf_check.proofs.Rows.{kept-more}

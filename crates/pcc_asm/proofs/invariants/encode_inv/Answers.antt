@@ -1,4 +1,4 @@
-use Rattle.std.proofs.Common.{◌≡◌, ℕ, Bool, List, [], IfOk, subst, sym, ap, ◌∙◌}
+use Rattle.std.proofs.Common.{[], IfOk, subst, sym, ap, ◌∙◌}
 use Rattle.formula_tree.specs.Views.{form_view}
 use Rattle.formula_tree.specs.Scope.{IsWithin}
 use Rattle.lf_signature.specs.Nodes.{IsIdOf}

@@ -1,5 +1,5 @@
-use Rattle.std.proofs.Common.{rules, ◌≡◌, ◌<◌, ◌≤◌, ◌-◌, ◌∷◌, List, ℕ, length, get_or, take, drop, ap, subst, arith}
-use Rattle.term_table.specs.Table.{AllKnown, IsKnown}
+use Rattle.std.proofs.Common.{rules, ◌≡◌, ◌<◌, ◌-◌, ◌∷◌, List, ℕ, length, get_or, take, drop, subst, arith}
+use Rattle.term_table.specs.Table.{AllKnown}
 use Rattle.lf_rules.proofs.Slices.{parted}
 use Rattle.sum_proofs.specs.Inside.Sums.{AreExps}
 use Rattle.sum_proofs.proofs.Summing.{sum_more}

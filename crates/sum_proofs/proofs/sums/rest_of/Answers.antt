@@ -1,5 +1,4 @@
-use Rattle.std.proofs.Common.{◌≡◌, Bool, true, false, List, ℕ, [], sym, subst}
-use Rattle.formula_tree.specs.Formulas.{Exp}
+use Rattle.std.proofs.Common.{Bool, true, false, [], sym, subst}
 use Rattle.prover_class.specs.Access.{summands, all_without}
 use Rattle.sum_proofs.specs.Inside.Sums.{AreExps, IsSumOf, IsWithout}
 use Rattle.sum_proofs.proofs.Summing.{rest_none, rest_some}

@@ -1,6 +1,6 @@
-use Rattle.std.proofs.Common.{◌≡◌, ◌<◌, ◌≤◌, ℕ, List, Some, None, length, get_or, sym, subst, arith}
+use Rattle.std.proofs.Common.{ℕ, List, Some, None, subst, arith}
 use Rattle.std.specs.List.{remove}
-use Rattle.sum_proofs.specs.Inside.Sums.{IsFirstPlace, IsWithout}
+use Rattle.sum_proofs.specs.Inside.Sums.{IsFirstPlace}
 use Rattle.sum_proofs.proofs.Summing.{known-remove, none_away, one_away}
 use Rattle.sum_proofs.proofs.sums.take_away.Goals as goal
 

@@ -1,5 +1,5 @@
-use Rattle.std.proofs.Common.{List, ap, sym, ◌++◌, ◌∙◌}
-use Rattle.file_port.specs.Events.{Event, put_bytes}
+use Rattle.std.proofs.Common.{ap, ◌++◌, ◌∙◌}
+use Rattle.file_port.specs.Events.{put_bytes}
 use Rattle.file_port.specs.StdSink.{state_of_std_sink}
 use Rattle.file_port.proofs.PutLemmas.{put_bytes-put, puts_taken}
 use Rattle.file_port.proofs.std_sink.StdSinkSink.put.Goals as goal
