@@ -1,10 +1,10 @@
 //! Formulas.
 
-ghost use Rattle.std.specs.Prelude.{◌≡◌, ◌⊎◌, IfOk, ◌+◌, length};
-ghost use Rattle.formula_tree.specs.Formulas.{FAnd, FOr, FImp, FAll, FAllm, shift_form};
+ghost use Rattle.std.specs.Prelude.{◌≡◌, ◌⊎◌, IfOk, IsOkAnd, ◌+◌, length};
+ghost use Rattle.formula_tree.specs.Formulas.{FRel, FAnd, FOr, FImp, FAll, FAllm, shift_form};
 ghost use Rattle.formula_tree.specs.Sizes.{form_height, binders, HasRoom, HasRoomSubstitution};
 ghost use Rattle.term_table.specs.Measures.{capped};
-ghost use Rattle.formula_tree.specs.Views.{form_view, substitution_of};
+ghost use Rattle.formula_tree.specs.Views.{exp_view, form_view, substitution_of};
 ghost use Rattle.formula_tree.specs.Substitution.{shift_substitution, subst_form};
 
 use crate::exp::{Exp, MemExp};
@@ -34,6 +34,62 @@ pub enum Form {
     All(Box<Form>),
     /// It holds for all memories, which its variable 0 is.
     Allm(Box<Form>),
+}
+
+/// The relation of two words, if the second was made.
+fn rel_made(rel: Rel, a: Exp, b: Result<Exp, AllocError>) -> Result<Form, AllocError>
+    ensures made { IfOk result (λ f. IsOkAnd b (λ e.
+        form_view f ≡ FRel rel (exp_view a) (exp_view e))) }
+{
+    match b {
+        Ok(b) => Ok(Form::Rel(rel, a, b)),
+        Err(fault) => {
+            drop(a);
+            Err(fault)
+        }
+    }
+}
+
+/// Both formulas, if the second was made.
+fn and_made(alloc: Global, a: Form, b: Result<Form, AllocError>) -> Result<Form, AllocError>
+    ensures made { IfOk result (λ f. IsOkAnd b (λ g.
+        form_view f ≡ FAnd (form_view a) (form_view g))) }
+{
+    match b {
+        Ok(b) => Form::and(alloc, a, b),
+        Err(fault) => {
+            drop(a);
+            Err(fault)
+        }
+    }
+}
+
+/// One of the formulas, if the second was made.
+fn or_made(alloc: Global, a: Form, b: Result<Form, AllocError>) -> Result<Form, AllocError>
+    ensures made { IfOk result (λ f. IsOkAnd b (λ g.
+        form_view f ≡ FOr (form_view a) (form_view g))) }
+{
+    match b {
+        Ok(b) => Form::or(alloc, a, b),
+        Err(fault) => {
+            drop(a);
+            Err(fault)
+        }
+    }
+}
+
+/// The second formula under the first, if the second was made.
+fn imp_made(alloc: Global, a: Form, b: Result<Form, AllocError>) -> Result<Form, AllocError>
+    ensures made { IfOk result (λ f. IsOkAnd b (λ g.
+        form_view f ≡ FImp (form_view a) (form_view g))) }
+{
+    match b {
+        Ok(b) => Form::imp(alloc, a, b),
+        Err(fault) => {
+            drop(a);
+            Err(fault)
+        }
+    }
 }
 
 impl Form {
@@ -79,12 +135,24 @@ impl Form {
         match self {
             Form::True => Ok(Form::True),
             Form::False => Ok(Form::False),
-            Form::Rel(rel, a, b) => Ok(Form::Rel(*rel, a.copy(alloc)?, b.copy(alloc)?)),
+            Form::Rel(rel, a, b) => {
+                let left = a.copy(alloc)?;
+                rel_made(*rel, left, b.copy(alloc))
+            }
             Form::Rd(a) => Ok(Form::Rd(a.copy(alloc)?)),
             Form::Wr(a) => Ok(Form::Wr(a.copy(alloc)?)),
-            Form::And(a, b) => Form::and(alloc, a.copy(alloc)?, b.copy(alloc)?),
-            Form::Or(a, b) => Form::or(alloc, a.copy(alloc)?, b.copy(alloc)?),
-            Form::Imp(a, b) => Form::imp(alloc, a.copy(alloc)?, b.copy(alloc)?),
+            Form::And(a, b) => {
+                let left = a.copy(alloc)?;
+                and_made(alloc, left, b.copy(alloc))
+            }
+            Form::Or(a, b) => {
+                let left = a.copy(alloc)?;
+                or_made(alloc, left, b.copy(alloc))
+            }
+            Form::Imp(a, b) => {
+                let left = a.copy(alloc)?;
+                imp_made(alloc, left, b.copy(alloc))
+            }
             Form::All(a) => Form::all(alloc, a.copy(alloc)?),
             Form::Allm(a) => Form::allm(alloc, a.copy(alloc)?),
         }
@@ -102,21 +170,21 @@ impl Form {
             Form::False => Ok(Form::False),
             Form::Rel(rel, a, b) => {
                 let left = a.shift_at(alloc, by, from)?;
-                Ok(Form::Rel(*rel, left, b.shift_at(alloc, by, from)?))
+                rel_made(*rel, left, b.shift_at(alloc, by, from))
             }
             Form::Rd(a) => Ok(Form::Rd(a.shift_at(alloc, by, from)?)),
             Form::Wr(a) => Ok(Form::Wr(a.shift_at(alloc, by, from)?)),
             Form::And(a, b) => {
                 let left = a.shift_at(alloc, by, from)?;
-                Form::and(alloc, left, b.shift_at(alloc, by, from)?)
+                and_made(alloc, left, b.shift_at(alloc, by, from))
             }
             Form::Or(a, b) => {
                 let left = a.shift_at(alloc, by, from)?;
-                Form::or(alloc, left, b.shift_at(alloc, by, from)?)
+                or_made(alloc, left, b.shift_at(alloc, by, from))
             }
             Form::Imp(a, b) => {
                 let left = a.shift_at(alloc, by, from)?;
-                Form::imp(alloc, left, b.shift_at(alloc, by, from)?)
+                imp_made(alloc, left, b.shift_at(alloc, by, from))
             }
             Form::All(a) => Form::all(alloc, a.shift_at(alloc, by, from.saturating_add(1))?),
             Form::Allm(a) => Form::allm(alloc, a.shift_at(alloc, by, from.saturating_add(1))?),
@@ -152,21 +220,21 @@ impl Form {
             Form::False => Ok(Form::False),
             Form::Rel(rel, a, b) => {
                 let left = a.subst_at(alloc, regs, memory, depth)?;
-                Ok(Form::Rel(*rel, left, b.subst_at(alloc, regs, memory, depth)?))
+                rel_made(*rel, left, b.subst_at(alloc, regs, memory, depth))
             }
             Form::Rd(a) => Ok(Form::Rd(a.subst_at(alloc, regs, memory, depth)?)),
             Form::Wr(a) => Ok(Form::Wr(a.subst_at(alloc, regs, memory, depth)?)),
             Form::And(a, b) => {
                 let left = a.subst_at(alloc, regs, memory, depth)?;
-                Form::and(alloc, left, b.subst_at(alloc, regs, memory, depth)?)
+                and_made(alloc, left, b.subst_at(alloc, regs, memory, depth))
             }
             Form::Or(a, b) => {
                 let left = a.subst_at(alloc, regs, memory, depth)?;
-                Form::or(alloc, left, b.subst_at(alloc, regs, memory, depth)?)
+                or_made(alloc, left, b.subst_at(alloc, regs, memory, depth))
             }
             Form::Imp(a, b) => {
                 let left = a.subst_at(alloc, regs, memory, depth)?;
-                Form::imp(alloc, left, b.subst_at(alloc, regs, memory, depth)?)
+                imp_made(alloc, left, b.subst_at(alloc, regs, memory, depth))
             }
             Form::All(a) => {
                 let inner = depth.saturating_add(1);
