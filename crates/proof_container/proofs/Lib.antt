@@ -5,6 +5,7 @@ pub mod EntryLaws
 pub mod Sections
 pub mod Counted
 pub mod Opening
+pub mod Stages
 pub mod Small
 pub mod Whole
 pub mod Verdicts

@@ -4,8 +4,39 @@ use Rattle.proof_container.specs.declared.fault.Flaw.TheVariants.{Count}
 use Rattle.proof_container.specs.Versions.{code_field}
 use Rattle.proof_container.specs.Decoding.{between_at, raw_at}
 use Rattle.proof_container.proofs.Counted.{read_there, start_read}
-use Rattle.proof_container.proofs.Opening.{opened, fault_there, words_fault, code_fault}
+use Rattle.proof_container.proofs.Opening.{opened, fault_there, magic_fault, version_fault, policy_fault, bound_fault, words_fault, code_fault}
 use Rattle.proof_container.proofs.reading.start_of.Goals as goal
+
+pub returns-in_err-exact-clause-read : goal.returns-in_err-exact-clause-read
+returns-in_err-exact-clause-read c =
+    let r = c.from_residual in
+    let p = err_from_is_err_and r.result r.ensures.1 in
+    rw (p.1, p.2)
+    (magic_fault c.args.fields.now c.in_err-exact.field-0.0 c.requires c.in_err-exact.ensures.read)
+
+pub returns-in_err-version-clause-read : goal.returns-in_err-version-clause-read
+returns-in_err-version-clause-read c =
+    let r = c.from_residual-in_err-version in
+    let p = err_from_is_err_and r.result r.ensures.1 in
+    rw (p.1, p.2)
+    (version_fault c.args.fields.now c.exact.new.self c.in_ok-exact.field-0 c.in_err-version.field-0.0 c.requires c.in_ok-exact.ensures.read c.in_ok-exact.ensures.moves c.in_err-version.ensures.read)
+
+pub returns-in_err-head-clause-read : goal.returns-in_err-head-clause-read
+returns-in_err-head-clause-read c =
+    let r = c.from_residual-in_err-head in
+    let p = err_from_is_err_and r.result r.ensures.1 in
+    rw (p.1, p.2)
+    (policy_fault c.args.fields.now c.exact.new.self c.between.new.self c.in_ok-exact.field-0 c.in_ok-version.version c.in_err-head.field-0.0
+    c.requires c.in_ok-exact.ensures.read c.in_ok-exact.ensures.moves c.in_ok-version.ensures.read c.in_ok-version.ensures.moves c.in_err-head.ensures.read)
+
+pub returns-in_err-bound-clause-read : goal.returns-in_err-bound-clause-read
+returns-in_err-bound-clause-read c =
+    let r = c.from_residual-in_err-bound in
+    let p = err_from_is_err_and r.result r.ensures.1 in
+    rw (p.1, p.2)
+    (bound_fault c.args.fields.now c.exact.new.self c.between.new.self c.policy.new.fields c.in_ok-exact.field-0 c.in_ok-version.version c.in_ok-head.head c.in_err-bound.field-0.0
+    c.requires c.in_ok-exact.ensures.read c.in_ok-exact.ensures.moves c.in_ok-version.ensures.read c.in_ok-version.ensures.moves
+    c.in_ok-head.ensures.read c.in_ok-head.ensures.moves c.in_err-bound.ensures.read)
 
 pub returns-in_err-words-clause-read : goal.returns-in_err-words-clause-read
 returns-in_err-words-clause-read c =
