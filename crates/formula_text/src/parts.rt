@@ -1,6 +1,6 @@
 //! What parentheses stand for.
 
-ghost use Rattle.std.specs.Prelude.{◌≡◌, [], ◌∷◌, map, IfOk};
+ghost use Rattle.std.specs.Prelude.{◌≡◌, [], ◌∷◌, map, IfOk, None};
 ghost use Rattle.std.specs.Option.{option_map};
 ghost use Rattle.formula_text.specs.Parsing.{AForm, AnExp, AMem, group_phrase};
 ghost use Rattle.formula_tree.specs.Views.{form_view, exp_view, mem_exp_view};
@@ -139,6 +139,15 @@ fn of_one(alloc: Global, keyword: Keyword, part: Phrase) -> Result<Option<Phrase
     }
 }
 
+/// Nothing: no keyword has these two parts.
+fn neither<A: Drop, B: Drop>(a: A, b: B) -> Option<Phrase>
+    ensures { result ≡ None }
+{
+    drop(a);
+    drop(b);
+    None
+}
+
 /// With two parts.
 fn of_two(
     alloc: Global,
@@ -152,19 +161,75 @@ fn of_two(
     match first {
         Phrase::Form(a) => match second {
             Phrase::Form(b) => of_two_forms(alloc, keyword, a, b),
-            Phrase::Exp(_) => Ok(None),
-            Phrase::Mem(_) => Ok(None),
+            Phrase::Exp(b) => Ok(neither(a, b)),
+            Phrase::Mem(b) => Ok(neither(a, b)),
         },
         Phrase::Exp(a) => match second {
             Phrase::Exp(b) => of_two_exps(alloc, keyword, a, b),
-            Phrase::Form(_) => Ok(None),
-            Phrase::Mem(_) => Ok(None),
+            Phrase::Form(b) => Ok(neither(a, b)),
+            Phrase::Mem(b) => Ok(neither(a, b)),
         },
         Phrase::Mem(m) => match second {
             Phrase::Exp(a) => of_mem_exp(alloc, keyword, m, a),
-            Phrase::Form(_) => Ok(None),
-            Phrase::Mem(_) => Ok(None),
+            Phrase::Form(b) => Ok(neither(m, b)),
+            Phrase::Mem(b) => Ok(neither(m, b)),
         },
+    }
+}
+
+/// With three, the first of which is a memory and the second a word.
+fn of_mem_exp_and(
+    alloc: Global,
+    keyword: Keyword,
+    m: MemExp,
+    a: Exp,
+    third: Phrase,
+) -> Result<Option<Phrase>, AllocError>
+    ensures { IfOk result (λ p. option_map phrase_view p ≡ group_phrase keyword
+        (AMem (mem_exp_view m) ∷ AnExp (exp_view a) ∷ phrase_view third ∷ [])) }
+{
+    match third {
+        Phrase::Exp(v) => of_mem_two_exps(alloc, keyword, m, a, v),
+        Phrase::Form(v) => {
+            drop(m);
+            drop(a);
+            drop(v);
+            Ok(None)
+        }
+        Phrase::Mem(v) => {
+            drop(m);
+            drop(a);
+            drop(v);
+            Ok(None)
+        }
+    }
+}
+
+/// With three, the first of which is a memory.
+fn of_mem_and_two(
+    alloc: Global,
+    keyword: Keyword,
+    m: MemExp,
+    second: Phrase,
+    third: Phrase,
+) -> Result<Option<Phrase>, AllocError>
+    ensures { IfOk result (λ p. option_map phrase_view p ≡ group_phrase keyword
+        (AMem (mem_exp_view m) ∷ phrase_view second ∷ phrase_view third ∷ [])) }
+{
+    match second {
+        Phrase::Exp(a) => of_mem_exp_and(alloc, keyword, m, a, third),
+        Phrase::Form(a) => {
+            drop(m);
+            drop(a);
+            drop(third);
+            Ok(None)
+        }
+        Phrase::Mem(a) => {
+            drop(m);
+            drop(a);
+            drop(third);
+            Ok(None)
+        }
     }
 }
 
@@ -181,17 +246,19 @@ fn of_three(
         (phrase_view first ∷ phrase_view second ∷ phrase_view third ∷ [])) }
 {
     match first {
-        Phrase::Mem(m) => match second {
-            Phrase::Exp(a) => match third {
-                Phrase::Exp(v) => of_mem_two_exps(alloc, keyword, m, a, v),
-                Phrase::Form(_) => Ok(None),
-                Phrase::Mem(_) => Ok(None),
-            },
-            Phrase::Form(_) => Ok(None),
-            Phrase::Mem(_) => Ok(None),
-        },
-        Phrase::Form(_) => Ok(None),
-        Phrase::Exp(_) => Ok(None),
+        Phrase::Mem(m) => of_mem_and_two(alloc, keyword, m, second, third),
+        Phrase::Form(a) => {
+            drop(a);
+            drop(second);
+            drop(third);
+            Ok(None)
+        }
+        Phrase::Exp(a) => {
+            drop(a);
+            drop(second);
+            drop(third);
+            Ok(None)
+        }
     }
 }
 
@@ -218,6 +285,10 @@ pub fn group_phrase(
     if parts.is_empty() {
         of_three(alloc, keyword, first, second, third)
     } else {
+        drop(first);
+        drop(second);
+        drop(third);
+        drop(parts);
         Ok(None)
     }
 }

@@ -90,14 +90,12 @@ fn push_exp(out: &mut Vec<u8>, depth: u64, exp: &Exp) -> Result<(), AllocError>
         Exp::Oper(op, a, b) => {
             push_keyword(out, Keyword::Oper(*op))?;
             push_exp_part(out, depth, a)?;
-            push_exp_part(out, depth, b)?;
-            push_end(out)
+            push_last(out, depth, b)
         }
         Exp::Sel(m, a) => {
             push_keyword(out, Keyword::Sel)?;
             push_mem_part(out, depth, m)?;
-            push_exp_part(out, depth, a)?;
-            push_end(out)
+            push_last(out, depth, a)
         }
     }
 }
@@ -224,8 +222,7 @@ fn push_form(out: &mut Vec<u8>, depth: u64, form: &Form) -> Result<(), AllocErro
         Form::Rel(rel, a, b) => {
             push_keyword(out, Keyword::Rel(*rel))?;
             push_exp_part(out, depth, a)?;
-            push_exp_part(out, depth, b)?;
-            push_end(out)
+            push_last(out, depth, b)
         }
         Form::Rd(a) => push_access(out, depth, Keyword::Rd, a),
         Form::Wr(a) => push_access(out, depth, Keyword::Wr, a),

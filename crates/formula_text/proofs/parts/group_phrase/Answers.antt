@@ -2,8 +2,8 @@ use Rattle.std.proofs.Common.{sym, ◌∙◌}
 use Rattle.formula_text.proofs.Groups.{of_more}
 use Rattle.formula_text.proofs.parts.group_phrase.Goals as goal
 
-pub returns : goal.returns
-returns c =
+pub returns-else-is_empty : goal.returns-else-is_empty
+returns-else-is_empty c =
     let first = c.in-Some-pop-2.ensures.items in
     let second = c.in-Some-pop.ensures.items in
     let third = c.in-Some.ensures.items in
