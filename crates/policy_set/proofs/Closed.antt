@@ -2,6 +2,7 @@
 -- high.
 use Rattle.std.proofs.Common.{◌≡◌, ◌≤◌, ℕ, true, List, [], Option, Some, None, IfSome, option_map, refl, sym, subst, arith}
 use Rattle.std.specs.Prelude.{nat_le}
+use Rattle.std.specs.Global.{Box}
 use Rattle.std.proofs.lemmas.Bool.{leb-true}
 use Rattle.formula_tree.specs.declared.form.Form as lent
 use Rattle.formula_tree.specs.Sizes.{form_height}
@@ -136,13 +137,13 @@ policy_of-is name = by (kind_of name)
     by (Some kind) = built_in-is kind
 
 -- with these formulas in memory
-pub held-built_in : (kind : PolicyKind) (pre post : lent.Form) → form_view pre ≡ pre_of kind
-    → form_view post ≡ post_of kind → policy_view (Some kind) pre post ≡ built_in kind
+pub held-built_in : (kind : PolicyKind) (pre post : Box lent.Form) → form_view pre.value ≡ pre_of kind
+    → form_view post.value ≡ post_of kind → policy_view (Some kind) pre post ≡ built_in kind
 held-built_in kind pre post p q = λ k. record { kind = Some kind; pre = p k; post = q k }
 
 -- the same of a policy that is copied
-pub held-again : (policy : PolicyView) (pre post : lent.Form) → form_view pre ≡ policy.pre
-    → form_view post ≡ policy.post → policy_view policy.kind pre post ≡ policy
+pub held-again : (policy : PolicyView) (pre post : Box lent.Form) → form_view pre.value ≡ policy.pre
+    → form_view post.value ≡ policy.post → policy_view policy.kind pre post ≡ policy
 held-again policy pre post p q = λ k. record { kind = policy.kind; pre = p k; post = q k }
 
 -- ---- by the kind

@@ -13,12 +13,13 @@ use std::alloc::{AllocError, Global};
 use std::marker::Model;
 
 /// A policy: what it asks at the start and promises of the end. Contracts see both formulas, and
-/// its kind, which a policy from a file hasn't.
+/// its kind, which a policy from a file hasn't. The formulas stand in boxes, so that what lets a
+/// policy go frees two boxes there, and not each kind of part that a formula has.
 #[derive(Drop)]
 pub struct Policy {
     kind: Option<PolicyKind>,
-    pre: Form,
-    post: Form,
+    pre: Box<Form>,
+    post: Box<Form>,
 }
 
 impl Model for Policy {
@@ -38,13 +39,30 @@ impl Model for Policy {
     ghost invariant = { λ p. IsPolicy (policy_view p.kind p.pre p.post) };
 }
 
+/// The formula in a box. Fails only for want of memory.
+fn boxed(alloc: Global, form: Form) -> Result<Box<Form>, AllocError>
+    ensures { IfOk result (λ b. b.value ≡ form) }
+{
+    let b = Box::new(alloc, form)?;
+    Ok(b)
+}
+
+/// The same formula in a box of its own. Fails only for want of memory.
+fn copied(alloc: Global, form: &Form) -> Result<Box<Form>, AllocError>
+    ensures { IfOk result (λ b. form_view b.value ≡ form_view form.now) }
+{
+    let copy = form.copy(alloc)?;
+    boxed(alloc, copy)
+}
+
 impl Policy {
     /// The built-in policy of the kind. Fails only for want of memory.
     pub fn of(alloc: Global, kind: PolicyKind) -> Result<Policy, AllocError>
         ensures exact { IfOk result (λ policy. policy ≡ built_in kind) }
     {
-        let asked = pre(alloc, kind)?;
-        let promised = post(kind);
+        let form = pre(alloc, kind)?;
+        let asked = boxed(alloc, form)?;
+        let promised = boxed(alloc, post(kind))?;
         Ok(Policy {
             kind: Some(kind),
             pre: asked,
@@ -52,17 +70,20 @@ impl Policy {
         })
     }
 
-    /// The policy of two formulas from a file, which has no kind.
-    pub fn from_file(pre: Form, post: Form) -> Policy
+    /// The policy of two formulas from a file, which has no kind. Fails only for want of memory.
+    pub fn from_file(alloc: Global, pre: Form, post: Form) -> Result<Policy, AllocError>
         requires asked { IsPolicyForm (form_view pre) }
         requires promised { IsPolicyForm (form_view post) }
-        ensures exact { result ≡ from_file (form_view pre) (form_view post) }
+        ensures exact { IfOk result
+            (λ policy. policy ≡ from_file (form_view pre) (form_view post)) }
     {
-        Policy {
+        let asked = boxed(alloc, pre);
+        let promised = boxed(alloc, post)?;
+        Ok(Policy {
             kind: None,
-            pre,
-            post,
-        }
+            pre: asked?,
+            post: promised,
+        })
     }
 
     /// The kind; None where it is from a file.
@@ -111,8 +132,8 @@ impl Policy {
     pub fn copy(&self, alloc: Global) -> Result<Policy, AllocError>
         ensures exact { IfOk result (λ policy. policy ≡ self.now) }
     {
-        let asked = self.pre.copy(alloc)?;
-        let promised = self.post.copy(alloc)?;
+        let asked = copied(alloc, &self.pre)?;
+        let promised = copied(alloc, &self.post)?;
         Ok(Policy {
             kind: self.kind,
             pre: asked,

@@ -62,7 +62,10 @@ fn parse(alloc: Global, bytes: &[u8]) -> Result<Policy, PolicyFault>
     let (asked, promised) = form_lines(bytes)?;
     let pre = line_form(alloc, 1, asked)?;
     let post = line_form(alloc, 2, promised)?;
-    Ok(Policy::from_file(pre, post))
+    match Policy::from_file(alloc, pre, post) {
+        Ok(policy) => Ok(policy),
+        Err(_) => Err(PolicyFault::Memory),
+    }
 }
 
 /// The policy that the bytes of a file spell: two lines, the precondition and the postcondition as

@@ -1,4 +1,5 @@
-use Rattle.std.proofs.Common.{sym, ◌∙◌, subst}
+use Rattle.std.proofs.Common.{sym, ◌∙◌, ap, subst}
+use Rattle.formula_tree.specs.Views.{form_view}
 use Rattle.policy_set.specs.Views.{IsPolicy}
 use Rattle.policy_set.specs.Inside.Held.{policy_view}
 use Rattle.policy_set.proofs.Closed.{held-again}
@@ -10,7 +11,8 @@ invariant_of-result c =
     subst IsPolicy
     (sym
     (held-again (policy_view p.kind p.pre p.post) c.in_ok-asked.asked c.in_ok-promised.promised
-    c.in_ok-asked.ensures.exact c.in_ok-promised.ensures.exact))
+    (c.in_ok-asked.ensures ∙ ap form_view c.deref.ensures)
+    (c.in_ok-promised.ensures ∙ ap form_view c.deref-2.ensures)))
     c.self.invariant
 
 pub returns : goal.returns
@@ -19,6 +21,7 @@ returns c =
     record {
       exact =
           held-again (policy_view p.kind p.pre p.post) c.in_ok-asked.asked
-          c.in_ok-promised.promised c.in_ok-asked.ensures.exact c.in_ok-promised.ensures.exact
+          c.in_ok-promised.promised (c.in_ok-asked.ensures ∙ ap form_view c.deref.ensures)
+          (c.in_ok-promised.ensures ∙ ap form_view c.deref-2.ensures)
           ∙ c.self.view_is;
     }
