@@ -1,5 +1,5 @@
 -- Agents of a host with their packets, and where their turns take them.
-use Rattle.std.specs.Prelude.{◌≡◌, ◌≢◌, ◌<◌, ◌≤◌, ℕ, false, List, [], ◌∷◌, length, All, slice_get, IsSome, Some, Vec}
+use Rattle.std.specs.Prelude.{◌≡◌, ◌≢◌, ◌<◌, ◌≤◌, ℕ, false, List, length, All, slice_get, IsSome, Some, Vec}
 use Rattle.std.specs.Global.{Global}
 use Rattle.alpha_cfg.specs.declared.outcome.Outcome.TheVariants as outcomes
 use Rattle.policy_set.specs.Views.{PolicyView}

@@ -26,8 +26,13 @@ fn check_under<'a, F: Files>(
     ensures { Gives effect_of (check_under name.entry.now policy.now)
         (F.log files.old) (F.log files.new) (F.state files.old) (F.state files.new) result }
 {
-    accepted_of(alloc, policy, name, files)?;
-    Ok(Report::Accepted)
+    match accepted_of(alloc, policy, name, files) {
+        Ok(accepted) => {
+            drop(accepted);
+            Ok(Report::Accepted)
+        }
+        Err(stop) => Err(stop),
+    }
 }
 
 /// Finds the policy, which may be in a file, and then reads the container and judges it.

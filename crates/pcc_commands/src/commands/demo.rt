@@ -1,11 +1,12 @@
 //! `demo N`: a source of N loads and a loop is assembled, proved, judged and run on sixteen packets.
 
-ghost use Rattle.std.specs.Prelude.{◌≡◌, ◌≤◌, IfOk, Some, length};
+ghost use Rattle.std.specs.Prelude.{◌≡◌, ◌≤◌, ◌<◌, IfOk, Some, length};
 ghost use Rattle.packet_store.specs.declared.reader.TheConstants.{MAX_PACKET};
 ghost use Rattle.packet_store.specs.PolicyStarts.{start_of};
 ghost use Rattle.pcc_words.specs.Invocations.{demo};
 ghost use Rattle.demo_input.specs.declared.sources.TheConstants.{MAX_DEMO};
 ghost use Rattle.demo_input.specs.declared.packets.TheConstants.{PACKETS};
+ghost use Rattle.demo_input.specs.Packets as packets;
 ghost use Rattle.safe_host.specs.Runs.{outcome_of};
 ghost use Rattle.pcc_stages.specs.Answers.{GivesPure};
 ghost use Rattle.pcc_stages.specs.Decisions.{Decides};
@@ -68,24 +69,54 @@ fn count(host: &mut Host, packet: &[u8], budget: u64) -> Counts
     }
 }
 
+/// The same of packet `k`. Fails only for want of memory.
+fn count_at(
+    alloc: Global,
+    host: &mut Host,
+    n: u32,
+    k: u32,
+    budget: u64,
+) -> Result<Counts, AllocError>
+    requires loads { n ≤ MAX_DEMO }
+    requires number { k < PACKETS }
+    ensures exact { IfOk result (λ one. one ≡ count_from host.old.accepted.code budget
+        (start_of host.old.accepted.policy (packets.demo_packet n k))) }
+    ensures steps { IfOk result (λ one. one.steps ≤ budget) }
+    ensures ones { IfOk result (λ one. one.ones ≤ 1) }
+    ensures accepted { host.new.accepted ≡ host.old.accepted }
+{
+    let packet = demo_packet(alloc, n, k)?;
+    Ok(count(host, &packet, budget))
+}
+
 /// The same of all packets. Fails only for want of memory.
-fn count_all(alloc: Global, accepted: Accepted, n: u32, budget: u64) -> Result<Counts, AllocError>
+fn count_all(alloc: Global, host: &mut Host, n: u32, budget: u64) -> Result<Counts, AllocError>
     requires loads { n ≤ MAX_DEMO }
     requires budget { budget ≤ DEMO_STEPS }
     ensures { IfOk result (λ counts. counts
-        ≡ packet_counts accepted.policy accepted.code budget n PACKETS) }
+        ≡ packet_counts host.old.accepted.policy host.old.accepted.code budget n PACKETS) }
 {
-    let mut host = Host::new(alloc, accepted)?;
     let mut all = Counts { steps: 0, ones: 0 };
     for k in 0..PACKETS {
-        let packet = demo_packet(alloc, n, k)?;
-        let one = count(&mut host, &packet, budget);
+        let one = count_at(alloc, host, n, k, budget)?;
         all = Counts {
             steps: all.steps + one.steps,
             ones: all.ones + one.ones,
         };
     }
     Ok(all)
+}
+
+/// The same of what was accepted. Fails only for want of memory.
+fn counts_of(alloc: Global, accepted: Accepted, n: u32) -> Result<Counts, AllocError>
+    requires { n ≤ MAX_DEMO }
+    ensures { IfOk result (λ counts. counts
+        ≡ packet_counts accepted.policy accepted.code DEMO_STEPS n PACKETS) }
+{
+    let mut host = Host::new(alloc, accepted)?;
+    let counts = count_all(alloc, &mut host, n, DEMO_STEPS);
+    drop(host);
+    counts
 }
 
 /// What is told of what was accepted, once it was run.
@@ -95,7 +126,7 @@ fn summary(alloc: Global, accepted: Accepted, n: u32) -> Result<DemoSummary, All
 {
     let words = u64::from(accepted.cut().code().count());
     let invariants = accepted.invs().len() as u64;
-    let counts = count_all(alloc, accepted, n, DEMO_STEPS)?;
+    let counts = counts_of(alloc, accepted, n)?;
     Ok(DemoSummary {
         words,
         invariants,

@@ -19,6 +19,7 @@ ghost use Rattle.pcc_commands.specs.Stages.Judging as judging;
 ghost use Rattle.pcc_commands.specs.Commands.Host.{turn_lines};
 ghost use Rattle.pcc_commands.specs.Tasks.{stage_of};
 ghost use Rattle.pcc_commands.specs.Reports.{report_exit};
+ghost use Rattle.pcc_commands.specs.Inside.Behind.{load_under};
 ghost use Rattle.pcc_commands.specs.Inside.Shows.{IsOfGate};
 ghost use Rattle.pcc_commands.specs.Inside.Standing.{HasStart, AreTurnsOf};
 ghost use Rattle.pcc_commands.specs.Reports.{job_lines};
@@ -188,6 +189,29 @@ fn agent_packet<'a, F: Files>(
     }
 }
 
+/// Reads what the load names behind its policy, and judges it.
+fn member_under<'a, F: Files>(
+    alloc: Global,
+    agent: u32,
+    policy: &Policy,
+    load: Load,
+    files: &mut F,
+) -> Result<Admitted, Stop<'a>>
+    requires { agent < MAX_AGENTS }
+    ensures exact { Gives member_view (load_under agent (load_view load) policy.now)
+        (F.log files.old) (F.log files.new) (F.state files.old) (F.state files.new) result }
+    ensures start { IfOk result (λ m. HasStart agent m.accepted.policy m.packet.items) }
+{
+    let accepted = agent_code(alloc, agent, policy, load.file, files)?;
+    match agent_packet(alloc, agent, policy, load.packets, files) {
+        Ok(packet) => Ok(Admitted { accepted, packet }),
+        Err(stop) => {
+            drop(accepted);
+            Err(stop)
+        }
+    }
+}
+
 /// Reads what the load of the agent names, and judges it.
 fn member_of<'a, F: Files>(
     alloc: Global,
@@ -201,15 +225,8 @@ fn member_of<'a, F: Files>(
         (F.log files.old) (F.log files.new) (F.state files.old) (F.state files.new) result }
     ensures start { IfOk result (λ m. HasStart agent m.accepted.policy m.packet.items) }
 {
-    let Load {
-        policy,
-        file,
-        packets,
-    } = load;
-    let policy = agent_policy(alloc, agent, policy.as_str())?;
-    let accepted = agent_code(alloc, agent, &policy, file, files)?;
-    let packet = agent_packet(alloc, agent, &policy, packets, files)?;
-    Ok(Admitted { accepted, packet })
+    let policy = agent_policy(alloc, agent, load.policy.as_str())?;
+    member_under(alloc, agent, &policy, load, files)
 }
 
 /// The agents of the loads, each read and judged before the next.

@@ -44,7 +44,13 @@ fn results_of<'a, F: Files>(
         (F.log files.old) (F.log files.new) (F.state files.old) (F.state files.new) result }
 {
     let under = accepted.policy().kind();
-    let packets = packets_of(alloc, args.packets, files)?;
+    let packets = match packets_of(alloc, args.packets, files) {
+        Ok(packets) => packets,
+        Err(stop) => {
+            drop(accepted);
+            return Err(stop);
+        }
+    };
     match runner_of(alloc, accepted, args.steps) {
         Some(runner) => Ok(Report::Hosted(Job {
             kind: under,

@@ -1,4 +1,4 @@
-use Rattle.std.proofs.Common.{◌≡◌, ℕ, List, ◌∙◌, ap, arith}
+use Rattle.std.proofs.Common.{◌≡◌, refl, ◌∙◌, ap, arith}
 use Rattle.packet_store.specs.PolicyStarts.{start_of}
 use Rattle.pcc_gate.specs.Views.{AcceptedView}
 use Rattle.demo_input.specs.Packets.{demo_packet}
@@ -8,21 +8,19 @@ use Rattle.pcc_commands.proofs.commands.demo.count_all.Goals as goal
 
 pub loop-k-init : goal.loop-k-init
 loop-k-init c =
-    let a = c.args.accepted in
-    record { all = counts-none a.policy a.code c.args.budget c.args.n; accepted = c.in_ok-host.ensures.accepted; steps = omega arith; ones = omega arith }
+    let a = c.args.host.now.accepted in
+    record { all = counts-none a.policy a.code c.args.budget c.args.n; accepted = refl; steps = omega arith; ones = omega arith }
 
 pub loop-k-preserved : goal.loop-k-preserved
 loop-k-preserved c =
-    let a = c.args.accepted in
+    let a = c.args.host.now.accepted in
     let before = c.loop-k.invariant in
-    let one = c.count-one in
-    let packet : c.deref.result.now ≡ demo_packet c.args.n c.loop-k.k = c.deref.ensures.value ∙ c.in_ok-packet.ensures.exact in
-    let counted : one.result ≡ count_from a.code c.args.budget (start_of a.policy (demo_packet c.args.n c.loop-k.k)) =
+    let one = c.in_ok-one in
+    let counted : one.one ≡ count_from a.code c.args.budget (start_of a.policy (demo_packet c.args.n c.loop-k.k)) =
     one.ensures.exact
-    ∙ ap (λ (v : AcceptedView). count_from v.code c.args.budget (start_of v.policy c.deref.result.now)) before.accepted
-    ∙ ap (λ (p : List ℕ). count_from a.code c.args.budget (start_of a.policy p)) packet in
+    ∙ ap (λ (v : AcceptedView). count_from v.code c.args.budget (start_of v.policy (demo_packet c.args.n c.loop-k.k))) before.accepted in
     record {
-      all = counts-more a.policy a.code c.args.budget c.args.n c.loop-k.k c.loop-k.all one.result before.all counted;
+      all = counts-more a.policy a.code c.args.budget c.args.n c.loop-k.k c.loop-k.all one.one before.all counted;
       accepted = one.ensures.accepted ∙ before.accepted;
       steps = omega (arith, before.steps, one.ensures.steps, c.requires.budget);
       ones = omega (arith, before.ones, one.ensures.ones);

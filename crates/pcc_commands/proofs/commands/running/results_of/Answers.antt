@@ -1,4 +1,4 @@
-use Rattle.std.proofs.Common.{ℕ, List, Option, Ok, Err, ap, sym, ◌∙◌}
+use Rattle.std.proofs.Common.{ℕ, List, Option, Ok, Err, refl, ap, sym, ◌∙◌}
 use Rattle.policy_set.specs.declared.kind.PolicyKind.{PolicyKind}
 use Rattle.policy_set.specs.Views.{PolicyView}
 use Rattle.packet_store.specs.Results.{packet_result}
@@ -13,15 +13,14 @@ use Rattle.pcc_commands.specs.declared.report.Report.TheVariants.{Hosted}
 use Rattle.pcc_commands.specs.Reports.{effect_of}
 use Rattle.pcc_commands.proofs.commands.running.results_of.Goals as goal
 
-pub returns-in_err-packets : goal.returns-in_err-packets
-returns-in_err-packets g c =
+pub returns-in-Err : goal.returns-in-Err
+returns-in-Err g c =
     let a = c.args.args in
     let under = c.args.accepted.policy in
     let code = c.args.accepted.code in
     stops_first (λ all. printing (result_lines under.kind (packet_result under code a.steps) 0 all))
-    _ effect_of (packets_of a.packets.now) _ _ _ _ c.in_err-packets.field-0.0
-    c.from_residual.result c.in_err-packets.ensures
-    c.from_residual.ensures.1
+    _ effect_of (packets_of a.packets.now) _ _ _ _ c.in-Err.stop (Err c.in-Err.stop)
+    c.in-Err.ensures refl
 
 pub returns-in-Some : goal.returns-in-Some
 returns-in-Some g c =
@@ -29,12 +28,12 @@ returns-in-Some g c =
     let under = c.args.accepted.policy in
     let kind = c.kind-under.result in
     let code = c.args.accepted.code in
-    let all = c.in_ok-packets.packets in
+    let all = c.in-Ok.packets in
     let report : Report =
     Hosted (record { kind = kind; runner = c.in-Some.runner; packets = all }) in
     gives_then (λ all. printing (result_lines under.kind (packet_result under code a.steps) 0 all))
-    _ effect_of (packets_of a.packets.now) _ _ _ _ _ _ c.in_ok-packets.packets (Ok report)
-    c.in_ok-packets.ensures
+    _ effect_of (packets_of a.packets.now) _ _ _ _ _ _ c.in-Ok.packets (Ok report)
+    c.in-Ok.ensures
     (lifted effect_of (printing (result_lines under.kind (packet_result under code a.steps) 0 all))
     _ _ (Ok report)
     (ap printing (sym (
@@ -48,9 +47,9 @@ returns-in-None g c =
     let under = c.args.accepted.policy in
     let code = c.args.accepted.code in
     gives_then (λ all. printing (result_lines under.kind (packet_result under code a.steps) 0 all))
-    _ effect_of (packets_of a.packets.now) _ _ _ _ _ _ c.in_ok-packets.packets (Err Memory)
-    c.in_ok-packets.ensures
+    _ effect_of (packets_of a.packets.now) _ _ _ _ _ _ c.in-Ok.packets (Err Memory)
+    c.in-Ok.ensures
     (lifted effect_of
     (printing
-    (result_lines under.kind (packet_result under code a.steps) 0 c.in_ok-packets.packets)) _ _
+    (result_lines under.kind (packet_result under code a.steps) 0 c.in-Ok.packets)) _ _
     (Err Memory) tt)
