@@ -1,5 +1,5 @@
 -- Kept bounds as the table grows.
-use Rattle.std.proofs.Common.{◌≡◌, ℕ, Option, IfSome, List, sym, ◌∙◌, ap, arith}
+use Rattle.std.proofs.Common.{◌≡◌, ℕ, Option, Result, Ok, Err, IfOk, IfSome, List, sym, ◌∙◌, ap, arith}
 use Rattle.term_table.specs.Table.{TableView, IsKnown, tree_at, Extends}
 use Rattle.hereditary_subst.proofs.Rows.{memo-more}
 use Rattle.formula_tree.specs.Formulas.{Exp}
@@ -34,5 +34,10 @@ bounds-more kept t u l h k e = right-more (λ v. IsBoundRow v l) t u (λ s r i. 
 pub bound-row : (t : TableView) (l : List Hypothesis) (side : Side) (s e : ℕ) (c : Choice) (o : Option ℕ) → s ≡ e → IsKnown t e → IfSome o (IsKnown t) → ((Γ : Hyps) (x : Exp) → AreHyps t l Γ → tree_at t e ≡ exp_encoding x → IsKept t side Γ x c o) →
     IsBoundRow t l (record { side = side; exp = s }) (record { choice = c; proof = o })
 bound-row t l side s e c o se ke ko h = record { of = omega (arith, se, ke); known = ko; is = λ Γ x g q. h Γ x g (ap (tree_at t) (sym se) ∙ q) }
+
+-- what holds in any case holds where there is an answer
+pub if_ok : {A E P : Type 0} (r : Result A E) → P → IfOk r (λ _. P)
+if_ok (Ok x) p = p
+if_ok (Err e) p = tt
 
 pub ruleset rows = (memo-more, known_hyps-more, bounds-more)
