@@ -2,7 +2,7 @@
 use Rattle.std.proofs.Common.{◌≡◌, ℕ, true, false, List, [], ◌∷◌, map, Result, IfOk, refl, sym, ◌∙◌, ap, subst, arith}
 use Rattle.term_table.specs.Tree.{Con, Num, shift, apps}
 use Rattle.term_table.specs.Table.{TableView, IsKnown, tree_at, Extends}
-use Rattle.hereditary_subst.proofs.Rows.{grows_more}
+use Rattle.hereditary_subst.proofs.Rows.{grows_more, known-more}
 use Rattle.lf_signature.specs.Nodes.{IsIdOf}
 use Rattle.lf_signature.specs.Terms.{op_term}
 use Rattle.lf_rules.specs.Instance.{trees_of}
@@ -19,6 +19,15 @@ use Rattle.sum_proofs.specs.declared.rewriting.Rewrites.{Rewrites}
 use Rattle.sum_proofs.specs.declared.rewriting.Rewrites.TheVariants as R
 use Rattle.sum_proofs.specs.Inside.Rewrites.{IsKnownRewrite, IsRewrite, AreKnownRewrites, AreRewrites, whole_of, commuted_of, regrouped_of, ungrouped_of, left_of, right_of, has_rewrites}
 use Rattle.std.proofs.lemmas.Bool.{false≢true}
+
+pub known_rewrite-more : {t u : TableView} {s : Rewrite} → IsKnownRewrite t s → Extends t u → IsKnownRewrite u s
+known_rewrite-more k e = record {
+  into = known-more _ _ _ k.into e;
+  from = known-more _ _ _ k.from e;
+  to = known-more _ _ _ k.to e;
+  proof = known-more _ _ _ k.proof e;
+  after = known-more _ _ _ k.after e;
+}
 
 pub rewrite-more : (t u : TableView) (step : Rewrite) (s : Rewriting) → IsKnownRewrite t step → Extends t u → IsRewrite t step s → IsRewrite u step s
 rewrite-more t u step s k e h = record {

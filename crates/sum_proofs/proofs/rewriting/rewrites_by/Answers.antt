@@ -4,6 +4,7 @@ use Rattle.formula_terms.specs.Encoding.{exp_encoding}
 use Rattle.normal_forms.specs.Rules.{IsRule}
 use Rattle.sum_proofs.specs.Inside.Rewrites.{AreRewrites}
 use Rattle.sum_proofs.proofs.Rewrites.{one_step}
+use Rattle.hereditary_subst.proofs.Rows.{memo-more}
 use Rattle.sum_proofs.proofs.rewriting.rewrites_by.Goals as goal
 
 pub returns-in-Turned-clause-exact : goal.returns-in-Turned-clause-exact
@@ -77,3 +78,57 @@ returns-in_ok-to_zero-in-Cancelled-clause-exact c =
     let r = subst (IsRule c.args.table.now out op x y) c.in-Cancelled.is h in
     one_step c.to_zero.new.table c.in_ok-to_zero-in-Cancelled.field-0 _ _ r
     (c.in_ok-to_zero-in-Cancelled.ensures.exact (EOp op x y) x qe qa)
+
+pub returns-in_err-to_value-in-Value-clause-memo : goal.returns-in_err-to_value-in-Value-clause-memo
+returns-in_err-to_value-in-Value-clause-memo c = memo-more _ _ _ c.requires.memo c.to_value.ensures.extends
+
+pub returns-in_ok-to_value-in-Value-clause-memo : goal.returns-in_ok-to_value-in-Value-clause-memo
+returns-in_ok-to_value-in-Value-clause-memo c = memo-more _ _ _ c.requires.memo c.to_value.ensures.extends
+
+pub returns-in_err-to_sum-in-Negated-clause-memo : goal.returns-in_err-to_sum-in-Negated-clause-memo
+returns-in_err-to_sum-in-Negated-clause-memo c = memo-more _ _ _ c.requires.memo c.to_sum.ensures.extends
+
+pub returns-in_ok-to_sum-in-Negated-clause-memo : goal.returns-in_ok-to_sum-in-Negated-clause-memo
+returns-in_ok-to_sum-in-Negated-clause-memo c = memo-more _ _ _ c.requires.memo c.to_sum.ensures.extends
+
+pub returns-in_err-to_operand-in-First-clause-memo : goal.returns-in_err-to_operand-in-First-clause-memo
+returns-in_err-to_operand-in-First-clause-memo c = memo-more _ _ _ c.requires.memo c.to_operand.ensures.extends
+
+pub returns-in_ok-to_operand-in-First-clause-memo : goal.returns-in_ok-to_operand-in-First-clause-memo
+returns-in_ok-to_operand-in-First-clause-memo c = memo-more _ _ _ c.requires.memo c.to_operand.ensures.extends
+
+pub returns-in_err-to_operand-in-Second-clause-memo : goal.returns-in_err-to_operand-in-Second-clause-memo
+returns-in_err-to_operand-in-Second-clause-memo c = memo-more _ _ _ c.requires.memo c.to_operand-in-Second.ensures.extends
+
+pub returns-in_ok-to_operand-in-Second-clause-memo : goal.returns-in_ok-to_operand-in-Second-clause-memo
+returns-in_ok-to_operand-in-Second-clause-memo c = memo-more _ _ _ c.requires.memo c.to_operand-in-Second.ensures.extends
+
+pub returns-in_err-regrouped-in-Regrouped-clause-memo : goal.returns-in_err-regrouped-in-Regrouped-clause-memo
+returns-in_err-regrouped-in-Regrouped-clause-memo c = memo-more _ _ _ c.requires.memo c.regrouped.ensures.extends
+
+pub returns-in_ok-regrouped-in-Regrouped-clause-memo : goal.returns-in_ok-regrouped-in-Regrouped-clause-memo
+returns-in_ok-regrouped-in-Regrouped-clause-memo c = memo-more _ _ _ c.requires.memo c.regrouped.ensures.extends
+
+pub returns-in_err-commuted-in-Swapped-clause-memo : goal.returns-in_err-commuted-in-Swapped-clause-memo
+returns-in_err-commuted-in-Swapped-clause-memo c = memo-more _ _ _ c.requires.memo c.commuted.ensures.extends
+
+pub returns-in_ok-commuted-in-Swapped-clause-memo : goal.returns-in_ok-commuted-in-Swapped-clause-memo
+returns-in_ok-commuted-in-Swapped-clause-memo c = memo-more _ _ _ c.requires.memo c.commuted.ensures.extends
+
+pub returns-in_err-step-in-Scaled-clause-memo : goal.returns-in_err-step-in-Scaled-clause-memo
+returns-in_err-step-in-Scaled-clause-memo c = memo-more _ _ _ c.requires.memo c.to_scaled.ensures.extends
+
+pub returns-in_ok-step-in-Scaled-clause-memo : goal.returns-in_ok-step-in-Scaled-clause-memo
+returns-in_ok-step-in-Scaled-clause-memo c = memo-more _ _ _ c.requires.memo c.to_scaled.ensures.extends
+
+pub returns-in_err-to_complement-in-Complemented-clause-memo : goal.returns-in_err-to_complement-in-Complemented-clause-memo
+returns-in_err-to_complement-in-Complemented-clause-memo c = memo-more _ _ _ c.requires.memo c.to_complement.ensures.extends
+
+pub returns-in_ok-to_complement-in-Complemented-clause-memo : goal.returns-in_ok-to_complement-in-Complemented-clause-memo
+returns-in_ok-to_complement-in-Complemented-clause-memo c = memo-more _ _ _ c.requires.memo c.to_complement.ensures.extends
+
+pub returns-in_err-to_zero-in-Cancelled-clause-memo : goal.returns-in_err-to_zero-in-Cancelled-clause-memo
+returns-in_err-to_zero-in-Cancelled-clause-memo c = memo-more _ _ _ c.requires.memo c.to_zero.ensures.extends
+
+pub returns-in_ok-to_zero-in-Cancelled-clause-memo : goal.returns-in_ok-to_zero-in-Cancelled-clause-memo
+returns-in_ok-to_zero-in-Cancelled-clause-memo c = memo-more _ _ _ c.requires.memo c.to_zero.ensures.extends
