@@ -4,7 +4,7 @@ use Rattle.term_table.specs.Subst.{erase, hsub}
 use Rattle.term_table.specs.Scope.{is_atomic_shape, is_term_shape}
 use Rattle.term_table.specs.Table.{IsKnown, tree_at, Stands}
 use Rattle.hereditary_subst.specs.Inside.Spare.{Spares}
-use Rattle.hereditary_subst.proofs.Rows.{grows_more}
+use Rattle.hereditary_subst.proofs.Rows.{grows_more, memo-more}
 use Rattle.hereditary_subst.proofs.Puts.{spare_term, spare_head, says_under, put_under, reduce_other, no_lam}
 use Rattle.hereditary_subst.specs.Heads.{HeadIs}
 use Rattle.hereditary_subst.proofs.Spots.{head_result}
@@ -84,3 +84,12 @@ subst_at-returns-in-Ok-Some t c =
       memo = c.in-Ok-Some.ensures.memo;
       left = c.in-Ok-Some.ensures.left;
     }
+
+pub head_at-returns-in-Var-clause-memo : goal.head_at-returns-in-Var-clause-memo
+head_at-returns-in-Var-clause-memo t c = memo-more _ _ _ c.requires.memo c.head_variable.ensures.extends
+
+pub head_parts-returns-in_ok-term-in-Ok-Some-None-clause-memo : goal.head_parts-returns-in_ok-term-in-Ok-Some-None-clause-memo
+head_parts-returns-in_ok-term-in-Ok-Some-None-clause-memo t c = memo-more _ _ _ c.in-Ok-Some-None.ensures.memo c.in_ok-term-in-Ok-Some-None.ensures.extends
+
+pub subst_under-keep-requires-clause-memo : goal.subst_under-keep-requires-clause-memo
+subst_under-keep-requires-clause-memo t c = memo-more _ _ _ c.in_ok-c.ensures.memo c.in_ok-term.ensures.extends

@@ -6,6 +6,7 @@ use Rattle.std.specs.Map.{lookup}
 use Rattle.hereditary_subst.specs.declared.kept.Question.{Question}
 use Rattle.hereditary_subst.specs.contracts.kept.QuestionOrd.TheImpl as block
 use Rattle.hereditary_subst.specs.contracts.kept.QuestionPartialEq.TheImpl as equality
+use Rattle.hereditary_subst.specs.contracts.kept.QuestionOrd.TheImpl.Laws.{matches_eq-law}
 use Rattle.hereditary_subst.specs.Kept.{Says}
 use Rattle.hereditary_subst.proofs.Rows.{memo-keep}
 use Rattle.hereditary_subst.proofs.kept.Memo.keep.Goals as goal
@@ -14,7 +15,7 @@ decides_eq : (a b : Question) → Decides (equality.ghosts.eq a b) (a ≡ b)
 decides_eq a b = search rules
 
 agrees : (a b : Question) → equality.ghosts.eq a b ≡ eq_by_cmp block.ghosts.cmp a b
-agrees a b = search rules
+agrees a b = matches_eq-law a b
 
 -- the order tells questions apart
 decides : (a b : Question) → Decides (eq_by_cmp block.ghosts.cmp a b) (a ≡ b)
