@@ -1,4 +1,4 @@
-//! Words of 32 bits read as instructions.
+//! Decoding of 32-bit words as instructions.
 
 ghost use Rattle.std.specs.Prelude.{◌≡◌, ◌+◌, ◌/◌, ◌%◌, ◌^◌, ◌≤◌, ◌<◌, ◌↔◌, IfOk, None};
 ghost use Rattle.alpha_words.specs.Lawful.{fault_of, HasFormat};
@@ -166,12 +166,12 @@ fn read(profile: Profile, word: u32) -> Result<Insn, BadWord>
     }
 }
 
-/// The instruction that a word encodes, or the first test that the word fails.
+/// Returns the instruction that `word` encodes in `profile`.
 ///
-/// The tests come in this order: an opcode that the profile hasn't; for operate words a function
-/// that it hasn't, the reserved bits, a kept register; for an address a kept register; for a load
-/// register 31, then a kept register; for the jump opcode a form other than the return's; for `br` a
-/// register.
+/// Errors: the first test that the word fails. The tests come in this order: an opcode that the
+/// profile hasn't; for operate words a function that it hasn't, the reserved bits, a reserved
+/// register; for an address a reserved register; for a load register 31, then a reserved register;
+/// for the jump opcode a form other than the return's; for `br` a first register other than 31.
 pub fn decode(word: u32, profile: Profile) -> Result<Insn, BadWord>
     ensures decodes { (i : Insn) → (result ≡ Ok i) ↔ encoding.Encodes profile word i }
     ensures exact { result ≡ decoding.decoded profile word }

@@ -1,4 +1,4 @@
-//! Instructions put into words.
+//! Encoding of instructions as 32-bit words.
 
 ghost use Rattle.std.specs.Prelude.{◌≡◌, ◌+◌, ◌*◌, ◌^◌, ◌≤◌, ◌<◌, MatchResult, Some, None, Ok};
 ghost use Rattle.alpha_words.specs.Encoding as encoding;
@@ -59,9 +59,10 @@ fn any_lawful(insn: Insn) -> Result<(), BadWord>
     }
 }
 
-/// Whether code of the profile may have the instruction: Opcode or Function where the profile has
-/// none of its kind, KeptRegister where it would write a kept register, LoadToZero where it would
-/// load into register 31.
+/// Checks whether code of `profile` may contain the instruction.
+///
+/// Errors: `Opcode` or `Function` if the profile has no such instruction; `KeptRegister` if it
+/// would write a reserved register; `LoadToZero` if it would load into register 31.
 pub fn lawful(insn: Insn, profile: Profile) -> Result<(), BadWord>
     ensures { MatchResult result
         (λ _. fault_of profile insn ≡ None) (λ e. fault_of profile insn ≡ Some e) }
@@ -83,8 +84,8 @@ fn unkept(reg: Reg) -> Result<(), BadWord>
     }
 }
 
-/// The index that a branch at `index` leads to, `index + 1 + disp`; None where the instruction is
-/// no branch.
+/// Returns the index that a branch at `index` leads to, `index + 1 + disp`, or None if the
+/// instruction is no branch.
 pub fn target(index: u32, insn: Insn) -> Option<i64>
     ensures { result ≡ target_of index insn }
 {
@@ -149,8 +150,8 @@ fn write(insn: Insn) -> u32
     }
 }
 
-/// The word of an instruction that the profile has, whose displacement has 21 bits where it
-/// branches. A return is written with hint 1.
+/// Returns the word that encodes an instruction that `profile` has. The displacement of a branch
+/// must fit in 21 bits. A return is written with hint 1.
 pub fn encode(insn: Insn, profile: Profile) -> u32
     requires lawful { fault_of profile insn ≡ None }
     requires reaches { HasFormat insn }
