@@ -1,4 +1,4 @@
-//! Lines, cut off a text.
+//! Splitting of a text into lines.
 
 ghost use Rattle.std.specs.Prelude.{◌≡◌, ℕ, ◌<◌, ◌≤◌, ◌∷◌, ◌++◌, List, length, take};
 ghost use Rattle.std.specs.Prelude.{slice_index};
@@ -34,7 +34,7 @@ fn without_cr(line: &[u8]) -> &[u8]
     }
 }
 
-/// The first line, and the text behind it.
+/// Returns the first line of a text that isn't empty, and the text after it.
 pub fn split_line(text: &[u8]) -> (&[u8], &[u8])
     requires { 0 < length text.now }
     ensures line { lines_of text.now ≡ result.0.now ∷ lines_of result.1.now }
@@ -47,7 +47,7 @@ pub fn split_line(text: &[u8]) -> (&[u8], &[u8])
     (without_cr(&text[..count]), &text[count + 1..])
 }
 
-/// How many lines the text has.
+/// Returns the number of lines of the text.
 pub fn line_count(text: &[u8]) -> usize
     ensures exact { result ≡ length (lines_of text.now) }
 {

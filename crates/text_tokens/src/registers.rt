@@ -84,8 +84,9 @@ fn register_row(lexeme: &[u8]) -> Option<usize>
     register_in(&REGISTERS, lexeme)
 }
 
-/// The number, 0 to 31, of the register that `lexeme` names: `$` or `r` and the number without
-/// leading zeros, or the name of the calling standard; `None` where it names none.
+/// Returns the number, 0 to 31, of the register that `lexeme` names, or None if it names none. A
+/// register's names are `$` or `r` and the number without leading zeros, and the name of the
+/// calling standard.
 pub fn register(lexeme: &[u8]) -> Option<u8>
     ensures exact { result ≡ register_of lexeme.now }
     ensures within { IfSome result (λ r. r < 32) }
