@@ -15,7 +15,7 @@ use crate::opcodes::cond_at;
 use crate::reg::Reg;
 use word_ops::{Profile, of_profile, op_of_code};
 
-/// The register whose number stands in the five bits from `low` on.
+/// Returns the register whose number is in the five bits from `low` on.
 fn reg_at(word: u32, low: u32) -> Reg
     requires { low ≤ 27 }
     ensures { result ≡ decoding.reg_at word low }
@@ -42,7 +42,7 @@ fn long_displacement(word: u32) -> i32
     }
 }
 
-/// The instruction, unless the register that it writes is kept.
+/// Returns the instruction, unless the register that it writes is reserved.
 fn writing(written: Reg, insn: Insn) -> Result<Insn, BadWord>
     ensures { result ≡ decoding.unless_kept written insn }
 {
@@ -53,7 +53,7 @@ fn writing(written: Reg, insn: Insn) -> Result<Insn, BadWord>
     }
 }
 
-/// The load, unless it is to register 31 or the register that it writes is kept.
+/// Returns the load, unless it is to register 31 or to a reserved register.
 fn loading(written: Reg, insn: Insn) -> Result<Insn, BadWord>
     ensures { result ≡ decoding.loaded written insn }
 {
@@ -88,7 +88,7 @@ fn rhs_at(word: u32) -> Rhs
     }
 }
 
-/// Whether a bit is set that has to be zero beside a register.
+/// Checks whether a bit is set that must be zero if the second operand is a register.
 fn has_reserved(word: u32) -> bool
     ensures { result ≡ decoding.has_reserved word }
 {

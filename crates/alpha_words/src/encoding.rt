@@ -73,7 +73,7 @@ pub fn lawful(insn: Insn, profile: Profile) -> Result<(), BadWord>
     any_lawful(insn)
 }
 
-/// Whether the profile lets an instruction write the register.
+/// Checks that an instruction may write the register: it is not reserved.
 fn unkept(reg: Reg) -> Result<(), BadWord>
     ensures { MatchResult result (λ _. kept_fault reg ≡ None) (λ e. kept_fault reg ≡ Some e) }
 {

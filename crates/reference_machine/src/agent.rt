@@ -125,7 +125,7 @@ impl Agent {
         far_address_of(&self.regs, rb, disp)
     }
 
-    /// The word at an address, where it may be loaded.
+    /// Returns the word at an address, or None if the address is not readable.
     #[inline(always)]
     fn word_at(&self, addr: u64) -> Option<u64>
         ensures { result ≡ (if allowed self.now.state.rights.reads addr
@@ -180,7 +180,7 @@ impl Agent {
         Step::Moved
     }
 
-    /// Loads the word at an address into a register and goes on, where that is allowed.
+    /// Loads the word at an address into a register and moves on, if the address is readable.
     #[inline(always)]
     fn load_word(&mut self, ra: Reg, addr: u64) -> Step
         requires { self.old.state.index < MAX_WORDS }
@@ -202,7 +202,7 @@ impl Agent {
         }
     }
 
-    /// Stores a register's word at an address and goes on, where that is allowed.
+    /// Stores the word of a register at an address and moves on, if the address is writable.
     #[inline(always)]
     fn store_word(&mut self, ra: Reg, addr: u64) -> Step
         requires { self.old.state.index < MAX_WORDS }
@@ -338,7 +338,7 @@ impl Agent {
     }
 }
 
-/// The place of an address among the arena's words, where the spans allow it.
+/// Returns the number of the arena's word at an address, or None if the spans do not allow it.
 #[inline(always)]
 fn place_of(spans: &[(u64, u64)], addr: u64) -> Option<usize>
     requires { agents.AreInArena ARENA spans.now }

@@ -4,7 +4,7 @@ ghost use Rattle.std.specs.Prelude.{◌≡◌, ℕ, ◌<◌, ◌≤◌, ◌∷�
 ghost use Rattle.std.specs.Prelude.{slice_index};
 ghost use Rattle.text_lines.specs.Lines.{IsLine, lines_of};
 
-/// How many bytes stand before the first LF, or before the end.
+/// Returns the number of bytes before the first LF, or before the end if there is none.
 fn line_length(text: &[u8]) -> usize
     ensures within { result ≤ length text.now }
     ensures line { IsLine (take result text.now) }

@@ -39,7 +39,7 @@ fn digit(byte: u8) -> u64
     }
 }
 
-/// A number with one digit more, where both are below 2^64.
+/// Appends a digit to a number; None if the old or the new number is not below 2^64.
 fn with_digit(value: Option<u64>, radix: u64, digit: u64) -> Option<u64>
     requires { 1 ≤ radix }
     ensures { (n : ℕ) → value ≡ if_word n → result ≡ if_word (n * radix + digit) }
@@ -53,7 +53,7 @@ fn with_digit(value: Option<u64>, radix: u64, digit: u64) -> Option<u64>
     }
 }
 
-/// The number of digits in this radix.
+/// Parses digits in this radix.
 fn numeral(radix: u64, digits: &[u8]) -> Number
     requires { 1 ≤ radix }
     ensures { IsNumberAnswer (numeral radix digits.now) result }
