@@ -1,4 +1,4 @@
-//! What parentheses stand for.
+//! What parentheses denote.
 
 ghost use Rattle.std.specs.Prelude.{◌≡◌, [], ◌∷◌, map, IfOk, None};
 ghost use Rattle.std.specs.Option.{option_map};
@@ -10,7 +10,7 @@ use crate::keywords::Keyword;
 use formula_tree::{Exp, Form, MemExp};
 use std::alloc::{AllocError, Global};
 
-/// What a lexeme or a pair of parentheses stands for.
+/// What a lexeme or a pair of parentheses denotes.
 #[derive(Drop)]
 pub enum Phrase {
     Form(Form),
@@ -127,7 +127,7 @@ fn of_mem_two_exps(
     }
 }
 
-/// What they stand for with one part.
+/// Returns the phrase of a keyword with one part.
 fn of_one(alloc: Global, keyword: Keyword, part: Phrase) -> Result<Option<Phrase>, AllocError>
     ensures { IfOk result (λ p. option_map phrase_view p
         ≡ group_phrase keyword (phrase_view part ∷ [])) }
@@ -262,8 +262,8 @@ fn of_three(
     }
 }
 
-/// What parentheses with this keyword stand for, where these are its parts. Fails only for want of
-/// memory.
+/// Returns what parentheses with this keyword and these parts denote, or None if the keyword
+/// doesn't take these parts. Errors: out of memory.
 pub fn group_phrase(
     alloc: Global,
     keyword: Keyword,

@@ -1,4 +1,4 @@
-//! Printing a formula.
+//! A printer of formulas.
 
 ghost use Rattle.std.specs.Prelude.{◌≡◌, ◌+◌, ◌<◌, ◌^◌, suc, ◌++◌, ◌∷◌, [], Ok, Bool, true};
 ghost use Rattle.std.specs.Prelude.{OnOk, IfOk, decimal};
@@ -25,7 +25,7 @@ fn push_number(out: &mut Vec<u8>, n: u64) -> Result<(), AllocError>
     out.extend_from_slice(buffer.format(n).as_bytes())
 }
 
-/// The name of the binder that so many others stand around.
+/// Appends the name of the binder that `depth` others enclose.
 fn push_name(out: &mut Vec<u8>, depth: u64) -> Result<(), AllocError>
     ensures { OnOk result (out.new.items ≡ out.old.items ++ name_of depth) }
 {
@@ -120,7 +120,7 @@ fn push_mem(out: &mut Vec<u8>, depth: u64, mem: &MemExp) -> Result<(), AllocErro
     }
 }
 
-/// What stands before the part of a binder.
+/// Appends what comes before the body of a binder.
 fn push_binding(out: &mut Vec<u8>, depth: u64, keyword: Keyword) -> Result<(), AllocError>
     ensures { OnOk result (out.new.items
         ≡ out.old.items ++ (40 ∷ (keyword_text keyword ++ (32 ∷ name_of depth)))) }
@@ -243,13 +243,12 @@ fn push_form(out: &mut Vec<u8>, depth: u64, form: &Form) -> Result<(), AllocErro
     }
 }
 
-/// The text of `form`: one blank between parts, decimal numbers, registers as `r` and their
-/// number, `left` for the steps that are left, and bound names x0, x1, .. from the outermost. Fails
-/// only for want of memory.
+/// Returns the text of `form`. It has one blank between parts, decimal numbers, registers as `r`
+/// and their number, `left` for the remaining steps, and bound names x0, x1, .. from the outermost.
 ///
-/// The text is read as `form` under each profile that has its operators, where each bound variable
-/// of `form` has its binder, of its sort, and registers are below 32; where `form` names the steps
-/// that are left, only with the flag that allows their name.
+/// The text parses as `form` under each profile that has its operators, if each bound variable of
+/// `form` has its binder, of its sort, and registers are below 32. If `form` names the remaining
+/// steps, it parses only with the flag that allows their name. Errors: out of memory.
 #[tactic(auto, using(crate::proofs::Printed::print_spells, crate::proofs::Joined::spelled_parsed))]
 pub fn print_form(alloc: Global, form: &Form) -> Result<Vec<u8>, AllocError>
     ensures exact { IfOk result (λ v. v.items ≡ form_text 0 (form_view form.now)) }
