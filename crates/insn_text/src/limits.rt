@@ -1,4 +1,5 @@
-//! How long an instruction's text is.
+//! The length of an instruction's text.
 
-/// The most bytes of the text of an instruction; `ldq_u r16,-32768(r17)` has so many.
+/// The maximum length of an instruction's text, in bytes; `ldq_u r16,-32768(r17)` is the longest
+/// form.
 pub const MAX_INSN_TEXT: usize = 21;
