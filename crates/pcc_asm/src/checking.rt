@@ -1,4 +1,4 @@
-//! Whether instructions are code, and the first line that is wrong.
+//! Checks that instructions are well-formed code, with the first wrong line.
 
 ghost use Rattle.std.specs.Prelude.{◌≡◌, ◌<◌, ◌≤◌, length, is_some, IfSome, MatchResult, Ok, Err};
 ghost use Rattle.alpha_words.specs.Lawful.{fault_of, target_of};
@@ -90,8 +90,8 @@ fn goes_off(code: &[Insn]) -> bool
     goes_on(code[code.len() - 1])
 }
 
-/// Whether instructions are code of the profile, each standing for the instruction that `said` has
-/// there; else the first line that is wrong.
+/// Checks whether instructions are well-formed code of the profile, each assembled from the
+/// instruction of `said` at its place. Errors: the first line that is wrong.
 #[tactic(auto, using(crate::proofs::Shaped::bad_word, crate::proofs::Shaped::bad_target, crate::proofs::Shaped::bad_end, crate::proofs::Shaped::good_code))]
 pub fn check(said: &[(u32, SrcInsn)], code: &[Insn], profile: Profile) -> Result<(), AsmFlaw>
     requires count { length code.now ≡ length said.now }
