@@ -21,8 +21,8 @@ fn lines_digest(first: &[u8], second: &[u8]) -> [u8; 32]
     hasher.finalize()
 }
 
-/// The SHA-256 of the policy's text: its precondition and its postcondition as `print_form` gives
-/// them, and an LF behind each. Fails only for want of memory.
+/// Returns the SHA-256 of the policy's text: its precondition and its postcondition as `print_form`
+/// prints them, each followed by an LF. Errors: out of memory.
 pub fn digest(alloc: Global, policy: &Policy) -> Result<[u8; 32], AllocError>
     ensures exact { IfOk result (λ d. d ≡ digest_of policy.now) }
 {

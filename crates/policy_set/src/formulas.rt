@@ -1,4 +1,4 @@
-//! The formulas of the policies, part by part as in `specs/Policies`.
+//! The formulas of the built-in policies, part by part as in `specs/Policies`.
 
 ghost use Rattle.std.specs.Prelude.{◌≡◌, IfOk};
 ghost use Rattle.formula_tree.specs.Formulas.{EVar};
@@ -104,7 +104,7 @@ fn table_pre(alloc: Global) -> Result<Form, AllocError>
     Form::and(alloc, short, usable)
 }
 
-/// What holds before code starts under a policy of the kind.
+/// Returns the precondition of the built-in policy of this kind. Errors: out of memory.
 pub fn pre(alloc: Global, kind: PolicyKind) -> Result<Form, AllocError>
     ensures { IfOk result (λ f. form_view f ≡ parts.pre_of kind) }
 {
@@ -115,7 +115,7 @@ pub fn pre(alloc: Global, kind: PolicyKind) -> Result<Form, AllocError>
     }
 }
 
-/// What holds after code has returned under a policy of the kind.
+/// Returns the postcondition of the built-in policy of this kind.
 pub fn post(kind: PolicyKind) -> Form
     ensures { form_view result ≡ parts.post_of kind }
 {

@@ -1,4 +1,4 @@
-//! Reading a policy from a file.
+//! Reading of policies from files.
 
 ghost use Rattle.std.specs.Prelude.{◌≡◌, ◌≤◌, length, Ok, Err, IfOk, IfErr, MatchResult};
 ghost use Rattle.text_lines.specs.Lines.{lines_of};
@@ -68,13 +68,13 @@ fn parse(alloc: Global, bytes: &[u8]) -> Result<Policy, PolicyFault>
     }
 }
 
-/// The policy that the bytes of a file spell: two lines, the precondition and the postcondition as
-/// formula text over the operators of both profiles. LF ends a line, one CR before it is dropped,
-/// and the last LF may lack. The policy has no kind.
+/// Parses the bytes of a file as a policy without a kind: two lines, the precondition and the
+/// postcondition as formula text over the operators of both profiles. LF ends a line, one CR before
+/// it is dropped, and the last LF may be missing.
 ///
-/// Errors, the first of these: `Lines` where there aren't two lines; `Length` of line 1, then of
-/// line 2, where it has more than `MAX_FORM_LINE` bytes; `Form` of line 1, then of line 2, where it
-/// spells no formula; `Memory` says nothing of the file.
+/// Errors, the first of these: `Lines` if there aren't two lines; `Length` of line 1, then of line
+/// 2, if it has more than `MAX_FORM_LINE` bytes; `Form` of line 1, then of line 2, if it is no
+/// formula; `Memory` says nothing about the file.
 pub fn read_policy(alloc: Global, bytes: &[u8]) -> Result<Policy, PolicyFault>
     ensures spells { IfOk result (λ policy. SpellsPolicy bytes.now policy) }
     ensures none { IfErr result (λ e. SpellsNoPolicy bytes.now e) }
