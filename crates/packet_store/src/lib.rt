@@ -1,12 +1,13 @@
-//! Packet files, start states, and what packets come to.
+//! Packet files, each policy's start state on a packet, and the checked runner of packets.
 //!
-//! The layers above use that `packets` gives exactly the packets of a file in order, or its first
-//! fault; that `start_at` gives the start of a policy on a packet in an arena from a base on, and
-//! `start` the one of an agent that is alone, None exactly where the packet is
-//! short; and the trait `PacketRunner`, whose one call runs a packet. The grammar of packet files
-//! stands in `specs/Packets` (as a relation) and `specs/PacketDecoding` (as a function), the start
-//! states in `specs/PolicyStarts`, what a packet comes to in `specs/Results`, and the names of
-//! faults in `specs/Names`.
+//! The layers above rely on `packets` returning exactly the packets of a file in order, or its
+//! first error. `start_at` returns a policy's start on a packet in an arena from a base address on,
+//! and `start` returns the start of an agent that is alone; both return None exactly if the packet
+//! is too short. The one call of the trait `PacketRunner` runs a packet.
+//!
+//! The grammar of packet files is in `specs/Packets` (as a relation) and `specs/PacketDecoding` (as
+//! a function), the start states in `specs/PolicyStarts`, the result of a packet in
+//! `specs/Results`, and the names of errors in `specs/Names`.
 #![tactic(auto)]
 
 mod fault;
