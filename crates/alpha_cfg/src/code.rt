@@ -93,7 +93,7 @@ impl Code {
     }
 }
 
-/// The word at an index of the code's bytes.
+/// Returns the word at index `i` of the code's bytes.
 fn word_of(code: &[u8], i: usize) -> u32
     requires { 4 * i + 4 ≤ length code.now }
     ensures { result ≡ code_word_at code.now i }
@@ -102,7 +102,7 @@ fn word_of(code: &[u8], i: usize) -> u32
     u32::from_le_bytes([code[at], code[at + 1], code[at + 2], code[at + 3]])
 }
 
-/// The instruction that a word encodes.
+/// Decodes the word at index `i`. Errors: the word is no instruction.
 fn decode_at(code: &[u8], i: usize, profile: Profile) -> Result<Insn, CodeFlaw>
     requires within { 4 * i + 4 ≤ length code.now }
     requires short { i < MAX_WORDS }
@@ -116,7 +116,7 @@ fn decode_at(code: &[u8], i: usize, profile: Profile) -> Result<Insn, CodeFlaw>
     }
 }
 
-/// The instructions that the words encode, or the first word that encodes none.
+/// Decodes all words. Errors: the first word that is no instruction, or out of memory.
 fn decode_all(alloc: Global, code: &[u8], profile: Profile) -> Result<Vec<Insn>, CodeFault>
     requires whole { length code.now % 4 ≡ 0 }
     requires short { length code.now ≤ 4 * MAX_WORDS }
@@ -131,7 +131,7 @@ fn decode_all(alloc: Global, code: &[u8], profile: Profile) -> Result<Vec<Insn>,
     Ok(insns)
 }
 
-/// Whether a branch at the index stays inside the code.
+/// Checks whether a branch at index `i` stays inside the code.
 fn stays_inside(insns: &[Insn], i: usize) -> bool
     requires within { i < length insns.now }
     requires short { length insns.now ≤ MAX_WORDS }
@@ -143,7 +143,7 @@ fn stays_inside(insns: &[Insn], i: usize) -> bool
     }
 }
 
-/// The least index whose branch leads outside.
+/// Returns the least index whose branch leads outside, or None.
 fn first_outside(insns: &[Insn]) -> Option<usize>
     requires { length insns.now ≤ MAX_WORDS }
     ensures found { IfSome result (λ i. (i < length insns.now) × (IsInside insns.now i → ⊥)
@@ -158,14 +158,14 @@ fn first_outside(insns: &[Insn]) -> Option<usize>
     None
 }
 
-/// Whether code may not go on after the instruction.
+/// Checks whether control cannot fall through the instruction.
 fn ends(insn: Insn) -> bool
     ensures { IsTrue result ↔ IsFinal insn }
 {
     matches!(insn, Insn::Br { .. } | Insn::Ret)
 }
 
-/// What is wrong with the instructions, if they are no code.
+/// Returns what is wrong with the instructions, or None if they are well-formed code.
 fn shape_flaw(insns: &[Insn]) -> Option<CodeFlaw>
     requires some { 0 < length insns.now }
     requires short { length insns.now ≤ MAX_WORDS }
@@ -184,7 +184,7 @@ fn shape_flaw(insns: &[Insn]) -> Option<CodeFlaw>
     }
 }
 
-/// The code that the bytes encode, or the first fault.
+/// Returns the code that the bytes encode, or the first error.
 fn make(alloc: Global, code: &[u8], profile: Profile) -> Result<Code, CodeFault>
     requires whole { length code.now % 4 ≡ 0 }
     requires some { 0 < length code.now }

@@ -14,7 +14,7 @@ use crate::opcodes::cond_opcode_of;
 use crate::reg::Reg;
 use word_ops::{Op, Profile, has_op, op_code};
 
-/// Whether the profile has an instruction of the kind.
+/// Checks whether the profile has an instruction of this kind.
 fn has_insn(insn: &Insn, profile: Profile) -> bool
     ensures { result ≡ encoding.has_insn profile insn.now }
 {
@@ -25,7 +25,7 @@ fn has_insn(insn: &Insn, profile: Profile) -> bool
     }
 }
 
-/// Why a profile has no instruction of the kind.
+/// Returns why a profile has no instruction of this kind.
 fn missing_fault(insn: &Insn) -> BadWord
     ensures { result ≡ missing_fault insn.now }
 {
@@ -35,7 +35,7 @@ fn missing_fault(insn: &Insn) -> BadWord
     }
 }
 
-/// What each profile refuses of the first register of the memory format.
+/// Checks the first register of the memory format, as both profiles do.
 fn lawful_register(kind: MemoryKind, reg: Reg) -> Result<(), BadWord>
     ensures { MatchResult result
         (λ _. register_fault kind reg ≡ None) (λ e. register_fault kind reg ≡ Some e) }
@@ -48,7 +48,7 @@ fn lawful_register(kind: MemoryKind, reg: Reg) -> Result<(), BadWord>
     }
 }
 
-/// What each profile refuses.
+/// Checks what both profiles refuse: a reserved register, and a load into register 31.
 fn any_lawful(insn: Insn) -> Result<(), BadWord>
     ensures { MatchResult result (λ _. any_fault insn ≡ None) (λ e. any_fault insn ≡ Some e) }
 {
@@ -96,7 +96,7 @@ pub fn target(index: u32, insn: Insn) -> Option<i64>
     }
 }
 
-/// A word of the memory format.
+/// Returns a word of the memory format.
 fn memory(opcode: u32, ra: Reg, rb: Reg, disp: i16) -> u32
     requires { opcode < 64 }
     ensures { result ≡ encoding.memory_word opcode ra rb disp }
@@ -104,7 +104,7 @@ fn memory(opcode: u32, ra: Reg, rb: Reg, disp: i16) -> u32
     (opcode << 26) + (ra.number() << 21) + (rb.number() << 16) + u32::from(disp.cast_unsigned())
 }
 
-/// A word of the branch format.
+/// Returns a word of the branch format.
 fn branch(opcode: u32, ra: u32, disp: i32) -> u32
     requires opcode { opcode < 64 }
     requires ra { ra < 32 }
@@ -114,7 +114,7 @@ fn branch(opcode: u32, ra: u32, disp: i32) -> u32
     (opcode << 26) + (ra << 21) + (disp.cast_unsigned() & 0x1f_ffff)
 }
 
-/// Bits 20 to 12 of the operate format: the second operand.
+/// Returns the second operand as bits 20 to 12 of a word of the operate format.
 fn rhs_bits(rhs: Rhs) -> u32
     ensures value { result ≡ encoding.rhs_bits rhs }
     ensures fits { encoding.IsRhs rhs }
@@ -126,7 +126,7 @@ fn rhs_bits(rhs: Rhs) -> u32
     }
 }
 
-/// A word of the operate format.
+/// Returns a word of the operate format.
 fn operate(op: Op, ra: Reg, rhs: Rhs, rc: Reg) -> u32
     ensures { result ≡ encoding.operate_word op ra rhs rc }
 {
@@ -134,7 +134,7 @@ fn operate(op: Op, ra: Reg, rhs: Rhs, rc: Reg) -> u32
     (opcode << 26) + (ra.number() << 21) + rhs_bits(rhs) + (function << 5) + rc.number()
 }
 
-/// The word of a lawful instruction.
+/// Returns the word of a permitted instruction.
 fn write(insn: Insn) -> u32
     requires lawful { any_fault insn ≡ None }
     requires reaches { HasFormat insn }

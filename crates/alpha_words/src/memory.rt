@@ -37,7 +37,7 @@ pub enum MemoryKind {
     Store,
 }
 
-/// All of them, by their opcodes.
+/// All instructions of the memory format, in the order of their opcodes.
 const MEMORY_OPS: [MemoryOp; 5] = [
     MemoryOp::Lda,
     MemoryOp::Ldah,
@@ -46,11 +46,11 @@ const MEMORY_OPS: [MemoryOp; 5] = [
     MemoryOp::Stq,
 ];
 
-/// Opcode, mnemonic, kind and first profile of an instruction.
+/// The opcode, mnemonic, kind and first profile of an instruction.
 #[derive(Clone, Copy)]
 struct Row(u32, &'static str, MemoryKind, Profile);
 
-/// The instruction's row of the table.
+/// Returns the instruction's row of the table.
 fn memory_row(op: MemoryOp) -> Row
     ensures opcode { result.0 ≡ table.memory_opcode op }
     ensures mnemonic { result.1.now ≡ table.memory_mnemonic op }
@@ -115,7 +115,7 @@ pub fn memory_op_at(opcode: u32) -> Option<MemoryOp>
         .find(|op| memory_opcode(*op) == opcode)
 }
 
-/// Whether the instruction has this name in sources.
+/// Checks whether `text` is the mnemonic of the instruction.
 fn has_mnemonic(op: MemoryOp, text: &[u8]) -> bool
     ensures { result ≡ bytes_eq text.now (table.memory_mnemonic op) }
 {

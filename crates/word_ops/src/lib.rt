@@ -1,9 +1,15 @@
 //! 64-bit machine words: the result of every operator and relation, from one table.
 //!
-//! The definitions that all layers above share are in `specs/`: the operators and relations
-//! (`Words`), their names and profiles (`Operators`, one table for all), memories (`Memory`),
-//! rights to load and store (`Rights`) and the registers' words (`Registers`). The layers above
-//! rely on `apply` and `holds` computing exactly the definitions' `word_of` and `test_of`.
+//! All layers above share the definitions in `specs/`:
+//!
+//! - `Words`: the operators and relations;
+//! - `Operators`: their names and profiles, one table for all;
+//! - `Memory`: memories;
+//! - `Rights`: rights to load and store;
+//! - `Registers`: the registers' words.
+//!
+//! The layers above rely on this: `apply` and `holds` compute exactly the definitions' `word_of`
+//! and `test_of`.
 //!
 //! Source: Alpha Architecture Handbook, "Integer Arithmetic Instructions" and "Logical and Shift
 //! Instructions".
