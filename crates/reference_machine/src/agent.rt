@@ -73,9 +73,9 @@ impl Agent {
         })
     }
 
-    /// Resets the agent to `start`. The bytes of `start` are in the quadwords from its address on,
-    /// little-endian; every other quadword and register is 0, and so is the index. Nothing of an
-    /// earlier run is left.
+    /// Resets the agent to `start`, whose parts must be in the arena. The bytes of `start` are in
+    /// the quadwords from its address on, little-endian. Every other quadword and register is 0,
+    /// and so is the index. Nothing of an earlier run is left.
     pub fn load(&mut self, start: Start)
         requires { starts.Fits ARENA (start_view start) }
         ensures { self.new ≡ starts.agent_at_start ARENA (start_view start.entry) }
@@ -102,7 +102,7 @@ impl Agent {
         read_reg(&self.regs, reg)
     }
 
-    /// The second operand's word.
+    /// Returns the word of a second operand.
     #[inline(always)]
     fn rhs(&self, rhs: &Rhs) -> u64
         ensures { result ≡ machine.rhs_word self.now.state.regs rhs.now }
@@ -118,7 +118,7 @@ impl Agent {
         address_of(&self.regs, rb, disp)
     }
 
-    /// The sum of a register and 65,536 times a displacement.
+    /// Returns the sum of a register and 65,536 times a displacement, modulo 2^64.
     fn far_address(&self, rb: Reg, disp: i16) -> u64
         ensures { result ≡ machine.address_of self.now.state.regs rb (disp *ℤ pos 65536) }
     {
@@ -135,7 +135,7 @@ impl Agent {
         Some(self.words[place])
     }
 
-    /// Whether a word may be stored at an address.
+    /// Checks whether the address is writable.
     #[inline(always)]
     fn may_store(&self, addr: u64) -> bool
         ensures { result ≡ allowed self.now.state.rights.writes addr }

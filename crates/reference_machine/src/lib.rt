@@ -1,9 +1,10 @@
 //! The reference interpreter: runs code step by step and checks every memory access.
 //!
-//! An `Agent` is a machine state in an arena of 8,194 quadwords. The layers above rely on its
-//! `load`, `step`, `run` and `sum` computing exactly the start state, the step, the run and the sum
-//! of the definitions. States, steps and runs are defined in alpha_cfg's `specs/Machine`, memories
-//! and access rights in word_ops, and the state that a start gives in `specs/Starts`.
+//! An `Agent` is a machine state in an arena of 8,194 quadwords. The layers above rely on this: its
+//! `load`, `step`, `run` and `sum` compute exactly the definitions' start state, step, run and sum.
+//!
+//! States, steps and runs are defined in alpha_cfg's `specs/Machine`, memories and access rights in
+//! word_ops, and the state that a start gives in `specs/Starts`.
 //!
 //! Source: Alpha Architecture Handbook, the instruction descriptions.
 #![tactic(auto)]

@@ -79,7 +79,7 @@ pub fn takes(cond: Cond, word: u64) -> bool
     }
 }
 
-/// Whether the address is that of a quadword of the span.
+/// Checks whether `addr` is the address of a quadword of the span.
 #[inline(always)]
 fn is_in_span(span: (u64, u64), addr: u64) -> bool
     ensures { result ≡ rights.in_span span addr }

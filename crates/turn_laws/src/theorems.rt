@@ -8,14 +8,14 @@ ghost use Rattle.turn_laws.specs.declared.turns.Turn.{Turn};
 ghost use Rattle.turn_laws.specs.Turns.{Agent, may_go_on, run_on, after_turn, after_turns, budget_of, answer_from};
 ghost use Rattle.turn_laws.specs.Parts.{World, turn_in, turns_in, AreApart, AreAsAlone, LieIn, LieInParts, IsWhereAlone, part_from, LieBetween};
 
-/// Proves that each agent is where one run alone takes it, whatever the turns, with the sum of its
-/// own budgets (`alone`).
+/// Proves that each agent is in the state that one run alone gives it, whatever the turns, with the
+/// sum of its own budgets (`alone`).
 ///
 /// So neither the order of turns nor how budgets are split changes the agents' states (`order`). A
 /// turn leaves every other agent unchanged (`others`). Two runs of an agent, one after the other,
 /// are one run with both budgets (`joined`). If a run has ended, more steps change nothing
-/// (`ended`). A turn returns how the run alone ends with all budgets up to it, and none if that run
-/// ended with the budgets before it (`answer`).
+/// (`ended`). A turn returns how the run alone ends with all budgets up to it. It returns none if
+/// that run ended with the budgets before it (`answer`).
 pub fn laws()
     ensures alone { (turns : List Turn) (agents : List Agent) (a : ℕ)
         → slice_get (after_turns turns agents) a
@@ -34,13 +34,13 @@ pub fn laws()
         then Some (run_of agent.code (n + k) agent.state).0 else None) }
 {}
 
-/// Proves that agents which share one memory, each with rights only in a part of its own, end a
-/// turn as agents do that each have a memory of their own (`turn`), and so every list of turns
-/// (`turns`).
+/// Proves that agents which share one memory, each with rights only in its own part, end a turn as
+/// if each had a memory of its own (`turn`).
 ///
-/// So each agent is where one run alone takes it from the initial arena (`each`): its outcome, its
-/// index, its registers and all of its part. Parts of one size, one after the other, are disjoint
-/// (`apart`), and rights whose spans are in a part are rights in that part (`spans`).
+/// That also holds for every list of turns (`turns`). So each agent is in the state that one run
+/// alone gives it from the initial arena: its outcome, its index, its registers and all of its part
+/// (`each`). Parts of one size, one after the other, are disjoint (`apart`). Rights whose spans are
+/// in a part are rights in that part (`spans`).
 pub fn part_laws()
     ensures turn { (part : ℕ → ℕ → Bool) (turn : Turn) (world : World) (alone : List Agent)
         → AreApart part → AreAsAlone part world alone

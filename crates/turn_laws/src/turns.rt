@@ -12,8 +12,8 @@ pub struct Turn {
     pub budget: u64,
 }
 
-/// Returns the sum of the budgets of the agent's own turns, which must be below 2^64. With this
-/// budget one run alone takes the agent where these turns take it.
+/// Returns the sum of the budgets of the agent's own turns, which must be below 2^64. One run alone
+/// with this budget takes the agent to the state to which these turns take it.
 pub fn own_budget(turns: &[Turn], agent: u32) -> u64
     requires { budget_of agent turns.now < 2 ^ 64 }
     ensures exact { result ≡ budget_of agent turns.now }
