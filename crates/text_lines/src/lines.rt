@@ -18,7 +18,7 @@ fn line_length(text: &[u8]) -> usize
     text.len()
 }
 
-/// The line without the CR at its end, if it has one.
+/// Returns the line without the CR at its end, if it has one.
 fn without_cr(line: &[u8]) -> &[u8]
     ensures { (rest : List ℕ) → IsLine line.now
         → lines_of (line.now ++ (10 ∷ rest)) ≡ result.now ∷ lines_of rest }

@@ -1,8 +1,10 @@
 //! Lexing of text formats: tokens, register names, and numbers.
 //!
-//! The layers above rely on three functions. `next_token` returns the first token of a text from a
-//! position on, whatever the text's punctuation. `register` returns the register that a lexeme
-//! names. `read_number` and `read_decimal` return the number that a lexeme denotes.
+//! The layers above rely on these functions:
+//!
+//! - `next_token` returns the first token of a text from a position on, whatever its punctuation;
+//! - `register` returns the register that a lexeme names;
+//! - `read_number` and `read_decimal` return the number that a lexeme denotes.
 //!
 //! Tokens are defined in `specs/Tokens`, as a relation between text and tokens and as a function
 //! with their positions; parentheses as punctuation in `specs/Parens`, registers in

@@ -17,7 +17,7 @@ pub enum Number {
     Large,
 }
 
-/// The value of a digit or letter, and 36 for any other byte.
+/// Returns the value of a digit or letter, and 36 for any other byte.
 fn digit(byte: u8) -> u64
     ensures { result ≡ digit_value byte }
 {
