@@ -12,12 +12,10 @@ pub enum TextFlaw {
     /// The grammar doesn't allow the token, or the end of the text, at this position.
     #[error("unexpected token or end of text")]
     Shape,
-    /// A lexeme where an expression, a memory or a name to bind is expected, and it is none of the
-    /// kind.
+    /// A lexeme that is none of what is expected: an expression, a memory or a name to bind.
     #[error("a name that is unknown or cannot be used here")]
     Name,
-    /// A lexeme where an expression is expected that begins with a digit and is no number below
-    /// 2^64.
+    /// An expression is expected, and the lexeme begins with a digit but is no number below 2^64.
     #[error("a word that begins with a digit but is no number below 2^64")]
     Number,
     /// A token after the formula.

@@ -145,7 +145,7 @@ pub fn is_sort(a: PhraseSort, b: PhraseSort) -> bool
     }
 }
 
-/// The first of these keywords that the lexeme is.
+/// Returns the first of these keywords that the lexeme is, or None.
 fn keyword_in(keywords: &[Keyword], lexeme: &[u8]) -> Option<Keyword>
     ensures { result ≡ keyword_in keywords.now lexeme.now }
 {

@@ -1,7 +1,7 @@
 //! Concrete syntax of formulas: a parser that reports the first error, and a printer.
 //!
-//! The layers above rely on `read_form` returning the formula that a text spells, or else the first
-//! error with its position, and on the text that `print_form` returns spelling the formula.
+//! The layers above rely on two functions. `read_form` returns the formula that a text spells, or
+//! else the first error with its position. `print_form` returns a text that spells the formula.
 //!
 //! The grammar, a relation between text and formula, is in `specs/Grammar`, the parser's tests in
 //! their order in `specs/Parsing`, and the printed text in `specs/Printing`. Tokens, registers and

@@ -25,7 +25,7 @@ fn are_lower_or_digits(lexeme: &[u8]) -> bool
     true
 }
 
-/// Whether the lexeme is a lower-case letter, and then lower-case letters and digits.
+/// Checks whether the lexeme is a lower-case letter, followed by lower-case letters and digits.
 fn is_identifier(lexeme: &[u8]) -> bool
     ensures { result ≡ is_identifier lexeme.now }
 {
@@ -42,8 +42,8 @@ pub fn is_left(lexeme: &[u8], left: bool) -> bool
     lexeme == b"left".as_slice() && left
 }
 
-/// Whether the lexeme is a keyword of the profile, `tt`, `ff` or `m`, or names the steps that are
-/// left.
+/// Checks whether the lexeme is a keyword of the profile, `tt`, `ff` or `m`, or names the remaining
+/// steps.
 fn is_reserved(lexeme: &[u8], profile: Profile, left: bool) -> bool
     ensures { result ≡ is_reserved profile left lexeme.now }
 {

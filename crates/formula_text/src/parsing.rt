@@ -63,7 +63,7 @@ fn awaited_sort(frames: &[Frame<'_>]) -> Option<PhraseSort>
     }
 }
 
-/// The nearest binding of a name: its number and sort.
+/// Returns the nearest binding of a name, its number and its sort, or None.
 fn nearest_binding(frames: &[Frame<'_>], name: &[u8]) -> Option<(usize, PhraseSort)>
     ensures { result ≡ nearest_binding (bindings_of (frames_view frames.now)) name.now }
 {
@@ -103,8 +103,8 @@ fn number_phrase(lexeme: &[u8]) -> Result<Phrase, TokenFault>
     }
 }
 
-/// A bound name in the place of an expression. Its number is below 2^32, or memory wouldn't hold
-/// its binders.
+/// Parses a bound name as an expression. Its number is below 2^32, or its binders would not fit in
+/// memory.
 fn variable_exp(frames: &[Frame<'_>], name: &[u8]) -> Result<Phrase, TokenFault>
     ensures { IsLexemeAnswer phrase_view
         (variable_exp (nearest_binding (bindings_of (frames_view frames.now)) name.now)) result }
@@ -118,7 +118,7 @@ fn variable_exp(frames: &[Frame<'_>], name: &[u8]) -> Result<Phrase, TokenFault>
     }
 }
 
-/// A bound name in the place of a memory.
+/// Parses a bound name as a memory.
 fn variable_mem(frames: &[Frame<'_>], name: &[u8]) -> Result<Phrase, TokenFault>
     ensures { IsLexemeAnswer phrase_view
         (variable_mem (nearest_binding (bindings_of (frames_view frames.now)) name.now)) result }
@@ -184,7 +184,7 @@ fn lexeme_phrase(
     }
 }
 
-/// Returns a formula that is in no parentheses as the whole formula.
+/// Returns the phrase outside all parentheses as the whole formula. Errors: `Shape` if it is none.
 fn whole_form(phrase: Phrase) -> Result<Expected, TokenFault>
     ensures { Moves (whole_form (phrase_view phrase)) [] result }
 {
@@ -197,7 +197,7 @@ fn whole_form(phrase: Phrase) -> Result<Expected, TokenFault>
     }
 }
 
-/// Gives a phrase to the nearest parentheses.
+/// Adds a phrase to the innermost open parentheses.
 #[tactic(auto, using(crate::proofs::Stacks::frames_push, crate::proofs::Stacks::frames_none, crate::proofs::Stacks::parts_push), unfolding(crate::specs::Parsing::put_phrase))]
 fn put_phrase<'t>(frames: &mut Vec<Frame<'t>>, phrase: Phrase) -> Result<Expected, TokenFault>
     ensures { Moves (put_phrase (phrase_view phrase) (frames_view frames.old.items))
@@ -222,7 +222,7 @@ fn put_phrase<'t>(frames: &mut Vec<Frame<'t>>, phrase: Phrase) -> Result<Expecte
     }
 }
 
-/// Ends the nearest parentheses.
+/// Closes the innermost open parentheses.
 #[tactic(auto, using(crate::proofs::Stacks::frames_push, crate::proofs::Stacks::frames_none))]
 fn close_group<'t>(alloc: Global, frames: &mut Vec<Frame<'t>>) -> Result<Expected, TokenFault>
     ensures { Moves (close_group (frames_view frames.old.items))
@@ -244,7 +244,7 @@ fn close_group<'t>(alloc: Global, frames: &mut Vec<Frame<'t>>) -> Result<Expecte
     }
 }
 
-/// A lexeme in the place of a part.
+/// Takes a lexeme where a part is expected.
 fn inside_lexeme<'t>(
     frames: &mut Vec<Frame<'t>>,
     lexeme: &[u8],
@@ -408,7 +408,7 @@ fn parse_end(expected: Expected, end: usize) -> Result<Form, TextFault>
     }
 }
 
-/// The formula that the text is parsed as, or the first fault.
+/// Parses the text as a formula. Errors: the first parse error, or out of memory.
 fn parse(alloc: Global, text: &[u8], profile: Profile, left: bool) -> Result<Form, TextFault>
     ensures { Parses form_view (parsed_form profile left text.now) result }
 {

@@ -139,7 +139,7 @@ fn of_one(alloc: Global, keyword: Keyword, part: Phrase) -> Result<Option<Phrase
     }
 }
 
-/// Nothing: no keyword has these two parts.
+/// Drops two parts that no keyword has, and returns None.
 fn neither<A: Drop, B: Drop>(a: A, b: B) -> Option<Phrase>
     ensures { result ≡ None }
 {
@@ -148,7 +148,7 @@ fn neither<A: Drop, B: Drop>(a: A, b: B) -> Option<Phrase>
     None
 }
 
-/// With two parts.
+/// Returns the phrase of a keyword with two parts.
 fn of_two(
     alloc: Global,
     keyword: Keyword,
@@ -177,7 +177,8 @@ fn of_two(
     }
 }
 
-/// With three, the first of which is a memory and the second a word.
+/// Returns the phrase of a keyword with three parts, of which the first is a memory and the second
+/// a word.
 fn of_mem_exp_and(
     alloc: Global,
     keyword: Keyword,
@@ -205,7 +206,7 @@ fn of_mem_exp_and(
     }
 }
 
-/// With three, the first of which is a memory.
+/// Returns the phrase of a keyword with three parts, of which the first is a memory.
 fn of_mem_and_two(
     alloc: Global,
     keyword: Keyword,
@@ -233,7 +234,7 @@ fn of_mem_and_two(
     }
 }
 
-/// With three.
+/// Returns the phrase of a keyword with three parts.
 #[tactic(auto, using(crate::proofs::Groups::form_of_three, crate::proofs::Groups::exp_of_three))]
 fn of_three(
     alloc: Global,
