@@ -107,7 +107,7 @@ fn displacement_at(text: &[u8]) -> Result<(Option<&[u8]>, &[u8]), LineFlaw>
     }
 }
 
-/// The lexemes of `ra,disp(rb)` and `ra,(rb)`.
+/// Splits off the lexemes of `ra,disp(rb)` or `ra,(rb)`.
 #[tactic(auto, unfolding(crate::specs::InsnParsing::memory_form))]
 fn memory_form(text: &[u8]) -> Result<(&[u8], Option<&[u8]>, &[u8]), LineFlaw>
     ensures { Yields (λ f. (f.0.now, option_map (λ w. w.now) f.1, f.2.now))
@@ -125,7 +125,7 @@ fn memory_form(text: &[u8]) -> Result<(&[u8], Option<&[u8]>, &[u8]), LineFlaw>
     Ok((ra, disp, rb))
 }
 
-/// The operands of a memory instruction.
+/// Parses the operands of a memory instruction.
 #[tactic(auto, unfolding(crate::specs::InsnParsing::memory_operands))]
 fn memory_operands(text: &[u8]) -> Result<MemoryOperands, LineFlaw>
     ensures { Yields (λ m. (m.ra, m.disp, m.rb))
@@ -146,7 +146,7 @@ fn memory(op: MemoryOp, text: &[u8]) -> Result<SrcInsn, LineFlaw>
     Ok(SrcInsn::Plain(memory_insn(op, ra, rb, disp)))
 }
 
-/// The lexemes of `ra,rb,rc`.
+/// Splits off the lexemes of `ra,rb,rc`.
 #[tactic(auto, unfolding(crate::specs::InsnParsing::operate_form))]
 fn operate_form(text: &[u8]) -> Result<(&[u8], &[u8], &[u8]), LineFlaw>
     ensures { Yields (λ f. (f.0.now, f.1.now, f.2.now))
@@ -185,7 +185,7 @@ fn last_label<'t>(label: &'t [u8], rest: &'t [u8]) -> Result<&'t [u8], LineFlaw>
     Ok(label)
 }
 
-/// The lexemes of `ra,label`.
+/// Splits off the lexemes of `ra,label`.
 #[tactic(auto, unfolding(crate::specs::InsnParsing::branch_form))]
 fn branch_form(text: &[u8]) -> Result<(&[u8], &[u8]), LineFlaw>
     ensures { Yields (λ f. (f.0.now, f.1.now))
@@ -210,7 +210,7 @@ fn branch(alloc: Global, cond: Cond, text: &[u8]) -> Result<SrcInsn, Refused>
     Ok(SrcInsn::Branch { cond, ra, label })
 }
 
-/// The label of `,label`.
+/// Splits off the label of `,label`.
 #[tactic(auto, unfolding(crate::specs::InsnParsing::label_form))]
 fn label_form(text: &[u8]) -> Result<&[u8], LineFlaw>
     ensures { Yields (λ l. l.now) (label_form (tokens_of source_class text.now)) result }
@@ -246,7 +246,7 @@ fn br(alloc: Global, text: &[u8]) -> Result<SrcInsn, Refused>
     Ok(SrcInsn::Br { label })
 }
 
-/// The lexemes of `$31,($26),n`.
+/// Splits off the lexemes of `$31,($26),n`.
 #[tactic(auto, unfolding(crate::specs::InsnParsing::return_form))]
 fn return_form(text: &[u8]) -> Result<(&[u8], &[u8], &[u8]), LineFlaw>
     ensures { Yields (λ f. (f.0.now, f.1.now, f.2.now))

@@ -1,15 +1,17 @@
 //! Parser of assembler sources with labels and loop invariants, reporting the first wrong line.
 //!
-//! The layer above relies on `read_source` returning the instructions, labels and invariants of the
-//! source that a text spells, or else the first line that is wrong. `mnemonic_named` returns the
+//! The layer above relies on this: `read_source` returns the instructions, labels and invariants of
+//! the source that a text spells, or else the first wrong line. `mnemonic_named` returns the
 //! mnemonic of a profile that a lexeme is.
 //!
-//! The grammar is in `specs/Sources` (a whole source), `specs/Statements` (a line) and
-//! `specs/Insns` (an instruction), the meaning of errors in `specs/Faults` and `specs/Operands`,
-//! and the parser's tests in their order in `specs/SourceParsing` and `specs/InsnParsing`. Lines,
-//! which other texts have too, are in text_lines.
+//! The definitions are in `specs/`:
 //!
-//! The format is this project's own; the mnemonics are those of the Alpha Architecture Handbook.
+//! - `Sources`, `Statements` and `Insns`: the grammar of a source, of a line and of an instruction;
+//! - `Faults` and `Operands`: the meaning of errors;
+//! - `SourceParsing` and `InsnParsing`: the parser's tests, in their order.
+//!
+//! Lines, which other texts have too, are in text_lines. The format is this project's own; the
+//! mnemonics come from the Alpha Architecture Handbook.
 #![tactic(auto)]
 
 mod fault;

@@ -69,7 +69,7 @@ fn mnemonic_text(mnemonic: Mnemonic) -> &'static str
     }
 }
 
-/// Whether the mnemonic is this lexeme.
+/// Checks whether the lexeme is this mnemonic.
 fn is_mnemonic(mnemonic: Mnemonic, lexeme: &[u8]) -> bool
     ensures { result ≡ bytes_eq lexeme.now (mnemonic_text mnemonic) }
 {

@@ -13,7 +13,7 @@ use std::alloc::Global;
 use text_lines::split_line;
 use word_ops::Profile;
 
-/// The source that the text is parsed as, or the first fault.
+/// Parses the text as a source. Errors: the first wrong line, or out of memory.
 fn parse(alloc: Global, text: &[u8], profile: Profile, left: bool) -> Result<Source, LineFault>
     requires short { length text.now ≤ MAX_SOURCE }
     ensures { ParsesSource source_view (parsed_source profile left text.now) result }

@@ -78,7 +78,7 @@ pub fn split_label(text: &[u8]) -> Option<(&[u8], &[u8])>
     }
 }
 
-/// The invariant that the text spells.
+/// Parses the text of an invariant.
 fn read_inv(alloc: Global, text: &[u8], profile: Profile, left: bool) -> Result<Statement, Refused>
     ensures { YieldsOrMemory statement_view
         (inv_or_flaw (parsed_form profile left text.now)) result }
@@ -90,7 +90,7 @@ fn read_inv(alloc: Global, text: &[u8], profile: Profile, left: bool) -> Result<
     }
 }
 
-/// The instruction that the text spells.
+/// Parses the text of an instruction.
 fn insn_statement(alloc: Global, text: &[u8], profile: Profile) -> Result<Statement, Refused>
     ensures { YieldsOrMemory statement_view (insn_statement profile text.now) result }
 {
