@@ -1,7 +1,7 @@
 //! Printer of single instructions and branch labels as assembler text.
 //!
-//! The layer above relies on what `push_insn` prints being a statement of a source, and on
-//! `push_label` printing different labels for different indices. The printed text is defined in
+//! The layer above relies on two facts: what `push_insn` prints is a statement of a source, and
+//! `push_label` prints different labels for different indices. The printed text is defined in
 //! `specs/Printing`; asm_text says which tokens spell an instruction (`specs/Insns`).
 #![tactic(auto)]
 

@@ -72,7 +72,7 @@ fn push_mnemonic(out: &mut Vec<u8>, mnemonic: &str) -> Result<(), AllocError>
     Ok(())
 }
 
-/// The base register of an access, in parentheses.
+/// Appends the base register of an access, in parentheses.
 fn push_base(out: &mut Vec<u8>, rb: Reg) -> Result<(), AllocError>
     ensures { OnOk result (out.new.items
         ≡ out.old.items ++ (40 ∷ (register_text rb ++ (41 ∷ [])))) }
@@ -118,7 +118,7 @@ fn push_operate(
     push_register(out, rc)
 }
 
-/// A conditional branch at the index.
+/// Appends a conditional branch at index `index`.
 fn push_branch(
     out: &mut Vec<u8>,
     index: u32,

@@ -15,12 +15,11 @@ ghost use Rattle.asm_text.specs.Statements.{are_printable, before_comment};
 ghost use Rattle.insn_text.specs.declared.limits.TheConstants.{MAX_INSN_TEXT};
 ghost use Rattle.insn_text.specs.Printing.{label_text, insn_text, source_insn, IsSpellable};
 
-/// Proves that the printed text of an instruction spells it under each profile that has it, with a
-/// branch going to the label of its target index.
+/// Proves that an instruction's printed text spells it under each profile that has it.
 ///
-/// The text is printable, has no comment, is on one line, and is short. The text of an index is a
-/// label, and different indices have different labels. All of this holds for every instruction of
-/// well-formed code.
+/// A branch goes to the label of its target index. The text is printable, has no comment, is on one
+/// line, and is short. The text of an index is a label, and different indices have different
+/// labels. All of this holds for every instruction of well-formed code.
 pub fn laws()
     ensures spells { (p : Profile) (i : ℕ) (insn : Insn)
         → has_insn p insn ≡ true → IsSpellable i insn

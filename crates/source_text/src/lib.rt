@@ -1,8 +1,8 @@
 //! Printer of code with invariants, comments and notes as a source that assembles back.
 //!
-//! The layers above rely on what `print_source` prints spelling a source with the code's
-//! instructions and its invariants, whatever comments, hints and notes are printed too (`laws`).
-//! Branches of that source go to labels, and each index that a branch goes to has one.
+//! The layers above rely on this (`laws`): what `print_source` prints spells a source with the
+//! code's instructions and its invariants. Comments, hints and notes don't change that. Branches of
+//! the source go to labels, and each index that a branch goes to has one.
 //!
 //! The printed lines are defined in `specs/Listing`, the indices with labels in `specs/Targets`,
 //! and the requirements on code, invariants and the rest in `specs/Laws`. Instructions and labels

@@ -45,7 +45,7 @@ fn push_label_line(out: &mut Vec<u8>, index: u32, is_target: bool) -> Result<(),
     Ok(())
 }
 
-/// Prints the line of an invariant.
+/// Appends the line of an invariant.
 fn push_inv_line(alloc: Global, out: &mut Vec<u8>, form: &Form) -> Result<(), AllocError>
     ensures { OnOk result ((rest : List Line) → out.new.items ++ lines_text rest
         ≡ out.old.items ++ lines_text (InvOf (form_view form.now) ∷ rest)) }
@@ -85,7 +85,7 @@ fn push_inv_of(
     Ok(next + 1)
 }
 
-/// The hint of the instruction at an index.
+/// Returns the hint of the instruction at an index.
 fn hint_at(extras: &Extras, index: u32) -> u32
     ensures { result ≡ hint_at (extras_view extras.now) index }
 {
@@ -95,7 +95,7 @@ fn hint_at(extras: &Extras, index: u32) -> u32
     }
 }
 
-/// Prints the comment of the instruction at an index.
+/// Appends the comment of the instruction at an index.
 fn push_comment(out: &mut Vec<u8>, extras: &Extras, index: u32) -> Result<(), AllocError>
     ensures { OnOk result (out.new.items
         ≡ out.old.items ++ comment_at (extras_view extras.now) index) }
@@ -106,7 +106,7 @@ fn push_comment(out: &mut Vec<u8>, extras: &Extras, index: u32) -> Result<(), Al
     }
 }
 
-/// Prints a return with its hint.
+/// Appends a return with its hint.
 fn push_return(out: &mut Vec<u8>, hint: u32) -> Result<(), AllocError>
     ensures { OnOk result (out.new.items
         ≡ out.old.items ++ (codes "ret $31,($26)," ++ decimal hint)) }
@@ -131,7 +131,7 @@ fn push_hinted(out: &mut Vec<u8>, index: u32, insn: Insn, hint: u32) -> Result<(
     }
 }
 
-/// Prints the line of the instruction at an index.
+/// Appends the line of the instruction at an index.
 fn push_insn_line(
     out: &mut Vec<u8>,
     extras: &Extras,
@@ -150,7 +150,7 @@ fn push_insn_line(
     Ok(())
 }
 
-/// The lines of the instructions, with their labels and invariants.
+/// Returns the lines of the instructions, with their labels and invariants.
 fn print_insns(
     alloc: Global,
     insns: &[Insn],
@@ -173,7 +173,7 @@ fn print_insns(
     Ok(out)
 }
 
-/// Prints the line of a note.
+/// Appends the line of a note.
 fn push_note(out: &mut Vec<u8>, note: &[u8]) -> Result<(), AllocError>
     ensures { OnOk result ((rest : List Line) → out.new.items ++ lines_text rest
         ≡ out.old.items ++ lines_text (Note note.now ∷ rest)) }
@@ -184,7 +184,7 @@ fn push_note(out: &mut Vec<u8>, note: &[u8]) -> Result<(), AllocError>
     Ok(())
 }
 
-/// Prints the lines of the notes.
+/// Appends the lines of the notes.
 fn push_notes(out: &mut Vec<u8>, notes: &[Vec<u8>]) -> Result<(), AllocError>
     ensures { OnOk result (out.new.items
         ≡ out.old.items ++ lines_text (map Note (map (λ v. v.items) notes.now))) }
@@ -201,10 +201,13 @@ fn push_notes(out: &mut Vec<u8>, notes: &[Vec<u8>]) -> Result<(), AllocError>
 /// before that a line for its label, `L` and its index, if a branch goes there. After the code
 /// comes a line for each note.
 ///
-/// The text spells a source with these instructions and invariants if five conditions hold
-/// (`laws`): they are the profile's and in order; no invariant's text is longer than
-/// `MAX_FORM_TEXT`; comments and notes are printable; they are at most `MAX_COMMENT` long; no hint
-/// is above `MAX_HINT`.
+/// The text spells a source with these instructions and invariants if (see `laws`):
+///
+/// - the code is well-formed code of the profile;
+/// - the invariants are formulas of the profile, at most `asm_text::MAX_INVS`, and in order;
+/// - no invariant's text is longer than `MAX_FORM_TEXT`;
+/// - comments and notes are printable and at most `MAX_COMMENT` long;
+/// - no hint is above `MAX_HINT`.
 ///
 /// There must be at most `MAX_WORDS` instructions, and branches must stay inside, as in well-formed
 /// code. Errors: out of memory.

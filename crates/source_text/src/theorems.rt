@@ -10,12 +10,11 @@ ghost use Rattle.source_text.specs.Listing.{ExtrasView, code_text, code_source};
 ghost use Rattle.source_text.specs.Laws.{IsSpellableCode, AreSpellableExtras};
 ghost use Rattle.source_text.specs.Laws.{source_insns_from, labels_where};
 
-/// Proves that the printed text of code with its invariants spells the source of its lines, for
-/// each profile, whether invariants may name the remaining steps or not.
+/// Proves that the printed text of code with its invariants spells the source of its lines.
 ///
-/// That source doesn't depend on the comments, hints and notes. Its instructions are the code's, in
-/// order, its labels are the labels of the indices that branches go to, and its invariants are the
-/// given ones.
+/// This holds for each profile, whether invariants may name the remaining steps or not. The source
+/// doesn't depend on the comments, hints and notes. Its instructions are the code's, in order. It
+/// has a label for each index that a branch goes to. Its invariants are the given ones.
 pub fn laws()
     ensures spells { (p : Profile) (left : Bool) (code : List Insn) (invs : List (ℕ × Form))
         (extras : ExtrasView) → IsSpellableCode p left code invs → AreSpellableExtras extras
