@@ -23,7 +23,8 @@ use std::alloc::{AllocError, Global};
 use term_table::Table;
 use word_ops::Profile;
 
-/// The bytes of the source's code in the profile, or the first line that is wrong.
+/// Returns the bytes of the source's code in the profile. Errors: the first wrong line, or out of
+/// memory.
 fn code_of(
     alloc: Global,
     source: &Source,
@@ -55,8 +56,8 @@ fn head_for(alloc: Global, policy: &Policy, version: u32) -> Result<Head, AllocE
     }
 }
 
-/// What a container of the source holds in the version, with the bound, or the first line that is
-/// wrong.
+/// Returns what a container of the source holds in the version, with the bound. Errors: the first
+/// wrong line, or out of memory.
 fn make(
     alloc: Global,
     source: &Source,

@@ -1,13 +1,17 @@
 //! Assembler from parsed sources to container contents, reporting the first wrong line.
 //!
 //! Labels become displacements; code and invariants become what a container holds. The layer above
-//! relies on `assemble` returning what a container of the source for a policy holds, or else the
-//! first line that is wrong.
+//! relies on this: `assemble` returns what a container of the source for a policy holds, or else
+//! the first wrong line.
 //!
-//! The contents are defined in `specs/Assembling` (as a relation and as the tests in their order),
-//! the meaning of errors in `specs/Faults`, the words written in `specs/Words`, the results in
-//! `specs/Views`, the limits that all assembled contents keep to in `specs/Limits`, and the names
-//! of the kinds of errors in `specs/Names`.
+//! The definitions are in `specs/`:
+//!
+//! - `Assembling`: the contents, as a relation and as the tests in their order;
+//! - `Faults`: the meaning of errors;
+//! - `Words`: the words written;
+//! - `Views`: the results;
+//! - `Limits`: the limits that all assembled contents keep to;
+//! - `Names`: the names of the kinds of errors.
 #![tactic(auto)]
 
 mod assembled;

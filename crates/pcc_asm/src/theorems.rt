@@ -11,9 +11,9 @@ ghost use Rattle.pcc_asm.specs.Views.{IsSpelled};
 
 /// Proves that the assembler and its specification agree.
 ///
-/// The assembler returns instructions for a source, one that some text spells in a profile, exactly
-/// if they are the source's instructions and are code of that profile. A source has an error
-/// exactly if the assembler reports it, so it has one error or one code.
+/// For a source that some text spells in a profile, the assembler returns instructions exactly if
+/// they are the source's and are code of that profile. A source has an error exactly if the
+/// assembler reports it, so it has one error or one code.
 pub fn laws()
     ensures assembled { (p : Profile) (left : Bool) (s : Source) (insns : List Insn) →
         IsSpelled p left s →

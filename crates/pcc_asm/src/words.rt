@@ -9,7 +9,7 @@ use alpha_words::{Insn, encode};
 use std::alloc::{AllocError, Global};
 use word_ops::Profile;
 
-/// The word that is written for an instruction of the profile.
+/// Returns the word that encodes an instruction of the profile.
 #[tactic(auto, using(crate::proofs::Written::word_is))]
 fn word_of(insn: Insn, profile: Profile) -> u32
     requires { IsEncodable profile insn }
