@@ -26,7 +26,7 @@ pub enum Form {
     Wr(Exp),
     /// Both formulas hold.
     And(Box<Form>, Box<Form>),
-    /// At least one of the formulas holds: they aren't both false.
+    /// The formulas aren't both false.
     Or(Box<Form>, Box<Form>),
     /// The second formula holds if the first does.
     Imp(Box<Form>, Box<Form>),
@@ -36,7 +36,7 @@ pub enum Form {
     Allm(Box<Form>),
 }
 
-/// The relation of two words, if the second was made.
+/// Creates the relation of two words, if the second was made.
 fn rel_made(rel: Rel, a: Exp, b: Result<Exp, AllocError>) -> Result<Form, AllocError>
     ensures made { IfOk result (λ f. IsOkAnd b (λ e.
         form_view f ≡ FRel rel (exp_view a) (exp_view e))) }
@@ -50,7 +50,7 @@ fn rel_made(rel: Rel, a: Exp, b: Result<Exp, AllocError>) -> Result<Form, AllocE
     }
 }
 
-/// Both formulas, if the second was made.
+/// Creates the conjunction of two formulas, if the second was made.
 fn and_made(alloc: Global, a: Form, b: Result<Form, AllocError>) -> Result<Form, AllocError>
     ensures made { IfOk result (λ f. IsOkAnd b (λ g.
         form_view f ≡ FAnd (form_view a) (form_view g))) }
@@ -64,7 +64,7 @@ fn and_made(alloc: Global, a: Form, b: Result<Form, AllocError>) -> Result<Form,
     }
 }
 
-/// One of the formulas, if the second was made.
+/// Creates the disjunction of two formulas, if the second was made.
 fn or_made(alloc: Global, a: Form, b: Result<Form, AllocError>) -> Result<Form, AllocError>
     ensures made { IfOk result (λ f. IsOkAnd b (λ g.
         form_view f ≡ FOr (form_view a) (form_view g))) }
@@ -78,7 +78,7 @@ fn or_made(alloc: Global, a: Form, b: Result<Form, AllocError>) -> Result<Form, 
     }
 }
 
-/// The second formula under the first, if the second was made.
+/// Creates the implication between two formulas, if the second was made.
 fn imp_made(alloc: Global, a: Form, b: Result<Form, AllocError>) -> Result<Form, AllocError>
     ensures made { IfOk result (λ f. IsOkAnd b (λ g.
         form_view f ≡ FImp (form_view a) (form_view g))) }
