@@ -9,7 +9,7 @@ use formula_text::print_form;
 use sha2::{Digest, Sha256};
 use std::alloc::{AllocError, Global};
 
-/// The SHA-256 of two lines, each with its LF.
+/// Returns the SHA-256 of two lines, each with its LF.
 fn lines_digest(first: &[u8], second: &[u8]) -> [u8; 32]
     ensures { result ≡ sha256 ((first.now ++ 10 ∷ []) ++ (second.now ++ 10 ∷ [])) }
 {

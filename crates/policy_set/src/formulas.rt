@@ -10,14 +10,14 @@ use formula_tree::{Exp, Form, MemExp};
 use std::alloc::{AllocError, Global};
 use word_ops::{Op, Rel};
 
-/// An address at an offset from a register.
+/// Creates the address at an offset from a register. Errors: out of memory.
 fn offset_from(alloc: Global, register: u8, offset: Exp) -> Result<Exp, AllocError>
     ensures { IfOk result (λ e. exp_view e ≡ parts.offset_from register (exp_view offset)) }
 {
     Exp::oper(alloc, Op::Add, Exp::Reg(register), offset)
 }
 
-/// The variable is below the bound and a multiple of 8.
+/// Creates the formula: the variable is below the bound and a multiple of 8. Errors: out of memory.
 fn aligned_below(alloc: Global, variable: u32, bound: Exp) -> Result<Form, AllocError>
     ensures { IfOk result
         (λ f. form_view f ≡ parts.aligned_below (EVar variable) (exp_view bound)) }

@@ -93,8 +93,9 @@ impl Policy {
         self.kind
     }
 
-    /// Returns the number that containers carry: 1 for `filter`, 2 for `tag`, 3 for `table`, and 0
-    /// for a policy from a file, for which no container is by this number (`has_number`).
+    /// Returns the number that containers carry: 1 for `filter`, 2 for `tag`, 3 for `table`.
+    /// Returns 0 for a policy from a file; no container is for such a policy by its number
+    /// (`has_number`).
     pub fn number(&self) -> u32
         ensures exact { result ≡ policy_number self.now }
     {
@@ -143,8 +144,8 @@ impl Policy {
     }
 
     /// Proves what holds for every policy, with nothing to run: its formulas name only registers, m
-    /// and their own bound variables, they aren't high, and if the policy has a kind they are the
-    /// kind's.
+    /// and their own bound variables, they are at most `MAX_FORM_HEIGHT` high, and if the policy
+    /// has a kind they are the kind's.
     pub fn laws(&self)
         ensures { IsPolicy self.now }
     {
@@ -152,7 +153,7 @@ impl Policy {
     }
 }
 
-/// The kind of policy that has the name.
+/// Returns the kind of policy with this name, or None.
 fn kind_named(name: &str) -> Option<PolicyKind>
     ensures { result ≡ kind_of name.now }
 {

@@ -16,7 +16,7 @@ use std::alloc::Global;
 use text_lines::{line_count, split_line};
 use word_ops::Profile;
 
-/// The two lines of formulas. Errors: `Lines` and `Length`.
+/// Returns the two lines of formulas. Errors: `Lines` and `Length`.
 fn form_lines(bytes: &[u8]) -> Result<(&[u8], &[u8]), PolicyFault>
     ensures exact { MatchResult result
         (λ lines. form_lines (lines_of bytes.now) ≡ Ok (lines.0.now, lines.1.now))
@@ -39,8 +39,8 @@ fn form_lines(bytes: &[u8]) -> Result<(&[u8], &[u8]), PolicyFault>
     Ok((first, second))
 }
 
-/// The formula of a line, which every policy may have; none names the steps that are left. Errors:
-/// `Form` with the line's number, and `Memory`.
+/// Parses a line as a formula that any policy may have; it doesn't name the remaining steps.
+/// Errors: `Form` with the line's number, and `Memory`.
 fn line_form(alloc: Global, number: u32, line: &[u8]) -> Result<Form, PolicyFault>
     requires short { length line.now ≤ MAX_FORM_LINE }
     ensures form { IfOk result (λ form. IsPolicyForm (form_view form)) }
@@ -55,7 +55,7 @@ fn line_form(alloc: Global, number: u32, line: &[u8]) -> Result<Form, PolicyFaul
     }
 }
 
-/// The policy that is read, or the first fault.
+/// Parses the bytes as a policy. Errors: the first error, or out of memory.
 fn parse(alloc: Global, bytes: &[u8]) -> Result<Policy, PolicyFault>
     ensures { IsPolicyAnswer (λ policy. policy) (policy_read bytes.now) result }
 {

@@ -10,12 +10,11 @@ ghost use Rattle.policy_set.specs.PolicyText.{SpellsPolicy, from_file, policy_re
 ghost use Rattle.policy_set.specs.Digest.{policy_text};
 ghost use Rattle.policy_set.specs.Views.{PolicyView, built_in, IsPolicy, PolicyUses};
 
-/// Proves that the built-in policies are well formed and use only operators of profile 1, that
-/// `is_number_of` decides its relation, and that bytes read as a policy exactly if they spell it.
+/// Proves that the built-in policies are well formed and use only operators of profile 1.
 ///
-/// What bytes spell is a well-formed policy. The text of a policy spells a policy with its
-/// formulas, if no line of it is too long, and policies with different formulas have different
-/// texts.
+/// `is_number_of` decides its relation. Bytes read as a policy exactly if they spell it, and what
+/// they spell is a well-formed policy. The text of a policy spells a policy with its formulas, if
+/// no line of it is too long. Policies with different formulas have different texts.
 pub fn laws()
     ensures built_in { (kind : PolicyKind) → IsPolicy (built_in kind) }
     ensures operators { (kind : PolicyKind) → PolicyUses IsFirstOp (built_in kind) }
