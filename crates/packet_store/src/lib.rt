@@ -1,13 +1,19 @@
 //! Packet files, each policy's start state on a packet, and the checked runner of packets.
 //!
-//! The layers above rely on `packets` returning exactly the packets of a file in order, or its
-//! first error. `start_at` returns a policy's start on a packet in an arena from a base address on,
-//! and `start` returns the start of an agent that is alone; both return None exactly if the packet
-//! is too short. The one call of the trait `PacketRunner` runs a packet.
+//! The layers above rely on these:
 //!
-//! The grammar of packet files is in `specs/Packets` (as a relation) and `specs/PacketDecoding` (as
-//! a function), the start states in `specs/PolicyStarts`, the result of a packet in
-//! `specs/Results`, and the names of errors in `specs/Names`.
+//! - `packets` returns exactly the packets of a file in order, or its first error.
+//! - `start_at` returns a policy's start on a packet in an arena from a base address on, and
+//!   `start` the start of an agent that is alone; both return None exactly if the packet is too
+//!   short.
+//! - The trait `PacketRunner` has one call, which runs a packet.
+//!
+//! The definitions are in `specs/`:
+//!
+//! - `Packets` (a relation) and `PacketDecoding` (a function): the grammar of packet files;
+//! - `PolicyStarts`: the start states;
+//! - `Results`: the result of a packet;
+//! - `Names`: the names of errors.
 #![tactic(auto)]
 
 mod fault;

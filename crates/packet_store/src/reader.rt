@@ -10,7 +10,7 @@ use std::marker::Model;
 /// The maximum length of a packet, in bytes.
 pub const MAX_PACKET: u32 = 65_535;
 
-/// The length that the next packet claims.
+/// Returns the length that the next packet claims, in bytes.
 fn claimed(bytes: &[u8]) -> u32
     requires { 4 ≤ length bytes.now }
     ensures { result ≡ file.claimed_length bytes.now }
@@ -18,7 +18,7 @@ fn claimed(bytes: &[u8]) -> u32
     u32::from_le_bytes([bytes[0], bytes[1], bytes[2], bytes[3]])
 }
 
-/// The first packet and the bytes after it; the fault has the offset that is given.
+/// Returns the first packet and the bytes after it. Errors carry the given `offset`.
 fn first(bytes: &[u8], offset: u64) -> Result<(&[u8], &[u8]), PacketFault>
     requires { 0 < length bytes.now }
     ensures { MatchResult result
@@ -58,7 +58,7 @@ impl<'b> Model for PacketIter<'b> {
     ghost invariant = { λ it. IsWhole it.rest.now };
 }
 
-/// The first fault of the file, if it has one.
+/// Scans the file for its first error.
 fn find_fault(bytes: &[u8]) -> Result<(), PacketFault>
     requires { length bytes.now < 2 ^ 63 }
     ensures whole { IfOk result (λ _. file.IsWhole bytes.now) }

@@ -30,7 +30,7 @@ fn filter_start(packet: &[u8], base: u64) -> Start<'_>
     }
 }
 
-/// Whether the first eight bytes are all 0.
+/// Checks whether the first eight bytes are all 0.
 fn begins_with_zero(packet: &[u8]) -> bool
     requires { 16 ≤ length packet.now }
     ensures { result ≡ (quadword packet.now 0 == 0) }
@@ -65,7 +65,7 @@ fn tag_start(packet: &[u8], base: u64) -> Start<'_>
     }
 }
 
-/// The packet's quadwords, all of which may be loaded and stored.
+/// Returns the start of `table`: the packet's quadwords, all readable and writable.
 fn table_start(packet: &[u8], base: u64) -> Start<'_>
     requires { length packet.now ≤ MAX_PACKET }
     ensures value { start_view result ≡ table_start base packet.now }
@@ -84,7 +84,7 @@ fn table_start(packet: &[u8], base: u64) -> Start<'_>
 }
 
 /// Returns the policy's start on a packet of at most `MAX_PACKET` bytes, in an arena that begins at
-/// `base`, an address that is a multiple of 8 and below 2^32.
+/// `base`. The address `base` must be a multiple of 8 and below 2^32.
 ///
 /// Returns None exactly if the packet is too short: below 64 bytes for `filter`, below 16 for
 /// `tag`, never for `table`, and always for a policy without a kind. The start is in that arena, is

@@ -14,8 +14,9 @@ ghost use Rattle.packet_store.specs.PolicyStarts.{start_of};
 ghost use Rattle.packet_store.specs.StartMeets.{StartMeets};
 
 /// Proves that the start of a policy on a packet is a state of the machine and satisfies the
-/// policy's precondition, and that a file reads exactly as the packets that encode it or as its
-/// first error.
+/// policy's precondition.
+///
+/// A file reads exactly as the packets that encode it, or as its first error.
 pub fn laws()
     ensures state { (policy : PolicyView) (packet : List ℕ) (setup : StartView) →
         length packet ≤ MAX_PACKET
