@@ -130,7 +130,7 @@ fn push_binding(out: &mut Vec<u8>, depth: u64, keyword: Keyword) -> Result<(), A
     push_name(out, depth)
 }
 
-/// Returns `depth` and one more. There are never 2^64 binders, for lack of memory.
+/// Returns `depth` plus one. Errors: out of memory, at 2^64 binders, which memory can't hold.
 fn deeper(depth: u64) -> Result<u64, AllocError>
     ensures { IfOk result (λ d. d ≡ suc depth) }
 {
@@ -150,7 +150,7 @@ fn push_form_part(out: &mut Vec<u8>, depth: u64, form: &Form) -> Result<(), Allo
     push_form(out, depth, form)
 }
 
-/// Appends `rd` or `wr` with its address.
+/// Appends an access right with its address.
 fn push_access(
     out: &mut Vec<u8>,
     depth: u64,

@@ -3,8 +3,8 @@
 //! The definitions that all layers above share are in `specs/`, over plain data: formulas and
 //! shifts (`Formulas`), simultaneous substitution (`Substitution`), substitution for one variable
 //! (`Variables`), formulas over a context (`Scope`) and truth (`Truth`). The layers above rely on
-//! `subst_regs` computing that substitution, and on what `laws` proves about truth. `specs/Views`
-//! maps the trees in memory to the plain data. Source: Necula, POPL 1997.
+//! this: `subst_regs` computes that substitution, and truth has the properties that `laws` proves.
+//! `specs/Views` maps the trees in memory to the plain data. Source: Necula, POPL 1997.
 #![tactic(auto)]
 
 mod exp;
