@@ -1,4 +1,4 @@
-//! Code: the instructions that bytes encode, whose branches stay inside it.
+//! Code: the instructions that bytes encode, whose branches stay inside.
 
 ghost use Rattle.std.specs.Prelude.{◌≡◌, ℕ, ◌+◌, ◌*◌, ◌%◌, ◌<◌, ◌≤◌, ◌↔◌, length, slice_get, Some, IsTrue, IsSome, IfSome, IfNone, IfOk, IfErr, MatchResult, Err};
 ghost use Rattle.alpha_cfg.specs.CodeBytes.{code_word_at, EncodesCode, IsShapeFlaw, IsCodeAnswer};
@@ -15,11 +15,11 @@ use std::alloc::Global;
 use std::marker::Model;
 use word_ops::Profile;
 
-/// How many instructions code has at most.
+/// The maximum number of instructions of code.
 pub const MAX_WORDS: usize = 1024;
 
-/// Code: 1 to 1,024 instructions whose branches stay inside it and which can't run off its end.
-/// Contracts see the list of its instructions.
+/// Well-formed code: 1 to 1,024 instructions whose branches stay inside and which can't run off the
+/// end. Contracts see the list of its instructions.
 #[derive(Debug, Drop)]
 pub struct Code {
     insns: Vec<Insn>,
@@ -38,7 +38,7 @@ impl Model for Code {
 }
 
 impl Code {
-    /// How many instructions there are.
+    /// Returns the number of instructions.
     pub fn count(&self) -> u32
         ensures value { result ≡ length self.now }
         ensures code { IsCode self.now }
@@ -46,7 +46,7 @@ impl Code {
         self.insns.len() as u32
     }
 
-    /// The instructions in order.
+    /// Returns the instructions in order.
     pub fn insns(&self) -> &[Insn]
         ensures value { result.now ≡ self.now }
         ensures code { IsCode result.now }
@@ -54,7 +54,7 @@ impl Code {
         &self.insns
     }
 
-    /// The instruction at an index.
+    /// Returns the instruction at index `i`, which must be inside the code.
     pub fn insn(&self, i: u32) -> Insn
         requires { i < length self.now }
         ensures at { slice_get self.now i ≡ Some result }
@@ -66,7 +66,7 @@ impl Code {
 }
 
 impl Code {
-    /// The index that the branch at an index leads to; it lies inside the code.
+    /// Returns the target index of the branch `insn` at index `i`; it is inside the code.
     pub fn jump(&self, i: u32, insn: &Insn) -> u32
         requires at { slice_get self.now i ≡ Some insn.now }
         requires branch { IsSome (target_of i insn.now) }
@@ -80,7 +80,8 @@ impl Code {
         }
     }
 
-    /// The index after an instruction that goes on there; it lies inside the code.
+    /// Returns the index after the instruction `insn` at `i`, which must be one that can fall
+    /// through; the result is inside the code.
     pub fn next(&self, i: u32, insn: &Insn) -> u32
         requires at { slice_get self.now i ≡ Some insn.now }
         requires on { IsSome (next_of i insn.now) }
@@ -92,7 +93,7 @@ impl Code {
     }
 }
 
-/// The word at an index of the code's bytes.
+/// Returns the word at index `i` of the code's bytes.
 fn word_of(code: &[u8], i: usize) -> u32
     requires { 4 * i + 4 ≤ length code.now }
     ensures { result ≡ code_word_at code.now i }
@@ -101,7 +102,7 @@ fn word_of(code: &[u8], i: usize) -> u32
     u32::from_le_bytes([code[at], code[at + 1], code[at + 2], code[at + 3]])
 }
 
-/// The instruction that a word encodes.
+/// Decodes the word at index `i`. Errors: the word is no instruction.
 fn decode_at(code: &[u8], i: usize, profile: Profile) -> Result<Insn, CodeFlaw>
     requires within { 4 * i + 4 ≤ length code.now }
     requires short { i < MAX_WORDS }
@@ -115,7 +116,7 @@ fn decode_at(code: &[u8], i: usize, profile: Profile) -> Result<Insn, CodeFlaw>
     }
 }
 
-/// The instructions that the words encode, or the first word that encodes none.
+/// Decodes all words. Errors: the first word that is no instruction, or out of memory.
 fn decode_all(alloc: Global, code: &[u8], profile: Profile) -> Result<Vec<Insn>, CodeFault>
     requires whole { length code.now % 4 ≡ 0 }
     requires short { length code.now ≤ 4 * MAX_WORDS }
@@ -130,7 +131,7 @@ fn decode_all(alloc: Global, code: &[u8], profile: Profile) -> Result<Vec<Insn>,
     Ok(insns)
 }
 
-/// Whether a branch at the index stays inside the code.
+/// Checks whether a branch at index `i` stays inside the code.
 fn stays_inside(insns: &[Insn], i: usize) -> bool
     requires within { i < length insns.now }
     requires short { length insns.now ≤ MAX_WORDS }
@@ -142,7 +143,7 @@ fn stays_inside(insns: &[Insn], i: usize) -> bool
     }
 }
 
-/// The least index whose branch leads outside.
+/// Returns the least index whose branch leads outside, or None.
 fn first_outside(insns: &[Insn]) -> Option<usize>
     requires { length insns.now ≤ MAX_WORDS }
     ensures found { IfSome result (λ i. (i < length insns.now) × (IsInside insns.now i → ⊥)
@@ -157,14 +158,14 @@ fn first_outside(insns: &[Insn]) -> Option<usize>
     None
 }
 
-/// Whether code may not go on after the instruction.
+/// Checks whether control cannot fall through the instruction.
 fn ends(insn: Insn) -> bool
     ensures { IsTrue result ↔ IsFinal insn }
 {
     matches!(insn, Insn::Br { .. } | Insn::Ret)
 }
 
-/// What is wrong with the instructions, if they are no code.
+/// Returns what is wrong with the instructions, or None if they are well-formed code.
 fn shape_flaw(insns: &[Insn]) -> Option<CodeFlaw>
     requires some { 0 < length insns.now }
     requires short { length insns.now ≤ MAX_WORDS }
@@ -183,7 +184,7 @@ fn shape_flaw(insns: &[Insn]) -> Option<CodeFlaw>
     }
 }
 
-/// The code that the bytes encode, or the first fault.
+/// Returns the code that the bytes encode, or the first error.
 fn make(alloc: Global, code: &[u8], profile: Profile) -> Result<Code, CodeFault>
     requires whole { length code.now % 4 ≡ 0 }
     requires some { 0 < length code.now }
@@ -198,11 +199,11 @@ fn make(alloc: Global, code: &[u8], profile: Profile) -> Result<Code, CodeFault>
 }
 
 impl Code {
-    /// The code that the bytes, 1 to 1,024 words of four bytes, encode in the profile.
+    /// Decodes bytes, 1 to 1,024 words of four bytes, as well-formed code of `profile`.
     ///
-    /// Else the least index whose word is no instruction; else the least index that branches
-    /// outside; else the last index, where it isn't a return or a branch that is always taken.
-    /// Words that no walk reaches count as others do.
+    /// Errors: the least index whose word is no instruction; else the least index that branches
+    /// outside the code; else the last index, if it is neither a return nor a branch that is always
+    /// taken; or out of memory. Words that control flow can't reach are checked too.
     pub fn of(alloc: Global, code: &[u8], profile: Profile) -> Result<Code, CodeFault>
         requires whole { length code.now % 4 ≡ 0 }
         requires some { 0 < length code.now }

@@ -1,4 +1,4 @@
-//! What holds of the definitions, with nothing to run.
+//! Theorems about the definitions, with nothing to run.
 
 ghost use Rattle.std.specs.Prelude.{◌≡◌, ℕ, ◌<◌, ◌≤◌, ◌*◌, ◌↔◌, Bool, List, length, Some, None, Ok, All};
 ghost use Rattle.word_ops.specs.declared.Profile.{Profile};
@@ -11,7 +11,8 @@ ghost use Rattle.alpha_cfg.specs.Deciding.{flags_of, uncut_of};
 ghost use Rattle.alpha_cfg.specs.Machine.{State, IsState, step_of, run_of};
 ghost use Rattle.alpha_cfg.specs.Isolation.{ChangesWritable, DependsOnReadable, RunsJoin};
 
-/// Steps and runs of code keep a state one, its index inside the code, and its rights.
+/// Proves that steps and runs of code preserve well-formed states, keep the index inside the code,
+/// and don't change access rights.
 pub fn laws()
     ensures step { (code : List Insn) (s : State) → IsCode code → s.index < length code → IsState s
         → IsState (step_of code s).1 }
@@ -26,18 +27,18 @@ pub fn laws()
         ≡ s.rights }
 {}
 
-/// Whatever the code, a run changes no address that may not be stored to; its outcome, its
-/// registers and all that may be loaded depend on registers and on what may be loaded, and on
-/// nothing else; and where a run is out of steps, the run that follows is that of both budgets.
+/// Proves isolation, for any code. A run changes no address that isn't writable. Its outcome, its
+/// registers and all readable memory depend only on registers and readable memory. If a run is out
+/// of steps, running on is one run with the sum of both step limits.
 pub fn isolation_laws()
     ensures changes { (code : List Insn) (n : ℕ) (s : State) → ChangesWritable code n s }
     ensures depends { (code : List Insn) (n : ℕ) (s : State) → DependsOnReadable code n s }
     ensures joins { (code : List Insn) (n k : ℕ) (s t : State) → RunsJoin code n k s t }
 {}
 
-/// What decides by functions says what the relations say: what bytes read as is code; annotated
-/// indices have one list of flags; `uncut_of` gives none exactly where they cut code, and else
-/// exactly the least index on a cycle without one.
+/// Proves that the deciding functions agree with the relations. What the bytes decode to is code;
+/// annotated indices have exactly one list of flags; `uncut_of` gives none exactly if they cut the
+/// code, and else exactly the least index on a cycle without one.
 pub fn decision_laws()
     ensures read { (p : Profile) (bytes : List ℕ) (code : List Insn) → 4 ≤ length bytes
         → length bytes ≤ 4 * MAX_WORDS → decoded_code p bytes ≡ Ok code → IsReadCode bytes code }

@@ -1,4 +1,4 @@
-//! Words of 32 bits read as instructions.
+//! Decoding of 32-bit words as instructions.
 
 ghost use Rattle.std.specs.Prelude.{◌≡◌, ◌+◌, ◌/◌, ◌%◌, ◌^◌, ◌≤◌, ◌<◌, ◌↔◌, IfOk, None};
 ghost use Rattle.alpha_words.specs.Lawful.{fault_of, HasFormat};
@@ -15,7 +15,7 @@ use crate::opcodes::cond_at;
 use crate::reg::Reg;
 use word_ops::{Profile, of_profile, op_of_code};
 
-/// The register whose number stands in the five bits from `low` on.
+/// Returns the register whose number is in the five bits from `low` on.
 fn reg_at(word: u32, low: u32) -> Reg
     requires { low ≤ 27 }
     ensures { result ≡ decoding.reg_at word low }
@@ -23,14 +23,14 @@ fn reg_at(word: u32, low: u32) -> Reg
     Reg::new((word >> low) & 0x1f)
 }
 
-/// The displacement of the memory format.
+/// Returns the displacement of a word of the memory format, in bytes.
 fn short_displacement(word: u32) -> i16
     ensures { result ≡ decoding.signed_of 15 (word % 2 ^ 16) }
 {
     ((word & 0xffff) as u16).cast_signed()
 }
 
-/// The displacement of the branch format.
+/// Returns the displacement of a word of the branch format, in instructions.
 fn long_displacement(word: u32) -> i32
     ensures { result ≡ decoding.signed_of 20 (word % 2 ^ 21) }
 {
@@ -42,7 +42,7 @@ fn long_displacement(word: u32) -> i32
     }
 }
 
-/// The instruction, unless the register that it writes is kept.
+/// Returns the instruction, unless the register that it writes is reserved.
 fn writing(written: Reg, insn: Insn) -> Result<Insn, BadWord>
     ensures { result ≡ decoding.unless_kept written insn }
 {
@@ -53,7 +53,7 @@ fn writing(written: Reg, insn: Insn) -> Result<Insn, BadWord>
     }
 }
 
-/// The load, unless it is to register 31 or the register that it writes is kept.
+/// Returns the load, unless it is to register 31 or to a reserved register.
 fn loading(written: Reg, insn: Insn) -> Result<Insn, BadWord>
     ensures { result ≡ decoding.loaded written insn }
 {
@@ -64,7 +64,7 @@ fn loading(written: Reg, insn: Insn) -> Result<Insn, BadWord>
     }
 }
 
-/// A word of the memory format.
+/// Decodes a word of the memory format.
 fn memory(op: MemoryOp, word: u32) -> Result<Insn, BadWord>
     ensures { result ≡ decoding.decoded_memory word op }
 {
@@ -77,7 +77,7 @@ fn memory(op: MemoryOp, word: u32) -> Result<Insn, BadWord>
     }
 }
 
-/// The second operand of the operate format.
+/// Returns the second operand of a word of the operate format.
 fn rhs_at(word: u32) -> Rhs
     ensures { result ≡ decoding.rhs_at word }
 {
@@ -88,14 +88,14 @@ fn rhs_at(word: u32) -> Rhs
     }
 }
 
-/// Whether a bit is set that has to be zero beside a register.
+/// Checks whether a bit is set that must be zero if the second operand is a register.
 fn has_reserved(word: u32) -> bool
     ensures { result ≡ decoding.has_reserved word }
 {
     (word >> 12) & 1 == 0 && (word >> 13) & 7 != 0
 }
 
-/// A word of the operate format.
+/// Decodes a word of the operate format.
 fn operate(profile: Profile, word: u32) -> Result<Insn, BadWord>
     ensures { result ≡ decoding.decoded_operate word
         (of_profile profile (op_of_code (word / 2 ^ 26) (word / 2 ^ 5 % 128))) }
@@ -119,14 +119,14 @@ fn operate(profile: Profile, word: u32) -> Result<Insn, BadWord>
     )
 }
 
-/// Whether the registers and the kind of jump are those of a return.
+/// Checks whether the registers and the kind of jump make the word a return.
 fn is_return(word: u32) -> bool
     ensures { result ≡ decoding.is_return word }
 {
     reg_at(word, 21).number() == 31 && reg_at(word, 16).number() == 26 && (word >> 14) & 3 == 2
 }
 
-/// A word of the branch format that may be a conditional branch.
+/// Decodes a word as a conditional branch, if its opcode is one.
 fn branch(word: u32) -> Result<Insn, BadWord>
     ensures { result ≡ decoding.decoded_branch word (cond_at (word / 2 ^ 26)) }
 {
@@ -140,7 +140,7 @@ fn branch(word: u32) -> Result<Insn, BadWord>
     }
 }
 
-/// A word that isn't of the memory format.
+/// Decodes a word that is not of the memory format.
 fn other(profile: Profile, word: u32) -> Result<Insn, BadWord>
     ensures { result ≡ decoding.decoded_other profile word }
 {
@@ -156,7 +156,7 @@ fn other(profile: Profile, word: u32) -> Result<Insn, BadWord>
     }
 }
 
-/// What the word reads as, or the first test that it fails.
+/// Returns the instruction that the word encodes, or the first test that the word fails.
 fn read(profile: Profile, word: u32) -> Result<Insn, BadWord>
     ensures { result ≡ decoding.decoded profile word }
 {
@@ -166,12 +166,12 @@ fn read(profile: Profile, word: u32) -> Result<Insn, BadWord>
     }
 }
 
-/// The instruction that a word encodes, or the first test that the word fails.
+/// Returns the instruction that `word` encodes in `profile`.
 ///
-/// The tests come in this order: an opcode that the profile hasn't; for operate words a function
-/// that it hasn't, the reserved bits, a kept register; for an address a kept register; for a load
-/// register 31, then a kept register; for the jump opcode a form other than the return's; for `br` a
-/// register.
+/// Errors: the first test that the word fails. The tests come in this order: an opcode that the
+/// profile hasn't; for operate words a function that it hasn't, the reserved bits, a reserved
+/// register; for an address a reserved register; for a load register 31, then a reserved register;
+/// for the jump opcode a form other than the return's; for `br` a first register other than 31.
 pub fn decode(word: u32, profile: Profile) -> Result<Insn, BadWord>
     ensures decodes { (i : Insn) → (result ≡ Ok i) ↔ encoding.Encodes profile word i }
     ensures exact { result ≡ decoding.decoded profile word }

@@ -1,4 +1,4 @@
-//! Instructions put into words.
+//! Encoding of instructions as 32-bit words.
 
 ghost use Rattle.std.specs.Prelude.{◌≡◌, ◌+◌, ◌*◌, ◌^◌, ◌≤◌, ◌<◌, MatchResult, Some, None, Ok};
 ghost use Rattle.alpha_words.specs.Encoding as encoding;
@@ -14,7 +14,7 @@ use crate::opcodes::cond_opcode_of;
 use crate::reg::Reg;
 use word_ops::{Op, Profile, has_op, op_code};
 
-/// Whether the profile has an instruction of the kind.
+/// Checks whether the profile has an instruction of this kind.
 fn has_insn(insn: &Insn, profile: Profile) -> bool
     ensures { result ≡ encoding.has_insn profile insn.now }
 {
@@ -25,7 +25,7 @@ fn has_insn(insn: &Insn, profile: Profile) -> bool
     }
 }
 
-/// Why a profile has no instruction of the kind.
+/// Returns why a profile has no instruction of this kind.
 fn missing_fault(insn: &Insn) -> BadWord
     ensures { result ≡ missing_fault insn.now }
 {
@@ -35,7 +35,7 @@ fn missing_fault(insn: &Insn) -> BadWord
     }
 }
 
-/// What each profile refuses of the first register of the memory format.
+/// Checks the first register of the memory format, as both profiles do.
 fn lawful_register(kind: MemoryKind, reg: Reg) -> Result<(), BadWord>
     ensures { MatchResult result
         (λ _. register_fault kind reg ≡ None) (λ e. register_fault kind reg ≡ Some e) }
@@ -48,7 +48,7 @@ fn lawful_register(kind: MemoryKind, reg: Reg) -> Result<(), BadWord>
     }
 }
 
-/// What each profile refuses.
+/// Checks what both profiles refuse: a reserved register, and a load into register 31.
 fn any_lawful(insn: Insn) -> Result<(), BadWord>
     ensures { MatchResult result (λ _. any_fault insn ≡ None) (λ e. any_fault insn ≡ Some e) }
 {
@@ -59,9 +59,10 @@ fn any_lawful(insn: Insn) -> Result<(), BadWord>
     }
 }
 
-/// Whether code of the profile may have the instruction: Opcode or Function where the profile has
-/// none of its kind, KeptRegister where it would write a kept register, LoadToZero where it would
-/// load into register 31.
+/// Checks whether code of `profile` may contain the instruction.
+///
+/// Errors: `Opcode` or `Function` if the profile has no such instruction; `KeptRegister` if it
+/// would write a reserved register; `LoadToZero` if it would load into register 31.
 pub fn lawful(insn: Insn, profile: Profile) -> Result<(), BadWord>
     ensures { MatchResult result
         (λ _. fault_of profile insn ≡ None) (λ e. fault_of profile insn ≡ Some e) }
@@ -72,7 +73,7 @@ pub fn lawful(insn: Insn, profile: Profile) -> Result<(), BadWord>
     any_lawful(insn)
 }
 
-/// Whether the profile lets an instruction write the register.
+/// Checks that an instruction may write the register: it is not reserved.
 fn unkept(reg: Reg) -> Result<(), BadWord>
     ensures { MatchResult result (λ _. kept_fault reg ≡ None) (λ e. kept_fault reg ≡ Some e) }
 {
@@ -83,8 +84,8 @@ fn unkept(reg: Reg) -> Result<(), BadWord>
     }
 }
 
-/// The index that a branch at `index` leads to, `index + 1 + disp`; None where the instruction is
-/// no branch.
+/// Returns the index that a branch at `index` leads to, `index + 1 + disp`, or None if the
+/// instruction is no branch.
 pub fn target(index: u32, insn: Insn) -> Option<i64>
     ensures { result ≡ target_of index insn }
 {
@@ -95,7 +96,7 @@ pub fn target(index: u32, insn: Insn) -> Option<i64>
     }
 }
 
-/// A word of the memory format.
+/// Returns a word of the memory format.
 fn memory(opcode: u32, ra: Reg, rb: Reg, disp: i16) -> u32
     requires { opcode < 64 }
     ensures { result ≡ encoding.memory_word opcode ra rb disp }
@@ -103,7 +104,7 @@ fn memory(opcode: u32, ra: Reg, rb: Reg, disp: i16) -> u32
     (opcode << 26) + (ra.number() << 21) + (rb.number() << 16) + u32::from(disp.cast_unsigned())
 }
 
-/// A word of the branch format.
+/// Returns a word of the branch format.
 fn branch(opcode: u32, ra: u32, disp: i32) -> u32
     requires opcode { opcode < 64 }
     requires ra { ra < 32 }
@@ -113,7 +114,7 @@ fn branch(opcode: u32, ra: u32, disp: i32) -> u32
     (opcode << 26) + (ra << 21) + (disp.cast_unsigned() & 0x1f_ffff)
 }
 
-/// Bits 20 to 12 of the operate format: the second operand.
+/// Returns the second operand as bits 20 to 12 of a word of the operate format.
 fn rhs_bits(rhs: Rhs) -> u32
     ensures value { result ≡ encoding.rhs_bits rhs }
     ensures fits { encoding.IsRhs rhs }
@@ -125,7 +126,7 @@ fn rhs_bits(rhs: Rhs) -> u32
     }
 }
 
-/// A word of the operate format.
+/// Returns a word of the operate format.
 fn operate(op: Op, ra: Reg, rhs: Rhs, rc: Reg) -> u32
     ensures { result ≡ encoding.operate_word op ra rhs rc }
 {
@@ -133,7 +134,7 @@ fn operate(op: Op, ra: Reg, rhs: Rhs, rc: Reg) -> u32
     (opcode << 26) + (ra.number() << 21) + rhs_bits(rhs) + (function << 5) + rc.number()
 }
 
-/// The word of a lawful instruction.
+/// Returns the word of a permitted instruction.
 fn write(insn: Insn) -> u32
     requires lawful { any_fault insn ≡ None }
     requires reaches { HasFormat insn }
@@ -149,8 +150,8 @@ fn write(insn: Insn) -> u32
     }
 }
 
-/// The word of an instruction that the profile has, whose displacement has 21 bits where it
-/// branches. A return is written with hint 1.
+/// Returns the word that encodes an instruction that `profile` has. The displacement of a branch
+/// must fit in 21 bits. A return is written with hint 1.
 pub fn encode(insn: Insn, profile: Profile) -> u32
     requires lawful { fault_of profile insn ≡ None }
     requires reaches { HasFormat insn }

@@ -1,9 +1,9 @@
-//! The table of the instructions of the memory format: what names each one in sources and code
-//! words, what it does with its first register, and since which profile it is there.
+//! The table of the instructions of the memory format: the names of each in sources and instruction
+//! words, what it does with its first register, and the first profile that has it.
 //!
-//! A new one is a row here, and one in `specs/MemoryOps`; the texts and words of the crates above
-//! look it up. Source: Alpha Architecture Handbook, "Memory Integer Load/Store Instructions" and the
-//! opcode tables.
+//! A new instruction is a row here and a row in `specs/MemoryOps`; the texts and words of the
+//! crates above look it up. Source: Alpha Architecture Handbook, "Memory Integer Load/Store
+//! Instructions" and the opcode tables.
 
 ghost use Rattle.std.specs.Prelude.{◌≡◌, ◌<◌, ◌==◌};
 ghost use Rattle.std.specs.Str.{bytes_eq};
@@ -14,30 +14,30 @@ use word_ops::Profile;
 /// An instruction of the memory format, without its operands.
 #[derive(Clone, Copy, Debug, PartialEq, Eq)]
 pub enum MemoryOp {
-    /// An address.
+    /// Computes an address.
     Lda,
-    /// An address far off: its displacement is in units of 65,536 bytes.
+    /// Computes a far address: its displacement is in units of 65,536 bytes.
     Ldah,
-    /// A load of a quadword.
+    /// Loads a quadword.
     Ldq,
-    /// A load of the quadword that holds a byte.
+    /// Loads the quadword that holds a byte.
     LdqU,
-    /// A store of a quadword.
+    /// Stores a quadword.
     Stq,
 }
 
 /// What an instruction of the memory format does with its first register.
 #[derive(Clone, Copy, Debug, PartialEq, Eq)]
 pub enum MemoryKind {
-    /// Writes an address into it.
+    /// Writes an address into the register.
     Address,
-    /// Writes a quadword of memory into it.
+    /// Writes a quadword of memory into the register.
     Load,
-    /// Writes its word into memory.
+    /// Writes the register's word into memory.
     Store,
 }
 
-/// All of them, by their opcodes.
+/// All instructions of the memory format, in the order of their opcodes.
 const MEMORY_OPS: [MemoryOp; 5] = [
     MemoryOp::Lda,
     MemoryOp::Ldah,
@@ -46,11 +46,11 @@ const MEMORY_OPS: [MemoryOp; 5] = [
     MemoryOp::Stq,
 ];
 
-/// Opcode, mnemonic, kind and first profile of an instruction.
+/// The opcode, mnemonic, kind and first profile of an instruction.
 #[derive(Clone, Copy)]
 struct Row(u32, &'static str, MemoryKind, Profile);
 
-/// The instruction's row of the table.
+/// Returns the instruction's row of the table.
 fn memory_row(op: MemoryOp) -> Row
     ensures opcode { result.0 ≡ table.memory_opcode op }
     ensures mnemonic { result.1.now ≡ table.memory_mnemonic op }
@@ -66,7 +66,7 @@ fn memory_row(op: MemoryOp) -> Row
     }
 }
 
-/// Answers the opcode, below 64, of an instruction of the memory format.
+/// Returns the opcode, below 64, of an instruction of the memory format.
 pub fn memory_opcode(op: MemoryOp) -> u32
     ensures value { result ≡ table.memory_opcode op }
     ensures below { result < 64 }
@@ -74,21 +74,21 @@ pub fn memory_opcode(op: MemoryOp) -> u32
     memory_row(op).0
 }
 
-/// Answers the name in sources of an instruction of the memory format.
+/// Returns the mnemonic of an instruction of the memory format.
 pub fn memory_mnemonic(op: MemoryOp) -> &'static str
     ensures { result.now ≡ table.memory_mnemonic op }
 {
     memory_row(op).1
 }
 
-/// Answers what an instruction of the memory format does with its first register.
+/// Returns what an instruction of the memory format does with its first register.
 pub fn memory_kind(op: MemoryOp) -> MemoryKind
     ensures { result ≡ table.memory_kind op }
 {
     memory_row(op).2
 }
 
-/// Whether the profile is the second.
+/// Checks whether `profile` is profile 2.
 pub fn is_two(profile: Profile) -> bool
     ensures { result ≡ table.is_two profile }
 {
@@ -98,14 +98,14 @@ pub fn is_two(profile: Profile) -> bool
     }
 }
 
-/// Whether the profile has the instruction of the memory format.
+/// Checks whether `profile` has the instruction of the memory format `op`.
 pub fn has_memory_op(profile: Profile, op: MemoryOp) -> bool
     ensures { result ≡ table.has_memory_op profile op }
 {
     is_two(profile) || !is_two(memory_row(op).3)
 }
 
-/// Answers the instruction of the memory format with this opcode: None where no one has it.
+/// Returns the instruction of the memory format with this opcode, or None if none has it.
 pub fn memory_op_at(opcode: u32) -> Option<MemoryOp>
     ensures { result ≡ table.memory_op_at opcode }
 {
@@ -115,14 +115,14 @@ pub fn memory_op_at(opcode: u32) -> Option<MemoryOp>
         .find(|op| memory_opcode(*op) == opcode)
 }
 
-/// Whether the instruction has this name in sources.
+/// Checks whether `text` is the mnemonic of the instruction.
 fn has_mnemonic(op: MemoryOp, text: &[u8]) -> bool
     ensures { result ≡ bytes_eq text.now (table.memory_mnemonic op) }
 {
     text == memory_mnemonic(op).as_bytes()
 }
 
-/// Answers the instruction of the memory format with this name in sources: None where no one has it.
+/// Returns the instruction of the memory format whose mnemonic is `text`, or None if none has it.
 #[tactic(auto, unfolding(crate::specs::MemoryOps::memory_op_named))]
 pub fn memory_op_named(text: &[u8]) -> Option<MemoryOp>
     ensures { result ≡ table.memory_op_named text.now }
@@ -133,7 +133,7 @@ pub fn memory_op_named(text: &[u8]) -> Option<MemoryOp>
         .find(|op| has_mnemonic(*op, text))
 }
 
-/// Answers the instruction, where there is one and the profile has it.
+/// Returns `op` if it is an instruction and `profile` has it, else None.
 pub fn memory_op_of(profile: Profile, op: Option<MemoryOp>) -> Option<MemoryOp>
     ensures { result ≡ table.memory_op_of profile op }
 {

@@ -19,7 +19,7 @@ const CONDITIONS: [Cond; 8] = [
     Cond::Positive,
 ];
 
-/// The opcode of a conditional branch.
+/// Returns the opcode, below 64, of a conditional branch.
 pub fn cond_opcode_of(cond: Cond) -> u32
     ensures value { result ≡ opcodes.cond_opcode_of cond }
     ensures below { result < 64 }
@@ -36,7 +36,8 @@ pub fn cond_opcode_of(cond: Cond) -> u32
     }
 }
 
-/// The condition of a branch's opcode.
+/// Returns the condition of the branch with this opcode, or None if the opcode is no conditional
+/// branch's.
 pub fn cond_at(opcode: u32) -> Option<Cond>
     ensures { result ≡ opcodes.cond_at opcode }
 {

@@ -1,4 +1,4 @@
-//! What is wrong with a text that is no source.
+//! Parse errors of source texts.
 
 ghost use Rattle.std.specs.Prelude.{◌≡◌, ◌≤◌, length};
 ghost use Rattle.asm_text.specs.Names.{line_flaw_name};
@@ -10,16 +10,17 @@ use thiserror::Error;
 #[derive(Clone, Copy, Debug, PartialEq, Eq, Error)]
 pub enum LineFlaw {
     /// A byte that is neither a tab nor printable ASCII.
-    #[error("a byte that is neither a tab nor printable")]
+    #[error("a byte that is neither a tab nor printable ASCII")]
     Character,
     /// A first token that is no mnemonic.
     #[error("no mnemonic")]
     Mnemonic,
-    /// Tokens that haven't the statement's form.
-    #[error("operands that do not have the statement's form")]
+    /// Tokens that don't have the statement's form.
+    #[error("operands in the wrong form for this statement")]
     Operand,
-    /// A lexeme in a register's place that names none, or another than the form has there.
-    #[error("no register that may stand there")]
+    /// A lexeme in a register's place that names none, or a register that the form doesn't allow
+    /// there.
+    #[error("not a register, or not the register required here")]
     Register,
     /// A number that is too small or too great.
     #[error("a number out of its range")]
@@ -27,26 +28,27 @@ pub enum LineFlaw {
     /// An invariant that is no formula.
     #[error("an invariant that is no formula")]
     Formula,
-    /// A label that stands in an earlier line.
-    #[error("a label that stands twice")]
+    /// A label that an earlier line has too.
+    #[error("a label that an earlier line has too")]
     DoubleLabel,
-    /// A second invariant before an instruction.
-    #[error("a second invariant before an instruction")]
+    /// A second invariant before one instruction.
+    #[error("a second invariant before one instruction")]
     DoubleInvariant,
     /// An invariant that no instruction follows.
     #[error("an invariant that no instruction follows")]
     LooseInvariant,
     /// The line is too long, or there are too many instructions or invariants, or there is no
     /// instruction.
-    #[error("a limit is passed")]
+    #[error("line too long, too many instructions or invariants, or no instruction")]
     Length,
 }
 
-/// The most bytes that the name of a kind has.
+/// The maximum length of a kind's name, in bytes.
 pub const MAX_KIND: usize = 15;
 
 impl LineFlaw {
-    /// The kind's name, of at most `MAX_KIND` bytes, as the line of the fault shows it.
+    /// Returns the kind's name, of at most `MAX_KIND` bytes, as the printed line of the error shows
+    /// it.
     pub fn name(self) -> &'static str
         ensures exact { result.now ≡ line_flaw_name self }
         ensures short { length result.now ≤ MAX_KIND }
@@ -66,24 +68,24 @@ impl LineFlaw {
     }
 }
 
-/// Why a text gives no source.
+/// Why a text couldn't be parsed as a source.
 #[derive(Clone, Copy, Debug, PartialEq, Eq, Error)]
 pub enum LineFault {
-    /// The number of the first line that is wrong, from 1, or 0 where there is no instruction, and
-    /// what is wrong with it.
+    /// The number of the first wrong line, from 1, or 0 if there is no instruction, and what is
+    /// wrong with it.
     #[error("in line {0}, {1}")]
     At(u32, LineFlaw),
-    /// There was no memory for the source; that says nothing of the text.
+    /// Out of memory; this says nothing about the text.
     #[error("out of memory")]
     Memory,
 }
 
-/// Why a line isn't taken.
+/// Why the parser rejects a line.
 #[derive(Clone, Copy, Debug, PartialEq, Eq)]
 pub enum Refused {
-    /// What is wrong with it.
+    /// What is wrong with the line.
     Flaw(LineFlaw),
-    /// There was no memory.
+    /// Out of memory.
     Memory,
 }
 

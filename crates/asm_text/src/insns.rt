@@ -1,4 +1,4 @@
-//! Instructions of a source.
+//! Instructions of a source, whose branches name labels.
 
 ghost use Rattle.std.specs.Prelude.{◌≡◌, IfOk};
 ghost use Rattle.std.specs.Option.{option_map};
@@ -25,23 +25,23 @@ use std::alloc::{AllocError, Global};
 use text_tokens::Token;
 use word_ops::{Op, Profile};
 
-/// An instruction of a source; a branch goes to a label.
+/// An instruction of a source; a branch names a label.
 #[derive(Debug, PartialEq, Eq, Drop)]
 pub enum SrcInsn {
-    /// One that names no label.
+    /// An instruction that names no label.
     Plain(Insn),
     /// A conditional branch.
     Branch {
-        /// When it is taken.
+        /// The condition on which it is taken.
         cond: Cond,
-        /// The register that is tested.
+        /// The register that it tests.
         ra: Reg,
-        /// Where it goes.
+        /// The label that it goes to.
         label: Label,
     },
     /// A branch that is always taken.
     Br {
-        /// Where it goes.
+        /// The label that it goes to.
         label: Label,
     },
 }
@@ -54,7 +54,7 @@ struct MemoryOperands {
     rb: Reg,
 }
 
-/// A label of this text. Fails only for want of memory.
+/// Creates a label with this text. Errors: out of memory.
 pub fn owned_label(alloc: Global, text: &[u8]) -> Result<Label, AllocError>
     ensures { IfOk result (λ l. l.text.items ≡ text.now) }
 {
@@ -62,7 +62,7 @@ pub fn owned_label(alloc: Global, text: &[u8]) -> Result<Label, AllocError>
     Ok(Label { text })
 }
 
-/// The lexeme that stands next, and the text behind it.
+/// Splits a text into the lexeme at its front and the text after it.
 fn next_lexeme(text: &[u8]) -> Result<(&[u8], &[u8]), LineFlaw>
     ensures { Yields (λ p. (p.0.now, tokens_of source_class p.1.now))
         (next_lexeme (tokens_of source_class text.now)) result }
@@ -73,7 +73,7 @@ fn next_lexeme(text: &[u8]) -> Result<(&[u8], &[u8]), LineFlaw>
     }
 }
 
-/// The text behind this mark.
+/// Returns the text after this punctuation token.
 fn behind(wanted: Punct, text: &[u8]) -> Result<&[u8], LineFlaw>
     ensures { Yields (λ p. tokens_of source_class p.now)
         (behind wanted (tokens_of source_class text.now)) result }
@@ -90,7 +90,7 @@ fn behind(wanted: Punct, text: &[u8]) -> Result<&[u8], LineFlaw>
     }
 }
 
-/// An integer, if a lexeme stands next, and the text behind it.
+/// Splits off an integer, if a lexeme comes next, and returns it with the text after it.
 fn displacement_at(text: &[u8]) -> Result<(Option<&[u8]>, &[u8]), LineFlaw>
     ensures { Yields (λ p. (option_map (λ w. w.now) p.0, tokens_of source_class p.1.now))
         (displacement_at (tokens_of source_class text.now)) result }
@@ -107,7 +107,7 @@ fn displacement_at(text: &[u8]) -> Result<(Option<&[u8]>, &[u8]), LineFlaw>
     }
 }
 
-/// The lexemes of `ra,disp(rb)` and `ra,(rb)`.
+/// Splits off the lexemes of `ra,disp(rb)` or `ra,(rb)`.
 #[tactic(auto, unfolding(crate::specs::InsnParsing::memory_form))]
 fn memory_form(text: &[u8]) -> Result<(&[u8], Option<&[u8]>, &[u8]), LineFlaw>
     ensures { Yields (λ f. (f.0.now, option_map (λ w. w.now) f.1, f.2.now))
@@ -125,7 +125,7 @@ fn memory_form(text: &[u8]) -> Result<(&[u8], Option<&[u8]>, &[u8]), LineFlaw>
     Ok((ra, disp, rb))
 }
 
-/// The operands of a memory instruction.
+/// Parses the operands of a memory instruction.
 #[tactic(auto, unfolding(crate::specs::InsnParsing::memory_operands))]
 fn memory_operands(text: &[u8]) -> Result<MemoryOperands, LineFlaw>
     ensures { Yields (λ m. (m.ra, m.disp, m.rb))
@@ -138,7 +138,7 @@ fn memory_operands(text: &[u8]) -> Result<MemoryOperands, LineFlaw>
     Ok(MemoryOperands { ra, disp, rb })
 }
 
-/// A memory instruction, from the text behind its mnemonic.
+/// Parses a memory instruction, from the text after its mnemonic.
 fn memory(op: MemoryOp, text: &[u8]) -> Result<SrcInsn, LineFlaw>
     ensures { Yields source_insn_view (parsed_memory op (tokens_of source_class text.now)) result }
 {
@@ -146,7 +146,7 @@ fn memory(op: MemoryOp, text: &[u8]) -> Result<SrcInsn, LineFlaw>
     Ok(SrcInsn::Plain(memory_insn(op, ra, rb, disp)))
 }
 
-/// The lexemes of `ra,rb,rc`.
+/// Splits off the lexemes of `ra,rb,rc`.
 #[tactic(auto, unfolding(crate::specs::InsnParsing::operate_form))]
 fn operate_form(text: &[u8]) -> Result<(&[u8], &[u8], &[u8]), LineFlaw>
     ensures { Yields (λ f. (f.0.now, f.1.now, f.2.now))
@@ -163,7 +163,7 @@ fn operate_form(text: &[u8]) -> Result<(&[u8], &[u8], &[u8]), LineFlaw>
     Ok((ra, rhs, rc))
 }
 
-/// An operate instruction, from the text behind its mnemonic.
+/// Parses an operate instruction, from the text after its mnemonic.
 #[tactic(auto, unfolding(crate::specs::InsnParsing::parsed_operate))]
 fn operate(op: Op, text: &[u8]) -> Result<SrcInsn, LineFlaw>
     ensures { Yields source_insn_view (parsed_operate op (tokens_of source_class text.now)) result }
@@ -175,7 +175,7 @@ fn operate(op: Op, text: &[u8]) -> Result<SrcInsn, LineFlaw>
     Ok(SrcInsn::Plain(Insn::Oper { op, ra, rhs, rc }))
 }
 
-/// The label, where no token is left behind it.
+/// Returns the label if no token is left after it.
 fn last_label<'t>(label: &'t [u8], rest: &'t [u8]) -> Result<&'t [u8], LineFlaw>
     ensures { Yields (λ l. l.now) (last_label (label.now, tokens_of source_class rest.now)) result }
 {
@@ -185,7 +185,7 @@ fn last_label<'t>(label: &'t [u8], rest: &'t [u8]) -> Result<&'t [u8], LineFlaw>
     Ok(label)
 }
 
-/// The lexemes of `ra,label`.
+/// Splits off the lexemes of `ra,label`.
 #[tactic(auto, unfolding(crate::specs::InsnParsing::branch_form))]
 fn branch_form(text: &[u8]) -> Result<(&[u8], &[u8]), LineFlaw>
     ensures { Yields (λ f. (f.0.now, f.1.now))
@@ -198,7 +198,7 @@ fn branch_form(text: &[u8]) -> Result<(&[u8], &[u8]), LineFlaw>
     Ok((ra, label))
 }
 
-/// A conditional branch, from the text behind its mnemonic.
+/// Parses a conditional branch, from the text after its mnemonic.
 #[tactic(auto, unfolding(crate::specs::InsnParsing::parsed_branch))]
 fn branch(alloc: Global, cond: Cond, text: &[u8]) -> Result<SrcInsn, Refused>
     ensures { YieldsOrMemory source_insn_view
@@ -210,7 +210,7 @@ fn branch(alloc: Global, cond: Cond, text: &[u8]) -> Result<SrcInsn, Refused>
     Ok(SrcInsn::Branch { cond, ra, label })
 }
 
-/// The label of `,label`.
+/// Splits off the label of `,label`.
 #[tactic(auto, unfolding(crate::specs::InsnParsing::label_form))]
 fn label_form(text: &[u8]) -> Result<&[u8], LineFlaw>
     ensures { Yields (λ l. l.now) (label_form (tokens_of source_class text.now)) result }
@@ -220,7 +220,7 @@ fn label_form(text: &[u8]) -> Result<&[u8], LineFlaw>
     last_label(label, rest)
 }
 
-/// The label of `br`, from its first lexeme and the text behind it.
+/// Parses the label of `br`, from its first lexeme and the text after it.
 fn br_by<'t>(first: &'t [u8], rest: &'t [u8]) -> Result<&'t [u8], LineFlaw>
     ensures { Yields (λ l. BrTo l.now) (br_by first.now (tokens_of source_class rest.now)) result }
 {
@@ -235,7 +235,7 @@ fn br_by<'t>(first: &'t [u8], rest: &'t [u8]) -> Result<&'t [u8], LineFlaw>
     }
 }
 
-/// `br`, from the text behind its mnemonic.
+/// Parses `br`, from the text after its mnemonic.
 #[tactic(auto, unfolding(crate::specs::InsnParsing::parsed_br))]
 fn br(alloc: Global, text: &[u8]) -> Result<SrcInsn, Refused>
     ensures { YieldsOrMemory source_insn_view (parsed_br (tokens_of source_class text.now)) result }
@@ -246,7 +246,7 @@ fn br(alloc: Global, text: &[u8]) -> Result<SrcInsn, Refused>
     Ok(SrcInsn::Br { label })
 }
 
-/// The lexemes of `$31,($26),n`.
+/// Splits off the lexemes of `$31,($26),n`.
 #[tactic(auto, unfolding(crate::specs::InsnParsing::return_form))]
 fn return_form(text: &[u8]) -> Result<(&[u8], &[u8], &[u8]), LineFlaw>
     ensures { Yields (λ f. (f.0.now, f.1.now, f.2.now))
@@ -265,7 +265,7 @@ fn return_form(text: &[u8]) -> Result<(&[u8], &[u8], &[u8]), LineFlaw>
     Ok((ra, rb, hint))
 }
 
-/// `ret`, from the text behind its mnemonic.
+/// Parses `ret`, from the text after its mnemonic.
 #[tactic(auto, unfolding(crate::specs::InsnParsing::parsed_return))]
 fn ret(text: &[u8]) -> Result<SrcInsn, LineFlaw>
     ensures { Yields source_insn_view (parsed_return (tokens_of source_class text.now)) result }
@@ -280,7 +280,7 @@ fn ret(text: &[u8]) -> Result<SrcInsn, LineFlaw>
     Ok(SrcInsn::Plain(Insn::Ret))
 }
 
-/// `nop`, from the text behind its mnemonic.
+/// Parses `nop`, from the text after its mnemonic.
 fn nop(text: &[u8]) -> Result<SrcInsn, LineFlaw>
     ensures { Yields source_insn_view (at_end nop (tokens_of source_class text.now)) result }
 {
@@ -295,7 +295,7 @@ fn nop(text: &[u8]) -> Result<SrcInsn, LineFlaw>
     }
 }
 
-/// The instruction of a mnemonic, from the text behind it.
+/// Parses the operands of a mnemonic, from the text after it.
 fn operands(alloc: Global, mnemonic: Mnemonic, text: &[u8]) -> Result<SrcInsn, Refused>
     ensures { YieldsOrMemory source_insn_view
         (parsed_operands mnemonic (tokens_of source_class text.now)) result }
@@ -310,7 +310,8 @@ fn operands(alloc: Global, mnemonic: Mnemonic, text: &[u8]) -> Result<SrcInsn, R
     }
 }
 
-/// The profile's instruction that the text spells, or the first thing that is wrong.
+/// Parses `text` as an instruction of `profile`. Errors: the first thing that is wrong, or out of
+/// memory.
 #[tactic(auto, unfolding(crate::specs::InsnParsing::parsed_insn))]
 pub fn read_insn(alloc: Global, text: &[u8], profile: Profile) -> Result<SrcInsn, Refused>
     ensures { YieldsOrMemory source_insn_view

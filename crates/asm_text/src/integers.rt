@@ -12,14 +12,14 @@ use crate::registers::register_at;
 use alpha_words::Rhs;
 use text_tokens::{Number, read_decimal, read_number};
 
-/// Which integer a lexeme is: how far it is from 0, and whether there is a `-`.
+/// The integer that a lexeme denotes, if any: its distance from 0, and whether there is a `-`.
 #[derive(Clone, Copy, Debug, PartialEq, Eq)]
 pub struct Integer {
     pub minus: bool,
     pub size: Number,
 }
 
-/// The integer that the lexeme is: decimal with an optional `-`, or `0x` and hexadecimal digits.
+/// Parses a lexeme as an integer: decimal with an optional `-`, or `0x` and hexadecimal digits.
 pub fn read_integer(lexeme: &[u8]) -> Integer
     ensures { IsIntegerAnswer (lexeme_integer lexeme.now) result.minus result.size }
 {
@@ -35,7 +35,7 @@ pub fn read_integer(lexeme: &[u8]) -> Integer
     }
 }
 
-/// Whether the lexeme is an integer.
+/// Checks whether the lexeme is an integer.
 pub fn is_integer(lexeme: &[u8]) -> bool
     ensures { result ≡ is_integer lexeme.now }
 {
@@ -45,7 +45,7 @@ pub fn is_integer(lexeme: &[u8]) -> bool
     }
 }
 
-/// The displacement, in its range.
+/// Returns the integer as a displacement, -32,768 to 32,767.
 fn in_displacement(integer: Integer) -> Result<i16, LineFlaw>
     ensures { (o : Option IntegerView) → IsIntegerAnswer o integer.minus integer.size
         → Yields (λ d. d) (in_displacement o) result }
@@ -69,7 +69,8 @@ fn in_displacement(integer: Integer) -> Result<i16, LineFlaw>
     }
 }
 
-/// The displacement that the lexeme is, and 0 for none.
+/// Parses a lexeme as a displacement, -32,768 to 32,767; without a lexeme the displacement is 0.
+/// Errors: `Operand` if the lexeme is no integer, `Range` if the integer is out of range.
 pub fn displacement(lexeme: Option<&[u8]>) -> Result<i16, LineFlaw>
     ensures { Yields (λ d. d) (displacement_of (option_map (λ w. w.now) lexeme.entry)) result }
 {
@@ -79,7 +80,7 @@ pub fn displacement(lexeme: Option<&[u8]>) -> Result<i16, LineFlaw>
     }
 }
 
-/// The number from 0 on and below the limit.
+/// Returns the integer as a number from 0 on and below `limit`.
 fn in_count(limit: u64, integer: Integer) -> Result<u64, LineFlaw>
     ensures { (o : Option IntegerView) → IsIntegerAnswer o integer.minus integer.size
         → Yields (λ n. n) (count_of limit o) result }
@@ -99,14 +100,16 @@ fn in_count(limit: u64, integer: Integer) -> Result<u64, LineFlaw>
     }
 }
 
-/// The number that the lexeme is, from 0 on and below the limit.
+/// Parses a lexeme as a number from 0 on and below `limit`. Errors: `Operand` if the lexeme is no
+/// integer, `Range` if the integer is out of range.
 pub fn count(limit: u64, lexeme: &[u8]) -> Result<u64, LineFlaw>
     ensures { Yields (λ n. n) (count_of limit (lexeme_integer lexeme.now)) result }
 {
     in_count(limit, read_integer(lexeme))
 }
 
-/// A number from 0 to 255 where the lexeme is an integer, else a register.
+/// Parses a second operand: a number from 0 to 255 if the lexeme is an integer, else a register.
+/// Errors: `Range` if the integer is out of range, `Register` if the lexeme is neither.
 pub fn rhs(lexeme: &[u8]) -> Result<Rhs, LineFlaw>
     ensures { Yields (λ r. r) (rhs_by lexeme.now (lexeme_integer lexeme.now)) result }
 {

@@ -4,7 +4,7 @@ ghost use Rattle.std.specs.Prelude.{◌≡◌};
 ghost use Rattle.asm_text.specs.Labels.{is_letter, is_letter_or_digit};
 ghost use Rattle.asm_text.specs.Labels.{are_letters_or_digits, is_label};
 
-/// A label: a letter or `_`, and then letters, digits and `_`.
+/// A label: a letter or `_`, followed by letters, digits and `_`.
 #[derive(Debug, PartialEq, Eq, Drop)]
 pub struct Label {
     /// The label's bytes.
@@ -34,7 +34,7 @@ fn are_letters_or_digits(lexeme: &[u8]) -> bool
     true
 }
 
-/// Whether the lexeme is a label.
+/// Checks whether the lexeme is a label.
 pub fn is_label(lexeme: &[u8]) -> bool
     ensures { result ≡ is_label lexeme.now }
 {

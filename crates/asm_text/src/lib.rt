@@ -1,12 +1,17 @@
-//! Sources: assembler text with labels and invariants.
+//! Parser of assembler sources with labels and loop invariants, reporting the first wrong line.
 //!
-//! The layer above uses that `read_source` gives the instructions, labels and invariants of the
-//! source that a text spells, or else the first line that is wrong. The grammar stands in
-//! `specs/Sources` (a whole source), `specs/Statements` (a line) and `specs/Insns` (an
-//! instruction), what a fault means in `specs/Faults` and `specs/Operands`, the tests in their
-//! order in `specs/SourceParsing` and `specs/InsnParsing`. Lines, which other texts have too, stand
-//! in text_lines. `mnemonic_named` says which mnemonic of a profile a lexeme is.
-//! The format is this project's own; the mnemonics are those of the Alpha Architecture Handbook.
+//! The layer above relies on this: `read_source` returns the instructions, labels and invariants of
+//! the source that a text spells, or else the first wrong line. `mnemonic_named` returns the
+//! mnemonic of a profile that a lexeme is.
+//!
+//! The definitions are in `specs/`:
+//!
+//! - `Sources`, `Statements` and `Insns`: the grammar of a source, of a line and of an instruction;
+//! - `Faults` and `Operands`: the meaning of errors;
+//! - `SourceParsing` and `InsnParsing`: the parser's tests, in their order.
+//!
+//! Lines, which other texts have too, are in text_lines. The format is this project's own; the
+//! mnemonics come from the Alpha Architecture Handbook.
 #![tactic(auto)]
 
 mod fault;

@@ -1,13 +1,13 @@
 //! The limits of a source.
 
-/// The most bytes of a source.
+/// The maximum length of a source, in bytes.
 pub const MAX_SOURCE: usize = 1_048_576;
 
-/// The most bytes of a line, without its LF and a CR before that.
+/// The maximum length of a line, in bytes, without its LF and a CR before that.
 pub const MAX_LINE: usize = 2_048;
 
-/// The most instructions.
+/// The maximum number of instructions of a source.
 pub const MAX_INSNS: usize = 1_024;
 
-/// The most invariants.
+/// The maximum number of invariants of a source.
 pub const MAX_INVS: usize = 256;

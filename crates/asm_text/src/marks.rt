@@ -7,7 +7,7 @@ ghost use Rattle.asm_text.specs.Marks.{source_class, same_mark};
 
 use text_tokens::{Class, Marks, Token, next_token};
 
-/// A token of one byte.
+/// A token of one byte: a piece of punctuation.
 #[derive(Clone, Copy, Debug, PartialEq, Eq)]
 pub enum Punct {
     /// `,`.
@@ -36,7 +36,7 @@ impl Marks for Punct {
     }
 }
 
-/// Whether the marks are the same.
+/// Checks whether two punctuation tokens are equal.
 pub fn is_mark(a: Punct, b: Punct) -> bool
     ensures { result ≡ same_mark a b }
 {
@@ -49,7 +49,7 @@ pub fn is_mark(a: Punct, b: Punct) -> bool
     }
 }
 
-/// The first token, and the text behind it; `None` where there are only blanks.
+/// Returns the first token and the text after it, or None if there are only blanks.
 pub fn front(text: &[u8]) -> Option<(Token<'_, Punct>, &[u8])>
     ensures exact { option_map (λ p. (token_view p.0, p.1.now)) result
         ≡ front_token source_class text.now }

@@ -25,7 +25,7 @@ pub enum Mnemonic {
     Nop,
 }
 
-/// The mnemonics that stand in no table of other crates, by opcode.
+/// The mnemonics that no table of other crates has, by opcode.
 const MNEMONICS: [Mnemonic; 11] = [
     Mnemonic::Nop,
     Mnemonic::Ret,
@@ -40,7 +40,7 @@ const MNEMONICS: [Mnemonic; 11] = [
     Mnemonic::Branch(Cond::Positive),
 ];
 
-/// The mnemonic of the branch that is taken on the condition.
+/// Returns the mnemonic of the branch that is taken on the condition.
 pub fn branch_mnemonic(cond: Cond) -> &'static str
     ensures { result.now ≡ branch_mnemonic cond }
 {
@@ -69,14 +69,14 @@ fn mnemonic_text(mnemonic: Mnemonic) -> &'static str
     }
 }
 
-/// Whether the mnemonic is this lexeme.
+/// Checks whether the lexeme is this mnemonic.
 fn is_mnemonic(mnemonic: Mnemonic, lexeme: &[u8]) -> bool
     ensures { result ≡ bytes_eq lexeme.now (mnemonic_text mnemonic) }
 {
     lexeme == mnemonic_text(mnemonic).as_bytes()
 }
 
-/// The one that the lexeme is of the mnemonics that stand in no table.
+/// Returns the mnemonic that the lexeme is, of those that no other table has.
 #[tactic(auto, unfolding(crate::specs::Mnemonics::other_mnemonic))]
 fn other_mnemonic(lexeme: &[u8]) -> Option<Mnemonic>
     ensures { result ≡ other_mnemonic lexeme.now }
@@ -87,7 +87,7 @@ fn other_mnemonic(lexeme: &[u8]) -> Option<Mnemonic>
         .find(|mnemonic| is_mnemonic(*mnemonic, lexeme))
 }
 
-/// Answers the profile's mnemonic that the lexeme is: None where it is none.
+/// Returns the mnemonic of `profile` that the lexeme is, or None if it is none.
 #[tactic(auto, unfolding(crate::specs::Mnemonics::mnemonic_of))]
 pub fn mnemonic_named(lexeme: &[u8], profile: Profile) -> Option<Mnemonic>
     ensures { result ≡ mnemonic_of profile lexeme.now }

@@ -1,4 +1,4 @@
-//! Reading a source, line by line.
+//! Parsing of a source, line by line.
 
 ghost use Rattle.std.specs.Prelude.{◌≡◌, Some, OnOk};
 ghost use Rattle.asm_text.specs.Statements.{AnInsn};
@@ -20,7 +20,7 @@ use std::alloc::Global;
 use std::collections::BTreeSet;
 use word_ops::Profile;
 
-/// What has been read, and the line of an invariant whose instruction is still to come.
+/// The source so far, and the line of an invariant whose instruction is still to come.
 #[derive(Drop)]
 pub struct Progress<'t> {
     pub source: Source,
@@ -29,7 +29,7 @@ pub struct Progress<'t> {
     pub known: BTreeSet<&'t [u8]>,
 }
 
-/// Nothing read yet.
+/// Returns the state before the first line.
 pub fn no_progress<'t>(alloc: Global) -> Progress<'t>
     ensures view { progress_view result ≡ no_progress }
     ensures sound { IsSoundProgress result }
@@ -99,7 +99,7 @@ fn take_inv(progress: &mut Progress<'_>, n: u32, form: Form) -> Result<(), Refus
     Ok(())
 }
 
-/// Takes the statement of line `n`, from the text behind its label.
+/// Takes the statement of line `n`, from the text after its label.
 fn take_statement(
     alloc: Global,
     progress: &mut Progress<'_>,
@@ -120,7 +120,7 @@ fn take_statement(
     }
 }
 
-/// Takes what stands before the comment of line `n`.
+/// Takes what precedes the comment of line `n`.
 fn take_body<'t>(
     alloc: Global,
     progress: &mut Progress<'t>,
@@ -167,7 +167,7 @@ fn take_line<'t>(
     take_body(alloc, progress, n, before_comment(line), profile, left)
 }
 
-/// Takes line `n`; a flaw is told with the line's number.
+/// Takes line `n`. Errors: `n` and what is wrong with the line, or out of memory.
 pub fn take_numbered<'t>(
     alloc: Global,
     progress: &mut Progress<'t>,
@@ -188,7 +188,10 @@ pub fn take_numbered<'t>(
     }
 }
 
-/// The source, where no line is left.
+/// Returns the source after the last line.
+///
+/// Errors: the line of an invariant that no instruction follows, or line 0 if there is no
+/// instruction.
 pub fn source_end(progress: Progress<'_>) -> Result<Source, LineFault>
     ensures { ParsesSource source_view (source_end (progress_view progress.entry)
         progress.entry.waiting) result }

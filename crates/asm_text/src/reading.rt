@@ -1,4 +1,4 @@
-//! Reading a source.
+//! Parsing of a source.
 
 ghost use Rattle.std.specs.Prelude.{◌≤◌, length, IfOk, IfErr};
 ghost use Rattle.asm_text.specs.declared.limits.TheConstants.{MAX_SOURCE};
@@ -13,7 +13,7 @@ use std::alloc::Global;
 use text_lines::split_line;
 use word_ops::Profile;
 
-/// The source that the text is parsed as, or the first fault.
+/// Parses the text as a source. Errors: the first wrong line, or out of memory.
 fn parse(alloc: Global, text: &[u8], profile: Profile, left: bool) -> Result<Source, LineFault>
     requires short { length text.now ≤ MAX_SOURCE }
     ensures { ParsesSource source_view (parsed_source profile left text.now) result }
@@ -33,14 +33,13 @@ fn parse(alloc: Global, text: &[u8], profile: Profile, left: bool) -> Result<Sou
     source_end(progress)
 }
 
-/// Parses `text` as a source of the profile: its instructions, labels and invariants. Where `left`
-/// is true invariants may name the steps that are left (`left`, see `formula_text::read_form`).
+/// Parses `text`, of at most `MAX_SOURCE` bytes, as a source of `profile`: its instructions, labels
+/// and invariants. If `left` is true, invariants may name the remaining steps (`left`, see
+/// `formula_text::read_form`).
 ///
 /// Errors: the first line that is wrong, with its number and why (`specs/Faults`); `Memory` says
-/// nothing of `text`. The grammar is this project's own (`specs/Sources`, `specs/Statements`,
+/// nothing about `text`. The grammar is this project's own (`specs/Sources`, `specs/Statements`,
 /// `specs/Insns`).
-///
-/// Asks that `text` has at most `MAX_SOURCE` bytes.
 pub fn read_source(
     alloc: Global,
     text: &[u8],

@@ -8,7 +8,7 @@ use crate::fault::LineFlaw;
 use alpha_words::Reg;
 use text_tokens::register;
 
-/// The register that the lexeme names.
+/// Returns the register that the lexeme names. Errors: `Register` if it names none.
 pub fn register_at(lexeme: &[u8]) -> Result<Reg, LineFlaw>
     ensures { Yields (λ r. r) (register_at lexeme.now) result }
 {
@@ -18,7 +18,7 @@ pub fn register_at(lexeme: &[u8]) -> Result<Reg, LineFlaw>
     }
 }
 
-/// Refuses a lexeme that doesn't name this register.
+/// Returns `number` if the lexeme names this register. Errors: `Register` if it doesn't.
 pub fn fixed_register(number: u32, lexeme: &[u8]) -> Result<u32, LineFlaw>
     ensures { Yields (λ r. r) (fixed_register number lexeme.now) result }
 {

@@ -1,4 +1,4 @@
-//! What a line says.
+//! Statements: what a line says.
 
 ghost use Rattle.std.specs.Prelude.{◌≡◌, IfOk};
 ghost use Rattle.std.specs.Option.{option_map};
@@ -18,14 +18,14 @@ use std::alloc::Global;
 use text_tokens::Token;
 use word_ops::Profile;
 
-/// What a line says behind its label.
+/// The statement of a line, after its label.
 #[derive(Drop)]
 pub enum Statement {
     /// Nothing.
     NoStatement,
     /// An instruction.
     Insn(SrcInsn),
-    /// An invariant of the next instruction.
+    /// An invariant for the next instruction.
     Inv(Form),
 }
 
@@ -35,7 +35,7 @@ fn is_printable(byte: u8) -> bool
     byte == b'\t' || (b' ' <= byte && byte <= b'~')
 }
 
-/// Whether each byte is a tab, or from blank to tilde.
+/// Checks whether each byte is a tab or in the range from blank to tilde.
 pub fn are_printable(line: &[u8]) -> bool
     ensures { result ≡ are_printable line.now }
 {
@@ -47,7 +47,7 @@ pub fn are_printable(line: &[u8]) -> bool
     true
 }
 
-/// What stands before `#`.
+/// Returns the part of a line before `#`.
 pub fn before_comment(line: &[u8]) -> &[u8]
     ensures { result.now ≡ before_comment line.now }
 {
@@ -59,7 +59,8 @@ pub fn before_comment(line: &[u8]) -> &[u8]
     line
 }
 
-/// The label at the front, if there is one, and the text behind its colon.
+/// Splits off the label at the front, and returns it with the text after its colon; None if there
+/// is no label.
 #[tactic(auto, unfolding(crate::specs::SourceParsing::label_split))]
 pub fn split_label(text: &[u8]) -> Option<(&[u8], &[u8])>
     ensures { option_map (λ p. (p.0.now, p.1.now)) result ≡ label_split text.now }
@@ -77,7 +78,7 @@ pub fn split_label(text: &[u8]) -> Option<(&[u8], &[u8])>
     }
 }
 
-/// The invariant that the text spells.
+/// Parses the text of an invariant.
 fn read_inv(alloc: Global, text: &[u8], profile: Profile, left: bool) -> Result<Statement, Refused>
     ensures { YieldsOrMemory statement_view
         (inv_or_flaw (parsed_form profile left text.now)) result }
@@ -89,7 +90,7 @@ fn read_inv(alloc: Global, text: &[u8], profile: Profile, left: bool) -> Result<
     }
 }
 
-/// The instruction that the text spells.
+/// Parses the text of an instruction.
 fn insn_statement(alloc: Global, text: &[u8], profile: Profile) -> Result<Statement, Refused>
     ensures { YieldsOrMemory statement_view (insn_statement profile text.now) result }
 {
@@ -97,7 +98,8 @@ fn insn_statement(alloc: Global, text: &[u8], profile: Profile) -> Result<Statem
     Ok(Statement::Insn(insn))
 }
 
-/// The statement of a line, from the text behind its label.
+/// Parses the statement of a line, from the text after its label. Errors: what is wrong with it, or
+/// out of memory.
 #[tactic(auto, unfolding(crate::specs::SourceParsing::parsed_statement))]
 pub fn read_statement(
     alloc: Global,

@@ -1,4 +1,4 @@
-//! What holds of the definitions, with nothing to run.
+//! Theorems about the definitions, with nothing to run.
 
 ghost use Rattle.std.specs.Prelude.{◌≡◌, ◌↔◌, ℕ, Bool, List, take, Ok, Err};
 ghost use Rattle.word_ops.specs.declared.Profile.{Profile};
@@ -12,10 +12,12 @@ ghost use Rattle.asm_text.specs.Sources.{Source, SpellsSource};
 ghost use Rattle.asm_text.specs.SourceParsing.{parsed_source};
 ghost use Rattle.asm_text.specs.Faults.{FailsAt, IsSourceFault, BeginsNoSource};
 
-/// For each profile, and whether invariants may name the steps that are left or not: tokens spell
-/// an instruction, and a text has lines and spells a source, exactly where it is parsed as that; a
-/// text has a fault exactly where parsing tells it, so it has one fault or spells one source; and
-/// no source begins with the lines up to one that fails.
+/// Proves that the parser and the grammar agree, for each profile, whether invariants may name the
+/// remaining steps or not.
+///
+/// Tokens spell an instruction, and a text has lines and spells a source, exactly if it parses as
+/// that. A text has an error exactly if the parser reports it, so it either has one error or spells
+/// one source. No source begins with the lines up to one that fails.
 pub fn laws()
     ensures insns { (p : Profile) (ts : List (Token Punct)) (i : SourceInsn)
         → SpellsInsn p i ts ↔ (parsed_insn p ts ≡ Ok i) }

@@ -1,4 +1,4 @@
-//! What is wrong with a text that spells no formula.
+//! Parse errors of formula texts.
 
 ghost use Rattle.std.specs.Prelude.{◌≡◌, ◌≤◌, length};
 ghost use Rattle.formula_text.specs.Names.{text_flaw_name};
@@ -6,29 +6,28 @@ ghost use Rattle.formula_text.specs.Names.{text_flaw_name};
 use std::alloc::{AllocError, AllocFailed};
 use thiserror::Error;
 
-/// What is wrong at a position of a text.
+/// A parse error at a position of a text.
 #[derive(Clone, Copy, Debug, PartialEq, Eq, Error)]
 pub enum TextFlaw {
-    /// A token that the grammar doesn't allow there, or the end of the text.
-    #[error("a token that may not stand there")]
+    /// The grammar doesn't allow the token, or the end of the text, at this position.
+    #[error("unexpected token or end of text")]
     Shape,
-    /// A lexeme in the place of an expression, a memory or a bound name that is none.
-    #[error("a name that may not stand there")]
+    /// A lexeme that is none of what is expected: an expression, a memory or a name to bind.
+    #[error("a name that is unknown or cannot be used here")]
     Name,
-    /// A lexeme in the place of an expression that begins with a digit and is no number below
-    /// 2^64.
-    #[error("no number below 2^64")]
+    /// An expression is expected, and the lexeme begins with a digit but is no number below 2^64.
+    #[error("a word that begins with a digit but is no number below 2^64")]
     Number,
-    /// A token behind the formula.
-    #[error("a token behind the formula")]
+    /// A token after the formula.
+    #[error("extra text after the formula")]
     Trailing,
 }
 
-/// The most bytes that the name of a kind has.
+/// The maximum length of a kind's name, in bytes.
 pub const MAX_KIND: usize = 8;
 
 impl TextFlaw {
-    /// The kind's name, of at most `MAX_KIND` bytes.
+    /// Returns the kind's name, of at most `MAX_KIND` bytes.
     pub fn name(self) -> &'static str
         ensures exact { result.now ≡ text_flaw_name self }
         ensures short { length result.now ≤ MAX_KIND }
@@ -42,24 +41,24 @@ impl TextFlaw {
     }
 }
 
-/// Why a text gives no formula.
+/// Why a text couldn't be parsed as a formula.
 #[derive(Clone, Copy, Debug, PartialEq, Eq, Error)]
 pub enum TextFault {
-    /// The position of the first token that is wrong, in bytes from 0, or of the end, and what is
-    /// wrong there.
-    #[error("at position {0}, {1}")]
+    /// The position of the first wrong token, in bytes from 0, or of the end of the text, and what
+    /// is wrong there.
+    #[error("at byte {0}: {1}")]
     At(usize, TextFlaw),
-    /// There was no memory for the formula; that says nothing of the text.
+    /// Out of memory; this says nothing about the text.
     #[error("out of memory")]
     Memory,
 }
 
-/// Why a token isn't taken.
+/// Why the parser rejects a token.
 #[derive(Clone, Copy, Debug, PartialEq, Eq)]
 pub enum TokenFault {
-    /// What is wrong with it.
+    /// The parse error.
     Flaw(TextFlaw),
-    /// There was no memory.
+    /// Out of memory.
     Memory,
 }
 

@@ -1,4 +1,4 @@
-//! Keywords, and what stands behind them.
+//! Keywords, and the sorts of the parts after them.
 
 ghost use Rattle.std.specs.Prelude.{◌≡◌, slice_get};
 ghost use Rattle.formula_text.specs.Keywords.{relation_text, keyword_text};
@@ -8,21 +8,21 @@ ghost use Rattle.formula_text.specs.Parsing.{same_sort};
 
 use word_ops::{Op, Profile, Rel, of_profile, op_keyword, op_of_keyword};
 
-/// What a part of a text stands for.
+/// The sort of a phrase: what a part of a text denotes.
 #[derive(Clone, Copy, Debug, PartialEq, Eq)]
 pub enum PhraseSort {
     /// A formula.
     Form,
-    /// A word.
+    /// An expression that denotes a word.
     Exp,
-    /// A memory.
+    /// An expression that denotes a memory.
     Mem,
 }
 
-/// What may stand first in parentheses.
+/// A keyword: what may come first in parentheses.
 #[derive(Clone, Copy, Debug, PartialEq, Eq)]
 pub enum Keyword {
-    /// A relation of two words.
+    /// A relation between two words.
     Rel(Rel),
     /// `rd`.
     Rd,
@@ -38,7 +38,7 @@ pub enum Keyword {
     All,
     /// `allm`.
     Allm,
-    /// An operator at two words.
+    /// An operator applied to two words.
     Oper(Op),
     /// `sel`.
     Sel,
@@ -46,7 +46,7 @@ pub enum Keyword {
     Upd,
 }
 
-/// The keywords that are no operators.
+/// The keywords that aren't operators.
 static KEYWORDS: [Keyword; 14] = [
     Keyword::Rel(Rel::Eq),
     Keyword::Rel(Rel::Ult),
@@ -76,7 +76,7 @@ fn relation_text(rel: Rel) -> &'static str
     }
 }
 
-/// The lexeme that the keyword is.
+/// Returns the lexeme of the keyword.
 pub fn keyword_text(keyword: Keyword) -> &'static str
     ensures { result.now ≡ keyword_text keyword }
 {
@@ -95,7 +95,7 @@ pub fn keyword_text(keyword: Keyword) -> &'static str
     }
 }
 
-/// What the parentheses stand for.
+/// Returns the sort of the parentheses that begin with the keyword.
 pub fn phrase_sort(keyword: Keyword) -> PhraseSort
     ensures { result ≡ phrase_sort keyword }
 {
@@ -106,7 +106,7 @@ pub fn phrase_sort(keyword: Keyword) -> PhraseSort
     }
 }
 
-/// The sort of the part behind `count` others, if there is one.
+/// Returns the sort of the keyword's part after `count` others, or None if it has no more parts.
 pub fn part_sort(keyword: Keyword, count: usize) -> Option<PhraseSort>
     ensures { result ≡ slice_get (part_sorts keyword) count }
 {
@@ -122,7 +122,7 @@ pub fn part_sort(keyword: Keyword, count: usize) -> Option<PhraseSort>
     }
 }
 
-/// The sort of the variable that is bound, if one is.
+/// Returns the sort of the variable that the keyword binds, or None if it binds none.
 pub fn binder_sort(keyword: Keyword) -> Option<PhraseSort>
     ensures { result ≡ binder_sort keyword }
 {
@@ -133,7 +133,7 @@ pub fn binder_sort(keyword: Keyword) -> Option<PhraseSort>
     }
 }
 
-/// Whether the sorts are the same.
+/// Checks whether two sorts are equal.
 pub fn is_sort(a: PhraseSort, b: PhraseSort) -> bool
     ensures { result ≡ same_sort a b }
 {
@@ -145,7 +145,7 @@ pub fn is_sort(a: PhraseSort, b: PhraseSort) -> bool
     }
 }
 
-/// The first of these keywords that the lexeme is.
+/// Returns the first of these keywords that the lexeme is, or None.
 fn keyword_in(keywords: &[Keyword], lexeme: &[u8]) -> Option<Keyword>
     ensures { result ≡ keyword_in keywords.now lexeme.now }
 {
@@ -157,7 +157,7 @@ fn keyword_in(keywords: &[Keyword], lexeme: &[u8]) -> Option<Keyword>
     None
 }
 
-/// The profile's keyword that the lexeme is.
+/// Returns the keyword of `profile` that the lexeme is, or None if it is none.
 #[tactic(auto, unfolding(crate::specs::Keywords::keyword_of, crate::specs::Keywords::keywords))]
 pub fn keyword_named(lexeme: &[u8], profile: Profile) -> Option<Keyword>
     ensures { result ≡ keyword_of profile lexeme.now }

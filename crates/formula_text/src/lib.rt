@@ -1,10 +1,11 @@
-//! Formulas as text.
+//! Concrete syntax of formulas: a parser that reports the first error, and a printer.
 //!
-//! The layers above use that `read_form` gives the formula that a text spells, or else the first
-//! fault with its position, and that what `print_form` prints spells the formula. The grammar, as
-//! a relation between text and formula, stands in `specs/Grammar`, the tests in their order in
-//! `specs/Parsing`, what is printed in `specs/Printing`. Tokens, registers and numbers, which serve
-//! other texts too, stand in text_tokens. The format is this project's own.
+//! The layers above rely on two functions. `read_form` returns the formula that a text spells, or
+//! else the first error with its position. `print_form` returns a text that spells the formula.
+//!
+//! The grammar, a relation between text and formula, is in `specs/Grammar`, the parser's tests in
+//! their order in `specs/Parsing`, and the printed text in `specs/Printing`. Tokens, registers and
+//! numbers, which other texts use too, are in text_tokens. The format is this project's own.
 #![tactic(auto)]
 
 mod fault;

@@ -25,7 +25,7 @@ fn are_lower_or_digits(lexeme: &[u8]) -> bool
     true
 }
 
-/// Whether the lexeme is a lower-case letter, and then lower-case letters and digits.
+/// Checks whether the lexeme is a lower-case letter, followed by lower-case letters and digits.
 fn is_identifier(lexeme: &[u8]) -> bool
     ensures { result ≡ is_identifier lexeme.now }
 {
@@ -35,15 +35,15 @@ fn is_identifier(lexeme: &[u8]) -> bool
     }
 }
 
-/// Whether the lexeme is the name of the steps that are left, where `left` allows it.
+/// Checks whether the lexeme names the remaining steps: it is `left`, and the flag allows that.
 pub fn is_left(lexeme: &[u8], left: bool) -> bool
     ensures { result ≡ is_left left lexeme.now }
 {
     lexeme == b"left".as_slice() && left
 }
 
-/// Whether the lexeme is a keyword of the profile, `tt`, `ff` or `m`, or names the steps that are
-/// left.
+/// Checks whether the lexeme is a keyword of the profile, `tt`, `ff` or `m`, or names the remaining
+/// steps.
 fn is_reserved(lexeme: &[u8], profile: Profile, left: bool) -> bool
     ensures { result ≡ is_reserved profile left lexeme.now }
 {
@@ -54,7 +54,8 @@ fn is_reserved(lexeme: &[u8], profile: Profile, left: bool) -> bool
         || is_left(lexeme, left)
 }
 
-/// Whether the lexeme may be bound under the profile.
+/// Checks whether a binder may bind the lexeme under `profile`: it is an identifier, names no
+/// register and isn't reserved. If `left` is true, `left` is reserved too.
 #[tactic(auto, unfolding(crate::specs::Bindings::is_name))]
 pub fn is_name(lexeme: &[u8], profile: Profile, left: bool) -> bool
     ensures { result ≡ is_name profile left lexeme.now }

@@ -1,4 +1,4 @@
-//! Parsing a text as a formula, a token at a time.
+//! A parser of formulas that takes one token at a time.
 
 ghost use Rattle.std.specs.Prelude.{◌≡◌, ◌∷◌, [], Ok, IfOk, IfErr};
 ghost use Rattle.formula_tree.specs.Scope.{IsWithin};
@@ -30,7 +30,7 @@ use text_tokens::{
 };
 use word_ops::Profile;
 
-/// Parentheses that are open: their keyword, the name that they bind, if they bind one, and the
+/// A pair of parentheses that is still open: its keyword, the name that it binds, if any, and the
 /// parts so far.
 #[derive(Drop)]
 pub struct Frame<'t> {
@@ -42,17 +42,17 @@ pub struct Frame<'t> {
 /// What may come next.
 #[derive(Drop)]
 pub enum Expected {
-    /// A part of the nearest parentheses, or their end.
+    /// A part of the innermost open parentheses, or their end.
     Inside,
-    /// A keyword of parentheses of this sort.
+    /// The keyword of parentheses of this sort.
     Opened(PhraseSort),
-    /// The name that is bound.
+    /// The name to bind.
     Binding(Keyword),
-    /// Nothing: this is the formula.
+    /// Nothing: the formula is complete.
     Whole(Form),
 }
 
-/// The sort of the next part, if one may stand here.
+/// Returns the sort of the next part, or None if no part may follow.
 #[tactic(auto, unfolding(crate::specs::Inside::Views::frames_view))]
 fn awaited_sort(frames: &[Frame<'_>]) -> Option<PhraseSort>
     ensures { result ≡ awaited_sort (frames_view frames.now) }
@@ -63,7 +63,7 @@ fn awaited_sort(frames: &[Frame<'_>]) -> Option<PhraseSort>
     }
 }
 
-/// The nearest binding of a name: its number and sort.
+/// Returns the nearest binding of a name, its number and its sort, or None.
 fn nearest_binding(frames: &[Frame<'_>], name: &[u8]) -> Option<(usize, PhraseSort)>
     ensures { result ≡ nearest_binding (bindings_of (frames_view frames.now)) name.now }
 {
@@ -103,8 +103,8 @@ fn number_phrase(lexeme: &[u8]) -> Result<Phrase, TokenFault>
     }
 }
 
-/// A bound name in the place of an expression. Its number is below 2^32, or memory wouldn't hold
-/// its binders.
+/// Parses a bound name as an expression. Its number is below 2^32, or its binders would not fit in
+/// memory.
 fn variable_exp(frames: &[Frame<'_>], name: &[u8]) -> Result<Phrase, TokenFault>
     ensures { IsLexemeAnswer phrase_view
         (variable_exp (nearest_binding (bindings_of (frames_view frames.now)) name.now)) result }
@@ -118,7 +118,7 @@ fn variable_exp(frames: &[Frame<'_>], name: &[u8]) -> Result<Phrase, TokenFault>
     }
 }
 
-/// A bound name in the place of a memory.
+/// Parses a bound name as a memory.
 fn variable_mem(frames: &[Frame<'_>], name: &[u8]) -> Result<Phrase, TokenFault>
     ensures { IsLexemeAnswer phrase_view
         (variable_mem (nearest_binding (bindings_of (frames_view frames.now)) name.now)) result }
@@ -132,7 +132,7 @@ fn variable_mem(frames: &[Frame<'_>], name: &[u8]) -> Result<Phrase, TokenFault>
     }
 }
 
-/// The steps that are left, where `left` allows their name, else a bound name.
+/// Parses the remaining steps, if `left` allows their name, else a bound name.
 fn named_exp(frames: &[Frame<'_>], name: &[u8], left: bool) -> Result<Phrase, TokenFault>
     ensures { IsLexemeAnswer phrase_view
         (named_exp left (bindings_of (frames_view frames.now)) name.now) result }
@@ -166,7 +166,7 @@ fn mem_lexeme(frames: &[Frame<'_>], lexeme: &[u8]) -> Result<Phrase, TokenFault>
     variable_mem(frames, lexeme)
 }
 
-/// What the lexeme stands for in the place of this sort.
+/// Parses a lexeme as an expression of this sort.
 #[tactic(auto, unfolding(crate::specs::Parsing::lexeme_phrase))]
 fn lexeme_phrase(
     frames: &[Frame<'_>],
@@ -184,7 +184,7 @@ fn lexeme_phrase(
     }
 }
 
-/// The formula that no parentheses stand around.
+/// Returns the phrase outside all parentheses as the whole formula. Errors: `Shape` if it is none.
 fn whole_form(phrase: Phrase) -> Result<Expected, TokenFault>
     ensures { Moves (whole_form (phrase_view phrase)) [] result }
 {
@@ -197,7 +197,7 @@ fn whole_form(phrase: Phrase) -> Result<Expected, TokenFault>
     }
 }
 
-/// Gives a phrase to the nearest parentheses.
+/// Adds a phrase to the innermost open parentheses.
 #[tactic(auto, using(crate::proofs::Stacks::frames_push, crate::proofs::Stacks::frames_none, crate::proofs::Stacks::parts_push), unfolding(crate::specs::Parsing::put_phrase))]
 fn put_phrase<'t>(frames: &mut Vec<Frame<'t>>, phrase: Phrase) -> Result<Expected, TokenFault>
     ensures { Moves (put_phrase (phrase_view phrase) (frames_view frames.old.items))
@@ -222,7 +222,7 @@ fn put_phrase<'t>(frames: &mut Vec<Frame<'t>>, phrase: Phrase) -> Result<Expecte
     }
 }
 
-/// Ends the nearest parentheses.
+/// Closes the innermost open parentheses.
 #[tactic(auto, using(crate::proofs::Stacks::frames_push, crate::proofs::Stacks::frames_none))]
 fn close_group<'t>(alloc: Global, frames: &mut Vec<Frame<'t>>) -> Result<Expected, TokenFault>
     ensures { Moves (close_group (frames_view frames.old.items))
@@ -244,7 +244,7 @@ fn close_group<'t>(alloc: Global, frames: &mut Vec<Frame<'t>>) -> Result<Expecte
     }
 }
 
-/// A lexeme in the place of a part.
+/// Takes a lexeme where a part is expected.
 fn inside_lexeme<'t>(
     frames: &mut Vec<Frame<'t>>,
     lexeme: &[u8],
@@ -396,7 +396,7 @@ fn step_at<'t>(
     }
 }
 
-/// The formula, where all tokens were taken.
+/// Returns the formula after all tokens.
 fn parse_end(expected: Expected, end: usize) -> Result<Form, TextFault>
     ensures { Parses form_view (parse_end end (expected_view expected)) result }
 {
@@ -408,7 +408,7 @@ fn parse_end(expected: Expected, end: usize) -> Result<Form, TextFault>
     }
 }
 
-/// The formula that the text is parsed as, or the first fault.
+/// Parses the text as a formula. Errors: the first parse error, or out of memory.
 fn parse(alloc: Global, text: &[u8], profile: Profile, left: bool) -> Result<Form, TextFault>
     ensures { Parses form_view (parsed_form profile left text.now) result }
 {
@@ -426,14 +426,16 @@ fn parse(alloc: Global, text: &[u8], profile: Profile, left: bool) -> Result<For
 }
 
 /// Parses `text` as a formula over the operators of `profile`, in which all variables are bound.
-/// The words of operators that the profile lacks are no keywords, so they may be bound. Where
-/// `left` is true the word `left` is the steps that are left (`Exp::Left`) and may not be bound;
-/// else it is a name like others.
 ///
-/// Errors: the first token from the left that may not stand where it stands, or the end, with its
-/// position in bytes; `Memory` says nothing of `text`. The grammar is this project's own
-/// (`specs/Grammar`). It recurses only where it lets a formula go: texts of formulas that are some
-/// 20,000 high take 8 MiB of stack.
+/// Keywords of operators that the profile lacks are ordinary names, so they may be bound. If `left`
+/// is true the word `left` denotes the remaining steps (`Exp::Left`) and may not be bound; else it
+/// is an ordinary name.
+///
+/// Errors: the leftmost token that the grammar doesn't allow at its place, or the end, with its
+/// position in bytes; `Memory` says nothing about `text`.
+///
+/// The grammar is this project's own (`specs/Grammar`). Recursion happens only when a formula is
+/// dropped: texts of formulas some 20,000 high take 8 MiB of stack.
 pub fn read_form(
     alloc: Global,
     text: &[u8],

@@ -1,4 +1,4 @@
-//! What parentheses stand for.
+//! What parentheses denote.
 
 ghost use Rattle.std.specs.Prelude.{◌≡◌, [], ◌∷◌, map, IfOk, None};
 ghost use Rattle.std.specs.Option.{option_map};
@@ -10,7 +10,7 @@ use crate::keywords::Keyword;
 use formula_tree::{Exp, Form, MemExp};
 use std::alloc::{AllocError, Global};
 
-/// What a lexeme or a pair of parentheses stands for.
+/// What a lexeme or a pair of parentheses denotes.
 #[derive(Drop)]
 pub enum Phrase {
     Form(Form),
@@ -127,7 +127,7 @@ fn of_mem_two_exps(
     }
 }
 
-/// What they stand for with one part.
+/// Returns the phrase of a keyword with one part.
 fn of_one(alloc: Global, keyword: Keyword, part: Phrase) -> Result<Option<Phrase>, AllocError>
     ensures { IfOk result (λ p. option_map phrase_view p
         ≡ group_phrase keyword (phrase_view part ∷ [])) }
@@ -139,7 +139,7 @@ fn of_one(alloc: Global, keyword: Keyword, part: Phrase) -> Result<Option<Phrase
     }
 }
 
-/// Nothing: no keyword has these two parts.
+/// Drops two parts that no keyword has, and returns None.
 fn neither<A: Drop, B: Drop>(a: A, b: B) -> Option<Phrase>
     ensures { result ≡ None }
 {
@@ -148,7 +148,7 @@ fn neither<A: Drop, B: Drop>(a: A, b: B) -> Option<Phrase>
     None
 }
 
-/// With two parts.
+/// Returns the phrase of a keyword with two parts.
 fn of_two(
     alloc: Global,
     keyword: Keyword,
@@ -177,7 +177,8 @@ fn of_two(
     }
 }
 
-/// With three, the first of which is a memory and the second a word.
+/// Returns the phrase of a keyword with three parts, of which the first is a memory and the second
+/// a word.
 fn of_mem_exp_and(
     alloc: Global,
     keyword: Keyword,
@@ -205,7 +206,7 @@ fn of_mem_exp_and(
     }
 }
 
-/// With three, the first of which is a memory.
+/// Returns the phrase of a keyword with three parts, of which the first is a memory.
 fn of_mem_and_two(
     alloc: Global,
     keyword: Keyword,
@@ -233,7 +234,7 @@ fn of_mem_and_two(
     }
 }
 
-/// With three.
+/// Returns the phrase of a keyword with three parts.
 #[tactic(auto, using(crate::proofs::Groups::form_of_three, crate::proofs::Groups::exp_of_three))]
 fn of_three(
     alloc: Global,
@@ -262,8 +263,8 @@ fn of_three(
     }
 }
 
-/// What parentheses with this keyword stand for, where these are its parts. Fails only for want of
-/// memory.
+/// Returns what parentheses with this keyword and these parts denote, or None if the keyword
+/// doesn't take these parts. Errors: out of memory.
 pub fn group_phrase(
     alloc: Global,
     keyword: Keyword,

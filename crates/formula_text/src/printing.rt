@@ -1,4 +1,4 @@
-//! Printing a formula.
+//! A printer of formulas.
 
 ghost use Rattle.std.specs.Prelude.{◌≡◌, ◌+◌, ◌<◌, ◌^◌, suc, ◌++◌, ◌∷◌, [], Ok, Bool, true};
 ghost use Rattle.std.specs.Prelude.{OnOk, IfOk, decimal};
@@ -25,7 +25,7 @@ fn push_number(out: &mut Vec<u8>, n: u64) -> Result<(), AllocError>
     out.extend_from_slice(buffer.format(n).as_bytes())
 }
 
-/// The name of the binder that so many others stand around.
+/// Appends the name of the binder that `depth` others enclose.
 fn push_name(out: &mut Vec<u8>, depth: u64) -> Result<(), AllocError>
     ensures { OnOk result (out.new.items ≡ out.old.items ++ name_of depth) }
 {
@@ -74,7 +74,7 @@ fn push_mem_part(out: &mut Vec<u8>, depth: u64, mem: &MemExp) -> Result<(), Allo
     push_mem(out, depth, mem)
 }
 
-/// Prints an expression under so many binders.
+/// Appends an expression that `depth` binders enclose.
 #[cycle(expressions)]
 fn push_exp(out: &mut Vec<u8>, depth: u64, exp: &Exp) -> Result<(), AllocError>
     ensures { OnOk result (out.new.items ≡ out.old.items ++ exp_text depth (exp_view exp.now)) }
@@ -100,7 +100,7 @@ fn push_exp(out: &mut Vec<u8>, depth: u64, exp: &Exp) -> Result<(), AllocError>
     }
 }
 
-/// Prints a memory under so many binders.
+/// Appends a memory that `depth` binders enclose.
 #[cycle(expressions)]
 fn push_mem(out: &mut Vec<u8>, depth: u64, mem: &MemExp) -> Result<(), AllocError>
     ensures { OnOk result (out.new.items ≡ out.old.items ++ mem_text depth (mem_exp_view mem.now)) }
@@ -120,7 +120,7 @@ fn push_mem(out: &mut Vec<u8>, depth: u64, mem: &MemExp) -> Result<(), AllocErro
     }
 }
 
-/// What stands before the part of a binder.
+/// Appends what comes before the body of a binder.
 fn push_binding(out: &mut Vec<u8>, depth: u64, keyword: Keyword) -> Result<(), AllocError>
     ensures { OnOk result (out.new.items
         ≡ out.old.items ++ (40 ∷ (keyword_text keyword ++ (32 ∷ name_of depth)))) }
@@ -130,7 +130,7 @@ fn push_binding(out: &mut Vec<u8>, depth: u64, keyword: Keyword) -> Result<(), A
     push_name(out, depth)
 }
 
-/// One binder more. Memory doesn't hold 2^64 of them.
+/// Returns `depth` plus one. Errors: out of memory, at 2^64 binders, which memory can't hold.
 fn deeper(depth: u64) -> Result<u64, AllocError>
     ensures { IfOk result (λ d. d ≡ suc depth) }
 {
@@ -150,7 +150,7 @@ fn push_form_part(out: &mut Vec<u8>, depth: u64, form: &Form) -> Result<(), Allo
     push_form(out, depth, form)
 }
 
-/// Prints what an address is used for.
+/// Appends an access right with its address.
 fn push_access(
     out: &mut Vec<u8>,
     depth: u64,
@@ -165,7 +165,7 @@ fn push_access(
     push_end(out)
 }
 
-/// Prints a connective and the first formula under it.
+/// Appends a connective and its first formula.
 #[cycle(formulas)]
 fn push_first(
     out: &mut Vec<u8>,
@@ -181,7 +181,7 @@ fn push_first(
     push_form_part(out, depth, form)
 }
 
-/// Prints the last formula under a connective or a quantifier.
+/// Appends the last formula of a connective or a quantifier.
 #[cycle(formulas)]
 fn push_last_form(out: &mut Vec<u8>, depth: u64, form: &Form) -> Result<(), AllocError>
     ensures text { OnOk result (out.new.items
@@ -192,7 +192,7 @@ fn push_last_form(out: &mut Vec<u8>, depth: u64, form: &Form) -> Result<(), Allo
     push_end(out)
 }
 
-/// Prints a quantifier over a formula.
+/// Appends a quantifier with its formula.
 #[cycle(formulas)]
 fn push_bound(
     out: &mut Vec<u8>,
@@ -209,7 +209,7 @@ fn push_bound(
     push_last_form(out, under, body)
 }
 
-/// Prints a formula under so many binders.
+/// Appends a formula that `depth` binders enclose.
 #[cycle(formulas)]
 fn push_form(out: &mut Vec<u8>, depth: u64, form: &Form) -> Result<(), AllocError>
     ensures text { OnOk result (out.new.items
@@ -243,13 +243,13 @@ fn push_form(out: &mut Vec<u8>, depth: u64, form: &Form) -> Result<(), AllocErro
     }
 }
 
-/// The text of `form`: one blank between parts, decimal numbers, registers as `r` and their
-/// number, `left` for the steps that are left, and bound names x0, x1, .. from the outermost. Fails
-/// only for want of memory.
+/// Returns the text of `form`. It has one blank between parts, decimal numbers, registers as `r`
+/// and their number, `left` for the remaining steps, and bound names x0, x1, .. from the outermost.
 ///
-/// The text is read as `form` under each profile that has its operators, where each bound variable
-/// of `form` has its binder, of its sort, and registers are below 32; where `form` names the steps
-/// that are left, only with the flag that allows their name.
+/// The text parses as `form` under each profile that has its operators. This holds if each bound
+/// variable of `form` has its binder, of its sort, and registers are below 32. If `form` names the
+/// remaining steps, the text parses only with the flag that allows their name. Errors: out of
+/// memory.
 #[tactic(auto, using(crate::proofs::Printed::print_spells, crate::proofs::Joined::spelled_parsed))]
 pub fn print_form(alloc: Global, form: &Form) -> Result<Vec<u8>, AllocError>
     ensures exact { IfOk result (λ v. v.items ≡ form_text 0 (form_view form.now)) }

@@ -1,4 +1,4 @@
-//! What holds of the definitions, with nothing to run.
+//! Theorems about the definitions, with nothing to run.
 
 ghost use Rattle.std.specs.Prelude.{◌≡◌, ◌↔◌, ◌<◌, ◌^◌, ℕ, Bool, true, List, [], Ok, Err};
 ghost use Rattle.word_ops.specs.declared.Profile.{Profile};
@@ -13,11 +13,13 @@ ghost use Rattle.formula_text.specs.Grammar.{Spells};
 ghost use Rattle.formula_text.specs.Parsing.{parsed_form};
 ghost use Rattle.formula_text.specs.Printing.{form_text};
 
-/// For each profile, and whether the steps that are left may be named or not: a text spells a
-/// formula exactly where it is parsed as it, so it spells one at most; all variables of what is
-/// spelled are bound, it names the steps that are left only where that is allowed, and its
-/// operators are the profile's; a fault stands at the first token with which no formula goes on;
-/// and what is printed of such a formula spells it.
+/// Proves that the parser and the grammar agree, for each profile, with the remaining steps
+/// nameable or not.
+///
+/// A text spells a formula exactly if it parses as that formula, so it spells at most one. All
+/// variables of a spelled formula are bound, it names the remaining steps only if that is allowed,
+/// and its operators are the profile's. An error is at the first token with which no formula
+/// continues. The printed text of such a formula spells it.
 pub fn laws()
     ensures parsed { (p : Profile) (left : Bool) (text : List ℕ) (f : Form) →
         Spells p left text f ↔ (parsed_form p left text ≡ Ok f) }

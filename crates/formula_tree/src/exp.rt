@@ -1,4 +1,4 @@
-//! Expressions: words and memories.
+//! Expressions that denote words and memories.
 
 ghost use Rattle.std.specs.Prelude.{◌≡◌, IfOk, ◌<◌, ◌^◌};
 ghost use Rattle.formula_tree.specs.Formulas.{EOp, ESel, MUpd, shift_exp, shift_mem};
@@ -11,38 +11,38 @@ ghost use Rattle.formula_tree.specs.Views.{exp_view, mem_exp_view, substitution_
 use std::alloc::{AllocError, Global};
 use word_ops::Op;
 
-/// A word of 64 bits.
+/// An expression that denotes a 64-bit word.
 #[cycle(exp)]
 #[derive(Debug, Drop, PartialEq, Eq)]
 pub enum Exp {
-    /// The register of this number, 0 to 31; register 31 is 0.
+    /// The register with this number, 0 to 31; register 31 is 0.
     Reg(u8),
-    /// The steps that are left.
+    /// The number of remaining steps.
     Left,
-    /// A bound variable by its number: 0 is the nearest binder's, words and memories counted
-    /// together.
+    /// A bound variable by its de Bruijn index: 0 is the innermost binder's, with words and
+    /// memories counted together.
     Var(u32),
-    /// This word.
+    /// A literal word.
     Lit(u64),
-    /// What the operator gives of two words.
+    /// The operator applied to two words.
     Oper(Op, Box<Exp>, Box<Exp>),
-    /// What the memory has at the address.
+    /// The word of the memory at the address.
     Sel(Box<MemExp>, Box<Exp>),
 }
 
-/// A memory, from words to words.
+/// An expression that denotes a memory, a map from words to words.
 #[cycle(exp)]
 #[derive(Debug, Drop, PartialEq, Eq)]
 pub enum MemExp {
-    /// The memory m.
+    /// The machine's memory m.
     Mem,
-    /// A bound variable by its number, counted as in `Exp`.
+    /// A bound variable by its de Bruijn index, counted as in `Exp`.
     Var(u32),
-    /// The memory after a store, at the address, of the word.
+    /// The memory after a store of the word (last) at the address.
     Upd(Box<MemExp>, Box<Exp>, Box<Exp>),
 }
 
-/// The number of a variable where `by` binders more stand outside the `from` nearest.
+/// Returns the index of a variable after `by` binders are added outside the `from` innermost.
 #[tactic(auto, using(crate::proofs::Raising::raise_below, crate::proofs::Raising::raise_past))]
 fn raised(number: u32, by: u32, from: u64) -> u32
     requires { raise by from number < 2 ^ 32 }
@@ -56,14 +56,14 @@ fn raised(number: u32, by: u32, from: u64) -> u32
 }
 
 impl Exp {
-    /// The operator at two expressions. Fails only for want of memory.
+    /// Creates the expression that applies `op` to `a` and `b`. Errors: out of memory.
     pub fn oper(alloc: Global, op: Op, a: Exp, b: Exp) -> Result<Exp, AllocError>
         ensures exact { IfOk result (λ e. exp_view e ≡ EOp op (exp_view a) (exp_view b)) }
     {
         Ok(Exp::Oper(op, Box::new(alloc, a)?, Box::new(alloc, b)?))
     }
 
-    /// What the memory has at the address. Fails only for want of memory.
+    /// Creates the expression for the word of `memory` at `address`. Errors: out of memory.
     pub fn sel(alloc: Global, memory: MemExp, address: Exp) -> Result<Exp, AllocError>
         ensures exact { IfOk result (λ e. exp_view e ≡ ESel (mem_exp_view memory)
             (exp_view address)) }
@@ -71,7 +71,7 @@ impl Exp {
         Ok(Exp::Sel(Box::new(alloc, memory)?, Box::new(alloc, address)?))
     }
 
-    /// The same expression. Fails only for want of memory.
+    /// Copies the expression. Errors: out of memory.
     #[cycle(copy)]
     pub(crate) fn copy(&self, alloc: Global) -> Result<Exp, AllocError>
         ensures exact { IfOk result (λ e. exp_view e ≡ exp_view self.now) }
@@ -86,8 +86,8 @@ impl Exp {
         }
     }
 
-    /// The expression where `by` binders more stand outside the `from` nearest. Fails only for
-    /// want of memory.
+    /// Returns the expression with `by` binders added outside the `from` innermost. Errors: out of
+    /// memory.
     #[cycle(shift)]
     pub(crate) fn shift_at(&self, alloc: Global, by: u32, from: u64) -> Result<Exp, AllocError>
         requires room { HasRoomExp by from (exp_view self.now) }
@@ -109,9 +109,9 @@ impl Exp {
         }
     }
 
-    /// The expression with `regs` for r0 to r30 and, where it has one more, for the steps that are
-    /// left, and `memory` for m, which stand outside `depth` binders; register 31 becomes 0. Fails
-    /// only for want of memory.
+    /// Substitutes `regs` for r0 to r30, `memory` for m and, if `regs` has one more, the last for
+    /// the remaining steps. Registers and memory are expressions outside `depth` binders; register
+    /// 31 becomes 0. Errors: out of memory.
     #[cycle(subst)]
     pub(crate) fn subst_at(
         &self,
@@ -147,8 +147,8 @@ impl Exp {
         }
     }
 
-    /// The height: 1 without parts, else one more than the highest part; 4,294,967,295 where that
-    /// is greater.
+    /// Returns the height: 1 for an expression without parts, else one more than the highest
+    /// part's; 4,294,967,295 if it is greater than that.
     #[cycle(height)]
     pub(crate) fn height(&self) -> u32
         ensures exact { result ≡ capped (exp_height (exp_view self.now)) }
@@ -162,7 +162,8 @@ impl Exp {
 }
 
 impl MemExp {
-    /// The memory after a store, at the address, of the word. Fails only for want of memory.
+    /// Creates the expression for `memory` after a store of `word` at `address`. Errors: out of
+    /// memory.
     pub fn upd(alloc: Global, memory: MemExp, address: Exp, word: Exp) -> Result<MemExp, AllocError>
         ensures exact { IfOk result (λ m. mem_exp_view m ≡ MUpd (mem_exp_view memory)
             (exp_view address) (exp_view word)) }
@@ -174,7 +175,7 @@ impl MemExp {
         ))
     }
 
-    /// The same memory. Fails only for want of memory.
+    /// Copies the memory expression. Errors: out of memory.
     #[cycle(copy)]
     pub(crate) fn copy(&self, alloc: Global) -> Result<MemExp, AllocError>
         ensures exact { IfOk result (λ m. mem_exp_view m ≡ mem_exp_view self.now) }
@@ -189,8 +190,8 @@ impl MemExp {
         }
     }
 
-    /// The memory where `by` binders more stand outside the `from` nearest. Fails only for want
-    /// of memory.
+    /// Returns the memory expression with `by` binders added outside the `from` innermost. Errors:
+    /// out of memory.
     #[cycle(shift)]
     pub(crate) fn shift_at(&self, alloc: Global, by: u32, from: u64) -> Result<MemExp, AllocError>
         requires room { HasRoomMem by from (mem_exp_view self.now) }
@@ -208,7 +209,8 @@ impl MemExp {
         }
     }
 
-    /// The memory with `regs` and `memory` put, as in an expression.
+    /// Substitutes `regs` and `memory` in the memory expression, as `Exp::subst_at` does. Errors:
+    /// out of memory.
     #[cycle(subst)]
     pub(crate) fn subst_at(
         &self,
@@ -237,7 +239,7 @@ impl MemExp {
         }
     }
 
-    /// The height, as that of an expression.
+    /// Returns the height, computed as an expression's: 4,294,967,295 if it is greater than that.
     #[cycle(height)]
     pub(crate) fn height(&self) -> u32
         ensures exact { result ≡ capped (mem_height (mem_exp_view self.now)) }

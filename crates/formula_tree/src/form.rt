@@ -11,32 +11,32 @@ use crate::exp::{Exp, MemExp};
 use std::alloc::{AllocError, Global};
 use word_ops::Rel;
 
-/// A formula.
+/// A formula of first-order logic over words and memories.
 #[derive(Debug, Drop, PartialEq, Eq)]
 pub enum Form {
     /// True.
     True,
     /// False.
     False,
-    /// The relation holds of two words.
+    /// The relation holds between two words.
     Rel(Rel, Exp, Exp),
-    /// The address may be loaded.
+    /// The address is readable.
     Rd(Exp),
-    /// The address may be stored.
+    /// The address is writable.
     Wr(Exp),
-    /// Both hold.
+    /// Both formulas hold.
     And(Box<Form>, Box<Form>),
-    /// They aren't both false.
+    /// The formulas aren't both false.
     Or(Box<Form>, Box<Form>),
-    /// The second holds where the first does.
+    /// The second formula holds if the first does.
     Imp(Box<Form>, Box<Form>),
-    /// It holds for all words, which its variable 0 is.
+    /// The formula holds for every word as its variable 0.
     All(Box<Form>),
-    /// It holds for all memories, which its variable 0 is.
+    /// The formula holds for every memory as its variable 0.
     Allm(Box<Form>),
 }
 
-/// The relation of two words, if the second was made.
+/// Creates the relation of two words, if the second was made.
 fn rel_made(rel: Rel, a: Exp, b: Result<Exp, AllocError>) -> Result<Form, AllocError>
     ensures made { IfOk result (λ f. IsOkAnd b (λ e.
         form_view f ≡ FRel rel (exp_view a) (exp_view e))) }
@@ -50,7 +50,7 @@ fn rel_made(rel: Rel, a: Exp, b: Result<Exp, AllocError>) -> Result<Form, AllocE
     }
 }
 
-/// Both formulas, if the second was made.
+/// Creates the conjunction of two formulas, if the second was made.
 fn and_made(alloc: Global, a: Form, b: Result<Form, AllocError>) -> Result<Form, AllocError>
     ensures made { IfOk result (λ f. IsOkAnd b (λ g.
         form_view f ≡ FAnd (form_view a) (form_view g))) }
@@ -64,7 +64,7 @@ fn and_made(alloc: Global, a: Form, b: Result<Form, AllocError>) -> Result<Form,
     }
 }
 
-/// One of the formulas, if the second was made.
+/// Creates the disjunction of two formulas, if the second was made.
 fn or_made(alloc: Global, a: Form, b: Result<Form, AllocError>) -> Result<Form, AllocError>
     ensures made { IfOk result (λ f. IsOkAnd b (λ g.
         form_view f ≡ FOr (form_view a) (form_view g))) }
@@ -78,7 +78,7 @@ fn or_made(alloc: Global, a: Form, b: Result<Form, AllocError>) -> Result<Form, 
     }
 }
 
-/// The second formula under the first, if the second was made.
+/// Creates the implication between two formulas, if the second was made.
 fn imp_made(alloc: Global, a: Form, b: Result<Form, AllocError>) -> Result<Form, AllocError>
     ensures made { IfOk result (λ f. IsOkAnd b (λ g.
         form_view f ≡ FImp (form_view a) (form_view g))) }
@@ -93,42 +93,42 @@ fn imp_made(alloc: Global, a: Form, b: Result<Form, AllocError>) -> Result<Form,
 }
 
 impl Form {
-    /// Both formulas. Fails only for want of memory.
+    /// Creates the conjunction of two formulas. Errors: out of memory.
     pub fn and(alloc: Global, a: Form, b: Form) -> Result<Form, AllocError>
         ensures exact { IfOk result (λ f. form_view f ≡ FAnd (form_view a) (form_view b)) }
     {
         Ok(Form::And(Box::new(alloc, a)?, Box::new(alloc, b)?))
     }
 
-    /// One of the formulas. Fails only for want of memory.
+    /// Creates the disjunction of two formulas. Errors: out of memory.
     pub fn or(alloc: Global, a: Form, b: Form) -> Result<Form, AllocError>
         ensures exact { IfOk result (λ f. form_view f ≡ FOr (form_view a) (form_view b)) }
     {
         Ok(Form::Or(Box::new(alloc, a)?, Box::new(alloc, b)?))
     }
 
-    /// The second formula under the first. Fails only for want of memory.
+    /// Creates the implication from `a` to `b`. Errors: out of memory.
     pub fn imp(alloc: Global, a: Form, b: Form) -> Result<Form, AllocError>
         ensures exact { IfOk result (λ f. form_view f ≡ FImp (form_view a) (form_view b)) }
     {
         Ok(Form::Imp(Box::new(alloc, a)?, Box::new(alloc, b)?))
     }
 
-    /// The formula for all words. Fails only for want of memory.
+    /// Quantifies a formula over all words. Errors: out of memory.
     pub fn all(alloc: Global, body: Form) -> Result<Form, AllocError>
         ensures exact { IfOk result (λ f. form_view f ≡ FAll (form_view body)) }
     {
         Ok(Form::All(Box::new(alloc, body)?))
     }
 
-    /// The formula for all memories. Fails only for want of memory.
+    /// Quantifies a formula over all memories. Errors: out of memory.
     pub fn allm(alloc: Global, body: Form) -> Result<Form, AllocError>
         ensures exact { IfOk result (λ f. form_view f ≡ FAllm (form_view body)) }
     {
         Ok(Form::Allm(Box::new(alloc, body)?))
     }
 
-    /// The same formula. Fails only for want of memory.
+    /// Copies the formula. Errors: out of memory.
     pub fn copy(&self, alloc: Global) -> Result<Form, AllocError>
         ensures exact { IfOk result (λ f. form_view f ≡ form_view self.now) }
     {
@@ -158,8 +158,8 @@ impl Form {
         }
     }
 
-    /// The formula where `by` binders more stand outside the `from` nearest. Fails only for want
-    /// of memory.
+    /// Returns the formula with `by` binders added outside the `from` innermost. Errors: out of
+    /// memory.
     #[tactic(auto, using(crate::proofs::Raising::shift_form_next))]
     fn shift_at(&self, alloc: Global, by: u32, from: u64) -> Result<Form, AllocError>
         requires room { HasRoom by from (form_view self.now) }
@@ -191,8 +191,8 @@ impl Form {
         }
     }
 
-    /// The formula where `by` binders more stand outside the `from` nearest: each variable from
-    /// `from` on is raised by `by`. Fails only for want of memory.
+    /// Returns the formula with `by` binders added outside the `from` innermost: each variable from
+    /// `from` on is raised by `by`. Errors: out of memory.
     pub fn shift(&self, alloc: Global, by: u32, from: u32) -> Result<Form, AllocError>
         requires room { HasRoom by from (form_view self.now) }
         ensures exact { IfOk result (λ f. form_view f ≡ shift_form by from (form_view self.now)) }
@@ -200,8 +200,9 @@ impl Form {
         self.shift_at(alloc, by, u64::from(from))
     }
 
-    /// The formula with `regs` for r0 to r30 and, where it has one more, for the steps that are
-    /// left, and `memory` for m, which stand outside `depth` binders. Fails only for want of memory.
+    /// Substitutes `regs` for r0 to r30, `memory` for m and, if `regs` has one more, the last for
+    /// the remaining steps. Registers and memory are expressions outside `depth` binders. Errors:
+    /// out of memory.
     #[tactic(auto, using(crate::proofs::Putting::room_part))]
     fn subst_at(
         &self,
@@ -247,10 +248,11 @@ impl Form {
         }
     }
 
-    /// The formula with `regs` for r0 to r30, in this order, and `memory` for m, all at once. Of 32
-    /// expressions the last is put for the steps that are left; of 31 none is, and they stay.
-    /// Register 31 becomes 0 in any case, and no variable is captured. Fails only for want of
-    /// memory.
+    /// Substitutes `regs` for r0 to r30, in this order, and `memory` for m, simultaneously and
+    /// without capture, and returns the result.
+    ///
+    /// With 32 expressions in `regs` the last replaces the remaining steps; with 31 they stay.
+    /// Register 31 becomes 0 in any case. Errors: out of memory.
     pub fn subst_regs(
         &self,
         alloc: Global,
@@ -266,8 +268,8 @@ impl Form {
         self.subst_at(alloc, regs, memory, 0)
     }
 
-    /// The height: 1 without parts, else one more than the highest part; 4,294,967,295 where that
-    /// is greater.
+    /// Returns the height: 1 for a formula without parts, else one more than the highest part's;
+    /// 4,294,967,295 if it is greater than that.
     pub fn height(&self) -> u32
         ensures exact { result ≡ capped (form_height (form_view self.now)) }
     {

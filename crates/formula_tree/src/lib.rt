@@ -1,11 +1,10 @@
-//! Formulas over registers, the memory m and bound variables: their trees, their truth, and
-//! substitution.
+//! First-order formulas over registers, memory and bound variables: trees, truth and substitution.
 //!
-//! The definitions of all layers above stand here, over plain data: formulas and shifts
-//! (`specs/Formulas`), simultaneous substitution (`specs/Substitution`), substitution for one
-//! variable (`specs/Variables`), the formulas over a context (`specs/Scope`) and truth
-//! (`specs/Truth`). The layers use that `subst_regs` is that substitution, and what `laws` says of
-//! truth. `specs/Views` leads from the trees in memory to the plain data. Source: Necula, POPL 1997.
+//! The definitions that all layers above share are in `specs/`, over plain data: formulas and
+//! shifts (`Formulas`), simultaneous substitution (`Substitution`), substitution for one variable
+//! (`Variables`), formulas over a context (`Scope`) and truth (`Truth`). The layers above rely on
+//! this: `subst_regs` computes that substitution, and truth has the properties that `laws` proves.
+//! `specs/Views` maps the trees in memory to the plain data. Source: Necula, POPL 1997.
 #![tactic(auto)]
 
 mod exp;

@@ -1,10 +1,10 @@
-//! What holds of the definitions, with nothing to run.
+//! Theorems about the definitions, with nothing to run.
 
 ghost use Rattle.formula_tree.specs.Laws.{SubstTruth, VarTruth, ShiftTruth, ClosedTruth};
 ghost use Rattle.formula_tree.specs.Laws.{ReadsTruth, StableTruth, SubstScope, VarScope};
 
-/// Truth of substituted and shifted formulas, what truth doesn't depend on, and that substitution
-/// keeps a formula over its context.
+/// Proves when substituted and shifted formulas are true, what truth doesn't depend on, and that
+/// substitution keeps a formula well-scoped in its context.
 pub fn laws()
     ensures subst { SubstTruth }
     ensures variable { VarTruth }

@@ -1,8 +1,8 @@
-//! Instructions printed as a source has them.
+//! Printer of single instructions and branch labels as assembler text.
 //!
-//! The layer above uses that what `push_insn` prints is a statement of a source, and that labels
-//! printed by `push_label` are told apart. What is printed stands in `specs/Printing`; which tokens
-//! spell an instruction is said by asm_text (`specs/Insns`).
+//! The layer above relies on two facts: what `push_insn` prints is a statement of a source, and
+//! `push_label` prints different labels for different indices. The printed text is defined in
+//! `specs/Printing`; asm_text says which tokens spell an instruction (`specs/Insns`).
 #![tactic(auto)]
 
 mod limits;

@@ -1,4 +1,4 @@
-//! How long an instruction's text is.
+//! The length of an instruction's text.
 
-/// The most bytes of the text of an instruction; `ldq_u r16,-32768(r17)` has so many.
+/// The maximum length of an instruction's text, in bytes, reached by `ldq_u r16,-32768(r17)`.
 pub const MAX_INSN_TEXT: usize = 21;

@@ -1,4 +1,4 @@
-//! Printing an instruction.
+//! A printer of instructions.
 
 ghost use Rattle.std.specs.Prelude.{◌≡◌, ◌+◌, ◌^◌, ◌++◌, ◌∷◌, [], OnOk, Some, pos, ◌+ℤ◌};
 ghost use Rattle.std.specs.Prelude.{codes, decimal};
@@ -46,8 +46,8 @@ fn push_rhs(out: &mut Vec<u8>, rhs: Rhs) -> Result<(), AllocError>
     }
 }
 
-/// Appends the label of an index: `L` and the index. Fails only for want of memory; what is
-/// appended then is unspecified.
+/// Appends the label of an index: `L` and the index. Errors: out of memory; what was appended then
+/// is unspecified.
 pub fn push_label(out: &mut Vec<u8>, index: u32) -> Result<(), AllocError>
     ensures { OnOk result (out.new.items ≡ out.old.items ++ label_text index) }
 {
@@ -55,7 +55,7 @@ pub fn push_label(out: &mut Vec<u8>, index: u32) -> Result<(), AllocError>
     push_number(out, index)
 }
 
-/// The label of where a branch at the index leads.
+/// Appends the label of the target of a branch at `index`.
 fn push_target(out: &mut Vec<u8>, index: u32, disp: i32) -> Result<(), AllocError>
     requires { InsideOf (2 ^ 32) (Some (pos (index + 1) +ℤ disp)) }
     ensures { OnOk result (out.new.items
@@ -72,7 +72,7 @@ fn push_mnemonic(out: &mut Vec<u8>, mnemonic: &str) -> Result<(), AllocError>
     Ok(())
 }
 
-/// The base register of an access, in parentheses.
+/// Appends the base register of an access, in parentheses.
 fn push_base(out: &mut Vec<u8>, rb: Reg) -> Result<(), AllocError>
     ensures { OnOk result (out.new.items
         ≡ out.old.items ++ (40 ∷ (register_text rb ++ (41 ∷ [])))) }
@@ -118,7 +118,7 @@ fn push_operate(
     push_register(out, rc)
 }
 
-/// A conditional branch at the index.
+/// Appends a conditional branch at index `index`.
 fn push_branch(
     out: &mut Vec<u8>,
     index: u32,
@@ -146,8 +146,8 @@ fn push_br(out: &mut Vec<u8>, index: u32, disp: i32) -> Result<(), AllocError>
 }
 
 /// Appends the text of the instruction at `index` of code, as a source has it: `ldq r1,8(r16)`,
-/// `subq r1,255,r3`, or `beq r1,L7` with the label of the index where the branch leads, which has
-/// to be an index of 32 bits. Fails only for want of memory; what is appended then is unspecified.
+/// `subq r1,255,r3`, or `beq r1,L7` with the label of the branch's target index, which must have 32
+/// bits. Errors: out of memory; what was appended then is unspecified.
 pub fn push_insn(out: &mut Vec<u8>, index: u32, insn: Insn) -> Result<(), AllocError>
     requires { InsideOf (2 ^ 32) (target_of index insn) }
     ensures { OnOk result (out.new.items ≡ out.old.items ++ insn_text index insn) }

@@ -1,4 +1,4 @@
-//! What holds of the definitions, with nothing to run.
+//! Theorems about the definitions, with nothing to run.
 
 ghost use Rattle.std.specs.Prelude.{◌≡◌, ◌<◌, ◌≤◌, ◌^◌, ℕ, true, List, length, slice_get, Some};
 ghost use Rattle.word_ops.specs.declared.Profile.{Profile};
@@ -15,10 +15,11 @@ ghost use Rattle.asm_text.specs.Statements.{are_printable, before_comment};
 ghost use Rattle.insn_text.specs.declared.limits.TheConstants.{MAX_INSN_TEXT};
 ghost use Rattle.insn_text.specs.Printing.{label_text, insn_text, source_insn, IsSpellable};
 
-/// What is printed of an instruction spells it under each profile that has it, a branch going to
-/// the label of the index where it leads; the text is printable, without a comment, on one line,
-/// and short. The text of an index is a label, and no two indices have one. All instructions of
-/// code are such that this holds.
+/// Proves that an instruction's printed text spells it under each profile that has it.
+///
+/// A branch goes to the label of its target index. The text is printable, has no comment, is on one
+/// line, and is short. The text of an index is a label, and different indices have different
+/// labels. All of this holds for every instruction of well-formed code.
 pub fn laws()
     ensures spells { (p : Profile) (i : ℕ) (insn : Insn)
         → has_insn p insn ≡ true → IsSpellable i insn

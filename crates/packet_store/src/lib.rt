@@ -1,12 +1,19 @@
-//! Packet files, start states, and what packets come to.
+//! Packet files, each policy's start state on a packet, and the checked runner of packets.
 //!
-//! The layers above use that `packets` gives exactly the packets of a file in order, or its first
-//! fault; that `start_at` gives the start of a policy on a packet in an arena from a base on, and
-//! `start` the one of an agent that is alone, None exactly where the packet is
-//! short; and the trait `PacketRunner`, whose one call runs a packet. The grammar of packet files
-//! stands in `specs/Packets` (as a relation) and `specs/PacketDecoding` (as a function), the start
-//! states in `specs/PolicyStarts`, what a packet comes to in `specs/Results`, and the names of
-//! faults in `specs/Names`.
+//! The layers above rely on these:
+//!
+//! - `packets` returns exactly the packets of a file in order, or its first error.
+//! - `start_at` returns a policy's start on a packet in an arena from a base address on, and
+//!   `start` the start of an agent that is alone; both return None exactly if the packet is too
+//!   short.
+//! - The trait `PacketRunner` has one call, which runs a packet.
+//!
+//! The definitions are in `specs/`:
+//!
+//! - `Packets` (a relation) and `PacketDecoding` (a function): the grammar of packet files;
+//! - `PolicyStarts`: the start states;
+//! - `Results`: the result of a packet;
+//! - `Names`: the names of errors.
 #![tactic(auto)]
 
 mod fault;

@@ -7,10 +7,10 @@ ghost use Rattle.packet_store.specs.PacketDecoding.{decoded_packets};
 use crate::fault::PacketFault;
 use std::marker::Model;
 
-/// The most bytes that a packet has.
+/// The maximum length of a packet, in bytes.
 pub const MAX_PACKET: u32 = 65_535;
 
-/// The length that the next packet claims.
+/// Returns the length that the next packet claims, in bytes.
 fn claimed(bytes: &[u8]) -> u32
     requires { 4 ≤ length bytes.now }
     ensures { result ≡ file.claimed_length bytes.now }
@@ -18,7 +18,7 @@ fn claimed(bytes: &[u8]) -> u32
     u32::from_le_bytes([bytes[0], bytes[1], bytes[2], bytes[3]])
 }
 
-/// The first packet and the bytes after it; the fault has the offset that is given.
+/// Returns the first packet and the bytes after it. Errors carry the given `offset`.
 fn first(bytes: &[u8], offset: u64) -> Result<(&[u8], &[u8]), PacketFault>
     requires { 0 < length bytes.now }
     ensures { MatchResult result
@@ -39,8 +39,8 @@ fn first(bytes: &[u8], offset: u64) -> Result<(&[u8], &[u8]), PacketFault>
     Ok(body.split_at(count as usize))
 }
 
-/// The packets of a file that has no fault, as slices of its bytes. Contracts see the list of the
-/// packets that are left.
+/// The packets of a file without an error, as slices of its bytes. Contracts see the list of the
+/// remaining packets.
 #[derive(Drop)]
 pub struct PacketIter<'b> {
     rest: &'b [u8],
@@ -58,7 +58,7 @@ impl<'b> Model for PacketIter<'b> {
     ghost invariant = { λ it. IsWhole it.rest.now };
 }
 
-/// The first fault of the file, if it has one.
+/// Scans the file for its first error.
 fn find_fault(bytes: &[u8]) -> Result<(), PacketFault>
     requires { length bytes.now < 2 ^ 63 }
     ensures whole { IfOk result (λ _. file.IsWhole bytes.now) }
@@ -74,7 +74,8 @@ fn find_fault(bytes: &[u8]) -> Result<(), PacketFault>
     Ok(())
 }
 
-/// The packets of the file in order, or its first fault. The whole file is looked through first.
+/// Returns the packets of the file in order. Scans the whole file first. Errors: the file's first
+/// error.
 pub fn packets(bytes: &[u8]) -> Result<PacketIter<'_>, PacketFault>
     requires { length bytes.now < 2 ^ 63 }
     ensures decodes { IfOk result (λ p. file.AreShort p × (bytes.now ≡ file.packets_encoding p)) }
@@ -87,7 +88,7 @@ pub fn packets(bytes: &[u8]) -> Result<PacketIter<'_>, PacketFault>
     }
 }
 
-/// The bytes of a packet file that has no fault. Contracts see the list of its packets.
+/// The bytes of a packet file without an error. Contracts see the list of its packets.
 #[derive(Drop)]
 pub struct PacketFile {
     bytes: Vec<u8>,
@@ -106,7 +107,7 @@ impl Model for PacketFile {
 }
 
 impl PacketFile {
-    /// The packet file of these bytes, or its first fault.
+    /// Creates a packet file from these bytes. Errors: the file's first error.
     pub fn new(bytes: Vec<u8>) -> Result<PacketFile, PacketFault>
         ensures { result ≡ decoded_packets bytes.items }
     {
@@ -116,7 +117,7 @@ impl PacketFile {
         }
     }
 
-    /// The packets in order.
+    /// Returns the packets in order.
     pub fn packets(&self) -> PacketIter<'_>
         ensures value { result ≡ self.now }
         ensures short { file.AreShort result }

@@ -1,4 +1,4 @@
-//! What packets come to, and what runs them.
+//! Results of packets, and runners of packets.
 
 ghost use Rattle.std.specs.Prelude.{◌≡◌, ℕ, ◌≤◌, List, length};
 ghost use Rattle.packet_store.specs.declared.results.PacketResult.{PacketResult};
@@ -6,22 +6,22 @@ ghost use Rattle.packet_store.specs.declared.results.PacketResult.{PacketResult}
 use crate::reader::MAX_PACKET;
 use reference_machine::Outcome;
 
-/// What the run of code on a packet comes to.
+/// The result of running code on a packet.
 #[derive(Clone, Copy, Debug, PartialEq, Eq)]
 pub enum PacketResult {
-    /// The packet is short, so nothing was run.
+    /// The packet is too short for the policy, so nothing was run.
     Short,
     /// How the run ended, and the sum of the region's quadwords at its end, modulo 2^64.
     Ran(Outcome, u64),
 }
 
-/// What runs packets, one after another. It takes no memory.
+/// A runner of packets, one after another, which allocates no memory.
 pub trait PacketRunner {
-    /// What each packet comes to.
+    /// The result of each packet.
     ghost results: { Self → List ℕ → PacketResult };
 
-    /// Runs a packet of at most `MAX_PACKET` bytes, and answers what it comes to. What the other
-    /// packets come to stays.
+    /// Runs a packet of at most `MAX_PACKET` bytes and returns its result. The results of all
+    /// packets stay as they were.
     fn run_packet(&mut self, packet: &[u8]) -> PacketResult
         requires { length packet.now ≤ MAX_PACKET }
         ensures exact { result ≡ results self.old packet.now }

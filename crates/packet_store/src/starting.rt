@@ -1,4 +1,4 @@
-//! The start of each policy on a packet.
+//! The start state of each policy on a packet.
 
 ghost use Rattle.std.specs.Prelude.{◌≡◌, ◌+◌, ◌%◌, ◌^◌, ◌==◌, ◌<◌, ◌≤◌, option_map, IfSome, length};
 ghost use Rattle.alpha_cfg.specs.Machine.{IsState};
@@ -12,7 +12,7 @@ use crate::reader::MAX_PACKET;
 use policy_set::{Policy, PolicyKind};
 use reference_machine::{ARENA, Start};
 
-/// Two quadwords of scratch, and the packet behind them.
+/// Returns the start of `filter`: two quadwords of scratch, and the packet after them.
 fn filter_start(packet: &[u8], base: u64) -> Start<'_>
     requires packet { length packet.now ≤ MAX_PACKET }
     requires low { base < 2 ^ 32 }
@@ -30,7 +30,7 @@ fn filter_start(packet: &[u8], base: u64) -> Start<'_>
     }
 }
 
-/// Whether the first eight bytes are all 0.
+/// Checks whether the first eight bytes are all 0.
 fn begins_with_zero(packet: &[u8]) -> bool
     requires { 16 ≤ length packet.now }
     ensures { result ≡ (quadword packet.now 0 == 0) }
@@ -41,7 +41,8 @@ fn begins_with_zero(packet: &[u8]) -> bool
     word == 0
 }
 
-/// The first 16 bytes, of which the second quadword may be stored where the first isn't 0.
+/// Returns the start of `tag`: the first 16 bytes, with the second quadword writable if the first
+/// isn't 0.
 fn tag_start(packet: &[u8], base: u64) -> Start<'_>
     requires packet { 16 ≤ length packet.now }
     requires low { base < 2 ^ 32 }
@@ -64,7 +65,7 @@ fn tag_start(packet: &[u8], base: u64) -> Start<'_>
     }
 }
 
-/// The packet's quadwords, all of which may be loaded and stored.
+/// Returns the start of `table`: the packet's quadwords, all readable and writable.
 fn table_start(packet: &[u8], base: u64) -> Start<'_>
     requires { length packet.now ≤ MAX_PACKET }
     ensures value { start_view result ≡ table_start base packet.now }
@@ -82,12 +83,12 @@ fn table_start(packet: &[u8], base: u64) -> Start<'_>
     }
 }
 
-/// The start of the policy on a packet of at most `MAX_PACKET` bytes, in an arena that begins at
-/// `base`, an address that is a multiple of 8 and below 2^32.
+/// Returns the policy's start on a packet of at most `MAX_PACKET` bytes, in an arena that begins at
+/// `base`. The address `base` must be a multiple of 8 and below 2^32.
 ///
-/// None exactly where the packet is short, which is below 64 bytes for `filter`, below 16 for
-/// `tag`, never for `table`, and always for a policy without a kind. The start lies in that arena,
-/// is a state of the machine and meets the policy's precondition.
+/// Returns None exactly if the packet is too short: below 64 bytes for `filter`, below 16 for
+/// `tag`, never for `table`, and always for a policy without a kind. The start is in that arena, is
+/// a state of the machine and satisfies the policy's precondition.
 #[tactic(auto, unfolding(crate::specs::PolicyStarts::start_from))]
 pub fn start_at<'b>(policy: &Policy, packet: &'b [u8], base: u64) -> Option<Start<'b>>
     requires packet { length packet.now ≤ MAX_PACKET }
@@ -120,10 +121,10 @@ pub fn start_at<'b>(policy: &Policy, packet: &'b [u8], base: u64) -> Option<Star
     }
 }
 
-/// The start of the policy on a packet of at most `MAX_PACKET` bytes, for an agent that is alone:
-/// `start_at` with the arena's own place.
+/// Returns the policy's start on a packet of at most `MAX_PACKET` bytes, for an agent that is
+/// alone: `start_at` with the arena's own address.
 ///
-/// None exactly where the packet is short. The start meets the policy's precondition.
+/// Returns None exactly if the packet is too short. The start satisfies the policy's precondition.
 pub fn start<'b>(policy: &Policy, packet: &'b [u8]) -> Option<Start<'b>>
     requires { length packet.now ≤ MAX_PACKET }
     ensures exact { option_map start_view result ≡ start_of policy.now packet.now }

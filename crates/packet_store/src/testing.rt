@@ -1,4 +1,4 @@
-//! The testing machine as what runs packets.
+//! The checked reference interpreter as a runner of packets.
 
 ghost use Rattle.std.specs.Prelude.{◌≡◌, IfOk};
 ghost use Rattle.packet_store.specs.Results.{packet_result};
@@ -11,8 +11,8 @@ use policy_set::Policy;
 use reference_machine::Agent;
 use std::alloc::{AllocError, Global};
 
-/// Code that the testing machine runs on packets from the starts of a policy, with the same
-/// budget of steps for each packet.
+/// Code that the checked reference interpreter runs on packets, from the starts of a policy, with
+/// one step limit for every packet.
 #[derive(Drop)]
 pub struct TestingRunner {
     policy: Policy,
@@ -22,8 +22,8 @@ pub struct TestingRunner {
 }
 
 impl TestingRunner {
-    /// The runner of the code under the policy, with at most `steps` steps for a packet. All
-    /// memory that the runs need is reserved; it is an error where there is none.
+    /// Creates a runner of the code under the policy, with at most `steps` steps for a packet, and
+    /// reserves all memory that the runs need. Errors: out of memory.
     pub fn new(
         alloc: Global,
         policy: Policy,

@@ -1,4 +1,4 @@
-//! What holds of the definitions, with nothing to run.
+//! Theorems about the definitions, with nothing to run.
 
 ghost use Rattle.std.specs.Prelude.{◌≡◌, ℕ, ◌≤◌, ◌↔◌, List, length, Some, Ok, Err};
 ghost use Rattle.policy_set.specs.Views.{PolicyView, IsPolicy};
@@ -13,9 +13,10 @@ ghost use Rattle.packet_store.specs.PacketDecoding.{decoded_packets};
 ghost use Rattle.packet_store.specs.PolicyStarts.{start_of};
 ghost use Rattle.packet_store.specs.StartMeets.{StartMeets};
 
-/// The start of a policy on a packet of bytes is a state of the machine, and meets the policy's
-/// precondition; and a file of bytes reads as the packets that encode it, or as its first fault,
-/// exactly.
+/// Proves that the start of a policy on a packet is a state of the machine and satisfies the
+/// policy's precondition.
+///
+/// A file reads exactly as the packets that encode it, or as its first error.
 pub fn laws()
     ensures state { (policy : PolicyView) (packet : List ℕ) (setup : StartView) →
         length packet ≤ MAX_PACKET

@@ -1,4 +1,4 @@
-//! What was assembled.
+//! Results of assembling.
 
 ghost use Rattle.std.specs.Prelude.{◌≡◌};
 ghost use Rattle.proof_container.specs.Views.{IsWritable, view_contents};
@@ -7,7 +7,8 @@ use proof_container::{Head, View};
 use std::marker::Model;
 use term_table::{Id, Table};
 
-/// What a container of a source for a policy holds. Contracts see its contents.
+/// The contents of a container that holds an assembled source for a policy. Contracts see the
+/// contents.
 #[derive(Drop)]
 pub struct Assembled {
     pub(crate) version: u32,
@@ -37,7 +38,7 @@ impl Model for Assembled {
 }
 
 impl Assembled {
-    /// Lends the contents as a view, which `proof_container::write` encodes.
+    /// Returns a borrowed view of the contents, which `proof_container::write` encodes.
     pub fn view(&self) -> View<'_>
         ensures shows { view_contents result ≡ self.now }
         ensures writable { IsWritable result }

@@ -1,4 +1,4 @@
-//! Assembling a source.
+//! Assembling of sources.
 
 ghost use Rattle.std.specs.Prelude.{IfOk, IfErr, is_some};
 ghost use Rattle.asm_text.specs.Views.{source_view};
@@ -23,7 +23,8 @@ use std::alloc::{AllocError, Global};
 use term_table::Table;
 use word_ops::Profile;
 
-/// The bytes of the source's code in the profile, or the first line that is wrong.
+/// Returns the bytes of the source's code in the profile. Errors: the first wrong line, or out of
+/// memory.
 fn code_of(
     alloc: Global,
     source: &Source,
@@ -42,7 +43,7 @@ fn code_of(
     Ok(bytes)
 }
 
-/// What names the policy in a container of the version. Fails only for want of memory.
+/// Returns the header that names the policy in a container of the version. Errors: out of memory.
 fn head_for(alloc: Global, policy: &Policy, version: u32) -> Result<Head, AllocError>
     ensures exact { IfOk result (λ h. h ≡ head_for version policy.now) }
     ensures lawful { IfOk result (IsHead version) }
@@ -55,8 +56,8 @@ fn head_for(alloc: Global, policy: &Policy, version: u32) -> Result<Head, AllocE
     }
 }
 
-/// What a container of the source holds in the version, with the bound, or the first line that is
-/// wrong.
+/// Returns what a container of the source holds in the version, with the bound. Errors: the first
+/// wrong line, or out of memory.
 fn make(
     alloc: Global,
     source: &Source,
@@ -84,22 +85,23 @@ fn make(
     })
 }
 
-/// Assembles `source` for `policy` in `version` of containers, 1 to 4: labels become displacements,
-/// and each invariant becomes the term that encodes it over m and r0 to r30, in version 3 over the
-/// steps that are left too. The profile is the version's, and `bound` the most steps that the code
-/// is to make.
+/// Assembles `source` for `policy` into the contents of a container of `version`, 1 to 4.
 ///
-/// Errors: the first line whose label stands nowhere; else the first whose instruction the profile
-/// refuses; else the first that branches outside the code; else the last instruction's, where the
-/// code may go on after it. `Memory` says nothing of `source`. Words are written as in the Alpha
-/// Architecture Handbook, "Instruction Formats", a return with hint 1.
+/// Labels become displacements. Each invariant becomes the term that encodes it over m and r0 to
+/// r30, and in version 3 over the remaining steps too. The profile is the version's, and `bound` is
+/// the maximum number of steps that the code may make.
 ///
-/// No invariant's term is higher than a line may be long, and the container has at most
-/// `proof_container::MAX_BYTES` bytes.
+/// Errors: the first line whose label is undefined; else the first whose instruction the profile
+/// refuses; else the first that branches outside the code; else the line of the last instruction,
+/// if control can flow past it. `Memory` says nothing about `source`.
 ///
-/// Asks that some text spells `source` in that profile, as `asm_text::read_source` promises, whose
-/// invariants name the steps that are left only where there is a bound; and that the bound is there
-/// exactly in version 3, from 1 to `proof_container::MAX_BOUND`.
+/// Words are encoded as in the Alpha Architecture Handbook, "Instruction Formats", a return with
+/// hint 1. No invariant's term is higher than the maximum length of a line, and the container has
+/// at most `proof_container::MAX_BYTES` bytes.
+///
+/// Some text must spell `source` in that profile, as `asm_text::read_source` promises, and its
+/// invariants may name the remaining steps only if there is a bound. There must be a bound, from 1
+/// to `proof_container::MAX_BOUND`, exactly in version 3.
 pub fn assemble(
     alloc: Global,
     source: &Source,

@@ -1,4 +1,4 @@
-//! Whether instructions are code, and the first line that is wrong.
+//! Checks that instructions are well-formed code, with the first wrong line.
 
 ghost use Rattle.std.specs.Prelude.{◌≡◌, ◌<◌, ◌≤◌, length, is_some, IfSome, MatchResult, Ok, Err};
 ghost use Rattle.alpha_words.specs.Lawful.{fault_of, target_of};
@@ -13,7 +13,7 @@ use alpha_words::{BadWord, Insn, lawful, target};
 use asm_text::SrcInsn;
 use word_ops::Profile;
 
-/// Why the profile refuses the instruction, if it does.
+/// Returns why the profile refuses the instruction, or None if it permits it.
 fn refusal(insn: Insn, profile: Profile) -> Option<BadWord>
     ensures { result ≡ fault_of profile insn }
 {
@@ -23,7 +23,7 @@ fn refusal(insn: Insn, profile: Profile) -> Option<BadWord>
     }
 }
 
-/// The line of the instruction at index `i`.
+/// Returns the line of the instruction at index `i`.
 fn line_of(said: &[(u32, SrcInsn)], i: usize) -> u32
     requires { i < length said.now }
     ensures { result ≡ line_at (insn_views said.now) i }
@@ -32,7 +32,7 @@ fn line_of(said: &[(u32, SrcInsn)], i: usize) -> u32
     line.0
 }
 
-/// The first line whose instruction the profile refuses.
+/// Returns the error of the first line whose instruction the profile refuses, or None.
 #[tactic(auto, using(crate::proofs::Walking::unlawful_past))]
 fn find_unlawful(said: &[(u32, SrcInsn)], code: &[Insn], profile: Profile) -> Option<AsmFlaw>
     requires { length code.now ≡ length said.now }
@@ -46,7 +46,7 @@ fn find_unlawful(said: &[(u32, SrcInsn)], code: &[Insn], profile: Profile) -> Op
     None
 }
 
-/// Whether the instruction at index `i` branches to no index outside.
+/// Checks whether the instruction at index `i` branches to no index outside the code.
 fn stays_inside(count: usize, i: u32, insn: Insn) -> bool
     requires { count ≤ MAX_INSNS }
     ensures { result ≡ is_inside count (target_of i insn) }
@@ -57,7 +57,7 @@ fn stays_inside(count: usize, i: u32, insn: Insn) -> bool
     }
 }
 
-/// The first index whose branch leads outside.
+/// Returns the first index whose branch leads outside, or None.
 #[tactic(auto, using(crate::proofs::Walking::outside_here, crate::proofs::Walking::outside_more, crate::proofs::Walking::outside_past))]
 fn find_outside(code: &[Insn]) -> Option<usize>
     requires { length code.now ≤ MAX_INSNS }
@@ -72,7 +72,7 @@ fn find_outside(code: &[Insn]) -> Option<usize>
     None
 }
 
-/// Whether code may go on after the instruction.
+/// Checks whether control can fall through the instruction.
 fn goes_on(insn: Insn) -> bool
     ensures { result ≡ is_some (next_of 0 insn) }
 {
@@ -82,7 +82,7 @@ fn goes_on(insn: Insn) -> bool
     }
 }
 
-/// Whether code may go on after the last instruction.
+/// Checks whether control can fall through the last instruction.
 fn goes_off(code: &[Insn]) -> bool
     requires { 0 < length code.now }
     ensures { result ≡ runs_off code.now }
@@ -90,8 +90,8 @@ fn goes_off(code: &[Insn]) -> bool
     goes_on(code[code.len() - 1])
 }
 
-/// Whether instructions are code of the profile, each standing for the instruction that `said` has
-/// there; else the first line that is wrong.
+/// Checks whether `code`, assembled from the instructions `said`, is well-formed code of `profile`.
+/// Errors: the first wrong line, whose number is taken from `said`.
 #[tactic(auto, using(crate::proofs::Shaped::bad_word, crate::proofs::Shaped::bad_target, crate::proofs::Shaped::bad_end, crate::proofs::Shaped::good_code))]
 pub fn check(said: &[(u32, SrcInsn)], code: &[Insn], profile: Profile) -> Result<(), AsmFlaw>
     requires count { length code.now ≡ length said.now }

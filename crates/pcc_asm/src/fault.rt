@@ -1,4 +1,4 @@
-//! Why a source gives no container.
+//! Errors of assembling a source.
 
 ghost use Rattle.std.specs.Prelude.{◌≡◌, ◌≤◌, length};
 ghost use Rattle.pcc_asm.specs.Names.{asm_flaw_line, asm_flaw_name};
@@ -7,29 +7,28 @@ use alpha_words::BadWord;
 use std::alloc::{AllocError, AllocFailed};
 use thiserror::Error;
 
-/// The first thing that is wrong with a source, with the number of its line, from 1.
+/// The first error of a source, with the number of its line, from 1.
 #[derive(Clone, Copy, Debug, PartialEq, Eq, Error)]
 pub enum AsmFlaw {
-    /// The first line that branches to a label that stands nowhere.
+    /// The first line that branches to an undefined label.
     #[error("in line {0}, a label that stands nowhere")]
     NoLabel(u32),
-    /// The first line whose instruction the profile refuses, and why; each label stands somewhere.
+    /// The first line whose instruction the profile refuses, and why; each label is defined.
     #[error("in line {0}, {1}")]
     Word(u32, BadWord),
-    /// The first line that branches outside the code, the profile having each instruction.
+    /// The first line that branches outside the code, if the profile has each instruction.
     #[error("in line {0}, a branch outside the code")]
     Target(u32),
-    /// The line of the last instruction, where the code may go on after it, no branch leading
-    /// outside.
+    /// The line of the last instruction, if control can flow past it and no branch leads outside.
     #[error("in line {0}, a last instruction after which the code goes on")]
     FallsOff(u32),
 }
 
-/// The most bytes that the name of a kind has.
+/// The maximum length of a kind's name, in bytes.
 pub const MAX_KIND: usize = 12;
 
 impl AsmFlaw {
-    /// The number of the line that is wrong, from 1.
+    /// Returns the number of the wrong line, from 1.
     pub fn line(self) -> u32
         ensures exact { result ≡ asm_flaw_line self }
     {
@@ -41,8 +40,8 @@ impl AsmFlaw {
         }
     }
 
-    /// The kind's name, of at most `MAX_KIND` bytes, as the line of the fault shows it; that of a
-    /// word is why the profile refuses it.
+    /// Returns the kind's name, of at most `MAX_KIND` bytes, as the printed line of the error shows
+    /// it. For a refused word it is the name of the reason.
     pub fn name(self) -> &'static str
         ensures exact { result.now ≡ asm_flaw_name self }
         ensures short { length result.now ≤ MAX_KIND }
@@ -56,13 +55,13 @@ impl AsmFlaw {
     }
 }
 
-/// Why a source gives no contents of a container.
+/// Why a source couldn't be assembled.
 #[derive(Clone, Copy, Debug, PartialEq, Eq, Error)]
 pub enum AsmFault {
-    /// The source is no code.
+    /// The source isn't well-formed code.
     #[error("{0}")]
     At(AsmFlaw),
-    /// There was no memory for the contents; that says nothing of the source.
+    /// Out of memory; this says nothing about the source.
     #[error("out of memory")]
     Memory,
 }

@@ -1,4 +1,4 @@
-//! Invariants as terms.
+//! Encoding of invariants as terms.
 
 ghost use Rattle.std.specs.Prelude.{IfOk};
 ghost use Rattle.std.specs.List.{AllByRecursion};
@@ -13,9 +13,9 @@ use lf_encode::{encode_form, left_context, machine_context};
 use std::alloc::{AllocError, Global};
 use term_table::{Id, Table};
 
-/// Encodes a formula over m and r0 to r30, and over the steps that are left where `left` is true:
-/// their variable stands outside the others, so the encoding of a formula that doesn't name them is
-/// one either way. Fails only for want of memory.
+/// Encodes a formula over m and r0 to r30, and over the remaining steps if `left` is true. Their
+/// variable is outside the others, so `left` doesn't change the encoding of a formula that doesn't
+/// name them. Errors: out of memory.
 fn encode_inv(table: &mut Table, form: &Form, left: bool) -> Result<Id, AllocError>
     requires { IsEncodableForm left (form_view form.now) }
     ensures exact { let tree = encoding_in machine_context (form_view form.now) in
@@ -29,7 +29,8 @@ fn encode_inv(table: &mut Table, form: &Form, left: bool) -> Result<Id, AllocErr
     }
 }
 
-/// Encodes each invariant so. Fails only for want of memory.
+/// Encodes each invariant over m and r0 to r30, and over the remaining steps if `left` is true.
+/// Errors: out of memory.
 #[tactic(auto, using(crate::proofs::Terms::none_encoded, crate::proofs::Terms::all_encoded))]
 pub fn encode_invs(
     alloc: Global,

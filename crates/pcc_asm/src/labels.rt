@@ -1,4 +1,4 @@
-//! Labels that are found fast.
+//! Labels with fast lookup.
 
 ghost use Rattle.std.specs.Prelude.{◌≡◌, ◌≤◌, IfOk, IfSome};
 ghost use Rattle.asm_text.specs.declared.limits.TheConstants.{MAX_INSNS};
@@ -9,16 +9,16 @@ use asm_text::Label;
 use std::alloc::{AllocError, Global};
 use std::collections::BTreeMap;
 
-/// The labels of a source, each found in as many steps as the logarithm of their count.
+/// The labels of a source, each found in logarithmic time.
 #[derive(Drop)]
 pub struct Labels<'s> {
     /// The labels in order. Only the clauses read them.
     pub list: &'s [(Label, u32)],
-    /// The index that each text names.
+    /// The index that each label's text names.
     pub places: BTreeMap<&'s [u8], u32>,
 }
 
-/// Puts the labels in order. Fails only for want of memory.
+/// Builds the lookup table of the labels. Errors: out of memory.
 #[tactic(auto, using(crate::proofs::Labelled::none_indexed, crate::proofs::Labelled::all_indexed))]
 pub fn index_labels<'s>(alloc: Global, list: &'s [(Label, u32)]) -> Result<Labels<'s>, AllocError>
     requires short { AreLabelIndices list.now }
@@ -35,7 +35,7 @@ pub fn index_labels<'s>(alloc: Global, list: &'s [(Label, u32)]) -> Result<Label
 }
 
 impl Labels<'_> {
-    /// The index that a label names.
+    /// Returns the index that a label names, or None if the label is undefined.
     pub fn index(&self, name: &[u8]) -> Option<u32>
         requires { AreIndexed self.now }
         ensures value { result ≡ label_index (label_views self.now.list.now) name.now }

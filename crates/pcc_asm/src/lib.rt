@@ -1,10 +1,17 @@
-//! Sources as containers: labels become displacements, code and invariants what a container holds.
+//! Assembler from parsed sources to container contents, reporting the first wrong line.
 //!
-//! The layer above uses that `assemble` gives what a container of the source for a policy holds, or
-//! else the first line that is wrong. What that is stands in `specs/Assembling` (as a relation and
-//! as the tests in their order), what a fault means in `specs/Faults`, which words are written in
-//! `specs/Words`, what answers say in `specs/Views`, the limits that all that is assembled keeps to
-//! in `specs/Limits`, and the names of the kinds of faults in `specs/Names`.
+//! Labels become displacements; code and invariants become what a container holds. The layer above
+//! relies on this: `assemble` returns what a container of the source for a policy holds, or else
+//! the first wrong line.
+//!
+//! The definitions are in `specs/`:
+//!
+//! - `Assembling`: the contents, as a relation and as the tests in their order;
+//! - `Faults`: the meaning of errors;
+//! - `Words`: the words written;
+//! - `Views`: the results;
+//! - `Limits`: the limits that all assembled contents keep to;
+//! - `Names`: the names of the kinds of errors.
 #![tactic(auto)]
 
 mod assembled;

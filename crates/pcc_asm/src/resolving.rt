@@ -1,4 +1,4 @@
-//! Labels put to displacements.
+//! Resolving of labels to displacements.
 
 ghost use Rattle.std.specs.Prelude.{◌≡◌, ◌+◌, ◌<◌, ◌≤◌, ◌-ℤ◌, pos, length, IfOk};
 ghost use Rattle.asm_text.specs.declared.limits.TheConstants.{MAX_INSNS};
@@ -12,7 +12,7 @@ use alpha_words::Insn;
 use asm_text::SrcInsn;
 use std::alloc::Global;
 
-/// How far it is to an index from behind index `i`.
+/// Returns the displacement from the instruction after index `i` to the index `to`.
 fn displacement(to: u32, i: u32) -> i32
     requires to { to ≤ MAX_INSNS }
     requires from { i < MAX_INSNS }
@@ -21,7 +21,7 @@ fn displacement(to: u32, i: u32) -> i32
     to as i32 - (i as i32 + 1)
 }
 
-/// The instruction at index `i`, where its label stands somewhere.
+/// Returns the instruction at index `i`, or None if its label is undefined.
 fn resolve(labels: &Labels<'_>, i: u32, insn: &SrcInsn) -> Option<Insn>
     requires labels { AreIndexed labels.now }
     requires index { i < MAX_INSNS }
@@ -47,7 +47,8 @@ fn resolve(labels: &Labels<'_>, i: u32, insn: &SrcInsn) -> Option<Insn>
     }
 }
 
-/// All instructions, or the first line whose label stands nowhere.
+/// Resolves the labels of all instructions. Errors: the first line whose label is undefined, or out
+/// of memory.
 #[tactic(auto, using(crate::proofs::Walking::insn_first, crate::proofs::Walking::insn_more, crate::proofs::Walking::insn_none, crate::proofs::Walking::insn_past))]
 pub fn resolve_all(
     alloc: Global,

@@ -1,4 +1,4 @@
-//! What holds of the definitions, with nothing to run.
+//! Theorems about the definitions, with nothing to run.
 
 ghost use Rattle.std.specs.Prelude.{◌≡◌, ◌↔◌, Bool, List, Ok, Err};
 ghost use Rattle.word_ops.specs.declared.Profile.{Profile};
@@ -9,9 +9,11 @@ ghost use Rattle.pcc_asm.specs.Assembling.{IsAssembled, assembled_code};
 ghost use Rattle.pcc_asm.specs.Faults.{IsAsmFault};
 ghost use Rattle.pcc_asm.specs.Views.{IsSpelled};
 
-/// Instructions are those of a source that some text spells in a profile, and are code of it,
-/// exactly where they are assembled from it; and a source has a fault exactly where assembling
-/// tells it, so it has one fault or one code.
+/// Proves that the assembler and its specification agree.
+///
+/// For a source that some text spells in a profile, the assembler returns instructions exactly if
+/// they are the source's and are code of that profile. A source has an error exactly if the
+/// assembler reports it, so it has one error or one code.
 pub fn laws()
     ensures assembled { (p : Profile) (left : Bool) (s : Source) (insns : List Insn) →
         IsSpelled p left s →

@@ -1,4 +1,4 @@
-//! The words of code.
+//! The instruction words of code.
 
 ghost use Rattle.std.specs.Prelude.{◌≡◌, IfOk};
 ghost use Rattle.std.specs.List.{AllByRecursion};
@@ -9,7 +9,7 @@ use alpha_words::{Insn, encode};
 use std::alloc::{AllocError, Global};
 use word_ops::Profile;
 
-/// The word that is written for an instruction of the profile.
+/// Returns the word that encodes an instruction of the profile.
 #[tactic(auto, using(crate::proofs::Written::word_is))]
 fn word_of(insn: Insn, profile: Profile) -> u32
     requires { IsEncodable profile insn }
@@ -18,8 +18,7 @@ fn word_of(insn: Insn, profile: Profile) -> u32
     encode(insn, profile)
 }
 
-/// The words of the profile's instructions, the lowest byte of each first. Fails only for want of
-/// memory.
+/// Returns the words of the profile's instructions as bytes, little-endian. Errors: out of memory.
 #[tactic(auto, using(crate::proofs::Written::all_written))]
 pub fn bytes_of(alloc: Global, code: &[Insn], profile: Profile) -> Result<Vec<u8>, AllocError>
     requires { AllByRecursion (IsEncodable profile) code.now }

@@ -9,7 +9,7 @@ use formula_text::print_form;
 use sha2::{Digest, Sha256};
 use std::alloc::{AllocError, Global};
 
-/// The SHA-256 of two lines, each with its LF.
+/// Returns the SHA-256 of two lines, each with its LF.
 fn lines_digest(first: &[u8], second: &[u8]) -> [u8; 32]
     ensures { result ≡ sha256 ((first.now ++ 10 ∷ []) ++ (second.now ++ 10 ∷ [])) }
 {
@@ -21,8 +21,8 @@ fn lines_digest(first: &[u8], second: &[u8]) -> [u8; 32]
     hasher.finalize()
 }
 
-/// The SHA-256 of the policy's text: its precondition and its postcondition as `print_form` gives
-/// them, and an LF behind each. Fails only for want of memory.
+/// Returns the SHA-256 of the policy's text: its precondition and its postcondition as `print_form`
+/// prints them, each followed by an LF. Errors: out of memory.
 pub fn digest(alloc: Global, policy: &Policy) -> Result<[u8; 32], AllocError>
     ensures exact { IfOk result (λ d. d ≡ digest_of policy.now) }
 {

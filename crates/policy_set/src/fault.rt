@@ -1,21 +1,21 @@
-//! What is wrong with a file that spells no policy.
+//! Errors of reading a policy file.
 
 use formula_text::TextFault;
 use thiserror::Error;
 
-/// Why a file gives no policy.
+/// Why a file couldn't be read as a policy.
 #[derive(Clone, Copy, Debug, PartialEq, Eq, Error)]
 pub enum PolicyFault {
-    /// How many lines the file has, where these aren't two; the empty file has 0.
-    #[error("{0} lines in place of two")]
+    /// The number of lines of the file, if it isn't two; the empty file has 0.
+    #[error("the policy file has {0} lines; it must have two")]
     Lines(usize),
-    /// The line, 1 or 2, that has more than `MAX_FORM_LINE` bytes.
-    #[error("line {0} is too long")]
+    /// The number of the line, 1 or 2, that has more than `MAX_FORM_LINE` bytes.
+    #[error("line {0} has more than 4,096 bytes")]
     Length(u32),
-    /// The line, 1 or 2, that spells no formula, and why, which is never want of memory.
-    #[error("in line {0}: {1}")]
+    /// The number of the line, 1 or 2, that is no formula, and why, which is never out of memory.
+    #[error("line {0}: {1}")]
     Form(u32, TextFault),
-    /// There was no memory for the policy; that says nothing of the file.
+    /// Out of memory; this says nothing about the file.
     #[error("out of memory")]
     Memory,
 }

@@ -1,4 +1,4 @@
-//! The formulas of the policies, part by part as in `specs/Policies`.
+//! The formulas of the built-in policies, part by part as in `specs/Policies`.
 
 ghost use Rattle.std.specs.Prelude.{◌≡◌, IfOk};
 ghost use Rattle.formula_tree.specs.Formulas.{EVar};
@@ -10,14 +10,14 @@ use formula_tree::{Exp, Form, MemExp};
 use std::alloc::{AllocError, Global};
 use word_ops::{Op, Rel};
 
-/// An address at an offset from a register.
+/// Creates the address at an offset from a register. Errors: out of memory.
 fn offset_from(alloc: Global, register: u8, offset: Exp) -> Result<Exp, AllocError>
     ensures { IfOk result (λ e. exp_view e ≡ parts.offset_from register (exp_view offset)) }
 {
     Exp::oper(alloc, Op::Add, Exp::Reg(register), offset)
 }
 
-/// The variable is below the bound and a multiple of 8.
+/// Creates the formula: the variable is below the bound and a multiple of 8. Errors: out of memory.
 fn aligned_below(alloc: Global, variable: u32, bound: Exp) -> Result<Form, AllocError>
     ensures { IfOk result
         (λ f. form_view f ≡ parts.aligned_below (EVar variable) (exp_view bound)) }
@@ -104,7 +104,7 @@ fn table_pre(alloc: Global) -> Result<Form, AllocError>
     Form::and(alloc, short, usable)
 }
 
-/// What holds before code starts under a policy of the kind.
+/// Returns the precondition of the built-in policy of this kind. Errors: out of memory.
 pub fn pre(alloc: Global, kind: PolicyKind) -> Result<Form, AllocError>
     ensures { IfOk result (λ f. form_view f ≡ parts.pre_of kind) }
 {
@@ -115,7 +115,7 @@ pub fn pre(alloc: Global, kind: PolicyKind) -> Result<Form, AllocError>
     }
 }
 
-/// What holds after code has returned under a policy of the kind.
+/// Returns the postcondition of the built-in policy of this kind.
 pub fn post(kind: PolicyKind) -> Form
     ensures { form_view result ≡ parts.post_of kind }
 {

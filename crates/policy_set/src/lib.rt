@@ -1,12 +1,15 @@
-//! The policies that a consumer publishes: `filter`, `tag` and `table`, and those of files.
+//! Safety policies (pre- and postcondition): built in (`filter`, `tag`, `table`), or from files.
 //!
-//! A policy says what holds before a program starts and what its end has to meet, by two formulas.
-//! The layers above use that `by_name` finds exactly the built-in policy of a name, whose formulas
-//! are those of `specs/Policies`, and what each policy keeps (`IsPolicy` in `specs/Views`); names
-//! and numbers stand in `specs/Names`. What depends on the kind of a policy says so by an option: a
-//! policy from a file has none. `read_policy` gives the policy that a file's bytes spell
-//! (`specs/PolicyText`), and `digest` the SHA-256 of a policy's text (`specs/Digest`), which pins
-//! both formulas.
+//! Two formulas of a policy say what holds before a program starts and what must hold when it ends.
+//! The layers above rely on three functions and one invariant:
+//!
+//! - `by_name` finds exactly the built-in policy of a name, with the formulas of `specs/Policies`;
+//! - `read_policy` returns the policy that a file's bytes spell (`specs/PolicyText`);
+//! - `digest` returns the SHA-256 of a policy's text (`specs/Digest`), which pins both formulas;
+//! - `IsPolicy` (`specs/Views`) holds for every policy.
+//!
+//! Names and numbers are in `specs/Names`. A function that depends on a policy's kind takes an
+//! option, since a policy from a file has no kind.
 #![tactic(auto)]
 
 mod digests;

@@ -1,4 +1,4 @@
-//! A policy with its formulas.
+//! Policies with their formulas.
 
 ghost use Rattle.std.specs.Prelude.{◌≡◌, IfOk};
 ghost use Rattle.formula_tree.specs.Views.{form_view};
@@ -12,9 +12,9 @@ use formula_tree::Form;
 use std::alloc::{AllocError, Global};
 use std::marker::Model;
 
-/// A policy: what it asks at the start and promises of the end. Contracts see both formulas, and
-/// its kind, which a policy from a file hasn't. The formulas stand in boxes, so that what lets a
-/// policy go frees two boxes there, and not each kind of part that a formula has.
+/// A policy: its precondition and its postcondition. Contracts see both formulas, and the policy's
+/// kind, which a policy from a file hasn't. The formulas are boxed, so that dropping a policy frees
+/// two boxes there, and not each kind of part that a formula has.
 #[derive(Drop)]
 pub struct Policy {
     kind: Option<PolicyKind>,
@@ -39,7 +39,7 @@ impl Model for Policy {
     ghost invariant = { λ p. IsPolicy (policy_view p.kind p.pre p.post) };
 }
 
-/// The formula in a box. Fails only for want of memory.
+/// Boxes the formula. Errors: out of memory.
 fn boxed(alloc: Global, form: Form) -> Result<Box<Form>, AllocError>
     ensures { IfOk result (λ b. b.value ≡ form) }
 {
@@ -47,7 +47,7 @@ fn boxed(alloc: Global, form: Form) -> Result<Box<Form>, AllocError>
     Ok(b)
 }
 
-/// The same formula in a box of its own. Fails only for want of memory.
+/// Copies the formula into a box of its own. Errors: out of memory.
 fn copied(alloc: Global, form: &Form) -> Result<Box<Form>, AllocError>
     ensures { IfOk result (λ b. form_view b.value ≡ form_view form.now) }
 {
@@ -56,7 +56,7 @@ fn copied(alloc: Global, form: &Form) -> Result<Box<Form>, AllocError>
 }
 
 impl Policy {
-    /// The built-in policy of the kind. Fails only for want of memory.
+    /// Creates the built-in policy of this kind. Errors: out of memory.
     pub fn of(alloc: Global, kind: PolicyKind) -> Result<Policy, AllocError>
         ensures exact { IfOk result (λ policy. policy ≡ built_in kind) }
     {
@@ -70,7 +70,7 @@ impl Policy {
         })
     }
 
-    /// The policy of two formulas from a file, which has no kind. Fails only for want of memory.
+    /// Creates the policy with two formulas from a file, which has no kind. Errors: out of memory.
     pub fn from_file(alloc: Global, pre: Form, post: Form) -> Result<Policy, AllocError>
         requires asked { IsPolicyForm (form_view pre) }
         requires promised { IsPolicyForm (form_view post) }
@@ -86,15 +86,16 @@ impl Policy {
         })
     }
 
-    /// The kind; None where it is from a file.
+    /// Returns the policy's kind, or None if it is from a file.
     pub fn kind(&self) -> Option<PolicyKind>
         ensures exact { result ≡ self.now.kind }
     {
         self.kind
     }
 
-    /// The number that containers carry: 1 for `filter`, 2 for `tag`, 3 for `table`; 0 where it is
-    /// from a file, and no container is for it by this number (`has_number`).
+    /// Returns the number that containers carry: 1 for `filter`, 2 for `tag`, 3 for `table`.
+    /// Returns 0 for a policy from a file; no container is for such a policy by its number
+    /// (`has_number`).
     pub fn number(&self) -> u32
         ensures exact { result ≡ policy_number self.now }
     {
@@ -104,7 +105,8 @@ impl Policy {
         }
     }
 
-    /// Whether containers with this number are for the policy: it has a kind, whose number it is.
+    /// Checks whether containers with this number are for the policy: it has a kind with this
+    /// number.
     pub fn has_number(&self, number: u32) -> bool
         ensures exact { result ≡ is_number_of self.now number }
     {
@@ -114,21 +116,21 @@ impl Policy {
         }
     }
 
-    /// What holds before code starts.
+    /// Returns the precondition: what holds before code starts.
     pub fn pre(&self) -> &Form
         ensures exact { form_view result.now ≡ self.now.pre }
     {
         &self.pre
     }
 
-    /// What holds after code has returned.
+    /// Returns the postcondition: what holds after code has returned.
     pub fn post(&self) -> &Form
         ensures exact { form_view result.now ≡ self.now.post }
     {
         &self.post
     }
 
-    /// The same policy. Fails only for want of memory.
+    /// Copies the policy. Errors: out of memory.
     pub fn copy(&self, alloc: Global) -> Result<Policy, AllocError>
         ensures exact { IfOk result (λ policy. policy ≡ self.now) }
     {
@@ -141,8 +143,9 @@ impl Policy {
         })
     }
 
-    /// What each policy keeps, with nothing to run: its formulas name registers, m and their own
-    /// bound variables alone, they aren't high, and of a policy with a kind they are the kind's.
+    /// Proves what holds for every policy, with nothing to run: its formulas name only registers, m
+    /// and their own bound variables, they are at most `MAX_FORM_HEIGHT` high, and if the policy
+    /// has a kind they are the kind's.
     pub fn laws(&self)
         ensures { IsPolicy self.now }
     {
@@ -150,7 +153,7 @@ impl Policy {
     }
 }
 
-/// The kind of policy that has the name.
+/// Returns the kind of policy with this name, or None.
 fn kind_named(name: &str) -> Option<PolicyKind>
     ensures { result ≡ kind_of name.now }
 {
@@ -165,8 +168,8 @@ fn kind_named(name: &str) -> Option<PolicyKind>
     }
 }
 
-/// The built-in policy of this name; None exactly where the name is none of `filter`, `tag` and
-/// `table`. Fails only for want of memory.
+/// Returns the built-in policy with this name, or None exactly if the name is none of `filter`,
+/// `tag` and `table`. Errors: out of memory.
 pub fn by_name(alloc: Global, name: &str) -> Result<Option<Policy>, AllocError>
     ensures exact { IfOk result (λ found. found ≡ policy_of name.now) }
 {

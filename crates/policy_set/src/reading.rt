@@ -1,4 +1,4 @@
-//! Reading a policy from a file.
+//! Reading of policies from files.
 
 ghost use Rattle.std.specs.Prelude.{◌≡◌, ◌≤◌, length, Ok, Err, IfOk, IfErr, MatchResult};
 ghost use Rattle.text_lines.specs.Lines.{lines_of};
@@ -16,7 +16,7 @@ use std::alloc::Global;
 use text_lines::{line_count, split_line};
 use word_ops::Profile;
 
-/// The two lines of formulas. Errors: `Lines` and `Length`.
+/// Returns the two lines of formulas. Errors: `Lines` and `Length`.
 fn form_lines(bytes: &[u8]) -> Result<(&[u8], &[u8]), PolicyFault>
     ensures exact { MatchResult result
         (λ lines. form_lines (lines_of bytes.now) ≡ Ok (lines.0.now, lines.1.now))
@@ -39,8 +39,8 @@ fn form_lines(bytes: &[u8]) -> Result<(&[u8], &[u8]), PolicyFault>
     Ok((first, second))
 }
 
-/// The formula of a line, which every policy may have; none names the steps that are left. Errors:
-/// `Form` with the line's number, and `Memory`.
+/// Parses a line as a formula that any policy may have; it doesn't name the remaining steps.
+/// Errors: `Form` with the line's number, and `Memory`.
 fn line_form(alloc: Global, number: u32, line: &[u8]) -> Result<Form, PolicyFault>
     requires short { length line.now ≤ MAX_FORM_LINE }
     ensures form { IfOk result (λ form. IsPolicyForm (form_view form)) }
@@ -55,7 +55,7 @@ fn line_form(alloc: Global, number: u32, line: &[u8]) -> Result<Form, PolicyFaul
     }
 }
 
-/// The policy that is read, or the first fault.
+/// Parses the bytes as a policy. Errors: the first error, or out of memory.
 fn parse(alloc: Global, bytes: &[u8]) -> Result<Policy, PolicyFault>
     ensures { IsPolicyAnswer (λ policy. policy) (policy_read bytes.now) result }
 {
@@ -68,13 +68,13 @@ fn parse(alloc: Global, bytes: &[u8]) -> Result<Policy, PolicyFault>
     }
 }
 
-/// The policy that the bytes of a file spell: two lines, the precondition and the postcondition as
-/// formula text over the operators of both profiles. LF ends a line, one CR before it is dropped,
-/// and the last LF may lack. The policy has no kind.
+/// Parses the bytes of a file as a policy without a kind: two lines, the precondition and the
+/// postcondition as formula text over the operators of both profiles. LF ends a line, one CR before
+/// it is dropped, and the last LF may be missing.
 ///
-/// Errors, the first of these: `Lines` where there aren't two lines; `Length` of line 1, then of
-/// line 2, where it has more than `MAX_FORM_LINE` bytes; `Form` of line 1, then of line 2, where it
-/// spells no formula; `Memory` says nothing of the file.
+/// Errors, the first of these: `Lines` if there aren't two lines; `Length` of line 1, then of line
+/// 2, if it has more than `MAX_FORM_LINE` bytes; `Form` of line 1, then of line 2, if it is no
+/// formula; `Memory` says nothing about the file.
 pub fn read_policy(alloc: Global, bytes: &[u8]) -> Result<Policy, PolicyFault>
     ensures spells { IfOk result (λ policy. SpellsPolicy bytes.now policy) }
     ensures none { IfErr result (λ e. SpellsNoPolicy bytes.now e) }

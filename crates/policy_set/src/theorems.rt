@@ -1,4 +1,4 @@
-//! What holds of the definitions, with nothing to run.
+//! Theorems about the definitions, with nothing to run.
 
 ghost use Rattle.std.specs.Prelude.{◌≡◌, ◌≤◌, ◌↔◌, ℕ, true, List, length, Ok};
 ghost use Rattle.word_ops.specs.Operators.{IsFirstOp};
@@ -10,10 +10,11 @@ ghost use Rattle.policy_set.specs.PolicyText.{SpellsPolicy, from_file, policy_re
 ghost use Rattle.policy_set.specs.Digest.{policy_text};
 ghost use Rattle.policy_set.specs.Views.{PolicyView, built_in, IsPolicy, PolicyUses};
 
-/// The built-in policies keep what each policy does, and their operators are the first profile's;
-/// the test of a number is the relation; bytes are read as a policy exactly where they spell it,
-/// and what they spell keeps what each policy does. The text of a policy spells one of its
-/// formulas, where no line of it is too long, and no policies of other formulas have the same text.
+/// Proves that the built-in policies are well formed and use only operators of profile 1.
+///
+/// `is_number_of` decides its relation. Bytes read as a policy exactly if they spell it, and what
+/// they spell is a well-formed policy. The text of a policy spells a policy with its formulas, if
+/// no line of it is too long. Policies with different formulas have different texts.
 pub fn laws()
     ensures built_in { (kind : PolicyKind) → IsPolicy (built_in kind) }
     ensures operators { (kind : PolicyKind) → PolicyUses IsFirstOp (built_in kind) }

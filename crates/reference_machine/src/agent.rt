@@ -1,4 +1,4 @@
-//! An agent: a state in an arena.
+//! Agents: machine states in an arena.
 
 ghost use Rattle.std.specs.Prelude.{◌≡◌, ◌+◌, ◌<◌, ◌≤◌, length, IfOk, true, if◌then◌else◌, Some, None, slice_index, ◌%◌, ◌^◌};
 ghost use Rattle.std.specs.Prelude.{pos, ◌*ℤ◌};
@@ -25,9 +25,9 @@ use std::alloc::{AllocError, Global};
 use std::marker::Model;
 use word_ops::apply;
 
-/// A state of the machine in an arena of 8,194 quadwords from address 65,536 on, with the place
-/// of its region. From number `end` on all words are 0: nothing was put there, and no store is allowed
-/// there.
+/// A machine state in an arena of 8,194 quadwords from address 65,536 on, and the place of its
+/// region. From quadword number `end` on all words are 0: nothing was written there, and no store
+/// is allowed there.
 #[derive(Drop)]
 pub struct Agent {
     index: u32,
@@ -55,7 +55,8 @@ impl Model for Agent {
 }
 
 impl Agent {
-    /// Reserves the arena. All is 0, the region is empty, and no address is allowed.
+    /// Reserves the arena. All words are 0, the region is empty, and no access is allowed. Errors:
+    /// out of memory.
     pub fn new(alloc: Global) -> Result<Agent, AllocError>
         ensures { IfOk result agents.IsFresh }
     {
@@ -72,9 +73,9 @@ impl Agent {
         })
     }
 
-    /// Begins anew at the start. Its bytes stand little-endian in the quadwords from its address
-    /// on; every other quadword and register is 0, and so is the index. Nothing of an earlier run
-    /// is left.
+    /// Resets the agent to `start`, whose parts must be in the arena. The bytes of `start` are in
+    /// the quadwords from its address on, little-endian. Every other quadword and register is 0,
+    /// and so is the index. Nothing of an earlier run is left.
     pub fn load(&mut self, start: Start)
         requires { starts.Fits ARENA (start_view start) }
         ensures { self.new ≡ starts.agent_at_start ARENA (start_view start.entry) }
@@ -93,7 +94,7 @@ impl Agent {
         self.region = start.region;
     }
 
-    /// A register's word.
+    /// Returns the word of a register.
     #[inline(always)]
     pub fn reg(&self, reg: Reg) -> u64
         ensures { result ≡ read_reg self.now.state.regs reg }
@@ -101,7 +102,7 @@ impl Agent {
         read_reg(&self.regs, reg)
     }
 
-    /// The second operand's word.
+    /// Returns the word of a second operand.
     #[inline(always)]
     fn rhs(&self, rhs: &Rhs) -> u64
         ensures { result ≡ machine.rhs_word self.now.state.regs rhs.now }
@@ -109,7 +110,7 @@ impl Agent {
         rhs_word(&self.regs, rhs)
     }
 
-    /// The sum of a register and a displacement.
+    /// Returns the sum of register `rb` and the displacement `disp` in bytes, modulo 2^64.
     #[inline(always)]
     pub fn address(&self, rb: Reg, disp: i16) -> u64
         ensures { result ≡ machine.address_of self.now.state.regs rb disp }
@@ -117,14 +118,14 @@ impl Agent {
         address_of(&self.regs, rb, disp)
     }
 
-    /// The sum of a register and 65,536 times a displacement.
+    /// Returns the sum of a register and 65,536 times a displacement, modulo 2^64.
     fn far_address(&self, rb: Reg, disp: i16) -> u64
         ensures { result ≡ machine.address_of self.now.state.regs rb (disp *ℤ pos 65536) }
     {
         far_address_of(&self.regs, rb, disp)
     }
 
-    /// The word at an address, where it may be loaded.
+    /// Returns the word at an address, or None if the address is not readable.
     #[inline(always)]
     fn word_at(&self, addr: u64) -> Option<u64>
         ensures { result ≡ (if allowed self.now.state.rights.reads addr
@@ -134,7 +135,7 @@ impl Agent {
         Some(self.words[place])
     }
 
-    /// Whether a word may be stored at an address.
+    /// Checks whether the address is writable.
     #[inline(always)]
     fn may_store(&self, addr: u64) -> bool
         ensures { result ≡ allowed self.now.state.rights.writes addr }
@@ -179,7 +180,7 @@ impl Agent {
         Step::Moved
     }
 
-    /// Loads the word at an address into a register and goes on, where that is allowed.
+    /// Loads the word at an address into a register and moves on, if the address is readable.
     #[inline(always)]
     fn load_word(&mut self, ra: Reg, addr: u64) -> Step
         requires { self.old.state.index < MAX_WORDS }
@@ -201,7 +202,7 @@ impl Agent {
         }
     }
 
-    /// Stores a register's word at an address and goes on, where that is allowed.
+    /// Stores the word of a register at an address and moves on, if the address is writable.
     #[inline(always)]
     fn store_word(&mut self, ra: Reg, addr: u64) -> Step
         requires { self.old.state.index < MAX_WORDS }
@@ -236,7 +237,7 @@ impl Agent {
         Step::Moved
     }
 
-    /// The index of the instruction that comes next.
+    /// Returns the index of the next instruction.
     #[inline(always)]
     pub fn index(&self) -> u32
         ensures { result ≡ self.now.state.index }
@@ -244,8 +245,8 @@ impl Agent {
         self.index
     }
 
-    /// Makes one step, and answers how it ended. A blocked step changes nothing, and a return
-    /// neither; the index stays inside the code in any case.
+    /// Makes one step and returns its result. A blocked step and a return change nothing. The index
+    /// stays inside the code in any case.
     #[inline(always)]
     pub fn step(&mut self, code: &Code) -> Step
         requires { self.old.state.index < length code.now }
@@ -293,9 +294,9 @@ impl Agent {
         }
     }
 
-    /// Makes at most `budget` steps, a return among them, and answers how the run ended: OutOfSteps
-    /// where the whole budget was made and none returned or was blocked. The index stays inside the
-    /// code in any case, so a run may go on.
+    /// Makes at most `budget` steps, counting a return, and returns how the run ended: `OutOfSteps`
+    /// if it made all of them and none returned or was blocked. The index stays inside the code in
+    /// any case, so the run can be continued.
     pub fn run(&mut self, code: &Code, budget: u64) -> Outcome
         requires { self.old.state.index < length code.now }
         ensures run { (result, self.new.state) ≡ machine.run_of code.now budget self.old.state }
@@ -315,7 +316,7 @@ impl Agent {
         Outcome::OutOfSteps
     }
 
-    /// The word of register 0.
+    /// Returns the word of register 0.
     #[inline(always)]
     pub fn result(&self) -> u64
         ensures { result ≡ slice_index self.now.state.regs 0 }
@@ -323,7 +324,7 @@ impl Agent {
         self.regs[0]
     }
 
-    /// The sum of the region's quadwords, modulo 2^64.
+    /// Returns the sum of the region's quadwords, modulo 2^64.
     pub fn sum(&self) -> u64
         ensures { result
             ≡ sum_of self.now.state.memory self.now.region_at self.now.region % 2 ^ 64 }
@@ -337,7 +338,7 @@ impl Agent {
     }
 }
 
-/// The place of an address among the arena's words, where the spans allow it.
+/// Returns the number of the arena's word at an address, or None if the spans do not allow it.
 #[inline(always)]
 fn place_of(spans: &[(u64, u64)], addr: u64) -> Option<usize>
     requires { agents.AreInArena ARENA spans.now }

@@ -1,9 +1,11 @@
-//! The machine that tests every access.
+//! The reference interpreter: runs code step by step and checks every memory access.
 //!
-//! An `Agent` is a state of the machine in an arena of 8,194 quadwords. The layers above use that
-//! its `load`, `step`, `run` and `sum` are, word for word, the start state, the step, the run and
-//! the sum of the definitions: states, steps and runs stand in alpha_cfg's `specs/Machine`,
-//! memories and rights in word_ops, and what a start puts into an agent in `specs/Starts`.
+//! An `Agent` is a machine state in an arena of 8,194 quadwords. The layers above rely on this: its
+//! `load`, `step`, `run` and `sum` compute exactly the definitions' start state, step, run and sum.
+//!
+//! States, steps and runs are defined in alpha_cfg's `specs/Machine`, memories and access rights in
+//! word_ops, and the state that a start gives in `specs/Starts`.
+//!
 //! Source: Alpha Architecture Handbook, the instruction descriptions.
 #![tactic(auto)]
 

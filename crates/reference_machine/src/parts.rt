@@ -1,4 +1,4 @@
-//! Registers, operands and spans.
+//! Registers, operands and memory spans.
 
 ghost use Rattle.std.specs.Prelude.{◌≡◌, ◌↔◌, IsTrue, length, pos, ◌*ℤ◌};
 ghost use Rattle.alpha_cfg.specs.Machine as machine;
@@ -8,7 +8,7 @@ ghost use Rattle.word_ops.specs.Rights as rights;
 use alpha_words::{Cond, Reg, Rhs};
 use word_ops::{Rel, holds};
 
-/// A register's word: that of `regs`, or 0 for register 31.
+/// Returns a register's word from `regs`, or 0 for register 31.
 #[inline(always)]
 pub fn read_reg(regs: &[u64; 31], reg: Reg) -> u64
     ensures { result ≡ registers.read_reg regs.now reg }
@@ -28,7 +28,7 @@ pub fn write_reg(regs: &mut [u64; 31], reg: Reg, word: u64)
     }
 }
 
-/// The second operand's word: a register's, or the literal.
+/// Returns the word of the second operand: a register's word or the literal.
 #[inline(always)]
 pub fn rhs_word(regs: &[u64; 31], rhs: &Rhs) -> u64
     ensures { result ≡ machine.rhs_word regs.now rhs.now }
@@ -39,7 +39,7 @@ pub fn rhs_word(regs: &[u64; 31], rhs: &Rhs) -> u64
     }
 }
 
-/// The sum of register `rb` and the sign-extended displacement in bytes, modulo 2^64.
+/// Returns the sum of register `rb` and the sign-extended displacement in bytes, modulo 2^64.
 #[inline(always)]
 pub fn address_of(regs: &[u64; 31], rb: Reg, disp: i16) -> u64
     ensures { result ≡ machine.address_of regs.now rb disp }
@@ -47,7 +47,7 @@ pub fn address_of(regs: &[u64; 31], rb: Reg, disp: i16) -> u64
     read_reg(regs, rb).wrapping_add(i64::from(disp).cast_unsigned())
 }
 
-/// The sum of register `rb` and 65,536 times the sign-extended displacement, modulo 2^64.
+/// Returns the sum of register `rb` and 65,536 times the sign-extended displacement, modulo 2^64.
 pub fn far_address_of(regs: &[u64; 31], rb: Reg, disp: i16) -> u64
     ensures { result ≡ machine.address_of regs.now rb (disp *ℤ pos 65536) }
 {
@@ -55,14 +55,14 @@ pub fn far_address_of(regs: &[u64; 31], rb: Reg, disp: i16) -> u64
     read_reg(regs, rb).wrapping_add(far.cast_unsigned())
 }
 
-/// The address of the quadword that holds the byte.
+/// Returns the address of the quadword that holds the byte at `addr`.
 pub fn aligned(addr: u64) -> u64
     ensures { result ≡ machine.aligned addr }
 {
     addr - addr % 8
 }
 
-/// Whether a conditional branch is taken, by the word of its register.
+/// Checks whether a conditional branch is taken if its register holds `word`.
 #[inline(always)]
 pub fn takes(cond: Cond, word: u64) -> bool
     ensures { result ≡ machine.takes cond word }
@@ -79,7 +79,7 @@ pub fn takes(cond: Cond, word: u64) -> bool
     }
 }
 
-/// Whether the address is that of a quadword of the span.
+/// Checks whether `addr` is the address of a quadword of the span.
 #[inline(always)]
 fn is_in_span(span: (u64, u64), addr: u64) -> bool
     ensures { result ≡ rights.in_span span addr }
@@ -92,8 +92,8 @@ fn is_in_span(span: (u64, u64), addr: u64) -> bool
     offset % 8 == 0 && offset / 8 < count
 }
 
-/// Whether `addr` is the address of a quadword of one of the `spans`, each a base address in bytes
-/// and a count of quadwords.
+/// Checks whether `addr` is the address of a quadword of one of the `spans`, each a base address in
+/// bytes and a count of quadwords.
 #[inline(always)]
 pub fn is_allowed(spans: &[(u64, u64)], addr: u64) -> bool
     ensures { result ≡ rights.allowed spans.now addr }

@@ -1,11 +1,12 @@
-//! Code with its invariants, comments and notes as the text of a source.
+//! Printer of code with invariants, comments and notes as a source that assembles back.
 //!
-//! The layers above use that what `print_source` prints spells a source with the code's
-//! instructions, whose branches go to labels, a label for each index that a branch goes to, and the
-//! invariants, whatever comments, hints and notes are printed beside them (`laws`). Which lines are
-//! printed stands in `specs/Listing`, which indices have labels in `specs/Targets`, and what is
-//! asked of code, invariants and the rest in `specs/Laws`. How an instruction and a label are
-//! printed stands in insn_text, a formula in formula_text, and what spells a source in asm_text.
+//! The layers above rely on this (`laws`): what `print_source` prints spells a source with the
+//! code's instructions and its invariants. Comments, hints and notes don't change that. Branches of
+//! the source go to labels, and each index that a branch goes to has one.
+//!
+//! The printed lines are defined in `specs/Listing`, the indices with labels in `specs/Targets`,
+//! and the requirements on code, invariants and the rest in `specs/Laws`. Instructions and labels
+//! are printed by insn_text, formulas by formula_text; asm_text says what spells a source.
 #![tactic(auto)]
 
 mod limits;

@@ -1,4 +1,4 @@
-//! Printing code with its invariants, comments and notes.
+//! A printer of code with its invariants, comments and notes.
 
 ghost use Rattle.std.specs.Prelude.{◌≡◌, ◌≤◌, ◌^◌, ◌++◌, ◌∷◌, ℕ, List, length, drop, map};
 ghost use Rattle.std.specs.Prelude.{codes, decimal, OnOk, IfOk};
@@ -20,19 +20,19 @@ use insn_text::{push_insn, push_label};
 use itoa::Buffer;
 use std::alloc::{AllocError, Global};
 
-/// What is printed beside code with its invariants.
+/// What is printed in addition to code with its invariants.
 #[derive(Drop)]
 pub struct Extras<'a> {
-    /// The comments of the instructions, in order; those that are left have an empty one.
+    /// The comments of the instructions, in order; further instructions have an empty comment.
     pub comments: &'a [Vec<u8>],
-    /// The hints of the instructions, in order, of which only those of returns are printed; those
-    /// that are left have `USUAL_HINT`.
+    /// The hints of the instructions, in order, of which only those of returns are printed; further
+    /// instructions have `USUAL_HINT`.
     pub hints: &'a [u32],
-    /// What stands behind the code, each note on a line of its own.
+    /// The notes after the code, each on a line of its own.
     pub notes: &'a [Vec<u8>],
 }
 
-/// Prints the line of the index's label, where a branch goes there.
+/// Appends the label line of an index, if a branch goes to the index.
 fn push_label_line(out: &mut Vec<u8>, index: u32, is_target: bool) -> Result<(), AllocError>
     ensures { OnOk result ((rest : List Line) → out.new.items ++ lines_text rest
         ≡ out.old.items ++ lines_text (with_label index is_target rest)) }
@@ -45,7 +45,7 @@ fn push_label_line(out: &mut Vec<u8>, index: u32, is_target: bool) -> Result<(),
     Ok(())
 }
 
-/// Prints the line of an invariant.
+/// Appends the line of an invariant.
 fn push_inv_line(alloc: Global, out: &mut Vec<u8>, form: &Form) -> Result<(), AllocError>
     ensures { OnOk result ((rest : List Line) → out.new.items ++ lines_text rest
         ≡ out.old.items ++ lines_text (InvOf (form_view form.now) ∷ rest)) }
@@ -57,8 +57,8 @@ fn push_inv_line(alloc: Global, out: &mut Vec<u8>, form: &Form) -> Result<(), Al
     Ok(())
 }
 
-/// Prints the line of the index's invariant, where the next one is of this index. Gives back which
-/// is the next one then.
+/// Appends the line of the index's invariant, if the next invariant is for this index. Returns the
+/// number of the next invariant after that.
 fn push_inv_of(
     alloc: Global,
     out: &mut Vec<u8>,
@@ -85,7 +85,7 @@ fn push_inv_of(
     Ok(next + 1)
 }
 
-/// The hint of the instruction at an index.
+/// Returns the hint of the instruction at an index.
 fn hint_at(extras: &Extras, index: u32) -> u32
     ensures { result ≡ hint_at (extras_view extras.now) index }
 {
@@ -95,7 +95,7 @@ fn hint_at(extras: &Extras, index: u32) -> u32
     }
 }
 
-/// Prints the comment of the instruction at an index.
+/// Appends the comment of the instruction at an index.
 fn push_comment(out: &mut Vec<u8>, extras: &Extras, index: u32) -> Result<(), AllocError>
     ensures { OnOk result (out.new.items
         ≡ out.old.items ++ comment_at (extras_view extras.now) index) }
@@ -106,7 +106,7 @@ fn push_comment(out: &mut Vec<u8>, extras: &Extras, index: u32) -> Result<(), Al
     }
 }
 
-/// Prints a return with its hint.
+/// Appends a return with its hint.
 fn push_return(out: &mut Vec<u8>, hint: u32) -> Result<(), AllocError>
     ensures { OnOk result (out.new.items
         ≡ out.old.items ++ (codes "ret $31,($26)," ++ decimal hint)) }
@@ -117,7 +117,7 @@ fn push_return(out: &mut Vec<u8>, hint: u32) -> Result<(), AllocError>
     Ok(())
 }
 
-/// Prints the instruction at an index: a return has its hint, where that isn't the usual one.
+/// Appends the instruction at an index; a return has its hint, unless that is the usual one.
 fn push_hinted(out: &mut Vec<u8>, index: u32, insn: Insn, hint: u32) -> Result<(), AllocError>
     requires { InsideOf (2 ^ 32) (target_of index insn) }
     ensures { OnOk result (out.new.items ≡ out.old.items ++ hinted_text index insn hint) }
@@ -131,7 +131,7 @@ fn push_hinted(out: &mut Vec<u8>, index: u32, insn: Insn, hint: u32) -> Result<(
     }
 }
 
-/// Prints the line of the instruction at an index.
+/// Appends the line of the instruction at an index.
 fn push_insn_line(
     out: &mut Vec<u8>,
     extras: &Extras,
@@ -150,7 +150,7 @@ fn push_insn_line(
     Ok(())
 }
 
-/// The lines of the instructions, with their labels and invariants.
+/// Returns the lines of the instructions, with their labels and invariants.
 fn print_insns(
     alloc: Global,
     insns: &[Insn],
@@ -173,7 +173,7 @@ fn print_insns(
     Ok(out)
 }
 
-/// Prints the line of a note.
+/// Appends the line of a note.
 fn push_note(out: &mut Vec<u8>, note: &[u8]) -> Result<(), AllocError>
     ensures { OnOk result ((rest : List Line) → out.new.items ++ lines_text rest
         ≡ out.old.items ++ lines_text (Note note.now ∷ rest)) }
@@ -184,7 +184,7 @@ fn push_note(out: &mut Vec<u8>, note: &[u8]) -> Result<(), AllocError>
     Ok(())
 }
 
-/// Prints the lines of the notes.
+/// Appends the lines of the notes.
 fn push_notes(out: &mut Vec<u8>, notes: &[Vec<u8>]) -> Result<(), AllocError>
     ensures { OnOk result (out.new.items
         ≡ out.old.items ++ lines_text (map Note (map (λ v. v.items) notes.now))) }
@@ -195,16 +195,22 @@ fn push_notes(out: &mut Vec<u8>, notes: &[Vec<u8>]) -> Result<(), AllocError>
     Ok(())
 }
 
-/// The text of code with its invariants, each of which has the index of its instruction: a line for
-/// each instruction with its comment, before it a line for its invariant, and before that a line
-/// for its label, `L` and its index, where a branch goes there; behind them a line for each note.
-/// Fails only for want of memory.
+/// Returns the text of code with its invariants, each of which has the index of its instruction.
 ///
-/// The text spells a source with the same instructions and invariants, where these are the
-/// profile's and stand in order, no invariant's text is longer than `MAX_FORM_TEXT`, comments and
-/// notes are printable and at most `MAX_COMMENT` long, and no hint is above `MAX_HINT` (`laws`).
+/// Each instruction has a line with its comment. Before it comes a line for its invariant, and
+/// before that a line for its label, `L` and its index, if a branch goes there. After the code
+/// comes a line for each note.
 ///
-/// Asks that there are at most `MAX_WORDS` instructions, and that branches stay inside, as in code.
+/// The text spells a source with these instructions and invariants if (see `laws`):
+///
+/// - the code is well-formed code of the profile;
+/// - the invariants are formulas of the profile, at most `asm_text::MAX_INVS`, and in order;
+/// - no invariant's text is longer than `MAX_FORM_TEXT`;
+/// - comments and notes are printable and at most `MAX_COMMENT` long;
+/// - no hint is above `MAX_HINT`.
+///
+/// There must be at most `MAX_WORDS` instructions, and branches must stay inside, as in well-formed
+/// code. Errors: out of memory.
 pub fn print_source(
     alloc: Global,
     insns: &[Insn],

@@ -1,4 +1,4 @@
-//! Which indices branches go to.
+//! The indices that branches go to.
 
 ghost use Rattle.std.specs.Prelude.{◌≡◌, ◌≤◌, ◌<◌, ◌||◌, ℕ, length, slice_index_or, false, IfOk};
 ghost use Rattle.alpha_words.specs.Lawful.{target_of};
@@ -22,7 +22,7 @@ fn mark(flags: &mut [bool], i: u32, insn: Insn)
     }
 }
 
-/// A flag for each index, set where some instruction branches to it.
+/// Returns a flag for each index, set if some instruction branches to it. Errors: out of memory.
 pub fn targets(alloc: Global, insns: &[Insn]) -> Result<Vec<bool>, AllocError>
     requires short { length insns.now ≤ MAX_WORDS }
     requires inside { (i : ℕ) → IsInside insns.now i }

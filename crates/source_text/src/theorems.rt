@@ -1,4 +1,4 @@
-//! What holds of the definitions, with nothing to run.
+//! Theorems about the definitions, with nothing to run.
 
 ghost use Rattle.std.specs.Prelude.{◌≡◌, ℕ, Bool, List, length, map};
 ghost use Rattle.word_ops.specs.declared.Profile.{Profile};
@@ -10,11 +10,11 @@ ghost use Rattle.source_text.specs.Listing.{ExtrasView, code_text, code_source};
 ghost use Rattle.source_text.specs.Laws.{IsSpellableCode, AreSpellableExtras};
 ghost use Rattle.source_text.specs.Laws.{source_insns_from, labels_where};
 
-/// For each profile, and whether invariants may name the steps that are left or not: the text of
-/// code of the profile with its invariants spells the source of its lines, the same with whatever
-/// comments, hints and notes are printed beside them. The instructions of that source are the
-/// code's, in order, its labels those of the indices that branches go to, and its invariants the
-/// given ones.
+/// Proves that the printed text of code with its invariants spells the source of its lines.
+///
+/// This holds for each profile, whether invariants may name the remaining steps or not. The source
+/// doesn't depend on the comments, hints and notes. Its instructions are the code's, in order. It
+/// has a label for each index that a branch goes to. Its invariants are the given ones.
 pub fn laws()
     ensures spells { (p : Profile) (left : Bool) (code : List Insn) (invs : List (ℕ × Form))
         (extras : ExtrasView) → IsSpellableCode p left code invs → AreSpellableExtras extras

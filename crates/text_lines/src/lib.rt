@@ -1,9 +1,9 @@
-//! The lines of texts.
+//! Splitting of texts into lines, which end in LF or CR LF.
 //!
-//! LF ends a line, and one CR before it is dropped; the last line may lack its LF. The layers above
-//! use that `split_line` gives the first line of a text and the text behind it, and that
-//! `line_count` counts the lines. Lines stand in `specs/Lines`, as a relation between a text and
-//! its lines and as a function; `laws` says that they are the same.
+//! LF ends a line, and one CR before it is dropped; the last line needs no LF. The layers above
+//! rely on two functions: `split_line` returns the first line of a text and the text after it, and
+//! `line_count` returns the number of lines. `specs/Lines` defines lines as a relation between a
+//! text and its lines and as a function; `laws` proves that the two agree.
 #![tactic(auto)]
 
 mod lines;

@@ -1,10 +1,10 @@
-//! Lines, cut off a text.
+//! Splitting of a text into lines.
 
 ghost use Rattle.std.specs.Prelude.{◌≡◌, ℕ, ◌<◌, ◌≤◌, ◌∷◌, ◌++◌, List, length, take};
 ghost use Rattle.std.specs.Prelude.{slice_index};
 ghost use Rattle.text_lines.specs.Lines.{IsLine, lines_of};
 
-/// How many bytes stand before the first LF, or before the end.
+/// Returns the number of bytes before the first LF, or before the end if there is none.
 fn line_length(text: &[u8]) -> usize
     ensures within { result ≤ length text.now }
     ensures line { IsLine (take result text.now) }
@@ -18,7 +18,7 @@ fn line_length(text: &[u8]) -> usize
     text.len()
 }
 
-/// The line without the CR at its end, if it has one.
+/// Returns the line without the CR at its end, if it has one.
 fn without_cr(line: &[u8]) -> &[u8]
     ensures { (rest : List ℕ) → IsLine line.now
         → lines_of (line.now ++ (10 ∷ rest)) ≡ result.now ∷ lines_of rest }
@@ -34,7 +34,7 @@ fn without_cr(line: &[u8]) -> &[u8]
     }
 }
 
-/// The first line, and the text behind it.
+/// Returns the first line of a text that isn't empty, and the text after it.
 pub fn split_line(text: &[u8]) -> (&[u8], &[u8])
     requires { 0 < length text.now }
     ensures line { lines_of text.now ≡ result.0.now ∷ lines_of result.1.now }
@@ -47,7 +47,7 @@ pub fn split_line(text: &[u8]) -> (&[u8], &[u8])
     (without_cr(&text[..count]), &text[count + 1..])
 }
 
-/// How many lines the text has.
+/// Returns the number of lines of the text.
 pub fn line_count(text: &[u8]) -> usize
     ensures exact { result ≡ length (lines_of text.now) }
 {

@@ -1,10 +1,10 @@
-//! What holds of the definitions, with nothing to run.
+//! Theorems about the definitions, with nothing to run.
 
 ghost use Rattle.std.specs.Prelude.{◌≡◌, ◌↔◌, ℕ, List};
 ghost use Rattle.text_lines.specs.Lines.{AreLines, lines_of};
 
-/// A text has lines exactly where the function gives them, so each text has its lines, and no
-/// others.
+/// Proves that a text has lines exactly if the function gives them, so each text has exactly one
+/// list of lines.
 pub fn laws()
     ensures lines { (text : List ℕ) (ls : List (List ℕ)) → AreLines text ls ↔ (lines_of text ≡ ls) }
 {}

@@ -1,11 +1,15 @@
-//! The tokens of texts, the names of registers, and numbers.
+//! Lexing of text formats: tokens, register names, and numbers.
 //!
-//! The layers above use that `next_token` gives the first token of a text from a position on,
-//! whatever the text's marks are; that `register` gives the register that a lexeme names; and that
-//! `read_number` and `read_decimal` give the number that a lexeme is. Tokens stand in
-//! `specs/Tokens`, as a relation between text and tokens and as a function with their positions,
-//! parentheses as marks in `specs/Parens`, registers in `specs/Registers`, numbers in
-//! `specs/Numbers`. The format is this project's own; the names of registers are the Alpha's.
+//! The layers above rely on these functions:
+//!
+//! - `next_token` returns the first token of a text from a position on, whatever its punctuation;
+//! - `register` returns the register that a lexeme names;
+//! - `read_number` and `read_decimal` return the number that a lexeme denotes.
+//!
+//! Tokens are defined in `specs/Tokens`, as a relation between text and tokens and as a function
+//! with their positions; parentheses as punctuation in `specs/Parens`, registers in
+//! `specs/Registers`, numbers in `specs/Numbers`. The format is this project's own; the register
+//! names are the Alpha's.
 #![tactic(auto)]
 
 mod numbers;

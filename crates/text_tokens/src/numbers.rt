@@ -6,18 +6,18 @@ ghost use Rattle.text_tokens.specs.Numbers.{numeral, lexeme_number, is_digit, be
 ghost use Rattle.text_tokens.specs.Answers.{IsNumberAnswer};
 ghost use Rattle.text_tokens.specs.Inside.Rows.{if_word};
 
-/// Which number a lexeme is.
+/// The value of a lexeme read as a number.
 #[derive(Clone, Copy, Debug, PartialEq, Eq)]
 pub enum Number {
-    /// It is no number.
+    /// The lexeme is no number.
     NoNumber,
-    /// This one, below 2^64.
+    /// A number below 2^64.
     Word(u64),
-    /// One from 2^64 on.
+    /// A number of 2^64 or more.
     Large,
 }
 
-/// The value of a digit or letter, and 36 for any other byte.
+/// Returns the value of a digit or letter, and 36 for any other byte.
 fn digit(byte: u8) -> u64
     ensures { result ≡ digit_value byte }
 {
@@ -39,7 +39,7 @@ fn digit(byte: u8) -> u64
     }
 }
 
-/// A number with one digit more, where both are below 2^64.
+/// Appends a digit to a number; None if the old or the new number is not below 2^64.
 fn with_digit(value: Option<u64>, radix: u64, digit: u64) -> Option<u64>
     requires { 1 ≤ radix }
     ensures { (n : ℕ) → value ≡ if_word n → result ≡ if_word (n * radix + digit) }
@@ -53,7 +53,7 @@ fn with_digit(value: Option<u64>, radix: u64, digit: u64) -> Option<u64>
     }
 }
 
-/// The number of digits in this radix.
+/// Parses digits in this radix.
 fn numeral(radix: u64, digits: &[u8]) -> Number
     requires { 1 ≤ radix }
     ensures { IsNumberAnswer (numeral radix digits.now) result }
@@ -75,8 +75,8 @@ fn numeral(radix: u64, digits: &[u8]) -> Number
     }
 }
 
-/// The number that `lexeme` is: decimal digits, or `0x` and hexadecimal digits of either case;
-/// leading zeros count for nothing.
+/// Parses `lexeme` as a number: decimal digits, or `0x` and hexadecimal digits of either case.
+/// Leading zeros don't change the value.
 pub fn read_number(lexeme: &[u8]) -> Number
     ensures exact { IsNumberAnswer (lexeme_number lexeme.now) result }
 {
@@ -86,21 +86,21 @@ pub fn read_number(lexeme: &[u8]) -> Number
     }
 }
 
-/// The number that the decimal digits of `lexeme` are; leading zeros count for nothing.
+/// Parses `lexeme` as a number in decimal digits. Leading zeros don't change the value.
 pub fn read_decimal(lexeme: &[u8]) -> Number
     ensures exact { IsNumberAnswer (numeral 10 lexeme.now) result }
 {
     numeral(10, lexeme)
 }
 
-/// Whether the byte is a decimal digit.
+/// Checks whether the byte is a decimal digit.
 pub fn is_digit(byte: u8) -> bool
     ensures { result ≡ is_digit byte }
 {
     b'0' <= byte && byte <= b'9'
 }
 
-/// Whether the lexeme begins with a decimal digit.
+/// Checks whether the lexeme begins with a decimal digit.
 pub fn begins_with_digit(lexeme: &[u8]) -> bool
     ensures { result ≡ begins_with_digit lexeme.now }
 {

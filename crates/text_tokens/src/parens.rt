@@ -1,10 +1,10 @@
-//! The marks of formulas.
+//! The punctuation of formulas.
 
 ghost use Rattle.text_tokens.specs.Parens.{paren_class};
 
 use crate::tokens::{Class, Marks};
 
-/// A parenthesis.
+/// A parenthesis, the only punctuation of formulas.
 #[derive(Clone, Copy, Debug, PartialEq, Eq)]
 pub enum Paren {
     /// `(`.

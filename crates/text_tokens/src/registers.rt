@@ -44,7 +44,7 @@ static REGISTERS: [Row; 32] = [
     Row("31", "zero"),
 ];
 
-/// Whether the lexeme is the number with `$` or `r` before it.
+/// Checks whether the lexeme is the number with `$` or `r` before it.
 fn is_numbered(number: &[u8], lexeme: &[u8]) -> bool
     ensures { result ≡ (bytes_eq lexeme.now (36 ∷ number.now)
         || bytes_eq lexeme.now (114 ∷ number.now)) }
@@ -55,14 +55,14 @@ fn is_numbered(number: &[u8], lexeme: &[u8]) -> bool
     }
 }
 
-/// Whether the row names its register so.
+/// Checks whether the lexeme is a name of the row's register.
 fn is_named(row: &Row, lexeme: &[u8]) -> bool
     ensures { result ≡ is_named (row.now.0.now, row.now.1.now) lexeme.now }
 {
     is_numbered(row.0.as_bytes(), lexeme) || lexeme == row.1.as_bytes()
 }
 
-/// The place of the first row that names its register so.
+/// Returns the index of the first row that the lexeme names, or None.
 fn register_in(rows: &[Row], lexeme: &[u8]) -> Option<usize>
     ensures row { result ≡ register_in (rows_view rows.now) 0 lexeme.now }
     ensures within { IfSome result (λ i. i < length rows.now) }
@@ -75,7 +75,7 @@ fn register_in(rows: &[Row], lexeme: &[u8]) -> Option<usize>
     None
 }
 
-/// The place in the table of the register that the lexeme names.
+/// Returns the index in the table of the register that the lexeme names, or None.
 #[tactic(auto, unfolding(crate::specs::Registers::register_of, crate::specs::Registers::registers))]
 fn register_row(lexeme: &[u8]) -> Option<usize>
     ensures value { result ≡ register_of lexeme.now }
@@ -84,8 +84,9 @@ fn register_row(lexeme: &[u8]) -> Option<usize>
     register_in(&REGISTERS, lexeme)
 }
 
-/// The number, 0 to 31, of the register that `lexeme` names: `$` or `r` and the number without
-/// leading zeros, or the name of the calling standard; `None` where it names none.
+/// Returns the number, 0 to 31, of the register that `lexeme` names, or None if it names none. A
+/// register's names are `$` or `r` and the number without leading zeros, and the name of the
+/// calling standard.
 pub fn register(lexeme: &[u8]) -> Option<u8>
     ensures exact { result ≡ register_of lexeme.now }
     ensures within { IfSome result (λ r. r < 32) }

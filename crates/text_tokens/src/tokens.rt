@@ -1,4 +1,4 @@
-//! The tokens of a text, whatever its marks are.
+//! The tokens of a text, whatever its punctuation.
 
 ghost use Rattle.std.specs.Prelude.{◌≡◌, ℕ, ◌+◌, ◌<◌, ◌≤◌, ◌∷◌, [], length, drop, slice_index};
 ghost use Rattle.std.specs.Prelude.{false, IfSome, IfNone};
@@ -7,47 +7,47 @@ ghost use Rattle.text_tokens.specs.Tokens.{is_blank, is_ordinary, tokens_at, tok
 ghost use Rattle.text_tokens.specs.Tokens.{token_length};
 ghost use Rattle.text_tokens.specs.Inside.Fronts.{lexeme_front};
 
-/// What a byte does in a text.
+/// The role of a byte in a text.
 #[derive(Clone, Copy, Debug, PartialEq, Eq)]
 pub enum Class<M> {
-    /// It stands between tokens.
+    /// The byte separates tokens.
     Blank,
-    /// It is a token by itself.
+    /// The byte is a token by itself.
     Mark(M),
-    /// It stands in a lexeme.
+    /// The byte is part of a lexeme.
     Ordinary,
 }
 
-/// The marks of a kind of text: its tokens of one byte.
+/// The punctuation of a text format: its tokens of one byte.
 pub trait Marks: Copy {
     ghost class: { ℕ → Class Self };
 
-    /// What a byte does in such a text.
+    /// Returns the role of the byte in a text of this format.
     fn classify(byte: u8) -> Class<Self>
         ensures exact { result ≡ class byte };
 }
 
-/// A token.
+/// A token: a punctuation byte or a lexeme.
 #[derive(Clone, Copy)]
 pub enum Token<'t, M> {
     /// A token of one byte.
     Mark(M),
-    /// Ordinary bytes, as many as stand together.
+    /// A longest run of ordinary bytes.
     Lexeme(&'t [u8]),
 }
 
-/// A token of a text, with the positions of its first byte and of the byte behind it.
+/// A token of a text, with the positions of its first byte and of the byte after it.
 #[derive(Clone, Copy)]
 pub struct Placed<'t, M> {
-    /// The position of its first byte, counted from 0.
+    /// The position of its first byte, in bytes from 0.
     pub at: usize,
     /// The token.
     pub token: Token<'t, M>,
-    /// The position behind its last byte.
+    /// The position after its last byte.
     pub next: usize,
 }
 
-/// Whether the byte stands between tokens.
+/// Checks whether the byte separates tokens.
 fn is_blank<M: Marks>(byte: u8) -> bool
     ensures { result ≡ is_blank (M.class byte) }
 {
@@ -57,7 +57,7 @@ fn is_blank<M: Marks>(byte: u8) -> bool
     }
 }
 
-/// Whether the byte stands in lexemes.
+/// Checks whether the byte is part of lexemes.
 fn is_ordinary<M: Marks>(byte: u8) -> bool
     ensures { result ≡ is_ordinary (M.class byte) }
 {
@@ -67,7 +67,7 @@ fn is_ordinary<M: Marks>(byte: u8) -> bool
     }
 }
 
-/// The first position from `from` on with a byte that is no blank.
+/// Returns the first position from `from` on whose byte is no blank, or the text's length.
 fn after_blanks<M: Marks>(text: &[u8], from: usize) -> usize
     requires { from ≤ length text.now }
     ensures within { result ≤ length text.now }
@@ -85,7 +85,7 @@ fn after_blanks<M: Marks>(text: &[u8], from: usize) -> usize
     text.len()
 }
 
-/// How long the lexeme at the front is.
+/// Returns the length in bytes of the lexeme at the front.
 #[tactic(auto, using(crate::proofs::Fronts::front_ends, crate::proofs::Fronts::front_past))]
 fn lexeme_length<M: Marks>(text: &[u8]) -> usize
     ensures { result ≡ length (lexeme_front M.class text.now) }
@@ -98,7 +98,7 @@ fn lexeme_length<M: Marks>(text: &[u8]) -> usize
     text.len()
 }
 
-/// The lexeme at a position.
+/// Returns the lexeme at a position.
 fn lexeme_at<M: Marks>(text: &[u8], at: usize) -> Placed<'_, M>
     requires within { at < length text.now }
     requires ordinary { M.class (slice_index text.now at) ≡ Class.Ordinary }
@@ -118,7 +118,7 @@ fn lexeme_at<M: Marks>(text: &[u8], at: usize) -> Placed<'_, M>
     }
 }
 
-/// The first token from position `from` on; `None` where only blanks are left.
+/// Returns the first token from position `from` on, or None if only blanks are left.
 pub fn next_token<M: Marks>(text: &[u8], from: usize) -> Option<Placed<'_, M>>
     requires { from ≤ length text.now }
     ensures some { IfSome result (λ p. tokens_at M.class from (drop from text.now)

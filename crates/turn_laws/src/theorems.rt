@@ -1,4 +1,4 @@
-//! What holds of the definitions, with nothing to run.
+//! Theorems about the definitions, with nothing to run.
 
 ghost use Rattle.std.specs.Prelude.{◌≡◌, ◌≢◌, ℕ, suc, ◌+◌, ◌*◌, Bool, true, false, List, slice_get, Some, None, option_map, if◌then◌else◌};
 ghost use Rattle.alpha_words.specs.declared.insn.Insn.{Insn};
@@ -8,12 +8,14 @@ ghost use Rattle.turn_laws.specs.declared.turns.Turn.{Turn};
 ghost use Rattle.turn_laws.specs.Turns.{Agent, may_go_on, run_on, after_turn, after_turns, budget_of, answer_from};
 ghost use Rattle.turn_laws.specs.Parts.{World, turn_in, turns_in, AreApart, AreAsAlone, LieIn, LieInParts, IsWhereAlone, part_from, LieBetween};
 
-/// Whatever the turns, each agent is where one run alone takes it, with the sum of its own budgets
-/// (`alone`); so neither the order of turns nor how budgets are cut changes what agents come to
-/// (`order`). A turn leaves every other agent as it was (`others`). Two runs of an agent, one behind
-/// the other, are one with both budgets (`joined`), and where a run has ended more steps change
-/// nothing (`ended`). A turn answers how the run alone ends with all budgets up to it, and none
-/// where that run ended with those before it (`answer`).
+/// Proves that each agent is in the state that one run alone gives it, whatever the turns, with the
+/// sum of its own budgets (`alone`).
+///
+/// So neither the order of turns nor how budgets are split changes the agents' states (`order`). A
+/// turn leaves every other agent unchanged (`others`). Two runs of an agent, one after the other,
+/// are one run with both budgets (`joined`). If a run has ended, more steps change nothing
+/// (`ended`). A turn returns how the run alone ends with all budgets up to it. It returns none if
+/// that run ended with the budgets before it (`answer`).
 pub fn laws()
     ensures alone { (turns : List Turn) (agents : List Agent) (a : ℕ)
         → slice_get (after_turns turns agents) a
@@ -32,11 +34,13 @@ pub fn laws()
         then Some (run_of agent.code (n + k) agent.state).0 else None) }
 {}
 
-/// Agents that share one memory, each with rights in a part of its own, are after a turn as those
-/// that have each a memory of its own (`turn`), and so after every list of turns (`turns`). So each
-/// is where one run alone takes it from the arena as it was (`each`): its outcome, its index, its
-/// registers and all of its part. Parts of one size behind each other are apart (`apart`), and
-/// rights whose spans lie in a part lie in it (`spans`).
+/// Proves that agents which share one memory, each with rights only in its own part, end a turn as
+/// if each had a memory of its own (`turn`).
+///
+/// That also holds for every list of turns (`turns`). So each agent is in the state that one run
+/// alone gives it from the initial arena: its outcome, its index, its registers and all of its part
+/// (`each`). Parts of one size, one after the other, are disjoint (`apart`). Rights whose spans are
+/// in a part are rights in that part (`spans`).
 pub fn part_laws()
     ensures turn { (part : ℕ → ℕ → Bool) (turn : Turn) (world : World) (alone : List Agent)
         → AreApart part → AreAsAlone part world alone

@@ -1,19 +1,19 @@
-//! Turns, and how many steps they give an agent.
+//! Turns, and the number of steps that they give an agent.
 
 ghost use Rattle.std.specs.Prelude.{◌≡◌, ◌<◌, ◌^◌};
 ghost use Rattle.turn_laws.specs.Turns.{budget_of};
 
-/// Which agent may run, by its place in the list, and how many steps it makes at most.
+/// A turn: the agent that may run, by its place in the list, and its step limit.
 #[derive(Clone, Copy)]
 pub struct Turn {
     /// The agent's place in the list of agents, from 0.
     pub agent: u32,
-    /// At most how many steps.
+    /// The maximum number of steps.
     pub budget: u64,
 }
 
-/// The sum of the budgets of the agent's own turns, which is below 2^64: with it one run alone
-/// takes the agent where these turns take it.
+/// Returns the sum of the budgets of the agent's own turns, which must be below 2^64. One run alone
+/// with this budget takes the agent to the state to which these turns take it.
 pub fn own_budget(turns: &[Turn], agent: u32) -> u64
     requires { budget_of agent turns.now < 2 ^ 64 }
     ensures exact { result ≡ budget_of agent turns.now }

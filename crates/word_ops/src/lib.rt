@@ -1,11 +1,18 @@
-//! Arithmetic and comparisons of 64-bit words.
+//! 64-bit machine words: the result of every operator and relation, from one table.
 //!
-//! What every layer above shares stands in this crate's definitions: the operators and relations
-//! (`specs/Words`), what names an operator and which profiles have it (`specs/Operators`, one table
-//! for all), memories (`specs/Memory`), rights to load and store (`specs/Rights`) and the
-//! registers' words (`specs/Registers`). The layers use that `apply` and `holds` are the
-//! definitions' `word_of` and `test_of`. Source: Alpha Architecture Handbook, "Integer Arithmetic
-//! Instructions" and "Logical and Shift Instructions".
+//! All layers above share the definitions in `specs/`:
+//!
+//! - `Words`: the operators and relations;
+//! - `Operators`: their names and profiles, one table for all;
+//! - `Memory`: memories;
+//! - `Rights`: rights to load and store;
+//! - `Registers`: the registers' words.
+//!
+//! The layers above rely on this: `apply` and `holds` compute exactly the definitions' `word_of`
+//! and `test_of`.
+//!
+//! Source: Alpha Architecture Handbook, "Integer Arithmetic Instructions" and "Logical and Shift
+//! Instructions".
 
 #![tactic(auto)]
 
@@ -21,7 +28,7 @@ pub use operators::{
 };
 pub use theorems::{laws, operator_laws, order_laws};
 
-/// An operator of two words.
+/// A binary operator on 64-bit words.
 #[derive(Clone, Copy, Debug, PartialEq, Eq)]
 pub enum Op {
     /// The sum, modulo 2^64.
@@ -32,39 +39,41 @@ pub enum Op {
     Band,
     /// Bitwise or.
     Bis,
-    /// Shift to the left, zeros in.
+    /// Shift left; zeros come in.
     Sll,
-    /// Shift to the right, zeros in.
+    /// Logical shift right; zeros come in.
     Srl,
-    /// 1 where the words are equal, else 0.
+    /// 1 if the words are equal, else 0.
     Cmpeq,
-    /// 1 where the first is less, both read in two's complement, else 0.
+    /// 1 if the first word is less, both read as two's complement, else 0.
     Cmplt,
-    /// 1 where the first is less or equal, both read in two's complement, else 0.
+    /// 1 if the first word is less or equal, both read as two's complement, else 0.
     Cmple,
-    /// 1 where the first is less, else 0.
+    /// 1 if the first word is less, both read as unsigned, else 0.
     Cmpult,
-    /// 1 where the first is less or equal, else 0.
+    /// 1 if the first word is less or equal, both read as unsigned, else 0.
     Cmpule,
     /// Bitwise exclusive or.
     Xor,
-    /// Bitwise and with the second word's complement.
+    /// Bitwise and with the complement of the second word.
     Bic,
-    /// The sum of four times the first and the second, modulo 2^64.
+    /// The sum of four times the first word and the second, modulo 2^64.
     S4add,
-    /// The sum of eight times the first and the second, modulo 2^64.
+    /// The sum of eight times the first word and the second, modulo 2^64.
     S8add,
-    /// Shift to the right, copies of the sign in.
+    /// Arithmetic shift right; copies of the sign bit come in.
     Sra,
-    /// The byte at the place that the second word names, modulo 8, and zeros beyond the word.
+    /// The byte of the first word at byte offset `b` modulo 8, zero-extended, `b` being the second
+    /// word.
     Extb,
-    /// The same of the two bytes from there on.
+    /// The two bytes from byte offset `b` modulo 8 on, zero-extended; bytes past the word are zero.
     Extw,
-    /// The same of the four bytes from there on.
+    /// The four bytes from byte offset `b` modulo 8 on, zero-extended; bytes past the word are
+    /// zero.
     Extl,
 }
 
-/// Which operators and instructions there are: `One` has the operators to `Cmpule`, `Two` has all.
+/// A set of operators and instructions: `One` has the operators up to `Cmpule`, `Two` has all.
 #[derive(Clone, Copy, Debug, PartialEq, Eq)]
 pub enum Profile {
     /// The first eleven operators.
@@ -73,22 +82,22 @@ pub enum Profile {
     Two,
 }
 
-/// A relation of two words. The signed ones read two's complement.
+/// A relation between two words. The signed relations read two's complement.
 #[derive(Clone, Copy, Debug, PartialEq, Eq)]
 pub enum Rel {
     /// Equal.
     Eq,
-    /// Unsigned less.
+    /// Unsigned less than.
     Ult,
-    /// Unsigned less or equal.
+    /// Unsigned less than or equal.
     Ule,
-    /// Signed less.
+    /// Signed less than.
     Slt,
-    /// Signed less or equal.
+    /// Signed less than or equal.
     Sle,
 }
 
-/// Whether the relation holds of the two words.
+/// Checks whether the relation `rel` holds between `a` and `b`, in this order.
 pub fn holds(rel: Rel, a: u64, b: u64) -> bool
     ensures { result ≡ test_of rel a b }
 {
@@ -101,7 +110,7 @@ pub fn holds(rel: Rel, a: u64, b: u64) -> bool
     }
 }
 
-/// The word shifted to the right by `by` bits, copies of its sign in.
+/// Shifts `a` right by `by` bits, with copies of its sign bit coming in.
 fn shifted_signed(a: u64, by: u64) -> u64
     requires { by < 64 }
     ensures { result ≡ shifted_signed a by }
@@ -113,7 +122,8 @@ fn shifted_signed(a: u64, by: u64) -> u64
     }
 }
 
-/// What the operator gives; sums and differences wrap, and a shift takes its count modulo 64.
+/// Returns the result of `op` on `a` and `b`. Sums and differences wrap around; a shift takes its
+/// count modulo 64.
 pub fn apply(op: Op, a: u64, b: u64) -> u64
     ensures { result ≡ word_of op a b }
 {

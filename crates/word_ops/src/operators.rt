@@ -1,7 +1,7 @@
-//! The table of operators: what names each one in terms, formulas, sources and code words.
+//! The table of operators: their names in terms, formulas, sources and instruction words.
 //!
-//! A new operator is a row here, and one in `specs/Operators`; the crates above look it up.
-//! Source of mnemonics, opcodes and functions: Alpha Architecture Handbook, the opcode tables.
+//! A new operator is a row here and a row in `specs/Operators`; the crates above look it up. Source
+//! of mnemonics, opcodes and functions: Alpha Architecture Handbook, the opcode tables.
 
 ghost use Rattle.std.specs.Prelude.{◌≡◌, ◌<◌, ◌==◌, ◌&&◌};
 ghost use Rattle.std.specs.Str.{bytes_eq};
@@ -9,7 +9,7 @@ ghost use Rattle.word_ops.specs.Operators as operators;
 
 use crate::{Op, Profile};
 
-/// All operators, by their numbers.
+/// All operators, in the order of their numbers.
 pub const OPERATORS: [Op; 19] = [
     Op::Add,
     Op::Sub,
@@ -32,11 +32,11 @@ pub const OPERATORS: [Op; 19] = [
     Op::Extl,
 ];
 
-/// Number, constant, keyword, mnemonic, opcode and function of an operator.
+/// The number, constant, keyword, mnemonic, opcode and function of an operator.
 #[derive(Clone, Copy)]
 struct Row(u32, u32, &'static str, &'static str, u32, u32);
 
-/// The operator's row of the table.
+/// Returns the operator's row of the table.
 fn op_row(op: Op) -> Row
     ensures number { result.0 ≡ operators.op_number op }
     ensures constant { result.1 ≡ operators.op_constant op }
@@ -68,35 +68,35 @@ fn op_row(op: Op) -> Row
     }
 }
 
-/// Answers the number by which evaluations name an operator: its place in `OPERATORS`, 0 to 18.
+/// Returns the number that names an operator in evaluations: its index in `OPERATORS`, 0 to 18.
 pub fn op_number(op: Op) -> u32
     ensures { result ≡ operators.op_number op }
 {
     op_row(op).0
 }
 
-/// Answers the constant that stands for an operator in terms.
+/// Returns the number of the constant that denotes an operator in terms.
 pub fn op_constant(op: Op) -> u32
     ensures { result ≡ operators.op_constant op }
 {
     op_row(op).1
 }
 
-/// Answers the name of an operator in formulas.
+/// Returns the name of an operator in formulas.
 pub fn op_keyword(op: Op) -> &'static str
     ensures { result.now ≡ operators.op_keyword op }
 {
     op_row(op).2
 }
 
-/// Answers the name of an operator in sources: its instruction's mnemonic.
+/// Returns the name of an operator in sources: the mnemonic of its instruction.
 pub fn op_mnemonic(op: Op) -> &'static str
     ensures { result.now ≡ operators.op_mnemonic op }
 {
     op_row(op).3
 }
 
-/// Answers the opcode, below 64, and the function, below 128, of an operator's instruction.
+/// Returns the opcode, below 64, and the function, below 128, of an operator's instruction.
 pub fn op_code(op: Op) -> (u32, u32)
     ensures opcode { result.0 ≡ operators.op_opcode op }
     ensures function { result.1 ≡ operators.op_function op }
@@ -107,7 +107,7 @@ pub fn op_code(op: Op) -> (u32, u32)
     (row.4, row.5)
 }
 
-/// Answers the operator that evaluations name by `number`: None past 18.
+/// Returns the operator that evaluations name by `number`, or None if `number` is above 18.
 pub fn op_of(number: u32) -> Option<Op>
     ensures { result ≡ operators.op_of number }
 {
@@ -117,7 +117,7 @@ pub fn op_of(number: u32) -> Option<Op>
         .find(|op| op_number(*op) == number)
 }
 
-/// Answers the operator that a constant stands for in terms: None where it is no operator's.
+/// Returns the operator that a constant denotes in terms, or None if it denotes no operator.
 pub fn op_of_constant(constant: u32) -> Option<Op>
     ensures { result ≡ operators.op_of_constant constant }
 {
@@ -127,14 +127,14 @@ pub fn op_of_constant(constant: u32) -> Option<Op>
         .find(|op| op_constant(*op) == constant)
 }
 
-/// Whether the operator has this name in formulas.
+/// Checks whether `text` is the operator's name in formulas.
 fn has_keyword(op: Op, text: &[u8]) -> bool
     ensures { result ≡ bytes_eq text.now (operators.op_keyword op) }
 {
     text == op_keyword(op).as_bytes()
 }
 
-/// Answers the operator with this name in formulas: None where no operator has it.
+/// Returns the operator whose name in formulas is `text`, or None if no operator has that name.
 #[tactic(auto, unfolding(crate::specs::Operators::op_of_keyword))]
 pub fn op_of_keyword(text: &[u8]) -> Option<Op>
     ensures { result ≡ operators.op_of_keyword text.now }
@@ -142,14 +142,14 @@ pub fn op_of_keyword(text: &[u8]) -> Option<Op>
     OPERATORS.iter().copied().find(|op| has_keyword(*op, text))
 }
 
-/// Whether the operator has this name in sources.
+/// Checks whether `text` is the operator's name in sources.
 fn has_mnemonic(op: Op, text: &[u8]) -> bool
     ensures { result ≡ bytes_eq text.now (operators.op_mnemonic op) }
 {
     text == op_mnemonic(op).as_bytes()
 }
 
-/// Answers the operator with this mnemonic: None where no operator has it.
+/// Returns the operator whose mnemonic is `text`, or None if no operator has that mnemonic.
 #[tactic(auto, unfolding(crate::specs::Operators::op_of_mnemonic))]
 pub fn op_of_mnemonic(text: &[u8]) -> Option<Op>
     ensures { result ≡ operators.op_of_mnemonic text.now }
@@ -157,7 +157,7 @@ pub fn op_of_mnemonic(text: &[u8]) -> Option<Op>
     OPERATORS.iter().copied().find(|op| has_mnemonic(*op, text))
 }
 
-/// Whether the operator has this opcode and this function.
+/// Checks whether the operator's instruction has this opcode and this function.
 fn has_code(op: Op, opcode: u32, function: u32) -> bool
     ensures { result ≡ (operators.op_opcode op == opcode && operators.op_function op == function) }
 {
@@ -165,7 +165,7 @@ fn has_code(op: Op, opcode: u32, function: u32) -> bool
     code.0 == opcode && code.1 == function
 }
 
-/// Answers the operator of an opcode and a function: None where no operator has these.
+/// Returns the operator with this opcode and function, or None if no operator has both.
 pub fn op_of_code(opcode: u32, function: u32) -> Option<Op>
     ensures { result ≡ operators.op_of_code opcode function }
 {
@@ -175,7 +175,7 @@ pub fn op_of_code(opcode: u32, function: u32) -> Option<Op>
         .find(|op| has_code(*op, opcode, function))
 }
 
-/// Whether the profile has the operator.
+/// Checks whether `profile` has the operator `op`.
 pub fn has_op(profile: Profile, op: Op) -> bool
     ensures { result ≡ operators.has_op profile op }
 {
@@ -185,7 +185,7 @@ pub fn has_op(profile: Profile, op: Op) -> bool
     }
 }
 
-/// The operator, where there is one and the profile has it.
+/// Returns `op` if it is an operator and `profile` has it, else None.
 pub fn of_profile(profile: Profile, op: Option<Op>) -> Option<Op>
     ensures { result ≡ operators.of_profile profile op }
 {
