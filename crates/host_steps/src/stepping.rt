@@ -1,4 +1,4 @@
-//! Steps and runs that test no access, over the parts of a host.
+//! Steps and runs that test no access, on the state of a host.
 
 ghost use Rattle.std.specs.Prelude.{◌≡◌, ◌+◌, ◌<◌, length, if◌then◌else◌, pos, ◌*ℤ◌};
 ghost use Rattle.word_ops.specs.Memory as memory;
@@ -23,12 +23,12 @@ use alpha_words::{Cond, Reg};
 use reference_machine::{aligned, takes};
 use word_ops::{Op, apply};
 
-/// What a step that tests no access answers.
+/// What a step that tests no access did.
 #[derive(Clone, Copy, Debug, PartialEq, Eq)]
 pub(crate) enum Stepped {
-    /// It went on.
+    /// It went on to an instruction.
     Moved,
-    /// A return; nothing changed.
+    /// It returned; nothing changed.
     Returned,
 }
 
@@ -233,8 +233,9 @@ fn step(
     }
 }
 
-/// Makes at most `budget` steps, a return among them. They test no access; the caller knows that none
-/// would be blocked, were all of the arena from `base` on allowed. The index stays inside the code.
+/// Runs at most `budget` steps (a return counts) from the instruction at `index`, and returns how
+/// the run ended. Tests no access: the caller knows that none would be blocked if all of the arena,
+/// which begins at address `base`, were allowed. The index stays inside the code.
 pub fn run_steps(
     code: &Code,
     operations: &[Operation],
