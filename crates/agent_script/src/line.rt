@@ -1,4 +1,4 @@
-//! The lines of a script, and their words.
+//! Lines of a script and their words.
 
 ghost use Rattle.std.specs.Prelude.{◌≡◌, ◌<◌, ◌≤◌, ◌∷◌, [], true, false, length, take, slice_index};
 ghost use Rattle.std.specs.Prelude.{IfSome, IfNone, option_map, unwrap_or};
@@ -21,7 +21,7 @@ fn line_length(text: &[u8]) -> usize
     text.len()
 }
 
-/// The first line, and the text behind it.
+/// Returns the first line, and the text after it. The text isn't empty.
 pub fn split_line(text: &[u8]) -> (&[u8], &[u8])
     requires { 0 < length text.now }
     ensures line { script_lines text.now ≡ result.0.now ∷ script_lines result.1.now }
@@ -82,7 +82,7 @@ fn split_word(line: &[u8]) -> (&[u8], Option<&[u8]>)
     (word, Some(&behind[blank_count(behind)..]))
 }
 
-/// The words of a line, as far as they aren't read. Contracts see their list.
+/// The words of a line that aren't read yet. Contracts see their list.
 #[derive(Drop)]
 pub struct Words<'b> {
     rest: Option<&'b [u8]>,
@@ -98,14 +98,14 @@ impl<'b> Model for Words<'b> {
 }
 
 impl<'b> Words<'b> {
-    /// All words of the line.
+    /// Returns all words of the line.
     pub fn of(line: &'b [u8]) -> Words<'b>
         ensures { result ≡ line_words line.now }
     {
         Words { rest: Some(line) }
     }
 
-    /// The first word that isn't read; none behind the last.
+    /// Reads and returns the next word, or None after the last.
     pub fn next(&mut self) -> Option<&'b [u8]>
         ensures some { IfSome result (λ word. self.old ≡ word.now ∷ self.new) }
         ensures none { IfNone result (self.old ≡ []) }

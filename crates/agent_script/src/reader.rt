@@ -1,4 +1,4 @@
-//! How a text is read as a script.
+//! Reading a text as a script.
 
 ghost use Rattle.std.specs.Prelude.{◌≡◌, ◌≤◌, length, IfOk, Ok};
 ghost use Rattle.agent_script.specs.Lines.{line_words};
@@ -103,11 +103,11 @@ fn add_line(alloc: Global, script: &mut Script, number: u32, line: &[u8]) -> Res
     }
 }
 
-/// What the text, of at most `MAX_SCRIPT` bytes, says as a script: 1 to `MAX_LOADS` agents, and
-/// turns of these alone.
+/// Parses the text, of at most `MAX_SCRIPT` bytes, as a script: 1 to `MAX_LOADS` agents, and turns
+/// of these agents only.
 ///
 /// Errors: the first line that is wrong, numbered from 1, and the first test that it fails; line 0
-/// where no agent is loaded; or want of memory.
+/// if no line loads an agent; or out of memory.
 pub fn read_script(alloc: Global, text: &[u8]) -> Result<Script, ScriptFault>
     requires { length text.now ≤ MAX_SCRIPT }
     ensures exact { IsScriptRead text.now result }
