@@ -150,8 +150,10 @@ fn ids_of(
     Ok(ids)
 }
 
-/// The invariants of the program's code under `filter`, as terms of the table. Fails only for
-/// want of memory.
+/// Appends the invariants of the program's code under `filter` to the table, as terms, and returns
+/// each with the index of its word.
+///
+/// Errors: out of memory.
 pub fn encode_invs(
     alloc: Global,
     table: &mut Table,
