@@ -282,12 +282,13 @@ fn push_tree(out: &mut Vec<u8>, table: &Table, id: Id) -> Result<(), AllocError>
     }
 }
 
-/// Appends the entry of an id as a line without its end: `e`, its number, ` = `, and its tree with
-/// the parts by name, as in `e7 = ult e3 #4`. A variable is `#` and its number, 0 the nearest, a
-/// literal its decimal number, a constant the keyword that formulas have for it or else `c` and its
-/// number, a family of types `t` and its number; another part is `e` and the number of its entry.
+/// Appends the entry of `id` to `out` as a line without its line end: `e`, its number, ` = `, and
+/// its tree with the parts by name, as in `e7 = ult e3 #4`. A variable is `#` and its number, 0 the
+/// nearest. A literal is its decimal number. A constant is the keyword that formulas have for it,
+/// or else `c` and its number. A family of types is `t` and its number. Any other part is `e` and
+/// the number of its entry.
 ///
-/// Errors: want of memory alone; what is appended then is unspecified.
+/// Errors: out of memory; what is appended then is unspecified.
 pub fn push_entry(out: &mut Vec<u8>, table: &Table, id: Id) -> Result<(), AllocError>
     requires { IsKnown table.now id }
     ensures exact { OnOk result (out.new.items ≡ out.old.items ++ entry_line table.now.trees id) }
