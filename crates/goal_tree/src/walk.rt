@@ -1,10 +1,10 @@
 //! The walk along code and the term of its condition, which lists the goals.
 //!
-//! A walk follows the code as the condition was made by it, and the term beside it: it takes the
-//! term apart where the code asks for two things, and makes none. On code that is cut it meets no
-//! index twice on its way, so it recurses at most once for each instruction, of which there are at
-//! most 1,024, through six functions; the rows are at most seven for each index of the unfolded
-//! length.
+//! A walk follows the code as `vcgen` does when it makes the condition, and the term in step with
+//! it: it takes the term apart if the code asks for two things, and makes no term. On code that is
+//! cut it meets no index twice on its way, so it recurses at most once for each instruction, of
+//! which there are at most 1,024, through six functions. The rows are at most seven for each index
+//! of the unfolded length.
 
 ghost use Rattle.std.specs.Prelude.{◌≡◌, ℕ, ◌+◌, ◌<◌, [], ◌∷◌, true, false, IfOk};
 ghost use Rattle.std.specs.Prelude.{length, slice_get};
@@ -22,8 +22,8 @@ use alpha_words::{Format, MemoryKind, memory_kind};
 use std::alloc::AllocError;
 use term_table::{Id, Table};
 
-/// What a walk goes by: the term's table, the code with its annotated indices, and whether steps
-/// are counted.
+/// What a walk reads: the term's table, the code with its annotated indices, and whether steps are
+/// counted.
 #[derive(Clone, Copy)]
 pub(crate) struct Program<'a> {
     pub(crate) table: &'a Table,
