@@ -1,7 +1,7 @@
-//! The marks of a part's goals.
+//! Marking the goals of a part.
 //!
-//! Errors: want of memory, and `Results` where more results than the search may keep would be kept;
-//! each id keeps its tree.
+//! Errors: out of memory, and `Results` if the search would cache more results than it may; every
+//! id keeps its tree.
 
 ghost use Rattle.std.specs.Prelude.{◌≡◌, ◌≤◌, ℕ, Option, IfOk, OnOk, length};
 ghost use Rattle.term_table.specs.Table.{IsKnown, tree_at, Extends};
@@ -24,8 +24,8 @@ use hyp_proofs::Hypotheses;
 use std::alloc::AllocError;
 use term_table::{Id, Table};
 
-/// How many binders count as outside of what stands under a part's quantifiers: those of the memory and
-/// of registers 0 to 30, and that of the steps that are left, which counts where it isn't there too.
+/// How many binders are outside of what is below a part's quantifiers: those of the memory and of
+/// registers 0 to 30, and that of the remaining steps, which counts even if it is absent.
 pub const PART_BINDERS: u32 = 33;
 
 /// Marks the goals that the rows begin with as easy, and answers the rows that are left.
@@ -217,12 +217,12 @@ fn push_part(
     Ok(())
 }
 
-/// The marks of the goals of a part, one each in order: true where the goal is easy, by itself or as
-/// what it stands in is. It says so of whatever part `part` shows. `counted` says whether steps are
-/// counted.
+/// Returns one mark for each goal of a part, in order: true if the goal is easy, by itself or
+/// because what it is part of is. The marks are right for every part that `part` shows. `counted`
+/// says whether steps are counted.
 ///
-/// Errors: want of memory, and `Results` where `search` would keep more than it may; each id keeps its
-/// tree.
+/// Errors: out of memory, and `Results` if `search` would cache more than it may; every id keeps
+/// its tree.
 #[tactic(auto, using(goal_proofs::proofs::Kept::rows))]
 pub fn marks_of(
     table: &mut Table,
