@@ -1,7 +1,7 @@
-//! Whether addresses have the same summands.
+//! Whether two addresses have equal summands.
 //!
-//! Errors: want of memory alone, which more results than the search may keep are too; each id keeps
-//! its tree.
+//! Errors: out of memory, or the search would cache more results than it may; every id keeps its
+//! tree.
 
 ghost use Rattle.std.specs.Prelude.{◌≡◌, IfOk, IfSome, OnOk};
 ghost use Rattle.term_table.specs.Table.{IsKnown, tree_at, Extends};
@@ -89,8 +89,8 @@ fn has_instance(table: &mut Table, search: &mut Search, a: Id, z: Id) -> Result<
     Ok(rest.is_some())
 }
 
-/// Whether the address `z` has the summands of `a`, or where `instance` an instance of it has some
-/// of them.
+/// Checks whether the address `z` has the summands of `a`; if `instance`, whether an instance of it
+/// has some of them.
 #[tactic(auto, using(goal_proofs::proofs::Kept::rows))]
 pub(crate) fn is_like(
     table: &mut Table,
