@@ -1,6 +1,6 @@
-//! Formulas that stand as terms, as text.
+//! Formulas, given as terms, as text.
 //!
-//! Errors: want of memory alone; each id keeps its tree.
+//! Errors: out of memory; every id keeps its tree.
 
 ghost use Rattle.std.specs.Prelude.{◌≡◌, ◌≤◌, IfOk, IfSome, nat_le};
 ghost use Rattle.std.specs.Option.{option_map};
@@ -104,8 +104,8 @@ fn text_within(alloc: Global, formula: Option<Form>) -> Result<Option<Vec<u8>>, 
     }
 }
 
-/// The text of the formula that the term encodes, where the term has at most `MAX_SHOWN` nodes and
-/// the text at most so many bytes.
+/// Returns the text of the formula that the term encodes, if the term has at most `MAX_SHOWN` nodes
+/// and the text at most so many bytes.
 #[tactic(auto, unfolding(crate::specs::Formulas::short_text))]
 pub(crate) fn short_text(
     table: &mut Table,

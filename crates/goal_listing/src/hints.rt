@@ -1,7 +1,7 @@
-//! The hint behind a goal that isn't easy.
+//! The hint after a goal that isn't easy.
 //!
-//! Errors: want of memory, and `Results` where the search would keep more than it may; each id
-//! keeps its tree.
+//! Errors: out of memory, and `Results` if the search would cache more than it may; every id keeps
+//! its tree.
 
 ghost use Rattle.std.specs.Prelude.{◌≡◌, ◌<◌, ◌∷◌, [], ℕ, Option, is_some, codes, map, length};
 ghost use Rattle.std.specs.Prelude.{get_or, IfOk, OnOk};
@@ -146,7 +146,7 @@ fn push_said(
     }
 }
 
-/// The hint of a goal where these are known.
+/// Adds the lines of the hint for a goal under the hypotheses `known`.
 #[tactic(auto, using(goal_proofs::proofs::Kept::rows))]
 pub(crate) fn push_hint(
     table: &mut Table,

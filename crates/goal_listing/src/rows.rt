@@ -1,7 +1,7 @@
 //! The lines of rows.
 //!
-//! Errors: want of memory, and `Results` where the search would keep more than it may; each id
-//! keeps its tree.
+//! Errors: out of memory, and `Results` if the search would cache more than it may; every id keeps
+//! its tree.
 
 ghost use Rattle.std.specs.Prelude.{◌≡◌, ◌≤◌, ◌+◌, ◌&&◌, ◌++◌, ◌∷◌, [], OnOk, All, map, take};
 ghost use Rattle.std.specs.Prelude.{true, false, not, slice_index_or, is_some};
@@ -117,7 +117,7 @@ fn goal_count(table: &Table, row: &Row) -> usize
     }
 }
 
-/// The mark at a place, or false behind them.
+/// Returns the mark at an index, or false past the last.
 pub(crate) fn mark_at(marks: &[bool], place: usize) -> bool
     ensures { result ≡ slice_index_or marks.now place false }
 {
@@ -292,8 +292,8 @@ fn learn_at(known: &mut Vec<Id>, table: &Table, id: Id, depth: u32) -> Result<()
     Ok(())
 }
 
-/// The lines of rows, whose goals have these marks in order, where `start` is known; the first goal
-/// that isn't easy is followed by its hint.
+/// Adds the lines of rows, whose goals have these marks in order, under the hypothesis `start`; the
+/// hint follows the first goal that isn't easy.
 pub(crate) fn push_rows(
     table: &mut Table,
     search: &mut Search,
