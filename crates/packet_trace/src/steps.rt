@@ -1,4 +1,4 @@
-//! The lines of a run.
+//! Printing the lines of a run.
 
 ghost use Rattle.std.specs.Prelude.{◌≡◌, ◌+◌, ◌≤◌, ◌<◌, ◌++◌, length, slice_get, Some, codes, decimal};
 ghost use Rattle.arrayvec.specs.ArrayVec.{array_vec_len};
@@ -80,8 +80,8 @@ fn print_step<S: Sink>(agent: &mut Agent, code: &Code, texts: &Texts, out: &mut 
     (step, put)
 }
 
-/// Makes at most `budget` steps and prints the line of each before the next is made; answers how the
-/// run ended, or None at the first put that fails.
+/// Runs at most `budget` steps and prints the line of each before the next step is made. Returns
+/// how the run ended, or None at the first write that fails.
 pub fn print_steps<S: Sink>(
     agent: &mut Agent,
     code: &Code,
