@@ -1,4 +1,4 @@
-//! A line as it is shown, with a mark.
+//! Showing a line with a mark.
 
 ghost use Rattle.std.specs.Prelude.{◌≡◌, ◌++◌, map, take, drop, OnOk};
 ghost use Rattle.std.specs.Prelude.{decimal};
@@ -14,13 +14,13 @@ use std::alloc::AllocError;
 /// A place in a line, and how many bytes from there on the mark repeats.
 #[derive(Clone, Copy, Debug, PartialEq, Eq)]
 pub struct Span {
-    /// How many bytes stand before the place.
+    /// The number of bytes before the place.
     pub at: usize,
-    /// How many bytes are repeated.
+    /// The number of bytes that the mark repeats.
     pub count: usize,
 }
 
-/// Whether the byte is a tab, or from blank to tilde.
+/// Returns whether the byte is a tab, or printable ASCII (from blank to tilde).
 pub fn is_printable(byte: u8) -> bool
     ensures { result ≡ is_printable byte }
 {
@@ -114,8 +114,9 @@ fn push_mark_line(out: &mut Vec<u8>, line: &[u8], span: Option<Span>) -> Result<
     }
 }
 
-/// Adds the line as it is shown, and the mark under it, where there is one. Fails only for want of
-/// memory.
+/// Appends the line as it is shown, and the mark under it if `span` is given.
+///
+/// Errors: out of memory.
 pub fn push_marked_line(
     out: &mut Vec<u8>,
     line: &[u8],
@@ -129,7 +130,9 @@ pub fn push_marked_line(
     push_mark_line(out, line, span)
 }
 
-/// Adds a number in decimal. Fails only for want of memory.
+/// Appends `number` in decimal.
+///
+/// Errors: out of memory.
 pub fn push_number(out: &mut Vec<u8>, number: u64) -> Result<(), AllocError>
     ensures { OnOk result (out.new.items ≡ out.old.items ++ decimal number) }
 {

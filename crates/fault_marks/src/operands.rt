@@ -1,4 +1,4 @@
-//! Which operand of a statement is wrong.
+//! Finding the wrong operand of a statement.
 
 ghost use Rattle.std.specs.Prelude.{◌≡◌, ◌+◌, ◌≤◌, ◌<◌, ◌∷◌, [], Option, length, drop, IfSome};
 ghost use Rattle.std.specs.Prelude.{IfNone};
@@ -19,14 +19,14 @@ use crate::tokens::token_from;
 use text_tokens::{Number, Token, read_decimal, read_number, register};
 use word_ops::Profile;
 
-/// What has to stand in an operand's place.
+/// What an operand's place expects.
 #[derive(Clone, Copy, Debug, PartialEq, Eq)]
 pub enum Wanted {
     /// A register.
     Register,
-    /// The register of this number.
+    /// The register with this number.
     Fixed(u8),
-    /// A number from as far below 0 on as the first, and below the second.
+    /// A number that is at least minus the first value, and below the second.
     Number(u64, u64),
     /// A register, or a number from 0 to 255.
     Right,
@@ -202,7 +202,7 @@ fn first_wrong(wanted: &[Wanted], text: &[u8], from: usize) -> Option<Span>
     }
 }
 
-/// The first of the statement's operands that is wrong.
+/// Returns the place of the first of the statement's operands that is wrong, or None.
 pub fn wrong_operand(profile: Profile, text: &[u8]) -> Option<Span>
     ensures within { IfSome result (λ s. s.at ≤ length text.now) }
     ensures exact { option_map span_view result

@@ -1,4 +1,4 @@
-//! Where the mark of a fault stands in its line.
+//! Where the mark of a fault goes in its line.
 
 ghost use Rattle.std.specs.Prelude.{◌≡◌, ◌+◌, ◌^◌, ◌<◌, ◌≤◌, length, drop, IfOk, IfSome, Some};
 ghost use Rattle.std.specs.Option.{option_map};
@@ -185,7 +185,9 @@ fn label_span(line: &[u8]) -> Option<Span>
     in_line(place, last_token(text))
 }
 
-/// The mark of what is wrong with a line of a source. Fails only for want of memory.
+/// Returns the place of what is wrong with a line of a source, or None if the line gets no mark.
+///
+/// Errors: out of memory.
 pub fn flaw_span(
     alloc: Global,
     profile: Profile,
@@ -209,7 +211,8 @@ pub fn flaw_span(
     }
 }
 
-/// The mark of what is wrong with a line that is assembled.
+/// Returns the place of what is wrong with a line when it is assembled, or None if the line gets no
+/// mark.
 pub fn asm_flaw_span(flaw: AsmFlaw, line: &[u8]) -> Option<Span>
     ensures { option_map span_view result ≡ asm_flaw_span flaw line.now }
 {

@@ -1,4 +1,4 @@
-//! Lines of a source, and their statements.
+//! The lines of a source, and their statements.
 
 ghost use Rattle.std.specs.Prelude.{◌≡◌, ◌≤◌, ◌+◌, IfSome, length, slice_get};
 ghost use Rattle.std.specs.Option.{option_map};
@@ -33,7 +33,7 @@ fn line_at(text: &[u8], index: usize) -> Option<&[u8]>
     None
 }
 
-/// The line of a number from 1, if there is one.
+/// Returns the line with this number, counted from 1, or None if the text has no such line.
 pub fn numbered_line(text: &[u8], number: u32) -> Option<&[u8]>
     ensures { option_map (λ l. l.now) result ≡ numbered_line text.now number }
 {
@@ -128,7 +128,8 @@ fn behind_label(body: &[u8]) -> &[u8]
     }
 }
 
-/// What stands behind the label of a line and before its comment, and where in the line it begins.
+/// Returns what comes after the label of a line and before its comment, and the offset in the line
+/// at which it begins.
 #[tactic(auto, unfolding(crate::specs::SourceLines::statement_text))]
 pub fn statement_of(line: &[u8]) -> (usize, &[u8])
     ensures place { result.0 ≡ statement_place line.now }
