@@ -1,4 +1,4 @@
-//! The command line as clap's builders make it, a function for each shape.
+//! The command line as calls of clap's builders make it, a function for each shape.
 ghost use Rattle.std.specs.Prelude.{◌≡◌, IfOk, false};
 ghost use Rattle.clap.specs.Words.{app_of, rule_of};
 ghost use Rattle.clap.specs.declared.Command.TheViews.{out-Command as fields_of};
@@ -102,7 +102,9 @@ fn formulas_command<'a>(alloc: Global) -> Result<Command<'a>, AllocError>
     traces_command(alloc)?.subcommand(added)
 }
 
-/// The whole command line.
+/// Builds the whole command line of pcc_view.
+///
+/// Errors: out of memory.
 pub fn view_command<'a>(alloc: Global) -> Result<Command<'a>, AllocError>
     ensures app { IfOk result (λ c. app_of c ≡ view_app) }
 {

@@ -1,4 +1,4 @@
-//! The values of a command, from the matches of a parse.
+//! The arguments of a command, from the matches of a parse.
 ghost use Rattle.std.specs.Prelude.{◌≡◌, IfSome, Some, None, codes, if◌then◌else◌, option_and_then, option_map};
 ghost use Rattle.clap.specs.Words.{first_of, found_of, rows_of, subcommand_rows_of};
 ghost use Rattle.pcc_words.specs.Invocations.{policy_word, value_of, number_at};
@@ -104,7 +104,7 @@ fn command_given<'a>(name: &str, matches: &ArgMatches<'a>) -> Option<Command<'a>
     }
 }
 
-/// The command of the subcommand that was found.
+/// Returns the command of the subcommand that the parse found, or None if it isn't one.
 pub fn command_found<'a>(matches: &ArgMatches<'a>) -> Option<Command<'a>>
     ensures exact { option_map view_invocation_of result
         ≡ option_and_then view_invocation_of_subcommand (subcommand_rows_of matches.now) }
