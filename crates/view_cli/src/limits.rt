@@ -1,4 +1,5 @@
-//! How much is read.
+//! Limits on what is read.
 
-/// The most bytes of a formula's text, as of a line of a policy's file.
+/// The maximal length in bytes of a formula's text, which is also that limit for a line of a
+/// policy's file.
 pub const MAX_FORMULA: usize = 4_096;

@@ -78,21 +78,22 @@ fn print<S: Sink>(decision: Result<Report, Stop<'_>>, out: &mut S) -> u8
     }
 }
 
-/// Shows what the arguments `words` ask for, over the files and the output, and answers with the
-/// status: 0 shown, 1 refused, or the text is wrong, 2 the arguments are no command, 3 a file is
-/// missing or its read failed, 4 a put failed, 5 want of memory. The program's name is not among
-/// the arguments.
+/// Runs the command that the arguments `words` ask for, over the files and the output, and returns
+/// the exit status. The program's name isn't among the arguments. The status is 0 shown, 1 refused,
+/// or the text is wrong, 2 the arguments aren't a command, 3 a file is missing or its read failed,
+/// 4 a write to the output failed, 5 out of memory.
 ///
 /// Reads first, and prints then. By `runs`, whatever the files hold, the log of the files grows by
-/// the reads that the command asks for, in their order, and by no other, none of which is a write;
-/// what is put on the output, and the status, go by what these reads gave: the definition of each
-/// command's text is that of `view_task_of`.
+/// the reads that the command asks for, in their order, and by no other event; none of them is a
+/// write. The text on the output, and the status, are a function of what these reads gave: for each
+/// command its definition is that of `view_task_of`.
 ///
-/// By `shows`, that is for each command what its users want to know of it: where `list` prints a
-/// source, that spells one source, which is assembled into the same code, and into what FILE holds
-/// but for lemmas and proof; the last line of `goals` names the part that `pcc prove` names; the
-/// last line of `packet` is the packet's line among those of `pcc ref`; `formula` and `source` say
-/// with status 0 what is right, exactly where the text spells it, and else the first fault, and
+/// By `shows`, this means for each command what its users want to know. If `list` prints a source,
+/// it parses as exactly one source, which assembles into the container's code, and into what FILE
+/// holds without lemmas and proof. The last line of `goals` names the part that `pcc prove` names.
+/// The last line of `packet` is the packet's line among those of `pcc ref`. `formula` and `source`
+/// print with status 0 what the text is, exactly if it is a formula or source, and else the first
+/// fault; if the fault lies in one token of a source, a mark is under it.
 /// where that lies in one token of a source, a mark stands under it.
 pub fn pcc_view<F: Files, S: Sink>(
     alloc: Global,
@@ -117,9 +118,10 @@ pub fn pcc_view<F: Files, S: Sink>(
     print(decision, out)
 }
 
-/// Where the contents of the files are known, a run ends with the answer over them, or as a failed
-/// call or want of memory brings; where they aren't, less is known (`Ends`); and its status and the
-/// counts of faults say what `Accounts` lists. Both follow from what `pcc_view` says of a run.
+/// States how a run ends, by what `pcc_view` says of it. If the contents of the files are known,
+/// the run ends with the answer over them, or as a failed call or out of memory requires; if they
+/// aren't known, less is known (`Ends`). Its exit status and the counts of faults say what
+/// `Accounts` lists.
 pub fn laws()
     ensures ends { (args : List (List ℕ)) (e e' : List Event) (f g : FilesState) (s t : SinkState)
         (status : ℕ) → Runs view_texts (view_task_of args).stage e e' f g s t status
