@@ -1,4 +1,4 @@
-//! The program `pcc_view`: makes the real files and output, and calls `pcc_view` over them.
+//! The executable `pcc_view`: runs view_cli over the real files and standard output.
 #![tactic(auto)]
 
 use file_port::{DiskFiles, StdSink};
