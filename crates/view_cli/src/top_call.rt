@@ -94,7 +94,6 @@ fn print<S: Sink>(decision: Result<Report, Stop<'_>>, out: &mut S) -> u8
 /// The last line of `packet` is the packet's line among those of `pcc ref`. `formula` and `source`
 /// print with status 0 what the text is, exactly if it is a formula or source, and else the first
 /// fault; if the fault lies in one token of a source, a mark is under it.
-/// where that lies in one token of a source, a mark stands under it.
 pub fn pcc_view<F: Files, S: Sink>(
     alloc: Global,
     words: Vec<String>,
@@ -118,9 +117,9 @@ pub fn pcc_view<F: Files, S: Sink>(
     print(decision, out)
 }
 
-/// States how a run ends, by what `pcc_view` says of it. If the contents of the files are known,
-/// the run ends with the answer over them, or as a failed call or out of memory requires; if they
-/// aren't known, less is known (`Ends`). Its exit status and the counts of faults say what
+/// States how a run ends, from what `pcc_view` says of it. If the contents of the files are known,
+/// the run ends with the answer over them, or as a failed call or running out of memory requires;
+/// if they aren't known, less is known (`Ends`). Its exit status and the counts of faults say what
 /// `Accounts` lists.
 pub fn laws()
     ensures ends { (args : List (List ℕ)) (e e' : List Event) (f g : FilesState) (s t : SinkState)
