@@ -1,4 +1,5 @@
-//! `demo N`: a source of N loads and a loop is assembled, proved, judged and run on sixteen packets.
+//! `demo N`: assembles, proves and checks a source of N loads and a loop, and runs it on 16
+//! packets.
 
 ghost use Rattle.std.specs.Prelude.{◌≡◌, ◌≤◌, ◌<◌, IfOk, Some, length};
 ghost use Rattle.packet_store.specs.declared.reader.TheConstants.{MAX_PACKET};
@@ -27,15 +28,15 @@ use policy_set::Policy;
 use safe_host::{Ended, Host};
 use std::alloc::{AllocError, Global};
 
-/// The most steps for a packet.
+/// The maximal number of steps for each packet.
 pub const DEMO_STEPS: u64 = 1_000_000;
 
-/// What runs come to.
+/// The results of runs, counted.
 #[derive(Clone, Copy, Debug, PartialEq, Eq)]
 pub struct Counts {
-    /// The steps of all, returns among them.
+    /// The number of steps of all runs (a return counts).
     pub steps: u64,
-    /// How many returned 1.
+    /// The number of runs that returned 1.
     pub ones: u64,
 }
 
@@ -181,7 +182,7 @@ fn report<'a>(alloc: Global, policy: &Policy, n: u32) -> Result<Report, Stop<'a>
     }
 }
 
-/// Makes the source, proves it, judges it and runs it; all memory is taken before the first line.
+/// Makes the source, proves it, checks it and runs it; takes all memory before the first line.
 pub fn demo_command<'a, F: Files>(alloc: Global, n: u64, files: &mut F) -> Result<Report, Stop<'a>>
     requires { n ≤ MAX_DEMO }
     ensures { Decides report_exit (stage_of (demo n))

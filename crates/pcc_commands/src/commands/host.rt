@@ -291,7 +291,7 @@ fn job_of(alloc: Global, members: Vec<Admitted>, turns: Vec<Turn>) -> Result<Tur
     })
 }
 
-/// Reads the script, then what each load names; all memory is taken before the first line.
+/// Reads the script, then the files that each load names; takes all memory before the first line.
 pub fn host_command<'a, F: Files>(
     alloc: Global,
     script: &'a str,

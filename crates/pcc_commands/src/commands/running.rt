@@ -76,7 +76,8 @@ fn run_under<'a, F: Files>(
     results_of(alloc, accepted, args, files)
 }
 
-/// Reads the container and judges it, reads the packets, and reserves all that the runs need.
+/// Reads the container and checks it, reads the packets, and reserves all memory that the runs
+/// need.
 pub fn run_command<'a, F: Files>(
     alloc: Global,
     args: RunArgs<'a>,
