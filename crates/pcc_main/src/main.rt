@@ -1,4 +1,4 @@
-//! The program `pcc`: makes the real files and output, and calls `pcc` over them.
+//! The executable `pcc`: runs pcc_cli over the real files and standard output.
 #![tactic(auto)]
 
 use file_port::{DiskFiles, StdSink};
