@@ -7,7 +7,7 @@ ghost use Rattle.agent_script.specs.Inside.Words.{HasNoEnd, HasNoBlank, IsBlank}
 
 use std::marker::Model;
 
-/// How many bytes stand before the first LF, or before the end.
+/// Returns the number of bytes before the first LF, or before the end.
 fn line_length(text: &[u8]) -> usize
     ensures within { result ≤ length text.now }
     ensures line { HasNoEnd (take result text.now) }
@@ -41,7 +41,7 @@ fn parts_words(byte: u8) -> bool
     byte == b' ' || byte == b'\t'
 }
 
-/// How many bytes stand before the first blank, or before the end.
+/// Returns the number of bytes before the first blank, or before the end.
 fn word_length(line: &[u8]) -> usize
     ensures within { result ≤ length line.now }
     ensures word { HasNoBlank (take result line.now) }
@@ -55,7 +55,7 @@ fn word_length(line: &[u8]) -> usize
     line.len()
 }
 
-/// How many blanks stand in front.
+/// Returns the number of blanks at the start.
 fn blank_count(line: &[u8]) -> usize
     ensures within { result ≤ length line.now }
     ensures blank { IsBlank (take result line.now) }
@@ -69,7 +69,7 @@ fn blank_count(line: &[u8]) -> usize
     line.len()
 }
 
-/// The first word, and the text behind the blanks that end it; none behind the last word.
+/// Returns the first word, and the text after the blanks that end it; None after the last word.
 fn split_word(line: &[u8]) -> (&[u8], Option<&[u8]>)
     ensures { line_words line.now ≡ result.0.now
         ∷ unwrap_or (option_map (λ rest. line_words rest.now) result.1) [] }

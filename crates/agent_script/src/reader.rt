@@ -24,7 +24,7 @@ fn no_lines(alloc: Global) -> Script
     }
 }
 
-/// Puts the load of the line of the number behind the script.
+/// Appends the load of line `number` to the script.
 fn add_load(
     alloc: Global,
     script: &mut Script,
@@ -54,7 +54,7 @@ fn add_load(
     Ok(())
 }
 
-/// Puts the turn of the line of the number behind the script.
+/// Appends the turn of line `number` to the script.
 fn add_turn(script: &mut Script, number: u32, agent: u64, budget: u64) -> Result<(), ScriptFault>
     requires { length script.old.loads.items ≤ MAX_LOADS }
     ensures { IsTaken number (with_turn (script_view script.old) agent budget)
@@ -68,7 +68,7 @@ fn add_turn(script: &mut Script, number: u32, agent: u64, budget: u64) -> Result
     Ok(())
 }
 
-/// Puts what the line of the number says behind the script.
+/// Appends the statement of line `number` to the script.
 fn add(
     alloc: Global,
     script: &mut Script,
@@ -90,7 +90,7 @@ fn add(
     }
 }
 
-/// Puts the line of the number behind the script.
+/// Appends line `number` to the script.
 fn add_line(alloc: Global, script: &mut Script, number: u32, line: &[u8]) -> Result<(), ScriptFault>
     requires { length script.old.loads.items ≤ MAX_LOADS }
     ensures { IsTaken number

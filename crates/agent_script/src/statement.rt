@@ -86,7 +86,7 @@ fn load_of<'b>(policy: &'b [u8], file: &'b [u8], packets: &'b [u8]) -> Option<St
     })
 }
 
-/// The load that the words behind `load` say.
+/// Reads the load from the words after `load`.
 fn read_load<'b>(words: &mut Words<'b>) -> Option<Statement<'b>>
     ensures { IsStatement (load_operands words.old) result }
 {
@@ -108,7 +108,7 @@ fn turn_of<'b>(agent: &'b [u8], budget: &'b [u8]) -> Option<Statement<'b>>
     Some(Statement::Turn { agent, budget })
 }
 
-/// The turn that the words behind `turn` say.
+/// Reads the turn from the words after `turn`.
 fn read_turn<'b>(words: &mut Words<'b>) -> Option<Statement<'b>>
     ensures { IsStatement (turn_operands words.old) result }
 {
