@@ -93,7 +93,7 @@ fn push_straight(code: &mut Vec<Insn>, op: BpfOp, k: u32) -> Result<(), AllocErr
     }
 }
 
-/// Adds two branches: to block `i` where register 6 isn't 0, else to block `j`.
+/// Appends two branches: to block `i` if register 6 isn't 0, else to block `j`.
 fn push_branches(code: &mut Vec<Insn>, i: usize, j: usize) -> Result<(), AllocError>
     requires far { i ≤ MAX_PROGRAM }
     requires near { j ≤ MAX_PROGRAM }

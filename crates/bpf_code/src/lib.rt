@@ -1,4 +1,5 @@
-//! Alpha code generated for a classic BPF program, proved to compute the program's value.
+//! Generates Alpha code for classic BPF programs, proved to return whether a program's value is
+//! nonzero.
 //!
 //! Each instruction becomes a block of twenty words (`specs/Blocks`). The crate's main theorem is
 //! the simulation: from each state before the first word that satisfies `StartsOn`
