@@ -19,7 +19,7 @@ use proof_container::{Head, View, write};
 use std::alloc::{AllocError, Global};
 use term_table::{Places, Table};
 
-/// The container of a program without a proof. Fails only for want of memory.
+/// Returns the container of a program without a proof. Errors: out of memory.
 fn bare(alloc: Global, policy: &Policy, program: &[Bpf]) -> Result<Vec<u8>, AllocError>
     requires policy { policy.now ≡ built_in Filter }
     requires program { IsProgram program.now }
