@@ -34,7 +34,7 @@ fn insns_of(alloc: Global, bytes: &[u8]) -> Result<Vec<Bpf>, AllocError>
     Ok(insns)
 }
 
-/// The flaw where the test is true.
+/// Returns the flaw if the test is true.
 fn flaw_if(test: bool, flaw: BpfFlaw) -> Option<BpfFlaw>
     ensures exact { result ≡ flaw_if test flaw }
 {
