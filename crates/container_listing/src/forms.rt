@@ -20,8 +20,8 @@ use source_text::MAX_FORM_TEXT;
 use std::alloc::Global;
 use term_table::{Id, Table};
 
-/// The formulas of the invariants, which have type form over the signature in the context, where
-/// the text of each is short.
+/// Returns the formulas of the invariants, which have type form over the signature in the context,
+/// if the text of each is short.
 fn short_in(
     alloc: Global,
     table: &mut Table,
