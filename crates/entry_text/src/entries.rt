@@ -95,7 +95,7 @@ fn push_entry_name(out: &mut Vec<u8>, table: &Table, id: Id) -> Result<(), Alloc
     push_named(out, b'e', entry_number(table, id))
 }
 
-/// A part: its name where it is one word, else that of its entry.
+/// Appends a part: its name if that is one word, else the name of its entry.
 fn push_part(out: &mut Vec<u8>, table: &Table, id: Id) -> Result<(), AllocError>
     requires { IsKnown table.now id }
     ensures { OnOk result (out.new.items
@@ -117,7 +117,7 @@ fn push_part(out: &mut Vec<u8>, table: &Table, id: Id) -> Result<(), AllocError>
     }
 }
 
-/// A part behind a blank.
+/// Appends a part after a blank.
 fn push_next(out: &mut Vec<u8>, table: &Table, id: Id) -> Result<(), AllocError>
     requires { IsKnown table.now id }
     ensures { OnOk result (out.new.items
@@ -127,7 +127,7 @@ fn push_next(out: &mut Vec<u8>, table: &Table, id: Id) -> Result<(), AllocError>
     push_part(out, table, id)
 }
 
-/// A number behind a blank.
+/// Appends a number after a blank.
 fn push_next_number(out: &mut Vec<u8>, n: u64) -> Result<(), AllocError>
     ensures { OnOk result (out.new.items ≡ out.old.items ++ (32 ∷ decimal n)) }
 {

@@ -19,7 +19,7 @@ use lf_signature::Known;
 use std::alloc::{AllocError, Global};
 use term_table::{Id, Table};
 
-/// The formula, where its text has at most so many bytes.
+/// Returns the formula if its text has at most `most` bytes.
 fn if_short(alloc: Global, formula: Form, most: u32) -> Result<Option<Form>, AllocError>
     ensures { IfOk result (λ o. option_map form_view o ≡ short_form most (form_view formula)) }
 {
