@@ -20,7 +20,7 @@ use word_ops::Profile;
 /// of its height, so it is at most 4,096 high, as high as a stack of 8 MiB surely holds.
 pub const MAX_FORMULA_TEXT: usize = 24_576;
 
-/// How many bytes stand before the first LF, or before the end.
+/// Returns the number of bytes before the first LF, or before the end.
 fn before_lf(text: &[u8]) -> usize
     ensures exact { result ≡ before_lf text.now }
     ensures within { result ≤ length text.now }
@@ -33,7 +33,7 @@ fn before_lf(text: &[u8]) -> usize
     text.len()
 }
 
-/// Where the last line begins: behind the last LF, or at the begin.
+/// Returns where the last line begins: after the last LF, or at the beginning.
 fn line_start(text: &[u8]) -> usize
     ensures exact { result ≡ length text.now - before_lf (reverse text.now) }
     ensures column { length text.now - result ≡ before_lf (reverse text.now) }

@@ -49,7 +49,7 @@ fn push_shown(out: &mut Vec<u8>, bytes: &[u8]) -> Result<(), AllocError>
     Ok(())
 }
 
-/// Adds what stands under bytes before the mark.
+/// Appends the margin below the bytes before the mark.
 fn push_margin(out: &mut Vec<u8>, bytes: &[u8]) -> Result<(), AllocError>
     ensures { OnOk result (out.new.items ≡ out.old.items ++ map margin_byte bytes.now) }
 {
@@ -59,7 +59,7 @@ fn push_margin(out: &mut Vec<u8>, bytes: &[u8]) -> Result<(), AllocError>
     Ok(())
 }
 
-/// Adds bytes that are repeated behind the mark, if there are any.
+/// Appends the bytes that are repeated after the mark, if there are any.
 fn push_repeated(out: &mut Vec<u8>, bytes: &[u8]) -> Result<(), AllocError>
     ensures { OnOk result (out.new.items ≡ out.old.items ++ repeated bytes.now) }
 {
@@ -81,7 +81,7 @@ fn front(bytes: &[u8], count: usize) -> &[u8]
     }
 }
 
-/// What stands behind as many bytes, if anything does.
+/// Returns the bytes after the first `count`, if there are any.
 fn behind(bytes: &[u8], count: usize) -> &[u8]
     ensures { result.now ≡ drop count bytes.now }
 {
@@ -103,7 +103,7 @@ fn push_mark(out: &mut Vec<u8>, line: &[u8], span: Span) -> Result<(), AllocErro
     Ok(())
 }
 
-/// Adds the mark, where there is one.
+/// Appends the line of the mark, if there is one.
 fn push_mark_line(out: &mut Vec<u8>, line: &[u8], span: Option<Span>) -> Result<(), AllocError>
     ensures { OnOk result (out.new.items
         ≡ out.old.items ++ mark_lines line.now (option_map span_view span)) }

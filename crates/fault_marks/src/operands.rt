@@ -39,7 +39,7 @@ struct Integer {
     size: Number,
 }
 
-/// A lexeme with the positions of its first byte and of the byte behind it.
+/// A lexeme with the positions of its first byte and of the byte after it.
 #[derive(Clone, Copy)]
 struct Found<'t> {
     at: usize,
@@ -92,7 +92,7 @@ fn names_register(number: u8, lexeme: &[u8]) -> bool
     }
 }
 
-/// Whether the lexeme is what has to stand there.
+/// Returns whether the lexeme is what its place expects.
 fn is_right(wanted: Wanted, lexeme: &[u8]) -> bool
     ensures { result ≡ is_right wanted lexeme.now }
 {
@@ -149,7 +149,7 @@ fn lexeme_count(text: &[u8], from: usize) -> usize
     count
 }
 
-/// What has to stand at the lexemes of operands of this form, of which there are so many.
+/// Returns what is expected at each lexeme of operands of this form, if there are `count` lexemes.
 fn wanted_by(form: OperandForm, count: usize) -> &'static [Wanted]
     ensures { result.now ≡ wanted_by form count }
 {
@@ -177,7 +177,7 @@ fn wanted_by(form: OperandForm, count: usize) -> &'static [Wanted]
     }
 }
 
-/// The first of the lexemes from position `from` on that isn't what has to stand there.
+/// Returns the first of the lexemes from position `from` on that isn't what its place expects.
 fn first_wrong(wanted: &[Wanted], text: &[u8], from: usize) -> Option<Span>
     requires { from ≤ length text.now }
     ensures within { IfSome result (λ s. s.at ≤ length text.now) }

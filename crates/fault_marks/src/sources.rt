@@ -157,8 +157,8 @@ fn asm_flaw_lines(alloc: Global, text: &[u8], flaw: AsmFlaw) -> Result<Vec<u8>, 
     }
 }
 
-/// The source that the text is parsed as in the profile of the version, or the first fault;
-/// invariants may name the steps that are left where there is a bound.
+/// Parses the text as a source in the profile of the version; invariants may name the remaining
+/// steps if there is a bound. Errors: the first fault.
 fn source_in(
     alloc: Global,
     version: u32,

@@ -35,7 +35,7 @@ fn blanks_before(line: &[u8]) -> usize
     line.len()
 }
 
-/// How many bytes stand before the first that isn't printable.
+/// Returns the number of bytes before the first that isn't printable.
 fn printable_before(line: &[u8]) -> usize
     ensures { result ≡ printable_before line.now }
 {
@@ -47,7 +47,7 @@ fn printable_before(line: &[u8]) -> usize
     line.len()
 }
 
-/// A mark at a place, behind which nothing is repeated.
+/// Returns a mark at a place that repeats nothing.
 fn mark_at(at: usize) -> Option<Span>
     ensures { option_map span_view result ≡ Some (at, 0) }
 {
@@ -86,7 +86,7 @@ fn last_token(text: &[u8]) -> Option<Span>
     Some(Span { at: last, count: 0 })
 }
 
-/// The place where the formula that begins at `from` is wrong, if it is.
+/// Returns the place at which the formula that begins at `from` is wrong, if it is.
 fn fault_behind(
     alloc: Global,
     profile: Profile,
@@ -109,7 +109,7 @@ fn fault_behind(
     }
 }
 
-/// The place in an invariant where its formula is wrong, if it is.
+/// Returns the place in an invariant at which its formula is wrong, if it is.
 fn wrong_formula(
     alloc: Global,
     profile: Profile,

@@ -43,7 +43,7 @@ pub fn numbered_line(text: &[u8], number: u32) -> Option<&[u8]>
     line_at(text, (number - 1) as usize)
 }
 
-/// What stands before `#`.
+/// Returns the bytes before `#`.
 fn before_comment(line: &[u8]) -> &[u8]
     ensures exact { result.now ≡ before_comment line.now }
     ensures within { length result.now ≤ length line.now }
@@ -89,7 +89,7 @@ fn is_label(lexeme: &[u8]) -> bool
     }
 }
 
-/// The first token, and the text behind it; `None` where there are only blanks.
+/// Returns the first token, and the text after it; `None` if there are only blanks.
 fn front(text: &[u8]) -> Option<(Token<'_, Punct>, &[u8])>
     ensures exact { option_map (λ p. (source_token (token_view p.0), p.1.now)) result
         ≡ front_token source_class text.now }
@@ -101,7 +101,7 @@ fn front(text: &[u8]) -> Option<(Token<'_, Punct>, &[u8])>
     }
 }
 
-/// The text behind the label at the front and its colon, if there is one.
+/// Returns the text after the label at the start and its colon, if there is one.
 #[tactic(auto, unfolding(asm_text::specs::SourceParsing::label_split))]
 fn split_label(text: &[u8]) -> Option<&[u8]>
     ensures exact { option_map (λ l. l.now) result
@@ -117,7 +117,7 @@ fn split_label(text: &[u8]) -> Option<&[u8]>
     if is_label(label) { Some(rest) } else { None }
 }
 
-/// What stands behind the label of a line's body, if it has one.
+/// Returns the text after the label of a line's body, if it has one.
 fn behind_label(body: &[u8]) -> &[u8]
     ensures exact { result.now ≡ behind_label body.now (label_split body.now) }
     ensures within { length result.now ≤ length body.now }
