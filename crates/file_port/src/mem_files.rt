@@ -74,7 +74,7 @@ fn find_file<'a>(files: &'a [(String, Vec<u8>)], name: &str) -> Option<&'a [u8]>
     search_files(files, name)
 }
 
-/// What a read answers that does not fail.
+/// Returns the result of a read that doesn't fail.
 fn copy_file(alloc: Global, file: Option<&[u8]>, max: u32) -> Got
     ensures { IsGiven (given_by max (option_map (λ b. b.now) file.entry)) (given_of result) }
 {
