@@ -89,7 +89,7 @@ fn hypotheses_of(table: &mut Table, known: &[Id]) -> Result<Hypotheses, Exhauste
     Ok(hyps)
 }
 
-/// The first of the formulas that `goal` conjoins which isn't easy; the last where all others are.
+/// Returns the first conjunct of `goal` that isn't easy; the last if all others are.
 #[tactic(auto, using(goal_proofs::proofs::WordRows::rows))]
 fn missing_part(
     table: &mut Table,

@@ -57,7 +57,7 @@ fn is_body_near(
     }
 }
 
-/// Whether the hypothesis gives rights that are asked for to addresses with the same summands.
+/// Checks whether the hypothesis gives the right asked for to addresses with equal summands.
 #[tactic(auto, using(crate::proofs::Growing::rows))]
 fn is_near(
     table: &mut Table,

@@ -94,7 +94,8 @@ pub(crate) fn is_reached(
     Ok(reached)
 }
 
-/// The same of a formula of which nothing is kept.
+/// Checks whether a right that is asked for is reached in the formula, for which no result is
+/// cached.
 #[cycle(reaching)]
 #[tactic(auto, using(crate::proofs::Growing::rows))]
 fn is_reached_in_parts(
@@ -136,7 +137,7 @@ fn is_reached_in_parts(
     }
 }
 
-/// The same of a conjunction.
+/// Checks whether a right that is asked for is reached in the conjunction of `a` and `b`.
 #[cycle(reaching)]
 #[tactic(auto, using(crate::proofs::Growing::rows))]
 fn is_reached_in_both(

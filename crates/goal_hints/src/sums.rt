@@ -21,7 +21,8 @@ use hereditary_subst::Exhausted;
 use sum_proofs::{rest_of, summand_count};
 use term_table::{Id, Node, Table};
 
-/// What is left of the sum `a` without the sum `z`: none where a summand of `z` is missing in `a`.
+/// Returns what is left of the sum `a` without the sum `z`: None if a summand of `z` is missing in
+/// `a`.
 #[tactic(auto, using(goal_proofs::proofs::Kept::rows))]
 fn sum_rest(table: &mut Table, search: &mut Search, a: Id, z: Id) -> Result<Option<Id>, Exhausted>
     requires a { IsKnown table.old a }
@@ -72,7 +73,7 @@ fn at_zero(table: &mut Table, search: &mut Search, z: Id, zero: Id) -> Result<Id
     put_word_exp(table, &mut search.memo, &mut search.puts, z, zero)
 }
 
-/// Whether the summands of `z`, where 0 is put for variable 0, are among those of `a`.
+/// Checks whether the summands of `z`, with 0 for variable 0, are among the summands of `a`.
 #[tactic(auto, using(goal_proofs::proofs::Kept::rows))]
 fn has_instance(table: &mut Table, search: &mut Search, a: Id, z: Id) -> Result<bool, Exhausted>
     requires a { IsKnown table.old a }
