@@ -16,6 +16,6 @@ pub enum GoalsFault {
     #[error("out of memory")]
     Memory,
     /// The results cached would be more than the limits; this says nothing about the bytes.
-    #[error("the search for proofs would cache more results than the limit")]
+    #[error("more results would be cached than the limit allows")]
     Results,
 }

@@ -59,7 +59,7 @@ fn id_at(table: &Table, ids: &[Id], index: usize) -> Id
     ids[index]
 }
 
-/// The lines of formulas that give rights to addresses with the same summands.
+/// Adds a line for each formula that gives rights to addresses with equal summands.
 fn push_like(
     table: &mut Table,
     bound: Option<u32>,
@@ -82,7 +82,8 @@ fn push_like(
     Ok(())
 }
 
-/// The same, or that there is none.
+/// Adds a line for each formula that gives rights to addresses with equal summands, or a line that
+/// there is none.
 fn push_rights(
     table: &mut Table,
     bound: Option<u32>,

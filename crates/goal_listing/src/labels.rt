@@ -18,7 +18,7 @@ pub(crate) fn push_number(out: &mut Vec<u8>, n: u64) -> Result<(), AllocError>
     out.extend_from_slice(buffer.format(n).as_bytes())
 }
 
-/// A word and the number behind it.
+/// Appends a word and the number after it.
 fn push_numbered(out: &mut Vec<u8>, word: &str, n: u64) -> Result<(), AllocError>
     ensures { OnOk result (out.new.items ≡ out.old.items ++ numbered word.now n) }
 {
@@ -91,7 +91,7 @@ fn push_goal_label(
     Ok(())
 }
 
-/// The line of what is known behind a branch, up to its formula.
+/// Appends the line of the hypothesis that a branch adds, up to its formula.
 fn push_known_label(out: &mut Vec<u8>, number: u64, at: u32, taken: bool) -> Result<(), AllocError>
     ensures { OnOk result (out.new.items ≡ out.old.items ++ known_label number at taken) }
 {

@@ -19,7 +19,7 @@ pub(crate) struct ShownLine {
     pub(crate) long: Option<Id>,
 }
 
-/// The line of a label and the formula behind it.
+/// Returns the line of a label and the formula after it.
 fn shown_line(
     table: &mut Table,
     bound: Option<u32>,

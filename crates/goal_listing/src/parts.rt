@@ -91,7 +91,7 @@ fn push_part(
     Ok(all_true(marks.as_slice()))
 }
 
-/// The number, where its part isn't easy, else that of a later part.
+/// Returns the number if its part isn't easy, else the number of a later part.
 fn first_of(easy: bool, number: usize, later: Option<usize>) -> Option<usize>
     ensures { result ≡ (if easy then later else Some number) }
 {

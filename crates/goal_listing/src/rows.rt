@@ -49,7 +49,7 @@ fn push_goal(
     Ok(())
 }
 
-/// The line of what is known behind a branch, which stands under `depth` others.
+/// Adds the line of the hypothesis that a branch adds; the branch is under `depth` others.
 fn push_known(
     table: &mut Table,
     bound: Option<u32>,
@@ -161,7 +161,7 @@ fn first(ids: &[Id], count: usize) -> &[Id]
     }
 }
 
-/// The hint of a goal under `depth` branches, where these are known.
+/// Adds the hint for a goal under `depth` branches and the hypotheses `known`.
 #[tactic(auto, using(goal_proofs::proofs::Kept::rows))]
 fn push_goal_hint(
     table: &mut Table,
@@ -190,7 +190,7 @@ fn push_goal_hint(
     Ok(())
 }
 
-/// The hint at a row, where it is wanted.
+/// Adds the hint for the goal of a row if it is wanted.
 #[tactic(auto, using(goal_proofs::proofs::Kept::rows))]
 fn push_row_hint(
     table: &mut Table,
@@ -226,7 +226,7 @@ fn push_row_hint(
     }
 }
 
-/// The line of a row, and its hint where it is wanted.
+/// Adds the line of a row, and its hint if it is wanted.
 #[tactic(auto, using(goal_proofs::proofs::Kept::rows))]
 fn push_row_lines(
     table: &mut Table,
@@ -256,7 +256,7 @@ fn push_row_lines(
     Ok(())
 }
 
-/// Adds what is known behind a row, and takes away what isn't known there.
+/// Adds the hypothesis that holds after a row, and removes the ones that don't hold there.
 fn learn(known: &mut Vec<Id>, table: &Table, row: &Row) -> Result<(), AllocError>
     requires known { AllKnown table.now known.old.items }
     requires row { HasKnownId table.now row.now }
@@ -277,7 +277,7 @@ fn learn(known: &mut Vec<Id>, table: &Table, row: &Row) -> Result<(), AllocError
     }
 }
 
-/// Adds what is known behind a branch under `depth` others, of which so many more stay known.
+/// Adds the hypothesis of a branch under `depth` others; so many more hypotheses stay.
 fn learn_at(known: &mut Vec<Id>, table: &Table, id: Id, depth: u32) -> Result<(), AllocError>
     requires known { AllKnown table.now known.old.items }
     requires id { IsKnown table.now id }
