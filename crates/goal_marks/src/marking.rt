@@ -28,7 +28,7 @@ use term_table::{Id, Table};
 /// registers 0 to 30, and that of the remaining steps, which counts even if it is absent.
 pub const PART_BINDERS: u32 = 33;
 
-/// Marks the goals that the rows begin with as easy, and answers the rows that are left.
+/// Marks the goals that the rows begin with as easy, and returns the remaining rows.
 fn push_easy<'a>(rows: &'a [Row], marks: &mut Vec<bool>) -> Result<&'a [Row], AllocError>
     ensures exact { IfOk result (λ rest.
         AreAllEasy rows.now marks.old.items marks.new.items rest.now) }
@@ -50,8 +50,8 @@ fn push_easy<'a>(rows: &'a [Row], marks: &mut Vec<bool>) -> Result<&'a [Row], Al
     }
 }
 
-/// Marks the goals that the rows begin with, which `goal` stands for under the hypotheses of
-/// `context`, and answers the rows that are left.
+/// Marks the goals that the rows begin with, which together are `goal`, under the hypotheses of
+/// `context`, and returns the remaining rows.
 #[cycle(marking)]
 #[tactic(auto, using(goal_proofs::proofs::Kept::rows))]
 fn push_marks<'a>(
@@ -80,7 +80,8 @@ fn push_marks<'a>(
     push_parts(table, search, context, counted, goal, rows, marks)
 }
 
-/// The same of goals that aren't easy as a whole.
+/// Marks the goals that the rows begin with, which together are `goal`, if `goal` isn't easy as a
+/// whole; returns the remaining rows.
 #[cycle(marking)]
 #[tactic(auto, using(goal_proofs::proofs::Kept::rows))]
 fn push_parts<'a>(
@@ -175,7 +176,7 @@ fn push_under<'a>(
     }
 }
 
-/// What stands under all the quantifiers at a formula's head.
+/// Returns what is below all the quantifiers at a formula's head.
 fn under_quantifiers(table: &Table, id: Id) -> Id
     requires { IsKnown table.now id }
     ensures known { IsKnown table.now result }
@@ -189,7 +190,7 @@ fn under_quantifiers(table: &Table, id: Id) -> Id
     }
 }
 
-/// Marks the goals of a part, of which `inner` stands under its quantifiers.
+/// Marks the goals of a part; `inner` is what is below its quantifiers.
 #[tactic(auto, using(goal_proofs::proofs::Kept::rows))]
 fn push_part(
     table: &mut Table,
