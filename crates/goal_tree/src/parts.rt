@@ -21,15 +21,15 @@ use alpha_cfg::Cut;
 use std::alloc::AllocError;
 use term_table::{Id, Table};
 
-/// How many quantifiers a part has: for m and r0 to r30, and for the steps that are left where
-/// these are counted.
+/// Returns how many quantifiers a part has: for m and r0 to r30, and for the remaining steps if
+/// they are counted.
 fn quantifiers(counted: bool) -> u32
     ensures { result ≡ quantifiers counted }
 {
     if counted { 33 } else { 32 }
 }
 
-/// The implication that stands under a part's quantifiers.
+/// Returns the implication below a part's quantifiers.
 #[tactic(auto, unfolding(crate::specs::Inside::Parts::implication))]
 fn implication(program: &Program, part: Id) -> Id
     requires { IsKnown program.now.table.now part }
@@ -114,7 +114,7 @@ fn inv_part(program: &Program, index: u32, part: Id) -> Result<PartRows, AllocEr
     })
 }
 
-/// Writes a part behind those that there are.
+/// Appends a part to the list.
 fn push(table: &Table, out: &mut Vec<PartRows>, part: PartRows) -> Result<(), AllocError>
     requires { HasKnownIds table.now part }
     ensures { let added = part_view table.now part ∷ [] in

@@ -51,7 +51,7 @@ pub(crate) fn left(table: &Table, id: Id) -> Id
     }
 }
 
-/// What stands under the binder.
+/// Returns the body of a binder.
 fn under_binder(table: &Table, id: Id) -> Id
     requires { IsKnown table.now id }
     ensures is { tree_at table.now result ≡ under_binder (tree_at table.now id) }
@@ -73,7 +73,7 @@ fn under_binder(table: &Table, id: Id) -> Id
     }
 }
 
-/// What a quantifier stands over.
+/// Returns the formula below a quantifier.
 fn body(table: &Table, id: Id) -> Id
     requires { IsKnown table.now id }
     ensures is { tree_at table.now result ≡ body_of (tree_at table.now id) }
