@@ -136,7 +136,7 @@ fn go_to(to: u32, index: &mut u32) -> Stepped
     Stepped::Moved
 }
 
-/// Goes on to the instruction at an index where the condition holds of a word, else to the next.
+/// Goes on to the instruction at index `to` if the condition holds for the word, else to the next.
 #[inline(always)]
 fn branch(cond: Cond, word: u64, to: u32, index: &mut u32) -> Stepped
     requires index { index.old < MAX_WORDS }
