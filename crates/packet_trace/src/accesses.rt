@@ -36,7 +36,7 @@ pub fn access_of(agent: &Agent, insn: &Insn) -> Access
     }
 }
 
-/// Adds a store: its address and, where it is made, the word.
+/// Appends a store: its address and, if it is made, the word.
 fn push_store(line: &mut Line, addr: u64, word: u64, step: &Step)
     requires { array_vec_len line.old + ACCESS ≤ LINE }
     ensures items { line.new.items
