@@ -25,7 +25,8 @@ use pcc_stages::{Stop, status_after};
 use pcc_words::{Command, read_arguments};
 use std::alloc::Global;
 
-/// Reads and refuses: what the run comes to, by the arguments and the files. Nothing is printed.
+/// Makes the reads and the write of the command that the arguments are, and returns its report or
+/// its stop. Prints nothing.
 fn decide<'a, F: Files>(
     alloc: Global,
     words: &'a [String],
@@ -49,7 +50,7 @@ fn decide<'a, F: Files>(
     }
 }
 
-/// Prints what the run came to, and answers with its status.
+/// Prints the report or stop of the run, and returns the exit status.
 fn print<S: Sink>(decision: Result<Report, Stop<'_>>, out: &mut S) -> u8
     ensures { Prints (exit_of report_exit decision.entry)
         (S.state out.old) (S.state out.new) result }
