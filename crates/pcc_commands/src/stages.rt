@@ -82,8 +82,8 @@ pub fn proved_in<'a>(alloc: Global, policy: &Policy, bytes: &[u8]) -> Result<Vec
     }
 }
 
-/// The source that the text spells in the profile of the version; its invariants may name the steps
-/// that are left where there is a bound.
+/// Parses the text as a source in the profile of the version; its invariants may name the remaining
+/// steps if there is a bound.
 #[tactic(auto, unfolding(crate::specs::Stages::Assembling::source_in))]
 fn source_in<'a>(
     alloc: Global,
@@ -269,7 +269,7 @@ fn compiled_as<'a>(alloc: Global, program: &[Bpf]) -> Result<Vec<u8>, Stop<'a>>
     }
 }
 
-/// The same of the program that the bytes are.
+/// Parses the bytes as a program, compiles it, and returns the bytes of the container.
 fn compiled_in<'a>(alloc: Global, bytes: &[u8]) -> Result<Vec<u8>, Stop<'a>>
     ensures { GivesPure (λ bytes. bytes.items) (compiling.compiled_in bytes.now) result }
 {

@@ -40,7 +40,7 @@ pub struct Counts {
     pub ones: u64,
 }
 
-/// 1 where a run returned 1, and else 0.
+/// Returns 1 if a run returned 1, else 0.
 fn one_where(ended: Ended) -> u64
     ensures exact { result ≡ ones_of (outcome_of ended) }
     ensures few { result ≤ 1 }
@@ -70,7 +70,7 @@ fn count(host: &mut Host, packet: &[u8], budget: u64) -> Counts
     }
 }
 
-/// The same of packet `k`. Fails only for want of memory.
+/// Runs the code of the host on packet `k` of `demo n`, and counts. Errors: out of memory.
 fn count_at(
     alloc: Global,
     host: &mut Host,
@@ -90,7 +90,7 @@ fn count_at(
     Ok(count(host, &packet, budget))
 }
 
-/// The same of all packets. Fails only for want of memory.
+/// Runs the code of the host on all packets of `demo n`, and counts. Errors: out of memory.
 fn count_all(alloc: Global, host: &mut Host, n: u32, budget: u64) -> Result<Counts, AllocError>
     requires loads { n ≤ MAX_DEMO }
     requires budget { budget ≤ DEMO_STEPS }
@@ -108,7 +108,7 @@ fn count_all(alloc: Global, host: &mut Host, n: u32, budget: u64) -> Result<Coun
     Ok(all)
 }
 
-/// The same of what was accepted. Fails only for want of memory.
+/// Runs accepted code on all packets of `demo n`, and counts. Errors: out of memory.
 fn counts_of(alloc: Global, accepted: Accepted, n: u32) -> Result<Counts, AllocError>
     requires { n ≤ MAX_DEMO }
     ensures { IfOk result (λ counts. counts
@@ -120,7 +120,7 @@ fn counts_of(alloc: Global, accepted: Accepted, n: u32) -> Result<Counts, AllocE
     counts
 }
 
-/// What is told of what was accepted, once it was run.
+/// Runs accepted code, and returns the figures about it.
 fn summary(alloc: Global, accepted: Accepted, n: u32) -> Result<DemoSummary, AllocError>
     requires { n ≤ MAX_DEMO }
     ensures { IfOk result (λ told. told ≡ summary_of accepted.policy n (shown_by accepted)) }
@@ -152,7 +152,7 @@ fn proved_demo<'a>(alloc: Global, policy: &Policy, n: u32) -> Result<Vec<u8>, St
     proved_in(alloc, policy, &container)
 }
 
-/// What is told of it, once it was judged and run.
+/// Makes, proves, checks and runs the container of `demo n`, and returns the figures about it.
 fn told<'a>(alloc: Global, policy: &Policy, n: u32) -> Result<DemoSummary, Stop<'a>>
     requires { n ≤ MAX_DEMO }
     ensures { GivesPure (λ told. told) (demo_told policy.now n) result }

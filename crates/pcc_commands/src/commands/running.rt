@@ -21,7 +21,7 @@ use policy_set::Policy;
 use safe_host::{Host, HostRunner};
 use std::alloc::Global;
 
-/// What runs accepted code, with the arena reserved; None where there is no memory for it.
+/// Returns a runner of accepted code, with the arena reserved; None if it is out of memory.
 fn runner_of(alloc: Global, accepted: Accepted, steps: u64) -> Option<HostRunner>
     ensures { IfSome result (λ runner. host_results runner
         ≡ packet_result accepted.policy accepted.code steps) }
