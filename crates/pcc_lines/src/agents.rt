@@ -113,7 +113,7 @@ pub fn print_agent_packet_fault<S: Sink>(agent: u32, fault: PacketFault, out: &m
     out.put(line.as_slice())
 }
 
-/// Adds what a turn came to.
+/// Appends the result of a turn.
 fn push_turn(line: &mut Line, kind: Option<PolicyKind>, outcome: Option<Outcome>, sum: u64)
     requires { array_vec_len line.old + RESULT ≤ LINE }
     ensures items { line.new.items ≡ line.old.items ++ turn_text kind outcome sum }

@@ -28,7 +28,7 @@ pub struct DemoSummary {
 /// The maximal length in bytes of a text that a number follows.
 const COUNTED: usize = 16;
 
-/// Adds a number behind what it counts.
+/// Appends a text, and the number of what it names.
 fn push_count(line: &mut Line, text: &str, number: u64)
     requires text { length text.now ≤ COUNTED }
     requires room { array_vec_len line.old + COUNTED + DIGITS ≤ LINE }

@@ -13,7 +13,7 @@ fn print_text<S: Sink>(text: &str, out: &mut S) -> Put
     out.put(text.as_bytes())
 }
 
-/// Prints a text, the name behind it, and the line's end.
+/// Prints a text, the name after it, and the line's end.
 fn print_named<S: Sink>(text: &str, name: &str, out: &mut S) -> Put
     ensures { Puts (named_line text.now name.now) (S.state out.old) (S.state out.new) result }
 {

@@ -59,7 +59,7 @@ fn push_code_flaw(line: &mut Line, flaw: CodeFlaw)
     }
 }
 
-/// Adds where bytes are no container, and what is wrong there.
+/// Appends the offset at which bytes aren't a container, and what is wrong there.
 fn push_malformed(line: &mut Line, offset: u64, flaw: Flaw)
     requires { array_vec_len line.old + MALFORMED ≤ LINE }
     ensures items { line.new.items ≡ line.old.items ++ malformed_text offset flaw }
@@ -82,7 +82,7 @@ fn push_head(line: &mut Line, head: Head)
     }
 }
 
-/// Adds a text and a number behind it.
+/// Appends a text and a number after it.
 fn push_numbered(line: &mut Line, text: &str, number: u32)
     requires { array_vec_len line.old + length text.now + DIGITS ≤ LINE }
     ensures items { line.new.items ≡ line.old.items ++ (text.now ++ decimal number) }

@@ -31,7 +31,7 @@ fn push_kind(line: &mut Line, kind: Kind)
     }
 }
 
-/// Adds the number of a return and, where the policy's kind has a region, its sum.
+/// Appends the number that a return gives and, if the policy's kind has a region, the region's sum.
 fn push_returned(line: &mut Line, kind: Option<PolicyKind>, word: u64, sum: u64)
     requires { array_vec_len line.old + RESULT ≤ LINE }
     ensures items { line.new.items ≡ line.old.items ++ returned_text kind word sum }
@@ -76,7 +76,7 @@ pub fn push_outcome(line: &mut Line, kind: Option<PolicyKind>, outcome: Outcome,
     }
 }
 
-/// Adds what a packet came to.
+/// Appends the result of a packet.
 fn push_result(line: &mut Line, kind: Option<PolicyKind>, end: PacketResult)
     requires { array_vec_len line.old + RESULT ≤ LINE }
     ensures items { line.new.items ≡ line.old.items ++ result_text kind end }
