@@ -53,7 +53,7 @@ pub fn container_in<'a, 'b>(
     }
 }
 
-/// The code of the container that the bytes are, where it is for the policy.
+/// Returns the code of the container in the bytes if it is for the policy.
 fn code_in<'a>(alloc: Global, policy: &Policy, bytes: &[u8]) -> Result<Code, Stop<'a>>
     ensures { GivesPure (λ code. code) (containers.code_in policy.now bytes.now) result }
 {
