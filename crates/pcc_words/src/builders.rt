@@ -163,7 +163,7 @@ fn asm_command<'a>(alloc: Global) -> Result<Command<'a>, AllocError>
         .subcommand(added)
 }
 
-/// The same with `prove`.
+/// The command line with `asm` and `prove`.
 fn copies_command<'a>(alloc: Global) -> Result<Command<'a>, AllocError>
     ensures app { IfOk result (λ c. app_of c ≡ copies_app) }
 {
@@ -179,7 +179,7 @@ fn file_commands<'a>(alloc: Global) -> Result<Command<'a>, AllocError>
     copies_command(alloc)?.subcommand(added)
 }
 
-/// The same with `run`.
+/// The command line with the commands that run no code, and `run`.
 fn runs_command<'a>(alloc: Global) -> Result<Command<'a>, AllocError>
     ensures app { IfOk result (λ c. app_of c ≡ runs_app) }
 {
@@ -195,14 +195,14 @@ fn named_files_command<'a>(alloc: Global) -> Result<Command<'a>, AllocError>
     runs_command(alloc)?.subcommand(added)
 }
 
-/// The same with `demo`.
+/// The command line with the commands over files, and `demo`.
 fn demos_command<'a>(alloc: Global) -> Result<Command<'a>, AllocError>
     ensures app { IfOk result (λ c. app_of c ≡ demos_app) }
 {
     named_files_command(alloc)?.subcommand(number_command(alloc, "demo")?)
 }
 
-/// The same with `upgrade`.
+/// The command line with the commands over files, `demo` and `upgrade`.
 fn upgrades_command<'a>(alloc: Global) -> Result<Command<'a>, AllocError>
     ensures app { IfOk result (λ c. app_of c ≡ upgrades_app) }
 {
@@ -210,7 +210,7 @@ fn upgrades_command<'a>(alloc: Global) -> Result<Command<'a>, AllocError>
     demos_command(alloc)?.subcommand(added)
 }
 
-/// The same with `host`.
+/// The command line with all subcommands except `bpf`.
 fn hosts_command<'a>(alloc: Global) -> Result<Command<'a>, AllocError>
     ensures app { IfOk result (λ c. app_of c ≡ hosts_app) }
 {

@@ -78,8 +78,8 @@ pub fn version_given(matches: &ArgMatches<'_>, bound: Option<u32>) -> u32
     }
 }
 
-/// The arguments of `asm`, where the bound is in its range. As of the number of steps (see
-/// `with_steps_in_range`), clap took no other.
+/// Returns the arguments of `asm` if the step bound is in its range; clap accepts no other, as with
+/// the number of steps (see `with_steps_in_range`).
 fn asm_args_given<'a>(matches: &ArgMatches<'a>) -> Option<AsmArgs<'a>>
     ensures exact { option_map asm_of result ≡ asm_invocation (rows_of (found_of matches.now)) }
     ensures in_range { IfSome result (λ args. IsVersionOf args.bound args.version) }
@@ -118,7 +118,7 @@ fn path_args_given<'a>(matches: &ArgMatches<'a>) -> PathArgs<'a>
     PathArgs { input, output }
 }
 
-/// What stands behind the `@` that a word begins with, if it does.
+/// Returns the text after the `@` that a word begins with, if it does.
 fn behind_at(word: &str) -> Option<&str>
     ensures { option_map (λ s. s.now) result ≡ strip_byte 64 word.now }
 {
@@ -163,9 +163,9 @@ fn run_args_given<'a>(matches: &ArgMatches<'a>) -> RunArgs<'a>
     }
 }
 
-/// The arguments, where the number of steps is in its range. clap took no other. Its contract does
-/// not say so of the argument of a subcommand, so the range is tested here again: this refuses
-/// nothing that clap takes.
+/// Returns the arguments if the number of steps is in its range. clap accepts no other, but its
+/// contract doesn't say so for the argument of a subcommand. So the range is tested here again:
+/// this refuses nothing that clap accepts.
 fn with_steps_in_range<'a>(args: RunArgs<'a>) -> Option<RunArgs<'a>>
     ensures { result ≡ (if is_step_count args.entry.steps then Some args.entry else None) }
 {
@@ -176,7 +176,7 @@ fn with_steps_in_range<'a>(args: RunArgs<'a>) -> Option<RunArgs<'a>>
     }
 }
 
-/// The number of `demo`, where it is in its range; as for the steps, clap took no other.
+/// Returns the number of `demo` if it is in its range; clap accepts no other, as with the steps.
 fn demo_size_given(matches: &ArgMatches<'_>) -> Option<u64>
     ensures { let n = number_at (codes "N") (rows_of (found_of matches.now)) in
         result ≡ (if is_demo_size n then Some n else None) }
