@@ -26,7 +26,8 @@ use pcc_stages::{Stop, status_after};
 use std::alloc::Global;
 use view_words::{Command, read_arguments};
 
-/// Reads and refuses: what the command comes to, by the files. Nothing is printed.
+/// Makes the reads of the command and returns its report, or the stop that refuses it. Prints
+/// nothing.
 fn shown<'a, F: Files>(
     alloc: Global,
     command: Command<'a>,
@@ -47,7 +48,8 @@ fn shown<'a, F: Files>(
     }
 }
 
-/// The same by the arguments, where they are a command.
+/// Makes the reads of the command that the arguments are, and returns its report, or the usage
+/// report if they aren't a command.
 fn decide<'a, F: Files>(
     alloc: Global,
     words: &'a [String],
@@ -64,7 +66,7 @@ fn decide<'a, F: Files>(
     }
 }
 
-/// Prints what the run came to, and answers with its status.
+/// Prints the report or stop of the run, and returns the exit status.
 fn print<S: Sink>(decision: Result<Report, Stop<'_>>, out: &mut S) -> u8
     ensures { Prints (exit_of exit_of_report decision.entry)
         (S.state out.old) (S.state out.new) result }
