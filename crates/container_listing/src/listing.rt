@@ -93,7 +93,7 @@ fn source_of(alloc: Global, container: Container<'_>, lines: &[u32]) -> Result<V
     printed(alloc, held.code, lines, code.insns(), &invs, &notes)
 }
 
-/// The container in the bytes in comments, and why it is no source.
+/// Returns the container in the bytes as comments, and why it isn't shown as a source.
 fn comments_of(alloc: Global, bytes: &[u8], why: NoSource) -> Result<Vec<u8>, ListFault>
     ensures { Reports (λ v. v.items) (comments_in bytes.now why) result }
 {
