@@ -9,7 +9,7 @@ use std::alloc::{AllocError, Global};
 /// The maximal number of loads that `demo` takes.
 pub const MAX_DEMO: u32 = 400;
 
-/// An upper bound, in bytes, of the source's length.
+/// An upper bound, in bytes, of the source's length with up to `MAX_DEMO` loads.
 pub const MAX_DEMO_SOURCE: usize = 65_536;
 
 /// An upper bound, in bytes, of the length of the two lines of a load.
