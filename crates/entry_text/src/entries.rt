@@ -56,7 +56,7 @@ fn word_at(place: u32) -> Option<&'static str>
     }
 }
 
-/// The word of a constant that formulas name and that is no operator.
+/// Returns the keyword of a constant that formulas name and that isn't an operator.
 fn formula_word(constant: u32) -> Option<&'static str>
     ensures { option_map (λ w. w.now) result ≡ formula_word constant }
 {
