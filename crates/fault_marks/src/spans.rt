@@ -159,7 +159,7 @@ fn operand_span(profile: Profile, line: &[u8]) -> Option<Span>
     in_line(place, wrong_operand(profile, text))
 }
 
-/// The mark of an invariant that is no formula.
+/// Returns the mark of an invariant that isn't a formula.
 fn formula_span(
     alloc: Global,
     profile: Profile,
