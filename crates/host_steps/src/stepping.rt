@@ -84,7 +84,7 @@ fn set_reg(word: u64, reg: Reg, index: &mut u32, slots: &mut Slots) -> Stepped
     Stepped::Moved
 }
 
-/// Puts what the operator gives of two registers into a register that isn't 31 and goes on.
+/// Writes the operator's result for two registers to a register that isn't 31 and goes on.
 #[inline(always)]
 fn operate(op: Op, ra: Reg, rb: Reg, rc: Reg, index: &mut u32, slots: &mut Slots) -> Stepped
     requires index { index.old < MAX_WORDS }
@@ -97,7 +97,8 @@ fn operate(op: Op, ra: Reg, rb: Reg, rc: Reg, index: &mut u32, slots: &mut Slots
     set_reg(apply(op, slots.read(ra), slots.read(rb)), rc, index, slots)
 }
 
-/// Puts what the operator gives of a register and a literal into a register that isn't 31 and goes on.
+/// Writes the operator's result for a register and a literal to a register that isn't 31 and goes
+/// on.
 #[inline(always)]
 fn operate_lit(op: Op, ra: Reg, lit: u8, rc: Reg, index: &mut u32, slots: &mut Slots) -> Stepped
     requires index { index.old < MAX_WORDS }
