@@ -27,7 +27,7 @@ const HEAD: usize = 64;
 /// The maximal length in bytes of a refusal's text.
 pub const REFUSAL: usize = 86;
 
-/// Adds a word that is no instruction: its index, the kind of fault, and the word.
+/// Appends a word that isn't an instruction: its index, the kind of fault, and the word.
 fn push_bad_word(line: &mut Line, index: u32, word: u32, bad: BadWord)
     requires { array_vec_len line.old + BAD_WORD ≤ LINE }
     ensures items { line.new.items ≡ line.old.items ++ bad_word_text index word bad }
