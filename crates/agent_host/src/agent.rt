@@ -120,7 +120,8 @@ impl Hosted {
         ended
     }
 
-    /// Runs at most `budget` steps, unless the agent has returned since its last load.
+    /// Runs at most `budget` steps (a return counts), unless the agent has returned since its last
+    /// load, and returns how the turn ended.
     pub fn turn(&mut self, budget: u64) -> Turned
         requires { self.old.phase ≢ Phase.Unloaded }
         ensures { TurnsTo budget result self.old self.new }
