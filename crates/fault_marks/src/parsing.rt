@@ -14,7 +14,7 @@ use word_ops::Profile;
 /// Parses the text as a formula over the operators of the profile; `left` says whether it may name
 /// the remaining steps.
 ///
-/// Errors: the first fault, whose place lies in the text or at its end.
+/// Errors: the first fault, whose place lies in the text or at its end, or out of memory.
 #[tactic(auto, using(crate::proofs::Places::fault_within))]
 pub fn form_in(alloc: Global, text: &[u8], profile: Profile, left: bool) -> Result<Form, TextFault>
     ensures exact { Parses form_view (parsed_form profile left text.now) result }
