@@ -277,7 +277,8 @@ fn learn(known: &mut Vec<Id>, table: &Table, row: &Row) -> Result<(), AllocError
     }
 }
 
-/// Adds the hypothesis of a branch under `depth` others; so many more hypotheses stay.
+/// Adds the hypothesis of a branch under `depth` others. The hypotheses of the start and of the
+/// `depth` branches stay; later ones are removed.
 fn learn_at(known: &mut Vec<Id>, table: &Table, id: Id, depth: u32) -> Result<(), AllocError>
     requires known { AllKnown table.now known.old.items }
     requires id { IsKnown table.now id }
