@@ -188,7 +188,7 @@ fn parts_of(
 /// with these indices and this bound whose condition the id encodes; for any other id they say
 /// nothing.
 ///
-/// Time and rows are linear in the unfolded length of `cut`, whose limit is tested before a
+/// Time and number of rows depend on the unfolded length of `cut`, whose limit is tested before a
 /// condition is made (`vcgen::MAX_UNFOLDED`).
 ///
 /// Errors: out of memory.
