@@ -21,8 +21,8 @@ ghost use Rattle.part_runs.specs.Parts.{PartView, PartFits, open_state, part_at_
 /// left (`left`). Under rights that fit, a run that tests no access isn't blocked (`unblocked`) and
 /// is the run of the machine that tests each access. If it ends out of steps, the rights fit again,
 /// with its steps fewer left; a run that might make all that are left of a bound returns (`run`).
-/// Quadwords from a number on at which the stores that the rights allow end stay 0 if they are 0
-/// (`unwritten`).
+/// If the rights allow no store from some quadword on, and all quadwords from there on are 0, they
+/// stay 0 (`unwritten`).
 pub fn laws()
     ensures start { (c : AnnotatedCode) (base : ℕ) (setup : StartView) → IsAnnotated c
         → IsValid (condition c) → Fits base setup → IsState (start_state base setup)
